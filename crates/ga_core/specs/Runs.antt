@@ -1,0 +1,16 @@
+-- Runs of closures: which calls are made, in which order, and what they answer.
+use Rattle.std.specs.List.{range_with_len}
+use Rattle.std.specs.Prelude.{◌≡◌, ℕ, ◌<◌, List, [], ◌∷◌}
+
+module _ {F X Y : Type 0} (step : F → X → Y → F → Type 0) where
+  -- calls led from the state f to the state last, one at each input in order, and gave the answers
+  abbrev pub ClosureRun : F → List X → List Y → F → Type 0
+  ClosureRun f [] [] last = f ≡ last
+  ClosureRun f [] (y ∷ ys) last = ⊥
+  ClosureRun f (x ∷ xs) [] last = ⊥
+  ClosureRun f (x ∷ xs) (y ∷ ys) last = (next : F) × step f x y next × ClosureRun next xs ys last
+
+module _ {F Y : Type 0} (pre : F → ℕ → Type 0) (step : F → ℕ → Y → F → Type 0) where
+  -- f may be called at each number below n, in each state that the calls at the numbers before it lead to
+  abbrev pub CallableAlong : F → ℕ → Type 0
+  CallableAlong f n = (k : ℕ) (ys : List Y) (reached : F) → k < n → ClosureRun step f (range_with_len 0 k) ys reached → pre reached k

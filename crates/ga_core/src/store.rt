@@ -1,0 +1,125 @@
+//! Where an inline array keeps its items. The one module that names `ArrayVec`.
+ghost use Rattle.ga_views.specs.Length.{FitsInline};
+ghost use Rattle.std.specs.Borrow.{Array, Lends, sem};
+ghost use Rattle.std.specs.Iterator.{YieldsLast};
+ghost use Rattle.std.specs.List.{refill};
+ghost use Rattle.std.specs.Prelude.{◌≡◌, ℕ, ◌<◌, List, [], ◌∷◌, ◌++◌, length, remove, slice_index_or};
+
+use arrayvec::ArrayVec;
+
+/// A list with a capacity, kept in the value itself. It never asks for memory.
+pub trait Store<T>: Sized + Drop {
+    ghost items: { Self → List T };
+
+    ghost CAPACITY: { ℕ };
+
+    /// A store without items. Its capacity is at most `MAX_INLINE`.
+    ///
+    /// It may take time in proportion to the capacity, as spare places may be filled with blanks.
+    fn empty() -> Self
+        requires fits { FitsInline CAPACITY }
+        ensures { items result ≡ [] };
+
+    /// Appends `item`. The store isn't full. Constant time.
+    fn push(&mut self, item: T)
+        requires room { length (items self.old) < CAPACITY }
+        ensures { items self.new ≡ items self.old ++ item ∷ [] };
+
+    /// Takes the last item, or answers `None` where there is none. Constant time.
+    fn pop(&mut self) -> Option<T>
+        ensures { YieldsLast items self.old result self.new };
+
+    /// Takes the item at `index` and moves the later ones down by one place.
+    fn remove_at(&mut self, index: usize) -> T
+        requires in_bounds { index < length (items self.old) }
+        ensures value { result ≡ slice_index_or (items self.old) index result }
+        ensures others { items self.new ≡ remove (items self.old) index };
+
+    /// The items, in order.
+    fn as_slice(&self) -> &[T]
+        ensures { result.now ≡ items self.now };
+
+    // The store with these items written over its own, as many as it has.
+    ghost refilled: { (store : Self) (written : List T) → (after : Self) × (items after ≡ refill (length (items store)) (items store) written) };
+
+    /// The items, in order, for writing. What is written stands in the store afterwards.
+    fn as_mut_slice(&mut self) -> &mut [T]
+        ensures* writes_back { sem 𝓛 (Lends Self.row (Array T.row 0) self.entry result (λ written. (refilled self.old written).0)) }
+        ensures value { result.now ≡ items self.old };
+}
+
+/// The defaults in the spare places of an `ArrayVec` count as no items.
+impl<T: Default + Drop, const N: usize> Store<T> for ArrayVec<T, N> {
+    ghost use Rattle.arrayvec.specs.ArrayVec.{with_items};
+    ghost use Rattle.std.specs.Prelude.{refl};
+
+    ghost items = { λ store. store.items };
+
+    ghost CAPACITY = { N };
+
+    #[inline]
+    fn empty() -> Self {
+        ArrayVec::new()
+    }
+
+    #[inline]
+    fn push(&mut self, item: T) {
+        ArrayVec::push(self, item)
+    }
+
+    #[inline]
+    fn pop(&mut self) -> Option<T> {
+        ArrayVec::pop(self)
+    }
+
+    #[inline]
+    fn remove_at(&mut self, index: usize) -> T {
+        ArrayVec::remove(self, index)
+    }
+
+    #[inline]
+    fn as_slice(&self) -> &[T] {
+        ArrayVec::as_slice(self)
+    }
+
+    ghost refilled = { λ store written. (with_items store written, refl) };
+
+    #[inline]
+    fn as_mut_slice(&mut self) -> &mut [T] {
+        ArrayVec::as_mut_slice(self)
+    }
+}
+
+#[cfg(test)]
+mod tests {
+    use super::*;
+
+    /// Every call of a store of two numbers, known by its bound alone.
+    fn put_and_take<S: Store<u32>>() -> (S, Option<u32>, u32, Option<u32>)
+        requires two { S.CAPACITY ≡ 2 }
+    {
+        let mut store = S::empty();
+        let nothing = store.pop();
+        store.push(7);
+        store.push(8);
+        for item in store.as_mut_slice() {
+            *item = item.wrapping_mul(10);
+        }
+        let mut taken = 0;
+        if !store.as_slice().is_empty() {
+            taken = store.remove_at(0);
+        }
+        let mut rest = S::empty();
+        rest.push(taken);
+        (rest, nothing, taken, store.pop())
+    }
+
+    #[test]
+    fn a_store_gives_back_what_was_put_and_written(rt: HostRuntime) {
+        let (rest, nothing, first, last) = put_and_take::<ArrayVec<u32, 2>>();
+        assert_eq!(rt; nothing, None);
+        assert_eq!(rt; first, 70);
+        assert_eq!(rt; last, Some(80));
+        assert_eq!(rt; rest.as_slice(), [70].as_slice());
+    }
+}
