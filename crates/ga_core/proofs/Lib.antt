@@ -1,2 +1,3 @@
 pub mod FillLemmas
 pub mod RunLemmas
+pub use Rattle.ga_views.proofs.RowLemmas

@@ -1,2 +1,4 @@
 pub mod Fill
 pub mod Runs
+pub use Rattle.ga_views.specs.Length
+pub use Rattle.ga_views.specs.Rows

@@ -1,0 +1,10 @@
+use Rattle.ga_rows.proofs.piece.Piece.push_numbers.Given as goal
+use Rattle.std.proofs.Common.{◌≡◌, ◌+◌, ◌*◌, ◌≤◌, ◌++◌, codes, decimal, length, take}
+use Rattle.std.specs.List.{flat_map}
+
+-- the numbers so far stand behind the first, each after a space
+abbrev pub invariant-loop-number : goal.invariant-loop-number
+invariant-loop-number l = record {
+  text : l.self ≡ l.initial.self ++ flat_map (λ number. codes " " ++ decimal number) (take l.number-index l.others);
+  room : length l.self + 1 ≤ length l.fn.self + 4 * (l.number-index + 1);
+}

@@ -1,0 +1,30 @@
+-- The text of an input: a line for each whole row, and a line for the rest.
+use Rattle.ga_core.specs.Rows.{chunk_rest, rows}
+use Rattle.ga_rows.specs.Words.{bytes_of}
+use Rattle.ga_rows.specs.declared.words.Mode.{Mode}
+use Rattle.ga_rows.specs.declared.words.Mode.TheVariants.{Dec}
+use Rattle.ga_rows.specs.declared.words.Width.{Width}
+use Rattle.std.specs.List.{flat_map, join_by}
+use Rattle.std.specs.Prelude.{ℕ, List, [], ◌∷◌, ◌++◌, codes, decimal}
+
+-- the numbers in decimal, joined by one space
+abbrev pub numbers_text : List ℕ → List ℕ
+numbers_text numbers = join_by decimal (codes " ") numbers
+
+-- a text, and the line feed that ends its line
+abbrev pub line : List ℕ → List ℕ
+line text = text ++ 10 ∷ []
+
+-- the text of one row, without the end of its line
+abbrev pub row_text : Mode → List ℕ → List ℕ
+row_text Dec row = numbers_text row
+
+-- the line of the bytes that fill no row, if there are any
+abbrev pub rest_line : List ℕ → List ℕ
+rest_line [] = []
+rest_line (byte ∷ bytes) = line (codes "rest " ++ numbers_text (byte ∷ bytes))
+
+-- all that is written for an input
+abbrev pub text_of : Mode → Width → List ℕ → List ℕ
+text_of mode width input =
+    flat_map (λ row. line (row_text mode row)) (rows (bytes_of width) input) ++ rest_line (chunk_rest (bytes_of width) input)

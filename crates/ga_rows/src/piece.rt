@@ -1,0 +1,118 @@
+//! Text that a writer has not been given yet.
+ghost use Rattle.ga_rows.specs.Text.{numbers_text};
+ghost use Rattle.std.specs.Prelude.{◌≡◌, ◌+◌, ◌*◌, ◌<◌, ◌≤◌, ◌↔◌, IsTrue, [], ◌∷◌, ◌++◌, decimal, length};
+
+use std::marker::Model;
+
+/// How many bytes a piece of text may have.
+pub const PIECE_SIZE: usize = 8192;
+
+/// A piece of text of at most `PIECE_SIZE` bytes, kept in the value itself. Contracts see it as the
+/// list of its bytes.
+#[derive(Drop)]
+pub struct Piece {
+    bytes: [u8; PIECE_SIZE],
+    len: usize,
+}
+
+impl Model for Piece {
+    ghost use Rattle.ga_rows.specs.declared.piece.TheConstants.{PIECE_SIZE};
+    ghost use Rattle.std.specs.Prelude.{ℕ, ◌≤◌, List, take};
+
+    ghost Value = { List ℕ };
+
+    ghost view = { λ piece. take piece.len piece.bytes };
+
+    ghost invariant = { λ piece. piece.len ≤ PIECE_SIZE };
+}
+
+impl Piece {
+    /// A piece without text.
+    pub fn new() -> Self
+        ensures { result ≡ [] }
+    {
+        Piece {
+            bytes: [0; PIECE_SIZE],
+            len: 0,
+        }
+    }
+
+    /// The text.
+    pub fn as_slice(&self) -> &[u8]
+        ensures { result.now ≡ self.now }
+    {
+        &self.bytes[..self.len]
+    }
+
+    /// Whether `more` bytes fit behind the text.
+    pub fn has_room(&self, more: usize) -> bool
+        requires { more ≤ PIECE_SIZE }
+        ensures { IsTrue result ↔ (length self.now + more ≤ PIECE_SIZE) }
+    {
+        self.len <= PIECE_SIZE - more
+    }
+
+    /// Forgets the text.
+    pub fn clear(&mut self)
+        ensures { self.new ≡ [] }
+    {
+        self.len = 0;
+    }
+
+    /// Appends one byte. There is room.
+    #[inline]
+    pub fn push(&mut self, byte: u8)
+        requires { length self.old < PIECE_SIZE }
+        ensures { self.new ≡ self.old ++ byte ∷ [] }
+    {
+        self.bytes[self.len] = byte;
+        self.len += 1;
+    }
+
+    /// Appends a number in decimal, without leading zeros. There is room for three digits.
+    #[inline]
+    #[tactic(auto, using(std::proofs::lemmas::Fmt::decimal_digit))]
+    pub fn push_decimal(&mut self, number: u8)
+        requires { length self.old + 3 ≤ PIECE_SIZE }
+        ensures text { self.new ≡ self.old ++ decimal number }
+        ensures digits { length self.new ≤ length self.old + 3 }
+    {
+        if number < 10 {
+            self.push(b'0' + number);
+        } else if number < 100 {
+            self.push(b'0' + number / 10);
+            self.push(b'0' + number % 10);
+        } else {
+            self.push(b'0' + number / 100);
+            self.push(b'0' + number / 10 % 10);
+            self.push(b'0' + number % 10);
+        }
+    }
+
+    /// Appends numbers in decimal, joined by one space. There is room for four bytes each.
+    #[inline]
+    pub fn push_numbers(&mut self, numbers: &[u8])
+        requires { length self.old + 4 * length numbers.now ≤ PIECE_SIZE }
+        ensures text { self.new ≡ self.old ++ numbers_text numbers.now }
+        ensures bytes { length self.new ≤ length self.old + 4 * length numbers.now }
+    {
+        let Some((first, others)) = numbers.split_first() else {
+            return;
+        };
+        self.push_decimal(*first);
+        for number in others {
+            self.push(b' ');
+            self.push_decimal(*number);
+        }
+    }
+
+    /// Appends a text. There is room.
+    pub fn push_text(&mut self, text: &str)
+        requires { length self.old + length text.now ≤ PIECE_SIZE }
+        ensures { self.new ≡ self.old ++ text.now }
+    {
+        for byte in text.as_bytes() {
+            self.push(*byte);
+        }
+    }
+}
