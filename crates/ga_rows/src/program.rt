@@ -1,11 +1,18 @@
 //! The program, as a function of its words, a reader and a writer.
-ghost use Rattle.ga_rows.specs.Words.{meaning_of_words};
-ghost use Rattle.std.specs.Prelude.{◌≡◌};
+ghost use Rattle.ga_core.specs.Rows.{chunk_rest};
+ghost use Rattle.ga_rows.specs.Status.{exit_status};
+ghost use Rattle.ga_rows.specs.Text.{text_of};
+ghost use Rattle.ga_rows.specs.Words.{bytes_of, meaning_of_words};
+ghost use Rattle.std.specs.Io.KnownBytes.{Appends, IsAtEnd};
+ghost use Rattle.std.specs.Prelude.{◌≡◌, ◌≢◌, ◌⊎◌, ◌↔◌, [], IfErr, IfOk, IfSome, OnOk, map, string_bytes};
 
 use crate::output::rows;
 use crate::words::parse_words;
-use std::alloc::{AllocError, Global};
+use std::alloc::Global;
 use std::io::{ErrorKind, Read, Write};
+
+/// How many bytes are asked of the reader at a time.
+const READ_SIZE: usize = 65_536;
 
 /// How the program ends.
 #[derive(Clone, Copy, Debug, PartialEq, Eq)]
@@ -18,13 +25,15 @@ pub enum Status {
     Words,
     /// No memory for the words or the input.
     Memory,
-    /// A read or a write failed.
+    /// Listing the words, a read or a write failed.
     Fault,
 }
 
 impl Status {
-    /// The exit status.
-    pub fn code(self) -> u8 {
+    /// The exit status, from 0 to 4 in the order above.
+    pub fn code(self) -> u8
+        ensures { result ≡ exit_status self }
+    {
         match self {
             Status::Whole => 0,
             Status::Rest => 1,
@@ -37,17 +46,30 @@ impl Status {
 
 /// Reads `r` to its end and writes the rows of what it gave.
 ///
-/// Nothing is written before the words are understood and the input is read.
-pub fn run<R: Read, W: Write>(alloc: Global, words: &[String], r: &mut R, w: &mut W) -> Status {
+/// `Status::Words` stands where the words mean nothing, and then nothing is read or written.
+/// Nothing is written before the input is read to its end, so `Status::Memory`, which stands
+/// only where memory for the input was refused, leaves nothing written, and so does a fault of
+/// the reader. An interrupted read is asked again; a reader that gives no end within
+/// `u64::MAX` reads counts as faulty. Asks for memory for the input alone.
+pub fn run<R: Read, W: Write>(alloc: Global, words: &[String], r: &mut R, w: &mut W) -> Status
+    ensures words { (result ≡ Status.Words) ↔ (meaning_of_words (map string_bytes words.now) ≡ None) }
+    ensures untouched { result ≡ Status.Words → (r.new ≡ r.old) × (w.new ≡ w.old) }
+    ensures text { (result ≡ Status.Whole) ⊎ (result ≡ Status.Rest) → IfSome (meaning_of_words (map string_bytes words.now)) (λ meaning.
+        IfSome (R.remaining r.old) (λ input. Appends (W.contents w.old) (W.contents w.new) (text_of meaning.0 meaning.1 input))) }
+    ensures rest { (result ≡ Status.Rest) → IfSome (meaning_of_words (map string_bytes words.now)) (λ meaning.
+        IfSome (R.remaining r.old) (λ input. chunk_rest (bytes_of meaning.1) input ≢ [])) }
+    ensures whole { (result ≡ Status.Whole) → IfSome (meaning_of_words (map string_bytes words.now)) (λ meaning.
+        IfSome (R.remaining r.old) (λ input. chunk_rest (bytes_of meaning.1) input ≡ [])) }
+    ensures memory { result ≡ Status.Memory → w.new ≡ w.old }
+    ensures fault { result ≡ Status.Fault → (w.new ≡ w.old) ⊎ IsAtEnd (R.remaining r.new) }
+{
     let Some((mode, width)) = parse_words(words) else {
         return Status::Words;
     };
-    let mut input = Vec::new(alloc);
-    match read_all(r, &mut input) {
-        Ok(true) => {}
-        Ok(false) => return Status::Fault,
-        Err(AllocError) => return Status::Memory,
-    }
+    let input = match read_all(alloc, r) {
+        Ok(input) => input,
+        Err(status) => return status,
+    };
     match rows(input.as_slice(), mode, width, w) {
         Ok(false) => Status::Whole,
         Ok(true) => Status::Rest,
@@ -55,17 +77,25 @@ pub fn run<R: Read, W: Write>(alloc: Global, words: &[String], r: &mut R, w: &mu
     }
 }
 
-/// Appends all that `r` gives, and answers whether it came to its end. An interrupted read is
-/// asked again.
-fn read_all<R: Read>(r: &mut R, input: &mut Vec<u8>) -> Result<bool, AllocError> {
-    let mut chunk = [0u8; 65_536];
-    for _ in 0..u64::MAX {
+/// All that `r` gives, or the status of what kept it from being read.
+fn read_all<R: Read>(alloc: Global, r: &mut R) -> Result<Vec<u8>, Status>
+    ensures bytes { IfOk result (λ input. IfSome (R.remaining r.old) (λ bytes. input.items ≡ bytes)) }
+    ensures end { OnOk result (IsAtEnd (R.remaining r.new)) }
+    ensures err { IfErr result (λ status. (status ≡ Status.Memory) ⊎ (status ≡ Status.Fault)) }
+{
+    let mut input = Vec::new(alloc);
+    let mut chunk = [0u8; READ_SIZE];
+    for _try in 0..u64::MAX {
         match r.read(&mut chunk) {
-            Ok(0) => return Ok(true),
-            Ok(n) => input.extend_from_slice(&chunk[..n])?,
+            Ok(0) => return Ok(input),
+            Ok(n) => {
+                if input.extend_from_slice(&chunk[..n]).is_err() {
+                    return Err(Status::Memory);
+                }
+            }
             Err(fault) if fault.kind() == ErrorKind::Interrupted => {}
-            Err(_) => return Ok(false),
+            Err(_) => return Err(Status::Fault),
         }
     }
-    Ok(false)
+    Err(Status::Fault)
 }
