@@ -59,7 +59,7 @@ impl<T, N: ArrayLength<T>> GenericArray<T, N> {
     pub const fn fits() -> bool
         ensures { IsTrue result ↔ (FitsInline N.USIZE) }
     {
-        N::USIZE <= MAX_INLINE
+        Self::len() <= MAX_INLINE
     }
 
     /// All items, in order. Constant time.

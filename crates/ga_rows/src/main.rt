@@ -7,6 +7,8 @@
 mod output;
 mod piece;
 mod program;
+#[cfg(test)]
+mod tests;
 mod words;
 
 pub use output::rows;

@@ -67,9 +67,9 @@ impl<T: Drop, N: ArrayLength<T>> GenericArray<T, N> {
                 None => return Err(LengthError),
             }
         }
-        match items.next() {
-            Some(_) => Err(LengthError),
-            None => Ok(GenericArray::of_store(store)),
+        if items.next().is_some() {
+            return Err(LengthError);
         }
+        Ok(GenericArray::of_store(store))
     }
 }
