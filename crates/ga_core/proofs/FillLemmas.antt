@@ -1,9 +1,8 @@
 -- A fill as one run of calls.
 use Rattle.ga_core.specs.Fill.{FillRuns, Fills}
-use Rattle.std.proofs.Common.{◌≡◌, ℕ, ◌+◌, ◌<◌, List, [], ◌∷◌, ◌++◌, length, length-append, arith, refl, subst, sym, true, false, inl, inr, Option, None, Some, Result, Ok, Err, MatchOption}
+use Rattle.std.proofs.Common.{◌≡◌, ℕ, ◌<◌, List, [], ◌∷◌, ◌++◌, length, length-append, arith, refl, subst, sym, true, false, inl, inr, Option, None, Some, Result, Ok, Err, MatchOption}
 use Rattle.std.proofs.iter.runs.Made.{run, to_end, to_item}
 use Rattle.std.specs.Iterator.{YieldsThen}
-use Rattle.std.specs.Iterator.Runs.{SomeRun}
 
 module _ {S T E : Type 0} (next_gives : S → Option T → S → Type 0) where
   -- the calls of a fill that is refused, by how they ended

@@ -1,6 +1,6 @@
 -- Lemmas on runs of closures, for the builds of this crate and for callers.
 use Rattle.ga_core.specs.Runs.{ClosureRun}
-use Rattle.std.proofs.Common.{◌≡◌, ℕ, zero, suc, ◌+◌, List, [], ◌∷◌, ◌++◌, length, refl, subst, ap, sym, ◌∙◌, arith}
+use Rattle.std.proofs.Common.{◌≡◌, ℕ, zero, suc, ◌+◌, List, [], ◌∷◌, ◌++◌, length, refl, subst, ap, sym, arith}
 use Rattle.std.specs.List.{range_with_len}
 
 -- one number more, at the end

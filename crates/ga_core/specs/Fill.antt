@@ -9,8 +9,8 @@ module _ {S T E : Type 0} (next_gives : S → Option T → S → Type 0) where
   abbrev pub Fills : S → ℕ → Result (List T) E → S → Type 0
   Fills before n result after = (taken : List T) × (last : Option T) × YieldsThen next_gives before taken last after
       × MatchResult result
-          (λ array. (array ≡ taken) × (length taken ≡ n) × (last ≡ None))
-          (λ _. MatchOption last (length taken < n) (λ _. length taken ≡ n))
+      (λ array. (array ≡ taken) × (length taken ≡ n) × (last ≡ None))
+      (λ _. MatchOption last (length taken < n) (λ _. length taken ≡ n))
 
 module _ {S T E : Type 0} (next_gives : S → Option T → S → Type 0) where
   -- what `Fills` says, as one run of calls: the form that proofs follow along a chain of std's iterators

@@ -13,18 +13,22 @@ mod words;
 
 pub use output::rows;
 pub use program::{Status, run};
-pub use words::{Mode, Width, parse_words};
-
-use std::io;
+use std::io::ErrorKind;
 use std::process::ExitCode;
 use std::rt::Env;
-use std::{env, io::ErrorKind};
+use std::{env, io};
+pub use words::{Mode, Width, parse_words};
 
 const USAGE: &str = "usage: ga_rows [dec|hex|back|sum] [1|2|4|8|16]";
 
 fn main(rt: HostRuntime) -> ExitCode {
     let status = match words_of(&rt) {
-        Ok(words) => run(rt.alloc(), words.as_slice(), &mut rt.reader(), &mut io::writer(&rt)),
+        Ok(words) => run(
+            rt.alloc(),
+            words.as_slice(),
+            &mut rt.reader(),
+            &mut io::writer(&rt),
+        ),
         Err(status) => status,
     };
     // Nothing is left to do where standard error can't be written.

@@ -160,7 +160,10 @@ fn unknown_words_leave_the_reader_and_the_writer_alone(rt: HostRuntime) -> Resul
         reads: 0,
         fails: true,
     };
-    assert_eq!(rt; run(rt.alloc(), &words, &mut source, &mut sink), Status::Words);
+    assert_eq!(rt;
+        run(rt.alloc(), &words, &mut source, &mut sink),
+        Status::Words
+    );
     assert_eq!(rt; source.reads, 0);
     assert_eq!(rt; sink.writes, 0);
     Ok(())

@@ -1,6 +1,8 @@
 //! Builds at concrete types, and what no clause says of them.
-use crate::{Const, ConstArrayLength, ConstGenericArray, GenericArray, IntoArrayLength, LengthError};
-use crate::{U0, U2, U3, U4};
+use crate::{
+    Const, ConstArrayLength, ConstGenericArray, GenericArray, IntoArrayLength, LengthError, U0, U2,
+    U3, U4,
+};
 use std::cell::Cell;
 
 /// Gives 1, 2, an end, 3, 4, 5 and ends, and hints at nine items all the while.
@@ -96,8 +98,8 @@ fn generate_goes_from_the_first_place_to_the_last(rt: HostRuntime) {
 
 #[test]
 fn the_longest_inline_array_is_generated(rt: HostRuntime) {
-    let array: GenericArray<u8, Const<65536>> =
-        GenericArray::generate(|index: usize| (index % 256) as u8);
+    let array: GenericArray<u8, Const<65536>> = GenericArray::generate(|index: usize| (index
+        % 256) as u8);
     assert_eq!(rt; array.as_slice().last().copied(), Some(255));
 }
 
@@ -162,7 +164,9 @@ fn fill_believes_no_hint_and_asks_nothing_after_the_end(rt: HostRuntime) {
 fn a_refused_fill_drops_each_item_that_it_took_once(rt: HostRuntime) {
     let drops = Cell::new(0u32);
     {
-        let mut items = (0..9u32).map(|_| Counted { drops: Some(&drops) });
+        let mut items = (0..9u32).map(|_| Counted {
+            drops: Some(&drops),
+        });
         let refused = GenericArray::<Counted, U4>::try_from_iter_ref(&mut items);
         assert!(rt; refused.is_err());
         assert_eq!(rt; drops.get(), 5);
@@ -174,8 +178,9 @@ fn a_refused_fill_drops_each_item_that_it_took_once(rt: HostRuntime) {
 fn an_array_drops_each_item_once(rt: HostRuntime) {
     let drops = Cell::new(0u32);
     {
-        let _array: GenericArray<Counted, U4> =
-            GenericArray::generate(|_| Counted { drops: Some(&drops) });
+        let _array: GenericArray<Counted, U4> = GenericArray::generate(|_| Counted {
+            drops: Some(&drops),
+        });
         assert_eq!(rt; drops.get(), 0);
     }
     assert_eq!(rt; drops.get(), 4);

@@ -5,7 +5,7 @@ use Rattle.ga_rows.proofs.output.decimal_rows.Goals as goal
 use Rattle.ga_rows.specs.Text.{line, numbers_text, rest_line, text_of}
 use Rattle.ga_rows.specs.declared.words.Mode.TheVariants.{Dec}
 use Rattle.ga_rows.specs.declared.words.Width.TheVariants.{W4}
-use Rattle.std.proofs.Common.{◌≡◌, ◌<◌, ◌≤◌, List, ℕ, ◌++◌, ap, arith, length, rules, subst, sym, ◌∙◌}
+use Rattle.std.proofs.Common.{◌≡◌, ◌<◌, ◌≤◌, ◌++◌, ap, arith, length, rules, subst, sym, ◌∙◌}
 use Rattle.std.proofs.KnownBytes.{Appends-trans}
 use Rattle.std.specs.Io.KnownBytes.{Appends, append_known}
 
@@ -21,10 +21,12 @@ loop-row-preserved g c =
     let step : text_of Dec W4 left ≡ first ++ text_of Dec W4 after =
     rw (c.as_slice.ensures.items, c.in-Ok.ensures.ok, c.split_at.ensures.back) (text_of-first Dec W4 left wide enough) in
     record {
-      text = (so_far.0 ++ first,
+      text = (
+        so_far.0 ++ first,
         Appends-trans (contents c.args.w.now) (append_known (contents c.loop-row.w) c.loop-row.piece) (append_known (contents c.put_row.new.w) c.put_row.new.piece) so_far.0 first
-        so_far.1 c.in_ok-put_row.ensures.text,
-        done-more (text_of Dec W4 c.args.input.now) so_far.0 first (text_of Dec W4 after) (text_of Dec W4 left) so_far.2 step);
+            so_far.1 c.in_ok-put_row.ensures.text,
+        done-more (text_of Dec W4 c.args.input.now) so_far.0 first (text_of Dec W4 after) (text_of Dec W4 left) so_far.2 step,
+      );
       rest = c.loop-row.invariant.rest ∙ (chunk_rest-first 4 left wide enough ∙ ap (chunk_rest 4) (sym c.split_at.ensures.back));
       empty = λ none. absurd (omega (arith, ap length (c.loop-row.invariant.empty none).0));
     }
