@@ -1,4 +1,5 @@
 pub mod Fill
+pub mod Lends
 pub mod Runs
 pub use Rattle.ga_views.specs.Length
 pub use Rattle.ga_views.specs.Rows

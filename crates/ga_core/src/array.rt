@@ -1,6 +1,10 @@
 //! The inline array, and what it lends.
 ghost use Rattle.ga_views.specs.Length.{FitsInline};
-ghost use Rattle.std.specs.Prelude.{◌≡◌, ◌↔◌, IsTrue, List, length};
+ghost use Rattle.std.specs.Borrow.{sem};
+ghost use Rattle.std.specs.Iterator.Adapters.{IterYieldsInOrder, IterYieldsInReverse};
+ghost use Rattle.std.specs.Iterator.Runs.{EveryRun, ItemsMapTo, ItemsMapToReversed};
+ghost use Rattle.std.specs.Prelude.{◌≡◌, ◌^◌, ◌<◌, ◌↔◌, IsTrue, List, length, slice_index_or};
+ghost use Rattle.std.specs.Slice.Iter.{iter_mut_rest, iter_mut_steps, iter_mut_steps_back, iter_rest};
 
 mod builds;
 #[cfg(test)]
@@ -9,7 +13,10 @@ mod uses;
 use crate::length::ArrayLength;
 use crate::store::Store;
 use ga_views::{Const, MAX_INLINE};
+use std::convert::AsSlice;
 use std::marker::{Model, PhantomData};
+use std::ops::{Index, IndexMut};
+use std::slice;
 
 /// An array of exactly `N` items of `T`, kept inline. Contracts see it as the list of its items.
 ///
@@ -33,6 +40,8 @@ impl<T, N: ArrayLength<T>> Model for GenericArray<T, N> {
 }
 
 impl<T, N: ArrayLength<T>> GenericArray<T, N> {
+    ghost use Rattle.ga_core.specs.Lends.{LendsItems, LendsIter};
+
     /// The array of the items of a full store.
     #[inline]
     fn of_store(store: N::ArrayType) -> Self
@@ -69,6 +78,79 @@ impl<T, N: ArrayLength<T>> GenericArray<T, N> {
         ensures len { length result.now ≡ N.USIZE }
         ensures fits { FitsInline N.USIZE }
     {
+        self.store.as_slice()
+    }
+
+    /// All items, in order, for writing. Constant time.
+    #[inline]
+    pub fn as_mut_slice(&mut self) -> &mut [T]
+        ensures* writes_back { sem 𝓛 (LendsItems T.row N.row N.ArrayType.row N.Unsigned N.ArrayType.Store self.entry result) }
+        ensures items { result.now ≡ self.old }
+        ensures len { length result.now ≡ N.USIZE }
+    {
+        self.store.as_mut_slice()
+    }
+
+    /// The items by reference, in order.
+    #[inline]
+    pub fn iter(&self) -> slice::Iter<'_, T>
+        ensures rest { iter_rest result ≡ self.now }
+        ensures len { length (iter_rest result) ≡ N.USIZE }
+        ensures bound { length (iter_rest result) < 2 ^ 64 }
+        ensures runs { IterYieldsInOrder T }
+        ensures runs_back { IterYieldsInReverse T }
+    {
+        self.as_slice().iter()
+    }
+
+    /// The items by reference, in order, for writing.
+    #[inline]
+    pub fn iter_mut(&mut self) -> slice::IterMut<'_, T>
+        ensures* writes_back { sem 𝓛 (LendsIter T.row N.row N.ArrayType.row N.Unsigned N.ArrayType.Store self.entry result) }
+        ensures rest { iter_mut_rest result ≡ self.old }
+        ensures len { length (iter_mut_rest result) ≡ N.USIZE }
+        ensures bound { length (iter_mut_rest result) < 2 ^ 64 }
+        ensures runs { EveryRun (iter_mut_steps {A = T}) (λ run. ItemsMapTo run (λ item. item.now) (iter_mut_rest run.from)) }
+        ensures runs_back { EveryRun (iter_mut_steps_back {A = T}) (λ run. ItemsMapToReversed run (λ item. item.now) (iter_mut_rest run.from)) }
+    {
+        self.as_mut_slice().iter_mut()
+    }
+}
+
+/// `array[index]`, with `index` below `N` as the condition.
+impl<T, N: ArrayLength<T>> Index<usize> for GenericArray<T, N> {
+    type Output = T;
+
+    ghost can_index = { λ array index. index < N.USIZE };
+
+    ghost index_gives = { λ array index item. item ≡ slice_index_or array index item };
+
+    #[inline]
+    fn index(&self, index: usize) -> &T {
+        &self.as_slice()[index]
+    }
+}
+
+/// `array[index] = item`, with `index` below `N` as the condition. The other places keep their
+/// items.
+impl<T, N: ArrayLength<T>> IndexMut<usize> for GenericArray<T, N> {
+    ghost use Rattle.ga_core.specs.Lends.{LendsPlace};
+
+    #[inline]
+    fn index_mut(&mut self, index: usize) -> &mut T
+        requires { index < N.USIZE }
+        ensures* writes_back { sem 𝓛 (LendsPlace T.row N.row N.ArrayType.row N.Unsigned N.ArrayType.Store self.entry index result) }
+        ensures value { result.now ≡ slice_index_or self.old index result.now }
+    {
+        self.store.item_mut(index)
+    }
+}
+
+impl<T, N: ArrayLength<T>> AsSlice<T> for GenericArray<T, N> {
+    ghost items = { λ array. array };
+
+    #[inline]
+    fn as_slice(&self) -> &[T] {
         self.store.as_slice()
     }
 }

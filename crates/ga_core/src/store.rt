@@ -3,7 +3,7 @@ ghost use Rattle.ga_views.specs.Length.{FitsInline};
 ghost use Rattle.std.specs.Borrow.{Array, Lends, sem};
 ghost use Rattle.std.specs.Iterator.{YieldsLast};
 ghost use Rattle.std.specs.List.{refill};
-ghost use Rattle.std.specs.Prelude.{◌≡◌, ℕ, ◌<◌, List, [], ◌∷◌, ◌++◌, length, remove, slice_index_or};
+ghost use Rattle.std.specs.Prelude.{◌≡◌, ℕ, ◌<◌, List, [], ◌∷◌, ◌++◌, length, remove, slice_index_or, slice_set};
 
 use arrayvec::ArrayVec;
 
@@ -46,11 +46,20 @@ pub trait Store<T>: Sized + Drop {
     fn as_mut_slice(&mut self) -> &mut [T]
         ensures* writes_back { sem 𝓛 (Lends Self.row (Array T.row 0) self.entry result (λ written. (refilled self.old written).0)) }
         ensures value { result.now ≡ items self.old };
+
+    // The store with this item at the index, and the others as they are.
+    ghost replaced: { (store : Self) (index : ℕ) (item : T) → (after : Self) × (items after ≡ slice_set (items store) index item) };
+
+    /// The item at `index`, for writing.
+    fn item_mut(&mut self, index: usize) -> &mut T
+        requires in_bounds { index < length (items self.old) }
+        ensures* writes_back { sem 𝓛 (Lends Self.row T.row self.entry result (λ item. (replaced self.old index item).0)) }
+        ensures value { result.now ≡ slice_index_or (items self.old) index result.now };
 }
 
 /// The defaults in the spare places of an `ArrayVec` count as no items.
 impl<T: Default + Drop, const N: usize> Store<T> for ArrayVec<T, N> {
-    ghost use Rattle.arrayvec.specs.ArrayVec.{with_items};
+    ghost use Rattle.arrayvec.specs.ArrayVec.{with_item, with_items};
     ghost use Rattle.std.specs.Prelude.{refl};
 
     ghost items = { λ store. store.items };
@@ -87,6 +96,13 @@ impl<T: Default + Drop, const N: usize> Store<T> for ArrayVec<T, N> {
     #[inline]
     fn as_mut_slice(&mut self) -> &mut [T] {
         ArrayVec::as_mut_slice(self)
+    }
+
+    ghost replaced = { λ store index item. (with_item store index item, refl) };
+
+    #[inline]
+    fn item_mut(&mut self, index: usize) -> &mut T {
+        ArrayVec::get_mut(self, index).unwrap()
     }
 }
 

@@ -3,10 +3,12 @@
 //! The lowest crate of the library: nothing here stores items.
 #![tactic(auto)]
 
+mod array_ref;
 mod length;
 mod length_error;
 mod numbers;
 
+pub use array_ref::GenericArrayRef;
 pub use length::{Const, MAX_INLINE, Unsigned};
 pub use length_error::LengthError;
 pub use numbers::{

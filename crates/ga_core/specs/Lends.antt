@@ -1,0 +1,26 @@
+-- What an array ends as, where a `&mut` to its items is returned.
+use Rattle.ga_core.specs.contracts.array.GenericArray.{the_row}
+use Rattle.ga_core.specs.declared.store.Store as store
+use Rattle.ga_views.specs.declared.length.Unsigned as unsigned
+use Rattle.std.specs.Borrow.{Array, Fml, Lends, MutBor, RattleType, follows}
+use Rattle.std.specs.List.{refill}
+use Rattle.std.specs.Prelude.{ℕ, List, length, slice_set}
+use Rattle.std.specs.Slice.Iter.{iter_mut_name}
+use Rattle.std.specs.declared.slice.IterMut.{IterMut}
+
+module _ (T N A : RattleType) (n : unsigned.Ghosts N.Denot) (s : store.Ghosts A.Denot T.Denot) (array : MutBor (List T.Denot)) where
+  -- the array with these items written over its own, as many as it has
+  abbrev pub rewritten : List T.Denot → List T.Denot
+  rewritten written = refill (length array.now) array.now written
+
+  -- once the borrow r ends, the items are those that r shows last
+  abbrev pub LendsItems : MutBor (List T.Denot) → Fml
+  LendsItems r = Lends (the_row T N A n s) (Array T 0) array r rewritten
+
+  -- the same where the items went to an `iter_mut`
+  abbrev pub LendsIter : IterMut T.Denot → Fml
+  LendsIter items = follows (the_row T N A n s) (Array T 0) array.ghost_name (iter_mut_name items) rewritten
+
+  -- once the borrow r ends, place i has the last value written through r, and the others are as they were
+  abbrev pub LendsPlace : ℕ → MutBor T.Denot → Fml
+  LendsPlace i r = Lends (the_row T N A n s) T array r (slice_set array.now i)

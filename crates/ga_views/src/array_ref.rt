@@ -1,0 +1,121 @@
+//! The read-only view of a slice.
+ghost use Rattle.std.specs.Iterator.Adapters.{IterYieldsInOrder, IterYieldsInReverse};
+ghost use Rattle.std.specs.Option.{option_copied};
+ghost use Rattle.std.specs.Prelude.{◌≡◌, ◌^◌, ◌<◌, ◌↔◌, IfOk, IsOk, IsSome, length, slice_get};
+ghost use Rattle.std.specs.Slice.Iter.{iter_rest};
+
+use crate::{LengthError, Unsigned};
+use std::alloc::AllocError;
+use std::convert::AsSlice;
+use std::marker::PhantomData;
+use std::slice;
+
+/// A view of exactly `N` items that lie in a slice. It can be copied, and copies no item.
+///
+/// Stands for `&GenericArray<T, N>` where that is made of a slice. The length has no bound.
+pub struct GenericArrayRef<'a, T, N: Unsigned> {
+    slice: &'a [T],
+    of: PhantomData<N>,
+    ghost full: { length slice.now ≡ N.USIZE },
+}
+
+impl<'a, T, N: Unsigned> Clone for GenericArrayRef<'a, T, N> {
+    fn clone(&self) -> Result<Self, AllocError> {
+        Ok(*self)
+    }
+}
+
+impl<'a, T, N: Unsigned> Copy for GenericArrayRef<'a, T, N> {}
+
+impl<'a, T, N: Unsigned> GenericArrayRef<'a, T, N> {
+    /// The view of a slice of `N` items. The counterpart of `GenericArray::from_slice`, which
+    /// panics where the length is another.
+    #[inline]
+    pub fn from_slice(slice: &'a [T]) -> Self
+        requires len { length slice.now ≡ N.USIZE }
+        ensures { result.slice.now ≡ slice.now }
+    {
+        GenericArrayRef {
+            slice,
+            of: PhantomData,
+        }
+    }
+
+    /// The view of a slice, or `LengthError` where it doesn't have `N` items.
+    #[inline]
+    pub fn try_from_slice(slice: &'a [T]) -> Result<Self, LengthError>
+        ensures variant { IsOk result ↔ (length slice.now ≡ N.USIZE) }
+        ensures ok { IfOk result (λ view. view.slice.now ≡ slice.now) }
+    {
+        if slice.len() == N::USIZE {
+            Ok(Self::from_slice(slice))
+        } else {
+            Err(LengthError)
+        }
+    }
+
+    /// All items, in order.
+    #[inline]
+    pub fn as_slice(&self) -> &[T]
+        ensures items { result.now ≡ self.now.slice.now }
+        ensures len { length result.now ≡ N.USIZE }
+    {
+        self.slice
+    }
+
+    /// All items, in order, for the whole borrow that the view was made of.
+    #[inline]
+    pub fn into_slice(self) -> &'a [T]
+        ensures items { result.now ≡ self.entry.slice.now }
+        ensures len { length result.now ≡ N.USIZE }
+    {
+        self.slice
+    }
+
+    /// The item at `index`, or `None` where `index` isn't below `N`.
+    #[inline]
+    pub fn get(&self, index: usize) -> Option<&T>
+        ensures variant { IsSome result ↔ (index < N.USIZE) }
+        ensures item { option_copied result ≡ slice_get self.now.slice.now index }
+    {
+        self.slice.get(index)
+    }
+
+    /// The items by reference, in order.
+    #[inline]
+    pub fn iter(&self) -> slice::Iter<'_, T>
+        ensures rest { iter_rest result ≡ self.now.slice.now }
+        ensures len { length (iter_rest result) ≡ N.USIZE }
+        ensures bound { length (iter_rest result) < 2 ^ 64 }
+        ensures runs { IterYieldsInOrder T }
+        ensures runs_back { IterYieldsInReverse T }
+    {
+        self.slice.iter()
+    }
+}
+
+impl<'a, T, N: Unsigned> AsSlice<T> for GenericArrayRef<'a, T, N> {
+    ghost items = { λ view. view.slice.now };
+
+    #[inline]
+    fn as_slice(&self) -> &[T] {
+        self.slice
+    }
+}
+
+impl<'a, T, N: Unsigned> IntoIterator for GenericArrayRef<'a, T, N> {
+    ghost use Rattle.std.specs.Iterator.Adapters.{IterYieldsInOrder};
+    ghost use Rattle.std.specs.Prelude.{◌≡◌, ◌^◌, ◌<◌, length};
+    ghost use Rattle.std.specs.Slice.Iter.{iter_rest};
+
+    type Item = &'a T;
+
+    type IntoIter = slice::Iter<'a, T>;
+
+    ghost into_iter_gives = { λ view items. (iter_rest items ≡ view.slice.now) × (length (iter_rest items) < 2 ^ 64) × IterYieldsInOrder T };
+
+    #[inline]
+    fn into_iter(self) -> slice::Iter<'a, T> {
+        self.slice.iter()
+    }
+}
