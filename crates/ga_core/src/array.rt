@@ -7,6 +7,7 @@ ghost use Rattle.std.specs.Prelude.{◌≡◌, ◌^◌, ◌<◌, ◌↔◌, IsTr
 ghost use Rattle.std.specs.Slice.Iter.{iter_mut_rest, iter_mut_steps, iter_mut_steps_back, iter_rest};
 
 mod builds;
+mod slices;
 #[cfg(test)]
 mod uses;
 
@@ -151,6 +152,6 @@ impl<T, N: ArrayLength<T>> AsSlice<T> for GenericArray<T, N> {
 
     #[inline]
     fn as_slice(&self) -> &[T] {
-        self.store.as_slice()
+        GenericArray::as_slice(self)
     }
 }

@@ -1,1 +1,4 @@
+mod ArrayMutLemmas
+mod InnerItem
+mod InnerSlice
 pub mod RowLemmas

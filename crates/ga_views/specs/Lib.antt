@@ -1,2 +1,3 @@
+pub mod ArrayMut
 pub mod Length
 pub mod Rows

@@ -3,11 +3,16 @@
 //! The lowest crate of the library: nothing here stores items.
 #![tactic(auto)]
 
+mod array_mut;
 mod array_ref;
 mod length;
 mod length_error;
 mod numbers;
+mod slice_mut;
+#[cfg(test)]
+mod uses;
 
+pub use array_mut::{ArrayMut, GenericArrayMut};
 pub use array_ref::GenericArrayRef;
 pub use length::{Const, MAX_INLINE, Unsigned};
 pub use length_error::LengthError;
@@ -17,3 +22,4 @@ pub use numbers::{
     U40, U41, U42, U43, U44, U45, U46, U47, U48, U49, U50, U51, U52, U53, U54, U55, U56, U57, U58,
     U59, U60, U61, U62, U63, U64, U128, U256, U512, U1024, U2048,
 };
+pub use slice_mut::SliceMut;

@@ -1,8 +1,8 @@
 //! Callers, each proved: what a contract gives to those who use it.
-ghost use Rattle.std.specs.List.{range_with_len};
-ghost use Rattle.std.specs.Prelude.{◌≡◌, ◌*◌, ◌∷◌, [], ◌↔◌, IfOk, IsOk, length, map};
+ghost use Rattle.std.specs.Option.{option_copied};
+ghost use Rattle.std.specs.Prelude.{◌≡◌, ◌∷◌, [], ◌↔◌, EachIndex, IfOk, IsOk, length, slice_get, slice_index, slice_set, sum};
 
-use crate::{GenericArray, LengthError, U4};
+use crate::{GenericArray, GenericArrayRef, LengthError, U2, U3, U4};
 
 fn four_of(bytes: &[u8]) -> Result<GenericArray<u8, U4>, LengthError>
     ensures variant { IsOk result ↔ (length bytes.now ≡ 4) }
@@ -17,14 +17,93 @@ fn doubled() -> GenericArray<usize, U4>
     GenericArray::generate(|index| 2 * index)
 }
 
-#[cfg(test)]
+fn second_place_set(array: &mut GenericArray<u8, U3>)
+    ensures { array.new ≡ slice_set array.old 1 9 }
+{
+    array[1] = 9;
+}
+
+fn second_item_of_the_slice_set(array: &mut GenericArray<u8, U2>)
+    ensures { array.new ≡ slice_set array.old 1 6 }
+{
+    let items = array.as_mut_slice();
+    items[1] = 6;
+}
+
+fn last_two_sorted(array: &mut GenericArray<u8, U3>)
+    ensures { slice_index array.new 0 ≡ slice_index array.old 0 }
+{
+    if array[1] > array[2] {
+        array.as_mut_slice().swap(1, 2);
+    }
+}
+
+fn all_set(array: &mut GenericArray<u8, U3>)
+    ensures { EachIndex array.new (λ place. slice_index array.new place ≡ 7) }
+{
+    let items = array.as_mut_slice();
+    for item in items.iter_mut() {
+        *item = 7;
+    }
+}
+
+fn sum_of(array: &GenericArray<u8, U3>) -> u32
+    ensures { result ≡ sum array.now }
+{
+    array.iter().map(|item| u32::from(*item)).sum()
+}
+
+fn third_of<'a>(view: GenericArrayRef<'a, u8, U3>) -> Option<&'a u8>
+    ensures { option_copied result ≡ slice_get view.entry.slice.now 2 }
+{
+    view.into_slice().get(2)
+}
+
 mod tests {
     use super::*;
+    use crate::GenericArrayMut;
 
     #[test]
     fn callers_get_what_their_contracts_say(rt: HostRuntime) {
         assert!(rt; four_of(b"abcd").is_ok());
         assert!(rt; four_of(b"abc").is_err());
         assert_eq!(rt; doubled().as_slice(), [0, 2, 4, 6].as_slice());
+
+        let mut array: GenericArray<u8, U3> = GenericArray::generate(|index| 3 - index as u8);
+        last_two_sorted(&mut array);
+        assert_eq!(rt; array.as_slice(), [3, 1, 2].as_slice());
+        assert_eq!(rt; sum_of(&array), 6);
+        assert_eq!(rt; third_of(array.view()).copied(), Some(2));
+        second_place_set(&mut array);
+        assert_eq!(rt; array.as_slice(), [3, 9, 2].as_slice());
+        all_set(&mut array);
+        assert_eq!(rt; array.as_slice(), [7, 7, 7].as_slice());
+
+        let mut pair: GenericArray<u8, U2> = GenericArray::generate(|_| 4);
+        second_item_of_the_slice_set(&mut pair);
+        assert_eq!(rt; pair.as_slice(), [4, 6].as_slice());
+    }
+
+    #[test]
+    fn views_of_slices_show_the_items(rt: HostRuntime) {
+        let mut items = [4u8, 5];
+        let mut view: GenericArrayMut<u8, U2> = GenericArray::<u8, U2>::from_mut_slice(&mut items);
+        let slice = view.as_mut_slice();
+        slice[1] = 6;
+        assert_eq!(rt; items.as_slice(), [4, 6].as_slice());
+        let view = GenericArray::<u8, U2>::from_slice(&items);
+        assert_eq!(rt; view.as_slice(), [4, 6].as_slice());
+        assert!(rt; GenericArray::<u8, U3>::try_from_slice(b"abcd").is_err());
+        assert!(rt; GenericArray::<u8, U4>::try_from_slice(b"abcd").is_ok());
+    }
+
+    #[test]
+    fn each_ref_goes_from_the_first_place(rt: HostRuntime) {
+        let array: GenericArray<u8, U3> = GenericArray::generate(|index| index as u8 + 1);
+        let references = array.each_ref();
+        let items = references.as_slice();
+        assert_eq!(rt; items[0].copied(), Some(1));
+        assert_eq!(rt; items[1].copied(), Some(2));
+        assert_eq!(rt; items[2].copied(), Some(3));
     }
 }

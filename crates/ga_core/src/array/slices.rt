@@ -1,0 +1,65 @@
+//! Views: of the items of an array, and of slices of the array's length.
+ghost use Rattle.std.specs.Option.{option_copied};
+ghost use Rattle.std.specs.Prelude.{◌≡◌, ◌↔◌, IfOk, IsOk, Some, length, map};
+
+use crate::array::GenericArray;
+use crate::length::ArrayLength;
+use crate::store::Store;
+use ga_views::{GenericArrayMut, GenericArrayRef, LengthError};
+
+impl<T, N: ArrayLength<T>> GenericArray<T, N> {
+    /// The read-only view of the items.
+    #[inline]
+    pub fn view(&self) -> GenericArrayRef<'_, T, N>
+        ensures { result.slice.now ≡ self.now }
+    {
+        GenericArrayRef::from_slice(self.as_slice())
+    }
+
+    /// The read-only view of a slice of `N` items, which need not fit inline.
+    ///
+    /// The Rust crate panics where the length is another.
+    #[inline]
+    pub fn from_slice(slice: &[T]) -> GenericArrayRef<'_, T, N>
+        requires len { length slice.now ≡ N.USIZE }
+        ensures { result.slice.now ≡ slice.now }
+    {
+        GenericArrayRef::from_slice(slice)
+    }
+
+    /// The read-only view of a slice, or `LengthError` where it doesn't have `N` items. The length
+    /// need not fit inline.
+    #[inline]
+    pub fn try_from_slice(slice: &[T]) -> Result<GenericArrayRef<'_, T, N>, LengthError>
+        ensures variant { IsOk result ↔ (length slice.now ≡ N.USIZE) }
+        ensures ok { IfOk result (λ view. view.slice.now ≡ slice.now) }
+    {
+        GenericArrayRef::try_from_slice(slice)
+    }
+
+    /// The view of a slice of `N` items for writing, which need not fit inline.
+    ///
+    /// The Rust crate panics where the length is another.
+    #[inline]
+    pub fn from_mut_slice(slice: &mut [T]) -> GenericArrayMut<'_, T, N>
+        requires len { length slice.old ≡ N.USIZE }
+        ensures { result.slice ≡ slice.entry }
+    {
+        GenericArrayMut::from_mut_slice(slice)
+    }
+
+    /// `Some` of a reference to each item, in order. There where the length is also one of arrays of
+    /// such options, which have a default.
+    pub fn each_ref<'a>(&'a self) -> GenericArray<Option<&'a T>, N>
+    where
+        N: ArrayLength<Option<&'a T>>,
+        ensures { map option_copied result ≡ map Some self.now }
+    {
+        let items = self.as_slice();
+        let mut store: <N as ArrayLength<Option<&'a T>>>::ArrayType = Store::empty();
+        for item in items {
+            store.push(Some(item));
+        }
+        GenericArray::of_store(store)
+    }
+}

@@ -1,0 +1,14 @@
+use Rattle.ga_views.proofs.ArrayMutLemmas.{same_full}
+use Rattle.ga_views.proofs.array_mut.ArrayMut.as_mut_slice.Goals as goal
+use Rattle.std.proofs.Common.{ap, length, ◌∙◌}
+use Rattle.std.specs.Prelude.{refl}
+
+pub returns : goal.returns
+returns g c = (
+  (refl, λ written. same_full _ _),
+  record {
+    writes_back = _;
+    items = c.all_mut.ensures.value;
+    len = ap length c.all_mut.ensures.value ∙ c.args.self.now.full;
+  },
+)

@@ -1,0 +1,133 @@
+//! The writing view of a slice.
+ghost use Rattle.std.specs.Borrow.{sem};
+ghost use Rattle.std.specs.Iterator.Adapters.{IterYieldsInOrder, IterYieldsInReverse};
+ghost use Rattle.std.specs.Iterator.Runs.{EveryRun, ItemsMapTo, ItemsMapToReversed};
+ghost use Rattle.std.specs.Option.{option_copied, option_copied_mut};
+ghost use Rattle.std.specs.Prelude.{◌≡◌, ◌^◌, ◌<◌, ◌↔◌, IsSome, length, slice_get, slice_index_or};
+ghost use Rattle.std.specs.Slice.Iter.{iter_mut_rest, iter_mut_steps, iter_mut_steps_back, iter_rest};
+
+use crate::Unsigned;
+use crate::slice_mut::SliceMut;
+use std::marker::PhantomData;
+use std::slice;
+
+/// A view of exactly `N` items that lie in a slice, for writing. What is written through it
+/// stands in the slice afterwards, and no other place changes.
+///
+/// Stands for `&mut GenericArray<T, N>` where that is made of a slice. The length has no bound.
+pub type GenericArrayMut<'a, T, N> = ArrayMut<&'a mut [T], T, N>;
+
+/// A view of exactly `N` items for writing, over what lends them: see `GenericArrayMut`.
+#[derive(Drop)]
+pub struct ArrayMut<S: SliceMut<T>, T, N: Unsigned> {
+    slice: S,
+    of: PhantomData<T>,
+    len: PhantomData<N>,
+    ghost full: { length (S.items slice) ≡ N.USIZE },
+}
+
+impl<'a, T, N: Unsigned> ArrayMut<&'a mut [T], T, N> {
+    /// The view of a slice of `N` items. The counterpart of `GenericArray::from_mut_slice`, which
+    /// panics where the length is another.
+    #[inline]
+    pub fn from_mut_slice(slice: &'a mut [T]) -> Self
+        requires len { length slice.old ≡ N.USIZE }
+        ensures { result.slice ≡ slice.entry }
+    {
+        ArrayMut {
+            slice,
+            of: PhantomData,
+            len: PhantomData,
+        }
+    }
+
+    /// All items, in order, for writing, for the whole borrow that the view was made of.
+    #[inline]
+    pub fn into_mut_slice(self) -> &'a mut [T]
+        ensures items { result ≡ self.entry.slice }
+        ensures len { length result.now ≡ N.USIZE }
+    {
+        self.slice
+    }
+}
+
+impl<S: SliceMut<T>, T, N: Unsigned> ArrayMut<S, T, N> {
+    ghost use Rattle.ga_views.specs.ArrayMut.{LendsItems, LendsIter, LendsPlace, LendsPlaceIf};
+
+    /// All items, in order.
+    #[inline]
+    pub fn as_slice(&self) -> &[T]
+        ensures items { result.now ≡ S.items self.now.slice }
+        ensures len { length result.now ≡ N.USIZE }
+    {
+        self.slice.all()
+    }
+
+    /// All items, in order, for writing.
+    #[inline]
+    pub fn as_mut_slice(&mut self) -> &mut [T]
+        ensures* writes_back { sem 𝓛 (LendsItems S.row T.row N.row S.SliceMut N.Unsigned self.entry result) }
+        ensures items { result.now ≡ S.items self.old.slice }
+        ensures len { length result.now ≡ N.USIZE }
+    {
+        self.slice.all_mut()
+    }
+
+    /// The item at `index`, or `None` where `index` isn't below `N`.
+    #[inline]
+    pub fn get(&self, index: usize) -> Option<&T>
+        ensures variant { IsSome result ↔ (index < N.USIZE) }
+        ensures item { option_copied result ≡ slice_get (S.items self.now.slice) index }
+    {
+        self.as_slice().get(index)
+    }
+
+    // A loan that `get_mut` can hand on as it is.
+    #[inline]
+    fn item_mut(&mut self, index: usize) -> &mut T
+        requires in_bounds { index < N.USIZE }
+        ensures* writes_back { sem 𝓛 (LendsPlace S.row T.row N.row S.SliceMut N.Unsigned self.entry index result) }
+        ensures value { result.now ≡ slice_index_or (S.items self.old.slice) index result.now }
+    {
+        self.slice.item_mut(index)
+    }
+
+    /// The item at `index` for writing, or `None` where `index` isn't below `N`.
+    #[inline]
+    pub fn get_mut(&mut self, index: usize) -> Option<&mut T>
+        ensures* writes_back { sem 𝓛 (LendsPlaceIf S.row T.row N.row S.SliceMut N.Unsigned self.entry index result) }
+        ensures variant { IsSome result ↔ (index < N.USIZE) }
+        ensures item { option_copied_mut result ≡ slice_get (S.items self.old.slice) index }
+    {
+        if index < N::USIZE {
+            Some(self.item_mut(index))
+        } else {
+            None
+        }
+    }
+
+    /// The items by reference, in order.
+    #[inline]
+    pub fn iter(&self) -> slice::Iter<'_, T>
+        ensures rest { iter_rest result ≡ S.items self.now.slice }
+        ensures len { length (iter_rest result) ≡ N.USIZE }
+        ensures bound { length (iter_rest result) < 2 ^ 64 }
+        ensures runs { IterYieldsInOrder T }
+        ensures runs_back { IterYieldsInReverse T }
+    {
+        self.as_slice().iter()
+    }
+
+    /// The items by reference, in order, for writing.
+    #[inline]
+    pub fn iter_mut(&mut self) -> slice::IterMut<'_, T>
+        ensures* writes_back { sem 𝓛 (LendsIter S.row T.row N.row S.SliceMut N.Unsigned self.entry result) }
+        ensures rest { iter_mut_rest result ≡ S.items self.old.slice }
+        ensures len { length (iter_mut_rest result) ≡ N.USIZE }
+        ensures bound { length (iter_mut_rest result) < 2 ^ 64 }
+        ensures runs { EveryRun (iter_mut_steps {A = T}) (λ run. ItemsMapTo run (λ item. item.now) (iter_mut_rest run.from)) }
+        ensures runs_back { EveryRun (iter_mut_steps_back {A = T}) (λ run. ItemsMapToReversed run (λ item. item.now) (iter_mut_rest run.from)) }
+    {
+        self.as_mut_slice().iter_mut()
+    }
+}

@@ -1,0 +1,59 @@
+//! Slices that can be written, and lent on for writing.
+ghost use Rattle.std.specs.Borrow.{Array, Lends, sem};
+ghost use Rattle.std.specs.List.{refill};
+ghost use Rattle.std.specs.Prelude.{◌≡◌, ℕ, ◌<◌, List, length, slice_index_or, slice_set};
+
+/// A slice for writing: `&mut [T]`. Whatever is written through it, it keeps its length.
+///
+/// The writing view is generic over it, since a contract can say what a view ends as, where it
+/// lends its slice on, only if the slice stands behind a bound.
+pub trait SliceMut<T>: Drop {
+    ghost items: { Self → List T };
+
+    /// The items, in order.
+    fn all(&self) -> &[T]
+        ensures { result.now ≡ items self.now };
+
+    // The slice with these items written over its own, as many as it has.
+    ghost refilled: { (slice : Self) (written : List T) → (after : Self) × (items after ≡ refill (length (items slice)) (items slice) written) };
+
+    /// The items, in order, for writing.
+    fn all_mut(&mut self) -> &mut [T]
+        ensures* writes_back { sem 𝓛 (Lends Self.row (Array T.row 0) self.entry result (λ written. (refilled self.old written).0)) }
+        ensures value { result.now ≡ items self.old };
+
+    // The slice with this item at the index, and the others as they are.
+    ghost replaced: { (slice : Self) (index : ℕ) (item : T) → (after : Self) × (items after ≡ slice_set (items slice) index item) };
+
+    /// The item at `index`, for writing.
+    fn item_mut(&mut self, index: usize) -> &mut T
+        requires in_bounds { index < length (items self.old) }
+        ensures* writes_back { sem 𝓛 (Lends Self.row T.row self.entry result (λ item. (replaced self.old index item).0)) }
+        ensures value { result.now ≡ slice_index_or (items self.old) index result.now };
+}
+
+impl<'a, T> SliceMut<T> for &'a mut [T] {
+    ghost use Rattle.std.specs.List.{refill};
+    ghost use Rattle.std.specs.Prelude.{length, refl, slice_set};
+
+    ghost items = { λ slice. slice.now };
+
+    #[inline]
+    fn all(&self) -> &[T] {
+        &**self
+    }
+
+    ghost refilled = { λ slice written. (record slice { now = refill (length slice.now) slice.now written }, refl) };
+
+    #[inline]
+    fn all_mut(&mut self) -> &mut [T] {
+        &mut **self
+    }
+
+    ghost replaced = { λ slice index item. (record slice { now = slice_set slice.now index item }, refl) };
+
+    #[inline]
+    fn item_mut(&mut self, index: usize) -> &mut T {
+        &mut self[index]
+    }
+}

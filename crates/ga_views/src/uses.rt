@@ -1,0 +1,80 @@
+//! Callers, each proved: what is written through a view stands in its slice.
+ghost use Rattle.std.specs.Prelude.{◌≡◌, ◌≢◌, length, slice_set};
+
+use crate::{GenericArrayMut, U2};
+
+fn second_written(slice: &mut [u8])
+    requires { length slice.old ≡ 2 }
+    ensures { slice.new ≡ slice_set slice.old 1 6 }
+{
+    let mut view: GenericArrayMut<u8, U2> = GenericArrayMut::from_mut_slice(slice);
+    let items = view.as_mut_slice();
+    items[1] = 6;
+}
+
+fn second_got(slice: &mut [u8])
+    requires { length slice.old ≡ 2 }
+    ensures { slice.new ≡ slice_set slice.old 1 6 }
+{
+    let mut view: GenericArrayMut<u8, U2> = GenericArrayMut::from_mut_slice(slice);
+    if let Some(item) = view.get_mut(1) {
+        *item = 6;
+    }
+}
+
+fn second_of_two(slice: &mut [u8])
+    ensures two { length slice.old ≡ 2 → slice.new ≡ slice_set slice.old 1 6 }
+    ensures others { length slice.old ≢ 2 → slice.new ≡ slice.old }
+{
+    if slice.len() == 2 {
+        let mut view: GenericArrayMut<u8, U2> = GenericArrayMut::from_mut_slice(slice);
+        let items = view.as_mut_slice();
+        items[1] = 6;
+    }
+}
+
+mod tests {
+    use super::*;
+    use crate::{Const, GenericArrayRef, LengthError, U3};
+
+    #[test]
+    fn what_is_written_through_a_view_stands_in_its_slice(rt: HostRuntime) {
+        let mut items = [4u8, 5];
+        second_written(&mut items);
+        assert_eq!(rt; items.as_slice(), [4, 6].as_slice());
+        let mut items = [4u8, 5];
+        second_got(&mut items);
+        assert_eq!(rt; items.as_slice(), [4, 6].as_slice());
+        let mut items = [4u8, 5];
+        second_of_two(&mut items);
+        assert_eq!(rt; items.as_slice(), [4, 6].as_slice());
+    }
+
+    #[test]
+    fn a_slice_of_another_length_is_refused(rt: HostRuntime) {
+        let mut items = [1u8, 2, 3, 4];
+        assert!(rt;
+            matches!(
+                GenericArrayRef::<u8, U3>::try_from_slice(&items),
+                Err(LengthError)
+            )
+        );
+        second_of_two(&mut items);
+        assert_eq!(rt; items.as_slice(), [1, 2, 3, 4].as_slice());
+    }
+
+    #[test]
+    fn get_answers_below_the_length_alone(rt: HostRuntime) {
+        let items = [1u8, 2];
+        let view: GenericArrayRef<u8, U2> = GenericArrayRef::from_slice(&items);
+        assert_eq!(rt; view.get(1).copied(), Some(2));
+        assert!(rt; view.get(2).is_none());
+    }
+
+    #[test]
+    fn a_view_may_be_longer_than_an_inline_array(rt: HostRuntime) {
+        let items = [0u8; 65_537];
+        let view = GenericArrayRef::<u8, Const<65_537>>::try_from_slice(&items);
+        assert_eq!(rt; view.map(|view| view.as_slice().len()), Ok(65_537));
+    }
+}
