@@ -1,3 +1,4 @@
+pub mod CutLemmas
 pub mod FillLemmas
 pub mod RunLemmas
 pub use Rattle.ga_views.proofs.RowLemmas

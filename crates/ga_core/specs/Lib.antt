@@ -1,4 +1,6 @@
+pub mod Cut
 pub mod Fill
+pub mod IterLends
 pub mod Lends
 pub mod Runs
 pub use Rattle.ga_views.specs.Length

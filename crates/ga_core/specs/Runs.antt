@@ -1,6 +1,6 @@
 -- Runs of closures: which calls are made, in which order, and what they answer.
-use Rattle.std.specs.List.{range_with_len}
-use Rattle.std.specs.Prelude.{◌≡◌, ℕ, ◌<◌, List, [], ◌∷◌}
+use Rattle.std.specs.List.{FoldsTo, range_with_len}
+use Rattle.std.specs.Prelude.{◌≡◌, ℕ, ◌<◌, List, [], ◌∷◌, ◌++◌}
 
 module _ {F X Y : Type 0} (step : F → X → Y → F → Type 0) where
   -- calls led from the state f to the state last, one at each input in order, and gave the answers
@@ -14,3 +14,14 @@ module _ {F Y : Type 0} (pre : F → ℕ → Type 0) (step : F → ℕ → Y →
   -- f may be called at each number below n, in each state that the calls at the numbers before it lead to
   abbrev pub CallableAlong : F → ℕ → Type 0
   CallableAlong f n = (k : ℕ) (ys : List Y) (reached : F) → k < n → ClosureRun step f (range_with_len 0 k) ys reached → pre reached k
+
+module _ {F A X : Type 0} (step : F → A → X → A → F → Type 0) where
+  -- calls led from the state f to the state last, one at each item in order, each with what the one before answered, from init to answer
+  abbrev pub FoldRun : F → A → List X → A → F → Type 0
+  FoldRun f init items answer last = FoldsTo {P = F × A} (λ before item after. step before.0 before.1 item after.1 after.0) (f, init) items (last, answer)
+
+module _ {F A X : Type 0} (pre : F → A → X → Type 0) (step : F → A → X → A → F → Type 0) where
+  -- f may be called at each item in turn, in each state and with each value that the calls at the items before it lead to
+  abbrev pub CallableInFold : F → A → List X → Type 0
+  CallableInFold f init items = (passed : List X) (item : X) (others : List X) (reached : F) (value : A)
+      → items ≡ passed ++ item ∷ others → FoldRun step f init passed value reached → pre reached value item

@@ -1,8 +1,9 @@
 //! The inline array, and what it lends.
 ghost use Rattle.ga_views.specs.Length.{FitsInline};
 ghost use Rattle.std.specs.Borrow.{sem};
+ghost use Rattle.std.specs.Iterator.{YieldsFirst, YieldsLast};
 ghost use Rattle.std.specs.Iterator.Adapters.{IterYieldsInOrder, IterYieldsInReverse};
-ghost use Rattle.std.specs.Iterator.Runs.{EveryRun, ItemsMapTo, ItemsMapToReversed};
+ghost use Rattle.std.specs.Iterator.Runs.{EveryRun, ItemsMapTo, ItemsMapToReversed, YieldsInOrder, YieldsInReverse};
 ghost use Rattle.std.specs.Prelude.{◌≡◌, ◌^◌, ◌<◌, ◌↔◌, IsTrue, List, length, slice_index_or};
 ghost use Rattle.std.specs.Slice.Iter.{iter_mut_rest, iter_mut_steps, iter_mut_steps_back, iter_rest};
 
@@ -11,6 +12,7 @@ mod slices;
 #[cfg(test)]
 mod uses;
 
+use crate::array_iter::GenericArrayIter;
 use crate::length::ArrayLength;
 use crate::store::Store;
 use ga_views::{Const, MAX_INLINE};
@@ -153,5 +155,22 @@ impl<T, N: ArrayLength<T>> AsSlice<T> for GenericArray<T, N> {
     #[inline]
     fn as_slice(&self) -> &[T] {
         GenericArray::as_slice(self)
+    }
+}
+
+/// The items by value, from either end. Constant time.
+impl<T: Default + Drop, N: ArrayLength<T>> IntoIterator for GenericArray<T, N> {
+    type Item = T;
+
+    type IntoIter = GenericArrayIter<T, N>;
+
+    ghost into_iter_gives = { λ array items. (items ≡ array)
+        × YieldsInOrder (YieldsFirst {A = T} (λ left. left)) (λ left. left)
+        × YieldsInReverse (YieldsLast {A = T} (λ left. left)) (λ left. left) };
+
+    #[inline]
+    fn into_iter(self) -> GenericArrayIter<T, N> {
+        let GenericArray { store, of: _ } = self;
+        GenericArrayIter::of_store(store)
     }
 }

@@ -1,0 +1,78 @@
+-- Steps that cut a list from its ends, joined to what std says of `next` and `next_back`.
+use Rattle.ga_core.specs.Cut.{StepGives, back, front}
+use Rattle.std.proofs.Common.{◌≡◌, ℕ, zero, suc, ◌+◌, ◌-◌, ◌<◌, ◌≤◌, List, [], ◌∷◌, ◌++◌, inl, inr, Option, None, Some, length, min, take, drop, reverse, refl, sym, ap, ◌∙◌, arith, length-append, length-drop, slice_get}
+use Rattle.std.proofs.lemmas.List.{drop-drop, length-reverse, length-take, reverse-append, reverse-reverse, take-take}
+use Rattle.std.proofs.Math.ListN.{drop_of_length-le}
+use Rattle.std.proofs.Math.Seq.{take-append_seam}
+use Rattle.std.proofs.lemmas.Bool.{cases_lt}
+use Rattle.std.proofs.lemmas.Option.{slice_get_past}
+use Rattle.std.specs.Iterator.{YieldsFirst, YieldsLast}
+
+module _ {T : Type 0} where
+  -- an item of a list, by what is left before it
+  slice_get-drop : (n : ℕ) (items : List T) → slice_get (drop n items) 0 ≡ slice_get items n
+  slice_get-drop zero items = refl
+  slice_get-drop (suc n) [] = refl
+  slice_get-drop (suc n) (x ∷ items) = slice_get-drop n items
+
+  -- `next` replies with the first item and leaves the others
+  pub next-step : (items : List T) (reply : Option T) (left : List T) → YieldsFirst (λ all. all) items reply left → StepGives (front 0) items reply left
+  next-step items None left ended = (ap (λ all. slice_get all 0) (sym ended.0), ended.1 ∙ ap (drop 1) (sym ended.0))
+  next-step items (Some item) left came = (ap (λ all. slice_get all 0) (sym came), ap (drop 1) (sym came))
+
+  -- `next_back` is `next` on the reversed list
+  pub next_back-reversed : (items : List T) (reply : Option T) (left : List T) → YieldsLast (λ all. all) items reply left → YieldsFirst (λ all. all) (reverse items) reply (reverse left)
+  next_back-reversed items None left ended = (ap reverse ended.0, ap reverse ended.1)
+  next_back-reversed items (Some item) left came = ap reverse came ∙ reverse-append left (item ∷ [])
+
+  -- one item more was passed over
+  pub passed-more : (n : ℕ) (items left : List T) (reply : Option T) (after : List T) → left ≡ drop n items → YieldsFirst (λ all. all) left reply after → after ≡ drop (n + 1) items
+  passed-more n items left reply after passed step = (next-step left reply after step).1 ∙ (ap (drop 1) passed ∙ drop-drop 1 n items)
+
+  -- behind n items, or behind all where there are no more, `next` does the step
+  pub nth-step : (n passed : ℕ) (items left : List T) (reply : Option T) (after : List T)
+      → passed ≡ min n (length items) → left ≡ drop passed items → YieldsFirst (λ all. all) left reply after → StepGives (front n) items reply after
+  nth-step n passed items left reply after count here step =
+      let gave = next-step left reply after step in
+      elim (cases_lt (length items) n) [
+        | inl beyond ↦
+            let none : left ≡ [] = here ∙ drop_of_length-le items (omega arith) in (
+              gave.0 ∙ (ap (λ all. slice_get all 0) none ∙ sym (slice_get_past items n (omega arith))),
+              gave.1 ∙ (ap (drop 1) none ∙ sym (drop_of_length-le items (omega arith))),
+            )
+        | inr within ↦
+            let all : passed ≡ n = omega arith in
+            let here' : left ≡ drop n items = here ∙ ap (λ k. drop k items) all in (
+              gave.0 ∙ (ap (λ all. slice_get all 0) here' ∙ slice_get-drop n items),
+              gave.1 ∙ (ap (drop 1) here' ∙ drop-drop 1 n items),
+            )
+      ]
+
+  -- the same from the back
+  pub nth_back-step : (n passed : ℕ) (items left : List T) (reply : Option T) (after : List T)
+      → passed ≡ min n (length items) → reverse left ≡ drop passed (reverse items) → YieldsLast (λ all. all) left reply after → StepGives (back n) items reply after
+  nth_back-step n passed items left reply after count here step =
+      let same : length (reverse items) ≡ length items = length-reverse items in
+      let gave = nth-step n passed (reverse items) (reverse left) reply (reverse after) (omega arith) here (next_back-reversed left reply after step) in
+      (gave.0, sym (reverse-reverse after) ∙ ap reverse gave.1)
+
+  -- `pop` leaves one item fewer
+  popped : (items : List T) (reply : Option T) (left : List T) → YieldsLast (λ all. all) items reply left → left ≡ take (length items - 1) items
+  popped items None left ended = ended.1 ∙ ap (λ all. take (length all - 1) all) (sym ended.0)
+  popped items (Some item) left came =
+      let count = length-append left (item ∷ []) in
+      let one_less : length items - 1 ≡ length left = let same : length items ≡ length (left ++ item ∷ []) = ap length came in omega arith in
+      sym (take-append_seam left (item ∷ [])) ∙ (ap (λ k. take k (left ++ item ∷ [])) (sym one_less) ∙ ap (take (length items - 1)) (sym came))
+
+  -- and so of the first items of a list
+  pub front-popped : (n given : ℕ) (all items left : List T) (reply : Option T) → n ≡ length all → given < n → items ≡ take (n - given) all
+      → YieldsLast (λ all. all) items reply left → left ≡ take (n - (given + 1)) all
+  front-popped n given all items left reply count below first step =
+      let long : length items ≡ n - given = ap length first ∙ (length-take (n - given) all ∙ (omega arith)) in
+      let one_less : length items - 1 ≡ n - (given + 1) = omega arith in
+      popped items reply left step ∙ (ap (λ k. take k items) one_less ∙ (ap (take (n - (given + 1))) first ∙ take-take (n - (given + 1)) (n - given) all (omega arith)))
+
+  -- the first of a rotated list, without those that were moved behind
+  pub front-rotated : (count : ℕ) (items : List T) → count ≤ length items → take (length items - count) (drop count items ++ take count items) ≡ drop count items
+  front-rotated count items within =
+      ap (λ k. take k (drop count items ++ take count items)) (sym (length-drop count items)) ∙ take-append_seam (drop count items) (take count items)

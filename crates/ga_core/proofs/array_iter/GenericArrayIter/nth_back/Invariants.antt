@@ -1,0 +1,6 @@
+use Rattle.ga_core.proofs.array_iter.GenericArrayIter.nth_back.Given as goal
+use Rattle.std.proofs.Common.{◌≡◌, drop, reverse}
+
+-- as many items are gone from the back as were passed over
+abbrev pub invariant-loop-passed : goal.invariant-loop-passed
+invariant-loop-passed g l = reverse l.self ≡ drop l._passed (reverse l.initial.self)

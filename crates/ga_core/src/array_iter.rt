@@ -1,0 +1,228 @@
+//! The iterator that moves the items out of an array, from both ends.
+ghost use Rattle.ga_core.specs.Cut.{StepGives, back, front};
+ghost use Rattle.ga_views.specs.Length.{FitsInline};
+ghost use Rattle.ga_core.specs.Runs.{CallableInFold, FoldRun};
+ghost use Rattle.std.specs.Iterator.{YieldsFirst, YieldsLast, item_count};
+ghost use Rattle.std.specs.Borrow.{sem};
+ghost use Rattle.std.specs.Prelude.{◌≡◌, ◌-◌, ◌≤◌, drop, length, reverse, slice_get};
+
+#[cfg(test)]
+mod tests;
+
+use crate::length::ArrayLength;
+use crate::store::Store;
+use std::marker::{Model, PhantomData};
+use std::mem;
+
+/// The items of an array by value, from both ends. Contracts see it as the list of the items that
+/// are left.
+///
+/// The counterpart of `GenericArrayIter`.
+#[derive(Drop)]
+pub struct GenericArrayIter<T, N: ArrayLength<T>> {
+    store: N::ArrayType,
+    // How many places at the store's front hold the default of an item that was taken.
+    taken: usize,
+    of: PhantomData<T>,
+}
+
+impl<T, N: ArrayLength<T>> Model for GenericArrayIter<T, N> {
+    ghost use Rattle.std.specs.Prelude.{◌≤◌, List, drop, length};
+    ghost use Rattle.ga_views.specs.Length.{FitsInline};
+
+    ghost Value = { List T };
+
+    ghost view = { λ items. drop items.taken (N.ArrayType.items items.store) };
+
+    ghost invariant = { λ items. (items.taken ≤ length (N.ArrayType.items items.store)) × (length (N.ArrayType.items items.store) ≤ N.USIZE) × FitsInline N.USIZE };
+}
+
+impl<T, N: ArrayLength<T>> GenericArrayIter<T, N> {
+    /// The iterator over the items of a store.
+    #[inline]
+    pub(crate) fn of_store(store: N::ArrayType) -> Self
+        requires fits { (length (N.ArrayType.items store) ≤ N.USIZE) × FitsInline N.USIZE }
+        ensures { result ≡ N.ArrayType.items store }
+    {
+        GenericArrayIter {
+            store,
+            taken: 0,
+            of: PhantomData,
+        }
+    }
+
+    /// The number of items that are left. Constant time.
+    #[inline]
+    pub fn len(&self) -> usize
+        ensures { result ≡ length self.now }
+    {
+        self.store.as_slice().len() - self.taken
+    }
+
+    /// The items that are left, in order. Constant time.
+    #[inline]
+    pub fn as_slice(&self) -> &[T]
+        ensures items { result.now ≡ self.now }
+    {
+        &self.store.as_slice()[self.taken..]
+    }
+
+    /// The number of items that are left, twice: they are no fewer and no more.
+    #[inline]
+    pub fn size_hint(&self) -> (usize, Option<usize>)
+        ensures { result ≡ (length self.now, Some (length self.now)) }
+    {
+        let len = self.len();
+        (len, Some(len))
+    }
+}
+
+impl<T: Default + Drop, N: ArrayLength<T>> Iterator for GenericArrayIter<T, N> {
+    type Item = T;
+
+    ghost next_gives = { YieldsFirst (λ left. left) };
+
+    ghost remaining = { item_count (λ left. left) };
+
+    /// Takes the first item that is left. Constant time.
+    #[inline]
+    fn next(&mut self) -> Option<T> {
+        if self.taken == self.store.as_slice().len() {
+            return None;
+        }
+        let item = mem::take(self.store.item_mut(self.taken));
+        self.taken += 1;
+        Some(item)
+    }
+
+    #[inline]
+    fn size_hint(&self) -> (usize, Option<usize>) {
+        GenericArrayIter::size_hint(self)
+    }
+}
+
+impl<T: Default + Drop, N: ArrayLength<T>> DoubleEndedIterator for GenericArrayIter<T, N> {
+    ghost next_back_gives = { YieldsLast (λ left. left) };
+
+    /// Takes the last item that is left. Constant time.
+    #[inline]
+    fn next_back(&mut self) -> Option<T> {
+        if self.taken == self.store.as_slice().len() {
+            return None;
+        }
+        self.store.pop()
+    }
+}
+
+impl<T: Default + Drop, N: ArrayLength<T>> GenericArrayIter<T, N> {
+    ghost use Rattle.ga_core.specs.IterLends.{LendsLeft};
+
+    /// The items that are left, in order, for writing.
+    ///
+    /// Constant time where no item was taken from the front since the last such call; else the
+    /// places of those that were are first moved behind the items that are left, and given up.
+    pub fn as_mut_slice(&mut self) -> &mut [T]
+        ensures* writes_back { sem 𝓛 (LendsLeft T.row N.row N.ArrayType.row N.Unsigned N.ArrayType.Store self.entry result) }
+        ensures items { result.now ≡ self.old }
+    {
+        give_up_front::<T, N::ArrayType>(&mut self.store, self.taken);
+        self.taken = 0;
+        self.store.as_mut_slice()
+    }
+
+    /// Drops `n` items from the front, or as many as are left, and takes the next.
+    ///
+    /// So all are consumed, and `None` is answered, where `n` is at or beyond their number. Takes time
+    /// in proportion to the items dropped.
+    pub fn nth(&mut self, n: usize) -> Option<T>
+        ensures step { StepGives (front n) self.old result self.new }
+    {
+        for _passed in 0..n.min(self.len()) {
+            let _ = self.next();
+        }
+        self.next()
+    }
+
+    /// Drops `n` items from the back, or as many as are left, and takes the last of those before.
+    pub fn nth_back(&mut self, n: usize) -> Option<T>
+        ensures step { StepGives (back n) self.old result self.new }
+    {
+        for _passed in 0..n.min(self.len()) {
+            let _ = self.next_back();
+        }
+        self.next_back()
+    }
+
+    /// The last item that is left. The others are dropped.
+    pub fn last(self) -> Option<T>
+        ensures { result ≡ slice_get self (length self - 1) }
+    {
+        let mut items = self;
+        items.next_back()
+    }
+
+    /// The number of items that are left, which are dropped.
+    pub fn count(self) -> usize
+        ensures { result ≡ length self }
+    {
+        self.len()
+    }
+
+    /// Calls `f` with what it answered last, at first `init`, and each item that is left, from the
+    /// front, and gives its last answer. One pass.
+    pub fn fold<A, F: FnMut(A, T) -> A>(self, init: A, f: F) -> A
+        requires callable { CallableInFold F.pre F.step f init self }
+        ensures run { (last : F) × FoldRun F.step f init self result last }
+    {
+        let mut f = f;
+        self.fold_by(init, &mut f)
+    }
+
+    /// `fold` with a closure that is lent, and can be used again in the state that it reached.
+    pub fn fold_by<A, F: FnMut(A, T) -> A>(self, init: A, f: &mut F) -> A
+        requires callable { CallableInFold F.pre F.step f.old init self }
+        ensures run { FoldRun F.step f.old init self result f.new }
+    {
+        let mut items = self;
+        let mut answer = init;
+        while let Some(item) = items.next() {
+            answer = f(answer, item);
+        }
+        answer
+    }
+
+    /// `fold` from the back.
+    pub fn rfold<A, F: FnMut(A, T) -> A>(self, init: A, f: F) -> A
+        requires callable { CallableInFold F.pre F.step f init (reverse self) }
+        ensures run { (last : F) × FoldRun F.step f init (reverse self) result last }
+    {
+        let mut f = f;
+        self.rfold_by(init, &mut f)
+    }
+
+    /// `rfold` with a closure that is lent, and can be used again in the state that it reached.
+    pub fn rfold_by<A, F: FnMut(A, T) -> A>(self, init: A, f: &mut F) -> A
+        requires callable { CallableInFold F.pre F.step f.old init (reverse self) }
+        ensures run { FoldRun F.step f.old init (reverse self) result f.new }
+    {
+        let mut items = self;
+        let mut answer = init;
+        while let Some(item) = items.next_back() {
+            answer = f(answer, item);
+        }
+        answer
+    }
+}
+
+/// Gives up the first `count` items of a store.
+fn give_up_front<T: Drop, S: Store<T>>(store: &mut S, count: usize)
+    requires { count ≤ length (S.items store.old) }
+    ensures { S.items store.new ≡ drop count (S.items store.old) }
+{
+    if count > 0 {
+        store.as_mut_slice().rotate_left(count);
+        for _given in 0..count {
+            let _ = store.pop();
+        }
+    }
+}
