@@ -158,7 +158,7 @@ impl<T, N: ArrayLength<T>> AsSlice<T> for GenericArray<T, N> {
     }
 }
 
-/// The items by value, from either end. Constant time.
+/// The items by value, from either end. Moves the array and no single item.
 impl<T: Default + Drop, N: ArrayLength<T>> IntoIterator for GenericArray<T, N> {
     type Item = T;
 
