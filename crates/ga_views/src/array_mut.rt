@@ -3,11 +3,11 @@ ghost use Rattle.std.specs.Borrow.{sem};
 ghost use Rattle.std.specs.Iterator.Adapters.{IterYieldsInOrder, IterYieldsInReverse};
 ghost use Rattle.std.specs.Iterator.Runs.{EveryRun, ItemsMapTo, ItemsMapToReversed};
 ghost use Rattle.std.specs.Option.{option_copied, option_copied_mut};
-ghost use Rattle.std.specs.Prelude.{◌≡◌, ◌^◌, ◌<◌, ◌↔◌, IsSome, length, slice_get, slice_index_or};
+ghost use Rattle.std.specs.Prelude.{◌≡◌, ◌^◌, ◌<◌, ◌↔◌, IfOk, IsOk, IsSome, length, slice_get, slice_index_or};
 ghost use Rattle.std.specs.Slice.Iter.{iter_mut_rest, iter_mut_steps, iter_mut_steps_back, iter_rest};
 
-use crate::Unsigned;
 use crate::slice_mut::SliceMut;
+use crate::{LengthError, Unsigned};
 use std::marker::PhantomData;
 use std::slice;
 
@@ -34,10 +34,23 @@ impl<'a, T, N: Unsigned> ArrayMut<&'a mut [T], T, N> {
         requires len { length slice.old ≡ N.USIZE }
         ensures { result.slice ≡ slice.entry }
     {
-        ArrayMut {
-            slice,
-            of: PhantomData,
-            len: PhantomData,
+        Self::over(slice)
+    }
+
+    /// The view of a slice, or `LengthError` where it doesn't have `N` items; the slice is then as it
+    /// was.
+    ///
+    /// The contract doesn't say what the slice ends as. Where a proof asks for that, compare the
+    /// slice's length and call `from_mut_slice`.
+    #[inline]
+    pub fn try_from_mut_slice(slice: &'a mut [T]) -> Result<Self, LengthError>
+        ensures variant { IsOk result ↔ (length slice.old ≡ N.USIZE) }
+        ensures ok { IfOk result (λ view. view.slice ≡ slice.entry) }
+    {
+        if slice.len() == N::USIZE {
+            Ok(Self::from_mut_slice(slice))
+        } else {
+            Err(LengthError)
         }
     }
 
@@ -47,12 +60,26 @@ impl<'a, T, N: Unsigned> ArrayMut<&'a mut [T], T, N> {
         ensures items { result ≡ self.entry.slice }
         ensures len { length result.now ≡ N.USIZE }
     {
-        self.slice
+        let ArrayMut { slice, of: _, len: _ } = self;
+        slice
     }
 }
 
 impl<S: SliceMut<T>, T, N: Unsigned> ArrayMut<S, T, N> {
     ghost use Rattle.ga_views.specs.ArrayMut.{LendsItems, LendsIter, LendsPlace, LendsPlaceIf};
+
+    /// The view over `items`, which lends `N` items.
+    #[inline]
+    pub fn over(items: S) -> Self
+        requires len { length (S.items items) ≡ N.USIZE }
+        ensures { result.slice ≡ items }
+    {
+        ArrayMut {
+            slice: items,
+            of: PhantomData,
+            len: PhantomData,
+        }
+    }
 
     /// All items, in order.
     #[inline]

@@ -69,7 +69,8 @@ impl<'a, T, N: Unsigned> GenericArrayRef<'a, T, N> {
         ensures items { result.now ≡ self.entry.slice.now }
         ensures len { length result.now ≡ N.USIZE }
     {
-        self.slice
+        let GenericArrayRef { slice, of: _ } = self;
+        slice
     }
 
     /// The item at `index`, or `None` where `index` isn't below `N`.
@@ -78,7 +79,7 @@ impl<'a, T, N: Unsigned> GenericArrayRef<'a, T, N> {
         ensures variant { IsSome result ↔ (index < N.USIZE) }
         ensures item { option_copied result ≡ slice_get self.now.slice.now index }
     {
-        self.slice.get(index)
+        self.as_slice().get(index)
     }
 
     /// The items by reference, in order.
@@ -90,7 +91,7 @@ impl<'a, T, N: Unsigned> GenericArrayRef<'a, T, N> {
         ensures runs { IterYieldsInOrder T }
         ensures runs_back { IterYieldsInReverse T }
     {
-        self.slice.iter()
+        self.as_slice().iter()
     }
 }
 
@@ -99,7 +100,7 @@ impl<'a, T, N: Unsigned> AsSlice<T> for GenericArrayRef<'a, T, N> {
 
     #[inline]
     fn as_slice(&self) -> &[T] {
-        self.slice
+        GenericArrayRef::as_slice(self)
     }
 }
 
@@ -116,6 +117,6 @@ impl<'a, T, N: Unsigned> IntoIterator for GenericArrayRef<'a, T, N> {
 
     #[inline]
     fn into_iter(self) -> slice::Iter<'a, T> {
-        self.slice.iter()
+        self.into_slice().iter()
     }
 }

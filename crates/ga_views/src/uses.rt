@@ -51,6 +51,27 @@ mod tests {
     }
 
     #[test]
+    fn the_items_are_walked_in_order(rt: HostRuntime) {
+        let mut items = [4u8, 5];
+        let view: GenericArrayRef<u8, U2> = GenericArrayRef::from_slice(&items);
+        let mut by_value = view.into_iter();
+        assert_eq!(rt; by_value.next().copied(), Some(4));
+        assert_eq!(rt; by_value.next().copied(), Some(5));
+        assert!(rt; by_value.next().is_none());
+        let mut from_the_back = view.iter();
+        assert_eq!(rt; from_the_back.next_back().copied(), Some(5));
+        assert_eq!(rt; from_the_back.next().copied(), Some(4));
+        assert!(rt; from_the_back.next_back().is_none());
+        let mut view: GenericArrayMut<u8, U2> = GenericArrayMut::from_mut_slice(&mut items);
+        for item in view.iter_mut() {
+            *item = 9;
+        }
+        assert_eq!(rt; view.as_slice(), [9, 9].as_slice());
+        assert_eq!(rt; view.iter().count(), 2);
+        assert_eq!(rt; items.as_slice(), [9, 9].as_slice());
+    }
+
+    #[test]
     fn a_slice_of_another_length_is_refused(rt: HostRuntime) {
         let mut items = [1u8, 2, 3, 4];
         assert!(rt;
@@ -59,8 +80,26 @@ mod tests {
                 Err(LengthError)
             )
         );
+        assert!(rt;
+            matches!(
+                GenericArrayMut::<u8, U3>::try_from_mut_slice(&mut items),
+                Err(LengthError)
+            )
+        );
         second_of_two(&mut items);
         assert_eq!(rt; items.as_slice(), [1, 2, 3, 4].as_slice());
+    }
+
+    #[test]
+    fn a_slice_of_the_length_is_taken(rt: HostRuntime) {
+        let mut items = [4u8, 5];
+        if let Ok(mut view) = GenericArrayMut::<u8, U2>::try_from_mut_slice(&mut items) {
+            let slice = view.as_mut_slice();
+            slice[1] = 6;
+        }
+        assert_eq!(rt; items.as_slice(), [4, 6].as_slice());
+        let view = GenericArrayRef::<u8, U2>::try_from_slice(&items);
+        assert_eq!(rt; view.map(|view| view.into_slice()), Ok([4, 6].as_slice()));
     }
 
     #[test]

@@ -5,7 +5,7 @@ ghost use Rattle.std.specs.Prelude.{◌≡◌, ◌↔◌, IfOk, IsOk, Some, leng
 use crate::array::GenericArray;
 use crate::length::ArrayLength;
 use crate::store::Store;
-use ga_views::{GenericArrayMut, GenericArrayRef, LengthError};
+use ga_views::{ArrayMut, GenericArrayMut, GenericArrayRef, LengthError};
 
 impl<T, N: ArrayLength<T>> GenericArray<T, N> {
     /// The read-only view of the items.
@@ -14,6 +14,16 @@ impl<T, N: ArrayLength<T>> GenericArray<T, N> {
         ensures { result.slice.now ≡ self.now }
     {
         GenericArrayRef::from_slice(self.as_slice())
+    }
+
+    /// The view of the items for writing: a `GenericArrayMut` that stands on the array itself.
+    #[inline]
+    pub fn view_mut(&mut self) -> ArrayMut<&mut GenericArray<T, N>, T, N>
+        ensures { result.slice ≡ self.entry }
+    {
+        // Its contract shows that there are `N` items.
+        let _ = self.as_slice();
+        ArrayMut::over(self)
     }
 
     /// The read-only view of a slice of `N` items, which need not fit inline.
@@ -46,6 +56,17 @@ impl<T, N: ArrayLength<T>> GenericArray<T, N> {
         ensures { result.slice ≡ slice.entry }
     {
         GenericArrayMut::from_mut_slice(slice)
+    }
+
+    /// The view of a slice for writing, or `LengthError` where it doesn't have `N` items. The length
+    /// need not fit inline. Proofs don't learn what is written: see
+    /// `GenericArrayMut::try_from_mut_slice`.
+    #[inline]
+    pub fn try_from_mut_slice(slice: &mut [T]) -> Result<GenericArrayMut<'_, T, N>, LengthError>
+        ensures variant { IsOk result ↔ (length slice.old ≡ N.USIZE) }
+        ensures ok { IfOk result (λ view. view.slice ≡ slice.entry) }
+    {
+        GenericArrayMut::try_from_mut_slice(slice)
     }
 
     /// `Some` of a reference to each item, in order. There where the length is also one of arrays of

@@ -30,6 +30,48 @@ fn second_item_of_the_slice_set(array: &mut GenericArray<u8, U2>)
     items[1] = 6;
 }
 
+fn second_item_of_the_view_set(array: &mut GenericArray<u8, U2>)
+    ensures { array.new ≡ slice_set array.old 1 6 }
+{
+    let mut view = array.view_mut();
+    let items = view.as_mut_slice();
+    items[1] = 6;
+}
+
+fn second_item_got_of_the_view(array: &mut GenericArray<u8, U2>)
+    ensures { array.new ≡ slice_set array.old 1 6 }
+{
+    let mut view = array.view_mut();
+    if let Some(item) = view.get_mut(1) {
+        *item = 6;
+    }
+}
+
+fn four_and_six() -> GenericArray<u8, U2>
+    ensures { result ≡ 4 ∷ 6 ∷ [] }
+{
+    let mut array: GenericArray<u8, U2> = GenericArray::generate(|_| 4);
+    let mut view = array.view_mut();
+    let items = view.as_mut_slice();
+    items[1] = 6;
+    array
+}
+
+#[derive(Drop)]
+struct Packet {
+    kind: u8,
+    checksum: GenericArray<u8, U2>,
+}
+
+fn checksum_ended(packet: &mut Packet)
+    ensures checksum { packet.new.checksum ≡ slice_set packet.old.checksum 1 6 }
+    ensures kind { packet.new.kind ≡ packet.old.kind }
+{
+    let mut view = packet.checksum.view_mut();
+    let items = view.as_mut_slice();
+    items[1] = 6;
+}
+
 fn last_two_sorted(array: &mut GenericArray<u8, U3>)
     ensures { slice_index array.new 0 ≡ slice_index array.old 0 }
 {
@@ -82,6 +124,17 @@ mod tests {
         let mut pair: GenericArray<u8, U2> = GenericArray::generate(|_| 4);
         second_item_of_the_slice_set(&mut pair);
         assert_eq!(rt; pair.as_slice(), [4, 6].as_slice());
+        pair[1] = 5;
+        second_item_of_the_view_set(&mut pair);
+        assert_eq!(rt; pair.as_slice(), [4, 6].as_slice());
+        pair[1] = 5;
+        second_item_got_of_the_view(&mut pair);
+        assert_eq!(rt; pair.as_slice(), [4, 6].as_slice());
+        assert_eq!(rt; four_and_six().as_slice(), [4, 6].as_slice());
+        let mut packet = Packet { kind: 1, checksum: GenericArray::generate(|_| 4) };
+        checksum_ended(&mut packet);
+        assert_eq!(rt; packet.kind, 1);
+        assert_eq!(rt; packet.checksum.as_slice(), [4, 6].as_slice());
     }
 
     #[test]
@@ -95,6 +148,13 @@ mod tests {
         assert_eq!(rt; view.as_slice(), [4, 6].as_slice());
         assert!(rt; GenericArray::<u8, U3>::try_from_slice(b"abcd").is_err());
         assert!(rt; GenericArray::<u8, U4>::try_from_slice(b"abcd").is_ok());
+        assert!(rt; GenericArray::<u8, U3>::try_from_mut_slice(&mut items).is_err());
+        assert_eq!(rt; items.as_slice(), [4, 6].as_slice());
+        if let Ok(mut view) = GenericArray::<u8, U2>::try_from_mut_slice(&mut items) {
+            let slice = view.as_mut_slice();
+            slice[0] = 7;
+        }
+        assert_eq!(rt; items.as_slice(), [7, 6].as_slice());
     }
 
     #[test]

@@ -1,0 +1,32 @@
+//! An array for writing, as what a writing view stands on.
+use crate::array::GenericArray;
+use crate::length::ArrayLength;
+use ga_views::SliceMut;
+
+impl<'a, T, N: ArrayLength<T>> SliceMut<T> for &'a mut GenericArray<T, N> {
+    ghost use Rattle.std.specs.List.{refill};
+    ghost use Rattle.std.specs.Prelude.{length, refl, slice_set};
+
+    ghost items = { λ array. array.now };
+
+    #[inline]
+    fn all(&self) -> &[T] {
+        self.as_slice()
+    }
+
+    ghost refilled = { λ array written. (record array { now = refill (length array.now) array.now written }, refl) };
+
+    #[inline]
+    fn all_mut(&mut self) -> &mut [T] {
+        self.as_mut_slice()
+    }
+
+    ghost replaced = { λ array index item. (record array { now = slice_set array.now index item }, refl) };
+
+    #[inline]
+    fn item_mut(&mut self, index: usize) -> &mut T {
+        // Its contract shows that there are `N` items.
+        let _ = GenericArray::as_slice(self);
+        &mut self[index]
+    }
+}
