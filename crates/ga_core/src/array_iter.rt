@@ -1,13 +1,15 @@
 //! The iterator that moves the items out of an array, from both ends.
 ghost use Rattle.ga_core.specs.Cut.{StepGives, back, front};
-ghost use Rattle.ga_views.specs.Length.{FitsInline};
 ghost use Rattle.ga_core.specs.Runs.{CallableInFold, FoldRun};
-ghost use Rattle.std.specs.Iterator.{YieldsFirst, YieldsLast, item_count};
+ghost use Rattle.ga_views.specs.Length.{FitsInline};
 ghost use Rattle.std.specs.Borrow.{sem};
+ghost use Rattle.std.specs.Iterator.{YieldsFirst, YieldsLast, item_count};
 ghost use Rattle.std.specs.Prelude.{◌≡◌, ◌-◌, ◌≤◌, drop, length, reverse, slice_get};
 
 #[cfg(test)]
 mod tests;
+#[cfg(test)]
+mod uses;
 
 use crate::length::ArrayLength;
 use crate::store::Store;

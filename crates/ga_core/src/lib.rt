@@ -6,6 +6,8 @@
 
 mod array;
 mod array_iter;
+#[cfg(test)]
+mod counted;
 mod length;
 mod store;
 

@@ -1,14 +1,31 @@
 -- What the words after the program's name mean: a mode and a width, or nothing. A word is the list of its bytes.
 use Rattle.ga_rows.specs.declared.words.Mode.{Mode}
-use Rattle.ga_rows.specs.declared.words.Mode.TheVariants.{Dec}
+use Rattle.ga_rows.specs.declared.words.Mode.TheVariants.{Back, Dec}
 use Rattle.ga_rows.specs.declared.words.Width.{Width}
 use Rattle.ga_rows.specs.declared.words.Width.TheVariants.{W4}
-use Rattle.std.specs.Prelude.{ℕ, List, [], ◌∷◌, Option, None, Some}
+use Rattle.std.specs.Option.{option_map}
+use Rattle.std.specs.Prelude.{ℕ, List, [], ◌∷◌, Option, None, Some, codes}
+use Rattle.std.specs.Str.{bytes_eq}
 
 -- how many bytes a row has
 abbrev pub bytes_of : Width → ℕ
 bytes_of W4 = 4
 
+-- the mode of this name
+abbrev pub mode_named : List ℕ → Option Mode
+mode_named word = if bytes_eq word (codes "dec") then Some Dec else if bytes_eq word (codes "back") then Some Back else None
+
+-- the width of this number
+abbrev pub width_named : List ℕ → Option Width
+width_named word = if bytes_eq word (codes "4") then Some W4 else None
+
+-- a mode, and a width if there is one
+abbrev pub with_width : Option Mode → Option Width → Option (Mode × Width)
+with_width (Some mode) (Some width) = Some (mode, width)
+with_width _ _ = None
+
 abbrev pub meaning_of_words : List (List ℕ) → Option (Mode × Width)
 meaning_of_words [] = Some (Dec, W4)
-meaning_of_words (word ∷ words) = None
+meaning_of_words (mode ∷ []) = with_width (mode_named mode) (Some W4)
+meaning_of_words (mode ∷ width ∷ []) = with_width (mode_named mode) (width_named width)
+meaning_of_words (_ ∷ _ ∷ _ ∷ _) = None

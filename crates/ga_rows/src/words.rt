@@ -1,5 +1,5 @@
 //! What the program's words mean.
-ghost use Rattle.ga_rows.specs.Words.{meaning_of_words};
+ghost use Rattle.ga_rows.specs.Words.{meaning_of_words, mode_named, width_named};
 ghost use Rattle.std.specs.Prelude.{◌≡◌, map, string_bytes};
 
 /// How a row is written.
@@ -7,6 +7,21 @@ ghost use Rattle.std.specs.Prelude.{◌≡◌, map, string_bytes};
 pub enum Mode {
     /// The bytes in decimal, joined by one space.
     Dec,
+    /// As `Dec`, from the last byte to the first.
+    Back,
+}
+
+impl Mode {
+    /// The mode of a name.
+    fn named(name: &str) -> Option<Mode>
+        ensures { result ≡ mode_named name.now }
+    {
+        match name {
+            "dec" => Some(Mode::Dec),
+            "back" => Some(Mode::Back),
+            _ => None,
+        }
+    }
 }
 
 /// How many bytes a row has.
@@ -16,13 +31,28 @@ pub enum Width {
     W4,
 }
 
+impl Width {
+    /// The width of a number of bytes.
+    fn named(name: &str) -> Option<Width>
+        ensures { result ≡ width_named name.now }
+    {
+        match name {
+            "4" => Some(Width::W4),
+            _ => None,
+        }
+    }
+}
+
 /// The mode and the width that the words after the program's name mean, or `None` where they
-/// mean nothing. No words mean rows of four bytes in decimal; as yet no word means anything.
+/// mean nothing. A mode's name means rows of four bytes; a second word may say the width. No
+/// words mean `dec`.
 pub fn parse_words(words: &[String]) -> Option<(Mode, Width)>
     ensures { result ≡ meaning_of_words (map string_bytes words.now) }
 {
     match words {
         [] => Some((Mode::Dec, Width::W4)),
+        [mode] => Some((Mode::named(mode.as_str())?, Width::W4)),
+        [mode, width] => Some((Mode::named(mode.as_str())?, Width::named(width.as_str())?)),
         _ => None,
     }
 }

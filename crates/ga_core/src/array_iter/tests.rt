@@ -1,23 +1,9 @@
 //! Walks from both ends at concrete types, and how often an item is dropped.
 ghost use Rattle.ga_views.specs.Length.{FitsInline};
 
+use crate::counted::Counted;
 use crate::{ArrayLength, GenericArray, U3, U4, U5};
 use std::cell::Cell;
-
-/// Adds one to a counter when it is dropped; one made by `default` adds nothing.
-#[derive(Default)]
-struct Counted<'a> {
-    drops: Option<&'a Cell<u32>>,
-}
-
-impl Drop for Counted<'_> {
-    fn drop(self) {
-        let Counted { drops } = self;
-        if let Some(drops) = drops {
-            drops.set(drops.get().wrapping_add(1));
-        }
-    }
-}
 
 fn from_one<N: ArrayLength<u32>>() -> GenericArray<u32, N>
     requires { FitsInline N.USIZE }
@@ -83,9 +69,7 @@ fn what_is_written_is_what_comes_next(rt: HostRuntime) {
 fn each_item_is_dropped_once(rt: HostRuntime) {
     let drops = Cell::new(0u32);
     {
-        let array: GenericArray<Counted, U5> = GenericArray::generate(|_| Counted {
-            drops: Some(&drops),
-        });
+        let array: GenericArray<Counted, U5> = GenericArray::generate(|_| Counted::new(&drops));
         let mut items = array.into_iter();
         let first = items.next();
         assert!(rt; first.is_some());

@@ -1,4 +1,5 @@
 //! Builds at concrete types, and what no clause says of them.
+use crate::counted::Counted;
 use crate::{
     Const, ConstArrayLength, ConstGenericArray, GenericArray, IntoArrayLength, LengthError, U0, U2,
     U3, U4,
@@ -28,21 +29,6 @@ impl Iterator for Liar {
 
     fn size_hint(&self) -> (usize, Option<usize>) {
         (9, None)
-    }
-}
-
-/// Adds one to a counter when it is dropped; one made by `default` adds nothing.
-#[derive(Default)]
-struct Counted<'a> {
-    drops: Option<&'a Cell<u32>>,
-}
-
-impl Drop for Counted<'_> {
-    fn drop(self) {
-        let Counted { drops } = self;
-        if let Some(drops) = drops {
-            drops.set(drops.get().wrapping_add(1));
-        }
     }
 }
 
@@ -164,9 +150,7 @@ fn fill_believes_no_hint_and_asks_nothing_after_the_end(rt: HostRuntime) {
 fn a_refused_fill_drops_each_item_that_it_took_once(rt: HostRuntime) {
     let drops = Cell::new(0u32);
     {
-        let mut items = (0..9u32).map(|_| Counted {
-            drops: Some(&drops),
-        });
+        let mut items = (0..9u32).map(|_| Counted::new(&drops));
         let refused = GenericArray::<Counted, U4>::try_from_iter_ref(&mut items);
         assert!(rt; refused.is_err());
         assert_eq!(rt; drops.get(), 5);
@@ -178,9 +162,7 @@ fn a_refused_fill_drops_each_item_that_it_took_once(rt: HostRuntime) {
 fn an_array_drops_each_item_once(rt: HostRuntime) {
     let drops = Cell::new(0u32);
     {
-        let _array: GenericArray<Counted, U4> = GenericArray::generate(|_| Counted {
-            drops: Some(&drops),
-        });
+        let _array: GenericArray<Counted, U4> = GenericArray::generate(|_| Counted::new(&drops));
         assert_eq!(rt; drops.get(), 0);
     }
     assert_eq!(rt; drops.get(), 4);

@@ -1,0 +1,33 @@
+//! Callers of the iterator by value, each proved.
+ghost use Rattle.std.specs.Prelude.{◌≡◌, ◌^◌, ◌<◌, IfOk, IsOk, reverse, sum};
+
+use crate::{ArrayLength, GenericArray, LengthError, U3};
+
+fn total<N: ArrayLength<u32>>(array: GenericArray<u32, N>) -> u32
+    requires fits { sum array < 2 ^ 32 }
+    ensures { result ≡ sum array }
+{
+    let mut total = 0;
+    for item in array {
+        total += item;
+    }
+    total
+}
+
+fn reversed(array: GenericArray<u8, U3>) -> Result<GenericArray<u8, U3>, LengthError>
+    ensures ok { IsOk result }
+    ensures items { IfOk result (λ turned. turned ≡ reverse array) }
+{
+    GenericArray::try_from_iter(array.into_iter().rev())
+}
+
+#[test]
+fn callers_get_what_their_contracts_say(rt: HostRuntime) {
+    let array: GenericArray<u32, U3> = GenericArray::generate(|index| index as u32 + 1);
+    assert_eq!(rt; total(array), 6);
+    let array: GenericArray<u8, U3> = GenericArray::generate(|index| index as u8 + 1);
+    match reversed(array) {
+        Ok(turned) => assert_eq!(rt; turned.as_slice(), [3, 2, 1].as_slice()),
+        Err(refused) => panic!(rt; "{refused}"),
+    }
+}
