@@ -98,7 +98,9 @@ impl<T: Default + Drop, N: ArrayLength<T>> Iterator for GenericArrayIter<T, N> {
     }
 
     #[inline]
-    fn size_hint(&self) -> (usize, Option<usize>) {
+    fn size_hint(&self) -> (usize, Option<usize>)
+        ensures { result ≡ (length self.now, Some (length self.now)) }
+    {
         GenericArrayIter::size_hint(self)
     }
 }
@@ -149,7 +151,7 @@ impl<T: Default + Drop, N: ArrayLength<T>> GenericArrayIter<T, N> {
     pub fn nth_back(&mut self, n: usize) -> Option<T>
         ensures step { StepGives (back n) self.old result self.new }
     {
-        for _passed in 0..n.min(self.len()) {
+        for _passed_back in 0..n.min(self.len()) {
             let _ = self.next_back();
         }
         self.next_back()
@@ -167,7 +169,8 @@ impl<T: Default + Drop, N: ArrayLength<T>> GenericArrayIter<T, N> {
     pub fn count(self) -> usize
         ensures { result ≡ length self }
     {
-        self.len()
+        let items = self;
+        items.len()
     }
 
     /// Calls `f` with what it answered last, at first `init`, and each item that is left, from the

@@ -3,8 +3,7 @@ use Rattle.ga_rows.specs.declared.words.Mode.{Mode}
 use Rattle.ga_rows.specs.declared.words.Mode.TheVariants.{Back, Dec}
 use Rattle.ga_rows.specs.declared.words.Width.{Width}
 use Rattle.ga_rows.specs.declared.words.Width.TheVariants.{W4}
-use Rattle.std.specs.Option.{option_map}
-use Rattle.std.specs.Prelude.{ℕ, List, [], ◌∷◌, Option, None, Some, codes}
+use Rattle.std.specs.Prelude.{ℕ, List, [], ◌∷◌, Option, None, Some, codes, if◌then◌else◌}
 use Rattle.std.specs.Str.{bytes_eq}
 
 -- how many bytes a row has

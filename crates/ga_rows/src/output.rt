@@ -1,6 +1,6 @@
 //! Writing the rows of an input.
 ghost use Rattle.ga_core.specs.Rows.{chunk_rest};
-ghost use Rattle.ga_rows.specs.Text.{line, numbers_text, rest_line, text_of};
+ghost use Rattle.ga_rows.specs.Text.{line, rest_line, row_text, text_of};
 ghost use Rattle.ga_rows.specs.Words.{bytes_of};
 ghost use Rattle.std.specs.Io.KnownBytes.{Appends, Keeps, append_known};
 ghost use Rattle.std.specs.Prelude.{◌≡◌, ◌≢◌, ◌+◌, ◌≤◌, ◌↔◌, [], IfOk, IsOk, IsTrue, OnOk, length, take};
@@ -25,21 +25,21 @@ pub fn rows<W: Write>(input: &[u8], mode: Mode, width: Width, w: &mut W) -> Resu
     ensures rest { IfOk result (λ has_rest. IsTrue has_rest ↔ (chunk_rest (bytes_of width) input.now ≢ [])) }
     ensures empty { input.now ≡ [] → IsOk result }
 {
-    match (mode, width) {
-        (Mode::Dec, Width::W4) => decimal_rows(input, w),
+    match width {
+        Width::W4 => rows_of_four(input, mode, w),
     }
 }
 
-/// The rows of four bytes in decimal.
-fn decimal_rows<W: Write>(input: &[u8], w: &mut W) -> Result<bool, io::Error>
-    ensures text { OnOk result (Appends (W.contents w.old) (W.contents w.new) (text_of Mode.Dec Width.W4 input.now)) }
+/// The rows of four bytes.
+fn rows_of_four<W: Write>(input: &[u8], mode: Mode, w: &mut W) -> Result<bool, io::Error>
+    ensures text { OnOk result (Appends (W.contents w.old) (W.contents w.new) (text_of mode Width.W4 input.now)) }
     ensures rest { IfOk result (λ has_rest. IsTrue has_rest ↔ (chunk_rest 4 input.now ≢ [])) }
     ensures empty { input.now ≡ [] → IsOk result }
 {
     let mut piece = Piece::new();
     let mut left = input;
     while let Ok(row) = first_row(left) {
-        put_row(&mut piece, w, row.as_slice())?;
+        put_row(&mut piece, w, mode, row)?;
         left = left.split_at(4).1;
     }
     put_rest(&mut piece, w, left)?;
@@ -57,12 +57,20 @@ fn first_row(left: &[u8]) -> Result<GenericArray<u8, U4>, LengthError>
 
 /// Puts the line of one row behind the piece.
 #[inline]
-fn put_row<W: Write>(piece: &mut Piece, w: &mut W, row: &[u8]) -> Result<(), io::Error>
-    requires { length row.now ≤ 16 }
-    ensures text { OnOk result (Appends (append_known (W.contents w.old) piece.old) (append_known (W.contents w.new) piece.new) (line (numbers_text row.now))) }
+fn put_row<W: Write>(
+    piece: &mut Piece,
+    w: &mut W,
+    mode: Mode,
+    row: GenericArray<u8, U4>,
+) -> Result<(), io::Error>
+    requires { length row ≡ 4 }
+    ensures text { OnOk result (Appends (append_known (W.contents w.old) piece.old) (append_known (W.contents w.new) piece.new) (line (row_text mode row))) }
 {
     make_room(piece, w)?;
-    piece.push_numbers(row);
+    match mode {
+        Mode::Dec => piece.push_numbers(row.as_slice()),
+        Mode::Back => piece.push_numbers_back(row.into_iter()),
+    }
     piece.push(b'\n');
     Ok(())
 }

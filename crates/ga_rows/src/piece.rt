@@ -1,7 +1,8 @@
 //! Text that a writer has not been given yet.
 ghost use Rattle.ga_rows.specs.Text.{numbers_text};
-ghost use Rattle.std.specs.Prelude.{◌≡◌, ◌+◌, ◌*◌, ◌<◌, ◌≤◌, ◌↔◌, IsTrue, [], ◌∷◌, ◌++◌, decimal, length};
+ghost use Rattle.std.specs.Prelude.{◌≡◌, ◌+◌, ◌*◌, ◌<◌, ◌≤◌, ◌↔◌, IsTrue, [], ◌∷◌, ◌++◌, decimal, length, reverse};
 
+use ga_core::{ArrayLength, GenericArrayIter};
 use std::marker::Model;
 
 /// How many bytes a piece of text may have.
@@ -103,6 +104,24 @@ impl Piece {
         for number in others {
             self.push(b' ');
             self.push_decimal(*number);
+        }
+    }
+
+    /// Appends what is left of `numbers` in decimal, from the last to the first, joined by one space.
+    /// There is room for four bytes each.
+    #[inline]
+    pub fn push_numbers_back<N: ArrayLength<u8>>(&mut self, mut numbers: GenericArrayIter<u8, N>)
+        requires { length self.old + 4 * length numbers ≤ PIECE_SIZE }
+        ensures text { self.new ≡ self.old ++ numbers_text (reverse numbers) }
+        ensures bytes { length self.new ≤ length self.old + 4 * length numbers }
+    {
+        let Some(last) = numbers.next_back() else {
+            return;
+        };
+        self.push_decimal(last);
+        while let Some(number) = numbers.next_back() {
+            self.push(b' ');
+            self.push_decimal(number);
         }
     }
 

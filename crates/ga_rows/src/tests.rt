@@ -66,12 +66,45 @@ impl Write for Sink {
 }
 
 #[test]
-fn no_words_mean_rows_of_four_in_decimal(rt: HostRuntime) -> Result<(), Fail> {
+fn words_mean_a_mode_and_a_width(rt: HostRuntime) -> Result<(), Fail> {
     assert_eq!(rt; parse_words(&[]), Some((Mode::Dec, Width::W4)));
-    for word in ["dec", "hex", "4", ""] {
+    let one_word = [
+        ("dec", Some(Mode::Dec)),
+        ("back", Some(Mode::Back)),
+        ("hex", None),
+        ("4", None),
+        ("", None),
+        ("Back", None),
+    ];
+    for (word, mode) in one_word {
         let words = [String::from_str(rt.alloc(), word)?];
-        assert_eq!(rt; parse_words(&words), None, "{word:?}");
+        assert_eq!(rt;
+            parse_words(&words),
+            mode.map(|mode| (mode, Width::W4)),
+            "{word:?}"
+        );
     }
+    let two_words = [
+        ("dec", "4", true),
+        ("back", "4", true),
+        ("dec", "2", false),
+        ("back", "", false),
+        ("4", "dec", false),
+        ("sum", "4", false),
+    ];
+    for (mode, width, meant) in two_words {
+        let words = [
+            String::from_str(rt.alloc(), mode)?,
+            String::from_str(rt.alloc(), width)?,
+        ];
+        assert_eq!(rt; parse_words(&words).is_some(), meant, "{mode:?} {width:?}");
+    }
+    let three_words = [
+        String::from_str(rt.alloc(), "dec")?,
+        String::from_str(rt.alloc(), "4")?,
+        String::from_str(rt.alloc(), "4")?,
+    ];
+    assert_eq!(rt; parse_words(&three_words), None);
     Ok(())
 }
 
@@ -87,6 +120,23 @@ fn rows_and_rest_are_written_in_decimal(rt: HostRuntime) -> Result<(), Fail> {
     for (input, text, has_rest) in cases {
         let mut written = Vec::new(rt.alloc());
         let answer = rows(input, Mode::Dec, Width::W4, &mut written)?;
+        assert_eq!(rt; written.as_slice(), text.as_bytes(), "{input:?}");
+        assert_eq!(rt; answer, has_rest, "{input:?}");
+    }
+    Ok(())
+}
+
+#[test]
+fn rows_are_written_from_the_back(rt: HostRuntime) -> Result<(), Fail> {
+    let cases: [(&[u8], &str, bool); 4] = [
+        (&[1, 2, 3, 4, 255], "4 3 2 1\nrest 255\n", true),
+        (&[], "", false),
+        (&[7, 8], "rest 7 8\n", true),
+        (b"abcdefgh", "100 99 98 97\n104 103 102 101\n", false),
+    ];
+    for (input, text, has_rest) in cases {
+        let mut written = Vec::new(rt.alloc());
+        let answer = rows(input, Mode::Back, Width::W4, &mut written)?;
         assert_eq!(rt; written.as_slice(), text.as_bytes(), "{input:?}");
         assert_eq!(rt; answer, has_rest, "{input:?}");
     }
@@ -140,6 +190,18 @@ fn the_program_ends_as_its_input_does(rt: HostRuntime) -> Result<(), Fail> {
     assert_eq!(rt; run(rt.alloc(), &[], &mut whole, &mut sink), Status::Whole);
     assert_eq!(rt; sink.text.as_slice(), b"1 2 3 4\n".as_slice());
 
+    let words = [
+        String::from_str(rt.alloc(), "back")?,
+        String::from_str(rt.alloc(), "4")?,
+    ];
+    let mut sink = Sink::new(rt.alloc(), usize::MAX);
+    let mut whole: &[u8] = &[1, 2, 3, 4];
+    assert_eq!(rt;
+        run(rt.alloc(), &words, &mut whole, &mut sink),
+        Status::Whole
+    );
+    assert_eq!(rt; sink.text.as_slice(), b"4 3 2 1\n".as_slice());
+
     let mut sink = Sink::new(rt.alloc(), usize::MAX);
     let mut source = Source {
         bytes: &[1, 2, 3, 4, 5, 6],
@@ -153,7 +215,7 @@ fn the_program_ends_as_its_input_does(rt: HostRuntime) -> Result<(), Fail> {
 
 #[test]
 fn unknown_words_leave_the_reader_and_the_writer_alone(rt: HostRuntime) -> Result<(), Fail> {
-    let words = [String::from_str(rt.alloc(), "dec")?];
+    let words = [String::from_str(rt.alloc(), "hex")?];
     let mut sink = Sink::new(rt.alloc(), 1);
     let mut source = Source {
         bytes: &[1, 2, 3, 4],

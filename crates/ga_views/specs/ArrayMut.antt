@@ -6,7 +6,7 @@ use Rattle.std.proofs.Common.{ap, sym, ◌∙◌}
 use Rattle.std.proofs.Math.ListN.{length-set}
 use Rattle.std.specs.Borrow.{Array, Fml, Lends, LendsIf, MutBor, RattleType, follows}
 use Rattle.std.specs.List.{length_refill}
-use Rattle.std.specs.Prelude.{◌≡◌, ℕ, List, Option, length, refl, slice_set}
+use Rattle.std.specs.Prelude.{◌≡◌, ℕ, List, Option, length, refl}
 use Rattle.std.specs.Slice.Iter.{iter_mut_name}
 use Rattle.std.specs.declared.slice.IterMut.{IterMut}
 

@@ -60,7 +60,11 @@ impl<'a, T, N: Unsigned> ArrayMut<&'a mut [T], T, N> {
         ensures items { result ≡ self.entry.slice }
         ensures len { length result.now ≡ N.USIZE }
     {
-        let ArrayMut { slice, of: _, len: _ } = self;
+        let ArrayMut {
+            slice,
+            of: _,
+            len: _,
+        } = self;
         slice
     }
 }

@@ -131,7 +131,10 @@ mod tests {
         second_item_got_of_the_view(&mut pair);
         assert_eq!(rt; pair.as_slice(), [4, 6].as_slice());
         assert_eq!(rt; four_and_six().as_slice(), [4, 6].as_slice());
-        let mut packet = Packet { kind: 1, checksum: GenericArray::generate(|_| 4) };
+        let mut packet = Packet {
+            kind: 1,
+            checksum: GenericArray::generate(|_| 4),
+        };
         checksum_ended(&mut packet);
         assert_eq!(rt; packet.kind, 1);
         assert_eq!(rt; packet.checksum.as_slice(), [4, 6].as_slice());

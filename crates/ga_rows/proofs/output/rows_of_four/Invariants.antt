@@ -1,7 +1,6 @@
 use Rattle.ga_core.specs.Rows.{chunk_rest}
-use Rattle.ga_rows.proofs.output.decimal_rows.Given as goal
+use Rattle.ga_rows.proofs.output.rows_of_four.Given as goal
 use Rattle.ga_rows.specs.Text.{text_of}
-use Rattle.ga_rows.specs.declared.words.Mode.TheVariants.{Dec}
 use Rattle.ga_rows.specs.declared.words.Width.TheVariants.{W4}
 use Rattle.std.proofs.Common.{◌≡◌, ℕ, List, [], ◌++◌, length}
 use Rattle.std.specs.Io.KnownBytes.{Appends, append_known}
@@ -11,7 +10,7 @@ abbrev pub invariant-loop-row : goal.invariant-loop-row
 invariant-loop-row g l =
     let contents = g.W.Write.contents in
     record {
-      text : (done : List ℕ) × Appends (contents l.fn.w) (append_known (contents l.w) l.piece) done × (text_of Dec W4 l.fn.input ≡ done ++ text_of Dec W4 l.left);
+      text : (done : List ℕ) × Appends (contents l.fn.w) (append_known (contents l.w) l.piece) done × (text_of l.fn.mode W4 l.fn.input ≡ done ++ text_of l.fn.mode W4 l.left);
       rest : chunk_rest 4 l.fn.input ≡ chunk_rest 4 l.left;
       empty : l.fn.input ≡ [] → l.left ≡ [] × l.piece ≡ [];
     }
