@@ -148,6 +148,9 @@ impl<T: Default + Drop, N: ArrayLength<T>> GenericArrayIter<T, N> {
     }
 
     /// Drops `n` items from the back, or as many as are left, and takes the last of those before.
+    ///
+    /// So all are consumed, and `None` is answered, where `n` is at or beyond their number. Takes time
+    /// in proportion to the items dropped.
     pub fn nth_back(&mut self, n: usize) -> Option<T>
         ensures step { StepGives (back n) self.old result self.new }
     {
@@ -157,7 +160,7 @@ impl<T: Default + Drop, N: ArrayLength<T>> GenericArrayIter<T, N> {
         self.next_back()
     }
 
-    /// The last item that is left. The others are dropped.
+    /// The last item that is left. The others are dropped; nothing else takes time.
     pub fn last(self) -> Option<T>
         ensures { result ≡ slice_get self (length self - 1) }
     {
@@ -165,7 +168,7 @@ impl<T: Default + Drop, N: ArrayLength<T>> GenericArrayIter<T, N> {
         items.next_back()
     }
 
-    /// The number of items that are left, which are dropped.
+    /// The number of items that are left, which are dropped; nothing else takes time.
     pub fn count(self) -> usize
         ensures { result ≡ length self }
     {
@@ -183,7 +186,8 @@ impl<T: Default + Drop, N: ArrayLength<T>> GenericArrayIter<T, N> {
         self.fold_by(init, &mut f)
     }
 
-    /// `fold` with a closure that is lent, and can be used again in the state that it reached.
+    /// `fold` with a closure that is lent, and can be used again in the state that it reached. One
+    /// pass.
     pub fn fold_by<A, F: FnMut(A, T) -> A>(self, init: A, f: &mut F) -> A
         requires callable { CallableInFold F.pre F.step f.old init self }
         ensures run { FoldRun F.step f.old init self result f.new }
@@ -196,7 +200,7 @@ impl<T: Default + Drop, N: ArrayLength<T>> GenericArrayIter<T, N> {
         answer
     }
 
-    /// `fold` from the back.
+    /// `fold` from the back. One pass.
     pub fn rfold<A, F: FnMut(A, T) -> A>(self, init: A, f: F) -> A
         requires callable { CallableInFold F.pre F.step f init (reverse self) }
         ensures run { (last : F) × FoldRun F.step f init (reverse self) result last }
@@ -205,7 +209,8 @@ impl<T: Default + Drop, N: ArrayLength<T>> GenericArrayIter<T, N> {
         self.rfold_by(init, &mut f)
     }
 
-    /// `rfold` with a closure that is lent, and can be used again in the state that it reached.
+    /// `rfold` with a closure that is lent, and can be used again in the state that it reached. One
+    /// pass.
     pub fn rfold_by<A, F: FnMut(A, T) -> A>(self, init: A, f: &mut F) -> A
         requires callable { CallableInFold F.pre F.step f.old init (reverse self) }
         ensures run { FoldRun F.step f.old init (reverse self) result f.new }
