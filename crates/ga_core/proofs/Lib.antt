@@ -1,3 +1,4 @@
+pub mod CopyLemmas
 pub mod CutLemmas
 pub mod FillLemmas
 pub mod RunLemmas

@@ -1,7 +1,14 @@
--- Filling an array of n items from an iterator.
-use Rattle.std.specs.Iterator.{YieldsThen}
+-- Filling an array of n items, or what is left of a builder, from an iterator.
+use Rattle.std.specs.Iterator.{Yields, YieldsThen}
 use Rattle.std.specs.Iterator.Runs.{SomeRun, WholeRun}
-use Rattle.std.specs.Prelude.{◌≡◌, ◌⊎◌, ℕ, ◌+◌, ◌<◌, IsTrue, List, length, Option, None, Result, MatchOption, MatchResult}
+use Rattle.std.specs.Prelude.{◌≡◌, ◌⊎◌, ℕ, ◌+◌, ◌<◌, IsTrue, List, length, map, Option, None, Some, Result, Ok, Err, MatchOption, MatchResult}
+
+module _ {S T : Type 0} (next_gives : S → Option T → S → Type 0) where
+  -- Calls of `next` led from before to after and gave the items taken: as many as there is room for, or all up to the end, where that
+  -- came before.
+  abbrev pub Takes : S → ℕ → List T → S → Type 0
+  Takes before room taken after =
+      (Yields next_gives before taken after × (length taken ≡ room)) ⊎ (YieldsThen next_gives before taken None after × (length taken < room))
 
 module _ {S T E : Type 0} (next_gives : S → Option T → S → Type 0) where
   -- Calls of `next` led from before to after: they gave the items taken, and then last. There is an array of these items where they
@@ -18,3 +25,20 @@ module _ {S T E : Type 0} (next_gives : S → Option T → S → Type 0) where
   FillRuns before n result = MatchResult result
       (λ array. WholeRun next_gives before (λ run. (run.items ≡ array) × (run.len ≡ n)))
       (λ _. SomeRun next_gives before (λ run. (IsTrue run.whole × (run.len < n)) ⊎ (run.len ≡ n + 1)))
+
+module _ {S T E : Type 0} (next_gives : S → Option (Result T E) → S → Type 0) where
+  -- `Takes` of good values, or of those before the first error, which is taken too and answered
+  abbrev pub TakesGood : S → ℕ → List T → Result Unit E → S → Type 0
+  TakesGood before room good result after = MatchResult result
+      (λ _. Takes next_gives before room (map Ok good) after)
+      (λ error. YieldsThen next_gives before (map Ok good) (Some (Err error)) after × (length good < room))
+
+  -- `Fills` of good values. Where one of the first n items is an error, the first such is answered, and is the last item taken. An error
+  -- that comes after n good values is one item more.
+  abbrev pub FillsFallibly : {F : Type 0} → S → ℕ → Result (Result (List T) E) F → S → Type 0
+  FillsFallibly before n result after = (good : List T) × (last : Option (Result T E)) × YieldsThen next_gives before (map Ok good) last after
+      × MatchResult result
+      (λ built. MatchResult built
+      (λ array. (array ≡ good) × (length good ≡ n) × (last ≡ None))
+      (λ error. (last ≡ Some (Err error)) × (length good < n)))
+      (λ _. MatchOption last (length good < n) (λ _. length good ≡ n))

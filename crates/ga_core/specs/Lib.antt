@@ -1,3 +1,4 @@
+pub mod Copies
 pub mod Cut
 pub mod Fill
 pub mod IterLends

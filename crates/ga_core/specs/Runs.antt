@@ -1,6 +1,6 @@
 -- Runs of closures: which calls are made, in which order, and what they answer.
 use Rattle.std.specs.List.{FoldsTo, range_with_len}
-use Rattle.std.specs.Prelude.{◌≡◌, ℕ, ◌<◌, List, [], ◌∷◌, ◌++◌}
+use Rattle.std.specs.Prelude.{◌≡◌, ℕ, ◌+◌, ◌<◌, List, [], ◌∷◌, ◌++◌, length, map, take, Result, Ok, Err, MatchResult}
 
 module _ {F X Y : Type 0} (step : F → X → Y → F → Type 0) where
   -- calls led from the state f to the state last, one at each input in order, and gave the answers
@@ -14,6 +14,19 @@ module _ {F Y : Type 0} (pre : F → ℕ → Type 0) (step : F → ℕ → Y →
   -- f may be called at each number below n, in each state that the calls at the numbers before it lead to
   abbrev pub CallableAlong : F → ℕ → Type 0
   CallableAlong f n = (k : ℕ) (ys : List Y) (reached : F) → k < n → ClosureRun step f (range_with_len 0 k) ys reached → pre reached k
+
+module _ {F X Y E : Type 0} (step : F → X → Result Y E → F → Type 0) where
+  -- Calls led from the state f to the state last, in the order of the inputs, and all was good, or the first error came and no call was
+  -- made after it.
+  abbrev pub FirstErrorRun : F → List X → Result (List Y) E → F → Type 0
+  FirstErrorRun f inputs result last = MatchResult result
+      (λ answers. ClosureRun step f inputs (map Ok answers) last)
+      (λ error. (good : List Y) × (length good < length inputs) × ClosureRun step f (take (length good + 1) inputs) (map Ok good ++ Err error ∷ []) last)
+
+module _ {F Y E : Type 0} (pre : F → ℕ → Type 0) (step : F → ℕ → Result Y E → F → Type 0) where
+  -- f may be called at each number below n, in each state that good calls at the numbers before it lead to
+  abbrev pub CallableUntilError : F → ℕ → Type 0
+  CallableUntilError f n = (k : ℕ) (good : List Y) (reached : F) → k < n → ClosureRun step f (range_with_len 0 k) (map Ok good) reached → pre reached k
 
 module _ {F A X : Type 0} (step : F → A → X → A → F → Type 0) where
   -- calls led from the state f to the state last, one at each item in order, each with what the one before answered, from init to answer

@@ -8,6 +8,9 @@ ghost use Rattle.std.specs.Prelude.{◌≡◌, ◌^◌, ◌<◌, ◌↔◌, IsTr
 ghost use Rattle.std.specs.Slice.Iter.{iter_mut_rest, iter_mut_steps, iter_mut_steps_back, iter_rest};
 
 mod builds;
+mod comparisons;
+mod copies;
+mod defaults;
 mod slice_mut;
 mod slices;
 #[cfg(test)]
@@ -48,7 +51,7 @@ impl<T, N: ArrayLength<T>> GenericArray<T, N> {
 
     /// The array of the items of a full store.
     #[inline]
-    fn of_store(store: N::ArrayType) -> Self
+    pub(crate) fn of_store(store: N::ArrayType) -> Self
         requires full { length (N.ArrayType.items store) ≡ N.USIZE }
         requires fits { FitsInline N.USIZE }
         ensures { result ≡ N.ArrayType.items store }

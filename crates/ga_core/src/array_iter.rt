@@ -4,17 +4,19 @@ ghost use Rattle.ga_core.specs.Runs.{CallableInFold, FoldRun};
 ghost use Rattle.ga_views.specs.Length.{FitsInline};
 ghost use Rattle.std.specs.Borrow.{sem};
 ghost use Rattle.std.specs.Iterator.{YieldsFirst, YieldsLast, item_count};
-ghost use Rattle.std.specs.Prelude.{◌≡◌, ◌-◌, ◌≤◌, drop, length, reverse, slice_get};
+ghost use Rattle.std.specs.List.{AllZip};
+ghost use Rattle.std.specs.Prelude.{◌≡◌, ℕ, ◌-◌, ◌<◌, ◌≤◌, IfOk, IsOk, drop, length, reverse, slice_get, slice_index_or};
 
 #[cfg(test)]
 mod tests;
 #[cfg(test)]
 mod uses;
 
+use crate::alloc_error::AllocError;
 use crate::length::ArrayLength;
-use crate::store::Store;
+use crate::store::{Store, store_of_clones};
 use std::marker::{Model, PhantomData};
-use std::mem;
+use std::{alloc, fmt, mem};
 
 /// The items of an array by value, from both ends. Contracts see it as the list of the items that
 /// are left.
@@ -65,6 +67,8 @@ impl<T, N: ArrayLength<T>> GenericArrayIter<T, N> {
     #[inline]
     pub fn as_slice(&self) -> &[T]
         ensures items { result.now ≡ self.now }
+        ensures bound { length result.now ≤ N.USIZE }
+        ensures fits { FitsInline N.USIZE }
     {
         &self.store.as_slice()[self.taken..]
     }
@@ -221,6 +225,38 @@ impl<T: Default + Drop, N: ArrayLength<T>> GenericArrayIter<T, N> {
             answer = f(answer, item);
         }
         answer
+    }
+}
+
+impl<T: Clone, N: ArrayLength<T>> GenericArrayIter<T, N> {
+    /// An iterator over clones of the items that are left, made in order.
+    ///
+    /// Refused at the first clone that is, so never where no item is left; the clones made are then
+    /// dropped.
+    pub fn clone(&self) -> Result<Self, AllocError>
+        ensures items { IfOk result (λ copy. AllZip T.is_clone self.now copy) }
+        ensures succeeds { ((i : ℕ) (d : T) → i < length self.now → T.is_infallible (slice_index_or self.now i d)) → IsOk result }
+    {
+        Ok(Clone::clone(self)?)
+    }
+}
+
+impl<T: Clone, N: ArrayLength<T>> Clone for GenericArrayIter<T, N> {
+    ghost is_clone = { λ items copy. AllZip T.is_clone items copy };
+
+    ghost is_infallible = { λ items. (i : ℕ) (d : T) → i < length items → T.is_infallible (slice_index_or items i d) };
+
+    fn clone(&self) -> Result<Self, alloc::AllocError> {
+        let store: N::ArrayType = store_of_clones(self.as_slice())?;
+        Ok(GenericArrayIter::of_store(store))
+    }
+}
+
+impl<T: fmt::Debug, N: ArrayLength<T>> fmt::Debug for GenericArrayIter<T, N> {
+    fn fmt<W: fmt::Write>(&self, f: &mut fmt::Formatter<W>) -> fmt::Result {
+        f.debug_tuple("GenericArrayIter")
+            .field(&self.as_slice())
+            .finish()
     }
 }
 

@@ -1,23 +1,75 @@
-//! An element type whose drops are counted, for the tests.
+//! An element type whose drops and clones are counted, for the tests.
+use std::alloc::AllocError;
 use std::cell::Cell;
 
-/// Adds one to a counter when it is dropped; one made by `default` adds nothing.
+/// How many items were dropped and how many clones were asked for, and which clone is refused.
+#[derive(Default, Drop)]
+pub struct Counts {
+    drops: Cell<u32>,
+    clones: Cell<u32>,
+    refused_clone: u32,
+}
+
+impl Counts {
+    pub fn new() -> Self {
+        Counts::default()
+    }
+
+    /// Counts for which the clone of this number, from 1, is refused.
+    pub fn refusing_clone(number: u32) -> Self {
+        Counts {
+            drops: Cell::new(0),
+            clones: Cell::new(0),
+            refused_clone: number,
+        }
+    }
+
+    pub fn drops(&self) -> u32 {
+        self.drops.get()
+    }
+
+    pub fn clones(&self) -> u32 {
+        self.clones.get()
+    }
+}
+
+fn count(number: &Cell<u32>) {
+    number.set(number.get().wrapping_add(1));
+}
+
+/// Counts its drop, and those of its clones. One made by `default` counts nothing.
 #[derive(Default)]
 pub struct Counted<'a> {
-    drops: Option<&'a Cell<u32>>,
+    counts: Option<&'a Counts>,
 }
 
 impl<'a> Counted<'a> {
-    pub fn new(drops: &'a Cell<u32>) -> Self {
-        Counted { drops: Some(drops) }
+    pub fn new(counts: &'a Counts) -> Self {
+        Counted {
+            counts: Some(counts),
+        }
     }
 }
 
 impl Drop for Counted<'_> {
     fn drop(self) {
-        let Counted { drops } = self;
-        if let Some(drops) = drops {
-            drops.set(drops.get().wrapping_add(1));
+        let Counted { counts } = self;
+        if let Some(counts) = counts {
+            count(&counts.drops);
         }
+    }
+}
+
+impl Clone for Counted<'_> {
+    fn clone(&self) -> Result<Self, AllocError> {
+        if let Some(counts) = self.counts {
+            count(&counts.clones);
+            if counts.clones() == counts.refused_clone {
+                return Err(AllocError);
+            }
+        }
+        Ok(Counted {
+            counts: self.counts,
+        })
     }
 }

@@ -2,10 +2,11 @@
 ghost use Rattle.ga_views.specs.Length.{FitsInline};
 ghost use Rattle.std.specs.Borrow.{Array, Lends, sem};
 ghost use Rattle.std.specs.Iterator.{YieldsLast};
-ghost use Rattle.std.specs.List.{refill};
-ghost use Rattle.std.specs.Prelude.{◌≡◌, ℕ, ◌<◌, List, [], ◌∷◌, ◌++◌, length, remove, slice_index_or, slice_set};
+ghost use Rattle.std.specs.List.{AllZip, refill};
+ghost use Rattle.std.specs.Prelude.{◌≡◌, ℕ, ◌<◌, ◌≤◌, IfOk, IsOk, List, [], ◌∷◌, ◌++◌, length, remove, slice_index_or, slice_set};
 
 use arrayvec::ArrayVec;
+use std::alloc::AllocError;
 
 /// A list with a capacity, kept in the value itself. It never asks for memory.
 pub trait Store<T>: Sized + Drop {
@@ -104,6 +105,22 @@ impl<T: Default + Drop, const N: usize> Store<T> for ArrayVec<T, N> {
     fn item_mut(&mut self, index: usize) -> &mut T {
         ArrayVec::get_mut(self, index).unwrap()
     }
+}
+
+/// A store of clones of the items, made in order. Refused at the first clone that is; those made
+/// before it are then dropped.
+pub(crate) fn store_of_clones<T: Clone, S: Store<T>>(items: &[T]) -> Result<S, AllocError>
+    requires fits { FitsInline S.CAPACITY }
+    requires room { length items.now ≤ S.CAPACITY }
+    ensures items { IfOk result (λ store. AllZip T.is_clone items.now (S.items store)) }
+    ensures len { IfOk result (λ store. length (S.items store) ≡ length items.now) }
+    ensures succeeds { ((i : ℕ) (d : T) → i < length items.now → T.is_infallible (slice_index_or items.now i d)) → IsOk result }
+{
+    let mut store = S::empty();
+    for item in items {
+        store.push(item.clone()?);
+    }
+    Ok(store)
 }
 
 #[cfg(test)]

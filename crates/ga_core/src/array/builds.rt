@@ -1,6 +1,6 @@
 //! Arrays built from a closure or an iterator.
-ghost use Rattle.ga_core.specs.Fill.{FillRuns, Fills};
-ghost use Rattle.ga_core.specs.Runs.{CallableAlong, ClosureRun};
+ghost use Rattle.ga_core.specs.Fill.{FillRuns, Fills, FillsFallibly};
+ghost use Rattle.ga_core.specs.Runs.{CallableAlong, CallableUntilError, ClosureRun, FirstErrorRun};
 ghost use Rattle.ga_views.specs.Length.{FitsInline};
 ghost use Rattle.std.specs.List.{range_with_len};
 
@@ -8,6 +8,7 @@ ghost use Rattle.std.specs.List.{range_with_len};
 mod tests;
 
 use crate::array::GenericArray;
+use crate::builder::ArrayBuilder;
 use crate::length::ArrayLength;
 use crate::store::Store;
 use ga_views::LengthError;
@@ -38,6 +39,34 @@ impl<T: Drop, N: ArrayLength<T>> GenericArray<T, N> {
         GenericArray::of_store(store)
     }
 
+    /// `generate` with a closure that may fail: the array of its answers, or its first error.
+    ///
+    /// No call follows an error, and the items made before it are dropped.
+    pub fn try_generate<E, F: FnMut(usize) -> Result<T, E>>(f: F) -> Result<Self, E>
+        requires fits { FitsInline N.USIZE }
+        requires callable { CallableUntilError F.pre F.step f N.USIZE }
+        ensures run { (last : F) × FirstErrorRun F.step f (range_with_len 0 N.USIZE) result last }
+    {
+        let mut f = f;
+        Self::try_generate_by(&mut f)
+    }
+
+    /// `try_generate` with a closure that is lent, and can be used again in the state that it reached.
+    pub fn try_generate_by<E, F: FnMut(usize) -> Result<T, E>>(f: &mut F) -> Result<Self, E>
+        requires fits { FitsInline N.USIZE }
+        requires callable { CallableUntilError F.pre F.step f.old N.USIZE }
+        ensures run { FirstErrorRun F.step f.old (range_with_len 0 N.USIZE) result f.new }
+    {
+        let mut store: N::ArrayType = Store::empty();
+        for index in 0..N::USIZE {
+            match f(index) {
+                Ok(item) => store.push(item),
+                Err(error) => return Err(error),
+            }
+        }
+        Ok(GenericArray::of_store(store))
+    }
+
     /// The array of all that `items` gives, or `LengthError` where it doesn't give exactly `N`.
     ///
     /// The length fits. Size hints aren't consulted: `N` items are taken, and one more is asked
@@ -60,16 +89,42 @@ impl<T: Drop, N: ArrayLength<T>> GenericArray<T, N> {
         requires can { I.can_next items.old }
         ensures fill { Fills I.next_gives items.old N.USIZE result items.new }
     {
-        let mut store: N::ArrayType = Store::empty();
-        while store.as_slice().len() < N::USIZE {
-            match items.next() {
-                Some(item) => store.push(item),
-                None => return Err(LengthError),
-            }
+        let mut builder = ArrayBuilder::new();
+        builder.extend(items);
+        builder.finish_at_end(items)
+    }
+
+    /// The array of the values that `items` gives, the first error among its first `N` items, or
+    /// `LengthError` where it gives another number of values than `N` and no such error.
+    ///
+    /// The length fits. An error that comes after `N` values is one item too many. Size hints aren't
+    /// consulted. Takes no memory.
+    pub fn try_from_fallible_iter<E: Drop, I: Iterator<Item = Result<T, E>>>(
+        items: I,
+    ) -> Result<Result<Self, E>, LengthError>
+        requires fits { FitsInline N.USIZE }
+        requires can { I.can_next items }
+        ensures fill { (after : I) × FillsFallibly I.next_gives items N.USIZE result after }
+    {
+        let mut items = items;
+        Self::try_from_fallible_iter_ref(&mut items)
+    }
+
+    /// `try_from_fallible_iter` with an iterator that is lent, and can be asked on afterwards.
+    ///
+    /// The error that is answered is the last item taken. An iterator isn't asked again once it has
+    /// ended.
+    pub fn try_from_fallible_iter_ref<E: Drop, I: Iterator<Item = Result<T, E>>>(
+        items: &mut I,
+    ) -> Result<Result<Self, E>, LengthError>
+        requires fits { FitsInline N.USIZE }
+        requires can { I.can_next items.old }
+        ensures fill { FillsFallibly I.next_gives items.old N.USIZE result items.new }
+    {
+        let mut builder = ArrayBuilder::new();
+        if let Err(error) = builder.try_extend(items) {
+            return Ok(Err(error));
         }
-        if items.next().is_some() {
-            return Err(LengthError);
-        }
-        Ok(GenericArray::of_store(store))
+        Ok(Ok(builder.finish_at_end(items)?))
     }
 }

@@ -1,9 +1,9 @@
 //! Walks from both ends at concrete types, and how often an item is dropped.
 ghost use Rattle.ga_views.specs.Length.{FitsInline};
 
-use crate::counted::Counted;
+use crate::counted::{Counted, Counts};
 use crate::{ArrayLength, GenericArray, U3, U4, U5};
-use std::cell::Cell;
+use std::test::Fail;
 
 fn from_one<N: ArrayLength<u32>>() -> GenericArray<u32, N>
     requires { FitsInline N.USIZE }
@@ -67,17 +67,26 @@ fn what_is_written_is_what_comes_next(rt: HostRuntime) {
 
 #[test]
 fn each_item_is_dropped_once(rt: HostRuntime) {
-    let drops = Cell::new(0u32);
+    let counts = Counts::new();
     {
-        let array: GenericArray<Counted, U5> = GenericArray::generate(|_| Counted::new(&drops));
+        let array: GenericArray<Counted, U5> = GenericArray::generate(|_| Counted::new(&counts));
         let mut items = array.into_iter();
         let first = items.next();
         assert!(rt; first.is_some());
-        assert_eq!(rt; drops.get(), 0);
+        assert_eq!(rt; counts.drops(), 0);
         let _skipped_to = items.nth(1);
-        assert_eq!(rt; drops.get(), 1);
+        assert_eq!(rt; counts.drops(), 1);
         let _last = items.next_back();
-        assert_eq!(rt; drops.get(), 1);
+        assert_eq!(rt; counts.drops(), 1);
     }
-    assert_eq!(rt; drops.get(), 5);
+    assert_eq!(rt; counts.drops(), 5);
+}
+
+#[test]
+fn what_is_left_is_printed(rt: HostRuntime) -> Result<(), Fail> {
+    let mut items = from_one::<U3>().into_iter();
+    assert_eq!(rt; items.next(), Some(1));
+    let text = format!(in rt.alloc(); "{items:?}")?;
+    assert_eq!(rt; text.as_str(), "GenericArrayIter([2, 3])");
+    Ok(())
 }

@@ -1,10 +1,9 @@
 //! Builds at concrete types, and what no clause says of them.
-use crate::counted::Counted;
+use crate::counted::{Counted, Counts};
 use crate::{
     Const, ConstArrayLength, ConstGenericArray, GenericArray, IntoArrayLength, LengthError, U0, U2,
-    U3, U4,
+    U3, U4, U5,
 };
-use std::cell::Cell;
 
 /// Gives 1, 2, an end, 3, 4, 5 and ends, and hints at nine items all the while.
 #[derive(Drop)]
@@ -148,22 +147,104 @@ fn fill_believes_no_hint_and_asks_nothing_after_the_end(rt: HostRuntime) {
 
 #[test]
 fn a_refused_fill_drops_each_item_that_it_took_once(rt: HostRuntime) {
-    let drops = Cell::new(0u32);
+    let counts = Counts::new();
     {
-        let mut items = (0..9u32).map(|_| Counted::new(&drops));
+        let mut items = (0..9u32).map(|_| Counted::new(&counts));
         let refused = GenericArray::<Counted, U4>::try_from_iter_ref(&mut items);
         assert!(rt; refused.is_err());
-        assert_eq!(rt; drops.get(), 5);
+        assert_eq!(rt; counts.drops(), 5);
     }
-    assert_eq!(rt; drops.get(), 5);
+    assert_eq!(rt; counts.drops(), 5);
 }
 
 #[test]
 fn an_array_drops_each_item_once(rt: HostRuntime) {
-    let drops = Cell::new(0u32);
+    let counts = Counts::new();
     {
-        let _array: GenericArray<Counted, U4> = GenericArray::generate(|_| Counted::new(&drops));
-        assert_eq!(rt; drops.get(), 0);
+        let _array: GenericArray<Counted, U4> = GenericArray::generate(|_| Counted::new(&counts));
+        assert_eq!(rt; counts.drops(), 0);
     }
-    assert_eq!(rt; drops.get(), 4);
+    assert_eq!(rt; counts.drops(), 4);
+}
+
+#[test]
+fn the_first_error_of_an_iterator_is_answered(rt: HostRuntime) {
+    let mut items = [Ok(1u32), Err("x"), Ok(3)].into_iter();
+    let built = GenericArray::<u32, U3>::try_from_fallible_iter_ref(&mut items);
+    assert!(rt; matches!(built, Ok(Err("x"))));
+    assert_eq!(rt; items.next(), Some(Ok(3)));
+
+    let mut items = [Err("x"), Ok(1u32)].into_iter();
+    let built = GenericArray::<u32, U3>::try_from_fallible_iter_ref(&mut items);
+    assert!(rt; matches!(built, Ok(Err("x"))));
+    assert_eq!(rt; items.next(), Some(Ok(1)));
+}
+
+#[test]
+fn an_error_after_the_last_item_is_one_item_too_many(rt: HostRuntime) {
+    let mut items = [Ok(1u32), Ok(2), Err("x")].into_iter();
+    let built = GenericArray::<u32, U2>::try_from_fallible_iter_ref(&mut items);
+    assert!(rt; matches!(built, Err(LengthError)));
+    assert_eq!(rt; items.next(), None);
+
+    let mut items = [Err::<u32, &str>("x")].into_iter();
+    let built = GenericArray::<u32, U0>::try_from_fallible_iter_ref(&mut items);
+    assert!(rt; matches!(built, Err(LengthError)));
+    assert_eq!(rt; items.next(), None);
+}
+
+#[test]
+fn good_values_alone_are_a_fill(rt: HostRuntime) {
+    let built = GenericArray::<u32, U2>::try_from_fallible_iter([
+        Ok::<u32, &str>(1),
+        Ok(2),
+    ].into_iter());
+    assert!(rt; matches!(built, Ok(Ok(_))));
+    if let Ok(Ok(array)) = built {
+        assert_eq!(rt; array.as_slice(), [1, 2].as_slice());
+    }
+    let built = GenericArray::<u32, U3>::try_from_fallible_iter([
+        Ok::<u32, &str>(1),
+        Ok(2),
+    ].into_iter());
+    assert!(rt; matches!(built, Err(LengthError)));
+}
+
+#[test]
+fn a_fallible_fill_asks_nothing_after_the_end(rt: HostRuntime) {
+    let mut liar = Liar { asked: 0 };
+    let mut items = liar
+        .by_ref()
+        .map(|item| if item > 0 { Ok(item) } else { Err(item) });
+    let built = GenericArray::<u32, U4>::try_from_fallible_iter_ref(&mut items);
+    assert!(rt; matches!(built, Err(LengthError)));
+    assert_eq!(rt; liar.asked, 3);
+}
+
+#[test]
+fn try_generate_answers_all_or_the_first_error(rt: HostRuntime) {
+    let built: Result<GenericArray<usize, U3>, &str> = GenericArray::try_generate(|index| Ok(
+        2 * index,
+    ));
+    assert!(rt; built.is_ok());
+    if let Ok(array) = built {
+        assert_eq!(rt; array.as_slice(), [0, 2, 4].as_slice());
+    }
+    for refused in 0..5usize {
+        let mut calls = 0usize;
+        let counts = Counts::new();
+        let built: Result<GenericArray<Counted, U5>, usize> = GenericArray::try_generate_by(
+            &mut |index: usize| {
+                calls = calls.wrapping_add(1);
+                if index == refused {
+                    Err(index)
+                } else {
+                    Ok(Counted::new(&counts))
+                }
+            },
+        );
+        assert!(rt; matches!(built, Err(place) if place == refused));
+        assert_eq!(rt; calls, refused + 1);
+        assert_eq!(rt; counts.drops() as usize, refused);
+    }
 }

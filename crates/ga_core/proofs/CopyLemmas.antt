@@ -1,0 +1,37 @@
+-- Copies of one value that equal it, and answers that share a property.
+use Rattle.ga_core.specs.Copies.{Repeats}
+use Rattle.ga_core.specs.Runs.{ClosureRun}
+use Rattle.std.proofs.Common.{◌≡◌, ℕ, zero, suc, ◌+◌, ◌<◌, List, [], ◌∷◌, ◌++◌, length, replicate, refl, ap, sym, ◌∙◌, arith, slice_index_or}
+use Rattle.std.proofs.lemmas.List.{replicate-append-replicate}
+use Rattle.std.specs.List.{All}
+
+module _ {T : Type 0} where
+  -- a list of equal values
+  all_equal : (item : T) (items : List T) → All (λ x. x ≡ item) items → items ≡ replicate (length items) item
+  all_equal item [] all = refl
+  all_equal item (x ∷ items) all =
+      ap (λ first. first ∷ items) (all 0 x (omega arith)) ∙ ap (λ others. item ∷ others) (all_equal item items (λ k d within. all (suc k) d (omega (arith, within))))
+
+  -- where a clone equals its source, the copies are equal
+  pub Repeats-same : (is_clone : T → T → Type 0) (item : T) (n : ℕ) (array : List T) → ((copy : T) → is_clone item copy → copy ≡ item)
+      → Repeats is_clone item n array → array ≡ replicate n item
+  Repeats-same is_clone item zero array equal none = none
+  Repeats-same is_clone item (suc n) array equal (clones, made, long, all) =
+      let same : clones ≡ replicate n item =
+      all_equal item clones (λ k d within. equal (slice_index_or clones k d) (all k d within)) ∙ ap (λ k. replicate k item) long in
+      let more : n + 1 ≡ suc n = omega arith in
+      made ∙ (ap (λ front. front ++ item ∷ []) same ∙ (replicate-append-replicate n 1 item ∙ ap (λ k. replicate k item) more))
+
+  -- P holds of one more item in front
+  all_more : (P : T → Type 0) (item : T) (items : List T) → P item → All P items → All P (item ∷ items)
+  all_more P item items here others zero d within = here
+  all_more P item items here others (suc k) d within = others k d (omega (arith, within))
+
+module _ {F X Y : Type 0} (step : F → X → Y → F → Type 0) (P : Y → Type 0) where
+  -- P holds of all answers where it holds of the answer of each call
+  pub ClosureRun-all : ((f : F) (x : X) (y : Y) (next : F) → step f x y next → P y) → (f : F) (xs : List X) (ys : List Y) (last : F) → ClosureRun step f xs ys last → All P ys
+  ClosureRun-all each f [] [] last run = λ k d within. absurd (omega (arith, within))
+  ClosureRun-all each f [] (y ∷ ys) last run = absurd run
+  ClosureRun-all each f (x ∷ xs) [] last run = absurd run
+  ClosureRun-all each f (x ∷ xs) (y ∷ ys) last run =
+      all_more P y ys (each f x y run.0 run.1) (ClosureRun-all each run.0 xs ys last run.2)

@@ -1,0 +1,72 @@
+//! Arrays of defaults, of copies of one value, and copies of arrays.
+ghost use Rattle.ga_core.specs.Copies.{Repeats};
+ghost use Rattle.ga_views.specs.Length.{FitsInline};
+ghost use Rattle.std.specs.List.{All, AllZip};
+ghost use Rattle.std.specs.Prelude.{◌≡◌, ◌≤◌, ℕ, ◌<◌, IfOk, IsOk, length, replicate, slice_index_or};
+
+#[cfg(test)]
+mod tests;
+
+use crate::alloc_error::AllocError;
+use crate::array::GenericArray;
+use crate::builder::ArrayBuilder;
+use crate::length::ArrayLength;
+use crate::store::store_of_clones;
+use std::alloc;
+
+impl<T: Default + Drop, N: ArrayLength<T>> GenericArray<T, N> {
+    /// The array of `N` times `T::default()`, called in order. The length fits.
+    ///
+    /// Stands for every length; the trait `Default`, which elements need, stands for `U0` to `U12`.
+    pub fn default() -> Self
+        requires fits { FitsInline N.USIZE }
+        ensures { All T.is_default result }
+    {
+        Self::generate(|_| T::default())
+    }
+}
+
+impl<T: Clone, N: ArrayLength<T>> GenericArray<T, N> {
+    /// The array of `N` values equal to `item`: clones of it, made in order, and at last `item` itself.
+    ///
+    /// The length fits. Refused where a clone is, so never for a length of 0 or 1; the clones made
+    /// are then dropped. The counterpart of `GenericSequence::repeat`.
+    pub fn repeat(item: T) -> Result<Self, AllocError>
+        requires fits { FitsInline N.USIZE }
+        ensures items { IfOk result (λ array. Repeats T.is_clone item N.USIZE array) }
+        ensures same { ((copy : T) → T.is_clone item copy → copy ≡ item) → IfOk result (λ array. array ≡ replicate N.USIZE item) }
+        ensures few { N.USIZE ≤ 1 → IsOk result }
+        ensures succeeds { T.is_infallible item → IsOk result }
+    {
+        let mut builder = ArrayBuilder::new();
+        if N::USIZE > 0 {
+            for _clone in 1..N::USIZE {
+                builder.push(item.clone()?);
+            }
+            builder.push(item);
+        }
+        Ok(builder.finish())
+    }
+
+    /// The array of clones of the items, made in order.
+    ///
+    /// Refused at the first clone that is, so never where there is no item; the clones made are then
+    /// dropped.
+    pub fn clone(&self) -> Result<Self, AllocError>
+        ensures items { IfOk result (λ copy. AllZip T.is_clone self.now copy) }
+        ensures succeeds { ((i : ℕ) (d : T) → i < length self.now → T.is_infallible (slice_index_or self.now i d)) → IsOk result }
+    {
+        Ok(Clone::clone(self)?)
+    }
+}
+
+impl<T: Clone, N: ArrayLength<T>> Clone for GenericArray<T, N> {
+    ghost is_clone = { λ array copy. AllZip T.is_clone array copy };
+
+    ghost is_infallible = { λ array. (i : ℕ) (d : T) → i < length array → T.is_infallible (slice_index_or array i d) };
+
+    fn clone(&self) -> Result<Self, alloc::AllocError> {
+        let store: N::ArrayType = store_of_clones(self.as_slice())?;
+        Ok(GenericArray::of_store(store))
+    }
+}

@@ -1,0 +1,142 @@
+//! An array that is being built, item by item.
+ghost use Rattle.ga_core.specs.Fill.{Takes, TakesGood};
+ghost use Rattle.ga_views.specs.Length.{FitsInline};
+ghost use Rattle.std.specs.Prelude.{◌≡◌, ◌≢◌, ◌⊎◌, ◌-◌, ◌<◌, ◌≤◌, ◌↔◌, IfOk, IsTrue, None, OnErr, Some, List, [], ◌∷◌, ◌++◌, length};
+
+#[cfg(test)]
+mod tests;
+
+use crate::array::GenericArray;
+use crate::length::ArrayLength;
+use crate::store::Store;
+use ga_views::LengthError;
+use std::marker::{Model, PhantomData};
+
+/// The first items of an array of `N`. Contracts see it as the list of these items.
+///
+/// The counterpart of `ArrayBuilder`. The items are dropped with it, unless it is finished.
+#[derive(Drop)]
+pub struct ArrayBuilder<T, N: ArrayLength<T>> {
+    store: N::ArrayType,
+    of: PhantomData<T>,
+}
+
+impl<T, N: ArrayLength<T>> Model for ArrayBuilder<T, N> {
+    ghost use Rattle.ga_views.specs.Length.{FitsInline};
+    ghost use Rattle.std.specs.Prelude.{◌≤◌, List, length};
+
+    ghost Value = { List T };
+
+    ghost view = { λ builder. N.ArrayType.items builder.store };
+
+    ghost invariant = { λ builder. (length (N.ArrayType.items builder.store) ≤ N.USIZE) × (FitsInline N.USIZE) };
+}
+
+impl<T, N: ArrayLength<T>> ArrayBuilder<T, N> {
+    /// A builder without items. The length fits.
+    #[inline]
+    pub fn new() -> Self
+        requires fits { FitsInline N.USIZE }
+        ensures { result ≡ [] }
+    {
+        ArrayBuilder {
+            store: Store::empty(),
+            of: PhantomData,
+        }
+    }
+
+    /// How many items there are, which is the place of the next. Constant time.
+    #[inline]
+    pub fn position(&self) -> usize
+        ensures len { result ≡ length self.now }
+        ensures bound { length self.now ≤ N.USIZE }
+    {
+        self.store.as_slice().len()
+    }
+
+    /// Whether there are `N` items. Constant time.
+    #[inline]
+    pub fn is_full(&self) -> bool
+        ensures full { IsTrue result ↔ (length self.now ≡ N.USIZE) }
+        ensures bound { length self.now ≤ N.USIZE }
+    {
+        self.position() == N::USIZE
+    }
+
+    /// Appends an item. The builder isn't full. Constant time.
+    #[inline]
+    pub fn push(&mut self, item: T)
+        requires room { length self.old < N.USIZE }
+        ensures { self.new ≡ self.old ++ item ∷ [] }
+    {
+        self.store.push(item);
+    }
+
+    /// The array of the items. The builder is full. Moves the items and takes no memory.
+    #[inline]
+    pub fn finish(self) -> GenericArray<T, N>
+        requires full { length self ≡ N.USIZE }
+        ensures { result ≡ self }
+    {
+        let ArrayBuilder { store, of: _ } = self;
+        GenericArray::of_store(store)
+    }
+}
+
+impl<T: Drop, N: ArrayLength<T>> ArrayBuilder<T, N> {
+    /// Appends what `items` gives until the builder is full or the iterator ends.
+    ///
+    /// A full builder asks nothing; one that isn't goes on at its position. Size hints aren't
+    /// consulted.
+    pub fn extend<I: Iterator<Item = T>>(&mut self, items: &mut I)
+        requires can { I.can_next items.old }
+        ensures taken { (taken : List T) × (self.new ≡ self.old ++ taken) × Takes I.next_gives items.old (N.USIZE - length self.old) taken items.new }
+        ensures can { length self.new ≡ N.USIZE → I.can_next items.new }
+    {
+        while !self.is_full() {
+            match items.next() {
+                Some(item) => self.push(item),
+                None => return,
+            }
+        }
+    }
+
+    /// The array of the items where the builder is full and `items` has ended, else `LengthError`.
+    ///
+    /// A builder that isn't full asks nothing.
+    pub(crate) fn finish_at_end<I: Iterator>(
+        self,
+        items: &mut I,
+    ) -> Result<GenericArray<T, N>, LengthError>
+    where
+        I::Item: Drop,
+        requires can { length self ≡ N.USIZE → I.can_next items.old }
+        ensures ok { IfOk result (λ array. (array ≡ self) × (length self ≡ N.USIZE) × I.next_gives items.old None items.new) }
+        ensures err { OnErr result (((length self ≢ N.USIZE) × (items.new ≡ items.old)) ⊎ ((length self ≡ N.USIZE) × ((more : I.Item) × I.next_gives items.old (Some more) items.new))) }
+    {
+        if !self.is_full() || items.next().is_some() {
+            return Err(LengthError);
+        }
+        Ok(self.finish())
+    }
+
+    /// `extend` with the good values of `items`, up to the first error, which is taken and
+    /// answered. What came before it stays.
+    pub fn try_extend<E: Drop, I: Iterator<Item = Result<T, E>>>(
+        &mut self,
+        items: &mut I,
+    ) -> Result<(), E>
+        requires can { I.can_next items.old }
+        ensures taken { (taken : List T) × (self.new ≡ self.old ++ taken) × TakesGood I.next_gives items.old (N.USIZE - length self.old) taken result items.new }
+        ensures can { length self.new ≡ N.USIZE → I.can_next items.new }
+    {
+        while !self.is_full() {
+            match items.next() {
+                Some(Ok(item)) => self.push(item),
+                Some(Err(error)) => return Err(error),
+                None => return Ok(()),
+            }
+        }
+        Ok(())
+    }
+}
