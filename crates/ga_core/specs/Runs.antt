@@ -1,6 +1,6 @@
 -- Runs of closures: which calls are made, in which order, and what they answer.
 use Rattle.std.specs.List.{FoldsTo, range_with_len}
-use Rattle.std.specs.Prelude.{◌≡◌, ℕ, ◌+◌, ◌<◌, List, [], ◌∷◌, ◌++◌, length, map, take, Result, Ok, Err, MatchResult}
+use Rattle.std.specs.Prelude.{◌≡◌, ◌⊎◌, ℕ, ◌<◌, List, [], ◌∷◌, ◌++◌, map, Result, Ok, Err}
 
 module _ {F X Y : Type 0} (step : F → X → Y → F → Type 0) where
   -- calls led from the state f to the state last, one at each input in order, and gave the answers
@@ -16,12 +16,15 @@ module _ {F Y : Type 0} (pre : F → ℕ → Type 0) (step : F → ℕ → Y →
   CallableAlong f n = (k : ℕ) (ys : List Y) (reached : F) → k < n → ClosureRun step f (range_with_len 0 k) ys reached → pre reached k
 
 module _ {F X Y E : Type 0} (step : F → X → Result Y E → F → Type 0) where
-  -- Calls led from the state f to the state last, in the order of the inputs, and all was good, or the first error came and no call was
-  -- made after it.
+  -- Calls led from the state f to the state last, one at each input in order: all were good, and gave the answers, or the first error
+  -- came, and no call was made after it.
   abbrev pub FirstErrorRun : F → List X → Result (List Y) E → F → Type 0
-  FirstErrorRun f inputs result last = MatchResult result
-      (λ answers. ClosureRun step f inputs (map Ok answers) last)
-      (λ error. (good : List Y) × (length good < length inputs) × ClosureRun step f (take (length good + 1) inputs) (map Ok good ++ Err error ∷ []) last)
+  FirstErrorRun f [] (Ok []) last = f ≡ last
+  FirstErrorRun f [] (Ok (y ∷ ys)) last = ⊥
+  FirstErrorRun f [] (Err error) last = ⊥
+  FirstErrorRun f (x ∷ xs) (Ok []) last = ⊥
+  FirstErrorRun f (x ∷ xs) (Ok (y ∷ ys)) last = (next : F) × step f x (Ok y) next × FirstErrorRun next xs (Ok ys) last
+  FirstErrorRun f (x ∷ xs) (Err error) last = step f x (Err error) last ⊎ ((y : Y) × (next : F) × step f x (Ok y) next × FirstErrorRun next xs (Err error) last)
 
 module _ {F Y E : Type 0} (pre : F → ℕ → Type 0) (step : F → ℕ → Result Y E → F → Type 0) where
   -- f may be called at each number below n, in each state that good calls at the numbers before it lead to

@@ -1,8 +1,8 @@
 //! Callers, each proved: what a contract gives to those who use it.
 ghost use Rattle.std.specs.Option.{option_copied};
-ghost use Rattle.std.specs.Prelude.{◌≡◌, ◌∷◌, [], ◌↔◌, EachIndex, IfOk, IsOk, length, slice_get, slice_index, slice_set, sum};
+ghost use Rattle.std.specs.Prelude.{◌≡◌, ◌∷◌, [], ◌↔◌, EachIndex, Err, IfOk, IsOk, IsTrue, Ok, length, slice_get, slice_index, slice_set, sum};
 
-use crate::{GenericArray, GenericArrayRef, LengthError, U2, U3, U4};
+use crate::{AllocError, ArrayBuilder, GenericArray, GenericArrayRef, LengthError, U2, U3, U4};
 
 fn four_of(bytes: &[u8]) -> Result<GenericArray<u8, U4>, LengthError>
     ensures variant { IsOk result ↔ (length bytes.now ≡ 4) }
@@ -93,6 +93,45 @@ fn sum_of(array: &GenericArray<u8, U3>) -> u32
     ensures { result ≡ sum array.now }
 {
     array.iter().map(|item| u32::from(*item)).sum()
+}
+
+fn built() -> GenericArray<u8, U2>
+    ensures { result ≡ 4 ∷ 6 ∷ [] }
+{
+    let mut builder = ArrayBuilder::new();
+    builder.push(4);
+    builder.push(6);
+    builder.finish()
+}
+
+fn refused_at_two() -> Result<GenericArray<usize, U4>, usize>
+    ensures { result ≡ Err 2 }
+{
+    GenericArray::try_generate(|index| if index < 2 { Ok(index) } else { Err(index) })
+}
+
+fn sevens() -> Result<GenericArray<u8, U3>, AllocError>
+    ensures { result ≡ Ok (7 ∷ 7 ∷ 7 ∷ []) }
+{
+    GenericArray::repeat(7)
+}
+
+fn copied(array: &GenericArray<u8, U3>) -> Result<GenericArray<u8, U3>, AllocError>
+    ensures { result ≡ Ok array.now }
+{
+    array.clone()
+}
+
+fn blank() -> GenericArray<u8, U3>
+    ensures { result ≡ 0 ∷ 0 ∷ 0 ∷ [] }
+{
+    GenericArray::default()
+}
+
+fn are_same(left: &GenericArray<u8, U3>, right: &GenericArray<u8, U3>) -> bool
+    ensures { IsTrue result ↔ (left.now ≡ right.now) }
+{
+    left == right
 }
 
 fn third_of<'a>(view: GenericArrayRef<'a, u8, U3>) -> Option<&'a u8>
