@@ -1,6 +1,6 @@
 -- Steps that cut a list from its ends, joined to what std says of `next` and `next_back`.
 use Rattle.ga_core.specs.Cut.{StepGives, back, front}
-use Rattle.std.proofs.Common.{◌≡◌, ℕ, zero, suc, ◌+◌, ◌-◌, ◌<◌, ◌≤◌, List, [], ◌∷◌, ◌++◌, inl, inr, Option, None, Some, length, min, take, drop, reverse, refl, sym, ap, ◌∙◌, arith, length-append, length-drop, slice_get}
+use Rattle.std.proofs.Common.{◌≡◌, ℕ, zero, suc, ◌+◌, ◌-◌, ◌<◌, List, [], ◌∷◌, ◌++◌, inl, inr, Option, None, Some, length, min, take, drop, reverse, refl, sym, ap, ◌∙◌, append_assoc, arith, length-append, slice_get}
 use Rattle.std.proofs.lemmas.List.{drop-drop, length-reverse, length-take, reverse-append, reverse-reverse, take-take}
 use Rattle.std.proofs.Math.ListN.{drop_of_length-le}
 use Rattle.std.proofs.Math.Seq.{take-append_seam}
@@ -24,6 +24,10 @@ module _ {T : Type 0} where
   pub next_back-reversed : (items : List T) (reply : Option T) (left : List T) → YieldsLast (λ all. all) items reply left → YieldsFirst (λ all. all) (reverse items) reply (reverse left)
   next_back-reversed items None left ended = (ap reverse ended.0, ap reverse ended.1)
   next_back-reversed items (Some item) left came = ap reverse came ∙ reverse-append left (item ∷ [])
+
+  -- one item more was taken from the front
+  pub taken-more : (all taken left : List T) (item : T) (others : List T) → all ≡ taken ++ left → left ≡ item ∷ others → all ≡ (taken ++ item ∷ []) ++ others
+  taken-more all taken left item others so_far step = so_far ∙ (ap (λ rest. taken ++ rest) step ∙ sym (append_assoc taken (item ∷ []) others))
 
   -- one item more was passed over
   pub passed-more : (n : ℕ) (items left : List T) (reply : Option T) (after : List T) → left ≡ drop n items → YieldsFirst (λ all. all) left reply after → after ≡ drop (n + 1) items
@@ -71,8 +75,3 @@ module _ {T : Type 0} where
       let long : length items ≡ n - given = ap length first ∙ (length-take (n - given) all ∙ (omega arith)) in
       let one_less : length items - 1 ≡ n - (given + 1) = omega arith in
       popped items reply left step ∙ (ap (λ k. take k items) one_less ∙ (ap (take (n - (given + 1))) first ∙ take-take (n - (given + 1)) (n - given) all (omega arith)))
-
-  -- the first of a rotated list, without those that were moved behind
-  pub front-rotated : (count : ℕ) (items : List T) → count ≤ length items → take (length items - count) (drop count items ++ take count items) ≡ drop count items
-  front-rotated count items within =
-      ap (λ k. take k (drop count items ++ take count items)) (sym (length-drop count items)) ∙ take-append_seam (drop count items) (take count items)

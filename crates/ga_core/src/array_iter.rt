@@ -4,8 +4,8 @@ ghost use Rattle.ga_core.specs.Runs.{CallableInFold, FoldRun};
 ghost use Rattle.ga_views.specs.Length.{FitsInline};
 ghost use Rattle.std.specs.Borrow.{sem};
 ghost use Rattle.std.specs.Iterator.{YieldsFirst, YieldsLast, item_count};
-ghost use Rattle.std.specs.List.{AllZip};
-ghost use Rattle.std.specs.Prelude.{◌≡◌, ℕ, ◌-◌, ◌<◌, ◌≤◌, IfOk, IsOk, drop, length, reverse, slice_get, slice_index_or};
+ghost use Rattle.std.specs.List.{All, AllZip};
+ghost use Rattle.std.specs.Prelude.{◌≡◌, ◌-◌, ◌≤◌, IfOk, IsOk, drop, length, reverse, slice_get};
 
 #[cfg(test)]
 mod tests;
@@ -235,7 +235,7 @@ impl<T: Clone, N: ArrayLength<T>> GenericArrayIter<T, N> {
     /// dropped.
     pub fn clone(&self) -> Result<Self, AllocError>
         ensures items { IfOk result (λ copy. AllZip T.is_clone self.now copy) }
-        ensures succeeds { ((i : ℕ) (d : T) → i < length self.now → T.is_infallible (slice_index_or self.now i d)) → IsOk result }
+        ensures succeeds { All T.is_infallible self.now → IsOk result }
     {
         Ok(Clone::clone(self)?)
     }
@@ -244,7 +244,7 @@ impl<T: Clone, N: ArrayLength<T>> GenericArrayIter<T, N> {
 impl<T: Clone, N: ArrayLength<T>> Clone for GenericArrayIter<T, N> {
     ghost is_clone = { λ items copy. AllZip T.is_clone items copy };
 
-    ghost is_infallible = { λ items. (i : ℕ) (d : T) → i < length items → T.is_infallible (slice_index_or items i d) };
+    ghost is_infallible = { λ items. All T.is_infallible items };
 
     fn clone(&self) -> Result<Self, alloc::AllocError> {
         let store: N::ArrayType = store_of_clones(self.as_slice())?;

@@ -101,25 +101,6 @@ impl<T: Drop, N: ArrayLength<T>> ArrayBuilder<T, N> {
         }
     }
 
-    /// The array of the items where the builder is full and `items` has ended, else `LengthError`.
-    ///
-    /// A builder that isn't full asks nothing.
-    pub(crate) fn finish_at_end<I: Iterator>(
-        self,
-        items: &mut I,
-    ) -> Result<GenericArray<T, N>, LengthError>
-    where
-        I::Item: Drop,
-        requires can { length self ≡ N.USIZE → I.can_next items.old }
-        ensures ok { IfOk result (λ array. (array ≡ self) × (length self ≡ N.USIZE) × I.next_gives items.old None items.new) }
-        ensures err { OnErr result (((length self ≢ N.USIZE) × (items.new ≡ items.old)) ⊎ ((length self ≡ N.USIZE) × ((more : I.Item) × I.next_gives items.old (Some more) items.new))) }
-    {
-        if !self.is_full() || items.next().is_some() {
-            return Err(LengthError);
-        }
-        Ok(self.finish())
-    }
-
     /// `extend` with the good values of `items`, up to the first error, which is taken and
     /// answered. What came before it stays.
     pub fn try_extend<E: Drop, I: Iterator<Item = Result<T, E>>>(
@@ -138,5 +119,24 @@ impl<T: Drop, N: ArrayLength<T>> ArrayBuilder<T, N> {
             }
         }
         Ok(())
+    }
+
+    /// The array of the items where the builder is full and `items` has ended, else `LengthError`.
+    ///
+    /// A builder that isn't full asks nothing.
+    pub(crate) fn finish_at_end<I: Iterator>(
+        self,
+        items: &mut I,
+    ) -> Result<GenericArray<T, N>, LengthError>
+    where
+        I::Item: Drop,
+        requires can { length self ≡ N.USIZE → I.can_next items.old }
+        ensures ok { IfOk result (λ array. (array ≡ self) × (length self ≡ N.USIZE) × I.next_gives items.old None items.new) }
+        ensures err { OnErr result (((length self ≢ N.USIZE) × (items.new ≡ items.old)) ⊎ ((length self ≡ N.USIZE) × ((more : I.Item) × I.next_gives items.old (Some more) items.new))) }
+    {
+        if !self.is_full() || items.next().is_some() {
+            return Err(LengthError);
+        }
+        Ok(self.finish())
     }
 }

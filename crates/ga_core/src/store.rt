@@ -2,7 +2,7 @@
 ghost use Rattle.ga_views.specs.Length.{FitsInline};
 ghost use Rattle.std.specs.Borrow.{Array, Lends, sem};
 ghost use Rattle.std.specs.Iterator.{YieldsLast};
-ghost use Rattle.std.specs.List.{AllZip, refill};
+ghost use Rattle.std.specs.List.{All, AllZip, refill};
 ghost use Rattle.std.specs.Prelude.{◌≡◌, ℕ, ◌<◌, ◌≤◌, IfOk, IsOk, List, [], ◌∷◌, ◌++◌, length, remove, slice_index_or, slice_set};
 
 use arrayvec::ArrayVec;
@@ -114,7 +114,7 @@ pub(crate) fn store_of_clones<T: Clone, S: Store<T>>(items: &[T]) -> Result<S, A
     requires room { length items.now ≤ S.CAPACITY }
     ensures items { IfOk result (λ store. AllZip T.is_clone items.now (S.items store)) }
     ensures len { IfOk result (λ store. length (S.items store) ≡ length items.now) }
-    ensures succeeds { ((i : ℕ) (d : T) → i < length items.now → T.is_infallible (slice_index_or items.now i d)) → IsOk result }
+    ensures succeeds { All T.is_infallible items.now → IsOk result }
 {
     let mut store = S::empty();
     for item in items {

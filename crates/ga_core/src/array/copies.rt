@@ -2,7 +2,7 @@
 ghost use Rattle.ga_core.specs.Copies.{Repeats};
 ghost use Rattle.ga_views.specs.Length.{FitsInline};
 ghost use Rattle.std.specs.List.{All, AllZip};
-ghost use Rattle.std.specs.Prelude.{◌≡◌, ◌≤◌, ℕ, ◌<◌, IfOk, IsOk, length, replicate, slice_index_or};
+ghost use Rattle.std.specs.Prelude.{◌≡◌, ◌≤◌, IfOk, IsOk, replicate};
 
 #[cfg(test)]
 mod tests;
@@ -54,7 +54,7 @@ impl<T: Clone, N: ArrayLength<T>> GenericArray<T, N> {
     /// dropped.
     pub fn clone(&self) -> Result<Self, AllocError>
         ensures items { IfOk result (λ copy. AllZip T.is_clone self.now copy) }
-        ensures succeeds { ((i : ℕ) (d : T) → i < length self.now → T.is_infallible (slice_index_or self.now i d)) → IsOk result }
+        ensures succeeds { All T.is_infallible self.now → IsOk result }
     {
         Ok(Clone::clone(self)?)
     }
@@ -63,7 +63,7 @@ impl<T: Clone, N: ArrayLength<T>> GenericArray<T, N> {
 impl<T: Clone, N: ArrayLength<T>> Clone for GenericArray<T, N> {
     ghost is_clone = { λ array copy. AllZip T.is_clone array copy };
 
-    ghost is_infallible = { λ array. (i : ℕ) (d : T) → i < length array → T.is_infallible (slice_index_or array i d) };
+    ghost is_infallible = { λ array. All T.is_infallible array };
 
     fn clone(&self) -> Result<Self, alloc::AllocError> {
         let store: N::ArrayType = store_of_clones(self.as_slice())?;
