@@ -1,7 +1,7 @@
 -- Filling an array of n items, or what is left of a builder, from an iterator.
 use Rattle.std.specs.Iterator.{Yields, YieldsThen}
 use Rattle.std.specs.Iterator.Runs.{SomeRun, WholeRun}
-use Rattle.std.specs.Prelude.{◌≡◌, ◌⊎◌, ℕ, ◌+◌, ◌<◌, IsTrue, List, length, map, Option, None, Some, Result, Ok, Err, MatchOption, MatchResult}
+use Rattle.std.specs.Prelude.{◌≡◌, ◌⊎◌, ℕ, ◌+◌, ◌<◌, IsTrue, List, [], ◌∷◌, ◌++◌, length, map, Option, None, Some, Result, Ok, Err, MatchOption, MatchResult}
 
 module _ {S T : Type 0} (next_gives : S → Option T → S → Type 0) where
   -- Calls of `next` led from before to after and gave the items taken: as many as there is room for, or all up to the end, where that
@@ -42,3 +42,11 @@ module _ {S T E : Type 0} (next_gives : S → Option (Result T E) → S → Type
       (λ array. (array ≡ good) × (length good ≡ n) × (last ≡ None))
       (λ error. (last ≡ Some (Err error)) × (length good < n)))
       (λ _. MatchOption last (length good < n) (λ _. length good ≡ n))
+
+  -- what `FillsFallibly` says, as one run of calls: the form that proofs follow along a chain of std's iterators
+  abbrev pub FillFalliblyRuns : {F : Type 0} → S → ℕ → Result (Result (List T) E) F → Type 0
+  FillFalliblyRuns before n result = MatchResult result
+      (λ built. MatchResult built
+      (λ array. WholeRun next_gives before (λ run. (run.items ≡ map Ok array) × (run.len ≡ n)))
+      (λ error. SomeRun next_gives before (λ run. (good : List T) × (run.items ≡ map Ok good ++ Err error ∷ []) × (length good < n))))
+      (λ _. SomeRun next_gives before (λ run. (IsTrue run.whole × (run.len < n)) ⊎ (run.len ≡ n + 1)))

@@ -11,6 +11,7 @@ pub struct Counts {
 }
 
 impl Counts {
+    /// Counts at nought, which refuse no clone.
     pub fn new() -> Self {
         Counts::default()
     }
@@ -24,10 +25,12 @@ impl Counts {
         }
     }
 
+    /// How many items were dropped.
     pub fn drops(&self) -> u32 {
         self.drops.get()
     }
 
+    /// How many clones were asked for.
     pub fn clones(&self) -> u32 {
         self.clones.get()
     }
@@ -44,6 +47,7 @@ pub struct Counted<'a> {
 }
 
 impl<'a> Counted<'a> {
+    /// An item that is counted here.
     pub fn new(counts: &'a Counts) -> Self {
         Counted {
             counts: Some(counts),

@@ -1,5 +1,5 @@
 //! Arrays built from a closure or an iterator.
-ghost use Rattle.ga_core.specs.Fill.{FillRuns, Fills, FillsFallibly};
+ghost use Rattle.ga_core.specs.Fill.{FillFalliblyRuns, FillRuns, Fills, FillsFallibly};
 ghost use Rattle.ga_core.specs.Runs.{CallableAlong, CallableUntilError, ClosureRun, FirstErrorRun};
 ghost use Rattle.ga_views.specs.Length.{FitsInline};
 ghost use Rattle.std.specs.List.{range_with_len};
@@ -105,6 +105,7 @@ impl<T: Drop, N: ArrayLength<T>> GenericArray<T, N> {
         requires fits { FitsInline N.USIZE }
         requires can { I.can_next items }
         ensures fill { (after : I) × FillsFallibly I.next_gives items N.USIZE result after }
+        ensures runs { FillFalliblyRuns I.next_gives items N.USIZE result }
     {
         let mut items = items;
         Self::try_from_fallible_iter_ref(&mut items)

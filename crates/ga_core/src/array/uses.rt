@@ -1,6 +1,6 @@
 //! Callers, each proved: what a contract gives to those who use it.
 ghost use Rattle.std.specs.Option.{option_copied};
-ghost use Rattle.std.specs.Prelude.{◌≡◌, ◌∷◌, [], ◌↔◌, EachIndex, Err, IfOk, IsOk, IsTrue, Ok, length, slice_get, slice_index, slice_set, sum};
+ghost use Rattle.std.specs.Prelude.{◌≡◌, ◌∷◌, [], ◌↔◌, EachIndex, Err, IfOk, IsOk, IsTrue, Ok, OnErr, OnOk, ◌≢◌, length, slice_get, slice_index, slice_set, sum};
 
 use crate::{AllocError, ArrayBuilder, GenericArray, GenericArrayRef, LengthError, U2, U3, U4};
 
@@ -110,6 +110,21 @@ fn refused_at_two() -> Result<GenericArray<usize, U4>, usize>
     GenericArray::try_generate(|index| if index < 2 { Ok(index) } else { Err(index) })
 }
 
+fn four_digits(text: &[u8]) -> Result<Result<GenericArray<u8, U4>, u8>, LengthError>
+    ensures long { IfOk result (λ built. OnOk built (length text.now ≡ 4)) }
+    ensures refused { OnErr result (length text.now ≢ 4) }
+{
+    GenericArray::try_from_fallible_iter(
+        text.iter().map(|byte| {
+            if byte.is_ascii_digit() {
+                Ok(*byte - b'0')
+            } else {
+                Err(*byte)
+            }
+        }),
+    )
+}
+
 fn sevens() -> Result<GenericArray<u8, U3>, AllocError>
     ensures { result ≡ Ok (7 ∷ 7 ∷ 7 ∷ []) }
 {
@@ -177,6 +192,28 @@ mod tests {
         checksum_ended(&mut packet);
         assert_eq!(rt; packet.kind, 1);
         assert_eq!(rt; packet.checksum.as_slice(), [4, 6].as_slice());
+    }
+
+    #[test]
+    fn builds_and_copies_answer_what_their_contracts_say(rt: HostRuntime) {
+        assert_eq!(rt; built().as_slice(), [4, 6].as_slice());
+        assert!(rt; matches!(refused_at_two(), Err(2)));
+        match four_digits(b"1804") {
+            Ok(Ok(digits)) => assert_eq!(rt; digits.as_slice(), [1, 8, 0, 4].as_slice()),
+            _ => panic!(rt; "four digits are refused"),
+        }
+        assert!(rt; matches!(four_digits(b"18x4"), Ok(Err(b'x'))));
+        assert!(rt; matches!(four_digits(b"180"), Err(LengthError)));
+        match sevens() {
+            Ok(array) => assert_eq!(rt; array.as_slice(), [7, 7, 7].as_slice()),
+            Err(refused) => panic!(rt; "{refused}"),
+        }
+        let array = blank();
+        assert_eq!(rt; array.as_slice(), [0, 0, 0].as_slice());
+        match copied(&array) {
+            Ok(copy) => assert!(rt; are_same(&array, &copy)),
+            Err(refused) => panic!(rt; "{refused}"),
+        }
     }
 
     #[test]
