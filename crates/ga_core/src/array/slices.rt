@@ -21,8 +21,8 @@ impl<T, N: ArrayLength<T>> GenericArray<T, N> {
     pub fn view_mut(&mut self) -> ArrayMut<&mut GenericArray<T, N>, T, N>
         ensures { result.slice ≡ self.entry }
     {
-        // Its contract shows that there are `N` items.
-        let _ = self.as_slice();
+        // Where a field is used, the type's invariant is known: there are `N` items.
+        let _ = &self.store;
         ArrayMut::over(self)
     }
 
