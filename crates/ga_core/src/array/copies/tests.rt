@@ -2,7 +2,7 @@
 ghost use Rattle.ga_views.specs.Length.{FitsInline};
 
 use crate::counted::{Counted, Counts};
-use crate::{AllocError, ArrayLength, GenericArray, U0, U1, U2, U3, U4};
+use crate::{AllocError, ArrayLength, GenericArray, U0, U1, U2, U3, U4, U12};
 
 fn counted<'a, N: ArrayLength<Counted<'a>>>(counts: &'a Counts) -> GenericArray<Counted<'a>, N>
     requires { FitsInline N.USIZE }
@@ -22,6 +22,11 @@ fn every_item_is_a_default(rt: HostRuntime) {
     );
     let array: GenericArray<u8, U3> = made();
     assert_eq!(rt; array.as_slice(), [0, 0, 0].as_slice());
+    assert_eq!(rt; made::<GenericArray<u8, U0>>().as_slice().len(), 0);
+    assert_eq!(rt;
+        made::<GenericArray<u8, U12>>().as_slice(),
+        [0; 12].as_slice()
+    );
     let nested: GenericArray<GenericArray<u8, U3>, U2> = made();
     assert_eq!(rt; nested[1].as_slice(), [0, 0, 0].as_slice());
 }
