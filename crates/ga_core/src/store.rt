@@ -1,4 +1,4 @@
-//! Where an inline array keeps its items. The one module that names `ArrayVec`.
+//! Where an inline array keeps its items: `Store`, and `ArrayVec` as one.
 ghost use Rattle.ga_views.specs.Length.{FitsInline};
 ghost use Rattle.std.specs.Borrow.{Array, Lends, sem};
 ghost use Rattle.std.specs.Iterator.{YieldsLast};
