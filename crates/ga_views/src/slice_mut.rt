@@ -3,7 +3,8 @@ ghost use Rattle.std.specs.Borrow.{Array, Lends, sem};
 ghost use Rattle.std.specs.List.{refill};
 ghost use Rattle.std.specs.Prelude.{◌≡◌, ℕ, ◌<◌, List, length, slice_index_or, slice_set};
 
-/// A slice for writing: `&mut [T]`. Whatever is written through it, it keeps its length.
+/// What lends a slice for writing: `&mut [T]`, or a reference to an array of `ga_core`. Whatever is
+/// written through it, the slice keeps its length.
 ///
 /// The writing view is generic over it, since a contract can say what a view ends as, where it
 /// lends its slice on, only if the slice stands behind a bound.
