@@ -1,7 +1,8 @@
 -- Copies of one value that equal it, and answers that share a property.
 use Rattle.ga_core.specs.Copies.{Repeats}
 use Rattle.ga_core.specs.Runs.{ClosureRun}
-use Rattle.std.proofs.Common.{◌≡◌, ℕ, zero, suc, ◌+◌, List, [], ◌∷◌, ◌++◌, length, replicate, refl, ap, ◌∙◌, arith, slice_index_or}
+use Rattle.std.proofs.Common.{◌≡◌, ℕ, zero, suc, ◌+◌, ◌-◌, List, [], ◌∷◌, ◌++◌, length, replicate, refl, ap, ◌∙◌, arith, slice_index_or, slice_set}
+use Rattle.std.proofs.Math.Seq.{set-append_seam}
 use Rattle.std.proofs.lemmas.List.{replicate-append-replicate}
 use Rattle.std.specs.List.{All}
 
@@ -21,6 +22,16 @@ module _ {T : Type 0} where
       all_equal item clones (λ k d within. equal (slice_index_or clones k d) (all k d within)) ∙ ap (λ k. replicate k item) long in
       let more : n + 1 ≡ suc n = omega arith in
       made ∙ (ap (λ front. front ++ item ∷ []) same ∙ (replicate-append-replicate n 1 item ∙ ap (λ k. replicate k item) more))
+
+  -- clones over all places but the last, and the item over the last
+  pub Repeats-written : (is_clone : T → T → Type 0) (item : T) (n : ℕ) (clones rest : List T) → length clones + 1 ≡ n → length rest ≡ 1 → All (is_clone item) clones
+      → Repeats is_clone item n (slice_set (clones ++ rest) (n - 1) item)
+  Repeats-written is_clone item n clones [] long one all = absurd (omega (arith, one))
+  Repeats-written is_clone item n clones (x ∷ y ∷ rest) long one all = absurd (omega (arith, one))
+  Repeats-written is_clone item zero clones (x ∷ []) long one all = absurd (omega (arith, long))
+  Repeats-written is_clone item (suc n) clones (x ∷ []) long one all =
+      let last : suc n - 1 ≡ length clones = omega arith in
+      (clones, ap (λ k. slice_set (clones ++ x ∷ []) k item) last ∙ set-append_seam clones x [] item, omega arith, all)
 
   -- P holds of one more item in front
   all_more : (P : T → Type 0) (item : T) (items : List T) → P item → All P items → All P (item ∷ items)

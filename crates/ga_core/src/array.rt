@@ -4,7 +4,7 @@ ghost use Rattle.std.specs.Borrow.{sem};
 ghost use Rattle.std.specs.Iterator.{YieldsFirst, YieldsLast};
 ghost use Rattle.std.specs.Iterator.Adapters.{IterYieldsInOrder, IterYieldsInReverse};
 ghost use Rattle.std.specs.Iterator.Runs.{EveryRun, ItemsMapTo, ItemsMapToReversed, YieldsInOrder, YieldsInReverse};
-ghost use Rattle.std.specs.Prelude.{◌≡◌, ◌^◌, ◌<◌, ◌↔◌, IsTrue, List, length, slice_index_or};
+ghost use Rattle.std.specs.Prelude.{◌≡◌, ◌^◌, ◌<◌, ◌↔◌, IsTrue, List, Some, length, slice_get};
 ghost use Rattle.std.specs.Slice.Iter.{iter_mut_rest, iter_mut_steps, iter_mut_steps_back, iter_rest};
 
 mod builds;
@@ -85,7 +85,8 @@ impl<T, N: ArrayLength<T>> GenericArray<T, N> {
         ensures len { length result.now ≡ N.USIZE }
         ensures fits { FitsInline N.USIZE }
     {
-        self.store.as_slice()
+        // Cut to the length that the type tells, so that the compiler knows it.
+        &self.store.as_slice()[..N::USIZE]
     }
 
     /// All items, in order, for writing. Constant time.
@@ -130,7 +131,7 @@ impl<T, N: ArrayLength<T>> Index<usize> for GenericArray<T, N> {
 
     ghost can_index = { λ array index. index < N.USIZE };
 
-    ghost index_gives = { λ array index item. item ≡ slice_index_or array index item };
+    ghost index_gives = { λ array index item. slice_get array index ≡ Some item };
 
     #[inline]
     fn index(&self, index: usize) -> &T {
@@ -147,7 +148,7 @@ impl<T, N: ArrayLength<T>> IndexMut<usize> for GenericArray<T, N> {
     fn index_mut(&mut self, index: usize) -> &mut T
         requires { index < N.USIZE }
         ensures* writes_back { sem 𝓛 (LendsPlace T.row N.row N.ArrayType.row N.Unsigned N.ArrayType.Store self.entry index result) }
-        ensures value { result.now ≡ slice_index_or self.old index result.now }
+        ensures value { slice_get self.old index ≡ Some result.now }
     {
         self.store.item_mut(index)
     }

@@ -11,6 +11,7 @@ mod builder;
 #[cfg(test)]
 mod counted;
 mod length;
+mod places;
 mod store;
 
 pub use alloc_error::AllocError;

@@ -21,6 +21,14 @@ pub trait Store<T>: Sized + Drop {
         requires fits { FitsInline CAPACITY }
         ensures { items result ≡ [] };
 
+    /// A full store, each of whose items is a blank. Its capacity is at most `MAX_INLINE`.
+    ///
+    /// For a store whose items are all written afterwards: writing a place costs less than `push`,
+    /// which counts the items too.
+    fn filled() -> Self
+        requires fits { FitsInline CAPACITY }
+        ensures { length (items result) ≡ CAPACITY };
+
     /// Appends `item`. The store isn't full. Constant time.
     fn push(&mut self, item: T)
         requires room { length (items self.old) < CAPACITY }
@@ -70,6 +78,11 @@ impl<T: Default + Drop, const N: usize> Store<T> for ArrayVec<T, N> {
     #[inline]
     fn empty() -> Self {
         ArrayVec::new()
+    }
+
+    #[inline]
+    fn filled() -> Self {
+        ArrayVec::from_array_in((), Default::default())
     }
 
     #[inline]

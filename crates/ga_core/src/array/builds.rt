@@ -10,6 +10,7 @@ mod tests;
 use crate::array::GenericArray;
 use crate::builder::ArrayBuilder;
 use crate::length::ArrayLength;
+use crate::places::{try_write_answers, write_answers};
 use crate::store::Store;
 use ga_views::LengthError;
 
@@ -32,10 +33,8 @@ impl<T: Drop, N: ArrayLength<T>> GenericArray<T, N> {
         requires callable { CallableAlong F.pre F.step f.old N.USIZE }
         ensures run { ClosureRun F.step f.old (range_with_len 0 N.USIZE) result f.new }
     {
-        let mut store: N::ArrayType = Store::empty();
-        for index in 0..N::USIZE {
-            store.push(f(index));
-        }
+        let mut store: N::ArrayType = Store::filled();
+        write_answers(store.as_mut_slice(), f);
         GenericArray::of_store(store)
     }
 
@@ -57,14 +56,11 @@ impl<T: Drop, N: ArrayLength<T>> GenericArray<T, N> {
         requires callable { CallableUntilError F.pre F.step f.old N.USIZE }
         ensures run { FirstErrorRun F.step f.old (range_with_len 0 N.USIZE) result f.new }
     {
-        let mut store: N::ArrayType = Store::empty();
-        for index in 0..N::USIZE {
-            match f(index) {
-                Ok(item) => store.push(item),
-                Err(error) => return Err(error),
-            }
+        let mut store: N::ArrayType = Store::filled();
+        match try_write_answers(store.as_mut_slice(), f) {
+            Ok(()) => Ok(GenericArray::of_store(store)),
+            Err(error) => Err(error),
         }
-        Ok(GenericArray::of_store(store))
     }
 
     /// The array of all that `items` gives, or `LengthError` where it doesn't give exactly `N`.

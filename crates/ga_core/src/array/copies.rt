@@ -9,9 +9,9 @@ mod tests;
 
 use crate::alloc_error::AllocError;
 use crate::array::GenericArray;
-use crate::builder::ArrayBuilder;
 use crate::length::ArrayLength;
-use crate::store::store_of_clones;
+use crate::places::{write_clones, write_copies};
+use crate::store::Store;
 use std::alloc;
 
 impl<T: Default + Drop, N: ArrayLength<T>> GenericArray<T, N> {
@@ -38,14 +38,11 @@ impl<T: Clone, N: ArrayLength<T>> GenericArray<T, N> {
         ensures few { N.USIZE ≤ 1 → IsOk result }
         ensures succeeds { T.is_infallible item → IsOk result }
     {
-        let mut builder = ArrayBuilder::new();
-        if N::USIZE > 0 {
-            for _clone in 1..N::USIZE {
-                builder.push(item.clone()?);
-            }
-            builder.push(item);
+        let mut store: N::ArrayType = Store::filled();
+        match write_copies(store.as_mut_slice(), item) {
+            Ok(()) => Ok(GenericArray::of_store(store)),
+            Err(refused) => Err(refused),
         }
-        Ok(builder.finish())
     }
 
     /// The array of clones of the items, made in order.
@@ -56,7 +53,12 @@ impl<T: Clone, N: ArrayLength<T>> GenericArray<T, N> {
         ensures items { IfOk result (λ copy. AllZip T.is_clone self.now copy) }
         ensures succeeds { All T.is_infallible self.now → IsOk result }
     {
-        Ok(Clone::clone(self)?)
+        let items = self.as_slice();
+        let mut store: N::ArrayType = Store::filled();
+        match write_clones(store.as_mut_slice(), items) {
+            Ok(()) => Ok(GenericArray::of_store(store)),
+            Err(refused) => Err(refused),
+        }
     }
 }
 
@@ -66,7 +68,9 @@ impl<T: Clone, N: ArrayLength<T>> Clone for GenericArray<T, N> {
     ghost is_infallible = { λ array. All T.is_infallible array };
 
     fn clone(&self) -> Result<Self, alloc::AllocError> {
-        let store: N::ArrayType = store_of_clones(self.as_slice())?;
-        Ok(GenericArray::of_store(store))
+        match GenericArray::clone(self) {
+            Ok(copy) => Ok(copy),
+            Err(_) => Err(alloc::AllocError),
+        }
     }
 }

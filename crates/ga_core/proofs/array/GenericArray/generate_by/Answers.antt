@@ -1,14 +1,7 @@
-use Rattle.ga_core.proofs.RunLemmas.{ClosureRun-snoc, below-add_one}
 use Rattle.ga_core.proofs.array.GenericArray.generate_by.Goals as goal
-use Rattle.std.proofs.Common.{◌∷◌, [], ◌<◌, arith, length-append}
+use Rattle.std.proofs.Common.{◌≡◌, ap, arith, length, ◌∙◌}
 
-pub f-requires : goal.f-requires
-f-requires g c =
-    let below : c.loop-index.index < g.N.Unsigned.USIZE = omega (arith, c.loop-index-test.true, c.USIZE-index-end.ensures) in
-    c.requires.callable c.loop-index.index _ _ below c.loop-index.invariant.ran
-
-pub loop-index-preserved : goal.loop-index-preserved
-loop-index-preserved g c = record {
-  ran = rw (c.push.ensures, below-add_one) (ClosureRun-snoc _ _ _ _ _ _ _ _ c.loop-index.invariant.ran c.f.ensures);
-  long = rw c.push.ensures (omega (arith, length-append (g.N.ArrayType.Store.items c.loop-index.store) (c.f.result ∷ []), c.loop-index.invariant.long));
-}
+pub write_answers-requires : goal.write_answers-requires
+write_answers-requires g c =
+    let full : length c.as_mut_slice.result.now ≡ g.N.Unsigned.USIZE = ap length c.as_mut_slice.ensures.value ∙ (c.filled-store.ensures ∙ g.met.N.ArrayLength.capacity_is) in
+    record { callable = λ k ys reached below run. c.requires.callable k ys reached (omega (arith, below, full)) run }

@@ -1,25 +1,7 @@
-use Rattle.ga_core.proofs.RunLemmas.{ClosureRun-good, FirstErrorRun-at, FirstErrorRun-good, below-add_one}
 use Rattle.ga_core.proofs.array.GenericArray.try_generate_by.Goals as goal
-use Rattle.ga_core.specs.Runs.{FirstErrorRun}
-use Rattle.std.proofs.Common.{◌≡◌, ◌∷◌, [], ◌<◌, Ok, arith, length-append, subst}
-use Rattle.std.specs.List.{range_with_len}
+use Rattle.std.proofs.Common.{◌≡◌, ap, arith, length, ◌∙◌}
 
-pub loop-index-preserved : goal.loop-index-preserved
-loop-index-preserved g c = record {
-  ran = rw (c.push.ensures, below-add_one) (ClosureRun-good _ _ _ _ _ _ _ _ c.loop-index.invariant.ran c.in-Ok.ensures);
-  long = rw c.push.ensures (omega (arith, length-append (g.N.ArrayType.Store.items c.loop-index.store) (c.in-Ok.item ∷ []), c.loop-index.invariant.long));
-}
-
-pub returns-in-Err : goal.returns-in-Err
-returns-in-Err g c =
-    let below : c.loop-index.index < g.N.Unsigned.USIZE = omega (arith, c.loop-index-test.true, c.USIZE-index-end.ensures) in
-    record { run = FirstErrorRun-at _ _ _ _ _ _ _ _ below c.loop-index.invariant.ran c.in-Err.ensures }
-
-pub returns : goal.returns
-returns g c =
-    let all : c.loop-index.index ≡ g.N.Unsigned.USIZE = omega (arith, c.loop-index-test.false, c.loop-index.auto.index-end, c.USIZE-index-end.ensures) in
-    let items = g.N.ArrayType.Store.items c.loop-index.store in
-    record {
-      run = rw c.of_store.ensures (subst (λ n. FirstErrorRun (goal.F-step g) c.args.f.now (range_with_len 0 n) (Ok items) c.loop-index.f) all
-          (FirstErrorRun-good _ _ _ items _ c.loop-index.invariant.ran));
-    }
+pub try_write_answers-requires : goal.try_write_answers-requires
+try_write_answers-requires g c =
+    let full : length c.as_mut_slice.result.now ≡ g.N.Unsigned.USIZE = ap length c.as_mut_slice.ensures.value ∙ (c.filled-store.ensures ∙ g.met.N.ArrayLength.capacity_is) in
+    record { callable = λ k ys reached below run. c.requires.callable k ys reached (omega (arith, below, full)) run }

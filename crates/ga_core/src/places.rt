@@ -1,0 +1,76 @@
+//! Writing over the places of a slice, in order.
+ghost use Rattle.ga_core.specs.Copies.{Repeats};
+ghost use Rattle.ga_core.specs.Runs.{CallableAlong, CallableUntilError, ClosureRun, FirstErrorRun};
+ghost use Rattle.std.specs.List.{All, AllZip, range_with_len};
+ghost use Rattle.std.specs.Prelude.{◌≡◌, ◌≤◌, Err, IsOk, MatchResult, Ok, OnOk, length};
+
+use crate::alloc_error::AllocError;
+
+/// Writes `f(0)`, `f(1)` and so on over the places, each called once, in this order.
+#[inline]
+pub(crate) fn write_answers<T: Drop, F: FnMut(usize) -> T>(places: &mut [T], f: &mut F)
+    requires callable { CallableAlong F.pre F.step f.old (length places.old) }
+    ensures run { ClosureRun F.step f.old (range_with_len 0 (length places.old)) places.new f.new }
+{
+    for (index, place) in places.iter_mut().enumerate() {
+        *place = f(index);
+    }
+}
+
+/// `write_answers` of a closure that may fail, up to its first error, which is answered.
+#[inline]
+pub(crate) fn try_write_answers<T: Drop, E, F: FnMut(usize) -> Result<T, E>>(
+    places: &mut [T],
+    f: &mut F,
+) -> Result<(), E>
+    requires callable { CallableUntilError F.pre F.step f.old (length places.old) }
+    ensures run { MatchResult result
+        (λ _. FirstErrorRun F.step f.old (range_with_len 0 (length places.old)) (Ok places.new) f.new)
+        (λ error. FirstErrorRun F.step f.old (range_with_len 0 (length places.old)) (Err error) f.new) }
+{
+    for (index, place) in places.iter_mut().enumerate() {
+        match f(index) {
+            Ok(item) => *place = item,
+            Err(error) => return Err(error),
+        }
+    }
+    Ok(())
+}
+
+/// Writes clones of the items over as many places, made in order, up to the first that is refused.
+#[inline]
+pub(crate) fn write_clones<T: Clone>(places: &mut [T], items: &[T]) -> Result<(), AllocError>
+    requires room { length places.old ≡ length items.now }
+    ensures items { OnOk result (AllZip T.is_clone items.now places.new) }
+    ensures succeeds { All T.is_infallible items.now → IsOk result }
+{
+    for (index, place) in places.iter_mut().enumerate() {
+        match items[index].clone() {
+            Ok(copy) => *place = copy,
+            Err(_) => return Err(AllocError),
+        }
+    }
+    Ok(())
+}
+
+/// Writes clones of `item` over the places, made in order, and `item` itself over the last, up to
+/// the first clone that is refused.
+#[inline]
+pub(crate) fn write_copies<T: Clone>(places: &mut [T], item: T) -> Result<(), AllocError>
+    ensures items { OnOk result (Repeats T.is_clone item (length places.old) places.new) }
+    ensures few { length places.old ≤ 1 → IsOk result }
+    ensures succeeds { T.is_infallible item → IsOk result }
+{
+    let count = places.len();
+    if count > 0 {
+        let last = count - 1;
+        for place in places[..last].iter_mut() {
+            match item.clone() {
+                Ok(copy) => *place = copy,
+                Err(_) => return Err(AllocError),
+            }
+        }
+        places[last] = item;
+    }
+    Ok(())
+}
