@@ -176,6 +176,6 @@ impl<T: Default + Drop, N: ArrayLength<T>> IntoIterator for GenericArray<T, N> {
     #[inline]
     fn into_iter(self) -> GenericArrayIter<T, N> {
         let GenericArray { store, of: _ } = self;
-        GenericArrayIter::of_store(store)
+        GenericArrayIter::of_store(store, N::USIZE)
     }
 }

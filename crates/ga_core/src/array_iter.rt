@@ -5,7 +5,7 @@ ghost use Rattle.ga_views.specs.Length.{FitsInline};
 ghost use Rattle.std.specs.Borrow.{sem};
 ghost use Rattle.std.specs.Iterator.{YieldsFirst, YieldsLast, item_count};
 ghost use Rattle.std.specs.List.{All, AllZip};
-ghost use Rattle.std.specs.Prelude.{◌≡◌, ◌-◌, ◌≤◌, IfOk, IsOk, drop, length, reverse, slice_get};
+ghost use Rattle.std.specs.Prelude.{◌≡◌, ◌-◌, ◌≤◌, IfOk, IsOk, drop, length, reverse, slice_get, slice_range, take};
 
 #[cfg(test)]
 mod tests;
@@ -24,33 +24,38 @@ use std::{alloc, fmt, mem};
 /// The counterpart of `GenericArrayIter`.
 #[derive(Drop)]
 pub struct GenericArrayIter<T, N: ArrayLength<T>> {
+    // The items that are left lie from `front` up to `back`; the other places hold the defaults of
+    // items that were taken. The two numbers stand before the store, which lets the compiler see
+    // that a write to a place leaves them.
+    front: usize,
+    back: usize,
     store: N::ArrayType,
-    // How many places at the store's front hold the default of an item that was taken.
-    taken: usize,
     of: PhantomData<T>,
 }
 
 impl<T, N: ArrayLength<T>> Model for GenericArrayIter<T, N> {
-    ghost use Rattle.std.specs.Prelude.{◌≤◌, List, drop, length};
+    ghost use Rattle.std.specs.Prelude.{◌≤◌, List, length, slice_range};
     ghost use Rattle.ga_views.specs.Length.{FitsInline};
 
     ghost Value = { List T };
 
-    ghost view = { λ items. drop items.taken (N.ArrayType.items items.store) };
+    ghost view = { λ items. slice_range (N.ArrayType.items items.store) items.front items.back };
 
-    ghost invariant = { λ items. (items.taken ≤ length (N.ArrayType.items items.store)) × (length (N.ArrayType.items items.store) ≤ N.USIZE) × FitsInline N.USIZE };
+    ghost invariant = { λ items. (items.front ≤ items.back) × (items.back ≤ length (N.ArrayType.items items.store)) × (length (N.ArrayType.items items.store) ≤ N.USIZE) × FitsInline N.USIZE };
 }
 
 impl<T, N: ArrayLength<T>> GenericArrayIter<T, N> {
-    /// The iterator over the items of a store.
+    /// The iterator over the `count` items of a store.
     #[inline]
-    pub(crate) fn of_store(store: N::ArrayType) -> Self
-        requires fits { (length (N.ArrayType.items store) ≤ N.USIZE) × FitsInline N.USIZE }
+    pub(crate) fn of_store(store: N::ArrayType, count: usize) -> Self
+        requires count { count ≡ length (N.ArrayType.items store) }
+        requires fits { (count ≤ N.USIZE) × FitsInline N.USIZE }
         ensures { result ≡ N.ArrayType.items store }
     {
         GenericArrayIter {
+            front: 0,
+            back: count,
             store,
-            taken: 0,
             of: PhantomData,
         }
     }
@@ -60,7 +65,7 @@ impl<T, N: ArrayLength<T>> GenericArrayIter<T, N> {
     pub fn len(&self) -> usize
         ensures { result ≡ length self.now }
     {
-        self.store.as_slice().len() - self.taken
+        self.back - self.front
     }
 
     /// The items that are left, in order. Constant time.
@@ -70,7 +75,7 @@ impl<T, N: ArrayLength<T>> GenericArrayIter<T, N> {
         ensures bound { length result.now ≤ N.USIZE }
         ensures fits { FitsInline N.USIZE }
     {
-        &self.store.as_slice()[self.taken..]
+        &self.store.as_slice()[self.front..self.back]
     }
 
     /// The number of items that are left, twice: they are no fewer and no more.
@@ -93,11 +98,11 @@ impl<T: Default + Drop, N: ArrayLength<T>> Iterator for GenericArrayIter<T, N> {
     /// Takes the first item that is left. Constant time.
     #[inline]
     fn next(&mut self) -> Option<T> {
-        if self.taken == self.store.as_slice().len() {
+        if self.front == self.back {
             return None;
         }
-        let item = mem::take(self.store.item_mut(self.taken));
-        self.taken += 1;
+        let item = mem::take(&mut self.store.as_mut_slice()[self.front]);
+        self.front += 1;
         Some(item)
     }
 
@@ -115,10 +120,13 @@ impl<T: Default + Drop, N: ArrayLength<T>> DoubleEndedIterator for GenericArrayI
     /// Takes the last item that is left. Constant time.
     #[inline]
     fn next_back(&mut self) -> Option<T> {
-        if self.taken == self.store.as_slice().len() {
+        if self.front == self.back {
             return None;
         }
-        self.store.pop()
+        let last = self.back - 1;
+        let item = mem::take(&mut self.store.as_mut_slice()[last]);
+        self.back = last;
+        Some(item)
     }
 }
 
@@ -133,8 +141,9 @@ impl<T: Default + Drop, N: ArrayLength<T>> GenericArrayIter<T, N> {
         ensures* writes_back { sem 𝓛 (LendsLeft T.row N.row N.ArrayType.row N.Unsigned N.ArrayType.Store self.entry result) }
         ensures items { result.now ≡ self.old }
     {
-        give_up_front::<T, N::ArrayType>(&mut self.store, self.taken);
-        self.taken = 0;
+        keep_range::<T, N::ArrayType>(&mut self.store, self.front, self.back);
+        self.back -= self.front;
+        self.front = 0;
         self.store.as_mut_slice()
     }
 
@@ -145,9 +154,9 @@ impl<T: Default + Drop, N: ArrayLength<T>> GenericArrayIter<T, N> {
     pub fn nth(&mut self, n: usize) -> Option<T>
         ensures step { StepGives (front n) self.old result self.new }
     {
-        for _passed in 0..n.min(self.len()) {
-            let _ = self.next();
-        }
+        let end = self.front + n.min(self.len());
+        blank(self.store.as_mut_slice(), self.front, end);
+        self.front = end;
         self.next()
     }
 
@@ -158,9 +167,9 @@ impl<T: Default + Drop, N: ArrayLength<T>> GenericArrayIter<T, N> {
     pub fn nth_back(&mut self, n: usize) -> Option<T>
         ensures step { StepGives (back n) self.old result self.new }
     {
-        for _passed_back in 0..n.min(self.len()) {
-            let _ = self.next_back();
-        }
+        let start = self.back - n.min(self.len());
+        blank(self.store.as_mut_slice(), start, self.back);
+        self.back = start;
         self.next_back()
     }
 
@@ -198,8 +207,10 @@ impl<T: Default + Drop, N: ArrayLength<T>> GenericArrayIter<T, N> {
     {
         let mut items = self;
         let mut answer = init;
-        while let Some(item) = items.next() {
-            answer = f(answer, item);
+        let (front, back) = (items.front, items.back);
+        let places = items.store.as_mut_slice();
+        for place in places[front..back].iter_mut() {
+            answer = f(answer, mem::take(place));
         }
         answer
     }
@@ -221,8 +232,10 @@ impl<T: Default + Drop, N: ArrayLength<T>> GenericArrayIter<T, N> {
     {
         let mut items = self;
         let mut answer = init;
-        while let Some(item) = items.next_back() {
-            answer = f(answer, item);
+        let (front, back) = (items.front, items.back);
+        let places = items.store.as_mut_slice();
+        for index in (front..back).rev() {
+            answer = f(answer, mem::take(&mut places[index]));
         }
         answer
     }
@@ -237,7 +250,11 @@ impl<T: Clone, N: ArrayLength<T>> GenericArrayIter<T, N> {
         ensures items { IfOk result (λ copy. AllZip T.is_clone self.now copy) }
         ensures succeeds { All T.is_infallible self.now → IsOk result }
     {
-        Ok(Clone::clone(self)?)
+        let items = self.as_slice();
+        match store_of_clones::<T, N::ArrayType>(items) {
+            Ok(store) => Ok(GenericArrayIter::of_store(store, items.len())),
+            Err(_) => Err(AllocError),
+        }
     }
 }
 
@@ -247,8 +264,10 @@ impl<T: Clone, N: ArrayLength<T>> Clone for GenericArrayIter<T, N> {
     ghost is_infallible = { λ items. All T.is_infallible items };
 
     fn clone(&self) -> Result<Self, alloc::AllocError> {
-        let store: N::ArrayType = store_of_clones(self.as_slice())?;
-        Ok(GenericArrayIter::of_store(store))
+        match GenericArrayIter::clone(self) {
+            Ok(copy) => Ok(copy),
+            Err(_) => Err(alloc::AllocError),
+        }
     }
 }
 
@@ -260,15 +279,29 @@ impl<T: fmt::Debug, N: ArrayLength<T>> fmt::Debug for GenericArrayIter<T, N> {
     }
 }
 
-/// Gives up the first `count` items of a store.
-fn give_up_front<T: Drop, S: Store<T>>(store: &mut S, count: usize)
-    requires { count ≤ length (S.items store.old) }
-    ensures { S.items store.new ≡ drop count (S.items store.old) }
+/// Leaves of a store the items from `front` up to `back`.
+fn keep_range<T: Drop, S: Store<T>>(store: &mut S, front: usize, back: usize)
+    requires ordered { front ≤ back }
+    requires in_bounds { back ≤ length (S.items store.old) }
+    ensures { S.items store.new ≡ slice_range (S.items store.old) front back }
 {
-    if count > 0 {
-        store.as_mut_slice().rotate_left(count);
-        for _given in 0..count {
+    let count = store.as_slice().len();
+    if back - front < count {
+        store.as_mut_slice().rotate_left(front);
+        for _given in 0..count - (back - front) {
             let _ = store.pop();
         }
+    }
+}
+
+/// Writes defaults over the places from `front` up to `back`, which drops the items there, in order.
+#[inline]
+fn blank<T: Default + Drop>(places: &mut [T], front: usize, back: usize)
+    requires in_bounds { back ≤ length places.old }
+    ensures before { take front places.new ≡ take front places.old }
+    ensures behind { front ≤ back → drop back places.new ≡ drop back places.old }
+{
+    for index in front..back {
+        places[index] = T::default();
     }
 }

@@ -1,11 +1,7 @@
 use Rattle.ga_core.proofs.array_iter.GenericArrayIter.fold_by.Given as goal
 use Rattle.ga_core.specs.Runs.{FoldRun}
-use Rattle.std.proofs.Common.{◌≡◌, List, ◌++◌, length}
+use Rattle.std.proofs.Common.{◌≡◌, List, ◌++◌, drop}
 
--- the calls at the items passed led to the answer and the closure of now
-abbrev pub invariant-loop-item : goal.invariant-loop-item
-invariant-loop-item g l = (passed : List g.row.T.Denot) × (l.fn.self ≡ passed ++ l.items) × FoldRun (goal.F-step g) l.initial.f l.initial.answer passed l.answer l.f
-
--- the items that are left
-abbrev pub decreases-loop-item : goal.decreases-loop-item
-decreases-loop-item g l = length l.items
+-- the calls at the items passed led to the answer and the closure of now; the others stand where they stood
+abbrev pub invariant-loop-place : goal.invariant-loop-place
+invariant-loop-place g l = (passed : List g.row.T.Denot) × (l.fn.self ≡ passed ++ drop l.place-index l.place-items) × FoldRun (goal.F-step g) l.initial.f l.initial.answer passed l.answer l.f

@@ -1,11 +1,8 @@
 use Rattle.ga_core.proofs.array_iter.GenericArrayIter.rfold_by.Given as goal
 use Rattle.ga_core.specs.Runs.{FoldRun}
-use Rattle.std.proofs.Common.{◌≡◌, List, ◌++◌, length, reverse}
+use Rattle.std.proofs.Common.{◌≡◌, List, ◌++◌, reverse}
+use Rattle.std.specs.List.{slice_range}
 
--- the calls at the items passed led to the answer and the closure of now
-abbrev pub invariant-loop-item : goal.invariant-loop-item
-invariant-loop-item g l = (passed : List g.row.T.Denot) × (reverse l.fn.self ≡ passed ++ reverse l.items) × FoldRun (goal.F-step g) l.initial.f l.initial.answer passed l.answer l.f
-
--- the items that are left
-abbrev pub decreases-loop-item : goal.decreases-loop-item
-decreases-loop-item g l = length l.items
+-- the calls at the items passed led to the answer and the closure of now; the others stand where they stood
+abbrev pub invariant-loop-index : goal.invariant-loop-index
+invariant-loop-index g l = (passed : List g.row.T.Denot) × (reverse l.fn.self ≡ passed ++ reverse (slice_range l.places l.front l.index)) × FoldRun (goal.F-step g) l.initial.f l.initial.answer passed l.answer l.f

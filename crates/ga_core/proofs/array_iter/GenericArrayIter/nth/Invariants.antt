@@ -1,6 +1,0 @@
-use Rattle.ga_core.proofs.array_iter.GenericArrayIter.nth.Given as goal
-use Rattle.std.proofs.Common.{◌≡◌, drop}
-
--- as many items are gone from the front as were passed over
-abbrev pub invariant-loop-passed : goal.invariant-loop-passed
-invariant-loop-passed g l = l.self ≡ drop l._passed l.initial.self
