@@ -1,9 +1,63 @@
--- A fill as one run of calls.
-use Rattle.ga_core.specs.Fill.{FillFalliblyRuns, FillRuns, Fills, FillsFallibly}
-use Rattle.std.proofs.Common.{◌≡◌, ℕ, ◌<◌, List, [], ◌∷◌, ◌++◌, length, length-append, map, ap, arith, refl, subst, sym, true, false, inl, inr, Option, None, Some, Result, Ok, Err, MatchOption}
+-- A fill, or what is taken of an iterator, as one run of calls, and as so many calls.
+use Rattle.ga_core.specs.Fill.{Asks, FillFalliblyRuns, FillRuns, Fills, FillsFallibly, TakeRuns, Takes}
+use Rattle.std.proofs.Common.{◌≡◌, ℕ, zero, suc, ◌+◌, ◌-◌, ◌<◌, ◌≤◌, List, [], ◌∷◌, ◌++◌, length, length-append, map, ap, arith, refl, subst, sym, true, false, inl, inr, Option, None, Some, Result, Ok, Err, MatchOption}
 use Rattle.std.proofs.lemmas.List.{length-map}
 use Rattle.std.proofs.iter.runs.Made.{run, to_end, to_item}
-use Rattle.std.specs.Iterator.{YieldsThen}
+use Rattle.std.specs.Iterator.{Yields, YieldsThen}
+
+module _ {S T : Type 0} (next_gives : S → Option T → S → Type 0) where
+  pub TakeRuns-from_takes : (P : List T → Type 0) (before : S) (room : ℕ) (taken : List T) (after : S) → Takes next_gives before room taken after → P taken → TakeRuns next_gives before room P
+  TakeRuns-from_takes P before room taken after (inl (calls, all)) holds =
+      (run next_gives before taken false (after, calls, λ whole. cc), refl, (holds, inl all))
+  TakeRuns-from_takes P before room taken after (inr (calls, short)) holds =
+      (run next_gives before taken true (to_end next_gives before taken (after, calls)), refl, (holds, inr (refl, short)))
+
+  -- items, and then what other calls gave
+  Asks-behind : (before reached : S) (taken : List T) (n : ℕ) (after : S) → Yields next_gives before taken reached → Asks next_gives reached n after → Asks next_gives before (length taken + n) after
+  Asks-behind before reached [] n after calls asks =
+      let none : 0 + n ≡ n = omega arith in
+      subst (λ k. Asks next_gives before k after) (sym none) (subst (λ s. Asks next_gives s n after) (sym calls) asks)
+  Asks-behind before reached (item ∷ taken) n after calls asks =
+      let more : suc (length taken) + n ≡ suc (length taken + n) = omega arith in
+      subst (λ k. Asks next_gives before k after) (sym more) (Some item, calls.0, calls.1, Asks-behind calls.0 reached taken n after calls.2 asks)
+
+  -- an end, or the last of the calls
+  Asks-last : (before : S) (last : Option T) (n : ℕ) (after : S) → next_gives before last after → MatchOption last (0 < n) (λ _. n ≡ 1) → Asks next_gives before n after
+  Asks-last before None zero after call some = absurd (omega (arith, some))
+  Asks-last before None (suc n) after call some = (None, after, call, refl)
+  Asks-last before (Some item) n after call one = subst (λ k. Asks next_gives before k after) (sym one) (Some item, after, call, refl)
+
+  pub Asks-from_takes : (before : S) (room : ℕ) (taken : List T) (after : S) → Takes next_gives before room taken after → Asks next_gives before room after
+  Asks-from_takes before room taken after (inl (calls, all)) =
+      let whole : length taken + 0 ≡ room = omega (arith, all) in
+      subst (λ k. Asks next_gives before k after) whole (Asks-behind before after taken 0 after calls refl)
+  Asks-from_takes before room taken after (inr ((reached, calls, end), short)) =
+      let rest : length taken + (room - length taken) ≡ room = omega (arith, short) in
+      subst (λ k. Asks next_gives before k after) rest
+      (Asks-behind before reached taken (room - length taken) after calls (Asks-last reached None (room - length taken) after end (omega (arith, short))))
+
+  -- how many calls are left for the last answer of a fill
+  calls_left : (taken : List T) (last : Option T) (n : ℕ) → MatchOption last (length taken < n) (λ _. length taken ≡ n) → MatchOption last (0 < n + 1 - length taken) (λ _. n + 1 - length taken ≡ 1)
+  calls_left taken None n short = omega (arith, short)
+  calls_left taken (Some item) n full = omega (arith, full)
+
+  asks_in_fill : (before : S) (n : ℕ) (taken : List T) (last : Option T) (after : S) → length taken ≤ n → YieldsThen next_gives before taken last after
+      → MatchOption last (0 < n + 1 - length taken) (λ _. n + 1 - length taken ≡ 1) → Asks next_gives before (n + 1) after
+  asks_in_fill before n taken last after within (reached, calls, call) left =
+      let rest : length taken + (n + 1 - length taken) ≡ n + 1 = omega (arith, within) in
+      subst (λ k. Asks next_gives before k after) rest (Asks-behind before reached taken (n + 1 - length taken) after calls (Asks-last reached last (n + 1 - length taken) after call left))
+
+  -- at most n items were taken in a fill that was refused
+  taken_within : (taken : List T) (last : Option T) (n : ℕ) → MatchOption last (length taken < n) (λ _. length taken ≡ n) → length taken ≤ n
+  taken_within taken None n short = omega (arith, short)
+  taken_within taken (Some item) n full = omega (arith, full)
+
+  pub Asks-from_fill : {E : Type 0} (before : S) (n : ℕ) (result : Result (List T) E) (after : S) → Fills next_gives before n result after → Asks next_gives before (n + 1) after
+  Asks-from_fill before n (Ok array) after (taken, last, calls, whole) =
+      let ended = subst (λ o. YieldsThen next_gives before taken o after) whole.2 calls in
+      asks_in_fill before n taken None after (omega (arith, whole.1)) ended (omega (arith, whole.1))
+  Asks-from_fill before n (Err error) after (taken, last, calls, short) =
+      asks_in_fill before n taken last after (taken_within taken last n short) calls (calls_left taken last n short)
 
 module _ {S T E : Type 0} (next_gives : S → Option T → S → Type 0) where
   -- the calls of a fill that is refused, by how they ended

@@ -1,7 +1,7 @@
 -- Filling an array of n items, or what is left of a builder, from an iterator.
 use Rattle.std.specs.Iterator.{Yields, YieldsThen}
 use Rattle.std.specs.Iterator.Runs.{SomeRun, WholeRun}
-use Rattle.std.specs.Prelude.{◌≡◌, ◌⊎◌, ℕ, ◌+◌, ◌<◌, IsTrue, List, [], ◌∷◌, ◌++◌, length, map, Option, None, Some, Result, Ok, Err, MatchOption, MatchResult}
+use Rattle.std.specs.Prelude.{◌≡◌, ◌⊎◌, ℕ, zero, suc, ◌+◌, ◌<◌, IsTrue, List, [], ◌∷◌, ◌++◌, length, map, Option, None, Some, Result, Ok, Err, MatchOption, MatchResult}
 
 module _ {S T : Type 0} (next_gives : S → Option T → S → Type 0) where
   -- Calls of `next` led from before to after and gave the items taken: as many as there is room for, or all up to the end, where that
@@ -9,6 +9,15 @@ module _ {S T : Type 0} (next_gives : S → Option T → S → Type 0) where
   abbrev pub Takes : S → ℕ → List T → S → Type 0
   Takes before room taken after =
       (Yields next_gives before taken after × (length taken ≡ room)) ⊎ (YieldsThen next_gives before taken None after × (length taken < room))
+
+  -- what `Takes` says, as one run of calls that gave items of which P holds: the form that proofs follow along a chain of std's iterators
+  abbrev pub TakeRuns : S → ℕ → (List T → Type 0) → Type 0
+  TakeRuns before room P = SomeRun next_gives before (λ run. P run.items × ((run.len ≡ room) ⊎ (IsTrue run.whole × (run.len < room))))
+
+  -- n calls of `next`, or fewer where the end comes first, led from before to after: the form that proofs follow where the iterator is asked on
+  abbrev pub Asks : S → ℕ → S → Type 0
+  Asks before zero after = before ≡ after
+  Asks before (suc n) after = (answer : Option T) × (reached : S) × next_gives before answer reached × MatchOption answer (reached ≡ after) (λ _. Asks reached n after)
 
 module _ {S T E : Type 0} (next_gives : S → Option T → S → Type 0) where
   -- Calls of `next` led from before to after: they gave the items taken, and then last. There is an array of these items where they

@@ -1,5 +1,5 @@
 //! An array that is being built, item by item.
-ghost use Rattle.ga_core.specs.Fill.{Takes, TakesGood};
+ghost use Rattle.ga_core.specs.Fill.{Asks, TakeRuns, Takes, TakesGood};
 ghost use Rattle.ga_views.specs.Length.{FitsInline};
 ghost use Rattle.std.specs.Prelude.{◌≡◌, ◌≢◌, ◌⊎◌, ◌-◌, ◌<◌, ◌≤◌, ◌↔◌, IfOk, IsTrue, None, OnErr, Some, List, [], ◌∷◌, ◌++◌, length};
 
@@ -91,6 +91,8 @@ impl<T: Drop, N: ArrayLength<T>> ArrayBuilder<T, N> {
     pub fn extend<I: Iterator<Item = T>>(&mut self, items: &mut I)
         requires can { I.can_next items.old }
         ensures taken { (taken : List T) × (self.new ≡ self.old ++ taken) × Takes I.next_gives items.old (N.USIZE - length self.old) taken items.new }
+        ensures runs { TakeRuns I.next_gives items.old (N.USIZE - length self.old) (λ taken. self.new ≡ self.old ++ taken) }
+        ensures asks { Asks I.next_gives items.old (N.USIZE - length self.old) items.new }
         ensures can { length self.new ≡ N.USIZE → I.can_next items.new }
     {
         while !self.is_full() {

@@ -1,8 +1,9 @@
 //! Arrays built from a closure or an iterator.
-ghost use Rattle.ga_core.specs.Fill.{FillFalliblyRuns, FillRuns, Fills, FillsFallibly};
+ghost use Rattle.ga_core.specs.Fill.{Asks, FillFalliblyRuns, FillRuns, Fills, FillsFallibly};
 ghost use Rattle.ga_core.specs.Runs.{CallableAlong, CallableUntilError, ClosureRun, FirstErrorRun};
 ghost use Rattle.ga_views.specs.Length.{FitsInline};
 ghost use Rattle.std.specs.List.{range_with_len};
+ghost use Rattle.std.specs.Prelude.{◌+◌};
 
 #[cfg(test)]
 mod tests;
@@ -84,6 +85,8 @@ impl<T: Drop, N: ArrayLength<T>> GenericArray<T, N> {
         requires fits { FitsInline N.USIZE }
         requires can { I.can_next items.old }
         ensures fill { Fills I.next_gives items.old N.USIZE result items.new }
+        ensures runs { FillRuns I.next_gives items.old N.USIZE result }
+        ensures asks { Asks I.next_gives items.old (N.USIZE + 1) items.new }
     {
         let mut builder = ArrayBuilder::new();
         builder.extend(items);
@@ -122,6 +125,9 @@ impl<T: Drop, N: ArrayLength<T>> GenericArray<T, N> {
         if let Err(error) = builder.try_extend(items) {
             return Ok(Err(error));
         }
-        Ok(Ok(builder.finish_at_end(items)?))
+        match builder.finish_at_end(items) {
+            Ok(array) => Ok(Ok(array)),
+            Err(refused) => Err(refused),
+        }
     }
 }

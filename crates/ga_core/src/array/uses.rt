@@ -2,7 +2,7 @@
 ghost use Rattle.std.specs.Option.{option_copied};
 ghost use Rattle.std.specs.Prelude.{◌≡◌, ◌∷◌, [], ◌↔◌, EachIndex, Err, IfOk, IsOk, IsTrue, Ok, OnErr, OnOk, ◌≢◌, length, slice_get, slice_index, slice_set, sum};
 
-use crate::{AllocError, ArrayBuilder, GenericArray, GenericArrayRef, LengthError, U2, U3, U4};
+use crate::{AllocError, ArrayBuilder, GenericArray, GenericArrayRef, LengthError, U2, U3, U4, U7};
 
 fn four_of(bytes: &[u8]) -> Result<GenericArray<u8, U4>, LengthError>
     ensures variant { IsOk result ↔ (length bytes.now ≡ 4) }
@@ -15,6 +15,19 @@ fn doubled() -> GenericArray<usize, U4>
     ensures { result ≡ 0 ∷ 2 ∷ 4 ∷ 6 ∷ [] }
 {
     GenericArray::generate(|index| 2 * index)
+}
+
+fn second_of(array: &GenericArray<u8, U3>) -> u8
+    ensures { slice_get array.now 1 ≡ Some result }
+{
+    array[1]
+}
+
+fn second_place_raised(array: &mut GenericArray<u8, U3>)
+    requires { slice_get array.old 1 ≡ Some 8 }
+    ensures { array.new ≡ slice_set array.old 1 9 }
+{
+    array[1] += 1;
 }
 
 fn second_place_set(array: &mut GenericArray<u8, U3>)
@@ -102,6 +115,24 @@ fn built() -> GenericArray<u8, U2>
     builder.push(4);
     builder.push(6);
     builder.finish()
+}
+
+fn position_after_two_bytes() -> usize
+    ensures { result ≡ 2 }
+{
+    let bytes = [4u8, 6];
+    let mut builder: ArrayBuilder<u8, U4> = ArrayBuilder::new();
+    builder.extend(&mut bytes.iter().copied());
+    builder.position()
+}
+
+fn next_after_a_refused_fill(seven: GenericArray<u8, U7>) -> Option<u8>
+    requires { seven ≡ 1 ∷ 2 ∷ 3 ∷ 4 ∷ 5 ∷ 6 ∷ 7 ∷ [] }
+    ensures { result ≡ Some 6 }
+{
+    let mut items = seven.into_iter();
+    let _ = GenericArray::<u8, U4>::try_from_iter_ref(&mut items);
+    items.next()
 }
 
 fn refused_at_two() -> Result<GenericArray<usize, U4>, usize>

@@ -11,9 +11,9 @@ loop-place-preserved g c =
     let places = c.loop-place.place-items in
     let i = c.loop-place.place-index in
     let step : drop i places ≡ item ∷ drop (i + 1) (slice_set places i c.take.new.dest) =
-        drop_more places i c.place-item.result (omega (arith, c.loop-place-test.true, c.loop-place.auto.place-items))
-        ∙ (ap (λ x. x ∷ drop (i + 1) places) (sym c.take.ensures.value)
-        ∙ ap (λ rest. item ∷ rest) (sym (drop-set-lt (i + 1) places i c.take.new.dest (omega arith)))) in (
+    drop_more places i c.place-item.result (omega (arith, c.loop-place-test.true, c.loop-place.auto.place-items))
+    ∙ (ap (λ x. x ∷ drop (i + 1) places) (sym c.take.ensures.value)
+    ∙ ap (λ rest. item ∷ rest) (sym (drop-set-lt (i + 1) places i c.take.new.dest (omega arith)))) in (
       so_far.0 ++ item ∷ [],
       taken-more c.args.self so_far.0 (drop i places) item (drop (i + 1) (slice_set places i c.take.new.dest)) so_far.1 step,
       FoldsTo-push _ (c.args.f.now, c.args.init) so_far.0 (c.loop-place.f, c.loop-place.answer) item (c.f-answer.new.self, c.f-answer.result) so_far.2 c.f-answer.ensures,
