@@ -2,6 +2,7 @@ pub mod CopyLemmas
 pub mod CutLemmas
 pub mod FillLemmas
 pub mod LeftLemmas
+mod LentSlice
 pub mod PlaceLemmas
-pub mod RunLemmas
 pub use Rattle.ga_views.proofs.RowLemmas
+pub mod RunLemmas

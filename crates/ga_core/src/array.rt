@@ -96,7 +96,7 @@ impl<T, N: ArrayLength<T>> GenericArray<T, N> {
         ensures items { result.now ≡ self.old }
         ensures len { length result.now ≡ N.USIZE }
     {
-        self.store.as_mut_slice()
+        self.store.all_mut(N::USIZE)
     }
 
     /// The items by reference, in order.

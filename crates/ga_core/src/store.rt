@@ -1,4 +1,5 @@
 //! Where an inline array keeps its items: `Store`, and `ArrayVec` as one.
+ghost use Rattle.arrayvec.specs.Lends.{lends_item, lends_slice};
 ghost use Rattle.ga_views.specs.Length.{FitsInline};
 ghost use Rattle.std.specs.Borrow.{Array, Lends, sem};
 ghost use Rattle.std.specs.Iterator.{YieldsLast};
@@ -53,6 +54,15 @@ pub trait Store<T>: Sized + Drop {
 
     /// The items, in order, for writing. What is written stands in the store afterwards.
     fn as_mut_slice(&mut self) -> &mut [T]
+        ensures* writes_back { sem 𝓛 (Lends Self.row (Array T.row 0) self.entry result (λ written. (refilled self.old written).0)) }
+        ensures value { result.now ≡ items self.old };
+
+    /// The items, in order, for writing, where the caller knows how many they are. What is written stands in the
+    /// store afterwards.
+    ///
+    /// Where `len` is a constant, the compiler knows the slice's length, as it doesn't with `as_mut_slice`.
+    fn all_mut(&mut self, len: usize) -> &mut [T]
+        requires all { len ≡ length (items self.old) }
         ensures* writes_back { sem 𝓛 (Lends Self.row (Array T.row 0) self.entry result (λ written. (refilled self.old written).0)) }
         ensures value { result.now ≡ items self.old };
 
@@ -112,12 +122,37 @@ impl<T: Default + Drop, const N: usize> Store<T> for ArrayVec<T, N> {
         ArrayVec::as_mut_slice(self)
     }
 
+    #[inline]
+    fn all_mut(&mut self, len: usize) -> &mut [T] {
+        items_of(self, len)
+    }
+
     ghost replaced = { λ store index item. (with_item store index item, refl) };
 
     #[inline]
     fn item_mut(&mut self, index: usize) -> &mut T {
-        ArrayVec::get_mut(self, index).unwrap()
+        item_of(self, index)
     }
+}
+
+/// The items of a store, of which there are `len`.
+#[inline]
+fn items_of<T, const N: usize, A>(store: &mut ArrayVec<T, N, A>, len: usize) -> &mut [T]
+    requires all { len ≡ length store.old.items }
+    ensures* writes_back { sem 𝓛 (lends_slice T.row N.row A.row store.entry result) }
+    ensures value { result.now ≡ store.old.items }
+{
+    &mut store.as_mut_slice()[..len]
+}
+
+/// The item of a store at `index`, with no test of the index.
+#[inline]
+fn item_of<T, const N: usize, A>(store: &mut ArrayVec<T, N, A>, index: usize) -> &mut T
+    requires in_bounds { index < length store.old.items }
+    ensures* writes_back { sem 𝓛 (lends_item T.row N.row A.row store.entry index result) }
+    ensures value { result.now ≡ slice_index_or store.old.items index result.now }
+{
+    &mut store.as_mut_slice()[index]
 }
 
 /// A store of clones of the items, made in order. Refused at the first clone that is; those made

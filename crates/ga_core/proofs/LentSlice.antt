@@ -1,0 +1,94 @@
+-- The call `ArrayVec::as_mut_slice` as a step of a walk, for a function of the same type parameters that hands on a part of the slice.
+--     calls_slice     the tokens and the store that was passed are what it asks; it gives the slice, taken apart, and the store follows the slice
+-- Assumes `Logic`.
+use Rattle.arrayvec.specs.ArrayVec.{with_items}
+use Rattle.arrayvec.specs.contracts.array_vec.ArrayVec.{the_row}
+use Rattle.arrayvec.specs.contracts.array_vec.ArrayVec.as_mut_slice as callee
+use Rattle.std.proofs.Common.{◌≡◌, ◌^◌, ◌<◌, ◌≤◌, [], ◌∷◌, ap, length, List, MutBor, ℕ}
+use base.Fml.{fbor, Fml, fobs, fsep, ftrue}
+use base.Logic.{emp, id⊢, SProp}
+use base.Stored.{coded_list}
+use contract.BorrowLft.{◌⊑◌}
+use contract.Lifetimes.{AllOutlive, Lfts, Shares, toks}
+use contract.Monad.{fact, fact_i, Fun}
+use denote.Array.{Array}
+use denote.Follow.{follows}
+use denote.Memory.{mem}
+use denote.Param.{layout, number, param}
+use denote.RattleType.{RattleType}
+use denote.Ref.{mut_vals, MutRef}
+use denote.Shadow.{pure_l}
+use denote.Slice.{heres, MutSlice, Room, room, slice_val}
+use denote.Steps.{heard, nothing, only}
+use denote.Triple.Call.{calls_at}
+use denote.Triple.Spec.{triple_of}
+use denote.Triple.Statement.{Contract, Triple}
+use mir.Syntax.{Body as Code, call, Callee, named, Opd, Place, seq}
+use mir.Val.{Val}
+use prog.Memory.{Memory, size}
+use prog.Routine.{Routine}
+use prog.Wp.{Calls, Env, Loops}
+use seplogic.Ra.Ura.{Ura}
+use sound.WpLaws.{FmC}
+use types.Hole.{Holey}
+use types.Kit.{‵, ◌⊛◌, ◌$◌, await, drop, feq_l, fjoin, fsplit, fsplit3, Item, join, lands, later, move, pick, Post, raw, runs, Seq, some, split, split3, use0, use1}
+use types.Logic.{Logic}
+use types.Run.{Opds}
+use types.SemTy.{Arr, Body}
+
+module _ (X : RattleType) (n : ℕ) (Z : RattleType) where
+  -- the type of an element, and that of the store
+  abbrev pub R : RattleType
+  R = param 0 X
+
+  abbrev pub S : RattleType
+  S = the_row R (param 1 (number n)) (param 2 Z)
+
+  module _ {M : Type 1} {𝓤 : Ura M} (𝓛 : Logic 𝓤) (at_mem : Memory → SProp 𝓤) (run : Routine → Fun 𝓤) where
+    open 𝓛 use {H}
+
+    abbrev pub Called : Contract 𝓤
+    Called = triple_of 𝓛 (callee.signature X (number n) Z) (callee.spec X (number n) Z 𝓛 at_mem run)
+
+    module _ (κs : Lfts 4) (qs : Shares 4) (bounds : AllOutlive 4 (callee.signature X (number n) Z).outlives κs) (store : MutBor S.Denot) where
+      abbrev pub choice : Called.Ghost
+      choice = ((κs, qs, bounds, (store, tt), (mut_vals store, tt)), tt)
+
+      -- the store, as it was passed
+      abbrev pub Passed : Fml
+      Passed = (MutRef (named 0) κs.0 S).own_val store (mut_vals store)
+
+      abbrev pub Asked : Type 0
+      Asked = (κs.1.0 ⊑ X.lives) × (κs.1.1.0 ⊑ []) × (κs.1.1.1.0 ⊑ Z.lives) × (size (layout S) < 2 ^ 63)
+
+      -- the slice s, as the value v
+      abbrev pub Told : Val → MutBor (List X.Denot) → Type 0
+      Told v s = (v ≡ slice_val s.ref_ptr (length s.now)) × Room R (length s.now) × (s.now ≡ store.now.items)
+
+      -- its last value as it is seen from here, its borrow, and that the store follows it
+      abbrev pub seen : MutBor (List X.Denot) → Item 𝓤
+      seen s = ‵ (fobs s.ghost_name ((coded_list X.coded).code (heres R s.now)))
+
+      abbrev pub borrow : MutBor (List X.Denot) → Item 𝓤
+      borrow s = ‵ (fbor κs.0 (Body (Arr (Holey (mem R)) (length s.now)) s.ref_ptr.0 s.ref_ptr.1 s.ghost_name))
+
+      abbrev pub tied : MutBor (List X.Denot) → Fml
+      tied s = follows S (Array R 0) store.ghost_name s.ghost_name (with_items store.now)
+
+      module _ {K : Type 0} {Γ : List (Item 𝓤)} {E : Env 𝓤 H} {C : Calls 𝓤 H} {Λ : Loops 𝓤 H} {f : Callee} {xs : List Opd} {d : Place} {rest : Code} {q : Post 𝓤 H} where
+        pub calls_slice : K → FmC 𝓤 H 𝓛.laws C → Triple 𝓤 (C f) Called → Asked → Opds K 𝓛 (raw (Called.pre choice) ∷ Γ) E xs (Called.args choice)
+            → ((v : Val) (s : MutBor (List X.Denot)) → Told v s → Seq K 𝓛 (seen s ∷ borrow s ∷ ‵ (tied s) ∷ raw (toks 𝓛 4 κs qs) ∷ Γ) (lands C Λ E d v rest q))
+            → Seq K 𝓛 (raw (toks 𝓛 4 κs qs) ∷ ‵ Passed ∷ Γ) (runs C Λ E (seq (call f xs d) rest) q)
+        calls_slice t framed met asked operands then =
+            nothing t $ move t (2 ∷ 0 ∷ []) $ fjoin t $ move t (1 ∷ 0 ∷ []) $ join t $ nothing t $
+            use0 𝓛 (raw (fact 𝓤 (size (layout S) < 2 ^ 63))) (fact_i 𝓤 _ (emp 𝓤) asked.3) $ join t $
+            use0 𝓛 (raw (fact 𝓤 (κs.1.1.1.0 ⊑ Z.lives))) (fact_i 𝓤 _ (emp 𝓤) asked.2) $ join t $
+            use0 𝓛 (raw (fact 𝓤 (κs.1.1.0 ⊑ []))) (fact_i 𝓤 _ (emp 𝓤) asked.1) $ join t $
+            use0 𝓛 (raw (fact 𝓤 (κs.1.0 ⊑ X.lives))) (fact_i 𝓤 _ (emp 𝓤) asked.0) $ join t $
+            move t (1 ∷ 0 ∷ []) $ join t $ use1 𝓛 (raw (Called.pre choice)) (id⊢ 𝓤 _) $
+            calls_at t framed Called met choice operands (λ v.
+            use1 𝓛 (later (some (λ (s : MutBor (List X.Denot)). (raw (toks 𝓛 4 κs qs) ⊛ ‵ ((MutSlice (named 0) κs.0 R).own_val s (v ∷ []))) ⊛
+            some (λ (ws : Unit {0} × Unit {0}). ‵ (fsep ftrue ftrue) ⊛ ‵ (tied s) ⊛ raw (fact 𝓤 (s.now ≡ store.now.items)) ⊛ raw (fact 𝓤 (length s.now ≤ n)))))) (id⊢ 𝓤 _) $
+            await t tt $ pick t (λ s. split t $ split t $ move t (2 ∷ []) $ pick t (λ ws. split3 t $ drop t $ move t (1 ∷ []) $ split t $ heard t _ (λ same. drop t $
+            move t (2 ∷ []) $ fsplit3 t $ fsplit t $ feq_l t (λ e. pure_l t (room R (length s.now)) (λ fits.
+            then v s (ap only e, fits, same)))))))
