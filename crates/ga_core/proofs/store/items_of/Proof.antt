@@ -47,7 +47,7 @@ items_of_spec 𝓤 𝓛 𝓜 𝓡 wired X n Z L fits LZ =
     let len : ℕ = a.1.0 in
     let z : (walk_of 𝓛 T stayed c).Ghost = ((κs, qs, bounds, a, (mut_vals a.0, (vint w64 len ∷ [], tt))), tt) in
     qed 𝓛 ((raw (toks 𝓛 4 κs qs) ⊛ ‵ (owns (MutRef (named 0) κs.0 (S X n Z) ∷ usize ∷ []) z.0.3 z.0.4)) ∷
-        (raw (fact 𝓤 (κs.1.0 ⊑ X.lives)) ⊛ raw (fact 𝓤 (κs.1.1.0 ⊑ [])) ⊛ raw (fact 𝓤 (κs.1.1.1.0 ⊑ Z.lives)) ⊛ raw (fact 𝓤 (size (layout (S X n Z)) < 2 ^ 63)) ⊛ raw (fact 𝓤 (len ≡ length a.0.now.items))) ∷ []) ∵
+    (raw (fact 𝓤 (κs.1.0 ⊑ X.lives)) ⊛ raw (fact 𝓤 (κs.1.1.0 ⊑ [])) ⊛ raw (fact 𝓤 (κs.1.1.1.0 ⊑ Z.lives)) ⊛ raw (fact 𝓤 (size (layout (S X n Z)) < 2 ^ 63)) ⊛ raw (fact 𝓤 (len ≡ length a.0.now.items))) ∷ []) ∵
     move ! (1 ∷ []) $ split ! $ heard ! _ (λ lt. split ! $ heard ! _ (λ ln. split ! $ heard ! _ (λ la. split ! $ heard ! _ (λ small. heard ! _ (λ all.
     enter ! _ _ _ _ _ $ alloc_all ! (λ l. pass_all ! refl ((tt, tt), ((tt, record { fits = are.1.0.1 }), tt)) $
     sets ! (addr ! (through ! refl (stop !))) refl (tt, tt) $
