@@ -91,7 +91,7 @@ impl<S: SliceMut<T>, T, N: Unsigned> ArrayMut<S, T, N> {
         ensures items { result.now ≡ S.items self.now.slice }
         ensures len { length result.now ≡ N.USIZE }
     {
-        self.slice.all()
+        &self.slice.all()[..N::USIZE]
     }
 
     /// All items, in order, for writing.

@@ -1,7 +1,7 @@
 //! The read-only view of a slice.
 ghost use Rattle.std.specs.Iterator.Adapters.{IterYieldsInOrder, IterYieldsInReverse};
 ghost use Rattle.std.specs.Option.{option_copied};
-ghost use Rattle.std.specs.Prelude.{◌≡◌, ◌^◌, ◌<◌, ◌↔◌, IfOk, IsOk, IsSome, length, slice_get};
+ghost use Rattle.std.specs.Prelude.{◌≡◌, ◌^◌, ◌<◌, ◌↔◌, IfOk, IsOk, IsSome, length, slice_get, ⊤};
 ghost use Rattle.std.specs.Slice.Iter.{iter_rest};
 
 use crate::{LengthError, Unsigned};
@@ -20,6 +20,10 @@ pub struct GenericArrayRef<'a, T, N: Unsigned> {
 }
 
 impl<'a, T, N: Unsigned> Clone for GenericArrayRef<'a, T, N> {
+    ghost is_clone = { λ view copy. copy ≡ view };
+
+    ghost is_infallible = { λ _. ⊤ };
+
     fn clone(&self) -> Result<Self, AllocError> {
         Ok(*self)
     }
@@ -60,7 +64,8 @@ impl<'a, T, N: Unsigned> GenericArrayRef<'a, T, N> {
         ensures items { result.now ≡ self.now.slice.now }
         ensures len { length result.now ≡ N.USIZE }
     {
-        self.slice
+        // That there are `N` items is known at compile time, and so it is written.
+        &self.slice[..N::USIZE]
     }
 
     /// All items, in order, for the whole borrow that the view was made of.
@@ -70,7 +75,7 @@ impl<'a, T, N: Unsigned> GenericArrayRef<'a, T, N> {
         ensures len { length result.now ≡ N.USIZE }
     {
         let GenericArrayRef { slice, of: _ } = self;
-        slice
+        &slice[..N::USIZE]
     }
 
     /// The item at `index`, or `None` where `index` isn't below `N`.

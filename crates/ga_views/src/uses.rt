@@ -1,7 +1,8 @@
 //! Callers, each proved: what is written through a view stands in its slice.
-ghost use Rattle.std.specs.Prelude.{◌≡◌, ◌≢◌, length, slice_set};
+ghost use Rattle.std.specs.Prelude.{◌≡◌, ◌≢◌, IfOk, IsOk, length, slice_set};
 
-use crate::{GenericArrayMut, U2};
+use crate::{GenericArrayMut, GenericArrayRef, U2};
+use std::alloc::AllocError;
 
 fn second_written(slice: &mut [u8])
     requires { length slice.old ≡ 2 }
@@ -33,9 +34,17 @@ fn second_of_two(slice: &mut [u8])
     }
 }
 
+fn shown_by_a_clone<'a>(view: &GenericArrayRef<'a, u8, U2>) -> Result<&'a [u8], AllocError>
+    ensures succeeds { IsOk result }
+    ensures items { IfOk result (λ items. items.now ≡ view.now.slice.now) }
+{
+    let copy = view.clone()?;
+    Ok(copy.into_slice())
+}
+
 mod tests {
     use super::*;
-    use crate::{Const, GenericArrayRef, LengthError, U3};
+    use crate::{Const, LengthError, U3};
 
     #[test]
     fn what_is_written_through_a_view_stands_in_its_slice(rt: HostRuntime) {
