@@ -54,18 +54,14 @@ impl<'a, T, N: Unsigned> ArrayMut<&'a mut [T], T, N> {
         }
     }
 
-    /// All items, in order, for writing, for the whole borrow that the view was made of.
+    /// All items, in order, for writing, for the whole borrow that the view was made of. A proof
+    /// doesn't learn what is then written through it: see `as_mut_slice`.
     #[inline]
     pub fn into_mut_slice(self) -> &'a mut [T]
         ensures items { result ≡ self.entry.slice }
         ensures len { length result.now ≡ N.USIZE }
     {
-        let ArrayMut {
-            slice,
-            of: _,
-            len: _,
-        } = self;
-        slice
+        self.into_inner()
     }
 }
 
@@ -83,6 +79,21 @@ impl<S: SliceMut<T>, T, N: Unsigned> ArrayMut<S, T, N> {
             of: PhantomData,
             len: PhantomData,
         }
+    }
+
+    /// What the view was made over: of the view of an array, the reference to the array. A proof
+    /// doesn't learn what is then written through it: see `as_mut_slice`.
+    #[inline]
+    pub fn into_inner(self) -> S
+        ensures inner { result ≡ self.slice }
+        ensures len { length (S.items result) ≡ N.USIZE }
+    {
+        let ArrayMut {
+            slice,
+            of: _,
+            len: _,
+        } = self;
+        slice
     }
 
     /// All items, in order.
