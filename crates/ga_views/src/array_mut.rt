@@ -113,7 +113,7 @@ impl<S: SliceMut<T>, T, N: Unsigned> ArrayMut<S, T, N> {
         ensures items { result.now ≡ S.items self.old.slice }
         ensures len { length result.now ≡ N.USIZE }
     {
-        self.slice.all_mut()
+        self.slice.all_mut_of(N::USIZE)
     }
 
     /// The item at `index`, or `None` where `index` isn't below `N`.
