@@ -1,4 +1,5 @@
 mod ArrayMutLemmas
 mod InnerItem
+mod InnerItems
 mod InnerSlice
 pub mod RowLemmas

@@ -1,3 +1,4 @@
 pub mod ArrayMut
+pub mod Iteration
 pub mod Length
 pub mod Rows

@@ -1,4 +1,5 @@
 //! The writing view of a slice.
+ghost use Rattle.ga_views.specs.Iteration.{IteratesMutOver, IteratesOver};
 ghost use Rattle.std.specs.Borrow.{sem};
 ghost use Rattle.std.specs.Iterator.Adapters.{IterYieldsInOrder, IterYieldsInReverse};
 ghost use Rattle.std.specs.Iterator.Runs.{EveryRun, ItemsMapTo, ItemsMapToReversed};
@@ -54,18 +55,14 @@ impl<'a, T, N: Unsigned> ArrayMut<&'a mut [T], T, N> {
         }
     }
 
-    /// All items, in order, for writing, for the whole borrow that the view was made of.
+    /// All items, in order, for writing, for the whole borrow that the view was made of. A proof
+    /// doesn't learn what is then written through it: see `as_mut_slice`.
     #[inline]
     pub fn into_mut_slice(self) -> &'a mut [T]
         ensures items { result ≡ self.entry.slice }
         ensures len { length result.now ≡ N.USIZE }
     {
-        let ArrayMut {
-            slice,
-            of: _,
-            len: _,
-        } = self;
-        slice
+        self.into_inner()
     }
 }
 
@@ -85,13 +82,28 @@ impl<S: SliceMut<T>, T, N: Unsigned> ArrayMut<S, T, N> {
         }
     }
 
+    /// What the view was made over: of the view of an array, the reference to the array. A proof
+    /// doesn't learn what is then written through it: see `as_mut_slice`.
+    #[inline]
+    pub fn into_inner(self) -> S
+        ensures inner { result ≡ self.slice }
+        ensures len { length (S.items result) ≡ N.USIZE }
+    {
+        let ArrayMut {
+            slice,
+            of: _,
+            len: _,
+        } = self;
+        slice
+    }
+
     /// All items, in order.
     #[inline]
     pub fn as_slice(&self) -> &[T]
         ensures items { result.now ≡ S.items self.now.slice }
         ensures len { length result.now ≡ N.USIZE }
     {
-        self.slice.all()
+        &self.slice.all()[..N::USIZE]
     }
 
     /// All items, in order, for writing.
@@ -101,7 +113,7 @@ impl<S: SliceMut<T>, T, N: Unsigned> ArrayMut<S, T, N> {
         ensures items { result.now ≡ S.items self.old.slice }
         ensures len { length result.now ≡ N.USIZE }
     {
-        self.slice.all_mut()
+        self.slice.all_mut_of(N::USIZE)
     }
 
     /// The item at `index`, or `None` where `index` isn't below `N`.
@@ -140,11 +152,7 @@ impl<S: SliceMut<T>, T, N: Unsigned> ArrayMut<S, T, N> {
     /// The items by reference, in order.
     #[inline]
     pub fn iter(&self) -> slice::Iter<'_, T>
-        ensures rest { iter_rest result ≡ S.items self.now.slice }
-        ensures len { length (iter_rest result) ≡ N.USIZE }
-        ensures bound { length (iter_rest result) < 2 ^ 64 }
-        ensures runs { IterYieldsInOrder T }
-        ensures runs_back { IterYieldsInReverse T }
+        ensures { IteratesOver (S.items self.now.slice) N.USIZE result }
     {
         self.as_slice().iter()
     }
@@ -153,11 +161,7 @@ impl<S: SliceMut<T>, T, N: Unsigned> ArrayMut<S, T, N> {
     #[inline]
     pub fn iter_mut(&mut self) -> slice::IterMut<'_, T>
         ensures* writes_back { sem 𝓛 (LendsIter S.row T.row N.row S.SliceMut N.Unsigned self.entry result) }
-        ensures rest { iter_mut_rest result ≡ S.items self.old.slice }
-        ensures len { length (iter_mut_rest result) ≡ N.USIZE }
-        ensures bound { length (iter_mut_rest result) < 2 ^ 64 }
-        ensures runs { EveryRun (iter_mut_steps {A = T}) (λ run. ItemsMapTo run (λ item. item.now) (iter_mut_rest run.from)) }
-        ensures runs_back { EveryRun (iter_mut_steps_back {A = T}) (λ run. ItemsMapToReversed run (λ item. item.now) (iter_mut_rest run.from)) }
+        ensures items { IteratesMutOver (S.items self.old.slice) N.USIZE result }
     {
         self.as_mut_slice().iter_mut()
     }

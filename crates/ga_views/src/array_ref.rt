@@ -1,7 +1,8 @@
 //! The read-only view of a slice.
+ghost use Rattle.ga_views.specs.Iteration.{IteratesOver};
 ghost use Rattle.std.specs.Iterator.Adapters.{IterYieldsInOrder, IterYieldsInReverse};
 ghost use Rattle.std.specs.Option.{option_copied};
-ghost use Rattle.std.specs.Prelude.{◌≡◌, ◌^◌, ◌<◌, ◌↔◌, IfOk, IsOk, IsSome, length, slice_get};
+ghost use Rattle.std.specs.Prelude.{◌≡◌, ◌^◌, ◌<◌, ◌↔◌, IfOk, IsOk, IsSome, length, slice_get, ⊤};
 ghost use Rattle.std.specs.Slice.Iter.{iter_rest};
 
 use crate::{LengthError, Unsigned};
@@ -20,6 +21,10 @@ pub struct GenericArrayRef<'a, T, N: Unsigned> {
 }
 
 impl<'a, T, N: Unsigned> Clone for GenericArrayRef<'a, T, N> {
+    ghost is_clone = { λ view copy. copy ≡ view };
+
+    ghost is_infallible = { λ _. ⊤ };
+
     fn clone(&self) -> Result<Self, AllocError> {
         Ok(*self)
     }
@@ -60,7 +65,8 @@ impl<'a, T, N: Unsigned> GenericArrayRef<'a, T, N> {
         ensures items { result.now ≡ self.now.slice.now }
         ensures len { length result.now ≡ N.USIZE }
     {
-        self.slice
+        // That there are `N` items is known at compile time, and so it is written.
+        &self.slice[..N::USIZE]
     }
 
     /// All items, in order, for the whole borrow that the view was made of.
@@ -70,7 +76,7 @@ impl<'a, T, N: Unsigned> GenericArrayRef<'a, T, N> {
         ensures len { length result.now ≡ N.USIZE }
     {
         let GenericArrayRef { slice, of: _ } = self;
-        slice
+        &slice[..N::USIZE]
     }
 
     /// The item at `index`, or `None` where `index` isn't below `N`.
@@ -85,11 +91,7 @@ impl<'a, T, N: Unsigned> GenericArrayRef<'a, T, N> {
     /// The items by reference, in order.
     #[inline]
     pub fn iter(&self) -> slice::Iter<'_, T>
-        ensures rest { iter_rest result ≡ self.now.slice.now }
-        ensures len { length (iter_rest result) ≡ N.USIZE }
-        ensures bound { length (iter_rest result) < 2 ^ 64 }
-        ensures runs { IterYieldsInOrder T }
-        ensures runs_back { IterYieldsInReverse T }
+        ensures { IteratesOver self.now.slice.now N.USIZE result }
     {
         self.as_slice().iter()
     }
@@ -105,15 +107,13 @@ impl<'a, T, N: Unsigned> AsSlice<T> for GenericArrayRef<'a, T, N> {
 }
 
 impl<'a, T, N: Unsigned> IntoIterator for GenericArrayRef<'a, T, N> {
-    ghost use Rattle.std.specs.Iterator.Adapters.{IterYieldsInOrder};
-    ghost use Rattle.std.specs.Prelude.{◌≡◌, ◌^◌, ◌<◌, length};
-    ghost use Rattle.std.specs.Slice.Iter.{iter_rest};
+    ghost use Rattle.ga_views.specs.Iteration.{IteratesOver};
 
     type Item = &'a T;
 
     type IntoIter = slice::Iter<'a, T>;
 
-    ghost into_iter_gives = { λ view items. (iter_rest items ≡ view.slice.now) × (length (iter_rest items) < 2 ^ 64) × IterYieldsInOrder T };
+    ghost into_iter_gives = { λ view iterator. IteratesOver view.slice.now N.USIZE iterator };
 
     #[inline]
     fn into_iter(self) -> slice::Iter<'a, T> {

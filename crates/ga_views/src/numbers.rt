@@ -211,3 +211,87 @@ pub type U1024 = Const<1024>;
 
 /// The length 2048.
 pub type U2048 = Const<2048>;
+
+#[cfg(test)]
+mod tests {
+    use super::*;
+    use crate::Unsigned;
+
+    #[test]
+    fn each_name_tells_its_length(rt: HostRuntime) {
+        for (length, number) in [
+            (U0::USIZE, 0),
+            (U1::USIZE, 1),
+            (U2::USIZE, 2),
+            (U3::USIZE, 3),
+            (U4::USIZE, 4),
+            (U5::USIZE, 5),
+            (U6::USIZE, 6),
+            (U7::USIZE, 7),
+            (U8::USIZE, 8),
+            (U9::USIZE, 9),
+            (U10::USIZE, 10),
+            (U11::USIZE, 11),
+            (U12::USIZE, 12),
+            (U13::USIZE, 13),
+            (U14::USIZE, 14),
+            (U15::USIZE, 15),
+            (U16::USIZE, 16),
+            (U17::USIZE, 17),
+            (U18::USIZE, 18),
+            (U19::USIZE, 19),
+            (U20::USIZE, 20),
+            (U21::USIZE, 21),
+            (U22::USIZE, 22),
+            (U23::USIZE, 23),
+            (U24::USIZE, 24),
+            (U25::USIZE, 25),
+            (U26::USIZE, 26),
+            (U27::USIZE, 27),
+            (U28::USIZE, 28),
+            (U29::USIZE, 29),
+            (U30::USIZE, 30),
+            (U31::USIZE, 31),
+            (U32::USIZE, 32),
+            (U33::USIZE, 33),
+            (U34::USIZE, 34),
+            (U35::USIZE, 35),
+            (U36::USIZE, 36),
+            (U37::USIZE, 37),
+            (U38::USIZE, 38),
+            (U39::USIZE, 39),
+            (U40::USIZE, 40),
+            (U41::USIZE, 41),
+            (U42::USIZE, 42),
+            (U43::USIZE, 43),
+            (U44::USIZE, 44),
+            (U45::USIZE, 45),
+            (U46::USIZE, 46),
+            (U47::USIZE, 47),
+            (U48::USIZE, 48),
+            (U49::USIZE, 49),
+            (U50::USIZE, 50),
+            (U51::USIZE, 51),
+            (U52::USIZE, 52),
+            (U53::USIZE, 53),
+            (U54::USIZE, 54),
+            (U55::USIZE, 55),
+            (U56::USIZE, 56),
+            (U57::USIZE, 57),
+            (U58::USIZE, 58),
+            (U59::USIZE, 59),
+            (U60::USIZE, 60),
+            (U61::USIZE, 61),
+            (U62::USIZE, 62),
+            (U63::USIZE, 63),
+            (U64::USIZE, 64),
+            (U128::USIZE, 128),
+            (U256::USIZE, 256),
+            (U512::USIZE, 512),
+            (U1024::USIZE, 1024),
+            (U2048::USIZE, 2048),
+        ] {
+            assert_eq!(rt; length, number);
+        }
+    }
+}

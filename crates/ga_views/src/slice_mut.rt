@@ -23,6 +23,15 @@ pub trait SliceMut<T>: Drop {
         ensures* writes_back { sem 𝓛 (Lends Self.row (Array T.row 0) self.entry result (λ written. (refilled self.old written).0)) }
         ensures value { result.now ≡ items self.old };
 
+    /// The same where the caller knows how many they are, so that the compiler knows it too.
+    fn all_mut_of(&mut self, len: usize) -> &mut [T]
+        requires whole { len ≡ length (items self.old) }
+        ensures* writes_back { sem 𝓛 (Lends Self.row (Array T.row 0) self.entry result (λ written. (refilled self.old written).0)) }
+        ensures value { result.now ≡ items self.old }
+    {
+        self.all_mut()
+    }
+
     // The slice with this item at the index, and the others as they are.
     ghost replaced: { (slice : Self) (index : ℕ) (item : T) → (after : Self) × (items after ≡ slice_set (items slice) index item) };
 
@@ -49,6 +58,11 @@ impl<'a, T> SliceMut<T> for &'a mut [T] {
     #[inline]
     fn all_mut(&mut self) -> &mut [T] {
         &mut **self
+    }
+
+    #[inline]
+    fn all_mut_of(&mut self, len: usize) -> &mut [T] {
+        &mut self[..len]
     }
 
     ghost replaced = { λ slice index item. (record slice { now = slice_set slice.now index item }, refl) };

@@ -1,14 +1,12 @@
 -- `all_mut` lends all the items of the slice that the inner reference points to, for all of the outer reference's lifetime.
 -- The borrow checker shows an `ensures*` only where the body hands on a field or a call's result, so this proof walks the code by hand. Assumes `Logic`.
-use mathlib.Core.Path.{◌≡◌, refl, sym, ap, ◌∙◌}
-use mathlib.Core.List.{List, [], ◌∷◌, ◌++◌, append-nil}
+use mathlib.Core.Path.{refl}
+use mathlib.Core.List.{List, [], ◌∷◌}
 use Prim.Native.Nat.{ℕ}
-use native.Mathlib.Omega.{arith}
-use lib.ListN.{length, take, drop_of_length-le}
-use lib.Seq.{take_all}
+use lib.ListN.{length}
 use seplogic.Ra.Ura.{Ura}
-use base.Fml.{Fml, Lft, Incl, GName, Share, ftrue, flft, fobs, fbor}
-use base.Logic.{SProp, ent, sep, ex, emp, via, fst∗}
+use base.Fml.{Lft, GName, Share, ftrue, flft}
+use base.Logic.{SProp, ent, via, fst∗}
 use contract.Lifetimes.{AllOutlive}
 use contract.Monad.{Fun}
 use contract.Running.{tables, tables_of}
@@ -20,22 +18,17 @@ use prog.Routine.{Routine}
 use prog.Wp.{Calls, Loops, WpFn, Tables}
 use sound.WpLaws.{WpFn-mono}
 use types.ByLocal.{alloc_all, pass_all, free_all, look_at, get, through, sets}
-use types.Kit.{Item, ‵, raw, ◌⊛◌, some, later, ◌$◌, ◌∵◌, !, qed, move, keep, drop, use2, use3, split, split3, join, pick, show, await, rewrite, fsplit, fsplit3, fjoin, feq_i, feq_l, suffices, frame, updating, now, done}
-use types.Logic.{Logic, sem}
+use types.Kit.{‵, ◌⊛◌, some, later, ◌$◌, ◌∵◌, !, qed, move, keep, drop, use3, split, split3, join, pick, await, fsplit, fsplit3, fjoin, suffices, frame, done}
+use types.Logic.{Logic}
 use types.Part.{whole, sub, look_in, agg}
 use types.Run.{stop, fld, hop, addr, load, of_opd, and_then, no_more, returns, enter}
-use types.SemTy.{Body}
-use denote.Array.{Array}
 use denote.Builtin.{RefMutOf, SliceRefMutOf}
 use denote.Exit.{no}
-use denote.Follow.{follows}
-use denote.FollowSlice.{slice_of}
-use denote.Memory.{mem}
 use denote.Param.{param, layouts}
 use denote.RattleType.{RattleType, owns}
-use denote.Ref.{MutBor, MutRef, at_last, mut_vals, mut_Tells}
+use denote.Ref.{MutBor, MutRef, mut_vals, mut_Tells}
 use denote.Signature.{Slot, plain}
-use denote.Slice.{MutSlice, Room, slice_val, mut_slice_vals}
+use denote.Slice.{slice_val}
 use denote.Steps.{nothing}
 use denote.Through.{renamed}
 use denote.Triple.Clauses.{Clauses, Ended, closing}
@@ -43,18 +36,12 @@ use denote.Triple.Entry.{on_entry}
 use denote.Triple.Spec.{Meets, triple_of}
 use denote.Triple.Table.{entered}
 use denote.Triple.Walked.{says, Stays, stay_dropped, walk_of, ends_at, walked, Goes-spent_ref, walk_Meets}
-use Rattle.std.specs.List.{refill}
-use Rattle.ga_views.proofs.InnerSlice.{Inner, Items, items_at, opens_inner, closes_inner, lends_part}
+use Rattle.ga_views.proofs.InnerItems.{lent, lends_all}
+use Rattle.ga_views.proofs.InnerSlice.{Inner, opens_inner, closes_inner}
 use Rattle.ga_views.specs.contracts.slice_mut.RefMutSliceSliceMut.all_mut as F
 use Rattle.ga_views.specs.contracts.slice_mut.RefMutSliceSliceMut.all_mut.Key.{name as #self}
 use Rattle.ga_views.proofs.slice_mut.RefMutSliceSliceMut.all_mut.Statement.{statement}
 use Rattle.ga_views.proofs.slice_mut.RefMutSliceSliceMut.all_mut.Code as code
-
--- as many items as there were are the refilled list
-refilled : {T : Type 0} (xs ws : List T) → length ws ≡ length xs → ws ≡ refill (length xs) xs ws
-refilled xs ws e =
-    sym (ap (λ l. take (length xs) (ws ++ l)) (drop_of_length-le xs (omega arith))
-    ∙ ap (take (length xs)) (append-nil ws) ∙ take_all (length xs) ws (omega arith))
 
 module _ (X : RattleType) where
   abbrev args : Args
@@ -78,45 +65,6 @@ module _ (X : RattleType) where
 
 module _ (X : RattleType) {M : Type 1} {𝓤 : Ura M} (𝓛 : Logic 𝓤) where
   open 𝓛 use {H, A}
-
-  module _ (κ κ' : Lft) (q : Share) (b o : ℕ) (γ : GName) (d : MutBor (List X.Denot)) where
-    abbrev S : RattleType
-    S = Inner (R X) κ'
-
-    abbrev written : List X.Denot → List X.Denot
-    written = refill (length d.now) d.now
-
-    abbrev after : List X.Denot → MutBor (List X.Denot)
-    after ws = at_last d (written ws)
-
-    abbrev result : GName → Fml
-    result δ = (MutSlice (named 0) κ (R X)).own_val (renamed d δ) (mut_slice_vals d)
-
-    -- the part that is lent is all the items, and no rest is left: as many as there were are the refilled list
-    keeps : (ws : List X.Denot) → ent 𝓤 (sep 𝓤 (sem 𝓛 (items_at (R X) d ws)) (emp 𝓤)) (sem 𝓛 (items_at (R X) d (written ws)))
-    keeps ws =
-        qed 𝓛 (‵ (items_at (R X) d ws) ∷ raw (emp 𝓤) ∷ []) ∵ fsplit ! $ feq_l ! (λ e. feq_i ! ℕ (length ws) (length d.now) e $ fjoin ! $
-        rewrite ! 0 (λ (l : List X.Denot). ‵ (items_at (R X) d l)) (refilled d.now ws e) refl $ keep ! (0 ∷ []) $ done !)
-
-    all : ent 𝓤 (sem 𝓛 (items_at (R X) d d.now)) (sep 𝓤 (sem 𝓛 (items_at (R X) d d.now)) (emp 𝓤))
-    all = qed 𝓛 (‵ (items_at (R X) d d.now) ∷ []) ∵ nothing ! $ move ! (1 ∷ 0 ∷ []) $ done !
-
-    -- the slice that the caller gets, under the name δ, the token, and what the inner reference ends as
-    abbrev Lent : GName → SProp 𝓤
-    Lent δ = sep 𝓤 (sem 𝓛 (result δ)) (sep 𝓤 (A.lft κ q) (sem 𝓛 (follows S (Array (R X) 0) γ δ after)))
-
-    abbrev lent : GName → Item 𝓤
-    lent δ = ‵ (result δ) ⊛ ‵ (flft κ q) ⊛ ‵ (follows S (Array (R X) 0) γ δ after)
-
-    lends : Incl κ κ' → Room (R X) (length d.now)
-        → ent 𝓤 (sep 𝓤 (A.obs γ (S.coded.code d)) (sep 𝓤 (A.bor κ (Body (mem S) b o γ)) (A.lft κ q))) (H.⇛ (ex 𝓤 Lent))
-    lends within rm =
-        let at = d.ref_ptr in
-        qed 𝓛 (‵ (fobs γ (S.coded.code d)) ∷ ‵ (fbor κ (Body (mem S) b o γ)) ∷ ‵ (flft κ q) ∷ []) ∵ updating ! $
-        use3 𝓛 (later (some (λ (δ : GName). ‵ (fobs δ ((Array (R X) 0).coded.code d.now)) ⊛ ‵ (fbor κ (Body (Items (R X) d) at.0 at.1 δ)) ⊛ ‵ (flft κ q) ⊛ ‵ (follows S (Array (R X) 0) γ δ after))))
-        (lends_part 𝓛 (R X) (Array (R X) 0) (Items (R X) d).own_at written κ κ' q b o at.0 at.1 γ d within rm d.now (emp 𝓤) all keeps) $
-        await ! tt $ pick ! (λ δ. split3 ! $
-        use2 𝓛 (‵ (result δ)) (slice_of 𝓛 (R X) (named 0) κ at.0 at.1 δ d.now rm) $ now ! $ show ! Lent δ $ done !)
 
   module _ (at_mem : Memory → SProp 𝓤) (run : Routine → Fun 𝓤) where
     abbrev clauses : Clauses 𝓤 (ended X)
@@ -142,7 +90,7 @@ module _ (X : RattleType) {M : Type 1} {𝓤 : Ura M} (𝓛 : Logic 𝓤) where
           sets ! (addr ! (through ! refl (fld ! refl (hop ! (look_in ! 0 (sub ! 0 refl (whole !))) (stop !))))) refl (tt, tt) $
           sets ! (agg ! (and_then ! (get ! refl) (and_then ! (get ! refl) (no_more !)))) refl (tt, (tt, (record { fits = rm.0 }, tt))) $
           closes_inner ! tt (R X) d b o $
-          use3 𝓛 (later (some (lent κ κ' q b o γ d))) (lends κ κ' q b o γ d bd.0 rm) $ await ! tt $ pick ! (λ δ.
+          use3 𝓛 (later (some (lent 𝓛 (R X) κ κ' q b o γ d))) (lends_all 𝓛 (R X) κ κ' q b o γ d bd.0 rm) $ await ! tt $ pick ! (λ δ.
           returns ! (look_at ! 0 refl) $ free_all ! refl $ keep ! (0 ∷ 2 ∷ []) $ split3 ! $
           suffices ! _ (ends_at 𝓛 (ended X) (stayed X) clauses bound (slice_val d.ref_ptr (length d.now)) (renamed d δ) (tt, tt) (tt, tt)) $
           nothing ! $ nothing ! $ fjoin ! $ join ! $ move ! (1 ∷ 3 ∷ []) $ join ! $ join ! $ frame ! $ says ! refl $ done !)))
