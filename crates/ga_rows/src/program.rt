@@ -20,7 +20,8 @@ use std::process::ExitCode;
 /// The whole program, from what the system lists as its words, the program's name first, to its
 /// exit status.
 ///
-/// What went wrong is told on `e` in one line. Nothing is left to do where `e` refuses it.
+/// Where that is 2 or more, `e` is told why in one line; no clause says so, and nothing is left to
+/// do where `e` refuses it. Asks for memory for the words and the input.
 pub fn run_listed<I: Iterator<Item = String>, R: Read, W: Write, E: Write>(
     alloc: Global,
     listed: io::Result<I>,
@@ -59,12 +60,12 @@ pub fn run_listed<I: Iterator<Item = String>, R: Read, W: Write, E: Write>(
 
 /// Reads `r` to its end and writes the rows of what it gave.
 ///
-/// `Status::Words` stands where the words mean nothing, and then nothing is read or written.
-/// `Status::Memory` stands only where memory for the input was refused, and leaves nothing written.
-/// At `Status::Fault` nothing is written, or a reader whose bytes are known stands at its end; at
-/// `Status::Whole` and `Status::Rest` it stands there too. An interrupted read is asked again; a
-/// reader that gives no end within `u64::MAX` reads counts as faulty. Asks for memory for the
-/// input alone.
+/// `Status::Words` stands exactly where the words mean nothing, and then nothing is read or
+/// written. At `Status::Memory` nothing is written. At `Status::Fault` nothing is written, or all
+/// of `r` is read, where its bytes are known; of another reader the clause says nothing. No clause
+/// says that these two come only where memory for the input was refused, or where the reader or
+/// the writer failed. An interrupted read is asked again; a reader that gives no end within
+/// `u64::MAX` reads counts as faulty. Asks for memory for the input alone.
 pub fn run<R: Read, W: Write>(alloc: Global, words: &[String], r: &mut R, w: &mut W) -> Status
     ensures words { (result ≡ Status.Words) ↔ (meaning_of_words (map string_bytes words.now) ≡ None) }
     ensures untouched { result ≡ Status.Words → (r.new ≡ r.old) × (w.new ≡ w.old) }

@@ -129,7 +129,7 @@ fn a_reader_is_read_to_its_end_or_its_fault(rt: HostRuntime) -> Result<(), Fail>
         (0, true, Status::Fault),
     ];
     for (count, fails, status) in cases {
-        let input = vec![in rt.alloc(); 7u8; count]?;
+        let input = vec![in rt.alloc(); 255u8; count]?;
         let mut source = Source {
             bytes: input.as_slice(),
             reads: 0,
@@ -137,16 +137,17 @@ fn a_reader_is_read_to_its_end_or_its_fault(rt: HostRuntime) -> Result<(), Fail>
         };
         let mut sink = Sink::new(rt.alloc(), usize::MAX);
         assert_eq!(rt; run(rt.alloc(), &[], &mut source, &mut sink), status);
-        for (place, line) in sink.text.chunks(8).enumerate() {
+        for (place, line) in sink.text.chunks(16).enumerate() {
             let text: &[u8] = if place < 25_000 {
-                b"7 7 7 7\n"
+                b"255 255 255 255\n"
             } else {
-                b"rest 7\n"
+                b"rest 255\n"
             };
             assert_eq!(rt; line, text, "line {place}");
         }
-        let lines = sink.text.len().div_ceil(8);
+        let lines = sink.text.len().div_ceil(16);
         assert_eq!(rt; lines, if fails { 0 } else { count.div_ceil(4) });
+        assert_eq!(rt; sink.writes == 0, fails || count == 0);
     }
     Ok(())
 }
@@ -165,11 +166,8 @@ fn the_writer_gets_full_pieces_and_each_of_its_faults_is_answered(
         let mut left = input.as_slice();
         let mut sink = Sink::new(rt.alloc(), fails_at);
         let status = run(rt.alloc(), &[], &mut left, &mut sink);
-        assert_eq!(rt;
-            status == Status::Fault,
-            fails_at < 5,
-            "at write {fails_at}"
-        );
+        let faulty = status == Status::Fault;
+        assert_eq!(rt; faulty, fails_at < 5, "at write {fails_at}");
     }
     let mut untouched = Sink::new(rt.alloc(), 1);
     assert!(rt; rows(&[], Mode::Dec, Width::W4, &mut untouched).is_ok());
