@@ -1,3 +1,4 @@
+pub mod Listed
 pub mod Status
 pub mod Text
 pub mod Words

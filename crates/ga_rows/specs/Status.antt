@@ -1,7 +1,7 @@
--- What the program's ends are as exit statuses.
-use Rattle.ga_rows.specs.declared.program.Status.{Status}
-use Rattle.ga_rows.specs.declared.program.Status.TheVariants.{Fault, Memory, Rest, Whole, Words}
-use Rattle.std.specs.Prelude.{ℕ}
+-- What the program's ends are as exit statuses and as texts on standard error.
+use Rattle.ga_rows.specs.declared.ends.Status.{Status}
+use Rattle.ga_rows.specs.declared.ends.Status.TheVariants.{Fault, Memory, Rest, Whole, Words}
+use Rattle.std.specs.Prelude.{ℕ, List, Option, None, Some, codes}
 
 abbrev pub exit_status : Status → ℕ
 exit_status Whole = 0
@@ -9,3 +9,11 @@ exit_status Rest = 1
 exit_status Words = 2
 exit_status Memory = 3
 exit_status Fault = 4
+
+-- the text, without the end of its line
+abbrev pub message_of : Status → Option (List ℕ)
+message_of Whole = None
+message_of Rest = None
+message_of Words = Some (codes "usage: ga_rows [dec|hex|back|sum] [1|2|4|8|16]")
+message_of Memory = Some (codes "ga_rows: out of memory")
+message_of Fault = Some (codes "ga_rows: read or write fault")

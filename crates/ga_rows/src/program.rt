@@ -1,55 +1,70 @@
-//! The program, as a function of its words, a reader and a writer.
+//! The program, as a function of its words, a reader and writers.
 ghost use Rattle.ga_core.specs.Rows.{chunk_rest};
-ghost use Rattle.ga_rows.specs.Status.{exit_status};
+ghost use Rattle.ga_rows.specs.Listed.{ListedAnd};
 ghost use Rattle.ga_rows.specs.Text.{text_of};
 ghost use Rattle.ga_rows.specs.Words.{bytes_of, meaning_of_words};
 ghost use Rattle.std.specs.Io.KnownBytes.{Appends, IsAtEnd};
-ghost use Rattle.std.specs.Prelude.{◌≡◌, ◌≢◌, ◌⊎◌, ◌↔◌, [], IfErr, IfOk, IfSome, OnOk, map, string_bytes};
+ghost use Rattle.std.specs.Iterator.{IsFinite};
+ghost use Rattle.std.specs.Prelude.{◌≡◌, ◌≢◌, ◌⊎◌, ◌↔◌, ◌≤◌, [], IfOk, IfSome, IsSomeAnd, map, string_bytes};
+ghost use Rattle.std.specs.Process.{exit_status as process_status};
 
+use crate::ends::Status;
+use crate::input::read_all;
 use crate::output::rows;
-use crate::words::parse_words;
+use crate::words::{parse_words, words_after_name};
 use std::alloc::Global;
-use std::io::{ErrorKind, Read, Write};
+use std::io;
+use std::io::{Read, Write};
+use std::process::ExitCode;
 
-/// How many bytes are asked of the reader at a time.
-const READ_SIZE: usize = 65_536;
-
-/// How the program ends.
-#[derive(Clone, Copy, Debug, PartialEq, Eq)]
-pub enum Status {
-    /// All bytes stood in whole rows.
-    Whole,
-    /// A rest was written.
-    Rest,
-    /// The words mean nothing.
-    Words,
-    /// No memory for the words or the input.
-    Memory,
-    /// Listing the words, a read or a write failed.
-    Fault,
-}
-
-impl Status {
-    /// The exit status, from 0 to 4 in the order above.
-    pub fn code(self) -> u8
-        ensures { result ≡ exit_status self }
-    {
-        match self {
-            Status::Whole => 0,
-            Status::Rest => 1,
-            Status::Words => 2,
-            Status::Memory => 3,
-            Status::Fault => 4,
-        }
+/// The whole program, from what the system lists as its words, the program's name first, to its
+/// exit status.
+///
+/// Where that is 2 or more, `e` is told why in one line; no clause says so, and nothing is left to
+/// do where `e` refuses it. Asks for memory for the words and the input.
+pub fn run_listed<I: Iterator<Item = String>, R: Read, W: Write, E: Write>(
+    alloc: Global,
+    listed: io::Result<I>,
+    r: &mut R,
+    w: &mut W,
+    e: &mut E,
+) -> ExitCode
+    requires can { IfOk listed I.can_next }
+    requires finite { IfOk listed (λ words. IsFinite (I.remaining words)) }
+    ensures text { process_status result ≤ 1 → ListedAnd I.next_gives listed (λ meant. IsSomeAnd meant (λ meaning.
+        IfSome (R.remaining r.old) (λ input. Appends (W.contents w.old) (W.contents w.new) (text_of meaning.0 meaning.1 input)))) }
+    ensures whole { process_status result ≡ 0 → ListedAnd I.next_gives listed (λ meant. IfSome meant (λ meaning.
+        IfSome (R.remaining r.old) (λ input. chunk_rest (bytes_of meaning.1) input ≡ []))) }
+    ensures rest { process_status result ≡ 1 → ListedAnd I.next_gives listed (λ meant. IfSome meant (λ meaning.
+        IfSome (R.remaining r.old) (λ input. chunk_rest (bytes_of meaning.1) input ≢ []))) }
+    ensures words { process_status result ≡ 2 → ListedAnd I.next_gives listed (λ meant. meant ≡ None) }
+    ensures untouched { process_status result ≡ 2 → (r.new ≡ r.old) × (w.new ≡ w.old) }
+    ensures end { process_status result ≤ 1 → IsAtEnd (R.remaining r.new) }
+    ensures memory { process_status result ≡ 3 → w.new ≡ w.old }
+    ensures fault { process_status result ≡ 4 → (w.new ≡ w.old) ⊎ IsAtEnd (R.remaining r.new) }
+    ensures silent { process_status result ≤ 1 → e.new ≡ e.old }
+    ensures bound { process_status result ≤ 4 }
+{
+    let status = match listed {
+        Ok(words) => match words_after_name(alloc, words) {
+            Ok(words) => run(alloc, words.as_slice(), r, w),
+            Err(status) => status,
+        },
+        Err(fault) => Status::of_listing(fault.kind()),
+    };
+    if let Some(message) = status.message() {
+        let _ = e.writeln(message);
     }
+    ExitCode::from(status.code())
 }
 
 /// Reads `r` to its end and writes the rows of what it gave.
 ///
-/// `Status::Words` stands where the words mean nothing, and then nothing is read or written.
-/// Nothing is written before the input is read to its end, so `Status::Memory`, which stands
-/// only where memory for the input was refused, leaves nothing written, and so does a fault of
-/// the reader. An interrupted read is asked again; a reader that gives no end within
+/// `Status::Words` stands exactly where the words mean nothing, and then nothing is read or
+/// written. At `Status::Memory` nothing is written. At `Status::Fault` nothing is written, or all
+/// of `r` is read, where its bytes are known; of another reader the clause says nothing. No clause
+/// says that these two come only where memory for the input was refused, or where the reader or
+/// the writer failed. An interrupted read is asked again; a reader that gives no end within
 /// `u64::MAX` reads counts as faulty. Asks for memory for the input alone.
 pub fn run<R: Read, W: Write>(alloc: Global, words: &[String], r: &mut R, w: &mut W) -> Status
     ensures words { (result ≡ Status.Words) ↔ (meaning_of_words (map string_bytes words.now) ≡ None) }
@@ -60,6 +75,7 @@ pub fn run<R: Read, W: Write>(alloc: Global, words: &[String], r: &mut R, w: &mu
         IfSome (R.remaining r.old) (λ input. chunk_rest (bytes_of meaning.1) input ≢ [])) }
     ensures whole { (result ≡ Status.Whole) → IfSome (meaning_of_words (map string_bytes words.now)) (λ meaning.
         IfSome (R.remaining r.old) (λ input. chunk_rest (bytes_of meaning.1) input ≡ [])) }
+    ensures end { (result ≡ Status.Whole) ⊎ (result ≡ Status.Rest) → IsAtEnd (R.remaining r.new) }
     ensures memory { result ≡ Status.Memory → w.new ≡ w.old }
     ensures fault { result ≡ Status.Fault → (w.new ≡ w.old) ⊎ IsAtEnd (R.remaining r.new) }
 {
@@ -75,27 +91,4 @@ pub fn run<R: Read, W: Write>(alloc: Global, words: &[String], r: &mut R, w: &mu
         Ok(true) => Status::Rest,
         Err(_) => Status::Fault,
     }
-}
-
-/// All that `r` gives, or the status of what kept it from being read.
-fn read_all<R: Read>(alloc: Global, r: &mut R) -> Result<Vec<u8>, Status>
-    ensures bytes { IfOk result (λ input. IfSome (R.remaining r.old) (λ bytes. input.items ≡ bytes)) }
-    ensures end { OnOk result (IsAtEnd (R.remaining r.new)) }
-    ensures err { IfErr result (λ status. (status ≡ Status.Memory) ⊎ (status ≡ Status.Fault)) }
-{
-    let mut input = Vec::new(alloc);
-    let mut chunk = [0u8; READ_SIZE];
-    for _try in 0..u64::MAX {
-        match r.read(&mut chunk) {
-            Ok(0) => return Ok(input),
-            Ok(n) => {
-                if input.extend_from_slice(&chunk[..n]).is_err() {
-                    return Err(Status::Memory);
-                }
-            }
-            Err(fault) if fault.kind() == ErrorKind::Interrupted => {}
-            Err(_) => return Err(Status::Fault),
-        }
-    }
-    Err(Status::Fault)
 }

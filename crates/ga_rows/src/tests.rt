@@ -1,12 +1,14 @@
 //! Texts, statuses, and readers and writers that fail.
-use crate::{Mode, Status, Width, parse_words, rows, run};
+use crate::{Mode, Status, Width, rows, run, run_listed};
 use std::alloc::Global;
+use std::env::Args;
 use std::io;
 use std::io::{ErrorKind, Read, Write};
+use std::process::ExitCode;
 use std::test::Fail;
 
-/// Gives its bytes two at a time, is interrupted at the first read of all, and fails or ends
-/// after the last byte.
+/// Gives one byte a read, is interrupted at the first of each thousand reads, and at last fails
+/// or ends.
 #[derive(Drop)]
 struct Source<'a> {
     bytes: &'a [u8],
@@ -17,18 +19,19 @@ struct Source<'a> {
 impl Read for Source<'_> {
     fn read(&mut self, buf: &mut [u8]) -> io::Result<usize> {
         self.reads = self.reads.saturating_add(1);
-        if self.reads == 1 {
+        if self.reads % 1000 == 1 {
             return Err(io::Error::from(ErrorKind::Interrupted));
         }
-        if self.fails && self.bytes.is_empty() {
-            return Err(io::Error::from(ErrorKind::Other));
-        }
-        let count = self.bytes.len().min(buf.len()).min(2);
-        for (to, from) in buf.iter_mut().zip(&self.bytes[..count]) {
-            *to = *from;
-        }
-        self.bytes = &self.bytes[count..];
-        Ok(count)
+        let (Some((byte, left)), Some(to)) = (self.bytes.split_first(), buf.first_mut()) else {
+            return if self.fails {
+                Err(io::Error::from(ErrorKind::Other))
+            } else {
+                Ok(0)
+            };
+        };
+        *to = *byte;
+        self.bytes = left;
+        Ok(1)
     }
 }
 
@@ -65,203 +68,111 @@ impl Write for Sink {
     }
 }
 
-#[test]
-fn words_mean_a_mode_and_a_width(rt: HostRuntime) -> Result<(), Fail> {
-    assert_eq!(rt; parse_words(&[]), Some((Mode::Dec, Width::W4)));
-    let one_word = [
-        ("dec", Some(Mode::Dec)),
-        ("back", Some(Mode::Back)),
-        ("hex", None),
-        ("4", None),
-        ("", None),
-        ("Back", None),
-    ];
-    for (word, mode) in one_word {
-        let words = [String::from_str(rt.alloc(), word)?];
-        assert_eq!(rt;
-            parse_words(&words),
-            mode.map(|mode| (mode, Width::W4)),
-            "{word:?}"
-        );
-    }
-    let two_words = [
-        ("dec", "4", true),
-        ("back", "4", true),
-        ("dec", "2", false),
-        ("back", "", false),
-        ("4", "dec", false),
-        ("sum", "4", false),
-    ];
-    for (mode, width, meant) in two_words {
-        let words = [
-            String::from_str(rt.alloc(), mode)?,
-            String::from_str(rt.alloc(), width)?,
-        ];
-        assert_eq!(rt; parse_words(&words).is_some(), meant, "{mode:?} {width:?}");
-    }
-    let three_words = [
-        String::from_str(rt.alloc(), "dec")?,
-        String::from_str(rt.alloc(), "4")?,
-        String::from_str(rt.alloc(), "4")?,
-    ];
-    assert_eq!(rt; parse_words(&three_words), None);
-    Ok(())
-}
+/// The words as listed, joined by a space, the input, what is printed, and the exit status.
+const CASES: [(&str, &str, &str, u8); 10] = [
+    ("ga_rows", "abcdefgh", "97 98 99 100\n101 102 103 104\n", 0),
+    ("back", "abcdef", "97 98 99 100\nrest 101 102\n", 1),
+    ("ga_rows dec", "", "", 0),
+    ("ga_rows back", "abcdef", "100 99 98 97\nrest 101 102\n", 1),
+    ("ga_rows dec 4", "\0\t\n", "rest 0 9 10\n", 1),
+    ("ga_rows 4", "abcd", "", 2),
+    ("ga_rows ", "abcd", "", 2),
+    ("ga_rows hex 4", "abcd", "", 2),
+    ("ga_rows back 2", "abcd", "", 2),
+    ("ga_rows dec 4 4", "abcd", "", 2),
+];
 
 #[test]
-fn rows_and_rest_are_written_in_decimal(rt: HostRuntime) -> Result<(), Fail> {
-    let cases: [(&[u8], &str, bool); 5] = [
-        (&[1, 2, 3, 4, 5, 6], "1 2 3 4\nrest 5 6\n", true),
-        (&[], "", false),
-        (&[0, 255, 10], "rest 0 255 10\n", true),
-        (b"abcdefgh", "97 98 99 100\n101 102 103 104\n", false),
-        (&[9], "rest 9\n", true),
-    ];
-    for (input, text, has_rest) in cases {
-        let mut written = Vec::new(rt.alloc());
-        let answer = rows(input, Mode::Dec, Width::W4, &mut written)?;
-        assert_eq!(rt; written.as_slice(), text.as_bytes(), "{input:?}");
-        assert_eq!(rt; answer, has_rest, "{input:?}");
+fn words_and_input_give_texts_and_an_exit_status(rt: HostRuntime) -> Result<(), Fail> {
+    let usage = "usage: ga_rows [dec|hex|back|sum] [1|2|4|8|16]\n";
+    for (words, input, printed, code) in CASES {
+        let mut listed = Vec::new(rt.alloc());
+        for word in words.split(' ') {
+            listed.push(String::from_str(rt.alloc(), word)?)?;
+        }
+        let listed = Ok(listed.into_iter());
+        let mut input = input.as_bytes();
+        let mut out = Vec::new(rt.alloc());
+        let mut err = Vec::new(rt.alloc());
+        let end = run_listed(rt.alloc(), listed, &mut input, &mut out, &mut err);
+        let told = if code == 2 { usage } else { "" };
+        let is_printed = out.as_slice() == printed.as_bytes();
+        let is_told = err.as_slice() == told.as_bytes();
+        let is_ended = end == ExitCode::from(code);
+        assert!(rt; is_printed && is_told && is_ended, "{words}");
     }
     Ok(())
 }
 
 #[test]
-fn rows_are_written_from_the_back(rt: HostRuntime) -> Result<(), Fail> {
-    let cases: [(&[u8], &str, bool); 4] = [
-        (&[1, 2, 3, 4, 255], "4 3 2 1\nrest 255\n", true),
-        (&[], "", false),
-        (&[7, 8], "rest 7 8\n", true),
-        (b"abcdefgh", "100 99 98 97\n104 103 102 101\n", false),
+fn words_that_are_not_listed_end_the_program(rt: HostRuntime) {
+    let cases = [
+        (ErrorKind::OutOfMemory, "ga_rows: out of memory\n", 3),
+        (ErrorKind::InvalidData, "ga_rows: read or write fault\n", 4),
     ];
-    for (input, text, has_rest) in cases {
-        let mut written = Vec::new(rt.alloc());
-        let answer = rows(input, Mode::Back, Width::W4, &mut written)?;
-        assert_eq!(rt; written.as_slice(), text.as_bytes(), "{input:?}");
-        assert_eq!(rt; answer, has_rest, "{input:?}");
+    for (kind, told, code) in cases {
+        let listed: io::Result<Args> = Err(io::Error::from(kind));
+        let mut input: &[u8] = b"abcd";
+        let mut out = Vec::new(rt.alloc());
+        let mut err = Vec::new(rt.alloc());
+        let end = run_listed(rt.alloc(), listed, &mut input, &mut out, &mut err);
+        assert!(rt; out.is_empty());
+        assert_eq!(rt; err.as_slice(), told.as_bytes());
+        assert_eq!(rt; end, ExitCode::from(code));
+    }
+}
+
+#[test]
+fn a_reader_is_read_to_its_end_or_its_fault(rt: HostRuntime) -> Result<(), Fail> {
+    let cases = [
+        (100_000, false, Status::Whole),
+        (100_001, false, Status::Rest),
+        (0, false, Status::Whole),
+        (100_001, true, Status::Fault),
+        (0, true, Status::Fault),
+    ];
+    for (count, fails, status) in cases {
+        let input = vec![in rt.alloc(); 255u8; count]?;
+        let mut source = Source {
+            bytes: input.as_slice(),
+            reads: 0,
+            fails,
+        };
+        let mut sink = Sink::new(rt.alloc(), usize::MAX);
+        assert_eq!(rt; run(rt.alloc(), &[], &mut source, &mut sink), status);
+        for (place, line) in sink.text.chunks(16).enumerate() {
+            let text: &[u8] = if place < 25_000 {
+                b"255 255 255 255\n"
+            } else {
+                b"rest 255\n"
+            };
+            assert_eq!(rt; line, text, "line {place}");
+        }
+        let lines = sink.text.len().div_ceil(16);
+        assert_eq!(rt; lines, if fails { 0 } else { count.div_ceil(4) });
+        assert_eq!(rt; sink.writes == 0, fails || count == 0);
     }
     Ok(())
 }
 
 #[test]
-fn every_byte_is_written_as_std_writes_it(rt: HostRuntime) -> Result<(), Fail> {
-    for byte in 0..=255u8 {
-        let mut written = Vec::new(rt.alloc());
-        rows(&[byte], Mode::Dec, Width::W4, &mut written)?;
-        let expected = format!(in rt.alloc(); "rest {byte}\n")?;
-        assert_eq!(rt; written.as_slice(), expected.as_bytes());
-    }
-    Ok(())
-}
-
-#[test]
-fn the_writer_is_called_for_full_pieces_alone(rt: HostRuntime) -> Result<(), Fail> {
+fn the_writer_gets_full_pieces_and_each_of_its_faults_is_answered(
+    rt: HostRuntime,
+) -> Result<(), Fail> {
     // 8,000 bytes make 2,000 lines of sixteen bytes; a piece holds 508 of them or more.
     let input = vec![in rt.alloc(); 255u8; 8000]?;
-    let mut sink = Sink::new(rt.alloc(), usize::MAX);
-    assert!(rt; !rows(input.as_slice(), Mode::Dec, Width::W4, &mut sink)?);
-    assert_eq!(rt; sink.text.len(), 32_000);
-    assert_eq!(rt; sink.writes, 4);
-    for line in sink.text.chunks(16) {
-        assert_eq!(rt; line, b"255 255 255 255\n".as_slice());
-    }
-
-    let mut untouched = Sink::new(rt.alloc(), usize::MAX);
-    assert!(rt; !rows(&[], Mode::Dec, Width::W4, &mut untouched)?);
-    assert_eq!(rt; untouched.writes, 0);
-    Ok(())
-}
-
-#[test]
-fn each_fault_of_the_writer_is_answered(rt: HostRuntime) -> Result<(), Fail> {
-    let input = vec![in rt.alloc(); 255u8; 8001]?;
     for fails_at in 1..6 {
         let mut sink = Sink::new(rt.alloc(), fails_at);
         let answer = rows(input.as_slice(), Mode::Dec, Width::W4, &mut sink);
         assert_eq!(rt; answer.is_err(), fails_at < 5, "at write {fails_at}");
-    }
-    Ok(())
-}
-
-#[test]
-fn the_program_ends_as_its_input_does(rt: HostRuntime) -> Result<(), Fail> {
-    let mut sink = Sink::new(rt.alloc(), usize::MAX);
-    let mut whole: &[u8] = &[1, 2, 3, 4];
-    assert_eq!(rt; run(rt.alloc(), &[], &mut whole, &mut sink), Status::Whole);
-    assert_eq!(rt; sink.text.as_slice(), b"1 2 3 4\n".as_slice());
-
-    let words = [
-        String::from_str(rt.alloc(), "back")?,
-        String::from_str(rt.alloc(), "4")?,
-    ];
-    let mut sink = Sink::new(rt.alloc(), usize::MAX);
-    let mut whole: &[u8] = &[1, 2, 3, 4];
-    assert_eq!(rt;
-        run(rt.alloc(), &words, &mut whole, &mut sink),
-        Status::Whole
-    );
-    assert_eq!(rt; sink.text.as_slice(), b"4 3 2 1\n".as_slice());
-
-    let mut sink = Sink::new(rt.alloc(), usize::MAX);
-    let mut source = Source {
-        bytes: &[1, 2, 3, 4, 5, 6],
-        reads: 0,
-        fails: false,
-    };
-    assert_eq!(rt; run(rt.alloc(), &[], &mut source, &mut sink), Status::Rest);
-    assert_eq!(rt; sink.text.as_slice(), b"1 2 3 4\nrest 5 6\n".as_slice());
-    Ok(())
-}
-
-#[test]
-fn unknown_words_leave_the_reader_and_the_writer_alone(rt: HostRuntime) -> Result<(), Fail> {
-    let words = [String::from_str(rt.alloc(), "hex")?];
-    let mut sink = Sink::new(rt.alloc(), 1);
-    let mut source = Source {
-        bytes: &[1, 2, 3, 4],
-        reads: 0,
-        fails: true,
-    };
-    assert_eq!(rt;
-        run(rt.alloc(), &words, &mut source, &mut sink),
-        Status::Words
-    );
-    assert_eq!(rt; source.reads, 0);
-    assert_eq!(rt; sink.writes, 0);
-    Ok(())
-}
-
-#[test]
-fn a_reader_that_fails_leaves_nothing_written(rt: HostRuntime) {
-    let mut sink = Sink::new(rt.alloc(), usize::MAX);
-    let mut source = Source {
-        bytes: &[1, 2, 3, 4, 5],
-        reads: 0,
-        fails: true,
-    };
-    assert_eq!(rt; run(rt.alloc(), &[], &mut source, &mut sink), Status::Fault);
-    assert_eq!(rt; sink.writes, 0);
-}
-
-#[test]
-fn a_writer_that_fails_is_a_fault(rt: HostRuntime) {
-    for (fails_at, status) in [(1, Status::Fault), (2, Status::Rest)] {
+        assert_eq!(rt; sink.writes, fails_at.min(4));
+        let mut left = input.as_slice();
         let mut sink = Sink::new(rt.alloc(), fails_at);
-        let mut input: &[u8] = &[1, 2, 3, 4, 5, 6];
-        assert_eq!(rt; run(rt.alloc(), &[], &mut input, &mut sink), status);
+        let status = run(rt.alloc(), &[], &mut left, &mut sink);
+        let faulty = status == Status::Fault;
+        assert_eq!(rt; faulty, fails_at < 5, "at write {fails_at}");
     }
-}
-
-#[test]
-fn the_statuses_count_from_nought(rt: HostRuntime) {
-    let all = [
-        Status::Whole,
-        Status::Rest,
-        Status::Words,
-        Status::Memory,
-        Status::Fault,
-    ];
-    for (code, status) in all.iter().enumerate() {
-        assert_eq!(rt; usize::from(status.code()), code);
-    }
+    let mut untouched = Sink::new(rt.alloc(), 1);
+    assert!(rt; rows(&[], Mode::Dec, Width::W4, &mut untouched).is_ok());
+    Ok(())
 }

@@ -1,6 +1,11 @@
 //! What the program's words mean.
 ghost use Rattle.ga_rows.specs.Words.{meaning_of_words, mode_named, width_named};
-ghost use Rattle.std.specs.Prelude.{◌≡◌, map, string_bytes};
+ghost use Rattle.std.specs.Iterator.{IsFinite};
+ghost use Rattle.std.specs.Iterator.Runs.{WholeRun};
+ghost use Rattle.std.specs.Prelude.{◌≡◌, IfErr, IfOk, drop, map, string_bytes};
+
+use crate::ends::Status;
+use std::alloc::Global;
 
 /// How a row is written.
 #[derive(Clone, Copy, Debug, PartialEq, Eq)]
@@ -54,5 +59,21 @@ pub fn parse_words(words: &[String]) -> Option<(Mode, Width)>
         [mode] => Some((Mode::named(mode.as_str())?, Width::W4)),
         [mode, width] => Some((Mode::named(mode.as_str())?, Width::named(width.as_str())?)),
         _ => None,
+    }
+}
+
+/// All but the first of what `listed` gives, which is the program's name.
+pub fn words_after_name<I: Iterator<Item = String>>(
+    alloc: Global,
+    listed: I,
+) -> Result<Vec<String>, Status>
+    requires can { I.can_next listed }
+    requires finite { IsFinite (I.remaining listed) }
+    ensures ok { IfOk result (λ words. WholeRun I.next_gives listed (λ run. words.items ≡ drop 1 run.items)) }
+    ensures err { IfErr result (λ status. status ≡ Status.Memory) }
+{
+    match listed.skip(1).collect(alloc) {
+        Ok(words) => Ok(words),
+        Err(_) => Err(Status::Memory),
     }
 }

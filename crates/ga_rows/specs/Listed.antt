@@ -1,0 +1,12 @@
+-- The words as the system lists them, with the program's name first.
+use Rattle.ga_rows.specs.Words.{meaning_of_words}
+use Rattle.ga_rows.specs.declared.words.Mode.{Mode}
+use Rattle.ga_rows.specs.declared.words.Width.{Width}
+use Rattle.std.specs.Iterator.Runs.{WholeRun}
+use Rattle.std.specs.Prelude.{Option, Result, IsOkAnd, String, drop, map, string_bytes}
+use Rattle.std.specs.declared.alloc.Global.{Global}
+
+-- the words were listed to their end, and P holds of what all but the first mean
+module _ {S E : Type 0} (next_gives : S → Option (String Global) → S → Type 0) where
+  abbrev pub ListedAnd : Result S E → (Option (Mode × Width) → Type 0) → Type 0
+  ListedAnd listed P = IsOkAnd listed (λ words. WholeRun next_gives words (λ run. P (meaning_of_words (map string_bytes (drop 1 run.items)))))

@@ -1,0 +1,43 @@
+//! Reading an input to its end.
+ghost use Rattle.std.specs.Io.KnownBytes.{IsAtEnd};
+ghost use Rattle.std.specs.Prelude.{◌≡◌, ◌⊎◌, ◌+◌, ◌<◌, ◌++◌, IfErr, IfOk, IfSome, OnErr, OnOk, length, vec_capacity, vec_len};
+
+use crate::ends::{Status, after_failed_read};
+use std::alloc::Global;
+use std::io::Read;
+
+/// How many bytes are asked of the reader at a time.
+const READ_SIZE: usize = 65_536;
+
+/// All that `r` gives, or the status of what kept it from being read.
+///
+/// An interrupted read is asked again; a reader that gives no end within `u64::MAX` reads counts
+/// as faulty.
+pub fn read_all<R: Read>(alloc: Global, r: &mut R) -> Result<Vec<u8>, Status>
+    ensures bytes { IfOk result (λ input. IfSome (R.remaining r.old) (λ bytes. input.items ≡ bytes)) }
+    ensures end { OnOk result (IsAtEnd (R.remaining r.new)) }
+    ensures err { IfErr result (λ status. (status ≡ Status.Memory) ⊎ (status ≡ Status.Fault)) }
+{
+    let mut input = Vec::new(alloc);
+    let mut chunk = [0u8; READ_SIZE];
+    for _try in 0..u64::MAX {
+        match r.read(&mut chunk) {
+            Ok(0) => return Ok(input),
+            Ok(count) => append(&mut input, &chunk[..count])?,
+            Err(fault) => after_failed_read(fault.kind())?,
+        }
+    }
+    Err(Status::Fault)
+}
+
+/// Appends `bytes`, which is refused only where there is neither room nor memory for more.
+fn append(input: &mut Vec<u8>, bytes: &[u8]) -> Result<(), Status>
+    ensures ok { OnOk result (input.new.items ≡ input.old.items ++ bytes.now) }
+    ensures full { OnErr result (vec_capacity input.old < vec_len input.old + length bytes.now) }
+    ensures err { IfErr result (λ status. status ≡ Status.Memory) }
+{
+    match input.extend_from_slice(bytes) {
+        Ok(()) => Ok(()),
+        Err(_) => Err(Status::Memory),
+    }
+}
