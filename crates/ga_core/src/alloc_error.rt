@@ -31,24 +31,3 @@ impl<T: Drop> From<AllocFailed<T>> for AllocError {
         AllocError
     }
 }
-
-#[cfg(test)]
-mod tests {
-    use super::*;
-    use std::test::Fail;
-
-    #[test]
-    fn alloc_error_prints_the_text_of_the_rust_crate(rt: HostRuntime) -> Result<(), Fail> {
-        let text = format!(in rt.alloc(); "{}", AllocError)?;
-        assert_eq!(rt; text.as_str(), "memory allocation failed");
-        let debug = format!(in rt.alloc(); "{:?}", AllocError)?;
-        assert_eq!(rt; debug.as_str(), "AllocError");
-        Ok(())
-    }
-
-    #[test]
-    fn refused_memory_of_std_becomes_one(rt: HostRuntime) {
-        assert_eq!(rt; AllocError::from(alloc::AllocError), AllocError);
-        assert_eq!(rt; AllocError::from(AllocFailed { value: 7u8 }), AllocError);
-    }
-}

@@ -189,91 +189,106 @@ fn third_of<'a>(view: GenericArrayRef<'a, u8, U3>) -> Option<&'a u8>
 mod tests {
     use super::*;
     use crate::GenericArrayMut;
+    use crate::counted::{holds, made};
 
-    #[test]
-    fn callers_get_what_their_contracts_say(rt: HostRuntime) {
-        assert!(rt; four_of(b"abcd").is_ok());
-        assert!(rt; four_of(b"abc").is_err());
-        assert_eq!(rt; doubled().as_slice(), [0, 2, 4, 6].as_slice());
-
-        let mut array: GenericArray<u8, U3> = GenericArray::generate(|index| 3 - index as u8);
-        last_two_sorted(&mut array);
-        assert_eq!(rt; array.as_slice(), [3, 1, 2].as_slice());
-        assert_eq!(rt; sum_of(&array), 6);
-        assert_eq!(rt; third_of(array.view()).copied(), Some(2));
-        second_place_set(&mut array);
-        assert_eq!(rt; array.as_slice(), [3, 9, 2].as_slice());
-        all_set(&mut array);
-        assert_eq!(rt; array.as_slice(), [7, 7, 7].as_slice());
-
-        let mut pair: GenericArray<u8, U2> = GenericArray::generate(|_| 4);
-        second_item_of_the_slice_set(&mut pair);
-        assert_eq!(rt; pair.as_slice(), [4, 6].as_slice());
-        pair[1] = 5;
-        second_item_of_the_view_set(&mut pair);
-        assert_eq!(rt; pair.as_slice(), [4, 6].as_slice());
-        pair[1] = 5;
-        second_item_got_of_the_view(&mut pair);
-        assert_eq!(rt; pair.as_slice(), [4, 6].as_slice());
-        assert_eq!(rt; four_and_six().as_slice(), [4, 6].as_slice());
-        let mut packet = Packet {
-            kind: 1,
-            checksum: GenericArray::generate(|_| 4),
-        };
-        checksum_ended(&mut packet);
-        assert_eq!(rt; packet.kind, 1);
-        assert_eq!(rt; packet.checksum.as_slice(), [4, 6].as_slice());
+    /// Whether each build and copy is as its contract says.
+    fn builds() -> [bool; 6] {
+        [
+            made(four_of(b"abcd"), b"abcd"),
+            holds(doubled(), &[0, 2, 4, 6]),
+            holds(built(), &[4, 6]),
+            made(sevens(), &[7, 7, 7]),
+            made(copied(&blank()), &[0, 0, 0]),
+            are_same(&blank(), &blank()),
+        ]
     }
 
     #[test]
     fn builds_and_copies_answer_what_their_contracts_say(rt: HostRuntime) {
-        assert_eq!(rt; built().as_slice(), [4, 6].as_slice());
+        assert!(rt; builds() == [true; 6]);
+        assert!(rt; four_of(b"abc").is_err());
         assert!(rt; matches!(refused_at_two(), Err(2)));
+    }
+
+    #[test]
+    fn fallible_fills_answer_what_their_contracts_say(rt: HostRuntime) {
         match four_digits(b"1804") {
-            Ok(Ok(digits)) => assert_eq!(rt; digits.as_slice(), [1, 8, 0, 4].as_slice()),
+            Ok(Ok(digits)) => assert!(rt; holds(digits, &[1, 8, 0, 4])),
             _ => panic!(rt; "four digits are refused"),
         }
         assert!(rt; matches!(four_digits(b"18x4"), Ok(Err(b'x'))));
         assert!(rt; matches!(four_digits(b"180"), Err(LengthError)));
-        match sevens() {
-            Ok(array) => assert_eq!(rt; array.as_slice(), [7, 7, 7].as_slice()),
-            Err(refused) => panic!(rt; "{refused}"),
-        }
-        let array = blank();
-        assert_eq!(rt; array.as_slice(), [0, 0, 0].as_slice());
-        match copied(&array) {
-            Ok(copy) => assert!(rt; are_same(&array, &copy)),
-            Err(refused) => panic!(rt; "{refused}"),
-        }
+    }
+
+    /// What the callers that write leave at the places that they write.
+    fn written() -> [u8; 7] {
+        let mut array = blank();
+        second_place_set(&mut array);
+        let place = array[1];
+        last_two_sorted(&mut array);
+        let last = array[2];
+        all_set(&mut array);
+        let all = array[2];
+        let mut pair = four_and_six();
+        pair[1] = 5;
+        second_item_of_the_slice_set(&mut pair);
+        let slice = pair[1];
+        pair[1] = 5;
+        second_item_of_the_view_set(&mut pair);
+        let view = pair[1];
+        pair[1] = 5;
+        second_item_got_of_the_view(&mut pair);
+        let got = pair[1];
+        let mut packet = Packet {
+            kind: 1,
+            checksum: pair,
+        };
+        packet.checksum[1] = 5;
+        checksum_ended(&mut packet);
+        [place, last, all, slice, view, got, packet.checksum[1]]
+    }
+
+    fn first_reference(array: &GenericArray<u8, U3>) -> u8 {
+        array.each_ref()[0].copied().unwrap_or(0)
     }
 
     #[test]
-    fn views_of_slices_show_the_items(rt: HostRuntime) {
+    fn what_is_written_is_what_is_read(rt: HostRuntime) {
+        assert!(rt; written() == [9, 9, 7, 6, 6, 6, 6]);
+        let array: GenericArray<u8, U3> = GenericArray::generate(|index| index as u8 + 1);
+        assert!(rt; sum_of(&array) == 6);
+        assert!(rt; first_reference(&array) == 1);
+        assert!(rt; third_of(array.view()) == Some(&3));
+    }
+
+    /// What a slice of 4, 5 is after `from_mut_slice`, after a `try_from_mut_slice` that is refused,
+    /// and after one that isn't.
+    fn slice_after_views() -> [[u8; 2]; 3] {
         let mut items = [4u8, 5];
         let mut view: GenericArrayMut<u8, U2> = GenericArray::<u8, U2>::from_mut_slice(&mut items);
-        let slice = view.as_mut_slice();
-        slice[1] = 6;
-        assert_eq!(rt; items.as_slice(), [4, 6].as_slice());
-        let view = GenericArray::<u8, U2>::from_slice(&items);
-        assert_eq!(rt; view.as_slice(), [4, 6].as_slice());
-        assert!(rt; GenericArray::<u8, U3>::try_from_slice(b"abcd").is_err());
-        assert!(rt; GenericArray::<u8, U4>::try_from_slice(b"abcd").is_ok());
-        assert!(rt; GenericArray::<u8, U3>::try_from_mut_slice(&mut items).is_err());
-        assert_eq!(rt; items.as_slice(), [4, 6].as_slice());
-        if let Ok(mut view) = GenericArray::<u8, U2>::try_from_mut_slice(&mut items) {
-            let slice = view.as_mut_slice();
-            slice[0] = 7;
+        view.as_mut_slice()[1] = 6;
+        let written = items;
+        if let Ok(mut view) = GenericArray::<u8, U3>::try_from_mut_slice(&mut items) {
+            view.as_mut_slice()[0] = 8;
         }
-        assert_eq!(rt; items.as_slice(), [7, 6].as_slice());
+        let refused = items;
+        if let Ok(mut view) = GenericArray::<u8, U2>::try_from_mut_slice(&mut items) {
+            view.as_mut_slice()[0] = 7;
+        }
+        [written, refused, items]
+    }
+
+    fn views_of_slices() -> [bool; 3] {
+        [
+            GenericArray::<u8, U2>::from_slice(b"ab").as_slice() == b"ab".as_slice(),
+            GenericArray::<u8, U4>::try_from_slice(b"abcd").is_ok(),
+            GenericArray::<u8, U3>::try_from_slice(b"abcd").is_err(),
+        ]
     }
 
     #[test]
-    fn each_ref_goes_from_the_first_place(rt: HostRuntime) {
-        let array: GenericArray<u8, U3> = GenericArray::generate(|index| index as u8 + 1);
-        let references = array.each_ref();
-        let items = references.as_slice();
-        assert_eq!(rt; items[0].copied(), Some(1));
-        assert_eq!(rt; items[1].copied(), Some(2));
-        assert_eq!(rt; items[2].copied(), Some(3));
+    fn views_of_slices_show_and_write_their_items(rt: HostRuntime) {
+        assert!(rt; slice_after_views() == [[4, 6], [4, 6], [7, 6]]);
+        assert!(rt; views_of_slices() == [true; 3]);
     }
 }

@@ -1,92 +1,79 @@
 //! Walks from both ends at concrete types, and how often an item is dropped.
-ghost use Rattle.ga_views.specs.Length.{FitsInline};
+use crate::counted::{Counts, all_counted, from_one, prints};
+use crate::{ArrayLength, GenericArray, U3, U8};
 
-use crate::counted::{Counted, Counts};
-use crate::{ArrayLength, GenericArray, U3, U4, U5};
-use std::test::Fail;
-
-fn from_one<N: ArrayLength<u32>>() -> GenericArray<u32, N>
-    requires { FitsInline N.USIZE }
-{
-    GenericArray::generate(|index| index as u32 + 1)
+/// What each step takes, how many items are left, and these as digits, the first of them set to 9.
+fn steps() -> [u32; 6] {
+    let mut items = from_one::<U8>().into_iter();
+    let next = items.next().unwrap_or(0);
+    let nth = items.nth(1).unwrap_or(0);
+    let next_back = items.next_back().unwrap_or(0);
+    let nth_back = items.nth_back(1).unwrap_or(0);
+    if let Some(first) = items.as_mut_slice().first_mut() {
+        *first = 9;
+    }
+    let len = items.len() as u32;
+    let digits = items.rfold(
+        0,
+        |above: u32, item: u32| above.wrapping_mul(10).wrapping_add(item),
+    );
+    [next, nth, next_back, nth_back, len, digits]
 }
 
 #[test]
-fn folds_go_from_either_end(rt: HostRuntime) {
-    let digits = |acc: u32, item: u32| acc.wrapping_mul(10).wrapping_add(item);
-    assert_eq!(rt; from_one::<U3>().into_iter().fold(0, digits), 123);
-    assert_eq!(rt; from_one::<U3>().into_iter().rfold(0, digits), 321);
+fn steps_from_both_ends_meet(rt: HostRuntime) {
+    assert!(rt; steps() == [1, 3, 8, 6, 2, 59]);
+    let digits = |above: u32, item: u32| above.wrapping_mul(10).wrapping_add(item);
+    assert!(rt; from_one::<U3>().into_iter().fold(0, digits) == 123);
 }
 
-#[test]
-fn what_is_left_is_known_after_a_next(rt: HostRuntime) {
-    let mut items = from_one::<U3>().into_iter();
-    assert_eq!(rt; items.next(), Some(1));
-    assert_eq!(rt; items.size_hint(), (2, Some(2)));
-    assert_eq!(rt; items.len(), 2);
-    assert_eq!(rt; items.as_slice(), [2, 3].as_slice());
-    assert_eq!(rt; items.last(), Some(3));
-    let mut items = from_one::<U3>().into_iter();
+/// How many items are dropped after steps whose items are still there.
+fn drops_of_steps<T: Default + Drop, N: ArrayLength<T>>(
+    array: GenericArray<T, N>,
+    counts: &Counts,
+) -> [u32; 3] {
+    let mut items = array.into_iter();
     let _first = items.next();
-    assert_eq!(rt; items.count(), 2);
+    let _last = items.next_back();
+    let one_by_one = counts.drops();
+    let _third = items.nth(1);
+    let front = counts.drops();
+    let _fifth = items.nth_back(2);
+    [one_by_one, front, counts.drops()]
 }
 
-#[test]
-fn skips_beyond_the_end_take_all(rt: HostRuntime) {
-    let mut items = from_one::<U3>().into_iter();
-    assert_eq!(rt; items.nth_back(3), None);
-    assert_eq!(rt; items.len(), 0);
-    let mut items = from_one::<U3>().into_iter();
-    assert_eq!(rt; items.nth(usize::MAX), None);
-    assert_eq!(rt; items.len(), 0);
-    assert_eq!(rt; items.next(), None);
+/// How many items are dropped where the last is still there.
+fn drops_of_last<T: Default + Drop, N: ArrayLength<T>>(
+    array: GenericArray<T, N>,
+    counts: &Counts,
+) -> u32 {
+    let _last = array.into_iter().last();
+    counts.drops()
 }
 
-#[test]
-fn calls_from_both_ends_meet(rt: HostRuntime) {
-    let mut items = from_one::<U5>().into_iter();
-    assert_eq!(rt; items.next_back(), Some(5));
-    assert_eq!(rt; items.nth(1), Some(2));
-    assert_eq!(rt; items.as_slice(), [3, 4].as_slice());
-    assert_eq!(rt; items.nth_back(0), Some(4));
-    assert_eq!(rt; items.nth(7), None);
-    assert_eq!(rt; items.next_back(), None);
+fn number_of<T: Default + Drop, N: ArrayLength<T>>(array: GenericArray<T, N>) -> usize {
+    array.into_iter().count()
 }
 
-#[test]
-fn what_is_written_is_what_comes_next(rt: HostRuntime) {
-    let mut items = from_one::<U4>().into_iter();
-    assert_eq!(rt; items.next(), Some(1));
-    let left = items.as_mut_slice();
-    assert_eq!(rt; left.len(), 3);
-    left[0] = 9;
-    assert_eq!(rt; items.next(), Some(9));
-    assert_eq!(rt; items.next_back(), Some(4));
-    assert_eq!(rt; items.as_slice(), [3].as_slice());
+/// The drops of walks over eight items each, in between and after each.
+fn drops_of_walks() -> ([u32; 3], [u32; 4]) {
+    let counts = Counts::new();
+    let steps = drops_of_steps(all_counted::<U8>(&counts), &counts);
+    let after_steps = counts.drops();
+    let last = drops_of_last(all_counted::<U8>(&counts), &counts);
+    let after_last = counts.drops();
+    let _ = number_of(all_counted::<U8>(&counts));
+    (steps, [after_steps, last, after_last, counts.drops()])
 }
 
 #[test]
 fn each_item_is_dropped_once(rt: HostRuntime) {
-    let counts = Counts::new();
-    {
-        let array: GenericArray<Counted, U5> = GenericArray::generate(|_| Counted::new(&counts));
-        let mut items = array.into_iter();
-        let first = items.next();
-        assert!(rt; first.is_some());
-        assert_eq!(rt; counts.drops(), 0);
-        let _skipped_to = items.nth(1);
-        assert_eq!(rt; counts.drops(), 1);
-        let _last = items.next_back();
-        assert_eq!(rt; counts.drops(), 1);
-    }
-    assert_eq!(rt; counts.drops(), 5);
+    assert!(rt; drops_of_walks() == ([0, 1, 3], [8, 15, 16, 24]));
 }
 
 #[test]
-fn what_is_left_is_printed(rt: HostRuntime) -> Result<(), Fail> {
+fn what_is_left_is_printed(rt: HostRuntime) {
     let mut items = from_one::<U3>().into_iter();
-    assert_eq!(rt; items.next(), Some(1));
-    let text = format!(in rt.alloc(); "{items:?}")?;
-    assert_eq!(rt; text.as_str(), "GenericArrayIter([2, 3])");
-    Ok(())
+    let _ = items.next();
+    assert!(rt; prints(&items, "GenericArrayIter([2, 3])", rt.alloc()));
 }

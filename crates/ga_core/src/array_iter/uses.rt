@@ -1,6 +1,7 @@
 //! Callers of the iterator by value, each proved.
 ghost use Rattle.std.specs.Prelude.{◌≡◌, ◌^◌, ◌<◌, IfOk, IsOk, reverse, sum};
 
+use crate::counted::made;
 use crate::{ArrayLength, GenericArray, LengthError, U3};
 
 fn total<N: ArrayLength<u32>>(array: GenericArray<u32, N>) -> u32
@@ -23,11 +24,11 @@ fn reversed(array: GenericArray<u8, U3>) -> Result<GenericArray<u8, U3>, LengthE
 
 #[test]
 fn callers_get_what_their_contracts_say(rt: HostRuntime) {
-    let array: GenericArray<u32, U3> = GenericArray::generate(|index| index as u32 + 1);
-    assert_eq!(rt; total(array), 6);
-    let array: GenericArray<u8, U3> = GenericArray::generate(|index| index as u8 + 1);
-    match reversed(array) {
-        Ok(turned) => assert_eq!(rt; turned.as_slice(), [3, 2, 1].as_slice()),
-        Err(refused) => panic!(rt; "{refused}"),
-    }
+    assert!(rt; total(GenericArray::<u32, U3>::generate(|index| index as u32 + 1)) == 6);
+    assert!(rt;
+        made(
+            reversed(GenericArray::generate(|index| index as u8 + 1)),
+            &[3, 2, 1]
+        )
+    );
 }

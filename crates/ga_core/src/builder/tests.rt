@@ -1,68 +1,94 @@
 //! Builders at concrete types.
-use crate::counted::{Counted, Counts};
-use crate::{ArrayBuilder, U0, U2, U3, U4};
+ghost use Rattle.ga_views.specs.Length.{FitsInline};
 
-#[test]
-fn a_second_extend_goes_on_at_the_position(rt: HostRuntime) {
+use crate::counted::{Counted, Counts, all_counted, digits};
+use crate::{ArrayBuilder, ArrayLength, GenericArray, U3, U4};
+
+/// The position of a builder after two bytes.
+fn after_two_bytes() -> usize {
+    let mut builder: ArrayBuilder<u8, U4> = ArrayBuilder::new();
+    builder.extend(&mut b"ab".iter().copied());
+    builder.position()
+}
+
+/// The items that a builder has in the end, as digits, and what its last iterator gives next.
+fn extended() -> [u32; 2] {
     let mut builder: ArrayBuilder<u32, U4> = ArrayBuilder::new();
     builder.extend(&mut (1..3u32));
-    assert_eq!(rt; builder.position(), 2);
-    assert!(rt; !builder.is_full());
     let mut items = 3..10u32;
     builder.extend(&mut items);
-    assert!(rt; builder.is_full());
-    assert_eq!(rt; items.next(), Some(5));
-    if builder.is_full() {
-        assert_eq!(rt; builder.finish().as_slice(), [1, 2, 3, 4].as_slice());
-    }
-}
-
-#[test]
-fn a_full_builder_asks_nothing(rt: HostRuntime) {
-    let mut builder: ArrayBuilder<u32, U0> = ArrayBuilder::new();
-    assert!(rt; builder.is_full());
-    let mut items = [7u32].into_iter();
     builder.extend(&mut items);
-    assert_eq!(rt; items.next(), Some(7));
-    let mut values = [Err::<u32, &str>("x")].into_iter();
-    assert_eq!(rt; builder.try_extend(&mut values), Ok(()));
-    assert_eq!(rt; values.next(), Some(Err("x")));
+    let next = items.next().unwrap_or(0);
+    if !builder.is_full() {
+        return [0, next];
+    }
+    [digits(builder.finish().as_slice()), next]
+}
+
+/// The error that a builder met, its position then, and that after what came next.
+fn extended_up_to_an_error() -> [usize; 3] {
+    let mut builder: ArrayBuilder<u32, U3> = ArrayBuilder::new();
+    let mut items = [Ok(1u32), Err(7usize), Ok(2)].into_iter();
+    let error = builder.try_extend(&mut items).err().unwrap_or(0);
+    let at_error = builder.position();
+    if builder.try_extend(&mut items).is_err() {
+        return [0; 3];
+    }
+    [error, at_error, builder.position()]
 }
 
 #[test]
-fn what_came_before_an_error_stays(rt: HostRuntime) {
-    let mut builder: ArrayBuilder<u32, U3> = ArrayBuilder::new();
-    let mut items = [Ok(1u32), Err("x"), Ok(2)].into_iter();
-    assert_eq!(rt; builder.try_extend(&mut items), Err("x"));
-    assert_eq!(rt; builder.position(), 1);
-    assert_eq!(rt; builder.try_extend(&mut items), Ok(()));
-    assert_eq!(rt; builder.position(), 2);
-    if builder.position() < 3 {
-        builder.push(3);
+fn builders_go_on_at_their_position(rt: HostRuntime) {
+    assert!(rt; after_two_bytes() == 2);
+    assert!(rt; extended() == [1234, 5]);
+    assert!(rt; extended_up_to_an_error() == [7, 1, 2]);
+}
+
+/// How many items are dropped where a builder holds some.
+fn drops_beside_a_builder<T: Default + Drop, N: ArrayLength<T>>(
+    item: T,
+    others: GenericArray<T, N>,
+    counts: &Counts,
+) -> u32
+    requires { FitsInline N.USIZE }
+{
+    let mut builder: ArrayBuilder<T, N> = ArrayBuilder::new();
+    if !builder.is_full() {
+        builder.push(item);
     }
-    if builder.is_full() {
-        assert_eq!(rt; builder.finish().as_slice(), [1, 2, 3].as_slice());
+    builder.extend(&mut others.into_iter());
+    counts.drops()
+}
+
+/// The same of a builder that is finished, and its array.
+fn drops_beside_its_array<T: Default + Drop, N: ArrayLength<T>>(
+    items: GenericArray<T, N>,
+    counts: &Counts,
+) -> u32
+    requires { FitsInline N.USIZE }
+{
+    let mut builder: ArrayBuilder<T, N> = ArrayBuilder::new();
+    builder.extend(&mut items.into_iter());
+    if !builder.is_full() {
+        return 99;
     }
+    let _array = builder.finish();
+    counts.drops()
+}
+
+fn drops_of_builders() -> [u32; 4] {
+    let counts = Counts::new();
+    let builder = drops_beside_a_builder(
+        Counted::new(&counts, 1),
+        all_counted::<U3>(&counts),
+        &counts,
+    );
+    let after_builder = counts.drops();
+    let array = drops_beside_its_array(all_counted::<U3>(&counts), &counts);
+    [builder, after_builder, array, counts.drops()]
 }
 
 #[test]
 fn the_items_are_dropped_with_the_builder_or_the_array(rt: HostRuntime) {
-    let counts = Counts::new();
-    {
-        let mut builder: ArrayBuilder<Counted, U3> = ArrayBuilder::new();
-        builder.push(Counted::new(&counts));
-        builder.extend(&mut (0..1u32).map(|_| Counted::new(&counts)));
-        assert_eq!(rt; builder.position(), 2);
-        assert_eq!(rt; counts.drops(), 0);
-    }
-    assert_eq!(rt; counts.drops(), 2);
-    {
-        let mut builder: ArrayBuilder<Counted, U2> = ArrayBuilder::new();
-        builder.extend(&mut (0..9u32).map(|_| Counted::new(&counts)));
-        if builder.is_full() {
-            let _array = builder.finish();
-            assert_eq!(rt; counts.drops(), 2);
-        }
-    }
-    assert_eq!(rt; counts.drops(), 4);
+    assert!(rt; drops_of_builders() == [1, 4, 4, 7]);
 }

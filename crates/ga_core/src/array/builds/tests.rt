@@ -1,8 +1,10 @@
 //! Builds at concrete types, and what no clause says of them.
-use crate::counted::{Counted, Counts};
+ghost use Rattle.ga_views.specs.Length.{FitsInline};
+
+use crate::counted::{Counted, Counts, holds};
 use crate::{
-    Const, ConstArrayLength, ConstGenericArray, GenericArray, IntoArrayLength, LengthError, U0, U2,
-    U3, U4, U5,
+    ArrayLength, Const, ConstArrayLength, ConstGenericArray, GenericArray, IntoArrayLength,
+    LengthError, U0, U2, U3, U4, U5,
 };
 
 /// Gives 1, 2, an end, 3, 4, 5 and ends, and hints at nine items all the while.
@@ -37,214 +39,129 @@ fn named_length<T, N: IntoArrayLength<T>>() -> usize {
 
 #[test]
 fn lengths_are_those_of_the_types(rt: HostRuntime) {
-    assert_eq!(rt; GenericArray::<u8, U4>::len(), 4);
-    assert_eq!(rt; ConstGenericArray::<u8, 7>::len(), 7);
-    assert_eq!(rt; GenericArray::<u8, ConstArrayLength<9>>::len(), 9);
-    assert_eq!(rt; named_length::<u8, U3>(), 3);
-}
-
-#[test]
-fn at_most_65_536_items_fit(rt: HostRuntime) {
+    assert!(rt; ConstGenericArray::<u8, 7>::len() == 7);
+    assert!(rt; GenericArray::<u8, ConstArrayLength<9>>::len() == 9);
+    assert!(rt; named_length::<u8, U3>() == 3);
     assert!(rt; GenericArray::<u8, Const<65536>>::fits());
     assert!(rt; !GenericArray::<u8, Const<65537>>::fits());
 }
 
 #[test]
 fn generate_by_calls_once_for_each_place_in_order(rt: HostRuntime) {
-    let mut calls = 0usize;
-    let array: GenericArray<usize, U4> = GenericArray::generate_by(&mut |index: usize| {
-        calls = calls.wrapping_add(1);
-        2 * index
-    });
-    assert_eq!(rt; array.as_slice(), [0, 2, 4, 6].as_slice());
-    assert_eq!(rt; calls, 4);
-}
-
-#[test]
-fn generate_by_of_no_items_makes_no_call(rt: HostRuntime) {
-    let mut calls = 0usize;
-    let array: GenericArray<usize, U0> = GenericArray::generate_by(&mut |index: usize| {
-        calls = calls.wrapping_add(1);
-        index
-    });
-    assert_eq!(rt; array.as_slice().len(), 0);
-    assert_eq!(rt; calls, 0);
-}
-
-#[test]
-fn generate_goes_from_the_first_place_to_the_last(rt: HostRuntime) {
     let mut sum = 0usize;
-    let array: GenericArray<usize, U4> = GenericArray::generate(|index: usize| {
+    let array: GenericArray<usize, U4> = GenericArray::generate_by(&mut |index: usize| {
         sum = sum.wrapping_mul(10).wrapping_add(index);
         sum
     });
-    assert_eq!(rt; array.as_slice(), [0, 1, 12, 123].as_slice());
+    assert!(rt; holds(array, &[0, 1, 12, 123]));
+    assert!(rt; sum == 123);
 }
 
 #[test]
 fn the_longest_inline_array_is_generated(rt: HostRuntime) {
     let array: GenericArray<u8, Const<65536>> = GenericArray::generate(|index: usize| (index
         % 256) as u8);
-    assert_eq!(rt; array.as_slice().last().copied(), Some(255));
+    assert!(rt; array.as_slice().last() == Some(&255));
 }
 
-#[test]
-fn fill_refuses_seven_items_and_leaves_the_sixth(rt: HostRuntime) {
-    let mut items = 1..8u32;
-    let refused = GenericArray::<u32, U4>::try_from_iter_ref(&mut items);
-    assert!(rt; refused.err() == Some(LengthError));
-    assert_eq!(rt; items.next(), Some(6));
+/// Whether there is an array of so many of the numbers from 1 on, and what is left of them.
+fn filled<N: ArrayLength<u32>>(given: u32) -> (bool, Option<u32>)
+    requires { FitsInline N.USIZE }
+{
+    let mut items = 1..given.saturating_add(1);
+    let is_made = GenericArray::<u32, N>::try_from_iter_ref(&mut items).is_ok();
+    (is_made, items.next())
 }
 
-#[test]
-fn fill_refuses_three_items_for_four(rt: HostRuntime) {
-    let mut items = 1..4u32;
-    let refused = GenericArray::<u32, U4>::try_from_iter_ref(&mut items);
-    assert!(rt; refused.err() == Some(LengthError));
-    assert_eq!(rt; items.next(), None);
-}
-
-#[test]
-fn fill_of_no_items_takes_none_and_refuses_a_first(rt: HostRuntime) {
-    let mut none = 0..0u32;
-    assert!(rt; GenericArray::<u32, U0>::try_from_iter_ref(&mut none).is_ok());
-    let numbers = [9, 8u32];
-    let mut two = numbers.iter().copied();
-    let refused = GenericArray::<u32, U0>::try_from_iter_ref(&mut two);
-    assert!(rt; refused.err() == Some(LengthError));
-    assert_eq!(rt; two.next(), Some(8));
-}
-
-#[test]
-fn fill_takes_exactly_as_many_items(rt: HostRuntime) {
-    match GenericArray::<u32, U4>::try_from_iter(5..9u32) {
-        Ok(array) => assert_eq!(rt; array.as_slice(), [5, 6, 7, 8].as_slice()),
-        Err(_) => assert!(rt; false, "four items were refused"),
-    }
-    assert!(rt; GenericArray::<u32, U4>::try_from_iter(5..10u32).is_err());
-}
-
-#[test]
-fn fill_believes_no_hint_and_asks_nothing_after_the_end(rt: HostRuntime) {
+/// Whether there is an array of what one that lies gives, how often it was asked, and its next item.
+fn filled_by_a_liar<N: ArrayLength<u32>>() -> (bool, usize, Option<u32>)
+    requires { FitsInline N.USIZE }
+{
     let mut liar = Liar { asked: 0 };
-    match GenericArray::<u32, U2>::try_from_iter_ref(&mut liar) {
-        Ok(array) => assert_eq!(rt; array.as_slice(), [1, 2].as_slice()),
-        Err(_) => assert!(rt; false, "two items were refused"),
-    }
-    assert_eq!(rt; liar.asked, 3);
-    assert_eq!(rt; liar.next(), Some(3));
-
-    let mut liar = Liar { asked: 0 };
-    assert!(rt; GenericArray::<u32, U3>::try_from_iter_ref(&mut liar).is_err());
-    assert_eq!(rt; liar.asked, 3);
-    assert_eq!(rt; liar.next(), Some(3));
-
-    let mut liar = Liar { asked: 0 };
-    assert!(rt; GenericArray::<u32, U0>::try_from_iter_ref(&mut liar).is_err());
-    assert_eq!(rt; liar.asked, 1);
-    assert_eq!(rt; liar.next(), Some(2));
+    let is_made = GenericArray::<u32, N>::try_from_iter_ref(&mut liar).is_ok();
+    (is_made, liar.asked, liar.next())
 }
 
-#[test]
-fn a_refused_fill_drops_each_item_that_it_took_once(rt: HostRuntime) {
-    let counts = Counts::new();
-    {
-        let mut items = (0..9u32).map(|_| Counted::new(&counts));
-        let refused = GenericArray::<Counted, U4>::try_from_iter_ref(&mut items);
-        assert!(rt; refused.is_err());
-        assert_eq!(rt; counts.drops(), 5);
-    }
-    assert_eq!(rt; counts.drops(), 5);
-}
-
-#[test]
-fn an_array_drops_each_item_once(rt: HostRuntime) {
-    let counts = Counts::new();
-    {
-        let _array: GenericArray<Counted, U4> = GenericArray::generate(|_| Counted::new(&counts));
-        assert_eq!(rt; counts.drops(), 0);
-    }
-    assert_eq!(rt; counts.drops(), 4);
-}
-
-#[test]
-fn the_first_error_of_an_iterator_is_answered(rt: HostRuntime) {
-    let mut items = [Ok(1u32), Err("x"), Ok(3)].into_iter();
-    let built = GenericArray::<u32, U3>::try_from_fallible_iter_ref(&mut items);
-    assert!(rt; matches!(built, Ok(Err("x"))));
-    assert_eq!(rt; items.next(), Some(Ok(3)));
-
-    let mut items = [Err("x"), Ok(1u32)].into_iter();
-    let built = GenericArray::<u32, U3>::try_from_fallible_iter_ref(&mut items);
-    assert!(rt; matches!(built, Ok(Err("x"))));
-    assert_eq!(rt; items.next(), Some(Ok(1)));
-}
-
-#[test]
-fn an_error_after_the_last_item_is_one_item_too_many(rt: HostRuntime) {
-    let mut items = [Ok(1u32), Ok(2), Err("x")].into_iter();
-    let built = GenericArray::<u32, U2>::try_from_fallible_iter_ref(&mut items);
-    assert!(rt; matches!(built, Err(LengthError)));
-    assert_eq!(rt; items.next(), None);
-
-    let mut items = [Err::<u32, &str>("x")].into_iter();
-    let built = GenericArray::<u32, U0>::try_from_fallible_iter_ref(&mut items);
-    assert!(rt; matches!(built, Err(LengthError)));
-    assert_eq!(rt; items.next(), None);
-}
-
-#[test]
-fn good_values_alone_are_a_fill(rt: HostRuntime) {
-    let built = GenericArray::<u32, U2>::try_from_fallible_iter([
-        Ok::<u32, &str>(1),
-        Ok(2),
-    ].into_iter());
-    assert!(rt; matches!(built, Ok(Ok(_))));
-    if let Ok(Ok(array)) = built {
-        assert_eq!(rt; array.as_slice(), [1, 2].as_slice());
-    }
-    let built = GenericArray::<u32, U3>::try_from_fallible_iter([
-        Ok::<u32, &str>(1),
-        Ok(2),
-    ].into_iter());
-    assert!(rt; matches!(built, Err(LengthError)));
-}
-
-#[test]
-fn a_fallible_fill_asks_nothing_after_the_end(rt: HostRuntime) {
+/// How often one that lies is asked by a fallible fill of four items.
+fn asked_by_a_fallible_fill() -> usize {
     let mut liar = Liar { asked: 0 };
     let mut items = liar
         .by_ref()
         .map(|item| if item > 0 { Ok(item) } else { Err(item) });
-    let built = GenericArray::<u32, U4>::try_from_fallible_iter_ref(&mut items);
-    assert!(rt; matches!(built, Err(LengthError)));
-    assert_eq!(rt; liar.asked, 3);
+    let _ = GenericArray::<u32, U4>::try_from_fallible_iter_ref(&mut items);
+    liar.asked
 }
 
 #[test]
-fn try_generate_answers_all_or_the_first_error(rt: HostRuntime) {
-    let built: Result<GenericArray<usize, U3>, &str> = GenericArray::try_generate(|index| Ok(
-        2 * index,
-    ));
-    assert!(rt; built.is_ok());
-    if let Ok(array) = built {
-        assert_eq!(rt; array.as_slice(), [0, 2, 4].as_slice());
+fn fills_believe_no_hint_and_ask_nothing_after_the_end(rt: HostRuntime) {
+    assert!(rt; filled::<U4>(7) == (false, Some(6)));
+    assert!(rt; filled_by_a_liar::<U2>() == (true, 3, Some(3)));
+    assert!(rt; filled_by_a_liar::<U3>() == (false, 3, Some(3)));
+    assert!(rt; filled_by_a_liar::<U0>() == (false, 1, Some(2)));
+    assert!(rt; asked_by_a_fallible_fill() == 3);
+}
+
+/// How many items a fill of four drops where it is given so many.
+fn drops_of_a_fill(given: u32) -> u32 {
+    let counts = Counts::new();
+    let mut items = (0..given).map(|place| Counted::new(&counts, place));
+    let _built = GenericArray::<Counted, U4>::try_from_iter_ref(&mut items);
+    counts.drops()
+}
+
+/// What a fallible fill of four answers where it is given so many items, with an error at this
+/// place, and how many it drops.
+fn fallible_fill(given: u32, refused: u32) -> (Result<Result<usize, u32>, LengthError>, u32) {
+    let counts = Counts::new();
+    let mut items = (0..given).map(|place| {
+        if place == refused {
+            Err(place)
+        } else {
+            Ok(Counted::new(&counts, place))
+        }
+    });
+    let built = GenericArray::<Counted, U4>::try_from_fallible_iter_ref(&mut items);
+    let drops = counts.drops();
+    match built {
+        Ok(Ok(array)) => (Ok(Ok(array.as_slice().len())), drops),
+        Ok(Err(error)) => (Ok(Err(error)), drops),
+        Err(refused) => (Err(refused), drops),
     }
+}
+
+/// What `try_generate_by` of five items answers where the call at this place fails, how many calls
+/// it makes, and how many items it drops.
+fn generated_up_to(refused: usize) -> (Result<usize, usize>, usize, u32) {
+    let mut calls = 0usize;
+    let counts = Counts::new();
+    let built: Result<GenericArray<Counted, U5>, usize> = GenericArray::try_generate_by(
+        &mut |index: usize| {
+            calls = calls.wrapping_add(1);
+            if index == refused {
+                Err(index)
+            } else {
+                Ok(Counted::new(&counts, 1))
+            }
+        },
+    );
+    let drops = counts.drops();
+    match built {
+        Ok(array) => (Ok(array.as_slice().len()), calls, drops),
+        Err(error) => (Err(error), calls, drops),
+    }
+}
+
+#[test]
+fn a_build_that_fails_drops_each_item_that_it_took_once(rt: HostRuntime) {
+    assert!(rt; drops_of_a_fill(3) == 3);
+    assert!(rt; drops_of_a_fill(4) == 0);
+    assert!(rt; drops_of_a_fill(9) == 5);
+    assert!(rt; fallible_fill(4, 9) == (Ok(Ok(4)), 0));
+    assert!(rt; fallible_fill(9, 2) == (Ok(Err(2)), 2));
+    assert!(rt; fallible_fill(9, 4) == (Err(LengthError), 4));
+    assert!(rt; fallible_fill(9, 9) == (Err(LengthError), 5));
+    assert!(rt; generated_up_to(5) == (Ok(5), 5, 0));
     for refused in 0..5usize {
-        let mut calls = 0usize;
-        let counts = Counts::new();
-        let built: Result<GenericArray<Counted, U5>, usize> = GenericArray::try_generate_by(
-            &mut |index: usize| {
-                calls = calls.wrapping_add(1);
-                if index == refused {
-                    Err(index)
-                } else {
-                    Ok(Counted::new(&counts))
-                }
-            },
-        );
-        assert!(rt; matches!(built, Err(place) if place == refused));
-        assert_eq!(rt; calls, refused + 1);
-        assert_eq!(rt; counts.drops() as usize, refused);
+        assert!(rt; generated_up_to(refused) == (Err(refused), refused + 1, refused as u32));
     }
 }

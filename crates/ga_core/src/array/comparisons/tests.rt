@@ -1,11 +1,11 @@
 //! Comparisons, hashes and texts at concrete types.
-use crate::{GenericArray, U2, U3};
+use crate::counted::prints;
+use crate::{AllocError, GenericArray, U3};
 use std::cmp::Ordering;
 use std::hash::{DefaultHasher, Hash, Hasher};
-use std::test::Fail;
 
-fn of_three(items: [u8; 3]) -> GenericArray<u8, U3> {
-    GenericArray::generate(|index| if index < 3 { items[index] } else { 0 })
+fn three_from(first: u8) -> GenericArray<u8, U3> {
+    GenericArray::generate(|index| first.wrapping_add(index as u8))
 }
 
 fn hash_of<T: Hash + Drop>(value: T) -> u64 {
@@ -14,39 +14,21 @@ fn hash_of<T: Hash + Drop>(value: T) -> u64 {
     hasher.finish()
 }
 
-#[test]
-fn arrays_compare_as_their_slices_do(rt: HostRuntime) {
-    let array = of_three([1, 2, 3]);
-    assert_eq!(rt; array.cmp(&of_three([1, 3, 0])), Ordering::Less);
-    assert_eq!(rt;
-        array.partial_cmp(&of_three([1, 2, 2])),
-        Some(Ordering::Greater)
-    );
-    assert_eq!(rt; array.cmp(&of_three([1, 2, 3])), Ordering::Equal);
-    assert!(rt; array == of_three([1, 2, 3]));
-    assert!(rt; array != of_three([1, 2, 4]));
-    assert!(rt; array != of_three([0, 2, 3]));
-    assert!(rt; array < of_three([1, 3, 0]));
+fn compared<T: Ord>(left: &T, right: &T) -> (bool, Option<Ordering>, Ordering) {
+    (left == right, left.partial_cmp(right), left.cmp(right))
 }
 
 #[test]
-fn equal_arrays_hash_alike_and_as_their_slices(rt: HostRuntime) {
-    assert_eq!(rt; hash_of(of_three([1, 2, 3])), hash_of(of_three([1, 2, 3])));
-    assert_eq!(rt;
-        hash_of(of_three([1, 2, 3])),
-        hash_of([1u8, 2, 3].as_slice())
-    );
-    assert_ne!(rt; hash_of(of_three([1, 2, 3])), hash_of(of_three([3, 2, 1])));
+fn arrays_compare_and_hash_as_their_slices_do(rt: HostRuntime) {
+    let less = (false, Some(Ordering::Less), Ordering::Less);
+    let array = three_from(1);
+    assert!(rt; compared(&array, &three_from(2)) == less);
+    assert!(rt; array == three_from(1));
+    assert!(rt; hash_of(array) == hash_of([1u8, 2, 3].as_slice()));
 }
 
 #[test]
-fn arrays_print_as_their_slices_do(rt: HostRuntime) -> Result<(), Fail> {
-    let text = format!(in rt.alloc(); "{:?}", of_three([1, 2, 3]))?;
-    assert_eq!(rt; text.as_str(), "[1, 2, 3]");
-    let nested: GenericArray<GenericArray<u8, U3>, U2> = GenericArray::generate(|_| of_three([
-        1, 2, 3,
-    ]));
-    let text = format!(in rt.alloc(); "{nested:?}")?;
-    assert_eq!(rt; text.as_str(), "[[1, 2, 3], [1, 2, 3]]");
-    Ok(())
+fn arrays_and_errors_are_printed(rt: HostRuntime) {
+    assert!(rt; prints(&three_from(1), "[1, 2, 3]", rt.alloc()));
+    assert!(rt; prints(&AllocError, "AllocError", rt.alloc()));
 }
