@@ -116,9 +116,8 @@ fn words_that_are_not_listed_end_the_program(rt: HostRuntime) {
         let mut out = Vec::new(rt.alloc());
         let mut err = Vec::new(rt.alloc());
         let end = run_listed(rt.alloc(), listed, &mut input, &mut out, &mut err);
-        assert!(rt; out.is_empty());
-        assert_eq!(rt; err.as_slice(), told.as_bytes());
-        assert_eq!(rt; end, ExitCode::from(code));
+        let is_told = out.is_empty() && err.as_slice() == told.as_bytes();
+        assert!(rt; is_told && end == ExitCode::from(code), "{told}");
     }
 }
 
@@ -139,18 +138,21 @@ fn a_reader_is_read_to_its_end_or_its_fault(rt: HostRuntime) -> Result<(), Fail>
             fails,
         };
         let mut sink = Sink::new(rt.alloc(), usize::MAX);
-        assert_eq!(rt; run(rt.alloc(), &[], &mut source, &mut sink), status);
-        for (place, line) in sink.text.chunks(16).enumerate() {
-            let text: &[u8] = if place < 25_000 {
-                b"255 255 255 255\n"
+        let is_ended = run(rt.alloc(), &[], &mut source, &mut sink) == status;
+        let has_lines = sink.text.chunks(16).enumerate().all(|(place, line)| {
+            if place < 25_000 {
+                line == b"255 255 255 255\n".as_slice()
             } else {
-                b"rest 255\n"
-            };
-            assert_eq!(rt; line, text, "line {place}");
-        }
-        let lines = sink.text.len().div_ceil(16);
-        assert_eq!(rt; lines, if fails { 0 } else { count.div_ceil(4) });
-        assert_eq!(rt; sink.writes == 0, fails || count == 0);
+                line == b"rest 255\n".as_slice()
+            }
+        });
+        let lines = if fails { 0 } else { count.div_ceil(4) };
+        let has_all = sink.text.len().div_ceil(16) == lines;
+        let is_called = (sink.writes == 0) == (lines == 0);
+        assert!(rt;
+            is_ended && has_lines && has_all && is_called,
+            "{count} bytes"
+        );
     }
     Ok(())
 }
@@ -164,13 +166,12 @@ fn the_writer_gets_full_pieces_and_each_of_its_faults_is_answered(
     for fails_at in 1..6 {
         let mut sink = Sink::new(rt.alloc(), fails_at);
         let answer = rows(input.as_slice(), Mode::Dec, Width::W4, &mut sink);
-        assert_eq!(rt; answer.is_err(), fails_at < 5, "at write {fails_at}");
-        assert_eq!(rt; sink.writes, fails_at.min(4));
+        let is_answered = answer.is_err() == (fails_at < 5) && sink.writes == fails_at.min(4);
         let mut left = input.as_slice();
         let mut sink = Sink::new(rt.alloc(), fails_at);
         let status = run(rt.alloc(), &[], &mut left, &mut sink);
-        let faulty = status == Status::Fault;
-        assert_eq!(rt; faulty, fails_at < 5, "at write {fails_at}");
+        let is_ended = (status == Status::Fault) == (fails_at < 5);
+        assert!(rt; is_answered && is_ended, "at write {fails_at}");
     }
     let mut untouched = Sink::new(rt.alloc(), 1);
     assert!(rt; rows(&[], Mode::Dec, Width::W4, &mut untouched).is_ok());
