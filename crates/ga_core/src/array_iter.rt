@@ -15,6 +15,7 @@ mod uses;
 use crate::alloc_error::AllocError;
 use crate::length::ArrayLength;
 use crate::store::{Store, store_of_clones};
+use ga_views::MAX_INLINE;
 use std::marker::{Model, PhantomData};
 use std::{alloc, fmt, mem};
 
@@ -98,12 +99,12 @@ impl<T: Default + Drop, N: ArrayLength<T>> Iterator for GenericArrayIter<T, N> {
     /// Takes the first item that is left. Constant time.
     #[inline]
     fn next(&mut self) -> Option<T> {
-        if self.front == self.back {
+        let first = self.front;
+        if first == self.back {
             return None;
         }
-        let item = mem::take(&mut self.store.as_mut_slice()[self.front]);
-        self.front += 1;
-        Some(item)
+        self.front = first + 1;
+        Some(mem::take(&mut self.store.as_mut_slice()[first % MAX_INLINE]))
     }
 
     #[inline]
@@ -124,9 +125,8 @@ impl<T: Default + Drop, N: ArrayLength<T>> DoubleEndedIterator for GenericArrayI
             return None;
         }
         let last = self.back - 1;
-        let item = mem::take(&mut self.store.as_mut_slice()[last]);
         self.back = last;
-        Some(item)
+        Some(mem::take(&mut self.store.as_mut_slice()[last % MAX_INLINE]))
     }
 }
 
