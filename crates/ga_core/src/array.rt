@@ -1,4 +1,5 @@
 //! The inline array, and what it lends.
+ghost use Rattle.ga_views.specs.Iteration.{IteratesMutOver, IteratesOver};
 ghost use Rattle.ga_views.specs.Length.{FitsInline};
 ghost use Rattle.std.specs.Borrow.{sem};
 ghost use Rattle.std.specs.Iterator.{YieldsFirst, YieldsLast};
@@ -102,11 +103,7 @@ impl<T, N: ArrayLength<T>> GenericArray<T, N> {
     /// The items by reference, in order.
     #[inline]
     pub fn iter(&self) -> slice::Iter<'_, T>
-        ensures rest { iter_rest result ≡ self.now }
-        ensures len { length (iter_rest result) ≡ N.USIZE }
-        ensures bound { length (iter_rest result) < 2 ^ 64 }
-        ensures runs { IterYieldsInOrder T }
-        ensures runs_back { IterYieldsInReverse T }
+        ensures { IteratesOver self.now N.USIZE result }
     {
         self.as_slice().iter()
     }
@@ -115,11 +112,7 @@ impl<T, N: ArrayLength<T>> GenericArray<T, N> {
     #[inline]
     pub fn iter_mut(&mut self) -> slice::IterMut<'_, T>
         ensures* writes_back { sem 𝓛 (LendsIter T.row N.row N.ArrayType.row N.Unsigned N.ArrayType.Store self.entry result) }
-        ensures rest { iter_mut_rest result ≡ self.old }
-        ensures len { length (iter_mut_rest result) ≡ N.USIZE }
-        ensures bound { length (iter_mut_rest result) < 2 ^ 64 }
-        ensures runs { EveryRun (iter_mut_steps {A = T}) (λ run. ItemsMapTo run (λ item. item.now) (iter_mut_rest run.from)) }
-        ensures runs_back { EveryRun (iter_mut_steps_back {A = T}) (λ run. ItemsMapToReversed run (λ item. item.now) (iter_mut_rest run.from)) }
+        ensures items { IteratesMutOver self.old N.USIZE result }
     {
         self.as_mut_slice().iter_mut()
     }

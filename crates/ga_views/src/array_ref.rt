@@ -1,9 +1,7 @@
 //! The read-only view of a slice.
 ghost use Rattle.ga_views.specs.Iteration.{IteratesOver};
-ghost use Rattle.std.specs.Iterator.Adapters.{IterYieldsInOrder, IterYieldsInReverse};
 ghost use Rattle.std.specs.Option.{option_copied};
-ghost use Rattle.std.specs.Prelude.{◌≡◌, ◌^◌, ◌<◌, ◌↔◌, IfOk, IsOk, IsSome, length, slice_get, ⊤};
-ghost use Rattle.std.specs.Slice.Iter.{iter_rest};
+ghost use Rattle.std.specs.Prelude.{◌≡◌, ◌<◌, ◌↔◌, IfOk, IsOk, IsSome, length, slice_get, ⊤};
 
 use crate::{LengthError, Unsigned};
 use std::alloc::AllocError;

@@ -27,10 +27,7 @@ pub trait SliceMut<T>: Drop {
     fn all_mut_of(&mut self, len: usize) -> &mut [T]
         requires whole { len ≡ length (items self.old) }
         ensures* writes_back { sem 𝓛 (Lends Self.row (Array T.row 0) self.entry result (λ written. (refilled self.old written).0)) }
-        ensures value { result.now ≡ items self.old }
-    {
-        self.all_mut()
-    }
+        ensures value { result.now ≡ items self.old };
 
     // The slice with this item at the index, and the others as they are.
     ghost replaced: { (slice : Self) (index : ℕ) (item : T) → (after : Self) × (items after ≡ slice_set (items slice) index item) };

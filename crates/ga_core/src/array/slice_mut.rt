@@ -23,7 +23,7 @@ impl<'a, T, N: ArrayLength<T>> SliceMut<T> for &'a mut GenericArray<T, N> {
 
     #[inline]
     fn all_mut_of(&mut self, _len: usize) -> &mut [T] {
-        self.as_mut_slice()
+        GenericArray::as_mut_slice(self)
     }
 
     ghost replaced = { λ array index item. (record array { now = slice_set array.now index item }, refl) };

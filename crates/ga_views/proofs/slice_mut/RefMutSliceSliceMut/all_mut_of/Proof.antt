@@ -39,7 +39,6 @@ use denote.Triple.Walked.{says, Stays, stay_dropped, walk_of, ends_at, Goes-drop
 use Rattle.ga_views.proofs.InnerItems.{lent, lends_all}
 use Rattle.ga_views.proofs.InnerSlice.{Inner, opens_inner, closes_inner}
 use Rattle.ga_views.specs.contracts.slice_mut.RefMutSliceSliceMut.all_mut_of as F
-use Rattle.ga_views.specs.contracts.slice_mut.RefMutSliceSliceMut.all_mut_of.Key.{name as #self}
 use Rattle.ga_views.proofs.slice_mut.RefMutSliceSliceMut.all_mut_of.Statement.{statement}
 use Rattle.ga_views.proofs.slice_mut.RefMutSliceSliceMut.all_mut_of.Code as code
 
