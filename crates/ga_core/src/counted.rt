@@ -118,7 +118,7 @@ pub fn holds<T: PartialEq + Drop, N: ArrayLength<T>>(
 }
 
 /// Whether a build succeeded, with exactly these items.
-pub fn made<T: PartialEq + Drop, E: Drop, N: ArrayLength<T>>(
+pub fn succeeds_with<T: PartialEq + Drop, E: Drop, N: ArrayLength<T>>(
     built: Result<GenericArray<T, N>, E>,
     items: &[T],
 ) -> bool {

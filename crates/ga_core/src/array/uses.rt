@@ -189,16 +189,16 @@ fn third_of<'a>(view: GenericArrayRef<'a, u8, U3>) -> Option<&'a u8>
 mod tests {
     use super::*;
     use crate::GenericArrayMut;
-    use crate::counted::{holds, made};
+    use crate::counted::{holds, succeeds_with};
 
     /// Whether each build and copy is as its contract says.
     fn builds() -> [bool; 6] {
         [
-            made(four_of(b"abcd"), b"abcd"),
+            succeeds_with(four_of(b"abcd"), b"abcd"),
             holds(doubled(), &[0, 2, 4, 6]),
             holds(built(), &[4, 6]),
-            made(sevens(), &[7, 7, 7]),
-            made(copied(&blank()), &[0, 0, 0]),
+            succeeds_with(sevens(), &[7, 7, 7]),
+            succeeds_with(copied(&blank()), &[0, 0, 0]),
             are_same(&blank(), &blank()),
         ]
     }

@@ -55,20 +55,32 @@ fn number_of<T: Default + Drop, N: ArrayLength<T>>(array: GenericArray<T, N>) ->
     array.into_iter().count()
 }
 
+/// The same by a fold that drops each item.
+fn number_folded<T: Default + Drop, N: ArrayLength<T>>(array: GenericArray<T, N>) -> usize {
+    array
+        .into_iter()
+        .fold(0usize, |number, _item| number.wrapping_add(1))
+}
+
 /// The drops of walks over eight items each, in between and after each.
-fn drops_of_walks() -> ([u32; 3], [u32; 4]) {
+fn drops_of_walks() -> ([u32; 3], [u32; 5]) {
     let counts = Counts::new();
     let steps = drops_of_steps(all_counted::<U8>(&counts), &counts);
     let after_steps = counts.drops();
     let last = drops_of_last(all_counted::<U8>(&counts), &counts);
     let after_last = counts.drops();
     let _ = number_of(all_counted::<U8>(&counts));
-    (steps, [after_steps, last, after_last, counts.drops()])
+    let after_count = counts.drops();
+    let _ = number_folded(all_counted::<U8>(&counts));
+    (
+        steps,
+        [after_steps, last, after_last, after_count, counts.drops()],
+    )
 }
 
 #[test]
 fn each_item_is_dropped_once(rt: HostRuntime) {
-    assert!(rt; drops_of_walks() == ([0, 1, 3], [8, 15, 16, 24]));
+    assert!(rt; drops_of_walks() == ([0, 1, 3], [8, 15, 16, 24, 32]));
 }
 
 #[test]

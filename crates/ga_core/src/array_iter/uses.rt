@@ -1,7 +1,7 @@
 //! Callers of the iterator by value, each proved.
 ghost use Rattle.std.specs.Prelude.{◌≡◌, ◌^◌, ◌<◌, IfOk, IsOk, reverse, sum};
 
-use crate::counted::made;
+use crate::counted::succeeds_with;
 use crate::{ArrayLength, GenericArray, LengthError, U3};
 
 fn total<N: ArrayLength<u32>>(array: GenericArray<u32, N>) -> u32
@@ -26,7 +26,7 @@ fn reversed(array: GenericArray<u8, U3>) -> Result<GenericArray<u8, U3>, LengthE
 fn callers_get_what_their_contracts_say(rt: HostRuntime) {
     assert!(rt; total(GenericArray::<u32, U3>::generate(|index| index as u32 + 1)) == 6);
     assert!(rt;
-        made(
+        succeeds_with(
             reversed(GenericArray::generate(|index| index as u8 + 1)),
             &[3, 2, 1]
         )

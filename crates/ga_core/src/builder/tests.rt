@@ -69,11 +69,11 @@ fn drops_beside_its_array<T: Default + Drop, N: ArrayLength<T>>(
 {
     let mut builder: ArrayBuilder<T, N> = ArrayBuilder::new();
     builder.extend(&mut items.into_iter());
-    if !builder.is_full() {
-        return 99;
+    if builder.is_full() {
+        let _array = builder.finish();
+        return counts.drops();
     }
-    let _array = builder.finish();
-    counts.drops()
+    0
 }
 
 fn drops_of_builders() -> [u32; 4] {

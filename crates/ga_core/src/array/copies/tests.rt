@@ -1,6 +1,7 @@
 //! Defaults and copies at concrete types, and how often an item is cloned and dropped.
 use crate::counted::{Counted, Counts, all_counted, digits, from_one, holds};
-use crate::{ArrayLength, GenericArray, U0, U2, U3, U12};
+use crate::{AllocError, ArrayLength, GenericArray, U0, U2, U3, U12};
+use std::alloc::AllocFailed;
 
 fn made<T: Default>() -> T {
     T::default()
@@ -87,4 +88,16 @@ fn digits_of_a_clone() -> u32 {
 #[test]
 fn a_clone_of_an_iterator_has_what_is_left(rt: HostRuntime) {
     assert!(rt; digits_of_a_clone() == 23);
+}
+
+fn drops_of_refused_memory() -> u32 {
+    let counts = Counts::new();
+    let value = Counted::new(&counts, 1);
+    let _ = AllocError::from(AllocFailed { value });
+    counts.drops()
+}
+
+#[test]
+fn the_value_that_found_no_memory_is_dropped(rt: HostRuntime) {
+    assert!(rt; drops_of_refused_memory() == 1);
 }
