@@ -1,6 +1,6 @@
 use Rattle.ga_core.proofs.CutLemmas.{taken-more}
 use Rattle.ga_core.proofs.array_iter.GenericArrayIter.fold_by.Goals as goal
-use Rattle.std.proofs.Common.{◌≡◌, ◌∷◌, [], ◌++◌, ◌+◌, ◌<◌, drop, sym, ap, ◌∙◌, arith, slice_set}
+use Rattle.std.proofs.Common.{◌≡◌, ◌∷◌, [], ◌++◌, ◌+◌, drop, sym, ap, ◌∙◌, arith, slice_set}
 use Rattle.std.proofs.lemmas.Fn.{FoldsTo-push}
 use Rattle.std.proofs.lemmas.List.{drop-set-lt, drop_more}
 

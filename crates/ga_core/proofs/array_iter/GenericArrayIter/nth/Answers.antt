@@ -2,8 +2,7 @@ use Rattle.ga_core.proofs.CutLemmas.{nth-step}
 use Rattle.ga_core.proofs.LeftLemmas.{left-behind, left-count}
 use Rattle.ga_core.proofs.PlaceLemmas.{refill-over}
 use Rattle.ga_core.proofs.array_iter.GenericArrayIter.nth.Goals as goal
-use Rattle.std.proofs.Common.{◌≡◌, ◌+◌, ◌≤◌, ◌∙◌, ap, arith, drop, length, refl, sym}
-use Rattle.std.specs.List.{slice_range}
+use Rattle.std.proofs.Common.{◌≡◌, ◌+◌, ◌∙◌, ap, arith, drop, length, refl, sym}
 
 pub invariant_of-self : goal.invariant_of-self
 invariant_of-self g c =

@@ -2,8 +2,7 @@ use Rattle.ga_core.proofs.CutLemmas.{nth_back-step}
 use Rattle.ga_core.proofs.LeftLemmas.{left-before, left-count, reverse-take}
 use Rattle.ga_core.proofs.PlaceLemmas.{refill-over}
 use Rattle.ga_core.proofs.array_iter.GenericArrayIter.nth_back.Goals as goal
-use Rattle.std.proofs.Common.{◌≡◌, ◌-◌, ◌≤◌, ◌∙◌, ap, arith, drop, length, reverse, sym, take}
-use Rattle.std.specs.List.{slice_range}
+use Rattle.std.proofs.Common.{◌≡◌, ◌-◌, ◌∙◌, ap, arith, length, reverse, sym, take}
 
 pub invariant_of-self : goal.invariant_of-self
 invariant_of-self g c =
