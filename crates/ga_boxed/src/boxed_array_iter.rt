@@ -6,6 +6,9 @@ ghost use Rattle.std.specs.Iterator.{YieldsFirst, YieldsLast, item_count};
 ghost use Rattle.std.specs.List.{AllZip};
 ghost use Rattle.std.specs.Prelude.{◌≡◌, ◌-◌, IfOk, IsOk, length, reverse, slice_get};
 
+#[cfg(test)]
+mod tests;
+
 use ga_core::AllocError;
 use std::alloc;
 use std::marker::Model;

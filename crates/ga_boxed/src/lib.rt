@@ -6,6 +6,10 @@
 
 mod boxed_array;
 mod boxed_array_iter;
+#[cfg(test)]
+mod counted;
+#[cfg(test)]
+mod uses;
 
 pub use boxed_array::BoxedArray;
 pub use boxed_array_iter::BoxedArrayIter;

@@ -5,6 +5,9 @@ ghost use Rattle.ga_core.specs.Runs.{CallableAlong, CallableUntilError, ClosureR
 ghost use Rattle.std.specs.List.{range_with_len};
 ghost use Rattle.std.specs.Prelude.{◌≡◌, IfOk, IsOk, OnErr};
 
+#[cfg(test)]
+mod tests;
+
 use crate::boxed_array::BoxedArray;
 use ga_core::{AllocError, FillError, LengthError, Unsigned};
 use std::alloc::Global;

@@ -3,6 +3,9 @@ ghost use Rattle.ga_core.specs.Copies.{Repeats};
 ghost use Rattle.std.specs.List.{All};
 ghost use Rattle.std.specs.Prelude.{◌≡◌, IfOk, IsOk, replicate};
 
+#[cfg(test)]
+mod tests;
+
 use crate::boxed_array::BoxedArray;
 use ga_core::{AllocError, Unsigned};
 use std::alloc::Global;
