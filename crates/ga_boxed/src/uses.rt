@@ -4,7 +4,6 @@ ghost use Rattle.std.specs.Prelude.{◌≡◌, ◌∷◌, [], ◌^◌, ◌<◌, 
 use crate::BoxedArray;
 use ga_core::{AllocError, FillError, LengthError, U0, U2, U3, U4, Unsigned};
 use std::alloc::Global;
-use std::test::Fail;
 
 fn doubled(alloc: Global) -> Result<BoxedArray<usize, U4>, AllocError>
     ensures { IfOk result (λ array. array ≡ 0 ∷ 2 ∷ 4 ∷ 6 ∷ []) }
@@ -143,31 +142,59 @@ fn total_or_nought(alloc: Global) -> usize
 }
 
 #[test]
-fn callers_get_what_their_contracts_say(rt: HostRuntime) -> Result<(), Fail> {
+fn callers_get_what_their_contracts_say(rt: HostRuntime) {
     let alloc = rt.alloc();
-    assert_eq!(rt; doubled(alloc)?.as_slice(), [0, 2, 4, 6].as_slice());
-    assert!(rt; none(alloc)?.as_slice().is_empty());
+    assert_eq!(rt;
+        doubled(alloc).expect(&rt, "no memory").as_slice(),
+        [0, 2, 4, 6].as_slice()
+    );
+    assert!(rt; none(alloc).expect(&rt, "no memory").as_slice().is_empty());
     assert_eq!(rt; calls_made(alloc), 3);
-    assert!(rt; matches!(refused_at_two(alloc)?, Err(2)));
-    assert_eq!(rt; four_of(alloc, b"abcd")??.as_slice(), b"abcd".as_slice());
-    assert!(rt; four_of(alloc, b"abc")?.is_err());
+    assert!(rt; matches!(refused_at_two(alloc).expect(&rt, "no memory"), Err(2)));
+    assert_eq!(rt;
+        four_of(alloc, b"abcd")
+            .expect(&rt, "no memory")
+            .expect(&rt, "another length")
+            .as_slice(),
+        b"abcd".as_slice()
+    );
+    assert!(rt; four_of(alloc, b"abc").expect(&rt, "no memory").is_err());
     assert_eq!(rt; next_after_a_fill(alloc), Ok(None));
     assert_eq!(rt;
-        four_digits(alloc, b"1804")?.as_slice(),
+        four_digits(alloc, b"1804")
+            .expect(&rt, "no memory")
+            .as_slice(),
         [1, 8, 0, 4].as_slice()
     );
     assert!(rt; matches!(four_digits(alloc, b"18x4"), Err(FillError::Item(b'x'))));
-    assert_eq!(rt; sevens(alloc)?.as_slice(), [7, 7, 7].as_slice());
-    assert_eq!(rt; blank(alloc)?.as_slice(), [0, 0, 0].as_slice());
-    let mut pair = four_and_six(alloc)?;
+    assert_eq!(rt;
+        sevens(alloc).expect(&rt, "no memory").as_slice(),
+        [7, 7, 7].as_slice()
+    );
+    assert_eq!(rt;
+        blank(alloc).expect(&rt, "no memory").as_slice(),
+        [0, 0, 0].as_slice()
+    );
+    let mut pair = four_and_six(alloc).expect(&rt, "no memory");
     assert_eq!(rt; pair.as_slice(), [4, 6].as_slice());
     pair.as_mut_slice()[1] = 5;
     second_place_set(&mut pair);
     assert_eq!(rt; pair.as_slice(), [4, 6].as_slice());
-    let array: BoxedArray<u32, U3> = BoxedArray::generate(alloc, |index| index as u32 + 1)?;
+    let array: BoxedArray<u32, U3> = BoxedArray::generate(alloc, |index| index as u32 + 1).expect(
+        &rt,
+        "no memory",
+    );
     assert_eq!(rt; total(array), 6);
-    let array: BoxedArray<u8, U3> = BoxedArray::generate(alloc, |index| index as u8 + 1)?;
-    assert_eq!(rt; reversed(alloc, array)??.as_slice(), [3, 2, 1].as_slice());
+    let array: BoxedArray<u8, U3> = BoxedArray::generate(alloc, |index| index as u8 + 1).expect(
+        &rt,
+        "no memory",
+    );
+    assert_eq!(rt;
+        reversed(alloc, array)
+            .expect(&rt, "no memory")
+            .expect(&rt, "another length")
+            .as_slice(),
+        [3, 2, 1].as_slice()
+    );
     assert_eq!(rt; total_or_nought(alloc), 12);
-    Ok(())
 }

@@ -67,14 +67,14 @@ impl<T: Drop, N: Unsigned> BoxedArray<T, N> {
         ensures err { OnErr result (f.new ≡ f.old) }
         ensures empty { N.USIZE ≡ 0 → IsOk result }
     {
-        let mut items = Vec::with_capacity(alloc, N::USIZE)?;
+        let mut good = Vec::with_capacity(alloc, N::USIZE)?;
         for index in 0..N::USIZE {
             match f(index) {
-                Ok(item) => items.push_reserved(item),
+                Ok(item) => good.push_reserved(item),
                 Err(error) => return Ok(Err(error)),
             }
         }
-        Ok(Ok(BoxedArray::of_items(items)))
+        Ok(Ok(BoxedArray::of_items(good)))
     }
 
     /// The array of all that `items` gives, or `LengthError` where it doesn't give exactly `N`.
@@ -113,10 +113,10 @@ impl<T: Drop, N: Unsigned> BoxedArray<T, N> {
                 None => return Ok(Err(LengthError)),
             }
         }
-        if items.next().is_some() {
-            return Ok(Err(LengthError));
+        match items.next() {
+            None => Ok(Ok(BoxedArray::of_items(taken))),
+            Some(_surplus) => Ok(Err(LengthError)),
         }
-        Ok(Ok(BoxedArray::of_items(taken)))
     }
 
     /// The array of the values that `items` gives. Answers the first error among its first `N` items
@@ -162,9 +162,9 @@ impl<T: Drop, N: Unsigned> BoxedArray<T, N> {
                 None => return Err(FillError::Length(LengthError)),
             }
         }
-        if items.next().is_some() {
-            return Err(FillError::Length(LengthError));
+        match items.next() {
+            None => Ok(BoxedArray::of_items(good)),
+            Some(_surplus) => Err(FillError::Length(LengthError)),
         }
-        Ok(BoxedArray::of_items(good))
     }
 }

@@ -2,7 +2,6 @@
 use crate::BoxedArray;
 use crate::counted::{Counted, Counts};
 use ga_core::{AllocError, Const, FillError, LengthError, U0, U1, U2, U3, U4, U5};
-use std::test::Fail;
 
 /// A length of which no block can be had, not even of the smallest items.
 type TooMany = Const<18446744073709551615>;
@@ -34,7 +33,7 @@ impl Iterator for Liar {
 }
 
 #[test]
-fn closures_are_called_once_for_each_place_in_order(rt: HostRuntime) -> Result<(), Fail> {
+fn closures_are_called_once_for_each_place_in_order(rt: HostRuntime) {
     let mut calls = 0usize;
     let array: BoxedArray<usize, U3> = BoxedArray::generate_by(
         rt.alloc(),
@@ -42,7 +41,8 @@ fn closures_are_called_once_for_each_place_in_order(rt: HostRuntime) -> Result<(
             calls = calls.wrapping_add(1);
             index.wrapping_mul(index)
         },
-    )?;
+    )
+    .expect(&rt, "no memory");
     assert_eq!(rt; array.as_slice(), [0, 1, 4].as_slice());
     assert_eq!(rt; calls, 3);
 
@@ -50,7 +50,8 @@ fn closures_are_called_once_for_each_place_in_order(rt: HostRuntime) -> Result<(
     let array: BoxedArray<usize, U4> = BoxedArray::generate(rt.alloc(), |index: usize| {
         digits = digits.wrapping_mul(10).wrapping_add(index);
         digits
-    })?;
+    })
+    .expect(&rt, "no memory");
     assert_eq!(rt; array.as_slice(), [0, 1, 12, 123].as_slice());
 
     let mut calls = 0usize;
@@ -60,14 +61,14 @@ fn closures_are_called_once_for_each_place_in_order(rt: HostRuntime) -> Result<(
             calls = calls.wrapping_add(1);
             index
         },
-    )?;
+    )
+    .expect(&rt, "no memory");
     assert!(rt; array.as_slice().is_empty());
     assert_eq!(rt; calls, 0);
-    Ok(())
 }
 
 #[test]
-fn the_first_error_of_a_closure_is_answered(rt: HostRuntime) -> Result<(), Fail> {
+fn the_first_error_of_a_closure_is_answered(rt: HostRuntime) {
     let mut calls = 0usize;
     let built: Result<BoxedArray<usize, U3>, &str> = BoxedArray::try_generate(
         rt.alloc(),
@@ -75,7 +76,8 @@ fn the_first_error_of_a_closure_is_answered(rt: HostRuntime) -> Result<(), Fail>
             calls = calls.wrapping_add(1);
             if index == 1 { Err("x") } else { Ok(index) }
         },
-    )?;
+    )
+    .expect(&rt, "no memory");
     assert!(rt; matches!(built, Err("x")));
     assert_eq!(rt; calls, 2);
     for refused in 0..6usize {
@@ -91,53 +93,74 @@ fn the_first_error_of_a_closure_is_answered(rt: HostRuntime) -> Result<(), Fail>
                     Ok(Counted::new(&counts))
                 }
             },
-        )?;
+        )
+        .expect(&rt, "no memory");
         assert_eq!(rt; built.is_ok(), refused == 5);
         assert_eq!(rt; calls, (refused + 1).min(5));
         assert_eq!(rt; counts.drops() as usize, refused % 5);
     }
-    Ok(())
 }
 
 #[test]
-fn fills_take_one_item_more_than_fits_and_no_other(rt: HostRuntime) -> Result<(), Fail> {
+fn fills_take_one_item_more_than_fits_and_no_other(rt: HostRuntime) {
     let mut items = 1..8u32;
-    let filled = BoxedArray::<u32, U4>::try_boxed_from_iter_ref(rt.alloc(), &mut items)?;
+    let filled = BoxedArray::<u32, U4>::try_boxed_from_iter_ref(rt.alloc(), &mut items).expect(
+        &rt,
+        "no memory",
+    );
     assert!(rt; matches!(filled, Err(LengthError)));
     assert_eq!(rt; items.next(), Some(6));
     let mut items = 1..4u32;
-    let filled = BoxedArray::<u32, U4>::try_boxed_from_iter_ref(rt.alloc(), &mut items)?;
+    let filled = BoxedArray::<u32, U4>::try_boxed_from_iter_ref(rt.alloc(), &mut items).expect(
+        &rt,
+        "no memory",
+    );
     assert!(rt; matches!(filled, Err(LengthError)));
     let mut items = 0..0u32;
-    let filled = BoxedArray::<u32, U0>::try_boxed_from_iter_ref(rt.alloc(), &mut items)?;
+    let filled = BoxedArray::<u32, U0>::try_boxed_from_iter_ref(rt.alloc(), &mut items).expect(
+        &rt,
+        "no memory",
+    );
     assert!(rt; filled.is_ok());
     let numbers = [9, 8u32];
     let mut items = numbers.iter().copied();
-    let filled = BoxedArray::<u32, U0>::try_boxed_from_iter_ref(rt.alloc(), &mut items)?;
+    let filled = BoxedArray::<u32, U0>::try_boxed_from_iter_ref(rt.alloc(), &mut items).expect(
+        &rt,
+        "no memory",
+    );
     assert!(rt; matches!(filled, Err(LengthError)));
     assert_eq!(rt; items.next(), Some(8));
-    let array = BoxedArray::<u32, U2>::try_boxed_from_iter(rt.alloc(), [4, 5].into_iter())??;
+    let array = BoxedArray::<u32, U2>::try_boxed_from_iter(rt.alloc(), [4, 5].into_iter())
+        .expect(&rt, "no memory")
+        .expect(&rt, "another length");
     assert_eq!(rt; array.as_slice(), [4, 5].as_slice());
 
     let counts = Counts::new();
     {
         let mut items = (0..9u32).map(|_| Counted::new(&counts));
-        let filled = BoxedArray::<Counted, U4>::try_boxed_from_iter_ref(rt.alloc(), &mut items)?;
+        let filled = BoxedArray::<Counted, U4>::try_boxed_from_iter_ref(
+            rt.alloc(),
+            &mut items,
+        ).expect(&rt, "no memory");
         assert!(rt; filled.is_err());
         assert_eq!(rt; counts.drops(), 5);
     }
     assert_eq!(rt; counts.drops(), 5);
-    Ok(())
 }
 
 #[test]
-fn fills_believe_no_hint_and_ask_nothing_after_the_end(rt: HostRuntime) -> Result<(), Fail> {
+fn fills_believe_no_hint_and_ask_nothing_after_the_end(rt: HostRuntime) {
     let mut liar = Liar { asked: 0 };
-    let array = BoxedArray::<u32, U2>::try_boxed_from_iter_ref(rt.alloc(), &mut liar)??;
+    let array = BoxedArray::<u32, U2>::try_boxed_from_iter_ref(rt.alloc(), &mut liar)
+        .expect(&rt, "no memory")
+        .expect(&rt, "another length");
     assert_eq!(rt; array.as_slice(), [1, 2].as_slice());
     assert_eq!(rt; liar.asked, 3);
     let mut liar = Liar { asked: 0 };
-    let filled = BoxedArray::<u32, U3>::try_boxed_from_iter_ref(rt.alloc(), &mut liar)?;
+    let filled = BoxedArray::<u32, U3>::try_boxed_from_iter_ref(rt.alloc(), &mut liar).expect(
+        &rt,
+        "no memory",
+    );
     assert!(rt; filled.is_err());
     assert_eq!(rt; liar.asked, 3);
     let mut liar = Liar { asked: 0 };
@@ -147,11 +170,10 @@ fn fills_believe_no_hint_and_ask_nothing_after_the_end(rt: HostRuntime) -> Resul
     let filled = BoxedArray::<u32, U4>::try_boxed_from_fallible_iter_ref(rt.alloc(), &mut items);
     assert!(rt; matches!(filled, Err(FillError::Length(LengthError))));
     assert_eq!(rt; liar.asked, 3);
-    Ok(())
 }
 
 #[test]
-fn the_first_error_among_the_first_items_is_answered(rt: HostRuntime) -> Result<(), Fail> {
+fn the_first_error_among_the_first_items_is_answered(rt: HostRuntime) {
     let mut items = [Ok(1u32), Err("x")].into_iter();
     let filled = BoxedArray::<u32, U2>::try_boxed_from_fallible_iter_ref(rt.alloc(), &mut items);
     assert!(rt; matches!(filled, Err(FillError::Item("x"))));
@@ -175,9 +197,11 @@ fn the_first_error_among_the_first_items_is_answered(rt: HostRuntime) -> Result<
     assert_eq!(rt; items.next(), None);
 
     let good = [Ok::<u32, &str>(1), Ok(2)].into_iter();
-    let array = BoxedArray::<u32, U2>::try_boxed_from_fallible_iter(rt.alloc(), good)?;
+    let array = BoxedArray::<u32, U2>::try_boxed_from_fallible_iter(rt.alloc(), good).expect(
+        &rt,
+        "no memory",
+    );
     assert_eq!(rt; array.as_slice(), [1, 2].as_slice());
-    Ok(())
 }
 
 #[test]
@@ -234,13 +258,13 @@ fn no_item_is_taken_where_memory_is_refused(rt: HostRuntime) {
 }
 
 #[test]
-fn items_of_any_type_are_held_and_dropped_once(rt: HostRuntime) -> Result<(), Fail> {
+fn items_of_any_type_are_held_and_dropped_once(rt: HostRuntime) {
     let counts = Counts::new();
     {
         let _array: BoxedArray<Counted, U4> = BoxedArray::generate(
             rt.alloc(),
             |_| Counted::new(&counts),
-        )?;
+        ).expect(&rt, "no memory");
         assert_eq!(rt; counts.drops(), 0);
     }
     assert_eq!(rt; counts.drops(), 4);
@@ -248,16 +272,20 @@ fn items_of_any_type_are_held_and_dropped_once(rt: HostRuntime) -> Result<(), Fa
     let references: BoxedArray<&&str, U3> = BoxedArray::try_boxed_from_iter(
         rt.alloc(),
         words.iter(),
-    )??;
+    ).expect(&rt, "no memory")
+        .expect(&rt, "another length");
     assert_eq!(rt; *references.as_slice()[2], "c");
     assert_eq!(rt; **references.view().as_slice()[0], *"a");
-    let units: BoxedArray<(), U5> = BoxedArray::generate(rt.alloc(), |_| ())?;
+    let units: BoxedArray<(), U5> = BoxedArray::generate(rt.alloc(), |_| ()).expect(
+        &rt,
+        "no memory",
+    );
     assert_eq!(rt; units.as_slice().len(), 5);
     assert_eq!(rt; units.into_iter().count(), 5);
     let one: BoxedArray<BoxedArray<u8, U1>, U1> = BoxedArray::try_generate(
         rt.alloc(),
         |_| BoxedArray::generate(rt.alloc(), |_| 7),
-    )??;
+    ).expect(&rt, "no memory")
+        .expect(&rt, "another length");
     assert_eq!(rt; one.as_slice()[0].as_slice(), [7].as_slice());
-    Ok(())
 }

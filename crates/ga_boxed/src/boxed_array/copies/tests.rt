@@ -2,29 +2,31 @@
 use crate::BoxedArray;
 use crate::counted::{Counted, Counts};
 use ga_core::{AllocError, Const, U0, U1, U2, U3};
-use std::test::Fail;
 
 /// A length of which no block can be had, not even of the smallest items.
 type TooMany = Const<18446744073709551615>;
 
 #[test]
-fn copies_have_equal_items(rt: HostRuntime) -> Result<(), Fail> {
-    let array = BoxedArray::<u8, U2>::default_boxed(rt.alloc())?;
+fn copies_have_equal_items(rt: HostRuntime) {
+    let array = BoxedArray::<u8, U2>::default_boxed(rt.alloc()).expect(&rt, "no memory");
     assert_eq!(rt; array.as_slice(), [0, 0].as_slice());
-    let array = BoxedArray::<u8, U3>::repeat(rt.alloc(), 7)?;
+    let array = BoxedArray::<u8, U3>::repeat(rt.alloc(), 7).expect(&rt, "no memory");
     assert_eq!(rt; array.as_slice(), [7, 7, 7].as_slice());
     assert!(rt;
-        BoxedArray::<u8, U0>::default_boxed(rt.alloc())?
+        BoxedArray::<u8, U0>::default_boxed(rt.alloc())
+            .expect(&rt, "no memory")
             .as_slice()
             .is_empty()
     );
-    Ok(())
 }
 
 #[test]
-fn repeat_clones_for_all_places_but_the_last(rt: HostRuntime) -> Result<(), Fail> {
+fn repeat_clones_for_all_places_but_the_last(rt: HostRuntime) {
     let counts = Counts::new();
-    let array = BoxedArray::<Counted, U3>::repeat(rt.alloc(), Counted::new(&counts))?;
+    let array = BoxedArray::<Counted, U3>::repeat(rt.alloc(), Counted::new(&counts)).expect(
+        &rt,
+        "no memory",
+    );
     assert_eq!(rt; counts.clones(), 2);
     assert_eq!(rt; counts.drops(), 0);
     assert_eq!(rt; array.into_iter().count(), 3);
@@ -34,7 +36,6 @@ fn repeat_clones_for_all_places_but_the_last(rt: HostRuntime) -> Result<(), Fail
     assert!(rt; BoxedArray::<Counted, U0>::repeat(rt.alloc(), Counted::new(&counts)).is_ok());
     assert_eq!(rt; counts.clones(), 0);
     assert_eq!(rt; counts.drops(), 2);
-    Ok(())
 }
 
 #[test]

@@ -12,7 +12,7 @@ loop-items-preserved g c =
       can = c.in-Some-Ok.ensures.goes.keeps;
       taken = rw c.push_reserved.ensures.items
           (subst (λ taken. Yields g.I.Iterator.next_gives c.args.items.now taken c.next.new.self) (sym (map-append Ok at.good.items (item ∷ [])))
-          (Yields-more g.I.Iterator.next_gives c.args.items.now (map Ok at.good.items) at.items (Ok item) c.next.new.self at.invariant.taken
+          (Yields-more g.I.Iterator.next_gives c.args.items.now (map Ok at.good.items) at.items (Ok item) _ at.invariant.taken
           (subst (λ reply. g.I.Iterator.next_gives at.items (Some reply) c.next.new.self) c.in-Some-Ok.field-0-is c.in-Some-Ok.ensures.steps)));
       within = omega (arith, c.push_reserved.ensures.len, at.invariant.within);
       room = omega (arith, c.push_reserved.ensures.capacity, at.invariant.room);

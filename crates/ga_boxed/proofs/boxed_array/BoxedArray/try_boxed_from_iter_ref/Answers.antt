@@ -8,7 +8,7 @@ loop-items-preserved g c =
     record {
       can = c.in-Some.ensures.goes.keeps;
       taken = rw c.push_reserved.ensures.items
-          (Yields-more g.I.Iterator.next_gives c.args.items.now at.taken.items at.items c.in-Some.item c.next.new.self at.invariant.taken c.in-Some.ensures.steps);
+          (Yields-more g.I.Iterator.next_gives c.args.items.now at.taken.items at.items c.in-Some.item _ at.invariant.taken c.in-Some.ensures.steps);
       within = omega (arith, c.push_reserved.ensures.len, at.invariant.within);
       room = omega (arith, c.push_reserved.ensures.capacity, at.invariant.room);
     }

@@ -7,7 +7,7 @@ use Rattle.std.specs.Vec.{vec_capacity, vec_len}
 abbrev pub invariant-loop-items : goal.invariant-loop-items
 invariant-loop-items g l = record {
   can : g.I.Iterator.can_next l.items;
-  taken : Yields g.I.Iterator.next_gives l.initial.items l.taken.items l.items;
+  taken : Yields g.I.Iterator.next_gives l.fn.items l.taken.items l.items;
   within : vec_len l.taken ≤ g.N.Unsigned.USIZE;
   room : g.N.Unsigned.USIZE ≤ vec_capacity l.taken;
 }

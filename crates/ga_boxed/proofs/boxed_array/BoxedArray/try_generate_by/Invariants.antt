@@ -7,8 +7,8 @@ use Rattle.std.specs.Vec.{vec_capacity, vec_len}
 -- the calls so far were good and gave what is stored, and there is room for the others
 abbrev pub invariant-loop-index : goal.invariant-loop-index
 invariant-loop-index g l = record {
-  ran : ClosureRun (goal.F-step g) l.initial.f (range_with_len 0 l.index) (map Ok l.items.items) l.f;
-  long : length l.items.items ≡ l.index;
-  counted : vec_len l.items ≡ l.index;
-  room : g.N.Unsigned.USIZE ≤ vec_capacity l.items;
+  ran : ClosureRun (goal.F-step g) l.initial.f (range_with_len 0 l.index) (map Ok l.good.items) l.f;
+  long : length l.good.items ≡ l.index;
+  counted : vec_len l.good ≡ l.index;
+  room : g.N.Unsigned.USIZE ≤ vec_capacity l.good;
 }
