@@ -1,9 +1,9 @@
 //! Boxed arrays built from a closure or an iterator. Memory comes first in each.
 ghost use Rattle.ga_boxed.specs.FillAnswer.{fill_answer};
-ghost use Rattle.ga_core.specs.Fill.{FillFalliblyRuns, FillRuns, Fills, FillsFallibly};
+ghost use Rattle.ga_core.specs.Fill.{Asks, FillFalliblyRuns, FillRuns, Fills, FillsFallibly};
 ghost use Rattle.ga_core.specs.Runs.{CallableAlong, CallableUntilError, ClosureRun, FirstErrorRun};
 ghost use Rattle.std.specs.List.{range_with_len};
-ghost use Rattle.std.specs.Prelude.{◌≡◌, IfOk, IsOk, OnErr};
+ghost use Rattle.std.specs.Prelude.{◌≡◌, ◌+◌, IfOk, IsOk, OnErr, OnOk};
 
 #[cfg(test)]
 mod tests;
@@ -98,6 +98,21 @@ impl<T: Drop, N: Unsigned> BoxedArray<T, N> {
     ///
     /// It isn't asked again once it has ended, so at most `N + 1` items are taken.
     pub fn try_boxed_from_iter_ref<I: Iterator<Item = T>>(
+        alloc: Global,
+        items: &mut I,
+    ) -> Result<Result<Self, LengthError>, AllocError>
+        requires can { I.can_next items.old }
+        ensures fill { IfOk result (λ built. Fills I.next_gives items.old N.USIZE built items.new) }
+        ensures runs { IfOk result (λ built. FillRuns I.next_gives items.old N.USIZE built) }
+        ensures asks { OnOk result (Asks I.next_gives items.old (N.USIZE + 1) items.new) }
+        ensures err { OnErr result (items.new ≡ items.old) }
+        ensures empty { N.USIZE ≡ 0 → IsOk result }
+    {
+        Self::fill_from(alloc, items)
+    }
+
+    // The fill itself, of which `try_boxed_from_iter_ref` says two things more that follow.
+    fn fill_from<I: Iterator<Item = T>>(
         alloc: Global,
         items: &mut I,
     ) -> Result<Result<Self, LengthError>, AllocError>
