@@ -142,7 +142,7 @@ fn total_or_nought(alloc: Global) -> usize
 }
 
 #[test]
-fn callers_get_what_their_contracts_say(rt: HostRuntime) {
+fn callers_that_build_get_what_their_contracts_say(rt: HostRuntime) {
     let alloc = rt.alloc();
     assert_eq!(rt;
         doubled(alloc).expect(&rt, "no memory").as_slice(),
@@ -175,6 +175,11 @@ fn callers_get_what_their_contracts_say(rt: HostRuntime) {
         blank(alloc).expect(&rt, "no memory").as_slice(),
         [0, 0, 0].as_slice()
     );
+}
+
+#[test]
+fn callers_that_write_and_walk_get_what_their_contracts_say(rt: HostRuntime) {
+    let alloc = rt.alloc();
     let mut pair = four_and_six(alloc).expect(&rt, "no memory");
     assert_eq!(rt; pair.as_slice(), [4, 6].as_slice());
     pair.as_mut_slice()[1] = 5;

@@ -1,7 +1,7 @@
 //! Builds at concrete types, refused memory, and what else no clause says of them.
 use crate::BoxedArray;
 use crate::counted::{Counted, Counts};
-use ga_core::{AllocError, Const, FillError, LengthError, U0, U1, U2, U3, U4, U5};
+use ga_core::{AllocError, Const, FillError, LengthError, U0, U2, U3, U4, U5};
 
 /// A length of which no block can be had, not even of the smallest items.
 type TooMany = Const<18446744073709551615>;
@@ -134,7 +134,10 @@ fn fills_take_one_item_more_than_fits_and_no_other(rt: HostRuntime) {
         .expect(&rt, "no memory")
         .expect(&rt, "another length");
     assert_eq!(rt; array.as_slice(), [4, 5].as_slice());
+}
 
+#[test]
+fn a_fill_that_is_refused_drops_what_it_took(rt: HostRuntime) {
     let counts = Counts::new();
     {
         let mut items = (0..9u32).map(|_| Counted::new(&counts));
@@ -186,7 +189,10 @@ fn the_first_error_among_the_first_items_is_answered(rt: HostRuntime) {
     let filled = BoxedArray::<u32, U3>::try_boxed_from_fallible_iter_ref(rt.alloc(), &mut items);
     assert!(rt; matches!(filled, Err(FillError::Item("x"))));
     assert_eq!(rt; items.next(), Some(Ok(1)));
+}
 
+#[test]
+fn an_error_after_the_last_item_is_one_item_too_many(rt: HostRuntime) {
     let mut items = [Ok(1u32), Ok(2), Err("x")].into_iter();
     let filled = BoxedArray::<u32, U2>::try_boxed_from_fallible_iter_ref(rt.alloc(), &mut items);
     assert!(rt; matches!(filled, Err(FillError::Length(LengthError))));
@@ -282,10 +288,4 @@ fn items_of_any_type_are_held_and_dropped_once(rt: HostRuntime) {
     );
     assert_eq!(rt; units.as_slice().len(), 5);
     assert_eq!(rt; units.into_iter().count(), 5);
-    let one: BoxedArray<BoxedArray<u8, U1>, U1> = BoxedArray::try_generate(
-        rt.alloc(),
-        |_| BoxedArray::generate(rt.alloc(), |_| 7),
-    ).expect(&rt, "no memory")
-        .expect(&rt, "another length");
-    assert_eq!(rt; one.as_slice()[0].as_slice(), [7].as_slice());
 }
