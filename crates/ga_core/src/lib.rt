@@ -10,6 +10,7 @@ mod array_iter;
 mod builder;
 #[cfg(test)]
 mod counted;
+mod fill_error;
 mod length;
 mod places;
 mod store;
@@ -18,6 +19,7 @@ pub use alloc_error::AllocError;
 pub use array::{ConstGenericArray, GenericArray};
 pub use array_iter::GenericArrayIter;
 pub use builder::ArrayBuilder;
+pub use fill_error::FillError;
 pub use ga_views::{
     ArrayMut, Const, GenericArrayMut, GenericArrayRef, LengthError, MAX_INLINE, SliceMut, U0, U1,
     U2, U3, U4, U5, U6, U7, U8, U9, U10, U11, U12, U13, U14, U15, U16, U17, U18, U19, U20, U21,

@@ -1,0 +1,16 @@
+use Rattle.ga_core.proofs.RunLemmas.{ClosureRun-snoc, below-add_one}
+use Rattle.ga_boxed.proofs.boxed_array.BoxedArray.generate_by.Goals as goal
+use Rattle.std.proofs.Common.{◌∷◌, [], ◌<◌, arith, length-append}
+
+pub f-requires : goal.f-requires
+f-requires g c =
+    let below : c.loop-index.index < g.N.Unsigned.USIZE = omega (arith, c.loop-index-test.true, c.USIZE-index-end.ensures) in
+    c.requires.callable c.loop-index.index _ _ below c.loop-index.invariant.ran
+
+pub loop-index-preserved : goal.loop-index-preserved
+loop-index-preserved g c = record {
+  ran = rw (c.push_reserved.ensures.items, below-add_one) (ClosureRun-snoc _ _ _ _ _ _ _ _ c.loop-index.invariant.ran c.f.ensures);
+  long = rw c.push_reserved.ensures.items (omega (arith, length-append c.loop-index.items.items (c.f.result ∷ []), c.loop-index.invariant.long));
+  counted = omega (arith, c.push_reserved.ensures.len, c.loop-index.invariant.counted);
+  room = omega (arith, c.push_reserved.ensures.capacity, c.loop-index.invariant.room);
+}

@@ -1,0 +1,17 @@
+use Rattle.ga_boxed.proofs.boxed_array.BoxedArray.try_boxed_from_iter_ref.Given as goal
+use Rattle.std.proofs.Common.{◌-◌, ◌≤◌}
+use Rattle.std.specs.Iterator.{Yields}
+use Rattle.std.specs.Vec.{vec_capacity, vec_len}
+
+-- the items so far were taken, there is room for the others, and the iterator may be asked on
+abbrev pub invariant-loop-items : goal.invariant-loop-items
+invariant-loop-items g l = record {
+  can : g.I.Iterator.can_next l.items;
+  taken : Yields g.I.Iterator.next_gives l.initial.items l.taken.items l.items;
+  within : vec_len l.taken ≤ g.N.Unsigned.USIZE;
+  room : g.N.Unsigned.USIZE ≤ vec_capacity l.taken;
+}
+
+-- the places that are left; an iterator that never ends is asked all the same
+abbrev pub decreases-loop-items : goal.decreases-loop-items
+decreases-loop-items g l = g.N.Unsigned.USIZE - vec_len l.taken

@@ -1,0 +1,30 @@
+use Rattle.ga_boxed.proofs.boxed_array.BoxedArray.try_generate_by.Goals as goal
+use Rattle.ga_core.proofs.RunLemmas.{ClosureRun-good, FirstErrorRun-at, FirstErrorRun-good, below-add_one}
+use Rattle.ga_core.specs.Runs.{FirstErrorRun}
+use Rattle.std.proofs.Common.{◌≡◌, ◌∷◌, [], ◌<◌, Ok, arith, length-append, subst}
+use Rattle.std.specs.List.{range_with_len}
+
+pub f-requires : goal.f-requires
+f-requires g c =
+    let below : c.loop-index.index < g.N.Unsigned.USIZE = omega (arith, c.loop-index-test.true, c.USIZE-index-end.ensures) in
+    c.requires.callable c.loop-index.index _ _ below c.loop-index.invariant.ran
+
+pub loop-index-preserved : goal.loop-index-preserved
+loop-index-preserved g c = record {
+  ran = rw (c.push_reserved.ensures.items, below-add_one) (ClosureRun-good _ _ _ _ _ _ _ _ c.loop-index.invariant.ran c.in-Ok.ensures);
+  long = rw c.push_reserved.ensures.items (omega (arith, length-append c.loop-index.items.items (c.in-Ok.item ∷ []), c.loop-index.invariant.long));
+  counted = omega (arith, c.push_reserved.ensures.len, c.loop-index.invariant.counted);
+  room = omega (arith, c.push_reserved.ensures.capacity, c.loop-index.invariant.room);
+}
+
+pub returns-in-Err-clause-run : goal.returns-in-Err-clause-run
+returns-in-Err-clause-run g c =
+    let below : c.loop-index.index < g.N.Unsigned.USIZE = omega (arith, c.loop-index-test.true, c.USIZE-index-end.ensures) in
+    FirstErrorRun-at _ _ _ _ _ _ _ _ below c.loop-index.invariant.ran c.in-Err.ensures
+
+pub returns-clause-run : goal.returns-clause-run
+returns-clause-run g c =
+    let all : c.loop-index.index ≡ g.N.Unsigned.USIZE = omega (arith, c.loop-index-test.false, c.loop-index.auto.index-end, c.USIZE-index-end.ensures) in
+    let items = c.loop-index.items.items in
+    rw c.of_items.ensures (subst (λ n. FirstErrorRun (goal.F-step g) c.args.f.now (range_with_len 0 n) (Ok items) c.loop-index.f) all
+    (FirstErrorRun-good _ _ _ items _ c.loop-index.invariant.ran))

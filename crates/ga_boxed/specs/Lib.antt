@@ -1,0 +1,3 @@
+pub mod FillAnswer
+pub mod IterLends
+pub mod Lends

@@ -1,0 +1,170 @@
+//! Boxed arrays built from a closure or an iterator. Memory comes first in each.
+ghost use Rattle.ga_boxed.specs.FillAnswer.{fill_answer};
+ghost use Rattle.ga_core.specs.Fill.{FillFalliblyRuns, FillRuns, Fills, FillsFallibly};
+ghost use Rattle.ga_core.specs.Runs.{CallableAlong, CallableUntilError, ClosureRun, FirstErrorRun};
+ghost use Rattle.std.specs.List.{range_with_len};
+ghost use Rattle.std.specs.Prelude.{◌≡◌, IfOk, IsOk, OnErr};
+
+#[cfg(test)]
+mod tests;
+
+use crate::boxed_array::BoxedArray;
+use ga_core::{AllocError, FillError, LengthError, Unsigned};
+use std::alloc::Global;
+
+impl<T, N: Unsigned> BoxedArray<T, N> {
+    /// The array of `f(0)` to `f(N - 1)`, each called once, in this order.
+    ///
+    /// Asks for the whole block first: where that is refused, no call is made. No block is asked for
+    /// where `N` is 0.
+    pub fn generate<F: FnMut(usize) -> T>(alloc: Global, f: F) -> Result<Self, AllocError>
+        requires callable { CallableAlong F.pre F.step f N.USIZE }
+        ensures run { (last : F) × IfOk result (λ array. ClosureRun F.step f (range_with_len 0 N.USIZE) array last) }
+        ensures empty { N.USIZE ≡ 0 → IsOk result }
+    {
+        let mut f = f;
+        Self::generate_by(alloc, &mut f)
+    }
+
+    /// `generate` with a closure that is lent, and can be used again in the state that it reached.
+    pub fn generate_by<F: FnMut(usize) -> T>(alloc: Global, f: &mut F) -> Result<Self, AllocError>
+        requires callable { CallableAlong F.pre F.step f.old N.USIZE }
+        ensures run { IfOk result (λ array. ClosureRun F.step f.old (range_with_len 0 N.USIZE) array f.new) }
+        ensures err { OnErr result (f.new ≡ f.old) }
+        ensures empty { N.USIZE ≡ 0 → IsOk result }
+    {
+        let mut items = Vec::with_capacity(alloc, N::USIZE)?;
+        for index in 0..N::USIZE {
+            items.push_reserved(f(index));
+        }
+        Ok(BoxedArray::of_items(items))
+    }
+}
+
+impl<T: Drop, N: Unsigned> BoxedArray<T, N> {
+    /// `generate` with a closure that may fail: the array of its answers, or its first error.
+    ///
+    /// No call follows an error, and the items made before it are dropped.
+    pub fn try_generate<E, F: FnMut(usize) -> Result<T, E>>(
+        alloc: Global,
+        f: F,
+    ) -> Result<Result<Self, E>, AllocError>
+        requires callable { CallableUntilError F.pre F.step f N.USIZE }
+        ensures run { (last : F) × IfOk result (λ built. FirstErrorRun F.step f (range_with_len 0 N.USIZE) built last) }
+        ensures empty { N.USIZE ≡ 0 → IsOk result }
+    {
+        let mut f = f;
+        Self::try_generate_by(alloc, &mut f)
+    }
+
+    /// `try_generate` with a closure that is lent, and can be used again in the state that it reached.
+    pub fn try_generate_by<E, F: FnMut(usize) -> Result<T, E>>(
+        alloc: Global,
+        f: &mut F,
+    ) -> Result<Result<Self, E>, AllocError>
+        requires callable { CallableUntilError F.pre F.step f.old N.USIZE }
+        ensures run { IfOk result (λ built. FirstErrorRun F.step f.old (range_with_len 0 N.USIZE) built f.new) }
+        ensures err { OnErr result (f.new ≡ f.old) }
+        ensures empty { N.USIZE ≡ 0 → IsOk result }
+    {
+        let mut items = Vec::with_capacity(alloc, N::USIZE)?;
+        for index in 0..N::USIZE {
+            match f(index) {
+                Ok(item) => items.push_reserved(item),
+                Err(error) => return Ok(Err(error)),
+            }
+        }
+        Ok(Ok(BoxedArray::of_items(items)))
+    }
+
+    /// The array of all that `items` gives, or `LengthError` where it doesn't give exactly `N`.
+    ///
+    /// Asks for the whole block first: where that is refused, no item is taken. Size hints aren't
+    /// consulted: `N` items are taken, and one more is asked for.
+    pub fn try_boxed_from_iter<I: Iterator<Item = T>>(
+        alloc: Global,
+        items: I,
+    ) -> Result<Result<Self, LengthError>, AllocError>
+        requires can { I.can_next items }
+        ensures fill { (after : I) × IfOk result (λ built. Fills I.next_gives items N.USIZE built after) }
+        ensures runs { IfOk result (λ built. FillRuns I.next_gives items N.USIZE built) }
+        ensures empty { N.USIZE ≡ 0 → IsOk result }
+    {
+        let mut items = items;
+        Self::try_boxed_from_iter_ref(alloc, &mut items)
+    }
+
+    /// `try_boxed_from_iter` with an iterator that is lent, and can be asked on afterwards.
+    ///
+    /// It isn't asked again once it has ended, so at most `N + 1` items are taken.
+    pub fn try_boxed_from_iter_ref<I: Iterator<Item = T>>(
+        alloc: Global,
+        items: &mut I,
+    ) -> Result<Result<Self, LengthError>, AllocError>
+        requires can { I.can_next items.old }
+        ensures fill { IfOk result (λ built. Fills I.next_gives items.old N.USIZE built items.new) }
+        ensures err { OnErr result (items.new ≡ items.old) }
+        ensures empty { N.USIZE ≡ 0 → IsOk result }
+    {
+        let mut taken = Vec::with_capacity(alloc, N::USIZE)?;
+        while taken.len() < N::USIZE {
+            match items.next() {
+                Some(item) => taken.push_reserved(item),
+                None => return Ok(Err(LengthError)),
+            }
+        }
+        if items.next().is_some() {
+            return Ok(Err(LengthError));
+        }
+        Ok(Ok(BoxedArray::of_items(taken)))
+    }
+
+    /// The array of the values that `items` gives. Answers the first error among its first `N` items
+    /// as `Item`, and where there is no such error and it gives another number of values than `N`,
+    /// `Length`.
+    ///
+    /// Asks for the whole block first: where that is refused, the answer is `Place`, and no item is
+    /// taken. An error that comes after `N` values is one item too many. Size hints aren't consulted.
+    pub fn try_boxed_from_fallible_iter<E: Drop, I: Iterator<Item = Result<T, E>>>(
+        alloc: Global,
+        items: I,
+    ) -> Result<Self, FillError<E, AllocError>>
+        requires can { I.can_next items }
+        ensures fill { (after : I) × IfOk (fill_answer result) (λ built. FillsFallibly I.next_gives items N.USIZE built after) }
+        ensures runs { IfOk (fill_answer result) (λ built. FillFalliblyRuns I.next_gives items N.USIZE built) }
+        ensures empty { N.USIZE ≡ 0 → IsOk (fill_answer result) }
+    {
+        let mut items = items;
+        Self::try_boxed_from_fallible_iter_ref(alloc, &mut items)
+    }
+
+    /// `try_boxed_from_fallible_iter` with an iterator that is lent, and can be asked on afterwards.
+    ///
+    /// The error that is answered is the last item taken. An iterator isn't asked again once it has
+    /// ended.
+    pub fn try_boxed_from_fallible_iter_ref<E: Drop, I: Iterator<Item = Result<T, E>>>(
+        alloc: Global,
+        items: &mut I,
+    ) -> Result<Self, FillError<E, AllocError>>
+        requires can { I.can_next items.old }
+        ensures fill { IfOk (fill_answer result) (λ built. FillsFallibly I.next_gives items.old N.USIZE built items.new) }
+        ensures err { OnErr (fill_answer result) (items.new ≡ items.old) }
+        ensures empty { N.USIZE ≡ 0 → IsOk (fill_answer result) }
+    {
+        let mut good = match Vec::with_capacity(alloc, N::USIZE) {
+            Ok(room) => room,
+            Err(refused) => return Err(FillError::Place(refused.into())),
+        };
+        while good.len() < N::USIZE {
+            match items.next() {
+                Some(Ok(item)) => good.push_reserved(item),
+                Some(Err(error)) => return Err(FillError::Item(error)),
+                None => return Err(FillError::Length(LengthError)),
+            }
+        }
+        if items.next().is_some() {
+            return Err(FillError::Length(LengthError));
+        }
+        Ok(BoxedArray::of_items(good))
+    }
+}

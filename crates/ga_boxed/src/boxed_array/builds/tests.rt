@@ -1,0 +1,263 @@
+//! Builds at concrete types, refused memory, and what else no clause says of them.
+use crate::BoxedArray;
+use crate::counted::{Counted, Counts};
+use ga_core::{AllocError, Const, FillError, LengthError, U0, U1, U2, U3, U4, U5};
+use std::test::Fail;
+
+/// A length of which no block can be had, not even of the smallest items.
+type TooMany = Const<18446744073709551615>;
+
+/// Gives 1, 2, an end, 3, 4, 5 and ends, and hints at nine items all the while.
+#[derive(Drop)]
+struct Liar {
+    asked: usize,
+}
+
+impl Iterator for Liar {
+    type Item = u32;
+
+    fn next(&mut self) -> Option<u32> {
+        self.asked = self.asked.saturating_add(1);
+        match self.asked {
+            1 => Some(1),
+            2 => Some(2),
+            4 => Some(3),
+            5 => Some(4),
+            6 => Some(5),
+            _ => None,
+        }
+    }
+
+    fn size_hint(&self) -> (usize, Option<usize>) {
+        (9, None)
+    }
+}
+
+#[test]
+fn closures_are_called_once_for_each_place_in_order(rt: HostRuntime) -> Result<(), Fail> {
+    let mut calls = 0usize;
+    let array: BoxedArray<usize, U3> = BoxedArray::generate_by(
+        rt.alloc(),
+        &mut |index: usize| {
+            calls = calls.wrapping_add(1);
+            index.wrapping_mul(index)
+        },
+    )?;
+    assert_eq!(rt; array.as_slice(), [0, 1, 4].as_slice());
+    assert_eq!(rt; calls, 3);
+
+    let mut digits = 0usize;
+    let array: BoxedArray<usize, U4> = BoxedArray::generate(rt.alloc(), |index: usize| {
+        digits = digits.wrapping_mul(10).wrapping_add(index);
+        digits
+    })?;
+    assert_eq!(rt; array.as_slice(), [0, 1, 12, 123].as_slice());
+
+    let mut calls = 0usize;
+    let array: BoxedArray<usize, U0> = BoxedArray::generate_by(
+        rt.alloc(),
+        &mut |index: usize| {
+            calls = calls.wrapping_add(1);
+            index
+        },
+    )?;
+    assert!(rt; array.as_slice().is_empty());
+    assert_eq!(rt; calls, 0);
+    Ok(())
+}
+
+#[test]
+fn the_first_error_of_a_closure_is_answered(rt: HostRuntime) -> Result<(), Fail> {
+    let mut calls = 0usize;
+    let built: Result<BoxedArray<usize, U3>, &str> = BoxedArray::try_generate(
+        rt.alloc(),
+        |index: usize| {
+            calls = calls.wrapping_add(1);
+            if index == 1 { Err("x") } else { Ok(index) }
+        },
+    )?;
+    assert!(rt; matches!(built, Err("x")));
+    assert_eq!(rt; calls, 2);
+    for refused in 0..6usize {
+        let mut calls = 0usize;
+        let counts = Counts::new();
+        let built: Result<BoxedArray<Counted, U5>, usize> = BoxedArray::try_generate_by(
+            rt.alloc(),
+            &mut |index: usize| {
+                calls = calls.wrapping_add(1);
+                if index == refused {
+                    Err(index)
+                } else {
+                    Ok(Counted::new(&counts))
+                }
+            },
+        )?;
+        assert_eq!(rt; built.is_ok(), refused == 5);
+        assert_eq!(rt; calls, (refused + 1).min(5));
+        assert_eq!(rt; counts.drops() as usize, refused % 5);
+    }
+    Ok(())
+}
+
+#[test]
+fn fills_take_one_item_more_than_fits_and_no_other(rt: HostRuntime) -> Result<(), Fail> {
+    let mut items = 1..8u32;
+    let filled = BoxedArray::<u32, U4>::try_boxed_from_iter_ref(rt.alloc(), &mut items)?;
+    assert!(rt; matches!(filled, Err(LengthError)));
+    assert_eq!(rt; items.next(), Some(6));
+    let mut items = 1..4u32;
+    let filled = BoxedArray::<u32, U4>::try_boxed_from_iter_ref(rt.alloc(), &mut items)?;
+    assert!(rt; matches!(filled, Err(LengthError)));
+    let mut items = 0..0u32;
+    let filled = BoxedArray::<u32, U0>::try_boxed_from_iter_ref(rt.alloc(), &mut items)?;
+    assert!(rt; filled.is_ok());
+    let numbers = [9, 8u32];
+    let mut items = numbers.iter().copied();
+    let filled = BoxedArray::<u32, U0>::try_boxed_from_iter_ref(rt.alloc(), &mut items)?;
+    assert!(rt; matches!(filled, Err(LengthError)));
+    assert_eq!(rt; items.next(), Some(8));
+    let array = BoxedArray::<u32, U2>::try_boxed_from_iter(rt.alloc(), [4, 5].into_iter())??;
+    assert_eq!(rt; array.as_slice(), [4, 5].as_slice());
+
+    let counts = Counts::new();
+    {
+        let mut items = (0..9u32).map(|_| Counted::new(&counts));
+        let filled = BoxedArray::<Counted, U4>::try_boxed_from_iter_ref(rt.alloc(), &mut items)?;
+        assert!(rt; filled.is_err());
+        assert_eq!(rt; counts.drops(), 5);
+    }
+    assert_eq!(rt; counts.drops(), 5);
+    Ok(())
+}
+
+#[test]
+fn fills_believe_no_hint_and_ask_nothing_after_the_end(rt: HostRuntime) -> Result<(), Fail> {
+    let mut liar = Liar { asked: 0 };
+    let array = BoxedArray::<u32, U2>::try_boxed_from_iter_ref(rt.alloc(), &mut liar)??;
+    assert_eq!(rt; array.as_slice(), [1, 2].as_slice());
+    assert_eq!(rt; liar.asked, 3);
+    let mut liar = Liar { asked: 0 };
+    let filled = BoxedArray::<u32, U3>::try_boxed_from_iter_ref(rt.alloc(), &mut liar)?;
+    assert!(rt; filled.is_err());
+    assert_eq!(rt; liar.asked, 3);
+    let mut liar = Liar { asked: 0 };
+    let mut items = liar
+        .by_ref()
+        .map(|item| if item > 0 { Ok(item) } else { Err(item) });
+    let filled = BoxedArray::<u32, U4>::try_boxed_from_fallible_iter_ref(rt.alloc(), &mut items);
+    assert!(rt; matches!(filled, Err(FillError::Length(LengthError))));
+    assert_eq!(rt; liar.asked, 3);
+    Ok(())
+}
+
+#[test]
+fn the_first_error_among_the_first_items_is_answered(rt: HostRuntime) -> Result<(), Fail> {
+    let mut items = [Ok(1u32), Err("x")].into_iter();
+    let filled = BoxedArray::<u32, U2>::try_boxed_from_fallible_iter_ref(rt.alloc(), &mut items);
+    assert!(rt; matches!(filled, Err(FillError::Item("x"))));
+    assert_eq!(rt; items.next(), None);
+    let mut items = [Ok(1u32), Err("x"), Ok(3)].into_iter();
+    let filled = BoxedArray::<u32, U3>::try_boxed_from_fallible_iter_ref(rt.alloc(), &mut items);
+    assert!(rt; matches!(filled, Err(FillError::Item("x"))));
+    assert_eq!(rt; items.next(), Some(Ok(3)));
+    let mut items = [Err("x"), Ok(1u32)].into_iter();
+    let filled = BoxedArray::<u32, U3>::try_boxed_from_fallible_iter_ref(rt.alloc(), &mut items);
+    assert!(rt; matches!(filled, Err(FillError::Item("x"))));
+    assert_eq!(rt; items.next(), Some(Ok(1)));
+
+    let mut items = [Ok(1u32), Ok(2), Err("x")].into_iter();
+    let filled = BoxedArray::<u32, U2>::try_boxed_from_fallible_iter_ref(rt.alloc(), &mut items);
+    assert!(rt; matches!(filled, Err(FillError::Length(LengthError))));
+    assert_eq!(rt; items.next(), None);
+    let mut items = [Err::<u32, &str>("x")].into_iter();
+    let filled = BoxedArray::<u32, U0>::try_boxed_from_fallible_iter_ref(rt.alloc(), &mut items);
+    assert!(rt; matches!(filled, Err(FillError::Length(LengthError))));
+    assert_eq!(rt; items.next(), None);
+
+    let good = [Ok::<u32, &str>(1), Ok(2)].into_iter();
+    let array = BoxedArray::<u32, U2>::try_boxed_from_fallible_iter(rt.alloc(), good)?;
+    assert_eq!(rt; array.as_slice(), [1, 2].as_slice());
+    Ok(())
+}
+
+#[test]
+fn a_closure_is_not_called_where_memory_is_refused(rt: HostRuntime) {
+    let mut calls = 0usize;
+    let mut counted = |index: usize| {
+        calls = calls.wrapping_add(1);
+        index as u64
+    };
+    let built = BoxedArray::<u64, TooMany>::generate_by(rt.alloc(), &mut counted);
+    assert!(rt; matches!(built, Err(AllocError)));
+    let built = BoxedArray::<u64, TooMany>::generate(rt.alloc(), counted);
+    assert!(rt; matches!(built, Err(AllocError)));
+    assert_eq!(rt; calls, 0);
+    let mut fallible = |index: usize| {
+        calls = calls.wrapping_add(1);
+        if index < 3 {
+            Ok(index as u64)
+        } else {
+            Err(index)
+        }
+    };
+    let built = BoxedArray::<u64, TooMany>::try_generate_by(rt.alloc(), &mut fallible);
+    assert!(rt; matches!(built, Err(AllocError)));
+    let built = BoxedArray::<u64, TooMany>::try_generate(rt.alloc(), fallible);
+    assert!(rt; matches!(built, Err(AllocError)));
+    assert_eq!(rt; calls, 0);
+}
+
+#[test]
+fn no_item_is_taken_where_memory_is_refused(rt: HostRuntime) {
+    let counts = Counts::new();
+    let mut items = (0..3u32).map(|_| Counted::new(&counts));
+    let filled = BoxedArray::<Counted, TooMany>::try_boxed_from_iter_ref(rt.alloc(), &mut items);
+    assert!(rt; matches!(filled, Err(AllocError)));
+    assert_eq!(rt; counts.drops(), 0);
+    assert_eq!(rt; items.count(), 3);
+    assert_eq!(rt; counts.drops(), 3);
+
+    let handed_over = [Counted::new(&counts), Counted::new(&counts)].into_iter();
+    let filled = BoxedArray::<Counted, TooMany>::try_boxed_from_iter(rt.alloc(), handed_over);
+    assert!(rt; matches!(filled, Err(AllocError)));
+    assert_eq!(rt; counts.drops(), 5);
+
+    let mut items = [Err("x"), Ok(1u64)].into_iter();
+    let filled = BoxedArray::<u64, TooMany>::try_boxed_from_fallible_iter_ref(
+        rt.alloc(),
+        &mut items,
+    );
+    assert!(rt; matches!(filled, Err(FillError::Place(AllocError))));
+    assert_eq!(rt; items.len(), 2);
+    let filled = BoxedArray::<u64, TooMany>::try_boxed_from_fallible_iter(rt.alloc(), items);
+    assert!(rt; matches!(filled, Err(FillError::Place(AllocError))));
+}
+
+#[test]
+fn items_of_any_type_are_held_and_dropped_once(rt: HostRuntime) -> Result<(), Fail> {
+    let counts = Counts::new();
+    {
+        let _array: BoxedArray<Counted, U4> = BoxedArray::generate(
+            rt.alloc(),
+            |_| Counted::new(&counts),
+        )?;
+        assert_eq!(rt; counts.drops(), 0);
+    }
+    assert_eq!(rt; counts.drops(), 4);
+    let words = ["a", "b", "c"];
+    let references: BoxedArray<&&str, U3> = BoxedArray::try_boxed_from_iter(
+        rt.alloc(),
+        words.iter(),
+    )??;
+    assert_eq!(rt; *references.as_slice()[2], "c");
+    assert_eq!(rt; **references.view().as_slice()[0], *"a");
+    let units: BoxedArray<(), U5> = BoxedArray::generate(rt.alloc(), |_| ())?;
+    assert_eq!(rt; units.as_slice().len(), 5);
+    assert_eq!(rt; units.into_iter().count(), 5);
+    let one: BoxedArray<BoxedArray<u8, U1>, U1> = BoxedArray::try_generate(
+        rt.alloc(),
+        |_| BoxedArray::generate(rt.alloc(), |_| 7),
+    )??;
+    assert_eq!(rt; one.as_slice()[0].as_slice(), [7].as_slice());
+    Ok(())
+}

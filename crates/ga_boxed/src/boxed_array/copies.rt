@@ -1,0 +1,44 @@
+//! Boxed arrays of defaults and of copies of one value.
+ghost use Rattle.ga_core.specs.Copies.{Repeats};
+ghost use Rattle.std.specs.List.{All};
+ghost use Rattle.std.specs.Prelude.{◌≡◌, IfOk, IsOk, replicate};
+
+#[cfg(test)]
+mod tests;
+
+use crate::boxed_array::BoxedArray;
+use ga_core::{AllocError, Unsigned};
+use std::alloc::Global;
+
+impl<T: Default, N: Unsigned> BoxedArray<T, N> {
+    /// The array of `N` times `T::default()`, called in order.
+    ///
+    /// Asks for the whole block first. No block is asked for where `N` is 0.
+    pub fn default_boxed(alloc: Global) -> Result<Self, AllocError>
+        ensures items { IfOk result (λ array. All T.is_default array) }
+        ensures empty { N.USIZE ≡ 0 → IsOk result }
+    {
+        Self::generate(alloc, |_| T::default())
+    }
+}
+
+impl<T: Clone, N: Unsigned> BoxedArray<T, N> {
+    /// The array of `N` values equal to `item`: clones of it, made in order, and at last `item` itself.
+    ///
+    /// Asks for the whole block first, and for none where `N` is 0. Refused where the block or a clone
+    /// is; the clones made are then dropped.
+    pub fn repeat(alloc: Global, item: T) -> Result<Self, AllocError>
+        ensures items { IfOk result (λ array. Repeats T.is_clone item N.USIZE array) }
+        ensures same { ((copy : T) → T.is_clone item copy → copy ≡ item) → IfOk result (λ array. array ≡ replicate N.USIZE item) }
+        ensures empty { N.USIZE ≡ 0 → IsOk result }
+    {
+        let mut items = Vec::with_capacity(alloc, N::USIZE)?;
+        if N::USIZE > 0 {
+            for _clone in 1..N::USIZE {
+                items.push_reserved(item.clone()?);
+            }
+            items.push_reserved(item);
+        }
+        Ok(BoxedArray::of_items(items))
+    }
+}

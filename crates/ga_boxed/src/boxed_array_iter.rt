@@ -1,0 +1,227 @@
+//! The iterator that moves the items out of a boxed array, from both ends.
+ghost use Rattle.ga_core.specs.Cut.{StepGives, back, front};
+ghost use Rattle.ga_core.specs.Runs.{CallableInFold, FoldRun};
+ghost use Rattle.std.specs.Borrow.{sem};
+ghost use Rattle.std.specs.Iterator.{YieldsFirst, YieldsLast, item_count};
+ghost use Rattle.std.specs.List.{AllZip};
+ghost use Rattle.std.specs.Prelude.{◌≡◌, ◌-◌, IfOk, IsOk, length, reverse, slice_get};
+
+#[cfg(test)]
+mod tests;
+
+use ga_core::AllocError;
+use std::alloc;
+use std::marker::Model;
+
+/// The items of a boxed array by value, from both ends. Contracts see it as the list of the items
+/// that are left.
+#[derive(Drop)]
+pub struct BoxedArrayIter<T> {
+    items: Vec<T>,
+}
+
+impl<T> Model for BoxedArrayIter<T> {
+    ghost use Rattle.std.specs.Prelude.{List};
+
+    ghost Value = { List T };
+
+    ghost view = { λ left. left.items.items };
+}
+
+impl<T> BoxedArrayIter<T> {
+    ghost use Rattle.ga_boxed.specs.IterLends.{LendsLeft};
+
+    /// The iterator over items. Moves none of them.
+    #[inline]
+    pub(crate) fn of_items(items: Vec<T>) -> Self
+        ensures { result ≡ items.items }
+    {
+        BoxedArrayIter { items }
+    }
+
+    /// The number of items that are left. Constant time.
+    #[inline]
+    pub fn len(&self) -> usize
+        ensures { result ≡ length self.now }
+    {
+        self.items.len()
+    }
+
+    /// The items that are left, in order. Constant time.
+    #[inline]
+    pub fn as_slice(&self) -> &[T]
+        ensures { result.now ≡ self.now }
+    {
+        self.items.as_slice()
+    }
+
+    /// The items that are left, in order, for writing. Constant time.
+    #[inline]
+    pub fn as_mut_slice(&mut self) -> &mut [T]
+        ensures* writes_back { sem 𝓛 (LendsLeft T.row self.entry result) }
+        ensures items { result.now ≡ self.old }
+    {
+        self.items.as_mut_slice()
+    }
+
+    /// The number of items that are left, twice: they are no fewer and no more.
+    #[inline]
+    pub fn size_hint(&self) -> (usize, Option<usize>)
+        ensures { result ≡ (length self.now, Some (length self.now)) }
+    {
+        let len = self.len();
+        (len, Some(len))
+    }
+}
+
+impl<T: Drop> Iterator for BoxedArrayIter<T> {
+    type Item = T;
+
+    ghost next_gives = { YieldsFirst (λ left. left) };
+
+    ghost remaining = { item_count (λ left. left) };
+
+    /// Takes the first item that is left.
+    #[inline]
+    fn next(&mut self) -> Option<T> {
+        if self.items.is_empty() {
+            None
+        } else {
+            Some(self.items.remove(0))
+        }
+    }
+
+    #[inline]
+    fn size_hint(&self) -> (usize, Option<usize>)
+        ensures { result ≡ (length self.now, Some (length self.now)) }
+    {
+        BoxedArrayIter::size_hint(self)
+    }
+}
+
+impl<T: Drop> DoubleEndedIterator for BoxedArrayIter<T> {
+    ghost next_back_gives = { YieldsLast (λ left. left) };
+
+    /// Takes the last item that is left. Constant time.
+    #[inline]
+    fn next_back(&mut self) -> Option<T> {
+        self.items.pop()
+    }
+}
+
+impl<T: Drop> BoxedArrayIter<T> {
+    /// Drops `n` items from the front, or as many as are left, and takes the next.
+    ///
+    /// So all are consumed, and `None` is answered, where `n` is at or beyond their number.
+    pub fn nth(&mut self, n: usize) -> Option<T>
+        ensures step { StepGives (front n) self.old result self.new }
+    {
+        for _passed in 0..n.min(self.len()) {
+            let _ = self.next();
+        }
+        self.next()
+    }
+
+    /// Drops `n` items from the back, or as many as are left, and takes the last of those before.
+    ///
+    /// So all are consumed, and `None` is answered, where `n` is at or beyond their number. Takes time
+    /// in proportion to the items dropped.
+    pub fn nth_back(&mut self, n: usize) -> Option<T>
+        ensures step { StepGives (back n) self.old result self.new }
+    {
+        for _passed_back in 0..n.min(self.len()) {
+            let _ = self.next_back();
+        }
+        self.next_back()
+    }
+
+    /// The last item that is left. The others are dropped; nothing else takes time.
+    pub fn last(self) -> Option<T>
+        ensures { result ≡ slice_get self (length self - 1) }
+    {
+        let mut items = self;
+        items.next_back()
+    }
+
+    /// The number of items that are left, which are dropped; nothing else takes time.
+    pub fn count(self) -> usize
+        ensures { result ≡ length self }
+    {
+        let items = self;
+        items.len()
+    }
+
+    /// Calls `f` with what it answered last, at first `init`, and each item that is left, from the
+    /// front, and gives its last answer. One pass.
+    pub fn fold<A, F: FnMut(A, T) -> A>(self, init: A, f: F) -> A
+        requires callable { CallableInFold F.pre F.step f init self }
+        ensures run { (last : F) × FoldRun F.step f init self result last }
+    {
+        let mut f = f;
+        self.fold_by(init, &mut f)
+    }
+
+    /// `fold` with a closure that is lent, and can be used again in the state that it reached. One
+    /// pass.
+    pub fn fold_by<A, F: FnMut(A, T) -> A>(self, init: A, f: &mut F) -> A
+        requires callable { CallableInFold F.pre F.step f.old init self }
+        ensures run { FoldRun F.step f.old init self result f.new }
+    {
+        let mut items = self;
+        let mut answer = init;
+        while let Some(item) = items.next() {
+            answer = f(answer, item);
+        }
+        answer
+    }
+
+    /// `fold` from the back. One pass.
+    pub fn rfold<A, F: FnMut(A, T) -> A>(self, init: A, f: F) -> A
+        requires callable { CallableInFold F.pre F.step f init (reverse self) }
+        ensures run { (last : F) × FoldRun F.step f init (reverse self) result last }
+    {
+        let mut f = f;
+        self.rfold_by(init, &mut f)
+    }
+
+    /// `rfold` with a closure that is lent, and can be used again in the state that it reached. One
+    /// pass.
+    pub fn rfold_by<A, F: FnMut(A, T) -> A>(self, init: A, f: &mut F) -> A
+        requires callable { CallableInFold F.pre F.step f.old init (reverse self) }
+        ensures run { FoldRun F.step f.old init (reverse self) result f.new }
+    {
+        let mut items = self;
+        let mut answer = init;
+        while let Some(item) = items.next_back() {
+            answer = f(answer, item);
+        }
+        answer
+    }
+}
+
+impl<T: Clone> BoxedArrayIter<T> {
+    /// An iterator over clones of the items that are left, made in order, in a block of their number.
+    ///
+    /// Asks for the block first. Refused where that or a clone is, so never where no item is left;
+    /// the clones made are then dropped.
+    pub fn clone(&self) -> Result<Self, AllocError>
+        ensures items { IfOk result (λ copy. AllZip T.is_clone self.now copy) }
+        ensures empty { length self.now ≡ 0 → IsOk result }
+    {
+        Ok(Clone::clone(self)?)
+    }
+}
+
+impl<T: Clone> Clone for BoxedArrayIter<T> {
+    ghost is_clone = { λ left copy. AllZip T.is_clone left copy };
+
+    ghost is_infallible = { λ left. length left ≡ 0 };
+
+    fn clone(&self) -> Result<Self, alloc::AllocError> {
+        let mut clones = Vec::with_capacity(*self.items.allocator(), self.len())?;
+        for item in self.as_slice() {
+            clones.push_reserved(item.clone()?);
+        }
+        Ok(BoxedArrayIter::of_items(clones))
+    }
+}

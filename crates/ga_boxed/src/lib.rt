@@ -1,0 +1,15 @@
+//! Arrays whose length is a type, kept in a block of memory of their own.
+//!
+//! `BoxedArray<T, N>` is seen by contracts as the list of its items, which are exactly `N`. The
+//! length and the element type have no bound of their own.
+#![tactic(auto)]
+
+mod boxed_array;
+mod boxed_array_iter;
+#[cfg(test)]
+mod counted;
+#[cfg(test)]
+mod uses;
+
+pub use boxed_array::BoxedArray;
+pub use boxed_array_iter::BoxedArrayIter;

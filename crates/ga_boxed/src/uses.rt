@@ -1,0 +1,173 @@
+//! Callers, each proved: what a contract gives to those who use it.
+ghost use Rattle.std.specs.Prelude.{◌≡◌, ◌∷◌, [], ◌^◌, ◌<◌, ◌↔◌, ◌⊎◌, IfErr, IfOk, IsOk, OnOk, length, reverse, slice_set, sum};
+
+use crate::BoxedArray;
+use ga_core::{AllocError, FillError, LengthError, U0, U2, U3, U4, Unsigned};
+use std::alloc::Global;
+use std::test::Fail;
+
+fn doubled(alloc: Global) -> Result<BoxedArray<usize, U4>, AllocError>
+    ensures { IfOk result (λ array. array ≡ 0 ∷ 2 ∷ 4 ∷ 6 ∷ []) }
+{
+    BoxedArray::generate(alloc, |index| 2 * index)
+}
+
+fn none(alloc: Global) -> Result<BoxedArray<usize, U0>, AllocError>
+    ensures { result ≡ Ok [] }
+{
+    BoxedArray::generate(alloc, |index| index)
+}
+
+fn calls_made(alloc: Global) -> u32
+    ensures { (result ≡ 0) ⊎ (result ≡ 3) }
+{
+    let mut calls = 0u32;
+    let built: Result<BoxedArray<usize, U3>, AllocError> = BoxedArray::generate_by(
+        alloc,
+        &mut |index: usize| {
+            calls = calls.wrapping_add(1);
+            index
+        },
+    );
+    match built {
+        Ok(_array) => calls,
+        Err(_refused) => calls,
+    }
+}
+
+fn refused_at_two(alloc: Global) -> Result<Result<BoxedArray<usize, U4>, usize>, AllocError>
+    ensures { IfOk result (λ built. built ≡ Err 2) }
+{
+    BoxedArray::try_generate(
+        alloc,
+        |index| if index < 2 { Ok(index) } else { Err(index) },
+    )
+}
+
+fn four_of(
+    alloc: Global,
+    bytes: &[u8],
+) -> Result<Result<BoxedArray<u8, U4>, LengthError>, AllocError>
+    ensures variant { IfOk result (λ built. IsOk built ↔ (length bytes.now ≡ 4)) }
+    ensures ok { IfOk result (λ built. IfOk built (λ row. row ≡ bytes.now)) }
+{
+    BoxedArray::try_boxed_from_iter(alloc, bytes.iter().copied())
+}
+
+// The item behind those that filled the array, or that comes first where memory was refused.
+fn next_after_a_fill(alloc: Global) -> Result<Option<u32>, Option<u32>>
+    ensures filled { IfOk result (λ next. next ≡ None) }
+    ensures refused { IfErr result (λ next. next ≡ Some 1) }
+{
+    let mut items = 1..3u32;
+    match BoxedArray::<u32, U2>::try_boxed_from_iter_ref(alloc, &mut items) {
+        Ok(Ok(_filled)) => Ok(items.next()),
+        Ok(Err(_other_length)) => Ok(None),
+        Err(_refused) => Err(items.next()),
+    }
+}
+
+fn four_digits(alloc: Global, text: &[u8]) -> Result<BoxedArray<u8, U4>, FillError<u8, AllocError>>
+    ensures long { OnOk result (length text.now ≡ 4) }
+{
+    BoxedArray::try_boxed_from_fallible_iter(
+        alloc,
+        text.iter().map(|byte| {
+            if byte.is_ascii_digit() {
+                Ok(*byte - b'0')
+            } else {
+                Err(*byte)
+            }
+        }),
+    )
+}
+
+fn sevens(alloc: Global) -> Result<BoxedArray<u8, U3>, AllocError>
+    ensures { IfOk result (λ array. array ≡ 7 ∷ 7 ∷ 7 ∷ []) }
+{
+    BoxedArray::repeat(alloc, 7)
+}
+
+fn blank(alloc: Global) -> Result<BoxedArray<u8, U3>, AllocError>
+    ensures { IfOk result (λ array. array ≡ 0 ∷ 0 ∷ 0 ∷ []) }
+{
+    BoxedArray::default_boxed(alloc)
+}
+
+fn second_place_set(array: &mut BoxedArray<u8, U2>)
+    ensures { array.new ≡ slice_set array.old 1 6 }
+{
+    let items = array.as_mut_slice();
+    items[1] = 6;
+}
+
+fn four_and_six(alloc: Global) -> Result<BoxedArray<u8, U2>, AllocError>
+    ensures { IfOk result (λ array. array ≡ 4 ∷ 6 ∷ []) }
+{
+    let mut array: BoxedArray<u8, U2> = BoxedArray::repeat(alloc, 4)?;
+    let items = array.as_mut_slice();
+    items[1] = 6;
+    Ok(array)
+}
+
+fn total<N: Unsigned>(array: BoxedArray<u32, N>) -> u32
+    requires fits { sum array < 2 ^ 32 }
+    ensures { result ≡ sum array }
+{
+    let mut total = 0;
+    for item in array {
+        total += item;
+    }
+    total
+}
+
+fn reversed(
+    alloc: Global,
+    array: BoxedArray<u8, U3>,
+) -> Result<Result<BoxedArray<u8, U3>, LengthError>, AllocError>
+    ensures ok { IfOk result (λ built. IsOk built) }
+    ensures items { IfOk result (λ built. IfOk built (λ turned. turned ≡ reverse array)) }
+{
+    BoxedArray::try_boxed_from_iter(alloc, array.into_iter().rev())
+}
+
+fn total_or_nought(alloc: Global) -> usize
+    ensures { (result ≡ 0) ⊎ (result ≡ 12) }
+{
+    match doubled(alloc) {
+        Ok(array) => array
+            .into_iter()
+            .fold(0, |sum: usize, item: usize| sum.wrapping_add(item)),
+        Err(_refused) => 0,
+    }
+}
+
+#[test]
+fn callers_get_what_their_contracts_say(rt: HostRuntime) -> Result<(), Fail> {
+    let alloc = rt.alloc();
+    assert_eq!(rt; doubled(alloc)?.as_slice(), [0, 2, 4, 6].as_slice());
+    assert!(rt; none(alloc)?.as_slice().is_empty());
+    assert_eq!(rt; calls_made(alloc), 3);
+    assert!(rt; matches!(refused_at_two(alloc)?, Err(2)));
+    assert_eq!(rt; four_of(alloc, b"abcd")??.as_slice(), b"abcd".as_slice());
+    assert!(rt; four_of(alloc, b"abc")?.is_err());
+    assert_eq!(rt; next_after_a_fill(alloc), Ok(None));
+    assert_eq!(rt;
+        four_digits(alloc, b"1804")?.as_slice(),
+        [1, 8, 0, 4].as_slice()
+    );
+    assert!(rt; matches!(four_digits(alloc, b"18x4"), Err(FillError::Item(b'x'))));
+    assert_eq!(rt; sevens(alloc)?.as_slice(), [7, 7, 7].as_slice());
+    assert_eq!(rt; blank(alloc)?.as_slice(), [0, 0, 0].as_slice());
+    let mut pair = four_and_six(alloc)?;
+    assert_eq!(rt; pair.as_slice(), [4, 6].as_slice());
+    pair.as_mut_slice()[1] = 5;
+    second_place_set(&mut pair);
+    assert_eq!(rt; pair.as_slice(), [4, 6].as_slice());
+    let array: BoxedArray<u32, U3> = BoxedArray::generate(alloc, |index| index as u32 + 1)?;
+    assert_eq!(rt; total(array), 6);
+    let array: BoxedArray<u8, U3> = BoxedArray::generate(alloc, |index| index as u8 + 1)?;
+    assert_eq!(rt; reversed(alloc, array)??.as_slice(), [3, 2, 1].as_slice());
+    assert_eq!(rt; total_or_nought(alloc), 12);
+    Ok(())
+}
