@@ -96,7 +96,7 @@ impl<T, N: ArrayLength<T>> GenericArray<T, N> {
         ensures items { result.now ≡ self.old }
         ensures len { length result.now ≡ N.USIZE }
     {
-        self.store.all_mut(N::USIZE)
+        self.store.as_mut_slice_of(N::USIZE)
     }
 
     /// The items by reference, in order.

@@ -57,11 +57,9 @@ pub trait Store<T>: Sized + Drop {
         ensures* writes_back { sem 𝓛 (Lends Self.row (Array T.row 0) self.entry result (λ written. (refilled self.old written).0)) }
         ensures value { result.now ≡ items self.old };
 
-    /// The items, in order, for writing, where the caller knows how many they are. What is written stands in the
-    /// store afterwards.
-    ///
-    /// Where `len` is a constant, the compiler knows the slice's length, as it doesn't with `as_mut_slice`.
-    fn all_mut(&mut self, len: usize) -> &mut [T]
+    /// `as_mut_slice` where the caller knows how many items there are, so that the compiler knows it
+    /// too.
+    fn as_mut_slice_of(&mut self, len: usize) -> &mut [T]
         requires all { len ≡ length (items self.old) }
         ensures* writes_back { sem 𝓛 (Lends Self.row (Array T.row 0) self.entry result (λ written. (refilled self.old written).0)) }
         ensures value { result.now ≡ items self.old };
@@ -123,7 +121,7 @@ impl<T: Default + Drop, const N: usize> Store<T> for ArrayVec<T, N> {
     }
 
     #[inline]
-    fn all_mut(&mut self, len: usize) -> &mut [T] {
+    fn as_mut_slice_of(&mut self, len: usize) -> &mut [T] {
         items_of(self, len)
     }
 

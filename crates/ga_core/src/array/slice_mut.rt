@@ -21,6 +21,11 @@ impl<'a, T, N: ArrayLength<T>> SliceMut<T> for &'a mut GenericArray<T, N> {
         self.as_mut_slice()
     }
 
+    #[inline]
+    fn all_mut_of(&mut self, _len: usize) -> &mut [T] {
+        self.as_mut_slice()
+    }
+
     ghost replaced = { λ array index item. (record array { now = slice_set array.now index item }, refl) };
 
     #[inline]
