@@ -5,8 +5,10 @@
 //! exported here too.
 #![tactic(auto)]
 
+pub mod checks;
 pub mod functional;
 pub mod sequence;
+mod uses;
 
 pub use ga_boxed::{BoxedArray, BoxedArrayIter};
 pub use ga_core::{
