@@ -2,6 +2,7 @@
 ghost use Rattle.std.specs.Prelude.{◌≡◌, Ok};
 
 /// The error of a call that is never refused. There is no value of it.
+#[derive(Drop)]
 pub enum Never {}
 
 /// The value of an answer that can't be an error.

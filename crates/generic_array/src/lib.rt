@@ -8,6 +8,8 @@
 pub mod checks;
 pub mod functional;
 pub mod sequence;
+#[cfg(test)]
+mod tests;
 mod uses;
 
 pub use ga_boxed::{BoxedArray, BoxedArrayIter};
