@@ -10,6 +10,7 @@ pub mod functional;
 pub mod sequence;
 #[cfg(test)]
 mod tests;
+#[cfg(test)]
 mod uses;
 
 pub use ga_boxed::{BoxedArray, BoxedArrayIter};

@@ -1,17 +1,17 @@
 //! Callers, each proved: what the traits' contracts give to those who use them.
-ghost use Rattle.ga_core.specs.Runs.{ClosureRun};
-ghost use Rattle.std.specs.Prelude.{◌≡◌, ◌∷◌, [], ◌++◌, ◌<◌, ◌^◌, Err, Ok, IfOk, IsOk, List, length, map, replicate, sum};
+ghost use Rattle.std.specs.List.{range_with_len};
+ghost use Rattle.std.specs.Prelude.{◌≡◌, ◌∷◌, [], ◌^◌, ◌<◌, ◌⊎◌, Err, Ok, IfOk, IsOk, OnOk, length, replicate, sum};
 
 use crate::checks::{map_total_by, total_by};
-use crate::functional::{
-    FunctionalSequence, MappedError, MappedGenericSequence, MappedPlace, MappedSequence,
-    inverted_zip_by, inverted_zip2_by,
-};
-use crate::sequence::{FromFallibleIterator, GenericSequence, SequenceItem};
+use crate::functional::{FunctionalSequence, inverted_zip_by, inverted_zip2_by};
+use crate::sequence::{FromFallibleIterator, GenericSequence};
 use crate::{
-    AllocError, BoxedArray, FillError, GenericArray, GenericArrayRef, Never, U0, U2, U3, always,
+    AllocError, ArrayLength, BoxedArray, FillError, GenericArray, GenericArrayRef, U0, U2, U3,
+    always,
 };
 use std::alloc::Global;
+use std::convert::AsSlice;
+use std::test::Fail;
 
 // A sum at each kind.
 
@@ -208,8 +208,120 @@ fn sevens<S: GenericSequence<u8>>(place: S::Place) -> Result<S::Sequence, AllocE
     S::repeat(place, 7)
 }
 
+fn places<S: GenericSequence<usize>>(place: S::Place) -> Result<S::Sequence, S::Error>
+    requires fits { S.Fits }
+    ensures items { IfOk result (λ made. S.Sequence.items made ≡ range_with_len 0 S.Length.USIZE) }
+    ensures given { S.IsPromised → IsOk result }
+{
+    S::generate(place, |index| index)
+}
+
+fn sum_of<N: ArrayLength<u32>>(view: GenericArrayRef<'_, u32, N>) -> u32
+    requires fits { sum view.slice.now < 2 ^ 32 }
+    ensures { result ≡ sum view.entry.slice.now }
+{
+    total_by(view, 0, &mut |total: u32, item: &u32| total + *item)
+}
+
 fn sevens_of_none() -> Result<GenericArray<u8, U0>, AllocError>
     ensures { result ≡ Ok [] }
 {
     sevens::<GenericArray<u8, U0>>(())
+}
+
+// Calls that were made, and items that were taken, where memory was had or refused.
+
+fn calls_of_a_boxed_map(alloc: Global, array: BoxedArray<u32, U3>) -> u32
+    requires { array ≡ 1 ∷ 2 ∷ 3 ∷ [] }
+    ensures { (result ≡ 0) ⊎ (result ≡ 3) }
+{
+    let mut calls = 0u32;
+    let mapped = array.map_by(
+        alloc,
+        &mut |item: u32| {
+            calls = calls.wrapping_add(1);
+            item
+        },
+    );
+    match mapped {
+        Ok(_mapped) => calls,
+        Err(_refused) => calls,
+    }
+}
+
+fn digits<S: FromFallibleIterator<u8>>(
+    place: S::Place,
+    text: &[u8],
+) -> Result<S, FillError<u8, S::Error>>
+    requires fits { S.Fits }
+    ensures long { OnOk result (length text.now ≡ S.Length.USIZE) }
+{
+    S::from_fallible_iter(
+        place,
+        text.iter().map(|byte| {
+            if byte.is_ascii_digit() {
+                Ok(*byte - b'0')
+            } else {
+                Err(*byte)
+            }
+        }),
+    )
+}
+
+fn one_two_three() -> GenericArray<u32, U3>
+    ensures { result ≡ 1 ∷ 2 ∷ 3 ∷ [] }
+{
+    GenericArray::generate(|index| index as u32 + 1)
+}
+
+fn four_five_six() -> GenericArray<u32, U3>
+    ensures { result ≡ 4 ∷ 5 ∷ 6 ∷ [] }
+{
+    GenericArray::generate(|index| index as u32 + 4)
+}
+
+fn boxed_one_two_three(alloc: Global) -> Result<BoxedArray<u32, U3>, AllocError>
+    ensures { IfOk result (λ array. array ≡ 1 ∷ 2 ∷ 3 ∷ []) }
+{
+    BoxedArray::generate(alloc, |index| index as u32 + 1)
+}
+
+#[test]
+fn callers_get_what_their_contracts_say(rt: HostRuntime) -> Result<(), Fail> {
+    let alloc = rt.alloc();
+    let (array, other) = (one_two_three(), four_five_six());
+    assert!(rt; total_of_array(one_two_three()) == 6 && total_of_view(array.view()) == 6);
+    assert_eq!(rt; total_of_boxed(boxed_one_two_three(alloc)?), 6);
+    assert_eq!(rt; dot_of_arrays(one_two_three(), four_five_six()), 32);
+    assert_eq!(rt; dot_of_view_and_array(array.view(), four_five_six()), 32);
+    assert_eq!(rt;
+        dot_of_boxed_and_view(alloc, boxed_one_two_three(alloc)?, other.view())?,
+        32
+    );
+    let totals = [1, 3, 6].as_slice();
+    assert!(rt; running_totals_of_view(array.view()).as_slice() == totals);
+    let boxed = running_totals_of_boxed(alloc, boxed_one_two_three(alloc)?)?;
+    assert!(rt; boxed.as_slice() == totals);
+    assert!(rt; matches!(stopped_in_array(one_two_three()), Err(2)));
+    assert!(rt; matches!(stopped_in_view(array.view()), Err(2)));
+    assert!(rt;
+        matches!(
+            stopped_in_boxed(alloc, boxed_one_two_three(alloc)?)?,
+            Err(2)
+        )
+    );
+    assert_eq!(rt; digits_of_boxed(alloc, boxed_one_two_three(alloc)?)?, 246);
+    assert_eq!(rt; calls_of_a_boxed_map(alloc, boxed_one_two_three(alloc)?), 3);
+    assert_eq!(rt; length_of::<u32, GenericArray<u32, U3>>(&array), 3);
+    assert!(rt; sevens_of_none()?.as_slice().is_empty());
+    assert!(rt; places::<BoxedArray<usize, U3>>(alloc)?.as_slice() == [0, 1, 2].as_slice());
+    assert_eq!(rt; sum_of(array.view()), 6);
+    assert!(rt; digits::<GenericArray<u8, U3>>((), b"180").is_ok());
+    assert!(rt;
+        matches!(
+            digits::<BoxedArray<u8, U3>>(alloc, b"1x0"),
+            Err(FillError::Item(b'x'))
+        )
+    );
+    Ok(())
 }
