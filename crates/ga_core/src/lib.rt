@@ -12,6 +12,7 @@ mod builder;
 mod counted;
 mod fill_error;
 mod length;
+mod never;
 mod places;
 mod store;
 
@@ -28,4 +29,5 @@ pub use ga_views::{
     U60, U61, U62, U63, U64, U128, U256, U512, U1024, U2048, Unsigned,
 };
 pub use length::{ArrayLength, ConstArrayLength, IntoArrayLength};
+pub use never::{Never, always};
 pub use store::Store;

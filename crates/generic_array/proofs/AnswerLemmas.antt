@@ -1,0 +1,36 @@
+-- What runs of a closure answer, where each call's answer is known.
+use Rattle.ga_core.specs.Runs.{CallableInFold, ClosureRun, FoldRun}
+use Rattle.generic_array.specs.Entries.{CallAt, FoldAt, MayFoldAt}
+use Rattle.std.proofs.Common.{◌≡◌, ℕ, ◌+◌, ◌<◌, List, [], ◌∷◌, ◌++◌, arith, refl, ap, sym, ◌∙◌, map}
+use Rattle.std.proofs.lemmas.List.Sums.{sum_by-append, sum_by-cons}
+use Rattle.std.specs.List.{sum}
+
+module _ {F X Y : Type 0} (step : F → X → Y → F → Type 0) (h : X → Y) (answers : (f : F) (x : X) (y : Y) (g : F) → step f x y g → y ≡ h x) where
+  -- each call answers h, so a run answers h of each input
+  pub ClosureRun-answers : (f : F) (xs : List X) (ys : List Y) (g : F) → ClosureRun step f xs ys g → ys ≡ map h xs
+  ClosureRun-answers f [] [] g run = refl
+  ClosureRun-answers f [] (y ∷ ys) g run = absurd run
+  ClosureRun-answers f (x ∷ xs) [] g run = absurd run
+  ClosureRun-answers f (x ∷ xs) (y ∷ ys) g run =
+      let first = answers f x y run.0 run.1 in
+      let others = ClosureRun-answers run.0 xs ys g run.2 in
+      cc (first, others)
+
+sum-cons : (x : ℕ) (xs : List ℕ) → sum (x ∷ xs) ≡ x + sum xs
+sum-cons = sum_by-cons (λ x. x)
+
+sum-append : (xs ys : List ℕ) → sum (xs ++ ys) ≡ sum xs + sum ys
+sum-append = sum_by-append (λ x. x)
+
+module _ {F I : Type 0} (entry : I → ℕ) (step : F → ℕ → I → ℕ → F → Type 0) (adds : (f : F) (a : ℕ) (item : I) (b : ℕ) (g : F) → step f a item b g → b ≡ a + entry item) where
+  -- each call adds what the entry stands for, so the fold adds the sum
+  pub FoldRun-sum : (f : F) (a : ℕ) (xs : List ℕ) (b : ℕ) (g : F) → FoldRun (FoldAt entry step) f a xs b g → b ≡ a + sum xs
+  FoldRun-sum f a [] b g run = omega (arith, ap (λ p. p.1) run)
+  FoldRun-sum f a (x ∷ xs) b g run =
+      omega (arith, FoldRun-sum run.0.0 run.0.1 xs b g run.2, adds f a run.1.0 run.0.1 run.0.0 run.1.2, run.1.1, sum-cons x xs)
+
+  -- where the sum is within the bound, so is each sum on the way
+  pub CallableInFold-sum : (pre : F → ℕ → I → Type 0) (bound : ℕ) → ((f : F) (a : ℕ) (item : I) → a + entry item < bound → pre f a item)
+      → (f : F) (xs : List ℕ) → sum xs < bound → CallableInFold (MayFoldAt entry pre) (FoldAt entry step) f 0 xs
+  CallableInFold-sum pre bound may f xs within passed x others reached value whole run item same =
+      may reached value item (omega (arith, FoldRun-sum f 0 passed value reached run, sum-append passed (x ∷ others), sum-cons x others, ap sum whole, same, within))

@@ -1,0 +1,8 @@
+use Rattle.generic_array.proofs.AnswerLemmas.{ClosureRun-answers}
+use Rattle.generic_array.proofs.uses.places.Goals as goal
+use Rattle.std.proofs.Common.{◌∙◌, rules}
+use Rattle.std.proofs.lemmas.List.{map-id}
+use Rattle.std.proofs.lemmas.Result.{IfOk-weaker}
+
+pub returns-clause-items : goal.returns-clause-items
+returns-clause-items g c = IfOk-weaker c.generate.result _ _ (λ made run. ClosureRun-answers _ (λ index. index) (λ f x y next call. search rules) _ _ _ _ run ∙ map-id _) c.generate.ensures.run.1

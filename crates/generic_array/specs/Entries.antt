@@ -1,0 +1,34 @@
+-- The entries that a sequence's `into_iter` gives, and calls at them. An entry stands for a value: in a view it is a reference to it.
+use Rattle.std.specs.Iterator.{AlwaysYields, Count, IsFinite}
+use Rattle.std.specs.Prelude.{◌≡◌, Option, List}
+
+module _ {S I T : Type 0} (can_next : S → Type 0) (next_gives : S → Option I → S → Type 0) (remaining : S → Count) where
+  -- the iterator may be asked, ends, and gives entries that stand for the values, in order
+  abbrev pub GivesEntries : (I → T) → S → List T → Type 0
+  GivesEntries entry entries values = can_next entries × IsFinite (remaining entries) × AlwaysYields next_gives entry entries values
+
+module _ {I T F : Type 0} (entry : I → T) where
+  -- f may be called at each entry that stands for x
+  abbrev pub MayCallAt : (F → I → Type 0) → F → T → Type 0
+  MayCallAt pre f x = (item : I) → entry item ≡ x → pre f item
+
+  -- a call of f at an entry that stands for x
+  abbrev pub CallAt : {Y : Type 0} → (F → I → Y → F → Type 0) → F → T → Y → F → Type 0
+  CallAt step f x y g = (item : I) × (entry item ≡ x) × step f item y g
+
+  -- f may be called with a at each entry that stands for x
+  abbrev pub MayFoldAt : {A : Type 0} → (F → A → I → Type 0) → F → A → T → Type 0
+  MayFoldAt pre f a x = (item : I) → entry item ≡ x → pre f a item
+
+  -- a call of f with a at an entry that stands for x
+  abbrev pub FoldAt : {A B : Type 0} → (F → A → I → B → F → Type 0) → F → A → T → B → F → Type 0
+  FoldAt step f a x b g = (item : I) × (entry item ≡ x) × step f a item b g
+
+module _ {I J T B F : Type 0} (entry : I → T) (other : J → B) where
+  -- f may be called at each two entries that stand for the pair
+  abbrev pub MayCallAtPair : (F → I → J → Type 0) → F → T × B → Type 0
+  MayCallAtPair pre f p = (left : I) (right : J) → entry left ≡ p.0 → other right ≡ p.1 → pre f left right
+
+  -- a call of f at two entries that stand for the pair
+  abbrev pub CallAtPair : {Y : Type 0} → (F → I → J → Y → F → Type 0) → F → T × B → Y → F → Type 0
+  CallAtPair step f p y g = (left : I) × (right : J) × (entry left ≡ p.0) × (other right ≡ p.1) × step f left right y g

@@ -1,0 +1,4 @@
+pub mod Built
+pub mod Entries
+pub mod EntryLaws
+pub mod Runs

@@ -1,0 +1,32 @@
+-- Runs of a closure over a list: when it may be called along them, and folds that may fail.
+use Rattle.ga_core.specs.Runs.{ClosureRun, FirstErrorRun}
+use Rattle.std.specs.Prelude.{◌≡◌, ◌⊎◌, [], List, ◌∷◌, ◌++◌, Result, Ok, Err, map}
+
+module _ {F X Y : Type 0} (pre : F → X → Type 0) (step : F → X → Y → F → Type 0) where
+  -- f may be called at each input in turn, in each state that the calls at the inputs before it lead to
+  abbrev pub CallableOver : F → List X → Type 0
+  CallableOver f xs = (passed : List X) (x : X) (others : List X) (ys : List Y) (reached : F)
+      → xs ≡ passed ++ x ∷ others → ClosureRun step f passed ys reached → pre reached x
+
+module _ {F X Y E : Type 0} (pre : F → X → Type 0) (step : F → X → Result Y E → F → Type 0) where
+  -- f may be called at each input in turn, in each state that good calls at the inputs before it lead to
+  abbrev pub CallableOverUntilError : F → List X → Type 0
+  CallableOverUntilError f xs = (passed : List X) (x : X) (others : List X) (good : List Y) (reached : F)
+      → xs ≡ passed ++ x ∷ others → ClosureRun step f passed (map Ok good) reached → pre reached x
+
+-- `FirstErrorRun` as a record, from which a proof finds the step
+pub record FirstErrorRan {F X Y E : Type 0} (step : F → X → Result Y E → F → Type 0) (f : F) (xs : List X) (answer : Result (List Y) E) (last : F) : Type 0 where
+  pub run : FirstErrorRun step f xs answer last
+
+module _ {F A X E : Type 0} (step : F → A → X → Result A E → F → Type 0) where
+  -- a step that is no error
+  abbrev pub good_step : F → A → X → A → F → Type 0
+  good_step f a x b g = step f a x (Ok b) g
+
+  -- Calls led from the state f to the state last, one at each item in order, each with what the one before answered: all were good, and
+  -- led from a to the answer, or the first error came, and no call was made after it.
+  abbrev pub TryFoldRun : F → A → List X → Result A E → F → Type 0
+  TryFoldRun f a [] (Ok b) last = (a ≡ b) × (f ≡ last)
+  TryFoldRun f a [] (Err error) last = ⊥
+  TryFoldRun f a (x ∷ xs) (Ok b) last = (c : A) × (g : F) × step f a x (Ok c) g × TryFoldRun g c xs (Ok b) last
+  TryFoldRun f a (x ∷ xs) (Err error) last = step f a x (Err error) last ⊎ ((c : A) × (g : F) × step f a x (Ok c) g × TryFoldRun g c xs (Err error) last)

@@ -1,0 +1,216 @@
+//! Calls of a closure at all entries of a sequence, from the first to the last.
+ghost use Rattle.ga_core.specs.Runs.{CallableInFold, ClosureRun, FirstErrorRun, FoldRun};
+ghost use Rattle.generic_array.specs.Built.{built_items};
+ghost use Rattle.generic_array.specs.Entries.{CallAt, CallAtPair, FoldAt, MayCallAt, MayCallAtPair, MayFoldAt};
+ghost use Rattle.generic_array.specs.Runs.{CallableOver, CallableOverUntilError, TryFoldRun, good_step};
+ghost use Rattle.std.specs.List.{zip};
+ghost use Rattle.std.specs.Prelude.{◌≡◌, IfOk, IsOk, OnErr};
+
+mod inverted;
+mod kinds;
+mod walks;
+
+use crate::sequence::{FallibleGenericSequence, GenericSequence};
+pub use inverted::{inverted_zip, inverted_zip_by, inverted_zip2, inverted_zip2_by};
+pub(crate) use walks::fold_entries;
+use walks::{map_entries, try_fold_entries, try_map_entries, zip_entries};
+
+/// The kind of sequence that a map to `U` makes.
+pub type Mapped<S, T, U> = <S as MappedGenericSequence<T, U>>::Mapped;
+
+/// The sequence that a map to `U` makes.
+pub type MappedSequence<S, T, U> = <Mapped<S, T, U> as GenericSequence<U>>::Sequence;
+
+/// What gives the memory of the sequence that a map to `U` makes.
+pub type MappedPlace<S, T, U> = <Mapped<S, T, U> as GenericSequence<U>>::Place;
+
+/// Why a map to `U` made no sequence.
+pub type MappedError<S, T, U> = <Mapped<S, T, U> as GenericSequence<U>>::Error;
+
+/// A sequence of which a sequence of as many `U` can be made.
+pub trait MappedGenericSequence<T, U>: GenericSequence<T> {
+    /// The kind of what is made: inline for inline arrays and views, boxed for boxed arrays.
+    type Mapped: GenericSequence<U>;
+
+    ghost same_length: { Self.Mapped.Length.USIZE ≡ Self.Length.USIZE };
+}
+
+/// Calls of a closure at all entries. Each has one body, for all kinds.
+///
+/// What makes a sequence asks for its memory first: where that is refused, no call is made, and the
+/// entries are dropped.
+pub trait FunctionalSequence<T>: GenericSequence<T> {
+    /// The sequence of what `f` answers at each entry, called in order.
+    final fn map<U, F: FnMut(Self::Item) -> U>(
+        self,
+        place: MappedPlace<Self, T, U>,
+        f: F,
+    ) -> Result<MappedSequence<Self, T, U>, MappedError<Self, T, U>>
+    where
+        Self: MappedGenericSequence<T, U>,
+        requires fits { Self.Mapped.Fits }
+        requires callable { CallableOver (MayCallAt Self.entry F.pre) (CallAt Self.entry F.step) f (Self.items self) }
+        ensures run { (last : F) × IfOk result (λ made. ClosureRun (CallAt Self.entry F.step) f (Self.items self) (Self.Mapped.Sequence.items made) last) }
+        ensures promised { Self.Mapped.IsPromised → IsOk result }
+    {
+        let mut f = f;
+        self.map_by(place, &mut f)
+    }
+
+    /// `map` with a closure that is lent, and can be used again in the state that it reached.
+    final fn map_by<U, F: FnMut(Self::Item) -> U>(
+        self,
+        place: MappedPlace<Self, T, U>,
+        f: &mut F,
+    ) -> Result<MappedSequence<Self, T, U>, MappedError<Self, T, U>>
+    where
+        Self: MappedGenericSequence<T, U>,
+        requires fits { Self.Mapped.Fits }
+        requires callable { CallableOver (MayCallAt Self.entry F.pre) (CallAt Self.entry F.step) f.old (Self.items self) }
+        ensures run { IfOk result (λ made. ClosureRun (CallAt Self.entry F.step) f.old (Self.items self) (Self.Mapped.Sequence.items made) f.new) }
+        ensures err { OnErr result (f.new ≡ f.old) }
+        ensures promised { Self.Mapped.IsPromised → IsOk result }
+    {
+        // The view knows the length.
+        let _ = self.view();
+        map_entries::<T, Self::IntoIter, U, Mapped<Self, T, U>, F>(self.into_iter(), place, f)
+    }
+
+    /// `map` with a closure that may fail: the sequence of its answers, or its first error.
+    ///
+    /// No call follows an error. The answers made before it, and the entries left, are dropped.
+    final fn try_map<U, E, F: FnMut(Self::Item) -> Result<U, E>>(
+        self,
+        place: MappedPlace<Self, T, U>,
+        f: F,
+    ) -> Result<Result<MappedSequence<Self, T, U>, E>, MappedError<Self, T, U>>
+    where
+        Self: MappedGenericSequence<T, U>,
+        Mapped<Self, T, U>: FallibleGenericSequence<U>,
+        requires fits { Self.Mapped.Fits }
+        requires callable { CallableOverUntilError (MayCallAt Self.entry F.pre) (CallAt Self.entry F.step) f (Self.items self) }
+        ensures run { (last : F) × IfOk result (λ built. FirstErrorRun (CallAt Self.entry F.step) f (Self.items self) (built_items Self.Mapped.Sequence.items built) last) }
+        ensures promised { Self.Mapped.IsPromised → IsOk result }
+    {
+        let mut f = f;
+        self.try_map_by(place, &mut f)
+    }
+
+    /// `try_map` with a closure that is lent, and can be used again in the state that it reached.
+    final fn try_map_by<U, E, F: FnMut(Self::Item) -> Result<U, E>>(
+        self,
+        place: MappedPlace<Self, T, U>,
+        f: &mut F,
+    ) -> Result<Result<MappedSequence<Self, T, U>, E>, MappedError<Self, T, U>>
+    where
+        Self: MappedGenericSequence<T, U>,
+        Mapped<Self, T, U>: FallibleGenericSequence<U>,
+        requires fits { Self.Mapped.Fits }
+        requires callable { CallableOverUntilError (MayCallAt Self.entry F.pre) (CallAt Self.entry F.step) f.old (Self.items self) }
+        ensures run { IfOk result (λ built. FirstErrorRun (CallAt Self.entry F.step) f.old (Self.items self) (built_items Self.Mapped.Sequence.items built) f.new) }
+        ensures err { OnErr result (f.new ≡ f.old) }
+        ensures promised { Self.Mapped.IsPromised → IsOk result }
+    {
+        // The view knows the length.
+        let _ = self.view();
+        try_map_entries::<T, Self::IntoIter, U, E, Mapped<Self, T, U>, F>(
+            self.into_iter(),
+            place,
+            f,
+        )
+    }
+
+    /// The sequence of what `f` answers at each entry and that of `rhs` in its place, called in
+    /// order. It is of the kind of `self`.
+    ///
+    /// The lengths are equal. `rhs` may be of another kind.
+    final fn zip<B, U, R: GenericSequence<B>, F: FnMut(Self::Item, R::Item) -> U>(
+        self,
+        place: MappedPlace<Self, T, U>,
+        rhs: R,
+        f: F,
+    ) -> Result<MappedSequence<Self, T, U>, MappedError<Self, T, U>>
+    where
+        Self: MappedGenericSequence<T, U>,
+        requires lengths { Self.Length.USIZE ≡ R.Length.USIZE }
+        requires fits { Self.Mapped.Fits }
+        requires callable { CallableOver (MayCallAtPair Self.entry R.entry F.pre) (CallAtPair Self.entry R.entry F.step) f (zip (Self.items self) (R.items rhs)) }
+        ensures run { (last : F) × IfOk result (λ made. ClosureRun (CallAtPair Self.entry R.entry F.step) f (zip (Self.items self) (R.items rhs)) (Self.Mapped.Sequence.items made) last) }
+        ensures promised { Self.Mapped.IsPromised → IsOk result }
+    {
+        let mut f = f;
+        self.zip_by(place, rhs, &mut f)
+    }
+
+    /// `zip` with a closure that is lent, and can be used again in the state that it reached.
+    final fn zip_by<B, U, R: GenericSequence<B>, F: FnMut(Self::Item, R::Item) -> U>(
+        self,
+        place: MappedPlace<Self, T, U>,
+        rhs: R,
+        f: &mut F,
+    ) -> Result<MappedSequence<Self, T, U>, MappedError<Self, T, U>>
+    where
+        Self: MappedGenericSequence<T, U>,
+        requires lengths { Self.Length.USIZE ≡ R.Length.USIZE }
+        requires fits { Self.Mapped.Fits }
+        requires callable { CallableOver (MayCallAtPair Self.entry R.entry F.pre) (CallAtPair Self.entry R.entry F.step) f.old (zip (Self.items self) (R.items rhs)) }
+        ensures run { IfOk result (λ made. ClosureRun (CallAtPair Self.entry R.entry F.step) f.old (zip (Self.items self) (R.items rhs)) (Self.Mapped.Sequence.items made) f.new) }
+        ensures err { OnErr result (f.new ≡ f.old) }
+        ensures promised { Self.Mapped.IsPromised → IsOk result }
+    {
+        // The views know the lengths.
+        let _ = self.view();
+        let _ = rhs.view();
+        zip_entries::<T, B, Self::IntoIter, R::IntoIter, U, Mapped<Self, T, U>, F>(
+            self.into_iter(),
+            rhs.into_iter(),
+            place,
+            f,
+        )
+    }
+
+    /// The last answer of `f`, called with `init` and the first entry, and then with its own answer
+    /// and each other entry in order; `init` where there is none.
+    final fn fold<A, F: FnMut(A, Self::Item) -> A>(self, init: A, f: F) -> A
+        requires callable { CallableInFold (MayFoldAt Self.entry F.pre) (FoldAt Self.entry F.step) f init (Self.items self) }
+        ensures run { (last : F) × FoldRun (FoldAt Self.entry F.step) f init (Self.items self) result last }
+    {
+        let mut f = f;
+        self.fold_by(init, &mut f)
+    }
+
+    /// `fold` with a closure that is lent, and can be used again in the state that it reached.
+    final fn fold_by<A, F: FnMut(A, Self::Item) -> A>(self, init: A, f: &mut F) -> A
+        requires callable { CallableInFold (MayFoldAt Self.entry F.pre) (FoldAt Self.entry F.step) f.old init (Self.items self) }
+        ensures run { FoldRun (FoldAt Self.entry F.step) f.old init (Self.items self) result f.new }
+    {
+        fold_entries::<T, Self::IntoIter, A, F>(self.into_iter(), init, f)
+    }
+
+    /// `fold` with a closure that may fail: its last answer, or its first error.
+    ///
+    /// No call follows an error, and the entries left are dropped.
+    final fn try_fold<A, E, F: FnMut(A, Self::Item) -> Result<A, E>>(
+        self,
+        init: A,
+        f: F,
+    ) -> Result<A, E>
+        requires callable { CallableInFold (MayFoldAt Self.entry F.pre) (good_step (FoldAt Self.entry F.step)) f init (Self.items self) }
+        ensures run { (last : F) × TryFoldRun (FoldAt Self.entry F.step) f init (Self.items self) result last }
+    {
+        let mut f = f;
+        self.try_fold_by(init, &mut f)
+    }
+
+    /// `try_fold` with a closure that is lent, and can be used again in the state that it reached.
+    final fn try_fold_by<A, E, F: FnMut(A, Self::Item) -> Result<A, E>>(
+        self,
+        init: A,
+        f: &mut F,
+    ) -> Result<A, E>
+        requires callable { CallableInFold (MayFoldAt Self.entry F.pre) (good_step (FoldAt Self.entry F.step)) f.old init (Self.items self) }
+        ensures run { TryFoldRun (FoldAt Self.entry F.step) f.old init (Self.items self) result f.new }
+    {
+        try_fold_entries::<T, Self::IntoIter, A, E, F>(self.into_iter(), init, f)
+    }
+}

@@ -1,0 +1,115 @@
+//! Zips told from the right side. Each is one function over the traits.
+ghost use Rattle.ga_core.specs.Runs.{ClosureRun};
+ghost use Rattle.generic_array.specs.Entries.{CallAtPair, MayCallAtPair};
+ghost use Rattle.generic_array.specs.Runs.{CallableOver};
+ghost use Rattle.std.specs.List.{zip};
+ghost use Rattle.std.specs.Prelude.{◌≡◌, IfOk, IsOk, OnErr};
+
+use crate::functional::walks::zip_entries;
+use crate::functional::{Mapped, MappedError, MappedGenericSequence, MappedPlace, MappedSequence};
+use crate::sequence::{GenericSequence, SequenceItem};
+use ga_core::{ArrayLength, GenericArray, GenericArrayIter, always};
+
+/// The array of what `f` answers at each item of `lhs` and the entry of `s` in its place, called in
+/// order.
+pub fn inverted_zip<
+    T,
+    S: GenericSequence<T>,
+    B: Default + Drop,
+    U: Default + Drop,
+    F: FnMut(B, SequenceItem<S>) -> U,
+>(s: S, lhs: GenericArray<B, S::Length>, f: F) -> GenericArray<U, S::Length>
+where
+    S::Length: ArrayLength<B> + ArrayLength<U>,
+    requires callable { CallableOver (MayCallAtPair (λ item. item) S.entry F.pre) (CallAtPair (λ item. item) S.entry F.step) f (zip lhs (S.items s)) }
+    ensures run { (last : F) × ClosureRun (CallAtPair (λ item. item) S.entry F.step) f (zip lhs (S.items s)) result last }
+{
+    let mut f = f;
+    inverted_zip_by(s, lhs, &mut f)
+}
+
+/// `inverted_zip` with a closure that is lent, and can be used again in the state that it reached.
+pub fn inverted_zip_by<
+    T,
+    S: GenericSequence<T>,
+    B: Default + Drop,
+    U: Default + Drop,
+    F: FnMut(B, SequenceItem<S>) -> U,
+>(s: S, lhs: GenericArray<B, S::Length>, f: &mut F) -> GenericArray<U, S::Length>
+where
+    S::Length: ArrayLength<B> + ArrayLength<U>,
+    requires callable { CallableOver (MayCallAtPair (λ item. item) S.entry F.pre) (CallAtPair (λ item. item) S.entry F.step) f.old (zip lhs (S.items s)) }
+    ensures run { ClosureRun (CallAtPair (λ item. item) S.entry F.step) f.old (zip lhs (S.items s)) result f.new }
+{
+    // The slice and the view know the lengths.
+    let _ = lhs.as_slice();
+    let _ = s.view();
+    always(zip_entries::<
+        B,
+        T,
+        GenericArrayIter<B, S::Length>,
+        S::IntoIter,
+        U,
+        GenericArray<U, S::Length>,
+        F,
+    >(lhs.into_iter(), s.into_iter(), (), f))
+}
+
+/// `inverted_zip` with a left side of any kind, which is that of the answer too.
+///
+/// The lengths are equal. Memory is asked for first: where it is refused, no call is made, and the
+/// entries are dropped.
+pub fn inverted_zip2<
+    T,
+    S: GenericSequence<T>,
+    B,
+    U,
+    Lhs: MappedGenericSequence<B, U>,
+    F: FnMut(SequenceItem<Lhs>, SequenceItem<S>) -> U,
+>(
+    s: S,
+    place: MappedPlace<Lhs, B, U>,
+    lhs: Lhs,
+    f: F,
+) -> Result<MappedSequence<Lhs, B, U>, MappedError<Lhs, B, U>>
+    requires lengths { S.Length.USIZE ≡ Lhs.Length.USIZE }
+    requires fits { Lhs.Mapped.Fits }
+    requires callable { CallableOver (MayCallAtPair Lhs.entry S.entry F.pre) (CallAtPair Lhs.entry S.entry F.step) f (zip (Lhs.items lhs) (S.items s)) }
+    ensures run { (last : F) × IfOk result (λ made. ClosureRun (CallAtPair Lhs.entry S.entry F.step) f (zip (Lhs.items lhs) (S.items s)) (Lhs.Mapped.Sequence.items made) last) }
+    ensures promised { Lhs.Mapped.IsPromised → IsOk result }
+{
+    let mut f = f;
+    inverted_zip2_by(s, place, lhs, &mut f)
+}
+
+/// `inverted_zip2` with a closure that is lent, and can be used again in the state that it reached.
+pub fn inverted_zip2_by<
+    T,
+    S: GenericSequence<T>,
+    B,
+    U,
+    Lhs: MappedGenericSequence<B, U>,
+    F: FnMut(SequenceItem<Lhs>, SequenceItem<S>) -> U,
+>(
+    s: S,
+    place: MappedPlace<Lhs, B, U>,
+    lhs: Lhs,
+    f: &mut F,
+) -> Result<MappedSequence<Lhs, B, U>, MappedError<Lhs, B, U>>
+    requires lengths { S.Length.USIZE ≡ Lhs.Length.USIZE }
+    requires fits { Lhs.Mapped.Fits }
+    requires callable { CallableOver (MayCallAtPair Lhs.entry S.entry F.pre) (CallAtPair Lhs.entry S.entry F.step) f.old (zip (Lhs.items lhs) (S.items s)) }
+    ensures run { IfOk result (λ made. ClosureRun (CallAtPair Lhs.entry S.entry F.step) f.old (zip (Lhs.items lhs) (S.items s)) (Lhs.Mapped.Sequence.items made) f.new) }
+    ensures err { OnErr result (f.new ≡ f.old) }
+    ensures promised { Lhs.Mapped.IsPromised → IsOk result }
+{
+    // The views know the lengths.
+    let _ = lhs.view();
+    let _ = s.view();
+    zip_entries::<B, T, Lhs::IntoIter, S::IntoIter, U, Mapped<Lhs, B, U>, F>(
+        lhs.into_iter(),
+        s.into_iter(),
+        place,
+        f,
+    )
+}

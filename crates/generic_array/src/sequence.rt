@@ -1,0 +1,165 @@
+//! What is common to the kinds of sequences, and how each is made.
+ghost use Rattle.ga_boxed.specs.FillAnswer.{fill_answer};
+ghost use Rattle.ga_core.specs.Copies.{Repeats};
+ghost use Rattle.ga_core.specs.Fill.{FillFalliblyRuns, FillsFallibly};
+ghost use Rattle.ga_core.specs.Runs.{CallableAlong, CallableUntilError, ClosureRun, FirstErrorRun};
+ghost use Rattle.generic_array.specs.Built.{built_items};
+ghost use Rattle.generic_array.specs.Entries.{GivesEntries};
+ghost use Rattle.std.specs.List.{range_with_len};
+ghost use Rattle.std.specs.Prelude.{◌≡◌, ◌≤◌, ◌↔◌, IfOk, IsOk, IsTrue, OnErr, replicate};
+
+mod boxed;
+mod inline;
+mod views;
+
+use ga_core::{AllocError, FillError, GenericArrayRef, Unsigned};
+use std::convert::AsSlice;
+
+/// An entry of a sequence: what its `into_iter` gives.
+pub type SequenceItem<S> = <S as IntoIterator>::Item;
+
+/// A sequence whose length is a type. Contracts see the list of its items, by `items`.
+///
+/// An inline array, a read-only view or a boxed array. `into_iter` gives an entry for each item, in
+/// order; of a view it is a reference.
+pub trait GenericSequence<T>: Sized + AsSlice<T> + IntoIterator {
+    /// How many items there are.
+    type Length: Unsigned;
+
+    /// What is made where a sequence of this kind is asked for. It owns its items.
+    type Sequence: AsSlice<T> + IntoIterator<Item = T>;
+
+    /// What gives the memory of a sequence that is made: `()` where none is asked for.
+    type Place;
+
+    /// Why a sequence wasn't made: `Never` where none is refused.
+    type Error;
+
+    // A sequence of this kind may have this length.
+    ghost Fits: { Type 0 };
+
+    // The value that an entry stands for.
+    ghost entry: { Self.Item → T };
+
+    // Memory for a sequence of this kind and length is never refused.
+    ghost IsPromised: { Type 0 };
+
+    /// Whether the length is one that a sequence of this kind may have, as the calls that make one
+    /// ask.
+    fn fits() -> bool
+        ensures { IsTrue result ↔ Fits };
+
+    /// All items as a view, which knows that there are `Length` of them. Constant time.
+    fn view(&self) -> GenericArrayRef<'_, T, Self::Length>
+        ensures { result.slice.now ≡ Self.items self.now };
+
+    /// The sequence of `f(0)` to `f(Length - 1)`, each called once, in this order.
+    ///
+    /// Memory is asked for first: where it is refused, no call is made.
+    final fn generate<F: FnMut(usize) -> T>(
+        place: Self::Place,
+        f: F,
+    ) -> Result<Self::Sequence, Self::Error>
+        requires fits { Fits }
+        requires callable { CallableAlong F.pre F.step f Self.Length.USIZE }
+        ensures run { (last : F) × IfOk result (λ made. ClosureRun F.step f (range_with_len 0 Self.Length.USIZE) (Self.Sequence.items made) last) }
+        ensures promised { IsPromised → IsOk result }
+    {
+        let mut f = f;
+        Self::generate_by(place, &mut f)
+    }
+
+    /// `generate` with a closure that is lent, and can be used again in the state that it reached.
+    fn generate_by<F: FnMut(usize) -> T>(
+        place: Self::Place,
+        f: &mut F,
+    ) -> Result<Self::Sequence, Self::Error>
+        requires fits { Fits }
+        requires callable { CallableAlong F.pre F.step f.old Self.Length.USIZE }
+        ensures run { IfOk result (λ made. ClosureRun F.step f.old (range_with_len 0 Self.Length.USIZE) (Self.Sequence.items made) f.new) }
+        ensures err { OnErr result (f.new ≡ f.old) }
+        ensures promised { IsPromised → IsOk result };
+
+    /// The sequence of `Length` values equal to `item`: clones of it, made in order, and at last
+    /// `item` itself.
+    ///
+    /// Refused where memory or a clone is; the clones made are then dropped.
+    fn repeat(place: Self::Place, item: T) -> Result<Self::Sequence, AllocError>
+    where
+        T: Clone,
+        requires fits { Fits }
+        ensures items { IfOk result (λ made. Repeats T.is_clone item Self.Length.USIZE (Self.Sequence.items made)) }
+        ensures same { ((copy : T) → T.is_clone item copy → copy ≡ item) → IfOk result (λ made. Self.Sequence.items made ≡ replicate Self.Length.USIZE item) }
+        ensures few { IsPromised → Self.Length.USIZE ≤ 1 → IsOk result }
+        ensures succeeds { IsPromised → T.is_infallible item → IsOk result };
+
+    ghost empty_is_promised: { Self.Length.USIZE ≡ 0 → IsPromised };
+
+    ghost gives_entries: { (sequence : Self) (entries : Self.IntoIter) → Self.into_iter_gives sequence entries → GivesEntries Self.IntoIter.can_next Self.IntoIter.next_gives Self.IntoIter.remaining entry entries (Self.items sequence) };
+
+    ghost gives_items: { (made : Self.Sequence) (items : Self.Sequence.IntoIter) → Self.Sequence.into_iter_gives made items → GivesEntries Self.Sequence.IntoIter.can_next Self.Sequence.IntoIter.next_gives Self.Sequence.IntoIter.remaining (λ item. item) items (Self.Sequence.items made) };
+}
+
+/// A sequence that can be made by a closure that may fail.
+pub trait FallibleGenericSequence<T>: GenericSequence<T> {
+    /// `generate` with a closure that may fail: the sequence of its answers, or its first error.
+    ///
+    /// No call follows an error, and the items made before it are dropped.
+    final fn try_generate<E, F: FnMut(usize) -> Result<T, E>>(
+        place: Self::Place,
+        f: F,
+    ) -> Result<Result<Self::Sequence, E>, Self::Error>
+        requires fits { Self.Fits }
+        requires callable { CallableUntilError F.pre F.step f Self.Length.USIZE }
+        ensures run { (last : F) × IfOk result (λ built. FirstErrorRun F.step f (range_with_len 0 Self.Length.USIZE) (built_items Self.Sequence.items built) last) }
+        ensures promised { Self.IsPromised → IsOk result }
+    {
+        let mut f = f;
+        Self::try_generate_by(place, &mut f)
+    }
+
+    /// `try_generate` with a closure that is lent, and can be used again in the state that it
+    /// reached.
+    fn try_generate_by<E, F: FnMut(usize) -> Result<T, E>>(
+        place: Self::Place,
+        f: &mut F,
+    ) -> Result<Result<Self::Sequence, E>, Self::Error>
+        requires fits { Self.Fits }
+        requires callable { CallableUntilError F.pre F.step f.old Self.Length.USIZE }
+        ensures run { IfOk result (λ built. FirstErrorRun F.step f.old (range_with_len 0 Self.Length.USIZE) (built_items Self.Sequence.items built) f.new) }
+        ensures err { OnErr result (f.new ≡ f.old) }
+        ensures promised { Self.IsPromised → IsOk result };
+}
+
+/// A sequence that can be filled from an iterator whose items may be errors.
+pub trait FromFallibleIterator<T>: GenericSequence<T> {
+    /// The sequence of the values that `items` gives. Answers the first error among its first
+    /// `Length` items as `Item`, and where there is no such error and it gives another number of
+    /// values, `Length`.
+    ///
+    /// Memory is asked for first: where it is refused, the answer is `Place`, and no item is taken.
+    /// An error that comes after `Length` values is one item too many. Size hints aren't consulted.
+    fn from_fallible_iter<E: Drop, I: Iterator<Item = Result<T, E>>>(
+        place: Self::Place,
+        items: I,
+    ) -> Result<Self, FillError<E, Self::Error>>
+        requires fits { Self.Fits }
+        requires can { I.can_next items }
+        ensures fill { (after : I) × IfOk (fill_answer (built_items Self.items result)) (λ built. FillsFallibly I.next_gives items Self.Length.USIZE built after) }
+        ensures runs { IfOk (fill_answer (built_items Self.items result)) (λ built. FillFalliblyRuns I.next_gives items Self.Length.USIZE built) }
+        ensures promised { Self.IsPromised → IsOk (fill_answer (built_items Self.items result)) };
+
+    /// `from_fallible_iter` with an iterator that is lent, and can be asked on afterwards.
+    ///
+    /// The error that is answered as `Item` is the last item taken. An iterator isn't asked again
+    /// once it has ended.
+    fn from_fallible_iter_ref<E: Drop, I: Iterator<Item = Result<T, E>>>(
+        place: Self::Place,
+        items: &mut I,
+    ) -> Result<Self, FillError<E, Self::Error>>
+        requires fits { Self.Fits }
+        requires can { I.can_next items.old }
+        ensures fill { IfOk (fill_answer (built_items Self.items result)) (λ built. FillsFallibly I.next_gives items.old Self.Length.USIZE built items.new) }
+        ensures err { OnErr (fill_answer (built_items Self.items result)) (items.new ≡ items.old) }
+        ensures promised { Self.IsPromised → IsOk (fill_answer (built_items Self.items result)) };
+}
