@@ -1,3 +1,4 @@
 pub mod DecimalLemmas
 pub mod EndLemmas
+pub mod SumLemmas
 pub mod TextLemmas

@@ -1,6 +1,6 @@
 -- The text of an input, row by row.
-use Rattle.ga_core.proofs.RowLemmas.{chunk_rest-few, chunk_rest-first, rows-few, rows-first}
-use Rattle.ga_core.specs.Rows.{chunk_rest, rows}
+use Rattle.generic_array.proofs.RowLemmas.{chunk_rest-few, chunk_rest-first, rows-few, rows-first}
+use Rattle.generic_array.specs.Rows.{chunk_rest, rows}
 use Rattle.ga_rows.specs.Text.{line, rest_line, row_text, text_of}
 use Rattle.ga_rows.specs.Words.{bytes_of}
 use Rattle.ga_rows.specs.declared.words.Mode.{Mode}

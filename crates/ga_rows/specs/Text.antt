@@ -1,11 +1,11 @@
 -- The text of an input: a line for each whole row, and a line for the rest.
-use Rattle.ga_core.specs.Rows.{chunk_rest, rows}
+use Rattle.generic_array.specs.Rows.{chunk_rest, rows}
 use Rattle.ga_rows.specs.Words.{bytes_of}
 use Rattle.ga_rows.specs.declared.words.Mode.{Mode}
-use Rattle.ga_rows.specs.declared.words.Mode.TheVariants.{Back, Dec}
+use Rattle.ga_rows.specs.declared.words.Mode.TheVariants.{Back, Dec, Sum}
 use Rattle.ga_rows.specs.declared.words.Width.{Width}
 use Rattle.std.specs.List.{flat_map, join_by}
-use Rattle.std.specs.Prelude.{ℕ, List, [], ◌∷◌, ◌++◌, codes, decimal, reverse}
+use Rattle.std.specs.Prelude.{ℕ, List, [], ◌∷◌, ◌++◌, codes, decimal, reverse, sum}
 
 -- the numbers in decimal, joined by one space
 abbrev pub numbers_text : List ℕ → List ℕ
@@ -19,6 +19,7 @@ line text = text ++ 10 ∷ []
 abbrev pub row_text : Mode → List ℕ → List ℕ
 row_text Dec row = numbers_text row
 row_text Back row = numbers_text (reverse row)
+row_text Sum row = decimal (sum row)
 
 -- the line of the bytes that fill no row, if there are any
 abbrev pub rest_line : List ℕ → List ℕ

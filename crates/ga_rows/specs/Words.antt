@@ -1,6 +1,6 @@
 -- What the words after the program's name mean: a mode and a width, or nothing. A word is the list of its bytes.
 use Rattle.ga_rows.specs.declared.words.Mode.{Mode}
-use Rattle.ga_rows.specs.declared.words.Mode.TheVariants.{Back, Dec}
+use Rattle.ga_rows.specs.declared.words.Mode.TheVariants.{Back, Dec, Sum}
 use Rattle.ga_rows.specs.declared.words.Width.{Width}
 use Rattle.ga_rows.specs.declared.words.Width.TheVariants.{W4}
 use Rattle.std.specs.Prelude.{ℕ, List, [], ◌∷◌, Option, None, Some, codes, if◌then◌else◌}
@@ -12,7 +12,7 @@ bytes_of W4 = 4
 
 -- the mode of this name
 abbrev pub mode_named : List ℕ → Option Mode
-mode_named word = if bytes_eq word (codes "dec") then Some Dec else if bytes_eq word (codes "back") then Some Back else None
+mode_named word = if bytes_eq word (codes "dec") then Some Dec else if bytes_eq word (codes "back") then Some Back else if bytes_eq word (codes "sum") then Some Sum else None
 
 -- the width of this number
 abbrev pub width_named : List ℕ → Option Width

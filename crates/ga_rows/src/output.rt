@@ -1,13 +1,14 @@
 //! Writing the rows of an input.
-ghost use Rattle.ga_core.specs.Rows.{chunk_rest};
+ghost use Rattle.generic_array.specs.Rows.{chunk_rest};
 ghost use Rattle.ga_rows.specs.Text.{line, rest_line, row_text, text_of};
 ghost use Rattle.ga_rows.specs.Words.{bytes_of};
 ghost use Rattle.std.specs.Io.KnownBytes.{Appends, Keeps, append_known};
-ghost use Rattle.std.specs.Prelude.{◌≡◌, ◌≢◌, ◌+◌, ◌≤◌, ◌↔◌, [], IfOk, IsOk, IsTrue, OnOk, length, take};
+ghost use Rattle.std.specs.Prelude.{◌≡◌, ◌≢◌, ◌+◌, ◌<◌, ◌≤◌, ◌↔◌, [], IfOk, IsOk, IsTrue, OnOk, length, sum, take};
 
 use crate::piece::{PIECE_SIZE, Piece};
 use crate::words::{Mode, Width};
-use ga_core::{GenericArray, LengthError, U4};
+use generic_array::checks::total_by;
+use generic_array::{GenericArray, LengthError, U4};
 use std::io;
 use std::io::Write;
 
@@ -70,9 +71,20 @@ fn put_row<W: Write>(
     match mode {
         Mode::Dec => piece.push_numbers(row.as_slice()),
         Mode::Back => piece.push_numbers_back(row.into_iter()),
+        Mode::Sum => piece.push_decimal(sum_of(row)),
     }
     piece.push(b'\n');
     Ok(())
+}
+
+/// The sum of a row's bytes.
+#[inline]
+fn sum_of(row: GenericArray<u8, U4>) -> u16
+    ensures value { result ≡ sum row }
+    ensures small { sum row < 10000 }
+{
+    let _ = row.as_slice();
+    total_by(row, 0, &mut |sum: u16, byte: u8| sum + u16::from(byte))
 }
 
 /// Puts the line of the bytes that fill no row behind the piece, if there are any.

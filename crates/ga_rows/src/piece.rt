@@ -2,7 +2,7 @@
 ghost use Rattle.ga_rows.specs.Text.{numbers_text};
 ghost use Rattle.std.specs.Prelude.{◌≡◌, ◌+◌, ◌*◌, ◌<◌, ◌≤◌, ◌↔◌, IsTrue, [], ◌∷◌, ◌++◌, decimal, length, reverse};
 
-use ga_core::{ArrayLength, GenericArrayIter};
+use generic_array::{ArrayLength, GenericArrayIter};
 use std::marker::Model;
 
 /// How many bytes a piece of text may have.
@@ -70,24 +70,52 @@ impl Piece {
         self.len += 1;
     }
 
-    /// Appends a number in decimal, without leading zeros. There is room for three digits.
+    /// Appends a number of at most four digits in decimal, without leading zeros. There is room for
+    /// four.
     #[inline]
     #[tactic(auto, using(std::proofs::lemmas::Fmt::decimal_digit))]
-    pub fn push_decimal(&mut self, number: u8)
-        requires { length self.old + 3 ≤ PIECE_SIZE }
+    pub fn push_decimal(&mut self, number: u16)
+        requires small { number < 10000 }
+        requires room { length self.old + 4 ≤ PIECE_SIZE }
+        ensures text { self.new ≡ self.old ++ decimal number }
+        ensures digits { length self.new ≤ length self.old + 4 }
+        ensures short { number < 1000 → length self.new ≤ length self.old + 3 }
+    {
+        if number < 1000 {
+            self.push_below_1000(number);
+        } else {
+            self.push_below_1000(number / 10);
+            self.push_digit(number % 10);
+        }
+    }
+
+    #[inline]
+    #[tactic(auto, using(std::proofs::lemmas::Fmt::decimal_digit))]
+    fn push_below_1000(&mut self, number: u16)
+        requires small { number < 1000 }
+        requires room { length self.old + 3 ≤ PIECE_SIZE }
         ensures text { self.new ≡ self.old ++ decimal number }
         ensures digits { length self.new ≤ length self.old + 3 }
     {
         if number < 10 {
-            self.push(b'0' + number);
+            self.push_digit(number);
         } else if number < 100 {
-            self.push(b'0' + number / 10);
-            self.push(b'0' + number % 10);
+            self.push_digit(number / 10);
+            self.push_digit(number % 10);
         } else {
-            self.push(b'0' + number / 100);
-            self.push(b'0' + number / 10 % 10);
-            self.push(b'0' + number % 10);
+            self.push_digit(number / 100);
+            self.push_digit(number / 10 % 10);
+            self.push_digit(number % 10);
         }
+    }
+
+    #[inline]
+    fn push_digit(&mut self, digit: u16)
+        requires small { digit < 10 }
+        requires room { length self.old < PIECE_SIZE }
+        ensures { self.new ≡ self.old ++ (48 + digit) ∷ [] }
+    {
+        self.push(b'0' + digit as u8);
     }
 
     /// Appends numbers in decimal, joined by one space. There is room for four bytes each.
@@ -100,10 +128,10 @@ impl Piece {
         let Some((first, others)) = numbers.split_first() else {
             return;
         };
-        self.push_decimal(*first);
+        self.push_decimal(u16::from(*first));
         for number in others {
             self.push(b' ');
-            self.push_decimal(*number);
+            self.push_decimal(u16::from(*number));
         }
     }
 
@@ -118,10 +146,10 @@ impl Piece {
         let Some(last) = numbers.next_back() else {
             return;
         };
-        self.push_decimal(last);
+        self.push_decimal(u16::from(last));
         while let Some(number) = numbers.next_back() {
             self.push(b' ');
-            self.push_decimal(number);
+            self.push_decimal(u16::from(number));
         }
     }
 

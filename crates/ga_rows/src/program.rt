@@ -1,5 +1,5 @@
 //! The program, as a function of its words, a reader and writers.
-ghost use Rattle.ga_core.specs.Rows.{chunk_rest};
+ghost use Rattle.generic_array.specs.Rows.{chunk_rest};
 ghost use Rattle.ga_rows.specs.Listed.{ListedAnd};
 ghost use Rattle.ga_rows.specs.Text.{text_of};
 ghost use Rattle.ga_rows.specs.Words.{bytes_of, meaning_of_words};

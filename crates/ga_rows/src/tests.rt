@@ -69,11 +69,14 @@ impl Write for Sink {
 }
 
 /// The words as listed, joined by a space, the input, what is printed, and the exit status.
-const CASES: [(&str, &str, &str, u8); 10] = [
+const CASES: [(&str, &str, &str, u8); 13] = [
     ("ga_rows", "abcdefgh", "97 98 99 100\n101 102 103 104\n", 0),
     ("back", "abcdef", "97 98 99 100\nrest 101 102\n", 1),
     ("ga_rows dec", "", "", 0),
     ("ga_rows back", "abcdef", "100 99 98 97\nrest 101 102\n", 1),
+    ("ga_rows sum", "\x01\x02\x03\x04d", "10\nrest 100\n", 1),
+    ("ga_rows sum 4", "zzzzabcd", "488\n394\n", 0),
+    ("ga_rows sum 2", "abcd", "", 2),
     ("ga_rows dec 4", "\0\t\n", "rest 0 9 10\n", 1),
     ("ga_rows 4", "abcd", "", 2),
     ("ga_rows ", "abcd", "", 2),
@@ -175,5 +178,9 @@ fn the_writer_gets_full_pieces_and_each_of_its_faults_is_answered(
     }
     let mut untouched = Sink::new(rt.alloc(), 1);
     assert!(rt; rows(&[], Mode::Dec, Width::W4, &mut untouched).is_ok());
+    let mut sums = Sink::new(rt.alloc(), usize::MAX);
+    let answer = rows(&[255, 255, 255, 255, 1], Mode::Sum, Width::W4, &mut sums);
+    let is_summed = sums.text.as_slice() == b"1020\nrest 1\n".as_slice();
+    assert!(rt; answer.is_ok() && is_summed);
     Ok(())
 }

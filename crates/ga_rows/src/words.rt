@@ -14,6 +14,8 @@ pub enum Mode {
     Dec,
     /// As `Dec`, from the last byte to the first.
     Back,
+    /// The sum of the bytes, in decimal.
+    Sum,
 }
 
 impl Mode {
@@ -24,6 +26,7 @@ impl Mode {
         match name {
             "dec" => Some(Mode::Dec),
             "back" => Some(Mode::Back),
+            "sum" => Some(Mode::Sum),
             _ => None,
         }
     }

@@ -1,4 +1,12 @@
 pub mod Built
 pub mod Entries
 pub mod EntryLaws
-pub mod Runs
+pub mod EntryRuns
+pub use Rattle.ga_core.specs.Copies
+pub use Rattle.ga_core.specs.Cut
+pub use Rattle.ga_core.specs.Fill
+pub use Rattle.ga_core.specs.Iteration
+pub use Rattle.ga_core.specs.Length
+pub use Rattle.ga_core.specs.Rows
+pub use Rattle.ga_core.specs.Runs
+pub use Rattle.ga_boxed.specs.FillAnswer

@@ -1,7 +1,7 @@
 //! Generic functions that know the traits alone, at work for every kind of sequence.
 ghost use Rattle.ga_core.specs.Runs.{CallableInFold, ClosureRun, FoldRun};
 ghost use Rattle.generic_array.specs.Entries.{CallAt, FoldAt, MayCallAt, MayFoldAt};
-ghost use Rattle.generic_array.specs.Runs.{CallableOver};
+ghost use Rattle.generic_array.specs.EntryRuns.{CallableOver};
 ghost use Rattle.std.specs.Prelude.{◌≡◌, IfOk, IsOk, List, OnErr};
 
 use crate::functional::{

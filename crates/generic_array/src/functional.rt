@@ -2,7 +2,7 @@
 ghost use Rattle.ga_core.specs.Runs.{CallableInFold, ClosureRun, FirstErrorRun, FoldRun};
 ghost use Rattle.generic_array.specs.Built.{built_items};
 ghost use Rattle.generic_array.specs.Entries.{CallAt, CallAtPair, FoldAt, MayCallAt, MayCallAtPair, MayFoldAt};
-ghost use Rattle.generic_array.specs.Runs.{CallableOver, CallableOverUntilError, TryFoldRun, good_step};
+ghost use Rattle.generic_array.specs.EntryRuns.{CallableOver, CallableOverUntilError, TryFoldRun, good_step};
 ghost use Rattle.std.specs.List.{zip};
 ghost use Rattle.std.specs.Prelude.{◌≡◌, IfOk, IsOk, OnErr};
 

@@ -1,7 +1,7 @@
 //! Zips told from the right side. Each is one function over the traits.
 ghost use Rattle.ga_core.specs.Runs.{ClosureRun};
 ghost use Rattle.generic_array.specs.Entries.{CallAtPair, MayCallAtPair};
-ghost use Rattle.generic_array.specs.Runs.{CallableOver};
+ghost use Rattle.generic_array.specs.EntryRuns.{CallableOver};
 ghost use Rattle.std.specs.List.{zip};
 ghost use Rattle.std.specs.Prelude.{◌≡◌, IfOk, IsOk, OnErr};
 

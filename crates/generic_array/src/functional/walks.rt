@@ -5,7 +5,7 @@
 ghost use Rattle.ga_core.specs.Runs.{CallableInFold, CallableUntilError, ClosureRun, FirstErrorRun, FoldRun};
 ghost use Rattle.generic_array.specs.Built.{built_items};
 ghost use Rattle.generic_array.specs.Entries.{CallAt, CallAtPair, FoldAt, GivesEntries, MayCallAt, MayCallAtPair, MayFoldAt};
-ghost use Rattle.generic_array.specs.Runs.{CallableOver, CallableOverUntilError, FirstErrorRan, TryFoldRun, good_step};
+ghost use Rattle.generic_array.specs.EntryRuns.{CallableOver, CallableOverUntilError, FirstErrorRan, TryFoldRun, good_step};
 ghost use Rattle.std.specs.List.{range_with_len, zip};
 ghost use Rattle.std.specs.Prelude.{◌≡◌, IfOk, IsOk, List, None, OnErr, Some, length};
 

@@ -1,5 +1,5 @@
-use Rattle.ga_core.proofs.RowLemmas.{chunk_rest-first}
-use Rattle.ga_core.specs.Rows.{chunk_rest}
+use Rattle.generic_array.proofs.RowLemmas.{chunk_rest-first}
+use Rattle.generic_array.specs.Rows.{chunk_rest}
 use Rattle.ga_rows.proofs.TextLemmas.{Appends-handed, done-more, text_of-few, text_of-first}
 use Rattle.ga_rows.proofs.output.rows_of_four.Goals as goal
 use Rattle.ga_rows.specs.Text.{line, rest_line, row_text, text_of}

@@ -1,4 +1,4 @@
-use Rattle.ga_core.specs.Rows.{chunk_rest}
+use Rattle.generic_array.specs.Rows.{chunk_rest}
 use Rattle.ga_rows.proofs.output.rows_of_four.Given as goal
 use Rattle.ga_rows.specs.Text.{text_of}
 use Rattle.ga_rows.specs.declared.words.Width.TheVariants.{W4}

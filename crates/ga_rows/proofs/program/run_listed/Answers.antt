@@ -1,4 +1,4 @@
-use Rattle.ga_core.specs.Rows.{chunk_rest}
+use Rattle.generic_array.specs.Rows.{chunk_rest}
 use Rattle.ga_rows.proofs.EndLemmas.{IsSomeAnd-there, ListedAnd-kept, ended_rest, ended_well, ended_whole, ended_words}
 use Rattle.ga_rows.proofs.program.run_listed.Goals as goal
 use Rattle.ga_rows.proofs.program.run_listed.Goals.{in-Ok+in-Ok-words_after_name, in-Ok+in-Err-words_after_name, in-Err}

@@ -1,7 +1,7 @@
 use Rattle.generic_array.proofs.WalkLemmas.{FoldsSoFar}
 use Rattle.generic_array.proofs.functional.walks.try_fold_entries.Given as goal
 use Rattle.generic_array.specs.Entries.{GivesEntries}
-use Rattle.generic_array.specs.Runs.{good_step}
+use Rattle.generic_array.specs.EntryRuns.{good_step}
 use Rattle.std.proofs.Common.{List}
 
 -- the calls at the entries passed led to the answer and the closure of now, and what is left comes in order
