@@ -1,6 +1,6 @@
 //! The writing view of a slice.
 ghost use Rattle.ga_views.specs.Iteration.{IteratesMutOver, IteratesOver};
-ghost use Rattle.std.specs.Borrow.{sem};
+ghost use Rattle.std.specs.Borrow.{sem, Array, RestsIfErr};
 ghost use Rattle.std.specs.Option.{option_copied, option_copied_mut};
 ghost use Rattle.std.specs.Prelude.{◌≡◌, ◌<◌, ◌↔◌, IfOk, IsOk, IsSome, length, slice_get, slice_index_or};
 
@@ -35,13 +35,14 @@ impl<'a, T, N: Unsigned> ArrayMut<&'a mut [T], T, N> {
         Self::over(slice)
     }
 
-    /// The view of a slice, or `LengthError` where it doesn't have `N` items; the slice is then as it
-    /// was.
+    /// The view of a slice, or `LengthError` where it doesn't have `N` items.
     ///
-    /// The contract doesn't say what the slice ends as. Where a proof asks for that, compare the
-    /// slice's length and call `from_mut_slice`.
+    /// The checker doesn't read `writes_back` for callers, since a slice is lent and the answer is a
+    /// `Result`. Where a proof asks for what the slice ends as, compare the slice's length and call
+    /// `from_mut_slice`.
     #[inline]
     pub fn try_from_mut_slice(slice: &'a mut [T]) -> Result<Self, LengthError>
+        ensures* writes_back { sem 𝓛 (RestsIfErr (Array T.row 0) slice.entry (λ view. view.slice.ghost_name) result (λ rest. rest ≡ slice.old)) }
         ensures variant { IsOk result ↔ (length slice.old ≡ N.USIZE) }
         ensures ok { IfOk result (λ view. view.slice ≡ slice.entry) }
     {
