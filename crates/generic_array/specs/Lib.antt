@@ -2,6 +2,8 @@ pub mod Built
 pub mod Entries
 pub mod EntryLaws
 pub mod EntryRuns
+pub mod Matrix
+pub use Rattle.ga_boxed.specs.FillAnswer
 pub use Rattle.ga_core.specs.Copies
 pub use Rattle.ga_core.specs.Cut
 pub use Rattle.ga_core.specs.Fill
@@ -9,4 +11,3 @@ pub use Rattle.ga_core.specs.Iteration
 pub use Rattle.ga_core.specs.Length
 pub use Rattle.ga_core.specs.Rows
 pub use Rattle.ga_core.specs.Runs
-pub use Rattle.ga_boxed.specs.FillAnswer

@@ -2,6 +2,8 @@
 ghost use Rattle.std.specs.List.{range_with_len};
 ghost use Rattle.std.specs.Prelude.{◌≡◌, ◌∷◌, [], ◌^◌, ◌<◌, ◌⊎◌, Err, Ok, IfOk, IsOk, OnOk, length, replicate, sum};
 
+mod matrix;
+
 use crate::checks::{map_total_by, total_by};
 use crate::functional::{FunctionalSequence, inverted_zip_by, inverted_zip2_by};
 use crate::sequence::{FromFallibleIterator, GenericSequence};
