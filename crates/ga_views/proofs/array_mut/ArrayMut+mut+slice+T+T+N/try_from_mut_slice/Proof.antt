@@ -196,13 +196,13 @@ try_from_mut_slice_spec 𝓤 𝓛 𝓜 𝓡 wired X N LX LN g d bound =
     sets ! (bin ! (get ! refl) (get ! refl) tt) refl (tt, tt) $
     first ! $ branches ! (get ! refl)
     (λ equal.
-    let fitting : n ≡ g.USIZE = eqb→eq n m equal ∙ is_length in
+    let of_length : n ≡ g.USIZE = eqb→eq n m equal ∙ is_length in
     sets ! (addr ! (from ! (fld ! refl (hop ! (look_in_at ! 1 (sub ! 0 refl (whole !))) (stop !))))) refl (tt, tt) $
     sets ! (agg ! (and_then ! (get ! refl) (and_then ! (get_in ! (fld ! refl (stop !)) (sub ! 1 refl (whole !))) (no_more !)))) refl (tt, (tt, (record { fits = fits }, tt))) $
     let C = triple_of 𝓛 (callee.signature X N g d) (callee.spec X N g d 𝓛 𝓜.mem 𝓡.returns) in
     let k : C.Ghost = ((κs, qs, bounds, a, (mut_slice_vals s, tt)), tt) in
     move ! (1 ∷ 2 ∷ 0 ∷ []) $ group ! 3 $ join ! $
-    use0 𝓛 (raw (fact 𝓤 (n ≡ g.USIZE))) (fact_i 𝓤 _ (emp 𝓤) fitting) $
+    use0 𝓛 (raw (fact 𝓤 (n ≡ g.USIZE))) (fact_i 𝓤 _ (emp 𝓤) of_length) $
     use0 𝓛 (raw (fact 𝓤 (κN ⊑ N.lives))) (fact_i 𝓤 _ (emp 𝓤) lN) $ join ! $
     use0 𝓛 (raw (fact 𝓤 (κT ⊑ X.lives))) (fact_i 𝓤 _ (emp 𝓤) lT) $ join ! $
     move ! (1 ∷ 0 ∷ []) $ join ! $ use1 𝓛 (raw (C.pre k)) (id⊢ 𝓤 _) $
@@ -221,7 +221,7 @@ try_from_mut_slice_spec 𝓤 𝓛 𝓜 𝓡 wired X N LX LN g d bound =
     exec ! 𝓣.C 𝓣.Λ En (after 4 fn.body) (at_ret En (W.post y)) $ sets ! (of_opd ! (get ! refl)) refl typed $
     use1 𝓛 (‵ (Answer.own_val (Ok w) (out ∷ []))) (ok_of 𝓛 V Refusal w u) $
     use0 𝓛 (raw (fact 𝓤 (IfOk {E = Refusal.Denot} (Ok w) (λ answer. answer.slice ≡ s)))) (fact_i 𝓤 _ (emp 𝓤) this) $
-    use0 𝓛 (raw (fact 𝓤 (IsOk {E = Refusal.Denot} (Ok w) ↔ (n ≡ g.USIZE)))) (fact_i 𝓤 _ (emp 𝓤) ((λ _. fitting), (λ _. refl))) $
+    use0 𝓛 (raw (fact 𝓤 (IsOk {E = Refusal.Denot} (Ok w) ↔ (n ≡ g.USIZE)))) (fact_i 𝓤 _ (emp 𝓤) ((λ _. of_length), (λ _. refl))) $
     use0 𝓛 (‵ (Rests 𝓛 E s V.Denot Refusal.Denot name (Ok w))) (Ok-rests 𝓛 E s V.Denot Refusal.Denot name w (ap (λ (x : S.Denot). x.ghost_name) this)) $
     -- [nothing is left of the parameter; the answer, the clauses and the tokens in the order in which they came]
     nothing ! $ nothing ! $ fjoin ! $
