@@ -1,8 +1,8 @@
 //! Reads bytes and writes them as rows of numbers, one line a row.
 //!
-//! `ga_rows [dec|back] [4]` reads standard input to its end. Each whole row of four bytes is a line
-//! of their decimal values, with `back` from the last to the first; bytes that fill no row stand
-//! in a last line that begins with `rest`.
+//! `ga_rows [dec|back|sum] [4]` reads standard input to its end. Each whole row of four bytes is a
+//! line of their decimal values, with `back` from the last to the first, or with `sum` of their sum;
+//! bytes that fill no row stand in a last line that begins with `rest`.
 #![tactic(auto)]
 
 mod ends;

@@ -17,6 +17,9 @@ impl<T, N: ArrayLength<T>> GenericArray<T, N> {
     }
 
     /// The view of the items for writing: a `GenericArrayMut` that stands on the array itself.
+    ///
+    /// Made once before a loop in a generic function, it is `let view = &mut array.view_mut();`: the
+    /// checker refuses calls in the loop on a view that isn't lent.
     #[inline]
     pub fn view_mut(&mut self) -> ArrayMut<&mut GenericArray<T, N>, T, N>
         ensures { result.slice ≡ self.entry }
