@@ -5,7 +5,7 @@ ghost use Rattle.ga_views.specs.Length.{FitsInline};
 ghost use Rattle.std.specs.Borrow.{sem};
 ghost use Rattle.std.specs.Iterator.{YieldsFirst, YieldsLast, item_count};
 ghost use Rattle.std.specs.List.{All, AllZip};
-ghost use Rattle.std.specs.Prelude.{◌≡◌, ◌-◌, ◌≤◌, IfOk, IsOk, drop, length, reverse, slice_get, slice_range, take};
+ghost use Rattle.std.specs.Prelude.{◌≡◌, ◌+◌, ◌-◌, ◌≤◌, IfOk, IsOk, drop, length, reverse, slice_get, slice_range, take};
 
 #[cfg(test)]
 mod tests;
@@ -154,9 +154,8 @@ impl<T: Default + Drop, N: ArrayLength<T>> GenericArrayIter<T, N> {
     pub fn nth(&mut self, n: usize) -> Option<T>
         ensures step { StepGives (front n) self.old result self.new }
     {
-        let end = self.front + n.min(self.len());
-        blank(self.store.as_mut_slice(), self.front, end);
-        self.front = end;
+        let passed = n.min(self.len());
+        self.keep(passed, self.len() - passed);
         self.next()
     }
 
@@ -167,10 +166,24 @@ impl<T: Default + Drop, N: ArrayLength<T>> GenericArrayIter<T, N> {
     pub fn nth_back(&mut self, n: usize) -> Option<T>
         ensures step { StepGives (back n) self.old result self.new }
     {
-        let start = self.back - n.min(self.len());
-        blank(self.store.as_mut_slice(), start, self.back);
-        self.back = start;
+        let passed = n.min(self.len());
+        self.keep(0, self.len() - passed);
         self.next_back()
+    }
+
+    // Drops the items before the `passed`-th and those behind the next `kept`, in order.
+    #[inline]
+    fn keep(&mut self, passed: usize, kept: usize)
+        requires in_bounds { passed + kept ≤ length self.old }
+        ensures { self.new ≡ take kept (drop passed self.old) }
+    {
+        let front = self.front + passed;
+        let back = front + kept;
+        let places = self.store.as_mut_slice();
+        blank(places, self.front, front);
+        blank(places, back, self.back);
+        self.front = front;
+        self.back = back;
     }
 
     /// The last item that is left. The others are dropped; nothing else takes time.

@@ -5,8 +5,11 @@
 //! exported here too.
 #![tactic(auto)]
 
+/// Functions that know the traits alone.
 pub mod checks;
+/// Calls of a closure at all entries.
 pub mod functional;
+/// What is common to the kinds of sequences, and how each is made.
 pub mod sequence;
 #[cfg(test)]
 mod tests;
