@@ -1,6 +1,6 @@
 -- What runs of a closure answer, where each call's answer is known.
 use Rattle.ga_core.specs.Runs.{CallableInFold, ClosureRun, FoldRun}
-use Rattle.generic_array.specs.Entries.{CallAt, FoldAt, MayFoldAt}
+use Rattle.generic_array.specs.Entries.{FoldAt, MayFoldAt}
 use Rattle.std.proofs.Common.{◌≡◌, ℕ, ◌+◌, ◌%◌, ◌<◌, List, [], ◌∷◌, ◌++◌, arith, refl, ap, sym, ◌∙◌, map}
 use Rattle.std.proofs.lemmas.List.Sums.{sum_by-append, sum_by-cons}
 use Rattle.std.proofs.Math.Nat.{add-mod-mod, mod-add-mod, mod-mod}

@@ -4,7 +4,7 @@ use Rattle.ga_core.specs.Runs.{CallableInFold, ClosureRun, FirstErrorRun, FoldRu
 use Rattle.generic_array.specs.Built.{built_items}
 use Rattle.generic_array.specs.Entries.{CallAt, CallAtPair, FoldAt, MayCallAt, MayCallAtPair, MayFoldAt}
 use Rattle.generic_array.specs.EntryRuns.{CallableOver, CallableOverUntilError, FirstErrorRan, TryFoldRun, good_step}
-use Rattle.std.proofs.Common.{◌≡◌, ℕ, suc, ◌<◌, List, [], ◌∷◌, ◌++◌, length, length-append, arith, ◌⊎◌, inl, inr, map, Result, Ok, Err, Option, None, Some, append_assoc, append-nil, refl, ap, sym, ◌∙◌, subst}
+use Rattle.std.proofs.Common.{◌≡◌, suc, ◌<◌, List, [], ◌∷◌, ◌++◌, length, length-append, arith, ◌⊎◌, inl, inr, map, Result, Ok, Err, Option, None, Some, append_assoc, append-nil, refl, ap, sym, ◌∙◌, subst}
 use Rattle.std.proofs.lemmas.Fn.{FoldsTo-push}
 use Rattle.std.specs.Iterator.{AlwaysYields}
 use Rattle.std.specs.List.{FoldsTo, zip}

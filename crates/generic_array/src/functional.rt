@@ -32,6 +32,7 @@ pub trait MappedGenericSequence<T, U>: GenericSequence<T> {
     /// The kind of what is made: inline for inline arrays and views, boxed for boxed arrays.
     type Mapped: GenericSequence<U>;
 
+    // What is made has as many items.
     ghost same_length: { Self.Mapped.Length.USIZE ≡ Self.Length.USIZE };
 }
 

@@ -93,10 +93,13 @@ pub trait GenericSequence<T>: Sized + AsSlice<T> + IntoIterator {
         ensures few { IsPromised → Self.Length.USIZE ≤ 1 → IsOk result }
         ensures succeeds { IsPromised → T.is_infallible item → IsOk result };
 
+    // Memory for no items is never refused.
     ghost empty_is_promised: { Self.Length.USIZE ≡ 0 → IsPromised };
 
+    // `into_iter` gives an entry for each item, in order, and then ends.
     ghost gives_entries: { (sequence : Self) (entries : Self.IntoIter) → Self.into_iter_gives sequence entries → GivesEntries Self.IntoIter.can_next Self.IntoIter.next_gives Self.IntoIter.remaining entry entries (Self.items sequence) };
 
+    // That of what was made gives its items.
     ghost gives_items: { (made : Self.Sequence) (items : Self.Sequence.IntoIter) → Self.Sequence.into_iter_gives made items → GivesEntries Self.Sequence.IntoIter.can_next Self.Sequence.IntoIter.next_gives Self.Sequence.IntoIter.remaining (λ item. item) items (Self.Sequence.items made) };
 }
 

@@ -1,12 +1,17 @@
 //! Callers, each proved: what the traits' contracts give to those who use them.
+ghost use Rattle.generic_array.specs.Entries.{CallAt, MayCallAt};
+ghost use Rattle.generic_array.specs.EntryRuns.{CallableOver};
 ghost use Rattle.std.specs.List.{range_with_len};
 ghost use Rattle.std.specs.Prelude.{◌≡◌, ◌∷◌, [], ◌^◌, ◌<◌, ◌⊎◌, Err, Ok, IfOk, IsOk, OnOk, length, replicate, sum};
 
 mod matrix;
 
 use crate::checks::{map_total_by, total_by};
-use crate::functional::{FunctionalSequence, inverted_zip_by, inverted_zip2_by};
-use crate::sequence::{FromFallibleIterator, GenericSequence};
+use crate::functional::{
+    FunctionalSequence, MappedError, MappedGenericSequence, MappedPlace, MappedSequence,
+    inverted_zip_by, inverted_zip2_by,
+};
+use crate::sequence::{FromFallibleIterator, GenericSequence, SequenceItem};
 use crate::{
     AllocError, ArrayLength, BoxedArray, FillError, GenericArray, GenericArrayRef, U0, U2, U3,
     always,
@@ -216,6 +221,32 @@ fn places<S: GenericSequence<usize>>(place: S::Place) -> Result<S::Sequence, S::
     ensures given { S.IsPromised → IsOk result }
 {
     S::generate(place, |index| index)
+}
+
+fn no_places<S: GenericSequence<usize>>(place: S::Place) -> Result<S::Sequence, S::Error>
+    requires none { S.Length.USIZE ≡ 0 }
+    requires fits { S.Fits }
+    ensures { IsOk result }
+{
+    S::generate(place, |index| index)
+}
+
+fn nothing_mapped<
+    T,
+    U,
+    S: FunctionalSequence<T> + MappedGenericSequence<T, U>,
+    F: FnMut(SequenceItem<S>) -> U,
+>(
+    s: S,
+    place: MappedPlace<S, T, U>,
+    f: &mut F,
+) -> Result<MappedSequence<S, T, U>, MappedError<S, T, U>>
+    requires none { S.Length.USIZE ≡ 0 }
+    requires fits { S.Mapped.Fits }
+    requires callable { CallableOver (MayCallAt S.entry F.pre) (CallAt S.entry F.step) f.old (S.items s) }
+    ensures { IsOk result }
+{
+    s.map_by(place, f)
 }
 
 fn sum_of<N: ArrayLength<u32>>(view: GenericArrayRef<'_, u32, N>) -> u32

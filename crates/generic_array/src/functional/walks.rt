@@ -11,7 +11,8 @@ ghost use Rattle.std.specs.Prelude.{◌≡◌, IfOk, IsOk, List, None, OnErr, So
 
 use crate::sequence::{FallibleGenericSequence, GenericSequence};
 
-/// The last answer of `f`, called with `init` and the first entry, and then with its own answer and each other entry.
+/// The last answer of `f`, called with `init` and the first entry, and then with its own answer and
+/// each other entry in order.
 pub(crate) fn fold_entries<T, I: Iterator + Drop, A, F: FnMut(A, I::Item) -> A>(
     entries: I,
     init: A,
@@ -88,7 +89,8 @@ pub(super) fn map_entries<T, I: Iterator + Drop, U, M: GenericSequence<U>, F: Fn
     )
 }
 
-/// `answer_at_next` of a closure that may fail.
+/// `answer_at_next` of a closure that may fail: a function of its own, since a call of the other at
+/// `Result<U, E>` has no proof today.
 #[inline]
 fn result_at_next<I: Iterator, U, E, F: FnMut(I::Item) -> Result<U, E>>(
     entries: &mut I,
@@ -106,7 +108,7 @@ fn result_at_next<I: Iterator, U, E, F: FnMut(I::Item) -> Result<U, E>>(
     }
 }
 
-/// `try_generate_by`, whose run is told as a record.
+/// `try_generate_by`, whose run is told as a record, since a proof then finds the closure's step.
 #[inline]
 fn try_build<U, E, M: FallibleGenericSequence<U>, G: FnMut(usize) -> Result<U, E>>(
     place: M::Place,

@@ -1,9 +1,12 @@
 //! The inline array as a sequence.
+ghost use Rattle.ga_boxed.specs.FillAnswer.{fill_answer};
 ghost use Rattle.ga_core.specs.Length.{FitsInline};
-ghost use Rattle.std.specs.Prelude.{⊤};
+ghost use Rattle.std.specs.Prelude.{◌≡◌, Ok, ⊤};
 
 use crate::sequence::{FallibleGenericSequence, FromFallibleIterator, GenericSequence};
-use ga_core::{AllocError, ArrayLength, FillError, GenericArray, GenericArrayRef, Never};
+use ga_core::{
+    AllocError, ArrayLength, FillError, GenericArray, GenericArrayRef, LengthError, Never,
+};
 
 /// A length fits up to `MAX_INLINE`. No memory is asked for.
 impl<T: Default + Drop, N: ArrayLength<T>> GenericSequence<T> for GenericArray<T, N> {
@@ -65,26 +68,29 @@ impl<T: Default + Drop, N: ArrayLength<T>> FallibleGenericSequence<T> for Generi
     }
 }
 
+/// The answer of a fallible fill that needs no place.
+fn with_no_place<A, E>(answer: Result<Result<A, E>, LengthError>) -> Result<A, FillError<E, Never>>
+    ensures { fill_answer result ≡ Ok answer }
+{
+    match answer {
+        Ok(Ok(array)) => Ok(array),
+        Ok(Err(error)) => Err(FillError::Item(error)),
+        Err(refused) => Err(FillError::Length(refused)),
+    }
+}
+
 impl<T: Default + Drop, N: ArrayLength<T>> FromFallibleIterator<T> for GenericArray<T, N> {
     fn from_fallible_iter<E: Drop, I: Iterator<Item = Result<T, E>>>(
         place: (),
         items: I,
     ) -> Result<GenericArray<T, N>, FillError<E, Never>> {
-        match GenericArray::try_from_fallible_iter(items) {
-            Ok(Ok(array)) => Ok(array),
-            Ok(Err(error)) => Err(FillError::Item(error)),
-            Err(refused) => Err(FillError::Length(refused)),
-        }
+        with_no_place(GenericArray::try_from_fallible_iter(items))
     }
 
     fn from_fallible_iter_ref<E: Drop, I: Iterator<Item = Result<T, E>>>(
         place: (),
         items: &mut I,
     ) -> Result<GenericArray<T, N>, FillError<E, Never>> {
-        match GenericArray::try_from_fallible_iter_ref(items) {
-            Ok(Ok(array)) => Ok(array),
-            Ok(Err(error)) => Err(FillError::Item(error)),
-            Err(refused) => Err(FillError::Length(refused)),
-        }
+        with_no_place(GenericArray::try_from_fallible_iter_ref(items))
     }
 }

@@ -1,5 +1,5 @@
 use Rattle.generic_array.proofs.functional.FunctionalSequence.map_by.Goals as goal
-use Rattle.std.proofs.Common.{◌≡◌, ◌∙◌, ap, length, sym}
+use Rattle.std.proofs.Common.{◌∙◌, ap, length, sym}
 
 pub map_entries-requires-clause-callable : goal.map_entries-requires-clause-callable
 map_entries-requires-clause-callable g c =

@@ -1,5 +1,5 @@
 use Rattle.generic_array.proofs.functional.FunctionalSequence.try_map_by.Goals as goal
-use Rattle.std.proofs.Common.{◌≡◌, ◌∙◌, ap, length, sym}
+use Rattle.std.proofs.Common.{◌∙◌, ap, length, sym}
 
 pub try_map_entries-requires-clause-callable : goal.try_map_entries-requires-clause-callable
 try_map_entries-requires-clause-callable g c =

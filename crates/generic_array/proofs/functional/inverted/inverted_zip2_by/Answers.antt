@@ -1,5 +1,5 @@
 use Rattle.generic_array.proofs.functional.inverted.inverted_zip2_by.Goals as goal
-use Rattle.std.proofs.Common.{◌≡◌, ◌∙◌, ap, length, sym}
+use Rattle.std.proofs.Common.{◌∙◌, ap, length, sym}
 
 pub zip_entries-requires-clause-callable : goal.zip_entries-requires-clause-callable
 zip_entries-requires-clause-callable g c =

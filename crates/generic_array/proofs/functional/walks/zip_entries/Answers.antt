@@ -1,6 +1,6 @@
 use Rattle.generic_array.proofs.WalkLemmas.{ClosureRun-keeps, ClosureRun-map, PairSteps, pair-call, pair-callable, pair_entry, pair_pre, pair_step, pairs_given, walk-callable, walk-whole}
 use Rattle.generic_array.proofs.functional.walks.zip_entries.Goals as goal
-use Rattle.std.proofs.Common.{◌≡◌, ◌∙◌, Some, arith, inl, inr, length, rules, sym}
+use Rattle.std.proofs.Common.{◌∙◌, Some, arith, inl, inr, rules, sym}
 use Rattle.std.proofs.lemmas.List.FromFn.{length-range_with_len}
 use Rattle.std.proofs.lemmas.Result.{IfOk-weaker}
 use Rattle.std.proofs.lemmas.Slice.Zip.{length-zip}

@@ -1,7 +1,7 @@
 use Rattle.generic_array.proofs.AnswerLemmas.{ClosureRun-answers}
 use Rattle.generic_array.proofs.uses.matrix.row_times.Goals as goal
 use Rattle.generic_array.specs.Matrix.{row_times_column}
-use Rattle.std.proofs.Common.{◌≡◌, refl, rules}
+use Rattle.std.proofs.Common.{◌≡◌, rules}
 
 pub returns : goal.returns
 returns g c =
