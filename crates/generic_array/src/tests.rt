@@ -83,44 +83,50 @@ fn each_kind_is_made_by_the_calls_of_the_traits(rt: HostRuntime) -> Result<(), F
 }
 
 /// What a fill of the kind `S` comes to: the items as digits, or a letter for the refusal and the
-/// error in it; and the item that the iterator gives next.
+/// error in it; and the item that the iterator gives next, 0 where there is none.
 fn filled<S: FromFallibleIterator<u32> + Drop>(
     place: S::Place,
     items: &[Result<u32, u32>],
-) -> (char, u32, Option<Result<u32, u32>>)
+) -> (char, u32, u32)
 where
     S::Error: Drop,
     requires { S.Fits }
 {
     let mut items = items.iter().copied();
     let (kind, number) = match S::from_fallible_iter_ref(place, &mut items) {
-        Ok(made) => {
-            let mut digits = 0u32;
-            for item in made.as_slice() {
-                digits = digits.wrapping_mul(10).wrapping_add(*item);
-            }
-            ('=', digits)
-        }
+        Ok(made) => ('=', digits(made.as_slice())),
         Err(FillError::Place(_refused)) => ('P', 0),
         Err(FillError::Length(_refused)) => ('L', 0),
         Err(FillError::Item(error)) => ('I', error),
     };
-    (kind, number, items.next())
+    match items.next() {
+        Some(Ok(next)) => (kind, number, next),
+        Some(Err(error)) => (kind, number, error),
+        None => (kind, number, 0),
+    }
+}
+
+/// The items as the digits of a number.
+fn digits(items: &[u32]) -> u32 {
+    let mut all = 0u32;
+    for item in items {
+        all = all.wrapping_mul(10).wrapping_add(*item);
+    }
+    all
 }
 
 #[test]
 fn a_fallible_fill_answers_the_first_error_or_the_length(rt: HostRuntime) {
-    let alloc = rt.alloc();
     let two = [Ok(4), Ok(5)].as_slice();
-    assert!(rt; filled::<GenericArray<u32, U2>>((), two) == ('=', 45, None));
-    assert!(rt; filled::<BoxedArray<u32, U2>>(alloc, two) == ('=', 45, None));
+    assert!(rt; filled::<GenericArray<u32, U2>>((), two) == ('=', 45, 0));
+    assert!(rt; filled::<BoxedArray<u32, U2>>(rt.alloc(), two) == ('=', 45, 0));
     let inner = [Ok(1), Err(9), Ok(3)].as_slice();
-    assert!(rt; filled::<GenericArray<u32, U3>>((), inner) == ('I', 9, Some(Ok(3))));
-    assert!(rt; filled::<BoxedArray<u32, U3>>(alloc, inner) == ('I', 9, Some(Ok(3))));
+    assert!(rt; filled::<GenericArray<u32, U3>>((), inner) == ('I', 9, 3));
+    assert!(rt; filled::<BoxedArray<u32, U3>>(rt.alloc(), inner) == ('I', 9, 3));
     let surplus = [Ok(1), Ok(2), Err(9)].as_slice();
-    assert!(rt; filled::<GenericArray<u32, U2>>((), surplus) == ('L', 0, None));
-    assert!(rt; filled::<BoxedArray<u32, U2>>(alloc, surplus) == ('L', 0, None));
-    assert!(rt; filled::<BoxedArray<u32, TooMany>>(alloc, two) == ('P', 0, Some(Ok(4))));
+    assert!(rt; filled::<GenericArray<u32, U2>>((), surplus) == ('L', 0, 0));
+    assert!(rt; filled::<BoxedArray<u32, U2>>(rt.alloc(), surplus) == ('L', 0, 0));
+    assert!(rt; filled::<BoxedArray<u32, TooMany>>(rt.alloc(), two) == ('P', 0, 4));
 }
 
 #[test]
@@ -140,10 +146,20 @@ fn a_block_that_cannot_be_had_is_refused_before_any_call(rt: HostRuntime) {
     assert!(rt; places::<BoxedArray<usize, TooMany>>(rt.alloc()).is_err());
 }
 
-#[test]
-fn a_map_is_folded_in_order(rt: HostRuntime) -> Result<(), Fail> {
+/// The digits of a doubled boxed array of 1 to 3.
+fn doubled_digits(alloc: Global) -> Result<u32, AllocError> {
+    map_total_by(
+        boxed_from_one::<U3>(alloc)?,
+        alloc,
+        &mut |item: u32| item.wrapping_mul(2),
+        0,
+        &mut |total: u32, item: u32| total.wrapping_mul(10).wrapping_add(item),
+    )
+}
+
+/// Those of an inline array, and of a view of it.
+fn doubled_inline_digits() -> (u32, u32) {
     let mut digits = |total: u32, item: u32| total.wrapping_mul(10).wrapping_add(item);
-    let mut double = |item: u32| item.wrapping_mul(2);
     let array = from_one::<U3>();
     let seen = map_total_by(
         array.view(),
@@ -152,16 +168,20 @@ fn a_map_is_folded_in_order(rt: HostRuntime) -> Result<(), Fail> {
         0,
         &mut digits,
     );
-    assert_eq!(rt; always(seen), 246);
-    assert_eq!(rt;
-        always(map_total_by(array, (), &mut double, 0, &mut digits)),
-        246
+    let moved = map_total_by(
+        array,
+        (),
+        &mut |item: u32| item.wrapping_mul(2),
+        0,
+        &mut digits,
     );
-    let boxed = boxed_from_one::<U3>(rt.alloc())?;
-    assert_eq!(rt;
-        map_total_by(boxed, rt.alloc(), &mut double, 0, &mut digits)?,
-        246
-    );
+    (always(seen), always(moved))
+}
+
+#[test]
+fn a_map_is_folded_in_order(rt: HostRuntime) -> Result<(), Fail> {
+    assert!(rt; doubled_inline_digits() == (246, 246));
+    assert!(rt; doubled_digits(rt.alloc())? == 246);
     Ok(())
 }
 
@@ -175,72 +195,101 @@ fn boxed_two(alloc: Global, first: u32, second: u32) -> Result<BoxedArray<u32, U
     BoxedArray::generate(alloc, |index| if index == 0 { first } else { second })
 }
 
-#[test]
-fn zips_of_two_kinds_are_of_the_left_one(rt: HostRuntime) -> Result<(), Fail> {
-    let alloc = rt.alloc();
-    let made: GenericArray<u32, U2> = always(two(1, 2).zip(
+/// An inline array zipped with a boxed one, and the boxed one with the inline one.
+fn zips_of_two_kinds(alloc: Global) -> Result<(u32, u32), AllocError> {
+    let inline: GenericArray<u32, U2> = always(two(1, 2).zip(
         (),
         boxed_two(alloc, 3, 5)?,
         |left: u32, right: u32| right.wrapping_sub(left),
     ));
-    assert!(rt; made.as_slice() == [2, 3].as_slice());
-    let made: BoxedArray<u32, U2> = boxed_two(alloc, 3, 5)?.zip(
+    let boxed: BoxedArray<u32, U2> = boxed_two(alloc, 3, 5)?.zip(
         alloc,
         two(1, 2),
         |left: u32, right: u32| left.wrapping_sub(right),
     )?;
-    assert!(rt; made.as_slice() == [2, 3].as_slice());
-    let odd = always(from_one::<U4>().map((), |item| item.wrapping_mul(2).wrapping_sub(1)));
-    let even = always(from_one::<U4>().map((), |item: u32| item.wrapping_mul(2)));
-    let made = odd.view().zip((), even, |left: &u32, right: u32| left.wrapping_add(right));
-    assert!(rt; has(made, [3, 7, 11, 15].as_slice()));
-    assert_eq!(rt;
+    Ok((digits(inline.as_slice()), digits(boxed.as_slice())))
+}
+
+/// A view of 1, 3, 5, 7 zipped with 2, 4, 6, 8 by their sum, and folded by it.
+fn sums_of_a_view() -> (GenericArray<u32, U4>, u32) {
+    let odd: GenericArray<u32, U4> = GenericArray::generate(|index| 2 * index as u32 + 1);
+    let even: GenericArray<u32, U4> = GenericArray::generate(|index| 2 * index as u32 + 2);
+    let sums = odd.view().zip((), even, |left: &u32, right: u32| left.wrapping_add(right));
+    (
+        always(sums),
         odd.view()
             .fold(0, |sum: u32, item: &u32| sum.wrapping_add(*item)),
-        16
-    );
+    )
+}
+
+#[test]
+fn zips_are_of_the_kind_of_the_left_side(rt: HostRuntime) -> Result<(), Fail> {
+    assert!(rt; zips_of_two_kinds(rt.alloc())? == (23, 23));
+    let (sums, total) = sums_of_a_view();
+    assert!(rt; sums.as_slice() == [3, 7, 11, 15].as_slice());
+    assert!(rt; total == 16);
     Ok(())
+}
+
+/// 10 and 20 less the entries 1 and 2 of each kind, where the left side is inline.
+fn inverted_inline(alloc: Global) -> Result<(u32, u32, u32), AllocError> {
+    let less = |left: u32, right: u32| left.wrapping_sub(right);
+    let array = two(1, 2);
+    let seen = inverted_zip(array.view(), two(10, 20), |left: u32, right: &u32| {
+        left.wrapping_sub(*right)
+    });
+    let boxed = inverted_zip(boxed_two(alloc, 1, 2)?, two(10, 20), less);
+    let inline = inverted_zip(array, two(10, 20), less);
+    Ok((
+        digits(seen.as_slice()),
+        digits(boxed.as_slice()),
+        digits(inline.as_slice()),
+    ))
+}
+
+/// The same by `inverted_zip2`, with an inline and with a boxed left side.
+fn inverted_of_any_kind(alloc: Global) -> Result<(u32, u32), AllocError> {
+    let less = |left: u32, right: u32| left.wrapping_sub(right);
+    let inline = always(inverted_zip2(two(1, 2), (), two(10, 20), less));
+    let boxed = inverted_zip2(two(1, 2), alloc, boxed_two(alloc, 10, 20)?, less)?;
+    Ok((digits(inline.as_slice()), digits(boxed.as_slice())))
 }
 
 #[test]
 fn inverted_zips_take_the_left_side_second(rt: HostRuntime) -> Result<(), Fail> {
-    let alloc = rt.alloc();
-    let less = |left: u32, right: u32| left.wrapping_sub(right);
-    let wanted = [9, 18].as_slice();
-    assert!(rt; inverted_zip(two(1, 2), two(10, 20), less).as_slice() == wanted);
-    let made = inverted_zip(boxed_two(alloc, 1, 2)?, two(10, 20), less);
-    assert!(rt; made.as_slice() == wanted);
-    let array = two(1, 2);
-    let made = inverted_zip(
-        array.view(),
-        two(10, 20),
-        |left: u32, right: &u32| left.wrapping_sub(*right),
-    );
-    assert!(rt; made.as_slice() == wanted);
-    assert!(rt; has(inverted_zip2(two(1, 2), (), two(10, 20), less), wanted));
-    let made = inverted_zip2(two(1, 2), alloc, boxed_two(alloc, 10, 20)?, less);
-    assert!(rt; has(made, wanted));
+    assert!(rt; inverted_inline(rt.alloc())? == (108, 108, 108));
+    assert!(rt; inverted_of_any_kind(rt.alloc())? == (108, 108));
     Ok(())
 }
 
-#[test]
-fn a_map_or_fold_that_fails_makes_no_call_after_the_error(rt: HostRuntime) -> Result<(), Fail> {
-    let mut calls = 0u32;
-    let mut small = |item: u32| {
-        calls = calls.wrapping_add(1);
+/// An error, or 0.
+fn error_of<T: Drop>(answer: Result<T, u32>) -> u32 {
+    match answer {
+        Ok(_all) => 0,
+        Err(error) => error,
+    }
+}
+
+/// The errors of maps that stop at the entry 2, one of each kind, and the calls that all made.
+fn stopped_maps(alloc: Global) -> Result<(u32, u32, u32, u32), AllocError> {
+    let calls = Cell::new(0u32);
+    let small = |item: u32| {
+        calls.set(calls.get().wrapping_add(1));
         if item == 2 { Err(item) } else { Ok(item) }
     };
     let array = from_one::<U3>();
-    let seen = always(array.view().try_map_by((), &mut |item: &u32| small(*item)));
-    assert!(rt; matches!(seen, Err(2)));
-    assert!(rt; matches!(always(array.try_map_by((), &mut small)), Err(2)));
-    let boxed = boxed_from_one::<U3>(rt.alloc())?;
-    assert!(rt; matches!(boxed.try_map_by(rt.alloc(), &mut small)?, Err(2)));
-    assert_eq!(rt; calls, 6);
+    let seen = error_of(always(array.view().try_map_by((), &mut |item: &u32| small(*item))));
+    let moved = error_of(always(array.try_map_by((), &mut |item: u32| small(item))));
+    let boxed = boxed_from_one::<U3>(alloc)?;
+    let boxed = error_of(boxed.try_map_by(alloc, &mut |item: u32| small(item))?);
+    Ok((seen, moved, boxed, calls.get()))
+}
 
-    let mut calls = 0u32;
-    let mut small = |sum: u32, item: u32| {
-        calls = calls.wrapping_add(1);
+/// The same of folds that stop where the sum passes 3.
+fn stopped_folds(alloc: Global) -> Result<(u32, u32, u32, u32), AllocError> {
+    let calls = Cell::new(0u32);
+    let small = |sum: u32, item: u32| {
+        calls.set(calls.get().wrapping_add(1));
         let sum = sum.wrapping_add(item);
         if sum > 3 { Err(sum) } else { Ok(sum) }
     };
@@ -248,30 +297,47 @@ fn a_map_or_fold_that_fails_makes_no_call_after_the_error(rt: HostRuntime) -> Re
     let seen = array
         .view()
         .try_fold_by(0, &mut |sum: u32, item: &u32| small(sum, *item));
-    assert_eq!(rt; seen, Err(6));
-    assert_eq!(rt; array.try_fold_by(0, &mut small), Err(6));
-    let boxed = boxed_from_one::<U4>(rt.alloc())?;
-    assert_eq!(rt; boxed.try_fold_by(0, &mut small), Err(6));
-    assert_eq!(rt; calls, 9);
+    let moved = array.try_fold_by(0, &mut |sum: u32, item: u32| small(sum, item));
+    let boxed = boxed_from_one::<U4>(alloc)?;
+    let boxed = boxed.try_fold_by(0, &mut |sum: u32, item: u32| small(sum, item));
+    Ok((
+        error_of(seen),
+        error_of(moved),
+        error_of(boxed),
+        calls.get(),
+    ))
+}
+
+#[test]
+fn a_map_or_fold_that_fails_makes_no_call_after_the_error(rt: HostRuntime) -> Result<(), Fail> {
+    assert!(rt; stopped_maps(rt.alloc())? == (2, 2, 2, 6));
+    assert!(rt; stopped_folds(rt.alloc())? == (6, 6, 6, 9));
     Ok(())
 }
 
-// Where memory is refused, as in turn under `rt try --test --fail-alloc`, no call is made.
-#[test]
-fn what_is_made_boxed_may_be_refused_before_any_call(rt: HostRuntime) -> Result<(), Fail> {
-    let alloc = rt.alloc();
+/// How many calls a boxed map, a zip and an inverted zip of two entries make, and how many they
+/// have to make: none where memory is refused.
+fn calls_and_those_due(alloc: Global) -> Result<(u32, u32), AllocError> {
     let mut calls = 0u32;
     let mut count = |left: u32, right: u32| {
         calls = calls.wrapping_add(1);
         left.wrapping_add(right)
     };
-    let mapped = boxed_two(alloc, 1, 2)?.map_by(alloc, &mut |item: u32| count(item, 0));
-    let mapped_calls = if mapped.is_ok() { 2 } else { 0 };
-    let zipped = boxed_two(alloc, 1, 2)?.zip_by(alloc, two(3, 4), &mut count);
-    let zipped_calls = if zipped.is_ok() { 2 } else { 0 };
-    let inverted = inverted_zip2(two(3, 4), alloc, boxed_two(alloc, 1, 2)?, &mut count);
-    let inverted_calls = if inverted.is_ok() { 2 } else { 0 };
-    assert_eq!(rt; calls, mapped_calls + zipped_calls + inverted_calls);
+    let mapped = boxed_two(alloc, 1, 2)?
+        .map_by(alloc, &mut |item: u32| count(item, 0))
+        .is_ok();
+    let zipped = boxed_two(alloc, 1, 2)?
+        .zip_by(alloc, two(3, 4), &mut count)
+        .is_ok();
+    let inverted = inverted_zip2(two(3, 4), alloc, boxed_two(alloc, 1, 2)?, &mut count).is_ok();
+    Ok((calls, 2 * (mapped as u32 + zipped as u32 + inverted as u32)))
+}
+
+// Under `rt try --test --fail-alloc` each of the three is refused in turn.
+#[test]
+fn what_is_made_boxed_may_be_refused_before_any_call(rt: HostRuntime) -> Result<(), Fail> {
+    let (calls, due) = calls_and_those_due(rt.alloc())?;
+    assert!(rt; calls == due);
     Ok(())
 }
 
@@ -296,19 +362,23 @@ fn four_counted<'a>(drops: &'a Cell<u32>) -> GenericArray<Counted<'a>, U4> {
 }
 
 /// Hands on two items, and drops the third for an error.
-fn until_the_third<'a>(calls: &Cell<u32>, item: Counted<'a>) -> Result<Counted<'a>, ()> {
+fn until_the_third<'a>(calls: &Cell<u32>, item: Counted<'a>) -> Result<Counted<'a>, u32> {
     calls.set(calls.get().wrapping_add(1));
-    if calls.get() == 3 { Err(()) } else { Ok(item) }
+    if calls.get() == 3 { Err(3) } else { Ok(item) }
 }
 
-#[test]
-fn a_call_that_stops_drops_each_entry_and_each_answer_once(rt: HostRuntime) -> Result<(), Fail> {
-    let alloc = rt.alloc();
+/// How many items are dropped where a map of four stops at the third.
+fn dropped_by_an_inline_map() -> u32 {
     let (drops, calls) = (Cell::new(0), Cell::new(0));
-    let stopped = four_counted(&drops).try_map((), |item| until_the_third(&calls, item));
-    assert!(rt; always(stopped).is_err());
-    assert_eq!(rt; drops.get(), 4);
+    let _ = error_of(always(four_counted(&drops).try_map(
+        (),
+        |item| until_the_third(&calls, item),
+    )));
+    drops.get()
+}
 
+/// The same of a boxed array.
+fn dropped_by_a_boxed_map(alloc: Global) -> Result<u32, AllocError> {
     let (drops, calls) = (Cell::new(0), Cell::new(0));
     let boxed: BoxedArray<Counted, U4> = BoxedArray::generate(
         alloc,
@@ -316,36 +386,45 @@ fn a_call_that_stops_drops_each_entry_and_each_answer_once(rt: HostRuntime) -> R
             drops: Some(&drops),
         },
     )?;
-    assert!(rt;
-        boxed
-            .try_map(alloc, |item| until_the_third(&calls, item))?
-            .is_err()
-    );
-    assert_eq!(rt; drops.get(), 4);
+    let _ = error_of(boxed.try_map(alloc, |item| until_the_third(&calls, item))?);
+    Ok(drops.get())
+}
 
+/// The same of a view, whose entries are no items.
+fn dropped_by_the_map_of_a_view() -> u32 {
     let (drops, calls) = (Cell::new(0), Cell::new(0));
     let array = from_one::<U4>();
-    let stopped = array.view().try_map(
-        (),
-        |_| until_the_third(
-            &calls,
-            Counted {
-                drops: Some(&drops),
-            },
+    let _ = error_of(always(
+        array.view().try_map(
+            (),
+            |_| until_the_third(
+                &calls,
+                Counted {
+                    drops: Some(&drops),
+                },
+            ),
         ),
-    );
-    assert!(rt; always(stopped).is_err());
-    assert_eq!(rt; drops.get(), 3);
+    ));
+    drops.get()
+}
 
+/// The same of a fold.
+fn dropped_by_a_fold() -> u32 {
     let (drops, calls) = (Cell::new(0), Cell::new(0));
-    let stopped = four_counted(&drops).try_fold(
-        0u32,
-        |sum, item| match until_the_third(&calls, item) {
-            Ok(_handed_on) => Ok(sum.wrapping_add(1)),
-            Err(()) => Err(sum),
-        },
-    );
-    assert_eq!(rt; stopped, Err(2));
-    assert_eq!(rt; drops.get(), 4);
+    let _ = error_of(four_counted(&drops).try_fold(0u32, |sum, item| {
+        match until_the_third(&calls, item) {
+            Ok(_handed_on) => Ok(sum),
+            Err(error) => Err(error),
+        }
+    }));
+    drops.get()
+}
+
+#[test]
+fn a_call_that_stops_drops_each_entry_and_each_answer_once(rt: HostRuntime) -> Result<(), Fail> {
+    assert!(rt; dropped_by_an_inline_map() == 4);
+    assert!(rt; dropped_by_a_boxed_map(rt.alloc())? == 4);
+    assert!(rt; dropped_by_the_map_of_a_view() == 3);
+    assert!(rt; dropped_by_a_fold() == 4);
     Ok(())
 }
