@@ -14,11 +14,13 @@ module _ {T : Type 0} where
   take-suc_next (suc n) [] left item here = cc
   take-suc_next (suc n) (x ∷ items) left item here = ap (λ more. x ∷ more) (take-suc_next n items left item here)
 
-  -- the items up to a place, and the next
-  pub take-next : (n : ℕ) (items left : List T) (item : T) → drop n items ≡ item ∷ left → take (n + 1) items ≡ take n items ++ item ∷ []
-  take-next n items left item here =
+  -- the items up to a place, moved behind others, and the next
+  pub take-next : (n : ℕ) (start before after items left : List T) (item : T) → drop n items ≡ item ∷ left → before ≡ start ++ take n items → after ≡ before ++ item ∷ []
+      → after ≡ start ++ take (n + 1) items
+  take-next n start before after items left item here moved grows =
       let more : n + 1 ≡ suc n = omega arith in
-      ap (λ k. take k items) more ∙ take-suc_next n items left item here
+      grows ∙ (ap (λ l. l ++ item ∷ []) moved ∙ (append_assoc start (take n items) (item ∷ [])
+      ∙ ap (λ l. start ++ l) (sym (take-suc_next n items left item here) ∙ ap (λ k. take k items) (sym more))))
 
   -- what follows them
   pub drop-next : (n : ℕ) (items left : List T) (item : T) → drop n items ≡ item ∷ left → left ≡ drop (n + 1) items
