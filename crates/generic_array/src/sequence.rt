@@ -10,6 +10,7 @@ ghost use Rattle.std.specs.Prelude.{◌≡◌, ◌≤◌, ◌↔◌, IfOk, IsOk,
 
 mod boxed;
 mod inline;
+pub mod shapes;
 mod views;
 
 use ga_core::{AllocError, FillError, GenericArrayRef, Unsigned};

@@ -5,6 +5,7 @@ ghost use Rattle.std.specs.List.{range_with_len};
 ghost use Rattle.std.specs.Prelude.{◌≡◌, ◌∷◌, [], ◌^◌, ◌<◌, ◌⊎◌, Err, Ok, IfOk, IsOk, OnOk, length, replicate, sum};
 
 mod matrix;
+mod shapes;
 
 use crate::checks::{map_total_by, total_by};
 use crate::functional::{

@@ -1,0 +1,104 @@
+-- Items moved one by one from the front of a list, and items taken out of it.
+use Rattle.std.proofs.Common.{◌≡◌, ℕ, zero, suc, ◌+◌, ◌-◌, ◌*◌, ◌/◌, ◌<◌, ◌≤◌, List, [], ◌∷◌, ◌++◌, Some, take, drop, refl, ap, ◌∙◌, sym, arith, append_assoc, length, length-append, length-drop, map, slice_get, slice_index_or, slice_set}
+use Rattle.std.proofs.Math.Seq.{take-append_seam}
+use Rattle.generic_array.specs.Rows.{row_at, rows}
+use Rattle.std.proofs.Math.Nat.{suc-mul}
+use Rattle.std.proofs.lemmas.List.{drop-drop}
+use Rattle.std.proofs.lemmas.List.FromFn.{map-range_with_len_more}
+use Rattle.std.proofs.lemmas.Nat.{div-mul-add}
+use Rattle.std.specs.List.{flat_map, range_with_len, remove, swap_remove}
+
+module _ {T : Type 0} where
+  take-suc_next : (n : ℕ) (items left : List T) (item : T) → drop n items ≡ item ∷ left → take (suc n) items ≡ take n items ++ item ∷ []
+  take-suc_next zero items left item here = ap (take 1) here
+  take-suc_next (suc n) [] left item here = cc
+  take-suc_next (suc n) (x ∷ items) left item here = ap (λ more. x ∷ more) (take-suc_next n items left item here)
+
+  -- the items up to a place, moved behind others, and the next
+  pub take-next : (n : ℕ) (start before after items left : List T) (item : T) → drop n items ≡ item ∷ left → before ≡ start ++ take n items → after ≡ before ++ item ∷ []
+      → after ≡ start ++ take (n + 1) items
+  take-next n start before after items left item here moved grows =
+      let more : n + 1 ≡ suc n = omega arith in
+      grows ∙ (ap (λ l. l ++ item ∷ []) moved ∙ (append_assoc start (take n items) (item ∷ [])
+      ∙ ap (λ l. start ++ l) (sym (take-suc_next n items left item here) ∙ ap (λ k. take k items) (sym more))))
+
+  -- what follows them
+  pub drop-next : (n : ℕ) (items left : List T) (item : T) → drop n items ≡ item ∷ left → left ≡ drop (n + 1) items
+  drop-next n items left item here = ap (drop 1) (sym here) ∙ drop-drop 1 n items
+
+  -- the item at a place, and the list without it
+  pub slice_get-next : (n : ℕ) (items left : List T) (item : T) → drop n items ≡ item ∷ left → slice_get items n ≡ Some item
+  slice_get-next zero items left item here = ap (λ all. slice_get all 0) here
+  slice_get-next (suc n) [] left item here = cc
+  slice_get-next (suc n) (x ∷ items) left item here = slice_get-next n items left item here
+
+  pub remove-next : (n : ℕ) (items left : List T) (item : T) → drop n items ≡ item ∷ left → take n items ++ left ≡ remove items n
+  remove-next zero items left item here = ap (drop 1) (sym here)
+  remove-next (suc n) [] left item here = cc
+  remove-next (suc n) (x ∷ items) left item here = ap (λ more. x ∷ more) (remove-next n items left item here)
+
+  -- the list where the last takes the place of an item
+  last_of : (front : List T) (last d : T) → slice_index_or (front ++ last ∷ []) (length front) d ≡ last
+  last_of [] last d = refl
+  last_of (x ∷ front) last d = last_of front last d
+
+  swap_remove-first : (x : T) (front : List T) (last d : T) → swap_remove (x ∷ (front ++ last ∷ [])) 0 d ≡ last ∷ front
+  swap_remove-first x front last d =
+      let all = front ++ last ∷ [] in
+      let long : suc (length all) - 1 ≡ suc (length front) = omega (arith, length-append front (last ∷ [])) in
+      ap (λ k. take k (slice_index_or (x ∷ all) k d ∷ all)) long
+      ∙ (ap (λ y. y ∷ take (length front) all) (last_of front last d) ∙ ap (λ more. last ∷ more) (take-append_seam front (last ∷ [])))
+
+  swap_remove-suc : (x : T) (items : List T) (n : ℕ) (d : T) → 0 < length items → swap_remove (x ∷ items) (suc n) d ≡ x ∷ swap_remove items n d
+  swap_remove-suc x items n d some =
+      let long : suc (length items) - 1 ≡ suc (length items - 1) = omega arith in
+      ap (λ k. take k (x ∷ slice_set items n (slice_index_or (x ∷ items) k d))) long
+
+  pub swap_remove-next : (n : ℕ) (front left : List T) (item last d : T) → drop n front ≡ item ∷ left → take n front ++ last ∷ left ≡ swap_remove (front ++ last ∷ []) n d
+  swap_remove-next zero [] left item last d here = cc
+  swap_remove-next (suc n) [] left item last d here = cc
+  swap_remove-next zero (x ∷ front) left item last d here = ap (λ all. last ∷ drop 1 all) (sym here) ∙ sym (swap_remove-first x front last d)
+  swap_remove-next (suc n) (x ∷ front) left item last d here =
+      ap (λ more. x ∷ more) (swap_remove-next n front left item last d here)
+      ∙ sym (swap_remove-suc x (front ++ last ∷ []) n d (omega (arith, length-append front (last ∷ []))))
+
+  -- what was built of the items before a place, an item and what is left
+  pub built_around : (start first left one two all : List T) (item : T) → start ≡ [] → one ≡ start ++ first → two ≡ one ++ item ∷ [] → all ≡ two ++ left → all ≡ first ++ item ∷ left
+  built_around start first left one two all item none before then behind =
+      behind ∙ (ap (λ l. l ++ left) (then ∙ ap (λ l. l ++ item ∷ []) (before ∙ ap (λ l. l ++ first) none)) ∙ append_assoc first (item ∷ []) left)
+
+  -- rows joined, where the first of those that are left was moved, and how many items they are
+  pub flat_map-next : (built row grown : List T) (these left : List (List T)) (whole : List T) → grown ≡ built ++ row → these ≡ row ∷ left
+      → built ++ flat_map (λ r. r) these ≡ whole → grown ++ flat_map (λ r. r) left ≡ whole
+  flat_map-next built row grown these left whole grows first same =
+      ap (λ l. l ++ flat_map (λ r. r) left) grows
+      ∙ (append_assoc built row (flat_map (λ r. r) left) ∙ (ap (λ all. built ++ flat_map (λ r. r) all) (sym first) ∙ same))
+
+  pub area-next : (built row grown : List T) (these left : List (List T)) (w total : ℕ) → grown ≡ built ++ row → these ≡ row ∷ left → length row ≡ w
+      → length built + length these * w ≡ total → length grown + length left * w ≡ total
+  area-next built row grown these left w total grows first wide same =
+      let more : length these * w ≡ length left * w + w = ap (λ all. length all * w) first ∙ suc-mul (length left) w in
+      omega (arith, ap length grows, length-append built row, wide, same, more)
+
+  -- one row more, what follows it, and how many items that is
+  pub rows-next : (w p : ℕ) (items row : List T) (before after : List (List T)) → before ≡ map (row_at w items) (range_with_len 0 p) → row ≡ take w (drop (p * w) items)
+      → after ≡ before ++ row ∷ [] → after ≡ map (row_at w items) (range_with_len 0 (p + 1))
+  rows-next w p items row before after made cut grows =
+      grows ∙ (ap (λ all. all ++ row ∷ []) made ∙ (ap (λ r. map (row_at w items) (range_with_len 0 p) ++ r ∷ []) cut
+      ∙ sym (map-range_with_len_more (row_at w items) 0 p p (omega arith))))
+
+  pub drop-next_row : (w p : ℕ) (items left after : List T) → left ≡ drop (p * w) items → after ≡ drop w left → after ≡ drop ((p + 1) * w) items
+  drop-next_row w p items left after here gone =
+      let more : p * w + w ≡ (p + 1) * w = sym (suc-mul p w) ∙ ap (λ n. n * w) (omega arith) in
+      gone ∙ (ap (drop w) here ∙ (drop-drop w (p * w) items ∙ ap (λ n. drop n items) more))
+
+  pub length-next_row : (w p total : ℕ) (left after : List T) → w ≤ length left → after ≡ drop w left → p * w + length left ≡ total → (p + 1) * w + length after ≡ total
+  length-next_row w p total left after there gone long =
+      let more : p * w + w ≡ (p + 1) * w = sym (suc-mul p w) ∙ ap (λ n. n * w) (omega arith) in
+      omega (arith, more, there, long, ap length gone, length-drop w left)
+
+  -- where the items fill the rows, these are all
+  pub rows-whole : (w r : ℕ) (items : List T) → 0 < w → length items ≡ r * w → map (row_at w items) (range_with_len 0 r) ≡ rows w items
+  rows-whole w r items some whole =
+      let count : length items / w ≡ r = ap (λ n. n / w) (omega (arith, whole)) ∙ div-mul-add r w 0 some in
+      ap (λ n. map (row_at w items) (range_with_len 0 n)) (sym count)

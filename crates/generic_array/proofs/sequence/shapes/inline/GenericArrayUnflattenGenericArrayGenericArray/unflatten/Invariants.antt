@@ -1,0 +1,13 @@
+use Rattle.generic_array.proofs.sequence.shapes.inline.GenericArrayUnflattenGenericArrayGenericArray.unflatten.Given as goal
+use Rattle.generic_array.specs.Rows.{row_at}
+use Rattle.std.proofs.Common.{◌≡◌, ◌+◌, ◌*◌, drop, length, map}
+use Rattle.std.specs.List.{range_with_len}
+
+-- the rows so far, and what follows them
+abbrev pub invariant-loop-place : goal.invariant-loop-place
+invariant-loop-place g l = record {
+  count : length l.rows ≡ l._place;
+  made : l.rows ≡ map (row_at g.W.Unsigned.USIZE l.fn.self) (range_with_len 0 l._place);
+  left : l.items ≡ drop (l._place * g.W.Unsigned.USIZE) l.fn.self;
+  long : l._place * g.W.Unsigned.USIZE + length l.items ≡ g.R.Unsigned.USIZE * g.W.Unsigned.USIZE;
+}

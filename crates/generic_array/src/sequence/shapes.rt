@@ -1,0 +1,168 @@
+//! Arrays made of the items of others: one longer or shorter, split, joined, without a place, or as
+//! rows.
+//!
+//! Each call takes its arrays and moves each item once into what it makes, in one pass; it asks for
+//! no memory. The types of what is made are parameters, and that their lengths fit together is a
+//! condition.
+ghost use Rattle.generic_array.specs.Rows.{rows};
+ghost use Rattle.std.specs.List.{flat_map, swap_remove};
+ghost use Rattle.std.specs.Prelude.{◌≡◌, ℕ, ◌<◌, List, [], Some, ◌∷◌, ◌++◌, drop, length, remove, slice_get, take};
+
+mod inline;
+mod moves;
+
+/// A sequence to which an item can be added.
+pub trait Lengthen<T, Longer>: Sized {
+    ghost items: { Self → List T };
+
+    ghost longer_items: { Longer → List T };
+
+    // A longer sequence has one item more, and its length fits.
+    ghost IsOneLonger: { Type 0 };
+
+    /// The items, and then `item`.
+    fn append(self, item: T) -> Longer
+        requires { IsOneLonger }
+        ensures { longer_items result ≡ items self ++ item ∷ [] };
+
+    /// `item`, and then the items.
+    fn prepend(self, item: T) -> Longer
+        requires { IsOneLonger }
+        ensures { longer_items result ≡ item ∷ items self };
+}
+
+/// A sequence from which an end can be taken.
+pub trait Shorten<T, Shorter>: Sized {
+    ghost items: { Self → List T };
+
+    ghost shorter_items: { Shorter → List T };
+
+    // A shorter sequence has one item less.
+    ghost IsOneShorter: { Type 0 };
+
+    /// All items but the last, and the last.
+    fn pop_back(self) -> (Shorter, T)
+        requires { IsOneShorter }
+        ensures { items self ≡ shorter_items result.0 ++ result.1 ∷ [] };
+
+    /// The first item, and all others.
+    fn pop_front(self) -> (T, Shorter)
+        requires { IsOneShorter }
+        ensures { items self ≡ result.0 ∷ shorter_items result.1 };
+}
+
+/// A sequence that can be joined with one that follows it.
+pub trait Concat<T, Rest, Output>: Sized {
+    ghost items: { Self → List T };
+
+    ghost rest_items: { Rest → List T };
+
+    ghost output_items: { Output → List T };
+
+    // What is made has room for exactly both, and its length fits.
+    ghost IsSum: { Type 0 };
+
+    /// The items, and then those of `rest`.
+    fn concat(self, rest: Rest) -> Output
+        requires { IsSum }
+        ensures { output_items result ≡ items self ++ rest_items rest };
+}
+
+/// A sequence that can be cut in two.
+pub trait Split<T, First, Second>: Sized {
+    ghost items: { Self → List T };
+
+    ghost first_items: { First → List T };
+
+    ghost second_items: { Second → List T };
+
+    // How many items the first part has.
+    ghost PLACE: { ℕ };
+
+    // The lengths of the parts add up to that of the sequence.
+    ghost IsSum: { Type 0 };
+
+    /// The first items, as many as the type of the first part tells, and all others.
+    fn split(self) -> (First, Second)
+        requires { IsSum }
+        ensures first { first_items result.0 ≡ take PLACE (items self) }
+        ensures second { second_items result.1 ≡ drop PLACE (items self) };
+}
+
+/// A sequence from which the item at a place can be taken.
+pub trait Remove<T, Output>: Sized {
+    ghost items: { Self → List T };
+
+    ghost output_items: { Output → List T };
+
+    // What is left has one item less.
+    ghost IsOneShorter: { Type 0 };
+
+    /// The item at `index`, and all others in order.
+    fn remove(self, index: usize) -> (T, Output)
+        requires shorter { IsOneShorter }
+        requires in_bounds { index < length (items self) }
+        ensures item { slice_get (items self) index ≡ Some result.0 }
+        ensures others { output_items result.1 ≡ remove (items self) index };
+
+    /// The item at `index`, and all others in order but the last, which takes the place of the item
+    /// that was taken.
+    fn swap_remove(self, index: usize) -> (T, Output)
+        requires shorter { IsOneShorter }
+        requires in_bounds { index < length (items self) }
+        ensures item { slice_get (items self) index ≡ Some result.0 }
+        ensures others { output_items result.1 ≡ swap_remove (items self) index result.0 };
+
+    /// `remove`, whose condition is proved where it is called.
+    final fn remove_unchecked(self, index: usize) -> (T, Output)
+        requires shorter { IsOneShorter }
+        requires in_bounds { index < length (items self) }
+        ensures item { slice_get (items self) index ≡ Some result.0 }
+        ensures others { output_items result.1 ≡ remove (items self) index }
+    {
+        self.remove(index)
+    }
+
+    /// `swap_remove`, whose condition is proved where it is called.
+    final fn swap_remove_unchecked(self, index: usize) -> (T, Output)
+        requires shorter { IsOneShorter }
+        requires in_bounds { index < length (items self) }
+        ensures item { slice_get (items self) index ≡ Some result.0 }
+        ensures others { output_items result.1 ≡ swap_remove (items self) index result.0 }
+    {
+        self.swap_remove(index)
+    }
+}
+
+/// A sequence of rows whose items can be joined.
+pub trait Flatten<T, Output>: Sized {
+    ghost rows: { Self → List (List T) };
+
+    ghost output_items: { Output → List T };
+
+    // What is made has room for exactly the items of all rows, and its length fits.
+    ghost IsArea: { Type 0 };
+
+    /// The items of the rows, in order.
+    fn flatten(self) -> Output
+        requires { IsArea }
+        ensures { output_items result ≡ flat_map (λ row. row) (rows self) };
+}
+
+/// A sequence that can be cut into rows of one width.
+pub trait Unflatten<T, Output>: Sized {
+    ghost items: { Self → List T };
+
+    ghost output_rows: { Output → List (List T) };
+
+    // How many items a row has.
+    ghost WIDTH: { ℕ };
+
+    // A row has items, and the rows together have as many as the sequence.
+    ghost IsArea: { Type 0 };
+
+    /// The items as rows: row `r` has those from place `r * WIDTH`.
+    fn unflatten(self) -> Output
+        requires { IsArea }
+        ensures { output_rows result ≡ rows WIDTH (items self) };
+}

@@ -1,0 +1,35 @@
+//! Items moved from an array into one that is being built.
+ghost use Rattle.std.specs.Prelude.{◌≡◌, ◌+◌, ◌≤◌, ◌++◌, drop, length, take};
+
+use ga_core::{ArrayBuilder, ArrayLength, GenericArrayIter};
+
+/// Moves the next `count` items.
+#[inline]
+pub(super) fn push_next<T: Default + Drop, N: ArrayLength<T>, M: ArrayLength<T>>(
+    builder: &mut ArrayBuilder<T, M>,
+    items: &mut GenericArrayIter<T, N>,
+    count: usize,
+)
+    requires there { count ≤ length items.old }
+    requires room { length builder.old + count ≤ M.USIZE }
+    ensures moved { builder.new ≡ builder.old ++ take count items.old }
+    ensures left { items.new ≡ drop count items.old }
+{
+    for _moved in 0..count {
+        builder.push(items.next().unwrap());
+    }
+}
+
+/// Moves all items that are left.
+#[inline]
+pub(super) fn push_all<T: Default + Drop, N: ArrayLength<T>, M: ArrayLength<T>>(
+    builder: &mut ArrayBuilder<T, M>,
+    items: GenericArrayIter<T, N>,
+)
+    requires room { length builder.old + length items ≤ M.USIZE }
+    ensures { builder.new ≡ builder.old ++ items }
+{
+    for item in items {
+        builder.push(item);
+    }
+}

@@ -1,0 +1,90 @@
+//! Callers of the shapes, with the items that they get.
+ghost use Rattle.std.specs.Prelude.{◌≡◌, ◌∷◌, []};
+
+use crate::sequence::shapes::{Concat, Flatten, Lengthen, Remove, Shorten, Split, Unflatten};
+use crate::{GenericArray, U0, U1, U2, U3, U4, U5};
+
+/// Two rows of two.
+type Square = GenericArray<GenericArray<u32, U2>, U2>;
+
+fn with_four_last(array: GenericArray<u32, U3>) -> GenericArray<u32, U4>
+    requires { array ≡ 1 ∷ 2 ∷ 3 ∷ [] }
+    ensures { result ≡ 1 ∷ 2 ∷ 3 ∷ 4 ∷ [] }
+{
+    array.append(4)
+}
+
+fn with_four_first(array: GenericArray<u32, U3>) -> GenericArray<u32, U4>
+    requires { array ≡ 1 ∷ 2 ∷ 3 ∷ [] }
+    ensures { result ≡ 4 ∷ 1 ∷ 2 ∷ 3 ∷ [] }
+{
+    array.prepend(4)
+}
+
+fn without_the_last(array: GenericArray<u32, U3>) -> (GenericArray<u32, U2>, u32)
+    requires { array ≡ 1 ∷ 2 ∷ 3 ∷ [] }
+    ensures { result ≡ (1 ∷ 2 ∷ [], 3) }
+{
+    array.pop_back()
+}
+
+fn without_the_first(array: GenericArray<u32, U3>) -> (u32, GenericArray<u32, U2>)
+    requires { array ≡ 1 ∷ 2 ∷ 3 ∷ [] }
+    ensures { result ≡ (1, 2 ∷ 3 ∷ []) }
+{
+    array.pop_front()
+}
+
+fn of_both(left: GenericArray<u32, U3>, right: GenericArray<u32, U2>) -> GenericArray<u32, U5>
+    requires left { left ≡ 1 ∷ 2 ∷ 3 ∷ [] }
+    requires right { right ≡ 4 ∷ 5 ∷ [] }
+    ensures { result ≡ 1 ∷ 2 ∷ 3 ∷ 4 ∷ 5 ∷ [] }
+{
+    left.concat(right)
+}
+
+fn cut_after_the_first(
+    array: GenericArray<u32, U3>,
+) -> (GenericArray<u32, U1>, GenericArray<u32, U2>)
+    requires { array ≡ 1 ∷ 2 ∷ 3 ∷ [] }
+    ensures { result ≡ (1 ∷ [], 2 ∷ 3 ∷ []) }
+{
+    array.split()
+}
+
+fn cut_before_the_first(
+    array: GenericArray<u32, U3>,
+) -> (GenericArray<u32, U0>, GenericArray<u32, U3>)
+    requires { array ≡ 1 ∷ 2 ∷ 3 ∷ [] }
+    ensures { result ≡ ([], 1 ∷ 2 ∷ 3 ∷ []) }
+{
+    array.split()
+}
+
+fn without_the_second(array: GenericArray<u32, U4>) -> (u32, GenericArray<u32, U3>)
+    requires { array ≡ 1 ∷ 2 ∷ 3 ∷ 4 ∷ [] }
+    ensures { result ≡ (2, 1 ∷ 3 ∷ 4 ∷ []) }
+{
+    array.remove_unchecked(1)
+}
+
+fn with_the_last_second(array: GenericArray<u32, U4>) -> (u32, GenericArray<u32, U3>)
+    requires { array ≡ 1 ∷ 2 ∷ 3 ∷ 4 ∷ [] }
+    ensures { result ≡ (2, 1 ∷ 4 ∷ 3 ∷ []) }
+{
+    array.swap_remove_unchecked(1)
+}
+
+fn all_of(rows: Square) -> GenericArray<u32, U4>
+    requires { rows ≡ (1 ∷ 2 ∷ []) ∷ (3 ∷ 4 ∷ []) ∷ [] }
+    ensures { result ≡ 1 ∷ 2 ∷ 3 ∷ 4 ∷ [] }
+{
+    rows.flatten()
+}
+
+fn as_rows(array: GenericArray<u32, U4>) -> Square
+    requires { array ≡ 1 ∷ 2 ∷ 3 ∷ 4 ∷ [] }
+    ensures { result ≡ (1 ∷ 2 ∷ []) ∷ (3 ∷ 4 ∷ []) ∷ [] }
+{
+    array.unflatten()
+}
