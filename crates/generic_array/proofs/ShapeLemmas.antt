@@ -68,17 +68,16 @@ module _ {T : Type 0} where
       behind ∙ (ap (λ l. l ++ left) (then ∙ ap (λ l. l ++ item ∷ []) (before ∙ ap (λ l. l ++ first) none)) ∙ append_assoc first (item ∷ []) left)
 
   -- rows joined, where the first of those that are left was moved, and how many items they are
-  pub flat_map-next : (built row grown : List T) (these left : List (List T)) (whole : List T) → grown ≡ built ++ row → these ≡ row ∷ left
-      → built ++ flat_map (λ r. r) these ≡ whole → grown ++ flat_map (λ r. r) left ≡ whole
-  flat_map-next built row grown these left whole grows first same =
-      ap (λ l. l ++ flat_map (λ r. r) left) grows
-      ∙ (append_assoc built row (flat_map (λ r. r) left) ∙ (ap (λ all. built ++ flat_map (λ r. r) all) (sym first) ∙ same))
+  module _ {R : Type 0} (f : R → List T) (built grown whole : List T) (row : R) (these left : List R) (grows : grown ≡ built ++ f row) (first : these ≡ row ∷ left) where
+    pub flat_map-next : built ++ flat_map (λ r. r) (map f these) ≡ whole → grown ++ flat_map (λ r. r) (map f left) ≡ whole
+    flat_map-next same =
+        ap (λ l. l ++ flat_map (λ r. r) (map f left)) grows
+        ∙ (append_assoc built (f row) (flat_map (λ r. r) (map f left)) ∙ (ap (λ all. built ++ flat_map (λ r. r) (map f all)) (sym first) ∙ same))
 
-  pub area-next : (built row grown : List T) (these left : List (List T)) (w total : ℕ) → grown ≡ built ++ row → these ≡ row ∷ left → length row ≡ w
-      → length built + length these * w ≡ total → length grown + length left * w ≡ total
-  area-next built row grown these left w total grows first wide same =
-      let more : length these * w ≡ length left * w + w = ap (λ all. length all * w) first ∙ suc-mul (length left) w in
-      omega (arith, ap length grows, length-append built row, wide, same, more)
+    pub area-next : (w total : ℕ) → length (f row) ≡ w → length built + length these * w ≡ total → length grown + length left * w ≡ total
+    area-next w total wide same =
+        let more : length these * w ≡ length left * w + w = ap (λ all. length all * w) first ∙ suc-mul (length left) w in
+        omega (arith, ap length grows, length-append built (f row), wide, same, more)
 
   -- one row more, what follows it, and how many items that is
   pub rows-next : (w p : ℕ) (items row : List T) (before after : List (List T)) → before ≡ map (row_at w items) (range_with_len 0 p) → row ≡ take w (drop (p * w) items)

@@ -6,10 +6,12 @@
 //! condition.
 ghost use Rattle.generic_array.specs.Rows.{rows};
 ghost use Rattle.std.specs.List.{flat_map, swap_remove};
-ghost use Rattle.std.specs.Prelude.{◌≡◌, ℕ, ◌<◌, List, [], Some, ◌∷◌, ◌++◌, drop, length, remove, slice_get, take};
+ghost use Rattle.std.specs.Prelude.{◌≡◌, ℕ, ◌+◌, ◌<◌, ◌≤◌, List, [], Some, ◌∷◌, ◌++◌, drop, length, remove, slice_get, take};
 
 mod inline;
 mod moves;
+
+use ga_core::{ArrayBuilder, ArrayLength};
 
 /// A sequence to which an item can be added.
 pub trait Lengthen<T, Longer>: Sized {
@@ -132,6 +134,20 @@ pub trait Remove<T, Output>: Sized {
     {
         self.swap_remove(index)
     }
+}
+
+/// A row: a sequence whose items can be moved into an array that is being built.
+pub trait Row<T>: Sized {
+    ghost items: { Self → List T };
+
+    // How many items a row has.
+    ghost WIDTH: { ℕ };
+
+    /// Moves the items behind those that are there.
+    fn push_into<M: ArrayLength<T>>(self, builder: &mut ArrayBuilder<T, M>)
+        requires room { length builder.old + WIDTH ≤ M.USIZE }
+        ensures moved { builder.new ≡ builder.old ++ items self }
+        ensures width { length (items self) ≡ WIDTH };
 }
 
 /// A sequence of rows whose items can be joined.

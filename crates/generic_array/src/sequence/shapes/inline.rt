@@ -1,9 +1,9 @@
 //! The shapes of inline arrays.
 ghost use Rattle.ga_core.specs.Length.{FitsInline};
-ghost use Rattle.std.specs.Prelude.{◌≡◌, ◌+◌, ◌*◌, ◌<◌};
+ghost use Rattle.std.specs.Prelude.{◌≡◌, ◌+◌, ◌*◌, ◌<◌, map};
 
 use crate::sequence::shapes::moves::{push_all, push_next};
-use crate::sequence::shapes::{Concat, Flatten, Lengthen, Remove, Shorten, Split, Unflatten};
+use crate::sequence::shapes::{Concat, Flatten, Lengthen, Remove, Row, Shorten, Split, Unflatten};
 use ga_core::{ArrayBuilder, ArrayLength, GenericArray};
 
 impl<T: Default + Drop, N: ArrayLength<T>, M: ArrayLength<T>> Lengthen<T, GenericArray<T, M>>
@@ -144,28 +144,34 @@ impl<T: Default + Drop, N: ArrayLength<T>, M: ArrayLength<T>> Remove<T, GenericA
     }
 }
 
-impl<
-    T: Default + Drop,
-    W: ArrayLength<T>,
-    R: ArrayLength<GenericArray<T, W>>,
-    M: ArrayLength<T>,
-> Flatten<T, GenericArray<T, M>> for GenericArray<GenericArray<T, W>, R>
-where
-    GenericArray<T, W>: Default,
-{
-    ghost rows = { λ rows. rows };
+impl<T: Default + Drop, N: ArrayLength<T>> Row<T> for GenericArray<T, N> {
+    ghost items = { λ array. array };
+
+    ghost WIDTH = { N.USIZE };
+
+    #[inline]
+    fn push_into<M: ArrayLength<T>>(self, builder: &mut ArrayBuilder<T, M>) {
+        let _ = self.as_slice();
+        push_all(builder, self.into_iter());
+    }
+}
+
+/// The bound is on the type of a row, since the checker doesn't cover calls of a function that takes
+/// arrays of arrays by value and asks for a `Default` of the inner arrays.
+impl<T: Default + Drop, I: Row<T> + Default + Drop, R: ArrayLength<I>, M: ArrayLength<T>>
+    Flatten<T, GenericArray<T, M>> for GenericArray<I, R> {
+    ghost rows = { λ rows. map I.items rows };
 
     ghost output_items = { λ array. array };
 
-    ghost IsArea = { (M.USIZE ≡ R.USIZE * W.USIZE) × FitsInline M.USIZE };
+    ghost IsArea = { (M.USIZE ≡ R.USIZE * I.WIDTH) × FitsInline M.USIZE };
 
     #[inline]
     fn flatten(self) -> GenericArray<T, M> {
         let _ = self.as_slice();
         let mut builder = ArrayBuilder::new();
         for row in self {
-            let _ = row.as_slice();
-            push_all(&mut builder, row.into_iter());
+            row.push_into(&mut builder);
         }
         builder.finish()
     }
