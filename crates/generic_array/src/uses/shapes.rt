@@ -3,7 +3,7 @@ ghost use Rattle.std.specs.Prelude.{◌≡◌, ◌∷◌, []};
 
 use crate::sequence::shapes::{Concat, Flatten, Lengthen, Remove, Shorten, Split, Unflatten};
 use crate::uses::{four_five_six, one_two_three};
-use crate::{GenericArray, U0, U1, U2, U3, U4, U5};
+use crate::{GenericArray, GenericArrayRef, U0, U1, U2, U3, U4, U5};
 
 /// Two rows of two.
 type Square = GenericArray<GenericArray<u32, U2>, U2>;
@@ -70,6 +70,16 @@ fn cut_before_the_first(
     array.split()
 }
 
+fn view_cut_after_the_first<'a>(
+    view: GenericArrayRef<'a, u32, U3>,
+) -> (GenericArrayRef<'a, u32, U1>, GenericArrayRef<'a, u32, U2>)
+    requires { view.slice.now ≡ 1 ∷ 2 ∷ 3 ∷ [] }
+    ensures first { result.0.slice.now ≡ 1 ∷ [] }
+    ensures second { result.1.slice.now ≡ 2 ∷ 3 ∷ [] }
+{
+    view.split()
+}
+
 fn without_the_second(array: GenericArray<u32, U4>) -> (u32, GenericArray<u32, U3>)
     requires { array ≡ 1 ∷ 2 ∷ 3 ∷ 4 ∷ [] }
     ensures { result ≡ (2, 1 ∷ 3 ∷ 4 ∷ []) }
@@ -114,6 +124,9 @@ fn shapes_give_the_items_that_callers_rely_on(rt: HostRuntime) {
     assert!(rt; one.as_slice() == [1].as_slice() && two.as_slice() == [2, 3].as_slice());
     let (none, three) = cut_before_the_first(one_two_three());
     assert!(rt; none.as_slice().is_empty() && three.as_slice() == [1, 2, 3].as_slice());
+    let array = one_two_three();
+    let (one, two) = view_cut_after_the_first(array.view());
+    assert!(rt; one.as_slice() == [1].as_slice() && two.as_slice() == [2, 3].as_slice());
     let (second, others) = without_the_second(with_four_last(one_two_three()));
     assert!(rt; second == 2 && others.as_slice() == [1, 3, 4].as_slice());
     let (second, others) = with_the_last_second(with_four_last(one_two_three()));
