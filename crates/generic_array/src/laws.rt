@@ -77,10 +77,7 @@ pub fn concat_then_split<
     N: ArrayLength<T>,
     K: ArrayLength<T>,
     M: ArrayLength<T>,
->(
-    first: GenericArray<T, K>,
-    second: GenericArray<T, M>,
-) -> (GenericArray<T, K>, GenericArray<T, M>)
+>(first: GenericArray<T, K>, second: GenericArray<T, M>) -> (GenericArray<T, K>, GenericArray<T, M>)
     requires sum { (N.USIZE ≡ K.USIZE + M.USIZE) × FitsInline N.USIZE }
     ensures first { result.0 ≡ first }
     ensures second { result.1 ≡ second }
