@@ -54,7 +54,7 @@ module _ {T : Type 0} where
       let long : suc (length items) - 1 ≡ suc (length items - 1) = omega arith in
       ap (λ k. take k (x ∷ slice_set items n (slice_index_or (x ∷ items) k d))) long
 
-  pub swap_remove-next : (n : ℕ) (front left : List T) (item last d : T) → drop n front ≡ item ∷ left → take n front ++ last ∷ left ≡ swap_remove (front ++ last ∷ []) n d
+  swap_remove-next : (n : ℕ) (front left : List T) (item last d : T) → drop n front ≡ item ∷ left → take n front ++ last ∷ left ≡ swap_remove (front ++ last ∷ []) n d
   swap_remove-next zero [] left item last d here = cc
   swap_remove-next (suc n) [] left item last d here = cc
   swap_remove-next zero (x ∷ front) left item last d here = ap (λ all. last ∷ drop 1 all) (sym here) ∙ sym (swap_remove-first x front last d)
@@ -62,10 +62,12 @@ module _ {T : Type 0} where
       ap (λ more. x ∷ more) (swap_remove-next n front left item last d here)
       ∙ sym (swap_remove-suc x (front ++ last ∷ []) n d (omega (arith, length-append front (last ∷ []))))
 
-  -- what was built of the items before a place, an item and what is left
-  pub built_around : (start first left one two all : List T) (item : T) → start ≡ [] → one ≡ start ++ first → two ≡ one ++ item ∷ [] → all ≡ two ++ left → all ≡ first ++ item ∷ left
-  built_around start first left one two all item none before then behind =
-      behind ∙ (ap (λ l. l ++ left) (then ∙ ap (λ l. l ++ item ∷ []) (before ∙ ap (λ l. l ++ first) none)) ∙ append_assoc first (item ∷ []) left)
+  -- what was built of the items before a place, the last item and what is left
+  pub swap_remove-built : (n : ℕ) (items front left start one two all : List T) (item last d : T) → items ≡ front ++ last ∷ [] → drop n front ≡ item ∷ left
+      → start ≡ [] → one ≡ start ++ take n front → two ≡ one ++ last ∷ [] → all ≡ two ++ left → all ≡ swap_remove items n d
+  swap_remove-built n items front left start one two all item last d whole here none before then behind =
+      behind ∙ (ap (λ l. l ++ left) (then ∙ ap (λ l. l ++ last ∷ []) (before ∙ ap (λ l. l ++ take n front) none)) ∙ (append_assoc (take n front) (last ∷ []) left
+      ∙ (swap_remove-next n front left item last d here ∙ ap (λ l. swap_remove l n d) (sym whole))))
 
   -- rows joined, where the first of those that are left was moved, and how many items they are
   module _ {R : Type 0} (f : R → List T) (built grown whole : List T) (row : R) (these left : List R) (grows : grown ≡ built ++ f row) (first : these ≡ row ∷ left) where

@@ -1,6 +1,8 @@
 //! The traits' calls at each kind, refused memory, and how often an entry is dropped.
 ghost use Rattle.ga_core.specs.Length.{FitsInline};
 
+mod shapes;
+
 use crate::checks::map_total_by;
 use crate::functional::{FunctionalSequence, inverted_zip, inverted_zip2};
 use crate::sequence::{FallibleGenericSequence, FromFallibleIterator, GenericSequence};

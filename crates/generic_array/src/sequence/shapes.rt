@@ -10,6 +10,7 @@ ghost use Rattle.std.specs.Prelude.{◌≡◌, ℕ, ◌+◌, ◌<◌, ◌≤◌,
 
 mod inline;
 mod moves;
+mod views;
 
 use ga_core::{ArrayBuilder, ArrayLength};
 

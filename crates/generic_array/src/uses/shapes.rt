@@ -2,7 +2,8 @@
 ghost use Rattle.std.specs.Prelude.{◌≡◌, ◌∷◌, []};
 
 use crate::sequence::shapes::{Concat, Flatten, Lengthen, Remove, Shorten, Split, Unflatten};
-use crate::{GenericArray, U0, U1, U2, U3, U4, U5};
+use crate::uses::{four_five_six, one_two_three};
+use crate::{GenericArray, GenericArrayRef, U0, U1, U2, U3, U4, U5};
 
 /// Two rows of two.
 type Square = GenericArray<GenericArray<u32, U2>, U2>;
@@ -35,6 +36,14 @@ fn without_the_first(array: GenericArray<u32, U3>) -> (u32, GenericArray<u32, U2
     array.pop_front()
 }
 
+fn without_the_six(array: GenericArray<u32, U3>) -> GenericArray<u32, U2>
+    requires { array ≡ 4 ∷ 5 ∷ 6 ∷ [] }
+    ensures { result ≡ 4 ∷ 5 ∷ [] }
+{
+    let (others, _six) = array.pop_back();
+    others
+}
+
 fn of_both(left: GenericArray<u32, U3>, right: GenericArray<u32, U2>) -> GenericArray<u32, U5>
     requires left { left ≡ 1 ∷ 2 ∷ 3 ∷ [] }
     requires right { right ≡ 4 ∷ 5 ∷ [] }
@@ -59,6 +68,16 @@ fn cut_before_the_first(
     ensures { result ≡ ([], 1 ∷ 2 ∷ 3 ∷ []) }
 {
     array.split()
+}
+
+fn view_cut_after_the_first<'a>(
+    view: GenericArrayRef<'a, u32, U3>,
+) -> (GenericArrayRef<'a, u32, U1>, GenericArrayRef<'a, u32, U2>)
+    requires { view.slice.now ≡ 1 ∷ 2 ∷ 3 ∷ [] }
+    ensures first { result.0.slice.now ≡ 1 ∷ [] }
+    ensures second { result.1.slice.now ≡ 2 ∷ 3 ∷ [] }
+{
+    view.split()
 }
 
 fn without_the_second(array: GenericArray<u32, U4>) -> (u32, GenericArray<u32, U3>)
@@ -87,4 +106,32 @@ fn as_rows(array: GenericArray<u32, U4>) -> Square
     ensures { result ≡ (1 ∷ 2 ∷ []) ∷ (3 ∷ 4 ∷ []) ∷ [] }
 {
     array.unflatten()
+}
+
+#[test]
+fn shapes_give_the_items_that_callers_rely_on(rt: HostRuntime) {
+    assert!(rt; with_four_last(one_two_three()).as_slice() == [1, 2, 3, 4].as_slice());
+    assert!(rt; with_four_first(one_two_three()).as_slice() == [4, 1, 2, 3].as_slice());
+    let (two, last) = without_the_last(one_two_three());
+    assert!(rt; last == 3 && two.as_slice() == [1, 2].as_slice());
+    assert!(rt;
+        of_both(one_two_three(), without_the_six(four_five_six())).as_slice()
+            == [1, 2, 3, 4, 5].as_slice()
+    );
+    let (first, two) = without_the_first(one_two_three());
+    assert!(rt; first == 1 && two.as_slice() == [2, 3].as_slice());
+    let (one, two) = cut_after_the_first(one_two_three());
+    assert!(rt; one.as_slice() == [1].as_slice() && two.as_slice() == [2, 3].as_slice());
+    let (none, three) = cut_before_the_first(one_two_three());
+    assert!(rt; none.as_slice().is_empty() && three.as_slice() == [1, 2, 3].as_slice());
+    let array = one_two_three();
+    let (one, two) = view_cut_after_the_first(array.view());
+    assert!(rt; one.as_slice() == [1].as_slice() && two.as_slice() == [2, 3].as_slice());
+    let (second, others) = without_the_second(with_four_last(one_two_three()));
+    assert!(rt; second == 2 && others.as_slice() == [1, 3, 4].as_slice());
+    let (second, others) = with_the_last_second(with_four_last(one_two_three()));
+    assert!(rt; second == 2 && others.as_slice() == [1, 4, 3].as_slice());
+    let rows = as_rows(with_four_last(one_two_three()));
+    assert!(rt; rows[1].as_slice() == [3, 4].as_slice());
+    assert!(rt; all_of(rows).as_slice() == [1, 2, 3, 4].as_slice());
 }

@@ -64,8 +64,11 @@ impl<T: Default + Drop, N: ArrayLength<T>, M: ArrayLength<T>> Shorten<T, Generic
     }
 }
 
-impl<T: Default + Drop, N: ArrayLength<T>, R: ArrayLength<T>, M: ArrayLength<T>>
-    Concat<T, GenericArray<T, R>, GenericArray<T, M>> for GenericArray<T, N> {
+impl<T: Default + Drop, N: ArrayLength<T>, R: ArrayLength<T>, M: ArrayLength<T>> Concat<
+    T,
+    GenericArray<T, R>,
+    GenericArray<T, M>,
+> for GenericArray<T, N> {
     ghost items = { λ array. array };
 
     ghost rest_items = { λ array. array };
@@ -78,15 +81,18 @@ impl<T: Default + Drop, N: ArrayLength<T>, R: ArrayLength<T>, M: ArrayLength<T>>
     fn concat(self, rest: GenericArray<T, R>) -> GenericArray<T, M> {
         let _ = self.as_slice();
         let _ = rest.as_slice();
-        let mut builder = ArrayBuilder::new();
-        push_all(&mut builder, self.into_iter());
-        push_all(&mut builder, rest.into_iter());
-        builder.finish()
+        let mut both = ArrayBuilder::new();
+        push_all(&mut both, self.into_iter());
+        push_all(&mut both, rest.into_iter());
+        both.finish()
     }
 }
 
-impl<T: Default + Drop, N: ArrayLength<T>, K: ArrayLength<T>, M: ArrayLength<T>>
-    Split<T, GenericArray<T, K>, GenericArray<T, M>> for GenericArray<T, N> {
+impl<T: Default + Drop, N: ArrayLength<T>, K: ArrayLength<T>, M: ArrayLength<T>> Split<
+    T,
+    GenericArray<T, K>,
+    GenericArray<T, M>,
+> for GenericArray<T, N> {
     ghost items = { λ array. array };
 
     ghost first_items = { λ array. array };
@@ -101,9 +107,8 @@ impl<T: Default + Drop, N: ArrayLength<T>, K: ArrayLength<T>, M: ArrayLength<T>>
     fn split(self) -> (GenericArray<T, K>, GenericArray<T, M>) {
         let _ = self.as_slice();
         let mut items = self.into_iter();
-        let mut first = ArrayBuilder::new();
+        let (mut first, mut second) = (ArrayBuilder::new(), ArrayBuilder::new());
         push_next(&mut first, &mut items, K::USIZE);
-        let mut second = ArrayBuilder::new();
         push_all(&mut second, items);
         (first.finish(), second.finish())
     }
@@ -158,8 +163,10 @@ impl<T: Default + Drop, N: ArrayLength<T>> Row<T> for GenericArray<T, N> {
 
 /// The bound is on the type of a row, since the checker doesn't cover calls of a function that takes
 /// arrays of arrays by value and asks for a `Default` of the inner arrays.
-impl<T: Default + Drop, I: Row<T> + Default + Drop, R: ArrayLength<I>, M: ArrayLength<T>>
-    Flatten<T, GenericArray<T, M>> for GenericArray<I, R> {
+impl<T: Default + Drop, I: Row<T> + Default + Drop, R: ArrayLength<I>, M: ArrayLength<T>> Flatten<
+    T,
+    GenericArray<T, M>,
+> for GenericArray<I, R> {
     ghost rows = { λ rows. map I.items rows };
 
     ghost output_items = { λ array. array };
