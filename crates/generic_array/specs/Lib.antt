@@ -2,6 +2,7 @@ pub mod Built
 pub mod Entries
 pub mod EntryLaws
 pub mod EntryRuns
+pub mod Laws
 pub mod Matrix
 pub use Rattle.ga_boxed.specs.FillAnswer
 pub use Rattle.ga_core.specs.Copies

@@ -1,12 +1,32 @@
-//! Laws of the shapes, as calls: what is done and undone is as it was.
+//! Laws: what the clauses of this crate say together.
+//!
+//! Each function's contract is a law. A law of a closure's calls holds of each closure, whatever it
+//! answers; a law of the shapes says that what is done and undone is as it was.
 ghost use Rattle.ga_core.specs.Length.{FitsInline};
+ghost use Rattle.generic_array.specs.Laws.{ErrorRunsJoin, FoldsJoin, GoodRunsJoin, RunsJoin};
 ghost use Rattle.std.specs.Prelude.{◌≡◌, ◌+◌};
 
 use crate::sequence::shapes::{Concat, Lengthen, Shorten, Split};
-use ga_core::{ArrayLength, GenericArray};
+use crate::{ArrayLength, GenericArray};
+
+/// A run over joined lists is one over the first, and then one over the second.
+fn runs_join<X, Y, F: FnMut(X) -> Y>(_f: &F)
+    ensures { RunsJoin F.step }
+{}
+
+/// So is a run with no error, and a run to an error, which makes no call after it.
+fn first_error_runs_join<X, Y, E, F: FnMut(X) -> Result<Y, E>>(_f: &F)
+    ensures good { GoodRunsJoin F.step }
+    ensures error { ErrorRunsJoin F.step }
+{}
+
+/// A fold over joined lists is one over the second from what the one over the first came to.
+fn folds_join<A, X, F: FnMut(A, X) -> A>(_f: &F)
+    ensures { FoldsJoin F.step }
+{}
 
 /// An item appended and popped.
-pub fn append_then_pop_back<T: Default + Drop, N: ArrayLength<T>, M: ArrayLength<T>>(
+pub(crate) fn append_then_pop_back<T: Default + Drop, N: ArrayLength<T>, M: ArrayLength<T>>(
     array: GenericArray<T, N>,
     item: T,
 ) -> (GenericArray<T, N>, T)
@@ -19,7 +39,7 @@ pub fn append_then_pop_back<T: Default + Drop, N: ArrayLength<T>, M: ArrayLength
 }
 
 /// The last item popped and appended.
-pub fn pop_back_then_append<T: Default + Drop, N: ArrayLength<T>, M: ArrayLength<T>>(
+pub(crate) fn pop_back_then_append<T: Default + Drop, N: ArrayLength<T>, M: ArrayLength<T>>(
     array: GenericArray<T, N>,
 ) -> GenericArray<T, N>
     requires one_shorter { N.USIZE ≡ M.USIZE + 1 }
@@ -32,7 +52,7 @@ pub fn pop_back_then_append<T: Default + Drop, N: ArrayLength<T>, M: ArrayLength
 }
 
 /// An item prepended and popped.
-pub fn prepend_then_pop_front<T: Default + Drop, N: ArrayLength<T>, M: ArrayLength<T>>(
+pub(crate) fn prepend_then_pop_front<T: Default + Drop, N: ArrayLength<T>, M: ArrayLength<T>>(
     array: GenericArray<T, N>,
     item: T,
 ) -> (T, GenericArray<T, N>)
@@ -45,7 +65,7 @@ pub fn prepend_then_pop_front<T: Default + Drop, N: ArrayLength<T>, M: ArrayLeng
 }
 
 /// The first item popped and prepended.
-pub fn pop_front_then_prepend<T: Default + Drop, N: ArrayLength<T>, M: ArrayLength<T>>(
+pub(crate) fn pop_front_then_prepend<T: Default + Drop, N: ArrayLength<T>, M: ArrayLength<T>>(
     array: GenericArray<T, N>,
 ) -> GenericArray<T, N>
     requires one_shorter { N.USIZE ≡ M.USIZE + 1 }
@@ -57,7 +77,7 @@ pub fn pop_front_then_prepend<T: Default + Drop, N: ArrayLength<T>, M: ArrayLeng
 }
 
 /// An array cut in two and joined.
-pub fn split_then_concat<
+pub(crate) fn split_then_concat<
     T: Default + Drop,
     N: ArrayLength<T>,
     K: ArrayLength<T>,
@@ -72,7 +92,7 @@ pub fn split_then_concat<
 }
 
 /// Two arrays joined and cut where they were joined.
-pub fn concat_then_split<
+pub(crate) fn concat_then_split<
     T: Default + Drop,
     N: ArrayLength<T>,
     K: ArrayLength<T>,

@@ -9,8 +9,9 @@
 pub mod checks;
 /// Calls of a closure at all entries.
 pub mod functional;
-/// What is done and undone by the shapes is as it was.
-pub mod laws;
+/// Laws of the operations: what their clauses say together.
+#[cfg(test)]
+mod laws;
 /// What is common to the kinds of sequences, and how each is made.
 pub mod sequence;
 #[cfg(test)]
