@@ -1,8 +1,15 @@
--- Laws of runs over joined lists, proved.
+-- Laws of runs over joined lists, and of rows, proved.
 use Rattle.ga_core.specs.Runs.{ClosureRun, FirstErrorRun}
-use Rattle.generic_array.specs.Laws.{RunInParts, RunsJoin, GoodRunInParts, GoodRunsJoin, ErrorRunInParts, ErrorRunsJoin, FoldsJoin}
-use Rattle.std.proofs.Common.{List, [], ◌∷◌, ◌++◌, Result, Ok, Err, inl, inr, refl, sym, subst, ap}
-use Rattle.std.specs.List.{FoldsTo}
+use Rattle.generic_array.proofs.RowLemmas.{rows-few, rows-first}
+use Rattle.generic_array.specs.Rows.{rows}
+use Rattle.generic_array.specs.EntryRuns.{CallableOver}
+use Rattle.generic_array.specs.Laws.{HaveWidth, RunInParts, RunsJoin, GoodRunInParts, GoodRunsJoin, ErrorRunInParts, ErrorRunsJoin, FoldsJoin}
+use Rattle.std.proofs.Common.{◌≡◌, ℕ, zero, suc, ◌+◌, ◌*◌, ◌<◌, ◌≤◌, ◌∙◌, List, [], ◌∷◌, ◌++◌, Result, Ok, Err, inl, inr, refl, sym, subst, ap, arith, append_assoc, drop, take, length, length-append, length-drop}
+use Rattle.std.proofs.Math.Nat.{suc-mul}
+use Rattle.std.proofs.Math.Seq.{drop-append_seam, take-append_seam}
+use Rattle.std.proofs.lemmas.List.{nil_from_length, take-append-drop}
+use Rattle.std.proofs.lemmas.List.Concat.{flat_map-cons}
+use Rattle.std.specs.List.{FoldsTo, flat_map}
 
 module _ {F X Y : Type 0} (step : F → X → Y → F → Type 0) where
   ClosureRun-cut : (f : F) (xs ys : List X) (answers : List Y) (last : F) → ClosureRun step f (xs ++ ys) answers last → RunInParts step f xs ys answers last
@@ -24,6 +31,11 @@ module _ {F X Y : Type 0} (step : F → X → Y → F → Type 0) where
     ClosureRun-cut f xs ys answers last,
     λ parts. subst (λ all. ClosureRun step f (xs ++ ys) all last) (sym parts.3) (ClosureRun-join f xs ys parts.0 parts.1 parts.2 last parts.4 parts.5),
   )
+
+  -- the answers of both are those of the whole
+  pub ClosureRun-in_turn : (f : F) (xs ys : List X) (first second all : List Y) (between last : F) → all ≡ first ++ second → ClosureRun step f xs first between
+      → ClosureRun step between ys second last → ClosureRun step f (xs ++ ys) all last
+  ClosureRun-in_turn f xs ys first second all between last joined run then = (ClosureRun-joined f xs ys all last).1 (first, second, between, joined, run, then)
 
 module _ {F X Y E : Type 0} (step : F → X → Result Y E → F → Type 0) where
   good-cut : (f : F) (xs ys : List X) (answers : List Y) (last : F) → FirstErrorRun step f (xs ++ ys) (Ok answers) last → GoodRunInParts step f xs ys answers last
@@ -91,3 +103,42 @@ module _ {F A X : Type 0} (step : F → A → X → A → F → Type 0) where
         λ fold. let parts = FoldsTo-cut R (f, init) xs ys (last, answer) fold in (parts.0.1, parts.0.0, parts.1, parts.2),
         λ parts. FoldsTo-join R (f, init) xs ys (parts.1, parts.0) (last, answer) parts.2 parts.3,
       )
+
+module _ {F X Y : Type 0} (pre : F → X → Type 0) (step : F → X → Y → F → Type 0) where
+  -- what may be called over joined lists may be called over the first
+  pub CallableOver-first : (f : F) (xs ys : List X) → CallableOver pre step f (xs ++ ys) → CallableOver pre step f xs
+  CallableOver-first f xs ys callable passed x others answers reached whole run =
+      callable passed x (others ++ ys) answers reached (ap (λ all. all ++ ys) whole ∙ append_assoc passed (x ∷ others) ys) run
+
+  -- and then over the second
+  pub CallableOver-second : (f : F) (xs ys : List X) (first : List Y) (between : F) → CallableOver pre step f (xs ++ ys) → ClosureRun step f xs first between
+      → CallableOver pre step between ys
+  CallableOver-second f xs ys first between callable ran passed x others answers reached whole run =
+      callable (xs ++ passed) x others (first ++ answers) reached (ap (λ all. xs ++ all) whole ∙ sym (append_assoc xs passed (x ∷ others)))
+      (ClosureRun-join step f xs passed first answers between reached ran run)
+
+module _ {X : Type 0} (width : ℕ) (some : 0 < width) where
+  -- rows joined, and cut again
+  pub rows-of_joined : (all : List (List X)) → HaveWidth width all → rows width (flat_map (λ row. row) all) ≡ all
+  rows-of_joined [] wide = rows-few width [] some
+  rows-of_joined (row ∷ others) wide =
+      let rest = flat_map (λ r. r) others in
+      let joined : flat_map (λ r. r) (row ∷ others) ≡ row ++ rest = flat_map-cons (λ r. r) row others in
+      let enough : width ≤ length (row ++ rest) = omega (arith, length-append row rest, wide.0) in
+      let first : take width (row ++ rest) ≡ row = ap (λ n. take n (row ++ rest)) (sym wide.0) ∙ take-append_seam row rest in
+      let after : drop width (row ++ rest) ≡ rest = ap (λ n. drop n (row ++ rest)) (sym wide.0) ∙ drop-append_seam row rest in
+      ap (rows width) joined ∙ (rows-first width (row ++ rest) some enough ∙ (ap (λ r. r ∷ rows width (drop width (row ++ rest))) first
+      ∙ (ap (λ items. row ∷ rows width items) after ∙ ap (λ more. row ∷ more) (rows-of_joined others wide.1))))
+
+  -- items cut into rows, and joined again
+  pub joined-of_rows : (count : ℕ) (items : List X) → length items ≡ count * width → flat_map (λ row. row) (rows width items) ≡ items
+  joined-of_rows zero items whole =
+      let none : items ≡ [] = nil_from_length items (omega (arith, whole)) in
+      ap (λ all. flat_map (λ r. r) (rows width all)) none ∙ (ap (flat_map (λ r. r)) (rows-few width [] some) ∙ sym none)
+  joined-of_rows (suc count) items whole =
+      let more : suc count * width ≡ count * width + width = suc-mul count width in
+      let enough : width ≤ length items = omega (arith, whole, more) in
+      let left : length (drop width items) ≡ count * width = omega (arith, whole, more, length-drop width items) in
+      ap (flat_map (λ r. r)) (rows-first width items some enough)
+      ∙ (flat_map-cons (λ r. r) (take width items) (rows width (drop width items))
+      ∙ (ap (λ rest. take width items ++ rest) (joined-of_rows count (drop width items) left) ∙ take-append-drop width items))

@@ -1,6 +1,6 @@
 -- Laws of runs over joined lists.
 use Rattle.ga_core.specs.Runs.{ClosureRun, FirstErrorRun, FoldRun}
-use Rattle.std.specs.Prelude.{◌≡◌, ◌⊎◌, ◌↔◌, List, ◌++◌, Result, Ok, Err}
+use Rattle.std.specs.Prelude.{◌≡◌, ◌⊎◌, ◌↔◌, ⊤, ℕ, List, [], ◌∷◌, ◌++◌, length, Result, Ok, Err}
 
 module _ {F X Y : Type 0} (step : F → X → Y → F → Type 0) where
   -- a run over the first list, and one over the second from the state that it reached, with their answers joined
@@ -36,3 +36,8 @@ module _ {F A X : Type 0} (step : F → A → X → A → F → Type 0) where
   abbrev pub FoldsJoin : Type 0
   FoldsJoin = (f : F) (init : A) (xs ys : List X) (answer : A) (last : F)
       → FoldRun step f init (xs ++ ys) answer last ↔ ((value : A) × (reached : F) × FoldRun step f init xs value reached × FoldRun step reached value ys answer last)
+
+-- each row has so many items
+abbrev pub HaveWidth : {X : Type 0} → ℕ → List (List X) → Type 0
+HaveWidth width [] = ⊤
+HaveWidth width (row ∷ others) = (length row ≡ width) × HaveWidth width others

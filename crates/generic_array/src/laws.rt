@@ -1,13 +1,20 @@
 //! Laws: what the clauses of this crate say together.
 //!
-//! Each function's contract is a law. A law of a closure's calls holds of each closure, whatever it
-//! answers; a law of the shapes says that what is done and undone is as it was.
+//! Each function's contract is a law, and the crate calls none of them. A law of a closure's calls
+//! holds of each closure, whatever it answers; a law of the shapes says that what is done and undone
+//! is as it was.
 ghost use Rattle.ga_core.specs.Length.{FitsInline};
-ghost use Rattle.generic_array.specs.Laws.{ErrorRunsJoin, FoldsJoin, GoodRunsJoin, RunsJoin};
-ghost use Rattle.std.specs.Prelude.{◌≡◌, ◌+◌};
+ghost use Rattle.ga_core.specs.Runs.{ClosureRun};
+ghost use Rattle.generic_array.specs.Entries.{CallAt, MayCallAt};
+ghost use Rattle.generic_array.specs.EntryRuns.{CallableOver};
+ghost use Rattle.generic_array.specs.Laws.{ErrorRunsJoin, FoldsJoin, GoodRunsJoin, HaveWidth, RunsJoin};
+ghost use Rattle.generic_array.specs.Rows.{rows};
+ghost use Rattle.std.specs.List.{flat_map};
+ghost use Rattle.std.specs.Prelude.{◌≡◌, ℕ, ◌+◌, ◌*◌, ◌<◌, List, ◌++◌, length};
 
+use crate::functional::FunctionalSequence;
 use crate::sequence::shapes::{Concat, Lengthen, Shorten, Split};
-use crate::{ArrayLength, GenericArray};
+use crate::{ArrayLength, GenericArray, Unsigned, always};
 
 /// A run over joined lists is one over the first, and then one over the second.
 fn runs_join<X, Y, F: FnMut(X) -> Y>(_f: &F)
@@ -106,4 +113,48 @@ pub(crate) fn concat_then_split<
     let _ = first.as_slice();
     let joined: GenericArray<T, N> = first.concat(second);
     joined.split()
+}
+
+/// Rows of one width, joined and cut again, are themselves; so are items that fill the rows, cut and
+/// joined again.
+fn rows_and_items_are_one<T, W: Unsigned>()
+    ensures rows { 0 < W.USIZE → (all : List (List T)) → HaveWidth W.USIZE all → rows W.USIZE (flat_map (λ row. row) all) ≡ all }
+    ensures items { 0 < W.USIZE → (count : ℕ) (items : List T) → length items ≡ count * W.USIZE → flat_map (λ row. row) (rows W.USIZE items) ≡ items }
+{}
+
+// A closure lent for two maps in turn, and one map over both arrays joined: the contracts are one.
+
+fn map_in_turn<
+    T: Default + Drop,
+    U: Default + Drop,
+    N: ArrayLength<T> + ArrayLength<U>,
+    K: ArrayLength<T> + ArrayLength<U>,
+    M: ArrayLength<T> + ArrayLength<U>,
+    F: FnMut(T) -> U,
+>(first: GenericArray<T, N>, second: GenericArray<T, K>, f: &mut F) -> GenericArray<U, M>
+    requires sum { M.USIZE ≡ N.USIZE + K.USIZE }
+    requires fits { FitsInline M.USIZE }
+    requires callable { CallableOver (MayCallAt (λ item. item) F.pre) (CallAt (λ item. item) F.step) f.old (first ++ second) }
+    ensures run { ClosureRun (CallAt (λ item. item) F.step) f.old (first ++ second) result f.new }
+{
+    let left = always(first.map_by((), f));
+    let right = always(second.map_by((), f));
+    left.concat(right)
+}
+
+fn map_of_joined<
+    T: Default + Drop,
+    U: Default + Drop,
+    N: ArrayLength<T> + ArrayLength<U>,
+    K: ArrayLength<T> + ArrayLength<U>,
+    M: ArrayLength<T> + ArrayLength<U>,
+    F: FnMut(T) -> U,
+>(first: GenericArray<T, N>, second: GenericArray<T, K>, f: &mut F) -> GenericArray<U, M>
+    requires sum { M.USIZE ≡ N.USIZE + K.USIZE }
+    requires fits { FitsInline M.USIZE }
+    requires callable { CallableOver (MayCallAt (λ item. item) F.pre) (CallAt (λ item. item) F.step) f.old (first ++ second) }
+    ensures run { ClosureRun (CallAt (λ item. item) F.step) f.old (first ++ second) result f.new }
+{
+    let all: GenericArray<T, M> = first.concat(second);
+    always(all.map_by((), f))
 }

@@ -9,9 +9,8 @@
 pub mod checks;
 /// Calls of a closure at all entries.
 pub mod functional;
-/// Laws of the operations: what their clauses say together.
-#[cfg(test)]
-mod laws;
+/// What the clauses of several operations say together.
+pub mod laws;
 /// What is common to the kinds of sequences, and how each is made.
 pub mod sequence;
 #[cfg(test)]
