@@ -108,6 +108,13 @@ fn as_rows(array: GenericArray<u32, U4>) -> Square
     array.unflatten()
 }
 
+fn as_rows_and_joined_again(array: GenericArray<u32, U4>) -> GenericArray<u32, U4>
+    ensures { result ≡ array }
+{
+    let rows: Square = array.unflatten();
+    rows.flatten()
+}
+
 #[test]
 fn shapes_give_the_items_that_callers_rely_on(rt: HostRuntime) {
     assert!(rt; with_four_last(one_two_three()).as_slice() == [1, 2, 3, 4].as_slice());
@@ -131,7 +138,7 @@ fn shapes_give_the_items_that_callers_rely_on(rt: HostRuntime) {
     assert!(rt; second == 2 && others.as_slice() == [1, 3, 4].as_slice());
     let (second, others) = with_the_last_second(with_four_last(one_two_three()));
     assert!(rt; second == 2 && others.as_slice() == [1, 4, 3].as_slice());
-    let rows = as_rows(with_four_last(one_two_three()));
+    let rows = as_rows(as_rows_and_joined_again(with_four_last(one_two_three())));
     assert!(rt; rows[1].as_slice() == [3, 4].as_slice());
     assert!(rt; all_of(rows).as_slice() == [1, 2, 3, 4].as_slice());
 }
