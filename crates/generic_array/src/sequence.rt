@@ -10,6 +10,7 @@ ghost use Rattle.std.specs.Prelude.{◌≡◌, ◌≤◌, ◌↔◌, IfOk, IsOk,
 
 mod boxed;
 mod inline;
+/// Arrays made of the items of others.
 pub mod shapes;
 mod views;
 

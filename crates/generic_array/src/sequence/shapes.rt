@@ -1,9 +1,10 @@
 //! Arrays made of the items of others: one longer or shorter, split, joined, without a place, or as
 //! rows.
 //!
-//! Each call takes its arrays and moves each item once into what it makes, in one pass; it asks for
-//! no memory. The types of what is made are parameters, and that their lengths fit together is a
-//! condition.
+//! Each call of an array moves its items one by one into what it makes, in one pass, and asks for no
+//! memory; a view is cut in constant time. The types of what is made are parameters, and that their
+//! lengths fit together is a condition. The Rust crate has traits of these names, but `Row`, in its
+//! module `sequence`.
 ghost use Rattle.generic_array.specs.Rows.{rows};
 ghost use Rattle.std.specs.List.{flat_map, swap_remove};
 ghost use Rattle.std.specs.Prelude.{◌≡◌, ℕ, ◌+◌, ◌<◌, ◌≤◌, List, [], Some, ◌∷◌, ◌++◌, drop, length, remove, slice_get, take};
