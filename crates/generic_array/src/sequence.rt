@@ -9,11 +9,13 @@ ghost use Rattle.std.specs.List.{range_with_len};
 ghost use Rattle.std.specs.Prelude.{◌≡◌, ◌≤◌, ◌↔◌, IfOk, IsOk, IsTrue, OnErr, replicate};
 
 mod boxed;
+mod flat_iter;
 mod inline;
 /// Arrays made of the items of others.
 pub mod shapes;
 mod views;
 
+pub use flat_iter::{FlatIter, iter_flat};
 use ga_core::{AllocError, FillError, GenericArrayRef, Unsigned};
 use std::convert::AsSlice;
 
