@@ -1,9 +1,9 @@
 -- Items moved one by one from the front of a list, and items taken out of it.
-use Rattle.std.proofs.Common.{◌≡◌, ℕ, zero, suc, ◌+◌, ◌-◌, ◌*◌, ◌/◌, ◌<◌, ◌≤◌, List, [], ◌∷◌, ◌++◌, Some, take, drop, refl, ap, ◌∙◌, sym, arith, append_assoc, length, length-append, length-drop, map, slice_get, slice_index_or, slice_set}
-use Rattle.std.proofs.Math.Seq.{take-append_seam}
+use Rattle.std.proofs.Common.{◌≡◌, ℕ, zero, suc, ◌+◌, ◌-◌, ◌*◌, ◌/◌, ◌<◌, ◌≤◌, List, [], ◌∷◌, ◌++◌, Some, take, drop, refl, ap, ◌∙◌, sym, arith, append_assoc, get_or, length, length-append, length-drop, length-take, map, slice_get, slice_index_or, slice_set}
+use Rattle.std.proofs.Math.Seq.{drop-append_seam, take-append_seam}
 use Rattle.generic_array.specs.Rows.{row_at, rows}
 use Rattle.std.proofs.Math.Nat.{suc-mul}
-use Rattle.std.proofs.lemmas.List.{drop-drop}
+use Rattle.std.proofs.lemmas.List.{drop-drop, drop-set-lt, drop_more, take_more_set}
 use Rattle.std.proofs.lemmas.List.FromFn.{map-range_with_len_more}
 use Rattle.std.proofs.lemmas.Nat.{div-mul-add}
 use Rattle.std.specs.List.{flat_map, range_with_len, remove, swap_remove}
@@ -26,6 +26,16 @@ module _ {T : Type 0} where
   pub drop-next : (n : ℕ) (items left : List T) (item : T) → drop n items ≡ item ∷ left → left ≡ drop (n + 1) items
   drop-next n items left item here = ap (drop 1) (sym here) ∙ drop-drop 1 n items
 
+  -- one item more moved out of a list to the same place of another
+  pub moved-next : (n : ℕ) (items left places : List T) (item blank : T) → n < length left → n < length places → item ≡ slice_index_or left n item
+      → take n places ≡ take n items → drop n left ≡ drop n items
+      → (take (n + 1) (slice_set places n item) ≡ take (n + 1) items) × (drop (n + 1) (slice_set left n blank) ≡ drop (n + 1) items)
+  moved-next n items left places item blank some room this before behind =
+      let here : drop n items ≡ item ∷ drop (n + 1) left = sym behind ∙ (drop_more left n item some ∙ ap (λ x. x ∷ drop (n + 1) left) (sym this)) in (
+        take-next n [] (take n places) (take (n + 1) (slice_set places n item)) items (drop (n + 1) left) item here before (take_more_set places n item room),
+        drop-set-lt (n + 1) left n blank (omega arith) ∙ drop-next n items (drop (n + 1) left) item here,
+      )
+
   -- the item at a place, and the list without it
   pub slice_get-next : (n : ℕ) (items left : List T) (item : T) → drop n items ≡ item ∷ left → slice_get items n ≡ Some item
   slice_get-next zero items left item here = ap (λ all. slice_get all 0) here
@@ -36,6 +46,35 @@ module _ {T : Type 0} where
   remove-next zero items left item here = ap (drop 1) (sym here)
   remove-next (suc n) [] left item here = cc
   remove-next (suc n) (x ∷ items) left item here = ap (λ more. x ∷ more) (remove-next n items left item here)
+
+  -- the list whose item at a place was carried behind the others: these, and the item
+  module _ (i m : ℕ) (items turned whole : List T) (d : T) (here : i < length items) (long : length items ≡ m + 1)
+      (carried : turned ≡ drop 1 (drop i items) ++ take 1 (drop i items)) (same : whole ≡ take i items ++ turned) where
+    abbrev item : T
+    item = get_or items i d
+
+    abbrev left : List T
+    left = drop (i + 1) items
+
+    abbrev others : List T
+    others = take i items ++ left
+
+    cut : drop i items ≡ item ∷ left
+    cut = drop_more items i d here
+
+    others-long : m ≡ length others
+    others-long = omega (arith, length-append (take i items) left, length-take i items, length-drop (i + 1) items)
+
+    parts : whole ≡ others ++ item ∷ []
+    parts = same ∙ (ap (λ l. take i items ++ l) (carried ∙ ap (λ l. drop 1 l ++ take 1 l) cut) ∙ sym (append_assoc (take i items) left (item ∷ [])))
+
+    pub carried-others : take m whole ≡ remove items i
+    carried-others = ap (take m) parts ∙ (ap (λ k. take k (others ++ item ∷ [])) others-long ∙ (take-append_seam others (item ∷ []) ∙ remove-next i items left item cut))
+
+    pub carried-item : slice_get items i ≡ Some (slice_index_or (drop m whole) 0 d)
+    carried-item =
+        slice_get-next i items left item cut
+        ∙ ap (λ l. Some (slice_index_or l 0 d)) (sym (ap (drop m) parts ∙ (ap (λ k. drop k (others ++ item ∷ [])) others-long ∙ drop-append_seam others (item ∷ []))))
 
   -- the list where the last takes the place of an item
   last_of : (front : List T) (last d : T) → slice_index_or (front ++ last ∷ []) (length front) d ≡ last

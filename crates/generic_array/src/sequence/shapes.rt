@@ -1,8 +1,9 @@
 //! Arrays made of the items of others: one longer or shorter, split, joined, without a place, or as
 //! rows.
 //!
-//! Each call of an array moves its items one by one into what it makes, in one pass, and asks for no
-//! memory; a view is cut in constant time. The types of what is made are parameters, and that their
+//! Each call of an array moves its items into what it makes, in one pass, and asks for no memory.
+//! Defaults stand in the places until then, and in the array that the items came from. A view is
+//! cut in constant time. The types of what is made are parameters, and that their
 //! lengths fit together is a condition. The Rust crate has traits of these names, but `Row`, in its
 //! module `sequence`.
 ghost use Rattle.generic_array.specs.Rows.{rows};
@@ -102,7 +103,8 @@ pub trait Remove<T, Output>: Sized {
     // What is left has one item less.
     ghost IsOneShorter: { Type 0 };
 
-    /// The item at `index`, and all others in order.
+    /// The item at `index`, and all others in order. The Rust crate panics at an index that isn't
+    /// below N.
     fn remove(self, index: usize) -> (T, Output)
         requires shorter { IsOneShorter }
         requires in_bounds { index < length (items self) }

@@ -2,9 +2,10 @@
 ghost use Rattle.ga_core.specs.Length.{FitsInline};
 ghost use Rattle.std.specs.Prelude.{◌≡◌, ◌+◌, ◌*◌, ◌<◌, map};
 
-use crate::sequence::shapes::moves::{push_all, push_next};
+use crate::sequence::shapes::moves::{array_of, move_items, push_all, push_next};
 use crate::sequence::shapes::{Concat, Flatten, Lengthen, Remove, Row, Shorten, Split, Unflatten};
 use ga_core::{ArrayBuilder, ArrayLength, GenericArray};
+use std::mem;
 
 impl<T: Default + Drop, N: ArrayLength<T>, M: ArrayLength<T>> Lengthen<T, GenericArray<T, M>>
     for GenericArray<T, N> {
@@ -15,22 +16,21 @@ impl<T: Default + Drop, N: ArrayLength<T>, M: ArrayLength<T>> Lengthen<T, Generi
     ghost IsOneLonger = { (M.USIZE ≡ N.USIZE + 1) × FitsInline M.USIZE };
 
     #[inline]
-    fn append(self, item: T) -> GenericArray<T, M> {
-        // The slice knows how many items there are.
-        let _ = self.as_slice();
-        let mut builder = ArrayBuilder::new();
-        push_all(&mut builder, self.into_iter());
-        builder.push(item);
-        builder.finish()
+    fn append(mut self, item: T) -> GenericArray<T, M> {
+        let mut longer = GenericArray::default();
+        let (first, last) = longer.as_mut_slice().split_at_mut(N::USIZE);
+        move_items(self.as_mut_slice(), first);
+        last[0] = item;
+        longer
     }
 
     #[inline]
-    fn prepend(self, item: T) -> GenericArray<T, M> {
-        let _ = self.as_slice();
-        let mut builder = ArrayBuilder::new();
-        builder.push(item);
-        push_all(&mut builder, self.into_iter());
-        builder.finish()
+    fn prepend(mut self, item: T) -> GenericArray<T, M> {
+        let mut longer = GenericArray::default();
+        let (first, others) = longer.as_mut_slice().split_at_mut(1);
+        first[0] = item;
+        move_items(self.as_mut_slice(), others);
+        longer
     }
 }
 
@@ -43,24 +43,18 @@ impl<T: Default + Drop, N: ArrayLength<T>, M: ArrayLength<T>> Shorten<T, Generic
     ghost IsOneShorter = { N.USIZE ≡ M.USIZE + 1 };
 
     #[inline]
-    fn pop_back(self) -> (GenericArray<T, M>, T) {
+    fn pop_back(mut self) -> (GenericArray<T, M>, T) {
         // The slice knows how many items there are, and that they fit.
         let _ = self.as_slice();
-        let mut items = self.into_iter();
-        let last = items.next_back().unwrap();
-        let mut builder = ArrayBuilder::new();
-        push_all(&mut builder, items);
-        (builder.finish(), last)
+        let (others, last) = self.as_mut_slice().split_at_mut(M::USIZE);
+        (array_of(others), mem::take(&mut last[0]))
     }
 
     #[inline]
-    fn pop_front(self) -> (T, GenericArray<T, M>) {
+    fn pop_front(mut self) -> (T, GenericArray<T, M>) {
         let _ = self.as_slice();
-        let mut items = self.into_iter();
-        let first = items.next().unwrap();
-        let mut builder = ArrayBuilder::new();
-        push_all(&mut builder, items);
-        (first, builder.finish())
+        let (first, others) = self.as_mut_slice().split_at_mut(1);
+        (mem::take(&mut first[0]), array_of(others))
     }
 }
 
@@ -78,13 +72,12 @@ impl<T: Default + Drop, N: ArrayLength<T>, R: ArrayLength<T>, M: ArrayLength<T>>
     ghost IsSum = { (M.USIZE ≡ N.USIZE + R.USIZE) × FitsInline M.USIZE };
 
     #[inline]
-    fn concat(self, rest: GenericArray<T, R>) -> GenericArray<T, M> {
-        let _ = self.as_slice();
-        let _ = rest.as_slice();
-        let mut both = ArrayBuilder::new();
-        push_all(&mut both, self.into_iter());
-        push_all(&mut both, rest.into_iter());
-        both.finish()
+    fn concat(mut self, mut rest: GenericArray<T, R>) -> GenericArray<T, M> {
+        let mut both = GenericArray::default();
+        let (left, right) = both.as_mut_slice().split_at_mut(N::USIZE);
+        move_items(self.as_mut_slice(), left);
+        move_items(rest.as_mut_slice(), right);
+        both
     }
 }
 
@@ -104,13 +97,10 @@ impl<T: Default + Drop, N: ArrayLength<T>, K: ArrayLength<T>, M: ArrayLength<T>>
     ghost IsSum = { N.USIZE ≡ K.USIZE + M.USIZE };
 
     #[inline]
-    fn split(self) -> (GenericArray<T, K>, GenericArray<T, M>) {
+    fn split(mut self) -> (GenericArray<T, K>, GenericArray<T, M>) {
         let _ = self.as_slice();
-        let mut items = self.into_iter();
-        let (mut first, mut second) = (ArrayBuilder::new(), ArrayBuilder::new());
-        push_next(&mut first, &mut items, K::USIZE);
-        push_all(&mut second, items);
-        (first.finish(), second.finish())
+        let (first, second) = self.as_mut_slice().split_at_mut(K::USIZE);
+        (array_of(first), array_of(second))
     }
 }
 
@@ -123,29 +113,22 @@ impl<T: Default + Drop, N: ArrayLength<T>, M: ArrayLength<T>> Remove<T, GenericA
     ghost IsOneShorter = { N.USIZE ≡ M.USIZE + 1 };
 
     #[inline]
-    fn remove(self, index: usize) -> (T, GenericArray<T, M>) {
+    fn remove(mut self, index: usize) -> (T, GenericArray<T, M>) {
         let _ = self.as_slice();
-        let mut items = self.into_iter();
-        let mut builder = ArrayBuilder::new();
-        push_next(&mut builder, &mut items, index);
-        let item = items.next().unwrap();
-        push_all(&mut builder, items);
-        (item, builder.finish())
+        let items = self.as_mut_slice();
+        let (_, behind) = items.split_at_mut(index);
+        behind.rotate_left(1);
+        let (others, last) = items.split_at_mut(M::USIZE);
+        (mem::take(&mut last[0]), array_of(others))
     }
 
     #[inline]
-    fn swap_remove(self, index: usize) -> (T, GenericArray<T, M>) {
+    fn swap_remove(mut self, index: usize) -> (T, GenericArray<T, M>) {
         let _ = self.as_slice();
-        let mut items = self.into_iter();
-        let last = items.next_back().unwrap();
-        let mut builder = ArrayBuilder::new();
-        push_next(&mut builder, &mut items, index);
-        let Some(item) = items.next() else {
-            return (last, builder.finish());
-        };
-        builder.push(last);
-        push_all(&mut builder, items);
-        (item, builder.finish())
+        let items = self.as_mut_slice();
+        items.swap(index, M::USIZE);
+        let (others, last) = items.split_at_mut(M::USIZE);
+        (mem::take(&mut last[0]), array_of(others))
     }
 }
 

@@ -1,7 +1,32 @@
-//! Items moved from an array into one that is being built.
+//! Items moved from an array into another.
+ghost use Rattle.ga_core.specs.Length.{FitsInline};
 ghost use Rattle.std.specs.Prelude.{◌≡◌, ◌+◌, ◌≤◌, ◌++◌, drop, length, take};
 
-use ga_core::{ArrayBuilder, ArrayLength, GenericArrayIter};
+use ga_core::{ArrayBuilder, ArrayLength, GenericArray, GenericArrayIter};
+use std::mem;
+
+/// Moves the items of a slice over those of another, which are dropped, and leaves defaults.
+#[inline]
+pub(super) fn move_items<T: Default + Drop>(items: &mut [T], places: &mut [T])
+    requires { length items.old ≡ length places.old }
+    ensures { places.new ≡ items.old }
+{
+    for (index, place) in places.iter_mut().enumerate() {
+        *place = mem::take(&mut items[index]);
+    }
+}
+
+/// An array of the items of a slice, in which defaults are left.
+#[inline]
+pub(super) fn array_of<T: Default + Drop, M: ArrayLength<T>>(items: &mut [T]) -> GenericArray<T, M>
+    requires fits { FitsInline M.USIZE }
+    requires len { length items.old ≡ M.USIZE }
+    ensures { result ≡ items.old }
+{
+    let mut array = GenericArray::default();
+    move_items(items, array.as_mut_slice());
+    array
+}
 
 /// Moves the next `count` items.
 #[inline]
