@@ -4,7 +4,7 @@ use Rattle.generic_array.proofs.RowLemmas.{rows-few, rows-first}
 use Rattle.generic_array.specs.Rows.{rows}
 use Rattle.generic_array.specs.EntryRuns.{CallableOver}
 use Rattle.generic_array.specs.Laws.{HaveWidth, RunInParts, RunsJoin, GoodRunInParts, GoodRunsJoin, ErrorRunInParts, ErrorRunsJoin, FoldsJoin}
-use Rattle.std.proofs.Common.{◌≡◌, ℕ, zero, suc, ◌+◌, ◌*◌, ◌<◌, ◌≤◌, ◌∙◌, List, [], ◌∷◌, ◌++◌, Result, Ok, Err, inl, inr, refl, sym, subst, ap, arith, append_assoc, drop, take, length, length-append, length-drop}
+use Rattle.std.proofs.Common.{◌≡◌, ℕ, zero, suc, ◌+◌, ◌*◌, ◌<◌, ◌≤◌, ◌∙◌, List, [], ◌∷◌, ◌++◌, Result, Ok, Err, inl, inr, refl, sym, subst, ap, arith, append_assoc, drop, take, length, length-append, length-drop, slice_index_or}
 use Rattle.std.proofs.Math.Nat.{suc-mul}
 use Rattle.std.proofs.Math.Seq.{drop-append_seam, take-append_seam}
 use Rattle.std.proofs.lemmas.List.{nil_from_length, take-append-drop}
@@ -142,3 +142,12 @@ module _ {X : Type 0} (width : ℕ) (some : 0 < width) where
       ap (flat_map (λ r. r)) (rows-first width items some enough)
       ∙ (flat_map-cons (λ r. r) (take width items) (rows width (drop width items))
       ∙ (ap (λ rest. take width items ++ rest) (joined-of_rows count (drop width items) left) ∙ take-append-drop width items))
+
+module _ {X : Type 0} (width : ℕ) where
+  -- two rows of one width
+  pub two_rows : (all : List (List X)) (first second : List X) → length all ≡ 2 → first ≡ slice_index_or all 0 first → second ≡ slice_index_or all 1 second
+      → length first ≡ width → length second ≡ width → HaveWidth width all
+  two_rows [] first second count here there long too = cc
+  two_rows (row ∷ []) first second count here there long too = cc
+  two_rows (row ∷ other ∷ []) first second count here there long too = (ap length (sym here) ∙ long, (ap length (sym there) ∙ too, tt))
+  two_rows (row ∷ other ∷ more ∷ others) first second count here there long too = cc

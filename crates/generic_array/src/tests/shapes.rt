@@ -1,11 +1,14 @@
 //! Items that go through each shape.
+ghost use Rattle.std.specs.Prelude.{◌≡◌, length};
+
 use crate::laws::{
     append_then_pop_back, concat_then_split, pop_back_then_append, pop_front_then_prepend,
     prepend_then_pop_front, split_then_concat,
 };
+use crate::sequence::iter_flat;
 use crate::sequence::shapes::{Concat, Flatten, Lengthen, Remove, Shorten, Split, Unflatten};
 use crate::tests::{Counted, four_counted, from_one};
-use crate::{GenericArray, U0, U2, U3, U4, U5, U6};
+use crate::{GenericArray, GenericArrayMut, U0, U1, U2, U3, U4, U5, U6};
 use std::cell::Cell;
 
 /// Counts six items through each shape, and answers how many were dropped before the end.
@@ -32,6 +35,60 @@ fn an_item_is_dropped_once_whatever_shapes_it_went_through(rt: HostRuntime) {
     let drops = Cell::new(0);
     assert_eq!(rt; through_each_shape(&drops), 0);
     assert_eq!(rt; drops.get(), 6);
+}
+
+// 9 at the first place of the first half, and 8 at the third of the second.
+
+fn write_through_halves(slice: &mut [u32])
+    requires { length slice.old ≡ 5 }
+{
+    let view: GenericArrayMut<u32, U5> = GenericArrayMut::from_mut_slice(slice);
+    let (mut first, mut second): (GenericArrayMut<u32, U2>, GenericArrayMut<u32, U3>) =
+        view.split();
+    first.as_mut_slice()[0] = 9;
+    second.as_mut_slice()[2] = 8;
+}
+
+fn write_through_halves_of_array(array: &mut GenericArray<u32, U5>) {
+    let (mut first, mut second): (GenericArrayMut<u32, U2>, GenericArrayMut<u32, U3>) = array
+        .view_mut()
+        .split();
+    first.as_mut_slice()[0] = 9;
+    second.as_mut_slice()[2] = 8;
+}
+
+#[test]
+fn what_is_written_through_both_halves_of_a_view_stands_in_the_slice(rt: HostRuntime) {
+    let mut items: [u32; 5] = [1, 2, 3, 4, 5];
+    write_through_halves(&mut items);
+    assert!(rt; items == [9, 2, 3, 4, 8]);
+    let mut array: GenericArray<u32, U5> = from_one();
+    write_through_halves_of_array(&mut array);
+    assert!(rt; array.as_slice() == [9, 2, 3, 4, 8].as_slice());
+}
+
+#[test]
+fn items_are_taken_from_any_place_and_rows_are_cut_and_joined(rt: HostRuntime) {
+    let (third, others): (u32, GenericArray<u32, U3>) = from_one::<U4>().remove(2);
+    assert!(rt; third == 3 && others.as_slice() == [1, 2, 4].as_slice());
+    let (last, others): (u32, GenericArray<u32, U3>) = from_one::<U4>().swap_remove(3);
+    assert!(rt; last == 4 && others.as_slice() == [1, 2, 3].as_slice());
+    let (only, none): (u32, GenericArray<u32, U0>) = from_one::<U1>().pop_front();
+    assert!(rt; only == 1 && none.as_slice().is_empty());
+    let two: GenericArray<u32, U2> = none.concat(from_one::<U2>());
+    assert!(rt; two.as_slice() == [1, 2].as_slice());
+    let rows: GenericArray<GenericArray<u32, U2>, U3> = from_one::<U6>().unflatten();
+    assert!(rt; rows[0].as_slice() == [1, 2].as_slice() && rows[2].as_slice() == [5, 6].as_slice());
+    let six: GenericArray<u32, U6> = rows.flatten();
+    assert!(rt; six.as_slice() == [1, 2, 3, 4, 5, 6].as_slice());
+    let no_rows: GenericArray<GenericArray<u32, U2>, U0> = from_one::<U0>().unflatten();
+    assert!(rt; no_rows.as_slice().is_empty());
+    let none: GenericArray<u32, U0> = no_rows.flatten();
+    assert!(rt; none.as_slice().is_empty());
+    let empty_rows: GenericArray<GenericArray<u32, U0>, U3> = GenericArray::default();
+    assert!(rt; iter_flat(empty_rows.view()).next().is_none());
+    let none: GenericArray<u32, U0> = empty_rows.flatten();
+    assert!(rt; none.as_slice().is_empty());
 }
 
 #[test]

@@ -1,8 +1,9 @@
-//! The shapes of read-only views.
-ghost use Rattle.std.specs.Prelude.{◌≡◌, ◌+◌};
+//! The shapes of views.
+ghost use Rattle.std.specs.Borrow.{Array, follows_both, sem};
+ghost use Rattle.std.specs.Prelude.{◌≡◌, ◌+◌, ◌++◌, drop, length, take};
 
 use crate::sequence::shapes::Split;
-use ga_core::{GenericArrayRef, Unsigned};
+use ga_core::{ArrayLength, ArrayMut, GenericArray, GenericArrayMut, GenericArrayRef, Unsigned};
 
 /// Two views of the slice's parts, for as long as the slice is lent. A view's length need not fit
 /// inline. Constant time.
@@ -29,4 +30,86 @@ impl<'a, T, N: Unsigned, K: Unsigned, M: Unsigned> Split<
             GenericArrayRef::from_slice(second),
         )
     }
+}
+
+/// Two views of the slice's parts for writing, for as long as the slice is lent. What is written
+/// through either stands in the slice afterwards, at its place, and no other place changes. A view's
+/// length need not fit inline. Constant time.
+///
+/// A proof learns the parts, and not what the slice ends as: for that, cut the view's `as_mut_slice`
+/// and make a view of each part.
+impl<'a, T, N: Unsigned, K: Unsigned, M: Unsigned> Split<
+    T,
+    GenericArrayMut<'a, T, K>,
+    GenericArrayMut<'a, T, M>,
+> for GenericArrayMut<'a, T, N> {
+    ghost items = { λ view. view.slice.now };
+
+    ghost first_items = { λ view. view.slice.now };
+
+    ghost second_items = { λ view. view.slice.now };
+
+    ghost PLACE = { K.USIZE };
+
+    ghost IsSum = { N.USIZE ≡ K.USIZE + M.USIZE };
+
+    #[inline]
+    fn split(self) -> (GenericArrayMut<'a, T, K>, GenericArrayMut<'a, T, M>) {
+        halves_of(self)
+    }
+}
+
+/// Two views of the array's parts for writing, for as long as the array is lent: the same.
+impl<'a, T, N: ArrayLength<T>, K: Unsigned, M: Unsigned> Split<
+    T,
+    GenericArrayMut<'a, T, K>,
+    GenericArrayMut<'a, T, M>,
+> for ArrayMut<&'a mut GenericArray<T, N>, T, N> {
+    ghost items = { λ view. view.slice.now };
+
+    ghost first_items = { λ view. view.slice.now };
+
+    ghost second_items = { λ view. view.slice.now };
+
+    ghost PLACE = { K.USIZE };
+
+    ghost IsSum = { N.USIZE ≡ K.USIZE + M.USIZE };
+
+    #[inline]
+    fn split(self) -> (GenericArrayMut<'a, T, K>, GenericArrayMut<'a, T, M>) {
+        let (first, second) = self.into_inner().as_mut_slice().split_at_mut(K::USIZE);
+        views_of(first, second)
+    }
+}
+
+/// The halves of a writing view: once both borrows end, the slice is the first half's items and
+/// then the second's.
+#[inline]
+fn halves_of<'a, T, N: Unsigned, K: Unsigned, M: Unsigned>(
+    view: GenericArrayMut<'a, T, N>,
+) -> (GenericArrayMut<'a, T, K>, GenericArrayMut<'a, T, M>)
+    requires sum { N.USIZE ≡ K.USIZE + M.USIZE }
+    ensures* writes_back { sem 𝓛 (follows_both (Array T.row 0) (Array T.row 0) (Array T.row 0) view.entry.slice.ghost_name result.0.slice.ghost_name result.1.slice.ghost_name ◌++◌) }
+    ensures first { result.0.slice.now ≡ take K.USIZE view.entry.slice.now }
+    ensures second { result.1.slice.now ≡ drop K.USIZE view.entry.slice.now }
+{
+    let (first, second) = view.into_mut_slice().split_at_mut(K::USIZE);
+    views_of(first, second)
+}
+
+/// The views of two slices for writing.
+#[inline]
+fn views_of<'a, T, K: Unsigned, M: Unsigned>(
+    first: &'a mut [T],
+    second: &'a mut [T],
+) -> (GenericArrayMut<'a, T, K>, GenericArrayMut<'a, T, M>)
+    requires first_len { length first.old ≡ K.USIZE }
+    requires second_len { length second.old ≡ M.USIZE }
+    ensures first { result.0.slice ≡ first.entry }
+    ensures second { result.1.slice ≡ second.entry }
+{
+    (
+        GenericArrayMut::from_mut_slice(first),
+        GenericArrayMut::from_mut_slice(second),
+    )
 }

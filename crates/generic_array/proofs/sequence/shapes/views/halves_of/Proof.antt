@@ -1,0 +1,224 @@
+-- `halves_of` cuts the slice of a view and makes a view of each part, so the slice ends as what the two views' slices end as, one after the other.
+-- The borrow checker shows no clause on two parts where they are passed on to a call that makes views of them, so this proof walks the code by hand. Assumes `Logic`.
+use Prim.Native.Nat.{ℕ}
+use Rattle.ga_core.below.ga_views.proofs.array_mut.ArrayMut+mut+slice+T+T+N.into_mut_slice.Met as taken
+use Rattle.ga_core.below.ga_views.specs.contracts.array_mut.ArrayMut+mut+slice+T+T+N.into_mut_slice as take_contract
+use Rattle.ga_core.below.ga_views.specs.contracts.slice_mut.RefMutSliceSliceMut.TheImpl as impl
+use Rattle.ga_core.proofs.ArrayMut.TheLaws as laws
+use Rattle.ga_core.specs.contracts.ArrayMut as view
+use Rattle.ga_core.specs.contracts.Unsigned.USIZE as length_of
+use Rattle.ga_core.specs.declared.Unsigned as unsigned
+use Rattle.generic_array.proofs.sequence.shapes.views.halves_of.Code as code
+use Rattle.generic_array.proofs.sequence.shapes.views.halves_of.Statement.{statement}
+use Rattle.generic_array.proofs.sequence.shapes.views.views_of.Met as made
+use Rattle.generic_array.specs.contracts.sequence.shapes.views.halves_of as F
+use Rattle.generic_array.specs.contracts.sequence.shapes.views.views_of as make_contract
+use Rattle.std.below.core.specs.contracts.slice.slice+T.split_at_mut as cut_contract
+use Rattle.std.proofs.Common.{◌≡◌, ◌+◌, ◌++◌, ◌≤◌, [], ◌∷◌, ◌∙◌, ap, arith, drop as drop_l, length, List, refl, sym, take}
+use Rattle.std.proofs.alloc.Calls.{Goes-blank}
+use Rattle.std.proofs.raw_atomic.Walks.{leaves, proved}
+use Rattle.std.proofs.slice.slice+T.split_at_mut.Met as cut
+use Rattle.std.specs.List.{SameBelow, TailFrom}
+use base.Fml.{flft, ftrue, GName, Lft}
+use base.Logic.{emp, id⊢}
+use contract.BorrowLft.{◌⊑◌}
+use contract.Monad.{fact, fact_i}
+use contract.Running.{tables}
+use denote.Array.{Array}
+use denote.Builtin.{usize}
+use denote.Exit.{no}
+use denote.Follow.{follows_both}
+use denote.Laws.{Is, shows}
+use denote.Param.Laws.{field_told, Laws, of_field, param_laws, row_shared, Told}
+use denote.Param.Shared.{mut_slice_shared}
+use denote.Param.{bounded, param}
+use denote.RattleType.{owns, RattleType}
+use denote.Ref.{NamedLft}
+use denote.Signature.{plain, Slot}
+use denote.Slice.{mut_slice_vals, MutSlice}
+use denote.Steps.{heard, nothing, only, peeks}
+use denote.Struct.Field.{mut_slice_field}
+use denote.Struct.Laws.{mut_slice_laws}
+use denote.Struct.Tuple.{Tuple, tuple_laws}
+use denote.Triple.Call.{calls_at}
+use denote.Triple.Clauses.{Ended, Lasts, lasts}
+use denote.Triple.Spec.{triple_of}
+use denote.Triple.Table.{framed}
+use denote.Triple.Walked.{stay_dropped, Stays, walk_of}
+use mir.MapTy.{inst_fn}
+use mir.Syntax.{a_type, Args, dcons, Dict, dnil, Fn, named, w64}
+use mir.Val.{of_list, Val, vint, vstruct}
+use types.ByLocal.{alloc_all, free_all, get, get_in, lands_as, look_at, look_in_at, pass_all, sets}
+use types.Kit.{‵, ◌⊛◌, ◌$◌, ◌∵◌, !, await, by, drop, feq_l, fjoin, fpick, fsplit, group, join, later, move, pick, qed, raw, rewrite, some, split, split3, use0, use1}
+use types.Part.{agg, sub, whole}
+use types.Run.{addr, and_then, enter, fld, from, hop, no_more, of_opd, returns, stop}
+
+-- the element, the slice, and a view whose length's type is the i-th parameter
+module _ (X : RattleType) where
+  abbrev R : RattleType
+  R = param 0 X
+
+  module _ (κ : Lft) where
+    abbrev lasting : NamedLft
+    lasting = record { mir = named 0; lft = κ }
+
+    abbrev S : RattleType
+    S = MutSlice (named 0) κ R
+
+    module _ (i : ℕ) (Z : RattleType) (g : unsigned.Ghosts Z.Denot) where
+      abbrev View : RattleType
+      View = view.the_row S R (param i Z) (impl.ghosts R) g
+
+      module _ (LX : Laws X) (LZ : Laws Z) where
+        abbrev slice_laws : Laws S
+        slice_laws = of_field (mut_slice_field lasting R tt) (mut_slice_laws lasting R tt) refl (mut_slice_shared lasting R tt (row_shared R (param_laws 0 X LX)))
+
+        abbrev view_laws : Laws View
+        view_laws = laws.the_row_laws S R (param i Z) (impl.ghosts R) g slice_laws (param_laws 0 X LX) (param_laws i Z LZ)
+
+        abbrev view_told : Told View
+        view_told =
+            laws.the_told S R (param i Z) (impl.ghosts R) g slice_laws (param_laws 0 X LX) (param_laws i Z LZ)
+            (field_told (mut_slice_field lasting R tt) (mut_slice_laws lasting R tt))
+
+-- N, K and P are the types of the lengths of the view and of its two halves
+module _ (X N K P : RattleType) (gN : unsigned.Ghosts N.Denot) (dN : Dict) (gK : unsigned.Ghosts K.Denot) (dK : Dict) (gP : unsigned.Ghosts P.Denot) (dP : Dict) where
+  abbrev args : Args
+  args = bounded (a_type ∷ a_type ∷ a_type ∷ a_type ∷ []) (X, (N, (K, (P, tt)))) (dcons dN (dcons dK (dcons dP dnil)))
+
+  abbrev ended : Ended
+  ended = F.ended X N K P gN dN gK dK gP dP
+
+  abbrev slot : Slot 5
+  slot = plain (λ κs. View X κs.0 1 N gN)
+
+pub halves_of_spec : {M : Type 1} → statement M
+halves_of_spec 𝓤 𝓛 𝓜 𝓡 wired X N K P LX LN LK LP gN dN gK dK gP dP boundN boundK boundP =
+    let ends = ended X N K P gN dN gK dK gP dP in
+    let one = slot X N K P gN dN gK dK gP dP in
+    let kept : Stays ends.signature.params ends.kept = (stay_dropped one no, tt) in
+    let c = F.clauses X N K P gN dN gK dK gP dP 𝓛 𝓜.mem 𝓡.returns in
+    let 𝓣 = tables 𝓤 𝓛.H 𝓜 𝓡 𝓡.env in
+    let key = args X N K P gN dN gK dK gP dP in
+    let fn : Fn = inst_fn key code.function in
+    let E : RattleType = R X in
+    proved 𝓛 ends kept c 𝓜 𝓡 (Goes-blank 𝓛 5 one no (λ κs x f. tt), tt)
+    (F.Key.name key) fn (code.unfolded 𝓤 𝓛.H 𝓜 𝓡 wired (X, (N, (K, (P, tt)))) dN dK dP)
+    (λ κs. (λ x. (view_told X κs.0 1 N gN LX LN).val x ∷ [], tt)) (λ κs. ((view_told X κs.0 1 N gN LX LN).tells, tt))
+    (λ κs qs bounds a gh are.
+    let κ : Lft = κs.0 in let κT : Lft = κs.1.0 in let κN : Lft = κs.1.1.0 in let κK : Lft = κs.1.1.1.0 in let κP : Lft = κs.1.1.1.1.0 in
+    let Part : RattleType = S X κ in
+    let One : RattleType = View X κ 1 N gN in let First : RattleType = View X κ 2 K gK in let Second : RattleType = View X κ 3 P gP in
+    let Answer : RattleType = Tuple (First ∷ Second ∷ []) in
+    let whole_val : Val = (view_told X κ 1 N gN LX LN).val a.0 in
+    let W = walk_of 𝓛 ends kept c in
+    let y : W.Ghost = ((κs, qs, bounds, a, (whole_val ∷ [], tt)), tt) in
+    qed 𝓛 (((‵ (flft κ qs.0) ⊛ ‵ (flft κT qs.1.0) ⊛ ‵ (flft κN qs.1.1.0) ⊛ ‵ (flft κK qs.1.1.1.0) ⊛ ‵ (flft κP qs.1.1.1.1.0) ⊛ ‵ ftrue) ⊛
+    ‵ (owns (One ∷ []) a (whole_val ∷ [], tt))) ∷ raw (fact 𝓤 (κT ⊑ X.lives)) ∷ raw (fact 𝓤 (κN ⊑ N.lives)) ∷ raw (fact 𝓤 (κK ⊑ K.lives)) ∷ raw (fact 𝓤 (κP ⊑ P.lives)) ∷
+    raw (fact 𝓤 (gN.USIZE ≡ gK.USIZE + gP.USIZE)) ∷ []) ∵
+    move ! (1 ∷ []) $ heard ! _ (λ lT. move ! (1 ∷ []) $ heard ! _ (λ lN. move ! (1 ∷ []) $ heard ! _ (λ lK.
+    move ! (1 ∷ []) $ heard ! _ (λ lP. move ! (1 ∷ []) $ heard ! _ (λ sum.
+    let good = ((view_laws X κ 1 N gN LX LN).lawful 𝓛).typed a.0 (whole_val ∷ []) are.0 in
+    enter ! _ _ _ _ _ $ alloc_all ! (λ l. pass_all ! refl (good.0, tt) $
+    sets ! (of_opd ! (get ! refl)) refl good.0 $
+    -- the slice is taken out of the view
+    let T = triple_of 𝓛 (take_contract.signature X N gN dN) (take_contract.spec X N gN dN 𝓛 𝓜.mem 𝓡.returns) in
+    let zT : T.Ghost = (((κ, (κT, (κN, tt))), (qs.0, (qs.1.0, (qs.1.1.0, tt))), bounds, a, (whole_val ∷ [], tt)), tt) in
+    split ! $ split3 ! $ move ! (2 ∷ []) $ split3 ! $ move ! (2 ∷ []) $ split ! $ move ! (1 ∷ []) $
+    -- [nothing; the tokens of P, N, K, κ, T; the view]
+    move ! (4 ∷ 5 ∷ 2 ∷ 0 ∷ 6 ∷ []) $ group ! 4 $ join ! $
+    nothing ! $ use0 𝓛 (raw (fact 𝓤 (κN ⊑ N.lives))) (fact_i 𝓤 _ (emp 𝓤) lN) $ join ! $
+    use0 𝓛 (raw (fact 𝓤 (κT ⊑ X.lives))) (fact_i 𝓤 _ (emp 𝓤) lT) $ join ! $
+    move ! (1 ∷ 0 ∷ []) $ join ! $ use1 𝓛 (raw (T.pre zT)) (id⊢ 𝓤 _) $
+    calls_at ! (framed 𝓤 𝓛.H 𝓜 𝓣) T
+    (taken.met 𝓤 𝓛 𝓜 𝓡 (code.calls-ga_views::array_mut::ArrayMut+mut+slice+T+T+N::into_mut_slice 𝓡.env wired) X N LX LN gN dN boundN) zT
+    (and_then ! (get ! refl) (no_more !)) (λ u.
+    use1 𝓛 (later (some (λ (s : Part.Denot). ((‵ (flft κ qs.0) ⊛ ‵ (flft κT qs.1.0) ⊛ ‵ (flft κN qs.1.1.0) ⊛ ‵ ftrue) ⊛ ‵ (Part.own_val s (u ∷ []))) ⊛
+    some (λ (ws : Lasts (take_contract.ended X N gN dN) zT.0.0 zT.0.3). ‵ (lasts (take_contract.ended X N gN dN) zT.0.0 zT.0.3 ws) ⊛
+    raw (fact 𝓤 (s ≡ a.0.slice)) ⊛ raw (fact 𝓤 (length s.now ≡ gN.USIZE)))))) (id⊢ 𝓤 _) $
+    await ! tt $ pick ! (λ s. split ! $ split ! $ move ! (2 ∷ []) $ pick ! (λ ws. split3 ! $ drop ! $ heard ! _ (λ same. heard ! _ (λ is_N.
+    -- [the tokens of κ, T, N; the slice; the tokens of P, K]
+    move ! (1 ∷ []) $ peeks ! Part (Is Part) (shows 𝓛 Part) s (u ∷ []) (λ is.
+    lands_as ! (ap only is.0.0) refl (tt, (tt, (record { fits = is.0.1.0 }, tt))) $
+    rewrite ! 0 (λ (vs : List Val). ‵ (Part.own_val s vs)) is.0.0 refl $
+    -- the first view's length
+    let L = triple_of 𝓛 (length_of.signature K) (length_of.spec K gK dK 𝓛 𝓜.mem 𝓡.returns) in
+    let zL : L.Ghost = (((κK, tt), (qs.1.1.1.0, tt), tt, tt, tt), tt) in
+    move ! (3 ∷ []) $ nothing ! $ move ! (1 ∷ 0 ∷ []) $ join ! $ nothing ! $ move ! (1 ∷ 0 ∷ []) $ join ! $
+    nothing ! $ use0 𝓛 (raw (fact 𝓤 (κK ⊑ K.lives))) (fact_i 𝓤 _ (emp 𝓤) lK) $ join ! $
+    move ! (1 ∷ 0 ∷ []) $ join ! $ use1 𝓛 (raw (L.pre zL)) (id⊢ 𝓤 _) $
+    calls_at ! (framed 𝓤 𝓛.H 𝓜 𝓣) L boundK.USIZE zL (no_more !) (λ v.
+    use1 𝓛 (later (some (λ (m : ℕ). ((‵ (flft κK qs.1.1.1.0) ⊛ ‵ ftrue) ⊛ ‵ (usize.own_val m (v ∷ []))) ⊛
+    some (λ (ws : Unit {0}). ‵ ftrue ⊛ raw (fact 𝓤 (m ≡ gK.USIZE)))))) (id⊢ 𝓤 _) $
+    await ! tt $ pick ! (λ m. split ! $ split ! $ move ! (2 ∷ []) $ pick ! (λ ws. split ! $ drop ! $ heard ! _ (λ is_K.
+    -- [the token of K; the length; the slice; the tokens of κ, T, N; the token of P]
+    move ! (1 ∷ []) $ peeks ! usize (Is usize) (shows 𝓛 usize) m (v ∷ []) (λ word.
+    lands_as ! (ap only word.0) refl (tt, record { fits = word.1 }) $
+    rewrite ! 0 (λ (vs : List Val). ‵ (usize.own_val m vs)) word.0 refl $
+    -- the slice is cut
+    let D = triple_of 𝓛 (cut_contract.signature X) (cut_contract.spec X 𝓛 𝓜.mem 𝓡.returns) in
+    let zD : D.Ghost = (((κ, (κT, tt)), (qs.0, (qs.1.0, tt)), bounds, (s, (m, tt)), (mut_slice_vals s, (vint w64 m ∷ [], tt))), tt) in
+    let inside : m ≤ length s.now = omega (arith, is_K, is_N, sum) in
+    nothing ! $ move ! (1 ∷ 0 ∷ []) $ fjoin ! $ move ! (2 ∷ 0 ∷ []) $ fjoin ! $
+    move ! (2 ∷ []) $ split3 ! $ nothing ! $ move ! (1 ∷ 2 ∷ 0 ∷ 4 ∷ []) $ group ! 3 $ join ! $
+    use0 𝓛 (raw (fact 𝓤 (m ≤ length s.now))) (fact_i 𝓤 _ (emp 𝓤) inside) $
+    use0 𝓛 (raw (fact 𝓤 (κT ⊑ X.lives))) (fact_i 𝓤 _ (emp 𝓤) lT) $ join ! $
+    move ! (1 ∷ 0 ∷ []) $ join ! $ use1 𝓛 (raw (D.pre zD)) (id⊢ 𝓤 _) $
+    calls_at ! (framed 𝓤 𝓛.H 𝓜 𝓣) D (cut.met 𝓤 𝓛 𝓜 𝓡 (code.calls-core::slice::slice+T::split_at_mut 𝓡.env wired) X LX) zD
+    (and_then ! (get ! refl) (and_then ! (get ! refl) (no_more !))) (λ u.
+    use1 𝓛 (later (some (λ (r : Part.Denot × Part.Denot). ((‵ (flft κ qs.0) ⊛ ‵ (flft κT qs.1.0) ⊛ ‵ ftrue) ⊛ ‵ ((Tuple (Part ∷ Part ∷ [])).own_val r (u ∷ []))) ⊛
+    some (λ (ws : Lasts (cut_contract.ended X) zD.0.0 zD.0.3). ‵ (lasts (cut_contract.ended X) zD.0.0 zD.0.3 ws) ⊛
+    raw (fact 𝓤 (s.now ≡ r.0.now ++ r.1.now)) ⊛ raw (fact 𝓤 (length r.0.now ≡ m)) ⊛ raw (fact 𝓤 (length r.1.now + m ≡ length s.now)) ⊛
+    raw (fact 𝓤 (r.0.now ≡ take m s.now)) ⊛ raw (fact 𝓤 (r.1.now ≡ drop_l m s.now)) ⊛ raw (fact 𝓤 (SameBelow s.now r.0.now m × TailFrom s.now r.1.now m)) ⊛
+    ‵ (follows_both (Array E 0) (Array E 0) (Array E 0) s.ghost_name r.0.ghost_name r.1.ghost_name ◌++◌))))) (id⊢ 𝓤 _) $
+    await ! tt $ pick ! (λ r. split ! $ split ! $ move ! (2 ∷ []) $ pick ! (λ ws. split3 ! $ drop ! $ drop ! $
+    split ! $ heard ! _ (λ first_len. split ! $ heard ! _ (λ second_len. split ! $ heard ! _ (λ first_is. split ! $ heard ! _ (λ second_is. split ! $ drop ! $
+    -- [what follows; the tokens of κ, T; the pair; the tokens of N, K, P]
+    move ! (2 ∷ []) $ fpick ! (λ vss. fsplit ! $
+    move ! (1 ∷ []) $ fsplit ! $ peeks ! Part (Is Part) (shows 𝓛 Part) r.0 vss.0 (λ is₁. rewrite ! 0 (λ (vs : List Val). ‵ (Part.own_val r.0 vs)) is₁.0.0 refl $
+    move ! (1 ∷ []) $ fsplit ! $ peeks ! Part (Is Part) (shows 𝓛 Part) r.1 vss.1.0 (λ is₂. rewrite ! 0 (λ (vs : List Val). ‵ (Part.own_val r.1 vs)) is₂.0.0 refl $
+    move ! (3 ∷ []) $ feq_l ! (λ pair.
+    -- [the second part; nothing; the first part; what follows; the tokens of κ, T; the tokens of N, K, P]
+    lands_as ! (ap only (pair ∙ (λ i. vstruct (of_list (is₁.0.0 i ++ (is₂.0.0 i ++ []))) ∷ []))) refl
+    (tt, ((tt, (record { fits = is₁.0.1.0 }, tt)), ((tt, (record { fits = is₂.0.1.0 }, tt)), tt))) $
+    sets ! (of_opd ! (get_in ! (fld ! refl (stop !)) (sub ! 0 refl (whole !)))) refl (tt, (tt, (record { fits = is₁.0.1.0 }, tt))) $
+    sets ! (of_opd ! (get_in ! (fld ! refl (stop !)) (sub ! 1 refl (whole !)))) refl (tt, (tt, (record { fits = is₂.0.1.0 }, tt))) $
+    sets ! (addr ! (from ! (fld ! refl (hop ! (look_in_at ! 2 (sub ! 0 refl (whole !))) (stop !))))) refl (tt, tt) $
+    sets ! (agg ! (and_then ! (get ! refl) (and_then ! (get_in ! (fld ! refl (stop !)) (sub ! 1 refl (whole !))) (no_more !)))) refl (tt, (tt, (record { fits = is₁.0.1.0 }, tt))) $
+    sets ! (addr ! (from ! (fld ! refl (hop ! (look_in_at ! 3 (sub ! 0 refl (whole !))) (stop !))))) refl (tt, tt) $
+    sets ! (agg ! (and_then ! (get ! refl) (and_then ! (get_in ! (fld ! refl (stop !)) (sub ! 1 refl (whole !))) (no_more !)))) refl (tt, (tt, (record { fits = is₂.0.1.0 }, tt))) $
+    -- the views are made
+    let B = triple_of 𝓛 (make_contract.signature X K P gK dK gP dP) (make_contract.spec X K P gK dK gP dP 𝓛 𝓜.mem 𝓡.returns) in
+    let zB : B.Ghost =
+    (((κ, (κT, (κK, (κP, tt)))), (qs.0, (qs.1.0, (qs.1.1.1.0, (qs.1.1.1.1.0, tt)))), bounds, (r.0, (r.1, tt)), (mut_slice_vals r.0, (mut_slice_vals r.1, tt))), tt) in
+    fjoin ! $ move ! (1 ∷ 0 ∷ []) $ fjoin ! $ move ! (2 ∷ []) $ split3 ! $ move ! (6 ∷ []) $ split ! $
+    move ! (2 ∷ 3 ∷ 0 ∷ 8 ∷ 1 ∷ 5 ∷ []) $ group ! 5 $ join ! $
+    use0 𝓛 (raw (fact 𝓤 (length r.1.now ≡ gP.USIZE))) (fact_i 𝓤 _ (emp 𝓤) (omega (arith, is_K, is_N, sum, second_len))) $
+    use0 𝓛 (raw (fact 𝓤 (length r.0.now ≡ gK.USIZE))) (fact_i 𝓤 _ (emp 𝓤) (first_len ∙ is_K)) $ join ! $
+    use0 𝓛 (raw (fact 𝓤 (κP ⊑ P.lives))) (fact_i 𝓤 _ (emp 𝓤) lP) $ join ! $
+    use0 𝓛 (raw (fact 𝓤 (κK ⊑ K.lives))) (fact_i 𝓤 _ (emp 𝓤) lK) $ join ! $
+    use0 𝓛 (raw (fact 𝓤 (κT ⊑ X.lives))) (fact_i 𝓤 _ (emp 𝓤) lT) $ join ! $
+    move ! (1 ∷ 0 ∷ []) $ join ! $ use1 𝓛 (raw (B.pre zB)) (id⊢ 𝓤 _) $
+    calls_at ! (framed 𝓤 𝓛.H 𝓜 𝓣) B
+    (made.met 𝓤 𝓛 𝓜 𝓡 (code.calls-generic_array::sequence::shapes::views::views_of 𝓡.env wired) X K P LX LK LP gK dK gP dP boundK boundP) zB
+    (and_then ! (get ! refl) (and_then ! (get ! refl) (no_more !))) (λ u.
+    use1 𝓛 (later (some (λ (w : Answer.Denot).
+    ((‵ (flft κ qs.0) ⊛ ‵ (flft κT qs.1.0) ⊛ ‵ (flft κK qs.1.1.1.0) ⊛ ‵ (flft κP qs.1.1.1.1.0) ⊛ ‵ ftrue) ⊛ ‵ (Answer.own_val w (u ∷ []))) ⊛
+    some (λ (ws : Lasts (make_contract.ended X K P gK dK gP dP) zB.0.0 zB.0.3). ‵ (lasts (make_contract.ended X K P gK dK gP dP) zB.0.0 zB.0.3 ws) ⊛
+    raw (fact 𝓤 (w.0.slice ≡ r.0)) ⊛ raw (fact 𝓤 (w.1.slice ≡ r.1)))))) (id⊢ 𝓤 _) $
+    await ! tt $ pick ! (λ w. split ! $ split ! $ move ! (2 ∷ []) $ pick ! (λ ws. split3 ! $ drop ! $ heard ! _ (λ of_first. heard ! _ (λ of_second.
+    -- [the tokens of κ, T, K, P; the views; nothing; what follows; the token of N]
+    move ! (1 ∷ []) $ peeks ! Answer (Is Answer) (shows 𝓛 Answer) w (u ∷ []) (λ views.
+    lands_as ! refl refl (((tuple_laws (First ∷ Second ∷ []) (view_laws X κ 2 K gK LX LK, (view_laws X κ 3 P gP LX LP, tt))).lawful 𝓛).typed w (u ∷ []) views).0 $
+    returns ! (look_at ! 0 refl) $ free_all ! refl $
+    rewrite ! 3 (λ (names : GName × GName × GName). ‵ (follows_both (Array E 0) (Array E 0) (Array E 0) names.0 names.1 names.2 ◌++◌))
+    (λ i. ((same i).ghost_name, (sym of_first i).ghost_name, (sym of_second i).ghost_name)) refl $
+    move ! (1 ∷ 4 ∷ []) $ split3 ! $ move ! (3 ∷ []) $ split ! $ move ! (1 ∷ []) $ drop ! $ move ! (1 ∷ 2 ∷ 0 ∷ 3 ∷ []) $ group ! 4 $
+    -- [all tokens; the views; nothing; what follows]
+    nothing ! $ move ! (0 ∷ 3 ∷ []) $ fjoin ! $
+    use0 𝓛 (raw (fact 𝓤 (w.1.slice.now ≡ drop_l gK.USIZE a.0.slice.now)))
+    (fact_i 𝓤 _ (emp 𝓤) (ap (λ (x : Part.Denot). x.now) of_second ∙ second_is ∙ (λ i. drop_l (is_K i) (same i).now))) $
+    use0 𝓛 (raw (fact 𝓤 (w.0.slice.now ≡ take gK.USIZE a.0.slice.now)))
+    (fact_i 𝓤 _ (emp 𝓤) (ap (λ (x : Part.Denot). x.now) of_first ∙ first_is ∙ (λ i. take (is_K i) (same i).now))) $
+    move ! (3 ∷ 2 ∷ 4 ∷ 5 ∷ []) $
+    by ! (leaves 𝓛 ends kept c y u w ((tt, tt), tt) (tt, tt)))))))))))))))))))))))))))))))))))))
