@@ -12,6 +12,7 @@ mod builds;
 mod comparisons;
 mod copies;
 mod defaults;
+mod hex_text;
 mod slice_mut;
 mod slices;
 #[cfg(test)]

@@ -1,4 +1,5 @@
 mod ArrayMutLemmas
+pub mod HexLemmas
 mod InnerItem
 mod InnerItems
 mod InnerSlice

@@ -1,4 +1,5 @@
 pub mod ArrayMut
+pub mod HexText
 pub mod Iteration
 pub mod Length
 pub mod Rows

@@ -5,6 +5,9 @@
 
 mod array_mut;
 mod array_ref;
+mod chunks_ref;
+/// Bytes as hex text.
+pub mod hex_text;
 mod length;
 mod length_error;
 mod numbers;
@@ -14,6 +17,7 @@ mod uses;
 
 pub use array_mut::{ArrayMut, GenericArrayMut};
 pub use array_ref::GenericArrayRef;
+pub use chunks_ref::{ChunkIter, ChunksRef};
 pub use length::{Const, MAX_INLINE, Unsigned};
 pub use length_error::LengthError;
 pub use numbers::{

@@ -1,8 +1,13 @@
-//! Callers, each proved: what is written through a view stands in its slice.
-ghost use Rattle.std.specs.Prelude.{◌≡◌, ◌≢◌, ◌==◌, IfOk, IsOk, length, position, reverse, slice_set, sum};
+//! Callers, each proved: views, rows, and hex text.
+ghost use Rattle.ga_views.specs.Rows.{rows};
+ghost use Rattle.std.specs.Io.KnownBytes.{Appends};
+ghost use Rattle.std.specs.Prelude.{◌≡◌, ◌≢◌, ◌==◌, ◌∷◌, [], IfOk, IfSome, IsOk, IsSome, OnOk, codes, count_by, length, position, reverse, slice_index, slice_set, sum};
 
-use crate::{GenericArrayMut, GenericArrayRef, U2};
+use crate::hex_text::write_hex;
+use crate::{ChunksRef, GenericArrayMut, GenericArrayRef, U2, U3};
 use std::alloc::AllocError;
+use std::io;
+use std::io::Write;
 
 fn second_written(slice: &mut [u8])
     requires { length slice.old ≡ 2 }
@@ -62,9 +67,38 @@ fn shown_by_a_clone<'a>(view: &GenericArrayRef<'a, u8, U2>) -> Result<&'a [u8], 
     Ok(copy.into_slice())
 }
 
+fn second_row_and_rest(slice: &[u8]) -> (Option<GenericArrayRef<'_, u8, U3>>, &[u8])
+    requires { slice.now ≡ 1 ∷ 2 ∷ 3 ∷ 4 ∷ 5 ∷ 6 ∷ 7 ∷ [] }
+    ensures has_row { IsSome result.0 }
+    ensures row { IfSome result.0 (λ row. row.slice.now ≡ 4 ∷ 5 ∷ 6 ∷ []) }
+    ensures rest { result.1.now ≡ 7 ∷ [] }
+{
+    let (chunks, rest) = ChunksRef::<u8, U3>::chunks_from_slice(slice);
+    (chunks.get(1), rest)
+}
+
+fn rows_from_zero(chunks: &ChunksRef<u8, U3>) -> usize
+    ensures { result ≡ count_by (λ row. slice_index row 0 == 0) (rows 3 chunks.now.slice.now) }
+{
+    let mut count = 0;
+    for row in chunks.iter() {
+        if row.as_slice()[0] == 0 {
+            count += 1;
+        }
+    }
+    count
+}
+
+#[tactic(auto, unfolding(hex::specs::Hex::encode_with))]
+fn three_digits_written<W: Write>(w: &mut W) -> Result<(), io::Error>
+    ensures { OnOk result (Appends (W.contents w.old) (W.contents w.new) (codes "0a1")) }
+{
+    write_hex(&[10, 20, 30], false, Some(3), w)
+}
+
 mod tests {
     use super::*;
-    use crate::{Const, U3};
+    use crate::{Const, U0};
 
     #[test]
     fn what_is_written_through_a_view_stands_in_its_slice(rt: HostRuntime) {
@@ -109,5 +143,22 @@ mod tests {
         assert_eq!(rt; shown_by_a_clone(&view), Ok([4, 6].as_slice()));
         assert_eq!(rt; view.get(1).copied(), Some(6));
         assert!(rt; view.get(2).is_none());
+    }
+
+    #[test]
+    fn a_slice_is_cut_into_rows_and_a_rest(rt: HostRuntime) {
+        let items = [1, 2, 3, 4, 5, 6, 7];
+        let (row, rest) = second_row_and_rest(&items);
+        assert!(rt; row.is_some_and(|row| row.into_slice() == [4, 5, 6].as_slice()));
+        assert!(rt; rest == [7].as_slice());
+        let (chunks, _) = ChunksRef::<u8, U3>::chunks_from_slice(&items);
+        assert!(rt; chunks.len() == 2 && chunks.get(2).is_none());
+        assert!(rt; chunks.as_slice() == &items[..6] && chunks.into_slice() == &items[..6]);
+        let (chunks, _) = ChunksRef::chunks_from_slice(&[0, 1, 2, 3, 4, 5, 0, 7, 8, 9]);
+        assert!(rt; rows_from_zero(&chunks) == 2);
+        let (none, rest) = ChunksRef::<u8, U3>::chunks_from_slice(&items[..2]);
+        assert!(rt; none.len() == 0 && none.iter().next().is_none() && rest == &items[..2]);
+        let (none, rest) = ChunksRef::<u8, U0>::chunks_from_slice(&items[..0]);
+        assert!(rt; none.len() == 0 && none.iter().next().is_none() && rest.is_empty());
     }
 }

@@ -8,6 +8,7 @@ pub use Rattle.ga_boxed.specs.FillAnswer
 pub use Rattle.ga_core.specs.Copies
 pub use Rattle.ga_core.specs.Cut
 pub use Rattle.ga_core.specs.Fill
+pub use Rattle.ga_core.specs.HexText
 pub use Rattle.ga_core.specs.Iteration
 pub use Rattle.ga_core.specs.Length
 pub use Rattle.ga_core.specs.Rows

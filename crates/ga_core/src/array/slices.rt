@@ -1,11 +1,12 @@
 //! Views: of the items of an array, and of slices of the array's length.
+ghost use Rattle.ga_views.specs.Rows.{chunk_rest, rows};
 ghost use Rattle.std.specs.Option.{option_copied};
-ghost use Rattle.std.specs.Prelude.{◌≡◌, ◌↔◌, IfOk, IsOk, Some, length, map};
+ghost use Rattle.std.specs.Prelude.{◌≡◌, ◌<◌, ◌↔◌, ◌⊎◌, ◌++◌, IfOk, IsOk, Some, length, map};
 
 use crate::array::GenericArray;
 use crate::length::ArrayLength;
 use crate::store::Store;
-use ga_views::{ArrayMut, GenericArrayMut, GenericArrayRef, LengthError};
+use ga_views::{ArrayMut, ChunksRef, GenericArrayMut, GenericArrayRef, LengthError};
 
 impl<T, N: ArrayLength<T>> GenericArray<T, N> {
     /// The read-only view of the items.
@@ -70,6 +71,20 @@ impl<T, N: ArrayLength<T>> GenericArray<T, N> {
         ensures ok { IfOk result (λ view. view.slice ≡ slice.entry) }
     {
         GenericArrayMut::try_from_mut_slice(slice)
+    }
+
+    /// The whole rows of `N` items of a slice, and the items that follow them. With `N = 0` the slice
+    /// has to be empty, and there are no rows. `N` need not fit inline.
+    ///
+    /// The Rust crate panics where `N` is 0 and the slice isn't empty.
+    #[inline]
+    pub fn chunks_from_slice(slice: &[T]) -> (ChunksRef<'_, T, N>, &[T])
+        requires width { (0 < N.USIZE) ⊎ (length slice.now ≡ 0) }
+        ensures rows { rows N.USIZE result.0.slice.now ≡ rows N.USIZE slice.now }
+        ensures rest { result.1.now ≡ chunk_rest N.USIZE slice.now }
+        ensures parts { result.0.slice.now ++ result.1.now ≡ slice.now }
+    {
+        ChunksRef::chunks_from_slice(slice)
     }
 
     /// `Some` of a reference to each item, in order. There where the length is also one of arrays of

@@ -1,8 +1,15 @@
 //! Callers, each proved: what a contract gives to those who use it.
+ghost use Rattle.ga_views.specs.HexText.{hex_digits};
+ghost use Rattle.std.specs.Io.KnownBytes.{Appends};
 ghost use Rattle.std.specs.Option.{option_copied};
-ghost use Rattle.std.specs.Prelude.{◌≡◌, ◌∷◌, [], ◌↔◌, EachIndex, Err, IfOk, IsOk, IsTrue, Ok, OnErr, OnOk, ◌≢◌, length, slice_get, slice_index, slice_set, sum};
+ghost use Rattle.std.specs.Prelude.{◌≡◌, ◌∷◌, [], ◌↔◌, EachIndex, Err, IfOk, IsOk, IsTrue, Ok, OnErr, OnOk, ◌≢◌, length, slice_get, slice_index, slice_set, sum, true};
 
-use crate::{AllocError, ArrayBuilder, GenericArray, GenericArrayRef, LengthError, U2, U3, U4, U7};
+use crate::{
+    AllocError, ArrayBuilder, ArrayLength, GenericArray, GenericArrayRef, LengthError, U2, U3, U4,
+    U7,
+};
+use std::io;
+use std::io::Write;
 
 fn four_of(bytes: &[u8]) -> Result<GenericArray<u8, U4>, LengthError>
     ensures variant { IsOk result ↔ (length bytes.now ≡ 4) }
@@ -100,6 +107,23 @@ fn all_set(array: &mut GenericArray<u8, U3>)
     for item in items.iter_mut() {
         *item = 7;
     }
+}
+
+fn bytes_behind_the_rows(bytes: &[u8]) -> &[u8]
+    requires { bytes.now ≡ 1 ∷ 2 ∷ 3 ∷ 4 ∷ 5 ∷ 6 ∷ 7 ∷ [] }
+    ensures { result.now ≡ 7 ∷ [] }
+{
+    let (_rows, rest) = GenericArray::<u8, U3>::chunks_from_slice(bytes);
+    rest
+}
+
+fn upper_digits_written<N: ArrayLength<u8>, W: Write>(
+    row: &GenericArray<u8, N>,
+    w: &mut W,
+) -> Result<(), io::Error>
+    ensures { OnOk result (Appends (W.contents w.old) (W.contents w.new) (hex_digits true row.now)) }
+{
+    row.write_upper_hex(w, None)
 }
 
 fn sum_of(array: &GenericArray<u8, U3>) -> u32
@@ -284,6 +308,18 @@ mod tests {
             GenericArray::<u8, U4>::try_from_slice(b"abcd").is_ok(),
             GenericArray::<u8, U3>::try_from_slice(b"abcd").is_err(),
         ]
+    }
+
+    #[test]
+    fn bytes_are_written_as_digits_and_cut_into_rows(rt: HostRuntime) {
+        let row: GenericArray<u8, U3> = GenericArray::generate(|index| index as u8 * 10 + 10);
+        let (mut upper, mut lower) = (Vec::new(rt.alloc()), Vec::new(rt.alloc()));
+        assert!(rt; upper_digits_written(&row, &mut upper).is_ok());
+        assert!(rt; row.write_lower_hex(&mut lower, Some(5)).is_ok());
+        assert!(rt;
+            upper.as_slice() == b"0A141E".as_slice() && lower.as_slice() == b"0a141".as_slice()
+        );
+        assert!(rt; bytes_behind_the_rows(&[1, 2, 3, 4, 5, 6, 7]) == [7].as_slice());
     }
 
     #[test]

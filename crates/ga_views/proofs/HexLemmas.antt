@@ -1,0 +1,68 @@
+-- Digits of bytes: in upper case, and cut between two parts of the bytes.
+use Rattle.ga_views.specs.HexText.{hex_digits, hex_text}
+use Rattle.hex.proofs.HexLemmas.{length-encode_with}
+use Rattle.hex.specs.Hex.{encode_lower, encode_with, lower_digits}
+use Rattle.std.proofs.Common.{◌≡◌, ℕ, ◌+◌, ◌-◌, ◌*◌, ◌/◌, ◌%◌, ◌≤◌, inl, inr, Bool, true, List, [], ◌∷◌, ◌++◌, Option, None, Some, MatchOption, refl, sym, ap, ◌∙◌, arith, length, map, min, take}
+use Rattle.std.proofs.Math.ListN.{get_or-map}
+use Rattle.std.proofs.Math.Seq.{take-append-add}
+use Rattle.std.proofs.lemmas.Bool.{cases_lt}
+use Rattle.std.proofs.lemmas.List.{append-nil, take_all, take-append-le}
+use Rattle.std.specs.Char.{to_ascii_uppercase}
+
+-- digits of a table in upper case are those of the table in upper case
+uppercase-encode_with : (t bytes : List ℕ) → map to_ascii_uppercase (encode_with t bytes) ≡ encode_with (map to_ascii_uppercase t) bytes
+unfolding encode_with
+uppercase-encode_with t [] = refl
+uppercase-encode_with t (b ∷ rest) =
+    rw (uppercase-encode_with t rest, ← get_or-map to_ascii_uppercase t (b / 16) 0, ← get_or-map to_ascii_uppercase t (b % 16) 0) refl
+
+-- digits in lower case, made upper case, are those in upper case
+pub uppercase_lower : (bytes : List ℕ) → map to_ascii_uppercase (encode_lower bytes) ≡ hex_digits true bytes
+uppercase_lower bytes = uppercase-encode_with lower_digits bytes
+
+-- the digits of bytes and of others behind them
+encode_with-append : (t bytes others : List ℕ) → encode_with t (bytes ++ others) ≡ encode_with t bytes ++ encode_with t others
+unfolding encode_with
+encode_with-append t [] others = refl
+encode_with-append t (b ∷ rest) others = rw (encode_with-append t rest others) refl
+
+-- what is taken of two lists is taken of the first as far as that goes
+take-append_min : (count n : ℕ) (xs ys : List ℕ) → n ≡ min count (length xs) → take count (xs ++ ys) ≡ take n xs ++ take (count - n) ys
+take-append_min count n xs ys is =
+    elim (cases_lt count (length xs)) [
+      | inl short ↦
+          let all : n ≡ count = omega arith in
+          let none : count - count ≡ 0 = omega arith in
+          rw (all, none, take-append-le count xs ys (omega arith)) (sym (append-nil (take count xs)))
+      | inr long ↦
+          let more : count ≡ length xs + (count - n) = omega arith in
+          ap (λ k. take k (xs ++ ys)) more
+          ∙ (take-append-add xs ys (count - n) ∙ ap (λ l. l ++ take (count - n) ys) (sym (take_all n xs (omega arith))))
+    ]
+
+module _ (upper : Bool) where
+  -- two digits for each byte
+  pub length-hex_digits : (bytes : List ℕ) → length (hex_digits upper bytes) ≡ 2 * length bytes
+  length-hex_digits bytes = length-encode_with _ bytes
+
+  -- the digits that are to be written of two parts of the bytes: of the first as many as it has, and the others of the second
+  pub take-hex_digits : (count n : ℕ) (bytes piece behind text : List ℕ) → bytes ≡ piece ++ behind → text ≡ hex_digits upper piece → n ≡ min count (length text)
+      → take count (hex_digits upper bytes) ≡ take n text ++ take (count - n) (hex_digits upper behind)
+  take-hex_digits count n bytes piece behind text parts digits few =
+      ap (λ all. take count (hex_digits upper all)) parts
+      ∙ (ap (take count) (encode_with-append _ piece behind ∙ ap (λ front. front ++ hex_digits upper behind) (sym digits))
+      ∙ take-append_min count n text (hex_digits upper behind) few)
+
+  -- the text is as many digits as the limit lets through
+  pub hex_text-counted : (limit : Option ℕ) (bytes : List ℕ) (count : ℕ) → MatchOption limit (count ≡ 2 * length bytes) (λ most. count ≡ min most (2 * length bytes))
+      → (hex_text upper limit bytes ≡ take count (hex_digits upper bytes)) × (count ≤ 2 * length bytes)
+  hex_text-counted None bytes count is = (sym (take_all count (hex_digits upper bytes) (omega (arith, length-hex_digits bytes))), omega arith)
+  hex_text-counted (Some most) bytes count is =
+      let digits = hex_digits upper bytes in
+      let long = length-hex_digits bytes in (
+        elim (cases_lt most (2 * length bytes)) [
+          | inl short ↦ ap (λ n. take n digits) (omega arith)
+          | inr all ↦ take_all most digits (omega (arith, long)) ∙ sym (take_all count digits (omega (arith, long)))
+        ],
+        omega arith,
+      )

@@ -1,0 +1,163 @@
+//! Rows of one width that lie in a slice, and their iterator.
+ghost use Rattle.ga_views.specs.Rows.{chunk_count, chunk_rest, row_at, rows};
+ghost use Rattle.std.specs.Iterator.{YieldsFirstBy, item_count};
+ghost use Rattle.std.specs.Iterator.Runs.{EveryRun, ItemsMapTo};
+ghost use Rattle.std.specs.Prelude.{◌≡◌, ◌*◌, ◌/◌, ◌<◌, ◌↔◌, ◌⊎◌, IfSome, IsSome, List, ◌++◌, length, ⊤};
+
+use crate::{GenericArrayRef, Unsigned};
+use std::alloc::AllocError;
+use std::marker::{Model, PhantomData};
+
+/// Rows of `N` items each that lie in a slice, one behind the other. It can be copied, and copies
+/// no item.
+///
+/// Stands for `&[GenericArray<T, N>]` where that is made of a slice.
+pub struct ChunksRef<'a, T, N: Unsigned> {
+    slice: &'a [T],
+    of: PhantomData<N>,
+    // The rows leave no rest.
+    ghost whole: { length slice.now ≡ chunk_count N.USIZE slice.now * N.USIZE },
+}
+
+impl<'a, T, N: Unsigned> Clone for ChunksRef<'a, T, N> {
+    ghost is_clone = { λ chunks copy. copy ≡ chunks };
+
+    ghost is_infallible = { λ _. ⊤ };
+
+    fn clone(&self) -> Result<Self, AllocError> {
+        Ok(*self)
+    }
+}
+
+impl<'a, T, N: Unsigned> Copy for ChunksRef<'a, T, N> {}
+
+impl<'a, T, N: Unsigned> ChunksRef<'a, T, N> {
+    /// The whole rows of a slice, and the items that follow them. With `N = 0` the slice has to be
+    /// empty, and there are no rows.
+    ///
+    /// The counterpart of `GenericArray::chunks_from_slice`, which panics where `N` is 0 and the
+    /// slice isn't empty. Constant time.
+    #[inline]
+    pub fn chunks_from_slice(slice: &'a [T]) -> (Self, &'a [T])
+        requires width { (0 < N.USIZE) ⊎ (length slice.now ≡ 0) }
+        ensures rows { rows N.USIZE result.0.slice.now ≡ rows N.USIZE slice.now }
+        ensures rest { result.1.now ≡ chunk_rest N.USIZE slice.now }
+        ensures parts { result.0.slice.now ++ result.1.now ≡ slice.now }
+    {
+        let (whole, rest) = slice.split_at(len_of_rows(slice.len(), N::USIZE));
+        (
+            ChunksRef {
+                slice: whole,
+                of: PhantomData,
+            },
+            rest,
+        )
+    }
+
+    /// The number of rows. Constant time.
+    #[inline]
+    pub fn len(&self) -> usize
+        ensures { result ≡ chunk_count N.USIZE self.now.slice.now }
+    {
+        match N::USIZE {
+            0 => 0,
+            width => self.slice.len() / width,
+        }
+    }
+
+    /// The row at `index`, or `None` where `index` isn't below the number of rows. Constant time.
+    #[inline]
+    pub fn get(&self, index: usize) -> Option<GenericArrayRef<'a, T, N>>
+        ensures variant { IsSome result ↔ (index < chunk_count N.USIZE self.now.slice.now) }
+        ensures row { IfSome result (λ view. view.slice.now ≡ row_at N.USIZE self.now.slice.now index) }
+    {
+        if index < self.len() {
+            let (_, behind) = self.slice.split_at(index * N::USIZE);
+            let (row, _) = behind.split_at(N::USIZE);
+            Some(GenericArrayRef::from_slice(row))
+        } else {
+            None
+        }
+    }
+
+    /// The rows as views, in order.
+    #[inline]
+    pub fn iter(&self) -> ChunkIter<'_, T, N>
+        ensures rows { result ≡ rows N.USIZE self.now.slice.now }
+        ensures runs { EveryRun (YieldsFirstBy {S = List (List T)} {A = GenericArrayRef T N N.Unsigned} (λ view. view.slice.now) (λ left. left)) (λ run. ItemsMapTo run (λ view. view.slice.now) run.from) }
+    {
+        ChunkIter {
+            left: self.slice,
+            of: PhantomData,
+        }
+    }
+
+    /// The items of all rows, in order.
+    #[inline]
+    pub fn as_slice(&self) -> &[T]
+        ensures items { result.now ≡ self.now.slice.now }
+        ensures len { length result.now ≡ chunk_count N.USIZE self.now.slice.now * N.USIZE }
+    {
+        self.slice
+    }
+
+    /// The items of all rows, in order, for the whole borrow that the rows were cut from.
+    ///
+    /// The counterpart of `GenericArray::slice_from_chunks`.
+    #[inline]
+    pub fn into_slice(self) -> &'a [T]
+        ensures items { result.now ≡ self.entry.slice.now }
+        ensures len { length result.now ≡ chunk_count N.USIZE self.entry.slice.now * N.USIZE }
+    {
+        self.slice
+    }
+}
+
+/// The rows of a `ChunksRef` as views, in order. Contracts see it as the list
+/// of the rows that are left.
+#[derive(Drop)]
+pub struct ChunkIter<'a, T, N: Unsigned> {
+    // The items of the rows that are left.
+    left: &'a [T],
+    of: PhantomData<N>,
+}
+
+impl<'a, T, N: Unsigned> Model for ChunkIter<'a, T, N> {
+    ghost use Rattle.ga_views.specs.Rows.{rows};
+    ghost use Rattle.std.specs.Prelude.{List};
+
+    ghost Value = { List (List T) };
+
+    ghost view = { λ iter. rows N.USIZE iter.left.now };
+}
+
+impl<'a, T, N: Unsigned> Iterator for ChunkIter<'a, T, N> {
+    type Item = GenericArrayRef<'a, T, N>;
+
+    ghost next_gives = { YieldsFirstBy (λ view. view.slice.now) (λ left. left) };
+
+    ghost remaining = { item_count (λ left. left) };
+
+    /// The next row. Constant time.
+    #[inline]
+    fn next(&mut self) -> Option<GenericArrayRef<'a, T, N>> {
+        let width = N::USIZE;
+        if width == 0 || self.left.len() < width {
+            return None;
+        }
+        let (row, left) = self.left.split_at(width);
+        self.left = left;
+        Some(GenericArrayRef::from_slice(row))
+    }
+}
+
+/// How many of `len` items lie in whole rows of a width.
+#[inline]
+pub(crate) fn len_of_rows(len: usize, width: usize) -> usize
+    ensures { result ≡ len / width * width }
+{
+    match width {
+        0 => 0,
+        width => len / width * width,
+    }
+}

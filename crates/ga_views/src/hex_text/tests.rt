@@ -1,0 +1,93 @@
+//! Texts, and how often the writer is called.
+use super::write_hex;
+use std::alloc::Global;
+use std::io;
+use std::io::{ErrorKind, Write};
+use std::test::Fail;
+
+/// Keeps what it is given, counts its calls, and fails at one of them.
+#[derive(Drop)]
+struct Sink {
+    text: Vec<u8>,
+    writes: usize,
+    fails_at: usize,
+}
+
+impl Sink {
+    fn new(alloc: Global, fails_at: usize) -> Self {
+        Sink {
+            text: Vec::new(alloc),
+            writes: 0,
+            fails_at,
+        }
+    }
+}
+
+impl Write for Sink {
+    fn write(&mut self, buf: &[u8]) -> io::Result<usize> {
+        self.writes = self.writes.saturating_add(1);
+        if self.writes == self.fails_at {
+            return Err(io::Error::from(ErrorKind::BrokenPipe));
+        }
+        self.text.extend_from_slice(buf)?;
+        Ok(buf.len())
+    }
+
+    fn flush(&mut self) -> io::Result<()> {
+        Ok(())
+    }
+}
+
+#[test]
+fn few_bytes_give_their_digits_as_far_as_the_limit_lets_them(rt: HostRuntime) {
+    let cases = [
+        (false, None, "0a141e"),
+        (true, None, "0A141E"),
+        (false, Some(3), "0a1"),
+        (true, Some(1), "0"),
+        (false, Some(0), ""),
+        (false, Some(7), "0a141e"),
+    ];
+    for (upper, limit, text) in cases {
+        let mut out = Vec::new(rt.alloc());
+        let answer = write_hex(&[10, 20, 30], upper, limit, &mut out);
+        let is_text = out.as_slice() == text.as_bytes();
+        assert!(rt; answer.is_ok() && is_text, "{text}");
+    }
+    let mut all = Vec::new(rt.alloc());
+    let answer = write_hex(
+        &[0x01, 0x23, 0x45, 0x67, 0x89, 0xAB, 0xCD, 0xEF],
+        true,
+        None,
+        &mut all,
+    );
+    let is_text = all.as_slice() == b"0123456789ABCDEF".as_slice();
+    assert!(rt; answer.is_ok() && is_text);
+}
+
+#[test]
+fn the_writer_gets_each_piece_at_once_and_its_fault_is_answered(
+    rt: HostRuntime,
+) -> Result<(), Fail> {
+    let bytes = vec![in rt.alloc(); 171u8; 1025]?;
+    let cases = [
+        (Some(2049), usize::MAX, 2049, 2),
+        (None, usize::MAX, 2050, 2),
+        (Some(2048), usize::MAX, 2048, 1),
+        (Some(0), 1, 0, 0),
+        (Some(2049), 1, 0, 1),
+        (Some(2049), 2, 2048, 2),
+    ];
+    for (limit, fails_at, count, writes) in cases {
+        let mut sink = Sink::new(rt.alloc(), fails_at);
+        let answer = write_hex(bytes.as_slice(), false, limit, &mut sink);
+        let is_answered = answer.is_err() == (writes == fails_at);
+        let is_called = sink.writes == writes && sink.text.len() == count;
+        let has_digits = sink.text.chunks(2).all(|pair| b"ab".starts_with(pair));
+        assert!(rt;
+            is_answered && is_called && has_digits,
+            "{count} digits in {writes} calls"
+        );
+    }
+    Ok(())
+}
