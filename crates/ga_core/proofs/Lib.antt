@@ -4,5 +4,6 @@ pub mod FillLemmas
 pub mod LeftLemmas
 mod LentSlice
 pub mod PlaceLemmas
+pub use Rattle.ga_views.proofs.HexLemmas
 pub use Rattle.ga_views.proofs.RowLemmas
 pub mod RunLemmas

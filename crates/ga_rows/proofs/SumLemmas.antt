@@ -1,7 +1,7 @@
 -- Sums of bytes, by a fold.
 use Rattle.generic_array.specs.Entries.{FoldAt, MayFoldAt}
 use Rattle.generic_array.specs.Runs.{CallableInFold, FoldRun}
-use Rattle.std.proofs.Common.{◌≡◌, ℕ, ◌+◌, ◌*◌, ◌≤◌, List, [], ◌∷◌, ◌++◌, length, length-append, arith, ap}
+use Rattle.std.proofs.Common.{◌≡◌, ℕ, ◌+◌, ◌*◌, ◌≤◌, List, [], ◌∷◌, length, length-append, arith, ap}
 
 module _ {F I : Type 0} (entry : I → ℕ) (step : F → ℕ → I → ℕ → F → Type 0) (rises : (f : F) (a : ℕ) (item : I) (b : ℕ) (g : F) → step f a item b g → b ≤ a + 255) where
   -- each call adds a byte at most

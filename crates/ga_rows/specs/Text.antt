@@ -1,11 +1,12 @@
 -- The text of an input: a line for each whole row, and a line for the rest.
+use Rattle.generic_array.specs.HexText.{hex_digits}
 use Rattle.generic_array.specs.Rows.{chunk_rest, rows}
 use Rattle.ga_rows.specs.Words.{bytes_of}
 use Rattle.ga_rows.specs.declared.words.Mode.{Mode}
-use Rattle.ga_rows.specs.declared.words.Mode.TheVariants.{Back, Dec, Sum}
+use Rattle.ga_rows.specs.declared.words.Mode.TheVariants.{Back, Dec, Hex, Sum}
 use Rattle.ga_rows.specs.declared.words.Width.{Width}
 use Rattle.std.specs.List.{flat_map, join_by}
-use Rattle.std.specs.Prelude.{ℕ, List, [], ◌∷◌, ◌++◌, codes, decimal, reverse, sum}
+use Rattle.std.specs.Prelude.{ℕ, List, [], ◌∷◌, ◌++◌, codes, decimal, false, reverse, sum}
 
 -- the numbers in decimal, joined by one space
 abbrev pub numbers_text : List ℕ → List ℕ
@@ -18,6 +19,7 @@ line text = text ++ 10 ∷ []
 -- the text of one row, without the end of its line
 abbrev pub row_text : Mode → List ℕ → List ℕ
 row_text Dec row = numbers_text row
+row_text Hex row = hex_digits false row
 row_text Back row = numbers_text (reverse row)
 row_text Sum row = decimal (sum row)
 
@@ -26,7 +28,10 @@ abbrev pub rest_line : List ℕ → List ℕ
 rest_line [] = []
 rest_line (byte ∷ bytes) = line (codes "rest " ++ numbers_text (byte ∷ bytes))
 
--- all that is written for an input
+-- all that is written for an input by rows of a width
+abbrev pub lines_of : Mode → ℕ → List ℕ → List ℕ
+lines_of mode width input = flat_map (λ row. line (row_text mode row)) (rows width input) ++ rest_line (chunk_rest width input)
+
+-- the same by a width of the program
 abbrev pub text_of : Mode → Width → List ℕ → List ℕ
-text_of mode width input =
-    flat_map (λ row. line (row_text mode row)) (rows (bytes_of width) input) ++ rest_line (chunk_rest (bytes_of width) input)
+text_of mode width input = lines_of mode (bytes_of width) input

@@ -1,8 +1,9 @@
-//! Reads bytes and writes them as rows of numbers, one line a row.
+//! Reads bytes and writes them as rows, one line a row.
 //!
-//! `ga_rows [dec|back|sum] [4]` reads standard input to its end. Each whole row of four bytes is a
-//! line of their decimal values, with `back` from the last to the first, or with `sum` of their sum;
-//! bytes that fill no row stand in a last line that begins with `rest`.
+//! `ga_rows [dec|hex|back|sum] [1|2|4|8|16]` reads standard input to its end. Each whole row of so
+//! many bytes is a line: of their decimal values, with `hex` of their lower hex digits, with `back`
+//! of the decimal values from the last to the first, or with `sum` of their sum. Bytes that fill no
+//! row stand in a last line that begins with `rest`. No words mean `dec 4`.
 #![tactic(auto)]
 
 mod ends;

@@ -1,6 +1,6 @@
 //! Writing the rows of an input.
 ghost use Rattle.generic_array.specs.Rows.{chunk_rest};
-ghost use Rattle.ga_rows.specs.Text.{line, rest_line, row_text, text_of};
+ghost use Rattle.ga_rows.specs.Text.{line, lines_of, rest_line, row_text, text_of};
 ghost use Rattle.ga_rows.specs.Words.{bytes_of};
 ghost use Rattle.std.specs.Io.KnownBytes.{Appends, Keeps, append_known};
 ghost use Rattle.std.specs.Prelude.{◌≡◌, ◌≢◌, ◌+◌, ◌<◌, ◌≤◌, ◌↔◌, [], IfOk, IsOk, IsTrue, OnOk, length, sum, take};
@@ -8,7 +8,8 @@ ghost use Rattle.std.specs.Prelude.{◌≡◌, ◌≢◌, ◌+◌, ◌<◌, ◌�
 use crate::piece::{PIECE_SIZE, Piece};
 use crate::words::{Mode, Width};
 use generic_array::checks::total_by;
-use generic_array::{GenericArray, LengthError, U4};
+use generic_array::hex_text::write_hex;
+use generic_array::{ArrayLength, ChunksRef, GenericArrayRef, U1, U2, U4, U8, U16};
 use std::io;
 use std::io::Write;
 
@@ -27,50 +28,52 @@ pub fn rows<W: Write>(input: &[u8], mode: Mode, width: Width, w: &mut W) -> Resu
     ensures empty { input.now ≡ [] → IsOk result }
 {
     match width {
-        Width::W4 => rows_of_four(input, mode, w),
+        Width::W1 => rows_of::<U1, W>(input, mode, w),
+        Width::W2 => rows_of::<U2, W>(input, mode, w),
+        Width::W4 => rows_of::<U4, W>(input, mode, w),
+        Width::W8 => rows_of::<U8, W>(input, mode, w),
+        Width::W16 => rows_of::<U16, W>(input, mode, w),
     }
 }
 
-/// The rows of four bytes.
-fn rows_of_four<W: Write>(input: &[u8], mode: Mode, w: &mut W) -> Result<bool, io::Error>
-    ensures text { OnOk result (Appends (W.contents w.old) (W.contents w.new) (text_of mode Width.W4 input.now)) }
-    ensures rest { IfOk result (λ has_rest. IsTrue has_rest ↔ (chunk_rest 4 input.now ≢ [])) }
+/// The rows of `N` bytes.
+fn rows_of<N: ArrayLength<u8>, W: Write>(
+    input: &[u8],
+    mode: Mode,
+    w: &mut W,
+) -> Result<bool, io::Error>
+    requires some { 0 < N.USIZE }
+    requires few { N.USIZE ≤ 16 }
+    ensures text { OnOk result (Appends (W.contents w.old) (W.contents w.new) (lines_of mode N.USIZE input.now)) }
+    ensures rest { IfOk result (λ has_rest. IsTrue has_rest ↔ (chunk_rest N.USIZE input.now ≢ [])) }
     ensures empty { input.now ≡ [] → IsOk result }
 {
+    let (chunks, rest) = ChunksRef::<u8, N>::chunks_from_slice(input);
     let mut piece = Piece::new();
-    let mut left = input;
-    while let Ok(row) = first_row(left) {
+    for row in chunks.iter() {
         put_row(&mut piece, w, mode, row)?;
-        left = left.split_at(4).1;
     }
-    put_rest(&mut piece, w, left)?;
+    put_rest(&mut piece, w, rest)?;
     hand_over(&mut piece, w)?;
-    Ok(!left.is_empty())
-}
-
-/// The array of the next four bytes, refused where fewer are left.
-fn first_row(left: &[u8]) -> Result<GenericArray<u8, U4>, LengthError>
-    ensures variant { IsOk result ↔ (4 ≤ length left.now) }
-    ensures ok { IfOk result (λ row. row ≡ take 4 left.now) }
-{
-    GenericArray::try_from_iter(left.iter().copied().take(4))
+    Ok(!rest.is_empty())
 }
 
 /// Puts the line of one row behind the piece.
 #[inline]
-fn put_row<W: Write>(
+fn put_row<N: ArrayLength<u8>, W: Write>(
     piece: &mut Piece,
     w: &mut W,
     mode: Mode,
-    row: GenericArray<u8, U4>,
+    row: GenericArrayRef<'_, u8, N>,
 ) -> Result<(), io::Error>
-    requires { length row ≡ 4 }
-    ensures text { OnOk result (Appends (append_known (W.contents w.old) piece.old) (append_known (W.contents w.new) piece.new) (line (row_text mode row))) }
+    requires { N.USIZE ≤ 16 }
+    ensures text { OnOk result (Appends (append_known (W.contents w.old) piece.old) (append_known (W.contents w.new) piece.new) (line (row_text mode row.entry.slice.now))) }
 {
     make_room(piece, w)?;
     match mode {
         Mode::Dec => piece.push_numbers(row.as_slice()),
-        Mode::Back => piece.push_numbers_back(row.into_iter()),
+        Mode::Hex => write_hex(row.as_slice(), false, None, piece)?,
+        Mode::Back => piece.push_numbers_back(row.as_slice()),
         Mode::Sum => piece.push_decimal(sum_of(row)),
     }
     piece.push(b'\n');
@@ -79,12 +82,12 @@ fn put_row<W: Write>(
 
 /// The sum of a row's bytes.
 #[inline]
-fn sum_of(row: GenericArray<u8, U4>) -> u16
-    ensures value { result ≡ sum row }
-    ensures small { sum row < 10000 }
+fn sum_of<N: ArrayLength<u8>>(row: GenericArrayRef<'_, u8, N>) -> u16
+    requires { N.USIZE ≤ 16 }
+    ensures value { result ≡ sum row.entry.slice.now }
+    ensures small { sum row.entry.slice.now < 10000 }
 {
-    let _ = row.as_slice();
-    total_by(row, 0, &mut |sum: u16, byte: u8| sum + u16::from(byte))
+    total_by(row, 0, &mut |sum: u16, byte: &u8| sum + u16::from(*byte))
 }
 
 /// Puts the line of the bytes that fill no row behind the piece, if there are any.
@@ -127,3 +130,6 @@ fn hand_over<W: Write>(piece: &mut Piece, w: &mut W) -> Result<(), io::Error>
     }
     Ok(())
 }
+
+#[cfg(test)]
+mod tests;

@@ -2,7 +2,8 @@
 ghost use Rattle.ga_rows.specs.Text.{numbers_text};
 ghost use Rattle.std.specs.Prelude.{◌≡◌, ◌+◌, ◌*◌, ◌<◌, ◌≤◌, ◌↔◌, IsTrue, [], ◌∷◌, ◌++◌, decimal, length, reverse};
 
-use generic_array::{ArrayLength, GenericArrayIter};
+use std::io;
+use std::io::Write;
 use std::marker::Model;
 
 /// How many bytes a piece of text may have.
@@ -135,21 +136,21 @@ impl Piece {
         }
     }
 
-    /// Appends what is left of `numbers` in decimal, from the last to the first, joined by one space.
-    /// There is room for four bytes each.
+    /// Appends numbers in decimal, from the last to the first, joined by one space. There is room for
+    /// four bytes each.
     #[inline]
-    pub fn push_numbers_back<N: ArrayLength<u8>>(&mut self, mut numbers: GenericArrayIter<u8, N>)
-        requires { length self.old + 4 * length numbers ≤ PIECE_SIZE }
-        ensures text { self.new ≡ self.old ++ numbers_text (reverse numbers) }
-        ensures bytes { length self.new ≤ length self.old + 4 * length numbers }
+    pub fn push_numbers_back(&mut self, numbers: &[u8])
+        requires { length self.old + 4 * length numbers.now ≤ PIECE_SIZE }
+        ensures text { self.new ≡ self.old ++ numbers_text (reverse numbers.now) }
+        ensures bytes { length self.new ≤ length self.old + 4 * length numbers.now }
     {
-        let Some(last) = numbers.next_back() else {
+        let Some((last, others)) = numbers.split_last() else {
             return;
         };
-        self.push_decimal(u16::from(last));
-        while let Some(number) = numbers.next_back() {
+        self.push_decimal(u16::from(*last));
+        for number in others.iter().rev() {
             self.push(b' ');
-            self.push_decimal(u16::from(number));
+            self.push_decimal(u16::from(*number));
         }
     }
 
@@ -161,5 +162,24 @@ impl Piece {
         for byte in text.as_bytes() {
             self.push(*byte);
         }
+    }
+}
+
+/// Takes what fits behind the text, and never fails.
+impl Write for Piece {
+    ghost use Rattle.std.specs.Prelude.{Some};
+
+    ghost contents = { λ piece. Some piece };
+
+    #[inline]
+    fn write(&mut self, buf: &[u8]) -> io::Result<usize> {
+        let count = buf.len().min(PIECE_SIZE - self.len);
+        self.bytes[self.len..self.len + count].copy_from_slice(&buf[..count]);
+        self.len += count;
+        Ok(count)
+    }
+
+    fn flush(&mut self) -> io::Result<()> {
+        Ok(())
     }
 }

@@ -1,5 +1,5 @@
 //! Texts, statuses, and readers and writers that fail.
-use crate::{Mode, Status, Width, rows, run, run_listed};
+use crate::{Mode, Status, Width, parse_words, rows, run, run_listed};
 use std::alloc::Global;
 use std::env::Args;
 use std::io;
@@ -68,20 +68,45 @@ impl Write for Sink {
     }
 }
 
+#[test]
+fn words_mean_a_mode_and_a_width(rt: HostRuntime) -> Result<(), Fail> {
+    let cases = [
+        ("hex", Some((Mode::Hex, Width::W4))),
+        ("dec 1", Some((Mode::Dec, Width::W1))),
+        ("hex 8", Some((Mode::Hex, Width::W8))),
+        ("sum 16", Some((Mode::Sum, Width::W16))),
+        ("dec 3", None),
+        ("4", None),
+        ("dec 4 4", None),
+    ];
+    for (words, meaning) in cases {
+        let mut given = Vec::new(rt.alloc());
+        for word in words.split(' ') {
+            given.push(String::from_str(rt.alloc(), word)?)?;
+        }
+        assert!(rt; parse_words(given.as_slice()) == meaning, "{words}");
+    }
+    assert!(rt; parse_words(&[]) == Some((Mode::Dec, Width::W4)));
+    Ok(())
+}
+
 /// The words as listed, joined by a space, the input, what is printed, and the exit status.
-const CASES: [(&str, &str, &str, u8); 13] = [
+const CASES: [(&str, &str, &str, u8); 16] = [
     ("ga_rows", "abcdefgh", "97 98 99 100\n101 102 103 104\n", 0),
     ("back", "abcdef", "97 98 99 100\nrest 101 102\n", 1),
     ("ga_rows dec", "", "", 0),
     ("ga_rows back", "abcdef", "100 99 98 97\nrest 101 102\n", 1),
     ("ga_rows sum", "\x01\x02\x03\x04d", "10\nrest 100\n", 1),
     ("ga_rows sum 4", "zzzzabcd", "488\n394\n", 0),
-    ("ga_rows sum 2", "abcd", "", 2),
+    ("ga_rows sum 2", "abcd", "195\n199\n", 0),
     ("ga_rows dec 4", "\0\t\n", "rest 0 9 10\n", 1),
     ("ga_rows 4", "abcd", "", 2),
     ("ga_rows ", "abcd", "", 2),
-    ("ga_rows hex 4", "abcd", "", 2),
-    ("ga_rows back 2", "abcd", "", 2),
+    ("ga_rows hex 4", "abcd", "61626364\n", 0),
+    ("ga_rows back 2", "abcd", "98 97\n100 99\n", 0),
+    ("ga_rows dec 3", "abcd", "", 2),
+    ("ga_rows hex 04", "abcd", "", 2),
+    ("ga_rows Hex", "abcd", "", 2),
     ("ga_rows dec 4 4", "abcd", "", 2),
 ];
 
@@ -175,6 +200,11 @@ fn the_writer_gets_full_pieces_and_each_of_its_faults_is_answered(
         let status = run(rt.alloc(), &[], &mut left, &mut sink);
         let is_ended = (status == Status::Fault) == (fails_at < 5);
         assert!(rt; is_answered && is_ended, "at write {fails_at}");
+    }
+    for (mode, writes) in [(Mode::Back, 4), (Mode::Hex, 3), (Mode::Sum, 2)] {
+        let mut sink = Sink::new(rt.alloc(), usize::MAX);
+        let answer = rows(input.as_slice(), mode, Width::W4, &mut sink);
+        assert!(rt; answer.is_ok() && sink.writes == writes, "{writes} writes");
     }
     let mut untouched = Sink::new(rt.alloc(), 1);
     assert!(rt; rows(&[], Mode::Dec, Width::W4, &mut untouched).is_ok());

@@ -12,6 +12,8 @@ use std::alloc::Global;
 pub enum Mode {
     /// The bytes in decimal, joined by one space.
     Dec,
+    /// Two lower digits for each byte, with nothing between them.
+    Hex,
     /// As `Dec`, from the last byte to the first.
     Back,
     /// The sum of the bytes, in decimal.
@@ -25,6 +27,7 @@ impl Mode {
     {
         match name {
             "dec" => Some(Mode::Dec),
+            "hex" => Some(Mode::Hex),
             "back" => Some(Mode::Back),
             "sum" => Some(Mode::Sum),
             _ => None,
@@ -35,8 +38,16 @@ impl Mode {
 /// How many bytes a row has.
 #[derive(Clone, Copy, Debug, PartialEq, Eq)]
 pub enum Width {
+    /// One byte.
+    W1,
+    /// Two bytes.
+    W2,
     /// Four bytes.
     W4,
+    /// Eight bytes.
+    W8,
+    /// Sixteen bytes.
+    W16,
 }
 
 impl Width {
@@ -45,7 +56,11 @@ impl Width {
         ensures { result ≡ width_named name.now }
     {
         match name {
+            "1" => Some(Width::W1),
+            "2" => Some(Width::W2),
             "4" => Some(Width::W4),
+            "8" => Some(Width::W8),
+            "16" => Some(Width::W16),
             _ => None,
         }
     }

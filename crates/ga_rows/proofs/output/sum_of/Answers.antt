@@ -1,16 +1,14 @@
 use Rattle.ga_rows.proofs.SumLemmas.{CallableInFold-bound, FoldRun-bound}
 use Rattle.ga_rows.proofs.output.sum_of.Goals as goal
 use Rattle.generic_array.proofs.AnswerLemmas.{FoldRun-sum}
-use Rattle.std.proofs.Common.{◌≡◌, ap, arith, length, rules, sym, ◌∙◌}
+use Rattle.std.proofs.Common.{arith, rules}
 
 pub total_by-requires : goal.total_by-requires
-total_by-requires c =
-    let four : length c.args.row ≡ 4 = ap length (sym c.as_slice.ensures.items) ∙ c.as_slice.ensures.len in
-    record { callable = CallableInFold-bound (λ item. item) _ (λ f a item b next call. search rules) _ 4 (λ f a item few. search rules) _ _ four }
+total_by-requires g c =
+    record { callable = CallableInFold-bound (λ byte. byte.now) _ (λ f a item b next call. search rules) _ g.N.Unsigned.USIZE (λ f a item few. search rules) _ _ c.args.row.full }
 
 pub returns : goal.returns
-returns c =
-    let four : length c.args.row ≡ 4 = ap length (sym c.as_slice.ensures.items) ∙ c.as_slice.ensures.len in
-    let small = FoldRun-bound (λ item. item) _ (λ f a item b next call. search rules) _ 0 _ _ _ c.total_by.ensures.run in
-    let whole = FoldRun-sum (λ item. item) _ (λ f a item b next call. search rules) _ 0 _ _ _ c.total_by.ensures.run in
-    record { value = omega (arith, whole); small = omega (arith, whole, small, four) }
+returns g c =
+    let small = FoldRun-bound (λ byte. byte.now) _ (λ f a item b next call. search rules) _ 0 _ _ _ c.total_by.ensures.run in
+    let whole = FoldRun-sum (λ byte. byte.now) _ (λ f a item b next call. search rules) _ 0 _ _ _ c.total_by.ensures.run in
+    record { value = omega (arith, whole); small = omega (arith, whole, small, c.args.row.full, c.requires) }
