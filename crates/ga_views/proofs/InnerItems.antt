@@ -26,10 +26,10 @@ use Rattle.std.specs.List.{refill}
 use Rattle.ga_views.proofs.InnerSlice.{Inner, Items, items_at, lends_part}
 
 -- as many items as there were are the refilled list
-refilled : {T : Type 0} (xs ws : List T) → length ws ≡ length xs → ws ≡ refill (length xs) xs ws
-refilled xs ws e =
-    sym (ap (λ l. take (length xs) (ws ++ l)) (drop_of_length-le xs (omega arith))
-    ∙ ap (take (length xs)) (append-nil ws) ∙ take_all (length xs) ws (omega arith))
+pub refilled : {T : Type 0} (len : ℕ) (xs ws : List T) → length xs ≡ len → length ws ≡ len → ws ≡ refill len xs ws
+refilled len xs ws long e =
+    sym (ap (λ l. take len (ws ++ l)) (drop_of_length-le xs (omega arith))
+    ∙ ap (take len) (append-nil ws) ∙ take_all len ws (omega arith))
 
 -- all the items are lent, under the name δ. The outer reference points to (b, o), the name is γ, and the inner reference is d.
 module _ {M : Type 1} {𝓤 : Ura M} (𝓛 : Logic 𝓤) (R : RattleType) (κ κ' : Lft) (q : Share) (b o : ℕ) (γ : GName) (d : MutBor (List R.Denot)) where
@@ -51,7 +51,7 @@ module _ {M : Type 1} {𝓤 : Ura M} (𝓛 : Logic 𝓤) (R : RattleType) (κ κ
   keeps : (ws : List R.Denot) → ent 𝓤 (sep 𝓤 (sem 𝓛 (items_at R d ws)) (emp 𝓤)) (sem 𝓛 (items_at R d (written ws)))
   keeps ws =
       qed 𝓛 (‵ (items_at R d ws) ∷ raw (emp 𝓤) ∷ []) ∵ fsplit ! $ feq_l ! (λ e. feq_i ! ℕ (length ws) (length d.now) e $ fjoin ! $
-      rewrite ! 0 (λ (l : List R.Denot). ‵ (items_at R d l)) (refilled d.now ws e) refl $ keep ! (0 ∷ []) $ done !)
+      rewrite ! 0 (λ (l : List R.Denot). ‵ (items_at R d l)) (refilled (length d.now) d.now ws refl e) refl $ keep ! (0 ∷ []) $ done !)
 
   all : ent 𝓤 (sem 𝓛 (items_at R d d.now)) (sep 𝓤 (sem 𝓛 (items_at R d d.now)) (emp 𝓤))
   all = qed 𝓛 (‵ (items_at R d d.now) ∷ []) ∵ nothing ! $ move ! (1 ∷ 0 ∷ []) $ done !

@@ -1,10 +1,13 @@
 -- The inner reference of a `&κ mut (&κ' mut [T])` is opened and closed, and a part of its items is lent for all of κ. It then ends with what the part's last value makes of the items.
 --     opens_inner, closes_inner    the outer borrow is opened, which gives the cell of the inner reference, at the type that the code names, and closed again
 --     lends_part                   the part is lent
+--     uncapped                     how far into the slice an item lies, as the code computes it
 -- `denote.Through`'s `lends_inner_slice` lends the items, and `types.Follow`'s `takes_part` the part of them. Assumes `Logic`.
-use mathlib.Core.Path.{refl}
+use mathlib.Core.Path.{◌≡◌, refl, sym, ap, ◌∙◌}
 use mathlib.Core.List.{List, [], ◌∷◌}
-use Prim.Native.Nat.{ℕ}
+use Prim.Native.Nat.{ℕ, zero, suc, ◌*◌, ◌^◌, ◌<◌}
+use native.Mathlib.Nat.{suc-mul, zero-mul}
+use native.Mathlib.Omega.{arith}
 use lib.ListN.{length}
 use seplogic.Ra.Ura.{Ura}
 use base.Fml.{Fml, Lft, Incl, GName, Share, fat, fobs, fauth, fbor, fobor, flft}
@@ -13,6 +16,8 @@ use base.Logic.{SProp, ent, sep, ex}
 use base.Stored.{Gv, coded_list}
 use mir.Syntax.{Ty, named, erased, mut, ty_ref}
 use mir.Val.{Val}
+use prog.Capped.{capped_is}
+use prog.Memory.{capped}
 use types.Follow.{takes_part}
 use types.Kit.{Goal, Item, Seq, Soaks, Step, step, ‵, raw, ◌⊛◌, some, later, ◌$◌, ◌∵◌, !, qed, move, drop, use1, use2, use3, split, split3, group, pick, show, await, rewrite, fsplit3, updating, now, done}
 use types.Logic.{Logic, sem}
@@ -28,6 +33,12 @@ use denote.Ref.{MutBor, at_last}
 use denote.Slice.{MutSlice, Room, slice_ty, slice_val, mut_slice_vals}
 use denote.Steps.{opens, closes, peeks}
 use denote.Through.{renamed, lends_inner_slice}
+
+-- where the product fits a word, the index is zero or the size fits too
+pub uncapped : (i k : ℕ) → i * k < 2 ^ 64 → i * capped k ≡ i * k
+uncapped zero k h = zero-mul (capped k) ∙ sym (zero-mul k)
+uncapped (suc i) k h =
+    let step = suc-mul i k in ap (λ (j : ℕ). suc i * j) (capped_is k (omega arith))
 
 -- the inner reference
 abbrev pub Inner : RattleType → Lft → RattleType

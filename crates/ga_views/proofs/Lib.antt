@@ -2,5 +2,8 @@ mod ArrayMutLemmas
 pub mod HexLemmas
 mod InnerItem
 mod InnerItems
+mod InnerPart
 mod InnerSlice
 pub mod RowLemmas
+pub mod RowsMutLemmas
+mod SharedLoan

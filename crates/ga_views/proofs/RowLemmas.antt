@@ -7,7 +7,7 @@ use Rattle.std.proofs.lemmas.List.FromFn.{length-map-range_with_len}
 use Rattle.std.specs.List.{range_with_len}
 
 -- the items of the whole rows of n items fill as many rows; none of width 0
-count-whole : (n w : ℕ) → n / w * w / w ≡ n / w
+pub count-whole : (n w : ℕ) → n / w * w / w ≡ n / w
 count-whole n zero = div-zero (n / 0 * 0) ∙ sym (div-zero n)
 count-whole n (suc w) = mul-div_cancel (n / suc w) (omega arith)
 
@@ -97,3 +97,7 @@ module _ {X : Type 0} (width : ℕ) (items : List X) where
       let long : length whole ≡ count * width = length-take-le (count * width) items (div-mul-le_self (length items) width) in
       let same : chunk_count width whole ≡ count = ap (λ n. n / width) long ∙ count-whole (length items) width in
       ap (λ n. map (row_at width whole) (range_with_len 0 n)) same ∙ rows-kept 0 count count (omega arith)
+
+-- a whole row ends within the items
+pub row-within : (len width index : ℕ) → index < len / width → index * width + width ≤ len
+row-within len width index below = omega (arith, mul-le-mul_right width below, div-mul-le_self len width)

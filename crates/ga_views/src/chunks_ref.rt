@@ -32,6 +32,18 @@ impl<'a, T, N: Unsigned> Clone for ChunksRef<'a, T, N> {
 impl<'a, T, N: Unsigned> Copy for ChunksRef<'a, T, N> {}
 
 impl<'a, T, N: Unsigned> ChunksRef<'a, T, N> {
+    /// The rows of a slice of as many items as they have.
+    #[inline]
+    pub(crate) fn over(slice: &'a [T]) -> Self
+        requires whole { length slice.now ≡ chunk_count N.USIZE slice.now * N.USIZE }
+        ensures { result.slice.now ≡ slice.now }
+    {
+        ChunksRef {
+            slice,
+            of: PhantomData,
+        }
+    }
+
     /// The whole rows of a slice, and the items that follow them. With `N = 0` the slice has to be
     /// empty, and there are no rows.
     ///
@@ -45,13 +57,7 @@ impl<'a, T, N: Unsigned> ChunksRef<'a, T, N> {
         ensures parts { result.0.slice.now ++ result.1.now ≡ slice.now }
     {
         let (whole, rest) = slice.split_at(len_of_rows(slice.len(), N::USIZE));
-        (
-            ChunksRef {
-                slice: whole,
-                of: PhantomData,
-            },
-            rest,
-        )
+        (ChunksRef::over(whole), rest)
     }
 
     /// The number of rows. Constant time.
@@ -86,10 +92,7 @@ impl<'a, T, N: Unsigned> ChunksRef<'a, T, N> {
         ensures rows { result ≡ rows N.USIZE self.now.slice.now }
         ensures runs { EveryRun (YieldsFirstBy {S = List (List T)} {A = GenericArrayRef T N N.Unsigned} (λ view. view.slice.now) (λ left. left)) (λ run. ItemsMapTo run (λ view. view.slice.now) run.from) }
     {
-        ChunkIter {
-            left: self.slice,
-            of: PhantomData,
-        }
+        ChunkIter::over(self.slice)
     }
 
     /// The items of all rows, in order.
@@ -129,6 +132,20 @@ impl<'a, T, N: Unsigned> Model for ChunkIter<'a, T, N> {
     ghost Value = { List (List T) };
 
     ghost view = { λ iter. rows N.USIZE iter.left.now };
+}
+
+impl<'a, T, N: Unsigned> ChunkIter<'a, T, N> {
+    /// The rows of a slice.
+    #[inline]
+    pub(crate) fn over(slice: &'a [T]) -> Self
+        ensures rows { result ≡ rows N.USIZE slice.now }
+        ensures runs { EveryRun (YieldsFirstBy {S = List (List T)} {A = GenericArrayRef T N N.Unsigned} (λ view. view.slice.now) (λ left. left)) (λ run. ItemsMapTo run (λ view. view.slice.now) run.from) }
+    {
+        ChunkIter {
+            left: slice,
+            of: PhantomData,
+        }
+    }
 }
 
 impl<'a, T, N: Unsigned> Iterator for ChunkIter<'a, T, N> {

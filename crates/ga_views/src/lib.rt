@@ -5,6 +5,7 @@
 
 mod array_mut;
 mod array_ref;
+mod chunks_mut;
 mod chunks_ref;
 /// Bytes as hex text.
 pub mod hex_text;
@@ -17,6 +18,7 @@ mod uses;
 
 pub use array_mut::{ArrayMut, GenericArrayMut};
 pub use array_ref::GenericArrayRef;
+pub use chunks_mut::{ChunksMut, RowsMut};
 pub use chunks_ref::{ChunkIter, ChunksRef};
 pub use length::{Const, MAX_INLINE, Unsigned};
 pub use length_error::LengthError;
@@ -26,4 +28,4 @@ pub use numbers::{
     U40, U41, U42, U43, U44, U45, U46, U47, U48, U49, U50, U51, U52, U53, U54, U55, U56, U57, U58,
     U59, U60, U61, U62, U63, U64, U128, U256, U512, U1024, U2048,
 };
-pub use slice_mut::SliceMut;
+pub use slice_mut::{PartMut, SliceMut};

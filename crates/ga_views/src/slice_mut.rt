@@ -1,7 +1,8 @@
 //! Slices that can be written, and lent on for writing.
 ghost use Rattle.std.specs.Borrow.{Array, Lends, sem};
 ghost use Rattle.std.specs.List.{refill};
-ghost use Rattle.std.specs.Prelude.{◌≡◌, ℕ, ◌<◌, List, length, slice_index_or, slice_set};
+ghost use Rattle.ga_views.specs.Parts.{part_set};
+ghost use Rattle.std.specs.Prelude.{◌≡◌, ℕ, ◌+◌, ◌<◌, ◌≤◌, List, drop, length, slice_index_or, slice_set, take};
 
 /// What lends a slice for writing: `&mut [T]`, or a reference to an array of `ga_core`. Whatever is
 /// written through it, the slice keeps its length.
@@ -39,6 +40,15 @@ pub trait SliceMut<T>: Drop {
         ensures value { result.now ≡ slice_index_or (items self.old) index result.now };
 }
 
+/// What lends also a part of its slice for writing: `&mut [T]`.
+pub trait PartMut<T>: SliceMut<T> {
+    /// `len` items from place `from` on, for writing.
+    fn part_mut(&mut self, from: usize, len: usize) -> &mut [T]
+        requires in_bounds { from + len ≤ length (Self.items self.old) }
+        ensures* writes_back { sem 𝓛 (Lends Self.row (Array T.row 0) self.entry result (λ part. (Self.refilled self.old (part_set from len (Self.items self.old) part)).0)) }
+        ensures value { result.now ≡ take len (drop from (Self.items self.old)) };
+}
+
 impl<'a, T> SliceMut<T> for &'a mut [T] {
     ghost use Rattle.std.specs.List.{refill};
     ghost use Rattle.std.specs.Prelude.{length, refl, slice_set};
@@ -67,5 +77,12 @@ impl<'a, T> SliceMut<T> for &'a mut [T] {
     #[inline]
     fn item_mut(&mut self, index: usize) -> &mut T {
         &mut self[index]
+    }
+}
+
+impl<'a, T> PartMut<T> for &'a mut [T] {
+    #[inline]
+    fn part_mut(&mut self, from: usize, len: usize) -> &mut [T] {
+        &mut self[from..from + len]
     }
 }

@@ -4,7 +4,7 @@ ghost use Rattle.std.specs.Io.KnownBytes.{Appends};
 ghost use Rattle.std.specs.Prelude.{◌≡◌, ◌≢◌, ◌==◌, ◌∷◌, [], IfOk, IfSome, IsOk, IsSome, OnOk, codes, count_by, length, position, reverse, slice_index, slice_set, sum};
 
 use crate::hex_text::write_hex;
-use crate::{ChunksRef, GenericArrayMut, GenericArrayRef, U2, U3};
+use crate::{ChunksMut, ChunksRef, GenericArrayMut, GenericArrayRef, U2, U3};
 use std::alloc::AllocError;
 use std::io;
 use std::io::Write;
@@ -89,6 +89,33 @@ fn rows_from_zero(chunks: &ChunksRef<u8, U3>) -> usize
     count
 }
 
+fn row_and_rest_written(slice: &mut [u8])
+    requires { slice.old ≡ 1 ∷ 2 ∷ 3 ∷ 4 ∷ 5 ∷ [] }
+    ensures { slice.new ≡ 1 ∷ 2 ∷ 9 ∷ 4 ∷ 8 ∷ [] }
+{
+    let (whole, rest) = slice.split_at_mut(4);
+    let mut rows: ChunksMut<u8, U2> = ChunksMut::over(whole);
+    rows.row_mut(1)[0] = 9;
+    rest[0] = 8;
+}
+
+fn all_rows_written(slice: &mut [u8])
+    requires { length slice.old ≡ 4 }
+    ensures { slice.new ≡ slice_set (slice_set slice.old 0 7) 3 8 }
+{
+    let mut rows: ChunksMut<u8, U2> = ChunksMut::over(slice);
+    rows.as_mut_slice()[0] = 7;
+    rows.row_mut(1)[1] = 8;
+}
+
+fn rows_and_rest_counted(slice: &mut [u8]) -> (usize, usize)
+    requires { length slice.old ≡ 5 }
+    ensures { result ≡ (2, 1) }
+{
+    let (rows, rest) = ChunksMut::<u8, U2>::chunks_from_slice_mut(slice);
+    (rows.len(), rest.len())
+}
+
 #[tactic(auto, unfolding(hex::specs::Hex::encode_with))]
 fn three_digits_written<W: Write>(w: &mut W) -> Result<(), io::Error>
     ensures { OnOk result (Appends (W.contents w.old) (W.contents w.new) (codes "0a1")) }
@@ -160,5 +187,41 @@ mod tests {
         assert!(rt; none.len() == 0 && none.iter().next().is_none() && rest == &items[..2]);
         let (none, rest) = ChunksRef::<u8, U0>::chunks_from_slice(&items[..0]);
         assert!(rt; none.len() == 0 && none.iter().next().is_none() && rest.is_empty());
+    }
+
+    /// Writes 9 in front in row 1, 8 in front in the rest and 6 in front of all.
+    fn written_through_row_and_rest(items: &mut [u8])
+        requires { length items.old ≡ 5 }
+    {
+        let (mut rows, rest) = ChunksMut::<u8, U2>::chunks_from_slice_mut(items);
+        if let Some(mut row) = rows.get_mut(1) {
+            row.as_mut_slice()[0] = 9;
+        }
+        rest[0] = 8;
+        if let Some(first) = rows.into_slice().first_mut() {
+            *first = 6;
+        }
+    }
+
+    #[test]
+    fn what_is_written_through_rows_and_a_rest_stands_in_their_slice(rt: HostRuntime) {
+        let mut items = [1, 2, 3, 4, 5];
+        row_and_rest_written(&mut items);
+        assert!(rt; items == [1, 2, 9, 4, 8]);
+        all_rows_written(&mut items[..4]);
+        assert!(rt; items == [7, 2, 9, 8, 8] && rows_and_rest_counted(&mut items) == (2, 1));
+        written_through_row_and_rest(&mut items);
+        assert!(rt; items == [6, 2, 9, 8, 8]);
+        let (mut rows, rest) = ChunksMut::<u8, U3>::chunks_from_slice_mut(&mut items);
+        assert!(rt;
+            &*rest == [8, 8].as_slice() && rows.get_mut(1).is_none() && rows.get(1).is_none()
+        );
+        assert!(rt;
+            rows.get(0)
+                .is_some_and(|row| row.into_slice() == [6, 2, 9].as_slice())
+        );
+        assert!(rt; rows.iter().next().is_some() && rows.as_slice() == [6, 2, 9].as_slice());
+        let (mut none, rest) = ChunksMut::<u8, U0>::chunks_from_slice_mut(&mut items[..0]);
+        assert!(rt; none.len() == 0 && none.get_mut(0).is_none() && rest.is_empty());
     }
 }

@@ -2,9 +2,10 @@
 -- does not follow a result through two references, so this proof walks the code by hand: the
 -- inner reference is opened and its pointer read, which gives the element's place, and then the
 -- element is lent by `InnerItem`'s `lends_element`.
-use Rattle.std.proofs.Common.{◌≡◌, ℕ, zero, suc, ◌+◌, ◌*◌, ◌^◌, ◌<◌, ◌≤◌, List, [], ◌∷◌, length, refl, sym, ap, ◌∙◌, subst, MutBor, arith, mul-le-mul_right, zero-mul, suc-mul}
+use Rattle.std.proofs.Common.{ℕ, ◌+◌, ◌*◌, ◌^◌, ◌<◌, ◌≤◌, List, [], ◌∷◌, length, refl, sym, ap, subst, MutBor, arith, mul-le-mul_right}
 use Rattle.std.proofs.raw_atomic.Walks.{proved}
 use Rattle.ga_views.proofs.InnerItem.{lent, lends_element}
+use Rattle.ga_views.proofs.InnerSlice.{uncapped}
 use Rattle.ga_views.specs.contracts.slice_mut.RefMutSliceSliceMut.item_mut as F
 use Rattle.ga_views.proofs.slice_mut.RefMutSliceSliceMut.item_mut.Code as code
 use Rattle.ga_views.proofs.slice_mut.RefMutSliceSliceMut.item_mut.Statement.{statement}
@@ -16,8 +17,7 @@ use mir.Val.{Val, vint, vptr}
 use base.Fml.{Lft, Share, ftrue, fat, flft}
 use base.Fraction.{full_share}
 use base.Logic.{SProp, ent}
-use prog.Capped.{capped_is}
-use prog.Memory.{Memory, capped, size}
+use prog.Memory.{Memory, size}
 use prog.Routine.{Routine}
 use prog.Wp.{Calls, Loops, WpFn}
 use contract.BorrowLft.{◌⊑◌}
@@ -42,12 +42,6 @@ use denote.Steps.{nothing, opens, closes}
 use denote.Triple.Clauses.{Clauses, Ended}
 use denote.Triple.Entry.{on_entry}
 use denote.Triple.Walked.{says, Stays, stay_dropped, walk_of, ends_at, Goes-dropped, Goes-spent_ref}
-
--- where the product fits a word, the index is zero or the size fits too
-uncapped : (i k : ℕ) → i * k < 2 ^ 64 → i * capped k ≡ i * k
-uncapped zero k h = zero-mul (capped k) ∙ sym (zero-mul k)
-uncapped (suc i) k h =
-    let step = suc-mul i k in ap (λ (j : ℕ). suc i * j) (capped_is k (omega arith))
 
 module _ (X : RattleType) where
   abbrev args : Args

@@ -1,4 +1,4 @@
-use Rattle.ga_views.proofs.chunks_ref.ChunksRef.iter.Goals as goal
+use Rattle.ga_views.proofs.chunks_ref.ChunkIter.over.Goals as goal
 use Rattle.std.proofs.Common.{ap, length}
 use Rattle.std.proofs.iter.runs.Sources.{from_front}
 

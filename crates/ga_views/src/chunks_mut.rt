@@ -1,0 +1,172 @@
+//! Rows of one width that lie in a slice, for writing.
+ghost use Rattle.ga_views.specs.Parts.{part_set};
+ghost use Rattle.ga_views.specs.Rows.{chunk_count, chunk_rest, row_at, rows};
+ghost use Rattle.std.specs.Borrow.{Array, Lends, follows_both, sem};
+ghost use Rattle.std.specs.Iterator.Runs.{EveryRun, ItemsMapTo};
+ghost use Rattle.std.specs.Iterator.{YieldsFirstBy};
+ghost use Rattle.std.specs.Option.{option_map};
+ghost use Rattle.std.specs.Prelude.{◌≡◌, ◌*◌, ◌<◌, ◌↔◌, ◌⊎◌, ◌++◌, IfSome, IsSome, List, length};
+
+use crate::chunks_ref::{ChunkIter, len_of_rows};
+use crate::slice_mut::{PartMut, SliceMut};
+use crate::{ChunksRef, GenericArrayMut, GenericArrayRef, Unsigned};
+use std::marker::PhantomData;
+
+/// Rows of `N` items each that lie in a slice, one behind the other, for writing. What is written
+/// through it stands in the slice afterwards, and no other place changes.
+///
+/// Stands for `&mut [GenericArray<T, N>]` where that is made of a slice.
+pub type ChunksMut<'a, T, N> = RowsMut<&'a mut [T], T, N>;
+
+/// Rows of `N` items each for writing, over what lends them: see `ChunksMut`.
+#[derive(Drop)]
+pub struct RowsMut<S: SliceMut<T>, T, N: Unsigned> {
+    slice: S,
+    of: PhantomData<T>,
+    len: PhantomData<N>,
+    // The rows leave no rest.
+    ghost whole: { length (S.items slice) ≡ chunk_count N.USIZE (S.items slice) * N.USIZE },
+}
+
+impl<'a, T, N: Unsigned> RowsMut<&'a mut [T], T, N> {
+    /// The whole rows of a slice, and the items that follow them, both for writing. With `N = 0` the
+    /// slice has to be empty, and there are no rows.
+    ///
+    /// The counterpart of `GenericArray::chunks_from_slice_mut`, which panics where `N` is 0 and the
+    /// slice isn't empty. Constant time.
+    ///
+    /// The checker doesn't read `writes_back` for callers. Where a proof asks for what the slice ends
+    /// as, cut it by `split_at_mut` and make the rows by `over`.
+    #[inline]
+    pub fn chunks_from_slice_mut(slice: &'a mut [T]) -> (Self, &'a mut [T])
+        requires width { (0 < N.USIZE) ⊎ (length slice.old ≡ 0) }
+        ensures* writes_back { sem 𝓛 (follows_both (Array T.row 0) (Array T.row 0) (Array T.row 0) slice.entry.ghost_name result.0.slice.ghost_name result.1.ghost_name ◌++◌) }
+        ensures rows { rows N.USIZE result.0.slice.now ≡ rows N.USIZE slice.old }
+        ensures rest { result.1.now ≡ chunk_rest N.USIZE slice.old }
+        ensures parts { result.0.slice.now ++ result.1.now ≡ slice.old }
+    {
+        let count = len_of_rows(slice.len(), N::USIZE);
+        let (whole, rest) = slice.split_at_mut(count);
+        (Self::over(whole), rest)
+    }
+
+    /// The items of all rows, in order, for writing, for the whole borrow that the rows were cut from.
+    /// A proof doesn't learn what is then written through it: see `as_mut_slice`.
+    ///
+    /// The counterpart of `GenericArray::slice_from_chunks_mut`.
+    #[inline]
+    pub fn into_slice(self) -> &'a mut [T]
+        ensures items { result ≡ self.entry.slice }
+        ensures len { length result.now ≡ chunk_count N.USIZE result.now * N.USIZE }
+    {
+        let RowsMut {
+            slice,
+            of: _,
+            len: _,
+        } = self;
+        slice
+    }
+}
+
+impl<S: SliceMut<T>, T, N: Unsigned> RowsMut<S, T, N> {
+    ghost use Rattle.ga_views.specs.RowsMut.{LendsItems};
+
+    /// The rows of what lends as many items as they have.
+    #[inline]
+    pub fn over(items: S) -> Self
+        requires whole { length (S.items items) ≡ chunk_count N.USIZE (S.items items) * N.USIZE }
+        ensures { result.slice ≡ items }
+    {
+        RowsMut {
+            slice: items,
+            of: PhantomData,
+            len: PhantomData,
+        }
+    }
+
+    /// The same rows, read-only.
+    #[inline]
+    pub fn view(&self) -> ChunksRef<'_, T, N>
+        ensures { result.slice.now ≡ S.items self.now.slice }
+    {
+        ChunksRef::over(self.slice.all())
+    }
+
+    /// The number of rows. Constant time.
+    #[inline]
+    pub fn len(&self) -> usize
+        ensures { result ≡ chunk_count N.USIZE (S.items self.now.slice) }
+    {
+        self.view().len()
+    }
+
+    /// The row at `index`, or `None` where `index` isn't below the number of rows. Constant time.
+    #[inline]
+    pub fn get(&self, index: usize) -> Option<GenericArrayRef<'_, T, N>>
+        ensures variant { IsSome result ↔ (index < chunk_count N.USIZE (S.items self.now.slice)) }
+        ensures row { IfSome result (λ view. view.slice.now ≡ row_at N.USIZE (S.items self.now.slice) index) }
+    {
+        self.view().get(index)
+    }
+
+    /// The rows as read-only views, in order.
+    #[inline]
+    pub fn iter(&self) -> ChunkIter<'_, T, N>
+        ensures rows { result ≡ rows N.USIZE (S.items self.now.slice) }
+        ensures runs { EveryRun (YieldsFirstBy {S = List (List T)} {A = GenericArrayRef T N N.Unsigned} (λ view. view.slice.now) (λ left. left)) (λ run. ItemsMapTo run (λ view. view.slice.now) run.from) }
+    {
+        ChunkIter::over(self.slice.all())
+    }
+
+    /// The items of all rows, in order.
+    #[inline]
+    pub fn as_slice(&self) -> &[T]
+        ensures items { result.now ≡ S.items self.now.slice }
+        ensures len { length result.now ≡ chunk_count N.USIZE (S.items self.now.slice) * N.USIZE }
+    {
+        self.slice.all()
+    }
+
+    /// The items of all rows, in order, for writing.
+    #[inline]
+    pub fn as_mut_slice(&mut self) -> &mut [T]
+        ensures* writes_back { sem 𝓛 (LendsItems S.row T.row N.row S.SliceMut N.Unsigned self.entry result) }
+        ensures items { result.now ≡ S.items self.old.slice }
+        ensures len { length result.now ≡ chunk_count N.USIZE (S.items self.old.slice) * N.USIZE }
+    {
+        self.slice.all_mut()
+    }
+}
+
+impl<S: PartMut<T>, T, N: Unsigned> RowsMut<S, T, N> {
+    ghost use Rattle.ga_views.specs.RowsMut.{LendsRow, LendsRowIf};
+
+    /// The row at `index` for writing. Constant time.
+    #[inline]
+    pub fn row_mut(&mut self, index: usize) -> &mut [T]
+        requires in_bounds { index < chunk_count N.USIZE (S.items self.old.slice) }
+        ensures* writes_back { sem 𝓛 (LendsRow S.row T.row N.row S.SliceMut N.Unsigned self.entry index result) }
+        ensures row { result.now ≡ row_at N.USIZE (S.items self.old.slice) index }
+        ensures len { length result.now ≡ N.USIZE }
+    {
+        // Its contract shows that a `usize` counts the items.
+        let _ = self.as_slice();
+        let width = N::USIZE;
+        self.slice.part_mut(index * width, width)
+    }
+
+    /// The row at `index` for writing, or `None` where `index` isn't below the number of rows. Constant
+    /// time.
+    #[inline]
+    pub fn get_mut(&mut self, index: usize) -> Option<GenericArrayMut<'_, T, N>>
+        ensures* writes_back { sem 𝓛 (LendsRowIf S.row T.row N.row S.SliceMut N.Unsigned self.entry index (option_map (λ view. view.slice) result)) }
+        ensures variant { IsSome result ↔ (index < chunk_count N.USIZE (S.items self.old.slice)) }
+        ensures row { IfSome result (λ view. view.slice.now ≡ row_at N.USIZE (S.items self.old.slice) index) }
+    {
+        if index < self.len() {
+            Some(GenericArrayMut::from_mut_slice(self.row_mut(index)))
+        } else {
+            None
+        }
+    }
+}
