@@ -5,6 +5,7 @@ ghost use Rattle.std.specs.Iterator.Runs.{YieldsInOrder, YieldsInReverse};
 ghost use Rattle.std.specs.Prelude.{◌≡◌, length};
 
 mod builds;
+mod conversions;
 mod copies;
 
 use crate::boxed_array_iter::BoxedArrayIter;

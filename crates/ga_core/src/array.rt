@@ -10,11 +10,13 @@ ghost use Rattle.std.specs.Slice.Iter.{iter_mut_rest, iter_mut_steps, iter_mut_s
 
 mod builds;
 mod comparisons;
+mod conversions;
 mod copies;
 mod defaults;
 mod hex_text;
 mod slice_mut;
 mod slices;
+mod tuples;
 #[cfg(test)]
 mod uses;
 

@@ -153,6 +153,14 @@ fn item_of<T, const N: usize, A>(store: &mut ArrayVec<T, N, A>, index: usize) ->
     &mut store.as_mut_slice()[index]
 }
 
+/// The full store of the items of a native array.
+#[inline]
+pub(crate) fn store_of_array<T, const N: usize>(items: [T; N]) -> ArrayVec<T, N>
+    ensures { result.items ≡ items }
+{
+    ArrayVec::from_array_in((), items)
+}
+
 /// A store of clones of the items, made in order. Refused at the first clone that is; those made
 /// before it are then dropped.
 pub(crate) fn store_of_clones<T: Clone, S: Store<T>>(items: &[T]) -> Result<S, AllocError>

@@ -1,12 +1,13 @@
 //! Views: of the items of an array, and of slices of the array's length.
 ghost use Rattle.ga_views.specs.Rows.{chunk_rest, rows};
+ghost use Rattle.std.specs.Borrow.{Array, follows_both, sem};
 ghost use Rattle.std.specs.Option.{option_copied};
 ghost use Rattle.std.specs.Prelude.{◌≡◌, ◌<◌, ◌↔◌, ◌⊎◌, ◌++◌, IfOk, IsOk, Some, length, map};
 
 use crate::array::GenericArray;
 use crate::length::ArrayLength;
 use crate::store::Store;
-use ga_views::{ArrayMut, ChunksRef, GenericArrayMut, GenericArrayRef, LengthError};
+use ga_views::{ArrayMut, ChunksMut, ChunksRef, GenericArrayMut, GenericArrayRef, LengthError};
 
 impl<T, N: ArrayLength<T>> GenericArray<T, N> {
     /// The read-only view of the items.
@@ -85,6 +86,19 @@ impl<T, N: ArrayLength<T>> GenericArray<T, N> {
         ensures parts { result.0.slice.now ++ result.1.now ≡ slice.now }
     {
         ChunksRef::chunks_from_slice(slice)
+    }
+
+    /// The same for writing. A proof doesn't learn what the slice ends as: see
+    /// `ChunksMut::chunks_from_slice_mut`.
+    #[inline]
+    pub fn chunks_from_slice_mut(slice: &mut [T]) -> (ChunksMut<'_, T, N>, &mut [T])
+        requires width { (0 < N.USIZE) ⊎ (length slice.old ≡ 0) }
+        ensures* writes_back { sem 𝓛 (follows_both (Array T.row 0) (Array T.row 0) (Array T.row 0) slice.entry.ghost_name result.0.slice.ghost_name result.1.ghost_name ◌++◌) }
+        ensures rows { rows N.USIZE result.0.slice.now ≡ rows N.USIZE slice.old }
+        ensures rest { result.1.now ≡ chunk_rest N.USIZE slice.old }
+        ensures parts { result.0.slice.now ++ result.1.now ≡ slice.old }
+    {
+        ChunksMut::chunks_from_slice_mut(slice)
     }
 
     /// `Some` of a reference to each item, in order. There where the length is also one of arrays of

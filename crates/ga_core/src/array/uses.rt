@@ -117,6 +117,14 @@ fn bytes_behind_the_rows(bytes: &[u8]) -> &[u8]
     rest
 }
 
+fn rows_and_rest_counted(bytes: &mut [u8]) -> (usize, usize)
+    requires { length bytes.old ≡ 7 }
+    ensures { result ≡ (2, 1) }
+{
+    let (rows, rest) = GenericArray::<u8, U3>::chunks_from_slice_mut(bytes);
+    (rows.len(), rest.len())
+}
+
 fn upper_digits_written<N: ArrayLength<u8>, W: Write>(
     row: &GenericArray<u8, N>,
     w: &mut W,
@@ -319,7 +327,12 @@ mod tests {
         assert!(rt;
             upper.as_slice() == b"0A141E".as_slice() && lower.as_slice() == b"0a141".as_slice()
         );
-        assert!(rt; bytes_behind_the_rows(&[1, 2, 3, 4, 5, 6, 7]) == [7].as_slice());
+        let mut bytes = [1, 2, 3, 4, 5, 6, 7];
+        assert!(rt; bytes_behind_the_rows(&bytes) == [7].as_slice());
+        let (mut rows, rest) = GenericArray::<u8, U3>::chunks_from_slice_mut(&mut bytes);
+        rest[0] = 9;
+        rows.row_mut(1)[2] = 8;
+        assert!(rt; bytes == [1, 2, 3, 4, 5, 8, 9] && rows_and_rest_counted(&mut bytes) == (2, 1));
     }
 
     #[test]

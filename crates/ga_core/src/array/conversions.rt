@@ -1,0 +1,92 @@
+//! Conversions from and to native arrays, vectors and boxed slices.
+ghost use Rattle.ga_views.specs.Length.{FitsInline};
+ghost use Rattle.std.specs.Box.{boxed_slice_items};
+ghost use Rattle.std.specs.Prelude.{◌≡◌, ◌↔◌, IfOk, IsOk, length};
+
+#[cfg(test)]
+mod tests;
+
+use crate::alloc_error::AllocError;
+use crate::array::GenericArray;
+use crate::length::ArrayLength;
+use crate::store::store_of_array;
+use ga_views::{Const, LengthError};
+use std::alloc::Global;
+use std::boxed::BoxedSlice;
+
+impl<T: Default + Drop, const U: usize> GenericArray<T, Const<U>> {
+    /// The array of the items of a native one. The counterpart of `GenericArray::from_array`, and of
+    /// `From<[T; N]>`.
+    ///
+    /// The length fits. Moves the items once, and takes no memory.
+    #[inline]
+    pub fn from_array(items: [T; U]) -> Self
+        requires fits { FitsInline U }
+        ensures { result ≡ items }
+    {
+        GenericArray::of_store(store_of_array(items))
+    }
+}
+
+impl<T: Copy + Default + Drop, N: ArrayLength<T>> GenericArray<T, N> {
+    /// The native array of the items, of as many. The counterpart of `GenericArray::into_array`.
+    ///
+    /// Copies the items once.
+    #[inline]
+    pub fn into_array<const U: usize>(self) -> [T; U]
+        requires len { N.USIZE ≡ U }
+        ensures { result ≡ self }
+    {
+        let mut items = [T::default(); U];
+        items.copy_from_slice(self.as_slice());
+        items
+    }
+}
+
+impl<T: Default + Drop, N: ArrayLength<T>> GenericArray<T, N> {
+    /// The array of the items of a vector, or `LengthError` where it hasn't `N` items; the vector is
+    /// then dropped. The counterpart of `TryFrom<Vec<T>>`.
+    ///
+    /// The length fits. Moves each item, and asks for no memory.
+    pub fn try_from_vec(items: Vec<T>) -> Result<Self, LengthError>
+        requires fits { FitsInline N.USIZE }
+        ensures variant { IsOk result ↔ (length items.items ≡ N.USIZE) }
+        ensures ok { IfOk result (λ array. array ≡ items.items) }
+    {
+        Self::try_from_iter(items.into_iter())
+    }
+
+    /// The same of a boxed slice. The counterpart of `TryFrom<Box<[T]>>`.
+    pub fn try_from_boxed_slice(items: BoxedSlice<T, Global>) -> Result<Self, LengthError>
+        requires fits { FitsInline N.USIZE }
+        ensures variant { IsOk result ↔ (length (boxed_slice_items items) ≡ N.USIZE) }
+        ensures ok { IfOk result (λ array. array ≡ boxed_slice_items items) }
+    {
+        Self::try_from_vec(items.into_vec())
+    }
+
+    /// The items as a vector. Where the block for them is refused, they are dropped. No block is asked
+    /// for where `N` is 0. The counterpart of `From<GenericArray<T, N>>` for `Vec<T>`.
+    ///
+    /// Moves each item.
+    pub fn into_vec(self, alloc: Global) -> Result<Vec<T>, AllocError>
+        ensures ok { IfOk result (λ items. items.items ≡ self) }
+        ensures empty { N.USIZE ≡ 0 → IsOk result }
+    {
+        // Its contract shows that there are `N` items.
+        let _ = self.as_slice();
+        let mut items = Vec::with_capacity(alloc, N::USIZE)?;
+        for item in self {
+            items.push_reserved(item);
+        }
+        Ok(items)
+    }
+
+    /// The items as a boxed slice: see `into_vec`.
+    pub fn into_boxed_slice(self, alloc: Global) -> Result<BoxedSlice<T, Global>, AllocError>
+        ensures ok { IfOk result (λ items. boxed_slice_items items ≡ self) }
+        ensures empty { N.USIZE ≡ 0 → IsOk result }
+    {
+        Ok(self.into_vec(alloc)?.into_boxed_slice())
+    }
+}
