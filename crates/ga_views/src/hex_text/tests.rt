@@ -1,6 +1,6 @@
 //! Texts, and how often the writer is called.
 use super::write_hex;
-use std::alloc::Global;
+use std::alloc::{AllocError, Global};
 use std::io;
 use std::io::{ErrorKind, Write};
 use std::test::Fail;
@@ -54,15 +54,46 @@ fn few_bytes_give_their_digits_as_far_as_the_limit_lets_them(rt: HostRuntime) {
         let is_text = out.as_slice() == text.as_bytes();
         assert!(rt; answer.is_ok() && is_text, "{text}");
     }
-    let mut all = Vec::new(rt.alloc());
-    let answer = write_hex(
-        &[0x01, 0x23, 0x45, 0x67, 0x89, 0xAB, 0xCD, 0xEF],
-        true,
-        None,
-        &mut all,
-    );
-    let is_text = all.as_slice() == b"0123456789ABCDEF".as_slice();
-    assert!(rt; answer.is_ok() && is_text);
+}
+
+#[test]
+fn every_byte_has_its_two_digits(rt: HostRuntime) {
+    let mut bytes = [0u8; 256];
+    for (byte, place) in bytes.iter_mut().enumerate() {
+        *place = byte as u8;
+    }
+    for (upper, table) in [(false, "0123456789abcdef"), (true, "0123456789ABCDEF")] {
+        let digits = table.as_bytes();
+        let mut out = Vec::new(rt.alloc());
+        let answer = write_hex(&bytes, upper, None, &mut out);
+        let is_table = out.chunks(2).enumerate().all(|(byte, pair)| {
+            pair.first() == digits.get(byte / 16) && pair.get(1) == digits.get(byte % 16)
+        });
+        assert!(rt; answer.is_ok() && out.len() == 512 && is_table, "{table}");
+    }
+}
+
+/// Whether so many bytes 171 give their digits as far as the limit, in as few writes as may be.
+fn is_cut(alloc: Global, len: usize, limit: usize) -> Result<bool, AllocError> {
+    let bytes = vec![in alloc; 171u8; len]?;
+    let mut sink = Sink::new(alloc, usize::MAX);
+    let answer = write_hex(bytes.as_slice(), false, Some(limit), &mut sink);
+    let count = limit.min(len.wrapping_mul(2));
+    let is_called = sink.text.len() == count && sink.writes == count.div_ceil(2048);
+    let has_digits = sink.text.chunks(2).all(|pair| b"ab".starts_with(pair));
+    Ok(answer.is_ok() && is_called && has_digits)
+}
+
+#[test]
+fn each_length_is_cut_at_each_limit(rt: HostRuntime) {
+    for len in [1023, 1024, 1025, 2047, 2048, 2049] {
+        for limit in [
+            0, 1, 1023, 2046, 2047, 2048, 2049, 2050, 4096, 4097, 4098, 4099,
+        ] {
+            let is_cut = is_cut(rt.alloc(), len, limit).expect(&rt, "no memory");
+            assert!(rt; is_cut, "{len} bytes at {limit}");
+        }
+    }
 }
 
 #[test]
