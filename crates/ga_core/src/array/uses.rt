@@ -5,8 +5,8 @@ ghost use Rattle.std.specs.Option.{option_copied};
 ghost use Rattle.std.specs.Prelude.{◌≡◌, ◌∷◌, [], ◌↔◌, EachIndex, Err, IfOk, IsOk, IsTrue, Ok, OnErr, OnOk, ◌≢◌, length, slice_get, slice_index, slice_set, sum, true};
 
 use crate::{
-    AllocError, ArrayBuilder, ArrayLength, GenericArray, GenericArrayRef, LengthError, U2, U3, U4,
-    U7,
+    AllocError, ArrayBuilder, ArrayLength, GenericArray, GenericArrayRef, LengthError, U1, U2, U3,
+    U4, U7,
 };
 use std::io;
 use std::io::Write;
@@ -327,6 +327,10 @@ mod tests {
         assert!(rt;
             upper.as_slice() == b"0A141E".as_slice() && lower.as_slice() == b"0a141".as_slice()
         );
+        let five: GenericArray<u8, U1> = GenericArray::generate(|_| 5);
+        let mut one = Vec::new(rt.alloc());
+        assert!(rt; five.write_lower_hex(&mut one, Some(1)).is_ok());
+        assert!(rt; one.as_slice() == b"0".as_slice());
         let mut bytes = [1, 2, 3, 4, 5, 6, 7];
         assert!(rt; bytes_behind_the_rows(&bytes) == [7].as_slice());
         let (mut rows, rest) = GenericArray::<u8, U3>::chunks_from_slice_mut(&mut bytes);
