@@ -2,7 +2,7 @@
 ghost use Rattle.ga_core.specs.Copies.{Repeats};
 ghost use Rattle.ga_core.specs.Runs.{CallableAlong, CallableUntilError, ClosureRun, FirstErrorRun};
 ghost use Rattle.std.specs.List.{All, AllZip, range_with_len};
-ghost use Rattle.std.specs.Prelude.{◌≡◌, ◌≤◌, Err, IsOk, MatchResult, Ok, OnOk, length};
+ghost use Rattle.std.specs.Prelude.{◌≡◌, ◌≤◌, Err, IsOk, MatchResult, Ok, OnOk, length, replicate};
 
 use crate::alloc_error::AllocError;
 
@@ -35,6 +35,16 @@ pub(crate) fn try_write_answers<T: Drop, E, F: FnMut(usize) -> Result<T, E>>(
         }
     }
     Ok(())
+}
+
+/// Writes `item` over the places.
+#[inline]
+pub(crate) fn write_same<T: Copy + Drop>(places: &mut [T], item: T)
+    ensures { places.new ≡ replicate (length places.old) item }
+{
+    for place in places.iter_mut() {
+        *place = item;
+    }
 }
 
 /// Writes clones of the items over as many places, made in order, up to the first that is refused.

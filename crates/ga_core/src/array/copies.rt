@@ -10,7 +10,7 @@ mod tests;
 use crate::alloc_error::AllocError;
 use crate::array::GenericArray;
 use crate::length::ArrayLength;
-use crate::places::{write_clones, write_copies};
+use crate::places::{write_clones, write_copies, write_same};
 use crate::store::Store;
 use std::alloc;
 
@@ -23,6 +23,19 @@ impl<T: Default + Drop, N: ArrayLength<T>> GenericArray<T, N> {
         ensures { All T.is_default result }
     {
         Self::generate(|_| T::default())
+    }
+}
+
+impl<T: Copy + Drop, N: ArrayLength<T>> GenericArray<T, N> {
+    /// The array of `N` times `item`. The length fits. `arr![item; N]` stands on it.
+    #[inline]
+    pub fn of_copies(item: T) -> Self
+        requires fits { FitsInline N.USIZE }
+        ensures { result ≡ replicate N.USIZE item }
+    {
+        let mut array = GenericArray::of_store(Store::filled());
+        write_same(array.as_mut_slice(), item);
+        array
     }
 }
 
