@@ -1,4 +1,4 @@
-//! Conversions from and to inline arrays, vectors and boxed slices.
+//! Conversions from and to inline arrays, native arrays, vectors and boxed slices.
 ghost use Rattle.std.specs.Box.{boxed_slice_items};
 ghost use Rattle.std.specs.Prelude.{◌≡◌, ◌≢◌, ◌↔◌, IfOk, IsOk, length};
 
@@ -6,7 +6,7 @@ ghost use Rattle.std.specs.Prelude.{◌≡◌, ◌≢◌, ◌↔◌, IfOk, IsOk,
 mod tests;
 
 use crate::boxed_array::BoxedArray;
-use ga_core::{AllocError, ArrayLength, GenericArray, LengthError, Unsigned};
+use ga_core::{AllocError, ArrayLength, Const, GenericArray, LengthError, Unsigned};
 use std::alloc::Global;
 use std::boxed::BoxedSlice;
 
@@ -21,6 +21,25 @@ impl<T: Default + Drop, N: ArrayLength<T>> BoxedArray<T, N> {
     {
         let _ = array.as_slice();
         Ok(BoxedArray::of_items(array.into_vec(alloc)?))
+    }
+}
+
+impl<T: Drop, const U: usize> BoxedArray<T, Const<U>> {
+    /// The items of a native array in a block. Where that is refused, they are dropped. No block is
+    /// asked for where there are none.
+    ///
+    /// Moves each item once. `box_arr!` stands on it.
+    pub fn from_array(alloc: Global, items: [T; U]) -> Result<Self, AllocError>
+        ensures ok { IfOk result (λ boxed. boxed ≡ items) }
+        ensures empty { U ≡ 0 → IsOk result }
+    {
+        if U == 0 {
+            return Ok(BoxedArray::of_items(Vec::new(alloc)));
+        }
+        match Vec::from_array(alloc, items) {
+            Ok(items) => Ok(BoxedArray::of_items(items)),
+            Err(_) => Err(AllocError),
+        }
     }
 }
 

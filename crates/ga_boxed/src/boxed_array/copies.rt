@@ -22,6 +22,22 @@ impl<T: Default, N: Unsigned> BoxedArray<T, N> {
     }
 }
 
+impl<T: Copy, N: Unsigned> BoxedArray<T, N> {
+    /// The array of `N` times `item`. `box_arr!(alloc, [item; N])` stands on it.
+    ///
+    /// Asks for the whole block first, and for none where `N` is 0.
+    pub fn of_copies(alloc: Global, item: T) -> Result<Self, AllocError>
+        ensures items { IfOk result (λ array. array ≡ replicate N.USIZE item) }
+        ensures empty { N.USIZE ≡ 0 → IsOk result }
+    {
+        let mut copies = Vec::with_capacity(alloc, N::USIZE)?;
+        for _copy in 0..N::USIZE {
+            copies.push_reserved(item);
+        }
+        Ok(BoxedArray::of_items(copies))
+    }
+}
+
 impl<T: Clone, N: Unsigned> BoxedArray<T, N> {
     /// The array of `N` values equal to `item`: clones of it, made in order, and at last `item` itself.
     ///

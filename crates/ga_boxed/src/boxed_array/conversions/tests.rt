@@ -1,9 +1,9 @@
 //! Callers of the conversions, each proved, and conversions of other lengths.
-ghost use Rattle.std.specs.Prelude.{◌≡◌, IfOk, Ok};
+ghost use Rattle.std.specs.Prelude.{◌≡◌, IfOk, IsOk, Ok, replicate};
 
 use super::*;
 use crate::counted::{Counted, Counts};
-use ga_core::{U0, U2, U3, U4};
+use ga_core::{U0, U1, U3, U6, U12};
 
 fn boxed_of(alloc: Global, array: GenericArray<u32, U3>) -> Result<BoxedArray<u32, U3>, AllocError>
     ensures { IfOk result (λ boxed. boxed ≡ array) }
@@ -29,6 +29,24 @@ fn boxed_slice_and_back(
     BoxedArray::try_from_boxed_slice(alloc, boxed.into_boxed_slice()?)
 }
 
+fn native_in_a_block(alloc: Global, items: [u32; 3]) -> Result<BoxedArray<u32, U3>, AllocError>
+    ensures { IfOk result (λ boxed. boxed ≡ items) }
+{
+    BoxedArray::from_array(alloc, items)
+}
+
+fn none_in_a_block(alloc: Global) -> Result<BoxedArray<u32, U0>, AllocError>
+    ensures { IsOk result }
+{
+    BoxedArray::from_array(alloc, [])
+}
+
+fn six_times(alloc: Global, item: u32) -> Result<BoxedArray<u32, U6>, AllocError>
+    ensures { IfOk result (λ boxed. boxed ≡ replicate 6 item) }
+{
+    BoxedArray::of_copies(alloc, item)
+}
+
 /// Whether three items go to a block, to a vector or a boxed slice, and back.
 fn is_there_again(alloc: Global) -> Result<bool, AllocError> {
     let boxed = boxed_of(alloc, GenericArray::from_array([1, 2, 3]))?;
@@ -41,21 +59,71 @@ fn is_there_again(alloc: Global) -> Result<bool, AllocError> {
     Ok(boxed.as_slice() == [1, 2, 3].as_slice())
 }
 
-/// Whether three counted items in a vector are taken as `N`, and how many are dropped then.
-fn taken_as<N: Unsigned>(alloc: Global) -> Result<(bool, u32), AllocError> {
-    let counts = Counts::new();
-    let three = BoxedArray::<Counted, U3>::generate(alloc, |_| Counted::new(&counts))?;
-    let is_taken = BoxedArray::<Counted, N>::try_from_vec(alloc, three.into_vec()?)?.is_ok();
-    Ok((is_taken, counts.drops()))
+/// Whether a vector, and a boxed slice, of `len` counted items is taken as `N`, and how many were
+/// dropped by then.
+fn taken_as<N: Unsigned>(
+    alloc: Global,
+    counts: &Counts,
+    len: usize,
+) -> Result<(bool, bool, u32), AllocError> {
+    let mut items = Vec::with_capacity(alloc, len)?;
+    let mut more = Vec::with_capacity(alloc, len)?;
+    for _place in 0..len {
+        items.push(Counted::new(counts))?;
+        more.push(Counted::new(counts))?;
+    }
+    let boxed = BoxedArray::<_, N>::try_from_vec(alloc, items)?;
+    let other = BoxedArray::<_, N>::try_from_boxed_slice(alloc, more.into_boxed_slice())?;
+    Ok((boxed.is_ok(), other.is_ok(), counts.drops()))
+}
+
+/// Whether as many counted items as `N` says come back, through a vector and a boxed slice, and how
+/// many were dropped by then.
+fn kept_on_the_way<N: Unsigned>(alloc: Global, counts: &Counts) -> Result<(bool, u32), AllocError> {
+    let boxed = BoxedArray::<Counted, N>::generate(alloc, |_| Counted::new(counts))?;
+    let Ok(boxed) = BoxedArray::<_, N>::try_from_vec(alloc, boxed.into_vec()?)? else {
+        return Ok((false, counts.drops()));
+    };
+    let boxed = BoxedArray::<_, N>::try_from_boxed_slice(alloc, boxed.into_boxed_slice()?)?;
+    Ok((boxed.is_ok(), counts.drops()))
 }
 
 #[test]
 fn conversions_there_and_back_give_the_items(rt: HostRuntime) {
     assert!(rt; is_there_again(rt.alloc()).expect(&rt, "no memory"));
-    assert!(rt; taken_as::<U3>(rt.alloc()).expect(&rt, "no memory") == (true, 3));
-    assert!(rt; taken_as::<U2>(rt.alloc()).expect(&rt, "no memory") == (false, 3));
-    assert!(rt; taken_as::<U4>(rt.alloc()).expect(&rt, "no memory") == (false, 3));
-    assert!(rt; taken_as::<U0>(rt.alloc()).expect(&rt, "no memory") == (false, 3));
     let none = GenericArray::<u32, U0>::from_array([]);
     assert!(rt; BoxedArray::from_inline(rt.alloc(), none).is_ok());
+    let native = native_in_a_block(rt.alloc(), [4, 5, 6]).expect(&rt, "no memory");
+    assert!(rt; native.as_slice() == [4, 5, 6].as_slice());
+    assert!(rt; none_in_a_block(rt.alloc()).is_ok());
+    let six = six_times(rt.alloc(), 7).expect(&rt, "no memory");
+    assert!(rt; six.as_slice() == [7; 6].as_slice());
+}
+
+#[test]
+fn the_items_are_kept_and_none_is_dropped_on_the_way(rt: HostRuntime) {
+    let counts = Counts::new();
+    assert!(rt; kept_on_the_way::<U0>(rt.alloc(), &counts).expect(&rt, "no memory") == (true, 0));
+    assert!(rt; kept_on_the_way::<U1>(rt.alloc(), &counts).expect(&rt, "no memory") == (true, 0));
+    assert!(rt; kept_on_the_way::<U12>(rt.alloc(), &counts).expect(&rt, "no memory") == (true, 1));
+    assert!(rt; counts.drops() == 13);
+}
+
+#[test]
+fn another_length_is_refused_and_the_items_dropped(rt: HostRuntime) {
+    for len in [0, 2, 11, 13] {
+        let counts = Counts::new();
+        let answers = if len < 3 {
+            taken_as::<U1>(rt.alloc(), &counts, len)
+        } else {
+            taken_as::<U12>(rt.alloc(), &counts, len)
+        };
+        assert!(rt; answers.expect(&rt, "no memory") == (false, false, 2 * len as u32));
+    }
+    let counts = Counts::new();
+    let answers = taken_as::<U0>(rt.alloc(), &counts, 1).expect(&rt, "no memory");
+    assert!(rt; answers == (false, false, 2));
+    let counts = Counts::new();
+    let answers = taken_as::<U12>(rt.alloc(), &counts, 12).expect(&rt, "no memory");
+    assert!(rt; answers == (true, true, 0) && counts.drops() == 24);
 }
