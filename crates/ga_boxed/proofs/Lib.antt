@@ -1,2 +1,8 @@
 pub mod AnswerLemmas
+pub mod BlockRoom
+pub mod CellsSharing
+pub mod EndLemmas
+pub mod FrontLemmas
+pub mod NativeLemmas
 pub mod RestLemmas
+pub mod WalkParts

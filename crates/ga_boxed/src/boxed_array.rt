@@ -9,6 +9,7 @@ mod conversions;
 mod copies;
 
 use crate::boxed_array_iter::BoxedArrayIter;
+use crate::live_block::LiveBlock;
 use ga_core::{GenericArrayRef, Unsigned};
 use std::convert::AsSlice;
 use std::marker::{Model, PhantomData};
@@ -20,7 +21,7 @@ use std::marker::{Model, PhantomData};
 /// bound of its own.
 #[derive(Drop)]
 pub struct BoxedArray<T, N: Unsigned> {
-    items: Vec<T>,
+    items: LiveBlock<T>,
     of: PhantomData<N>,
 }
 
@@ -38,7 +39,7 @@ impl<T, N: Unsigned> BoxedArray<T, N> {
     ghost use Rattle.ga_boxed.specs.Lends.{LendsItems};
 
     /// The array of `N` items. Moves none of them.
-    fn of_items(items: Vec<T>) -> Self
+    fn of_items(items: LiveBlock<T>) -> Self
         requires full { length items.items ≡ N.USIZE }
         ensures { result ≡ items.items }
     {

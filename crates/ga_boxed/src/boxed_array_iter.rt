@@ -9,6 +9,7 @@ ghost use Rattle.std.specs.Prelude.{◌≡◌, ◌-◌, IfOk, IsOk, length, reve
 #[cfg(test)]
 mod tests;
 
+use crate::live_block::LiveBlock;
 use ga_core::AllocError;
 use std::alloc;
 use std::marker::Model;
@@ -17,7 +18,7 @@ use std::marker::Model;
 /// that are left.
 #[derive(Drop)]
 pub struct BoxedArrayIter<T> {
-    items: Vec<T>,
+    items: LiveBlock<T>,
 }
 
 impl<T> Model for BoxedArrayIter<T> {
@@ -33,7 +34,7 @@ impl<T> BoxedArrayIter<T> {
 
     /// The iterator over items. Moves none of them.
     #[inline]
-    pub(crate) fn of_items(items: Vec<T>) -> Self
+    pub(crate) fn of_items(items: LiveBlock<T>) -> Self
         ensures { result ≡ items.items }
     {
         BoxedArrayIter { items }
@@ -81,14 +82,10 @@ impl<T: Drop> Iterator for BoxedArrayIter<T> {
 
     ghost remaining = { item_count (λ left. left) };
 
-    /// Takes the first item that is left.
+    /// Takes the first item that is left. Constant time.
     #[inline]
     fn next(&mut self) -> Option<T> {
-        if self.items.is_empty() {
-            None
-        } else {
-            Some(self.items.remove(0))
-        }
+        self.items.take_front()
     }
 
     #[inline]
@@ -105,7 +102,7 @@ impl<T: Drop> DoubleEndedIterator for BoxedArrayIter<T> {
     /// Takes the last item that is left. Constant time.
     #[inline]
     fn next_back(&mut self) -> Option<T> {
-        self.items.pop()
+        self.items.take_back()
     }
 }
 
@@ -218,9 +215,12 @@ impl<T: Clone> Clone for BoxedArrayIter<T> {
     ghost is_infallible = { λ left. length left ≡ 0 };
 
     fn clone(&self) -> Result<Self, alloc::AllocError> {
-        let mut clones = Vec::with_capacity(*self.items.allocator(), self.len())?;
+        let mut clones = match LiveBlock::new(self.items.allocator(), self.len()) {
+            Ok(block) => block,
+            Err(_refused) => return Err(alloc::AllocError),
+        };
         for item in self.as_slice() {
-            clones.push_reserved(item.clone()?);
+            clones.put(item.clone()?);
         }
         Ok(BoxedArrayIter::of_items(clones))
     }

@@ -8,8 +8,13 @@ mod boxed_array;
 mod boxed_array_iter;
 #[cfg(test)]
 mod counted;
+mod live_block;
 #[cfg(test)]
 mod uses;
 
 pub use boxed_array::BoxedArray;
 pub use boxed_array_iter::BoxedArrayIter;
+pub use live_block::LiveBlock;
+// A crate can name a block in a contract only if the types of its fields are exported.
+#[doc(hidden)]
+pub use live_block::{Base, Cells, Deed};

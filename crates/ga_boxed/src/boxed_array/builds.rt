@@ -9,6 +9,7 @@ ghost use Rattle.std.specs.Prelude.{◌≡◌, ◌+◌, IfOk, IsOk, OnErr, OnOk}
 mod tests;
 
 use crate::boxed_array::BoxedArray;
+use crate::live_block::LiveBlock;
 use ga_core::{AllocError, FillError, LengthError, Unsigned};
 use std::alloc::Global;
 
@@ -33,9 +34,9 @@ impl<T, N: Unsigned> BoxedArray<T, N> {
         ensures err { OnErr result (f.new ≡ f.old) }
         ensures empty { N.USIZE ≡ 0 → IsOk result }
     {
-        let mut items = Vec::with_capacity(alloc, N::USIZE)?;
+        let mut items = LiveBlock::new(alloc, N::USIZE)?;
         for index in 0..N::USIZE {
-            items.push_reserved(f(index));
+            items.put(f(index));
         }
         Ok(BoxedArray::of_items(items))
     }
@@ -67,10 +68,10 @@ impl<T: Drop, N: Unsigned> BoxedArray<T, N> {
         ensures err { OnErr result (f.new ≡ f.old) }
         ensures empty { N.USIZE ≡ 0 → IsOk result }
     {
-        let mut good = Vec::with_capacity(alloc, N::USIZE)?;
+        let mut good = LiveBlock::new(alloc, N::USIZE)?;
         for index in 0..N::USIZE {
             match f(index) {
-                Ok(item) => good.push_reserved(item),
+                Ok(item) => good.put(item),
                 Err(error) => return Ok(Err(error)),
             }
         }
@@ -121,10 +122,10 @@ impl<T: Drop, N: Unsigned> BoxedArray<T, N> {
         ensures err { OnErr result (items.new ≡ items.old) }
         ensures empty { N.USIZE ≡ 0 → IsOk result }
     {
-        let mut taken = Vec::with_capacity(alloc, N::USIZE)?;
-        while taken.len() < N::USIZE {
+        let mut taken = LiveBlock::new(alloc, N::USIZE)?;
+        while taken.room() > 0 {
             match items.next() {
-                Some(item) => taken.push_reserved(item),
+                Some(item) => taken.put(item),
                 None => return Ok(Err(LengthError)),
             }
         }
@@ -166,13 +167,13 @@ impl<T: Drop, N: Unsigned> BoxedArray<T, N> {
         ensures err { OnErr (fill_answer result) (items.new ≡ items.old) }
         ensures empty { N.USIZE ≡ 0 → IsOk (fill_answer result) }
     {
-        let mut good = match Vec::with_capacity(alloc, N::USIZE) {
-            Ok(room) => room,
-            Err(refused) => return Err(FillError::Place(refused.into())),
+        let mut good = match LiveBlock::new(alloc, N::USIZE) {
+            Ok(block) => block,
+            Err(refused) => return Err(FillError::Place(refused)),
         };
-        while good.len() < N::USIZE {
+        while good.room() > 0 {
             match items.next() {
-                Some(Ok(item)) => good.push_reserved(item),
+                Some(Ok(item)) => good.put(item),
                 Some(Err(error)) => return Err(FillError::Item(error)),
                 None => return Err(FillError::Length(LengthError)),
             }

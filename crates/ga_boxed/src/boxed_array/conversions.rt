@@ -6,6 +6,7 @@ ghost use Rattle.std.specs.Prelude.{◌≡◌, ◌≢◌, ◌↔◌, IfOk, IsOk,
 mod tests;
 
 use crate::boxed_array::BoxedArray;
+use crate::live_block::LiveBlock;
 use ga_core::{AllocError, ArrayLength, Const, GenericArray, LengthError, Unsigned};
 use std::alloc::Global;
 use std::boxed::BoxedSlice;
@@ -19,8 +20,13 @@ impl<T: Default + Drop, N: ArrayLength<T>> BoxedArray<T, N> {
         ensures ok { IfOk result (λ boxed. boxed ≡ array) }
         ensures empty { N.USIZE ≡ 0 → IsOk result }
     {
+        // Its contract shows that there are `N` items.
         let _ = array.as_slice();
-        Ok(BoxedArray::of_items(array.into_vec(alloc)?))
+        let mut block = LiveBlock::new(alloc, N::USIZE)?;
+        for item in array {
+            block.put(item);
+        }
+        Ok(BoxedArray::of_items(block))
     }
 }
 
@@ -33,23 +39,18 @@ impl<T: Drop, const U: usize> BoxedArray<T, Const<U>> {
         ensures ok { IfOk result (λ boxed. boxed ≡ items) }
         ensures empty { U ≡ 0 → IsOk result }
     {
-        if U == 0 {
-            return Ok(BoxedArray::of_items(Vec::new(alloc)));
-        }
-        match Vec::from_array(alloc, items) {
-            Ok(items) => Ok(BoxedArray::of_items(items)),
-            Err(_) => Err(AllocError),
-        }
+        Ok(BoxedArray::of_items(LiveBlock::of_native(alloc, items)?))
     }
 }
 
 impl<T: Drop, N: Unsigned> BoxedArray<T, N> {
     /// The array of the items of a vector, or `LengthError` where it hasn't `N` items, before memory
-    /// is asked for; the vector is then dropped. Never refused for want of memory where `N` is 0.
+    /// is asked for; the vector is dropped there, and where the block is refused. Never refused for want
+    /// of memory where `N` is 0.
     ///
-    /// The counterpart of `GenericArray::try_from_vec`. Moves no item.
+    /// The counterpart of `GenericArray::try_from_vec`. Moves each item once, to a block of their number.
     pub fn try_from_vec(
-        _alloc: Global,
+        alloc: Global,
         items: Vec<T>,
     ) -> Result<Result<Self, LengthError>, AllocError>
         ensures variant { IfOk result (λ answer. IsOk answer ↔ (length items.items ≡ N.USIZE)) }
@@ -57,11 +58,14 @@ impl<T: Drop, N: Unsigned> BoxedArray<T, N> {
         ensures other { length items.items ≢ N.USIZE → IsOk result }
         ensures empty { N.USIZE ≡ 0 → IsOk result }
     {
-        if items.len() == N::USIZE {
-            Ok(Ok(BoxedArray::of_items(items)))
-        } else {
-            Ok(Err(LengthError))
+        if items.len() != N::USIZE {
+            return Ok(Err(LengthError));
         }
+        let mut block = LiveBlock::new(alloc, N::USIZE)?;
+        for item in items {
+            block.put(item);
+        }
+        Ok(Ok(BoxedArray::of_items(block)))
     }
 
     /// The same of a boxed slice. The counterpart of `GenericArray::try_from_boxed_slice`.
@@ -77,16 +81,21 @@ impl<T: Drop, N: Unsigned> BoxedArray<T, N> {
         Self::try_from_vec(alloc, items.into_vec())
     }
 
-    /// The items as a vector. Never refused where `N` is 0. The counterpart of
-    /// `GenericArray::into_vec`.
+    /// The items as a vector. Where the memory for them is refused, they are dropped; never refused where
+    /// `N` is 0. The counterpart of `GenericArray::into_vec`.
     ///
-    /// Moves no item.
+    /// Moves each item once, to the vector's memory.
     pub fn into_vec(self) -> Result<Vec<T>, AllocError>
         ensures ok { IfOk result (λ items. items.items ≡ self) }
         ensures empty { N.USIZE ≡ 0 → IsOk result }
     {
         let BoxedArray { items, of: _ } = self;
-        Ok(items)
+        let mut vector = Vec::with_capacity(items.allocator(), N::USIZE)?;
+        let mut items = items;
+        while let Some(item) = items.take_front() {
+            vector.push_reserved(item);
+        }
+        Ok(vector)
     }
 
     /// The items as a boxed slice: see `into_vec`. The counterpart of `GenericArray::into_boxed_slice`.

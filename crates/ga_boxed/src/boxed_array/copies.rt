@@ -7,6 +7,7 @@ ghost use Rattle.std.specs.Prelude.{◌≡◌, IfOk, IsOk, replicate};
 mod tests;
 
 use crate::boxed_array::BoxedArray;
+use crate::live_block::LiveBlock;
 use ga_core::{AllocError, Unsigned};
 use std::alloc::Global;
 
@@ -30,9 +31,9 @@ impl<T: Copy, N: Unsigned> BoxedArray<T, N> {
         ensures items { IfOk result (λ array. array ≡ replicate N.USIZE item) }
         ensures empty { N.USIZE ≡ 0 → IsOk result }
     {
-        let mut copies = Vec::with_capacity(alloc, N::USIZE)?;
+        let mut copies = LiveBlock::new(alloc, N::USIZE)?;
         for _copy in 0..N::USIZE {
-            copies.push_reserved(item);
+            copies.put(item);
         }
         Ok(BoxedArray::of_items(copies))
     }
@@ -48,12 +49,12 @@ impl<T: Clone, N: Unsigned> BoxedArray<T, N> {
         ensures same { ((copy : T) → T.is_clone item copy → copy ≡ item) → IfOk result (λ array. array ≡ replicate N.USIZE item) }
         ensures empty { N.USIZE ≡ 0 → IsOk result }
     {
-        let mut items = Vec::with_capacity(alloc, N::USIZE)?;
+        let mut items = LiveBlock::new(alloc, N::USIZE)?;
         if N::USIZE > 0 {
             for _clone in 1..N::USIZE {
-                items.push_reserved(item.clone()?);
+                items.put(item.clone()?);
             }
-            items.push_reserved(item);
+            items.put(item);
         }
         Ok(BoxedArray::of_items(items))
     }

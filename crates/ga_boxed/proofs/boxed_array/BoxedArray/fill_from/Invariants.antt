@@ -1,17 +1,15 @@
 use Rattle.ga_boxed.proofs.boxed_array.BoxedArray.fill_from.Given as goal
-use Rattle.std.proofs.Common.{◌-◌, ◌≤◌}
+use Rattle.std.proofs.Common.{◌≡◌, ◌+◌, length}
 use Rattle.std.specs.Iterator.{Yields}
-use Rattle.std.specs.Vec.{vec_capacity, vec_len}
 
 -- the items so far were taken, there is room for the others, and the iterator may be asked on
 abbrev pub invariant-loop-items : goal.invariant-loop-items
 invariant-loop-items g l = record {
   can : g.I.Iterator.can_next l.items;
   taken : Yields g.I.Iterator.next_gives l.fn.items l.taken.items l.items;
-  within : vec_len l.taken ≤ g.N.Unsigned.USIZE;
-  room : g.N.Unsigned.USIZE ≤ vec_capacity l.taken;
+  room : length l.taken.items + l.taken.room ≡ g.N.Unsigned.USIZE;
 }
 
 -- the places that are left; an iterator that never ends is asked all the same
 abbrev pub decreases-loop-items : goal.decreases-loop-items
-decreases-loop-items g l = g.N.Unsigned.USIZE - vec_len l.taken
+decreases-loop-items g l = l.taken.room

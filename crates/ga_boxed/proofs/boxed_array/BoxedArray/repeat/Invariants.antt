@@ -1,13 +1,11 @@
 use Rattle.ga_boxed.proofs.boxed_array.BoxedArray.repeat.Given as goal
-use Rattle.std.proofs.Common.{◌≡◌, ◌≤◌, ◌+◌, length}
+use Rattle.std.proofs.Common.{◌≡◌, ◌+◌, length}
 use Rattle.std.specs.List.{All}
-use Rattle.std.specs.Vec.{vec_capacity, vec_len}
 
 -- what is built so far are clones, and there is room for the others
 abbrev pub invariant-loop-clone : goal.invariant-loop-clone
 invariant-loop-clone g l = record {
   long : length l.items.items + 1 ≡ l._clone;
-  counted : vec_len l.items + 1 ≡ l._clone;
-  room : g.N.Unsigned.USIZE ≤ vec_capacity l.items;
+  room : length l.items.items + l.items.room ≡ g.N.Unsigned.USIZE;
   clones : All (g.T.Clone.is_clone l.item) l.items.items;
 }

@@ -1,5 +1,5 @@
 use Rattle.ga_boxed.proofs.boxed_array.BoxedArray.try_boxed_from_fallible_iter_ref.Goals as goal
-use Rattle.std.proofs.Common.{Ok, arith, map}
+use Rattle.std.proofs.Common.{◌∷◌, [], Ok, arith, length-append, map}
 use Rattle.std.proofs.iter.Next.{Yields-more}
 use Rattle.std.proofs.lemmas.List.{map-append}
 
@@ -9,8 +9,7 @@ loop-items-preserved g c =
     let came = rw c.in-Some-Ok.field-0-is at c.in-Some-Ok.ensures.steps in
     record {
       can = c.in-Some-Ok.ensures.goes.keeps;
-      taken = rw (c.push_reserved.ensures.items, map-append)
+      taken = rw (c.put.ensures.items, map-append)
           (Yields-more g.I.Iterator.next_gives c.args.items.now (map Ok at.good.items) at.items (Ok c.in-Some-Ok.item) _ at.invariant.taken came);
-      within = omega (arith, c.push_reserved.ensures.len, at.invariant.within);
-      room = omega (arith, c.push_reserved.ensures.capacity, at.invariant.room);
+      room = rw c.put.ensures.items (omega (arith, length-append at.good.items (c.in-Some-Ok.item ∷ []), c.put.ensures.room, at.invariant.room));
     }

@@ -1,17 +1,15 @@
 use Rattle.ga_boxed.proofs.boxed_array.BoxedArray.try_boxed_from_fallible_iter_ref.Given as goal
-use Rattle.std.proofs.Common.{◌-◌, ◌≤◌, Ok, map}
+use Rattle.std.proofs.Common.{◌≡◌, ◌+◌, Ok, length, map}
 use Rattle.std.specs.Iterator.{Yields}
-use Rattle.std.specs.Vec.{vec_capacity, vec_len}
 
 -- the good values so far were taken, there is room for the others, and the iterator may be asked on
 abbrev pub invariant-loop-items : goal.invariant-loop-items
 invariant-loop-items g l = record {
   can : g.I.Iterator.can_next l.items;
   taken : Yields g.I.Iterator.next_gives l.fn.items (map Ok l.good.items) l.items;
-  within : vec_len l.good ≤ g.N.Unsigned.USIZE;
-  room : g.N.Unsigned.USIZE ≤ vec_capacity l.good;
+  room : length l.good.items + l.good.room ≡ g.N.Unsigned.USIZE;
 }
 
 -- the places that are left; an iterator that never ends is asked all the same
 abbrev pub decreases-loop-items : goal.decreases-loop-items
-decreases-loop-items g l = g.N.Unsigned.USIZE - vec_len l.good
+decreases-loop-items g l = l.good.room

@@ -6,10 +6,9 @@ use Rattle.std.specs.List.{range_with_len}
 
 pub loop-index-preserved : goal.loop-index-preserved
 loop-index-preserved g c = record {
-  ran = rw (c.push_reserved.ensures.items, below-add_one) (ClosureRun-good _ _ _ _ _ _ _ _ c.loop-index.invariant.ran c.in-Ok.ensures);
-  long = rw c.push_reserved.ensures.items (omega (arith, length-append c.loop-index.good.items (c.in-Ok.item ∷ []), c.loop-index.invariant.long));
-  counted = omega (arith, c.push_reserved.ensures.len, c.loop-index.invariant.counted);
-  room = omega (arith, c.push_reserved.ensures.capacity, c.loop-index.invariant.room);
+  ran = rw (c.put.ensures.items, below-add_one) (ClosureRun-good _ _ _ _ _ _ _ _ c.loop-index.invariant.ran c.in-Ok.ensures);
+  long = rw c.put.ensures.items (omega (arith, length-append c.loop-index.good.items (c.in-Ok.item ∷ []), c.loop-index.invariant.long));
+  room = omega (arith, c.put.ensures.room, c.loop-index.invariant.room);
 }
 
 pub returns-in-Err-clause-run : goal.returns-in-Err-clause-run

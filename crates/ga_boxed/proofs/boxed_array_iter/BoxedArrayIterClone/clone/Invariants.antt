@@ -1,13 +1,11 @@
 use Rattle.ga_boxed.proofs.boxed_array_iter.BoxedArrayIterClone.clone.Given as goal
-use Rattle.std.proofs.Common.{◌≡◌, ◌≤◌, length, take}
+use Rattle.std.proofs.Common.{◌≡◌, ◌+◌, length, take}
 use Rattle.std.specs.List.{AllZip}
-use Rattle.std.specs.Vec.{vec_capacity, vec_len}
 
 -- what is made so far are clones of the items so far, and there is room for the others
 abbrev pub invariant-loop-item : goal.invariant-loop-item
 invariant-loop-item g l = record {
   long : length l.clones.items ≡ l.item-index;
-  counted : vec_len l.clones ≡ l.item-index;
-  room : length l.item-items ≤ vec_capacity l.clones;
+  room : l.item-index + l.clones.room ≡ length l.item-items;
   clones : AllZip g.T.Clone.is_clone (take l.item-index l.item-items) l.clones.items;
 }

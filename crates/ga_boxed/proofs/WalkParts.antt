@@ -1,0 +1,135 @@
+-- What the walks share: a value of one pointer, one of no bytes, a tuple of three, and an item as a machine value and in memory. Assumes `Logic`.
+use mathlib.Core.Path.{◌≡◌, refl, subst, sym, ap, ◌∙◌}
+use Prim.Native.Nat.{ℕ, zero, suc, ◌*◌, ◌<◌, ◌^◌}
+use mathlib.Core.List.{List, [], ◌∷◌, ◌++◌}
+use seplogic.Ra.Ura.{Ura}
+use mir.Val.{Val, vstruct, vcons, vnil, of_list}
+use base.Logic.{ent, sep, emp, ex, guard}
+use types.Logic.{Logic, sem}
+use types.Kit.{Item, Goal, Seq, Step, step, ‵, ◌$◌, ◌∵◌, !, qed, move, drop as skip, fsplit, fjoin, fpick, fpack, feq_i, feq_l, done, some, ◌⊛◌, use1, pick, split, check, show, rewrite}
+use denote.RattleType.{RattleType, Valss}
+use denote.RawPtr.{Ptr, RawPtr, ptr_val}
+use denote.Shadow.{makes_shadow}
+use denote.Steps.{nothing, peeks}
+use denote.Struct.Struct.{Shape, Struct, within}
+use denote.Struct.Owning.{shape}
+use denote.Struct.Declared as Declared
+use denote.Struct.Tuple.{Tuple, tuple_type}
+use Rattle.std.specs.Mem.{type_size}
+use Rattle.std.proofs.mem.Param.{El, R, elτ}
+use Rattle.std.proofs.RcSteps.{word, Good}
+use Rattle.ga_boxed.specs.contracts.live_block.cells.Cells as C-type
+use Rattle.ga_boxed.specs.contracts.live_block.cells.Base as B-type
+use base.Fraction.{full_share}
+use mir.Syntax.{Ty, Args, a_type, ty_array, dcons, dnil}
+use base.Fml.{fat}
+use denote.Laws.{Typed, Is, shows}
+use denote.Param.{param, layout, bounded}
+use denote.Param.Laws.{Laws, param_laws}
+use denote.Memory.{part_at}
+use borrow.Table.OneValue.{part_in, part_out}
+use native.Mathlib.Nat.{zero-mul, suc-mul}
+use native.Mathlib.Omega.{arith}
+use mir.Raw.{raw as bare}
+use prog.Memory.{size, align, capped}
+use prog.Capped.{capped_is}
+use prog.RawLaws.{size-raw, align-raw}
+use Rattle.std.proofs.alloc.Calls.{Al}
+
+-- where the product fits a word, the count is zero or the size fits too
+pub uncapped : (i k : ℕ) → i * k < 2 ^ 64 → i * capped k ≡ i * k
+uncapped zero k fits = zero-mul (capped k) ∙ sym (zero-mul k)
+uncapped (suc i) k fits = let more = suc-mul i k in ap (λ (j : ℕ). suc i * j) (capped_is k (omega arith))
+
+module _ (E : El) where
+  -- the type that a block of n places is asked for
+  abbrev pub block_ty : ℕ → Ty
+  block_ty n = bare (ty_array (elτ E) n)
+
+  pub block_size : (n : ℕ) → n * type_size (R E) < 2 ^ 64 → capped (size (block_ty n)) ≡ n * type_size (R E)
+  block_size n fits = ap capped (size-raw (ty_array (elτ E) n)) ∙ capped_is (n * type_size (R E)) fits
+
+  pub block_align : (n : ℕ) → capped (align (block_ty n)) ≡ capped (align (elτ E))
+  block_align n = ap capped (align-raw (ty_array (elτ E) n))
+
+-- the type arguments of a function over an item and an allocator, and the second of them
+module _ (E : El) (Z : Al) where
+  abbrev pub args : Args
+  args = bounded (a_type ∷ a_type ∷ []) (E.row, (Z.row, tt)) (dcons Z.d (dcons Z.drops dnil))
+
+  abbrev pub P : RattleType
+  P = param 1 Z.row
+
+module _ (E : El) where
+  abbrev pub Cr : RattleType
+  Cr = C-type.the_row (R E)
+
+  abbrev pub Bs : RattleType
+  Bs = B-type.the_row (R E)
+
+  -- the one field of `Cells`, which takes no bytes
+  abbrev pub Mark : RattleType
+  Mark = Struct (shape (C-type.the_type (R E)))
+
+  abbrev pub sz : ℕ
+  sz = type_size (R E)
+
+abbrev one_field : Shape
+one_field = record { name = []; args = []; types = []; fields = RawPtr ∷ [] }
+
+abbrev pub Word : RattleType
+Word = Struct one_field
+
+abbrev pub mark : Val
+mark = vstruct (vcons (vstruct vnil) vnil)
+
+pub mark_made : (E : El) {M : Type 1} {𝓤 : Ura M} (𝓛 : Logic 𝓤) → ent 𝓤 (emp 𝓤) (sem 𝓛 ((Mark E).own_val (tt, tt) (mark ∷ [])))
+mark_made E 𝓛 = makes_shadow 𝓛 ((Mark E).own_val (tt, tt) (mark ∷ [])) (λ vss. (tt, ((λ uss. (tt, tt)), tt))) ((vstruct vnil ∷ [], tt), (refl, ((tt, (refl, tt)), tt)))
+
+module _ {M : Type 1} {𝓤 : Ura M} {𝓛 : Logic 𝓤} {K : Type 0} {Γ : List (Item 𝓤)} {G : Goal 𝓤 𝓛.H} where
+  pub word_had : K → (c : Ptr) (vs : List Val) → (vs ≡ word c ∷ [] → Seq K 𝓛 Γ G) → Seq K 𝓛 (‵ (Word.own_val (c, tt) vs) ∷ Γ) G
+  word_had t c vs k = fpick t (λ vss. fsplit t $ feq_l t (λ ev. fsplit t $ feq_l t (λ e. skip t $ k (subst (λ (ws : List Val). vs ≡ vstruct (of_list (ws ++ [])) ∷ []) e ev))))
+
+  pub word_made : K → (c : Ptr) → Step K 𝓛 (‵ (Word.own_val (c, tt) (word c ∷ [])) ∷ Γ) G Γ G
+  word_made t c = step (λ s.
+      nothing t $ feq_i t (List Val) (ptr_val c ∷ []) (ptr_val c ∷ []) refl $ fjoin t $ feq_i t (List Val) (word c ∷ []) (word c ∷ []) refl $ fjoin t $
+      fpack t (Valss (RawPtr ∷ [])) (within one_field (c, tt) (word c ∷ [])) (ptr_val c ∷ [], tt) $ s)
+
+  pub mark_had : K → (E : El) (vs : List Val) → (vs ≡ mark ∷ [] → Seq K 𝓛 Γ G) → Seq K 𝓛 (‵ ((Mark E).own_val (tt, tt) vs) ∷ Γ) G
+  mark_had t E vs k = fpick t (λ vss. fsplit t $ feq_l t (λ ev. fsplit t $ fpick t (λ uss. fsplit t $ feq_l t (λ e. skip t $ skip t $
+      k (subst (λ (ws : List Val). vs ≡ vstruct (of_list (ws ++ [])) ∷ []) e ev)))))
+
+abbrev pub three_val : Val → Val → Val → Val
+three_val u v w = vstruct (vcons u (vcons v (vcons w vnil)))
+
+pub three_of : {M : Type 1} {𝓤 : Ura M} (𝓛 : Logic 𝓤) (R S T : RattleType) (x : R.Denot) (y : S.Denot) (z : T.Denot) (u v w : Val)
+    → ent 𝓤 (sep 𝓤 (sem 𝓛 (R.own_val x (u ∷ []))) (sep 𝓤 (sem 𝓛 (S.own_val y (v ∷ []))) (sem 𝓛 (T.own_val z (w ∷ []))))) (sem 𝓛 ((Tuple (R ∷ S ∷ T ∷ [])).own_val (x, y, z) (three_val u v w ∷ [])))
+three_of 𝓛 R S T x y z u v w =
+    qed 𝓛 (‵ (R.own_val x (u ∷ [])) ∷ ‵ (S.own_val y (v ∷ [])) ∷ ‵ (T.own_val z (w ∷ [])) ∷ []) ∵ nothing ! $ move ! (3 ∷ 0 ∷ []) $ fjoin ! $ move ! (2 ∷ 0 ∷ []) $ fjoin ! $ move ! (1 ∷ 0 ∷ []) $ fjoin ! $
+    feq_i ! (List Val) (three_val u v w ∷ []) (three_val u v w ∷ []) refl $ fjoin ! $
+    fpack ! (Valss (R ∷ S ∷ T ∷ [])) (within (Declared.shape (tuple_type (R ∷ S ∷ T ∷ []))) (x, (y, (z, tt))) (three_val u v w ∷ [])) (u ∷ [], (v ∷ [], (w ∷ [], tt))) $ done !
+
+module _ (i : ℕ) (Y : RattleType) (L : Laws Y) {M : Type 1} {𝓤 : Ura M} (𝓛 : Logic 𝓤) where
+  open 𝓛 use {H}
+
+  pub value_out : (x : Y.Denot) (b o : ℕ) → ent 𝓤 (sem 𝓛 (part_at (param i Y) full_share x b o)) (ex 𝓤 (λ (v : Val). guard 𝓤 (Good (layout Y) v) (sep 𝓤 (H.at full_share (layout Y) b o v) (sem 𝓛 (Y.own_val x (v ∷ []))))))
+  value_out x b o = qed 𝓛 (‵ (part_at (param i Y) full_share x b o) ∷ []) ∵
+      use1 𝓛 (some (λ (v : Val). ‵ (fat full_share (layout Y) b o v) ⊛ ‵ (Y.own_val x (v ∷ [])))) (part_out 𝓛 (param i Y) refl full_share x b o) $ pick ! (λ v. split ! $ move ! (1 ∷ []) $
+      peeks ! (param i Y) (Is (param i Y)) (shows 𝓛 (param i Y)) x (v ∷ []) (λ p.
+      show ! (λ (w : Val). guard 𝓤 (Good (layout Y) w) (sep 𝓤 (H.at full_share (layout Y) b o w) (sem 𝓛 (Y.own_val x (w ∷ []))))) v $ check ! (((param_laws i Y L).lawful 𝓛).typed x (v ∷ []) p).0 $ move ! (1 ∷ 0 ∷ []) $ done !))
+
+  pub value_in : (x : Y.Denot) (b o : ℕ) (v : Val) → ent 𝓤 (sep 𝓤 (H.at full_share (layout Y) b o v) (sem 𝓛 (Y.own_val x (v ∷ [])))) (sem 𝓛 (part_at (param i Y) full_share x b o))
+  value_in x b o v = part_in 𝓛 (param i Y) refl full_share x b o v
+
+alone : (τ : Ty) (vs : List Val) → Typed (τ ∷ []) vs → (v : Val) × ((vs ≡ v ∷ []) × Good τ v)
+alone τ [] t = absurd t
+alone τ (v ∷ []) t = (v, (refl, t.0))
+alone τ (v ∷ w ∷ vs) t = absurd t.1
+
+module _ (Y : RattleType) (L : Laws Y) {M : Type 1} {𝓤 : Ura M} {𝓛 : Logic 𝓤} {K : Type 0} {Γ : List (Item 𝓤)} {G : Goal 𝓤 𝓛.H} where
+  -- what is owned of a value is one machine value, of its type
+  pub tells : K → (x : Y.Denot) (vs : List Val) → ((v : Val) → vs ≡ v ∷ [] → Good (layout Y) v → Seq K 𝓛 (‵ (Y.own_val x (v ∷ [])) ∷ Γ) G) → Seq K 𝓛 (‵ (Y.own_val x vs) ∷ Γ) G
+  tells t x vs k =
+      peeks t (param 0 Y) (Is (param 0 Y)) (shows 𝓛 (param 0 Y)) x vs (λ is.
+      let one = alone (layout Y) vs (((param_laws 0 Y L).lawful 𝓛).typed x vs is) in
+      rewrite t 0 (λ (us : List Val). ‵ (Y.own_val x us)) one.1.0 refl $ k one.0 one.1.0 one.1.1)

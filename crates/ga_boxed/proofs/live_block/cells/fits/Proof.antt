@@ -1,0 +1,137 @@
+-- `fits` says exactly whether the places take fewer than 2 ^ 63 bytes, for every element type. Assumes `Logic`.
+use mathlib.Core.Bool.{Bool, true, not}
+use mathlib.Core.Logic.{◌↔◌}
+use mathlib.Core.Path.{◌≡◌, refl, sym, subst}
+use Prim.Native.Nat.{ℕ, zero, suc, ◌*◌, ◌/◌, ◌≤◌, ◌<◌, ◌^◌}
+use native.Mathlib.Nat.{zero-mul, mul-zero, div-le_self, le-div_iff_mul-le}
+use native.Mathlib.Omega.{arith}
+use mathlib.Core.List.{List, [], ◌∷◌}
+use lib.Dec.{T, eqb, leb, eqb→eq, leb→le, le→leb, lit<}
+use seplogic.Ra.Ura.{Ura}
+use mir.MapTy.{inst_fn}
+use mir.Syntax.{Fn, w64}
+use mir.Val.{Fits, Val, vbool, vint}
+use base.Fml.{ftrue}
+use base.Logic.{SProp, ent, emp, fst∗, guard_i, via}
+use prog.Capped.{capped_fits, capped_is, capped_small}
+use prog.Memory.{capped}
+use prog.Wp.{Env, Calls, Loops, WpFn, Tables}
+use types.Logic.{Logic}
+use contract.Monad.{fact}
+use contract.Running.{tables, tables_of}
+use sound.WpLaws.{WpFn-mono}
+use types.Kit.{‵, ◌⊛◌, at_ret, ◌$◌, ◌∵◌, !, qed, by, keep, join, fjoin, feq_i, suffices, done}
+use types.Run.{lit, true_lit, of_opd, bin, first, skips, branches, exec, returns, returns_within, enter, size_word}
+use types.ByLocal.{alloc_all, pass_all, free_all, look_at, get, sets, env}
+use denote.Builtin.{bool, usize}
+use denote.Exit.{yes}
+use denote.Plain.{uint_vals, uint_Tells}
+use denote.RattleType.{owns}
+use denote.Signature.{plain}
+use denote.Steps.{nothing}
+use denote.Triple.Carry.{spared}
+use denote.Triple.Clauses.{Clauses, Ended, closing}
+use denote.Triple.Entry.{on_entry}
+use denote.Triple.Spec.{Meets, triple_of}
+use denote.Triple.Table.{entered, run_framed}
+use denote.Triple.Walked.{says, Stays, stay_dropped, walk_of, ends_at, walked, Goes-dropped, walk_Meets}
+use Rattle.std.proofs.mem.Param.{El, args}
+use Rattle.std.proofs.ptr.Rows.{one_below}
+use Rattle.std.proofs.Flags.{T_true}
+use Rattle.std.proofs.VecSteps.Shapes.{after}
+use Rattle.ga_boxed.proofs.WalkParts.{sz}
+use Rattle.ga_boxed.proofs.live_block.cells.fits.Code as code
+use Rattle.ga_boxed.proofs.live_block.cells.fits.Statement as stated
+use Rattle.ga_boxed.specs.contracts.live_block.cells.fits.Key.{name as #self}
+
+abbrev most : ℕ
+most = 9223372036854775807
+
+no_bytes : (k : ℕ) → 0 * k < 2 ^ 63
+no_bytes k = subst (λ (j : ℕ). j < 2 ^ 63) (sym (zero-mul k)) (lit< tt)
+
+-- a size and its cap, which differ only where a word can't hold the size, leave room for the same counts
+times_capped : (c k : ℕ) → (c * capped k < 2 ^ 63) ↔ (c * k < 2 ^ 63)
+times_capped zero k = (λ _. no_bytes k, λ _. no_bytes (capped k))
+times_capped (suc c) k =
+    let same : k < 2 ^ 63 → capped k ≡ k = λ small. capped_is k (omega arith) in (
+      λ h. subst (λ (j : ℕ). suc c * j < 2 ^ 63) (same (capped_small k (one_below (suc c) (capped k) (2 ^ 63) (omega arith) h))) h,
+      λ h. subst (λ (j : ℕ). suc c * j < 2 ^ 63) (sym (same (one_below (suc c) k (2 ^ 63) (omega arith) h))) h,
+    )
+
+of_no_size : (c k : ℕ) → T (eqb (capped k) 0) → c * k < 2 ^ 63
+of_no_size c k t = (times_capped c k).0 (subst (λ (j : ℕ). c * j < 2 ^ 63) (sym (eqb→eq (capped k) 0 t)) (subst (λ (j : ℕ). j < 2 ^ 63) (sym (mul-zero c)) (lit< tt)))
+
+some_size : (k : ℕ) → T (not (eqb k 0)) → 0 < k
+some_size zero t = absurd t
+some_size (suc k) t = omega arith
+
+of_size : (c k : ℕ) → 0 < capped k → (leb c (most / capped k) ≡ true) ↔ (c * k < 2 ^ 63)
+of_size c k some =
+    let iff = le-div_iff_mul-le {k = capped k} {x = c} {y = most} some in (
+      λ e. let low : c * capped k ≤ most = iff.0 (leb→le c (most / capped k) (subst T (sym e) tt)) in (times_capped c k).0 (omega arith),
+      λ h. let low : c * capped k < 2 ^ 63 = (times_capped c k).1 h in T_true _ (le→leb c (most / capped k) (iff.1 (omega arith))),
+    )
+
+abbrev ended : Ended
+ended = record { signature = record { lifetimes = 0; outlives = []; params = plain (λ _. usize) ∷ []; result = plain (λ _. bool) }; kept = (yes, tt) }
+
+abbrev stayed : Stays ended.signature.params ended.kept
+stayed = (stay_dropped (plain (λ _. usize)) yes, tt)
+
+module _ (E : El) where
+  abbrev function : Fn
+  function = inst_fn (args E) code.function
+
+  abbrev Gives : ℕ → Bool → Type 0
+  Gives c r = (r ≡ true) ↔ (c * sz E < 2 ^ 63)
+
+  abbrev spec : {M : Type 1} {𝓤 : Ura M} (𝓛 : Logic 𝓤) → Clauses 𝓤 ended
+  spec {𝓤 = 𝓤} 𝓛 κs a = record { ghost = Unit {0}; requires = λ _. emp 𝓤; ensures = λ _ r w. fact 𝓤 (Gives a.0 r) }
+
+module _ (E : El) {M : Type 1} {𝓤 : Ura M} (𝓛 : Logic 𝓤) (C : Calls 𝓤 𝓛.H) (Λ : Loops 𝓤 𝓛.H) (c : ℕ) where
+  open 𝓛 use {H}
+
+  abbrev bound : (walk_of 𝓛 ended stayed (spec E 𝓛)).Ghost
+  bound = ((tt, tt, tt, (c, tt), (vint w64 c ∷ [], tt)), tt)
+
+  abbrev Post : Val → SProp 𝓤
+  Post = (walk_of 𝓛 ended stayed (spec E 𝓛)).post bound
+
+  exits : (r : Bool) → Gives E c r → ent 𝓤 (emp 𝓤) (Post (vbool r))
+  exits r gives =
+      qed 𝓛 [] ∵ suffices ! _ (ends_at 𝓛 ended stayed (spec E 𝓛) bound (vbool r) r (tt, tt) (tt, tt)) $ says ! gives $
+      feq_i ! (List Val) (vbool r ∷ []) (vbool r ∷ []) refl $ nothing ! $ nothing ! $ fjoin ! $ join ! $ nothing ! $ join ! $ done !
+
+  walk : c < 2 ^ 64 → ent 𝓤 (on_entry 𝓛 ended.signature tt tt (c, tt) (vint w64 c ∷ [], tt)) (WpFn 𝓤 H C Λ (function E) (vint w64 c ∷ []) Post)
+  walk few =
+      let k : ℕ = capped (sz E) in let q : ℕ = most / k in
+      let low : q < 2 ^ 64 = omega (arith, div-le_self most k) in
+      qed 𝓛 ((‵ ftrue ⊛ ‵ (owns (usize ∷ []) (c, tt) (vint w64 c ∷ [], tt))) ∷ []) ∵ keep ! [] $
+      enter ! C Λ (function E) (vint w64 c ∷ []) _ $ alloc_all ! (λ l. pass_all ! refl ((tt, record { fits = few }), tt) $
+      let En : Env 𝓤 H = env (function E).locals l in
+      sets ! (of_opd ! (size_word !)) refl (tt, record { fits = capped_fits (sz E) }) $
+      sets ! (bin ! (get ! refl) (lit ! tt) tt) refl (tt, tt) $
+      first ! $ branches ! (get ! refl)
+      (λ none. sets ! (of_opd ! (true_lit !)) refl (tt, tt) $
+      returns_within ! Post refl (look_at ! 0 refl) $ free_all ! refl $ by ! (exits true (λ _. of_no_size c (sz E) none, λ _. refl)))
+      (λ some. skips ! $ exec ! C Λ En (after 3 (function E).body) (at_ret En Post) $
+      sets ! (bin ! (record { go = λ Kt z. via 𝓤 (Kt (vint w64 most)) z (guard_i 𝓤 (Fits w64 most) (Kt (vint w64 most)) (record { fits = lit< tt })) }) (get ! refl) (some_size k some)) refl (tt, record { fits = low }) $
+      sets ! (bin ! (get ! refl) (get ! refl) tt) refl (tt, tt) $
+      returns ! (look_at ! 0 refl) $ free_all ! refl $ by ! (exits (leb c q) (of_size c (sz E) (some_size k some)))))
+
+meets : (E : El) {M : Type 1} {𝓤 : Ura M} (𝓛 : Logic 𝓤) (𝓣 : Tables 𝓤 𝓛.H) → Meets 𝓛 ended.signature (WpFn 𝓤 𝓛.H 𝓣.C 𝓣.Λ (function E)) (closing 𝓛 ended (spec E 𝓛))
+meets E {𝓤 = 𝓤} 𝓛 𝓣 =
+    walk_Meets 𝓛 ended stayed (Goes-dropped 𝓛 0 (plain (λ _. usize)) yes (λ κs x f. refl), tt) (spec E 𝓛) (WpFn 𝓤 𝓛.H 𝓣.C 𝓣.Λ (function E)) (WpFn-mono 𝓤 𝓛.H 𝓛.laws 𝓣 (function E))
+    (walked 𝓛 ended stayed (spec E 𝓛) (WpFn 𝓤 𝓛.H 𝓣.C 𝓣.Λ (function E)) (λ κs. (uint_vals w64, tt)) (λ κs. (uint_Tells w64, tt))
+    (λ κs qs bounds a g are. via 𝓤 _ (fst∗ 𝓤 _ (emp 𝓤)) (walk E 𝓛 𝓣.C 𝓣.Λ a.0 are.0.1)))
+
+pub fits_spec : {M : Type 1} → stated.statement M
+unfolding tables_of
+fits_spec 𝓤 𝓛 𝓜 𝓡 wired X LX y =
+    let E : El = record { row = X; laws = LX } in
+    let 𝓣 : Tables 𝓤 𝓛.H = tables_of 𝓤 𝓛.H 𝓜 (tables 𝓤 𝓛.H 𝓜 𝓡 𝓡.env) in
+    let k = #self (args E) in
+    spared 𝓛 ended.signature (𝓡.run (𝓡.env k)) (run_framed 𝓤 𝓛.H 𝓜 𝓡 (𝓡.env k)) 1 (X.lives, tt) (closing 𝓛 ended (spec E 𝓛))
+    (entered 𝓤 𝓛.H (triple_of 𝓛 ended.signature (closing 𝓛 ended (spec E 𝓛))) 𝓣.C 𝓣.Λ k (function E) (code.unfolded 𝓤 𝓛.H 𝓜 𝓡 wired (X, tt)) (meets E 𝓛 𝓣))
+    ((y.0.0, y.0.1, tt, y.0.3, y.0.4), y.1)

@@ -1,0 +1,211 @@
+//! One block of memory, of whose places a range in the middle holds items.
+ghost use Rattle.ga_boxed.specs.Live.{live};
+ghost use Rattle.std.specs.Borrow.{sem};
+ghost use Rattle.std.specs.Prelude.{◌≡◌, ◌+◌, ◌<◌, ◌∷◌, ◌++◌, [], IfOk, IsOk, MatchOption, length};
+
+mod cells;
+#[cfg(test)]
+mod tests;
+
+#[doc(hidden)]
+pub use cells::{Base, Cells, Deed};
+use cells::{allocate, deallocate, fits};
+use ga_core::AllocError;
+use std::alloc::Global;
+use std::marker::Model;
+
+/// A block for a number of items that is fixed when it is made. Contracts see it as the list of the
+/// items that it holds, and its room: the number of items that can be put behind them.
+///
+/// The places before `start` were left by items taken from the front, and are not used again.
+pub struct LiveBlock<T> {
+    base: Base<T>,
+    size: usize,
+    start: usize,
+    end: usize,
+    cells: Cells<T>,
+    deed: Deed<T, Global>,
+    alloc: Global,
+}
+
+impl<T> Model for LiveBlock<T> {
+    ghost use Rattle.ga_boxed.specs.Live.{Live, live, live_code};
+    ghost use Rattle.std.specs.Prelude.{◌≡◌, ◌+◌, length};
+
+    ghost Value = { Live T };
+
+    ghost coded = { live_code T.code };
+
+    ghost view = { λ block. live block.cells.items block.cells.room };
+
+    // The bounds are those of the cells, and the deed is that of the whole block.
+    ghost invariant = { λ block. (block.cells.at ≡ block.base.ptr)
+        × (block.cells.passed ≡ block.start)
+        × (block.start + length block.cells.items ≡ block.end)
+        × (block.end + block.cells.room ≡ block.size)
+        × (block.deed.at ≡ block.base.ptr)
+        × (block.deed.len ≡ block.size)
+        × (block.deed.alloc ≡ block.alloc) };
+}
+
+impl<T> LiveBlock<T> {
+    ghost use Rattle.ga_boxed.specs.BlockLends.{LendsLive};
+
+    /// A block for `size` items that holds none. Refused where memory is, or where a block can't have
+    /// so many bytes; no memory is asked for where `size` is 0.
+    pub fn new(alloc: Global, size: usize) -> Result<Self, AllocError>
+        ensures block { IfOk result (λ block. block ≡ live [] size) }
+        ensures none { size ≡ 0 → IsOk result }
+    {
+        if !fits::<T>(size) {
+            return Err(AllocError);
+        }
+        let (base, cells, deed) = allocate(&alloc, size)?;
+        Ok(LiveBlock {
+            base,
+            size,
+            start: 0,
+            end: 0,
+            cells,
+            deed,
+            alloc,
+        })
+    }
+
+    /// How many items can still be put. Constant time.
+    #[inline]
+    pub fn room(&self) -> usize
+        ensures { result ≡ self.now.room }
+    {
+        self.size - self.end
+    }
+
+    /// The number of items. Constant time.
+    #[inline]
+    pub fn len(&self) -> usize
+        ensures { result ≡ length self.now.items }
+    {
+        self.end - self.start
+    }
+
+    /// The allocator that the block is given back to.
+    #[inline]
+    pub(crate) fn allocator(&self) -> Global {
+        self.alloc
+    }
+
+    /// Puts an item behind the others, into room that is there.
+    #[inline]
+    pub fn put(&mut self, item: T)
+        requires room { 0 < self.old.room }
+        ensures items { self.new.items ≡ self.old.items ++ item ∷ [] }
+        ensures room { self.new.room + 1 ≡ self.old.room }
+    {
+        let end = self.end;
+        self.end = end + 1;
+        self.cells.put(self.base, end, item);
+    }
+
+    /// Takes the first item. Its place gives no room.
+    #[inline]
+    pub fn take_front(&mut self) -> Option<T>
+        ensures { MatchOption result
+            ((self.old.items ≡ []) × (self.new ≡ self.old))
+            (λ item. (self.old.items ≡ item ∷ self.new.items) × (self.new.room ≡ self.old.room)) }
+    {
+        if self.start == self.end {
+            return None;
+        }
+        let first = self.start;
+        self.start = first + 1;
+        Some(self.cells.take_first(self.base, first))
+    }
+
+    /// Takes the last item. Its place gives room for another.
+    #[inline]
+    pub fn take_back(&mut self) -> Option<T>
+        ensures { MatchOption result
+            ((self.old.items ≡ []) × (self.new ≡ self.old))
+            (λ item. (self.old.items ≡ self.new.items ++ item ∷ []) × (self.new.room ≡ self.old.room + 1)) }
+    {
+        if self.start == self.end {
+            return None;
+        }
+        let last = self.end - 1;
+        self.end = last;
+        Some(self.cells.take_last(self.base, last))
+    }
+
+    /// The items, in order. Constant time.
+    #[inline]
+    pub fn as_slice(&self) -> &[T]
+        ensures { result.now ≡ self.now.items }
+    {
+        self.cells
+            .slice(self.base, self.start, self.end - self.start)
+    }
+
+    /// The items, in order, for writing. Constant time.
+    #[inline]
+    pub fn as_mut_slice(&mut self) -> &mut [T]
+        ensures* writes_back { sem 𝓛 (LendsLive T.row self.entry result) }
+        ensures items { result.now ≡ self.old.items }
+    {
+        let (base, start, len) = (self.base, self.start, self.end - self.start);
+        self.cells.slice_mut(base, start, len)
+    }
+
+    /// A block of the items of a native array, which are moved in one piece. Where memory is refused,
+    /// they are dropped.
+    pub(crate) fn of_native<const U: usize>(
+        alloc: Global,
+        items: [T; U],
+    ) -> Result<Self, AllocError>
+    where
+        T: Drop,
+        ensures items { IfOk result (λ block. block ≡ live items 0) }
+        ensures none { U ≡ 0 → IsOk result }
+    {
+        if !fits::<T>(U) {
+            return Err(AllocError);
+        }
+        let (base, mut cells, deed) = match allocate(&alloc, U) {
+            Ok(parts) => parts,
+            Err(refused) => return Err(refused.into()),
+        };
+        cells.put_array(base, items);
+        Ok(LiveBlock {
+            base,
+            size: U,
+            start: 0,
+            end: U,
+            cells,
+            deed,
+            alloc,
+        })
+    }
+
+    /// Gives the block back.
+    fn give_back(self)
+        requires empty { self.items ≡ [] }
+    {
+        let LiveBlock {
+            base,
+            size,
+            start: _,
+            end: _,
+            cells,
+            deed,
+            alloc,
+        } = self;
+        deallocate(&alloc, base, size, cells, deed);
+    }
+}
+
+/// Drops the items from the front, and gives the block back.
+impl<T: Drop> Drop for LiveBlock<T> {
+    fn drop(mut self) {
+        while let Some(_item) = self.take_front() {}
+        self.give_back();
+    }
+}

@@ -1,0 +1,189 @@
+//! Callers of a block, each proved, and what no clause says of it: that memory is found, what is
+//! dropped and when, and a long run of calls beside a list.
+ghost use Rattle.ga_boxed.specs.Live.{live};
+ghost use Rattle.std.specs.Prelude.{◌≡◌, ◌∷◌, [], IfOk, IsOk, None, Some};
+
+use super::*;
+use crate::counted::{Counted, Counts};
+
+/// What the first item of two is, and the room after it was taken.
+fn front_of_two(alloc: Global) -> Result<(Option<u32>, usize), AllocError>
+    ensures { IfOk result (λ answers. answers ≡ (Some 1, 0)) }
+{
+    let mut block = LiveBlock::new(alloc, 2)?;
+    block.put(1);
+    block.put(2);
+    let first = block.take_front();
+    Ok((first, block.room()))
+}
+
+/// What the last item is, behind one that was taken, the room then, and what comes after it.
+fn back_of_two(alloc: Global) -> Result<(Option<u32>, usize, Option<u32>), AllocError>
+    ensures { IfOk result (λ answers. answers ≡ (Some 2, 1, None)) }
+{
+    let mut block = LiveBlock::new(alloc, 2)?;
+    block.put(1);
+    block.put(2);
+    let _ = block.take_front();
+    let last = block.take_back();
+    let room = block.room();
+    Ok((last, room, block.take_back()))
+}
+
+/// A block of two whose second item was taken, and another put in its place.
+fn put_anew(alloc: Global) -> Result<LiveBlock<u32>, AllocError>
+    ensures { IfOk result (λ block. block ≡ live (1 ∷ 30 ∷ []) 0) }
+{
+    let mut block = LiveBlock::new(alloc, 2)?;
+    block.put(1);
+    block.put(2);
+    let _ = block.take_back();
+    block.put(30);
+    Ok(block)
+}
+
+fn written_over(block: LiveBlock<u32>) -> LiveBlock<u32>
+    requires { block ≡ live (1 ∷ 30 ∷ []) 0 }
+    ensures { result ≡ live (1 ∷ 20 ∷ []) 0 }
+{
+    let mut block = block;
+    block.as_mut_slice()[1] = 20;
+    block
+}
+
+fn no_room(alloc: Global) -> Result<LiveBlock<u32>, AllocError>
+    ensures { IsOk result }
+{
+    LiveBlock::new(alloc, 0)
+}
+
+/// How many of three items without a size are left when the last was taken, and whether it came.
+fn units_left(alloc: Global) -> Result<(Option<()>, usize), AllocError> {
+    let mut block = LiveBlock::new(alloc, 3)?;
+    block.put(());
+    block.put(());
+    block.put(());
+    let last = block.take_back();
+    Ok((last, block.as_slice().len()))
+}
+
+#[test]
+fn a_block_gives_what_was_put_from_both_ends(rt: HostRuntime) {
+    assert!(rt; front_of_two(rt.alloc()).expect(&rt, "no memory") == (Some(1), 0));
+    assert!(rt; back_of_two(rt.alloc()).expect(&rt, "no memory") == (Some(2), 1, None));
+    let block = written_over(put_anew(rt.alloc()).expect(&rt, "no memory"));
+    assert!(rt; block.as_slice() == [1, 20].as_slice() && block.len() == 2);
+    assert!(rt; no_room(rt.alloc()).is_ok_and(|block| block.as_slice().is_empty()));
+    assert!(rt; units_left(rt.alloc()).expect(&rt, "no memory") == (Some(()), 2));
+}
+
+#[test]
+fn a_block_is_refused_where_it_has_too_many_bytes(rt: HostRuntime) {
+    for size in [usize::MAX, 1 << 63, 1 << 60] {
+        assert!(rt; matches!(LiveBlock::<u64>::new(rt.alloc(), size), Err(AllocError)));
+    }
+    assert!(rt; LiveBlock::<u8>::new(rt.alloc(), usize::MAX).is_err());
+    let units = LiveBlock::<()>::new(rt.alloc(), usize::MAX).expect(&rt, "no memory");
+    assert!(rt; units.room() == usize::MAX);
+}
+
+/// How many of four counted items are dropped after this many were taken from each end, and how many
+/// with the block, where another was put behind them.
+fn dropped(alloc: Global, fronts: u32, backs: u32) -> Result<(u32, u32), AllocError> {
+    let counts = Counts::new();
+    let mut block = LiveBlock::new(alloc, 5)?;
+    block.put(Counted::new(&counts));
+    block.put(Counted::new(&counts));
+    block.put(Counted::new(&counts));
+    block.put(Counted::new(&counts));
+    for _taken in 0..fronts {
+        let _ = block.take_front();
+    }
+    for _taken in 0..backs {
+        let _ = block.take_back();
+    }
+    let before = counts.drops();
+    if block.room() > 0 {
+        block.put(Counted::new(&counts));
+    }
+    drop(block);
+    Ok((before, counts.drops()))
+}
+
+#[test]
+fn each_item_is_dropped_once_in_any_mix_of_puts_and_takes(rt: HostRuntime) {
+    for fronts in 0..6u32 {
+        for backs in 0..6u32 {
+            let (before, all) = dropped(rt.alloc(), fronts, backs).expect(&rt, "no memory");
+            assert!(rt; before == 4.min(fronts + backs) && all == 5);
+        }
+    }
+}
+
+/// Whether texts, which own memory, come out of a block as they went in, and are dropped with it.
+fn keeps_texts(alloc: Global) -> Result<bool, AllocError> {
+    let mut block = LiveBlock::new(alloc, 3)?;
+    block.put(Vec::from_slice(alloc, b"one")?);
+    block.put(Vec::from_slice(alloc, b"two")?);
+    block.put(Vec::from_slice(alloc, b"three")?);
+    let first = block
+        .take_front()
+        .is_some_and(|text| text.as_slice() == b"one".as_slice());
+    let last = block
+        .take_back()
+        .is_some_and(|text| text.as_slice() == b"three".as_slice());
+    Ok(
+        first
+            && last
+            && block
+                .as_slice()
+                .iter()
+                .all(|text| text.as_slice() == b"two".as_slice()),
+    )
+}
+
+#[test]
+fn items_may_own_memory(rt: HostRuntime) {
+    assert!(rt; keeps_texts(rt.alloc()).expect(&rt, "no memory"));
+}
+
+/// Whether this many calls, chosen by chance, answer as those of a list that is kept in a vector.
+fn answers_as_a_list(alloc: Global, calls: u32) -> Result<bool, AllocError> {
+    let mut chance = 2_463_534_242u32;
+    let mut block = LiveBlock::new(alloc, 0)?;
+    let mut list: Vec<u32> = Vec::new(alloc);
+    for _call in 0..calls {
+        chance ^= chance << 13;
+        chance ^= chance >> 17;
+        chance ^= chance << 5;
+        let room = block.room();
+        let is_same = match chance % 5 {
+            0 if list.is_empty() => {
+                block = LiveBlock::new(alloc, (chance >> 8) as usize % 9)?;
+                true
+            }
+            0 | 1 if list.is_empty() => block.take_front().is_none() && block.room() == room,
+            0 | 1 => block.take_front() == Some(list.remove(0)) && block.room() == room,
+            2 => {
+                let last = list.pop();
+                let more = if last.is_some() { 1 } else { 0 };
+                block.take_back() == last && block.room() == room.wrapping_add(more)
+            }
+            _ if room > 0 => {
+                block.put(chance);
+                list.push(chance)?;
+                block.room() == room - 1
+            }
+            _ => true,
+        };
+        if !is_same || block.as_slice() != list.as_slice() {
+            return Ok(false);
+        }
+    }
+    Ok(true)
+}
+
+#[test]
+fn calls_by_chance_answer_as_those_of_a_list(rt: HostRuntime) {
+    assert!(rt; answers_as_a_list(rt.alloc(), 10_000).expect(&rt, "no memory"));
+}
