@@ -13,7 +13,7 @@ ghost use Rattle.std.specs.List.{flat_map};
 ghost use Rattle.std.specs.Prelude.{◌≡◌, ℕ, ◌+◌, ◌*◌, ◌<◌, List, ◌++◌, length};
 
 use crate::functional::FunctionalSequence;
-use crate::sequence::shapes::{Concat, Lengthen, Shorten, Split};
+use crate::sequence::{Concat, Lengthen, Shorten, Split};
 use crate::{ArrayLength, GenericArray, Unsigned, always};
 
 /// A run over joined lists is one over the first, and then one over the second.

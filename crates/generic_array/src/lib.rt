@@ -11,6 +11,7 @@ pub mod checks;
 pub mod functional;
 /// What the clauses of several operations say together.
 pub mod laws;
+mod macros;
 /// What is common to the kinds of sequences, and how each is made.
 pub mod sequence;
 #[cfg(test)]

@@ -11,12 +11,12 @@ ghost use Rattle.std.specs.Prelude.{◌≡◌, ◌≤◌, ◌↔◌, IfOk, IsOk,
 mod boxed;
 mod flat_iter;
 mod inline;
-/// Arrays made of the items of others.
-pub mod shapes;
+mod shapes;
 mod views;
 
 pub use flat_iter::{FlatIter, iter_flat};
 use ga_core::{AllocError, FillError, GenericArrayRef, Unsigned};
+pub use shapes::{Concat, Flatten, Lengthen, Remove, Row, Shorten, Split, Unflatten};
 use std::convert::AsSlice;
 
 /// An entry of a sequence: what its `into_iter` gives.

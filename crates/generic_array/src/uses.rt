@@ -4,6 +4,7 @@ ghost use Rattle.generic_array.specs.EntryRuns.{CallableOver};
 ghost use Rattle.std.specs.List.{range_with_len};
 ghost use Rattle.std.specs.Prelude.{◌≡◌, ◌∷◌, [], ◌^◌, ◌<◌, ◌⊎◌, Err, Ok, IfOk, IsOk, OnOk, length, replicate, sum};
 
+mod macros;
 mod matrix;
 mod shapes;
 

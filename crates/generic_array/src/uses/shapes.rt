@@ -3,8 +3,7 @@ ghost use Rattle.std.specs.List.{flat_map, fold};
 ghost use Rattle.std.specs.Prelude.{◌≡◌, ◌+◌, ◌*◌, ◌%◌, ◌^◌, ◌∷◌, [], IfOk, Ok, Some, length, map};
 
 use crate::functional::FunctionalSequence;
-use crate::sequence::iter_flat;
-use crate::sequence::shapes::{Concat, Flatten, Lengthen, Remove, Shorten, Split, Unflatten};
+use crate::sequence::{Concat, Flatten, Lengthen, Remove, Shorten, Split, Unflatten, iter_flat};
 use crate::uses::{four_five_six, one_two_three};
 use crate::{
     GenericArray, GenericArrayMut, GenericArrayRef, LengthError, U0, U1, U2, U3, U4, U5, always,
@@ -221,48 +220,9 @@ fn copy_of_four_rows(rows: &Square) -> Result<GenericArray<u32, U4>, LengthError
 }
 
 #[test]
-fn shapes_give_the_items_that_callers_rely_on(rt: HostRuntime) {
-    assert!(rt; with_four_last(one_two_three()).as_slice() == [1, 2, 3, 4].as_slice());
-    assert!(rt; with_four_first(one_two_three()).as_slice() == [4, 1, 2, 3].as_slice());
-    let (two, last) = without_the_last(one_two_three());
-    assert!(rt; last == 3 && two.as_slice() == [1, 2].as_slice());
-    assert!(rt;
-        of_both(one_two_three(), without_the_six(four_five_six())).as_slice()
-            == [1, 2, 3, 4, 5].as_slice()
-    );
-    let (one_two, _three) = without_the_last(one_two_three());
-    let three_four: GenericArray<u32, U2> = GenericArray::generate(|index| index as u32 + 3);
-    assert!(rt; running_totals_of_both(one_two, three_four).as_slice() == [1, 3, 6, 10].as_slice());
-    let (first, two) = without_the_first(one_two_three());
-    assert!(rt; first == 1 && two.as_slice() == [2, 3].as_slice());
-    let (one, two) = cut_after_the_first(one_two_three());
-    assert!(rt; one.as_slice() == [1].as_slice() && two.as_slice() == [2, 3].as_slice());
-    let (none, three) = cut_before_the_first(one_two_three());
-    assert!(rt; none.as_slice().is_empty() && three.as_slice() == [1, 2, 3].as_slice());
-    let array = one_two_three();
-    let (one, two) = view_cut_after_the_first(array.view());
-    assert!(rt; one.as_slice() == [1].as_slice() && two.as_slice() == [2, 3].as_slice());
-    let (second, others) = without_the_second(with_four_last(one_two_three()));
-    assert!(rt; second == 2 && others.as_slice() == [1, 3, 4].as_slice());
-    let (second, others) = with_the_last_second(with_four_last(one_two_three()));
-    assert!(rt; second == 2 && others.as_slice() == [1, 4, 3].as_slice());
-    let mut array = one_two_three();
-    let (one, two) = writing_view_of_an_array_cut(&mut array);
-    assert!(rt; one.as_slice() == [1].as_slice() && two.as_slice() == [2, 3].as_slice());
-    let mut array = one_two_three();
-    let (one, two) = writing_view_cut_after_the_first(GenericArray::from_mut_slice(
-        array.as_mut_slice(),
-    ));
-    assert!(rt; one.as_slice() == [1].as_slice() && two.as_slice() == [2, 3].as_slice());
-    let mut five = of_both(one_two_three(), without_the_six(four_five_six()));
-    both_halves_written(five.as_mut_slice());
-    assert!(rt; five.as_slice() == [9, 2, 3, 4, 8].as_slice());
-    let rows = as_rows(as_rows_and_joined_again(with_four_last(one_two_three())));
-    let rows = joined_and_cut_again(rows);
-    assert!(rt; rows[1].as_slice() == [3, 4].as_slice());
+fn rows_give_their_items_and_those_of_their_copies(rt: HostRuntime) {
+    let rows = as_rows(with_four_last(one_two_three()));
     assert!(rt; copy_of_rows(&rows).is_ok_and(|all| all.as_slice() == [1, 2, 3, 4].as_slice()));
     assert!(rt; doubled_rows(&rows).is_ok_and(|all| all.as_slice() == [2, 4, 6, 8].as_slice()));
-    assert!(rt; copy_of_four_rows(&rows).is_ok());
     assert!(rt; sum_of_rows(&rows) == 10);
-    assert!(rt; all_of(rows).as_slice() == [1, 2, 3, 4].as_slice());
 }

@@ -1,0 +1,46 @@
+//! Items that go from one kind of array to another, through vectors, boxed slices and tuples.
+use generic_array::{AllocError, BoxedArray, GenericArray, U0, U1, U2, U3, U12, arr, box_arr};
+use std::alloc::Global;
+
+#[test]
+fn tuples_and_back(rt: HostRuntime) {
+    let one: GenericArray<u8, U1> = (7,).into();
+    let back: (u8,) = arr![7].into();
+    assert!(rt; one.as_slice() == [7].as_slice() && back.0 == 7);
+    let twelve = (1, 2, 3, 4, 5, 6, 7, 8, 9, 10, 11, 12);
+    let array: GenericArray<u8, U12> = twelve.into();
+    assert!(rt; array.as_slice() == [1, 2, 3, 4, 5, 6, 7, 8, 9, 10, 11, 12].as_slice());
+    let back: (u8, u8, u8, u8, u8, u8, u8, u8, u8, u8, u8, u8) = array.into();
+    assert!(rt; back.0 == 1 && back.6 == 7 && back.11 == 12);
+}
+
+/// Whether a boxed array goes to a vector and back, and what the vector held.
+fn vector_and_back(alloc: Global) -> Result<bool, AllocError> {
+    let array: BoxedArray<u8, U3> = box_arr!(alloc, [1, 2, 3])?;
+    let items = array.into_vec()?;
+    let is_whole = items.as_slice() == [1, 2, 3].as_slice();
+    let again = BoxedArray::<u8, U3>::try_from_vec(alloc, items)?;
+    Ok(is_whole && again.is_ok_and(|array| array.as_slice() == [1, 2, 3].as_slice()))
+}
+
+/// Whether an inline array goes to a vector, to a boxed slice, and through a block to a boxed slice and
+/// back.
+fn inline_and_boxed(alloc: Global) -> Result<bool, AllocError> {
+    let is_vector = arr![1u8, 2].into_vec(alloc)?.as_slice() == [1, 2].as_slice();
+    let is_slice = arr![1u8, 2].into_boxed_slice(alloc)?.as_slice() == [1, 2].as_slice();
+    let items = BoxedArray::from_inline(alloc, arr![1u8, 2])?.into_boxed_slice()?;
+    let is_kept = items.as_slice() == [1, 2].as_slice();
+    let again = BoxedArray::<u8, U2>::try_from_boxed_slice(alloc, items)?;
+    let is_back = again.is_ok_and(|array| array.as_slice() == [1, 2].as_slice());
+    Ok(is_vector && is_slice && is_kept && is_back)
+}
+
+#[test]
+fn items_go_through_blocks_and_back(rt: HostRuntime) {
+    assert!(rt; vector_and_back(rt.alloc()).expect(&rt, "no memory"));
+    assert!(rt; inline_and_boxed(rt.alloc()).expect(&rt, "no memory"));
+    let sevens = box_arr!(rt.alloc(), [7u8; U3]).expect(&rt, "no memory");
+    assert!(rt; sevens.as_slice() == [7, 7, 7].as_slice());
+    let none: Result<BoxedArray<u8, U0>, AllocError> = box_arr!(rt.alloc(), []);
+    assert!(rt; none.is_ok_and(|array| array.as_slice().is_empty()));
+}

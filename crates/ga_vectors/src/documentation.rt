@@ -1,0 +1,78 @@
+//! Each example, by the call that it shows.
+use generic_array::functional::FunctionalSequence;
+use generic_array::sequence::{Flatten, Lengthen, Remove, Shorten, Unflatten};
+use generic_array::{
+    AllocError, Const, GenericArray, GenericArrayRef, U1, U2, U3, U4, U5, U6, always, arr, box_arr,
+};
+use std::alloc::Global;
+
+#[test]
+fn arrays_are_built(rt: HostRuntime) {
+    let doubled: GenericArray<usize, U4> = GenericArray::generate(|index| 2 * index);
+    assert!(rt; doubled.as_slice() == [0, 2, 4, 6].as_slice());
+    let zeros = GenericArray::<i32, U5>::default();
+    assert!(rt; zeros.as_slice() == [0; 5].as_slice());
+    assert!(rt; arr![1, 2, 3][2] == 3);
+    let array = arr![1, 2, 3];
+    let refs: GenericArray<Option<&i32>, U3> = array.each_ref();
+    assert!(rt; refs[0] == Some(&1) && refs[1] == Some(&2) && refs[2] == Some(&3));
+}
+
+#[test]
+fn arrays_grow_and_shrink(rt: HostRuntime) {
+    let longer: GenericArray<i32, U4> = arr![1, 2, 3].append(4);
+    assert!(rt; longer.as_slice() == [1, 2, 3, 4].as_slice());
+    let longer: GenericArray<i32, U4> = arr![1, 2, 3].prepend(4);
+    assert!(rt; longer.as_slice() == [4, 1, 2, 3].as_slice());
+    let (init, last): (GenericArray<i32, U3>, i32) = arr![1, 2, 3, 4].pop_back();
+    assert!(rt; init.as_slice() == [1, 2, 3].as_slice() && last == 4);
+    let (head, tail): (i32, GenericArray<i32, U3>) = arr![1, 2, 3, 4].pop_front();
+    assert!(rt; head == 1 && tail.as_slice() == [2, 3, 4].as_slice());
+    let (removed, others): (i32, GenericArray<i32, U3>) = arr![1, 2, 3, 4].remove(2);
+    assert!(rt; removed == 3 && others.as_slice() == [1, 2, 4].as_slice());
+    let (removed, others): (i32, GenericArray<i32, U3>) = arr![1, 2, 3, 4].swap_remove(1);
+    assert!(rt; removed == 2 && others.as_slice() == [1, 4, 3].as_slice());
+}
+
+#[test]
+fn rows_are_joined_and_cut(rt: HostRuntime) {
+    let all: GenericArray<i32, U6> = arr![arr![1, 2], arr![3, 4], arr![5, 6]].flatten();
+    assert!(rt; all.as_slice() == [1, 2, 3, 4, 5, 6].as_slice());
+    let rows: GenericArray<GenericArray<i32, U2>, U3> = arr![1, 2, 3, 4, 5, 6].unflatten();
+    assert!(rt; rows[0].as_slice() == [1, 2].as_slice() && rows[2].as_slice() == [5, 6].as_slice());
+}
+
+#[test]
+fn views_are_zipped_and_folded(rt: HostRuntime) {
+    let odd = arr![1, 3, 5, 7];
+    let sums = always(
+        odd.view()
+            .zip((), arr![2, 4, 6, 8], |left: &i32, right: i32| {
+                left.wrapping_add(right)
+            }),
+    );
+    assert!(rt; sums.as_slice() == [3, 7, 11, 15].as_slice());
+    assert!(rt;
+        odd.view()
+            .fold(0, |sum: i32, item: &i32| sum.wrapping_add(*item))
+            == 16
+    );
+}
+
+#[test]
+fn bytes_are_hex_digits(rt: HostRuntime) {
+    let mut text = Vec::new(rt.alloc());
+    assert!(rt; arr![10u8, 20, 30].write_lower_hex(&mut text, None).is_ok());
+    assert!(rt; text.as_slice() == b"0a141e".as_slice());
+}
+
+/// Whether a million items are written to a block, each of which is 1.
+fn is_a_million_ones(alloc: Global) -> Result<bool, AllocError> {
+    let ones = box_arr!(alloc, [1u128; Const<1000000>])?;
+    Ok(ones.as_slice().len() == 1_000_000 && ones.as_slice().iter().all(|one| *one == 1))
+}
+
+#[test]
+fn a_million_items_are_written_to_a_block(rt: HostRuntime) {
+    assert!(rt; is_a_million_ones(rt.alloc()).expect(&rt, "no memory"));
+}

@@ -1,0 +1,10 @@
+//! Tests over the public names of `generic_array` alone: the examples of the Rust crate's
+//! documentation, and calls of several crates together.
+#![tactic(auto)]
+
+#[cfg(test)]
+mod conversions;
+#[cfg(test)]
+mod documentation;
+#[cfg(test)]
+mod readme;

@@ -1,0 +1,36 @@
+//! `arr!` and `box_arr!`, for arrays whose items are written out.
+
+/// An inline array: `arr![a, b, c]` of these items, with commas at the end allowed, or `arr![x; U6]`
+/// of as many copies of `x`, which is `Copy`, as the length says.
+///
+/// The counterpart of `arr!`, which also takes a number after the semicolon, and constants.
+#[macro_export]
+macro_rules! arr {
+    ($item:expr; $N:ty) => {
+        $crate::GenericArray::<_, $N>::of_copies($item)
+    };
+    ($($item:expr),* $(,)*) => {
+        $crate::GenericArray::from_array([$($item),*])
+    };
+    ($($other:tt)*) => {
+        compile_error!("write arr![a, b, ..], or arr![x; N] with N a length type")
+    };
+}
+
+/// A boxed array, or `AllocError`: `box_arr!(alloc, [a, b, c])` of these items, with commas at the end
+/// allowed, or `box_arr!(alloc, [x; U6])` of copies of `x`, which is `Copy`.
+///
+/// Each item is written to its place in the block; the second form never has the array on the
+/// stack. The counterpart of `box_arr!`.
+#[macro_export]
+macro_rules! box_arr {
+    ($alloc:expr, [$item:expr; $N:ty]) => {
+        $crate::BoxedArray::<_, $N>::of_copies($alloc, $item)
+    };
+    ($alloc:expr, [$($item:expr),* $(,)*]) => {
+        $crate::BoxedArray::from_array($alloc, [$($item),*])
+    };
+    ($($other:tt)*) => {
+        compile_error!("write box_arr!(alloc, [a, b, ..]), or box_arr!(alloc, [x; N]) with N a length type")
+    };
+}
