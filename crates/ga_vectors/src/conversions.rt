@@ -3,15 +3,12 @@ use generic_array::{AllocError, BoxedArray, GenericArray, U0, U1, U2, U3, U12, a
 use std::alloc::Global;
 
 #[test]
-fn tuples_and_back(rt: HostRuntime) {
+fn tuples_become_arrays_and_native_arrays(rt: HostRuntime) {
     let one: GenericArray<u8, U1> = (7,).into();
-    let back: (u8,) = arr![7].into();
-    assert!(rt; one.as_slice() == [7].as_slice() && back.0 == 7);
+    assert!(rt; one.as_slice() == [7].as_slice() && one.into_array() == [7]);
     let twelve = (1, 2, 3, 4, 5, 6, 7, 8, 9, 10, 11, 12);
     let array: GenericArray<u8, U12> = twelve.into();
-    assert!(rt; array.as_slice() == [1, 2, 3, 4, 5, 6, 7, 8, 9, 10, 11, 12].as_slice());
-    let back: (u8, u8, u8, u8, u8, u8, u8, u8, u8, u8, u8, u8) = array.into();
-    assert!(rt; back.0 == 1 && back.6 == 7 && back.11 == 12);
+    assert!(rt; array.into_array() == [1, 2, 3, 4, 5, 6, 7, 8, 9, 10, 11, 12]);
 }
 
 /// Whether a boxed array goes to a vector and back, and what the vector held.

@@ -127,3 +127,28 @@ fn another_length_is_refused_and_the_items_dropped(rt: HostRuntime) {
     let answers = taken_as::<U12>(rt.alloc(), &counts, 12).expect(&rt, "no memory");
     assert!(rt; answers == (true, true, 0) && counts.drops() == 24);
 }
+
+/// Three counted items into a block, to a vector and a block again, and cloned behind the first: up to
+/// the first request that is refused.
+fn moved_about(alloc: Global, counts: &Counts) -> Result<usize, AllocError> {
+    let items = [
+        Counted::new(counts),
+        Counted::new(counts),
+        Counted::new(counts),
+    ];
+    let items = BoxedArray::from_array(alloc, items)?.into_vec()?;
+    let Ok(boxed) = BoxedArray::<_, U3>::try_from_vec(alloc, items)? else {
+        return Ok(0);
+    };
+    let mut items = boxed.into_iter();
+    let _ = items.next();
+    Ok(items.clone()?.len())
+}
+
+#[test]
+fn each_item_is_dropped_once_whatever_memory_there_is(rt: HostRuntime) {
+    let counts = Counts::new();
+    let left = moved_about(rt.alloc(), &counts);
+    assert!(rt; counts.drops() == counts.clones() + 3);
+    assert!(rt; left.is_ok_and(|left| left == 2) || counts.clones() == 0);
+}
