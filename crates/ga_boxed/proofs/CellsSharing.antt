@@ -23,9 +23,6 @@ cells_lent_laws R L (block_ptr b o) m xs n = beside_shr_laws _ _ (said_shr_laws 
 cells_lent_laws R L null_ptr m xs n = said_shr_laws ffalse tt
 
 module _ {M : Type 1} {𝓤 : Ura M} (𝓛 : Logic 𝓤) (l : Lft) (R : RattleType) (L : Laws R) (inc : Incl l R.lives) where
-  Lends-item : (x : R.Denot) (b o : ℕ) → Lends 𝓛 (cells (mem R) (x ∷ []) b o) (shared_of R x b o) l
-  Lends-item x b o = Lends-first 𝓛 _ _ (shared_of R x b o) l (λ κ ts. Shares-less 𝓛 R R.lives l inc (L.shares 𝓛) x κ ts b o)
-
   Lends-items : (xs : List R.Denot) (b o : ℕ) → Lends 𝓛 (cells (mem R) xs b o) (elements_shared R xs b o) l
   Lends-items [] b o = Lends-nothing 𝓛 ftrue l
   Lends-items (x ∷ xs) b o =
