@@ -11,6 +11,9 @@ use std::marker::{Model, PhantomData};
 use std::mem::{align_of, size_of};
 use std::slice;
 
+/// The most bytes that a block may have: `isize::MAX`.
+const MAX_BYTES: usize = 0x7fff_ffff_ffff_ffff;
+
 /// Where the block begins. It owns nothing.
 pub struct Base<T> {
     ptr: *mut T,
@@ -67,7 +70,7 @@ pub(crate) fn fits<T>(len: usize) -> bool
     if size == 0 {
         return true;
     }
-    len <= 0x7fff_ffff_ffff_ffff / size
+    len <= MAX_BYTES / size
 }
 
 /// A block of `len` places, all of them room. For none, nothing is asked for, and the pointer dangles.
