@@ -1,6 +1,6 @@
 //! Text that a writer has not been given yet.
 ghost use Rattle.ga_rows.specs.Text.{numbers_text};
-ghost use Rattle.std.specs.Prelude.{◌≡◌, ◌+◌, ◌*◌, ◌<◌, ◌≤◌, ◌↔◌, IsTrue, [], ◌∷◌, ◌++◌, decimal, length, reverse};
+ghost use Rattle.std.specs.Prelude.{◌≡◌, ◌+◌, ◌-◌, ◌*◌, ◌<◌, ◌≤◌, ◌↔◌, IsTrue, IsOk, [], ◌∷◌, ◌++◌, decimal, length, min, reverse, take};
 
 use std::io;
 use std::io::Write;
@@ -172,14 +172,20 @@ impl Write for Piece {
     ghost contents = { λ piece. Some piece };
 
     #[inline]
-    fn write(&mut self, buf: &[u8]) -> io::Result<usize> {
+    fn write(&mut self, buf: &[u8]) -> io::Result<usize>
+        ensures count { result ≡ Ok (min (length buf.now) (PIECE_SIZE - length self.old)) }
+        ensures text { self.new ≡ self.old ++ take (PIECE_SIZE - length self.old) buf.now }
+    {
         let count = buf.len().min(PIECE_SIZE - self.len);
         self.bytes[self.len..self.len + count].copy_from_slice(&buf[..count]);
         self.len += count;
         Ok(count)
     }
 
-    fn flush(&mut self) -> io::Result<()> {
+    fn flush(&mut self) -> io::Result<()>
+        ensures ok { IsOk result }
+        ensures same { self.new ≡ self.old }
+    {
         Ok(())
     }
 }
