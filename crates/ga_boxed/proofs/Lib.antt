@@ -5,4 +5,5 @@ pub mod EndLemmas
 pub mod FrontLemmas
 pub mod NativeLemmas
 pub mod RestLemmas
+pub mod TakeWalk
 pub mod WalkParts

@@ -6,7 +6,7 @@ use seplogic.Ra.Ura.{Ura}
 use mir.Val.{Val, vstruct, vcons, vnil, of_list}
 use base.Logic.{ent, sep, emp, ex, guard}
 use types.Logic.{Logic, sem}
-use types.Kit.{Item, Goal, Seq, Step, step, ‵, ◌$◌, ◌∵◌, !, qed, move, drop as skip, fsplit, fjoin, fpick, fpack, feq_i, feq_l, done, some, ◌⊛◌, use1, pick, split, check, show, rewrite}
+use types.Kit.{Item, Goal, Seq, Step, step, ‵, ◌$◌, ◌∵◌, !, qed, move, drop as skip, fsplit, fjoin, fpick, fpack, feq_i, feq_l, done, some, ◌⊛◌, use1, pick, split, check, show}
 use denote.RattleType.{RattleType, Valss}
 use denote.RawPtr.{Ptr, RawPtr, ptr_val}
 use denote.Shadow.{makes_shadow}
@@ -35,6 +35,21 @@ use prog.Memory.{size, align, capped}
 use prog.Capped.{capped_is}
 use prog.RawLaws.{size-raw, align-raw}
 use Rattle.std.proofs.alloc.Calls.{Al}
+use contract.Lifetimes.{Lfts}
+use contract.Running.{Running}
+use denote.Laws.{Tells}
+use denote.RawPtr.{rawptr_vals, rawptr_Tells}
+use denote.Struct.Struct.{Struct-Tells}
+use denote.Triple.Carry.{grown, spared}
+use denote.Triple.Clauses.{Clauses, Ended, closing}
+use denote.Triple.Spec.{Meets}
+use denote.Triple.Statement.{Triple}
+use denote.Triple.Table.{run_framed}
+use denote.Triple.Entry.{Vals}
+use denote.Triple.Walked.{Stays, walk_of}
+use contract.Monad.{Fun}
+use mir.Syntax.{Callee}
+use prog.Model.{Model}
 
 -- where the product fits a word, the count is zero or the size fits too
 pub uncapped : (i k : ℕ) → i * k < 2 ^ 64 → i * capped k ≡ i * k
@@ -79,6 +94,25 @@ one_field = record { name = []; args = []; types = []; fields = RawPtr ∷ [] }
 
 abbrev pub Word : RattleType
 Word = Struct one_field
+
+-- a base is its pointer, as a machine value
+abbrev pub base_vals : (E : El) → (Bs E).Denot → List Val
+base_vals E c = word c.ptr ∷ []
+
+pub base_Tells : (E : El) → Tells (Bs E) (Is (Bs E)) (base_vals E)
+base_Tells E c = Struct-Tells one_field (rawptr_vals, tt) (rawptr_Tells, tt) (c.ptr, tt)
+
+-- what is met over a function's own lifetimes is met with one more for each type parameter
+module _ {M : Type 1} {𝓤 : Ura M} (𝓛 : Logic 𝓤) (𝓜 : Model 𝓤 𝓛.H) (𝓡 : Running 𝓤 𝓛.H 𝓜) (T : Ended) (c : Clauses 𝓤 T) where
+  pub grows : (m : ℕ) (ℓs : Lfts m) (k : Callee) → Meets 𝓛 T.signature (𝓡.run (𝓡.env k)) (closing 𝓛 T c) → Triple 𝓤 (𝓡.run (𝓡.env k)) (grown 𝓛 T.signature m ℓs (closing 𝓛 T c))
+  grows m ℓs k = spared 𝓛 T.signature (𝓡.run (𝓡.env k)) (run_framed 𝓤 𝓛.H 𝓜 𝓡 (𝓡.env k)) m ℓs (closing 𝓛 T c)
+
+-- in a walk the parameters' machine values are written out
+pub at_values : {M : Type 1} {𝓤 : Ura M} (𝓛 : Logic 𝓤) (T : Ended) (hs : Stays T.signature.params T.kept) (c : Clauses 𝓤 T) (run : Fun 𝓤) (y : (walk_of 𝓛 T hs c).Ghost) (vss : Vals T.signature y.0.0) → y.0.4 ≡ vss
+    → ent 𝓤 ((walk_of 𝓛 T hs c).pre ((y.0.0, y.0.1, y.0.2, y.0.3, vss), y.1)) (run ((walk_of 𝓛 T hs c).args ((y.0.0, y.0.1, y.0.2, y.0.3, vss), y.1)) ((walk_of 𝓛 T hs c).post ((y.0.0, y.0.1, y.0.2, y.0.3, vss), y.1)))
+    → ent 𝓤 ((walk_of 𝓛 T hs c).pre y) (run ((walk_of 𝓛 T hs c).args y) ((walk_of 𝓛 T hs c).post y))
+at_values {𝓤 = 𝓤} 𝓛 T hs c run y vss e =
+    subst (λ (us : Vals T.signature y.0.0). let z : (walk_of 𝓛 T hs c).Ghost = ((y.0.0, y.0.1, y.0.2, y.0.3, us), y.1) in ent 𝓤 ((walk_of 𝓛 T hs c).pre z) (run ((walk_of 𝓛 T hs c).args z) ((walk_of 𝓛 T hs c).post z))) (sym e)
 
 abbrev pub mark : Val
 mark = vstruct (vcons (vstruct vnil) vnil)
@@ -126,10 +160,6 @@ alone τ [] t = absurd t
 alone τ (v ∷ []) t = (v, (refl, t.0))
 alone τ (v ∷ w ∷ vs) t = absurd t.1
 
-module _ (Y : RattleType) (L : Laws Y) {M : Type 1} {𝓤 : Ura M} {𝓛 : Logic 𝓤} {K : Type 0} {Γ : List (Item 𝓤)} {G : Goal 𝓤 𝓛.H} where
-  -- what is owned of a value is one machine value, of its type
-  pub tells : K → (x : Y.Denot) (vs : List Val) → ((v : Val) → vs ≡ v ∷ [] → Good (layout Y) v → Seq K 𝓛 (‵ (Y.own_val x (v ∷ [])) ∷ Γ) G) → Seq K 𝓛 (‵ (Y.own_val x vs) ∷ Γ) G
-  tells t x vs k =
-      peeks t (param 0 Y) (Is (param 0 Y)) (shows 𝓛 (param 0 Y)) x vs (λ is.
-      let one = alone (layout Y) vs (((param_laws 0 Y L).lawful 𝓛).typed x vs is) in
-      rewrite t 0 (λ (us : List Val). ‵ (Y.own_val x us)) one.1.0 refl $ k one.0 one.1.0 one.1.1)
+-- what is owned of a value is one machine value, of its type
+pub is_one : (Y : RattleType) (L : Laws Y) {M : Type 1} {𝓤 : Ura M} (𝓛 : Logic 𝓤) (x : Y.Denot) (vs : List Val) → Is (param 0 Y) x vs → (v : Val) × ((vs ≡ v ∷ []) × Good (layout Y) v)
+is_one Y L 𝓛 x vs is = alone (layout Y) vs (((param_laws 0 Y L).lawful 𝓛).typed x vs is)

@@ -15,11 +15,10 @@ use base.Fml.{ftrue}
 use base.Logic.{SProp, ent, emp, fst∗, guard_i, via}
 use prog.Capped.{capped_fits, capped_is, capped_small}
 use prog.Memory.{capped}
-use prog.Wp.{Env, Calls, Loops, WpFn, Tables}
+use prog.Wp.{Env, Calls, Loops, WpFn}
 use types.Logic.{Logic}
 use contract.Monad.{fact}
-use contract.Running.{tables, tables_of}
-use sound.WpLaws.{WpFn-mono}
+use contract.Running.{tables}
 use types.Kit.{‵, ◌⊛◌, at_ret, ◌$◌, ◌∵◌, !, qed, by, keep, join, fjoin, feq_i, suffices, done}
 use types.Run.{lit, true_lit, of_opd, bin, first, skips, branches, exec, returns, returns_within, enter, size_word}
 use types.ByLocal.{alloc_all, pass_all, free_all, look_at, get, sets, env}
@@ -29,17 +28,15 @@ use denote.Plain.{uint_vals, uint_Tells}
 use denote.RattleType.{owns}
 use denote.Signature.{plain}
 use denote.Steps.{nothing}
-use denote.Triple.Carry.{spared}
-use denote.Triple.Clauses.{Clauses, Ended, closing}
+use denote.Triple.Clauses.{Clauses, Ended}
 use denote.Triple.Entry.{on_entry}
-use denote.Triple.Spec.{Meets, triple_of}
-use denote.Triple.Table.{entered, run_framed}
-use denote.Triple.Walked.{says, Stays, stay_dropped, walk_of, ends_at, walked, Goes-dropped, walk_Meets}
+use denote.Triple.Walked.{says, Stays, stay_dropped, walk_of, ends_at, Goes-dropped}
 use Rattle.std.proofs.mem.Param.{El, args}
 use Rattle.std.proofs.ptr.Rows.{one_below}
 use Rattle.std.proofs.Flags.{T_true}
 use Rattle.std.proofs.VecSteps.Shapes.{after}
-use Rattle.ga_boxed.proofs.WalkParts.{sz}
+use Rattle.std.proofs.raw_atomic.Walks.{proved}
+use Rattle.ga_boxed.proofs.WalkParts.{grows, sz}
 use Rattle.ga_boxed.proofs.live_block.cells.fits.Code as code
 use Rattle.ga_boxed.proofs.live_block.cells.fits.Statement as stated
 use Rattle.ga_boxed.specs.contracts.live_block.cells.fits.Key.{name as #self}
@@ -120,18 +117,10 @@ module _ (E : El) {M : Type 1} {𝓤 : Ura M} (𝓛 : Logic 𝓤) (C : Calls �
       sets ! (bin ! (get ! refl) (get ! refl) tt) refl (tt, tt) $
       returns ! (look_at ! 0 refl) $ free_all ! refl $ by ! (exits (leb c q) (of_size c (sz E) (some_size k some)))))
 
-meets : (E : El) {M : Type 1} {𝓤 : Ura M} (𝓛 : Logic 𝓤) (𝓣 : Tables 𝓤 𝓛.H) → Meets 𝓛 ended.signature (WpFn 𝓤 𝓛.H 𝓣.C 𝓣.Λ (function E)) (closing 𝓛 ended (spec E 𝓛))
-meets E {𝓤 = 𝓤} 𝓛 𝓣 =
-    walk_Meets 𝓛 ended stayed (Goes-dropped 𝓛 0 (plain (λ _. usize)) yes (λ κs x f. refl), tt) (spec E 𝓛) (WpFn 𝓤 𝓛.H 𝓣.C 𝓣.Λ (function E)) (WpFn-mono 𝓤 𝓛.H 𝓛.laws 𝓣 (function E))
-    (walked 𝓛 ended stayed (spec E 𝓛) (WpFn 𝓤 𝓛.H 𝓣.C 𝓣.Λ (function E)) (λ κs. (uint_vals w64, tt)) (λ κs. (uint_Tells w64, tt))
-    (λ κs qs bounds a g are. via 𝓤 _ (fst∗ 𝓤 _ (emp 𝓤)) (walk E 𝓛 𝓣.C 𝓣.Λ a.0 are.0.1)))
-
 pub fits_spec : {M : Type 1} → stated.statement M
-unfolding tables_of
 fits_spec 𝓤 𝓛 𝓜 𝓡 wired X LX y =
-    let E : El = record { row = X; laws = LX } in
-    let 𝓣 : Tables 𝓤 𝓛.H = tables_of 𝓤 𝓛.H 𝓜 (tables 𝓤 𝓛.H 𝓜 𝓡 𝓡.env) in
-    let k = #self (args E) in
-    spared 𝓛 ended.signature (𝓡.run (𝓡.env k)) (run_framed 𝓤 𝓛.H 𝓜 𝓡 (𝓡.env k)) 1 (X.lives, tt) (closing 𝓛 ended (spec E 𝓛))
-    (entered 𝓤 𝓛.H (triple_of 𝓛 ended.signature (closing 𝓛 ended (spec E 𝓛))) 𝓣.C 𝓣.Λ k (function E) (code.unfolded 𝓤 𝓛.H 𝓜 𝓡 wired (X, tt)) (meets E 𝓛 𝓣))
+    let E : El = record { row = X; laws = LX } in let 𝓣 = tables 𝓤 𝓛.H 𝓜 𝓡 𝓡.env in
+    grows 𝓛 𝓜 𝓡 ended (spec E 𝓛) 1 (X.lives, tt) (#self (args E))
+    (proved 𝓛 ended stayed (spec E 𝓛) 𝓜 𝓡 (Goes-dropped 𝓛 0 (plain (λ _. usize)) yes (λ κs x f. refl), tt) (#self (args E)) (function E) (code.unfolded 𝓤 𝓛.H 𝓜 𝓡 wired (X, tt)) (λ κs. (uint_vals w64, tt)) (λ κs. (uint_Tells w64, tt))
+    (λ κs qs bounds a g are. via 𝓤 _ (fst∗ 𝓤 _ (emp 𝓤)) (walk E 𝓛 𝓣.C 𝓣.Λ a.0 are.0.1)))
     ((y.0.0, y.0.1, tt, y.0.3, y.0.4), y.1)

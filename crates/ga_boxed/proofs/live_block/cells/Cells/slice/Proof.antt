@@ -2,7 +2,7 @@
 use mathlib.Core.Path.{◌≡◌, refl, sym, ap, subst, ◌∙◌}
 use Prim.Native.Nat.{ℕ, ◌+◌, ◌*◌, ◌<◌, ◌^◌}
 use native.Mathlib.Omega.{arith}
-use mathlib.Core.List.{List, [], ◌∷◌, ◌++◌}
+use mathlib.Core.List.{List, [], ◌∷◌}
 use seplogic.Ra.Ura.{Ura}
 use base.Fraction.{full_share}
 use mir.Syntax.{Fn, named, w64}
@@ -10,32 +10,29 @@ use mir.MapTy.{inst_fn}
 use mir.Val.{Val, vptr, vint}
 use base.Logic.{SProp, ent, never, id⊢}
 use base.Fml.{Lft, Share, ftrue, fat, flft}
-use prog.Wp.{Env, Calls, Loops, WpFn, Tables}
+use prog.Wp.{Env, Calls, Loops, WpFn}
 use types.Logic.{Logic}
 use contract.Monad.{fact}
-use contract.Running.{tables, tables_of}
-use sound.WpLaws.{WpFn-mono}
-use types.Kit.{Item, ⋆, ‵, ◌⊛◌, at_ret, ◌$◌, ◌∵◌, !, qed, by, move, keep, drop, split, join, rewrite, fsplit, fjoin, feq_i, feq_l, flt_l, flt_i, suffices, frame, done}
+use contract.Running.{tables}
+use types.Kit.{⋆, ‵, ◌⊛◌, at_ret, ◌$◌, ◌∵◌, !, qed, by, move, keep, drop, split, join, rewrite, fsplit, fjoin, feq_i, flt_l, flt_i, suffices, frame, done}
 use types.Part.{whole, sub, agg}
 use types.Run.{stop, fld, of_opd, bin, size_word, and_then, no_more, first, blocks, exec, returns, enter}
 use types.ByLocal.{alloc_all, pass_all, free_all, look_at, get, get_in, sets, sets_last, is, env, take_at, give_at}
 use denote.Exit.{yes, no}
 use denote.RattleType.{owns}
-use denote.Memory.{hidden_shr}
 use denote.Param.{layout}
 use denote.RawPtr.{Ptr, in_a_block}
-use denote.Ref.{Bor, ShrRef}
+use denote.Ref.{Bor, ShrRef, shr_vals, shr_Tells}
+use denote.Plain.{uint_vals, uint_Tells}
+use Rattle.std.proofs.raw_atomic.Walks.{proved}
 use denote.Slice.{ShrSlice, slice_val, elements_shared}
 use denote.Builtin.{RefOf, usize, SliceRefOf}
 use denote.Signature.{plain}
 use denote.Opens.{hide, unhide}
 use denote.Steps.{nothing}
-use denote.Triple.Carry.{spared}
-use denote.Triple.Clauses.{Clauses, Ended, closing}
+use denote.Triple.Clauses.{Clauses, Ended}
 use denote.Triple.Entry.{on_entry}
-use denote.Triple.Spec.{Meets, triple_of}
-use denote.Triple.Table.{entered, run_framed}
-use denote.Triple.Walked.{says, needs, Stays, stay_dropped, walk_of, ends_at, Goes-dropped, walk_Meets}
+use denote.Triple.Walked.{says, needs, Stays, stay_dropped, walk_of, ends_at, Goes-dropped}
 use lib.ListN.{length}
 use Rattle.std.proofs.VecSteps.Shapes.{after}
 use Rattle.std.proofs.RcSteps.{word, word-Good}
@@ -44,7 +41,7 @@ use Rattle.std.proofs.ptr.Rows.{times_below}
 use Rattle.ga_boxed.proofs.WalkParts.{uncapped}
 use Rattle.ga_boxed.specs.CellsOwn.{cells_lent}
 use Rattle.ga_boxed.specs.contracts.live_block.cells.Cells.slice.Key.{name as #self}
-use Rattle.ga_boxed.proofs.WalkParts.{Cr, Bs, sz, word_had}
+use Rattle.ga_boxed.proofs.WalkParts.{Cr, Bs, sz, base_vals, base_Tells, grows}
 use Rattle.ga_boxed.proofs.live_block.cells.Cells.slice.Statement as stated
 use Rattle.ga_boxed.proofs.live_block.cells.Cells.slice.Code as code
 
@@ -67,14 +64,14 @@ module _ (E : El) where
   abbrev spec : {M : Type 1} {𝓤 : Ura M} (𝓛 : Logic 𝓤) → Clauses 𝓤 ended
   spec {𝓤 = 𝓤} 𝓛 κs a = record { ghost = Unit {0}; requires = λ _. fact 𝓤 (Asks a.0.now a.1.0 a.1.1.0 a.1.1.1.0); ensures = λ _ r w. fact 𝓤 (Gives a.0.now r) }
 
-module _ (E : El) {M : Type 1} {𝓤 : Ura M} (𝓛 : Logic 𝓤) (C : Calls 𝓤 𝓛.H) (Λ : Loops 𝓤 𝓛.H) (κ : Lft) (q : Share) (rb ro : ℕ) (d : (Cr E).Denot) (base : (Bs E).Denot) (index : (usize).Denot) (len : (usize).Denot) (us0 us1 us2 us3 : List Val) where
+module _ (E : El) {M : Type 1} {𝓤 : Ura M} (𝓛 : Logic 𝓤) (C : Calls 𝓤 𝓛.H) (Λ : Loops 𝓤 𝓛.H) (κ : Lft) (q : Share) (rb ro : ℕ) (d : (Cr E).Denot) (base : (Bs E).Denot) (index : (usize).Denot) (len : (usize).Denot) where
   open 𝓛 use {H}
 
   abbrev self : Bor (Cr E).Denot
   self = record { ref_ptr = (rb, ro); now = d }
 
   abbrev bound : (walk_of 𝓛 (ended E) (stayed E) (spec E 𝓛)).Ghost
-  bound = (((κ, tt), (q, tt), tt, (self, (base, (index, (len, tt)))), (us0, (us1, (us2, (us3, tt))))), tt)
+  bound = (((κ, tt), (q, tt), tt, (self, (base, (index, (len, tt)))), (vptr rb ro ∷ [], (word base.ptr ∷ [], (vint w64 index ∷ [], (vint w64 len ∷ [], tt))))), tt)
 
   abbrev Post : Val → SProp 𝓤
   Post = (walk_of 𝓛 (ended E) (stayed E) (spec E 𝓛)).post bound
@@ -85,13 +82,11 @@ module _ (E : El) {M : Type 1} {𝓤 : Ura M} (𝓛 : Logic 𝓤) (C : Calls �
       suffices ! _ (ends_at 𝓛 (ended E) (stayed E) (spec E 𝓛) bound v r (tt, (tt, (tt, (tt, tt)))) (tt, (tt, (tt, (tt, tt))))) $ says ! e $
       nothing ! $ move ! (1 ∷ 0 ∷ []) $ join ! $ frame ! $ nothing ! $ nothing ! $ fjoin ! $ nothing ! $ fjoin ! $ nothing ! $ fjoin ! $ nothing ! $ fjoin ! $ done !
 
-  abbrev Had : List (Item 𝓤)
-  Had = ‵ (hidden_shr (Cr E) κ d rb ro) ∷ ‵ (flft κ q) ∷ []
-
-  walk : Asks E d base index len → index < 2 ^ 64 → len < 2 ^ 64 → ent 𝓤 (⋆ 𝓛 Had) (WpFn 𝓤 H C Λ (function E) (vptr rb ro ∷ word base.ptr ∷ vint w64 index ∷ vint w64 len ∷ []) Post)
+  walk : Asks E d base index len → index < 2 ^ 64 → len < 2 ^ 64 → ent 𝓤 (on_entry 𝓛 (ended E).signature (κ, tt) (q, tt) bound.0.3 bound.0.4) (WpFn 𝓤 H C Λ (function E) (vptr rb ro ∷ word base.ptr ∷ vint w64 index ∷ vint w64 len ∷ []) Post)
   walk asked fits_index fits_len =
       let xs = d.items in let s = sz E in let all = d.passed + length xs + d.room in let first_place : index ≡ d.passed = asked.1 in let long : len ≡ length xs = asked.2 in
-      qed 𝓛 Had ∵ enter ! C Λ (function E) (vptr rb ro ∷ word base.ptr ∷ vint w64 index ∷ vint w64 len ∷ []) _ $ alloc_all ! (λ l. pass_all ! refl ((tt, tt), (word-Good [] base.ptr, ((tt, record { fits = fits_index }), ((tt, record { fits = fits_len }), tt)))) $
+      qed 𝓛 ((‵ (flft κ q) ⊛ ‵ ftrue) ∷ ‵ (owns (ShrRef (named 0) κ (Cr E) ∷ Bs E ∷ usize ∷ usize ∷ []) bound.0.3 bound.0.4) ∷ []) ∵ split ! $ move ! (2 ∷ []) $ fsplit ! $ fsplit ! $ keep ! (1 ∷ 3 ∷ []) $
+      enter ! C Λ (function E) (vptr rb ro ∷ word base.ptr ∷ vint w64 index ∷ vint w64 len ∷ []) _ $ alloc_all ! (λ l. pass_all ! refl ((tt, tt), (word-Good [] base.ptr, ((tt, record { fits = fits_index }), ((tt, record { fits = fits_len }), tt)))) $
       let En : Env 𝓤 H = env (function E).locals l in
       unhide ! $ fsplit ! $ drop ! $ in_a_block ! d.at (λ p. cells_lent (R E) p d.passed xs d.room κ) (id⊢ 𝓤 (never 𝓤)) (λ b o e. fsplit ! $ flt_l ! (λ small.
       let far : index * s < 2 ^ 64 = omega (arith, times_below index all s (2 ^ 63) (omega arith) small) in
@@ -106,34 +101,11 @@ module _ (E : El) {M : Type 1} {𝓤 : Ura M} (𝓛 : Logic 𝓤) (C : Calls �
       feq_i ! (List Val) (slice_val at len ∷ []) (slice_val at (length xs) ∷ []) (ap (λ k. slice_val at k ∷ []) long) $ fjoin ! $ fjoin ! $
       returns ! (look_at ! 0 refl) $ free_all ! refl $ keep ! (1 ∷ 0 ∷ []) $ by ! (exits (record { ref_ptr = at; now = xs }) (slice_val at len) refl))))
 
-  entry : Asks E d base index len → ent 𝓤 (on_entry 𝓛 (ended E).signature (κ, tt) (q, tt) (self, (base, (index, (len, tt)))) (us0, (us1, (us2, (us3, tt))))) (WpFn 𝓤 H C Λ (function E) (us0 ++ (us1 ++ (us2 ++ (us3 ++ [])))) Post)
-  entry asked =
-      qed 𝓛 ((‵ (flft κ q) ⊛ ‵ ftrue) ∷ ‵ (owns (ShrRef (named 0) κ (Cr E) ∷ Bs E ∷ usize ∷ usize ∷ []) (self, (base, (index, (len, tt)))) (us0, (us1, (us2, (us3, tt))))) ∷ []) ∵
-      split ! $ move ! (2 ∷ []) $
-      fsplit ! $
-      fsplit ! $ feq_l ! (λ e0.
-      move ! (1 ∷ []) $
-      fsplit ! $
-      word_had ! base.ptr us1 (λ e1.
-      fsplit ! $
-      fsplit ! $ feq_l ! (λ e2. flt_l ! (λ fits_index.
-      fsplit ! $
-      fsplit ! $ feq_l ! (λ e3. flt_l ! (λ fits_len.
-      keep ! (1 ∷ 2 ∷ []) $
-      by ! (subst (λ (ws : List Val × List Val × List Val × List Val). ent 𝓤 (⋆ 𝓛 Had) (WpFn 𝓤 H C Λ (function E) (ws.0 ++ (ws.1 ++ (ws.2 ++ (ws.3 ++ [])))) Post)) (λ j. (sym e0 j, sym e1 j, sym e2 j, sym e3 j)) (walk asked fits_index fits_len))))))))
-
-meets : (E : El) {M : Type 1} {𝓤 : Ura M} (𝓛 : Logic 𝓤) (𝓣 : Tables 𝓤 𝓛.H)
-    → Meets 𝓛 (ended E).signature (WpFn 𝓤 𝓛.H 𝓣.C 𝓣.Λ (function E)) (closing 𝓛 (ended E) (spec E 𝓛))
-meets E {𝓤 = 𝓤} 𝓛 𝓣 =
-    walk_Meets 𝓛 (ended E) (stayed E) (Goes-dropped 𝓛 1 (RefOf (0 ∷ []) tt (plain (λ _. Cr E)) (λ _. tt)) yes (λ κs x f. refl), (Goes-dropped 𝓛 1 (plain (λ _. Bs E)) no (λ κs x f. refl), (Goes-dropped 𝓛 1 (plain (λ _. usize)) no (λ κs x f. refl), (Goes-dropped 𝓛 1 (plain (λ _. usize)) no (λ κs x f. refl), tt)))) (spec E 𝓛) (WpFn 𝓤 𝓛.H 𝓣.C 𝓣.Λ (function E)) (WpFn-mono 𝓤 𝓛.H 𝓛.laws 𝓣 (function E))
-    (λ z. needs 𝓤 (Asks E z.0.3.0.now z.0.3.1.0 z.0.3.1.1.0 z.0.3.1.1.1.0) _ (entry E 𝓛 𝓣.C 𝓣.Λ z.0.0.0 z.0.1.0 z.0.3.0.ref_ptr.0 z.0.3.0.ref_ptr.1 z.0.3.0.now z.0.3.1.0 z.0.3.1.1.0 z.0.3.1.1.1.0 z.0.4.0 z.0.4.1.0 z.0.4.1.1.0 z.0.4.1.1.1.0))
-
 pub slice_spec : {M : Type 1} → stated.statement M
-unfolding tables_of
 slice_spec 𝓤 𝓛 𝓜 𝓡 wired X LX y =
-    let E : El = record { row = X; laws = LX } in
-    let 𝓣 : Tables 𝓤 𝓛.H = tables_of 𝓤 𝓛.H 𝓜 (tables 𝓤 𝓛.H 𝓜 𝓡 𝓡.env) in
-    let k = #self (args E) in
-    spared 𝓛 (ended E).signature (𝓡.run (𝓡.env k)) (run_framed 𝓤 𝓛.H 𝓜 𝓡 (𝓡.env k)) 1 (X.lives, tt) (closing 𝓛 (ended E) (spec E 𝓛))
-    (entered 𝓤 𝓛.H (triple_of 𝓛 (ended E).signature (closing 𝓛 (ended E) (spec E 𝓛))) 𝓣.C 𝓣.Λ k (function E) (code.unfolded 𝓤 𝓛.H 𝓜 𝓡 wired (X, tt)) (meets E 𝓛 𝓣))
+    let E : El = record { row = X; laws = LX } in let 𝓣 = tables 𝓤 𝓛.H 𝓜 𝓡 𝓡.env in
+    grows 𝓛 𝓜 𝓡 (ended E) (spec E 𝓛) 1 (X.lives, tt) (#self (args E))
+    (proved 𝓛 (ended E) (stayed E) (spec E 𝓛) 𝓜 𝓡 (Goes-dropped 𝓛 1 (RefOf (0 ∷ []) tt (plain (λ _. Cr E)) (λ _. tt)) yes (λ κs x f. refl), (Goes-dropped 𝓛 1 (plain (λ _. Bs E)) no (λ κs x f. refl), (Goes-dropped 𝓛 1 (plain (λ _. usize)) no (λ κs x f. refl), (Goes-dropped 𝓛 1 (plain (λ _. usize)) no (λ κs x f. refl), tt))))
+    (#self (args E)) (function E) (code.unfolded 𝓤 𝓛.H 𝓜 𝓡 wired (X, tt)) (λ κs. (shr_vals, (base_vals E, (uint_vals w64, (uint_vals w64, tt))))) (λ κs. (shr_Tells (named 0) κs.0 (Cr E), (base_Tells E, (uint_Tells w64, (uint_Tells w64, tt)))))
+    (λ κs qs bounds a g are. needs 𝓤 (Asks E a.0.now a.1.0 a.1.1.0 a.1.1.1.0) _ (λ asked. walk E 𝓛 𝓣.C 𝓣.Λ κs.0 qs.0 a.0.ref_ptr.0 a.0.ref_ptr.1 a.0.now a.1.0 a.1.1.0 a.1.1.1.0 asked are.1.1.0.1 are.1.1.1.0.1)))
     ((y.0.0, y.0.1, tt, y.0.3, y.0.4), y.1)

@@ -2,24 +2,23 @@
 use mathlib.Core.Path.{◌≡◌, refl, sym, ap, subst, ◌∙◌}
 use Prim.Native.Nat.{ℕ, ◌+◌, ◌*◌, ◌<◌, ◌^◌}
 use native.Mathlib.Omega.{arith}
-use mathlib.Core.List.{List, [], ◌∷◌, ◌++◌}
+use mathlib.Core.List.{List, [], ◌∷◌}
 use seplogic.Ra.Ura.{Ura}
 use base.Fraction.{full_share}
 use mir.Syntax.{Fn, named, w64}
 use mir.MapTy.{inst_fn}
 use mir.Val.{Val, vptr, vint}
 use base.Logic.{SProp, ent, sep, never, id⊢}
-use base.Fml.{Lft, GName, Share, Fml, ftrue, fsep, fat, flft, fobs, fbor}
-use prog.Wp.{Env, Calls, Loops, WpFn, Tables}
+use base.Fml.{Lft, GName, Share, Fml, ftrue, fsep, fat, flft}
+use prog.Wp.{Env, Calls, Loops, WpFn}
 use types.Logic.{Logic, sem}
 use contract.Monad.{fact}
-use contract.Running.{tables, tables_of}
-use sound.WpLaws.{WpFn-mono}
-use types.Kit.{Item, ⋆, ‵, raw, ◌⊛◌, some, later, await, pick, at_ret, ◌$◌, ◌∵◌, !, qed, by, move, keep, use1, split, join, group, rewrite, fsplit, fsplit3, fjoin, fjoin3, fpack, feq_l, flt_l, flt_i, suffices, frame, done}
+use contract.Running.{tables}
+use types.Kit.{‵, raw, ◌⊛◌, some, later, await, pick, at_ret, ◌$◌, ◌∵◌, !, qed, by, move, keep, use1, split, join, group, rewrite, fsplit, fsplit3, fjoin, fjoin3, fpack, flt_l, flt_i, suffices, frame, done}
 use types.Part.{whole, sub, agg}
 use types.Run.{stop, fld, of_opd, bin, size_word, and_then, no_more, first, blocks, exec, returns, enter}
 use types.ByLocal.{alloc_all, pass_all, free_all, look_at, get, get_in, sets, sets_last, is, env, take_at, give_at}
-use types.SemTy.{cells, Body as Borrowed}
+use types.SemTy.{cells}
 use denote.Array.{Array}
 use denote.Exit.{no}
 use denote.Follow.{follows}
@@ -28,17 +27,16 @@ use denote.RattleType.{owns}
 use denote.Memory.{mem, cell_at, part_of}
 use denote.Param.{layout}
 use denote.RawPtr.{Ptr, block_ptr, in_a_block}
-use denote.Ref.{MutBor, MutRef}
+use denote.Ref.{MutBor, MutRef, mut_vals, mut_Tells}
+use denote.Plain.{uint_vals, uint_Tells}
+use Rattle.std.proofs.raw_atomic.Walks.{proved}
 use denote.Slice.{MutSlice, slice_val}
 use denote.Builtin.{RefMutOf, usize, SliceRefMutOf}
 use denote.Signature.{plain, mut_ref_to}
 use denote.Steps.{nothing, opens}
-use denote.Triple.Carry.{spared}
-use denote.Triple.Clauses.{Clauses, Ended, closing}
+use denote.Triple.Clauses.{Clauses, Ended}
 use denote.Triple.Entry.{on_entry}
-use denote.Triple.Spec.{Meets, triple_of}
-use denote.Triple.Table.{entered, run_framed}
-use denote.Triple.Walked.{says, needs, Stays, stay_dropped, walk_of, ends_at, Goes-dropped, Goes-spent_ref, walk_Meets}
+use denote.Triple.Walked.{says, needs, Stays, stay_dropped, walk_of, ends_at, Goes-dropped, Goes-spent_ref}
 use lib.ListN.{length, drop as drop_l}
 use lib.Seq.{take_at as take_front}
 use Rattle.std.specs.List.{refill}
@@ -50,7 +48,7 @@ use Rattle.ga_boxed.proofs.WalkParts.{uncapped}
 use Rattle.ga_boxed.specs.CellsLend.{with_items}
 use Rattle.ga_boxed.specs.CellsOwn.{cells_own, empty}
 use Rattle.ga_boxed.specs.contracts.live_block.cells.Cells.slice_mut.Key.{name as #self}
-use Rattle.ga_boxed.proofs.WalkParts.{Cr, Bs, Mark, sz, word_had}
+use Rattle.ga_boxed.proofs.WalkParts.{Cr, Bs, Mark, sz, base_vals, base_Tells, grows}
 use Rattle.ga_boxed.proofs.live_block.cells.Cells.slice_mut.Statement as stated
 use Rattle.ga_boxed.proofs.live_block.cells.Cells.slice_mut.Code as code
 
@@ -76,14 +74,14 @@ module _ (E : El) where
   abbrev spec : {M : Type 1} {𝓤 : Ura M} (𝓛 : Logic 𝓤) → Clauses 𝓤 ended
   spec {𝓤 = 𝓤} 𝓛 κs a = record { ghost = Unit {0}; requires = λ _. fact 𝓤 (Asks a.0.now a.1.0 a.1.1.0 a.1.1.1.0); ensures = λ _ r w. sep 𝓤 (sem 𝓛 (follows (Cr E) (Array (R E) 0) a.0.ghost_name r.ghost_name (Written a.0.now))) (fact 𝓤 (Gives a.0.now r)) }
 
-module _ (E : El) {M : Type 1} {𝓤 : Ura M} (𝓛 : Logic 𝓤) (C : Calls 𝓤 𝓛.H) (Λ : Loops 𝓤 𝓛.H) (κ : Lft) (q : Share) (rb ro : ℕ) (γ : GName) (d : (Cr E).Denot) (base : (Bs E).Denot) (index : (usize).Denot) (len : (usize).Denot) (us0 us1 us2 us3 : List Val) where
+module _ (E : El) {M : Type 1} {𝓤 : Ura M} (𝓛 : Logic 𝓤) (C : Calls 𝓤 𝓛.H) (Λ : Loops 𝓤 𝓛.H) (κ : Lft) (q : Share) (rb ro : ℕ) (γ : GName) (d : (Cr E).Denot) (base : (Bs E).Denot) (index : (usize).Denot) (len : (usize).Denot) where
   open 𝓛 use {H, A}
 
   abbrev self : MutBor (Cr E).Denot
   self = record { ref_ptr = (rb, ro); ghost_name = γ; now = d }
 
   abbrev bound : (walk_of 𝓛 (ended E) (stayed E) (spec E 𝓛)).Ghost
-  bound = (((κ, tt), (q, tt), tt, (self, (base, (index, (len, tt)))), (us0, (us1, (us2, (us3, tt))))), tt)
+  bound = (((κ, tt), (q, tt), tt, (self, (base, (index, (len, tt)))), (vptr rb ro ∷ [], (word base.ptr ∷ [], (vint w64 index ∷ [], (vint w64 len ∷ [], tt))))), tt)
 
   abbrev Post : Val → SProp 𝓤
   Post = (walk_of 𝓛 (ended E) (stayed E) (spec E 𝓛)).post bound
@@ -123,13 +121,11 @@ module _ (E : El) {M : Type 1} {𝓤 : Ura M} (𝓛 : Logic 𝓤) (C : Calls �
       suffices ! _ (ends_at 𝓛 (ended E) (stayed E) (spec E 𝓛) bound v r (tt, (tt, (tt, (tt, tt)))) (tt, (tt, (tt, (tt, tt))))) $
       nothing ! $ nothing ! $ fjoin ! $ nothing ! $ fjoin ! $ nothing ! $ fjoin ! $ nothing ! $ fjoin ! $ join ! $ nothing ! $ move ! (2 ∷ 0 ∷ []) $ join ! $ join ! $ frame ! $ says ! e $ done !
 
-  abbrev Had : List (Item 𝓤)
-  Had = ‵ (fobs γ ((Cr E).coded.code d)) ∷ ‵ (fbor κ (Borrowed (mem (Cr E)) rb ro γ)) ∷ ‵ (flft κ q) ∷ []
-
-  walk : Asks E d base index len → index < 2 ^ 64 → len < 2 ^ 64 → ent 𝓤 (⋆ 𝓛 Had) (WpFn 𝓤 H C Λ (function E) (vptr rb ro ∷ word base.ptr ∷ vint w64 index ∷ vint w64 len ∷ []) Post)
+  walk : Asks E d base index len → index < 2 ^ 64 → len < 2 ^ 64 → ent 𝓤 (on_entry 𝓛 (ended E).signature (κ, tt) (q, tt) bound.0.3 bound.0.4) (WpFn 𝓤 H C Λ (function E) (vptr rb ro ∷ word base.ptr ∷ vint w64 index ∷ vint w64 len ∷ []) Post)
   walk asked fits_index fits_len =
       let xs = d.items in let s = sz E in let all = d.passed + length xs + d.room in let first_place : index ≡ d.passed = asked.1 in let long : length xs ≡ len = sym asked.2 in let code = (Cr E).coded.code d in
-      qed 𝓛 Had ∵ enter ! C Λ (function E) (vptr rb ro ∷ word base.ptr ∷ vint w64 index ∷ vint w64 len ∷ []) _ $ alloc_all ! (λ l. pass_all ! refl ((tt, tt), (word-Good [] base.ptr, ((tt, record { fits = fits_index }), ((tt, record { fits = fits_len }), tt)))) $
+      qed 𝓛 ((‵ (flft κ q) ⊛ ‵ ftrue) ∷ ‵ (owns (MutRef (named 0) κ (Cr E) ∷ Bs E ∷ usize ∷ usize ∷ []) bound.0.3 bound.0.4) ∷ []) ∵ split ! $ move ! (2 ∷ []) $ fsplit ! $ fsplit3 ! $ keep ! (1 ∷ 2 ∷ 4 ∷ []) $
+      enter ! C Λ (function E) (vptr rb ro ∷ word base.ptr ∷ vint w64 index ∷ vint w64 len ∷ []) _ $ alloc_all ! (λ l. pass_all ! refl ((tt, tt), (word-Good [] base.ptr, ((tt, record { fits = fits_index }), ((tt, record { fits = fits_len }), tt)))) $
       let En : Env 𝓤 H = env (function E).locals l in
       opens ! tt (Cr E) {h = d} rb ro (λ vs. move ! (1 ∷ []) $ fsplit ! $ move ! (1 ∷ []) $
       in_a_block ! d.at (λ p. cells_own (R E) p d.passed xs d.room) (id⊢ 𝓤 (never 𝓤)) (λ b o e. fsplit ! $ flt_l ! (λ small.
@@ -150,34 +146,11 @@ module _ (E : El) {M : Type 1} {𝓤 : Ura M} (𝓛 : Logic 𝓤) (C : Calls �
       by ! (subst (λ (k : ℕ). ent 𝓤 (Elements 𝓛 (Cr E) (R E) new (named 0) κ q rb ro b at γ xs (roomy, fitting) (sem 𝓛 (Rest vs b o)) way δ) (Post (slice_val (b, at) k))) long
       (exits (slice_val (b, at) (length xs)) r refl)))))))
 
-  entry : Asks E d base index len → ent 𝓤 (on_entry 𝓛 (ended E).signature (κ, tt) (q, tt) (self, (base, (index, (len, tt)))) (us0, (us1, (us2, (us3, tt))))) (WpFn 𝓤 H C Λ (function E) (us0 ++ (us1 ++ (us2 ++ (us3 ++ [])))) Post)
-  entry asked =
-      qed 𝓛 ((‵ (flft κ q) ⊛ ‵ ftrue) ∷ ‵ (owns (MutRef (named 0) κ (Cr E) ∷ Bs E ∷ usize ∷ usize ∷ []) (self, (base, (index, (len, tt)))) (us0, (us1, (us2, (us3, tt))))) ∷ []) ∵
-      split ! $ move ! (2 ∷ []) $
-      fsplit ! $
-      fsplit3 ! $ feq_l ! (λ e0.
-      move ! (2 ∷ []) $
-      fsplit ! $
-      word_had ! base.ptr us1 (λ e1.
-      fsplit ! $
-      fsplit ! $ feq_l ! (λ e2. flt_l ! (λ fits_index.
-      fsplit ! $
-      fsplit ! $ feq_l ! (λ e3. flt_l ! (λ fits_len.
-      keep ! (1 ∷ 2 ∷ 3 ∷ []) $
-      by ! (subst (λ (ws : List Val × List Val × List Val × List Val). ent 𝓤 (⋆ 𝓛 Had) (WpFn 𝓤 H C Λ (function E) (ws.0 ++ (ws.1 ++ (ws.2 ++ (ws.3 ++ [])))) Post)) (λ j. (sym e0 j, sym e1 j, sym e2 j, sym e3 j)) (walk asked fits_index fits_len))))))))
-
-meets : (E : El) {M : Type 1} {𝓤 : Ura M} (𝓛 : Logic 𝓤) (𝓣 : Tables 𝓤 𝓛.H)
-    → Meets 𝓛 (ended E).signature (WpFn 𝓤 𝓛.H 𝓣.C 𝓣.Λ (function E)) (closing 𝓛 (ended E) (spec E 𝓛))
-meets E {𝓤 = 𝓤} 𝓛 𝓣 =
-    walk_Meets 𝓛 (ended E) (stayed E) (Goes-spent_ref 𝓛 1 (0 ∷ []) tt (plain (λ _. Cr E)), (Goes-dropped 𝓛 1 (plain (λ _. Bs E)) no (λ κs x f. refl), (Goes-dropped 𝓛 1 (plain (λ _. usize)) no (λ κs x f. refl), (Goes-dropped 𝓛 1 (plain (λ _. usize)) no (λ κs x f. refl), tt)))) (spec E 𝓛) (WpFn 𝓤 𝓛.H 𝓣.C 𝓣.Λ (function E)) (WpFn-mono 𝓤 𝓛.H 𝓛.laws 𝓣 (function E))
-    (λ z. needs 𝓤 (Asks E z.0.3.0.now z.0.3.1.0 z.0.3.1.1.0 z.0.3.1.1.1.0) _ (entry E 𝓛 𝓣.C 𝓣.Λ z.0.0.0 z.0.1.0 z.0.3.0.ref_ptr.0 z.0.3.0.ref_ptr.1 z.0.3.0.ghost_name z.0.3.0.now z.0.3.1.0 z.0.3.1.1.0 z.0.3.1.1.1.0 z.0.4.0 z.0.4.1.0 z.0.4.1.1.0 z.0.4.1.1.1.0))
-
 pub slice_mut_spec : {M : Type 1} → stated.statement M
-unfolding tables_of
 slice_mut_spec 𝓤 𝓛 𝓜 𝓡 wired X LX y =
-    let E : El = record { row = X; laws = LX } in
-    let 𝓣 : Tables 𝓤 𝓛.H = tables_of 𝓤 𝓛.H 𝓜 (tables 𝓤 𝓛.H 𝓜 𝓡 𝓡.env) in
-    let k = #self (args E) in
-    spared 𝓛 (ended E).signature (𝓡.run (𝓡.env k)) (run_framed 𝓤 𝓛.H 𝓜 𝓡 (𝓡.env k)) 1 (X.lives, tt) (closing 𝓛 (ended E) (spec E 𝓛))
-    (entered 𝓤 𝓛.H (triple_of 𝓛 (ended E).signature (closing 𝓛 (ended E) (spec E 𝓛))) 𝓣.C 𝓣.Λ k (function E) (code.unfolded 𝓤 𝓛.H 𝓜 𝓡 wired (X, tt)) (meets E 𝓛 𝓣))
+    let E : El = record { row = X; laws = LX } in let 𝓣 = tables 𝓤 𝓛.H 𝓜 𝓡 𝓡.env in
+    grows 𝓛 𝓜 𝓡 (ended E) (spec E 𝓛) 1 (X.lives, tt) (#self (args E))
+    (proved 𝓛 (ended E) (stayed E) (spec E 𝓛) 𝓜 𝓡 (Goes-spent_ref 𝓛 1 (0 ∷ []) tt (plain (λ _. Cr E)), (Goes-dropped 𝓛 1 (plain (λ _. Bs E)) no (λ κs x f. refl), (Goes-dropped 𝓛 1 (plain (λ _. usize)) no (λ κs x f. refl), (Goes-dropped 𝓛 1 (plain (λ _. usize)) no (λ κs x f. refl), tt))))
+    (#self (args E)) (function E) (code.unfolded 𝓤 𝓛.H 𝓜 𝓡 wired (X, tt)) (λ κs. (mut_vals, (base_vals E, (uint_vals w64, (uint_vals w64, tt))))) (λ κs. (mut_Tells (named 0) κs.0 (Cr E), (base_Tells E, (uint_Tells w64, (uint_Tells w64, tt)))))
+    (λ κs qs bounds a g are. needs 𝓤 (Asks E a.0.now a.1.0 a.1.1.0 a.1.1.1.0) _ (λ asked. walk E 𝓛 𝓣.C 𝓣.Λ κs.0 qs.0 a.0.ref_ptr.0 a.0.ref_ptr.1 a.0.ghost_name a.0.now a.1.0 a.1.1.0 a.1.1.1.0 asked are.1.1.0.1 are.1.1.1.0.1)))
     ((y.0.0, y.0.1, tt, y.0.3, y.0.4), y.1)
