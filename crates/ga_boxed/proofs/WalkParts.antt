@@ -1,12 +1,12 @@
 -- What the walks share: a value of one pointer, one of no bytes, a tuple of three, and an item as a machine value and in memory. Assumes `Logic`.
 use mathlib.Core.Path.{◌≡◌, refl, subst, sym, ap, ◌∙◌}
 use Prim.Native.Nat.{ℕ, zero, suc, ◌*◌, ◌<◌, ◌^◌}
-use mathlib.Core.List.{List, [], ◌∷◌, ◌++◌}
+use mathlib.Core.List.{List, [], ◌∷◌}
 use seplogic.Ra.Ura.{Ura}
-use mir.Val.{Val, vstruct, vcons, vnil, of_list}
+use mir.Val.{Val, vstruct, vcons, vnil}
 use base.Logic.{ent, sep, emp, ex, guard}
 use types.Logic.{Logic, sem}
-use types.Kit.{Item, Goal, Seq, Step, step, ‵, ◌$◌, ◌∵◌, !, qed, move, drop as skip, fsplit, fjoin, fpick, fpack, feq_i, feq_l, done, some, ◌⊛◌, use1, pick, split, check, show}
+use types.Kit.{Item, Goal, Step, step, ‵, ◌$◌, ◌∵◌, !, qed, move, fjoin, fpack, feq_i, done, some, ◌⊛◌, use1, pick, split, check, show}
 use denote.RattleType.{RattleType, Valss}
 use denote.RawPtr.{Ptr, RawPtr, ptr_val}
 use denote.Shadow.{makes_shadow}
@@ -20,9 +20,10 @@ use Rattle.std.proofs.mem.Param.{El, R, elτ}
 use Rattle.std.proofs.RcSteps.{word, Good}
 use Rattle.ga_boxed.specs.contracts.live_block.cells.Cells as C-type
 use Rattle.ga_boxed.specs.contracts.live_block.cells.Base as B-type
+use Rattle.ga_boxed.specs.contracts.live_block.cells.Deed as D-type
 use base.Fraction.{full_share}
 use mir.Syntax.{Ty, Args, a_type, ty_array, dcons, dnil}
-use base.Fml.{fat}
+use base.Fml.{fat, flft, ftrue}
 use denote.Laws.{Typed, Is, shows}
 use denote.Param.{param, layout, bounded}
 use denote.Param.Laws.{Laws, param_laws}
@@ -35,7 +36,7 @@ use prog.Memory.{size, align, capped}
 use prog.Capped.{capped_is}
 use prog.RawLaws.{size-raw, align-raw}
 use Rattle.std.proofs.alloc.Calls.{Al}
-use contract.Lifetimes.{Lfts}
+use contract.Lifetimes.{Lfts, Shares}
 use contract.Running.{Running}
 use denote.Laws.{Tells}
 use denote.RawPtr.{rawptr_vals, rawptr_Tells}
@@ -74,6 +75,9 @@ module _ (E : El) (Z : Al) where
 
   abbrev pub P : RattleType
   P = param 1 Z.row
+
+  abbrev pub Dd : RattleType
+  Dd = D-type.the_row (R E) P Z.g
 
 module _ (E : El) where
   abbrev pub Cr : RattleType
@@ -117,21 +121,21 @@ at_values {𝓤 = 𝓤} 𝓛 T hs c run y vss e =
 abbrev pub mark : Val
 mark = vstruct (vcons (vstruct vnil) vnil)
 
+pub mark_Tells : (E : El) → Tells (Mark E) (Is (Mark E)) (λ _. mark ∷ [])
+mark_Tells E = Struct-Tells (shape (C-type.the_type (R E))) ((λ _. vstruct vnil ∷ []), tt) ((λ x vs p. p.1.0), tt)
+
+-- the tokens of the lifetimes of the two type parameters
+abbrev pub others : {M : Type 1} {𝓤 : Ura M} → Lfts 3 → Shares 3 → Item 𝓤
+others κs qs = ‵ (flft κs.1.0 qs.1.0) ⊛ ‵ (flft κs.1.1.0 qs.1.1.0) ⊛ ‵ ftrue
+
 pub mark_made : (E : El) {M : Type 1} {𝓤 : Ura M} (𝓛 : Logic 𝓤) → ent 𝓤 (emp 𝓤) (sem 𝓛 ((Mark E).own_val (tt, tt) (mark ∷ [])))
 mark_made E 𝓛 = makes_shadow 𝓛 ((Mark E).own_val (tt, tt) (mark ∷ [])) (λ vss. (tt, ((λ uss. (tt, tt)), tt))) ((vstruct vnil ∷ [], tt), (refl, ((tt, (refl, tt)), tt)))
 
 module _ {M : Type 1} {𝓤 : Ura M} {𝓛 : Logic 𝓤} {K : Type 0} {Γ : List (Item 𝓤)} {G : Goal 𝓤 𝓛.H} where
-  pub word_had : K → (c : Ptr) (vs : List Val) → (vs ≡ word c ∷ [] → Seq K 𝓛 Γ G) → Seq K 𝓛 (‵ (Word.own_val (c, tt) vs) ∷ Γ) G
-  word_had t c vs k = fpick t (λ vss. fsplit t $ feq_l t (λ ev. fsplit t $ feq_l t (λ e. skip t $ k (subst (λ (ws : List Val). vs ≡ vstruct (of_list (ws ++ [])) ∷ []) e ev))))
-
   pub word_made : K → (c : Ptr) → Step K 𝓛 (‵ (Word.own_val (c, tt) (word c ∷ [])) ∷ Γ) G Γ G
   word_made t c = step (λ s.
       nothing t $ feq_i t (List Val) (ptr_val c ∷ []) (ptr_val c ∷ []) refl $ fjoin t $ feq_i t (List Val) (word c ∷ []) (word c ∷ []) refl $ fjoin t $
       fpack t (Valss (RawPtr ∷ [])) (within one_field (c, tt) (word c ∷ [])) (ptr_val c ∷ [], tt) $ s)
-
-  pub mark_had : K → (E : El) (vs : List Val) → (vs ≡ mark ∷ [] → Seq K 𝓛 Γ G) → Seq K 𝓛 (‵ ((Mark E).own_val (tt, tt) vs) ∷ Γ) G
-  mark_had t E vs k = fpick t (λ vss. fsplit t $ feq_l t (λ ev. fsplit t $ fpick t (λ uss. fsplit t $ feq_l t (λ e. skip t $ skip t $
-      k (subst (λ (ws : List Val). vs ≡ vstruct (of_list (ws ++ [])) ∷ []) e ev)))))
 
 abbrev pub three_val : Val → Val → Val → Val
 three_val u v w = vstruct (vcons u (vcons v (vcons w vnil)))

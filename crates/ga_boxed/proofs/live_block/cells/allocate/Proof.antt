@@ -3,24 +3,24 @@ use mathlib.Core.Path.{◌≡◌, refl, sym, ap, subst}
 use mathlib.Core.Bool.{Bool, true, false}
 use Prim.Native.Nat.{ℕ, ◌*◌, ◌<◌, ◌^◌}
 use native.Mathlib.Omega.{arith}
-use mathlib.Core.List.{List, [], ◌∷◌, ◌++◌}
+use mathlib.Core.List.{[], ◌∷◌}
 use lib.Dec.{eqb→eq, lit<}
 use seplogic.Ra.Ura.{Ura}
 use mir.Syntax.{Fn, Body, named, w64}
 use mir.MapTy.{inst_fn}
 use mir.Val.{Val, vptr, vint, vstruct, vcons, vnil}
 use base.Logic.{SProp, ent}
-use base.Fml.{Incl-trans, Lft, Share, ftrue, flft}
+use base.Fml.{Incl-trans, flft}
 use prog.Memory.{Memory, align, capped}
 use prog.Capped.{capped_fits}
 use prog.Routine.{Routine}
-use prog.Wp.{Env, Calls, Loops, Wp, WpFn, Tables, after_seq, at_return}
+use prog.Wp.{Env, Calls, Loops, Wp, WpFn, after_seq, at_return}
 use types.Logic.{Logic}
 use contract.Monad.{Fun, fact}
 use contract.BorrowLft.{◌⊑◌}
-use contract.Running.{tables, tables_of}
-use sound.WpLaws.{FmC, WpFn-mono, fm_of}
-use types.Kit.{Item, Post as After, any_q, ⋆, ‵, raw, ◌⊛◌, later, await, at_ret, ◌$◌, ◌∵◌, !, qed, by, move, keep, use0, use1, use2, use3, split, join, rewrite, fsplit, fsplit3, fjoin, feq_l, flt_l, suffices, frame, done}
+use contract.Running.{tables}
+use sound.WpLaws.{FmC}
+use types.Kit.{Post as After, any_q, ⋆, ‵, raw, ◌⊛◌, later, await, at_ret, ◌$◌, ◌∵◌, !, qed, by, move, keep, use0, use1, use2, use3, split, join, rewrite, fsplit, fjoin, suffices, frame, done}
 use types.Match.{live, vrt, in_variant}
 use types.Part.{whole, agg}
 use types.Run.{addr, align_word, and_then, bin, branches, enter, exec, first, fld, from, lit, no_more, of_opd, returns, returns_within, size_word, skips, stop, switches_on}
@@ -28,10 +28,12 @@ use types.ByLocal.{alloc_all, pass_all, free_all, look_at, get, get_in, get_tag,
 use denote.Exit.{yes}
 use denote.Laws.{Is}
 use denote.RattleType.{RattleType, owns}
-use denote.Memory.{hidden_shr}
 use denote.Param.{layout}
 use denote.RawPtr.{Ptr, block_ptr}
-use denote.Ref.{Bor, ShrRef}
+use denote.Ref.{ShrRef, shr_vals, shr_Tells}
+use denote.Plain.{uint_vals, uint_Tells}
+use contract.Lifetimes.{Lfts, Shares}
+use Rattle.std.proofs.raw_atomic.Walks.{proved}
 use denote.Builtin.{RefOf, usize}
 use denote.Signature.{plain}
 use denote.Steps.{nothing, owned}
@@ -39,12 +41,11 @@ use denote.Struct.Struct.{Struct, Struct-Makes}
 use denote.Struct.Declared as Declared
 use denote.Struct.Tuple.{Tuple}
 use denote.Triple.Call.{calls_at}
-use denote.Triple.Clauses.{Clauses, Ended, closing}
+use denote.Triple.Clauses.{Clauses, Ended}
 use denote.Triple.Entry.{on_entry}
-use denote.Triple.Spec.{Meets, triple_of}
 use denote.Triple.Statement.{Triple}
-use denote.Triple.Table.{entered}
-use denote.Triple.Walked.{needs, Stays, stay_dropped, walk_of, ends_at, Goes-dropped, walk_Meets}
+use denote.Triple.Table.{framed}
+use denote.Triple.Walked.{needs, Stays, stay_dropped, walk_of, ends_at, Goes-dropped}
 use Rattle.std.specs.Prelude.{Err, IfOk, IsOk, Ok}
 use Rattle.std.specs.Vec.Ownership.{has_block, owns_if}
 use Rattle.std.specs.contracts.result.Result as RS
@@ -58,11 +59,10 @@ use Rattle.std.proofs.RcSteps.{Good, first_Good, is_not, word, word-Good}
 use Rattle.std.proofs.ResultValues.{ok_of, err_of}
 use Rattle.std.proofs.VecSteps.Shapes.{after, arm_body, head}
 use Rattle.ga_boxed.specs.CellsOwn.{cells_own}
-use Rattle.ga_boxed.specs.contracts.live_block.cells.Deed as D-type
 use Rattle.ga_boxed.specs.contracts.live_block.cells.allocate as F
 use Rattle.ga_boxed.specs.contracts.live_block.cells.allocate.Key.{name as #self}
 use Rattle.ga_boxed.proofs.BlockRoom.{all_empty, none_empty}
-use Rattle.ga_boxed.proofs.WalkParts.{Bs, Cr, Mark, mark, mark_made, sz, three_of, three_val, word_made}
+use Rattle.ga_boxed.proofs.WalkParts.{Bs, Cr, Dd, Mark, others, mark, mark_made, sz, three_of, three_val, word_made}
 use Rattle.ga_boxed.proofs.live_block.cells.allocate.Statement as stated
 use Rattle.ga_boxed.proofs.live_block.cells.allocate.Code as code
 
@@ -76,49 +76,38 @@ module _ (E : El) (Z : Al) where
   abbrev clauses : {M : Type 1} {𝓤 : Ura M} (𝓛 : Logic 𝓤) → (Memory → SProp 𝓤) → (Routine → Fun 𝓤) → Clauses 𝓤 ended
   clauses 𝓛 = F.clauses E.row Z.row Z.g Z.d Z.drops 𝓛
 
-  abbrev Dd : RattleType
-  Dd = D-type.the_row (R E) (P E Z) Z.g
-
   abbrev stayed : Stays ended.signature.params ended.kept
   stayed = (stay_dropped (RefOf (0 ∷ []) tt (plain (λ _. P E Z)) (λ _. tt)) yes, (stay_dropped (plain (λ _. usize)) yes, tt))
 
   abbrev Three : RattleType
-  Three = Tuple (Bs E ∷ Cr E ∷ Dd ∷ [])
+  Three = Tuple (Bs E ∷ Cr E ∷ Dd E Z ∷ [])
 
   abbrev Out : RattleType
   Out = RS.the_row Three AE.the_row
 
 module _ (E : El) (Z : Al) {M : Type 1} {𝓤 : Ura M} (𝓛 : Logic 𝓤) (at_mem : Memory → SProp 𝓤) (run : Routine → Fun 𝓤) (C : Calls 𝓤 𝓛.H) (Λ : Loops 𝓤 𝓛.H) (fm : FmC 𝓤 𝓛.H 𝓛.laws C)
-    (callee : Triple 𝓤 (C (takes_key Z)) (Takes Z 𝓛 at_mem run)) (κ κ₁ κ₂ : Lft) (q q₁ q₂ : Share) (short : κ ⊑ κ₂) (within : κ₂ ⊑ Z.row.lives) (rb ro : ℕ) (a : Z.row.Denot) (len : ℕ) (us0 us1 : List Val) where
+    (callee : Triple 𝓤 (C (takes_key Z)) (Takes Z 𝓛 at_mem run)) (κs : Lfts 3) (qs : Shares 3) (short : κs.0 ⊑ κs.1.1.0) (within : κs.1.1.0 ⊑ Z.row.lives) (rb ro : ℕ) (a : Z.row.Denot) (len : ℕ) where
   open 𝓛 use {H, A}
 
-  abbrev self : Bor Z.row.Denot
-  self = record { ref_ptr = (rb, ro); now = a }
-
-  abbrev others : Item 𝓤
-  others = ‵ (flft κ₁ q₁) ⊛ ‵ (flft κ₂ q₂) ⊛ ‵ ftrue
-
   abbrev bound : (walk_of 𝓛 (ended E Z) (stayed E Z) (clauses E Z 𝓛 at_mem run)).Ghost
-  bound = (((κ, (κ₁, (κ₂, tt))), (q, (q₁, (q₂, tt))), (short, tt), (self, (len, tt)), (us0, (us1, tt))), tt)
+  bound = ((κs, qs, (short, tt), (record { ref_ptr = (rb, ro); now = a }, (len, tt)), (vptr rb ro ∷ [], (vint w64 len ∷ [], tt))), tt)
 
   abbrev Post : Val → SProp 𝓤
   Post = (walk_of 𝓛 (ended E Z) (stayed E Z) (clauses E Z 𝓛 at_mem run)).post bound
 
   exits : (r : (Out E Z).Denot) (v : Val)
       → IfOk r (λ t. (t.1.at ≡ t.0.ptr) × (t.1.passed ≡ 0) × (t.1.items ≡ []) × (t.1.room ≡ len) × (t.2.at ≡ t.0.ptr) × (t.2.len ≡ len) × (t.2.alloc ≡ a)) × (len ≡ 0 → IsOk r)
-      → ent 𝓤 (⋆ 𝓛 (‵ ((Out E Z).own_val r (v ∷ [])) ∷ ‵ (flft κ q) ∷ others ∷ [])) (Post v)
+      → ent 𝓤 (⋆ 𝓛 (‵ ((Out E Z).own_val r (v ∷ [])) ∷ ‵ (flft κs.0 qs.0) ∷ others κs qs ∷ [])) (Post v)
   exits r v g =
-      qed 𝓛 (‵ ((Out E Z).own_val r (v ∷ [])) ∷ ‵ (flft κ q) ∷ others ∷ []) ∵
+      qed 𝓛 (‵ ((Out E Z).own_val r (v ∷ [])) ∷ ‵ (flft κs.0 qs.0) ∷ others κs qs ∷ []) ∵
       suffices ! _ (ends_at 𝓛 (ended E Z) (stayed E Z) (clauses E Z 𝓛 at_mem run) bound v r (tt, (tt, tt)) (tt, (tt, tt))) $ says_two ! g $
       move ! (1 ∷ 2 ∷ []) $ join ! $ frame ! $ nothing ! $ nothing ! $ fjoin ! $ nothing ! $ fjoin ! $ done !
 
-  abbrev Had : List (Item 𝓤)
-  Had = ‵ (hidden_shr (P E Z) κ a rb ro) ∷ ‵ (flft κ q) ∷ others ∷ []
-
-  walk : len * sz E < 2 ^ 63 → len < 2 ^ 64 → ent 𝓤 (⋆ 𝓛 Had) (WpFn 𝓤 H C Λ (function E Z) (vptr rb ro ∷ vint w64 len ∷ []) Post)
+  walk : len * sz E < 2 ^ 63 → len < 2 ^ 64 → ent 𝓤 (on_entry 𝓛 (ended E Z).signature κs qs bound.0.3 bound.0.4) (WpFn 𝓤 H C Λ (function E Z) (vptr rb ro ∷ vint w64 len ∷ []) Post)
   walk small fits =
-      let s = sz E in let bytes : len * s < 2 ^ 64 = omega arith in
-      qed 𝓛 Had ∵ enter ! C Λ (function E Z) (vptr rb ro ∷ vint w64 len ∷ []) _ $ alloc_all ! (λ l. pass_all ! refl ((tt, tt), ((tt, record { fits = fits }), tt)) $
+      let κ = κs.0 in let q = qs.0 in let s = sz E in let bytes : len * s < 2 ^ 64 = omega arith in
+      qed 𝓛 ((‵ (flft κ q) ⊛ others κs qs) ∷ ‵ (owns (ShrRef (named 0) κ (P E Z) ∷ usize ∷ []) bound.0.3 bound.0.4) ∷ []) ∵ split ! $ move ! (2 ∷ []) $ fsplit ! $ fsplit ! $ keep ! (1 ∷ 3 ∷ 4 ∷ []) $
+      enter ! C Λ (function E Z) (vptr rb ro ∷ vint w64 len ∷ []) _ $ alloc_all ! (λ l. pass_all ! refl ((tt, tt), ((tt, record { fits = fits }), tt)) $
       let En : Env 𝓤 H = env (function E Z).locals l in
       sets ! (bin ! (get ! refl) (lit ! tt) tt) refl (tt, tt) $ first ! $ branches ! (get ! refl)
       (λ t.
@@ -186,27 +175,11 @@ module _ (E : El) (Z : Al) {M : Type 1} {𝓤 : Ura M} (𝓛 : Logic 𝓤) (at_m
       use1 𝓛 (‵ ((Out E Z).own_val (Err (record {})) (none ∷ []))) (err_of 𝓛 (Three E Z) AE.the_row (record {}) (vstruct vnil)) $
       returns ! (look_at ! 0 refl) $ free_all ! refl $ keep ! (0 ∷ 1 ∷ 2 ∷ []) $ by ! (exits (Err (record {})) none (tt, λ z. absurd (is_not len 0 t z)))))))
 
-  entry : len * sz E < 2 ^ 63 → ent 𝓤 (on_entry 𝓛 (ended E Z).signature (κ, (κ₁, (κ₂, tt))) (q, (q₁, (q₂, tt))) (self, (len, tt)) (us0, (us1, tt))) (WpFn 𝓤 H C Λ (function E Z) (us0 ++ (us1 ++ [])) Post)
-  entry asked =
-      qed 𝓛 ((‵ (flft κ q) ⊛ others) ∷ ‵ (owns (ShrRef (named 0) κ (P E Z) ∷ usize ∷ []) (self, (len, tt)) (us0, (us1, tt))) ∷ []) ∵ split ! $ move ! (2 ∷ []) $ fsplit3 ! $ fsplit ! $ feq_l ! (λ e0.
-      move ! (1 ∷ []) $ fsplit ! $ feq_l ! (λ e1. flt_l ! (λ fits. keep ! (0 ∷ 2 ∷ 3 ∷ []) $
-      by ! (subst (λ (ws : List Val × List Val). ent 𝓤 (⋆ 𝓛 Had) (WpFn 𝓤 H C Λ (function E Z) (ws.0 ++ (ws.1 ++ [])) Post)) (λ j. (sym e0 j, sym e1 j)) (walk asked fits)))))
-
-meets : (E : El) (Z : Al) {M : Type 1} {𝓤 : Ura M} (𝓛 : Logic 𝓤) (at_mem : Memory → SProp 𝓤) (run : Routine → Fun 𝓤) (𝓣 : Tables 𝓤 𝓛.H) → Triple 𝓤 (𝓣.C (takes_key Z)) (Takes Z 𝓛 at_mem run)
-    → Meets 𝓛 (ended E Z).signature (WpFn 𝓤 𝓛.H 𝓣.C 𝓣.Λ (function E Z)) (closing 𝓛 (ended E Z) (clauses E Z 𝓛 at_mem run))
-meets E Z {𝓤 = 𝓤} 𝓛 at_mem run 𝓣 callee =
-    walk_Meets 𝓛 (ended E Z) (stayed E Z) (Goes-dropped 𝓛 3 (RefOf (0 ∷ []) tt (plain (λ _. P E Z)) (λ _. tt)) yes (λ κs x f. refl), (Goes-dropped 𝓛 3 (plain (λ _. usize)) yes (λ κs x f. refl), tt))
-    (clauses E Z 𝓛 at_mem run) (WpFn 𝓤 𝓛.H 𝓣.C 𝓣.Λ (function E Z)) (WpFn-mono 𝓤 𝓛.H 𝓛.laws 𝓣 (function E Z))
-    (λ z. let κs = z.0.0 in let qs = z.0.1 in let a = z.0.3 in let vss = z.0.4 in let On : SProp 𝓤 = on_entry 𝓛 (ended E Z).signature κs qs a vss in
-    let asks = a.1.0 * sz E < 2 ^ 63 in
-    second 𝓤 (κs.1.0 ⊑ E.row.lives) (κs.1.1.0 ⊑ Z.row.lives) On (fact 𝓤 asks) (λ within. needs 𝓤 asks On
-    (entry E Z 𝓛 at_mem run 𝓣.C 𝓣.Λ (fm_of 𝓤 𝓛.H 𝓛.laws 𝓣) callee κs.0 κs.1.0 κs.1.1.0 qs.0 qs.1.0 qs.1.1.0 z.0.2.0 within a.0.ref_ptr.0 a.0.ref_ptr.1 a.0.now a.1.0 vss.0 vss.1.0)))
-
 pub allocate_spec : {M : Type 1} → stated.statement M
-unfolding tables_of
 allocate_spec 𝓤 𝓛 𝓜 𝓡 wired X W LX LW g d dd met md =
-    let E : El = record { row = X; laws = LX } in
-    let Z : Al = record { row = W; laws = LW; g = g; d = d; drops = dd } in
-    let 𝓣 : Tables 𝓤 𝓛.H = tables_of 𝓤 𝓛.H 𝓜 (tables 𝓤 𝓛.H 𝓜 𝓡 𝓡.env) in
-    entered 𝓤 𝓛.H (triple_of 𝓛 (ended E Z).signature (F.spec X W g d dd 𝓛 𝓜.mem 𝓡.returns)) 𝓣.C 𝓣.Λ (#self (args E Z)) (function E Z) (code.unfolded 𝓤 𝓛.H 𝓜 𝓡 wired (X, (W, tt)) d dd)
-    (meets E Z 𝓛 𝓜.mem 𝓡.returns 𝓣 (met.allocate dd))
+    let E : El = record { row = X; laws = LX } in let Z : Al = record { row = W; laws = LW; g = g; d = d; drops = dd } in let 𝓣 = tables 𝓤 𝓛.H 𝓜 𝓡 𝓡.env in
+    proved 𝓛 (ended E Z) (stayed E Z) (clauses E Z 𝓛 𝓜.mem 𝓡.returns) 𝓜 𝓡 (Goes-dropped 𝓛 3 (RefOf (0 ∷ []) tt (plain (λ _. P E Z)) (λ _. tt)) yes (λ κs x f. refl), (Goes-dropped 𝓛 3 (plain (λ _. usize)) yes (λ κs x f. refl), tt))
+    (#self (args E Z)) (function E Z) (code.unfolded 𝓤 𝓛.H 𝓜 𝓡 wired (X, (W, tt)) d dd) (λ κs. (shr_vals, (uint_vals w64, tt))) (λ κs. (shr_Tells (named 0) κs.0 (P E Z), (uint_Tells w64, tt)))
+    (λ κs qs bounds a g are. let asks = a.1.0 * sz E < 2 ^ 63 in
+    let On = on_entry 𝓛 (ended E Z).signature κs qs a (shr_vals a.0, (uint_vals w64 a.1.0, tt)) in second 𝓤 (κs.1.0 ⊑ X.lives) (κs.1.1.0 ⊑ W.lives) On (fact 𝓤 asks) (λ within. needs 𝓤 asks On (λ asked.
+    walk E Z 𝓛 𝓜.mem 𝓡.returns 𝓣.C 𝓣.Λ (framed 𝓤 𝓛.H 𝓜 𝓣) (met.allocate dd) κs qs bounds.0 within a.0.ref_ptr.0 a.0.ref_ptr.1 a.0.now a.1.0 asked are.1.0.1)))

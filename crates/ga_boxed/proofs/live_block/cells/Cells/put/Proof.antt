@@ -41,7 +41,7 @@ use types.Kit.{flt_l, flt_i}
 use types.Run.{bin, size_lit}
 use types.ByLocal.{take_at, give_at}
 use denote.Builtin.{usize}
-use Rattle.std.proofs.mem.Param.{El, R, args, elτ}
+use Rattle.std.proofs.mem.Param.{El, R, args, el_x, elτ}
 use Rattle.std.proofs.ptr.Rows.{times_below, one_below}
 use Rattle.ga_boxed.specs.CellsOwn.{cells_own}
 use Rattle.ga_boxed.proofs.WalkParts.{Cr, Bs, sz, base_vals, base_Tells, at_values, grows, is_one, value_in}
@@ -60,16 +60,16 @@ module _ (E : El) where
   abbrev stayed : Stays ended.signature.params ended.kept
   stayed = (stay_ref (0 ∷ []) tt (plain (λ _. Cr E)), (stay_dropped (plain (λ _. Bs E)) no, (stay_dropped (plain (λ _. usize)) no, (stay_dropped (plain (λ _. R E)) no, tt))))
 
-  abbrev Asks : (Cr E).Denot → (Bs E).Denot → (usize).Denot → (R E).Denot → Type 0
-  Asks d base index item = (base.ptr ≡ d.at) × (index ≡ d.passed + length d.items) × (d.room ≢ 0)
+  abbrev Asks : (Cr E).Denot → (Bs E).Denot → ℕ → Type 0
+  Asks d base index = (base.ptr ≡ d.at) × (index ≡ d.passed + length d.items) × (d.room ≢ 0)
 
-  abbrev Gives0 : (Cr E).Denot → (Bs E).Denot → (usize).Denot → (R E).Denot → (unit).Denot → (Cr E).Denot → Type 0
-  Gives0 d base index item r new = (new.at ≡ d.at) × (new.passed ≡ d.passed) × (new.items ≡ d.items ++ item ∷ []) × (new.room ≡ d.room - 1)
+  abbrev Gives : (Cr E).Denot → el_x E → (Cr E).Denot → Type 0
+  Gives d item new = (new.at ≡ d.at) × (new.passed ≡ d.passed) × (new.items ≡ d.items ++ item ∷ []) × (new.room ≡ d.room - 1)
 
   abbrev spec : {M : Type 1} {𝓤 : Ura M} (𝓛 : Logic 𝓤) → Clauses 𝓤 ended
-  spec {𝓤 = 𝓤} 𝓛 κs a = record { ghost = Unit {0}; requires = λ _. fact 𝓤 (Asks a.0.now a.1.0 a.1.1.0 a.1.1.1.0); ensures = λ _ r w. fact 𝓤 (Gives0 a.0.now a.1.0 a.1.1.0 a.1.1.1.0 r w.0.now) }
+  spec {𝓤 = 𝓤} 𝓛 κs a = record { ghost = Unit {0}; requires = λ _. fact 𝓤 (Asks a.0.now a.1.0 a.1.1.0); ensures = λ _ r w. fact 𝓤 (Gives a.0.now a.1.1.1.0 w.0.now) }
 
-module _ (E : El) {M : Type 1} {𝓤 : Ura M} (𝓛 : Logic 𝓤) (C : Calls 𝓤 𝓛.H) (Λ : Loops 𝓤 𝓛.H) (κ : Lft) (q : Share) (rb ro : ℕ) (γ : GName) (d : (Cr E).Denot) (base : (Bs E).Denot) (index : (usize).Denot) (item : (R E).Denot) (v_item : Val) where
+module _ (E : El) {M : Type 1} {𝓤 : Ura M} (𝓛 : Logic 𝓤) (C : Calls 𝓤 𝓛.H) (Λ : Loops 𝓤 𝓛.H) (κ : Lft) (q : Share) (rb ro : ℕ) (γ : GName) (d : (Cr E).Denot) (base : (Bs E).Denot) (index : ℕ) (item : el_x E) (v_item : Val) where
   open 𝓛 use {H, A}
 
   abbrev self : MutBor (Cr E).Denot
@@ -81,13 +81,13 @@ module _ (E : El) {M : Type 1} {𝓤 : Ura M} (𝓛 : Logic 𝓤) (C : Calls �
   abbrev Post : Val → SProp 𝓤
   Post = (walk_of 𝓛 (ended E) (stayed E) (spec E 𝓛)).post bound
 
-  exits : (r : (unit).Denot) (v : Val) (new : (Cr E).Denot) → Gives0 E d base index item r new → ent 𝓤 (⋆ 𝓛 (‵ (fobs γ ((Cr E).coded.code new)) ∷ ‵ (fbor κ (Borrowed (mem (Cr E)) rb ro γ)) ∷ ‵ (flft κ q) ∷ ‵ ((unit).own_val r (v ∷ [])) ∷ [])) (Post v)
-  exits r v new g0 =
-      qed 𝓛 (‵ (fobs γ ((Cr E).coded.code new)) ∷ ‵ (fbor κ (Borrowed (mem (Cr E)) rb ro γ)) ∷ ‵ (flft κ q) ∷ ‵ ((unit).own_val r (v ∷ [])) ∷ []) ∵
-      suffices ! _ (ends_at 𝓛 (ended E) (stayed E) (spec E 𝓛) bound v r (new, (tt, (tt, (tt, tt)))) (tt, (tt, (tt, (tt, tt))))) $ says ! g0 $
+  exits : (v : Val) (new : (Cr E).Denot) → Gives E d item new → ent 𝓤 (⋆ 𝓛 (‵ (fobs γ ((Cr E).coded.code new)) ∷ ‵ (fbor κ (Borrowed (mem (Cr E)) rb ro γ)) ∷ ‵ (flft κ q) ∷ ‵ ((unit).own_val tt (v ∷ [])) ∷ [])) (Post v)
+  exits v new given =
+      qed 𝓛 (‵ (fobs γ ((Cr E).coded.code new)) ∷ ‵ (fbor κ (Borrowed (mem (Cr E)) rb ro γ)) ∷ ‵ (flft κ q) ∷ ‵ ((unit).own_val tt (v ∷ [])) ∷ []) ∵
+      suffices ! _ (ends_at 𝓛 (ended E) (stayed E) (spec E 𝓛) bound v tt (new, (tt, (tt, (tt, tt)))) (tt, (tt, (tt, (tt, tt))))) $ says ! given $
       nothing ! $ move ! (3 ∷ 0 ∷ []) $ join ! $ frame ! $ feq_i ! (List Val) (vptr rb ro ∷ []) (vptr rb ro ∷ []) refl $ fjoin3 ! $ nothing ! $ nothing ! $ fjoin ! $ nothing ! $ fjoin ! $ nothing ! $ fjoin ! $ move ! (1 ∷ 0 ∷ []) $ fjoin ! $ done !
 
-  walk : Asks E d base index item → index < 2 ^ 64 → Good (layout (R E)) v_item → ent 𝓤 (on_entry 𝓛 (ended E).signature (κ, tt) (q, tt) bound.0.3 bound.0.4) (WpFn 𝓤 H C Λ (function E) (vptr rb ro ∷ word base.ptr ∷ vint w64 index ∷ v_item ∷ []) Post)
+  walk : Asks E d base index → index < 2 ^ 64 → Good (layout (R E)) v_item → ent 𝓤 (on_entry 𝓛 (ended E).signature (κ, tt) (q, tt) bound.0.3 bound.0.4) (WpFn 𝓤 H C Λ (function E) (vptr rb ro ∷ word base.ptr ∷ vint w64 index ∷ v_item ∷ []) Post)
   walk asked fits_index good_item =
       let xs = d.items in let all = d.passed + length xs + d.room in let behind : index ≡ d.passed + length xs = asked.1 in
       let some : 0 < d.room = positive d.room asked.2 in
@@ -114,7 +114,7 @@ module _ (E : El) {M : Type 1} {𝓤 : Ura M} (𝓛 : Logic 𝓤) (C : Calls �
       flt_i ! ((d.passed + length new.items + new.room) * s) (2 ^ 63) (subst (λ k. k * s < 2 ^ 63) same small) $ fjoin ! $
       rewrite ! 0 (λ (p : Ptr). ‵ (cells_own (R E) p d.passed new.items new.room)) (sym e) refl $ move ! (1 ∷ 0 ∷ []) $ fjoin ! $ move ! (1 ∷ 0 ∷ []) $ closes ! tt (Cr E) new vs rb ro $
       returns ! (look_at ! 0 refl) $ free_all ! refl $ keep ! (0 ∷ 1 ∷ 2 ∷ []) $ feq_i ! (List Val) (vunit ∷ []) (vunit ∷ []) refl $ move ! (1 ∷ 2 ∷ 3 ∷ 0 ∷ []) $
-      by ! (exits tt vunit new (refl, refl, refl, refl))))))
+      by ! (exits vunit new (refl, refl, refl, refl))))))
 
 pub put_spec : {M : Type 1} → stated.statement M
 put_spec 𝓤 𝓛 𝓜 𝓡 wired X LX y =
@@ -125,5 +125,5 @@ put_spec 𝓤 𝓛 𝓜 𝓡 wired X LX y =
     (λ z are. let κ = z.0.0.0 in let a = z.0.3 in let vss = z.0.4 in let one = is_one X LX 𝓛 a.1.1.1.0 vss.1.1.1.0 are.1.1.1.0 in
     at_values 𝓛 (ended E) (stayed E) (spec E 𝓛) (WpFn 𝓤 𝓛.H 𝓣.C 𝓣.Λ (function E)) z (mut_vals a.0, (base_vals E a.1.0, (uint_vals w64 a.1.1.0, (one.0 ∷ [], tt))))
     (λ i. (mut_Tells (named 0) κ (Cr E) a.0 vss.0 are.0 i, (base_Tells E a.1.0 vss.1.0 are.1.0 i, (uint_Tells w64 a.1.1.0 vss.1.1.0 are.1.1.0 i, (one.1.0 i, tt)))))
-    (needs 𝓤 (Asks E a.0.now a.1.0 a.1.1.0 a.1.1.1.0) _ (λ asked. walk E 𝓛 𝓣.C 𝓣.Λ κ z.0.1.0 a.0.ref_ptr.0 a.0.ref_ptr.1 a.0.ghost_name a.0.now a.1.0 a.1.1.0 a.1.1.1.0 one.0 asked are.1.1.0.1 one.1.1))))
+    (needs 𝓤 (Asks E a.0.now a.1.0 a.1.1.0) _ (λ asked. walk E 𝓛 𝓣.C 𝓣.Λ κ z.0.1.0 a.0.ref_ptr.0 a.0.ref_ptr.1 a.0.ghost_name a.0.now a.1.0 a.1.1.0 a.1.1.1.0 one.0 asked are.1.1.0.1 one.1.1))))
     ((y.0.0, y.0.1, tt, y.0.3, y.0.4), y.1)
