@@ -6,17 +6,15 @@ use seplogic.Ra.Ura.{Ura}
 use mir.Syntax.{Callee, Fn, named, w64}
 use mir.Val.{Val, vptr, vint}
 use base.Logic.{SProp, ent, via}
-use base.Fml.{Lft, GName, Share, ftrue, flft, fobs, fbor}
+use base.Fml.{Lft, GName, Share, ftrue, flft}
 use prog.Model.{Model}
 use prog.Wp.{Calls, Closed, Loops, WpFn}
 use types.Logic.{Logic}
 use contract.Monad.{fact}
 use contract.Running.{MachineTables, Running, tables}
-use types.Kit.{Item, ⋆, ‵, ◌⊛◌, ◌$◌, ◌∵◌, !, qed, move, keep, split, join, fsplit, fsplit3, fjoin, fjoin3, feq_i, suffices, frame, done}
-use types.SemTy.{Body as Borrowed}
+use types.Kit.{⋆, ‵, ◌⊛◌, ◌$◌, ◌∵◌, !, qed, move, keep, split, join, fsplit, fsplit3, fjoin, fjoin3, feq_i, suffices, frame, done}
 use denote.Builtin.{RefMutOf, usize}
 use denote.Exit.{yes, no}
-use denote.Memory.{mem}
 use denote.Plain.{uint_vals, uint_Tells}
 use denote.RattleType.{owns}
 use denote.Ref.{MutBor, MutRef, mut_vals, mut_Tells}
@@ -30,7 +28,7 @@ use denote.Triple.Walked.{needs, says, Stays, stay_dropped, stay_ref, walk_of, e
 use Rattle.std.proofs.mem.Param.{El, R, el_x}
 use Rattle.std.proofs.raw_atomic.Walks.{proved}
 use Rattle.std.proofs.RcSteps.{word}
-use Rattle.ga_boxed.proofs.WalkParts.{Cr, Bs, base_vals, base_Tells, grows}
+use Rattle.ga_boxed.proofs.WalkParts.{Cr, Bs, Had, Left, base_vals, base_Tells, grows}
 
 abbrev pub Asking : El → Type 1
 Asking E = (Cr E).Denot → (Bs E).Denot → ℕ → Type 0
@@ -45,15 +43,6 @@ module _ (E : El) where
   abbrev stayed : Stays ended.signature.params ended.kept
   stayed = (stay_ref (0 ∷ []) tt (plain (λ _. Cr E)), (stay_dropped (plain (λ _. Bs E)) no, (stay_dropped (plain (λ _. usize)) no, tt)))
 
-module _ (E : El) {M : Type 1} {𝓤 : Ura M} (𝓛 : Logic 𝓤) (κ : Lft) (q : Share) (rb ro : ℕ) (γ : GName) where
-  -- the cells as they are, and their borrow
-  abbrev pub Had : (Cr E).Denot → List (Item 𝓤)
-  Had d = ‵ (fobs γ ((Cr E).coded.code d)) ∷ ‵ (fbor κ (Borrowed (mem (Cr E)) rb ro γ)) ∷ ‵ (flft κ q) ∷ []
-
-  -- the same at the end, and the item
-  abbrev Left : (Cr E).Denot → el_x E → Val → List (Item 𝓤)
-  Left d r v = ‵ (fobs γ ((Cr E).coded.code d)) ∷ ‵ (fbor κ (Borrowed (mem (Cr E)) rb ro γ)) ∷ ‵ (flft κ q) ∷ ‵ ((R E).own_val r (v ∷ [])) ∷ []
-
 module _ (E : El) (asks : Asking E) (gives : Giving E) {M : Type 1} {𝓤 : Ura M} (𝓛 : Logic 𝓤) where
   open 𝓛 use {H}
 
@@ -63,8 +52,8 @@ module _ (E : El) (asks : Asking E) (gives : Giving E) {M : Type 1} {𝓤 : Ura 
   -- a walk is given what it asks, and how it ends
   abbrev pub Walk : Calls 𝓤 H → Loops 𝓤 H → Fn → Type 2
   Walk C Λ e = (κ : Lft) (q : Share) (rb ro : ℕ) (γ : GName) (d : (Cr E).Denot) (base : (Bs E).Denot) (index : ℕ) (Post : Val → SProp 𝓤) → asks d base index → index < 2 ^ 64
-      → ((r : el_x E) (v : Val) (new : (Cr E).Denot) → gives d r new → ent 𝓤 (⋆ 𝓛 (Left E 𝓛 κ q rb ro γ new r v)) (Post v))
-      → ent 𝓤 (⋆ 𝓛 (Had E 𝓛 κ q rb ro γ d)) (WpFn 𝓤 H C Λ e (vptr rb ro ∷ word base.ptr ∷ vint w64 index ∷ []) Post)
+      → ((r : el_x E) (v : Val) (new : (Cr E).Denot) → gives d r new → ent 𝓤 (⋆ 𝓛 (Left E κ q rb ro γ (R E) new r v)) (Post v))
+      → ent 𝓤 (⋆ 𝓛 (Had E κ q rb ro γ d)) (WpFn 𝓤 H C Λ e (vptr rb ro ∷ word base.ptr ∷ vint w64 index ∷ []) Post)
 
   module _ (κ : Lft) (q : Share) (rb ro : ℕ) (γ : GName) (d : (Cr E).Denot) (base : (Bs E).Denot) (index : ℕ) where
     abbrev self : MutBor (Cr E).Denot
@@ -73,12 +62,12 @@ module _ (E : El) (asks : Asking E) (gives : Giving E) {M : Type 1} {𝓤 : Ura 
     abbrev bound : (walk_of 𝓛 (ended E) (stayed E) clauses).Ghost
     bound = (((κ, tt), (q, tt), tt, (self, (base, (index, tt))), (vptr rb ro ∷ [], (word base.ptr ∷ [], (vint w64 index ∷ [], tt)))), tt)
 
-    exits : (r : el_x E) (v : Val) (new : (Cr E).Denot) → gives d r new → ent 𝓤 (⋆ 𝓛 (Left E 𝓛 κ q rb ro γ new r v)) ((walk_of 𝓛 (ended E) (stayed E) clauses).post bound v)
+    exits : (r : el_x E) (v : Val) (new : (Cr E).Denot) → gives d r new → ent 𝓤 (⋆ 𝓛 (Left E κ q rb ro γ (R E) new r v)) ((walk_of 𝓛 (ended E) (stayed E) clauses).post bound v)
     exits r v new given =
-        qed 𝓛 (Left E 𝓛 κ q rb ro γ new r v) ∵ suffices ! _ (ends_at 𝓛 (ended E) (stayed E) clauses bound v r (new, (tt, (tt, tt))) (tt, (tt, (tt, tt)))) $ says ! given $
+        qed 𝓛 (Left E κ q rb ro γ (R E) new r v) ∵ suffices ! _ (ends_at 𝓛 (ended E) (stayed E) clauses bound v r (new, (tt, (tt, tt))) (tt, (tt, (tt, tt)))) $ says ! given $
         nothing ! $ move ! (3 ∷ 0 ∷ []) $ join ! $ frame ! $ feq_i ! (List Val) (vptr rb ro ∷ []) (vptr rb ro ∷ []) refl $ fjoin3 ! $ nothing ! $ nothing ! $ fjoin ! $ nothing ! $ fjoin ! $ move ! (1 ∷ 0 ∷ []) $ fjoin ! $ done !
 
-    entry : ent 𝓤 (on_entry 𝓛 (ended E).signature (κ, tt) (q, tt) (self, (base, (index, tt))) bound.0.4) (⋆ 𝓛 (Had E 𝓛 κ q rb ro γ d))
+    entry : ent 𝓤 (on_entry 𝓛 (ended E).signature (κ, tt) (q, tt) (self, (base, (index, tt))) bound.0.4) (⋆ 𝓛 (Had E κ q rb ro γ d))
     entry = qed 𝓛 ((‵ (flft κ q) ⊛ ‵ ftrue) ∷ ‵ (owns (MutRef (named 0) κ (Cr E) ∷ Bs E ∷ usize ∷ []) (self, (base, (index, tt))) bound.0.4) ∷ []) ∵ split ! $ move ! (2 ∷ []) $ fsplit ! $ fsplit3 ! $ keep ! (1 ∷ 2 ∷ 4 ∷ []) $ done !
 
   module _ (𝓜 : Model 𝓤 H) (𝓡 : Running 𝓤 H 𝓜) where

@@ -1,20 +1,31 @@
--- What the walks share: a value of one pointer, one of no bytes, a tuple of three, and an item as a machine value and in memory. Assumes `Logic`.
+-- What the walks share: a value of one pointer, one of no bytes, a tuple of three, an item as a machine value and in memory, and how a walk begins and ends. Assumes `Logic`.
 use mathlib.Core.Path.{◌≡◌, refl, subst, sym, ap, ◌∙◌}
 use Prim.Native.Nat.{ℕ, zero, suc, ◌*◌, ◌<◌, ◌^◌}
-use mathlib.Core.List.{List, [], ◌∷◌}
+use mathlib.Core.List.{List, [], ◌∷◌, ◌++◌}
 use seplogic.Ra.Ura.{Ura}
 use mir.Val.{Val, vstruct, vcons, vnil}
 use base.Logic.{ent, sep, emp, ex, guard}
+use prog.Model.{Model}
+use contract.Lifetimes.{Lfts, Shares}
+use contract.Monad.{Fun}
+use contract.Running.{Running}
 use types.Logic.{Logic, sem}
 use types.Kit.{Item, Goal, Step, step, ‵, ◌$◌, ◌∵◌, !, qed, move, fjoin, fpack, feq_i, done, some, ◌⊛◌, use1, pick, split, check, show}
 use denote.RattleType.{RattleType, Valss}
-use denote.RawPtr.{Ptr, RawPtr, ptr_val}
+use denote.RawPtr.{Ptr, RawPtr, ptr_val, rawptr_vals, rawptr_Tells}
 use denote.Shadow.{makes_shadow}
 use denote.Steps.{nothing, peeks}
-use denote.Struct.Struct.{Shape, Struct, within}
+use denote.Struct.Struct.{Shape, Struct, Struct-Tells, within}
 use denote.Struct.Owning.{shape}
 use denote.Struct.Declared as Declared
 use denote.Struct.Tuple.{Tuple, tuple_type}
+use denote.Triple.Carry.{grown, spared}
+use denote.Triple.Clauses.{Clauses, Ended, closing}
+use denote.Triple.Entry.{Vals}
+use denote.Triple.Spec.{Meets}
+use denote.Triple.Statement.{Triple}
+use denote.Triple.Table.{run_framed}
+use denote.Triple.Walked.{Stays, walk_of}
 use Rattle.std.specs.Mem.{type_size}
 use Rattle.std.proofs.mem.Param.{El, R, elτ}
 use Rattle.std.proofs.RcSteps.{word, Good}
@@ -22,12 +33,13 @@ use Rattle.ga_boxed.specs.contracts.live_block.cells.Cells as C-type
 use Rattle.ga_boxed.specs.contracts.live_block.cells.Base as B-type
 use Rattle.ga_boxed.specs.contracts.live_block.cells.Deed as D-type
 use base.Fraction.{full_share}
-use mir.Syntax.{Ty, Args, a_type, ty_array, dcons, dnil}
-use base.Fml.{fat, flft, ftrue}
-use denote.Laws.{Typed, Is, shows}
+use mir.Syntax.{Callee, Ty, Args, a_type, ty_array, dcons, dnil}
+use base.Fml.{Lft, GName, Share, fat, flft, fobs, fbor, ftrue}
+use denote.Laws.{Typed, Is, Tells, shows}
 use denote.Param.{param, layout, bounded}
 use denote.Param.Laws.{Laws, param_laws}
-use denote.Memory.{part_at}
+use denote.Memory.{mem, part_at}
+use types.SemTy.{Body as Borrowed}
 use borrow.Table.OneValue.{part_in, part_out}
 use native.Mathlib.Nat.{zero-mul, suc-mul}
 use native.Mathlib.Omega.{arith}
@@ -36,21 +48,6 @@ use prog.Memory.{size, align, capped}
 use prog.Capped.{capped_is}
 use prog.RawLaws.{size-raw, align-raw}
 use Rattle.std.proofs.alloc.Calls.{Al}
-use contract.Lifetimes.{Lfts, Shares}
-use contract.Running.{Running}
-use denote.Laws.{Tells}
-use denote.RawPtr.{rawptr_vals, rawptr_Tells}
-use denote.Struct.Struct.{Struct-Tells}
-use denote.Triple.Carry.{grown, spared}
-use denote.Triple.Clauses.{Clauses, Ended, closing}
-use denote.Triple.Spec.{Meets}
-use denote.Triple.Statement.{Triple}
-use denote.Triple.Table.{run_framed}
-use denote.Triple.Entry.{Vals}
-use denote.Triple.Walked.{Stays, walk_of}
-use contract.Monad.{Fun}
-use mir.Syntax.{Callee}
-use prog.Model.{Model}
 
 -- where the product fits a word, the count is zero or the size fits too
 pub uncapped : (i k : ℕ) → i * k < 2 ^ 64 → i * capped k ≡ i * k
@@ -96,7 +93,7 @@ module _ (E : El) where
 abbrev one_field : Shape
 one_field = record { name = []; args = []; types = []; fields = RawPtr ∷ [] }
 
-abbrev pub Word : RattleType
+abbrev Word : RattleType
 Word = Struct one_field
 
 -- a base is its pointer, as a machine value
@@ -106,27 +103,11 @@ base_vals E c = word c.ptr ∷ []
 pub base_Tells : (E : El) → Tells (Bs E) (Is (Bs E)) (base_vals E)
 base_Tells E c = Struct-Tells one_field (rawptr_vals, tt) (rawptr_Tells, tt) (c.ptr, tt)
 
--- what is met over a function's own lifetimes is met with one more for each type parameter
-module _ {M : Type 1} {𝓤 : Ura M} (𝓛 : Logic 𝓤) (𝓜 : Model 𝓤 𝓛.H) (𝓡 : Running 𝓤 𝓛.H 𝓜) (T : Ended) (c : Clauses 𝓤 T) where
-  pub grows : (m : ℕ) (ℓs : Lfts m) (k : Callee) → Meets 𝓛 T.signature (𝓡.run (𝓡.env k)) (closing 𝓛 T c) → Triple 𝓤 (𝓡.run (𝓡.env k)) (grown 𝓛 T.signature m ℓs (closing 𝓛 T c))
-  grows m ℓs k = spared 𝓛 T.signature (𝓡.run (𝓡.env k)) (run_framed 𝓤 𝓛.H 𝓜 𝓡 (𝓡.env k)) m ℓs (closing 𝓛 T c)
-
--- in a walk the parameters' machine values are written out
-pub at_values : {M : Type 1} {𝓤 : Ura M} (𝓛 : Logic 𝓤) (T : Ended) (hs : Stays T.signature.params T.kept) (c : Clauses 𝓤 T) (run : Fun 𝓤) (y : (walk_of 𝓛 T hs c).Ghost) (vss : Vals T.signature y.0.0) → y.0.4 ≡ vss
-    → ent 𝓤 ((walk_of 𝓛 T hs c).pre ((y.0.0, y.0.1, y.0.2, y.0.3, vss), y.1)) (run ((walk_of 𝓛 T hs c).args ((y.0.0, y.0.1, y.0.2, y.0.3, vss), y.1)) ((walk_of 𝓛 T hs c).post ((y.0.0, y.0.1, y.0.2, y.0.3, vss), y.1)))
-    → ent 𝓤 ((walk_of 𝓛 T hs c).pre y) (run ((walk_of 𝓛 T hs c).args y) ((walk_of 𝓛 T hs c).post y))
-at_values {𝓤 = 𝓤} 𝓛 T hs c run y vss e =
-    subst (λ (us : Vals T.signature y.0.0). let z : (walk_of 𝓛 T hs c).Ghost = ((y.0.0, y.0.1, y.0.2, y.0.3, us), y.1) in ent 𝓤 ((walk_of 𝓛 T hs c).pre z) (run ((walk_of 𝓛 T hs c).args z) ((walk_of 𝓛 T hs c).post z))) (sym e)
-
 abbrev pub mark : Val
 mark = vstruct (vcons (vstruct vnil) vnil)
 
 pub mark_Tells : (E : El) → Tells (Mark E) (Is (Mark E)) (λ _. mark ∷ [])
 mark_Tells E = Struct-Tells (shape (C-type.the_type (R E))) ((λ _. vstruct vnil ∷ []), tt) ((λ x vs p. p.1.0), tt)
-
--- the tokens of the lifetimes of the two type parameters
-abbrev pub others : {M : Type 1} {𝓤 : Ura M} → Lfts 3 → Shares 3 → Item 𝓤
-others κs qs = ‵ (flft κs.1.0 qs.1.0) ⊛ ‵ (flft κs.1.1.0 qs.1.1.0) ⊛ ‵ ftrue
 
 pub mark_made : (E : El) {M : Type 1} {𝓤 : Ura M} (𝓛 : Logic 𝓤) → ent 𝓤 (emp 𝓤) (sem 𝓛 ((Mark E).own_val (tt, tt) (mark ∷ [])))
 mark_made E 𝓛 = makes_shadow 𝓛 ((Mark E).own_val (tt, tt) (mark ∷ [])) (λ vss. (tt, ((λ uss. (tt, tt)), tt))) ((vstruct vnil ∷ [], tt), (refl, ((tt, (refl, tt)), tt)))
@@ -167,3 +148,28 @@ alone τ (v ∷ w ∷ vs) t = absurd t.1
 -- what is owned of a value is one machine value, of its type
 pub is_one : (Y : RattleType) (L : Laws Y) {M : Type 1} {𝓤 : Ura M} (𝓛 : Logic 𝓤) (x : Y.Denot) (vs : List Val) → Is (param 0 Y) x vs → (v : Val) × ((vs ≡ v ∷ []) × Good (layout Y) v)
 is_one Y L 𝓛 x vs is = alone (layout Y) vs (((param_laws 0 Y L).lawful 𝓛).typed x vs is)
+
+-- the tokens of the lifetimes of the two type parameters
+abbrev pub others : {M : Type 1} {𝓤 : Ura M} → Lfts 3 → Shares 3 → Item 𝓤
+others κs qs = ‵ (flft κs.1.0 qs.1.0) ⊛ ‵ (flft κs.1.1.0 qs.1.1.0) ⊛ ‵ ftrue
+
+module _ (E : El) {M : Type 1} {𝓤 : Ura M} (κ : Lft) (q : Share) (rb ro : ℕ) (γ : GName) where
+  -- the cells as they are, and their borrow
+  abbrev pub Had : (Cr E).Denot → List (Item 𝓤)
+  Had d = ‵ (fobs γ ((Cr E).coded.code d)) ∷ ‵ (fbor κ (Borrowed (mem (Cr E)) rb ro γ)) ∷ ‵ (flft κ q) ∷ []
+
+  -- the same at the end, and the result
+  abbrev pub Left : (Q : RattleType) → (Cr E).Denot → Q.Denot → Val → List (Item 𝓤)
+  Left Q d r v = Had d ++ ‵ (Q.own_val r (v ∷ [])) ∷ []
+
+-- what is met over a function's own lifetimes is met with one more for each type parameter
+module _ {M : Type 1} {𝓤 : Ura M} (𝓛 : Logic 𝓤) (𝓜 : Model 𝓤 𝓛.H) (𝓡 : Running 𝓤 𝓛.H 𝓜) (T : Ended) (c : Clauses 𝓤 T) where
+  pub grows : (m : ℕ) (ℓs : Lfts m) (k : Callee) → Meets 𝓛 T.signature (𝓡.run (𝓡.env k)) (closing 𝓛 T c) → Triple 𝓤 (𝓡.run (𝓡.env k)) (grown 𝓛 T.signature m ℓs (closing 𝓛 T c))
+  grows m ℓs k = spared 𝓛 T.signature (𝓡.run (𝓡.env k)) (run_framed 𝓤 𝓛.H 𝓜 𝓡 (𝓡.env k)) m ℓs (closing 𝓛 T c)
+
+-- in a walk the parameters' machine values are written out
+pub at_values : {M : Type 1} {𝓤 : Ura M} (𝓛 : Logic 𝓤) (T : Ended) (hs : Stays T.signature.params T.kept) (c : Clauses 𝓤 T) (run : Fun 𝓤) (y : (walk_of 𝓛 T hs c).Ghost) (vss : Vals T.signature y.0.0) → y.0.4 ≡ vss
+    → ent 𝓤 ((walk_of 𝓛 T hs c).pre ((y.0.0, y.0.1, y.0.2, y.0.3, vss), y.1)) (run ((walk_of 𝓛 T hs c).args ((y.0.0, y.0.1, y.0.2, y.0.3, vss), y.1)) ((walk_of 𝓛 T hs c).post ((y.0.0, y.0.1, y.0.2, y.0.3, vss), y.1)))
+    → ent 𝓤 ((walk_of 𝓛 T hs c).pre y) (run ((walk_of 𝓛 T hs c).args y) ((walk_of 𝓛 T hs c).post y))
+at_values {𝓤 = 𝓤} 𝓛 T hs c run y vss e =
+    subst (λ (us : Vals T.signature y.0.0). let z : (walk_of 𝓛 T hs c).Ghost = ((y.0.0, y.0.1, y.0.2, y.0.3, us), y.1) in ent 𝓤 ((walk_of 𝓛 T hs c).pre z) (run ((walk_of 𝓛 T hs c).args z) ((walk_of 𝓛 T hs c).post z))) (sym e)

@@ -10,7 +10,7 @@ use mir.Syntax.{Fn, named, w64}
 use mir.MapTy.{inst_fn}
 use mir.Val.{Val, vptr, vint, vunit}
 use base.Logic.{SProp, ent, never, id⊢}
-use base.Fml.{Lft, GName, Share, ftrue, fat, froom, flft, fobs, fbor}
+use base.Fml.{Lft, GName, Share, ftrue, fat, froom, flft}
 use prog.Wp.{Env, Calls, Loops, WpFn}
 use types.Logic.{Logic}
 use contract.Monad.{fact}
@@ -19,10 +19,9 @@ use types.Kit.{⋆, ‵, ◌⊛◌, at_ret, ◌$◌, ◌∵◌, !, qed, by, move
 use types.Part.{whole, sub}
 use types.Run.{init, stop, fld, unit_lit, of_opd, assigns_last, first, blocks, exec, returns, enter}
 use types.ByLocal.{alloc_all, pass_all, free_all, look_at, get, get_in, through, sets, env}
-use types.SemTy.{Body as Borrowed}
 use denote.Exit.{yes, no}
 use denote.RattleType.{owns}
-use denote.Memory.{mem, part_at}
+use denote.Memory.{part_at}
 use denote.Param.{layout}
 use denote.RawPtr.{Ptr, in_a_block}
 use denote.Ref.{MutBor, MutRef, mut_vals, mut_Tells}
@@ -44,7 +43,7 @@ use denote.Builtin.{usize}
 use Rattle.std.proofs.mem.Param.{El, R, args, el_x, elτ}
 use Rattle.std.proofs.ptr.Rows.{times_below, one_below}
 use Rattle.ga_boxed.specs.CellsOwn.{cells_own}
-use Rattle.ga_boxed.proofs.WalkParts.{Cr, Bs, sz, base_vals, base_Tells, at_values, grows, is_one, value_in}
+use Rattle.ga_boxed.proofs.WalkParts.{Cr, Bs, Left, sz, base_vals, base_Tells, at_values, grows, is_one, value_in}
 use Rattle.ga_boxed.proofs.EndLemmas.{positive, Around, Held, room_out, item_in}
 use Rattle.ga_boxed.specs.contracts.live_block.cells.Cells.put.Key.{name as #self}
 use Rattle.ga_boxed.proofs.live_block.cells.Cells.put.Statement as stated
@@ -81,9 +80,9 @@ module _ (E : El) {M : Type 1} {𝓤 : Ura M} (𝓛 : Logic 𝓤) (C : Calls �
   abbrev Post : Val → SProp 𝓤
   Post = (walk_of 𝓛 (ended E) (stayed E) (spec E 𝓛)).post bound
 
-  exits : (v : Val) (new : (Cr E).Denot) → Gives E d item new → ent 𝓤 (⋆ 𝓛 (‵ (fobs γ ((Cr E).coded.code new)) ∷ ‵ (fbor κ (Borrowed (mem (Cr E)) rb ro γ)) ∷ ‵ (flft κ q) ∷ ‵ ((unit).own_val tt (v ∷ [])) ∷ [])) (Post v)
+  exits : (v : Val) (new : (Cr E).Denot) → Gives E d item new → ent 𝓤 (⋆ 𝓛 (Left E κ q rb ro γ unit new tt v)) (Post v)
   exits v new given =
-      qed 𝓛 (‵ (fobs γ ((Cr E).coded.code new)) ∷ ‵ (fbor κ (Borrowed (mem (Cr E)) rb ro γ)) ∷ ‵ (flft κ q) ∷ ‵ ((unit).own_val tt (v ∷ [])) ∷ []) ∵
+      qed 𝓛 (Left E κ q rb ro γ unit new tt v) ∵
       suffices ! _ (ends_at 𝓛 (ended E) (stayed E) (spec E 𝓛) bound v tt (new, (tt, (tt, (tt, tt)))) (tt, (tt, (tt, (tt, tt))))) $ says ! given $
       nothing ! $ move ! (3 ∷ 0 ∷ []) $ join ! $ frame ! $ feq_i ! (List Val) (vptr rb ro ∷ []) (vptr rb ro ∷ []) refl $ fjoin3 ! $ nothing ! $ nothing ! $ fjoin ! $ nothing ! $ fjoin ! $ nothing ! $ fjoin ! $ move ! (1 ∷ 0 ∷ []) $ fjoin ! $ done !
 

@@ -9,7 +9,7 @@ use mir.Syntax.{Ty, Fn, Args, ty_array, named, a_type, a_number}
 use mir.MapTy.{inst_fn}
 use mir.Val.{Val, vptr, vunit}
 use base.Logic.{SProp, ent, sep, via, assoc', fst∗, never, id⊢}
-use base.Fml.{Lft, GName, Share, ftrue, fat, flft, fobs, fbor}
+use base.Fml.{Lft, GName, Share, ftrue, fat, flft}
 use prog.Memory.{size}
 use prog.Wp.{Env, Calls, Loops, WpFn}
 use types.Logic.{Logic}
@@ -19,11 +19,10 @@ use types.Kit.{⋆, ‵, ◌⊛◌, given, at_ret, ◌$◌, ◌∵◌, !, qed, b
 use types.Part.{whole, sub}
 use types.Run.{init, stop, hop, from, fld, unit_lit, of_opd, assigns_last, first, blocks, exec, returns, enter}
 use types.ByLocal.{alloc_all, pass_all, free_all, look_at, look_in_at, get, sets, env, take_at, give_at}
-use types.SemTy.{Body as Borrowed}
 use denote.Array.{Array}
 use denote.Exit.{yes, no, all_rest}
 use denote.RattleType.{RattleType, owns}
-use denote.Memory.{mem, part_at}
+use denote.Memory.{part_at}
 use denote.Param.{ArrayAt, param, number, layout, layouts}
 use denote.Param.Laws.{Laws, param_laws, array_at_laws}
 use denote.RawPtr.{Ptr, block_ptr, in_a_block}
@@ -43,7 +42,7 @@ use Rattle.std.proofs.mem.Param.{El, R, el_x, elτ}
 use Rattle.ga_boxed.specs.CellsOwn.{cells_own, empty}
 use Rattle.ga_boxed.proofs.BlockRoom.{to_block}
 use Rattle.ga_boxed.proofs.NativeLemmas.{all_items, nothing_left}
-use Rattle.ga_boxed.proofs.WalkParts.{Cr, Bs, sz, base_vals, base_Tells, at_values, grows, is_one}
+use Rattle.ga_boxed.proofs.WalkParts.{Cr, Bs, Left, sz, base_vals, base_Tells, at_values, grows, is_one}
 use Rattle.ga_boxed.specs.contracts.live_block.cells.Cells.put_array.Key.{name as #self}
 use Rattle.ga_boxed.proofs.live_block.cells.Cells.put_array.Statement as stated
 use Rattle.ga_boxed.proofs.live_block.cells.Cells.put_array.Code as code
@@ -94,9 +93,9 @@ module _ (E : El) (n : ℕ) {M : Type 1} {𝓤 : Ura M} (𝓛 : Logic 𝓤) (C :
   abbrev Post : Val → SProp 𝓤
   Post = (walk_of 𝓛 (ended E n) (stayed E n) (spec E n 𝓛)).post bound
 
-  exits : (v : Val) (new : (Cr E).Denot) → Gives E n d items new → ent 𝓤 (⋆ 𝓛 (‵ (fobs γ ((Cr E).coded.code new)) ∷ ‵ (fbor κ (Borrowed (mem (Cr E)) rb ro γ)) ∷ ‵ (flft κ q) ∷ ‵ ((unit).own_val tt (v ∷ [])) ∷ [])) (Post v)
+  exits : (v : Val) (new : (Cr E).Denot) → Gives E n d items new → ent 𝓤 (⋆ 𝓛 (Left E κ q rb ro γ unit new tt v)) (Post v)
   exits v new gives =
-      qed 𝓛 (‵ (fobs γ ((Cr E).coded.code new)) ∷ ‵ (fbor κ (Borrowed (mem (Cr E)) rb ro γ)) ∷ ‵ (flft κ q) ∷ ‵ ((unit).own_val tt (v ∷ [])) ∷ []) ∵
+      qed 𝓛 (Left E κ q rb ro γ unit new tt v) ∵
       suffices ! _ (ends_at 𝓛 (ended E n) (stayed E n) (spec E n 𝓛) bound v tt (new, (tt, (all_rest (λ _. Unit {0}) (λ _. tt) items, tt))) (tt, (tt, (tt, tt)))) $ says ! gives $
       nothing ! $ move ! (3 ∷ 0 ∷ []) $ join ! $ frame ! $ feq_i ! (List Val) (vptr rb ro ∷ []) (vptr rb ro ∷ []) refl $ fjoin3 ! $ nothing ! $ nothing ! $ fjoin ! $ nothing ! $ fjoin ! $ move ! (1 ∷ 0 ∷ []) $ fjoin ! $ done !
 

@@ -29,8 +29,8 @@ use Rattle.std.proofs.ptr.Rows.{times_below, one_below}
 use Rattle.std.proofs.RcSteps.{Good, word, word-Good}
 use Rattle.std.proofs.VecSteps.Shapes.{after}
 use Rattle.ga_boxed.proofs.FrontLemmas.{uncons, place_after, passed_one, empty_snoc}
-use Rattle.ga_boxed.proofs.TakeWalk.{Asking, Giving, Had, Walk, takes}
-use Rattle.ga_boxed.proofs.WalkParts.{Cr, Bs, sz, value_out}
+use Rattle.ga_boxed.proofs.TakeWalk.{Asking, Giving, Walk, takes}
+use Rattle.ga_boxed.proofs.WalkParts.{Cr, Bs, Had, sz, value_out}
 use Rattle.ga_boxed.proofs.live_block.cells.Cells.take_first.Code as code
 use Rattle.ga_boxed.proofs.live_block.cells.Cells.take_first.Statement as stated
 use Rattle.ga_boxed.specs.CellsOwn.{cells_own, empty}
@@ -54,7 +54,7 @@ module _ (E : El) {M : Type 1} {𝓤 : Ura M} (𝓛 : Logic 𝓤) (C : Calls �
       let s = sz E in let n = d.room in
       let cut = uncons d.items asked.2 in let x = cut.0 in let xs = cut.1.0 in
       let new : (Cr E).Denot = record { mark = d.mark; at = d.at; passed = index + 1; items = xs; room = n } in
-      qed 𝓛 (Had E 𝓛 κ q rb ro γ d) ∵ enter ! C Λ (function E) (vptr rb ro ∷ word base.ptr ∷ vint w64 index ∷ []) _ $ alloc_all ! (λ l. pass_all ! refl ((tt, tt), (word-Good [] base.ptr, ((tt, record { fits = fits_index }), tt))) $
+      qed 𝓛 (Had E κ q rb ro γ d) ∵ enter ! C Λ (function E) (vptr rb ro ∷ word base.ptr ∷ vint w64 index ∷ []) _ $ alloc_all ! (λ l. pass_all ! refl ((tt, tt), (word-Good [] base.ptr, ((tt, record { fits = fits_index }), tt))) $
       let En : Env 𝓤 H = env (function E).locals l in
       opens ! tt (Cr E) {h = d} rb ro (λ vs. move ! (1 ∷ []) $ fsplit ! $ move ! (1 ∷ []) $
       rewrite ! 0 (λ (k : ℕ). ‵ (cells_own (R E) d.at k d.items n)) (sym asked.1) refl $ rewrite ! 0 (λ (l : List (el_x E)). ‵ (cells_own (R E) d.at index l n)) cut.1.1 refl $

@@ -31,8 +31,8 @@ use types.ByLocal.{take_at, give_at}
 use Rattle.std.proofs.mem.Param.{El, R, args, elτ}
 use Rattle.std.proofs.ptr.Rows.{times_below, one_below}
 use Rattle.ga_boxed.specs.CellsOwn.{cells_own}
-use Rattle.ga_boxed.proofs.TakeWalk.{Asking, Giving, Had, Walk, takes}
-use Rattle.ga_boxed.proofs.WalkParts.{Cr, Bs, sz, value_out}
+use Rattle.ga_boxed.proofs.TakeWalk.{Asking, Giving, Walk, takes}
+use Rattle.ga_boxed.proofs.WalkParts.{Cr, Bs, Had, sz, value_out}
 use Rattle.ga_boxed.proofs.EndLemmas.{split_last, Around, Held, room_in, item_out}
 use Rattle.ga_boxed.specs.contracts.live_block.cells.Cells.take_last.Key.{name as #self}
 use Rattle.ga_boxed.proofs.live_block.cells.Cells.take_last.Statement as stated
@@ -58,7 +58,7 @@ module _ (E : El) {M : Type 1} {𝓤 : Ura M} (𝓛 : Logic 𝓤) (C : Calls �
       let new : (Cr E).Denot = record { mark = d.mark; at = d.at; passed = d.passed; items = ys; room = d.room + 1 } in
       let less : length ys + 1 ≡ length xs = last.2 in let behind : index ≡ d.passed + length ys = omega arith in
       let same : all ≡ d.passed + length ys + new.room = omega arith in
-      qed 𝓛 (Had E 𝓛 κ q rb ro γ d) ∵ enter ! C Λ (function E) (vptr rb ro ∷ word base.ptr ∷ vint w64 index ∷ []) _ $ alloc_all ! (λ l. pass_all ! refl ((tt, tt), (word-Good [] base.ptr, ((tt, record { fits = fits_index }), tt))) $
+      qed 𝓛 (Had E κ q rb ro γ d) ∵ enter ! C Λ (function E) (vptr rb ro ∷ word base.ptr ∷ vint w64 index ∷ []) _ $ alloc_all ! (λ l. pass_all ! refl ((tt, tt), (word-Good [] base.ptr, ((tt, record { fits = fits_index }), tt))) $
       let En : Env 𝓤 H = env (function E).locals l in
       opens ! tt (Cr E) {h = d} rb ro (λ vs. move ! (1 ∷ []) $ fsplit ! $ move ! (1 ∷ []) $
       in_a_block ! d.at (λ p. cells_own (R E) p d.passed xs d.room) (id⊢ 𝓤 (never 𝓤)) (λ b o e. fsplit ! $ flt_l ! (λ small.
