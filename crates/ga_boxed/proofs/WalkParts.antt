@@ -27,7 +27,7 @@ use denote.Triple.Statement.{Triple}
 use denote.Triple.Table.{run_framed}
 use denote.Triple.Walked.{Stays, walk_of}
 use Rattle.std.specs.Mem.{type_size}
-use Rattle.std.proofs.mem.Param.{El, R, elτ}
+use Rattle.std.proofs.mem.Param.{El, R, el_x, elτ, lawful, one}
 use Rattle.std.proofs.RcSteps.{word, Good}
 use Rattle.ga_boxed.specs.contracts.live_block.cells.Cells as C-type
 use Rattle.ga_boxed.specs.contracts.live_block.cells.Base as B-type
@@ -35,7 +35,7 @@ use Rattle.ga_boxed.specs.contracts.live_block.cells.Deed as D-type
 use base.Fraction.{full_share}
 use mir.Syntax.{Callee, Ty, Args, a_type, ty_array, dcons, dnil}
 use base.Fml.{Lft, GName, Share, fat, flft, fobs, fbor, ftrue}
-use denote.Laws.{Typed, Is, Tells, shows}
+use denote.Laws.{Is, Tells, shows}
 use denote.Param.{param, layout, bounded}
 use denote.Param.Laws.{Laws, param_laws}
 use denote.Memory.{mem, part_at}
@@ -140,14 +140,9 @@ module _ (i : ℕ) (Y : RattleType) (L : Laws Y) {M : Type 1} {𝓤 : Ura M} (�
   pub value_in : (x : Y.Denot) (b o : ℕ) (v : Val) → ent 𝓤 (sep 𝓤 (H.at full_share (layout Y) b o v) (sem 𝓛 (Y.own_val x (v ∷ [])))) (sem 𝓛 (part_at (param i Y) full_share x b o))
   value_in x b o v = part_in 𝓛 (param i Y) refl full_share x b o v
 
-alone : (τ : Ty) (vs : List Val) → Typed (τ ∷ []) vs → (v : Val) × ((vs ≡ v ∷ []) × Good τ v)
-alone τ [] t = absurd t
-alone τ (v ∷ []) t = (v, (refl, t.0))
-alone τ (v ∷ w ∷ vs) t = absurd t.1
-
--- what is owned of a value is one machine value, of its type
-pub is_one : (Y : RattleType) (L : Laws Y) {M : Type 1} {𝓤 : Ura M} (𝓛 : Logic 𝓤) (x : Y.Denot) (vs : List Val) → Is (param 0 Y) x vs → (v : Val) × ((vs ≡ v ∷ []) × Good (layout Y) v)
-is_one Y L 𝓛 x vs is = alone (layout Y) vs (((param_laws 0 Y L).lawful 𝓛).typed x vs is)
+-- what is owned of an item is one machine value, of its type
+pub is_one : (E : El) {M : Type 1} {𝓤 : Ura M} (𝓛 : Logic 𝓤) (x : el_x E) (vs : List Val) → Is (R E) x vs → (v : Val) × (vs ≡ v ∷ []) × Good (elτ E) v
+is_one E 𝓛 x vs is = one E vs ((lawful E 𝓛).typed x vs is)
 
 -- the tokens of the lifetimes of the two type parameters
 abbrev pub others : {M : Type 1} {𝓤 : Ura M} → Lfts 3 → Shares 3 → Item 𝓤

@@ -121,8 +121,8 @@ put_spec 𝓤 𝓛 𝓜 𝓡 wired X LX y =
     grows 𝓛 𝓜 𝓡 (ended E) (spec E 𝓛) 1 (X.lives, tt) (#self (args E))
     (proved_at 𝓛 (ended E) (stayed E) (spec E 𝓛) 𝓜 𝓡 (Goes-ref 𝓛 1 0 tt (plain (λ _. Cr E)), (Goes-dropped 𝓛 1 (plain (λ _. Bs E)) no (λ κs x f. refl), (Goes-dropped 𝓛 1 (plain (λ _. usize)) no (λ κs x f. refl), (Goes-dropped 𝓛 1 (plain (λ _. R E)) no (λ κs x f. refl), tt))))
     (#self (args E)) (function E) (code.unfolded 𝓤 𝓛.H 𝓜 𝓡 wired (X, tt))
-    (λ z are. let κ = z.0.0.0 in let a = z.0.3 in let vss = z.0.4 in let one = is_one X LX 𝓛 a.1.1.1.0 vss.1.1.1.0 are.1.1.1.0 in
+    (λ z are. let κ = z.0.0.0 in let a = z.0.3 in let vss = z.0.4 in let one = is_one E 𝓛 a.1.1.1.0 vss.1.1.1.0 are.1.1.1.0 in
     at_values 𝓛 (ended E) (stayed E) (spec E 𝓛) (WpFn 𝓤 𝓛.H 𝓣.C 𝓣.Λ (function E)) z (mut_vals a.0, (base_vals E a.1.0, (uint_vals w64 a.1.1.0, (one.0 ∷ [], tt))))
-    (λ i. (mut_Tells (named 0) κ (Cr E) a.0 vss.0 are.0 i, (base_Tells E a.1.0 vss.1.0 are.1.0 i, (uint_Tells w64 a.1.1.0 vss.1.1.0 are.1.1.0 i, (one.1.0 i, tt)))))
-    (needs 𝓤 (Asks E a.0.now a.1.0 a.1.1.0) _ (λ asked. walk E 𝓛 𝓣.C 𝓣.Λ κ z.0.1.0 a.0.ref_ptr.0 a.0.ref_ptr.1 a.0.ghost_name a.0.now a.1.0 a.1.1.0 a.1.1.1.0 one.0 asked are.1.1.0.1 one.1.1))))
+    (λ i. (mut_Tells (named 0) κ (Cr E) a.0 vss.0 are.0 i, (base_Tells E a.1.0 vss.1.0 are.1.0 i, (uint_Tells w64 a.1.1.0 vss.1.1.0 are.1.1.0 i, (one.1 i, tt)))))
+    (needs 𝓤 (Asks E a.0.now a.1.0 a.1.1.0) _ (λ asked. walk E 𝓛 𝓣.C 𝓣.Λ κ z.0.1.0 a.0.ref_ptr.0 a.0.ref_ptr.1 a.0.ghost_name a.0.now a.1.0 a.1.1.0 a.1.1.1.0 one.0 asked are.1.1.0.1 one.2))))
     ((y.0.0, y.0.1, tt, y.0.3, y.0.4), y.1)

@@ -128,10 +128,10 @@ put_array_spec 𝓤 𝓛 𝓜 𝓡 wired X n LX fits y =
     grows 𝓛 𝓜 𝓡 (ended E n) (spec E n 𝓛) 2 (X.lives, ([], tt)) (#self (args E n))
     (proved_at 𝓛 (ended E n) (stayed E n) (spec E n 𝓛) 𝓜 𝓡 (Goes-ref 𝓛 1 0 tt (plain (λ _. Cr E)), (Goes-dropped 𝓛 1 (plain (λ _. Bs E)) no (λ κs x f. refl), ((λ κs x f vs ok. via 𝓤 _ (nothing_left 𝓛 x f) (𝓛.laws.⇛_intro _)), tt)))
     (#self (args E n)) (function E n) (code.unfolded 𝓤 𝓛.H 𝓜 𝓡 wired (X, (number n, tt)))
-    (λ z are. let κ = z.0.0.0 in let a = z.0.3 in let vss = z.0.4 in let one = is_one (Arr E n) (arr_laws E n) 𝓛 a.1.1.0 vss.1.1.0 are.1.1.0 in let us : Vals (ended E n).signature z.0.0 = (mut_vals a.0, (base_vals E a.1.0, (one.0 ∷ [], tt))) in
+    (λ z are. let κ = z.0.0.0 in let a = z.0.3 in let vss = z.0.4 in let one = is_one (record { row = Arr E n; laws = arr_laws E n }) 𝓛 a.1.1.0 vss.1.1.0 are.1.1.0 in let us : Vals (ended E n).signature z.0.0 = (mut_vals a.0, (base_vals E a.1.0, (one.0 ∷ [], tt))) in
     at_values 𝓛 (ended E n) (stayed E n) (spec E n 𝓛) (WpFn 𝓤 𝓛.H 𝓣.C 𝓣.Λ (function E n)) z us
-    (λ i. (mut_Tells (named 0) κ (Cr E) a.0 vss.0 are.0 i, (base_Tells E a.1.0 vss.1.0 are.1.0 i, (one.1.0 i, tt))))
+    (λ i. (mut_Tells (named 0) κ (Cr E) a.0 vss.0 are.0 i, (base_Tells E a.1.0 vss.1.0 are.1.0 i, (one.1 i, tt))))
     (let P = on_entry 𝓛 (ended E n).signature z.0.0 z.0.1 a us in let small = fact 𝓤 (Small E n) in let Q = Asks E n a.0.now a.1.0 in
     via 𝓤 (sep 𝓤 (sep 𝓤 P small) (fact 𝓤 Q)) (assoc' 𝓤 P small (fact 𝓤 Q)) (needs 𝓤 Q (sep 𝓤 P small) (λ asked. via 𝓤 P (fst∗ 𝓤 P small)
-    (walk E n 𝓛 𝓣.C 𝓣.Λ κ z.0.1.0 a.0.ref_ptr.0 a.0.ref_ptr.1 a.0.ghost_name a.0.now a.1.0 a.1.1.0 one.0 asked one.1.1))))))
+    (walk E n 𝓛 𝓣.C 𝓣.Λ κ z.0.1.0 a.0.ref_ptr.0 a.0.ref_ptr.1 a.0.ghost_name a.0.now a.1.0 a.1.1.0 one.0 asked one.2))))))
     ((y.0.0, y.0.1, tt, y.0.3, y.0.4), y.1)
