@@ -3,6 +3,7 @@ pub mod CutLemmas
 pub mod FillLemmas
 pub mod LeftLemmas
 mod LentSlice
+pub mod MoveLemmas
 pub mod PlaceLemmas
 pub use Rattle.ga_views.proofs.HexLemmas
 pub use Rattle.ga_views.proofs.RowLemmas

@@ -31,4 +31,5 @@ pub use ga_views::{
 };
 pub use length::{ArrayLength, ConstArrayLength, IntoArrayLength};
 pub use never::{Never, always};
+pub use places::move_items;
 pub use store::Store;

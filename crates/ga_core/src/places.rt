@@ -5,6 +5,7 @@ ghost use Rattle.std.specs.List.{All, AllZip, range_with_len};
 ghost use Rattle.std.specs.Prelude.{◌≡◌, ◌≤◌, Err, IsOk, MatchResult, Ok, OnOk, length, replicate};
 
 use crate::alloc_error::AllocError;
+use std::mem;
 
 /// Writes `f(0)`, `f(1)` and so on over the places, each called once, in this order.
 #[inline]
@@ -44,6 +45,18 @@ pub(crate) fn write_same<T: Copy + Drop>(places: &mut [T], item: T)
 {
     for place in places.iter_mut() {
         *place = item;
+    }
+}
+
+/// Moves the items of a slice over those of another of the same length, which are dropped, and leaves
+/// defaults. Compiles to a copy where the length is known.
+#[inline]
+pub fn move_items<T: Default + Drop>(items: &mut [T], places: &mut [T])
+    requires len { length items.old ≡ length places.old }
+    ensures { places.new ≡ items.old }
+{
+    for (index, place) in places.iter_mut().enumerate() {
+        *place = mem::take(&mut items[index]);
     }
 }
 

@@ -1,41 +1,14 @@
--- Items moved one by one from the front of a list, and items taken out of it.
+-- Items taken out of a list, and rows of it joined and cut.
 use Rattle.std.proofs.Common.{◌≡◌, ℕ, zero, suc, ◌+◌, ◌-◌, ◌*◌, ◌/◌, ◌<◌, ◌≤◌, List, [], ◌∷◌, ◌++◌, Some, take, drop, refl, ap, ◌∙◌, sym, arith, append_assoc, get_or, length, length-append, length-drop, length-take, map, slice_get, slice_index_or, slice_set}
 use Rattle.std.proofs.Math.Seq.{drop-append_seam, take-append_seam}
 use Rattle.generic_array.specs.Rows.{row_at, rows}
 use Rattle.std.proofs.Math.Nat.{suc-mul}
-use Rattle.std.proofs.lemmas.List.{drop-drop, drop-set-lt, drop_more, take_more_set}
+use Rattle.std.proofs.lemmas.List.{drop-drop, drop_more}
 use Rattle.std.proofs.lemmas.List.FromFn.{map-range_with_len_more}
 use Rattle.std.proofs.lemmas.Nat.{div-mul-add}
 use Rattle.std.specs.List.{flat_map, range_with_len, remove, swap_remove}
 
 module _ {T : Type 0} where
-  take-suc_next : (n : ℕ) (items left : List T) (item : T) → drop n items ≡ item ∷ left → take (suc n) items ≡ take n items ++ item ∷ []
-  take-suc_next zero items left item here = ap (take 1) here
-  take-suc_next (suc n) [] left item here = cc
-  take-suc_next (suc n) (x ∷ items) left item here = ap (λ more. x ∷ more) (take-suc_next n items left item here)
-
-  -- the items up to a place, moved behind others, and the next
-  pub take-next : (n : ℕ) (start before after items left : List T) (item : T) → drop n items ≡ item ∷ left → before ≡ start ++ take n items → after ≡ before ++ item ∷ []
-      → after ≡ start ++ take (n + 1) items
-  take-next n start before after items left item here moved grows =
-      let more : n + 1 ≡ suc n = omega arith in
-      grows ∙ (ap (λ l. l ++ item ∷ []) moved ∙ (append_assoc start (take n items) (item ∷ [])
-      ∙ ap (λ l. start ++ l) (sym (take-suc_next n items left item here) ∙ ap (λ k. take k items) (sym more))))
-
-  -- what follows them
-  pub drop-next : (n : ℕ) (items left : List T) (item : T) → drop n items ≡ item ∷ left → left ≡ drop (n + 1) items
-  drop-next n items left item here = ap (drop 1) (sym here) ∙ drop-drop 1 n items
-
-  -- one item more moved out of a list to the same place of another
-  pub moved-next : (n : ℕ) (items left places : List T) (item blank : T) → n < length left → n < length places → item ≡ slice_index_or left n item
-      → take n places ≡ take n items → drop n left ≡ drop n items
-      → (take (n + 1) (slice_set places n item) ≡ take (n + 1) items) × (drop (n + 1) (slice_set left n blank) ≡ drop (n + 1) items)
-  moved-next n items left places item blank some room this before behind =
-      let here : drop n items ≡ item ∷ drop (n + 1) left = sym behind ∙ (drop_more left n item some ∙ ap (λ x. x ∷ drop (n + 1) left) (sym this)) in (
-        take-next n [] (take n places) (take (n + 1) (slice_set places n item)) items (drop (n + 1) left) item here before (take_more_set places n item room),
-        drop-set-lt (n + 1) left n blank (omega arith) ∙ drop-next n items (drop (n + 1) left) item here,
-      )
-
   -- the item at a place, and the list without it
   pub slice_get-next : (n : ℕ) (items left : List T) (item : T) → drop n items ≡ item ∷ left → slice_get items n ≡ Some item
   slice_get-next zero items left item here = ap (λ all. slice_get all 0) here

@@ -10,6 +10,7 @@ use crate::live_block::LiveBlock;
 use ga_core::{AllocError, ArrayLength, Const, GenericArray, LengthError, Unsigned};
 use std::alloc::Global;
 use std::boxed::BoxedSlice;
+use std::mem;
 
 impl<T: Default + Drop, N: ArrayLength<T>> BoxedArray<T, N> {
     /// The items of an inline array in a block. Where that is refused, they are dropped. No block is
@@ -20,11 +21,11 @@ impl<T: Default + Drop, N: ArrayLength<T>> BoxedArray<T, N> {
         ensures ok { IfOk result (λ boxed. boxed ≡ array) }
         ensures empty { N.USIZE ≡ 0 → IsOk result }
     {
-        // Its contract shows that there are `N` items.
-        let _ = array.as_slice();
+        let mut array = array;
+        let places = array.as_mut_slice();
         let mut block = LiveBlock::new(alloc, N::USIZE)?;
-        for item in array {
-            block.put(item);
+        for place in places.iter_mut() {
+            block.put(mem::take(place));
         }
         Ok(BoxedArray::of_items(block))
     }

@@ -9,10 +9,12 @@ mod tests;
 use crate::alloc_error::AllocError;
 use crate::array::GenericArray;
 use crate::length::ArrayLength;
-use crate::store::store_of_array;
+use crate::places::move_items;
+use crate::store::{Store, store_of_array};
 use ga_views::{Const, LengthError};
 use std::alloc::Global;
 use std::boxed::BoxedSlice;
+use std::mem;
 
 impl<T: Default + Drop, const U: usize> GenericArray<T, Const<U>> {
     /// The array of the items of a native one. The counterpart of `GenericArray::from_array`, and of
@@ -47,13 +49,19 @@ impl<T: Default + Drop, N: ArrayLength<T>> GenericArray<T, N> {
     /// The array of the items of a vector, or `LengthError` where it hasn't `N` items; the vector is
     /// then dropped. The counterpart of `TryFrom<Vec<T>>`.
     ///
-    /// The length fits. Moves each item, and asks for no memory.
+    /// The length fits. Moves each item once, and asks for no memory.
     pub fn try_from_vec(items: Vec<T>) -> Result<Self, LengthError>
         requires fits { FitsInline N.USIZE }
         ensures variant { IsOk result ↔ (length items.items ≡ N.USIZE) }
         ensures ok { IfOk result (λ array. array ≡ items.items) }
     {
-        Self::try_from_iter(items.into_iter())
+        if items.len() != N::USIZE {
+            return Err(LengthError);
+        }
+        let mut items = items;
+        let mut store: N::ArrayType = Store::filled();
+        move_items(items.as_mut_slice(), store.as_mut_slice());
+        Ok(GenericArray::of_store(store))
     }
 
     /// The same of a boxed slice. The counterpart of `TryFrom<Box<[T]>>`.
@@ -73,11 +81,11 @@ impl<T: Default + Drop, N: ArrayLength<T>> GenericArray<T, N> {
         ensures ok { IfOk result (λ items. items.items ≡ self) }
         ensures empty { N.USIZE ≡ 0 → IsOk result }
     {
-        // Its contract shows that there are `N` items.
-        let _ = self.as_slice();
+        let mut array = self;
+        let places = array.as_mut_slice();
         let mut items = Vec::with_capacity(alloc, N::USIZE)?;
-        for item in self {
-            items.push_reserved(item);
+        for place in places.iter_mut() {
+            items.push_reserved(mem::take(place));
         }
         Ok(items)
     }

@@ -2,9 +2,9 @@
 ghost use Rattle.ga_core.specs.Length.{FitsInline};
 ghost use Rattle.std.specs.Prelude.{◌≡◌, ◌+◌, ◌*◌, ◌<◌, map};
 
-use crate::sequence::shapes::moves::{array_of, move_items, push_all, push_next};
+use crate::sequence::shapes::moves::{array_of, push_all, push_next};
 use crate::sequence::shapes::{Concat, Flatten, Lengthen, Remove, Row, Shorten, Split, Unflatten};
-use ga_core::{ArrayBuilder, ArrayLength, GenericArray};
+use ga_core::{ArrayBuilder, ArrayLength, GenericArray, move_items};
 use std::mem;
 
 impl<T: Default + Drop, N: ArrayLength<T>, M: ArrayLength<T>> Lengthen<T, GenericArray<T, M>>

@@ -2,19 +2,7 @@
 ghost use Rattle.ga_core.specs.Length.{FitsInline};
 ghost use Rattle.std.specs.Prelude.{◌≡◌, ◌+◌, ◌≤◌, ◌++◌, drop, length, take};
 
-use ga_core::{ArrayBuilder, ArrayLength, GenericArray, GenericArrayIter};
-use std::mem;
-
-/// Moves the items of a slice over those of another, which are dropped, and leaves defaults.
-#[inline]
-pub(super) fn move_items<T: Default + Drop>(items: &mut [T], places: &mut [T])
-    requires { length items.old ≡ length places.old }
-    ensures { places.new ≡ items.old }
-{
-    for (index, place) in places.iter_mut().enumerate() {
-        *place = mem::take(&mut items[index]);
-    }
-}
+use ga_core::{ArrayBuilder, ArrayLength, GenericArray, GenericArrayIter, move_items};
 
 /// An array of the items of a slice, in which defaults are left.
 #[inline]

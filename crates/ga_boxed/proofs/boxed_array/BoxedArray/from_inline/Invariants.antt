@@ -1,9 +1,10 @@
 use Rattle.ga_boxed.proofs.boxed_array.BoxedArray.from_inline.Given as goal
-use Rattle.std.proofs.Common.{◌≡◌, ◌++◌, length}
+use Rattle.std.proofs.Common.{◌≡◌, ◌+◌, drop, length, take}
 
--- the items so far and those that are left are the array's, and there is room for these
-abbrev pub invariant-loop-item : goal.invariant-loop-item
-invariant-loop-item g l = record {
-  moved : l.block.items ++ l.item-iterator ≡ l.fn.array;
-  room : l.block.room ≡ length l.item-iterator;
+-- the items up to this place were moved, the others stand in theirs, and there is room for them
+abbrev pub invariant-loop-place : goal.invariant-loop-place
+invariant-loop-place g l = record {
+  moved : l.block.items ≡ take l.place-index l.fn.array;
+  left : drop l.place-index l.places ≡ drop l.place-index l.fn.array;
+  room : l.place-index + l.block.room ≡ length l.fn.array;
 }

@@ -1,9 +1,10 @@
 use Rattle.ga_core.proofs.array.GenericArray.into_vec.Given as goal
-use Rattle.std.proofs.Common.{◌≡◌, ◌+◌, ◌++◌, ◌≤◌, length, vec_capacity, vec_len}
+use Rattle.std.proofs.Common.{◌≡◌, ◌≤◌, drop, length, take, vec_capacity}
 
--- the items so far and those that are left are the array's, and the block has room for these
-abbrev pub invariant-loop-item : goal.invariant-loop-item
-invariant-loop-item g l = record {
-  moved : l.items.items ++ l.item-iterator ≡ l.fn.self;
-  room : vec_len l.items + length l.item-iterator ≤ vec_capacity l.items;
+-- the items up to this place were moved, the others stand in theirs, and the block has room for all
+abbrev pub invariant-loop-place : goal.invariant-loop-place
+invariant-loop-place g l = record {
+  moved : l.items.items ≡ take l.place-index l.fn.self;
+  left : drop l.place-index l.places ≡ drop l.place-index l.fn.self;
+  room : length l.fn.self ≤ vec_capacity l.items;
 }

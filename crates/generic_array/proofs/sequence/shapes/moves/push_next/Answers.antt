@@ -1,4 +1,4 @@
-use Rattle.generic_array.proofs.ShapeLemmas.{drop-next, take-next}
+use Rattle.ga_core.proofs.MoveLemmas.{drop-next, take-next}
 use Rattle.generic_array.proofs.sequence.shapes.moves.push_next.Goals as goal
 use Rattle.std.proofs.Common.{◌≡◌, ◌∷◌, drop, rules}
 

@@ -1,5 +1,5 @@
 use Rattle.std.proofs.Common.{◌≡◌, drop, take}
-use Rattle.generic_array.proofs.sequence.shapes.moves.move_items.Given as goal
+use Rattle.ga_core.proofs.places.move_items.Given as goal
 
 -- what is written so far and what is still to be moved are the items
 abbrev pub invariant-loop-index : goal.invariant-loop-index

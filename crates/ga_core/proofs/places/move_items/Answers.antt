@@ -1,6 +1,6 @@
 use Rattle.std.proofs.Common.{rules}
-use Rattle.generic_array.proofs.ShapeLemmas.{moved-next}
-use Rattle.generic_array.proofs.sequence.shapes.moves.move_items.Goals as goal
+use Rattle.ga_core.proofs.MoveLemmas.{moved-next}
+use Rattle.ga_core.proofs.places.move_items.Goals as goal
 
 pub loop-index-preserved : goal.loop-index-preserved
 loop-index-preserved g c =
