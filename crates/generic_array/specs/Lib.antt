@@ -5,6 +5,7 @@ pub mod EntryRuns
 pub mod Laws
 pub mod Matrix
 pub use Rattle.ga_boxed.specs.FillAnswer
+pub use Rattle.ga_boxed.specs.Live
 pub use Rattle.ga_core.specs.Copies
 pub use Rattle.ga_core.specs.Cut
 pub use Rattle.ga_core.specs.Fill

@@ -19,7 +19,7 @@ mod tests;
 #[cfg(test)]
 mod uses;
 
-pub use ga_boxed::{BoxedArray, BoxedArrayIter};
+pub use ga_boxed::{BoxedArray, BoxedArrayIter, LiveBlock};
 pub use ga_core::{
     AllocError, ArrayBuilder, ArrayLength, ArrayMut, ChunkIter, ChunksMut, ChunksRef, Const,
     ConstArrayLength, ConstGenericArray, FillError, GenericArray, GenericArrayIter,
@@ -28,5 +28,5 @@ pub use ga_core::{
     U16, U17, U18, U19, U20, U21, U22, U23, U24, U25, U26, U27, U28, U29, U30, U31, U32, U33, U34,
     U35, U36, U37, U38, U39, U40, U41, U42, U43, U44, U45, U46, U47, U48, U49, U50, U51, U52, U53,
     U54, U55, U56, U57, U58, U59, U60, U61, U62, U63, U64, U128, U256, U512, U1024, U2048,
-    Unsigned, always, hex_text,
+    Unsigned, always, hex_text, move_items,
 };
