@@ -16,7 +16,7 @@ impl<T: Default + Drop, N: ArrayLength<T>> BoxedArray<T, N> {
     /// The items of an inline array in a block. Where that is refused, they are dropped. No block is
     /// asked for where `N` is 0.
     ///
-    /// Moves each item.
+    /// Moves each item once.
     pub fn from_inline(alloc: Global, array: GenericArray<T, N>) -> Result<Self, AllocError>
         ensures ok { IfOk result (λ boxed. boxed ≡ array) }
         ensures empty { N.USIZE ≡ 0 → IsOk result }

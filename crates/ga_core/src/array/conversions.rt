@@ -76,7 +76,7 @@ impl<T: Default + Drop, N: ArrayLength<T>> GenericArray<T, N> {
     /// The items as a vector. Where the block for them is refused, they are dropped. No block is asked
     /// for where `N` is 0. The counterpart of `From<GenericArray<T, N>>` for `Vec<T>`.
     ///
-    /// Moves each item.
+    /// Moves each item once.
     pub fn into_vec(self, alloc: Global) -> Result<Vec<T>, AllocError>
         ensures ok { IfOk result (λ items. items.items ≡ self) }
         ensures empty { N.USIZE ≡ 0 → IsOk result }
