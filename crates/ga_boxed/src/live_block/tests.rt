@@ -5,6 +5,7 @@ ghost use Rattle.std.specs.Prelude.{◌≡◌, ◌∷◌, [], IfOk, IsOk, None, 
 
 use super::*;
 use crate::counted::{Counted, Counts};
+use std::cell::Cell;
 
 /// What the first item of two is, and the room after it was taken.
 fn front_of_two(alloc: Global) -> Result<(Option<u32>, usize), AllocError>
@@ -118,6 +119,37 @@ fn each_item_is_dropped_once_in_any_mix_of_puts_and_takes(rt: HostRuntime) {
             assert!(rt; before == 4.min(fronts + backs) && all == 5);
         }
     }
+}
+
+/// Writes its digit behind those before it where it is dropped.
+struct Marked<'a> {
+    digit: u32,
+    dropped: &'a Cell<u32>,
+}
+
+impl Drop for Marked<'_> {
+    fn drop(self) {
+        let Marked { digit, dropped } = self;
+        dropped.set(dropped.get().wrapping_mul(10).wrapping_add(digit));
+    }
+}
+
+/// Drops a block of four such items, of which the first was taken.
+fn drop_marked(alloc: Global, dropped: &Cell<u32>) -> Result<(), AllocError> {
+    let mut block = LiveBlock::new(alloc, 4)?;
+    block.put(Marked { digit: 1, dropped });
+    block.put(Marked { digit: 2, dropped });
+    block.put(Marked { digit: 3, dropped });
+    block.put(Marked { digit: 4, dropped });
+    let _ = block.take_front();
+    Ok(())
+}
+
+#[test]
+fn items_are_dropped_from_the_front(rt: HostRuntime) {
+    let dropped = Cell::new(0);
+    assert!(rt; drop_marked(rt.alloc(), &dropped).is_ok());
+    assert!(rt; dropped.get() == 1234);
 }
 
 /// Whether texts, which own memory, come out of a block as they went in, and are dropped with it.
