@@ -4,6 +4,8 @@ mod InnerItem
 mod InnerItems
 mod InnerPart
 mod InnerSlice
+pub mod ItemPlace
+pub mod LoanWalk
 pub mod RowLemmas
 pub mod RowsMutLemmas
 mod SharedLoan
