@@ -1,11 +1,13 @@
--- The call `ArrayVec::as_mut_slice` as a step of a walk, for a function of the same type parameters that hands on a part of the slice.
---     calls_slice     the tokens and the store that was passed are what it asks; it gives the slice, taken apart, and the store follows the slice
+-- A function of the type parameters of `ArrayVec::as_mut_slice` that hands on a part of the slice which that lends, and takes one number.
+--     loan_of         what such a function asks and gives, as `LoanWalk` has it
+--     calls_slice     the call as a step of a walk: the store that was passed and the tokens are what it asks; it gives the slice, taken apart, and the store follows the slice
 -- Assumes `Logic`.
 use Rattle.arrayvec.specs.ArrayVec.{with_items}
 use Rattle.arrayvec.specs.contracts.array_vec.ArrayVec.{the_row}
 use Rattle.arrayvec.specs.contracts.array_vec.ArrayVec.as_mut_slice as callee
+use Rattle.ga_views.proofs.LoanWalk.{Every, Loan}
 use Rattle.std.proofs.Common.{◌≡◌, ◌^◌, ◌<◌, ◌≤◌, [], ◌∷◌, ap, length, List, MutBor, ℕ}
-use base.Fml.{fbor, Fml, fobs, fsep, ftrue}
+use base.Fml.{fbor, flft, Fml, fobs, fsep, ftrue, GName}
 use base.Logic.{emp, id⊢, SProp}
 use base.Stored.{coded_list}
 use contract.BorrowLft.{◌⊑◌}
@@ -18,6 +20,7 @@ use denote.Param.{layout, number, param}
 use denote.RattleType.{RattleType}
 use denote.Ref.{mut_vals, MutRef}
 use denote.Shadow.{pure_l}
+use denote.Signature.{plain, Slot}
 use denote.Slice.{heres, MutSlice, Room, room, slice_val}
 use denote.Steps.{heard, nothing, only}
 use denote.Triple.Call.{calls_at}
@@ -44,6 +47,25 @@ module _ (X : RattleType) (n : ℕ) (Z : RattleType) where
   abbrev pub S : RattleType
   S = the_row R (param 1 (number n)) (param 2 Z)
 
+  -- what is asked of the lifetimes
+  abbrev lives : Lfts 4 → List (Type 0)
+  lives κs = (κs.1.0 ⊑ X.lives) ∷ (κs.1.1.0 ⊑ []) ∷ (κs.1.1.1.0 ⊑ Z.lives) ∷ []
+
+  -- a U is lent, the store ends as `after` of its last value, and `shown` is said of the result
+  abbrev pub loan_of : (result : Slot 4) (U : RattleType) → ((κs : Lfts 4) → (result.row κs).Denot → GName)
+      → (List X.Denot → ℕ → Type 0) → (S.Denot → ℕ → U.Denot → S.Denot) → ((κs : Lfts 4) → List X.Denot → ℕ → (result.row κs).Denot → Type 0) → Loan
+  loan_of result U name asks after shown = record {
+    more = 3;
+    outlives = (callee.signature X (number n) Z).outlives;
+    lent = plain (λ _. S);
+    result = result;
+    numbers = 1;
+    lives = lives;
+    asks = λ κs store ns. (size (layout S) < 2 ^ 63) ∷ asks store.items ns.0 ∷ [];
+    ties = λ κs x ns r. follows S U x.ghost_name (name κs r) (after x.now ns.0);
+    gives = λ κs store ns r. shown κs store.items ns.0 r;
+  }
+
   module _ {M : Type 1} {𝓤 : Ura M} (𝓛 : Logic 𝓤) (at_mem : Memory → SProp 𝓤) (run : Routine → Fun 𝓤) where
     open 𝓛 use {H}
 
@@ -59,7 +81,7 @@ module _ (X : RattleType) (n : ℕ) (Z : RattleType) where
       Passed = (MutRef (named 0) κs.0 S).own_val store (mut_vals store)
 
       abbrev pub Asked : Type 0
-      Asked = (κs.1.0 ⊑ X.lives) × (κs.1.1.0 ⊑ []) × (κs.1.1.1.0 ⊑ Z.lives) × (size (layout S) < 2 ^ 63)
+      Asked = Every (lives κs) × (size (layout S) < 2 ^ 63)
 
       -- the slice s, as the value v
       abbrev pub Told : Val → MutBor (List X.Denot) → Type 0
@@ -77,18 +99,19 @@ module _ (X : RattleType) (n : ℕ) (Z : RattleType) where
 
       module _ {K : Type 0} {Γ : List (Item 𝓤)} {E : Env 𝓤 H} {C : Calls 𝓤 H} {Λ : Loops 𝓤 H} {f : Callee} {xs : List Opd} {d : Place} {rest : Code} {q : Post 𝓤 H} where
         pub calls_slice : K → FmC 𝓤 H 𝓛.laws C → Triple 𝓤 (C f) Called → Asked → Opds K 𝓛 (raw (Called.pre choice) ∷ Γ) E xs (Called.args choice)
-            → ((v : Val) (s : MutBor (List X.Denot)) → Told v s → Seq K 𝓛 (seen s ∷ borrow s ∷ ‵ (tied s) ∷ raw (toks 𝓛 4 κs qs) ∷ Γ) (lands C Λ E d v rest q))
-            → Seq K 𝓛 (raw (toks 𝓛 4 κs qs) ∷ ‵ Passed ∷ Γ) (runs C Λ E (seq (call f xs d) rest) q)
+            → ((v : Val) (s : MutBor (List X.Denot)) → Told v s → Seq K 𝓛 (seen s ∷ borrow s ∷ ‵ (flft κs.0 qs.0) ∷ ‵ (tied s) ∷ raw (toks 𝓛 3 κs.1 qs.1) ∷ Γ) (lands C Λ E d v rest q))
+            → Seq K 𝓛 (‵ Passed ∷ ‵ (flft κs.0 qs.0) ∷ raw (toks 𝓛 3 κs.1 qs.1) ∷ Γ) (runs C Λ E (seq (call f xs d) rest) q)
         calls_slice t framed met asked operands then =
-            nothing t $ move t (2 ∷ 0 ∷ []) $ fjoin t $ move t (1 ∷ 0 ∷ []) $ join t $ nothing t $
-            use0 𝓛 (raw (fact 𝓤 (size (layout S) < 2 ^ 63))) (fact_i 𝓤 _ (emp 𝓤) asked.3) $ join t $
-            use0 𝓛 (raw (fact 𝓤 (κs.1.1.1.0 ⊑ Z.lives))) (fact_i 𝓤 _ (emp 𝓤) asked.2) $ join t $
-            use0 𝓛 (raw (fact 𝓤 (κs.1.1.0 ⊑ []))) (fact_i 𝓤 _ (emp 𝓤) asked.1) $ join t $
-            use0 𝓛 (raw (fact 𝓤 (κs.1.0 ⊑ X.lives))) (fact_i 𝓤 _ (emp 𝓤) asked.0) $ join t $
+            nothing t $ move t (1 ∷ 0 ∷ []) $ fjoin t $ move t (1 ∷ 2 ∷ []) $ join t $ join t $ nothing t $
+            use0 𝓛 (raw (fact 𝓤 (size (layout S) < 2 ^ 63))) (fact_i 𝓤 _ (emp 𝓤) asked.1) $ join t $
+            use0 𝓛 (raw (fact 𝓤 (κs.1.1.1.0 ⊑ Z.lives))) (fact_i 𝓤 _ (emp 𝓤) asked.0.1.1.0) $ join t $
+            use0 𝓛 (raw (fact 𝓤 (κs.1.1.0 ⊑ []))) (fact_i 𝓤 _ (emp 𝓤) asked.0.1.0) $ join t $
+            use0 𝓛 (raw (fact 𝓤 (κs.1.0 ⊑ X.lives))) (fact_i 𝓤 _ (emp 𝓤) asked.0.0) $ join t $
             move t (1 ∷ 0 ∷ []) $ join t $ use1 𝓛 (raw (Called.pre choice)) (id⊢ 𝓤 _) $
             calls_at t framed Called met choice operands (λ v.
-            use1 𝓛 (later (some (λ (s : MutBor (List X.Denot)). (raw (toks 𝓛 4 κs qs) ⊛ ‵ ((MutSlice (named 0) κs.0 R).own_val s (v ∷ []))) ⊛
+            use1 𝓛 (later (some (λ (s : MutBor (List X.Denot)). ((‵ (flft κs.0 qs.0) ⊛ raw (toks 𝓛 3 κs.1 qs.1)) ⊛ ‵ ((MutSlice (named 0) κs.0 R).own_val s (v ∷ []))) ⊛
             some (λ (ws : Unit {0} × Unit {0}). ‵ (fsep ftrue ftrue) ⊛ ‵ (tied s) ⊛ raw (fact 𝓤 (s.now ≡ store.now.items)) ⊛ raw (fact 𝓤 (length s.now ≤ n)))))) (id⊢ 𝓤 _) $
             await t tt $ pick t (λ s. split t $ split t $ move t (2 ∷ []) $ pick t (λ ws. split3 t $ drop t $ move t (1 ∷ []) $ split t $ heard t _ (λ same. drop t $
-            move t (2 ∷ []) $ fsplit3 t $ fsplit t $ feq_l t (λ e. pure_l t (room R (length s.now)) (λ fits.
-            then v s (ap only e, fits, same)))))))
+            -- [what follows; the tokens; the slice]
+            move t (1 ∷ []) $ split t $ move t (3 ∷ []) $ fsplit3 t $ fsplit t $ feq_l t (λ e. pure_l t (room R (length s.now)) (λ fits.
+            move t (0 ∷ 1 ∷ 2 ∷ 4 ∷ []) $ then v s (ap only e, fits, same)))))))
