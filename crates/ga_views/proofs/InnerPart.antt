@@ -21,7 +21,8 @@ use denote.Ref.{MutBor}
 use denote.Slice.{Room}
 use Rattle.std.specs.List.{refill}
 use Rattle.ga_views.proofs.InnerItems.{refilled}
-use Rattle.ga_views.proofs.InnerSlice.{LentSlice, Open, items_at, lends_slice, lent_slice, spot}
+use Rattle.ga_views.proofs.InnerSlice.{LentSlice, Open, items_at, lends_slice, lent_slice}
+use Rattle.ga_views.proofs.ItemLoan.{spot}
 use Rattle.ga_views.specs.Parts.{part_set}
 
 -- the part has as many items as it was asked for

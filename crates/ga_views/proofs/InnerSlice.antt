@@ -5,7 +5,7 @@
 -- `denote.Through`'s `lends_inner_slice` lends the items, and `types.Follow`'s `takes_part` the part of them. Assumes `Logic`.
 use mathlib.Core.Path.{◌≡◌, refl}
 use mathlib.Core.List.{List, [], ◌∷◌}
-use Prim.Native.Nat.{ℕ, ◌+◌, ◌*◌}
+use Prim.Native.Nat.{ℕ}
 use lib.ListN.{length}
 use seplogic.Ra.Ura.{Ura}
 use base.Fml.{Fml, Lft, Incl, GName, Share, fat, fobs, fauth, fbor, fobor, flft}
@@ -75,10 +75,6 @@ Items R d = Arr (mem R) (length d.now)
 
 abbrev pub items_at : (R : RattleType) → MutBor (List R.Denot) → List R.Denot → Fml
 items_at R d ws = (Items R d).own_at ws d.ref_ptr.0 d.ref_ptr.1
-
--- where an item lies
-abbrev pub spot : (R : RattleType) → MutBor (List R.Denot) → ℕ → ℕ
-spot R d i = i * (mem R).size + d.ref_ptr.1
 
 -- the inner reference's type, as the code names it
 abbrev pub in_code : RattleType → Ty

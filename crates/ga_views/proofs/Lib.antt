@@ -4,7 +4,7 @@ mod InnerItem
 mod InnerItems
 mod InnerPart
 mod InnerSlice
-pub mod ItemPlace
+pub mod ItemLoan
 pub mod LoanWalk
 pub mod RowLemmas
 pub mod RowsMutLemmas

@@ -1,42 +1,32 @@
 -- `item_of` lends one element of the slice that `as_mut_slice` lends, and the store follows the element.
 -- The borrow checker does not follow a loan through a slice to its lender, so this proof walks the code by hand: the slice's
--- pointer gives the element's place, and then the element is lent, by `takes_at`. Assumes `Logic`.
+-- pointer gives the element's place, and then the element is lent, by `ItemLoan`'s `lends_item`. Assumes `Logic`.
 use Rattle.arrayvec.proofs.array_vec.ArrayVec.as_mut_slice.Met as theirs
 use Rattle.arrayvec.specs.ArrayVec.{with_items}
 use Rattle.ga_core.proofs.LentSlice.{calls_slice, loan_of, R, S}
 use Rattle.ga_core.proofs.store.item_of.Code as code
 use Rattle.ga_core.proofs.store.item_of.Statement.{statement}
 use Rattle.ga_core.specs.contracts.store.item_of.Key.{name as #self}
-use Rattle.ga_views.proofs.ItemPlace.{capped_fits, offset_fits, uncapped}
+use Rattle.ga_views.proofs.ItemLoan.{capped_fits, lends_item, lent_item, offset_fits, spot, uncapped}
 use Rattle.ga_views.proofs.LoanWalk.{Had, lends, Loan}
-use Rattle.std.proofs.Common.{◌≡◌, ◌^◌, ◌<◌, [], ◌∷◌, ◌∙◌, ◌+◌, ◌*◌, ap, arith, drop as drop_list, get_or, length, List, refl, set, ℕ}
+use Rattle.std.proofs.Common.{◌≡◌, ◌^◌, ◌<◌, [], ◌∷◌, ◌∙◌, ◌*◌, ap, arith, drop as drop_list, get_or, length, List, refl, set, ℕ}
 use Rattle.std.proofs.lemmas.List.{length-set, take_at}
 use Rattle.std.specs.List.{refill}
-use base.Fml.{fbor, flft, fobs}
-use base.Stored.{coded_list}
-use borrow.Rule.Slice.AtParam.{inhabits, twice}
-use borrow.Rule.Slice.Handed.{takes_at}
-use borrow.Table.Elements.{at_mul}
 use contract.Running.{tables}
-use denote.Array.{Array}
 use denote.Builtin.{RefMutOf}
-use denote.Follow.{follows, follows_then}
-use denote.FollowSlice.{heres_id}
-use denote.Memory.{mem}
+use denote.Follow.{follows}
 use denote.Param.{layout, layouts, number}
 use denote.RattleType.{RattleType}
 use denote.Signature.{plain}
 use denote.Triple.Table.{framed}
 use mir.MapTy.{inst_fn}
 use mir.Syntax.{a_number, a_type, Args, w64}
-use mir.Val.{Val, vint, vptr}
+use mir.Val.{vint}
 use prog.Memory.{size}
 use types.ByLocal.{alloc_all, free_all, get, get_in, is, lands_as, look_at, pass_all, sets, through}
-use types.Kit.{‵, ◌⊛◌, ◌$◌, ◌∵◌, !, await, by, feq_i, fjoin3, keep, later, move, pick, qed, rewrite, some, split, split3, use2, use3}
+use types.Kit.{‵, ◌$◌, ◌∵◌, !, await, by, group, keep, later, learn, pick, qed, rewrite, some, split3, use1}
 use types.Part.{sub, whole}
 use types.Run.{addr, and_then, bin, enter, fld, no_more, returns, size_word, stop}
-use types.SemTy.{Body}
-use base.Fml.{GName}
 
 -- the list with an element written, over the list as a whole
 written : {A : Type 0} (lent items : List A) (i : ℕ) (x : A) → lent ≡ items → refill (length items) items (set lent i x) ≡ set items i x
@@ -60,26 +50,15 @@ item_of_spec 𝓤 𝓛 𝓜 𝓡 wired X n Z L fits LZ =
     calls_slice X n Z 𝓛 𝓜.mem 𝓡.returns κs qs bounds store ! (framed 𝓤 𝓛.H 𝓜 (tables 𝓤 𝓛.H 𝓜 𝓡 𝓡.env)) met (lives, asked.0)
     (and_then ! (get ! refl) (no_more !)) (λ v s told.
     let width : ℕ = size (layout X) in
-    let b : ℕ = s.ref_ptr.0 in
-    let o : ℕ = s.ref_ptr.1 in
-    let spot : ℕ = i * width + o in
     let within : i < length s.now = omega (arith, asked.1.0, ap length told.2) in
     let offset : i * width < 2 ^ 64 = offset_fits i (length s.now) width (omega (arith, within)) told.1.1 in
-    let any : X.Denot = inhabits s.now i within in
-    let x : X.Denot = get_or s.now i any in
+    let after : List X.Denot → Store.Denot = with_items store.now in
     lands_as ! told.0 refl (tt, (tt, (record { fits = told.1.0 }, tt))) $
     sets ! (is ! (bin ! (get ! refl) (size_word !) (record { fits = capped_fits i width offset })) (ap (vint w64) (uncapped i width offset))) refl (tt, record { fits = offset }) $
     sets ! (bin ! (get_in ! (fld ! refl (stop !)) (sub ! 0 refl (whole !))) (get ! refl) tt) refl (tt, tt) $
     sets ! (addr ! (through ! refl (stop !))) refl (tt, tt) $
     -- [the slice's last value; its borrow; the token; the store follows the slice; the other tokens]
-    rewrite ! 0 (λ (l : List X.Denot). ‵ (fobs s.ghost_name ((coded_list X.coded).code l))) (heres_id E s.now) refl $
-    use3 𝓛 (later (some (λ (δ : GName). ‵ (fobs δ (E.coded.code x)) ⊛ ‵ (fbor κs.0 (Body (mem E) b spot δ)) ⊛ ‵ (flft κs.0 qs.0) ⊛ ‵ (follows (Array E 0) E s.ghost_name δ (set s.now i)))))
-    (takes_at 𝓛 (mem E) κs.0 (length s.now) b o qs.0 s.ghost_name s.now i spot any x (at_mul o (mem E).size i) within refl) $
-    await ! tt $ pick ! (λ δ. split3 ! $
-    -- [the item's last value; its borrow; the token, and the slice follows the item; the store follows the slice; the other tokens]
-    move ! (2 ∷ []) $ split ! $ move ! (4 ∷ 1 ∷ []) $
-    use2 𝓛 (‵ (follows Store E store.ghost_name δ (λ w. with_items store.now (set s.now i w)))) (follows_then 𝓛 Store (Array E 0) E (with_items store.now) (set s.now i) store.ghost_name s.ghost_name δ) $
-    rewrite ! 0 (λ (after : X.Denot → Store.Denot). ‵ (follows Store E store.ghost_name δ after)) (λ j w. record { items = written s.now store.now.items i w told.2 j }) refl $
-    returns ! (look_at ! 0 refl) $ free_all ! refl $ keep ! (2 ∷ 3 ∷ 1 ∷ 0 ∷ 4 ∷ []) $
-    feq_i ! (List Val) (vptr b spot ∷ []) (vptr b spot ∷ []) refl $ fjoin3 ! $
-    by ! (exits _ (record { ref_ptr = (b, spot); ghost_name = δ; now = x }) (twice s.now i any ∙ ap (λ l. get_or l i x) told.2))))))
+    group ! 4 $ use1 𝓛 (later (some (lent_item 𝓛 Store E after κs.0 qs.0 store.ghost_name s i))) (lends_item 𝓛 Store E after κs.0 qs.0 store.ghost_name s i within) $ await ! tt $ pick ! (λ y. learn ! (λ read. split3 ! $
+    rewrite ! 2 (λ (ends : X.Denot → Store.Denot). ‵ (follows Store E store.ghost_name y.0 ends)) (λ j w. record { items = written s.now store.now.items i w told.2 j }) refl $
+    returns ! (look_at ! 0 refl) $ free_all ! refl $ keep ! (0 ∷ 1 ∷ 2 ∷ 3 ∷ []) $
+    by ! (exits _ (record { ref_ptr = (s.ref_ptr.0, spot E s i); ghost_name = y.0; now = y.1 }) (read ∙ ap (λ l. get_or l i y.1) told.2)))))))

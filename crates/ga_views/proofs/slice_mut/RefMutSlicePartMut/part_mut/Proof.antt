@@ -4,8 +4,8 @@
 use Rattle.std.proofs.Common.{◌≡◌, ℕ, ◌+◌, ◌-◌, ◌*◌, ◌^◌, ◌<◌, ◌≤◌, List, [], ◌∷◌, length, refl, ap, arith}
 use Rattle.std.specs.List.{refill}
 use Rattle.ga_views.proofs.InnerPart.{lent, lends_range, part_long}
-use Rattle.ga_views.proofs.InnerSlice.{args, closes_inner, opens_inner, slice_lent, spot}
-use Rattle.ga_views.proofs.ItemPlace.{capped_fits, offset_fits, uncapped}
+use Rattle.ga_views.proofs.InnerSlice.{args, closes_inner, opens_inner, slice_lent}
+use Rattle.ga_views.proofs.ItemLoan.{capped_fits, offset_fits, spot, uncapped}
 use Rattle.ga_views.proofs.LoanWalk.{Had, Loan, Walk, Words, lends}
 use Rattle.ga_views.specs.Parts.{part_set}
 use Rattle.ga_views.specs.contracts.slice_mut.RefMutSlicePartMut.part_mut.Key.{name as #self}

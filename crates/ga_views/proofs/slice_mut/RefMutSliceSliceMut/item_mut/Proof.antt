@@ -4,8 +4,8 @@
 -- element is lent by `InnerItem`'s `lends_element`.
 use Rattle.std.proofs.Common.{◌≡◌, ◌*◌, ◌^◌, ◌<◌, [], ◌∷◌, length, refl, ap, arith, get_or, set}
 use Rattle.ga_views.proofs.InnerItem.{lent, lends_element}
-use Rattle.ga_views.proofs.InnerSlice.{args, closes_inner, loan_of, opens_inner, spot}
-use Rattle.ga_views.proofs.ItemPlace.{capped_fits, offset_fits, uncapped}
+use Rattle.ga_views.proofs.InnerSlice.{args, closes_inner, loan_of, opens_inner}
+use Rattle.ga_views.proofs.ItemLoan.{capped_fits, offset_fits, spot, uncapped}
 use Rattle.ga_views.proofs.LoanWalk.{Had, Loan, Walk, lends}
 use Rattle.ga_views.specs.contracts.slice_mut.RefMutSliceSliceMut.item_mut.Key.{name as #self}
 use Rattle.ga_views.proofs.slice_mut.RefMutSliceSliceMut.item_mut.Code as code
