@@ -37,10 +37,11 @@ use denote.Through.{renamed, lends_inner_slice}
 use Rattle.ga_views.proofs.LoanWalk.{Loan, Words}
 use Rattle.ga_views.specs.contracts.slice_mut.RefMutSliceSliceMut.all_mut as all_mut
 
--- what is asked and given where items are lent, by a function that takes n numbers: a U is lent, the items end as `written` of its last value, and `shown` is said of the result
+-- the type argument of such a function
 abbrev pub args : RattleType → Args
 args X = layouts (a_type ∷ []) (X, tt)
 
+-- what is asked and given where items are lent, by a function that takes n numbers: a U is lent, the items end as `written` of its last value, and `shown` is said of the result
 module _ (X : RattleType) (n : ℕ) where
   abbrev R : RattleType
   R = param 0 X

@@ -5,7 +5,9 @@ mod InnerItems
 mod InnerPart
 mod InnerSlice
 pub mod ItemLoan
+mod LengthCall
 pub mod LoanWalk
 pub mod RowLemmas
 pub mod RowsMutLemmas
 mod SharedLoan
+pub mod SliceLaws

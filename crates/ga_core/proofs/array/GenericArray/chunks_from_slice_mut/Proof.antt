@@ -3,6 +3,7 @@
 use Rattle.ga_core.proofs.array.GenericArray.chunks_from_slice_mut.Code as code
 use Rattle.ga_core.proofs.array.GenericArray.chunks_from_slice_mut.Statement.{statement}
 use Rattle.ga_core.specs.contracts.array.GenericArray.chunks_from_slice_mut as F
+use Rattle.ga_views.proofs.SliceLaws.{slice_laws}
 use Rattle.ga_views.proofs.chunks_mut.RowsMut+mut+slice+T+T+N.chunks_from_slice_mut.Met as made
 use Rattle.ga_views.proofs.chunks_mut.RowsMut.TheLaws as rows_laws
 use Rattle.ga_views.specs.Rows.{chunk_rest, rows}
@@ -22,16 +23,13 @@ use denote.Builtin.{SliceRefMutOf}
 use denote.Exit.{no}
 use denote.Follow.{follows_both}
 use denote.Laws.{Is, shows}
-use denote.Param.Laws.{Laws, of_field, param_laws, row_shared}
-use denote.Param.Shared.{mut_slice_shared}
+use denote.Param.Laws.{Laws, param_laws}
 use denote.Param.{bounded, param}
 use denote.RattleType.{owns, RattleType}
 use denote.Ref.{NamedLft}
 use denote.Signature.{plain}
 use denote.Slice.{mut_slice_Tells, mut_slice_vals, MutSlice}
 use denote.Steps.{heard, peeks}
-use denote.Struct.Field.{mut_slice_field}
-use denote.Struct.Laws.{mut_slice_laws}
 use denote.Struct.Tuple.{Tuple, tuple_laws}
 use denote.Triple.Call.{calls_at}
 use denote.Triple.Clauses.{Lasts, lasts}
@@ -63,11 +61,8 @@ module _ (X N : RattleType) (g : unsigned.Ghosts N.Denot) (κ : Lft) where
   Answer = Tuple (Rows ∷ S ∷ [])
 
   module _ (LX : Laws X) (LN : Laws N) where
-    abbrev slice_laws : Laws S
-    slice_laws = of_field (mut_slice_field lasting R tt) (mut_slice_laws lasting R tt) refl (mut_slice_shared lasting R tt (row_shared R (param_laws 0 X LX)))
-
     abbrev answer_laws : Laws Answer
-    answer_laws = tuple_laws (Rows ∷ S ∷ []) (rows_laws.the_row_laws S R (param 1 N) (impl.ghosts R) g slice_laws (param_laws 0 X LX) (param_laws 1 N LN), (slice_laws, tt))
+    answer_laws = tuple_laws (Rows ∷ S ∷ []) (rows_laws.the_row_laws S R (param 1 N) (impl.ghosts R) g (slice_laws lasting 0 X LX) (param_laws 0 X LX) (param_laws 1 N LN), (slice_laws lasting 0 X LX, tt))
 
 -- A is the type of the store of N's arrays
 pub chunks_from_slice_mut_spec : {M : Type 1} → statement M

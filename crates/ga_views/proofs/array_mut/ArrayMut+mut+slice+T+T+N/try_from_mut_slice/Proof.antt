@@ -1,17 +1,14 @@
 -- `try_from_mut_slice` makes the view where the length is right, and else gives the slice up as it was.
 -- The borrow checker shows no clause on a lender that is a slice where the answer is a `Result`, so this proof walks the code by hand. Assumes `Logic`.
 use Prim.Native.Nat.{ℕ}
+use Rattle.ga_views.proofs.LengthCall.{calls_length}
+use Rattle.ga_views.proofs.SliceLaws.{ArrayView, array_laws}
 use Rattle.ga_views.proofs.array_mut.ArrayMut+mut+slice+T+T+N.from_mut_slice.Met as theirs
 use Rattle.ga_views.proofs.array_mut.ArrayMut+mut+slice+T+T+N.try_from_mut_slice.Code as code
 use Rattle.ga_views.proofs.array_mut.ArrayMut+mut+slice+T+T+N.try_from_mut_slice.Statement.{statement}
-use Rattle.ga_views.proofs.array_mut.ArrayMut.TheLaws as view_laws
-use Rattle.ga_views.specs.contracts.array_mut.ArrayMut as view
 use Rattle.ga_views.specs.contracts.array_mut.ArrayMut+mut+slice+T+T+N.from_mut_slice as callee
 use Rattle.ga_views.specs.contracts.array_mut.ArrayMut+mut+slice+T+T+N.try_from_mut_slice as F
-use Rattle.ga_views.specs.contracts.length.Unsigned.USIZE as length_of
 use Rattle.ga_views.specs.contracts.length_error.LengthError as error
-use Rattle.ga_views.specs.contracts.slice_mut.RefMutSliceSliceMut.TheImpl as impl
-use Rattle.ga_views.specs.declared.length.Unsigned as unsigned
 use Rattle.std.proofs.Common.{◌≡◌, [], ◌∷◌, ◌∙◌, ap, length, List, MutBor, refl, subst, sym, true≢false}
 use Rattle.std.proofs.VecSteps.Shapes.{after}
 use Rattle.std.proofs.raw_atomic.Walks.{leaves, proved}
@@ -27,7 +24,7 @@ use contract.BorrowLft.{◌⊑◌}
 use contract.Monad.{fact, fact_i}
 use contract.Running.{tables}
 use denote.Array.{Array}
-use denote.Builtin.{SliceRefMutOf, usize}
+use denote.Builtin.{SliceRefMutOf}
 use denote.Enum.Declared.{shape}
 use denote.Enum.Enum.{form_of, in_a_row}
 use denote.Enum.Row.{tagged_with}
@@ -36,29 +33,24 @@ use denote.Follow.{follows, follows_by, follows_if, such_by}
 use denote.FollowSlice.{heres_id}
 use denote.Laws.{Is, shows}
 use denote.Param.{bounded, param}
-use denote.Param.Laws.{Laws, of_field, param_laws, row_shared}
-use denote.Param.Shared.{mut_slice_shared}
 use denote.RattleType.{owns, RattleType, Valss}
 use denote.Ref.{NamedLft}
 use denote.Shadow.{makes_shadow}
-use denote.Signature.{plain, Slot}
+use denote.Signature.{plain}
 use denote.Slice.{mut_slice_Tells, mut_slice_vals, MutSlice}
-use denote.Steps.{heard, nothing, only, peeks}
-use denote.Struct.Field.{mut_slice_field}
-use denote.Struct.Laws.{mut_slice_laws}
+use denote.Steps.{heard, nothing, peeks}
 use denote.Struct.Struct.{as_fields}
 use denote.Triple.Call.{calls_at}
-use denote.Triple.Clauses.{Ended}
 use denote.Triple.Spec.{triple_of}
 use denote.Triple.Table.{framed}
 use denote.Triple.Walked.{Goes-spent_slice, stay_dropped, Stays, walk_of}
 use lib.Dec.{eqb, eqb_refl, eqb→eq, lit<, T, T_not}
 use mir.MapTy.{inst_fn}
-use mir.Syntax.{a_type, Args, dcons, Dict, dnil, Fn, Lifetime, named, ty_int, w8}
+use mir.Syntax.{a_type, Args, dcons, dnil, Fn, Lifetime, named, ty_int, w8}
 use mir.Val.{of_list, Val, vint, vnil, vstruct}
 use seplogic.Ra.Ura.{Ura}
 use types.ByLocal.{alloc_all, env, free_all, get, get_in, lands_as, look_at, look_in_at, pass_all, sets, sets_last}
-use types.Kit.{‵, ◌⊛◌, ◌$◌, ◌∵◌, !, assume, at_ret, await, by, done, drop, each, feq_i, feq_l, fjoin, flt_l, fpack, fsplit, fsplit3, group, join, keep, later, move, pick, qed, raw, rewrite, some, split, split3, use0, use1}
+use types.Kit.{‵, ◌⊛◌, ◌$◌, ◌∵◌, !, assume, at_ret, await, by, done, drop, each, feq_i, fjoin, fpack, fsplit, fsplit3, group, join, keep, later, move, pick, qed, raw, rewrite, some, split, split3, use0, use1}
 use types.Logic.{Logic, sem}
 use types.Match.{live}
 use types.Part.{agg, sub, whole}
@@ -124,43 +116,17 @@ module _ {M : Type 1} {𝓤 : Ura M} (𝓛 : Logic 𝓤) (R : RattleType) (s : M
       qed 𝓛 (‵ (fres s.ghost_name ((Array R 0).coded.code s.now)) ∷ []) ∵
       fpack ! (Fits (Err x)) (Ends (Err x)) (((λ w. w), s.now), (λ w. tt), refl) $ done !
 
-module _ (X N : RattleType) (g : unsigned.Ghosts N.Denot) (d : Dict) where
-  abbrev args : Args
-  args = bounded (a_type ∷ a_type ∷ []) (X, (N, tt)) (dcons d dnil)
-
-  abbrev function : Fn
-  function = inst_fn args code.function
-
-  abbrev ended : Ended
-  ended = F.ended X N g d
-
-  abbrev R : RattleType
-  R = param 0 X
-
-  abbrev slot : Slot 3
-  slot = SliceRefMutOf (0 ∷ []) tt (plain (λ _. R)) (λ _. tt)
-
-  abbrev stayed : Stays ended.signature.params ended.kept
-  stayed = (stay_dropped slot no, tt)
-
-  abbrev View : NamedLft → RattleType
-  View ℓ = view.the_row (mut_slice_field ℓ R tt).row R (param 1 N) (impl.ghosts R) g
-
-  abbrev View-laws : Laws X → Laws N → (ℓ : NamedLft) → Laws (View ℓ)
-  View-laws LX LN ℓ =
-      view_laws.the_row_laws (mut_slice_field ℓ R tt).row R (param 1 N) (impl.ghosts R) g
-      (of_field (mut_slice_field ℓ R tt) (mut_slice_laws ℓ R tt) refl (mut_slice_shared ℓ R tt (row_shared R (param_laws 0 X LX)))) (param_laws 0 X LX) (param_laws 1 N LN)
-
 pub try_from_mut_slice_spec : {M : Type 1} → statement M
 try_from_mut_slice_spec 𝓤 𝓛 𝓜 𝓡 wired X N LX LN g d bound =
-    let ends = ended X N g d in
-    let kept = stayed X N g d in
-    let E : RattleType = R X N g d in
+    let ends = F.ended X N g d in
+    let E : RattleType = param 0 X in
+    let kept : Stays ends.signature.params ends.kept = (stay_dropped (SliceRefMutOf (0 ∷ []) tt (plain (λ _. E)) (λ _. tt)) no, tt) in
     let c = F.clauses X N g d 𝓛 𝓜.mem 𝓡.returns in
     let 𝓣 = tables 𝓤 𝓛.H 𝓜 𝓡 𝓡.env in
-    let fn = function X N g d in
+    let key : Args = bounded (a_type ∷ a_type ∷ []) (X, (N, tt)) (dcons d dnil) in
+    let fn : Fn = inst_fn key code.function in
     proved 𝓛 ends kept c 𝓜 𝓡 (Goes-spent_slice 𝓛 3 (0 ∷ []) tt (plain (λ _. E)), tt)
-    (F.Key.name (args X N g d)) fn (code.unfolded 𝓤 𝓛.H 𝓜 𝓡 wired (X, (N, tt)) d)
+    (F.Key.name key) fn (code.unfolded 𝓤 𝓛.H 𝓜 𝓡 wired (X, (N, tt)) d)
     (λ κs. (mut_slice_vals, tt)) (λ κs. (mut_slice_Tells (named 0) κs.0 E, tt))
     (λ κs qs bounds a gh are.
     let s = a.0 in let n : ℕ = length s.now in let fits = are.0.0.1.0 in
@@ -168,7 +134,7 @@ try_from_mut_slice_spec 𝓤 𝓛 𝓜 𝓡 wired X N LX LN g d bound =
     let tokens = ‵ (flft κ qs.0) ⊛ ‵ (flft κT qs.1.0) ⊛ ‵ (flft κN qs.1.1.0) ⊛ ‵ ftrue in
     let S : RattleType = MutSlice (named 0) κ E in
     let lasting : NamedLft = record { mir = named 0; lft = κ } in
-    let V : RattleType = View X N g d lasting in
+    let V : RattleType = ArrayView lasting 0 X 1 N g in
     let Refusal : RattleType = error.the_row in
     let Answer : RattleType = RS.the_row V Refusal in
     let name : V.Denot → GName = λ answer. answer.slice.ghost_name in
@@ -182,17 +148,8 @@ try_from_mut_slice_spec 𝓤 𝓛 𝓜 𝓡 wired X N LX LN g d bound =
     let En = env fn.locals l in
     -- [the tokens, that of N's lifetime last; the slice]
     sets ! (of_opd ! (get_in ! (fld ! refl (stop !)) (sub ! 1 refl (whole !)))) refl (tt, record { fits = fits }) $
-    let L = triple_of 𝓛 (length_of.signature N) (length_of.spec N g d 𝓛 𝓜.mem 𝓡.returns) in
-    let z : L.Ghost = (((κN, tt), (qs.1.1.0, tt), tt, tt, tt), tt) in
-    move ! (2 ∷ []) $ nothing ! $ move ! (1 ∷ 0 ∷ []) $ join ! $
-    nothing ! $ use0 𝓛 (raw (fact 𝓤 (κN ⊑ N.lives))) (fact_i 𝓤 _ (emp 𝓤) lN) $ join ! $
-    move ! (1 ∷ 0 ∷ []) $ join ! $ use1 𝓛 (raw (L.pre z)) (id⊢ 𝓤 _) $
-    calls_at ! (framed 𝓤 𝓛.H 𝓜 𝓣) L bound.USIZE z (no_more !) (λ v.
-    use1 𝓛 (later (some (λ (m : ℕ). ((‵ (flft κN qs.1.1.0) ⊛ ‵ ftrue) ⊛ ‵ (usize.own_val m (v ∷ []))) ⊛
-    some (λ (ws : Unit {0}). ‵ ftrue ⊛ raw (fact 𝓤 (m ≡ g.USIZE)))))) (id⊢ 𝓤 _) $
-    await ! tt $ pick ! (λ m. split ! $ split ! $ move ! (2 ∷ []) $ pick ! (λ ws. split ! $ drop ! $ heard ! _ (λ is_length.
-    move ! (1 ∷ []) $ fsplit ! $ feq_l ! (λ is_m. flt_l ! (λ fm.
-    lands_as ! (ap only is_m) refl (tt, record { fits = fm }) $
+    move ! (2 ∷ []) $ calls_length N g d 𝓛 𝓜.mem 𝓡.returns ! (framed 𝓤 𝓛.H 𝓜 𝓣) bound.USIZE κN qs.1.1.0 lN (λ m is_length fm. drop ! $
+    lands_as ! refl refl (tt, record { fits = fm }) $
     sets ! (bin ! (get ! refl) (get ! refl) tt) refl (tt, tt) $
     first ! $ branches ! (get ! refl)
     (λ equal.
@@ -213,7 +170,7 @@ try_from_mut_slice_spec 𝓤 𝓛 𝓜 𝓡 wired X N LX LN g d bound =
     await ! tt $ pick ! (λ w. split ! $ split ! $ move ! (2 ∷ []) $ pick ! (λ ws. split ! $ drop ! $ heard ! _ (λ this.
     -- [the tokens; the view]
     move ! (1 ∷ []) $ peeks ! V (Is V) (shows 𝓛 V) w (u ∷ []) (λ is.
-    let good = ((View-laws X N g d LX LN lasting).lawful 𝓛).typed w (u ∷ []) is in
+    let good = ((array_laws lasting 0 X 1 N g LX LN).lawful 𝓛).typed w (u ∷ []) is in
     let typed = as_fields (ty_int w8 ∷ V.mir) (vint w8 0 ∷ u ∷ []) ((tt, record { fits = lit< tt }), good) in
     let out : Val = live 0 (of_list (u ∷ [])) in
     lands_as ! refl refl good.0 $
@@ -248,4 +205,4 @@ try_from_mut_slice_spec 𝓤 𝓛 𝓜 𝓡 wired X N LX LN g d bound =
     -- [nothing is left of the parameter; the answer, the clauses and the tokens in the order in which they came]
     nothing ! $ nothing ! $ fjoin ! $
     returns ! (look_at ! 0 refl) $ free_all ! refl $ move ! (5 ∷ 0 ∷ 1 ∷ []) $
-    by ! (leaves 𝓛 ends kept c y out (Err e) (tt, tt) (tt, tt)))))))))))))
+    by ! (leaves 𝓛 ends kept c y out (Err e) (tt, tt) (tt, tt))))))))

@@ -1,6 +1,8 @@
 -- `chunks_from_slice_mut` cuts the slice behind its whole rows, so the slice ends as what the rows' items and the rest end as, one after the other.
 -- The borrow checker shows no clause on two parts where one of them is passed on to a call that makes rows of it, so this proof walks the code by hand. Assumes `Logic`.
 use Prim.Native.Nat.{ℕ}
+use Rattle.ga_views.proofs.LengthCall.{calls_length}
+use Rattle.ga_views.proofs.SliceLaws.{Slice, slice_laws}
 use Rattle.ga_views.proofs.RowLemmas.{count-whole, rows-of_whole}
 use Rattle.ga_views.proofs.chunks_mut.RowsMut.TheLaws as rows_laws
 use Rattle.ga_views.proofs.chunks_mut.RowsMut.over.Met as made
@@ -13,7 +15,6 @@ use Rattle.ga_views.specs.contracts.chunks_mut.RowsMut as rows_of
 use Rattle.ga_views.specs.contracts.chunks_mut.RowsMut.over as make_contract
 use Rattle.ga_views.specs.contracts.chunks_mut.RowsMut+mut+slice+T+T+N.chunks_from_slice_mut as F
 use Rattle.ga_views.specs.contracts.chunks_ref.len_of_rows as count_contract
-use Rattle.ga_views.specs.contracts.length.Unsigned.USIZE as length_of
 use Rattle.ga_views.specs.contracts.slice_mut.RefMutSliceSliceMut.TheImpl as impl
 use Rattle.ga_views.specs.declared.length.Unsigned as unsigned
 use Rattle.std.below.core.specs.contracts.slice.slice+T.split_at_mut as cut_contract
@@ -33,22 +34,19 @@ use denote.Exit.{no, yes}
 use denote.Follow.{follows_both}
 use denote.Laws.{Is, shows}
 use denote.Param.{arg, bounded, layout, param}
-use denote.Param.Laws.{arg_laws, Laws, of_field, param_laws, row_shared}
+use denote.Param.Laws.{arg_laws, Laws, param_laws}
 use denote.Param.NoDrop.{glues}
-use denote.Param.Shared.{mut_slice_shared}
 use denote.Plain.{uint_Makes}
 use denote.RattleType.{owns, RattleType, Valss}
 use denote.Ref.{NamedLft}
-use denote.Signature.{plain, Slot}
+use denote.Signature.{plain}
 use denote.Slice.{mut_slice_Tells, mut_slice_vals, MutSlice, slice_val}
 use denote.Steps.{heard, nothing, only, owned, peeks}
 use denote.Struct.Declared.{shape}
-use denote.Struct.Field.{mut_slice_field}
-use denote.Struct.Laws.{mut_slice_laws}
 use denote.Struct.Struct.{within}
 use denote.Struct.Tuple.{Tuple, tuple_laws, tuple_type}
 use denote.Triple.Call.{calls_at}
-use denote.Triple.Clauses.{Ended, Lasts, lasts}
+use denote.Triple.Clauses.{Lasts, lasts}
 use denote.Triple.Spec.{triple_of}
 use denote.Triple.Table.{framed}
 use denote.Triple.Walked.{Goes-spent_slice, stay_dropped, Stays, walk_of}
@@ -73,20 +71,8 @@ module _ {M : Type 1} {𝓤 : Ura M} (𝓛 : Logic 𝓤) (R R' : RattleType) whe
       fpack ! (Valss (R ∷ R' ∷ [])) (within (shape (tuple_type (R ∷ R' ∷ []))) (x, (y, tt)) out) (v ∷ [], (u ∷ [], tt)) $ done !
 
 module _ (X N : RattleType) (g : unsigned.Ghosts N.Denot) (d : Dict) where
-  abbrev args : Args
-  args = bounded (a_type ∷ a_type ∷ []) (X, (N, tt)) (dcons d dnil)
-
-  abbrev ended : Ended
-  ended = F.ended X N g d
-
   abbrev R : RattleType
   R = param 0 X
-
-  abbrev slot : Slot 3
-  slot = SliceRefMutOf (0 ∷ []) tt (plain (λ _. R)) (λ _. tt)
-
-  abbrev stayed : Stays ended.signature.params ended.kept
-  stayed = (stay_dropped slot no, tt)
 
   -- the item and the length as `over` is given them, and the item as the slice's impl is
   abbrev Item : RattleType
@@ -102,36 +88,30 @@ module _ (X N : RattleType) (g : unsigned.Ghosts N.Denot) (d : Dict) where
     abbrev lasting : NamedLft
     lasting = record { mir = named 0; lft = κ }
 
-    abbrev Slice : RattleType
-    Slice = (mut_slice_field lasting R tt).row
-
     -- the slice as `over` is given it
     abbrev Part : RattleType
-    Part = arg (ty_struct [] (tcons ty_ptr (tcons (ty_int w64) tnil))) no Slice
+    Part = arg (ty_struct [] (tcons ty_ptr (tcons (ty_int w64) tnil))) no (Slice lasting 0 X)
 
     abbrev View : RattleType
-    View = rows_of.the_row Slice R (param 1 N) (impl.ghosts R) g
+    View = rows_of.the_row (Slice lasting 0 X) R (param 1 N) (impl.ghosts R) g
 
     module _ (LX : Laws X) where
-      abbrev slice_laws : Laws Slice
-      slice_laws = of_field (mut_slice_field lasting R tt) (mut_slice_laws lasting R tt) refl (mut_slice_shared lasting R tt (row_shared R (param_laws 0 X LX)))
-
       abbrev part_laws : Laws Part
-      part_laws = arg_laws (ty_struct [] (tcons ty_ptr (tcons (ty_int w64) tnil))) no Slice slice_laws refl
+      part_laws = arg_laws (ty_struct [] (tcons ty_ptr (tcons (ty_int w64) tnil))) no (Slice lasting 0 X) (slice_laws lasting 0 X LX) refl
 
       abbrev view_laws : Laws N → Laws View
-      view_laws LN = rows_laws.the_row_laws Slice R (param 1 N) (impl.ghosts R) g slice_laws (param_laws 0 X LX) (param_laws 1 N LN)
+      view_laws LN = rows_laws.the_row_laws (Slice lasting 0 X) R (param 1 N) (impl.ghosts R) g (slice_laws lasting 0 X LX) (param_laws 0 X LX) (param_laws 1 N LN)
 
 -- `over` asks for the slice's drop, so that one's code is opened
 pub chunks_from_slice_mut_spec : {M : Type 1} → statement M
 unfolding Rattle.ga_views.proofs.Destruct++none.drop.Code.code
 chunks_from_slice_mut_spec 𝓤 𝓛 𝓜 𝓡 wired X N LX LN g d bound =
-    let ends = ended X N g d in
-    let kept = stayed X N g d in
-    let E : RattleType = R X N g d in
+    let ends = F.ended X N g d in
+    let E : RattleType = param 0 X in
+    let kept : Stays ends.signature.params ends.kept = (stay_dropped (SliceRefMutOf (0 ∷ []) tt (plain (λ _. E)) (λ _. tt)) no, tt) in
     let c = F.clauses X N g d 𝓛 𝓜.mem 𝓡.returns in
     let 𝓣 = tables 𝓤 𝓛.H 𝓜 𝓡 𝓡.env in
-    let key = args X N g d in
+    let key : Args = bounded (a_type ∷ a_type ∷ []) (X, (N, tt)) (dcons d dnil) in
     let fn : Fn = inst_fn key code.function in
     proved 𝓛 ends kept c 𝓜 𝓡 (Goes-spent_slice 𝓛 3 (0 ∷ []) tt (plain (λ _. E)), tt)
     (F.Key.name key) fn (code.unfolded 𝓤 𝓛.H 𝓜 𝓡 wired (X, (N, tt)) d)
@@ -152,19 +132,9 @@ chunks_from_slice_mut_spec 𝓤 𝓛 𝓜 𝓡 wired X N LX LN g d bound =
     -- [the tokens, that of N last; the slice]
     sets ! (of_opd ! (get_in ! (fld ! refl (stop !)) (sub ! 1 refl (whole !)))) refl (tt, record { fits = fits }) $
     -- the rows' width
-    let L = triple_of 𝓛 (length_of.signature N) (length_of.spec N g d 𝓛 𝓜.mem 𝓡.returns) in
-    let zL : L.Ghost = (((κN, tt), (qs.1.1.0, tt), tt, tt, tt), tt) in
-    move ! (2 ∷ []) $ nothing ! $ move ! (1 ∷ 0 ∷ []) $ join ! $
-    nothing ! $ use0 𝓛 (raw (fact 𝓤 (κN ⊑ N.lives))) (fact_i 𝓤 _ (emp 𝓤) lN) $ join ! $
-    move ! (1 ∷ 0 ∷ []) $ join ! $ use1 𝓛 (raw (L.pre zL)) (id⊢ 𝓤 _) $
-    calls_at ! (framed 𝓤 𝓛.H 𝓜 𝓣) L bound.USIZE zL (no_more !) (λ v.
-    use1 𝓛 (later (some (λ (m : ℕ). ((‵ (flft κN qs.1.1.0) ⊛ ‵ ftrue) ⊛ ‵ (usize.own_val m (v ∷ []))) ⊛
-    some (λ (ws : Unit {0}). ‵ ftrue ⊛ raw (fact 𝓤 (m ≡ width)))))) (id⊢ 𝓤 _) $
-    await ! tt $ pick ! (λ m. split ! $ split ! $ move ! (2 ∷ []) $ pick ! (λ ws. split ! $ drop ! $ heard ! _ (λ is_width.
-    -- [the token of N; the width; the tokens of κ, T; the slice]
-    move ! (1 ∷ []) $ peeks ! usize (Is usize) (shows 𝓛 usize) m (v ∷ []) (λ word.
-    lands_as ! (ap only word.0) refl (tt, record { fits = word.1 }) $
-    rewrite ! 0 (λ (vs : List Val). ‵ (usize.own_val m vs)) word.0 refl $
+    move ! (2 ∷ []) $ calls_length N g d 𝓛 𝓜.mem 𝓡.returns ! (framed 𝓤 𝓛.H 𝓜 𝓣) bound.USIZE κN qs.1.1.0 lN (λ m is_width fm.
+    -- [the width; the token of N; the tokens of κ, T; the slice]
+    lands_as ! refl refl (tt, record { fits = fm }) $
     -- how many items lie in whole rows
     let K = triple_of 𝓛 count_contract.signature (count_contract.spec 𝓛 𝓜.mem 𝓡.returns) in
     let zK : K.Ghost = ((tt, tt, tt, (n, (m, tt)), (vint w64 n ∷ [], (vint w64 m ∷ [], tt))), tt) in
@@ -251,7 +221,7 @@ chunks_from_slice_mut_spec 𝓤 𝓛 𝓜 𝓡 wired X N LX LN g d bound =
     move ! (0 ∷ 2 ∷ []) $ use2 𝓛 (‵ (Answer.own_val (w, r.1) (out ∷ []))) (both_of 𝓛 Rows S w r.1 u second_val) $
     peeks ! Answer (Is Answer) (shows 𝓛 Answer) (w, r.1) (out ∷ []) (λ both.
     sets ! (agg ! (and_then ! (get ! refl) (and_then ! (get ! refl) (no_more !)))) refl
-    (((tuple_laws (Rows ∷ S ∷ []) (view_laws X N g d κ LX LN, (slice_laws X N g d κ LX, tt))).lawful 𝓛).typed (w, r.1) (out ∷ []) both).0 $
+    (((tuple_laws (Rows ∷ S ∷ []) (view_laws X N g d κ LX LN, (slice_laws (lasting X N g d κ) 0 X LX, tt))).lawful 𝓛).typed (w, r.1) (out ∷ []) both).0 $
     returns ! (look_at ! 0 refl) $ free_all ! refl $
     -- [the rows and the rest; the tokens; what follows]
     rewrite ! 2 (λ (name : GName). ‵ (follows_both (Array E 0) (Array E 0) (Array E 0) s.ghost_name name r.1.ghost_name ◌++◌)) (ap (λ (x : S.Denot). x.ghost_name) (sym this)) refl $
@@ -261,4 +231,4 @@ chunks_from_slice_mut_spec 𝓤 𝓛 𝓜 𝓡 wired X N LX LN g d bound =
     use0 𝓛 (raw (fact 𝓤 (rows width w.slice.now ≡ rows width s.now)))
     (fact_i 𝓤 _ (emp 𝓤) (ap (rows width) (same ∙ (first_is ∙ ap (λ (i : ℕ). take i s.now) count)) ∙ rows-of_whole width s.now)) $
     nothing ! $ nothing ! $ fjoin ! $ move ! (5 ∷ 0 ∷ 4 ∷ 6 ∷ []) $
-    by ! (leaves 𝓛 ends kept c y out (w, r.1) (tt, tt) (tt, tt)))))))))))))))))))))))))))))))))
+    by ! (leaves 𝓛 ends kept c y out (w, r.1) (tt, tt) (tt, tt)))))))))))))))))))))))))))))

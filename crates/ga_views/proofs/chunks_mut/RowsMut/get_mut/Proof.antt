@@ -2,8 +2,8 @@
 -- The borrow checker shows no clause on a loan that the answer holds in a view, so this proof walks the code by hand. Assumes `Logic`.
 use Prim.Native.Nat.{ℕ}
 use Rattle.ga_views.proofs.SharedLoan.{comes_back, lent_shared, lends_shared}
+use Rattle.ga_views.proofs.SliceLaws.{ArrayView, array_laws}
 use Rattle.ga_views.proofs.array_mut.ArrayMut+mut+slice+T+T+N.from_mut_slice.Met as view_met
-use Rattle.ga_views.proofs.array_mut.ArrayMut.TheLaws as view_laws
 use Rattle.ga_views.proofs.chunks_mut.RowsMut.TheLaws as rows_laws
 use Rattle.ga_views.proofs.chunks_mut.RowsMut.get_mut.Code as code
 use Rattle.ga_views.proofs.chunks_mut.RowsMut.get_mut.Statement.{statement}
@@ -11,15 +11,12 @@ use Rattle.ga_views.proofs.chunks_mut.RowsMut.len.Met as len_met
 use Rattle.ga_views.proofs.chunks_mut.RowsMut.row_mut.Met as row_met
 use Rattle.ga_views.specs.Rows.{chunk_count, row_at}
 use Rattle.ga_views.specs.RowsMut.{LendsRow, LendsRowIf, row_set}
-use Rattle.ga_views.specs.contracts.array_mut.ArrayMut as view
 use Rattle.ga_views.specs.contracts.array_mut.ArrayMut+mut+slice+T+T+N.from_mut_slice as view_of
 use Rattle.ga_views.specs.contracts.chunks_mut.RowsMut as rows
 use Rattle.ga_views.specs.contracts.chunks_mut.RowsMut.get_mut as F
 use Rattle.ga_views.specs.contracts.chunks_mut.RowsMut.len as count_of
 use Rattle.ga_views.specs.contracts.chunks_mut.RowsMut.row_mut as row_of
-use Rattle.ga_views.specs.contracts.slice_mut.RefMutSliceSliceMut.TheImpl as impl
 use Rattle.ga_views.specs.declared.length.Unsigned as unsigned
-use Rattle.ga_views.specs.declared.slice_mut.PartMut as part_mut
 use Rattle.ga_views.specs.declared.slice_mut.SliceMut as slice_mut
 use Rattle.std.proofs.Common.{◌≡◌, ◌<◌, ◌≤◌, [], ◌∷◌, ◌∙◌, ap, arith, length, List, MutBor, refl, subst, sym, true≢false}
 use Rattle.std.proofs.VecSteps.Shapes.{after}
@@ -41,26 +38,23 @@ use denote.Exit.{no, yes}
 use denote.Follow.{follows, follows_by, follows_if}
 use denote.Laws.{Is, shows}
 use denote.Param.{bounded, param}
-use denote.Param.Laws.{Laws, of_field, param_laws, row_shared}
-use denote.Param.Shared.{mut_slice_shared}
+use denote.Param.Laws.{Laws, param_laws}
 use denote.Plain.{uint_Makes, uint_Tells, uint_vals}
 use denote.RattleType.{owns, RattleType, Valss}
 use denote.Ref.{Bor, mut_Tells, mut_vals, MutRef, NamedLft, shr_vals}
-use denote.Signature.{plain, Slot}
+use denote.Signature.{plain}
 use denote.Slice.{mut_slice_vals, MutSlice}
 use denote.Steps.{heard, nothing, only, owned, peeks}
-use denote.Struct.Field.{mut_slice_field}
-use denote.Struct.Laws.{mut_slice_laws}
 use denote.Struct.Struct.{as_fields}
 use denote.Triple.Call.{calls_at}
-use denote.Triple.Clauses.{Ended, lasts}
+use denote.Triple.Clauses.{lasts}
 use denote.Triple.Spec.{triple_of}
 use denote.Triple.Table.{framed}
 use denote.Triple.Walked.{Goes-dropped, Goes-spent_ref, stay_dropped, Stays, walk_of}
 use lib.Dec.{lit<, ltb→lt, nltb→le}
 use mathlib.Core.Option as maybe
 use mir.MapTy.{inst_fn}
-use mir.Syntax.{a_type, Args, dcons, Dict, dnil, Fn, named, ty_int, w64, w8}
+use mir.Syntax.{a_type, Args, dcons, dnil, Fn, named, ty_int, w64, w8}
 use mir.Val.{of_list, Val, vint}
 use seplogic.Ra.Ura.{Ura}
 use types.ByLocal.{alloc_all, env, free_all, get, lands_as, look_at, pass_all, sets, sets_last, through}
@@ -98,58 +92,33 @@ module _ {M : Type 1} {𝓤 : Ura M} (𝓛 : Logic 𝓤) (R U : RattleType) (x :
       qed 𝓛 (‵ ((MutRef (named 0) κ R).own_val x (mut_vals x)) ∷ []) ∵ fsplit3 ! $ drop ! $
       use1 𝓛 (‵ (fres x.ghost_name (R.coded.code x.now))) (𝓛.names.obs-res x.ghost_name (R.coded.code x.now)) $ keep ! (0 ∷ []) $ done !
 
-module _ (S T N : RattleType) (p : part_mut.Ghosts S.Denot T.Denot) (pd : Dict) (s : slice_mut.Ghosts S.Denot T.Denot) (sd : Dict) (n : unsigned.Ghosts N.Denot) (nd d : Dict) where
-  abbrev args : Args
-  args = bounded (a_type ∷ a_type ∷ a_type ∷ []) (S, (T, (N, tt))) (dcons pd (dcons sd (dcons nd (dcons d dnil))))
-
-  abbrev function : Fn
-  function = inst_fn args code.function
-
-  abbrev ended : Ended
-  ended = F.ended S T N p pd s sd n nd d
-
-  -- an item, and the rows
-  abbrev Item : RattleType
-  Item = param 1 T
-
+-- the rows
+module _ (S T N : RattleType) (s : slice_mut.Ghosts S.Denot T.Denot) (n : unsigned.Ghosts N.Denot) where
   abbrev Rows : RattleType
-  Rows = rows.the_row (param 0 S) Item (param 2 N) s n
+  Rows = rows.the_row (param 0 S) (param 1 T) (param 2 N) s n
 
   abbrev Rows-laws : Laws S → Laws T → Laws N → Laws Rows
-  Rows-laws LS LT LN = rows_laws.the_row_laws (param 0 S) Item (param 2 N) s n (param_laws 0 S LS) (param_laws 1 T LT) (param_laws 2 N LN)
-
-  abbrev slot : Slot 4
-  slot = RefMutOf (0 ∷ []) tt (plain (λ _. Rows)) (λ _. tt)
-
-  abbrev stayed : Stays ended.signature.params ended.kept
-  stayed = (stay_dropped slot no, (stay_dropped (plain (λ _. usize)) yes, tt))
-
-  abbrev View : NamedLft → RattleType
-  View ℓ = view.the_row (mut_slice_field ℓ Item tt).row Item (param 2 N) (impl.ghosts Item) n
-
-  abbrev View-laws : Laws T → Laws N → (ℓ : NamedLft) → Laws (View ℓ)
-  View-laws LT LN ℓ =
-      view_laws.the_row_laws (mut_slice_field ℓ Item tt).row Item (param 2 N) (impl.ghosts Item) n
-      (of_field (mut_slice_field ℓ Item tt) (mut_slice_laws ℓ Item tt) refl (mut_slice_shared ℓ Item tt (row_shared Item (param_laws 1 T LT)))) (param_laws 1 T LT) (param_laws 2 N LN)
+  Rows-laws LS LT LN = rows_laws.the_row_laws (param 0 S) (param 1 T) (param 2 N) s n (param_laws 0 S LS) (param_laws 1 T LT) (param_laws 2 N LN)
 
 pub get_mut_spec : {M : Type 1} → statement M
 get_mut_spec 𝓤 𝓛 𝓜 𝓡 wired S T N LS LT LN p pd s sd n nd d metP metS metN metD =
-    let ends = ended S T N p pd s sd n nd d in
-    let kept = stayed S T N p pd s sd n nd d in
-    let R : RattleType = Rows S T N p pd s sd n nd d in
-    let E : RattleType = Item S T N p pd s sd n nd d in
+    let ends = F.ended S T N p pd s sd n nd d in
+    let R : RattleType = Rows S T N s n in
+    let E : RattleType = param 1 T in
+    let kept : Stays ends.signature.params ends.kept = (stay_dropped (RefMutOf (0 ∷ []) tt (plain (λ _. R)) (λ _. tt)) no, (stay_dropped (plain (λ _. usize)) yes, tt)) in
     let c = F.clauses S T N p pd s sd n nd d 𝓛 𝓜.mem 𝓡.returns in
     let 𝓣 = tables 𝓤 𝓛.H 𝓜 𝓡 𝓡.env in
-    let fn = function S T N p pd s sd n nd d in
+    let key : Args = bounded (a_type ∷ a_type ∷ a_type ∷ []) (S, (T, (N, tt))) (dcons pd (dcons sd (dcons nd (dcons d dnil)))) in
+    let fn : Fn = inst_fn key code.function in
     proved 𝓛 ends kept c 𝓜 𝓡 (Goes-spent_ref 𝓛 4 (0 ∷ []) tt (plain (λ _. R)), (Goes-dropped 𝓛 4 (plain (λ _. usize)) yes (λ κs x f. refl), tt))
-    (F.Key.name (args S T N p pd s sd n nd d)) fn (code.unfolded 𝓤 𝓛.H 𝓜 𝓡 wired (S, (T, (N, tt))) pd sd nd d)
+    (F.Key.name key) fn (code.unfolded 𝓤 𝓛.H 𝓜 𝓡 wired (S, (T, (N, tt))) pd sd nd d)
     (λ κs. (mut_vals, (uint_vals w64, tt))) (λ κs. (mut_Tells (named 0) κs.0 R, (uint_Tells w64, tt)))
     (λ κs qs bounds a gh are.
     let self = a.0 in let i = a.1.0 in let fi = are.1.0.1 in
     let b : ℕ = self.ref_ptr.0 in let o : ℕ = self.ref_ptr.1 in let items = s.items self.now.slice in
     let κ : Lft = κs.0 in let κS : Lft = κs.1.0 in let κT : Lft = κs.1.1.0 in let κN : Lft = κs.1.1.1.0 in
     let lasting : NamedLft = record { mir = named 0; lft = κ } in
-    let V : RattleType = View S T N p pd s sd n nd d lasting in
+    let V : RattleType = ArrayView lasting 1 T 2 N n in
     let set : List T.Denot → R.Denot = row_set (param 0 S) E (param 2 N) s n self.now i in
     let W = walk_of 𝓛 ends kept c in
     let y : W.Ghost = ((κs, qs, bounds, a, (mut_vals self, (vint w64 i ∷ [], tt))), tt) in
@@ -163,7 +132,7 @@ get_mut_spec 𝓤 𝓛 𝓜 𝓡 wired S T N LS LT LN p pd s sd n nd d metP metS
     -- [the rows; the tokens]
     sets ! (addr ! (through ! refl (stop !))) refl (tt, tt) $
     use2 𝓛 (later (some (lent_shared 𝓛 R κ qs.0 b o self.ghost_name self.now)))
-    (lends_shared 𝓛 R κ qs.0 b o self.ghost_name self.now ((Rows-laws S T N p pd s sd n nd d LS LT LN).shares 𝓛)
+    (lends_shared 𝓛 R κ qs.0 b o self.ghost_name self.now ((Rows-laws S T N s n LS LT LN).shares 𝓛)
     (rows_laws.the_within (param 0 S) E (param 2 N) s n κ (⊑_trans κ κS S.lives bounds.0 lS) (⊑_trans κ κT T.lives bounds.1.0 lT) (⊑_trans κ κN N.lives bounds.1.1.0 lN))) $
     await ! tt $ pick ! (λ t. split3 ! $
     -- [the rows, read-only; the new token; the way back; the other tokens]
@@ -238,7 +207,7 @@ get_mut_spec 𝓤 𝓛 𝓜 𝓡 wired S T N LS LT LN p pd s sd n nd d metP metS
     await ! tt $ pick ! (λ w. split ! $ split ! $ move ! (2 ∷ []) $ pick ! (λ ws''. split ! $ drop ! $ heard ! _ (λ this.
     -- [three tokens; the view; the token of S's lifetime; what the rows end as]
     move ! (1 ∷ []) $ peeks ! V (Is V) (shows 𝓛 V) w (u ∷ []) (λ is.
-    let good = ((View-laws S T N p pd s sd n nd d LT LN lasting).lawful 𝓛).typed w (u ∷ []) is in
+    let good = ((array_laws lasting 1 T 2 N n LT LN).lawful 𝓛).typed w (u ∷ []) is in
     let typed = as_fields (ty_int w8 ∷ V.mir) (vint w8 1 ∷ u ∷ []) ((tt, record { fits = lit< tt }), good) in
     let out : Val = live 1 (of_list (u ∷ [])) in
     lands_as ! refl refl good.0 $
