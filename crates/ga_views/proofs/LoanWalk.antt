@@ -81,7 +81,7 @@ module _ (L : ℕ) where
   go 𝓛 zero = tt
   go 𝓛 (suc n) = (Goes-dropped 𝓛 L (plain (λ _. usize)) yes (λ κs x f. refl), go 𝓛 n)
 
--- facts that are asked for: on the lifetimes, and then on the arguments
+-- the facts that are asked for, as a `requires` has them: those on the lifetimes, and then the others
 abbrev pub Every : List (Type 0) → Type 0
 Every [] = Unit {0}
 Every (φ ∷ φs) = φ × Every φs
@@ -106,7 +106,8 @@ module _ {M : Type 1} (𝓤 : Ura M) where
       fact_use 𝓤 φ (via 𝓤 (needed (φ ∷ φs) ψs) h (fst∗ 𝓤 (fact 𝓤 φ) (needed φs ψs))) (λ x.
       learns φs ψs (via 𝓤 (needed (φ ∷ φs) ψs) h (snd∗ 𝓤 (fact 𝓤 φ) (needed φs ψs))) (λ xs ys. k (x, xs) ys))
 
--- what is lent on is a `lent`, at the first of the lifetimes. It ends as `ties` says
+-- such a function: it takes a `&mut` to a `lent`, at the first lifetime of `more` and one, and then numbers. `lives` and `asks` are the facts that it asks for,
+-- on the lifetimes and on what it is passed; `gives` is the fact on its result, and `ties` says what the `lent` ends as
 pub record Loan : Type 2 where
   pub more : ℕ
   pub outlives : List (Outlives (suc more))
