@@ -1,6 +1,6 @@
 -- What the walks share: a value of one pointer, one of no bytes, a tuple of three, an item as a machine value and in memory, and how a walk begins and ends. Assumes `Logic`.
 use mathlib.Core.Path.{◌≡◌, refl, subst, sym, ap, ◌∙◌}
-use Prim.Native.Nat.{ℕ, zero, suc, ◌*◌, ◌<◌, ◌^◌}
+use Prim.Native.Nat.{ℕ, ◌*◌, ◌<◌, ◌^◌}
 use mathlib.Core.List.{List, [], ◌∷◌, ◌++◌}
 use seplogic.Ra.Ura.{Ura}
 use mir.Val.{Val, vstruct, vcons, vnil}
@@ -41,18 +41,11 @@ use denote.Param.Laws.{Laws, param_laws}
 use denote.Memory.{mem, part_at}
 use types.SemTy.{Body as Borrowed}
 use borrow.Table.OneValue.{part_in, part_out}
-use native.Mathlib.Nat.{zero-mul, suc-mul}
-use native.Mathlib.Omega.{arith}
 use mir.Raw.{raw as bare}
 use prog.Memory.{size, align, capped}
 use prog.Capped.{capped_is}
 use prog.RawLaws.{size-raw, align-raw}
 use Rattle.std.proofs.alloc.Calls.{Al}
-
--- where the product fits a word, the count is zero or the size fits too
-pub uncapped : (i k : ℕ) → i * k < 2 ^ 64 → i * capped k ≡ i * k
-uncapped zero k fits = zero-mul (capped k) ∙ sym (zero-mul k)
-uncapped (suc i) k fits = let more = suc-mul i k in ap (λ (j : ℕ). suc i * j) (capped_is k (omega arith))
 
 module _ (E : El) where
   -- the type that a block of n places is asked for

@@ -6,5 +6,6 @@ mod LentSlice
 pub mod MoveLemmas
 pub mod PlaceLemmas
 pub use Rattle.ga_views.proofs.HexLemmas
+pub use Rattle.ga_views.proofs.ItemLoan
 pub use Rattle.ga_views.proofs.RowLemmas
 pub mod RunLemmas

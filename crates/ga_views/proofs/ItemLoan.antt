@@ -1,5 +1,5 @@
 -- One item of a slice that is lent on. Assumes `Logic`.
---     uncapped, capped_fits, offset_fits     how far into the slice the item lies, as the code computes it: an index times the item's size, with a size that is too large for a word cut down to one
+--     uncapped, uncapped_fits, offset_fits     how far into the slice the item lies, as the code computes it: an index times the item's size, with a size that is too large for a word cut down to one
 --     spot                                   where it lies
 --     lends_item                             it is lent for as long as the slice was, and what lent the slice follows it
 use native.Mathlib.Nat.{mul-le-mul_right, suc-mul, zero-mul}
@@ -34,8 +34,8 @@ uncapped zero k fits = zero-mul (capped k) ∙ sym (zero-mul k)
 uncapped (suc i) k fits = let more = suc-mul i k in ap (λ (j : ℕ). suc i * j) (capped_is k (omega arith))
 
 -- so the code's product fits it too
-pub capped_fits : (i k : ℕ) → i * k < 2 ^ 64 → i * capped k < 2 ^ 64
-capped_fits i k fits = subst (λ (j : ℕ). j < 2 ^ 64) (sym (uncapped i k fits)) fits
+pub uncapped_fits : (i k : ℕ) → i * k < 2 ^ 64 → i * capped k < 2 ^ 64
+uncapped_fits i k fits = subst (λ (j : ℕ). j < 2 ^ 64) (sym (uncapped i k fits)) fits
 
 -- the bytes before an item are no more than the slice's
 pub offset_fits : (i n k : ℕ) → i ≤ n → n * k < 2 ^ 63 → i * k < 2 ^ 64

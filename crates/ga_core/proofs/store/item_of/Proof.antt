@@ -7,7 +7,7 @@ use Rattle.ga_core.proofs.LentSlice.{calls_slice, loan_of, R, S}
 use Rattle.ga_core.proofs.store.item_of.Code as code
 use Rattle.ga_core.proofs.store.item_of.Statement.{statement}
 use Rattle.ga_core.specs.contracts.store.item_of.Key.{name as #self}
-use Rattle.ga_views.proofs.ItemLoan.{capped_fits, lends_item, lent_item, offset_fits, spot, uncapped}
+use Rattle.ga_views.proofs.ItemLoan.{uncapped_fits, lends_item, lent_item, offset_fits, spot, uncapped}
 use Rattle.ga_views.proofs.LoanWalk.{Had, lends, Loan}
 use Rattle.std.proofs.Common.{◌≡◌, ◌^◌, ◌<◌, [], ◌∷◌, ◌∙◌, ◌*◌, ap, arith, drop as drop_list, get_or, length, List, refl, set, ℕ}
 use Rattle.std.proofs.lemmas.List.{length-set, take_at}
@@ -54,7 +54,7 @@ item_of_spec 𝓤 𝓛 𝓜 𝓡 wired X n Z L fits LZ =
     let offset : i * width < 2 ^ 64 = offset_fits i (length s.now) width (omega (arith, within)) told.1.1 in
     let after : List X.Denot → Store.Denot = with_items store.now in
     lands_as ! told.0 refl (tt, (tt, (record { fits = told.1.0 }, tt))) $
-    sets ! (is ! (bin ! (get ! refl) (size_word !) (record { fits = capped_fits i width offset })) (ap (vint w64) (uncapped i width offset))) refl (tt, record { fits = offset }) $
+    sets ! (is ! (bin ! (get ! refl) (size_word !) (record { fits = uncapped_fits i width offset })) (ap (vint w64) (uncapped i width offset))) refl (tt, record { fits = offset }) $
     sets ! (bin ! (get_in ! (fld ! refl (stop !)) (sub ! 0 refl (whole !))) (get ! refl) tt) refl (tt, tt) $
     sets ! (addr ! (through ! refl (stop !))) refl (tt, tt) $
     -- [the slice's last value; its borrow; the token; the store follows the slice; the other tokens]

@@ -1,5 +1,5 @@
 -- `allocate` owns the new block as room, or for no places nothing, with the right to free it. Assumes `Logic`.
-use mathlib.Core.Path.{◌≡◌, refl, sym, ap, subst}
+use mathlib.Core.Path.{◌≡◌, refl, sym, ap}
 use mathlib.Core.Bool.{Bool, true, false}
 use Prim.Native.Nat.{ℕ, ◌*◌, ◌<◌, ◌^◌}
 use native.Mathlib.Omega.{arith}
@@ -53,7 +53,8 @@ use Rattle.std.specs.contracts.alloc.AllocError as AE
 use Rattle.std.proofs.alloc.Calls.{Al, second, token, Answer-typed, takes_key, Takes, at_takes, Answered, Takes-goes, Takes-gives, answers}
 use Rattle.std.proofs.mem.Facts.{says_two}
 use Rattle.std.proofs.mem.Param.{El, R, elτ}
-use Rattle.ga_boxed.proofs.WalkParts.{uncapped, block_ty, block_size, block_align, args, P}
+use Rattle.ga_boxed.proofs.WalkParts.{block_ty, block_size, block_align, args, P}
+use Rattle.ga_core.proofs.ItemLoan.{uncapped, uncapped_fits}
 use Rattle.std.proofs.Flags.{T_true}
 use Rattle.std.proofs.RcSteps.{Good, first_Good, is_not, word, word-Good}
 use Rattle.std.proofs.ResultValues.{ok_of, err_of}
@@ -136,7 +137,7 @@ module _ (E : El) (Z : Al) {M : Type 1} {𝓤 : Ura M} (𝓛 : Logic 𝓤) (at_m
       let Then : After 𝓤 H = any_q (after_seq 𝓤 H (Wp 𝓤 H C Λ En (after 5 (function E Z).body) (at_return 𝓤 H En Post)) (at_return 𝓤 H En Post)) in
       let al : ℕ = capped (align (elτ E)) in
       let y : (Takes Z 𝓛 at_mem run).Ghost = at_takes Z 𝓛 at_mem run κ q (rb, ro) a (len * s) al (block_ty E len) in
-      sets ! (is ! (bin ! (get ! refl) (size_word !) (record { fits = subst (λ (k : ℕ). k < 2 ^ 64) (sym (uncapped len s bytes)) bytes })) (ap (vint w64) (uncapped len s bytes))) refl (tt, record { fits = bytes }) $
+      sets ! (is ! (bin ! (get ! refl) (size_word !) (record { fits = uncapped_fits len s bytes })) (ap (vint w64) (uncapped len s bytes))) refl (tt, record { fits = bytes }) $
       use2 𝓛 (raw ((Takes Z 𝓛 at_mem run).pre y)) (Takes-goes Z 𝓛 at_mem run κ q (rb, ro) a (Incl-trans short within) (len * s) al (block_ty E len) (block_size E len bytes) (block_align E len) bytes (capped_fits (align (elτ E)))) $
       calls_at ! fm (Takes Z 𝓛 at_mem run) callee y (and_then ! (get ! refl) (and_then ! (get ! refl) (and_then ! (align_word !) (no_more !)))) (λ v.
       use1 𝓛 (later (raw (Answered Z 𝓛 at_mem run a (block_ty E len) v) ⊛ ‵ (flft κ q))) (Takes-gives Z 𝓛 at_mem run κ q (rb, ro) a (len * s) al (block_ty E len) v) $ await ! tt $ split ! $

@@ -43,7 +43,8 @@ use denote.Triple.Walked.{needs, Stays, stay_dropped, walk_of, ends_at, Goes-dro
 use Rattle.std.specs.Vec.Ownership.{has_block, owns_if}
 use Rattle.std.proofs.alloc.Calls.{Al, Goes-blank, second, token, gives_key, Gives, at_gives, Gives-goes, Gives-Gives}
 use Rattle.std.proofs.mem.Param.{El, R, elτ}
-use Rattle.ga_boxed.proofs.WalkParts.{uncapped, block_ty, block_size, block_align, args, P}
+use Rattle.ga_boxed.proofs.WalkParts.{block_ty, block_size, block_align, args, P}
+use Rattle.ga_core.proofs.ItemLoan.{uncapped, uncapped_fits}
 use Rattle.std.proofs.Flags.{T_true}
 use Rattle.std.proofs.RcSteps.{word, word-Good}
 use Rattle.std.proofs.VecSteps.Shapes.{after}
@@ -108,7 +109,7 @@ module _ (E : El) (Z : Al) {M : Type 1} {𝓤 : Ura M} (𝓛 : Logic 𝓤) (at_m
       rewrite ! 1 (λ (d : Z.row.Denot × Ptr × ℕ). ‵ (deed_owns (R E) (token Z d.0) d.1 d.2)) (λ i. (asked.5 i, (asked.3 ∙ e) i, asked.4 i)) refl $
       rewrite ! 1 (λ (z : Bool). ‵ (owns_if z (token Z a (block_ty E len) (block_ptr b o)))) (T_true (has_block len) t) refl $ blocks ! $
       sets ! (is ! (of_opd ! (get_in ! (fld ! refl (stop !)) (sub ! 0 refl (whole !)))) (ap ptr_val e)) refl (tt, tt) $
-      sets ! (is ! (bin ! (get ! refl) (size_word !) (record { fits = subst (λ (k : ℕ). k < 2 ^ 64) (sym (uncapped len s bytes)) bytes })) (ap (vint w64) (uncapped len s bytes))) refl (tt, record { fits = bytes }) $
+      sets ! (is ! (bin ! (get ! refl) (size_word !) (record { fits = uncapped_fits len s bytes })) (ap (vint w64) (uncapped len s bytes))) refl (tt, record { fits = bytes }) $
       group ! 4 $ use1 𝓛 (raw ((Gives Z 𝓛 at_mem run).pre y)) (Gives-goes Z 𝓛 at_mem run κ q (rb, ro) a (Incl-trans short within) b o (len * s) al (block_ty E len) (block_size E len bytes) (block_align E len) bytes (capped_fits (align (elτ E)))) $
       calls_at_last ! fm (Gives Z 𝓛 at_mem run) callee y (and_then ! (get ! refl) (and_then ! (get ! refl) (and_then ! (get ! refl) (and_then ! (align_word !) (no_more !))))) (λ v.
       use1 𝓛 (later (given (v ≡ vunit) (‵ (flft κ q)))) (Gives-Gives Z 𝓛 at_mem run κ q (rb, ro) a b o (len * s) al (block_ty E len) v) $ await ! tt $ learn ! (λ done_with.

@@ -5,7 +5,7 @@ use Rattle.std.proofs.Common.{◌≡◌, ℕ, ◌+◌, ◌-◌, ◌*◌, ◌^◌
 use Rattle.std.specs.List.{refill}
 use Rattle.ga_views.proofs.InnerPart.{lent, lends_range, part_long}
 use Rattle.ga_views.proofs.InnerSlice.{args, closes_inner, opens_inner, slice_lent}
-use Rattle.ga_views.proofs.ItemLoan.{capped_fits, offset_fits, spot, uncapped}
+use Rattle.ga_views.proofs.ItemLoan.{uncapped_fits, offset_fits, spot, uncapped}
 use Rattle.ga_views.proofs.LoanWalk.{Had, Loan, Walk, Words, lends}
 use Rattle.ga_views.specs.Parts.{part_set}
 use Rattle.ga_views.specs.contracts.slice_mut.RefMutSlicePartMut.part_mut.Key.{name as #self}
@@ -54,7 +54,7 @@ module _ (X : RattleType) {M : Type 1} {𝓤 : Ura M} (𝓛 : Logic 𝓤) (C : C
       sets ! (addr ! (through ! refl (fld ! refl (hop ! (look_in ! 0 (sub ! 0 refl (whole !))) (stop !))))) refl (tt, tt) $
       sets ! (agg ! (and_then ! (get ! refl) (and_then ! (get ! refl) (no_more !)))) refl (tt, (tt, (record { fits = rm.0 }, tt))) $
       sets ! (bin ! (get ! refl) (get ! refl) (record { fits = end })) refl (tt, record { fits = end }) $
-      sets ! (is ! (bin ! (get ! refl) (size_word !) (record { fits = capped_fits ns.0 s offset })) (ap (vint w64) (uncapped ns.0 s offset))) refl (tt, record { fits = offset }) $
+      sets ! (is ! (bin ! (get ! refl) (size_word !) (record { fits = uncapped_fits ns.0 s offset })) (ap (vint w64) (uncapped ns.0 s offset))) refl (tt, record { fits = offset }) $
       sets ! (bin ! (get_in ! (fld ! refl (stop !)) (sub ! 0 refl (whole !))) (get ! refl) tt) refl (tt, tt) $
       sets ! (is ! (bin ! (get ! refl) (get ! refl) (omega arith)) (ap (vint w64) width)) refl (tt, record { fits = fits }) $
       sets ! (addr ! (through ! refl (stop !))) refl (tt, tt) $

@@ -5,7 +5,7 @@
 use Rattle.std.proofs.Common.{◌≡◌, ◌*◌, ◌^◌, ◌<◌, [], ◌∷◌, length, refl, ap, arith, get_or, set}
 use Rattle.ga_views.proofs.InnerItem.{lent, lends_element}
 use Rattle.ga_views.proofs.InnerSlice.{args, closes_inner, loan_of, opens_inner}
-use Rattle.ga_views.proofs.ItemLoan.{capped_fits, offset_fits, spot, uncapped}
+use Rattle.ga_views.proofs.ItemLoan.{uncapped_fits, offset_fits, spot, uncapped}
 use Rattle.ga_views.proofs.LoanWalk.{Had, Loan, Walk, lends}
 use Rattle.ga_views.specs.contracts.slice_mut.RefMutSliceSliceMut.item_mut.Key.{name as #self}
 use Rattle.ga_views.proofs.slice_mut.RefMutSliceSliceMut.item_mut.Code as code
@@ -42,7 +42,7 @@ module _ (X : RattleType) {M : Type 1} {𝓤 : Ura M} (𝓛 : Logic 𝓤) (C : C
       opens_inner ! tt (param 0 X) x (λ rm.
       let offset : ns.0 * size (layout X) < 2 ^ 64 = offset_fits ns.0 (length x.now.now) (size (layout X)) (omega (arith, asked.0)) rm.1 in
       -- [the inner reference's cell; what it owns; the open borrow, in three entries]
-      sets ! (is ! (bin ! (get ! refl) (size_word !) (record { fits = capped_fits ns.0 (size (layout X)) offset })) (ap (vint w64) (uncapped ns.0 (size (layout X)) offset))) refl (tt, record { fits = offset }) $
+      sets ! (is ! (bin ! (get ! refl) (size_word !) (record { fits = uncapped_fits ns.0 (size (layout X)) offset })) (ap (vint w64) (uncapped ns.0 (size (layout X)) offset))) refl (tt, record { fits = offset }) $
       sets ! (bin ! (load ! (through ! refl (fld ! refl (stop !))) (look_in ! 0 (sub ! 0 refl (whole !)))) (get ! refl) tt) refl (tt, tt) $
       sets ! (addr ! (through ! refl (stop !))) refl (tt, tt) $
       closes_inner ! tt (param 0 X) x $

@@ -1,5 +1,5 @@
 -- `slice` shows the items that the cells lend. Assumes `Logic`.
-use mathlib.Core.Path.{◌≡◌, refl, sym, ap, subst, ◌∙◌}
+use mathlib.Core.Path.{◌≡◌, refl, sym, ap, ◌∙◌}
 use Prim.Native.Nat.{ℕ, ◌+◌, ◌*◌, ◌<◌, ◌^◌}
 use native.Mathlib.Omega.{arith}
 use mathlib.Core.List.{List, [], ◌∷◌}
@@ -38,7 +38,7 @@ use Rattle.std.proofs.VecSteps.Shapes.{after}
 use Rattle.std.proofs.RcSteps.{word, word-Good}
 use Rattle.std.proofs.mem.Param.{El, R, args, el_x}
 use Rattle.std.proofs.ptr.Rows.{times_below}
-use Rattle.ga_boxed.proofs.WalkParts.{uncapped}
+use Rattle.ga_core.proofs.ItemLoan.{uncapped_fits, uncapped}
 use Rattle.ga_boxed.specs.CellsOwn.{cells_lent}
 use Rattle.ga_boxed.specs.contracts.live_block.cells.Cells.slice.Key.{name as #self}
 use Rattle.ga_boxed.proofs.WalkParts.{Cr, Bs, sz, base_vals, base_Tells, grows}
@@ -92,7 +92,7 @@ module _ (E : El) {M : Type 1} {𝓤 : Ura M} (𝓛 : Logic 𝓤) (C : Calls �
       let far : index * s < 2 ^ 64 = omega (arith, times_below index all s (2 ^ 63) (omega arith) small) in
       let at : ℕ × ℕ = (b, index * s + o) in
       take_at ! 2 $ rewrite ! 0 (λ (p : Ptr). ‵ (fat full_share (layout (Bs E)) (l 2) 0 (word p))) (asked.0 ∙ e) refl $ give_at ! 2 $ first ! $ blocks ! $
-      sets ! (is ! (bin ! (get ! refl) (size_word !) (record { fits = subst (λ (k : ℕ). k < 2 ^ 64) (sym (uncapped index s far)) far })) (ap (vint w64) (uncapped index s far))) refl (tt, record { fits = far }) $
+      sets ! (is ! (bin ! (get ! refl) (size_word !) (record { fits = uncapped_fits index s far })) (ap (vint w64) (uncapped index s far))) refl (tt, record { fits = far }) $
       sets ! (bin ! (get_in ! (fld ! refl (stop !)) (sub ! 0 refl (whole !))) (get ! refl) tt) refl (tt, tt) $
       rewrite ! 0 (λ (k : ℕ). ‵ (elements_shared (R E) xs b (k * s + o) κ)) (sym first_place) refl $ hide ! $
       sets_last ! (agg ! (and_then ! (get ! refl) (and_then ! (get ! refl) (no_more !)))) refl (tt, (tt, (record { fits = fits_len }, tt))) $

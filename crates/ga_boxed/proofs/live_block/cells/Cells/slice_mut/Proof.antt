@@ -44,7 +44,7 @@ use Rattle.std.proofs.VecSteps.Shapes.{after}
 use Rattle.std.proofs.RcSteps.{word, word-Good}
 use Rattle.std.proofs.mem.Param.{El, R, args, el_x}
 use Rattle.std.proofs.ptr.Rows.{times_below}
-use Rattle.ga_boxed.proofs.WalkParts.{uncapped}
+use Rattle.ga_core.proofs.ItemLoan.{uncapped_fits, uncapped}
 use Rattle.ga_boxed.specs.CellsLend.{with_items}
 use Rattle.ga_boxed.specs.CellsOwn.{cells_own, empty}
 use Rattle.ga_boxed.specs.contracts.live_block.cells.Cells.slice_mut.Key.{name as #self}
@@ -131,7 +131,7 @@ module _ (E : El) {M : Type 1} {𝓤 : Ura M} (𝓛 : Logic 𝓤) (C : Calls �
       in_a_block ! d.at (λ p. cells_own (R E) p d.passed xs d.room) (id⊢ 𝓤 (never 𝓤)) (λ b o e. fsplit ! $ flt_l ! (λ small.
       let far : index * s < 2 ^ 64 = omega (arith, times_below index all s (2 ^ 63) (omega arith) small) in
       take_at ! 2 $ rewrite ! 0 (λ (p : Ptr). ‵ (fat full_share (layout (Bs E)) (l 2) 0 (word p))) (asked.0 ∙ e) refl $ give_at ! 2 $ first ! $ blocks ! $
-      sets ! (is ! (bin ! (get ! refl) (size_word !) (record { fits = subst (λ (k : ℕ). k < 2 ^ 64) (sym (uncapped index s far)) far })) (ap (vint w64) (uncapped index s far))) refl (tt, record { fits = far }) $
+      sets ! (is ! (bin ! (get ! refl) (size_word !) (record { fits = uncapped_fits index s far })) (ap (vint w64) (uncapped index s far))) refl (tt, record { fits = far }) $
       sets ! (bin ! (get_in ! (fld ! refl (stop !)) (sub ! 0 refl (whole !))) (get ! refl) tt) refl (tt, tt) $
       let at = index * s + o in let way = back vs b o e small first_place in
       let roomy : length xs < 2 ^ 64 = omega arith in let fitting = times_below (length xs) all s (2 ^ 63) (omega arith) small in
