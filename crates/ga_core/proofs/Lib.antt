@@ -7,5 +7,7 @@ pub mod MoveLemmas
 pub mod PlaceLemmas
 pub use Rattle.ga_views.proofs.HexLemmas
 pub use Rattle.ga_views.proofs.ItemLoan
+pub use Rattle.ga_views.proofs.LengthCall
 pub use Rattle.ga_views.proofs.RowLemmas
 pub mod RunLemmas
+pub use Rattle.ga_views.proofs.SliceLaws

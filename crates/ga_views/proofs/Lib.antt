@@ -5,7 +5,7 @@ mod InnerItems
 mod InnerPart
 mod InnerSlice
 pub mod ItemLoan
-mod LengthCall
+pub mod LengthCall
 pub mod LoanWalk
 pub mod RowLemmas
 pub mod RowsMutLemmas

@@ -5,8 +5,8 @@ use Rattle.ga_core.below.ga_views.proofs.array_mut.ArrayMut+mut+slice+T+T+N.into
 use Rattle.ga_core.below.ga_views.specs.contracts.array_mut.ArrayMut+mut+slice+T+T+N.into_mut_slice as take_contract
 use Rattle.ga_core.below.ga_views.specs.contracts.slice_mut.RefMutSliceSliceMut.TheImpl as impl
 use Rattle.ga_core.proofs.ArrayMut.TheLaws as laws
-use Rattle.ga_core.specs.contracts.ArrayMut as view
-use Rattle.ga_core.specs.contracts.Unsigned.USIZE as length_of
+use Rattle.ga_core.proofs.LengthCall.{calls_length}
+use Rattle.ga_core.proofs.SliceLaws.{array_laws, ArrayView, Slice, slice_laws}
 use Rattle.ga_core.specs.declared.Unsigned as unsigned
 use Rattle.generic_array.proofs.sequence.shapes.views.halves_of.Code as code
 use Rattle.generic_array.proofs.sequence.shapes.views.halves_of.Statement.{statement}
@@ -25,17 +25,15 @@ use contract.BorrowLft.{◌⊑◌}
 use contract.Monad.{fact, fact_i}
 use contract.Running.{tables}
 use denote.Array.{Array}
-use denote.Builtin.{usize}
 use denote.Exit.{no}
 use denote.Follow.{follows_both}
 use denote.Laws.{Is, shows}
-use denote.Param.Laws.{field_told, Laws, of_field, param_laws, row_shared, Told}
-use denote.Param.Shared.{mut_slice_shared}
+use denote.Param.Laws.{field_told, Laws, param_laws, Told}
 use denote.Param.{bounded, param}
 use denote.RattleType.{owns, RattleType}
 use denote.Ref.{NamedLft}
 use denote.Signature.{plain, Slot}
-use denote.Slice.{mut_slice_vals, MutSlice}
+use denote.Slice.{mut_slice_vals}
 use denote.Steps.{heard, nothing, only, peeks}
 use denote.Struct.Field.{mut_slice_field}
 use denote.Struct.Laws.{mut_slice_laws}
@@ -53,33 +51,26 @@ use types.Kit.{‵, ◌⊛◌, ◌$◌, ◌∵◌, !, await, by, drop, feq_l, fj
 use types.Part.{agg, sub, whole}
 use types.Run.{addr, and_then, enter, fld, from, hop, no_more, of_opd, returns, stop}
 
--- the element, the slice, and a view whose length's type is the i-th parameter
-module _ (X : RattleType) where
-  abbrev R : RattleType
-  R = param 0 X
+-- the slice, and a view whose length's type is the i-th parameter
+module _ (X : RattleType) (κ : Lft) where
+  abbrev lasting : NamedLft
+  lasting = record { mir = named 0; lft = κ }
 
-  module _ (κ : Lft) where
-    abbrev lasting : NamedLft
-    lasting = record { mir = named 0; lft = κ }
+  abbrev S : RattleType
+  S = Slice lasting 0 X
 
-    abbrev S : RattleType
-    S = MutSlice (named 0) κ R
+  module _ (i : ℕ) (Z : RattleType) (g : unsigned.Ghosts Z.Denot) where
+    abbrev View : RattleType
+    View = ArrayView lasting 0 X i Z g
 
-    module _ (i : ℕ) (Z : RattleType) (g : unsigned.Ghosts Z.Denot) where
-      abbrev View : RattleType
-      View = view.the_row S R (param i Z) (impl.ghosts R) g
+    module _ (LX : Laws X) (LZ : Laws Z) where
+      abbrev view_laws : Laws View
+      view_laws = array_laws lasting 0 X i Z g LX LZ
 
-      module _ (LX : Laws X) (LZ : Laws Z) where
-        abbrev slice_laws : Laws S
-        slice_laws = of_field (mut_slice_field lasting R tt) (mut_slice_laws lasting R tt) refl (mut_slice_shared lasting R tt (row_shared R (param_laws 0 X LX)))
-
-        abbrev view_laws : Laws View
-        view_laws = laws.the_row_laws S R (param i Z) (impl.ghosts R) g slice_laws (param_laws 0 X LX) (param_laws i Z LZ)
-
-        abbrev view_told : Told View
-        view_told =
-            laws.the_told S R (param i Z) (impl.ghosts R) g slice_laws (param_laws 0 X LX) (param_laws i Z LZ)
-            (field_told (mut_slice_field lasting R tt) (mut_slice_laws lasting R tt))
+      abbrev view_told : Told View
+      view_told =
+          laws.the_told S (param 0 X) (param i Z) (impl.ghosts (param 0 X)) g (slice_laws lasting 0 X LX) (param_laws 0 X LX) (param_laws i Z LZ)
+          (field_told (mut_slice_field lasting (param 0 X) tt) (mut_slice_laws lasting (param 0 X) tt))
 
 -- N, K and P are the types of the lengths of the view and of its two halves
 module _ (X N K P : RattleType) (gN : unsigned.Ghosts N.Denot) (dN : Dict) (gK : unsigned.Ghosts K.Denot) (dK : Dict) (gP : unsigned.Ghosts P.Denot) (dP : Dict) where
@@ -101,7 +92,7 @@ halves_of_spec 𝓤 𝓛 𝓜 𝓡 wired X N K P LX LN LK LP gN dN gK dK gP dP b
     let 𝓣 = tables 𝓤 𝓛.H 𝓜 𝓡 𝓡.env in
     let key = args X N K P gN dN gK dK gP dP in
     let fn : Fn = inst_fn key code.function in
-    let E : RattleType = R X in
+    let E : RattleType = param 0 X in
     proved 𝓛 ends kept c 𝓜 𝓡 (Goes-blank 𝓛 5 one no (λ κs x f. tt), tt)
     (F.Key.name key) fn (code.unfolded 𝓤 𝓛.H 𝓜 𝓡 wired (X, (N, (K, (P, tt)))) dN dK dP)
     (λ κs. (λ x. (view_told X κs.0 1 N gN LX LN).val x ∷ [], tt)) (λ κs. ((view_told X κs.0 1 N gN LX LN).tells, tt))
@@ -142,19 +133,10 @@ halves_of_spec 𝓤 𝓛 𝓜 𝓡 wired X N K P LX LN LK LP gN dN gK dK gP dP b
     lands_as ! (ap only is.0.0) refl (tt, (tt, (record { fits = is.0.1.0 }, tt))) $
     rewrite ! 0 (λ (vs : List Val). ‵ (Part.own_val s vs)) is.0.0 refl $
     -- the first view's length
-    let L = triple_of 𝓛 (length_of.signature K) (length_of.spec K gK dK 𝓛 𝓜.mem 𝓡.returns) in
-    let zL : L.Ghost = (((κK, tt), (qs.1.1.1.0, tt), tt, tt, tt), tt) in
-    move ! (3 ∷ []) $ nothing ! $ move ! (1 ∷ 0 ∷ []) $ join ! $ nothing ! $ move ! (1 ∷ 0 ∷ []) $ join ! $
-    nothing ! $ use0 𝓛 (raw (fact 𝓤 (κK ⊑ K.lives))) (fact_i 𝓤 _ (emp 𝓤) lK) $ join ! $
-    move ! (1 ∷ 0 ∷ []) $ join ! $ use1 𝓛 (raw (L.pre zL)) (id⊢ 𝓤 _) $
-    calls_at ! (framed 𝓤 𝓛.H 𝓜 𝓣) L boundK.USIZE zL (no_more !) (λ v.
-    use1 𝓛 (later (some (λ (m : ℕ). ((‵ (flft κK qs.1.1.1.0) ⊛ ‵ ftrue) ⊛ ‵ (usize.own_val m (v ∷ []))) ⊛
-    some (λ (ws : Unit {0}). ‵ ftrue ⊛ raw (fact 𝓤 (m ≡ gK.USIZE)))))) (id⊢ 𝓤 _) $
-    await ! tt $ pick ! (λ m. split ! $ split ! $ move ! (2 ∷ []) $ pick ! (λ ws. split ! $ drop ! $ heard ! _ (λ is_K.
-    -- [the token of K; the length; the slice; the tokens of κ, T, N; the token of P]
-    move ! (1 ∷ []) $ peeks ! usize (Is usize) (shows 𝓛 usize) m (v ∷ []) (λ word.
-    lands_as ! (ap only word.0) refl (tt, record { fits = word.1 }) $
-    rewrite ! 0 (λ (vs : List Val). ‵ (usize.own_val m vs)) word.0 refl $
+    move ! (3 ∷ []) $ nothing ! $ move ! (1 ∷ 0 ∷ []) $ join ! $
+    calls_length K gK dK 𝓛 𝓜.mem 𝓡.returns ! (framed 𝓤 𝓛.H 𝓜 𝓣) boundK.USIZE κK qs.1.1.1.0 lK (λ m is_K fits_K.
+    -- [the length; the token of K; the slice; the tokens of κ, T, N; the token of P]
+    lands_as ! refl refl (tt, record { fits = fits_K }) $
     -- the slice is cut
     let D = triple_of 𝓛 (cut_contract.signature X) (cut_contract.spec X 𝓛 𝓜.mem 𝓡.returns) in
     let zD : D.Ghost = (((κ, (κT, tt)), (qs.0, (qs.1.0, tt)), bounds, (s, (m, tt)), (mut_slice_vals s, (vint w64 m ∷ [], tt))), tt) in
@@ -221,4 +203,4 @@ halves_of_spec 𝓤 𝓛 𝓜 𝓡 wired X N K P LX LN LK LP gN dN gK dK gP dP b
     use0 𝓛 (raw (fact 𝓤 (w.0.slice.now ≡ take gK.USIZE a.0.slice.now)))
     (fact_i 𝓤 _ (emp 𝓤) (ap (λ (x : Part.Denot). x.now) of_first ∙ first_is ∙ (λ i. take (is_K i) (same i).now))) $
     move ! (3 ∷ 2 ∷ 4 ∷ 5 ∷ []) $
-    by ! (leaves 𝓛 ends kept c y u w ((tt, tt), tt) (tt, tt)))))))))))))))))))))))))))))))))))))
+    by ! (leaves 𝓛 ends kept c y u w ((tt, tt), tt) (tt, tt)))))))))))))))))))))))))))))))))
