@@ -430,3 +430,17 @@ fn a_call_that_stops_drops_each_entry_and_each_answer_once(rt: HostRuntime) -> R
     assert!(rt; dropped_by_a_fold() == 4);
     Ok(())
 }
+
+/// How many of four items are dropped on their way from an inline array to a block.
+fn dropped_on_the_way(alloc: Global, drops: &Cell<u32>) -> Result<u32, AllocError> {
+    let _boxed = BoxedArray::from_inline(alloc, four_counted(drops))?;
+    Ok(drops.get())
+}
+
+#[test]
+fn items_that_go_to_a_block_are_dropped_once_whatever_memory_there_is(rt: HostRuntime) {
+    let drops = Cell::new(0);
+    let dropped = dropped_on_the_way(rt.alloc(), &drops);
+    assert!(rt; drops.get() == 4);
+    assert!(rt; dropped.unwrap_or(0) == 0);
+}
