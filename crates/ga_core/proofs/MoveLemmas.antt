@@ -1,6 +1,8 @@
 -- Items moved one by one from the front of a list.
-use Rattle.std.proofs.Common.{◌≡◌, ℕ, zero, suc, ◌+◌, ◌<◌, List, [], ◌∷◌, ◌++◌, take, drop, ap, ◌∙◌, sym, arith, append_assoc, length, slice_index_or, slice_set}
+use Rattle.std.proofs.Common.{◌≡◌, ℕ, zero, suc, ◌+◌, ◌<◌, List, [], ◌∷◌, ◌++◌, take, drop, ap, ◌∙◌, sym, arith, append_assoc, length, slice_index_or, slice_set, subst}
+use Rattle.std.proofs.lemmas.List.Elements.{All-append, All-cons, All-nil}
 use Rattle.std.proofs.lemmas.List.{drop-drop, drop-set-lt, drop_more, take_more_set}
+use Rattle.std.specs.List.{All}
 
 module _ {T : Type 0} where
   take-suc_next : (n : ℕ) (items left : List T) (item : T) → drop n items ≡ item ∷ left → take (suc n) items ≡ take n items ++ item ∷ []
@@ -34,3 +36,8 @@ module _ {T : Type 0} where
       → (take (n + 1) (slice_set places n item) ≡ take (n + 1) items) × (drop (n + 1) (slice_set left n blank) ≡ drop (n + 1) items)
   moved-next n items left places item blank some room this before behind =
       pushed-next n items left (take n places) (take (n + 1) (slice_set places n item)) item blank some this before behind (take_more_set places n item room)
+
+  -- a property of what is left in the places before, and of what is left in this one
+  pub left-next : (P : T → Type 0) (n : ℕ) (left : List T) (blank : T) → n < length left → All P (take n left) → P blank → All P (take (n + 1) (slice_set left n blank))
+  left-next P n left blank some before here =
+      subst (All P) (sym (take_more_set left n blank some)) (All-append P (take n left) (blank ∷ []) before (All-cons P blank [] here (All-nil P)))

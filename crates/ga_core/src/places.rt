@@ -53,7 +53,8 @@ pub(crate) fn write_same<T: Copy + Drop>(places: &mut [T], item: T)
 #[inline]
 pub fn move_items<T: Default + Drop>(items: &mut [T], places: &mut [T])
     requires len { length items.old ≡ length places.old }
-    ensures { places.new ≡ items.old }
+    ensures moved { places.new ≡ items.old }
+    ensures left { All T.is_default items.new }
 {
     for (index, place) in places.iter_mut().enumerate() {
         *place = mem::take(&mut items[index]);

@@ -1,12 +1,13 @@
 //! Callers, each proved: what a contract gives to those who use it.
 ghost use Rattle.ga_views.specs.HexText.{hex_digits};
 ghost use Rattle.std.specs.Io.KnownBytes.{Appends};
+ghost use Rattle.std.specs.List.{All};
 ghost use Rattle.std.specs.Option.{option_copied};
 ghost use Rattle.std.specs.Prelude.{◌≡◌, ◌∷◌, [], ◌↔◌, EachIndex, Err, IfOk, IsOk, IsTrue, Ok, OnErr, OnOk, ◌≢◌, length, slice_get, slice_index, slice_set, sum, true};
 
 use crate::{
     AllocError, ArrayBuilder, ArrayLength, GenericArray, GenericArrayRef, LengthError, U1, U2, U3,
-    U4, U7,
+    U4, U7, move_items,
 };
 use std::io;
 use std::io::Write;
@@ -90,6 +91,13 @@ fn checksum_ended(packet: &mut Packet)
     let mut view = packet.checksum.view_mut();
     let items = view.as_mut_slice();
     items[1] = 6;
+}
+
+fn moved_over(key: &mut GenericArray<u8, U3>, place: &mut GenericArray<u8, U3>)
+    ensures moved { place.new ≡ key.old }
+    ensures wiped { All (λ byte. byte ≡ 0) key.new }
+{
+    move_items(key.as_mut_slice(), place.as_mut_slice());
 }
 
 fn last_two_sorted(array: &mut GenericArray<u8, U3>)

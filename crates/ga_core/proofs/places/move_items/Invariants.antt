@@ -1,6 +1,11 @@
 use Rattle.std.proofs.Common.{◌≡◌, drop, take}
+use Rattle.std.specs.List.{All}
 use Rattle.ga_core.proofs.places.move_items.Given as goal
 
--- what is written so far and what is still to be moved are the items
+-- the items up to this place were moved and left defaults, and the others stand in theirs
 abbrev pub invariant-loop-index : goal.invariant-loop-index
-invariant-loop-index g l = (take l.index l.places ≡ take l.index l.initial.items) × (drop l.index l.items ≡ drop l.index l.initial.items)
+invariant-loop-index g l = record {
+  moved : take l.index l.places ≡ take l.index l.initial.items;
+  behind : drop l.index l.items ≡ drop l.index l.initial.items;
+  left : All g.T.Default.is_default (take l.index l.items);
+}
