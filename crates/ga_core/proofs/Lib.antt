@@ -1,3 +1,4 @@
+pub mod ActsLemmas
 pub mod CopyLemmas
 pub mod CutLemmas
 pub mod FillLemmas

@@ -4,6 +4,7 @@ pub mod Fill
 pub mod IterLends
 pub mod Lends
 pub mod Runs
+pub mod Tries
 pub use Rattle.ga_views.specs.HexText
 pub use Rattle.ga_views.specs.Iteration
 pub use Rattle.ga_views.specs.Length

@@ -3,9 +3,9 @@ ghost use Rattle.ga_core.specs.Cut.{StepGives, back, front};
 ghost use Rattle.ga_core.specs.Runs.{CallableInFold, FoldRun};
 ghost use Rattle.ga_views.specs.Length.{FitsInline};
 ghost use Rattle.std.specs.Borrow.{sem};
-ghost use Rattle.std.specs.Iterator.{YieldsFirst, YieldsLast, item_count};
+ghost use Rattle.std.specs.Iterator.{ActsAsOnTwo, YieldsFirst, YieldsLast, item_count};
 ghost use Rattle.std.specs.List.{All, AllZip};
-ghost use Rattle.std.specs.Prelude.{◌≡◌, ◌+◌, ◌-◌, ◌≤◌, IfOk, IsOk, drop, length, reverse, slice_get, slice_range, take};
+ghost use Rattle.std.specs.Prelude.{◌≡◌, ◌+◌, ◌-◌, ◌≤◌, IfOk, IsOk, drop, fold, length, reverse, slice_get, slice_range, take};
 
 #[cfg(test)]
 mod tests;
@@ -207,6 +207,7 @@ impl<T: Default + Drop, N: ArrayLength<T>> GenericArrayIter<T, N> {
     pub fn fold<A, F: FnMut(A, T) -> A>(self, init: A, f: F) -> A
         requires callable { CallableInFold F.pre F.step f init self }
         ensures run { (last : F) × FoldRun F.step f init self result last }
+        ensures acts { (h : A → T → A) → ActsAsOnTwo F.FnMut f h → result ≡ fold h init self }
     {
         let mut f = f;
         self.fold_by(init, &mut f)
@@ -217,6 +218,7 @@ impl<T: Default + Drop, N: ArrayLength<T>> GenericArrayIter<T, N> {
     pub fn fold_by<A, F: FnMut(A, T) -> A>(self, init: A, f: &mut F) -> A
         requires callable { CallableInFold F.pre F.step f.old init self }
         ensures run { FoldRun F.step f.old init self result f.new }
+        ensures acts { (h : A → T → A) → ActsAsOnTwo F.FnMut f.old h → result ≡ fold h init self }
     {
         let mut items = self;
         let mut answer = init;
@@ -232,6 +234,7 @@ impl<T: Default + Drop, N: ArrayLength<T>> GenericArrayIter<T, N> {
     pub fn rfold<A, F: FnMut(A, T) -> A>(self, init: A, f: F) -> A
         requires callable { CallableInFold F.pre F.step f init (reverse self) }
         ensures run { (last : F) × FoldRun F.step f init (reverse self) result last }
+        ensures acts { (h : A → T → A) → ActsAsOnTwo F.FnMut f h → result ≡ fold h init (reverse self) }
     {
         let mut f = f;
         self.rfold_by(init, &mut f)
@@ -242,6 +245,7 @@ impl<T: Default + Drop, N: ArrayLength<T>> GenericArrayIter<T, N> {
     pub fn rfold_by<A, F: FnMut(A, T) -> A>(self, init: A, f: &mut F) -> A
         requires callable { CallableInFold F.pre F.step f.old init (reverse self) }
         ensures run { FoldRun F.step f.old init (reverse self) result f.new }
+        ensures acts { (h : A → T → A) → ActsAsOnTwo F.FnMut f.old h → result ≡ fold h init (reverse self) }
     {
         let mut items = self;
         let mut answer = init;

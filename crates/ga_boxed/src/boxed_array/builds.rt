@@ -2,8 +2,10 @@
 ghost use Rattle.ga_boxed.specs.FillAnswer.{fill_answer};
 ghost use Rattle.ga_core.specs.Fill.{Asks, FillFalliblyRuns, FillRuns, Fills, FillsFallibly};
 ghost use Rattle.ga_core.specs.Runs.{CallableAlong, CallableUntilError, ClosureRun, FirstErrorRun};
+ghost use Rattle.ga_core.specs.Tries.{try_map};
+ghost use Rattle.std.specs.Iterator.{ActsAs};
 ghost use Rattle.std.specs.List.{range_with_len};
-ghost use Rattle.std.specs.Prelude.{◌≡◌, ◌+◌, IfOk, IsOk, OnErr, OnOk};
+ghost use Rattle.std.specs.Prelude.{◌≡◌, ℕ, ◌+◌, IfOk, IsOk, OnErr, OnOk, Result, map};
 
 #[cfg(test)]
 mod tests;
@@ -21,6 +23,7 @@ impl<T, N: Unsigned> BoxedArray<T, N> {
     pub fn generate<F: FnMut(usize) -> T>(alloc: Global, f: F) -> Result<Self, AllocError>
         requires callable { CallableAlong F.pre F.step f N.USIZE }
         ensures run { (last : F) × IfOk result (λ array. ClosureRun F.step f (range_with_len 0 N.USIZE) array last) }
+        ensures acts { IfOk result (λ array. (h : ℕ → T) → ActsAs F.FnMut f h → array ≡ map h (range_with_len 0 N.USIZE)) }
         ensures empty { N.USIZE ≡ 0 → IsOk result }
     {
         let mut f = f;
@@ -31,6 +34,7 @@ impl<T, N: Unsigned> BoxedArray<T, N> {
     pub fn generate_by<F: FnMut(usize) -> T>(alloc: Global, f: &mut F) -> Result<Self, AllocError>
         requires callable { CallableAlong F.pre F.step f.old N.USIZE }
         ensures run { IfOk result (λ array. ClosureRun F.step f.old (range_with_len 0 N.USIZE) array f.new) }
+        ensures acts { IfOk result (λ array. (h : ℕ → T) → ActsAs F.FnMut f.old h → array ≡ map h (range_with_len 0 N.USIZE)) }
         ensures err { OnErr result (f.new ≡ f.old) }
         ensures empty { N.USIZE ≡ 0 → IsOk result }
     {
@@ -52,6 +56,7 @@ impl<T: Drop, N: Unsigned> BoxedArray<T, N> {
     ) -> Result<Result<Self, E>, AllocError>
         requires callable { CallableUntilError F.pre F.step f N.USIZE }
         ensures run { (last : F) × IfOk result (λ built. FirstErrorRun F.step f (range_with_len 0 N.USIZE) built last) }
+        ensures acts { IfOk result (λ built. (h : ℕ → Result T E) → ActsAs F.FnMut f h → built ≡ try_map h (range_with_len 0 N.USIZE)) }
         ensures empty { N.USIZE ≡ 0 → IsOk result }
     {
         let mut f = f;
@@ -65,6 +70,7 @@ impl<T: Drop, N: Unsigned> BoxedArray<T, N> {
     ) -> Result<Result<Self, E>, AllocError>
         requires callable { CallableUntilError F.pre F.step f.old N.USIZE }
         ensures run { IfOk result (λ built. FirstErrorRun F.step f.old (range_with_len 0 N.USIZE) built f.new) }
+        ensures acts { IfOk result (λ built. (h : ℕ → Result T E) → ActsAs F.FnMut f.old h → built ≡ try_map h (range_with_len 0 N.USIZE)) }
         ensures err { OnErr result (f.new ≡ f.old) }
         ensures empty { N.USIZE ≡ 0 → IsOk result }
     {

@@ -1,9 +1,11 @@
 //! Arrays built from a closure or an iterator.
 ghost use Rattle.ga_core.specs.Fill.{Asks, FillFalliblyRuns, FillRuns, Fills, FillsFallibly};
 ghost use Rattle.ga_core.specs.Runs.{CallableAlong, CallableUntilError, ClosureRun, FirstErrorRun};
+ghost use Rattle.ga_core.specs.Tries.{try_map};
 ghost use Rattle.ga_views.specs.Length.{FitsInline};
+ghost use Rattle.std.specs.Iterator.{ActsAs};
 ghost use Rattle.std.specs.List.{range_with_len};
-ghost use Rattle.std.specs.Prelude.{◌+◌};
+ghost use Rattle.std.specs.Prelude.{◌≡◌, ℕ, ◌+◌, Result, map};
 
 #[cfg(test)]
 mod tests;
@@ -23,6 +25,7 @@ impl<T: Drop, N: ArrayLength<T>> GenericArray<T, N> {
         requires fits { FitsInline N.USIZE }
         requires callable { CallableAlong F.pre F.step f N.USIZE }
         ensures run { (last : F) × ClosureRun F.step f (range_with_len 0 N.USIZE) result last }
+        ensures acts { (h : ℕ → T) → ActsAs F.FnMut f h → result ≡ map h (range_with_len 0 N.USIZE) }
     {
         let mut f = f;
         Self::generate_by(&mut f)
@@ -33,6 +36,7 @@ impl<T: Drop, N: ArrayLength<T>> GenericArray<T, N> {
         requires fits { FitsInline N.USIZE }
         requires callable { CallableAlong F.pre F.step f.old N.USIZE }
         ensures run { ClosureRun F.step f.old (range_with_len 0 N.USIZE) result f.new }
+        ensures acts { (h : ℕ → T) → ActsAs F.FnMut f.old h → result ≡ map h (range_with_len 0 N.USIZE) }
     {
         let mut store: N::ArrayType = Store::filled();
         write_answers(store.as_mut_slice(), f);
@@ -46,6 +50,7 @@ impl<T: Drop, N: ArrayLength<T>> GenericArray<T, N> {
         requires fits { FitsInline N.USIZE }
         requires callable { CallableUntilError F.pre F.step f N.USIZE }
         ensures run { (last : F) × FirstErrorRun F.step f (range_with_len 0 N.USIZE) result last }
+        ensures acts { (h : ℕ → Result T E) → ActsAs F.FnMut f h → result ≡ try_map h (range_with_len 0 N.USIZE) }
     {
         let mut f = f;
         Self::try_generate_by(&mut f)
@@ -56,6 +61,7 @@ impl<T: Drop, N: ArrayLength<T>> GenericArray<T, N> {
         requires fits { FitsInline N.USIZE }
         requires callable { CallableUntilError F.pre F.step f.old N.USIZE }
         ensures run { FirstErrorRun F.step f.old (range_with_len 0 N.USIZE) result f.new }
+        ensures acts { (h : ℕ → Result T E) → ActsAs F.FnMut f.old h → result ≡ try_map h (range_with_len 0 N.USIZE) }
     {
         let mut store: N::ArrayType = Store::filled();
         match try_write_answers(store.as_mut_slice(), f) {

@@ -1,3 +1,4 @@
+use Rattle.ga_core.proofs.ActsLemmas.{answers_until_error}
 use Rattle.ga_boxed.proofs.boxed_array.BoxedArray.try_generate_by.Goals as goal
 use Rattle.ga_core.proofs.RunLemmas.{ClosureRun-good, FirstErrorRun-at, FirstErrorRun-good, below-add_one}
 use Rattle.ga_core.specs.Runs.{FirstErrorRun}
@@ -22,3 +23,9 @@ returns-clause-run g c =
     let items = c.loop-index.good.items in
     rw c.of_items.ensures (subst (λ n. FirstErrorRun (goal.F-step g) c.args.f.now (range_with_len 0 n) (Ok items) c.loop-index.f) all
     (FirstErrorRun-good _ _ _ items _ c.loop-index.invariant.ran))
+
+pub returns-in-Err-clause-acts : goal.returns-in-Err-clause-acts
+returns-in-Err-clause-acts g c h acts = answers_until_error (goal.F-step g) c.args.f.now h acts _ _ _ (returns-in-Err-clause-run g c)
+
+pub returns-clause-acts : goal.returns-clause-acts
+returns-clause-acts g c h acts = answers_until_error (goal.F-step g) c.args.f.now h acts _ _ _ (returns-clause-run g c)

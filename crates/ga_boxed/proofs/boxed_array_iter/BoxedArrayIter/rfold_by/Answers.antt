@@ -1,6 +1,9 @@
+use Rattle.ga_core.proofs.ActsLemmas.{answer_of_fold}
 use Rattle.ga_core.proofs.CutLemmas.{next_back-reversed, taken-more}
 use Rattle.ga_boxed.proofs.boxed_array_iter.BoxedArrayIter.rfold_by.Goals as goal
-use Rattle.std.proofs.Common.{◌∷◌, [], ◌++◌, Some, reverse}
+use Rattle.ga_core.specs.Runs.{FoldRun}
+use Rattle.std.proofs.lemmas.Grind.{common_steps}
+use Rattle.std.proofs.Common.{arith, ◌∷◌, [], ◌++◌, Some, reverse}
 use Rattle.std.proofs.lemmas.Fn.{FoldsTo-push}
 
 pub loop-item-preserved : goal.loop-item-preserved
@@ -13,3 +16,8 @@ loop-item-preserved g c =
       taken-more (reverse c.args.self) so_far.0 (reverse left) item (reverse others) so_far.1 (next_back-reversed left (Some item) others c.in-Some.ensures.steps),
       FoldsTo-push _ (c.args.f.now, c.args.init) so_far.0 (c.loop-item.f, c.loop-item.answer) item (c.f-answer.new.self, c.f-answer.result) so_far.2 c.f-answer.ensures,
     )
+
+pub returns-clause-acts : goal.returns-clause-acts
+returns-clause-acts g c h acts =
+    let run : FoldRun (goal.F-step g) c.args.f.now c.args.init (reverse c.args.self) c.loop-item.answer c.loop-item.f = grind (arith, common_steps) in
+    answer_of_fold _ _ h acts _ _ _ _ run

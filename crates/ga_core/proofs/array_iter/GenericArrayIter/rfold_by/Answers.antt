@@ -1,7 +1,9 @@
+use Rattle.ga_core.proofs.ActsLemmas.{answer_of_fold}
 use Rattle.ga_core.proofs.CutLemmas.{taken-more}
 use Rattle.ga_core.proofs.LeftLemmas.{left-last_reversed}
 use Rattle.ga_core.proofs.array_iter.GenericArrayIter.rfold_by.Goals as goal
-use Rattle.std.proofs.Common.{◌∷◌, [], ◌++◌, ◌-◌, ◌∙◌, ap, arith, length, reverse, slice_set}
+use Rattle.ga_core.specs.Runs.{FoldRun}
+use Rattle.std.proofs.Common.{◌∷◌, [], ◌++◌, ◌-◌, ◌∙◌, ap, arith, length, reverse, rules, slice_set}
 use Rattle.std.proofs.lemmas.Fn.{FoldsTo-push}
 use Rattle.std.specs.List.{slice_range}
 
@@ -31,3 +33,8 @@ loop-index-preserved g c =
       taken-more (reverse c.args.self) so_far.0 (reverse (slice_range places front back)) item (reverse (slice_range (slice_set places (back - 1) blank) front (back - 1))) so_far.1 step,
       FoldsTo-push _ (c.args.f.now, c.args.init) so_far.0 (c.loop-index.f, c.loop-index.answer) item (c.f-answer.new.self, c.f-answer.result) so_far.2 c.f-answer.ensures,
     )
+
+pub returns-clause-acts : goal.returns-clause-acts
+returns-clause-acts g c h acts =
+    let run : FoldRun (goal.F-step g) c.args.f.now c.args.init (reverse c.args.self) c.loop-index.answer c.loop-index.f = search rules in
+    answer_of_fold _ _ h acts _ _ _ _ run

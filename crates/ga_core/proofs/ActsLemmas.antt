@@ -1,0 +1,44 @@
+-- What runs of a closure come to, where it acts as a function: each call answers h, and leaves the closure as it is.
+use Rattle.ga_core.specs.Runs.{ClosureRun, FirstErrorRun, FoldRun}
+use Rattle.ga_core.specs.Tries.{result_and_then, try_map}
+use Rattle.std.proofs.Common.{◌≡◌, List, [], ◌∷◌, Result, Ok, Err, inl, inr, ap, fold, map, refl, subst, sym, ◌∙◌}
+
+module _ {F X Y : Type 0} (step : F → X → Y → F → Type 0) (f : F) (h : X → Y) (acts : (x : X) (y : Y) (next : F) → step f x y next → (next ≡ f) × (y ≡ h x)) where
+  -- a run answers h of each input
+  pub answers_of_run : (xs : List X) (ys : List Y) (last : F) → ClosureRun step f xs ys last → ys ≡ map h xs
+  answers_of_run [] [] last run = refl
+  answers_of_run [] (y ∷ ys) last run = absurd run
+  answers_of_run (x ∷ xs) [] last run = absurd run
+  answers_of_run (x ∷ xs) (y ∷ ys) last run =
+      let call = acts x y run.0 run.1 in
+      let others = answers_of_run xs ys last (subst (λ k. ClosureRun step k xs ys last) call.0 run.2) in
+      cc (call.1, others)
+
+module _ {F X Y E : Type 0} (step : F → X → Result Y E → F → Type 0) (f : F) (h : X → Result Y E) (acts : (x : X) (y : Result Y E) (next : F) → step f x y next → (next ≡ f) × (y ≡ h x)) where
+  -- a run up to the first error answers all good answers of h, or its first error
+  pub answers_until_error : (xs : List X) (answer : Result (List Y) E) (last : F) → FirstErrorRun step f xs answer last → answer ≡ try_map h xs
+  answers_until_error [] (Ok []) last run = refl
+  answers_until_error [] (Ok (y ∷ ys)) last run = absurd run
+  answers_until_error [] (Err error) last run = absurd run
+  answers_until_error (x ∷ xs) (Ok []) last run = absurd run
+  answers_until_error (x ∷ xs) (Ok (y ∷ ys)) last run =
+      let call = acts x (Ok y) run.0 run.1 in
+      let others = answers_until_error xs (Ok ys) last (subst (λ k. FirstErrorRun step k xs (Ok ys) last) call.0 run.2) in
+      ap (result_and_then (λ zs. Ok (y ∷ zs))) others ∙ ap (result_and_then (λ z. result_and_then (λ zs. Ok (z ∷ zs)) (try_map h xs))) call.1
+  answers_until_error (x ∷ xs) (Err error) last run =
+      elim run [
+        inl failed ↦ ap (result_and_then (λ z. result_and_then (λ zs. Ok (z ∷ zs)) (try_map h xs))) (acts x (Err error) last failed).1
+        | inr good ↦
+            let call = acts x (Ok good.0) good.1 good.2 in
+            let others = answers_until_error xs (Err error) last (subst (λ k. FirstErrorRun step k xs (Err error) last) call.0 good.3) in
+            ap (result_and_then (λ zs. Ok (good.0 ∷ zs))) others ∙ ap (result_and_then (λ z. result_and_then (λ zs. Ok (z ∷ zs)) (try_map h xs))) call.1
+      ]
+
+module _ {F A X : Type 0} (step : F → A → X → A → F → Type 0) (f : F) (h : A → X → A) (acts : (a : A) (x : X) (b : A) (next : F) → step f a x b next → (next ≡ f) × (b ≡ h a x)) where
+  -- a fold is the fold of h
+  pub answer_of_fold : (a : A) (xs : List X) (b : A) (last : F) → FoldRun step f a xs b last → b ≡ fold h a xs
+  answer_of_fold a [] b last run = sym (ap (λ p. p.1) run)
+  answer_of_fold a (x ∷ xs) b last run =
+      let call = acts a x run.0.1 run.0.0 run.1 in
+      let others = answer_of_fold run.0.1 xs b last (subst (λ k. FoldRun step k run.0.1 xs b last) call.0 run.2) in
+      others ∙ ap (λ c. fold h c xs) call.1
