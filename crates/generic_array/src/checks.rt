@@ -1,8 +1,9 @@
 //! Generic functions that know the traits alone, at work for every kind of sequence.
 ghost use Rattle.ga_core.specs.Runs.{CallableInFold, ClosureRun, FoldRun};
-ghost use Rattle.generic_array.specs.Entries.{CallAt, FoldAt, MayCallAt, MayFoldAt};
+ghost use Rattle.generic_array.specs.Entries.{ActsInFold, ActsOnEntry, CallAt, FoldAt, MayCallAt, MayFoldAt};
 ghost use Rattle.generic_array.specs.EntryRuns.{CallableOver};
-ghost use Rattle.std.specs.Prelude.{◌≡◌, IfOk, IsOk, List, OnErr};
+ghost use Rattle.std.specs.Prelude.{◌≡◌, IfOk, IsOk, List, OnErr, fold, map};
+ghost use Rattle.std.specs.Iterator.{ActsAsOnTwo};
 
 use crate::functional::{
     FunctionalSequence, MappedError, MappedGenericSequence, MappedPlace, MappedSequence,
@@ -18,6 +19,7 @@ pub fn total_by<T, S: FunctionalSequence<T>, A, F: FnMut(A, SequenceItem<S>) -> 
 ) -> A
     requires callable { CallableInFold (MayFoldAt S.entry F.pre) (FoldAt S.entry F.step) f.old init (S.items s) }
     ensures run { FoldRun (FoldAt S.entry F.step) f.old init (S.items s) result f.new }
+    ensures acts { (h : A → T → A) → ActsInFold S.entry F.step f.old h → result ≡ fold h init (S.items s) }
 {
     s.fold_by(init, f)
 }
@@ -44,6 +46,7 @@ pub fn map_total_by<
     requires callable { CallableOver (MayCallAt S.entry F.pre) (CallAt S.entry F.step) f.old (S.items s) }
     requires then_callable { (answers : List U) (reached : F) → ClosureRun (CallAt S.entry F.step) f.old (S.items s) answers reached → CallableInFold G.pre G.step g.old init answers }
     ensures run { IfOk result (λ total. (answers : List U) × ClosureRun (CallAt S.entry F.step) f.old (S.items s) answers f.new × FoldRun G.step g.old init answers total g.new) }
+    ensures acts { IfOk result (λ total. (h : T → U) (k : A → U → A) → ActsOnEntry S.entry F.step f.old h → ActsAsOnTwo G.FnMut g.old k → total ≡ fold k init (map h (S.items s))) }
     ensures err { OnErr result ((f.new ≡ f.old) × (g.new ≡ g.old)) }
     ensures promised { S.Mapped.IsPromised → IsOk result }
 {

@@ -1,10 +1,11 @@
 //! Calls of a closure at all entries of a sequence, from the first to the last.
 ghost use Rattle.ga_core.specs.Runs.{CallableInFold, ClosureRun, FirstErrorRun, FoldRun};
 ghost use Rattle.generic_array.specs.Built.{built_items};
-ghost use Rattle.generic_array.specs.Entries.{CallAt, CallAtPair, FoldAt, MayCallAt, MayCallAtPair, MayFoldAt};
+ghost use Rattle.ga_core.specs.Tries.{try_fold, try_map};
+ghost use Rattle.generic_array.specs.Entries.{ActsInFold, ActsOnEntries, ActsOnEntry, CallAt, CallAtPair, FoldAt, MayCallAt, MayCallAtPair, MayFoldAt};
 ghost use Rattle.generic_array.specs.EntryRuns.{CallableOver, CallableOverUntilError, TryFoldRun, good_step};
 ghost use Rattle.std.specs.List.{zip};
-ghost use Rattle.std.specs.Prelude.{◌≡◌, IfOk, IsOk, OnErr};
+ghost use Rattle.std.specs.Prelude.{◌≡◌, IfOk, IsOk, OnErr, Result, fold, map};
 
 mod inverted;
 mod kinds;
@@ -52,6 +53,7 @@ pub trait FunctionalSequence<T>: GenericSequence<T> {
         requires fits { Self.Mapped.Fits }
         requires callable { CallableOver (MayCallAt Self.entry F.pre) (CallAt Self.entry F.step) f (Self.items self) }
         ensures run { (last : F) × IfOk result (λ made. ClosureRun (CallAt Self.entry F.step) f (Self.items self) (Self.Mapped.Sequence.items made) last) }
+        ensures acts { IfOk result (λ made. (h : T → U) → ActsOnEntry Self.entry F.step f h → Self.Mapped.Sequence.items made ≡ map h (Self.items self)) }
         ensures promised { Self.Mapped.IsPromised → IsOk result }
     {
         let mut f = f;
@@ -69,6 +71,7 @@ pub trait FunctionalSequence<T>: GenericSequence<T> {
         requires fits { Self.Mapped.Fits }
         requires callable { CallableOver (MayCallAt Self.entry F.pre) (CallAt Self.entry F.step) f.old (Self.items self) }
         ensures run { IfOk result (λ made. ClosureRun (CallAt Self.entry F.step) f.old (Self.items self) (Self.Mapped.Sequence.items made) f.new) }
+        ensures acts { IfOk result (λ made. (h : T → U) → ActsOnEntry Self.entry F.step f.old h → Self.Mapped.Sequence.items made ≡ map h (Self.items self)) }
         ensures err { OnErr result (f.new ≡ f.old) }
         ensures promised { Self.Mapped.IsPromised → IsOk result }
     {
@@ -91,6 +94,7 @@ pub trait FunctionalSequence<T>: GenericSequence<T> {
         requires fits { Self.Mapped.Fits }
         requires callable { CallableOverUntilError (MayCallAt Self.entry F.pre) (CallAt Self.entry F.step) f (Self.items self) }
         ensures run { (last : F) × IfOk result (λ built. FirstErrorRun (CallAt Self.entry F.step) f (Self.items self) (built_items Self.Mapped.Sequence.items built) last) }
+        ensures acts { IfOk result (λ built. (h : T → Result U E) → ActsOnEntry Self.entry F.step f h → built_items Self.Mapped.Sequence.items built ≡ try_map h (Self.items self)) }
         ensures promised { Self.Mapped.IsPromised → IsOk result }
     {
         let mut f = f;
@@ -109,6 +113,7 @@ pub trait FunctionalSequence<T>: GenericSequence<T> {
         requires fits { Self.Mapped.Fits }
         requires callable { CallableOverUntilError (MayCallAt Self.entry F.pre) (CallAt Self.entry F.step) f.old (Self.items self) }
         ensures run { IfOk result (λ built. FirstErrorRun (CallAt Self.entry F.step) f.old (Self.items self) (built_items Self.Mapped.Sequence.items built) f.new) }
+        ensures acts { IfOk result (λ built. (h : T → Result U E) → ActsOnEntry Self.entry F.step f.old h → built_items Self.Mapped.Sequence.items built ≡ try_map h (Self.items self)) }
         ensures err { OnErr result (f.new ≡ f.old) }
         ensures promised { Self.Mapped.IsPromised → IsOk result }
     {
@@ -137,6 +142,7 @@ pub trait FunctionalSequence<T>: GenericSequence<T> {
         requires fits { Self.Mapped.Fits }
         requires callable { CallableOver (MayCallAtPair Self.entry R.entry F.pre) (CallAtPair Self.entry R.entry F.step) f (zip (Self.items self) (R.items rhs)) }
         ensures run { (last : F) × IfOk result (λ made. ClosureRun (CallAtPair Self.entry R.entry F.step) f (zip (Self.items self) (R.items rhs)) (Self.Mapped.Sequence.items made) last) }
+        ensures acts { IfOk result (λ made. (h : T × B → U) → ActsOnEntries Self.entry R.entry F.step f h → Self.Mapped.Sequence.items made ≡ map h (zip (Self.items self) (R.items rhs))) }
         ensures promised { Self.Mapped.IsPromised → IsOk result }
     {
         let mut f = f;
@@ -156,6 +162,7 @@ pub trait FunctionalSequence<T>: GenericSequence<T> {
         requires fits { Self.Mapped.Fits }
         requires callable { CallableOver (MayCallAtPair Self.entry R.entry F.pre) (CallAtPair Self.entry R.entry F.step) f.old (zip (Self.items self) (R.items rhs)) }
         ensures run { IfOk result (λ made. ClosureRun (CallAtPair Self.entry R.entry F.step) f.old (zip (Self.items self) (R.items rhs)) (Self.Mapped.Sequence.items made) f.new) }
+        ensures acts { IfOk result (λ made. (h : T × B → U) → ActsOnEntries Self.entry R.entry F.step f.old h → Self.Mapped.Sequence.items made ≡ map h (zip (Self.items self) (R.items rhs))) }
         ensures err { OnErr result (f.new ≡ f.old) }
         ensures promised { Self.Mapped.IsPromised → IsOk result }
     {
@@ -175,6 +182,7 @@ pub trait FunctionalSequence<T>: GenericSequence<T> {
     final fn fold<A, F: FnMut(A, Self::Item) -> A>(self, init: A, f: F) -> A
         requires callable { CallableInFold (MayFoldAt Self.entry F.pre) (FoldAt Self.entry F.step) f init (Self.items self) }
         ensures run { (last : F) × FoldRun (FoldAt Self.entry F.step) f init (Self.items self) result last }
+        ensures acts { (h : A → T → A) → ActsInFold Self.entry F.step f h → result ≡ fold h init (Self.items self) }
     {
         let mut f = f;
         self.fold_by(init, &mut f)
@@ -184,6 +192,7 @@ pub trait FunctionalSequence<T>: GenericSequence<T> {
     final fn fold_by<A, F: FnMut(A, Self::Item) -> A>(self, init: A, f: &mut F) -> A
         requires callable { CallableInFold (MayFoldAt Self.entry F.pre) (FoldAt Self.entry F.step) f.old init (Self.items self) }
         ensures run { FoldRun (FoldAt Self.entry F.step) f.old init (Self.items self) result f.new }
+        ensures acts { (h : A → T → A) → ActsInFold Self.entry F.step f.old h → result ≡ fold h init (Self.items self) }
     {
         fold_entries::<T, Self::IntoIter, A, F>(self.into_iter(), init, f)
     }
@@ -198,6 +207,7 @@ pub trait FunctionalSequence<T>: GenericSequence<T> {
     ) -> Result<A, E>
         requires callable { CallableInFold (MayFoldAt Self.entry F.pre) (good_step (FoldAt Self.entry F.step)) f init (Self.items self) }
         ensures run { (last : F) × TryFoldRun (FoldAt Self.entry F.step) f init (Self.items self) result last }
+        ensures acts { (h : A → T → Result A E) → ActsInFold Self.entry F.step f h → result ≡ try_fold h init (Self.items self) }
     {
         let mut f = f;
         self.try_fold_by(init, &mut f)
@@ -211,6 +221,7 @@ pub trait FunctionalSequence<T>: GenericSequence<T> {
     ) -> Result<A, E>
         requires callable { CallableInFold (MayFoldAt Self.entry F.pre) (good_step (FoldAt Self.entry F.step)) f.old init (Self.items self) }
         ensures run { TryFoldRun (FoldAt Self.entry F.step) f.old init (Self.items self) result f.new }
+        ensures acts { (h : A → T → Result A E) → ActsInFold Self.entry F.step f.old h → result ≡ try_fold h init (Self.items self) }
     {
         try_fold_entries::<T, Self::IntoIter, A, E, F>(self.into_iter(), init, f)
     }

@@ -3,10 +3,12 @@ ghost use Rattle.ga_boxed.specs.FillAnswer.{fill_answer};
 ghost use Rattle.ga_core.specs.Copies.{Repeats};
 ghost use Rattle.ga_core.specs.Fill.{FillFalliblyRuns, FillsFallibly};
 ghost use Rattle.ga_core.specs.Runs.{CallableAlong, CallableUntilError, ClosureRun, FirstErrorRun};
+ghost use Rattle.ga_core.specs.Tries.{try_map};
 ghost use Rattle.generic_array.specs.Built.{built_items};
 ghost use Rattle.generic_array.specs.Entries.{GivesEntries};
+ghost use Rattle.std.specs.Iterator.{ActsAs};
 ghost use Rattle.std.specs.List.{range_with_len};
-ghost use Rattle.std.specs.Prelude.{◌≡◌, ◌≤◌, ◌↔◌, IfOk, IsOk, IsTrue, OnErr, replicate};
+ghost use Rattle.std.specs.Prelude.{◌≡◌, ℕ, ◌≤◌, ◌↔◌, IfOk, IsOk, IsTrue, OnErr, Result, map, replicate};
 
 mod boxed;
 mod flat_iter;
@@ -67,6 +69,7 @@ pub trait GenericSequence<T>: Sized + AsSlice<T> + IntoIterator {
         requires fits { Fits }
         requires callable { CallableAlong F.pre F.step f Self.Length.USIZE }
         ensures run { (last : F) × IfOk result (λ made. ClosureRun F.step f (range_with_len 0 Self.Length.USIZE) (Self.Sequence.items made) last) }
+        ensures acts { IfOk result (λ made. (h : ℕ → T) → ActsAs F.FnMut f h → Self.Sequence.items made ≡ map h (range_with_len 0 Self.Length.USIZE)) }
         ensures promised { IsPromised → IsOk result }
     {
         let mut f = f;
@@ -81,6 +84,7 @@ pub trait GenericSequence<T>: Sized + AsSlice<T> + IntoIterator {
         requires fits { Fits }
         requires callable { CallableAlong F.pre F.step f.old Self.Length.USIZE }
         ensures run { IfOk result (λ made. ClosureRun F.step f.old (range_with_len 0 Self.Length.USIZE) (Self.Sequence.items made) f.new) }
+        ensures acts { IfOk result (λ made. (h : ℕ → T) → ActsAs F.FnMut f.old h → Self.Sequence.items made ≡ map h (range_with_len 0 Self.Length.USIZE)) }
         ensures err { OnErr result (f.new ≡ f.old) }
         ensures promised { IsPromised → IsOk result };
 
@@ -119,6 +123,7 @@ pub trait FallibleGenericSequence<T>: GenericSequence<T> {
         requires fits { Self.Fits }
         requires callable { CallableUntilError F.pre F.step f Self.Length.USIZE }
         ensures run { (last : F) × IfOk result (λ built. FirstErrorRun F.step f (range_with_len 0 Self.Length.USIZE) (built_items Self.Sequence.items built) last) }
+        ensures acts { IfOk result (λ built. (h : ℕ → Result T E) → ActsAs F.FnMut f h → built_items Self.Sequence.items built ≡ try_map h (range_with_len 0 Self.Length.USIZE)) }
         ensures promised { Self.IsPromised → IsOk result }
     {
         let mut f = f;
@@ -134,6 +139,7 @@ pub trait FallibleGenericSequence<T>: GenericSequence<T> {
         requires fits { Self.Fits }
         requires callable { CallableUntilError F.pre F.step f.old Self.Length.USIZE }
         ensures run { IfOk result (λ built. FirstErrorRun F.step f.old (range_with_len 0 Self.Length.USIZE) (built_items Self.Sequence.items built) f.new) }
+        ensures acts { IfOk result (λ built. (h : ℕ → Result T E) → ActsAs F.FnMut f.old h → built_items Self.Sequence.items built ≡ try_map h (range_with_len 0 Self.Length.USIZE)) }
         ensures err { OnErr result (f.new ≡ f.old) }
         ensures promised { Self.IsPromised → IsOk result };
 }

@@ -1,9 +1,9 @@
 //! Zips told from the right side. Each is one function over the traits.
 ghost use Rattle.ga_core.specs.Runs.{ClosureRun};
-ghost use Rattle.generic_array.specs.Entries.{CallAtPair, MayCallAtPair};
+ghost use Rattle.generic_array.specs.Entries.{ActsOnEntries, CallAtPair, MayCallAtPair};
 ghost use Rattle.generic_array.specs.EntryRuns.{CallableOver};
 ghost use Rattle.std.specs.List.{zip};
-ghost use Rattle.std.specs.Prelude.{◌≡◌, IfOk, IsOk, OnErr};
+ghost use Rattle.std.specs.Prelude.{◌≡◌, IfOk, IsOk, OnErr, map};
 
 use crate::functional::walks::zip_entries;
 use crate::functional::{Mapped, MappedError, MappedGenericSequence, MappedPlace, MappedSequence};
@@ -23,6 +23,7 @@ where
     S::Length: ArrayLength<B> + ArrayLength<U>,
     requires callable { CallableOver (MayCallAtPair (λ item. item) S.entry F.pre) (CallAtPair (λ item. item) S.entry F.step) f (zip lhs (S.items s)) }
     ensures run { (last : F) × ClosureRun (CallAtPair (λ item. item) S.entry F.step) f (zip lhs (S.items s)) result last }
+    ensures acts { (h : B × T → U) → ActsOnEntries (λ item. item) S.entry F.step f h → result ≡ map h (zip lhs (S.items s)) }
 {
     let mut f = f;
     inverted_zip_by(s, lhs, &mut f)
@@ -40,6 +41,7 @@ where
     S::Length: ArrayLength<B> + ArrayLength<U>,
     requires callable { CallableOver (MayCallAtPair (λ item. item) S.entry F.pre) (CallAtPair (λ item. item) S.entry F.step) f.old (zip lhs (S.items s)) }
     ensures run { ClosureRun (CallAtPair (λ item. item) S.entry F.step) f.old (zip lhs (S.items s)) result f.new }
+    ensures acts { (h : B × T → U) → ActsOnEntries (λ item. item) S.entry F.step f.old h → result ≡ map h (zip lhs (S.items s)) }
 {
     // The slice and the view know the lengths.
     let _ = lhs.as_slice();
@@ -76,6 +78,7 @@ pub fn inverted_zip2<
     requires fits { Lhs.Mapped.Fits }
     requires callable { CallableOver (MayCallAtPair Lhs.entry S.entry F.pre) (CallAtPair Lhs.entry S.entry F.step) f (zip (Lhs.items lhs) (S.items s)) }
     ensures run { (last : F) × IfOk result (λ made. ClosureRun (CallAtPair Lhs.entry S.entry F.step) f (zip (Lhs.items lhs) (S.items s)) (Lhs.Mapped.Sequence.items made) last) }
+    ensures acts { IfOk result (λ made. (h : B × T → U) → ActsOnEntries Lhs.entry S.entry F.step f h → Lhs.Mapped.Sequence.items made ≡ map h (zip (Lhs.items lhs) (S.items s))) }
     ensures promised { Lhs.Mapped.IsPromised → IsOk result }
 {
     let mut f = f;
@@ -100,6 +103,7 @@ pub fn inverted_zip2_by<
     requires fits { Lhs.Mapped.Fits }
     requires callable { CallableOver (MayCallAtPair Lhs.entry S.entry F.pre) (CallAtPair Lhs.entry S.entry F.step) f.old (zip (Lhs.items lhs) (S.items s)) }
     ensures run { IfOk result (λ made. ClosureRun (CallAtPair Lhs.entry S.entry F.step) f.old (zip (Lhs.items lhs) (S.items s)) (Lhs.Mapped.Sequence.items made) f.new) }
+    ensures acts { IfOk result (λ made. (h : B × T → U) → ActsOnEntries Lhs.entry S.entry F.step f.old h → Lhs.Mapped.Sequence.items made ≡ map h (zip (Lhs.items lhs) (S.items s))) }
     ensures err { OnErr result (f.new ≡ f.old) }
     ensures promised { Lhs.Mapped.IsPromised → IsOk result }
 {

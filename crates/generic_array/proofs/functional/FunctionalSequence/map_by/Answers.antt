@@ -1,5 +1,7 @@
+use Rattle.generic_array.proofs.EntryActs.{answers_at_entries}
 use Rattle.generic_array.proofs.functional.FunctionalSequence.map_by.Goals as goal
 use Rattle.std.proofs.Common.{◌∙◌, ap, length, sym}
+use Rattle.std.proofs.lemmas.Result.{IfOk-weaker}
 
 pub map_entries-requires-clause-callable : goal.map_entries-requires-clause-callable
 map_entries-requires-clause-callable g c =
@@ -12,3 +14,6 @@ returns-clause-run g c =
     let gives = g.met.Self.GenericSequence.gives_entries c.args.self c.into_iter.result c.into_iter.ensures.into_iter_gives in
     let long = ap length (sym c.view.ensures) ∙ (c.view.result.full ∙ sym g.met.Self.MappedGenericSequence.same_length) in
     c.map_entries.ensures.run g.Self.GenericSequence.entry (g.Self.AsSlice.items c.args.self) gives long
+
+pub returns-clause-acts : goal.returns-clause-acts
+returns-clause-acts g c = IfOk-weaker c.map_entries.result _ _ (λ made run h acts. answers_at_entries _ _ _ h acts _ _ _ run) (returns-clause-run g c)
