@@ -1,7 +1,9 @@
 -- What runs of a closure come to, where it acts as a function: each call answers h, and leaves the closure as it is.
-use Rattle.ga_core.specs.Runs.{ClosureRun, FirstErrorRun, FoldRun}
+use Rattle.ga_core.specs.Runs.{CallableInFold, ClosureRun, FirstErrorRun, FoldRun}
 use Rattle.ga_core.specs.Tries.{result_and_then, try_map}
-use Rattle.std.proofs.Common.{◌≡◌, List, [], ◌∷◌, Result, Ok, Err, inl, inr, ap, fold, map, refl, subst, sym, ◌∙◌}
+use Rattle.std.proofs.Common.{◌≡◌, ℕ, ◌+◌, ◌<◌, List, [], ◌∷◌, ◌++◌, Result, Ok, Err, inl, inr, ap, arith, fold, map, refl, subst, sym, ◌∙◌}
+use Rattle.std.proofs.lemmas.List.Sums.{sum_by-append, sum_by-cons}
+use Rattle.std.specs.List.{sum_by}
 
 module _ {F X Y : Type 0} (step : F → X → Y → F → Type 0) (f : F) (h : X → Y) (acts : (x : X) (y : Y) (next : F) → step f x y next → (next ≡ f) × (y ≡ h x)) where
   -- a run answers h of each input
@@ -42,3 +44,20 @@ module _ {F A X : Type 0} (step : F → A → X → A → F → Type 0) (f : F) 
       let call = acts a x run.0.1 run.0.0 run.1 in
       let others = answer_of_fold run.0.1 xs b last (subst (λ k. FoldRun step k run.0.1 xs b last) call.0 run.2) in
       others ∙ ap (λ c. fold h c xs) call.1
+
+module _ {F X : Type 0} (value : X → ℕ) (step : F → ℕ → X → ℕ → F → Type 0) (pre : F → ℕ → X → Type 0) where
+  -- each call adds a value, so a fold adds their sum
+  fold-sum : ((f : F) (a : ℕ) (x : X) (b : ℕ) (next : F) → step f a x b next → b ≡ a + value x)
+      → (f : F) (a : ℕ) (xs : List X) (b : ℕ) (last : F) → FoldRun step f a xs b last → b ≡ a + sum_by value xs
+  fold-sum adds f a [] b last run = omega (arith, ap (λ p. p.1) run)
+  fold-sum adds f a (x ∷ xs) b last run =
+      omega (arith, fold-sum adds run.0.0 run.0.1 xs b last run.2, adds f a x run.0.1 run.0.0 run.1, sum_by-cons value x xs)
+
+  -- A fold that adds values may be made where their sum is below a bound, below which each call may be made. With `search rules` for
+  -- the facts on one call this is the whole of a caller's condition.
+  pub sum_is_callable : (f : F) (xs : List X) (bound : ℕ)
+      → ((f : F) (a : ℕ) (x : X) (b : ℕ) (next : F) → step f a x b next → b ≡ a + value x)
+      → ((f : F) (a : ℕ) (x : X) → a + value x < bound → pre f a x)
+      → sum_by value xs < bound → CallableInFold pre step f 0 xs
+  sum_is_callable f xs bound adds may within passed x others reached so_far whole run =
+      may reached so_far x (omega (arith, fold-sum adds f 0 passed so_far reached run, sum_by-append value passed (x ∷ others), sum_by-cons value x others, ap (sum_by value) whole, within))

@@ -49,7 +49,7 @@ module _ {I T F A E : Type 0} (entry : I → T) (step : F → A → I → Result
       ∙ ap (result_and_then (λ c. try_fold h c xs)) call.1
   try_fold_at_entries a (x ∷ xs) (Err error) last run =
       elim run [
-        inl failed ↦ ap (result_and_then (λ c. try_fold h c xs)) (fold_call_at entry step f h acts a x (Err error) last failed).1
+        | inl failed ↦ ap (result_and_then (λ c. try_fold h c xs)) (fold_call_at entry step f h acts a x (Err error) last failed).1
         | inr good ↦
             let call = fold_call_at entry step f h acts a x (Ok good.0) good.1 good.2 in
             try_fold_at_entries good.0 xs (Err error) last (subst (λ k. TryFoldRun (FoldAt entry step) k good.0 xs (Err error) last) call.0 good.3)

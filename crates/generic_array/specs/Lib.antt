@@ -1,3 +1,4 @@
+pub mod AnyLength
 pub mod Built
 pub mod Entries
 pub mod EntryLaws

@@ -2,8 +2,9 @@
 ghost use Rattle.generic_array.specs.Entries.{CallAt, MayCallAt};
 ghost use Rattle.generic_array.specs.EntryRuns.{CallableOver};
 ghost use Rattle.std.specs.List.{range_with_len};
-ghost use Rattle.std.specs.Prelude.{◌≡◌, ◌∷◌, [], ◌^◌, ◌<◌, ◌⊎◌, Err, Ok, IfOk, IsOk, OnOk, length, replicate, sum};
+ghost use Rattle.std.specs.Prelude.{◌≡◌, ◌∷◌, [], ◌^◌, ◌<◌, ◌⊎◌, Err, Ok, IfOk, IsOk, OnOk, length, map, replicate, sum};
 
+mod any_length;
 mod macros;
 mod matrix;
 mod shapes;
@@ -219,7 +220,7 @@ fn sevens<S: GenericSequence<u8>>(place: S::Place) -> Result<S::Sequence, AllocE
 
 fn places<S: GenericSequence<usize>>(place: S::Place) -> Result<S::Sequence, S::Error>
     requires fits { S.Fits }
-    ensures items { IfOk result (λ made. S.Sequence.items made ≡ range_with_len 0 S.Length.USIZE) }
+    ensures items { IfOk result (λ made. S.Sequence.items made ≡ map (λ place. place) (range_with_len 0 S.Length.USIZE)) }
     ensures given { S.IsPromised → IsOk result }
 {
     S::generate(place, |index| index)
