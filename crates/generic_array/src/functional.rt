@@ -1,7 +1,7 @@
 //! Calls of a closure at all entries of a sequence, from the first to the last.
 ghost use Rattle.ga_core.specs.Runs.{CallableInFold, ClosureRun, FirstErrorRun, FoldRun};
-ghost use Rattle.generic_array.specs.Built.{built_items};
 ghost use Rattle.ga_core.specs.Tries.{try_fold, try_map};
+ghost use Rattle.generic_array.specs.Built.{built_items};
 ghost use Rattle.generic_array.specs.Entries.{ActsInFold, ActsOnEntries, ActsOnEntry, CallAt, CallAtPair, FoldAt, MayCallAt, MayCallAtPair, MayFoldAt};
 ghost use Rattle.generic_array.specs.EntryRuns.{CallableOver, CallableOverUntilError, TryFoldRun, good_step};
 ghost use Rattle.std.specs.List.{zip};
