@@ -1,15 +1,13 @@
 //! Generic functions that know the traits alone, at work for every kind of sequence.
 ghost use Rattle.ga_core.specs.Runs.{CallableInFold, ClosureRun, FoldRun};
-ghost use Rattle.generic_array.specs.Entries.{ActsInFold, ActsOnEntry, CallAt, FoldAt, MayCallAt, MayFoldAt};
+ghost use Rattle.generic_array.specs.Entries.{ActsInFold, ActsOnEntries, ActsOnEntry, CallAt, CallAtPair, FoldAt, MayCallAt, MayCallAtPair, MayFoldAt};
 ghost use Rattle.generic_array.specs.EntryRuns.{CallableOver};
-ghost use Rattle.std.specs.Prelude.{◌≡◌, IfOk, IsOk, List, OnErr, fold, map};
 ghost use Rattle.std.specs.Iterator.{ActsAsOnTwo};
+ghost use Rattle.std.specs.List.{zip};
+ghost use Rattle.std.specs.Prelude.{◌≡◌, IfOk, IsOk, List, OnErr, fold, map};
 
-use crate::functional::{
-    FunctionalSequence, MappedError, MappedGenericSequence, MappedPlace, MappedSequence,
-    fold_entries,
-};
-use crate::sequence::SequenceItem;
+use crate::functional::{FunctionalSequence, MappedError, MappedGenericSequence, MappedPlace};
+use crate::sequence::{GenericSequence, OwnedSequence, SequenceItem};
 
 /// The fold by `f` over the entries, from `init`.
 pub fn total_by<T, S: FunctionalSequence<T>, A, F: FnMut(A, SequenceItem<S>) -> A>(
@@ -51,12 +49,41 @@ pub fn map_total_by<
     ensures promised { S.Mapped.IsPromised → IsOk result }
 {
     match s.map_by(place, f) {
-        Ok(mapped) => Ok(fold_entries::<
-            U,
-            <MappedSequence<S, T, U> as IntoIterator>::IntoIter,
-            A,
-            G,
-        >(mapped.into_iter(), init, g)),
+        Ok(mapped) => Ok(mapped.fold_items_by(init, g)),
+        Err(refused) => Err(refused),
+    }
+}
+
+/// The dot product of two sequences of numbers, which may be of two kinds: the fold by `plus`, from
+/// `zero`, over what `times` answers at the entries in each place.
+///
+/// The lengths are equal. All calls of `times` come first. Memory is asked for before them: where it
+/// is refused, neither closure is called.
+pub fn dot_by<
+    T: Drop,
+    S: FunctionalSequence<T> + MappedGenericSequence<T, T>,
+    R: GenericSequence<T>,
+    F: FnMut(SequenceItem<S>, SequenceItem<R>) -> T,
+    G: FnMut(T, T) -> T,
+>(
+    left: S,
+    place: MappedPlace<S, T, T>,
+    right: R,
+    times: &mut F,
+    zero: T,
+    plus: &mut G,
+) -> Result<T, MappedError<S, T, T>>
+    requires lengths { S.Length.USIZE ≡ R.Length.USIZE }
+    requires fits { S.Mapped.Fits }
+    requires callable { CallableOver (MayCallAtPair S.entry R.entry F.pre) (CallAtPair S.entry R.entry F.step) times.old (zip (S.items left) (R.items right)) }
+    requires then_callable { (products : List T) (reached : F) → ClosureRun (CallAtPair S.entry R.entry F.step) times.old (zip (S.items left) (R.items right)) products reached → CallableInFold G.pre G.step plus.old zero products }
+    ensures run { IfOk result (λ total. (products : List T) × ClosureRun (CallAtPair S.entry R.entry F.step) times.old (zip (S.items left) (R.items right)) products times.new × FoldRun G.step plus.old zero products total plus.new) }
+    ensures acts { IfOk result (λ total. (h : T × T → T) (k : T → T → T) → ActsOnEntries S.entry R.entry F.step times.old h → ActsAsOnTwo G.FnMut plus.old k → total ≡ fold k zero (map h (zip (S.items left) (R.items right)))) }
+    ensures err { OnErr result ((times.new ≡ times.old) × (plus.new ≡ plus.old)) }
+    ensures promised { S.Mapped.IsPromised → IsOk result }
+{
+    match left.zip_by(place, right, times) {
+        Ok(products) => Ok(products.fold_items_by(zero, plus)),
         Err(refused) => Err(refused),
     }
 }

@@ -2,13 +2,13 @@
 ghost use Rattle.ga_boxed.specs.FillAnswer.{fill_answer};
 ghost use Rattle.ga_core.specs.Copies.{Repeats};
 ghost use Rattle.ga_core.specs.Fill.{FillFalliblyRuns, FillsFallibly};
-ghost use Rattle.ga_core.specs.Runs.{CallableAlong, CallableUntilError, ClosureRun, FirstErrorRun};
+ghost use Rattle.ga_core.specs.Runs.{CallableAlong, CallableInFold, CallableUntilError, ClosureRun, FirstErrorRun, FoldRun};
 ghost use Rattle.ga_core.specs.Tries.{try_map};
 ghost use Rattle.generic_array.specs.Built.{built_items};
 ghost use Rattle.generic_array.specs.Entries.{GivesEntries};
-ghost use Rattle.std.specs.Iterator.{ActsAs};
+ghost use Rattle.std.specs.Iterator.{ActsAs, ActsAsOnTwo};
 ghost use Rattle.std.specs.List.{range_with_len};
-ghost use Rattle.std.specs.Prelude.{◌≡◌, ℕ, ◌≤◌, ◌↔◌, IfOk, IsOk, IsTrue, OnErr, Result, map, replicate};
+ghost use Rattle.std.specs.Prelude.{◌≡◌, ℕ, ◌≤◌, ◌↔◌, IfOk, IsOk, IsTrue, OnErr, Result, fold, map, replicate};
 
 mod boxed;
 mod flat_iter;
@@ -16,6 +16,7 @@ mod inline;
 mod shapes;
 mod views;
 
+use crate::functional::fold_entries;
 pub use flat_iter::{FlatIter, iter_flat};
 use ga_core::{AllocError, FillError, GenericArrayRef, Unsigned};
 pub use shapes::{Concat, Flatten, Lengthen, Remove, Row, Shorten, Split, Unflatten};
@@ -23,6 +24,34 @@ use std::convert::AsSlice;
 
 /// An entry of a sequence: what its `into_iter` gives.
 pub type SequenceItem<S> = <S as IntoIterator>::Item;
+
+/// A sequence that owns its items: what `generate`, `map` and their kin make. An inline or a boxed
+/// array.
+///
+/// So a function that knows the traits alone can fold what it made.
+pub trait OwnedSequence<T>: Sized + AsSlice<T> + IntoIterator<Item = T> {
+    /// The fold by `f`, from `init`, over the items, from the first to the last.
+    final fn fold_items<A, F: FnMut(A, T) -> A>(self, init: A, f: F) -> A
+        requires callable { CallableInFold F.pre F.step f init (Self.items self) }
+        ensures run { (last : F) × FoldRun F.step f init (Self.items self) result last }
+        ensures acts { (h : A → T → A) → ActsAsOnTwo F.FnMut f h → result ≡ fold h init (Self.items self) }
+    {
+        let mut f = f;
+        self.fold_items_by(init, &mut f)
+    }
+
+    /// `fold_items` with a closure that is lent, and can be used again in the state that it reached.
+    final fn fold_items_by<A, F: FnMut(A, T) -> A>(self, init: A, f: &mut F) -> A
+        requires callable { CallableInFold F.pre F.step f.old init (Self.items self) }
+        ensures run { FoldRun F.step f.old init (Self.items self) result f.new }
+        ensures acts { (h : A → T → A) → ActsAsOnTwo F.FnMut f.old h → result ≡ fold h init (Self.items self) }
+    {
+        fold_entries::<T, Self::IntoIter, A, F>(self.into_iter(), init, f)
+    }
+
+    // `into_iter` gives the items, in order, and then ends.
+    ghost gives_items: { (sequence : Self) (items : Self.IntoIter) → Self.into_iter_gives sequence items → GivesEntries Self.IntoIter.can_next Self.IntoIter.next_gives Self.IntoIter.remaining (λ item. item) items (Self.items sequence) };
+}
 
 /// A sequence whose length is a type. Contracts see the list of its items, by `items`.
 ///
@@ -33,7 +62,7 @@ pub trait GenericSequence<T>: Sized + AsSlice<T> + IntoIterator {
     type Length: Unsigned;
 
     /// What is made where a sequence of this kind is asked for. It owns its items.
-    type Sequence: AsSlice<T> + IntoIterator<Item = T>;
+    type Sequence: OwnedSequence<T>;
 
     /// What gives the memory of a sequence that is made: `()` where none is asked for.
     type Place;
@@ -106,9 +135,6 @@ pub trait GenericSequence<T>: Sized + AsSlice<T> + IntoIterator {
 
     // `into_iter` gives an entry for each item, in order, and then ends.
     ghost gives_entries: { (sequence : Self) (entries : Self.IntoIter) → Self.into_iter_gives sequence entries → GivesEntries Self.IntoIter.can_next Self.IntoIter.next_gives Self.IntoIter.remaining entry entries (Self.items sequence) };
-
-    // That of what was made gives its items.
-    ghost gives_items: { (made : Self.Sequence) (items : Self.Sequence.IntoIter) → Self.Sequence.into_iter_gives made items → GivesEntries Self.Sequence.IntoIter.can_next Self.Sequence.IntoIter.next_gives Self.Sequence.IntoIter.remaining (λ item. item) items (Self.Sequence.items made) };
 }
 
 /// A sequence that can be made by a closure that may fail.

@@ -1,10 +1,16 @@
 //! The boxed array as a sequence.
 ghost use Rattle.std.specs.Prelude.{◌≡◌, ⊤};
 
-use crate::sequence::{FallibleGenericSequence, FromFallibleIterator, GenericSequence};
+use crate::sequence::{FallibleGenericSequence, FromFallibleIterator, GenericSequence, OwnedSequence};
 use ga_boxed::BoxedArray;
 use ga_core::{AllocError, FillError, GenericArrayRef, Unsigned};
 use std::alloc::Global;
+
+impl<T: Drop, N: Unsigned> OwnedSequence<T> for BoxedArray<T, N> {
+    ghost use Rattle.generic_array.specs.EntryLaws.{left_given};
+
+    ghost gives_items = { λ array items gives. (tt, tt, left_given items array gives.0) };
+}
 
 /// Each length fits. Memory may be refused, save where there is no item.
 impl<T: Drop, N: Unsigned> GenericSequence<T> for BoxedArray<T, N> {
@@ -53,8 +59,6 @@ impl<T: Drop, N: Unsigned> GenericSequence<T> for BoxedArray<T, N> {
     ghost empty_is_promised = { λ empty. empty };
 
     ghost gives_entries = { λ array items gives. (tt, tt, left_given items array gives.0) };
-
-    ghost gives_items = { λ made items gives. (tt, tt, left_given items made gives.0) };
 }
 
 impl<T: Drop, N: Unsigned> FallibleGenericSequence<T> for BoxedArray<T, N> {
