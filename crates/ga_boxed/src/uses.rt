@@ -1,4 +1,5 @@
 //! Callers, each proved: what a contract gives to those who use it.
+ghost use Rattle.ga_boxed.specs.FillAnswer.{fill_answer};
 ghost use Rattle.std.specs.Prelude.{◌≡◌, ◌∷◌, [], ◌^◌, ◌<◌, ◌↔◌, ◌⊎◌, IfErr, IfOk, IsOk, OnOk, length, reverse, slice_set, sum};
 
 use crate::BoxedArray;
@@ -79,6 +80,24 @@ fn four_digits(alloc: Global, text: &[u8]) -> Result<BoxedArray<u8, U4>, FillErr
             }
         }),
     )
+}
+
+/// The digits that four bytes stand for, or why there are none. The iterator is lent.
+fn four_digits_lent(
+    alloc: Global,
+    text: &[u8],
+) -> Result<BoxedArray<u8, U4>, FillError<u8, AllocError>>
+    ensures other { IfOk (fill_answer result) (λ built. IfOk built (λ made. IfErr made (λ byte. (byte < 48) ⊎ (57 < byte)))) }
+    ensures long { OnOk result (length text.now ≡ 4) }
+{
+    let mut digits = text.iter().map(|byte| {
+        if byte.is_ascii_digit() {
+            Ok(*byte - b'0')
+        } else {
+            Err(*byte)
+        }
+    });
+    BoxedArray::try_boxed_from_fallible_iter_ref(alloc, &mut digits)
 }
 
 fn sevens(alloc: Global) -> Result<BoxedArray<u8, U3>, AllocError>
@@ -167,6 +186,13 @@ fn callers_that_build_get_what_their_contracts_say(rt: HostRuntime) {
         [1, 8, 0, 4].as_slice()
     );
     assert!(rt; matches!(four_digits(alloc, b"18x4"), Err(FillError::Item(b'x'))));
+    assert_eq!(rt;
+        four_digits_lent(alloc, b"1804")
+            .expect(&rt, "no memory")
+            .as_slice(),
+        [1, 8, 0, 4].as_slice()
+    );
+    assert!(rt; matches!(four_digits_lent(alloc, b"18x4"), Err(FillError::Item(b'x'))));
     assert_eq!(rt;
         sevens(alloc).expect(&rt, "no memory").as_slice(),
         [7, 7, 7].as_slice()

@@ -1,4 +1,4 @@
-use Rattle.ga_boxed.proofs.boxed_array.BoxedArray.try_boxed_from_fallible_iter_ref.Goals as goal
+use Rattle.ga_boxed.proofs.boxed_array.BoxedArray.fill_fallibly_from.Goals as goal
 use Rattle.std.proofs.Common.{◌∷◌, [], Ok, arith, length-append, map}
 use Rattle.std.proofs.iter.Next.{Yields-more}
 use Rattle.std.proofs.lemmas.List.{map-append}
