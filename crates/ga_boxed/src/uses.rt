@@ -2,9 +2,10 @@
 ghost use Rattle.ga_boxed.specs.FillAnswer.{fill_answer};
 ghost use Rattle.std.specs.Prelude.{◌≡◌, ◌∷◌, [], ◌^◌, ◌<◌, ◌↔◌, ◌⊎◌, IfErr, IfOk, IsOk, OnOk, length, reverse, slice_set, sum};
 
-use crate::BoxedArray;
+use crate::{BoxedArray, BoxedArrayIter, LiveBlock};
 use ga_core::{AllocError, FillError, LengthError, U0, U2, U3, U4, Unsigned};
 use std::alloc::Global;
+use std::marker::{Send, Sync};
 
 fn doubled(alloc: Global) -> Result<BoxedArray<usize, U4>, AllocError>
     ensures { IfOk result (λ array. array ≡ 0 ∷ 2 ∷ 4 ∷ 6 ∷ []) }
@@ -158,6 +159,44 @@ fn total_or_nought(alloc: Global) -> usize
             .fold(0, |sum: usize, item: usize| sum.wrapping_add(item)),
         Err(_refused) => 0,
     }
+}
+
+/// What may go to another thread.
+fn sent<A: Send>(value: A) -> A
+    ensures { result ≡ value }
+{
+    value
+}
+
+/// What threads may share.
+fn shared<A: Sync>(value: &A) -> &A
+    ensures { result.now ≡ value.now }
+{
+    value
+}
+
+fn array_sent<T: Send, N: Unsigned + Send>(array: BoxedArray<T, N>) -> BoxedArray<T, N>
+    ensures { result ≡ array }
+{
+    sent(array)
+}
+
+fn items_sent<T: Send>(items: BoxedArrayIter<T>) -> BoxedArrayIter<T>
+    ensures { result ≡ items }
+{
+    sent(items)
+}
+
+fn block_sent<T: Send>(block: LiveBlock<T>) -> LiveBlock<T>
+    ensures { result ≡ block }
+{
+    sent(block)
+}
+
+fn array_shared<T: Sync, N: Unsigned + Sync>(array: &BoxedArray<T, N>) -> &BoxedArray<T, N>
+    ensures { result.now ≡ array.now }
+{
+    shared(array)
 }
 
 #[test]
