@@ -4,7 +4,7 @@ ghost use Rattle.ga_core.specs.Runs.{CallableInFold, FoldRun};
 ghost use Rattle.std.specs.Borrow.{sem};
 ghost use Rattle.std.specs.Iterator.{ActsAsOnTwo, YieldsFirst, YieldsLast, item_count};
 ghost use Rattle.std.specs.List.{AllZip};
-ghost use Rattle.std.specs.Prelude.{◌≡◌, ◌-◌, IfOk, IsOk, fold, length, reverse, slice_get};
+ghost use Rattle.std.specs.Prelude.{◌≡◌, ◌-◌, ◌<◌, [], ◌∷◌, ◌++◌, IfOk, IsOk, fold, length, reverse, slice_get};
 
 #[cfg(test)]
 mod tests;
@@ -109,14 +109,25 @@ impl<T: Drop> DoubleEndedIterator for BoxedArrayIter<T> {
 impl<T: Drop> BoxedArrayIter<T> {
     /// Drops `n` items from the front, or as many as are left, and takes the next.
     ///
-    /// So all are consumed, and `None` is answered, where `n` is at or beyond their number.
+    /// So all are consumed, and `None` is answered, where `n` is at or beyond their number. Takes time
+    /// in proportion to the items dropped.
     pub fn nth(&mut self, n: usize) -> Option<T>
         ensures step { StepGives (front n) self.old result self.new }
     {
         for _passed in 0..n.min(self.len()) {
-            let _ = self.next();
+            self.drop_first();
         }
         self.next()
+    }
+
+    // Drops the first item, of which there is one. As it doesn't test for one, the compiler removes a
+    // loop of such calls over items whose drop does nothing.
+    #[inline]
+    fn drop_first(&mut self)
+        requires some { 0 < length self.old }
+        ensures step { (item : T) × (self.old ≡ item ∷ self.new) }
+    {
+        let _ = self.items.take_first();
     }
 
     /// Drops `n` items from the back, or as many as are left, and takes the last of those before.
@@ -127,9 +138,18 @@ impl<T: Drop> BoxedArrayIter<T> {
         ensures step { StepGives (back n) self.old result self.new }
     {
         for _passed_back in 0..n.min(self.len()) {
-            let _ = self.next_back();
+            self.drop_last();
         }
         self.next_back()
+    }
+
+    // Drops the last item, of which there is one.
+    #[inline]
+    fn drop_last(&mut self)
+        requires some { 0 < length self.old }
+        ensures step { (item : T) × (self.old ≡ self.new ++ item ∷ []) }
+    {
+        let _ = self.items.take_last();
     }
 
     /// The last item that is left. The others are dropped; nothing else takes time.

@@ -1,7 +1,7 @@
 //! One block of memory, of whose places a range in the middle holds items.
 ghost use Rattle.ga_boxed.specs.Live.{live};
 ghost use Rattle.std.specs.Borrow.{sem};
-ghost use Rattle.std.specs.Prelude.{◌≡◌, ◌+◌, ◌<◌, ◌∷◌, ◌++◌, [], IfOk, IsOk, MatchOption, length};
+ghost use Rattle.std.specs.Prelude.{◌≡◌, ◌≢◌, ◌+◌, ◌<◌, ◌∷◌, ◌++◌, [], IfOk, IsOk, MatchOption, length};
 
 mod cells;
 #[cfg(test)]
@@ -106,6 +106,18 @@ impl<T> LiveBlock<T> {
         self.cells.put(self.base, end, item);
     }
 
+    /// Takes the first item, of which there is one. Its place gives no room.
+    #[inline]
+    pub(crate) fn take_first(&mut self) -> T
+        requires some { self.old.items ≢ [] }
+        ensures items { self.old.items ≡ result ∷ self.new.items }
+        ensures room { self.new.room ≡ self.old.room }
+    {
+        let first = self.start;
+        self.start = first + 1;
+        self.cells.take_first(self.base, first)
+    }
+
     /// Takes the first item. Its place gives no room.
     #[inline]
     pub fn take_front(&mut self) -> Option<T>
@@ -116,9 +128,19 @@ impl<T> LiveBlock<T> {
         if self.start == self.end {
             return None;
         }
-        let first = self.start;
-        self.start = first + 1;
-        Some(self.cells.take_first(self.base, first))
+        Some(self.take_first())
+    }
+
+    /// Takes the last item, of which there is one. Its place gives room for another.
+    #[inline]
+    pub(crate) fn take_last(&mut self) -> T
+        requires some { self.old.items ≢ [] }
+        ensures items { self.old.items ≡ self.new.items ++ result ∷ [] }
+        ensures room { self.new.room ≡ self.old.room + 1 }
+    {
+        let last = self.end - 1;
+        self.end = last;
+        self.cells.take_last(self.base, last)
     }
 
     /// Takes the last item. Its place gives room for another.
@@ -131,9 +153,7 @@ impl<T> LiveBlock<T> {
         if self.start == self.end {
             return None;
         }
-        let last = self.end - 1;
-        self.end = last;
-        Some(self.cells.take_last(self.base, last))
+        Some(self.take_last())
     }
 
     /// The items, in order. Constant time.

@@ -1,9 +1,11 @@
 //! Callers, each proved: what a contract gives to those who use it.
+ghost use Rattle.ga_boxed.specs.FillAnswer.{fill_answer};
 ghost use Rattle.std.specs.Prelude.{◌≡◌, ◌∷◌, [], ◌^◌, ◌<◌, ◌↔◌, ◌⊎◌, IfErr, IfOk, IsOk, OnOk, length, reverse, slice_set, sum};
 
-use crate::BoxedArray;
+use crate::{BoxedArray, BoxedArrayIter, LiveBlock};
 use ga_core::{AllocError, FillError, LengthError, U0, U2, U3, U4, Unsigned};
 use std::alloc::Global;
+use std::marker::{Send, Sync};
 
 fn doubled(alloc: Global) -> Result<BoxedArray<usize, U4>, AllocError>
     ensures { IfOk result (λ array. array ≡ 0 ∷ 2 ∷ 4 ∷ 6 ∷ []) }
@@ -81,6 +83,24 @@ fn four_digits(alloc: Global, text: &[u8]) -> Result<BoxedArray<u8, U4>, FillErr
     )
 }
 
+/// The digits that four bytes stand for, or why there are none. The iterator is lent.
+fn four_digits_lent(
+    alloc: Global,
+    text: &[u8],
+) -> Result<BoxedArray<u8, U4>, FillError<u8, AllocError>>
+    ensures other { IfOk (fill_answer result) (λ built. IfOk built (λ made. IfErr made (λ byte. (byte < 48) ⊎ (57 < byte)))) }
+    ensures long { OnOk result (length text.now ≡ 4) }
+{
+    let mut digits = text.iter().map(|byte| {
+        if byte.is_ascii_digit() {
+            Ok(*byte - b'0')
+        } else {
+            Err(*byte)
+        }
+    });
+    BoxedArray::try_boxed_from_fallible_iter_ref(alloc, &mut digits)
+}
+
 fn sevens(alloc: Global) -> Result<BoxedArray<u8, U3>, AllocError>
     ensures { IfOk result (λ array. array ≡ 7 ∷ 7 ∷ 7 ∷ []) }
 {
@@ -141,6 +161,44 @@ fn total_or_nought(alloc: Global) -> usize
     }
 }
 
+/// What may go to another thread.
+fn sent<A: Send>(value: A) -> A
+    ensures { result ≡ value }
+{
+    value
+}
+
+/// What threads may share.
+fn shared<A: Sync>(value: &A) -> &A
+    ensures { result.now ≡ value.now }
+{
+    value
+}
+
+fn array_sent<T: Send, N: Unsigned + Send>(array: BoxedArray<T, N>) -> BoxedArray<T, N>
+    ensures { result ≡ array }
+{
+    sent(array)
+}
+
+fn items_sent<T: Send>(items: BoxedArrayIter<T>) -> BoxedArrayIter<T>
+    ensures { result ≡ items }
+{
+    sent(items)
+}
+
+fn block_sent<T: Send>(block: LiveBlock<T>) -> LiveBlock<T>
+    ensures { result ≡ block }
+{
+    sent(block)
+}
+
+fn array_shared<T: Sync, N: Unsigned + Sync>(array: &BoxedArray<T, N>) -> &BoxedArray<T, N>
+    ensures { result.now ≡ array.now }
+{
+    shared(array)
+}
+
 #[test]
 fn callers_that_build_get_what_their_contracts_say(rt: HostRuntime) {
     let alloc = rt.alloc();
@@ -167,6 +225,13 @@ fn callers_that_build_get_what_their_contracts_say(rt: HostRuntime) {
         [1, 8, 0, 4].as_slice()
     );
     assert!(rt; matches!(four_digits(alloc, b"18x4"), Err(FillError::Item(b'x'))));
+    assert_eq!(rt;
+        four_digits_lent(alloc, b"1804")
+            .expect(&rt, "no memory")
+            .as_slice(),
+        [1, 8, 0, 4].as_slice()
+    );
+    assert!(rt; matches!(four_digits_lent(alloc, b"18x4"), Err(FillError::Item(b'x'))));
     assert_eq!(rt;
         sevens(alloc).expect(&rt, "no memory").as_slice(),
         [7, 7, 7].as_slice()

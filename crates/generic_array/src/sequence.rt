@@ -199,6 +199,7 @@ pub trait FromFallibleIterator<T>: GenericSequence<T> {
         requires fits { Self.Fits }
         requires can { I.can_next items.old }
         ensures fill { IfOk (fill_answer (built_items Self.items result)) (λ built. FillsFallibly I.next_gives items.old Self.Length.USIZE built items.new) }
+        ensures runs { IfOk (fill_answer (built_items Self.items result)) (λ built. FillFalliblyRuns I.next_gives items.old Self.Length.USIZE built) }
         ensures err { OnErr (fill_answer (built_items Self.items result)) (items.new ≡ items.old) }
         ensures promised { Self.IsPromised → IsOk (fill_answer (built_items Self.items result)) };
 }

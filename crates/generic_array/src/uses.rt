@@ -1,8 +1,10 @@
 //! Callers, each proved: what the traits' contracts give to those who use them.
+ghost use Rattle.ga_boxed.specs.FillAnswer.{fill_answer};
+ghost use Rattle.generic_array.specs.Built.{built_items};
 ghost use Rattle.generic_array.specs.Entries.{CallAt, MayCallAt};
 ghost use Rattle.generic_array.specs.EntryRuns.{CallableOver};
 ghost use Rattle.std.specs.List.{range_with_len};
-ghost use Rattle.std.specs.Prelude.{◌≡◌, ◌∷◌, [], ◌^◌, ◌<◌, ◌⊎◌, Err, Ok, IfOk, IsOk, OnOk, length, map, replicate, sum};
+ghost use Rattle.std.specs.Prelude.{◌≡◌, ◌∷◌, [], ◌^◌, ◌<◌, ◌⊎◌, Err, IfErr, IfOk, IsOk, Ok, OnOk, length, map, replicate, sum};
 
 mod any_length;
 mod macros;
@@ -304,6 +306,25 @@ fn digits<S: FromFallibleIterator<u8>>(
     )
 }
 
+/// The digits that the bytes stand for, or why there are none. The iterator is lent.
+fn digits_lent<S: FromFallibleIterator<u8>>(
+    place: S::Place,
+    text: &[u8],
+) -> Result<S, FillError<u8, S::Error>>
+    requires fits { S.Fits }
+    ensures other { IfOk (fill_answer (built_items S.items result)) (λ built. IfOk built (λ made. IfErr made (λ byte. (byte < 48) ⊎ (57 < byte)))) }
+    ensures long { OnOk result (length text.now ≡ S.Length.USIZE) }
+{
+    let mut digits = text.iter().map(|byte| {
+        if byte.is_ascii_digit() {
+            Ok(*byte - b'0')
+        } else {
+            Err(*byte)
+        }
+    });
+    S::from_fallible_iter_ref(place, &mut digits)
+}
+
 fn one_two_three() -> GenericArray<u32, U3>
     ensures { result ≡ 1 ∷ 2 ∷ 3 ∷ [] }
 {
@@ -364,5 +385,7 @@ fn callers_get_what_their_contracts_say(rt: HostRuntime) -> Result<(), Fail> {
     assert!(rt; numbers_of_boxed(rt.alloc())? == (6, 32, 246, 3));
     assert!(rt; numbers_of_runs(rt.alloc())? == (6, 2, 2));
     assert!(rt; digits::<GenericArray<u8, U3>>((), b"180").is_ok());
+    assert!(rt; digits_lent::<GenericArray<u8, U3>>((), b"180").is_ok());
+    assert!(rt; digits_lent::<BoxedArray<u8, U3>>(rt.alloc(), b"18").is_err());
     Ok(())
 }

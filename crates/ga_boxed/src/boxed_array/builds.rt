@@ -170,6 +170,20 @@ impl<T: Drop, N: Unsigned> BoxedArray<T, N> {
     ) -> Result<Self, FillError<E, AllocError>>
         requires can { I.can_next items.old }
         ensures fill { IfOk (fill_answer result) (λ built. FillsFallibly I.next_gives items.old N.USIZE built items.new) }
+        ensures runs { IfOk (fill_answer result) (λ built. FillFalliblyRuns I.next_gives items.old N.USIZE built) }
+        ensures err { OnErr (fill_answer result) (items.new ≡ items.old) }
+        ensures empty { N.USIZE ≡ 0 → IsOk (fill_answer result) }
+    {
+        Self::fill_fallibly_from(alloc, items)
+    }
+
+    // The fill itself, of which `try_boxed_from_fallible_iter_ref` says one thing more that follows.
+    fn fill_fallibly_from<E: Drop, I: Iterator<Item = Result<T, E>>>(
+        alloc: Global,
+        items: &mut I,
+    ) -> Result<Self, FillError<E, AllocError>>
+        requires can { I.can_next items.old }
+        ensures fill { IfOk (fill_answer result) (λ built. FillsFallibly I.next_gives items.old N.USIZE built items.new) }
         ensures err { OnErr (fill_answer result) (items.new ≡ items.old) }
         ensures empty { N.USIZE ≡ 0 → IsOk (fill_answer result) }
     {

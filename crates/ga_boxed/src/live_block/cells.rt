@@ -7,7 +7,7 @@ ghost use denote.RawPtr.{Ptr};
 ghost use Rattle.ga_boxed.specs.CellsOwn.{cells_lent, cells_own, deed_owns};
 
 use std::alloc::{AllocError, Allocator};
-use std::marker::{Model, PhantomData};
+use std::marker::{Model, PhantomData, Send, Sync};
 use std::mem::{align_of, size_of};
 use std::slice;
 
@@ -31,6 +31,11 @@ impl<T> Clone for Base<T> {
 
 impl<T> Copy for Base<T> {}
 
+// An address alone gives no access.
+unsafe impl<T> Send for Base<T> {}
+
+unsafe impl<T> Sync for Base<T> {}
+
 /// The owner of the places: `passed` that are empty, then the items, then room for more. It takes no
 /// space, since the block holds the pointer and the bounds.
 pub struct Cells<T> {
@@ -47,6 +52,11 @@ impl<T> Model for Cells<T> {
     ghost also_shares = { λ cells _ κ. cells_lent T.row cells.at cells.passed cells.items cells.room κ };
 }
 
+// The cells cross threads as their items do.
+unsafe impl<T: Send> Send for Cells<T> {}
+
+unsafe impl<T: Sync> Sync for Cells<T> {}
+
 /// The right to give the block of `len` places at `at` back to `alloc`: none where `len` is 0, since
 /// there is no block then. It takes no space.
 pub struct Deed<T, A: Allocator> {
@@ -61,6 +71,11 @@ impl<T, A: Allocator> Model for Deed<T, A> {
 
     ghost also_shares = { λ _ _ _. ftrue };
 }
+
+// The right crosses threads where any may give a block back to the allocator. A `&` to it holds nothing.
+unsafe impl<T, A: Allocator + Send> Send for Deed<T, A> {}
+
+unsafe impl<T, A: Allocator> Sync for Deed<T, A> {}
 
 /// Whether a block may have `len` places: they have fewer than 2^63 bytes.
 pub(crate) fn fits<T>(len: usize) -> bool

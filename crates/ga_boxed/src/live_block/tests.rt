@@ -219,3 +219,11 @@ fn answers_as_a_list(alloc: Global, calls: u32) -> Result<bool, AllocError> {
 fn calls_by_chance_answer_as_those_of_a_list(rt: HostRuntime) {
     assert!(rt; answers_as_a_list(rt.alloc(), 10_000).expect(&rt, "no memory"));
 }
+
+#[test]
+fn a_block_is_given_back(rt: HostRuntime) {
+    // As many blocks as this at once would take more addresses than there are.
+    for _round in 0..160_000u32 {
+        assert!(rt; LiveBlock::<u8>::new(rt.alloc(), 1 << 30).is_ok());
+    }
+}

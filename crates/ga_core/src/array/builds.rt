@@ -126,6 +126,18 @@ impl<T: Drop, N: ArrayLength<T>> GenericArray<T, N> {
         requires fits { FitsInline N.USIZE }
         requires can { I.can_next items.old }
         ensures fill { FillsFallibly I.next_gives items.old N.USIZE result items.new }
+        ensures runs { FillFalliblyRuns I.next_gives items.old N.USIZE result }
+    {
+        Self::fill_fallibly_from(items)
+    }
+
+    // The fill itself, of which `try_from_fallible_iter_ref` says one thing more that follows.
+    fn fill_fallibly_from<E: Drop, I: Iterator<Item = Result<T, E>>>(
+        items: &mut I,
+    ) -> Result<Result<Self, E>, LengthError>
+        requires fits { FitsInline N.USIZE }
+        requires can { I.can_next items.old }
+        ensures { FillsFallibly I.next_gives items.old N.USIZE result items.new }
     {
         let mut builder = ArrayBuilder::new();
         if let Err(error) = builder.try_extend(items) {

@@ -3,7 +3,7 @@ ghost use Rattle.ga_views.specs.HexText.{hex_digits};
 ghost use Rattle.std.specs.Io.KnownBytes.{Appends};
 ghost use Rattle.std.specs.List.{All};
 ghost use Rattle.std.specs.Option.{option_copied};
-ghost use Rattle.std.specs.Prelude.{◌≡◌, ◌∷◌, [], ◌↔◌, EachIndex, Err, IfOk, IsOk, IsTrue, Ok, OnErr, OnOk, ◌≢◌, length, slice_get, slice_index, slice_set, sum, true};
+ghost use Rattle.std.specs.Prelude.{◌≡◌, ◌+◌, ◌<◌, ◌⊎◌, ◌∷◌, [], ◌↔◌, EachIndex, Err, IfErr, IfOk, IsOk, IsTrue, Ok, OnErr, OnOk, ◌≢◌, length, map, slice_get, slice_index, slice_set, sum, true};
 
 use crate::{
     AllocError, ArrayBuilder, ArrayLength, GenericArray, GenericArrayRef, LengthError, U1, U2, U3,
@@ -196,6 +196,22 @@ fn four_digits(text: &[u8]) -> Result<Result<GenericArray<u8, U4>, u8>, LengthEr
     )
 }
 
+/// The digits that four bytes stand for, or the first byte that is no digit. The iterator is lent.
+fn four_digits_lent(text: &[u8]) -> Result<Result<GenericArray<u8, U4>, u8>, LengthError>
+    ensures digits { IfOk result (λ built. IfOk built (λ digits. text.now ≡ map (λ digit. digit + 48) digits)) }
+    ensures other { IfOk result (λ built. IfErr built (λ byte. (byte < 48) ⊎ (57 < byte))) }
+    ensures refused { OnErr result (length text.now ≢ 4) }
+{
+    let mut digits = text.iter().map(|byte| {
+        if byte.is_ascii_digit() {
+            Ok(*byte - b'0')
+        } else {
+            Err(*byte)
+        }
+    });
+    GenericArray::try_from_fallible_iter_ref(&mut digits)
+}
+
 fn sevens() -> Result<GenericArray<u8, U3>, AllocError>
     ensures { result ≡ Ok (7 ∷ 7 ∷ 7 ∷ []) }
 {
@@ -258,6 +274,12 @@ mod tests {
         }
         assert!(rt; matches!(four_digits(b"18x4"), Ok(Err(b'x'))));
         assert!(rt; matches!(four_digits(b"180"), Err(LengthError)));
+        match four_digits_lent(b"1804") {
+            Ok(Ok(digits)) => assert!(rt; holds(digits, &[1, 8, 0, 4])),
+            _ => panic!(rt; "four digits are refused"),
+        }
+        assert!(rt; matches!(four_digits_lent(b"18x4"), Ok(Err(b'x'))));
+        assert!(rt; matches!(four_digits_lent(b"18041"), Err(LengthError)));
     }
 
     /// What the callers that write leave at the places that they write.

@@ -2,6 +2,7 @@
 use crate::BoxedArray;
 use crate::counted::{Counted, Counts};
 use ga_core::{AllocError, Const, FillError, LengthError, U0, U2, U3, U4, U5};
+use std::alloc::Global;
 
 /// A length of which no block can be had, not even of the smallest items.
 type TooMany = Const<18446744073709551615>;
@@ -208,6 +209,24 @@ fn an_error_after_the_last_item_is_one_item_too_many(rt: HostRuntime) {
         "no memory",
     );
     assert_eq!(rt; array.as_slice(), [1, 2].as_slice());
+}
+
+/// Whether so many good values, handed over, fill two places, and whether their number is why they
+/// don't.
+fn filled_by(alloc: Global, given: u32) -> (bool, bool) {
+    let items = (0..given).map(|item| if item < 9 { Ok(item) } else { Err(item) });
+    match BoxedArray::<u32, U2>::try_boxed_from_fallible_iter(alloc, items) {
+        Ok(_filled) => (true, false),
+        Err(FillError::Length(LengthError)) => (false, true),
+        Err(_other) => (false, false),
+    }
+}
+
+#[test]
+fn a_fallible_fill_by_value_wants_just_its_number(rt: HostRuntime) {
+    for given in 0..5u32 {
+        assert!(rt; filled_by(rt.alloc(), given) == (given == 2, given != 2));
+    }
 }
 
 #[test]

@@ -128,6 +128,33 @@ fn another_length_is_refused_and_the_items_dropped(rt: HostRuntime) {
     assert!(rt; answers == (true, true, 0) && counts.drops() == 24);
 }
 
+/// A length that no array in a function's frame has.
+type Many = Const<100000>;
+
+/// The capacity of the vector that so many items go to, and how many come back from there in order,
+/// each equal to its place.
+fn many_there_and_back(alloc: Global) -> Result<(usize, u32), AllocError> {
+    let boxed = BoxedArray::<u32, Many>::generate(alloc, |index| index as u32)?;
+    let items = boxed.into_vec()?;
+    let capacity = items.capacity();
+    let Ok(boxed) = BoxedArray::<u32, Many>::try_from_vec(alloc, items)? else {
+        return Ok((capacity, 0));
+    };
+    let mut place = 0u32;
+    for item in boxed {
+        if item == place {
+            place = place.wrapping_add(1);
+        }
+    }
+    Ok((capacity, place))
+}
+
+#[test]
+fn many_items_go_to_a_vector_of_just_their_number_and_back(rt: HostRuntime) {
+    let answers = many_there_and_back(rt.alloc()).expect(&rt, "no memory");
+    assert!(rt; answers == (100_000, 100_000));
+}
+
 /// Three counted items into a block, to a vector and a block again, and cloned behind the first: up to
 /// the first request that is refused.
 fn moved_about(alloc: Global, counts: &Counts) -> Result<usize, AllocError> {

@@ -1,0 +1,66 @@
+-- The parts of a block may cross threads as its items and its allocator may. Assumes nothing.
+use Prim.Native.Nat.{ℕ, ◌+◌, ◌*◌}
+use Rattle.ga_boxed.specs.CellsOwn.{cells_lent, cells_own}
+use Rattle.ga_boxed.specs.contracts.live_block.cells.Cells as Cells
+use Rattle.ga_boxed.specs.contracts.live_block.cells.Deed as Deed
+use Rattle.std.specs.Mem.{type_size}
+use Rattle.std.specs.Vec.Ownership.{has_block, owns_if}
+use Rattle.std.specs.declared.alloc.Allocator.{Ghosts}
+use base.Fml.{Fml}
+use base.Fraction.{full_share}
+use base.Shift.{Keyless}
+use denote.Exit.{Exit, hidden, leaves, unchanged, under}
+use denote.Memory.{mem}
+use denote.Param.Send.{AllSend, Common, Frees, IsSend, IsSync, Quiet, owning_send, part_keyless, sendable, struct_send, struct_sync}
+use denote.RattleType.{RattleType}
+use denote.RawPtr.{Ptr, block_ptr, null_ptr}
+use denote.Slice.{elements_shared}
+use denote.Struct.Owning.{fields, shape, to}
+use denote.Struct.Struct.{exits_of}
+use mathlib.Core.Bool.{Bool, false, true}
+use mathlib.Core.List.{List, [], ◌∷◌}
+use types.SemTy.{cells}
+
+quiet : {D X : Type 0} (to : D → X) (e : Exit X) → Quiet e → Quiet (hidden (under to e))
+quiet to unchanged q = λ x w. tt
+quiet to (leaves L l S s r₀) q = λ d. q (to d)
+
+if_so : (y : Bool) (F : Fml) → Keyless F → Keyless (owns_if y F)
+if_so true F k = k
+if_so false F k = tt
+
+module _ (R : RattleType) where
+  items-Keyless : IsSend R → (xs : List R.Denot) (b o : ℕ) → Keyless (cells (mem R) xs b o)
+  items-Keyless s [] b o = tt
+  items-Keyless s (x ∷ xs) b o = (part_keyless R s full_share x b o, items-Keyless s xs b (o + (mem R).size))
+
+  items_lent-Common : IsSync R → (xs : List R.Denot) (b o : ℕ) → Common (elements_shared R xs b o)
+  items_lent-Common y [] b o κ = tt
+  items_lent-Common y (x ∷ xs) b o κ = (y.shared x b o κ, items_lent-Common y xs b (o + (mem R).size) κ)
+
+  cells-Keyless : IsSend R → (p : Ptr) (m : ℕ) (xs : List R.Denot) (n : ℕ) → Keyless (cells_own R p m xs n)
+  cells-Keyless s (block_ptr b o) m xs n = (tt, (items-Keyless s xs b (m * type_size R + o), (tt, tt)))
+  cells-Keyless s null_ptr m xs n = tt
+
+  cells_lent-Common : IsSync R → (p : Ptr) (m : ℕ) (xs : List R.Denot) (n : ℕ) → Common (cells_lent R p m xs n)
+  cells_lent-Common y (block_ptr b o) m xs n κ = (tt, items_lent-Common y xs b (m * type_size R + o) κ)
+  cells_lent-Common y null_ptr m xs n κ = tt
+
+  pub Cells-send : IsSend R → IsSend (Cells.the_row R)
+  Cells-send s =
+      let O = Cells.the_type R in let all : AllSend (fields O) = (search sendable, tt) in
+      owning_send O all (λ d. cells-Keyless s d.at d.passed d.items d.room) (λ k. quiet (to O) (exits_of k (fields O)) ((struct_send (shape O) all).leaving k))
+
+  pub Cells-sync : IsSync R → IsSync (Cells.the_row R)
+  Cells-sync y =
+      let O = Cells.the_type R in
+      record { shared = λ d b o κ. ((struct_sync (shape O) (search sendable, tt)).shared (to O d) b o κ, cells_lent-Common y d.at d.passed d.items d.room κ) }
+
+  module _ (A : RattleType) (g : Ghosts A.Denot) where
+    pub Deed-send : Frees g g.dealloc_token → IsSend (Deed.the_row R A g)
+    Deed-send f =
+        let O = Deed.the_type R A g in let all : AllSend (fields O) = (search sendable, tt) in
+        owning_send O all (λ d. if_so (has_block d.len) _ (f.frees d.alloc _ d.at)) (λ k. quiet (to O) (exits_of k (fields O)) ((struct_send (shape O) all).leaving k))
+
+    pub Deed-sync : IsSync (Deed.the_row R A g)
+    Deed-sync = let O = Deed.the_type R A g in record { shared = λ d b o κ. ((struct_sync (shape O) (search sendable, tt)).shared (to O d) b o κ, tt) }
