@@ -4,7 +4,7 @@ ghost use Rattle.std.specs.Prelude.{◌≡◌, ◌+◌, ◌-◌, ◌*◌, ◌<�
 
 use crate::numbers::{put_numbers, put_numbers_back};
 use std::io;
-use std::io::Write;
+use std::io::{ErrorKind, Write};
 use std::marker::Model;
 
 /// How many bytes a piece of text may have.
@@ -166,6 +166,17 @@ impl Write for Piece {
         self.bytes[self.len..self.len + count].copy_from_slice(&buf[..count]);
         self.len += count;
         Ok(count)
+    }
+
+    /// Refuses what doesn't fit, and then takes none of it.
+    #[inline]
+    fn write_all(&mut self, buf: &[u8]) -> io::Result<()> {
+        if buf.len() > PIECE_SIZE - self.len {
+            return Err(io::Error::from(ErrorKind::WriteZero));
+        }
+        self.bytes[self.len..self.len + buf.len()].copy_from_slice(buf);
+        self.len += buf.len();
+        Ok(())
     }
 
     fn flush(&mut self) -> io::Result<()>
