@@ -1,6 +1,6 @@
 //! Text that a writer has not been given yet.
 ghost use Rattle.ga_rows.specs.Text.{numbers_text};
-ghost use Rattle.std.specs.Prelude.{◌≡◌, ◌+◌, ◌-◌, ◌*◌, ◌<◌, ◌≤◌, ◌↔◌, IsTrue, IsOk, [], ◌∷◌, ◌++◌, decimal, length, min, reverse, take};
+ghost use Rattle.std.specs.Prelude.{◌≡◌, ◌+◌, ◌-◌, ◌*◌, ◌<◌, ◌≤◌, ◌↔◌, IsTrue, IsOk, OnErr, OnOk, [], ◌∷◌, ◌++◌, decimal, length, min, reverse, take};
 
 use crate::numbers::{put_numbers, put_numbers_back};
 use std::io;
@@ -151,7 +151,7 @@ impl Piece {
     }
 }
 
-/// Takes what fits behind the text, and never fails.
+/// Takes what fits behind the text, `write_all` all or none, and fails nowhere else.
 impl Write for Piece {
     ghost use Rattle.std.specs.Prelude.{Some};
 
@@ -168,9 +168,12 @@ impl Write for Piece {
         Ok(count)
     }
 
-    /// Refuses what doesn't fit, and then takes none of it.
     #[inline]
-    fn write_all(&mut self, buf: &[u8]) -> io::Result<()> {
+    fn write_all(&mut self, buf: &[u8]) -> io::Result<()>
+        ensures fits { IsOk result ↔ (length self.old + length buf.now ≤ PIECE_SIZE) }
+        ensures text { OnOk result (self.new ≡ self.old ++ buf.now) }
+        ensures none { OnErr result (self.new ≡ self.old) }
+    {
         if buf.len() > PIECE_SIZE - self.len {
             return Err(io::Error::from(ErrorKind::WriteZero));
         }
