@@ -18,9 +18,18 @@ pub fn read_all<R: Read>(alloc: Global, r: &mut R) -> Result<Vec<u8>, Status>
     ensures end { OnOk result (IsAtEnd (R.remaining r.new)) }
     ensures err { IfErr result (λ status. (status ≡ Status.Memory) ⊎ (status ≡ Status.Fault)) }
 {
+    read_within(alloc, r, u64::MAX)
+}
+
+/// As `read_all`, where a reader that gives no end within so many reads counts as faulty.
+fn read_within<R: Read>(alloc: Global, r: &mut R, most: u64) -> Result<Vec<u8>, Status>
+    ensures bytes { IfOk result (λ input. IfSome (R.remaining r.old) (λ bytes. input.items ≡ bytes)) }
+    ensures end { OnOk result (IsAtEnd (R.remaining r.new)) }
+    ensures err { IfErr result (λ status. (status ≡ Status.Memory) ⊎ (status ≡ Status.Fault)) }
+{
     let mut input = Vec::new(alloc);
     let mut chunk = [0u8; READ_SIZE];
-    for _try in 0..u64::MAX {
+    for _try in 0..most {
         match r.read(&mut chunk) {
             Ok(0) => return Ok(input),
             Ok(count) => append(&mut input, &chunk[..count])?,
@@ -41,3 +50,6 @@ fn append(input: &mut Vec<u8>, bytes: &[u8]) -> Result<(), Status>
         Err(_) => Err(Status::Memory),
     }
 }
+
+#[cfg(test)]
+mod tests;

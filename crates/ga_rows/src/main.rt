@@ -8,6 +8,7 @@
 
 mod ends;
 mod input;
+mod numbers;
 mod output;
 mod piece;
 mod program;

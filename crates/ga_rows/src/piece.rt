@@ -1,9 +1,10 @@
 //! Text that a writer has not been given yet.
 ghost use Rattle.ga_rows.specs.Text.{numbers_text};
-ghost use Rattle.std.specs.Prelude.{◌≡◌, ◌+◌, ◌-◌, ◌*◌, ◌<◌, ◌≤◌, ◌↔◌, IsTrue, IsOk, [], ◌∷◌, ◌++◌, decimal, length, min, reverse, take};
+ghost use Rattle.std.specs.Prelude.{◌≡◌, ◌+◌, ◌-◌, ◌*◌, ◌<◌, ◌≤◌, ◌↔◌, IsTrue, IsOk, OnErr, OnOk, [], ◌∷◌, ◌++◌, decimal, length, min, reverse, take};
 
+use crate::numbers::{put_numbers, put_numbers_back};
 use std::io;
-use std::io::Write;
+use std::io::{ErrorKind, Write};
 use std::marker::Model;
 
 /// How many bytes a piece of text may have.
@@ -80,7 +81,6 @@ impl Piece {
         requires room { length self.old + 4 ≤ PIECE_SIZE }
         ensures text { self.new ≡ self.old ++ decimal number }
         ensures digits { length self.new ≤ length self.old + 4 }
-        ensures short { number < 1000 → length self.new ≤ length self.old + 3 }
     {
         if number < 1000 {
             self.push_below_1000(number);
@@ -126,14 +126,7 @@ impl Piece {
         ensures text { self.new ≡ self.old ++ numbers_text numbers.now }
         ensures bytes { length self.new ≤ length self.old + 4 * length numbers.now }
     {
-        let Some((first, others)) = numbers.split_first() else {
-            return;
-        };
-        self.push_decimal(u16::from(*first));
-        for number in others {
-            self.push(b' ');
-            self.push_decimal(u16::from(*number));
-        }
+        self.len = put_numbers(&mut self.bytes, self.len, numbers);
     }
 
     /// Appends numbers in decimal, from the last to the first, joined by one space. There is room for
@@ -144,14 +137,7 @@ impl Piece {
         ensures text { self.new ≡ self.old ++ numbers_text (reverse numbers.now) }
         ensures bytes { length self.new ≤ length self.old + 4 * length numbers.now }
     {
-        let Some((last, others)) = numbers.split_last() else {
-            return;
-        };
-        self.push_decimal(u16::from(*last));
-        for number in others.iter().rev() {
-            self.push(b' ');
-            self.push_decimal(u16::from(*number));
-        }
+        self.len = put_numbers_back(&mut self.bytes, self.len, numbers);
     }
 
     /// Appends a text. There is room.
@@ -165,7 +151,7 @@ impl Piece {
     }
 }
 
-/// Takes what fits behind the text, and never fails.
+/// Takes what fits behind the text, `write_all` all or none, and fails nowhere else.
 impl Write for Piece {
     ghost use Rattle.std.specs.Prelude.{Some};
 
@@ -180,6 +166,20 @@ impl Write for Piece {
         self.bytes[self.len..self.len + count].copy_from_slice(&buf[..count]);
         self.len += count;
         Ok(count)
+    }
+
+    #[inline]
+    fn write_all(&mut self, buf: &[u8]) -> io::Result<()>
+        ensures fits { IsOk result ↔ (length self.old + length buf.now ≤ PIECE_SIZE) }
+        ensures text { OnOk result (self.new ≡ self.old ++ buf.now) }
+        ensures none { OnErr result (self.new ≡ self.old) }
+    {
+        if buf.len() > PIECE_SIZE - self.len {
+            return Err(io::Error::from(ErrorKind::WriteZero));
+        }
+        self.bytes[self.len..self.len + buf.len()].copy_from_slice(buf);
+        self.len += buf.len();
+        Ok(())
     }
 
     fn flush(&mut self) -> io::Result<()>

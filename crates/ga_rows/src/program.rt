@@ -1,6 +1,6 @@
 //! The program, as a function of its words, a reader and writers.
 ghost use Rattle.generic_array.specs.Rows.{chunk_rest};
-ghost use Rattle.ga_rows.specs.Listed.{ListedAnd};
+ghost use Rattle.ga_rows.specs.Listed.{ListedAnd, ListedEach};
 ghost use Rattle.ga_rows.specs.Text.{text_of};
 ghost use Rattle.ga_rows.specs.Words.{bytes_of, meaning_of_words};
 ghost use Rattle.std.specs.Io.KnownBytes.{Appends, IsAtEnd};
@@ -38,6 +38,7 @@ pub fn run_listed<I: Iterator<Item = String>, R: Read, W: Write, E: Write>(
     ensures rest { process_status result ≡ 1 → ListedAnd I.next_gives listed (λ meant. IfSome meant (λ meaning.
         IfSome (R.remaining r.old) (λ input. chunk_rest (bytes_of meaning.1) input ≢ []))) }
     ensures words { process_status result ≡ 2 → ListedAnd I.next_gives listed (λ meant. meant ≡ None) }
+    ensures meaningless { ListedEach I.next_gives listed (λ meant. meant ≡ None) → (process_status result ≡ 2) ⊎ (process_status result ≡ 3) }
     ensures untouched { process_status result ≡ 2 → (r.new ≡ r.old) × (w.new ≡ w.old) }
     ensures end { process_status result ≤ 1 → IsAtEnd (R.remaining r.new) }
     ensures memory { process_status result ≡ 3 → w.new ≡ w.old }

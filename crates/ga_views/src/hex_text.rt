@@ -1,14 +1,17 @@
 //! Bytes as hex text, through a writer.
 ghost use Rattle.ga_views.specs.HexText.{hex_digits, hex_text};
 ghost use Rattle.std.specs.Io.KnownBytes.{Appends};
-ghost use Rattle.std.specs.Prelude.{◌≡◌, ◌*◌, [], IsOk, OnOk, length};
+ghost use Rattle.std.specs.Prelude.{◌≡◌, ◌*◌, ◌≤◌, [], IsOk, OnOk, length};
 
 use hex::encode_to_slice;
 use std::io;
 use std::io::Write;
 
-/// How many bytes are made digits at once.
-const PIECE_SIZE: usize = 1024;
+/// How many digits are made at once.
+const LONG_TEXT: usize = 2048;
+
+/// How many digits a few bytes have, as those of a digest: a buffer for so many is quickly cleared.
+const SHORT_TEXT: usize = 128;
 
 /// Writes two digits for each byte, the high half first, of `0123456789abcdef` or, where `upper` is
 /// set, of `0123456789ABCDEF`; no more than `limit` digits, where that is fewer. An odd limit cuts
@@ -20,6 +23,7 @@ const PIECE_SIZE: usize = 1024;
 ///
 /// Stands for `fmt::LowerHex` and `fmt::UpperHex` of an array, with the limit in place of a
 /// formatter's precision.
+#[inline]
 pub fn write_hex<W: Write>(
     bytes: &[u8],
     upper: bool,
@@ -29,12 +33,47 @@ pub fn write_hex<W: Write>(
     ensures text { OnOk result (Appends (W.contents w.old) (W.contents w.new) (hex_text upper limit bytes.now)) }
     ensures empty { hex_text upper limit bytes.now ≡ [] → IsOk result }
 {
-    let mut digits = [0; 2 * PIECE_SIZE];
+    if bytes.len() <= SHORT_TEXT / 2 {
+        write_pieces::<SHORT_TEXT, W>(bytes, upper, limit, w)
+    } else {
+        write_long(bytes, upper, limit, w)
+    }
+}
+
+/// As `write_hex`, in pieces of 1,024 bytes. A caller's frame has no room for such a piece, since
+/// this isn't inlined.
+#[inline(never)]
+fn write_long<W: Write>(
+    bytes: &[u8],
+    upper: bool,
+    limit: Option<usize>,
+    w: &mut W,
+) -> Result<(), io::Error>
+    ensures text { OnOk result (Appends (W.contents w.old) (W.contents w.new) (hex_text upper limit bytes.now)) }
+    ensures empty { hex_text upper limit bytes.now ≡ [] → IsOk result }
+{
+    write_pieces::<LONG_TEXT, W>(bytes, upper, limit, w)
+}
+
+/// As `write_hex`, in pieces of so many digits.
+#[inline(always)]
+fn write_pieces<const SIZE: usize, W: Write>(
+    bytes: &[u8],
+    upper: bool,
+    limit: Option<usize>,
+    w: &mut W,
+) -> Result<(), io::Error>
+    requires some { 2 ≤ SIZE }
+    requires few { SIZE ≤ 2048 }
+    ensures text { OnOk result (Appends (W.contents w.old) (W.contents w.new) (hex_text upper limit bytes.now)) }
+    ensures empty { hex_text upper limit bytes.now ≡ [] → IsOk result }
+{
+    let mut digits = [0; SIZE];
     let all = 2 * bytes.len();
     let mut count = limit.map_or(all, |limit: usize| limit.min(all));
     let mut left = bytes;
     while count > 0 {
-        let (piece, behind) = left.split_at(left.len().min(PIECE_SIZE));
+        let (piece, behind) = left.split_at(left.len().min(SIZE / 2));
         let text = &mut digits[..2 * piece.len()];
         put_digits(piece, upper, text);
         let written = count.min(text.len());

@@ -97,6 +97,16 @@ fn each_length_is_cut_at_each_limit(rt: HostRuntime) {
 }
 
 #[test]
+fn few_bytes_are_cut_at_each_limit(rt: HostRuntime) {
+    for len in [0, 1, 16, 63, 64, 65] {
+        for limit in [0, 1, 2, 31, 32, 126, 127, 128, 129, 130, 131] {
+            let is_cut = is_cut(rt.alloc(), len, limit).expect(&rt, "no memory");
+            assert!(rt; is_cut, "{len} bytes at {limit}");
+        }
+    }
+}
+
+#[test]
 fn the_writer_gets_each_piece_at_once_and_its_fault_is_answered(
     rt: HostRuntime,
 ) -> Result<(), Fail> {

@@ -1,11 +1,11 @@
 use Rattle.generic_array.specs.Rows.{chunk_rest}
-use Rattle.ga_rows.proofs.EndLemmas.{IsSomeAnd-there, ListedAnd-kept, ended_rest, ended_well, ended_whole, ended_words}
+use Rattle.ga_rows.proofs.EndLemmas.{IsSomeAnd-there, ListedAnd-kept, ListedEach-kept, ended_rest, ended_well, ended_whole, ended_words}
 use Rattle.ga_rows.proofs.program.run_listed.Goals as goal
 use Rattle.ga_rows.proofs.program.run_listed.Goals.{in-Ok+in-Ok-words_after_name, in-Ok+in-Err-words_after_name, in-Err}
 use Rattle.ga_rows.specs.Text.{text_of}
 use Rattle.ga_rows.specs.Words.{bytes_of, meaning_of_words}
-use Rattle.std.proofs.Common.{◌≡◌, ◌≢◌, ◌⊎◌, None, [], IfSome, IsSomeAnd, map, rules, string_bytes}
-use Rattle.ga_rows.specs.declared.ends.Status.TheVariants.{Rest, Whole}
+use Rattle.std.proofs.Common.{◌≡◌, ◌≢◌, ◌⊎◌, None, [], IfSome, IsSomeAnd, ap, inl, inr, map, rules, string_bytes, ◌∙◌}
+use Rattle.ga_rows.specs.declared.ends.Status.TheVariants.{Rest, Whole, Words}
 use Rattle.std.specs.Io.KnownBytes.{Appends}
 
 pub returns-clause-text : goal.returns-clause-text
@@ -47,5 +47,16 @@ returns-clause-words g c = λ code. elim c.match-listed.branch [
       ListedAnd-kept g.I.Iterator.next_gives (λ meant. meant ≡ None)
       c.args.listed w.in-Ok.words w.in-Ok-words_after_name.words.items w.in-Ok.is w.in-Ok-words_after_name.ensures.ok (search rules)
   | in-Ok+in-Err-words_after_name w ↦ search rules
+  | in-Err w ↦ search rules
+]
+
+pub returns-clause-meaningless : goal.returns-clause-meaningless
+returns-clause-meaningless g c = λ each. elim c.match-listed.branch [
+  | in-Ok+in-Ok-words_after_name w ↦
+      let nothing = ListedEach-kept g.I.Iterator.next_gives (λ meant. meant ≡ None)
+      c.args.listed w.in-Ok.words w.in-Ok-words_after_name.words.items w.in-Ok.is w.in-Ok-words_after_name.ensures.ok each in
+      let unknown : w.run.result ≡ Words = w.run.ensures.words.1 (ap (λ words. meaning_of_words (map string_bytes words)) w.as_slice.ensures.value ∙ nothing) in
+      inl (search rules)
+  | in-Ok+in-Err-words_after_name w ↦ inr (search rules)
   | in-Err w ↦ search rules
 ]

@@ -1,4 +1,4 @@
-use Rattle.ga_rows.proofs.input.read_all.Given as goal
+use Rattle.ga_rows.proofs.input.read_within.Given as goal
 use Rattle.std.specs.Io.KnownBytes.{Consumes}
 
 -- what the reader gave so far is what is kept

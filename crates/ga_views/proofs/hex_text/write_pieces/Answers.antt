@@ -1,5 +1,5 @@
 use Rattle.ga_views.proofs.HexLemmas.{hex_text-counted, length-hex_digits, take-hex_digits}
-use Rattle.ga_views.proofs.hex_text.write_hex.Goals as goal
+use Rattle.ga_views.proofs.hex_text.write_pieces.Goals as goal
 use Rattle.ga_views.specs.HexText.{hex_digits}
 use Rattle.std.proofs.Common.{◌≡◌, ◌-◌, ◌*◌, ◌++◌, [], MatchOption, ap, append_assoc, arith, length, length-append, length-take, min, rules, sym, take, ◌∙◌}
 use Rattle.std.proofs.KnownBytes.{Appends-nil, Appends-trans}
