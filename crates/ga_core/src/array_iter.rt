@@ -151,6 +151,7 @@ impl<T: Default + Drop, N: ArrayLength<T>> GenericArrayIter<T, N> {
     ///
     /// So all are consumed, and `None` is answered, where `n` is at or beyond their number. Takes time
     /// in proportion to the items dropped.
+    #[inline]
     pub fn nth(&mut self, n: usize) -> Option<T>
         ensures step { StepGives (front n) self.old result self.new }
     {
@@ -163,6 +164,7 @@ impl<T: Default + Drop, N: ArrayLength<T>> GenericArrayIter<T, N> {
     ///
     /// So all are consumed, and `None` is answered, where `n` is at or beyond their number. Takes time
     /// in proportion to the items dropped.
+    #[inline]
     pub fn nth_back(&mut self, n: usize) -> Option<T>
         ensures step { StepGives (back n) self.old result self.new }
     {
@@ -314,7 +316,11 @@ fn blank<T: Default + Drop>(places: &mut [T], front: usize, back: usize)
     ensures before { take front places.new ≡ take front places.old }
     ensures behind { front ≤ back → drop back places.new ≡ drop back places.old }
 {
-    for index in front..back {
-        places[index] = T::default();
+    if front < back {
+        let (before, _) = places.split_at_mut(back);
+        let (_, passed) = before.split_at_mut(front);
+        for place in passed.iter_mut() {
+            *place = T::default();
+        }
     }
 }
