@@ -151,38 +151,59 @@ impl<T: Default + Drop, N: ArrayLength<T>> GenericArrayIter<T, N> {
     ///
     /// So all are consumed, and `None` is answered, where `n` is at or beyond their number. Takes time
     /// in proportion to the items dropped.
+    #[inline]
     pub fn nth(&mut self, n: usize) -> Option<T>
         ensures step { StepGives (front n) self.old result self.new }
     {
-        let passed = n.min(self.len());
-        self.keep(passed, self.len() - passed);
-        self.next()
+        let len = self.len();
+        if n < len {
+            self.pass_front(n);
+            self.next()
+        } else {
+            self.pass_front(len);
+            None
+        }
     }
 
     /// Drops `n` items from the back, or as many as are left, and takes the last of those before.
     ///
     /// So all are consumed, and `None` is answered, where `n` is at or beyond their number. Takes time
     /// in proportion to the items dropped.
+    #[inline]
     pub fn nth_back(&mut self, n: usize) -> Option<T>
         ensures step { StepGives (back n) self.old result self.new }
     {
-        let passed = n.min(self.len());
-        self.keep(0, self.len() - passed);
-        self.next_back()
+        let len = self.len();
+        if n < len {
+            self.pass_back(n);
+            self.next_back()
+        } else {
+            self.pass_back(len);
+            None
+        }
     }
 
-    // Drops the items before the `passed`-th and those behind the next `kept`, in order.
+    // Drops the first `passed` items, in order.
     #[inline]
-    fn keep(&mut self, passed: usize, kept: usize)
-        requires in_bounds { passed + kept ≤ length self.old }
-        ensures { self.new ≡ take kept (drop passed self.old) }
+    fn pass_front(&mut self, passed: usize)
+        requires in_bounds { passed ≤ length self.old }
+        ensures { self.new ≡ drop passed self.old }
     {
         let front = self.front + passed;
-        let back = front + kept;
         let places = self.store.as_mut_slice();
         blank(places, self.front, front);
-        blank(places, back, self.back);
         self.front = front;
+    }
+
+    // Drops the last `passed` items, in order.
+    #[inline]
+    fn pass_back(&mut self, passed: usize)
+        requires in_bounds { passed ≤ length self.old }
+        ensures { self.new ≡ take (length self.old - passed) self.old }
+    {
+        let back = self.back - passed;
+        let places = self.store.as_mut_slice();
+        blank(places, back, self.back);
         self.back = back;
     }
 
@@ -318,7 +339,11 @@ fn blank<T: Default + Drop>(places: &mut [T], front: usize, back: usize)
     ensures before { take front places.new ≡ take front places.old }
     ensures behind { front ≤ back → drop back places.new ≡ drop back places.old }
 {
-    for index in front..back {
-        places[index] = T::default();
+    if front < back {
+        let (before, _) = places.split_at_mut(back);
+        let (_, passed) = before.split_at_mut(front);
+        for place in passed.iter_mut() {
+            *place = T::default();
+        }
     }
 }

@@ -1,12 +1,18 @@
 -- Items taken out of a list, and rows of it joined and cut.
-use Rattle.std.proofs.Common.{◌≡◌, ℕ, zero, suc, ◌+◌, ◌-◌, ◌*◌, ◌/◌, ◌<◌, ◌≤◌, List, [], ◌∷◌, ◌++◌, Some, take, drop, refl, ap, ◌∙◌, sym, arith, append_assoc, get_or, length, length-append, length-drop, length-take, map, slice_get, slice_index_or, slice_set}
+use Rattle.std.proofs.Common.{◌≡◌, ℕ, zero, suc, ◌+◌, ◌-◌, ◌*◌, ◌/◌, ◌<◌, List, [], ◌∷◌, ◌++◌, Some, take, drop, refl, ap, ◌∙◌, sym, arith, append_assoc, get_or, length, length-append, length-drop, length-take, map, slice_get, slice_index_or, slice_set}
 use Rattle.std.proofs.Math.Seq.{drop-append_seam, take-append_seam}
 use Rattle.generic_array.specs.Rows.{row_at, rows}
 use Rattle.std.proofs.Math.Nat.{suc-mul}
-use Rattle.std.proofs.lemmas.List.{drop-drop, drop_more}
+use Rattle.std.proofs.lemmas.List.{drop_more}
 use Rattle.std.proofs.lemmas.List.FromFn.{map-range_with_len_more}
 use Rattle.std.proofs.lemmas.Nat.{div-mul-add}
 use Rattle.std.specs.List.{flat_map, range_with_len, remove, swap_remove}
+
+-- how many items the rows have that are left after the first of them
+pub area-next : {R : Type 0} (row : R) (these left : List R) → these ≡ row ∷ left → (w at total : ℕ) → at + length these * w ≡ total → (at + w) + length left * w ≡ total
+area-next row these left first w at total same =
+    let more : length these * w ≡ length left * w + w = ap (λ all. length all * w) first ∙ suc-mul (length left) w in
+    omega arith
 
 module _ {T : Type 0} where
   -- the item at a place, and the list without it
@@ -81,34 +87,34 @@ module _ {T : Type 0} where
       behind ∙ (ap (λ l. l ++ left) (then ∙ ap (λ l. l ++ last ∷ []) (before ∙ ap (λ l. l ++ take n front) none)) ∙ (append_assoc (take n front) (last ∷ []) left
       ∙ (swap_remove-next n front left item last d here ∙ ap (λ l. swap_remove l n d) (sym whole))))
 
-  -- rows joined, where the first of those that are left was moved, and how many items they are
-  module _ {R : Type 0} (f : R → List T) (built grown whole : List T) (row : R) (these left : List R) (grows : grown ≡ built ++ f row) (first : these ≡ row ∷ left) where
-    pub flat_map-next : built ++ flat_map (λ r. r) (map f these) ≡ whole → grown ++ flat_map (λ r. r) (map f left) ≡ whole
-    flat_map-next same =
+  -- the places before those that were written, and these
+  pub taken-row : (at n : ℕ) (places front moved rest behind : List T) → front ≡ take at places → length front ≡ at → behind ≡ moved ++ rest → length moved ≡ n
+      → take (at + n) (front ++ behind) ≡ take at places ++ moved
+  taken-row at n places front moved rest behind same here over long =
+      ap (λ l. take (at + n) (front ++ l)) over
+      ∙ (ap (take (at + n)) (sym (append_assoc front moved rest))
+      ∙ (ap (λ k. take k ((front ++ moved) ++ rest)) (omega (arith, length-append front moved))
+      ∙ (take-append_seam (front ++ moved) rest ∙ ap (λ l. l ++ moved) same)))
+
+  -- what follows the first two of three parts
+  pub drop-parts : (n : ℕ) (front passed rest : List T) → n ≡ length front + length passed → drop n (front ++ (passed ++ rest)) ≡ rest
+  drop-parts n front passed rest long =
+      ap (drop n) (sym (append_assoc front passed rest))
+      ∙ (ap (λ k. drop k ((front ++ passed) ++ rest)) (omega (arith, length-append front passed)) ∙ drop-append_seam (front ++ passed) rest)
+
+  -- rows joined, where the first of those that are left was moved
+  module _ {R : Type 0} (row : R) (these left : List R) (first : these ≡ row ∷ left) where
+    pub flat_map-next : (f : R → List T) (built grown whole : List T) → grown ≡ built ++ f row → built ++ flat_map (λ r. r) (map f these) ≡ whole → grown ++ flat_map (λ r. r) (map f left) ≡ whole
+    flat_map-next f built grown whole grows same =
         ap (λ l. l ++ flat_map (λ r. r) (map f left)) grows
         ∙ (append_assoc built (f row) (flat_map (λ r. r) (map f left)) ∙ (ap (λ all. built ++ flat_map (λ r. r) (map f all)) (sym first) ∙ same))
 
-    pub area-next : (w total : ℕ) → length (f row) ≡ w → length built + length these * w ≡ total → length grown + length left * w ≡ total
-    area-next w total wide same =
-        let more : length these * w ≡ length left * w + w = ap (λ all. length all * w) first ∙ suc-mul (length left) w in
-        omega (arith, ap length grows, length-append built (f row), wide, same, more)
-
-  -- one row more, what follows it, and how many items that is
+  -- one row more
   pub rows-next : (w p : ℕ) (items row : List T) (before after : List (List T)) → before ≡ map (row_at w items) (range_with_len 0 p) → row ≡ take w (drop (p * w) items)
       → after ≡ before ++ row ∷ [] → after ≡ map (row_at w items) (range_with_len 0 (p + 1))
   rows-next w p items row before after made cut grows =
       grows ∙ (ap (λ all. all ++ row ∷ []) made ∙ (ap (λ r. map (row_at w items) (range_with_len 0 p) ++ r ∷ []) cut
       ∙ sym (map-range_with_len_more (row_at w items) 0 p p (omega arith))))
-
-  pub drop-next_row : (w p : ℕ) (items left after : List T) → left ≡ drop (p * w) items → after ≡ drop w left → after ≡ drop ((p + 1) * w) items
-  drop-next_row w p items left after here gone =
-      let more : p * w + w ≡ (p + 1) * w = sym (suc-mul p w) ∙ ap (λ n. n * w) (omega arith) in
-      gone ∙ (ap (drop w) here ∙ (drop-drop w (p * w) items ∙ ap (λ n. drop n items) more))
-
-  pub length-next_row : (w p total : ℕ) (left after : List T) → w ≤ length left → after ≡ drop w left → p * w + length left ≡ total → (p + 1) * w + length after ≡ total
-  length-next_row w p total left after there gone long =
-      let more : p * w + w ≡ (p + 1) * w = sym (suc-mul p w) ∙ ap (λ n. n * w) (omega arith) in
-      omega (arith, more, there, long, ap length gone, length-drop w left)
 
   -- where the items fill the rows, these are all
   pub rows-whole : (w r : ℕ) (items : List T) → 0 < w → length items ≡ r * w → map (row_at w items) (range_with_len 0 r) ≡ rows w items

@@ -14,8 +14,6 @@ mod inline;
 mod moves;
 mod views;
 
-use ga_core::{ArrayBuilder, ArrayLength};
-
 /// A sequence to which an item can be added.
 pub trait Lengthen<T, Longer>: Sized {
     ghost items: { Self → List T };
@@ -140,18 +138,20 @@ pub trait Remove<T, Output>: Sized {
     }
 }
 
-/// A row: a sequence whose items can be moved into an array that is being built.
+/// A row: a sequence whose items can be moved over the places of a slice.
 pub trait Row<T>: Sized {
     ghost items: { Self → List T };
 
     // How many items a row has.
     ghost WIDTH: { ℕ };
 
-    /// Moves the items behind those that are there.
-    fn push_into<M: ArrayLength<T>>(self, builder: &mut ArrayBuilder<T, M>)
-        requires room { length builder.old + WIDTH ≤ M.USIZE }
-        ensures moved { builder.new ≡ builder.old ++ items self }
-        ensures width { length (items self) ≡ WIDTH };
+    /// Moves the items over the first of the places, whose items are dropped. Answers how many they
+    /// are.
+    fn move_over(&mut self, places: &mut [T]) -> usize
+        requires room { WIDTH ≤ length places.old }
+        ensures moved { places.new ≡ items self.old ++ drop WIDTH places.old }
+        ensures count { result ≡ WIDTH }
+        ensures width { length (items self.old) ≡ WIDTH };
 }
 
 /// A sequence of rows whose items can be joined.

@@ -2,7 +2,7 @@
 ghost use Rattle.ga_core.specs.Length.{FitsInline};
 ghost use Rattle.std.specs.Prelude.{◌≡◌, ◌+◌, ◌*◌, ◌<◌, map};
 
-use crate::sequence::shapes::moves::{array_of, push_all, push_next};
+use crate::sequence::shapes::moves::array_of;
 use crate::sequence::shapes::{Concat, Flatten, Lengthen, Remove, Row, Shorten, Split, Unflatten};
 use ga_core::{ArrayBuilder, ArrayLength, GenericArray, move_items};
 use std::mem;
@@ -138,9 +138,11 @@ impl<T: Default + Drop, N: ArrayLength<T>> Row<T> for GenericArray<T, N> {
     ghost WIDTH = { N.USIZE };
 
     #[inline]
-    fn push_into<M: ArrayLength<T>>(self, builder: &mut ArrayBuilder<T, M>) {
+    fn move_over(&mut self, places: &mut [T]) -> usize {
         let _ = self.as_slice();
-        push_all(builder, self.into_iter());
+        let (first, _) = places.split_at_mut(N::USIZE);
+        move_items(self.as_mut_slice(), first);
+        N::USIZE
     }
 }
 
@@ -157,13 +159,16 @@ impl<T: Default + Drop, I: Row<T> + Default + Drop, R: ArrayLength<I>, M: ArrayL
     ghost IsArea = { (M.USIZE ≡ R.USIZE * I.WIDTH) × FitsInline M.USIZE };
 
     #[inline]
-    fn flatten(self) -> GenericArray<T, M> {
+    fn flatten(mut self) -> GenericArray<T, M> {
         let _ = self.as_slice();
-        let mut builder = ArrayBuilder::new();
-        for row in self {
-            row.push_into(&mut builder);
+        let mut array = GenericArray::default();
+        let places = array.as_mut_slice();
+        let mut at = 0;
+        for row in self.as_mut_slice().iter_mut() {
+            let (_, behind) = places.split_at_mut(at);
+            at += row.move_over(behind);
         }
-        builder.finish()
+        array
     }
 }
 
@@ -185,14 +190,16 @@ where
     ghost IsArea = { (N.USIZE ≡ R.USIZE * W.USIZE) × (0 < W.USIZE) };
 
     #[inline]
-    fn unflatten(self) -> GenericArray<GenericArray<T, W>, R> {
+    fn unflatten(mut self) -> GenericArray<GenericArray<T, W>, R> {
         let _ = self.as_slice();
-        let mut items = self.into_iter();
+        let items = self.as_mut_slice();
         let mut rows = ArrayBuilder::new();
+        let mut at = 0;
         for _place in 0..R::USIZE {
-            let mut row = ArrayBuilder::new();
-            push_next(&mut row, &mut items, W::USIZE);
-            rows.push(row.finish());
+            let (_, behind) = items.split_at_mut(at);
+            let (first, _) = behind.split_at_mut(W::USIZE);
+            rows.push(array_of(first));
+            at += W::USIZE;
         }
         rows.finish()
     }

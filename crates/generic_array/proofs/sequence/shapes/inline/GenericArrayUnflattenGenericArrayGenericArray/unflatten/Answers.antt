@@ -1,24 +1,37 @@
-use Rattle.generic_array.proofs.ShapeLemmas.{drop-next_row, length-next_row, rows-next, rows-whole}
+use Rattle.generic_array.proofs.ShapeLemmas.{drop-parts, rows-next, rows-whole}
 use Rattle.generic_array.proofs.sequence.shapes.inline.GenericArrayUnflattenGenericArrayGenericArray.unflatten.Goals as goal
-use Rattle.std.proofs.Common.{◌≡◌, ◌*◌, ◌∙◌, ◌++◌, [], ◌∷◌, ap, arith, drop, length, length-append, map, rules, take}
 use Rattle.generic_array.specs.Rows.{row_at}
+use Rattle.std.proofs.Common.{◌≡◌, ◌+◌, ◌*◌, ◌∙◌, ◌++◌, [], ◌∷◌, ap, arith, drop, length, length-append, map, rules, sym, take}
+use Rattle.std.proofs.Math.Nat.{suc-mul}
+use Rattle.std.proofs.lemmas.List.{drop-drop}
 use Rattle.std.specs.List.{range_with_len}
 
 pub loop-place-preserved : goal.loop-place-preserved
 loop-place-preserved g c =
     let w = g.W.Unsigned.USIZE in
     let place = c.loop-place._place in
-    let cut : c.finish.result ≡ take w (drop (place * w) c.args.self) = search rules in
+    let at = c.loop-place.at in
+    let row = c.array_of.result in
+    let behind = c.split_at_mut-behind.ensures.back ∙ c.loop-place.invariant.left in
+    let cut : row ≡ take w (drop (place * w) c.args.self) =
+    c.array_of.ensures ∙ (c.split_at_mut-first.ensures.front ∙ (ap (λ n. take n c.split_at_mut-behind.result.1.now) c.USIZE.ensures ∙ ap (take w) behind)) in
+    let more : place * w + c.USIZE.result ≡ (place + 1) * w =
+    ap (λ n. place * w + n) c.USIZE.ensures ∙ (sym (suc-mul place w) ∙ ap (λ n. n * w) (omega arith)) in
+    let rest = c.split_at_mut-first.result.1.now in
+    let gone : drop (at + c.USIZE-at.result) (c.split_at_mut-behind.result.0.now ++ (c.array_of.new.items ++ rest)) ≡ rest =
+    drop-parts (at + c.USIZE-at.result) c.split_at_mut-behind.result.0.now c.array_of.new.items rest
+    (omega (arith, c.split_at_mut-behind.ensures.front_len, c.split_at_mut-first.ensures.front_len, c.array_of.auto.items, c.USIZE.ensures, c.USIZE-at.ensures)) in
     record {
-      count = omega (arith, ap length {x = c.push.new.self} {y = c.loop-place.rows ++ c.finish.result ∷ []} c.push.ensures, length-append c.loop-place.rows (c.finish.result ∷ []), c.loop-place.invariant.count);
-      made = rows-next w place c.args.self c.finish.result c.loop-place.rows c.push.new.self c.loop-place.invariant.made cut c.push.ensures;
-      left = drop-next_row w place c.args.self c.loop-place.items c.push_next.new.items c.loop-place.invariant.left (search rules);
-      long = length-next_row w place (g.R.Unsigned.USIZE * w) c.loop-place.items c.push_next.new.items (search rules) (search rules) c.loop-place.invariant.long;
+      count = omega (arith, ap length {x = c.push.new.self} {y = c.loop-place.rows ++ row ∷ []} c.push.ensures, length-append c.loop-place.rows (row ∷ []), c.loop-place.invariant.count);
+      made = rows-next w place c.args.self row c.loop-place.rows c.push.new.self c.loop-place.invariant.made cut c.push.ensures;
+      at = omega (arith, more, c.loop-place.invariant.at, c.USIZE.ensures, c.USIZE-at.ensures);
+      left = gone ∙ (c.split_at_mut-first.ensures.back ∙ (ap (drop c.USIZE.result) behind ∙ (drop-drop c.USIZE.result (place * w) c.args.self ∙ ap (λ n. drop n c.args.self) more)));
+      long = omega (arith, more, ap length gone, c.split_at_mut-first.ensures.back_len, ap length c.split_at_mut-behind.ensures.back, c.loop-place.invariant.long);
     }
 
 pub returns : goal.returns
 returns g c =
     let w = g.W.Unsigned.USIZE in
     let all : c.loop-place._place ≡ g.R.Unsigned.USIZE = search rules in
-    let made : c.finish-2.result ≡ map (row_at w c.args.self) (range_with_len 0 c.loop-place._place) = search rules in
+    let made : c.finish.result ≡ map (row_at w c.args.self) (range_with_len 0 c.loop-place._place) = search rules in
     made ∙ (ap (λ n. map (row_at w c.args.self) (range_with_len 0 n)) all ∙ rows-whole w g.R.Unsigned.USIZE c.args.self (search rules) (search rules))

@@ -8,6 +8,7 @@ abbrev pub invariant-loop-place : goal.invariant-loop-place
 invariant-loop-place g l = record {
   count : length l.rows ≡ l._place;
   made : l.rows ≡ map (row_at g.W.Unsigned.USIZE l.fn.self) (range_with_len 0 l._place);
-  left : l.items ≡ drop (l._place * g.W.Unsigned.USIZE) l.fn.self;
-  long : l._place * g.W.Unsigned.USIZE + length l.items ≡ g.R.Unsigned.USIZE * g.W.Unsigned.USIZE;
+  at : l.at ≡ l._place * g.W.Unsigned.USIZE;
+  left : drop l.at l.items ≡ drop (l._place * g.W.Unsigned.USIZE) l.fn.self;
+  long : l._place * g.W.Unsigned.USIZE + length (drop l.at l.items) ≡ g.R.Unsigned.USIZE * g.W.Unsigned.USIZE;
 }
