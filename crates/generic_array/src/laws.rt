@@ -2,15 +2,16 @@
 //!
 //! Each function's contract is a law, and the crate calls none of them. A law of a closure's calls
 //! holds of each closure, whatever it answers; a law of the shapes says that what is done and undone
-//! is as it was.
+//! is as it was, and by what `see` answers, what stood in between.
 ghost use Rattle.ga_core.specs.Length.{FitsInline};
 ghost use Rattle.ga_core.specs.Runs.{ClosureRun};
 ghost use Rattle.generic_array.specs.Entries.{CallAt, MayCallAt};
 ghost use Rattle.generic_array.specs.EntryRuns.{CallableOver};
 ghost use Rattle.generic_array.specs.Laws.{ErrorRunsJoin, FoldsJoin, GoodRunsJoin, HaveWidth, RunsJoin};
 ghost use Rattle.generic_array.specs.Rows.{rows};
+ghost use Rattle.std.specs.Fn.{FnOnceReturnsAt, FnOnceReturnsAtPair};
 ghost use Rattle.std.specs.List.{flat_map};
-ghost use Rattle.std.specs.Prelude.{◌≡◌, ℕ, ◌+◌, ◌*◌, ◌<◌, List, ◌++◌, length};
+ghost use Rattle.std.specs.Prelude.{◌≡◌, ℕ, ◌+◌, ◌*◌, ◌<◌, [], ◌∷◌, List, ◌++◌, drop, length, take};
 
 use crate::functional::FunctionalSequence;
 use crate::sequence::{Concat, Lengthen, Shorten, Split};
@@ -33,54 +34,82 @@ fn folds_join<A, X, F: FnMut(A, X) -> A>(_f: &F)
 {}
 
 /// An item appended and popped.
-pub(crate) fn append_then_pop_back<T: Default + Drop, N: ArrayLength<T>, M: ArrayLength<T>>(
-    array: GenericArray<T, N>,
-    item: T,
-) -> (GenericArray<T, N>, T)
+pub(crate) fn append_then_pop_back<
+    T: Default + Drop,
+    N: ArrayLength<T>,
+    M: ArrayLength<T>,
+    R,
+    S: FnOnce(&[T]) -> R,
+>(array: GenericArray<T, N>, item: T, see: S) -> (GenericArray<T, N>, T, R)
     requires one_longer { (M.USIZE ≡ N.USIZE + 1) × FitsInline M.USIZE }
+    requires callable { S.IsAlwaysCallable see }
     ensures array { result.0 ≡ array }
     ensures item { result.1 ≡ item }
+    ensures between { FnOnceReturnsAt S.FnOnce see (array ++ item ∷ []) result.2 }
 {
     let longer: GenericArray<T, M> = array.append(item);
-    longer.pop_back()
+    let seen = see(longer.as_slice());
+    let (array, item) = longer.pop_back();
+    (array, item, seen)
 }
 
 /// The last item popped and appended.
-pub(crate) fn pop_back_then_append<T: Default + Drop, N: ArrayLength<T>, M: ArrayLength<T>>(
-    array: GenericArray<T, N>,
-) -> GenericArray<T, N>
+pub(crate) fn pop_back_then_append<
+    T: Default + Drop,
+    N: ArrayLength<T>,
+    M: ArrayLength<T>,
+    R,
+    S: FnOnce(&[T]) -> R,
+>(array: GenericArray<T, N>, see: S) -> (GenericArray<T, N>, R)
     requires one_shorter { N.USIZE ≡ M.USIZE + 1 }
-    ensures { result ≡ array }
+    requires callable { S.IsAlwaysCallable see }
+    ensures array { result.0 ≡ array }
+    ensures between { FnOnceReturnsAt S.FnOnce see (take M.USIZE array) result.1 }
 {
-    // The slice knows that the length fits.
+    // The slices know the lengths.
     let _ = array.as_slice();
     let (others, last): (GenericArray<T, M>, T) = array.pop_back();
-    others.append(last)
+    let seen = see(others.as_slice());
+    (others.append(last), seen)
 }
 
 /// An item prepended and popped.
-pub(crate) fn prepend_then_pop_front<T: Default + Drop, N: ArrayLength<T>, M: ArrayLength<T>>(
-    array: GenericArray<T, N>,
-    item: T,
-) -> (T, GenericArray<T, N>)
+pub(crate) fn prepend_then_pop_front<
+    T: Default + Drop,
+    N: ArrayLength<T>,
+    M: ArrayLength<T>,
+    R,
+    S: FnOnce(&[T]) -> R,
+>(array: GenericArray<T, N>, item: T, see: S) -> (T, GenericArray<T, N>, R)
     requires one_longer { (M.USIZE ≡ N.USIZE + 1) × FitsInline M.USIZE }
+    requires callable { S.IsAlwaysCallable see }
     ensures item { result.0 ≡ item }
     ensures array { result.1 ≡ array }
+    ensures between { FnOnceReturnsAt S.FnOnce see (item ∷ array) result.2 }
 {
     let longer: GenericArray<T, M> = array.prepend(item);
-    longer.pop_front()
+    let seen = see(longer.as_slice());
+    let (item, array) = longer.pop_front();
+    (item, array, seen)
 }
 
 /// The first item popped and prepended.
-pub(crate) fn pop_front_then_prepend<T: Default + Drop, N: ArrayLength<T>, M: ArrayLength<T>>(
-    array: GenericArray<T, N>,
-) -> GenericArray<T, N>
+pub(crate) fn pop_front_then_prepend<
+    T: Default + Drop,
+    N: ArrayLength<T>,
+    M: ArrayLength<T>,
+    R,
+    S: FnOnce(&[T]) -> R,
+>(array: GenericArray<T, N>, see: S) -> (GenericArray<T, N>, R)
     requires one_shorter { N.USIZE ≡ M.USIZE + 1 }
-    ensures { result ≡ array }
+    requires callable { S.IsAlwaysCallable see }
+    ensures array { result.0 ≡ array }
+    ensures between { FnOnceReturnsAt S.FnOnce see (drop 1 array) result.1 }
 {
     let _ = array.as_slice();
     let (first, others): (T, GenericArray<T, M>) = array.pop_front();
-    others.prepend(first)
+    let seen = see(others.as_slice());
+    (others.prepend(first), seen)
 }
 
 /// An array cut in two and joined.
@@ -89,13 +118,18 @@ pub(crate) fn split_then_concat<
     N: ArrayLength<T>,
     K: ArrayLength<T>,
     M: ArrayLength<T>,
->(array: GenericArray<T, N>) -> GenericArray<T, N>
+    R,
+    S: FnOnce(&[T], &[T]) -> R,
+>(array: GenericArray<T, N>, see: S) -> (GenericArray<T, N>, R)
     requires sum { N.USIZE ≡ K.USIZE + M.USIZE }
-    ensures { result ≡ array }
+    requires callable { S.IsAlwaysCallable see }
+    ensures array { result.0 ≡ array }
+    ensures between { FnOnceReturnsAtPair S.FnOnce see (take K.USIZE array) (drop K.USIZE array) result.1 }
 {
     let _ = array.as_slice();
     let (first, second): (GenericArray<T, K>, GenericArray<T, M>) = array.split();
-    first.concat(second)
+    let seen = see(first.as_slice(), second.as_slice());
+    (first.concat(second), seen)
 }
 
 /// Two arrays joined and cut where they were joined.
@@ -104,15 +138,25 @@ pub(crate) fn concat_then_split<
     N: ArrayLength<T>,
     K: ArrayLength<T>,
     M: ArrayLength<T>,
->(first: GenericArray<T, K>, second: GenericArray<T, M>) -> (GenericArray<T, K>, GenericArray<T, M>)
+    R,
+    S: FnOnce(&[T]) -> R,
+>(
+    first: GenericArray<T, K>,
+    second: GenericArray<T, M>,
+    see: S,
+) -> (GenericArray<T, K>, GenericArray<T, M>, R)
     requires sum { (N.USIZE ≡ K.USIZE + M.USIZE) × FitsInline N.USIZE }
+    requires callable { S.IsAlwaysCallable see }
     ensures first { result.0 ≡ first }
     ensures second { result.1 ≡ second }
+    ensures between { FnOnceReturnsAt S.FnOnce see (first ++ second) result.2 }
 {
     // The slice knows how many items the first has.
     let _ = first.as_slice();
     let joined: GenericArray<T, N> = first.concat(second);
-    joined.split()
+    let seen = see(joined.as_slice());
+    let (first, second) = joined.split();
+    (first, second, seen)
 }
 
 /// Rows of one width, joined and cut again, are themselves; so are items that fill the rows, cut and

@@ -1,9 +1,10 @@
 //! `arr!` and `box_arr!`, for arrays whose items are written out.
 
 /// An inline array: `arr![a, b, c]` of these items, with commas at the end allowed, or `arr![x; U6]`
-/// of as many copies of `x`, which is `Copy`, as the length says.
+/// of as many copies of `x`, which is `Copy` and is evaluated once, as the length says.
 ///
-/// The counterpart of `arr!`, which also takes a number after the semicolon, and constants.
+/// The length fits, which is a condition. The counterpart of `arr!`, which also takes a number after
+/// the semicolon, and constants.
 #[macro_export]
 macro_rules! arr {
     ($item:expr; $N:ty) => {
@@ -18,10 +19,10 @@ macro_rules! arr {
 }
 
 /// A boxed array, or `AllocError`: `box_arr!(alloc, [a, b, c])` of these items, with commas at the end
-/// allowed, or `box_arr!(alloc, [x; U6])` of copies of `x`, which is `Copy`.
+/// allowed, or `box_arr!(alloc, [x; U6])` of copies of `x`, which is `Copy` and is evaluated once.
 ///
-/// Each item is written to its place in the block; the second form never has the array on the
-/// stack. The counterpart of `box_arr!`.
+/// The first form has the items on the stack, and moves them to the block in one piece; the second
+/// writes them in the block. The counterpart of `box_arr!`.
 #[macro_export]
 macro_rules! box_arr {
     ($alloc:expr, [$item:expr; $N:ty]) => {

@@ -1,7 +1,9 @@
 //! The boxed array as a sequence.
 ghost use Rattle.std.specs.Prelude.{◌≡◌, ⊤};
 
-use crate::sequence::{FallibleGenericSequence, FromFallibleIterator, GenericSequence, OwnedSequence};
+use crate::sequence::{
+    FallibleGenericSequence, FromFallibleIterator, GenericSequence, OwnedSequence,
+};
 use ga_boxed::BoxedArray;
 use ga_core::{AllocError, FillError, GenericArrayRef, Unsigned};
 use std::alloc::Global;

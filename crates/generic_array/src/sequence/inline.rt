@@ -3,7 +3,9 @@ ghost use Rattle.ga_boxed.specs.FillAnswer.{fill_answer};
 ghost use Rattle.ga_core.specs.Length.{FitsInline};
 ghost use Rattle.std.specs.Prelude.{◌≡◌, Ok, ⊤};
 
-use crate::sequence::{FallibleGenericSequence, FromFallibleIterator, GenericSequence, OwnedSequence};
+use crate::sequence::{
+    FallibleGenericSequence, FromFallibleIterator, GenericSequence, OwnedSequence,
+};
 use ga_core::{
     AllocError, ArrayLength, FillError, GenericArray, GenericArrayRef, LengthError, Never,
 };

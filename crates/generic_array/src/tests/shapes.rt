@@ -97,17 +97,26 @@ fn there_may_be_no_rows_or_rows_without_items(rt: HostRuntime) {
     assert!(rt; none.as_slice().is_empty());
 }
 
+/// What a law sees between: the sum of the items.
+fn sum_of(items: &[u32]) -> u32 {
+    items.iter().fold(0, |sum, item| sum.wrapping_add(*item))
+}
+
 #[test]
 fn what_is_done_and_undone_is_as_it_was(rt: HostRuntime) {
     let four = [1, 2, 3, 4].as_slice();
-    let (array, item) = append_then_pop_back::<u32, U4, U5>(from_one(), 9);
-    assert!(rt; item == 9 && array.as_slice() == four);
-    let (item, array) = prepend_then_pop_front::<u32, U4, U5>(array, 8);
-    assert!(rt; item == 8 && array.as_slice() == four);
-    let array = pop_back_then_append::<u32, U4, U3>(array);
-    let array = pop_front_then_prepend::<u32, U4, U3>(array);
-    let array = split_then_concat::<u32, U4, U2, U2>(array);
-    assert!(rt; array.as_slice() == four);
-    let (none, array) = concat_then_split::<u32, U4, U0, U4>(from_one(), array);
-    assert!(rt; none.as_slice().is_empty() && array.as_slice() == four);
+    let (array, item, sum) = append_then_pop_back::<u32, U4, U5, _, _>(from_one(), 9, sum_of);
+    assert!(rt; item == 9 && sum == 19 && array.as_slice() == four);
+    let (item, array, sum) = prepend_then_pop_front::<u32, U4, U5, _, _>(array, 8, sum_of);
+    assert!(rt; item == 8 && sum == 18 && array.as_slice() == four);
+    let (array, sum) = pop_back_then_append::<u32, U4, U3, _, _>(array, sum_of);
+    assert!(rt; sum == 6);
+    let (array, sum) = pop_front_then_prepend::<u32, U4, U3, _, _>(array, sum_of);
+    assert!(rt; sum == 9);
+    let (array, sums) = split_then_concat::<u32, U4, U2, U2, _, _>(array, |first, second| {
+        (sum_of(first), sum_of(second))
+    });
+    assert!(rt; sums == (3, 7) && array.as_slice() == four);
+    let (none, array, sum) = concat_then_split::<u32, U4, U0, U4, _, _>(from_one(), array, sum_of);
+    assert!(rt; none.as_slice().is_empty() && sum == 10 && array.as_slice() == four);
 }

@@ -6,9 +6,9 @@ ghost use Rattle.generic_array.specs.Entries.{ActsOnEntry, CallAt, MayCallAt};
 ghost use Rattle.generic_array.specs.EntryRuns.{CallableOver};
 ghost use Rattle.std.specs.Int.Bits.{bit_xor};
 ghost use Rattle.std.specs.List.{range_with_len, zip};
-ghost use Rattle.std.specs.Prelude.{◌≡◌, ℕ, ◌+◌, ◌-◌, ◌*◌, ◌%◌, ◌^◌, ◌++◌, ◌≤◌, IfOk, fold, length, map, replicate, reverse};
+ghost use Rattle.std.specs.Prelude.{◌≡◌, ℕ, ◌+◌, ◌-◌, ◌*◌, ◌%◌, ◌^◌, ◌++◌, ◌<◌, ◌≤◌, IfOk, fold, length, map, replicate, reverse, sum};
 
-use crate::checks::map_total_by;
+use crate::checks::{map_total_by, total_by};
 use crate::functional::{
     FunctionalSequence, MappedError, MappedGenericSequence, MappedPlace, MappedSequence,
 };
@@ -153,6 +153,15 @@ fn value_from_lowest<N: Unsigned>(coefficients: BoxedArray<u32, N>, x: u32) -> u
     )
 }
 
+// The sum, where it fits its type. Its condition is one line of proof.
+
+fn sum_of<N: ArrayLength<u32>>(view: GenericArrayRef<'_, u32, N>) -> u32
+    requires fits { sum view.slice.now < 2 ^ 32 }
+    ensures { result ≡ sum view.entry.slice.now }
+{
+    total_by(view, 0, &mut |total: u32, item: &u32| total + *item)
+}
+
 // Counting up.
 
 fn counted_up<N: ArrayLength<usize>>(first: usize) -> GenericArray<usize, N>
@@ -239,6 +248,7 @@ fn numbers_are_right(alloc: Global) -> Result<bool, AllocError> {
             && dot(left(), right.view()) == 32
             && value_from_highest(left(), 10) == 123
             && value_from_lowest(scaled, 10) == 3531
+            && sum_of(right.view()) == 15
             && has(counted_up::<U3>(5), &[5, 6, 7])
             && has(counted_up_boxed::<U3>(alloc, 7)?, &[7, 8, 9]),
     )

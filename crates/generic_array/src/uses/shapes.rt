@@ -4,7 +4,7 @@ ghost use Rattle.std.specs.Prelude.{◌≡◌, ◌+◌, ◌*◌, ◌%◌, ◌^�
 
 use crate::functional::FunctionalSequence;
 use crate::sequence::{Concat, Flatten, Lengthen, Remove, Shorten, Split, Unflatten, iter_flat};
-use crate::uses::{four_five_six, one_two_three};
+use crate::uses::kinds::{four_five_six, one_two_three};
 use crate::{
     GenericArray, GenericArrayMut, GenericArrayRef, LengthError, U0, U1, U2, U3, U4, U5, always,
 };

@@ -1,5 +1,5 @@
 use Rattle.ga_core.proofs.ActsLemmas.{sum_is_callable}
-use Rattle.generic_array.proofs.uses.sum_of.Goals as goal
+use Rattle.generic_array.proofs.uses.any_length.sum_of.Goals as goal
 use Rattle.std.proofs.Common.{rules}
 
 pub total_by-requires : goal.total_by-requires
