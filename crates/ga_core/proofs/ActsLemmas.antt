@@ -29,7 +29,7 @@ module _ {F X Y E : Type 0} (step : F → X → Result Y E → F → Type 0) (f 
       ap (result_and_then (λ zs. Ok (y ∷ zs))) others ∙ ap (result_and_then (λ z. result_and_then (λ zs. Ok (z ∷ zs)) (try_map h xs))) call.1
   answers_until_error (x ∷ xs) (Err error) last run =
       elim run [
-        inl failed ↦ ap (result_and_then (λ z. result_and_then (λ zs. Ok (z ∷ zs)) (try_map h xs))) (acts x (Err error) last failed).1
+        | inl failed ↦ ap (result_and_then (λ z. result_and_then (λ zs. Ok (z ∷ zs)) (try_map h xs))) (acts x (Err error) last failed).1
         | inr good ↦
             let call = acts x (Ok good.0) good.1 good.2 in
             let others = answers_until_error xs (Err error) last (subst (λ k. FirstErrorRun step k xs (Err error) last) call.0 good.3) in

@@ -1,4 +1,4 @@
-use Rattle.ga_core.proofs.array.uses.all_set.Given as goal
+use Rattle.ga_core.proofs.array.uses.places.all_set.Given as goal
 use Rattle.std.proofs.Common.{◌≡◌, ℕ, ◌<◌, get_or}
 
 -- the places so far hold 7
