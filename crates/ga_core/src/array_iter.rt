@@ -1,12 +1,13 @@
 //! The iterator that moves the items out of an array, from both ends.
-ghost use Rattle.ga_core.specs.Cut.{StepGives, back, front};
-ghost use Rattle.ga_core.specs.Runs.{CallableInFold, FoldRun};
 ghost use Rattle.ga_views.specs.Length.{FitsInline};
 ghost use Rattle.std.specs.Borrow.{sem};
 ghost use Rattle.std.specs.Iterator.{ActsAsOnTwo, YieldsFirst, YieldsLast, item_count};
 ghost use Rattle.std.specs.List.{All, AllZip};
 ghost use Rattle.std.specs.Prelude.{◌≡◌, ◌+◌, ◌-◌, ◌≤◌, IfOk, IsOk, drop, fold, length, reverse, slice_get, slice_range, take};
 
+mod copies;
+mod folds;
+mod steps;
 #[cfg(test)]
 mod tests;
 #[cfg(test)]
@@ -145,167 +146,6 @@ impl<T: Default + Drop, N: ArrayLength<T>> GenericArrayIter<T, N> {
         self.back -= self.front;
         self.front = 0;
         self.store.as_mut_slice()
-    }
-
-    /// Drops `n` items from the front, or as many as are left, and takes the next.
-    ///
-    /// So all are consumed, and `None` is answered, where `n` is at or beyond their number. Takes time
-    /// in proportion to the items dropped.
-    #[inline]
-    pub fn nth(&mut self, n: usize) -> Option<T>
-        ensures step { StepGives (front n) self.old result self.new }
-    {
-        let len = self.len();
-        if n < len {
-            self.pass_front(n);
-            self.next()
-        } else {
-            self.pass_front(len);
-            None
-        }
-    }
-
-    /// Drops `n` items from the back, or as many as are left, and takes the last of those before.
-    ///
-    /// So all are consumed, and `None` is answered, where `n` is at or beyond their number. Takes time
-    /// in proportion to the items dropped.
-    #[inline]
-    pub fn nth_back(&mut self, n: usize) -> Option<T>
-        ensures step { StepGives (back n) self.old result self.new }
-    {
-        let len = self.len();
-        if n < len {
-            self.pass_back(n);
-            self.next_back()
-        } else {
-            self.pass_back(len);
-            None
-        }
-    }
-
-    // Drops the first `passed` items, in order.
-    #[inline]
-    fn pass_front(&mut self, passed: usize)
-        requires in_bounds { passed ≤ length self.old }
-        ensures { self.new ≡ drop passed self.old }
-    {
-        let front = self.front + passed;
-        let places = self.store.as_mut_slice();
-        blank(places, self.front, front);
-        self.front = front;
-    }
-
-    // Drops the last `passed` items, in order.
-    #[inline]
-    fn pass_back(&mut self, passed: usize)
-        requires in_bounds { passed ≤ length self.old }
-        ensures { self.new ≡ take (length self.old - passed) self.old }
-    {
-        let back = self.back - passed;
-        let places = self.store.as_mut_slice();
-        blank(places, back, self.back);
-        self.back = back;
-    }
-
-    /// The last item that is left. The others are dropped; nothing else takes time.
-    pub fn last(self) -> Option<T>
-        ensures { result ≡ slice_get self (length self - 1) }
-    {
-        let mut items = self;
-        items.next_back()
-    }
-
-    /// The number of items that are left, which are dropped; nothing else takes time.
-    pub fn count(self) -> usize
-        ensures { result ≡ length self }
-    {
-        let items = self;
-        items.len()
-    }
-
-    /// Calls `f` with what it answered last, at first `init`, and each item that is left, from the
-    /// front, and gives its last answer. One pass.
-    pub fn fold<A, F: FnMut(A, T) -> A>(self, init: A, f: F) -> A
-        requires callable { CallableInFold F.pre F.step f init self }
-        ensures run { (last : F) × FoldRun F.step f init self result last }
-        ensures acts { (h : A → T → A) → ActsAsOnTwo F.FnMut f h → result ≡ fold h init self }
-    {
-        let mut f = f;
-        self.fold_by(init, &mut f)
-    }
-
-    /// `fold` with a closure that is lent, and can be used again in the state that it reached. One
-    /// pass.
-    pub fn fold_by<A, F: FnMut(A, T) -> A>(self, init: A, f: &mut F) -> A
-        requires callable { CallableInFold F.pre F.step f.old init self }
-        ensures run { FoldRun F.step f.old init self result f.new }
-        ensures acts { (h : A → T → A) → ActsAsOnTwo F.FnMut f.old h → result ≡ fold h init self }
-    {
-        let mut items = self;
-        let mut answer = init;
-        let (front, back) = (items.front, items.back);
-        let places = items.store.as_mut_slice();
-        for place in places[front..back].iter_mut() {
-            answer = f(answer, mem::take(place));
-        }
-        answer
-    }
-
-    /// `fold` from the back. One pass.
-    pub fn rfold<A, F: FnMut(A, T) -> A>(self, init: A, f: F) -> A
-        requires callable { CallableInFold F.pre F.step f init (reverse self) }
-        ensures run { (last : F) × FoldRun F.step f init (reverse self) result last }
-        ensures acts { (h : A → T → A) → ActsAsOnTwo F.FnMut f h → result ≡ fold h init (reverse self) }
-    {
-        let mut f = f;
-        self.rfold_by(init, &mut f)
-    }
-
-    /// `rfold` with a closure that is lent, and can be used again in the state that it reached. One
-    /// pass.
-    pub fn rfold_by<A, F: FnMut(A, T) -> A>(self, init: A, f: &mut F) -> A
-        requires callable { CallableInFold F.pre F.step f.old init (reverse self) }
-        ensures run { FoldRun F.step f.old init (reverse self) result f.new }
-        ensures acts { (h : A → T → A) → ActsAsOnTwo F.FnMut f.old h → result ≡ fold h init (reverse self) }
-    {
-        let mut items = self;
-        let mut answer = init;
-        let (front, back) = (items.front, items.back);
-        let places = items.store.as_mut_slice();
-        for index in (front..back).rev() {
-            answer = f(answer, mem::take(&mut places[index]));
-        }
-        answer
-    }
-}
-
-impl<T: Clone, N: ArrayLength<T>> GenericArrayIter<T, N> {
-    /// An iterator over clones of the items that are left, made in order.
-    ///
-    /// Refused at the first clone that is, so never where no item is left; the clones made are then
-    /// dropped.
-    pub fn clone(&self) -> Result<Self, AllocError>
-        ensures items { IfOk result (λ copy. AllZip T.is_clone self.now copy) }
-        ensures succeeds { All T.is_infallible self.now → IsOk result }
-    {
-        let items = self.as_slice();
-        match store_of_clones::<T, N::ArrayType>(items) {
-            Ok(store) => Ok(GenericArrayIter::of_store(store, items.len())),
-            Err(_) => Err(AllocError),
-        }
-    }
-}
-
-impl<T: Clone, N: ArrayLength<T>> Clone for GenericArrayIter<T, N> {
-    ghost is_clone = { λ items copy. AllZip T.is_clone items copy };
-
-    ghost is_infallible = { λ items. All T.is_infallible items };
-
-    fn clone(&self) -> Result<Self, alloc::AllocError> {
-        match GenericArrayIter::clone(self) {
-            Ok(copy) => Ok(copy),
-            Err(_) => Err(alloc::AllocError),
-        }
     }
 }
 

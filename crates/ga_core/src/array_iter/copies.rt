@@ -1,0 +1,39 @@
+//! Clones of an iterator: of the items that are left.
+ghost use Rattle.std.specs.List.{All, AllZip};
+ghost use Rattle.std.specs.Prelude.{IfOk, IsOk};
+
+use crate::alloc_error::AllocError;
+use crate::array_iter::GenericArrayIter;
+use crate::length::ArrayLength;
+use crate::store::store_of_clones;
+use std::alloc;
+
+impl<T: Clone, N: ArrayLength<T>> GenericArrayIter<T, N> {
+    /// An iterator over clones of the items that are left, made in order.
+    ///
+    /// Refused at the first clone that is, so never where no item is left; the clones made are then
+    /// dropped.
+    pub fn clone(&self) -> Result<Self, AllocError>
+        ensures items { IfOk result (λ copy. AllZip T.is_clone self.now copy) }
+        ensures succeeds { All T.is_infallible self.now → IsOk result }
+    {
+        let items = self.as_slice();
+        match store_of_clones::<T, N::ArrayType>(items) {
+            Ok(store) => Ok(GenericArrayIter::of_store(store, items.len())),
+            Err(_) => Err(AllocError),
+        }
+    }
+}
+
+impl<T: Clone, N: ArrayLength<T>> Clone for GenericArrayIter<T, N> {
+    ghost is_clone = { λ items copy. AllZip T.is_clone items copy };
+
+    ghost is_infallible = { λ items. All T.is_infallible items };
+
+    fn clone(&self) -> Result<Self, alloc::AllocError> {
+        match GenericArrayIter::clone(self) {
+            Ok(copy) => Ok(copy),
+            Err(_) => Err(alloc::AllocError),
+        }
+    }
+}

@@ -1,0 +1,66 @@
+//! Folds over the items that are left, from either end.
+ghost use Rattle.ga_core.specs.Runs.{CallableInFold, FoldRun};
+ghost use Rattle.std.specs.Iterator.{ActsAsOnTwo};
+ghost use Rattle.std.specs.Prelude.{◌≡◌, fold, reverse};
+
+use crate::array_iter::GenericArrayIter;
+use crate::length::ArrayLength;
+use crate::store::Store;
+use std::mem;
+
+impl<T: Default + Drop, N: ArrayLength<T>> GenericArrayIter<T, N> {
+    /// Calls `f` with what it answered last, at first `init`, and each item that is left, from the
+    /// front, and gives its last answer. One pass.
+    pub fn fold<A, F: FnMut(A, T) -> A>(self, init: A, f: F) -> A
+        requires callable { CallableInFold F.pre F.step f init self }
+        ensures run { (last : F) × FoldRun F.step f init self result last }
+        ensures acts { (h : A → T → A) → ActsAsOnTwo F.FnMut f h → result ≡ fold h init self }
+    {
+        let mut f = f;
+        self.fold_by(init, &mut f)
+    }
+
+    /// `fold` with a closure that is lent, and can be used again in the state that it reached. One
+    /// pass.
+    pub fn fold_by<A, F: FnMut(A, T) -> A>(self, init: A, f: &mut F) -> A
+        requires callable { CallableInFold F.pre F.step f.old init self }
+        ensures run { FoldRun F.step f.old init self result f.new }
+        ensures acts { (h : A → T → A) → ActsAsOnTwo F.FnMut f.old h → result ≡ fold h init self }
+    {
+        let mut items = self;
+        let mut answer = init;
+        let (front, back) = (items.front, items.back);
+        let places = items.store.as_mut_slice();
+        for place in places[front..back].iter_mut() {
+            answer = f(answer, mem::take(place));
+        }
+        answer
+    }
+
+    /// `fold` from the back. One pass.
+    pub fn rfold<A, F: FnMut(A, T) -> A>(self, init: A, f: F) -> A
+        requires callable { CallableInFold F.pre F.step f init (reverse self) }
+        ensures run { (last : F) × FoldRun F.step f init (reverse self) result last }
+        ensures acts { (h : A → T → A) → ActsAsOnTwo F.FnMut f h → result ≡ fold h init (reverse self) }
+    {
+        let mut f = f;
+        self.rfold_by(init, &mut f)
+    }
+
+    /// `rfold` with a closure that is lent, and can be used again in the state that it reached. One
+    /// pass.
+    pub fn rfold_by<A, F: FnMut(A, T) -> A>(self, init: A, f: &mut F) -> A
+        requires callable { CallableInFold F.pre F.step f.old init (reverse self) }
+        ensures run { FoldRun F.step f.old init (reverse self) result f.new }
+        ensures acts { (h : A → T → A) → ActsAsOnTwo F.FnMut f.old h → result ≡ fold h init (reverse self) }
+    {
+        let mut items = self;
+        let mut answer = init;
+        let (front, back) = (items.front, items.back);
+        let places = items.store.as_mut_slice();
+        for index in (front..back).rev() {
+            answer = f(answer, mem::take(&mut places[index]));
+        }
+        answer
+    }
+}

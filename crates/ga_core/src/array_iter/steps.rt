@@ -1,0 +1,85 @@
+//! Steps over several items, and the last item and the number of those that are left.
+ghost use Rattle.ga_core.specs.Cut.{StepGives, back, front};
+ghost use Rattle.std.specs.Prelude.{◌≡◌, ◌-◌, ◌≤◌, drop, length, slice_get, take};
+
+use crate::array_iter::{GenericArrayIter, blank};
+use crate::length::ArrayLength;
+use crate::store::Store;
+
+impl<T: Default + Drop, N: ArrayLength<T>> GenericArrayIter<T, N> {
+    /// Drops `n` items from the front, or as many as are left, and takes the next.
+    ///
+    /// So all are consumed, and `None` is answered, where `n` is at or beyond their number. Takes time
+    /// in proportion to the items dropped.
+    #[inline]
+    pub fn nth(&mut self, n: usize) -> Option<T>
+        ensures step { StepGives (front n) self.old result self.new }
+    {
+        let len = self.len();
+        if n < len {
+            self.pass_front(n);
+            self.next()
+        } else {
+            self.pass_front(len);
+            None
+        }
+    }
+
+    /// Drops `n` items from the back, or as many as are left, and takes the last of those before.
+    ///
+    /// So all are consumed, and `None` is answered, where `n` is at or beyond their number. Takes time
+    /// in proportion to the items dropped.
+    #[inline]
+    pub fn nth_back(&mut self, n: usize) -> Option<T>
+        ensures step { StepGives (back n) self.old result self.new }
+    {
+        let len = self.len();
+        if n < len {
+            self.pass_back(n);
+            self.next_back()
+        } else {
+            self.pass_back(len);
+            None
+        }
+    }
+
+    // Drops the first `passed` items, in order.
+    #[inline]
+    fn pass_front(&mut self, passed: usize)
+        requires in_bounds { passed ≤ length self.old }
+        ensures { self.new ≡ drop passed self.old }
+    {
+        let front = self.front + passed;
+        let places = self.store.as_mut_slice();
+        blank(places, self.front, front);
+        self.front = front;
+    }
+
+    // Drops the last `passed` items, in order.
+    #[inline]
+    fn pass_back(&mut self, passed: usize)
+        requires in_bounds { passed ≤ length self.old }
+        ensures { self.new ≡ take (length self.old - passed) self.old }
+    {
+        let back = self.back - passed;
+        let places = self.store.as_mut_slice();
+        blank(places, back, self.back);
+        self.back = back;
+    }
+
+    /// The last item that is left. The others are dropped; nothing else takes time.
+    pub fn last(self) -> Option<T>
+        ensures { result ≡ slice_get self (length self - 1) }
+    {
+        let mut items = self;
+        items.next_back()
+    }
+
+    /// The number of items that are left, which are dropped; nothing else takes time.
+    pub fn count(self) -> usize
+        ensures { result ≡ length self }
+    {
+        let items = self;
+        items.len()
+    }
+}
