@@ -1,11 +1,27 @@
 -- The entries that a sequence's `into_iter` gives, and calls at them. An entry stands for a value: in a view it is a reference to it.
 use Rattle.std.specs.Iterator.{AlwaysYields, Count, IsFinite}
-use Rattle.std.specs.Prelude.{◌≡◌, Option, List}
+use Rattle.std.specs.Prelude.{◌≡◌, ℕ, Option, List, length}
 
 module _ {S I T : Type 0} (can_next : S → Type 0) (next_gives : S → Option I → S → Type 0) (remaining : S → Count) where
   -- the iterator may be asked, ends, and gives entries that stand for the values, in order
   abbrev pub GivesEntries : (I → T) → S → List T → Type 0
   GivesEntries entry entries values = can_next entries × IsFinite (remaining entries) × AlwaysYields next_gives entry entries values
+
+  -- what `into_iter` gives of a sequence gives an entry for each of its items, in order, and then ends
+  abbrev pub GivesEntriesOf : {Q : Type 0} → (Q → S → Type 0) → (Q → List T) → (I → T) → Type 0
+  GivesEntriesOf {Q} into_iter_gives items entry = (sequence : Q) (entries : S) → into_iter_gives sequence entries → GivesEntries entry entries (items sequence)
+
+  -- P holds of some values that the entries stand for
+  abbrev pub SomeEntries : S → ((I → T) → List T → Type 0) → Type 0
+  SomeEntries entries P = (entry : I → T) × (values : List T) × GivesEntries entry entries values × P entry values
+
+  -- the same of n values
+  abbrev pub SomeEntriesOf : ℕ → S → ((I → T) → List T → Type 0) → Type 0
+  SomeEntriesOf n entries P = (entry : I → T) × (values : List T) × GivesEntries entry entries values × (length values ≡ n) × P entry values
+
+  -- P holds of all values that the entries stand for
+  abbrev pub AllEntries : S → ((I → T) → List T → Type 0) → Type 0
+  AllEntries entries P = (entry : I → T) (values : List T) → GivesEntries entry entries values → P entry values
 
 module _ {I T F : Type 0} (entry : I → T) where
   -- f may be called at each entry that stands for x

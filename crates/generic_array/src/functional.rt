@@ -40,7 +40,10 @@ pub trait MappedGenericSequence<T, U>: GenericSequence<T> {
 /// Calls of a closure at all entries. Each has one body, for all kinds.
 ///
 /// What makes a sequence asks for its memory first: where that is refused, no call is made, and the
-/// entries are dropped.
+/// entries are dropped. `place` is what gives the memory: `()` where the answer is an inline array, whose
+/// error is `Never`, so that `always` opens the answer; an allocator, `Global`, where it is a boxed array.
+/// That what is made fits, an inline array up to `MAX_INLINE` items, is a condition, and so is it that the
+/// closure may be called at each entry.
 pub trait FunctionalSequence<T>: GenericSequence<T> {
     /// The sequence of what `f` answers at each entry, called in order.
     final fn map<U, F: FnMut(Self::Item) -> U>(

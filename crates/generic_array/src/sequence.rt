@@ -5,7 +5,7 @@ ghost use Rattle.ga_core.specs.Fill.{FillFalliblyRuns, FillsFallibly};
 ghost use Rattle.ga_core.specs.Runs.{CallableAlong, CallableInFold, CallableUntilError, ClosureRun, FirstErrorRun, FoldRun};
 ghost use Rattle.ga_core.specs.Tries.{try_map};
 ghost use Rattle.generic_array.specs.Built.{built_items};
-ghost use Rattle.generic_array.specs.Entries.{GivesEntries};
+ghost use Rattle.generic_array.specs.Entries.{GivesEntriesOf};
 ghost use Rattle.std.specs.Iterator.{ActsAs, ActsAsOnTwo};
 ghost use Rattle.std.specs.List.{range_with_len};
 ghost use Rattle.std.specs.Prelude.{◌≡◌, ℕ, ◌≤◌, ◌↔◌, IfOk, IsOk, IsTrue, OnErr, Result, fold, map, replicate};
@@ -50,7 +50,7 @@ pub trait OwnedSequence<T>: Sized + AsSlice<T> + IntoIterator<Item = T> {
     }
 
     // `into_iter` gives the items, in order, and then ends.
-    ghost gives_items: { (sequence : Self) (items : Self.IntoIter) → Self.into_iter_gives sequence items → GivesEntries Self.IntoIter.can_next Self.IntoIter.next_gives Self.IntoIter.remaining (λ item. item) items (Self.items sequence) };
+    ghost gives_items: { GivesEntriesOf Self.IntoIter.can_next Self.IntoIter.next_gives Self.IntoIter.remaining Self.into_iter_gives Self.items (λ item. item) };
 }
 
 /// A sequence whose length is a type. Contracts see the list of its items, by `items`.
@@ -90,7 +90,8 @@ pub trait GenericSequence<T>: Sized + AsSlice<T> + IntoIterator {
 
     /// The sequence of `f(0)` to `f(Length - 1)`, each called once, in this order.
     ///
-    /// Memory is asked for first: where it is refused, no call is made.
+    /// `place` is what gives the memory: `()` or an allocator. It is asked for first: where it is
+    /// refused, no call is made. That the length fits is a condition, of which `fits` is the test.
     final fn generate<F: FnMut(usize) -> T>(
         place: Self::Place,
         f: F,
@@ -134,7 +135,7 @@ pub trait GenericSequence<T>: Sized + AsSlice<T> + IntoIterator {
     ghost empty_is_promised: { Self.Length.USIZE ≡ 0 → IsPromised };
 
     // `into_iter` gives an entry for each item, in order, and then ends.
-    ghost gives_entries: { (sequence : Self) (entries : Self.IntoIter) → Self.into_iter_gives sequence entries → GivesEntries Self.IntoIter.can_next Self.IntoIter.next_gives Self.IntoIter.remaining entry entries (Self.items sequence) };
+    ghost gives_entries: { GivesEntriesOf Self.IntoIter.can_next Self.IntoIter.next_gives Self.IntoIter.remaining Self.into_iter_gives Self.items entry };
 }
 
 /// A sequence that can be made by a closure that may fail.

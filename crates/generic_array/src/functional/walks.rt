@@ -4,7 +4,7 @@
 //! iterator has no proof today.
 ghost use Rattle.ga_core.specs.Runs.{CallableInFold, CallableUntilError, ClosureRun, FirstErrorRun, FoldRun};
 ghost use Rattle.generic_array.specs.Built.{built_items};
-ghost use Rattle.generic_array.specs.Entries.{CallAt, CallAtPair, FoldAt, GivesEntries, MayCallAt, MayCallAtPair, MayFoldAt};
+ghost use Rattle.generic_array.specs.Entries.{AllEntries, CallAt, CallAtPair, FoldAt, GivesEntries, MayCallAt, MayCallAtPair, MayFoldAt, SomeEntries, SomeEntriesOf};
 ghost use Rattle.generic_array.specs.EntryRuns.{CallableOver, CallableOverUntilError, FirstErrorRan, TryFoldRun, good_step};
 ghost use Rattle.std.specs.List.{range_with_len, zip};
 ghost use Rattle.std.specs.Prelude.{◌≡◌, IfOk, IsOk, List, None, OnErr, Some, length};
@@ -18,8 +18,8 @@ pub(crate) fn fold_entries<T, I: Iterator + Drop, A, F: FnMut(A, I::Item) -> A>(
     init: A,
     f: &mut F,
 ) -> A
-    requires callable { (entry : I.Item → T) × (values : List T) × GivesEntries I.can_next I.next_gives I.remaining entry entries values × CallableInFold (MayFoldAt entry F.pre) (FoldAt entry F.step) f.old init values }
-    ensures run { (entry : I.Item → T) (values : List T) → GivesEntries I.can_next I.next_gives I.remaining entry entries values → FoldRun (FoldAt entry F.step) f.old init values result f.new }
+    requires callable { SomeEntries I.can_next I.next_gives I.remaining entries (λ (entry : I.Item → T) values. CallableInFold (MayFoldAt entry F.pre) (FoldAt entry F.step) f.old init values) }
+    ensures run { AllEntries I.can_next I.next_gives I.remaining entries (λ (entry : I.Item → T) values. FoldRun (FoldAt entry F.step) f.old init values result f.new) }
 {
     let mut answer = init;
     for entry in entries {
@@ -34,8 +34,9 @@ pub(super) fn try_fold_entries<T, I: Iterator + Drop, A, E, F: FnMut(A, I::Item)
     init: A,
     f: &mut F,
 ) -> Result<A, E>
-    requires callable { (entry : I.Item → T) × (values : List T) × GivesEntries I.can_next I.next_gives I.remaining entry entries values × CallableInFold (MayFoldAt entry F.pre) (good_step (FoldAt entry F.step)) f.old init values }
-    ensures run { (entry : I.Item → T) (values : List T) → GivesEntries I.can_next I.next_gives I.remaining entry entries values → TryFoldRun (FoldAt entry F.step) f.old init values result f.new }
+    requires callable { SomeEntries I.can_next I.next_gives I.remaining entries
+        (λ (entry : I.Item → T) values. CallableInFold (MayFoldAt entry F.pre) (good_step (FoldAt entry F.step)) f.old init values) }
+    ensures run { AllEntries I.can_next I.next_gives I.remaining entries (λ (entry : I.Item → T) values. TryFoldRun (FoldAt entry F.step) f.old init values result f.new) }
 {
     let mut answer = init;
     for entry in entries {
@@ -69,7 +70,8 @@ pub(super) fn map_entries<T, I: Iterator + Drop, U, M: GenericSequence<U>, F: Fn
     f: &mut F,
 ) -> Result<M::Sequence, M::Error>
     requires fits { M.Fits }
-    requires callable { (entry : I.Item → T) × (values : List T) × GivesEntries I.can_next I.next_gives I.remaining entry entries values × (length values ≡ M.Length.USIZE) × CallableOver (MayCallAt entry F.pre) (CallAt entry F.step) f.old values }
+    requires callable { SomeEntriesOf I.can_next I.next_gives I.remaining M.Length.USIZE entries
+        (λ (entry : I.Item → T) values. CallableOver (MayCallAt entry F.pre) (CallAt entry F.step) f.old values) }
     ensures run { (entry : I.Item → T) (values : List T) → GivesEntries I.can_next I.next_gives I.remaining entry entries values → length values ≡ M.Length.USIZE
         → IfOk result (λ made. ClosureRun (CallAt entry F.step) f.old values (M.Sequence.items made) f.new) }
     ensures err { OnErr result (f.new ≡ f.old) }
@@ -133,7 +135,8 @@ pub(super) fn try_map_entries<
     F: FnMut(I::Item) -> Result<U, E>,
 >(entries: I, place: M::Place, f: &mut F) -> Result<Result<M::Sequence, E>, M::Error>
     requires fits { M.Fits }
-    requires callable { (entry : I.Item → T) × (values : List T) × GivesEntries I.can_next I.next_gives I.remaining entry entries values × (length values ≡ M.Length.USIZE) × CallableOverUntilError (MayCallAt entry F.pre) (CallAt entry F.step) f.old values }
+    requires callable { SomeEntriesOf I.can_next I.next_gives I.remaining M.Length.USIZE entries
+        (λ (entry : I.Item → T) values. CallableOverUntilError (MayCallAt entry F.pre) (CallAt entry F.step) f.old values) }
     ensures run { (entry : I.Item → T) (values : List T) → GivesEntries I.can_next I.next_gives I.remaining entry entries values → length values ≡ M.Length.USIZE
         → IfOk result (λ built. FirstErrorRun (CallAt entry F.step) f.old values (built_items M.Sequence.items built) f.new) }
     ensures err { OnErr result (f.new ≡ f.old) }
@@ -163,8 +166,10 @@ fn answer_at_next_pair<I: Iterator + Drop, J: Iterator + Drop, U, F: FnMut(I::It
     requires can { I.can_next left.old × J.can_next right.old }
     requires more { (after : I) → I.next_gives left.old None after → ⊥ }
     requires more_right { (after : J) → J.next_gives right.old None after → ⊥ }
-    requires callable { (item : I.Item) (after : I) (other : J.Item) (then : J) → I.next_gives left.old (Some item) after → J.next_gives right.old (Some other) then → F.pre f.old item other }
-    ensures call { (item : I.Item) × (other : J.Item) × I.next_gives left.old (Some item) left.new × J.next_gives right.old (Some other) right.new × F.step f.old item other result f.new }
+    requires callable { (item : I.Item) (after : I) (other : J.Item) (then : J)
+        → I.next_gives left.old (Some item) after → J.next_gives right.old (Some other) then → F.pre f.old item other }
+    ensures call { (item : I.Item) × (other : J.Item)
+        × I.next_gives left.old (Some item) left.new × J.next_gives right.old (Some other) right.new × F.step f.old item other result f.new }
     ensures can { I.can_next left.new × J.can_next right.new }
 {
     let Some(entry) = left.next() else {
@@ -187,9 +192,14 @@ pub(super) fn zip_entries<
     F: FnMut(I::Item, J::Item) -> U,
 >(left: I, right: J, place: M::Place, f: &mut F) -> Result<M::Sequence, M::Error>
     requires fits { M.Fits }
-    requires callable { (entry : I.Item → T) × (values : List T) × (other : J.Item → B) × (others : List B) × GivesEntries I.can_next I.next_gives I.remaining entry left values × GivesEntries J.can_next J.next_gives J.remaining other right others
-        × (length values ≡ M.Length.USIZE) × (length others ≡ M.Length.USIZE) × CallableOver (MayCallAtPair entry other F.pre) (CallAtPair entry other F.step) f.old (zip values others) }
-    ensures run { (entry : I.Item → T) (values : List T) (other : J.Item → B) (others : List B) → GivesEntries I.can_next I.next_gives I.remaining entry left values → GivesEntries J.can_next J.next_gives J.remaining other right others
+    requires callable { (entry : I.Item → T) × (values : List T) × (other : J.Item → B) × (others : List B)
+        × GivesEntries I.can_next I.next_gives I.remaining entry left values
+        × GivesEntries J.can_next J.next_gives J.remaining other right others
+        × (length values ≡ M.Length.USIZE) × (length others ≡ M.Length.USIZE)
+        × CallableOver (MayCallAtPair entry other F.pre) (CallAtPair entry other F.step) f.old (zip values others) }
+    ensures run { (entry : I.Item → T) (values : List T) (other : J.Item → B) (others : List B)
+        → GivesEntries I.can_next I.next_gives I.remaining entry left values
+        → GivesEntries J.can_next J.next_gives J.remaining other right others
         → length values ≡ M.Length.USIZE → length others ≡ M.Length.USIZE
         → IfOk result (λ made. ClosureRun (CallAtPair entry other F.step) f.old (zip values others) (M.Sequence.items made) f.new) }
     ensures err { OnErr result (f.new ≡ f.old) }
@@ -203,8 +213,10 @@ pub(super) fn zip_entries<
             requires can { I.can_next left × J.can_next right }
             requires more { (after : I) → I.next_gives left None after → ⊥ }
             requires more_right { (after : J) → J.next_gives right None after → ⊥ }
-            requires callable { (item : I.Item) (after : I) (other : J.Item) (then : J) → I.next_gives left (Some item) after → J.next_gives right (Some other) then → F.pre f.now item other }
-            ensures call { (item : I.Item) × (other : J.Item) × I.next_gives left.entry (Some item) left.exit × J.next_gives right.entry (Some other) right.exit × F.step f.entry.now item other result f.exit.now }
+            requires callable { (item : I.Item) (after : I) (other : J.Item) (then : J)
+                → I.next_gives left (Some item) after → J.next_gives right (Some other) then → F.pre f.now item other }
+            ensures call { (item : I.Item) × (other : J.Item)
+                × I.next_gives left.entry (Some item) left.exit × J.next_gives right.entry (Some other) right.exit × F.step f.entry.now item other result f.exit.now }
             ensures can { I.can_next left.exit × J.can_next right.exit }
             ensures same { f.exit.ghost_name ≡ f.entry.ghost_name }
         { answer_at_next_pair(&mut left, &mut right, f) },

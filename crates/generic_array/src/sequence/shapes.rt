@@ -6,6 +6,9 @@
 //! cut in constant time. The types of what is made are parameters, and that their
 //! lengths fit together is a condition. The Rust crate has traits of these names, but `Row`, in its
 //! module `sequence`.
+//!
+//! A function that knows these traits alone can't go from one to the next, since each has its own
+//! view of the items: name the kinds where several are used.
 ghost use Rattle.generic_array.specs.Rows.{rows};
 ghost use Rattle.std.specs.List.{flat_map, swap_remove};
 ghost use Rattle.std.specs.Prelude.{◌≡◌, ℕ, ◌+◌, ◌<◌, ◌≤◌, List, [], Some, ◌∷◌, ◌++◌, drop, length, remove, slice_get, take};
@@ -23,12 +26,12 @@ pub trait Lengthen<T, Longer>: Sized {
     // A longer sequence has one item more, and its length fits.
     ghost IsOneLonger: { Type 0 };
 
-    /// The items, and then `item`.
+    /// The items, and then `item`. A condition is that `Longer` has a place more, and fits.
     fn append(self, item: T) -> Longer
         requires { IsOneLonger }
         ensures { longer_items result ≡ items self ++ item ∷ [] };
 
-    /// `item`, and then the items.
+    /// `item`, and then the items. A condition is that `Longer` has a place more, and fits.
     fn prepend(self, item: T) -> Longer
         requires { IsOneLonger }
         ensures { longer_items result ≡ item ∷ items self };
@@ -43,12 +46,12 @@ pub trait Shorten<T, Shorter>: Sized {
     // A shorter sequence has one item less.
     ghost IsOneShorter: { Type 0 };
 
-    /// All items but the last, and the last.
+    /// All items but the last, and the last. A condition is that `Shorter` has a place less.
     fn pop_back(self) -> (Shorter, T)
         requires { IsOneShorter }
         ensures { items self ≡ shorter_items result.0 ++ result.1 ∷ [] };
 
-    /// The first item, and all others.
+    /// The first item, and all others. A condition is that `Shorter` has a place less.
     fn pop_front(self) -> (T, Shorter)
         requires { IsOneShorter }
         ensures { items self ≡ result.0 ∷ shorter_items result.1 };
@@ -65,7 +68,8 @@ pub trait Concat<T, Rest, Output>: Sized {
     // What is made has room for exactly both, and its length fits.
     ghost IsSum: { Type 0 };
 
-    /// The items, and then those of `rest`.
+    /// The items, and then those of `rest`. A condition is that `Output` has as many places as both,
+    /// and fits.
     fn concat(self, rest: Rest) -> Output
         requires { IsSum }
         ensures { output_items result ≡ items self ++ rest_items rest };
@@ -85,7 +89,8 @@ pub trait Split<T, First, Second>: Sized {
     // The lengths of the parts add up to that of the sequence.
     ghost IsSum: { Type 0 };
 
-    /// The first items, as many as the type of the first part tells, and all others.
+    /// The first items, as many as the type of the first part tells, and all others. A condition is
+    /// that the lengths of the parts add up to that of the sequence.
     fn split(self) -> (First, Second)
         requires { IsSum }
         ensures first { first_items result.0 ≡ take PLACE (items self) }
@@ -101,8 +106,8 @@ pub trait Remove<T, Output>: Sized {
     // What is left has one item less.
     ghost IsOneShorter: { Type 0 };
 
-    /// The item at `index`, and all others in order. The Rust crate panics at an index that isn't
-    /// below N.
+    /// The item at `index`, and all others in order. Conditions are that `Output` has a place less,
+    /// and that `index` is below the length, where the Rust crate panics.
     fn remove(self, index: usize) -> (T, Output)
         requires shorter { IsOneShorter }
         requires in_bounds { index < length (items self) }
@@ -110,7 +115,7 @@ pub trait Remove<T, Output>: Sized {
         ensures others { output_items result.1 ≡ remove (items self) index };
 
     /// The item at `index`, and all others in order but the last, which takes the place of the item
-    /// that was taken.
+    /// that was taken. The conditions are those of `remove`.
     fn swap_remove(self, index: usize) -> (T, Output)
         requires shorter { IsOneShorter }
         requires in_bounds { index < length (items self) }
@@ -163,7 +168,8 @@ pub trait Flatten<T, Output>: Sized {
     // What is made has room for exactly the items of all rows, and its length fits.
     ghost IsArea: { Type 0 };
 
-    /// The items of the rows, in order.
+    /// The items of the rows, in order. A condition is that `Output` has as many places as the rows
+    /// together, and fits.
     fn flatten(self) -> Output
         requires { IsArea }
         ensures { output_items result ≡ flat_map (λ row. row) (rows self) };
@@ -181,7 +187,8 @@ pub trait Unflatten<T, Output>: Sized {
     // A row has items, and the rows together have as many as the sequence.
     ghost IsArea: { Type 0 };
 
-    /// The items as rows: row `r` has those from place `r * WIDTH`.
+    /// The items as rows: row `r` has those from place `r * WIDTH`. Conditions are that a row has
+    /// items, and that the rows together have as many as the sequence.
     fn unflatten(self) -> Output
         requires { IsArea }
         ensures { output_rows result ≡ rows WIDTH (items self) };
