@@ -1,9 +1,9 @@
 //! Callers, each proved: what a contract gives to those who use it.
 ghost use Rattle.ga_boxed.specs.FillAnswer.{fill_answer};
-ghost use Rattle.std.specs.Prelude.{◌≡◌, ◌∷◌, [], ◌^◌, ◌<◌, ◌↔◌, ◌⊎◌, IfErr, IfOk, IsOk, OnOk, length, reverse, slice_set, sum};
+ghost use Rattle.std.specs.Prelude.{◌≡◌, ◌∷◌, [], ◌^◌, ◌<◌, ◌↔◌, ◌⊎◌, IfErr, IfOk, IsOk, Ok, OnOk, length, reverse, slice_set, sum};
 
 use crate::{BoxedArray, BoxedArrayIter, LiveBlock};
-use ga_core::{AllocError, FillError, LengthError, U0, U2, U3, U4, Unsigned};
+use ga_core::{AllocError, FillError, GenericArray, LengthError, U0, U2, U3, U4, Unsigned};
 use std::alloc::Global;
 use std::marker::{Send, Sync};
 
@@ -150,6 +150,13 @@ fn reversed(
     BoxedArray::try_boxed_from_iter(alloc, array.into_iter().rev())
 }
 
+/// The items of a block as an inline array.
+fn moved_out(array: BoxedArray<u8, U3>) -> Result<GenericArray<u8, U3>, LengthError>
+    ensures { result ≡ Ok array }
+{
+    GenericArray::try_from_iter(array.into_iter())
+}
+
 fn total_or_nought(alloc: Global) -> usize
     ensures { (result ≡ 0) ⊎ (result ≡ 12) }
 {
@@ -267,4 +274,9 @@ fn callers_that_write_and_walk_get_what_their_contracts_say(rt: HostRuntime) {
         [3, 2, 1].as_slice()
     );
     assert_eq!(rt; total_or_nought(alloc), 12);
+    let array: BoxedArray<u8, U3> = BoxedArray::generate(alloc, |index| index as u8 + 4).expect(
+        &rt,
+        "no memory",
+    );
+    assert!(rt; moved_out(array).is_ok_and(|inline| inline.as_slice() == [4, 5, 6].as_slice()));
 }
