@@ -10,7 +10,7 @@
 //! A function that knows these traits alone can't go from one to the next, since each has its own
 //! view of the items: name the kinds where several are used.
 ghost use Rattle.generic_array.specs.Rows.{rows};
-ghost use Rattle.std.specs.List.{flat_map, swap_remove};
+ghost use Rattle.std.specs.List.{All, flat_map, swap_remove};
 ghost use Rattle.std.specs.Prelude.{◌≡◌, ℕ, ◌+◌, ◌<◌, ◌≤◌, List, [], Some, ◌∷◌, ◌++◌, drop, length, remove, slice_get, take};
 
 mod inline;
@@ -144,17 +144,18 @@ pub trait Remove<T, Output>: Sized {
 }
 
 /// A row: a sequence whose items can be moved over the places of a slice.
-pub trait Row<T>: Sized {
+pub trait Row<T: Default>: Sized {
     ghost items: { Self → List T };
 
     // How many items a row has.
     ghost WIDTH: { ℕ };
 
-    /// Moves the items over the first of the places, whose items are dropped. Answers how many they
-    /// are.
+    /// Moves the items over the first of the places, whose items are dropped, and leaves defaults.
+    /// Answers how many they are.
     fn move_over(&mut self, places: &mut [T]) -> usize
         requires room { WIDTH ≤ length places.old }
         ensures moved { places.new ≡ items self.old ++ drop WIDTH places.old }
+        ensures left { All T.is_default (items self.new) }
         ensures count { result ≡ WIDTH }
         ensures width { length (items self.old) ≡ WIDTH };
 }
