@@ -1,3 +1,4 @@
+pub mod Account
 pub mod AnyLength
 pub mod Built
 pub mod Entries
@@ -5,6 +6,7 @@ pub mod EntryLaws
 pub mod EntryRuns
 pub mod Laws
 pub mod Matrix
+pub mod Steps
 pub use Rattle.ga_boxed.specs.FillAnswer
 pub use Rattle.ga_boxed.specs.Live
 pub use Rattle.ga_core.specs.Copies
