@@ -4,6 +4,7 @@ pub mod Built
 pub mod Entries
 pub mod EntryLaws
 pub mod EntryRuns
+pub mod Jobs
 pub mod Laws
 pub mod Matrix
 pub mod Steps

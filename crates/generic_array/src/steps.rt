@@ -14,6 +14,8 @@ ghost use Rattle.std.specs.Prelude.{◌≡◌, IsOk, List, OnErr, OnOk, [], ◌+
 mod kinds;
 mod step;
 #[cfg(test)]
+mod tests;
+#[cfg(test)]
 mod uses;
 
 use ga_core::AllocError;

@@ -3,7 +3,8 @@ ghost use Rattle.generic_array.specs.declared.steps.step.Reply.TheVariants.{Item
 ghost use Rattle.std.specs.Prelude.{◌≡◌, ◌^◌, ◌<◌, [], ◌∷◌, ◌++◌, IfOk, IsOk, None, OnOk, Some, sum};
 
 mod any_steps;
-mod kinds;
+mod jobs;
+pub(crate) mod kinds;
 
 use crate::AllocError;
 use crate::steps::{Reply, Step, TwoEnded, run_steps};

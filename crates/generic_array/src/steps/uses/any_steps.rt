@@ -45,7 +45,7 @@ fn first_replied<T: Drop, I: TwoEnded<T>>(
     requires no_set { HasNoSet steps.items }
     requires enough { sum_by front_count steps.items + sum_by back_count steps.items ≤ length (I.items items.old) }
     ensures first { OnOk result ((given : List (Reply T ℕ)) × (replies.new.items ≡ replies.old.items ++ given)
-        × ((k : ℕ) → slice_get steps.items k ≡ Some Next → sum_by front_count (take (k + 1) steps.items) ≡ 1 → (item : T) × (slice_get (I.items items.old) 0 ≡ Some item) × (slice_get given k ≡ Some (Item (Some item))))) }
+        × ((k : ℕ) → slice_get steps.items k ≡ Some Next → sum_by front_count (take (k + 1) steps.items) ≡ 1 → slice_get given k ≡ Some (Item (slice_get (I.items items.old) 0)))) }
 {
     run_steps(items, steps, &mut |live: &[T]| live.len(), replies)?;
     Ok(())

@@ -10,7 +10,7 @@ use crate::steps::Reply;
 use crate::{AllocError, BoxedArray, BoxedArrayIter, GenericArray, GenericArrayIter, U2, U3, U5};
 use std::alloc::Global;
 
-fn replaced_inline(
+pub(crate) fn replaced_inline(
     alloc: Global,
     replies: &mut Vec<Reply<u32, u32>>,
 ) -> Result<GenericArrayIter<u32, U3>, AllocError>
@@ -22,7 +22,7 @@ fn replaced_inline(
     Ok(numbers)
 }
 
-fn replaced_boxed(
+pub(crate) fn replaced_boxed(
     alloc: Global,
     replies: &mut Vec<Reply<u32, u32>>,
 ) -> Result<BoxedArrayIter<u32>, AllocError>
@@ -48,7 +48,7 @@ fn five_boxed(alloc: Global) -> Result<BoxedArrayIter<u32>, AllocError>
 
 /// Behind an earlier reply: one from the back of two, no steps, five in one run and in two, and five in
 /// two orders.
-fn taken_inline(
+pub(crate) fn taken_inline(
     alloc: Global,
     replies: &mut Vec<Reply<u32, u32>>,
     other_replies: &mut Vec<Reply<u32, u32>>,
@@ -70,7 +70,7 @@ fn taken_inline(
 }
 
 /// The same over boxed iterators.
-fn taken_boxed(
+pub(crate) fn taken_boxed(
     alloc: Global,
     replies: &mut Vec<Reply<u32, u32>>,
     other_replies: &mut Vec<Reply<u32, u32>>,

@@ -19,6 +19,7 @@ returns g c =
         λ k next once.
             let says = front k Next next (omega arith) in
             let place : sum_by front_count (take (k + 1) c.args.steps.items) - 1 ≡ 0 = omega (arith, once) in
-            (says.0, ap (slice_get (g.I.TwoEnded.items c.args.items.now)) (sym place) ∙ says.1, says.2),
+            let first = ap (slice_get (g.I.TwoEnded.items c.args.items.now)) (sym place) ∙ says.1 in
+            cc (first, says.2),
       );
     }
