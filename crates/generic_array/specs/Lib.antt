@@ -1,10 +1,13 @@
+pub mod Account
 pub mod AnyLength
 pub mod Built
 pub mod Entries
 pub mod EntryLaws
 pub mod EntryRuns
+pub mod Jobs
 pub mod Laws
 pub mod Matrix
+pub mod Steps
 pub use Rattle.ga_boxed.specs.FillAnswer
 pub use Rattle.ga_boxed.specs.Live
 pub use Rattle.ga_core.specs.Copies

@@ -9,6 +9,7 @@ ghost use Rattle.generic_array.specs.Entries.{CallAt, MayCallAt};
 ghost use Rattle.generic_array.specs.EntryRuns.{CallableOver};
 ghost use Rattle.generic_array.specs.Laws.{ErrorRunsJoin, FoldsJoin, GoodRunsJoin, HaveWidth, RunsJoin};
 ghost use Rattle.generic_array.specs.Rows.{rows};
+ghost use Rattle.generic_array.specs.Steps.{StepGivesReply};
 ghost use Rattle.std.specs.Fn.{FnOnceReturnsAt, FnOnceReturnsAtPair};
 ghost use Rattle.std.specs.List.{flat_map};
 ghost use Rattle.std.specs.Prelude.{◌≡◌, ℕ, ◌+◌, ◌*◌, ◌<◌, [], ◌∷◌, List, ◌++◌, drop, length, take};
@@ -31,6 +32,11 @@ fn first_error_runs_join<X, Y, E, F: FnMut(X) -> Result<Y, E>>(_f: &F)
 /// A fold over joined lists is one over the second from what the one over the first came to.
 fn folds_join<A, X, F: FnMut(A, X) -> A>(_f: &F)
     ensures { FoldsJoin F.step }
+{}
+
+/// A run of steps stopped anywhere and taken up again is one run.
+fn runs_of_steps_join<T, R, G: FnMut(&[T]) -> R>(_look: &G)
+    ensures { RunsJoin (StepGivesReply (CallAt (λ slice. slice.now) G.step)) }
 {}
 
 /// An item appended and popped.

@@ -1,0 +1,111 @@
+//! Runs of steps over the iterators by value: items taken from both ends, looked at and replaced.
+//!
+//! A run means a list that is cut from both ends. Each step has its reply and leaves a list
+//! (`StepGivesReply`), a run is these one after the other, and the account of a run (`Account`) says that
+//! no item is lost or doubled.
+ghost use Rattle.ga_core.specs.Cut.{StepGives, back, front};
+ghost use Rattle.generic_array.specs.Account.{Account};
+ghost use Rattle.generic_array.specs.Entries.{CallAt, MayCallAt};
+ghost use Rattle.generic_array.specs.Steps.{MayStep, MaySteps, StepGivesReply, StepsRun};
+ghost use Rattle.std.specs.Borrow.{Array, Lends, sem};
+ghost use Rattle.std.specs.List.{refill};
+ghost use Rattle.std.specs.Prelude.{◌≡◌, IsOk, List, OnErr, OnOk, [], ◌++◌, length};
+
+mod kinds;
+mod step;
+#[cfg(test)]
+mod tests;
+#[cfg(test)]
+mod uses;
+
+use ga_core::AllocError;
+use std::mem;
+pub use step::{Reply, Step};
+
+/// An iterator by value whose items can be taken from both ends, seen and replaced: `GenericArrayIter`
+/// and `BoxedArrayIter`. No call asks for memory.
+pub trait TwoEnded<T> {
+    // The items that are left, in order.
+    ghost items: { Self → List T };
+
+    /// Takes the first item, as `next` does.
+    fn front(&mut self) -> Option<T>
+        ensures step { StepGives (front 0) (items self.old) result (items self.new) };
+
+    /// Takes the last item, as `next_back` does.
+    fn back(&mut self) -> Option<T>
+        ensures step { StepGives (back 0) (items self.old) result (items self.new) };
+
+    /// Drops `n` items from the front, or as many as are left, and takes the next.
+    fn front_nth(&mut self, n: usize) -> Option<T>
+        ensures step { StepGives (front n) (items self.old) result (items self.new) };
+
+    /// Drops `n` items from the back, or as many as are left, and takes the last of those before them.
+    fn back_nth(&mut self, n: usize) -> Option<T>
+        ensures step { StepGives (back n) (items self.old) result (items self.new) };
+
+    /// All items that are left, in order.
+    fn live(&self) -> &[T]
+        ensures { result.now ≡ items self.now };
+
+    // The iterator once these items were written over those that are left, as many as they are.
+    ghost rewritten: { (left : Self) (written : List T) → (after : Self) × (items after ≡ refill (length (items left)) (items left) written) };
+
+    /// All items that are left, in order, for writing.
+    fn live_mut(&mut self) -> &mut [T]
+        ensures* writes_back { sem 𝓛 (Lends Self.row (Array T.row 0) self.entry result (λ written. (rewritten self.old written).0)) }
+        ensures value { result.now ≡ items self.old };
+}
+
+/// Makes one step.
+fn step_once<T: Drop, R, I: TwoEnded<T>, G: FnMut(&[T]) -> R>(
+    iter: &mut I,
+    step: Step<T>,
+    look: &mut G,
+) -> Reply<T, R>
+    requires callable { MayStep (MayCallAt (λ slice. slice.now) G.pre) (I.items iter.old, look.old) step }
+    ensures { StepGivesReply (CallAt (λ slice. slice.now) G.step) (I.items iter.old, look.old) step result (I.items iter.new, look.new) }
+{
+    match step {
+        Step::Next => Reply::Item(iter.front()),
+        Step::NextBack => Reply::Item(iter.back()),
+        Step::Nth(n) => Reply::Item(iter.front_nth(n)),
+        Step::NthBack(n) => Reply::Item(iter.back_nth(n)),
+        Step::Look => Reply::Seen(look(iter.live())),
+        Step::Set(index, item) => {
+            let live = iter.live_mut();
+            if index < live.len() {
+                Reply::Old(mem::replace(&mut live[index], item))
+            } else {
+                Reply::Outside(item)
+            }
+        }
+    }
+}
+
+/// Makes the steps in order, and puts one reply for each behind those that `replies` holds. `look` is
+/// called once for each `Look`, with all items that are left then.
+///
+/// Asks for room for all replies first, at most once, and for none where there are no steps. Where room
+/// is refused, no step is made, iterator, closure and replies are as they were, and the steps are dropped.
+/// A run may be stopped after any step and taken up again by another call: both together are one run.
+pub fn run_steps<T: Drop, R, I: TwoEnded<T>, G: FnMut(&[T]) -> R>(
+    iter: &mut I,
+    steps: Vec<Step<T>>,
+    look: &mut G,
+    replies: &mut Vec<Reply<T, R>>,
+) -> Result<(), AllocError>
+    requires callable { MaySteps (MayCallAt (λ slice. slice.now) G.pre) (CallAt (λ slice. slice.now) G.step) (I.items iter.old, look.old) steps.items }
+    ensures run { OnOk result ((given : List (Reply T R)) × (replies.new.items ≡ replies.old.items ++ given)
+        × StepsRun (CallAt (λ slice. slice.now) G.step) (I.items iter.old, look.old) steps.items given (I.items iter.new, look.new)
+        × Account (I.items iter.old) steps.items given (I.items iter.new)) }
+    ensures err { OnErr result ((iter.new ≡ iter.old) × (look.new ≡ look.old) × (replies.new.items ≡ replies.old.items)) }
+    ensures empty { steps.items ≡ [] → IsOk result }
+{
+    replies.try_reserve(steps.len())?;
+    for step in steps {
+        let reply = step_once(iter, step, look);
+        replies.push_reserved(reply);
+    }
+    Ok(())
+}

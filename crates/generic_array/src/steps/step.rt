@@ -1,0 +1,33 @@
+//! A step, and the reply to one.
+
+/// What is asked of an iterator with two ends. Each step finds what the one before it left.
+#[derive(Debug, Drop)]
+pub enum Step<T> {
+    /// Takes the first item, as `next` does.
+    Next,
+    /// Takes the last item, as `next_back` does.
+    NextBack,
+    /// Drops this many items from the front, or as many as are left, and takes the next: `Nth(0)` is
+    /// `Next`.
+    Nth(usize),
+    /// The same from the back: `NthBack(0)` is `NextBack`.
+    NthBack(usize),
+    /// Shows the closure all items that are left, in order, and takes none.
+    Look,
+    /// Puts the item in this place of those that are left, counted from 0 at their front.
+    Set(usize, T),
+}
+
+/// What a step is answered with.
+#[derive(Debug, Drop)]
+pub enum Reply<T, R> {
+    /// To `Next`, `NextBack`, `Nth` and `NthBack`: the item that was taken, or `None` where too few were
+    /// left.
+    Item(Option<T>),
+    /// To `Look`: what the closure answered.
+    Seen(R),
+    /// To `Set`: the item that stood in the place.
+    Old(T),
+    /// To `Set` where there is no such place: the item that was to be put there. Nothing has changed.
+    Outside(T),
+}

@@ -1,0 +1,24 @@
+//! Jobs in a deque: their owner takes them from the front, a thief from the back.
+ghost use Rattle.generic_array.specs.Jobs.{AreTurns, jobs_by, own_job, stolen_job};
+ghost use Rattle.generic_array.specs.declared.steps.step.Reply.TheVariants.{Item};
+ghost use Rattle.std.specs.Prelude.{◌≡◌, [], ◌∷◌, ◌++◌, IfOk, None, OnOk, Some, reverse};
+
+use crate::steps::{Reply, Step, run_steps};
+use crate::{AllocError, BoxedArray, BoxedArrayIter, U5, Unsigned};
+use std::alloc::Global;
+
+/// Hands out jobs in turns, `Next` the owner's and `NextBack` the thief's, and answers the deque that is
+/// left. Each job went to one of the two, once, or is left, in any order of turns and of any number.
+fn shared_out<J: Drop, N: Unsigned>(
+    jobs: BoxedArray<J, N>,
+    turns: Vec<Step<J>>,
+    replies: &mut Vec<Reply<J, usize>>,
+) -> Result<BoxedArrayIter<J>, AllocError>
+    requires turns { AreTurns turns.items }
+    requires fresh { replies.old.items ≡ [] }
+    ensures once { IfOk result (λ left. jobs_by own_job turns.items replies.new.items ++ (left ++ reverse (jobs_by stolen_job turns.items replies.new.items)) ≡ jobs) }
+{
+    let mut deque = jobs.into_iter();
+    run_steps(&mut deque, turns, &mut |live: &[J]| live.len(), replies)?;
+    Ok(deque)
+}
