@@ -39,7 +39,9 @@ fn rows_are_joined_and_cut(rt: HostRuntime) {
     let all: GenericArray<i32, U6> = arr![arr![1, 2], arr![3, 4], arr![5, 6]].flatten();
     assert!(rt; all.as_slice() == [1, 2, 3, 4, 5, 6].as_slice());
     let rows: GenericArray<GenericArray<i32, U2>, U3> = arr![1, 2, 3, 4, 5, 6].unflatten();
-    assert!(rt; rows[0].as_slice() == [1, 2].as_slice() && rows[2].as_slice() == [5, 6].as_slice());
+    assert!(rt; rows[0].as_slice() == [1, 2].as_slice());
+    assert!(rt; rows[1].as_slice() == [3, 4].as_slice());
+    assert!(rt; rows[2].as_slice() == [5, 6].as_slice());
 }
 
 #[test]

@@ -254,6 +254,7 @@ fn made_or_as_it_was(alloc: Global, counts: &Counts) -> Result<bool, AllocError>
     })
 }
 
+// At the gate memory is ample; `rt try --test --fail-alloc K` runs it with the K-th request refused.
 #[test]
 fn a_run_is_made_or_all_is_as_it_was_whatever_memory_there_is(rt: HostRuntime) {
     let counts = Counts::new();

@@ -81,6 +81,7 @@ fn dropped_on_the_way(alloc: Global, drops: &Cell<u32>) -> Result<u32, AllocErro
     Ok(drops.get())
 }
 
+// At the gate memory is ample; `rt try --test --fail-alloc K` runs it with the K-th request refused.
 #[test]
 fn items_that_go_to_a_block_are_dropped_once_whatever_memory_there_is(rt: HostRuntime) {
     let drops = Cell::new(0);

@@ -172,6 +172,7 @@ fn moved_about(alloc: Global, counts: &Counts) -> Result<usize, AllocError> {
     Ok(items.clone()?.len())
 }
 
+// At the gate memory is ample; `rt try --test --fail-alloc K` runs it with the K-th request refused.
 #[test]
 fn each_item_is_dropped_once_whatever_memory_there_is(rt: HostRuntime) {
     let counts = Counts::new();

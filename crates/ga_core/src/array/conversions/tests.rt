@@ -149,6 +149,7 @@ fn another_length_is_refused_and_the_items_dropped(rt: HostRuntime) {
     assert!(rt; answers == (false, false, 2));
 }
 
+// At the gate memory is ample; `rt try --test --fail-alloc K` runs it with the K-th request refused.
 #[test]
 fn the_items_are_dropped_once_whatever_memory_there_is(rt: HostRuntime) {
     let counts = Counts::new();

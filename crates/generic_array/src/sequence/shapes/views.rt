@@ -59,7 +59,8 @@ impl<'a, T, N: Unsigned, K: Unsigned, M: Unsigned> Split<
     }
 }
 
-/// Two views of the array's parts for writing, for as long as the array is lent: the same.
+/// Two views of the array's parts for writing, for as long as the array is lent. A contract says which
+/// items each part has, and nothing of what is written: for that, cut `as_mut_slice` of the array.
 impl<'a, T, N: ArrayLength<T>, K: Unsigned, M: Unsigned> Split<
     T,
     GenericArrayMut<'a, T, K>,
