@@ -1,7 +1,7 @@
 //! Jobs in a deque: their owner takes them from the front, a thief from the back.
 ghost use Rattle.generic_array.specs.Jobs.{AreTurns, jobs_by, own_job, stolen_job};
 ghost use Rattle.generic_array.specs.declared.steps.step.Reply.TheVariants.{Item};
-ghost use Rattle.std.specs.Prelude.{◌≡◌, [], ◌∷◌, ◌++◌, IfOk, None, OnOk, Some, reverse};
+ghost use Rattle.std.specs.Prelude.{◌≡◌, [], ◌∷◌, ◌++◌, IfOk, OnOk, Some, reverse};
 
 use crate::steps::{Reply, Step, run_steps};
 use crate::{AllocError, BoxedArray, BoxedArrayIter, U5, Unsigned};
@@ -20,5 +20,20 @@ fn shared_out<J: Drop, N: Unsigned>(
 {
     let mut deque = jobs.into_iter();
     run_steps(&mut deque, turns, &mut |live: &[J]| live.len(), replies)?;
+    Ok(deque)
+}
+
+/// A day of five jobs: the owner does the first two, the thief the last two, and one is left.
+fn one_day(
+    alloc: Global,
+    replies: &mut Vec<Reply<u32, usize>>,
+) -> Result<BoxedArrayIter<u32>, AllocError>
+    ensures replies { OnOk result (replies.new.items ≡ replies.old.items
+        ++ Item (Some 1) ∷ Item (Some 5) ∷ Item (Some 4) ∷ Item (Some 2) ∷ []) }
+    ensures left { IfOk result (λ left. left ≡ 3 ∷ []) }
+{
+    let mut deque = BoxedArray::<u32, U5>::generate(alloc, |index| index as u32 + 1)?.into_iter();
+    let turns = vec![in alloc; Step::Next, Step::NextBack, Step::NextBack, Step::Next]?;
+    run_steps(&mut deque, turns, &mut |live: &[u32]| live.len(), replies)?;
     Ok(deque)
 }
