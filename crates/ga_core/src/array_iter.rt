@@ -1,9 +1,8 @@
 //! The iterator that moves the items out of an array, from both ends.
 ghost use Rattle.ga_views.specs.Length.{FitsInline};
 ghost use Rattle.std.specs.Borrow.{sem};
-ghost use Rattle.std.specs.Iterator.{ActsAsOnTwo, YieldsFirst, YieldsLast, item_count};
-ghost use Rattle.std.specs.List.{All, AllZip};
-ghost use Rattle.std.specs.Prelude.{◌≡◌, ◌+◌, ◌-◌, ◌≤◌, IfOk, IsOk, drop, fold, length, reverse, slice_get, slice_range, take};
+ghost use Rattle.std.specs.Iterator.{YieldsFirst, YieldsLast, item_count};
+ghost use Rattle.std.specs.Prelude.{◌≡◌, ◌+◌, ◌-◌, ◌≤◌, drop, length, slice_range, take};
 
 mod copies;
 mod folds;
@@ -13,12 +12,11 @@ mod tests;
 #[cfg(test)]
 mod uses;
 
-use crate::alloc_error::AllocError;
 use crate::length::ArrayLength;
-use crate::store::{Store, store_of_clones};
+use crate::store::Store;
 use ga_views::MAX_INLINE;
 use std::marker::{Model, PhantomData};
-use std::{alloc, fmt, mem};
+use std::{fmt, mem};
 
 /// The items of an array by value, from both ends. Contracts see it as the list of the items that
 /// are left.

@@ -1,6 +1,6 @@
 //! Callers of the shapes, with the items that they get.
 ghost use Rattle.std.specs.List.{flat_map, fold};
-ghost use Rattle.std.specs.Prelude.{◌≡◌, ◌+◌, ◌*◌, ◌%◌, ◌^◌, ◌∷◌, [], IfOk, Ok, Some, length, map};
+ghost use Rattle.std.specs.Prelude.{◌≡◌, ◌+◌, ◌*◌, ◌%◌, ◌^◌, ◌∷◌, [], IfOk, Ok, map};
 
 use crate::functional::FunctionalSequence;
 use crate::sequence::{Concat, Flatten, Lengthen, Remove, Shorten, Split, Unflatten, iter_flat};
