@@ -1,12 +1,12 @@
 -- Each job of a deque goes to one taker, or is left.
-use Rattle.generic_array.specs.Account.{Account, HasNoSet, back_count, front_count, gone_back, gone_front}
-use Rattle.generic_array.specs.Jobs.{AreTurns, IsTurn, job_of, jobs_by, own_job, stolen_job}
-use Rattle.generic_array.specs.Steps.{StepGivesReply, StepsRun, left_by}
+use Rattle.generic_array.specs.Account.{Account, HasNoSet, gone_back, gone_front}
+use Rattle.generic_array.specs.Jobs.{AreTurns, job_of, jobs_by, own_job, stolen_job}
+use Rattle.generic_array.specs.Steps.{StepsRun}
 use Rattle.generic_array.specs.declared.steps.step.Reply.{Reply}
 use Rattle.generic_array.specs.declared.steps.step.Reply.TheVariants.{Item}
 use Rattle.generic_array.specs.declared.steps.step.Step.{Step}
 use Rattle.generic_array.specs.declared.steps.step.Step.TheVariants.{Look, Next, NextBack, Nth, NthBack, Set}
-use Rattle.std.proofs.Common.{◌≡◌, ℕ, List, [], ◌∷◌, ◌++◌, subst, take, reverse, refl, sym, ap, ◌∙◌, slice_get}
+use Rattle.std.proofs.Common.{◌≡◌, List, [], ◌∷◌, ◌++◌, subst, take, reverse, refl, ap, slice_get}
 
 module _ {J : Type 0} where
   turns-no_set : (steps : List (Step J)) → AreTurns steps → HasNoSet steps
