@@ -1,7 +1,7 @@
 use Rattle.ga_rows.proofs.SumLemmas.{CallableInFold-bound, FoldRun-bound}
 use Rattle.ga_rows.proofs.output.sum_of.Goals as goal
-use Rattle.generic_array.proofs.AnswerLemmas.{FoldRun-sum}
-use Rattle.std.proofs.Common.{arith, rules}
+use Rattle.std.proofs.Common.{◌≡◌, arith, rules}
+use Rattle.std.specs.List.{sum}
 
 pub total_by-requires : goal.total_by-requires
 total_by-requires g c =
@@ -10,5 +10,5 @@ total_by-requires g c =
 pub returns : goal.returns
 returns g c =
     let small = FoldRun-bound (λ byte. byte.now) _ (λ f a item b next call. search rules) _ 0 _ _ _ c.total_by.ensures.run in
-    let whole = FoldRun-sum (λ byte. byte.now) _ (λ f a item b next call. search rules) _ 0 _ _ _ c.total_by.ensures.run in
-    record { value = omega (arith, whole); small = omega (arith, whole, small, c.args.row.full, c.requires) }
+    let whole : c.total_by.result ≡ sum c.args.row.slice.now = search rules in
+    record { value = whole; small = omega (arith, whole, small, c.args.row.full, c.requires) }
