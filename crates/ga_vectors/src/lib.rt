@@ -7,6 +7,8 @@ mod blocks;
 #[cfg(test)]
 mod conversions;
 #[cfg(test)]
+mod counted;
+#[cfg(test)]
 mod documentation;
 #[cfg(test)]
 mod readme;

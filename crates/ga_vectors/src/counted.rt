@@ -1,0 +1,87 @@
+//! An element type whose drops and clones are counted, and one of whose clones can be refused.
+use std::alloc::AllocError;
+use std::cell::Cell;
+
+/// How many items were dropped, how many clones were asked for, and which of these is refused.
+#[derive(Default, Drop)]
+pub struct Counts {
+    drops: Cell<u32>,
+    clones: Cell<u32>,
+    refused_clone: u32,
+}
+
+impl Counts {
+    /// Counts at nought, which refuse no clone.
+    pub fn new() -> Self {
+        Counts::default()
+    }
+
+    /// Counts for which the clone of this number, from 1, is refused.
+    pub fn refusing_clone(number: u32) -> Self {
+        Counts {
+            drops: Cell::new(0),
+            clones: Cell::new(0),
+            refused_clone: number,
+        }
+    }
+
+    /// How many items were dropped.
+    pub fn drops(&self) -> u32 {
+        self.drops.get()
+    }
+
+    /// How many clones were asked for, the refused one among them.
+    pub fn clones(&self) -> u32 {
+        self.clones.get()
+    }
+}
+
+fn count(number: &Cell<u32>) {
+    number.set(number.get().wrapping_add(1));
+}
+
+/// Counts its drop, and those of its clones. One made by `default` counts nothing.
+#[derive(Default)]
+pub struct Counted<'a> {
+    counts: Option<&'a Counts>,
+    place: u32,
+}
+
+impl<'a> Counted<'a> {
+    /// An item that is counted here, with a number to know it by.
+    pub fn new(counts: &'a Counts, place: u32) -> Self {
+        Counted {
+            counts: Some(counts),
+            place,
+        }
+    }
+
+    /// The number that it was given.
+    pub fn place(&self) -> u32 {
+        self.place
+    }
+}
+
+impl Drop for Counted<'_> {
+    fn drop(self) {
+        let Counted { counts, place: _ } = self;
+        if let Some(counts) = counts {
+            count(&counts.drops);
+        }
+    }
+}
+
+impl Clone for Counted<'_> {
+    fn clone(&self) -> Result<Self, AllocError> {
+        if let Some(counts) = self.counts {
+            count(&counts.clones);
+            if counts.clones() == counts.refused_clone {
+                return Err(AllocError);
+            }
+        }
+        Ok(Counted {
+            counts: self.counts,
+            place: self.place,
+        })
+    }
+}
