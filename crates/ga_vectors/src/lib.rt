@@ -11,4 +11,8 @@ mod counted;
 #[cfg(test)]
 mod documentation;
 #[cfg(test)]
+mod outcome;
+#[cfg(test)]
 mod readme;
+#[cfg(test)]
+mod refused_memory;
