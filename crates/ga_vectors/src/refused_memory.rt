@@ -2,6 +2,8 @@
 //!
 //! A case makes its calls and tells what came of them, whether or not memory was refused.
 mod builds;
+mod conversions;
+mod fills;
 
 use crate::counted::{Counted, Counts};
 use generic_array::{AllocError, BoxedArray, GenericArray, U3};
