@@ -2,8 +2,14 @@
 //!
 //! A case makes its calls and tells what came of them, whether or not memory was refused.
 mod builds;
+mod clones;
 mod conversions;
 mod fills;
+mod maps;
+mod no_items;
+mod no_room;
+mod steps;
+mod zips;
 
 use crate::counted::{Counted, Counts};
 use generic_array::{AllocError, BoxedArray, GenericArray, U3};
