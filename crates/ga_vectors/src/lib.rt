@@ -15,4 +15,6 @@ mod outcome;
 #[cfg(test)]
 mod readme;
 #[cfg(test)]
+mod refused_clones;
+#[cfg(test)]
 mod refused_memory;

@@ -21,12 +21,12 @@ fn number(index: usize) -> u32 {
 }
 
 /// Counted items of the numbers 1 to 3.
-fn three_counted(counts: &Counts) -> GenericArray<Counted<'_>, U3> {
+pub fn three_counted(counts: &Counts) -> GenericArray<Counted<'_>, U3> {
     GenericArray::generate(|index| Counted::new(counts, number(index)))
 }
 
 /// The same in a block. None is made where that is refused.
-fn three_in_a_block(
+pub fn three_in_a_block(
     alloc: Global,
     counts: &Counts,
 ) -> Result<BoxedArray<Counted<'_>, U3>, AllocError> {
