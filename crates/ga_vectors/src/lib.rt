@@ -11,4 +11,10 @@ mod counted;
 #[cfg(test)]
 mod documentation;
 #[cfg(test)]
+mod outcome;
+#[cfg(test)]
 mod readme;
+#[cfg(test)]
+mod refused_clones;
+#[cfg(test)]
+mod refused_memory;

@@ -1,0 +1,143 @@
+//! Conversions from and to vectors and boxed slices.
+use crate::counted::{Counted, Counts};
+use crate::outcome::{Outcome, digits, play};
+use crate::refused_memory::{number, three_counted, three_in_a_block};
+use generic_array::{AllocError, BoxedArray, GenericArray, LengthError, U3, U4, Unsigned};
+use std::alloc::Global;
+use std::boxed::BoxedSlice;
+
+/// Counted items of the numbers 1 to 3 in a vector. None is made where its memory is refused.
+fn three_in_a_vector(alloc: Global, counts: &Counts) -> Result<Vec<Counted<'_>>, AllocError> {
+    let mut items = Vec::with_capacity(alloc, 3)?;
+    for index in 0..3usize {
+        items.push_reserved(Counted::new(counts, number(index)));
+    }
+    Ok(items)
+}
+
+/// The same in a boxed slice.
+fn three_in_a_slice(
+    alloc: Global,
+    counts: &Counts,
+) -> Result<BoxedSlice<Counted<'_>, Global>, AllocError> {
+    Ok(three_in_a_vector(alloc, counts)?.into_boxed_slice())
+}
+
+// Out of an inline array.
+
+fn inline_to_vector(alloc: Global) -> Outcome {
+    let counts = Counts::new();
+    let made = three_counted(&counts).into_vec(alloc);
+    Outcome::of_counted(made, 123, &counts, 3)
+}
+
+fn inline_to_slice(alloc: Global) -> Outcome {
+    let counts = Counts::new();
+    let made = three_counted(&counts).into_boxed_slice(alloc);
+    Outcome::of_counted(made, 123, &counts, 3)
+}
+
+// Out of a block.
+
+fn block_to_vector(alloc: Global) -> Outcome {
+    let counts = Counts::new();
+    match three_in_a_block(alloc, &counts) {
+        Ok(array) => Outcome::of_counted(array.into_vec(), 123, &counts, 3),
+        Err(AllocError) => Outcome::refused_if(counts.drops() == 0),
+    }
+}
+
+fn block_to_slice(alloc: Global) -> Outcome {
+    let counts = Counts::new();
+    match three_in_a_block(alloc, &counts) {
+        Ok(array) => Outcome::of_counted(array.into_boxed_slice(), 123, &counts, 3),
+        Err(AllocError) => Outcome::refused_if(counts.drops() == 0),
+    }
+}
+
+// Into a block. Another length is answered before memory is asked for.
+
+/// Of three counted items that were handed over to be a block of `N`.
+fn taken<N: Unsigned>(
+    made: Result<Result<BoxedArray<Counted<'_>, N>, LengthError>, AllocError>,
+    counts: &Counts,
+) -> Outcome {
+    let outcome = match made {
+        Ok(Ok(array)) => {
+            let is_whole = digits(array.as_slice()) == 123 && counts.drops() == 0;
+            Outcome::exact_if(is_whole && N::USIZE == 3)
+        }
+        Ok(Err(LengthError)) => Outcome::exact_if(N::USIZE != 3 && counts.drops() == 3),
+        Err(AllocError) => Outcome::refused_if(N::USIZE == 3 && counts.drops() == 3),
+    };
+    outcome.and(counts.drops() == 3)
+}
+
+fn vector_to_block<N: Unsigned>(alloc: Global) -> Outcome {
+    let counts = Counts::new();
+    match three_in_a_vector(alloc, &counts) {
+        Ok(items) => taken(
+            BoxedArray::<Counted, N>::try_from_vec(alloc, items),
+            &counts,
+        ),
+        Err(AllocError) => Outcome::Refused,
+    }
+}
+
+fn slice_to_block<N: Unsigned>(alloc: Global) -> Outcome {
+    let counts = Counts::new();
+    match three_in_a_slice(alloc, &counts) {
+        Ok(items) => taken(
+            BoxedArray::<Counted, N>::try_from_boxed_slice(alloc, items),
+            &counts,
+        ),
+        Err(AllocError) => Outcome::Refused,
+    }
+}
+
+// Into an inline array, which asks for no memory.
+
+fn vector_to_inline(alloc: Global) -> Outcome {
+    let counts = Counts::new();
+    let outcome = match three_in_a_vector(alloc, &counts) {
+        Ok(items) => match GenericArray::<Counted, U3>::try_from_vec(items) {
+            Ok(array) => Outcome::exact_if(digits(array.as_slice()) == 123 && counts.drops() == 0),
+            Err(LengthError) => Outcome::Wrong,
+        },
+        Err(AllocError) => return Outcome::Refused,
+    };
+    outcome.and(counts.drops() == 3)
+}
+
+fn slice_to_inline(alloc: Global) -> Outcome {
+    let counts = Counts::new();
+    match three_in_a_slice(alloc, &counts) {
+        Ok(items) => {
+            let made = GenericArray::<Counted, U4>::try_from_boxed_slice(items);
+            Outcome::exact_if(made.is_err() && counts.drops() == 3)
+        }
+        Err(AllocError) => Outcome::Refused,
+    }
+}
+
+#[test]
+fn a_conversion_keeps_the_items_or_drops_each_once(rt: HostRuntime) {
+    play(&rt, "into_vec of an inline array", inline_to_vector);
+    play(&rt, "into_boxed_slice of an inline array", inline_to_slice);
+    play(&rt, "into_vec", block_to_vector);
+    play(&rt, "into_boxed_slice", block_to_slice);
+    play(&rt, "try_from_vec", vector_to_block::<U3>);
+    play(&rt, "try_from_vec of another length", vector_to_block::<U4>);
+    play(&rt, "try_from_boxed_slice", slice_to_block::<U3>);
+    play(
+        &rt,
+        "try_from_boxed_slice of another length",
+        slice_to_block::<U4>,
+    );
+    play(&rt, "try_from_vec of an inline array", vector_to_inline);
+    play(
+        &rt,
+        "try_from_boxed_slice of an inline array",
+        slice_to_inline,
+    );
+}
