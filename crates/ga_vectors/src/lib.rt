@@ -11,4 +11,6 @@ mod counted;
 #[cfg(test)]
 mod documentation;
 #[cfg(test)]
+mod hex_writers;
+#[cfg(test)]
 mod readme;
