@@ -1,72 +1,15 @@
-//! Texts, statuses, and readers and writers that fail.
+//! Words, texts and statuses; in the files beside it, readers, writers and memory that fail.
+mod doubles;
+mod faults;
+mod refused_memory;
+
 use crate::{Mode, Status, Width, parse_words, rows, run, run_listed};
-use std::alloc::Global;
+use doubles::{Manner, Sink, Source, WHOLE, repeated};
 use std::env::Args;
 use std::io;
-use std::io::{ErrorKind, Read, Write};
+use std::io::ErrorKind;
 use std::process::ExitCode;
 use std::test::Fail;
-
-/// Gives one byte a read, is interrupted at the first of each thousand reads, and at last fails
-/// or ends.
-#[derive(Drop)]
-struct Source<'a> {
-    bytes: &'a [u8],
-    reads: usize,
-    fails: bool,
-}
-
-impl Read for Source<'_> {
-    fn read(&mut self, buf: &mut [u8]) -> io::Result<usize> {
-        self.reads = self.reads.saturating_add(1);
-        if self.reads % 1000 == 1 {
-            return Err(io::Error::from(ErrorKind::Interrupted));
-        }
-        let (Some((byte, left)), Some(to)) = (self.bytes.split_first(), buf.first_mut()) else {
-            return if self.fails {
-                Err(io::Error::from(ErrorKind::Other))
-            } else {
-                Ok(0)
-            };
-        };
-        *to = *byte;
-        self.bytes = left;
-        Ok(1)
-    }
-}
-
-/// Keeps what it is given, counts its calls, and fails at one of them.
-#[derive(Drop)]
-struct Sink {
-    text: Vec<u8>,
-    writes: usize,
-    fails_at: usize,
-}
-
-impl Sink {
-    fn new(alloc: Global, fails_at: usize) -> Self {
-        Sink {
-            text: Vec::new(alloc),
-            writes: 0,
-            fails_at,
-        }
-    }
-}
-
-impl Write for Sink {
-    fn write(&mut self, buf: &[u8]) -> io::Result<usize> {
-        self.writes = self.writes.saturating_add(1);
-        if self.writes == self.fails_at {
-            return Err(io::Error::from(ErrorKind::BrokenPipe));
-        }
-        self.text.extend_from_slice(buf)?;
-        Ok(buf.len())
-    }
-
-    fn flush(&mut self) -> io::Result<()> {
-        Ok(())
-    }
-}
 
 #[test]
 fn words_mean_a_mode_and_a_width(rt: HostRuntime) -> Result<(), Fail> {
@@ -160,57 +103,21 @@ fn a_reader_is_read_to_its_end_or_its_fault(rt: HostRuntime) -> Result<(), Fail>
     ];
     for (count, fails, status) in cases {
         let input = vec![in rt.alloc(); 255u8; count]?;
-        let mut source = Source {
-            bytes: input.as_slice(),
-            reads: 0,
-            fails,
+        let rest: &[u8] = if count % 4 == 0 { b"" } else { b"rest 255\n" };
+        let text = repeated(rt.alloc(), b"255 255 255 255\n", count / 4, rest)?;
+        let manner = Manner {
+            step: 1,
+            period: 1000,
         };
-        let mut sink = Sink::new(rt.alloc(), usize::MAX);
+        let mut source = Source::new(input.as_slice(), manner, fails);
+        let mut sink = Sink::new(text.as_slice(), WHOLE, usize::MAX);
         let is_ended = run(rt.alloc(), &[], &mut source, &mut sink) == status;
-        let has_lines = sink.text.chunks(16).enumerate().all(|(place, line)| {
-            if place < 25_000 {
-                line == b"255 255 255 255\n".as_slice()
-            } else {
-                line == b"rest 255\n".as_slice()
-            }
-        });
-        let lines = if fails { 0 } else { count.div_ceil(4) };
-        let has_all = sink.text.len().div_ceil(16) == lines;
-        let is_called = (sink.writes == 0) == (lines == 0);
-        assert!(rt;
-            is_ended && has_lines && has_all && is_called,
-            "{count} bytes"
-        );
+        let is_told = if fails {
+            sink.writes() == 0
+        } else {
+            sink.has_text()
+        };
+        assert!(rt; is_ended && is_told, "{count} bytes");
     }
-    Ok(())
-}
-
-#[test]
-fn the_writer_gets_full_pieces_and_each_of_its_faults_is_answered(
-    rt: HostRuntime,
-) -> Result<(), Fail> {
-    // 8,000 bytes make 2,000 lines of sixteen bytes; a piece holds 508 of them or more.
-    let input = vec![in rt.alloc(); 255u8; 8000]?;
-    for fails_at in 1..6 {
-        let mut sink = Sink::new(rt.alloc(), fails_at);
-        let answer = rows(input.as_slice(), Mode::Dec, Width::W4, &mut sink);
-        let is_answered = answer.is_err() == (fails_at < 5) && sink.writes == fails_at.min(4);
-        let mut left = input.as_slice();
-        let mut sink = Sink::new(rt.alloc(), fails_at);
-        let status = run(rt.alloc(), &[], &mut left, &mut sink);
-        let is_ended = (status == Status::Fault) == (fails_at < 5);
-        assert!(rt; is_answered && is_ended, "at write {fails_at}");
-    }
-    for (mode, writes) in [(Mode::Back, 4), (Mode::Hex, 3), (Mode::Sum, 2)] {
-        let mut sink = Sink::new(rt.alloc(), usize::MAX);
-        let answer = rows(input.as_slice(), mode, Width::W4, &mut sink);
-        assert!(rt; answer.is_ok() && sink.writes == writes, "{writes} writes");
-    }
-    let mut untouched = Sink::new(rt.alloc(), 1);
-    assert!(rt; rows(&[], Mode::Dec, Width::W4, &mut untouched).is_ok());
-    let mut sums = Sink::new(rt.alloc(), usize::MAX);
-    let answer = rows(&[255, 255, 255, 255, 1], Mode::Sum, Width::W4, &mut sums);
-    let is_summed = sums.text.as_slice() == b"1020\nrest 1\n".as_slice();
-    assert!(rt; answer.is_ok() && is_summed);
     Ok(())
 }

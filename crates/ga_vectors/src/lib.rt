@@ -2,6 +2,8 @@
 //! documentation, and calls of several crates together.
 #![tactic(auto)]
 
+mod hex_writers;
+
 #[cfg(test)]
 mod blocks;
 #[cfg(test)]

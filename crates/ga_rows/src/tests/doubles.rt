@@ -1,0 +1,142 @@
+//! A reader and a writer that go in parts, are interrupted, and fail.
+use std::alloc::{AllocError, Global};
+use std::io;
+use std::io::{ErrorKind, Read, Write};
+
+/// How much goes at a call: at most so many bytes, and nothing at the first of each so many calls,
+/// which is interrupted; none is where that is 0.
+#[derive(Clone, Copy)]
+pub struct Manner {
+    pub step: usize,
+    pub period: usize,
+}
+
+pub const WHOLE: Manner = Manner {
+    step: usize::MAX,
+    period: 0,
+};
+
+pub const BYTE_BY_BYTE: Manner = Manner { step: 1, period: 0 };
+
+pub const INTERRUPTED: Manner = Manner {
+    step: usize::MAX,
+    period: 2,
+};
+
+pub const NOTHING: Manner = Manner { step: 0, period: 0 };
+
+/// Gives its bytes, and at last fails or ends.
+#[derive(Drop)]
+pub struct Source<'a> {
+    bytes: &'a [u8],
+    manner: Manner,
+    fails: bool,
+    reads: usize,
+}
+
+impl<'a> Source<'a> {
+    pub fn new(bytes: &'a [u8], manner: Manner, fails: bool) -> Self {
+        Source {
+            bytes,
+            manner,
+            fails,
+            reads: 0,
+        }
+    }
+}
+
+impl Read for Source<'_> {
+    fn read(&mut self, buf: &mut [u8]) -> io::Result<usize> {
+        self.reads = self.reads.saturating_add(1);
+        if self.reads.checked_rem(self.manner.period) == Some(1) {
+            return Err(io::Error::from(ErrorKind::Interrupted));
+        }
+        if self.bytes.is_empty() && self.fails {
+            return Err(io::Error::from(ErrorKind::Other));
+        }
+        let count = self.manner.step.min(self.bytes.len()).min(buf.len());
+        let (given, left) = self.bytes.split_at(count);
+        buf[..count].copy_from_slice(given);
+        self.bytes = left;
+        Ok(count)
+    }
+}
+
+/// Compares what it takes with the text that is to come, counts its calls, and fails at one of them.
+#[derive(Drop)]
+pub struct Sink<'a> {
+    to_come: &'a [u8],
+    is_exact: bool,
+    manner: Manner,
+    fails_at: usize,
+    writes: usize,
+}
+
+impl<'a> Sink<'a> {
+    pub fn new(text: &'a [u8], manner: Manner, fails_at: usize) -> Self {
+        Sink {
+            to_come: text,
+            is_exact: true,
+            manner,
+            fails_at,
+            writes: 0,
+        }
+    }
+
+    /// How many calls there were.
+    pub fn writes(&self) -> usize {
+        self.writes
+    }
+
+    /// Whether the call came that fails.
+    pub fn has_failed(&self) -> bool {
+        self.writes >= self.fails_at
+    }
+
+    /// Whether the text was taken and nothing else.
+    pub fn has_text(&self) -> bool {
+        self.is_exact && self.to_come.is_empty()
+    }
+
+    /// Whether the call that fails came last, with a beginning of the text before it.
+    pub fn is_left_at_its_fault(&self) -> bool {
+        self.is_exact && self.writes == self.fails_at
+    }
+}
+
+impl Write for Sink<'_> {
+    fn write(&mut self, buf: &[u8]) -> io::Result<usize> {
+        self.writes = self.writes.saturating_add(1);
+        if self.writes == self.fails_at {
+            return Err(io::Error::from(ErrorKind::BrokenPipe));
+        }
+        if self.writes.checked_rem(self.manner.period) == Some(1) {
+            return Err(io::Error::from(ErrorKind::Interrupted));
+        }
+        let taken = &buf[..buf.len().min(self.manner.step)];
+        match self.to_come.strip_prefix(taken) {
+            Some(to_come) => self.to_come = to_come,
+            None => self.is_exact = false,
+        }
+        Ok(taken.len())
+    }
+
+    fn flush(&mut self) -> io::Result<()> {
+        Ok(())
+    }
+}
+
+/// So many times the one, and then the other.
+pub fn repeated(
+    alloc: Global,
+    one: &[u8],
+    count: usize,
+    last: &[u8],
+) -> Result<Vec<u8>, AllocError> {
+    let mut all = Vec::new(alloc);
+    for _ in 0..count {
+        all.extend_from_slice(one)?;
+    }
+    all.extend_from_slice(last)?;
+    Ok(all)
+}
