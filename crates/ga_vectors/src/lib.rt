@@ -2,8 +2,6 @@
 //! documentation, and calls of several crates together.
 #![tactic(auto)]
 
-mod hex_writers;
-
 #[cfg(test)]
 mod blocks;
 #[cfg(test)]
@@ -12,6 +10,8 @@ mod conversions;
 mod counted;
 #[cfg(test)]
 mod documentation;
+#[cfg(test)]
+mod hex_writers;
 #[cfg(test)]
 mod outcome;
 #[cfg(test)]
