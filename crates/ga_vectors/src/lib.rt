@@ -11,9 +11,17 @@ mod counted;
 #[cfg(test)]
 mod documentation;
 #[cfg(test)]
+mod first_errors;
+#[cfg(test)]
 mod hex_writers;
 #[cfg(test)]
+mod left_over;
+#[cfg(test)]
+mod no_items;
+#[cfg(test)]
 mod outcome;
+#[cfg(test)]
+mod random_steps;
 #[cfg(test)]
 mod readme;
 #[cfg(test)]

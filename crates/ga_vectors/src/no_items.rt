@@ -1,0 +1,192 @@
+//! Arrays and views of no items: each build, map, zip, shape and conversion, with no call of a closure.
+//! Those that make boxed arrays are in `refused_memory::no_items`.
+use crate::counted::{Counted, Counts};
+use generic_array::functional::{FunctionalSequence, inverted_zip};
+use generic_array::sequence::{
+    Concat, FallibleGenericSequence, Flatten, FromFallibleIterator, GenericSequence, Lengthen,
+    Remove, Shorten, Split, Unflatten, iter_flat,
+};
+use generic_array::{
+    AllocError, ArrayBuilder, FillError, GenericArray, GenericArrayRef, LengthError, U0, U1, U2,
+    U3, always, arr,
+};
+use std::alloc::Global;
+use std::convert::AsSlice;
+use std::test::Fail;
+
+/// An array of no numbers.
+type NoItems = GenericArray<u32, U0>;
+
+fn is_none<S: AsSlice<u32> + Drop>(made: S) -> bool {
+    made.as_slice().is_empty()
+}
+
+/// Whether builds make no calls.
+fn are_built() -> bool {
+    let mut calls = 0u32;
+    let mut count = |_index: usize| {
+        calls = calls.wrapping_add(1);
+        calls
+    };
+    let by_type = is_none(NoItems::generate_by(&mut count));
+    let by_trait = is_none(always(<NoItems as GenericSequence<u32>>::generate_by((), &mut count)));
+    let of_view = <GenericArrayRef<'_, u32, U0> as GenericSequence<u32>>::generate_by(
+        (),
+        &mut count,
+    );
+    let of_view = is_none(always(of_view));
+    let mut fail = |index: usize| -> Result<u32, usize> {
+        calls = calls.wrapping_add(1);
+        Err(index)
+    };
+    let tried = NoItems::try_generate_by(&mut fail).is_ok_and(is_none);
+    let by_fallible = always(<NoItems as FallibleGenericSequence<u32>>::try_generate_by(
+        (),
+        &mut fail,
+    ));
+    by_type && by_trait && of_view && tried && by_fallible.is_ok_and(is_none) && calls == 0
+}
+
+/// Whether copies and clones of none are made, of which an item that is handed over is dropped uncloned.
+fn are_copied() -> bool {
+    let counts = Counts::new();
+    let repeated = GenericArray::<Counted, U0>::repeat(Counted::new(&counts, 1)).is_ok();
+    is_none(NoItems::default())
+        && is_none(NoItems::of_copies(7))
+        && NoItems::default().clone().is_ok_and(is_none)
+        && NoItems::default()
+            .into_iter()
+            .clone()
+            .is_ok_and(|left| left.len() == 0)
+        && repeated
+        && counts.clones() == 0
+        && counts.drops() == 1
+}
+
+/// Whether no places are filled by no items, and refused to one, which is taken.
+fn are_filled() -> bool {
+    let mut two = 5..7u32;
+    let surplus = NoItems::try_from_iter_ref(&mut two);
+    let mut error = [Err::<u32, u8>(1)].into_iter();
+    let too_many = NoItems::try_from_fallible_iter_ref(&mut error);
+    let mut again = [Err::<u32, u8>(1)].into_iter();
+    let by_trait = <NoItems as FromFallibleIterator<u32>>::from_fallible_iter_ref((), &mut again);
+    let mut left = 5..7u32;
+    let mut builder: ArrayBuilder<u32, U0> = ArrayBuilder::new();
+    let is_full = builder.is_full();
+    builder.extend(&mut left);
+    matches!(surplus, Err(LengthError))
+        && two.next() == Some(6)
+        && matches!(too_many, Err(LengthError))
+        && error.next().is_none()
+        && matches!(by_trait, Err(FillError::Length(LengthError)))
+        && NoItems::try_from_iter(5..5u32).is_ok_and(is_none)
+        && is_full
+        && left.next() == Some(5)
+        && is_none(builder.finish())
+}
+
+/// Whether conversions keep no items, and refuse one.
+fn are_converted(alloc: Global) -> Result<bool, AllocError> {
+    let mut one = Vec::new(alloc);
+    one.push(1u32)?;
+    let refused = NoItems::try_from_vec(one);
+    let native: [u32; 0] = NoItems::from_array([]).into_array();
+    let taken = NoItems::try_from_vec(NoItems::default().into_vec(alloc)?);
+    let boxed = NoItems::try_from_boxed_slice(NoItems::default().into_boxed_slice(alloc)?);
+    let none: NoItems = arr![];
+    Ok(
+        native.is_empty()
+            && matches!(refused, Err(LengthError))
+            && taken.is_ok_and(is_none)
+            && boxed.is_ok_and(is_none)
+            && is_none(none),
+    )
+}
+
+/// Whether maps, zips and folds of arrays and views make no call.
+fn are_mapped() -> bool {
+    let mut calls = 0u32;
+    let mut count = |left: u32, right: u32| {
+        calls = calls.wrapping_add(1);
+        left.wrapping_add(right)
+    };
+    let none = NoItems::default;
+    let zipped = always(none().zip_by((), none(), &mut count));
+    let inverted = inverted_zip(none(), none(), &mut count);
+    let total = none().fold_by(5, &mut count);
+    let right_total = none().into_iter().rfold_by(6, &mut count);
+    let mut seen = 0u32;
+    let lent = none();
+    let mapped = always(
+        lent.view().map_by(
+            (),
+            &mut |item: &u32| {
+                seen = seen.wrapping_add(1);
+                *item
+            },
+        ),
+    );
+    let tried = always(none().try_map((), |item: u32| Err::<u32, u32>(item)));
+    let stopped = none().try_fold(7, |_total: u32, item: u32| Err::<u32, u32>(item));
+    is_none(zipped)
+        && is_none(inverted)
+        && is_none(mapped)
+        && tried.is_ok_and(is_none)
+        && stopped == Ok(7)
+        && total == 5
+        && right_total == 6
+        && calls == 0
+        && seen == 0
+}
+
+/// Whether shapes come from no items and go to none.
+fn are_shaped() -> bool {
+    let one: GenericArray<u32, U1> = NoItems::default().append(4);
+    let (none, last): (NoItems, u32) = one.pop_back();
+    let one: GenericArray<u32, U1> = none.prepend(5);
+    let (removed, none): (u32, NoItems) = one.remove(0);
+    let two: GenericArray<u32, U2> = none.concat(arr![6, 7]);
+    let (none, two): (NoItems, GenericArray<u32, U2>) = two.split();
+    let (both, end): (GenericArray<u32, U2>, NoItems) = two.split();
+    let rows: GenericArray<GenericArray<u32, U2>, U0> = none.unflatten();
+    let flat: NoItems = rows.flatten();
+    let three: GenericArray<NoItems, U3> = GenericArray::default();
+    let listed = iter_flat(three.view()).next().is_none();
+    let joined: NoItems = three.flatten();
+    last == 4
+        && removed == 5
+        && both.as_slice() == [6, 7].as_slice()
+        && is_none(end)
+        && is_none(flat)
+        && listed
+        && is_none(joined)
+}
+
+/// Whether views, rows and walks of no items show none.
+fn are_seen() -> bool {
+    let none = NoItems::default();
+    let (rows, rest) = NoItems::chunks_from_slice(&[]);
+    let mut left = rows.iter();
+    let mut items = NoItems::default().into_iter();
+    none.view().get(0).is_none()
+        && none.each_ref().as_slice().is_empty()
+        && none == NoItems::default()
+        && NoItems::try_from_slice(&[1]).is_err()
+        && NoItems::try_from_slice(&[]).is_ok()
+        && rows.len() == 0
+        && rest.is_empty()
+        && left.next().is_none()
+        && left.next_back().is_none()
+        && items.next().is_none()
+        && items.next_back().is_none()
+        && items.last().is_none()
+}
+
+#[test]
+fn no_items_are_made_mapped_shaped_and_seen(rt: HostRuntime) -> Result<(), Fail> {
+    assert!(rt; are_built() && are_copied() && are_filled());
+    assert!(rt; are_converted(rt.alloc())?);
+    assert!(rt; are_mapped() && are_shaped() && are_seen());
+    Ok(())
+}

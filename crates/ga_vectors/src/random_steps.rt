@@ -1,0 +1,186 @@
+//! Random steps over both iterators, and over blocks, beside the numbers that they have to leave.
+use crate::counted::{Counted, Counts};
+use generic_array::{
+    AllocError, BoxedArray, BoxedArrayIter, GenericArray, GenericArrayIter, LiveBlock, U8,
+};
+use std::alloc::Global;
+use std::test::Fail;
+
+/// Numbers that look random, from a seed: a linear congruence, of which the high bits are taken.
+#[derive(Drop)]
+struct Numbers {
+    state: u64,
+}
+
+impl Numbers {
+    /// A number below this one, which isn't 0.
+    fn below(&mut self, bound: u32) -> u32 {
+        self.state = self
+            .state
+            .wrapping_mul(6364136223846793005)
+            .wrapping_add(1442695040888963407);
+        ((self.state >> 33) as u32).checked_rem(bound).unwrap_or(0)
+    }
+}
+
+/// A step over either iterator, each with how many items it passes over.
+#[derive(Clone, Copy)]
+enum Step {
+    Next,
+    NextBack,
+    Nth(u32),
+    NthBack(u32),
+}
+
+/// The numbers of the items that are left: from `first` up to `end`.
+#[derive(Clone, Copy)]
+struct Left {
+    first: u32,
+    end: u32,
+}
+
+impl Left {
+    /// The number of the item that the step takes, 0 where there is none; it leaves what lies beyond.
+    fn taken(&mut self, step: Step) -> u32 {
+        let len = self.end.wrapping_sub(self.first);
+        let (passed, is_front) = match step {
+            Step::Next => (0, true),
+            Step::NextBack => (0, false),
+            Step::Nth(passed) => (passed, true),
+            Step::NthBack(passed) => (passed, false),
+        };
+        let gone = passed.saturating_add(1).min(len);
+        if is_front {
+            self.first = self.first.wrapping_add(gone);
+        } else {
+            self.end = self.end.wrapping_sub(gone);
+        }
+        match (passed < len, is_front) {
+            (false, _) => 0,
+            (true, true) => self.first.wrapping_sub(1),
+            (true, false) => self.end,
+        }
+    }
+}
+
+fn number_of(item: Option<Counted>) -> u32 {
+    item.map_or(0, |item| item.place())
+}
+
+fn taken_inline(items: &mut GenericArrayIter<Counted, U8>, step: Step) -> u32 {
+    number_of(match step {
+        Step::Next => items.next(),
+        Step::NextBack => items.next_back(),
+        Step::Nth(passed) => GenericArrayIter::nth(items, passed as usize),
+        Step::NthBack(passed) => GenericArrayIter::nth_back(items, passed as usize),
+    })
+}
+
+fn taken_boxed(items: &mut BoxedArrayIter<Counted>, step: Step) -> u32 {
+    number_of(match step {
+        Step::Next => items.next(),
+        Step::NextBack => items.next_back(),
+        Step::Nth(passed) => BoxedArrayIter::nth(items, passed as usize),
+        Step::NthBack(passed) => BoxedArrayIter::nth_back(items, passed as usize),
+    })
+}
+
+fn random_step(numbers: &mut Numbers) -> Step {
+    let passed = numbers.below(4);
+    match numbers.below(6) {
+        0 | 1 => Step::Next,
+        2 | 3 => Step::NextBack,
+        4 => Step::Nth(passed),
+        _ => Step::NthBack(passed),
+    }
+}
+
+/// Whether a few steps over eight items answer alike out of an array and a block, as the numbers say. What
+/// is left is dropped.
+fn walks_alike(
+    alloc: Global,
+    numbers: &mut Numbers,
+    counts: &Counts,
+    steps: u32,
+) -> Result<bool, AllocError> {
+    let inline: GenericArray<Counted, U8> = GenericArray::generate(|index| Counted::new(
+        counts,
+        index as u32 + 1,
+    ));
+    let boxed: BoxedArray<Counted, U8> = BoxedArray::generate(
+        alloc,
+        |index| Counted::new(counts, index as u32 + 1),
+    )?;
+    let (mut inline, mut boxed) = (inline.into_iter(), boxed.into_iter());
+    let mut left = Left { first: 1, end: 9 };
+    for _step in 0..steps {
+        let step = random_step(numbers);
+        let wanted = left.taken(step);
+        if taken_inline(&mut inline, step) != wanted || taken_boxed(&mut boxed, step) != wanted {
+            return Ok(false);
+        }
+    }
+    let len = left.end.wrapping_sub(left.first) as usize;
+    Ok(inline.len() == len && boxed.len() == len)
+}
+
+#[test]
+fn random_walks_answer_alike_and_drop_each_item_once(rt: HostRuntime) -> Result<(), Fail> {
+    let mut numbers = Numbers { state: 20_261_123 };
+    let counts = Counts::new();
+    let mut steps = 0u32;
+    for walk in 1..25_001u32 {
+        let count = numbers.below(10);
+        steps = steps.wrapping_add(count);
+        assert!(rt;
+            walks_alike(rt.alloc(), &mut numbers, &counts, count)?,
+            "walk {walk}"
+        );
+        assert!(rt; counts.drops() == walk.wrapping_mul(16), "walk {walk}");
+    }
+    assert!(rt; steps > 100_000);
+    Ok(())
+}
+
+/// Whether a random number of puts and takes, in a block of eight places, leaves the items between those
+/// that went. What is left is dropped.
+fn block_is_right(
+    alloc: Global,
+    numbers: &mut Numbers,
+    counts: &Counts,
+    made: &mut u32,
+) -> Result<bool, AllocError> {
+    let mut block: LiveBlock<Counted> = LiveBlock::new(alloc, 8)?;
+    let mut left = Left { first: 1, end: 1 };
+    for _step in 0..numbers.below(20) {
+        let (wanted, taken) = match numbers.below(4) {
+            0 => (left.taken(Step::Next), number_of(block.take_front())),
+            1 => (left.taken(Step::NextBack), number_of(block.take_back())),
+            _ => {
+                if block.room() > 0 {
+                    block.put(Counted::new(counts, left.end));
+                    left.end = left.end.wrapping_add(1);
+                    *made = made.wrapping_add(1);
+                }
+                (0, 0)
+            }
+        };
+        if wanted != taken {
+            return Ok(false);
+        }
+    }
+    Ok(block.as_slice().len() == left.end.wrapping_sub(left.first) as usize)
+}
+
+#[test]
+fn random_puts_and_takes_of_a_block_drop_each_item_once(rt: HostRuntime) -> Result<(), Fail> {
+    let mut numbers = Numbers { state: 8 };
+    let counts = Counts::new();
+    let mut made = 0u32;
+    for round in 0..12_000u32 {
+        let is_right = block_is_right(rt.alloc(), &mut numbers, &counts, &mut made)?;
+        assert!(rt; is_right && counts.drops() == made, "round {round}");
+    }
+    assert!(rt; made > 30_000);
+    Ok(())
+}
