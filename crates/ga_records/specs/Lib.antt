@@ -1,0 +1,2 @@
+pub mod Records
+pub use Rattle.generic_array.specs.Rows
