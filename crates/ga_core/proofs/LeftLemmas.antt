@@ -1,8 +1,7 @@
 -- What is left of a list between two places, when something is taken from either end.
 use Rattle.arrayvec.proofs.IterLemmas.{slice_range_first, slice_range_last}
 use Rattle.std.proofs.Common.{◌≡◌, ℕ, ◌+◌, ◌-◌, ◌<◌, ◌≤◌, List, [], ◌∷◌, ◌++◌, length, drop, take, refl, reverse, sym, ap, ◌∙◌, arith, get_or, slice_set, length-drop, length-take}
-use Rattle.std.proofs.lemmas.List.{drop-drop, drop-take, length-reverse, reverse-append, take-append-drop, take-take}
-use Rattle.std.proofs.Math.Seq.{drop-append_seam}
+use Rattle.std.proofs.lemmas.List.{drop-drop, drop-take, reverse-append, take-take}
 use Rattle.std.specs.List.{slice_range}
 
 module _ {T : Type 0} where
@@ -51,12 +50,3 @@ module _ {T : Type 0} where
       let part : (places : List T) → take (end - front) (drop front places) ≡ drop front (take end places) =
       λ places. sym (drop-take front (end - front) places) ∙ ap (λ k. drop front (take k places)) (sym whole) in
       part after ∙ (ap (drop front) same ∙ (sym (part items) ∙ sym (take-take (end - front) (back - front) (drop front items) (omega arith))))
-
-  -- all but the last are, from the back, what lies behind the first
-  pub reverse-take : (items : List T) (kept passed : ℕ) → length items ≡ kept + passed → reverse (take kept items) ≡ drop passed (reverse items)
-  reverse-take items kept passed long =
-      let last = reverse (drop kept items) in
-      let count : passed ≡ length last = omega (arith, length-reverse (drop kept items), length-drop kept items, long) in
-      sym (drop-append_seam last (reverse (take kept items)))
-      ∙ (ap (λ k. drop k (last ++ reverse (take kept items))) (sym count)
-      ∙ ap (drop passed) (sym (reverse-append (take kept items) (drop kept items)) ∙ ap reverse (take-append-drop kept items)))

@@ -1,11 +1,12 @@
 pub mod Copies
-pub mod Cut
 pub mod Fill
 pub mod IterLends
 pub mod Lends
 pub mod Runs
 pub mod Tries
+pub use Rattle.ga_views.specs.Cut
 pub use Rattle.ga_views.specs.HexText
 pub use Rattle.ga_views.specs.Iteration
 pub use Rattle.ga_views.specs.Length
 pub use Rattle.ga_views.specs.Rows
+pub use Rattle.ga_views.specs.Views

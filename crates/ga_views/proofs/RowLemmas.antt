@@ -1,9 +1,10 @@
--- Rows from the first on, and the rows of the items that fill them: what a walk over rows and a cut behind them cite.
+-- Rows from both ends, and the rows of the items that fill them: what a walk over rows and a cut behind them cite.
 use Rattle.ga_views.specs.Rows.{chunk_count, chunk_rest, row_at, rows}
-use Rattle.std.proofs.Common.{◌≡◌, ℕ, zero, suc, ◌+◌, ◌-◌, ◌*◌, ◌/◌, ◌<◌, ◌≤◌, List, [], ◌∷◌, map, length, take, drop, refl, sym, ap, ◌∙◌, arith, length-drop}
-use Rattle.std.proofs.Math.Nat.{div-eq-sub-div, div-eq_of_lt, div-mul-le_self, div-zero, mul-div_cancel, mul-le-mul_right}
-use Rattle.std.proofs.lemmas.List.{drop-drop, drop-take, length-take-le, take-take}
-use Rattle.std.proofs.lemmas.List.FromFn.{length-map-range_with_len}
+use Rattle.std.proofs.Common.{◌≡◌, ℕ, zero, suc, ◌+◌, ◌-◌, ◌*◌, ◌/◌, ◌<◌, ◌≤◌, List, [], ◌∷◌, ◌++◌, None, Some, map, length, take, drop, refl, sym, ap, ◌∙◌, arith, length-drop, slice_get}
+use Rattle.std.proofs.Math.Nat.{div-eq-sub-div, div-eq_of_lt, div-mul-le_self, div-zero, mul-div_cancel, mul-le-mul_right, zero-div}
+use Rattle.std.proofs.lemmas.List.{drop-drop, drop-take, length-take-le, take-take, take_all}
+use Rattle.std.proofs.lemmas.List.FromFn.{get_or-map-range_with_len, length-map-range_with_len, map-range_with_len_more, take-map-range_with_len}
+use Rattle.std.proofs.lemmas.Option.{slice_get_past, slice_get_read}
 use Rattle.std.specs.List.{range_with_len}
 
 -- the items of the whole rows of n items fill as many rows; none of width 0
@@ -65,6 +66,16 @@ module _ {X : Type 0} (width : ℕ) (items : List X) where
   pub length-rows : length (rows width items) ≡ chunk_count width items
   length-rows = length-map-range_with_len (row_at width items) 0 (chunk_count width items)
 
+  -- the row at an index; there is none from their number on
+  pub slice_get-rows : (r : ℕ) → r < chunk_count width items → slice_get (rows width items) r ≡ Some (row_at width items r)
+  slice_get-rows r below =
+      let count = chunk_count width items in
+      slice_get_read (rows width items) count r (row_at width items r) (sym length-rows) below
+      (sym (get_or-map-range_with_len (row_at width items) 0 count r r (row_at width items r) below (omega arith)))
+
+  pub slice_get-rows_past : (r : ℕ) → chunk_count width items ≤ r → slice_get (rows width items) r ≡ None
+  slice_get-rows_past r past = slice_get_past (rows width items) r (omega (arith, length-rows))
+
   -- of width 0 there is no row
   pub rows-flat : width ≡ 0 → rows width items ≡ []
   rows-flat flat =
@@ -97,6 +108,88 @@ module _ {X : Type 0} (width : ℕ) (items : List X) where
       let long : length whole ≡ count * width = length-take-le (count * width) items (div-mul-le_self (length items) width) in
       let same : chunk_count width whole ≡ count = ap (λ n. n / width) long ∙ count-whole (length items) width in
       ap (λ n. map (row_at width whole) (range_with_len 0 n)) same ∙ rows-kept 0 count count (omega arith)
+
+-- items that fill so many rows leave no rest
+whole_by : (count width len : ℕ) → len ≡ count * width → len ≡ len / width * width
+whole_by count zero len fills = omega arith
+whole_by count (suc width) len fills =
+    let same : len / suc width ≡ count = ap (λ n. n / suc width) fills ∙ mul-div_cancel count (omega arith) in
+    fills ∙ ap (λ n. n * suc width) (sym same)
+
+-- where there is a row, the width isn't 0
+wide_by : (len width k : ℕ) → suc k ≤ len / width → 0 < width
+wide_by len zero k within = absurd (omega (arith, within, div-zero len))
+wide_by len (suc width) k within = omega arith
+
+module _ {X : Type 0} (width : ℕ) where
+  -- the rows behind the first k
+  pub rows-dropped : (k : ℕ) (items : List X) → k ≤ chunk_count width items → rows width (drop (k * width) items) ≡ drop k (rows width items)
+  rows-dropped zero items within = let none : 0 * width ≡ 0 = omega arith in ap (λ n. rows width (drop n items)) none
+  rows-dropped (suc k) items within =
+      let wide = wide_by (length items) width k within in
+      let enough : width ≤ length items = omega (arith, mul-le-mul_right width within, div-mul-le_self (length items) width) in
+      let first = rows-first width items wide enough in
+      let left : k ≤ chunk_count width (drop width items) = omega (arith, within, ap length first, length-rows width items, length-rows width (drop width items)) in
+      let place : suc k * width ≡ width + k * width = omega arith in
+      ap (λ n. rows width (drop n items)) place
+      ∙ (ap (rows width) (sym (drop-drop (k * width) width items)) ∙ (rows-dropped k (drop width items) left ∙ ap (drop (suc k)) (sym first)))
+
+  -- the rows of the items of the first k rows
+  rows-taken : (k : ℕ) (items : List X) → k ≤ chunk_count width items → rows width (take (k * width) items) ≡ take k (rows width items)
+  rows-taken zero items within = let none : 0 * width ≡ 0 = omega arith in ap (λ n. rows width (take n items)) none ∙ ap (λ n. map (row_at width []) (range_with_len 0 n)) (zero-div width)
+  rows-taken (suc k) items within =
+      let first_rows = take (suc k * width) items in
+      let long : length first_rows ≡ suc k * width = length-take-le (suc k * width) items (omega (arith, mul-le-mul_right width within, div-mul-le_self (length items) width)) in
+      let count : chunk_count width first_rows ≡ suc k = ap (λ n. n / width) long ∙ mul-div_cancel (suc k) (wide_by (length items) width k within) in
+      ap (λ n. map (row_at width first_rows) (range_with_len 0 n)) count
+      ∙ (rows-kept width items 0 (suc k) (suc k) (omega arith) ∙ sym (take-map-range_with_len (row_at width items) 0 (chunk_count width items) (suc k) within))
+
+  -- so many rows of those that a list tells are there, and so are their items
+  pub count-within : (k : ℕ) (items : List X) (left : List (List X)) → rows width items ≡ left → k ≤ length left → k ≤ chunk_count width items
+  count-within k items left same within = omega (arith, within, length-rows width items, ap length same)
+
+  pub items-within : (k : ℕ) (items : List X) (left : List (List X)) → rows width items ≡ left → k ≤ length left → (n : ℕ) → n ≡ width → k * n ≤ length items
+  items-within k items left same within n as_wide =
+      omega (arith, ap (λ w. k * w) as_wide, mul-le-mul_right width (count-within k items left same within), div-mul-le_self (length items) width)
+
+-- a cut of items that leave no rest, behind the first k rows or before the last k
+module _ {X : Type 0} (width : ℕ) (items : List X) (whole : length items ≡ chunk_count width items * width) where
+  module _ (k : ℕ) (within : k ≤ chunk_count width items) where
+    fewer : length items - k * width ≡ (chunk_count width items - k) * width
+    fewer =
+        let others = chunk_count width items - k in
+        let all : chunk_count width items ≡ k + others = omega arith in
+        let places : chunk_count width items * width ≡ k * width + others * width = ap (λ n. n * width) all ∙ (omega arith) in
+        omega (arith, whole, places)
+
+    pub whole-dropped : length (drop (k * width) items) ≡ chunk_count width (drop (k * width) items) * width
+    whole-dropped = whole_by (chunk_count width items - k) width (length (drop (k * width) items)) (length-drop (k * width) items ∙ fewer)
+
+    pub whole-taken : let before = take (length items - k * width) items in length before ≡ chunk_count width before * width
+    whole-taken =
+        let before = take (length items - k * width) items in
+        whole_by (chunk_count width items - k) width (length before) (length-take-le (length items - k * width) items (omega arith) ∙ fewer)
+
+    pub rows-before : rows width (take (length items - k * width) items) ≡ take (chunk_count width items - k) (rows width items)
+    rows-before = ap (λ n. rows width (take n items)) fewer ∙ rows-taken width (chunk_count width items - k) items (omega arith)
+
+  -- the last row is what stands behind the others
+  module _ (wide : 0 < width) (enough : width ≤ length items) where
+    pub rows-last : rows width items ≡ rows width (take (length items - width) items) ++ drop (length items - width) items ∷ []
+    rows-last =
+        let before = length items - width in
+        let last = chunk_count width items - 1 in
+        let all : chunk_count width items ≡ last + 1 = omega (arith, count-step width items wide enough) in
+        let one : 1 * width ≡ width = omega arith in
+        let place : before ≡ last * width = ap (λ n. length items - n) (sym one) ∙ fewer 1 (omega (arith, all)) in
+        let row : row_at width items last ≡ drop before items =
+        ap (λ n. take width (drop n items)) (sym place) ∙ take_all width (drop before items) (omega (arith, length-drop before items)) in
+        let others : rows width (take before items) ≡ map (row_at width items) (range_with_len 0 last) =
+        ap (λ n. rows width (take n items)) place
+        ∙ (rows-taken width last items (omega (arith, all)) ∙ take-map-range_with_len (row_at width items) 0 (chunk_count width items) last (omega (arith, all))) in
+        ap (λ n. map (row_at width items) (range_with_len 0 n)) all
+        ∙ (map-range_with_len_more (row_at width items) 0 last last (omega arith)
+        ∙ (ap (λ list. list ++ row_at width items last ∷ []) (sym others) ∙ ap (λ r. rows width (take before items) ++ r ∷ []) row))
 
 -- a whole row ends within the items
 pub row-within : (len width index : ℕ) → index < len / width → index * width + width ≤ len

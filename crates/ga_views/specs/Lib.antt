@@ -1,7 +1,9 @@
 pub mod ArrayMut
+pub mod Cut
 pub mod HexText
 pub mod Iteration
 pub mod Length
 pub mod Parts
 pub mod Rows
 pub mod RowsMut
+pub mod Views

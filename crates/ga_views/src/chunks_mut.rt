@@ -2,14 +2,14 @@
 ghost use Rattle.ga_views.specs.Parts.{part_set};
 ghost use Rattle.ga_views.specs.Rows.{chunk_count, chunk_rest, row_at, rows};
 ghost use Rattle.std.specs.Borrow.{Array, Lends, follows_both, sem};
-ghost use Rattle.std.specs.Iterator.Runs.{EveryRun, ItemsMapTo};
-ghost use Rattle.std.specs.Iterator.{YieldsFirstBy};
+ghost use Rattle.std.specs.Iterator.Runs.{EveryRun, ItemsMapTo, ItemsMapToReversed};
+ghost use Rattle.std.specs.Iterator.{YieldsFirstBy, YieldsLastBy};
 ghost use Rattle.std.specs.Option.{option_map};
-ghost use Rattle.std.specs.Prelude.{◌≡◌, ◌*◌, ◌<◌, ◌↔◌, ◌⊎◌, ◌++◌, IfSome, IsSome, List, length};
+ghost use Rattle.std.specs.Prelude.{◌≡◌, ◌*◌, ◌<◌, ◌↔◌, ◌⊎◌, ◌++◌, IfSome, IsSome, List, length, slice_get};
 
-use crate::chunks_ref::{ChunkIter, len_of_rows};
+use crate::chunks_ref::len_of_rows;
 use crate::slice_mut::{PartMut, SliceMut};
-use crate::{ChunksRef, GenericArrayMut, GenericArrayRef, Unsigned};
+use crate::{ChunkIter, ChunksRef, GenericArrayMut, GenericArrayRef, Unsigned};
 use std::marker::PhantomData;
 
 /// Rows of `N` items each that lie in a slice, one behind the other, for writing. What is written
@@ -95,7 +95,8 @@ impl<S: SliceMut<T>, T, N: Unsigned> RowsMut<S, T, N> {
     /// The number of rows. Constant time.
     #[inline]
     pub fn len(&self) -> usize
-        ensures { result ≡ chunk_count N.USIZE (S.items self.now.slice) }
+        ensures count { result ≡ chunk_count N.USIZE (S.items self.now.slice) }
+        ensures rows { result ≡ length (rows N.USIZE (S.items self.now.slice)) }
     {
         self.view().len()
     }
@@ -105,15 +106,17 @@ impl<S: SliceMut<T>, T, N: Unsigned> RowsMut<S, T, N> {
     pub fn get(&self, index: usize) -> Option<GenericArrayRef<'_, T, N>>
         ensures variant { IsSome result ↔ (index < chunk_count N.USIZE (S.items self.now.slice)) }
         ensures row { IfSome result (λ view. view.slice.now ≡ row_at N.USIZE (S.items self.now.slice) index) }
+        ensures rows { option_map (λ view. view.slice.now) result ≡ slice_get (rows N.USIZE (S.items self.now.slice)) index }
     {
         self.view().get(index)
     }
 
-    /// The rows as read-only views, in order.
+    /// The rows as read-only views, in order, from both ends.
     #[inline]
     pub fn iter(&self) -> ChunkIter<'_, T, N>
         ensures rows { result ≡ rows N.USIZE (S.items self.now.slice) }
         ensures runs { EveryRun (YieldsFirstBy {S = List (List T)} {A = GenericArrayRef T N N.Unsigned} (λ view. view.slice.now) (λ left. left)) (λ run. ItemsMapTo run (λ view. view.slice.now) run.from) }
+        ensures runs_back { EveryRun (YieldsLastBy {S = List (List T)} {A = GenericArrayRef T N N.Unsigned} (λ view. view.slice.now) (λ left. left)) (λ run. ItemsMapToReversed run (λ view. view.slice.now) run.from) }
     {
         ChunkIter::over(self.slice.all())
     }

@@ -1,12 +1,13 @@
-//! Rows of one width that lie in a slice, and their iterator.
+//! Rows of one width that lie in a slice.
 ghost use Rattle.ga_views.specs.Rows.{chunk_count, chunk_rest, row_at, rows};
-ghost use Rattle.std.specs.Iterator.{YieldsFirstBy, item_count};
-ghost use Rattle.std.specs.Iterator.Runs.{EveryRun, ItemsMapTo};
-ghost use Rattle.std.specs.Prelude.{◌≡◌, ◌*◌, ◌/◌, ◌<◌, ◌↔◌, ◌⊎◌, IfSome, IsSome, List, ◌++◌, length, ⊤};
+ghost use Rattle.std.specs.Iterator.{YieldsFirstBy, YieldsLastBy};
+ghost use Rattle.std.specs.Iterator.Runs.{EveryRun, ItemsMapTo, ItemsMapToReversed};
+ghost use Rattle.std.specs.Option.{option_map};
+ghost use Rattle.std.specs.Prelude.{◌≡◌, ◌*◌, ◌/◌, ◌<◌, ◌↔◌, ◌⊎◌, IfSome, IsSome, List, ◌++◌, length, slice_get, ⊤};
 
-use crate::{GenericArrayRef, Unsigned};
+use crate::{ChunkIter, GenericArrayRef, Unsigned};
 use std::alloc::AllocError;
-use std::marker::{Model, PhantomData};
+use std::marker::PhantomData;
 
 /// Rows of `N` items each that lie in a slice, one behind the other. It can be copied, and copies
 /// no item.
@@ -63,7 +64,8 @@ impl<'a, T, N: Unsigned> ChunksRef<'a, T, N> {
     /// The number of rows. Constant time.
     #[inline]
     pub fn len(&self) -> usize
-        ensures { result ≡ chunk_count N.USIZE self.now.slice.now }
+        ensures count { result ≡ chunk_count N.USIZE self.now.slice.now }
+        ensures rows { result ≡ length (rows N.USIZE self.now.slice.now) }
     {
         match N::USIZE {
             0 => 0,
@@ -76,6 +78,7 @@ impl<'a, T, N: Unsigned> ChunksRef<'a, T, N> {
     pub fn get(&self, index: usize) -> Option<GenericArrayRef<'a, T, N>>
         ensures variant { IsSome result ↔ (index < chunk_count N.USIZE self.now.slice.now) }
         ensures row { IfSome result (λ view. view.slice.now ≡ row_at N.USIZE self.now.slice.now index) }
+        ensures rows { option_map (λ view. view.slice.now) result ≡ slice_get (rows N.USIZE self.now.slice.now) index }
     {
         if index < self.len() {
             let (_, behind) = self.slice.split_at(index * N::USIZE);
@@ -86,11 +89,12 @@ impl<'a, T, N: Unsigned> ChunksRef<'a, T, N> {
         }
     }
 
-    /// The rows as views, in order.
+    /// The rows as views, in order, from both ends.
     #[inline]
     pub fn iter(&self) -> ChunkIter<'_, T, N>
         ensures rows { result ≡ rows N.USIZE self.now.slice.now }
         ensures runs { EveryRun (YieldsFirstBy {S = List (List T)} {A = GenericArrayRef T N N.Unsigned} (λ view. view.slice.now) (λ left. left)) (λ run. ItemsMapTo run (λ view. view.slice.now) run.from) }
+        ensures runs_back { EveryRun (YieldsLastBy {S = List (List T)} {A = GenericArrayRef T N N.Unsigned} (λ view. view.slice.now) (λ left. left)) (λ run. ItemsMapToReversed run (λ view. view.slice.now) run.from) }
     {
         ChunkIter::over(self.slice)
     }
@@ -113,58 +117,6 @@ impl<'a, T, N: Unsigned> ChunksRef<'a, T, N> {
         ensures len { length result.now ≡ chunk_count N.USIZE self.entry.slice.now * N.USIZE }
     {
         self.slice
-    }
-}
-
-/// The rows of a `ChunksRef` as views, in order. Contracts see it as the list
-/// of the rows that are left.
-#[derive(Drop)]
-pub struct ChunkIter<'a, T, N: Unsigned> {
-    // The items of the rows that are left.
-    left: &'a [T],
-    of: PhantomData<N>,
-}
-
-impl<'a, T, N: Unsigned> Model for ChunkIter<'a, T, N> {
-    ghost use Rattle.ga_views.specs.Rows.{rows};
-    ghost use Rattle.std.specs.Prelude.{List};
-
-    ghost Value = { List (List T) };
-
-    ghost view = { λ iter. rows N.USIZE iter.left.now };
-}
-
-impl<'a, T, N: Unsigned> ChunkIter<'a, T, N> {
-    /// The rows of a slice.
-    #[inline]
-    pub(crate) fn over(slice: &'a [T]) -> Self
-        ensures rows { result ≡ rows N.USIZE slice.now }
-        ensures runs { EveryRun (YieldsFirstBy {S = List (List T)} {A = GenericArrayRef T N N.Unsigned} (λ view. view.slice.now) (λ left. left)) (λ run. ItemsMapTo run (λ view. view.slice.now) run.from) }
-    {
-        ChunkIter {
-            left: slice,
-            of: PhantomData,
-        }
-    }
-}
-
-impl<'a, T, N: Unsigned> Iterator for ChunkIter<'a, T, N> {
-    type Item = GenericArrayRef<'a, T, N>;
-
-    ghost next_gives = { YieldsFirstBy (λ view. view.slice.now) (λ left. left) };
-
-    ghost remaining = { item_count (λ left. left) };
-
-    /// The next row. Constant time.
-    #[inline]
-    fn next(&mut self) -> Option<GenericArrayRef<'a, T, N>> {
-        let width = N::USIZE;
-        if width == 0 || self.left.len() < width {
-            return None;
-        }
-        let (row, left) = self.left.split_at(width);
-        self.left = left;
-        Some(GenericArrayRef::from_slice(row))
     }
 }
 

@@ -5,6 +5,7 @@
 
 mod array_mut;
 mod array_ref;
+mod chunk_iter;
 mod chunks_mut;
 mod chunks_ref;
 /// Bytes as hex text.
@@ -18,8 +19,9 @@ mod uses;
 
 pub use array_mut::{ArrayMut, GenericArrayMut};
 pub use array_ref::GenericArrayRef;
+pub use chunk_iter::ChunkIter;
 pub use chunks_mut::{ChunksMut, RowsMut};
-pub use chunks_ref::{ChunkIter, ChunksRef};
+pub use chunks_ref::ChunksRef;
 pub use length::{Const, MAX_INLINE, Unsigned};
 pub use length_error::LengthError;
 pub use numbers::{

@@ -3,6 +3,8 @@ ghost use Rattle.ga_views.specs.Rows.{rows};
 ghost use Rattle.std.specs.Io.KnownBytes.{Appends};
 ghost use Rattle.std.specs.Prelude.{◌≡◌, ◌≢◌, ◌==◌, ◌∷◌, [], IfOk, IfSome, IsOk, IsSome, OnOk, codes, count_by, length, position, reverse, slice_index, slice_set, sum};
 
+mod row_walks;
+
 use crate::hex_text::write_hex;
 use crate::{ChunksMut, ChunksRef, GenericArrayMut, GenericArrayRef, U2, U3};
 use std::alloc::AllocError;

@@ -19,3 +19,4 @@ pub use Rattle.ga_core.specs.Length
 pub use Rattle.ga_core.specs.Rows
 pub use Rattle.ga_core.specs.Runs
 pub use Rattle.ga_core.specs.Tries
+pub use Rattle.ga_core.specs.Views

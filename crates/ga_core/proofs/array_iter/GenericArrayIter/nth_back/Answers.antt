@@ -1,5 +1,4 @@
-use Rattle.ga_core.proofs.CutLemmas.{nth_back-past, nth_back-step}
-use Rattle.ga_core.proofs.LeftLemmas.{reverse-take}
+use Rattle.ga_core.proofs.CutLemmas.{nth_back-past, nth_back-step, reverse-take}
 use Rattle.ga_core.proofs.array_iter.GenericArrayIter.nth_back.Goals as goal
 use Rattle.std.proofs.Common.{◌≡◌, ◌-◌, ◌∙◌, ap, arith, length, reverse, take}
 

@@ -9,7 +9,7 @@ use Rattle.ga_views.proofs.chunks_mut.RowsMut.get_mut.Code as code
 use Rattle.ga_views.proofs.chunks_mut.RowsMut.get_mut.Statement.{statement}
 use Rattle.ga_views.proofs.chunks_mut.RowsMut.len.Met as len_met
 use Rattle.ga_views.proofs.chunks_mut.RowsMut.row_mut.Met as row_met
-use Rattle.ga_views.specs.Rows.{chunk_count, row_at}
+use Rattle.ga_views.specs.Rows.{chunk_count, row_at, rows as rows_of}
 use Rattle.ga_views.specs.RowsMut.{LendsRow, LendsRowIf, row_set}
 use Rattle.ga_views.specs.contracts.array_mut.ArrayMut+mut+slice+T+T+N.from_mut_slice as view_of
 use Rattle.ga_views.specs.contracts.chunks_mut.RowsMut as rows
@@ -158,8 +158,8 @@ get_mut_spec 𝓤 𝓛 𝓜 𝓡 wired S T N LS LT LN p pd s sd n nd d metP metS
     calls_at ! (framed 𝓤 𝓛.H 𝓜 𝓣) L (len_met.met 𝓤 𝓛 𝓜 𝓡 (code.calls-ga_views::chunks_mut::RowsMut::len 𝓡.env wired) S T N LS LT LN s sd n nd d metS metN metD) z
     (and_then ! (get ! refl) (no_more !)) (λ v.
     use1 𝓛 (later (some (λ (m : ℕ). ((‵ (flft κ' t.1) ⊛ ‵ (flft κS qs.1.0) ⊛ ‵ (flft κT qs.1.1.0) ⊛ ‵ (flft κN qs.1.1.1.0) ⊛ ‵ ftrue) ⊛ ‵ (usize.own_val m (v ∷ []))) ⊛
-    some (λ (ws : Unit {0} × Unit {0}). ‵ (lasts (count_of.ended S T N s sd n nd d) z.0.0 (shown, tt) ws) ⊛ raw (fact 𝓤 (m ≡ chunk_count n.USIZE items)))))) (id⊢ 𝓤 _) $
-    await ! tt $ pick ! (λ m. split ! $ split ! $ move ! (2 ∷ []) $ pick ! (λ ws. split ! $ drop ! $ heard ! _ (λ is_count.
+    some (λ (ws : Unit {0} × Unit {0}). ‵ (lasts (count_of.ended S T N s sd n nd d) z.0.0 (shown, tt) ws) ⊛ raw (fact 𝓤 (m ≡ chunk_count n.USIZE items)) ⊛ raw (fact 𝓤 (m ≡ length (rows_of n.USIZE items))))))) (id⊢ 𝓤 _) $
+    await ! tt $ pick ! (λ m. split ! $ split ! $ move ! (2 ∷ []) $ pick ! (λ ws. split ! $ drop ! $ split ! $ heard ! _ (λ is_count. drop ! $
     move ! (1 ∷ []) $ fsplit ! $ feq_l ! (λ is_m. flt_l ! (λ fm.
     lands_as ! (ap only is_m) refl (tt, record { fits = fm }) $
     -- [the tokens; the way back]

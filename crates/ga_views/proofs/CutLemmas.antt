@@ -1,12 +1,13 @@
 -- Steps that cut a list from its ends, joined to what std says of `next` and `next_back`.
-use Rattle.ga_core.specs.Cut.{StepGives, back, front}
-use Rattle.std.proofs.Common.{◌≡◌, ℕ, zero, suc, ◌+◌, ◌-◌, ◌<◌, ◌≤◌, List, [], ◌∷◌, ◌++◌, inl, inr, Option, None, Some, length, min, take, drop, reverse, refl, sym, ap, ◌∙◌, append_assoc, arith, length-append, slice_get}
-use Rattle.std.proofs.lemmas.List.{drop-drop, length-reverse, length-take, reverse-append, reverse-reverse, take-take}
+use Rattle.ga_views.specs.Cut.{StepGives, back, front}
+use Rattle.std.proofs.Common.{◌≡◌, ℕ, zero, suc, ◌+◌, ◌-◌, ◌<◌, ◌≤◌, List, [], ◌∷◌, ◌++◌, inl, inr, Option, None, Some, length, min, take, drop, reverse, refl, sym, ap, ◌∙◌, append_assoc, arith, length-append, length-drop, slice_get}
+use Rattle.std.proofs.lemmas.List.{drop-drop, length-reverse, length-take, reverse-append, reverse-reverse, take-append-drop, take-take}
 use Rattle.std.proofs.Math.ListN.{drop_of_length-le}
-use Rattle.std.proofs.Math.Seq.{take-append_seam}
+use Rattle.std.proofs.Math.Seq.{drop-append_seam, take-append_seam}
 use Rattle.std.proofs.lemmas.Bool.{cases_lt}
 use Rattle.std.proofs.lemmas.Option.{slice_get_past}
-use Rattle.std.specs.Iterator.{YieldsFirst, YieldsLast}
+use Rattle.std.specs.Iterator.{YieldsFirst, YieldsFirstBy, YieldsLast, YieldsLastBy}
+use Rattle.std.specs.Option.{option_map}
 
 module _ {T : Type 0} where
   -- an item of a list, by what is left before it
@@ -19,6 +20,24 @@ module _ {T : Type 0} where
   pub next-step : (items : List T) (reply : Option T) (left : List T) → YieldsFirst (λ all. all) items reply left → StepGives (front 0) items reply left
   next-step items None left ended = (ap (λ all. slice_get all 0) (sym ended.0), ended.1 ∙ ap (drop 1) (sym ended.0))
   next-step items (Some item) left came = (ap (λ all. slice_get all 0) (sym came), ap (drop 1) (sym came))
+
+  -- a step whose items are views of those of the list
+  pub first-by : {A : Type 0} (view : A → T) (items : List T) (reply : Option A) (left : List T) → YieldsFirstBy view (λ all. all) items reply left → YieldsFirst (λ all. all) items (option_map view reply) left
+  first-by view items None left step = step
+  first-by view items (Some item) left step = step
+
+  pub last-by : {A : Type 0} (view : A → T) (items : List T) (reply : Option A) (left : List T) → YieldsLastBy view (λ all. all) items reply left → YieldsLast (λ all. all) items (option_map view reply) left
+  last-by view items None left step = step
+  last-by view items (Some item) left step = step
+
+  -- all but the last are, from the back, what lies behind the first
+  pub reverse-take : (items : List T) (kept passed : ℕ) → length items ≡ kept + passed → reverse (take kept items) ≡ drop passed (reverse items)
+  reverse-take items kept passed long =
+      let last = reverse (drop kept items) in
+      let count : passed ≡ length last = omega (arith, length-reverse (drop kept items), length-drop kept items, long) in
+      sym (drop-append_seam last (reverse (take kept items)))
+      ∙ (ap (λ k. drop k (last ++ reverse (take kept items))) (sym count)
+      ∙ ap (drop passed) (sym (reverse-append (take kept items) (drop kept items)) ∙ ap reverse (take-append-drop kept items)))
 
   -- `next_back` is `next` on the reversed list
   pub next_back-reversed : (items : List T) (reply : Option T) (left : List T) → YieldsLast (λ all. all) items reply left → YieldsFirst (λ all. all) (reverse items) reply (reverse left)

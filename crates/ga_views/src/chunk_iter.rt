@@ -1,0 +1,159 @@
+//! The rows that lie in a slice as views, from both ends.
+ghost use Rattle.ga_views.specs.Cut.{StepGives, back, front};
+ghost use Rattle.ga_views.specs.Rows.{chunk_count, rows};
+ghost use Rattle.std.specs.Iterator.{YieldsFirstBy, YieldsLastBy, item_count};
+ghost use Rattle.std.specs.Iterator.Runs.{EveryRun, ItemsMapTo, ItemsMapToReversed};
+ghost use Rattle.std.specs.Option.{option_map};
+ghost use Rattle.std.specs.Prelude.{◌≡◌, ◌-◌, ◌*◌, ◌≤◌, List, drop, length, take};
+
+use crate::{GenericArrayRef, Unsigned};
+use std::marker::{Model, PhantomData};
+
+/// The rows of a `ChunksRef` or a `ChunksMut` as views, from both ends. Contracts see it as the list of
+/// the rows that are left.
+///
+/// Stands for the `slice::Iter` of a slice of arrays. Each call takes constant time.
+#[derive(Drop)]
+pub struct ChunkIter<'a, T, N: Unsigned> {
+    // The items of the rows that are left.
+    left: &'a [T],
+    of: PhantomData<N>,
+}
+
+impl<'a, T, N: Unsigned> Model for ChunkIter<'a, T, N> {
+    ghost use Rattle.ga_views.specs.Rows.{chunk_count, rows};
+    ghost use Rattle.std.specs.Prelude.{◌≡◌, ◌*◌, List, length};
+
+    ghost Value = { List (List T) };
+
+    ghost view = { λ iter. rows N.USIZE iter.left.now };
+
+    // The rows leave no rest, so that the last of them ends where the slice does.
+    ghost invariant = { λ iter. length iter.left.now ≡ chunk_count N.USIZE iter.left.now * N.USIZE };
+}
+
+impl<'a, T, N: Unsigned> ChunkIter<'a, T, N> {
+    /// The rows of a slice of as many items as they have.
+    #[inline]
+    pub(crate) fn over(slice: &'a [T]) -> Self
+        requires whole { length slice.now ≡ chunk_count N.USIZE slice.now * N.USIZE }
+        ensures rows { result ≡ rows N.USIZE slice.now }
+        ensures runs { EveryRun (YieldsFirstBy {S = List (List T)} {A = GenericArrayRef T N N.Unsigned} (λ view. view.slice.now) (λ left. left)) (λ run. ItemsMapTo run (λ view. view.slice.now) run.from) }
+        ensures runs_back { EveryRun (YieldsLastBy {S = List (List T)} {A = GenericArrayRef T N N.Unsigned} (λ view. view.slice.now) (λ left. left)) (λ run. ItemsMapToReversed run (λ view. view.slice.now) run.from) }
+    {
+        ChunkIter {
+            left: slice,
+            of: PhantomData,
+        }
+    }
+
+    /// The number of rows that are left.
+    #[inline]
+    pub fn len(&self) -> usize
+        ensures { result ≡ length self.now }
+    {
+        match N::USIZE {
+            0 => 0,
+            width => self.left.len() / width,
+        }
+    }
+
+    /// Passes over `n` rows from the front, or as many as are left, and gives the next.
+    ///
+    /// So all are consumed, and `None` is answered, where `n` is at or beyond their number.
+    #[inline]
+    pub fn nth(&mut self, n: usize) -> Option<GenericArrayRef<'a, T, N>>
+        ensures step { StepGives (front n) self.old (option_map (λ view. view.slice.now) result) self.new }
+    {
+        let rows = self.len();
+        if n < rows {
+            self.pass_front(n);
+            self.next()
+        } else {
+            self.pass_front(rows);
+            None
+        }
+    }
+
+    /// Passes over `n` rows from the back, or as many as are left, and gives the last of those before.
+    ///
+    /// So all are consumed, and `None` is answered, where `n` is at or beyond their number.
+    #[inline]
+    pub fn nth_back(&mut self, n: usize) -> Option<GenericArrayRef<'a, T, N>>
+        ensures step { StepGives (back n) self.old (option_map (λ view. view.slice.now) result) self.new }
+    {
+        let rows = self.len();
+        if n < rows {
+            self.pass_back(n);
+            self.next_back()
+        } else {
+            self.pass_back(rows);
+            None
+        }
+    }
+
+    // Passes over the first `passed` rows.
+    #[inline]
+    fn pass_front(&mut self, passed: usize)
+        requires in_bounds { passed ≤ length self.old }
+        ensures { self.new ≡ drop passed self.old }
+    {
+        let (_, left) = self.left.split_at(passed * N::USIZE);
+        self.left = left;
+    }
+
+    // Passes over the last `passed` rows.
+    #[inline]
+    fn pass_back(&mut self, passed: usize)
+        requires in_bounds { passed ≤ length self.old }
+        ensures { self.new ≡ take (length self.old - passed) self.old }
+    {
+        let (left, _) = self.left.split_at(self.left.len() - passed * N::USIZE);
+        self.left = left;
+    }
+}
+
+impl<'a, T, N: Unsigned> Iterator for ChunkIter<'a, T, N> {
+    type Item = GenericArrayRef<'a, T, N>;
+
+    ghost next_gives = { YieldsFirstBy (λ view. view.slice.now) (λ left. left) };
+
+    ghost remaining = { item_count (λ left. left) };
+
+    /// The first row that is left.
+    #[inline]
+    fn next(&mut self) -> Option<GenericArrayRef<'a, T, N>> {
+        let width = N::USIZE;
+        if width == 0 || self.left.len() < width {
+            return None;
+        }
+        let (row, left) = self.left.split_at(width);
+        self.left = left;
+        Some(GenericArrayRef::from_slice(row))
+    }
+
+    #[inline]
+    fn size_hint(&self) -> (usize, Option<usize>)
+        ensures { result ≡ (length self.now, Some (length self.now)) }
+    {
+        let rows = self.len();
+        (rows, Some(rows))
+    }
+}
+
+impl<'a, T, N: Unsigned> DoubleEndedIterator for ChunkIter<'a, T, N> {
+    ghost next_back_gives = { YieldsLastBy (λ view. view.slice.now) (λ left. left) };
+
+    /// The last row that is left.
+    #[inline]
+    fn next_back(&mut self) -> Option<GenericArrayRef<'a, T, N>> {
+        let width = N::USIZE;
+        let len = self.left.len();
+        if width == 0 || len < width {
+            return None;
+        }
+        let (left, row) = self.left.split_at(len - width);
+        self.left = left;
+        Some(GenericArrayRef::from_slice(row))
+    }
+}
