@@ -41,3 +41,12 @@ module _ (byte : ℕ) where
         | inl later ↦ let last = is-last others later.0 later.1 in subst (λ i. IsLastWith byte (first ∷ others) i) (sym later.2) last
         | inr here ↦ subst (λ i. IsLastWith byte (first ∷ others) i) (sym here.2) ((first, refl, here.1), none-has others here.0)
       ]
+
+  module _ (all left after : List (List ℕ)) (row : List ℕ) (so_far : last_record_with byte all ≡ last_record_with byte left) (step : left ≡ after ++ row ∷ []) where
+    -- a walk from the back ends at a record that has the byte
+    pub walk-found : (count : ℕ) → count ≡ length after → has byte row ≡ true → last_record_with byte all ≡ Some count
+    walk-found count is found = so_far ∙ (ap (last_record_with byte) step ∙ (last-found after row found ∙ ap Some (sym is)))
+
+    -- and goes on behind one that hasn't
+    pub walk-passed : has byte row ≡ false → last_record_with byte all ≡ last_record_with byte after
+    walk-passed missed = so_far ∙ (ap (last_record_with byte) step ∙ last-passed after row missed)

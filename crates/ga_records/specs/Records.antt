@@ -1,5 +1,5 @@
 -- Records of one width that fill a list of bytes, one behind the other: record i is row i.
-use Rattle.ga_views.specs.Rows.{chunk_rest}
+use Rattle.generic_array.specs.Rows.{chunk_rest}
 use Rattle.std.specs.List.{list_any}
 use Rattle.std.specs.Prelude.{◌≡◌, ℕ, suc, ⊤, ◌==◌, Bool, true, false, List, [], ◌∷◌, Option, None, Some, drop, slice_get}
 

@@ -5,14 +5,16 @@ ghost use Rattle.std.specs.Io.KnownBytes.{Appends};
 ghost use Rattle.std.specs.Iterator.{YieldsFirstBy, YieldsLastBy};
 ghost use Rattle.std.specs.Iterator.Runs.{EveryRun, ItemsMapTo, ItemsMapToReversed};
 ghost use Rattle.std.specs.Option.{option_map};
-ghost use Rattle.std.specs.Prelude.{◌≡◌, ◌<◌, ◌↔◌, IfOk, IfSome, IsNone, IsOk, List, OnOk, length, slice_get, ⊤};
+ghost use Rattle.std.specs.Prelude.{◌≡◌, ◌<◌, ◌↔◌, IfOk, IfSome, IsNone, ℕ, IsOk, List, OnOk, length, slice_get, ⊤};
 
 #[cfg(test)]
 mod tests;
 #[cfg(test)]
 mod uses;
 
-use generic_array::{ArrayLength, ChunkIter, ChunksRef, GenericArray, GenericArrayRef, LengthError};
+use generic_array::{
+    ArrayLength, ChunkIter, ChunksRef, GenericArray, GenericArrayRef, LengthError,
+};
 use std::alloc::AllocError;
 use std::io;
 use std::io::Write;
@@ -73,8 +75,8 @@ impl<'a, N: ArrayLength<u8>> RecordBlock<'a, N> {
     #[inline]
     pub fn iter(&self) -> ChunkIter<'_, u8, N>
         ensures records { result ≡ rows N.USIZE self.now.records.slice.now }
-        ensures runs { EveryRun (YieldsFirstBy {S = List (List T)} {A = GenericArrayRef T N N.Unsigned} (λ view. view.slice.now) (λ left. left)) (λ run. ItemsMapTo run (λ view. view.slice.now) run.from) }
-        ensures runs_back { EveryRun (YieldsLastBy {S = List (List T)} {A = GenericArrayRef T N N.Unsigned} (λ view. view.slice.now) (λ left. left)) (λ run. ItemsMapToReversed run (λ view. view.slice.now) run.from) }
+        ensures runs { EveryRun (YieldsFirstBy {S = List (List ℕ)} {A = GenericArrayRef ℕ N N.Unsigned} (λ view. view.slice.now) (λ left. left)) (λ run. ItemsMapTo run (λ view. view.slice.now) run.from) }
+        ensures runs_back { EveryRun (YieldsLastBy {S = List (List ℕ)} {A = GenericArrayRef ℕ N N.Unsigned} (λ view. view.slice.now) (λ left. left)) (λ run. ItemsMapToReversed run (λ view. view.slice.now) run.from) }
     {
         self.records.iter()
     }

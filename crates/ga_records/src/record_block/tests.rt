@@ -50,8 +50,14 @@ fn records_are_walked_and_written(rt: HostRuntime) -> Result<(), Fail> {
     let pairs: RecordBlock<'_, U2> = RecordBlock::open(&[1, 2, 3, 2])?;
     let copy = pairs;
     let mut left = copy.iter();
-    assert!(rt; left.next_back().is_some_and(|record| record.into_slice() == [3, 2].as_slice()));
-    assert!(rt; left.next().is_some_and(|record| record.into_slice() == [1, 2].as_slice()));
+    assert!(rt;
+        left.next_back()
+            .is_some_and(|record| record.into_slice() == [3, 2].as_slice())
+    );
+    assert!(rt;
+        left.next()
+            .is_some_and(|record| record.into_slice() == [1, 2].as_slice())
+    );
     assert!(rt; left.next().is_none());
     let mut written = Vec::new(rt.alloc());
     pairs.write_to(&mut written)?;

@@ -1,6 +1,6 @@
 //! Callers of blocks of records, each proved.
 ghost use Rattle.ga_records.specs.Records.{has};
-ghost use Rattle.std.specs.Prelude.{◌≡◌, ◌∷◌, [], IfSome, None, Ok, Some, Err, true};
+ghost use Rattle.std.specs.Prelude.{◌≡◌, ◌∷◌, [], IfSome, IsErr, None, Ok, Some, true};
 
 use crate::RecordBlock;
 use generic_array::{ArrayLength, GenericArrayRef, LengthError, U2};
@@ -17,7 +17,7 @@ fn last_of_each(bytes: &[u8]) -> Result<[Option<usize>; 3], LengthError>
 /// Three bytes aren't records of two.
 fn records_of_three(bytes: &[u8]) -> Result<RecordBlock<'_, U2>, LengthError>
     requires { bytes.now ≡ 1 ∷ 2 ∷ 3 ∷ [] }
-    ensures { result ≡ Err tt }
+    ensures { IsErr result }
 {
     RecordBlock::open(bytes)
 }
@@ -27,7 +27,7 @@ fn last_record_with<'a, N: ArrayLength<u8>>(
     block: RecordBlock<'a, N>,
     byte: u8,
 ) -> Option<GenericArrayRef<'a, u8, N>>
-    ensures { IfSome result (λ record. has byte record.slice.now ≡ true) }
+    ensures { IfSome result (λ found. has byte found.slice.now ≡ true) }
 {
     block.record(block.last_with(byte)?)
 }
