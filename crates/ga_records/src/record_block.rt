@@ -1,0 +1,109 @@
+//! A block of records that lies in a slice of bytes.
+ghost use Rattle.ga_records.specs.Records.{IsLastWith, IsRecordBlock, NoneHas, last_record_with};
+ghost use Rattle.generic_array.specs.Rows.{rows};
+ghost use Rattle.std.specs.Io.KnownBytes.{Appends};
+ghost use Rattle.std.specs.Iterator.{YieldsFirstBy, YieldsLastBy};
+ghost use Rattle.std.specs.Iterator.Runs.{EveryRun, ItemsMapTo, ItemsMapToReversed};
+ghost use Rattle.std.specs.Option.{option_map};
+ghost use Rattle.std.specs.Prelude.{◌≡◌, ◌<◌, ◌↔◌, IfOk, IfSome, IsNone, ℕ, IsOk, List, OnOk, length, slice_get, ⊤};
+
+#[cfg(test)]
+mod tests;
+#[cfg(test)]
+mod uses;
+
+use generic_array::{
+    ArrayLength, ChunkIter, ChunksRef, GenericArray, GenericArrayRef, LengthError,
+};
+use std::alloc::AllocError;
+use std::io;
+use std::io::Write;
+
+/// Records of `N` bytes each that fill a slice. It can be copied, and copies no byte.
+///
+/// No call asks for memory.
+pub struct RecordBlock<'a, N: ArrayLength<u8>> {
+    records: ChunksRef<'a, u8, N>,
+}
+
+impl<'a, N: ArrayLength<u8>> Clone for RecordBlock<'a, N> {
+    ghost is_clone = { λ block copy. copy ≡ block };
+
+    ghost is_infallible = { λ _. ⊤ };
+
+    fn clone(&self) -> Result<Self, AllocError> {
+        Ok(*self)
+    }
+}
+
+impl<'a, N: ArrayLength<u8>> Copy for RecordBlock<'a, N> {}
+
+impl<'a, N: ArrayLength<u8>> RecordBlock<'a, N> {
+    /// The records that these bytes are, or the error where some bytes are left behind the last whole
+    /// record. No bytes are no records. `N` isn't 0. Constant time.
+    #[inline]
+    pub fn open(bytes: &'a [u8]) -> Result<Self, LengthError>
+        requires width { 0 < N.USIZE }
+        ensures variant { IsOk result ↔ IsRecordBlock N.USIZE bytes.now }
+        ensures ok { IfOk result (λ block. block.records.slice.now ≡ bytes.now) }
+    {
+        let (records, rest) = GenericArray::<u8, N>::chunks_from_slice(bytes);
+        if rest.is_empty() {
+            Ok(RecordBlock { records })
+        } else {
+            Err(LengthError)
+        }
+    }
+
+    /// The number of records. Constant time.
+    #[inline]
+    pub fn len(&self) -> usize
+        ensures { result ≡ length (rows N.USIZE self.now.records.slice.now) }
+    {
+        self.records.len()
+    }
+
+    /// The record at `index`, or `None` where `index` isn't below the number of records. Constant time.
+    #[inline]
+    pub fn record(&self, index: usize) -> Option<GenericArrayRef<'a, u8, N>>
+        ensures { option_map (λ view. view.slice.now) result ≡ slice_get (rows N.USIZE self.now.records.slice.now) index }
+    {
+        self.records.get(index)
+    }
+
+    /// The records in order, from both ends.
+    #[inline]
+    pub fn iter(&self) -> ChunkIter<'_, u8, N>
+        ensures records { result ≡ rows N.USIZE self.now.records.slice.now }
+        ensures runs { EveryRun (YieldsFirstBy {S = List (List ℕ)} {A = GenericArrayRef ℕ N N.Unsigned} (λ view. view.slice.now) (λ left. left)) (λ run. ItemsMapTo run (λ view. view.slice.now) run.from) }
+        ensures runs_back { EveryRun (YieldsLastBy {S = List (List ℕ)} {A = GenericArrayRef ℕ N N.Unsigned} (λ view. view.slice.now) (λ left. left)) (λ run. ItemsMapToReversed run (λ view. view.slice.now) run.from) }
+    {
+        self.records.iter()
+    }
+
+    /// The greatest index of a record that contains the byte, or `None` where none does.
+    ///
+    /// Looks from the back and stops at the first record found: takes time in proportion to the bytes
+    /// behind it and in it.
+    pub fn last_with(&self, byte: u8) -> Option<usize>
+        ensures index { result ≡ last_record_with byte (rows N.USIZE self.now.records.slice.now) }
+        ensures some { IfSome result (λ index. IsLastWith byte (rows N.USIZE self.now.records.slice.now) index) }
+        ensures none { IsNone result ↔ NoneHas byte (rows N.USIZE self.now.records.slice.now) }
+    {
+        let mut left = self.iter();
+        while let Some(record) = left.next_back() {
+            if record.as_slice().contains(&byte) {
+                return Some(left.len());
+            }
+        }
+        None
+    }
+
+    /// Writes the bytes of all records, in order, by one `write_all`. The first fault of the writer is
+    /// answered, and nothing is said of how much went out.
+    pub fn write_to<W: Write>(&self, w: &mut W) -> Result<(), io::Error>
+        ensures { OnOk result (Appends (W.contents w.old) (W.contents w.new) self.now.records.slice.now) }
+    {
+        w.write_all(self.records.as_slice())
+    }
+}
