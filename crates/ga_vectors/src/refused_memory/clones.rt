@@ -2,8 +2,11 @@
 use crate::counted::{Counted, Counts};
 use crate::outcome::{Outcome, digits, play};
 use crate::refused_memory::three_in_a_block;
-use generic_array::{AllocError, BoxedArray, BoxedArrayIter, GenericArray, U2, U3};
+use generic_array::{
+    AllocError, BoxedArray, BoxedArrayIter, GenericArray, GenericArrayIter, U2, U3,
+};
 use std::alloc::Global;
+use std::convert::AsSlice;
 
 /// An item whose clone asks for a block, and then for three clones.
 type Item<'a> = Option<BoxedArrayIter<Counted<'a>>>;
@@ -18,6 +21,16 @@ fn are_whole(items: &[Item]) -> bool {
         Some(numbers) => digits(numbers.as_slice()) == 123,
         None => false,
     })
+}
+
+/// The same of what was made, and is dropped.
+fn is_whole<'a, S: AsSlice<Item<'a>> + Drop>(made: S) -> bool {
+    are_whole(made.as_slice())
+}
+
+/// Whether one item is left, and holds the numbers 1 to 3.
+fn is_one_whole(left: GenericArrayIter<Item<'_>, U2>) -> bool {
+    left.len() == 1 && are_whole(left.as_slice())
 }
 
 fn boxed_iterator(alloc: Global) -> Outcome {
@@ -58,7 +71,7 @@ fn inline_array(alloc: Global) -> Outcome {
         return Outcome::Refused;
     };
     let outcome = match array.clone() {
-        Ok(copy) => Outcome::exact_if(are_whole(copy.as_slice()) && counts.clones() == 6),
+        Ok(copy) => Outcome::exact_if(is_whole(copy) && counts.clones() == 6),
         Err(AllocError) => Outcome::refused_if(counts.clones() == 0 || counts.clones() == 3),
     };
     let outcome = outcome.and(are_whole(array.as_slice()) && counts.drops() == counts.clones());
@@ -74,11 +87,10 @@ fn inline_iterator(alloc: Global) -> Outcome {
     let mut items = array.into_iter();
     let _ = items.next();
     let outcome = match items.clone() {
-        Ok(copy) => Outcome::exact_if(copy.len() == 1 && are_whole(copy.as_slice())),
+        Ok(copy) => Outcome::exact_if(is_one_whole(copy) && counts.clones() == 3),
         Err(AllocError) => Outcome::refused_if(counts.clones() == 0),
     };
-    let outcome = outcome.and(items.len() == 1 && are_whole(items.as_slice()));
-    drop(items);
+    let outcome = outcome.and(is_one_whole(items));
     outcome.and(counts.drops() == counts.clones().wrapping_add(6))
 }
 
@@ -88,7 +100,7 @@ fn inline_repeat(alloc: Global) -> Outcome {
         return Outcome::Refused;
     };
     let outcome = match GenericArray::<Item, U3>::repeat(item) {
-        Ok(array) => Outcome::exact_if(are_whole(array.as_slice()) && counts.clones() == 6),
+        Ok(array) => Outcome::exact_if(is_whole(array) && counts.clones() == 6),
         Err(AllocError) => Outcome::refused_if(counts.clones() == 0 || counts.clones() == 3),
     };
     outcome.and(counts.drops() == counts.clones().wrapping_add(3))
@@ -100,18 +112,24 @@ fn boxed_repeat(alloc: Global) -> Outcome {
         return Outcome::Refused;
     };
     let outcome = match BoxedArray::<Item, U3>::repeat(alloc, item) {
-        Ok(array) => Outcome::exact_if(are_whole(array.as_slice()) && counts.clones() == 6),
+        Ok(array) => Outcome::exact_if(is_whole(array) && counts.clones() == 6),
         Err(AllocError) => Outcome::refused_if(counts.clones() == 0 || counts.clones() == 3),
     };
     outcome.and(counts.drops() == counts.clones().wrapping_add(3))
 }
 
+fn case(alloc: Global, number: u32) -> (&'static str, Outcome) {
+    match number {
+        0 => ("clone of a boxed iterator", boxed_iterator(alloc)),
+        1 => ("clone of one with nothing left", finished_iterator(alloc)),
+        2 => ("clone of an inline array", inline_array(alloc)),
+        3 => ("clone of an inline iterator", inline_iterator(alloc)),
+        4 => ("repeat of an inline array", inline_repeat(alloc)),
+        _ => ("repeat of a boxed array", boxed_repeat(alloc)),
+    }
+}
+
 #[test]
 fn a_clone_is_whole_or_drops_what_was_cloned(rt: HostRuntime) {
-    play(&rt, "clone of a boxed iterator", boxed_iterator);
-    play(&rt, "clone of one with nothing left", finished_iterator);
-    play(&rt, "clone of an inline array", inline_array);
-    play(&rt, "clone of an inline iterator", inline_iterator);
-    play(&rt, "repeat of an inline array", inline_repeat);
-    play(&rt, "repeat of a boxed array", boxed_repeat);
+    play(&rt, 6, case);
 }
