@@ -95,7 +95,7 @@ pub fn digits(items: &[Counted]) -> u32 {
 /// gate none. So a call that always finds no memory is seen, at the gate too.
 ///
 /// Prints the name of a case in which memory was refused.
-pub fn play<R: Abort + AllocGlobal + Print, F: Fn(Global, u32) -> (&'static str, Outcome)>(
+pub fn play<'n, R: Abort + AllocGlobal + Print, F: Fn(Global, u32) -> (&'n str, Outcome)>(
     rt: &R,
     count: u32,
     case: F,

@@ -4,8 +4,8 @@
 //! `refused` is refused; none is where that is beyond them.
 use crate::counted::{Counted, Counts};
 use crate::outcome::{Outcome, digits, play};
-use crate::refused_memory::{three_counted, three_in_a_block};
-use generic_array::{AllocError, BoxedArray, GenericArray, GenericArrayIter, U2, U3, U4};
+use crate::refused_memory::{cloned_behind_first, three_counted, three_in_a_block};
+use generic_array::{AllocError, BoxedArray, GenericArray, U2, U3, U4};
 use std::alloc::Global;
 use std::convert::AsSlice;
 
@@ -167,22 +167,11 @@ fn rows_cloned(refused: u32) -> Outcome {
     outcome.and(is_kept && counts.drops() == dropped.wrapping_add(4))
 }
 
-/// The numbers of the rows that are left, which are dropped.
-fn digits_left(rows: GenericArrayIter<Row<'_>, U2>) -> u32 {
-    row_digits(rows.as_slice())
-}
-
 fn rows_of_an_iterator(refused: u32) -> Outcome {
     let counts = Counts::refusing_clone(refused);
-    let mut rows = two_rows(&counts).into_iter();
-    let _ = rows.next();
-    let is_made = match rows.clone() {
-        Ok(copy) => counts.drops() == 2 && digits_left(copy) == 34,
-        Err(AllocError) => false,
-    };
-    let outcome = cloned(&counts, refused, 2, is_made, 2);
-    let dropped = counts.drops().wrapping_add(2);
-    outcome.and(digits_left(rows) == 34 && counts.drops() == dropped)
+    let (of_clone, of_left) = cloned_behind_first(two_rows(&counts), row_digits);
+    let is_known = of_left == 34 && (of_clone == 34 || of_clone == 0);
+    cloned(&counts, refused, 2, of_clone == 34, 4).and(is_known)
 }
 
 fn rows_of_a_boxed_iterator(alloc: Global, refused: u32) -> Outcome {
