@@ -90,18 +90,24 @@ pub fn digits(items: &[Counted]) -> u32 {
     all
 }
 
-/// Plays a case, and once more where memory was refused in it. The answer must be exact then: `rt try
-/// --test --fail-alloc K` refuses one request of a test, the K-th, and the gate none. So a call that
-/// always finds no memory is seen, at the gate too.
+/// Plays the cases of the numbers below `count`, each once more where memory was refused in it. The answer
+/// must be exact then: `rt try --test --fail-alloc K` refuses one request of a test, the K-th, and the
+/// gate none. So a call that always finds no memory is seen, at the gate too.
 ///
 /// Prints the name of a case in which memory was refused.
-pub fn play<R: Abort + AllocGlobal + Print, F: Fn(Global) -> Outcome>(rt: &R, name: &str, case: F)
+pub fn play<'n, R: Abort + AllocGlobal + Print, F: Fn(Global, u32) -> (&'n str, Outcome)>(
+    rt: &R,
+    count: u32,
+    case: F,
+)
     requires { F.IsAlwaysCallable case }
 {
-    let mut outcome = case(rt.alloc());
-    if let Outcome::Refused = outcome {
-        let _ = println!(rt; "refused: {name}");
-        outcome = case(rt.alloc());
+    for number in 0..count {
+        let (name, mut outcome) = case(rt.alloc(), number);
+        if let Outcome::Refused = outcome {
+            let _ = println!(rt; "refused: {name}");
+            outcome = case(rt.alloc(), number).1;
+        }
+        assert!(rt; matches!(outcome, Outcome::Exact), "{name}");
     }
-    assert!(rt; matches!(outcome, Outcome::Exact), "{name}");
 }

@@ -4,9 +4,10 @@
 //! `refused` is refused; none is where that is beyond them.
 use crate::counted::{Counted, Counts};
 use crate::outcome::{Outcome, digits, play};
-use crate::refused_memory::{three_counted, three_in_a_block};
+use crate::refused_memory::{cloned_behind_first, three_counted, three_in_a_block};
 use generic_array::{AllocError, BoxedArray, GenericArray, U2, U3, U4};
 use std::alloc::Global;
+use std::convert::AsSlice;
 
 /// Two counted items.
 type Row<'a> = GenericArray<Counted<'a>, U2>;
@@ -25,6 +26,32 @@ fn row_digits(rows: &[Row]) -> u32 {
     all
 }
 
+/// Whether items of these digits were made, with so many dropped by then. Drops them.
+fn made_items<'a, S: AsSlice<Counted<'a>> + Drop>(
+    made: Result<S, AllocError>,
+    wanted: u32,
+    counts: &Counts,
+    dropped: u32,
+) -> bool {
+    match made {
+        Ok(made) => digits(made.as_slice()) == wanted && counts.drops() == dropped,
+        Err(AllocError) => false,
+    }
+}
+
+/// The same of rows.
+fn made_rows<'a, S: AsSlice<Row<'a>> + Drop>(
+    made: Result<S, AllocError>,
+    wanted: u32,
+    counts: &Counts,
+    dropped: u32,
+) -> bool {
+    match made {
+        Ok(made) => row_digits(made.as_slice()) == wanted && counts.drops() == dropped,
+        Err(AllocError) => false,
+    }
+}
+
 /// Of what was cloned, once the clones are dropped again, as so many other items were. Where no clone
 /// was asked for, it was the block that was refused.
 fn cloned(counts: &Counts, refused: u32, due: u32, is_made: bool, others: u32) -> Outcome {
@@ -40,29 +67,22 @@ fn cloned(counts: &Counts, refused: u32, due: u32, is_made: bool, others: u32) -
 
 fn inline_repeat(refused: u32) -> Outcome {
     let counts = Counts::refusing_clone(refused);
-    let is_made = match GenericArray::<Counted, U4>::repeat(Counted::new(&counts, 7)) {
-        Ok(array) => digits(array.as_slice()) == 7777 && counts.drops() == 0,
-        Err(AllocError) => false,
-    };
+    let made = GenericArray::<Counted, U4>::repeat(Counted::new(&counts, 7));
+    let is_made = made_items(made, 7777, &counts, 0);
     cloned(&counts, refused, 3, is_made, 1)
 }
 
 fn boxed_repeat(alloc: Global, refused: u32) -> Outcome {
     let counts = Counts::refusing_clone(refused);
-    let is_made = match BoxedArray::<Counted, U4>::repeat(alloc, Counted::new(&counts, 7)) {
-        Ok(array) => digits(array.as_slice()) == 7777 && counts.drops() == 0,
-        Err(AllocError) => false,
-    };
+    let made = BoxedArray::<Counted, U4>::repeat(alloc, Counted::new(&counts, 7));
+    let is_made = made_items(made, 7777, &counts, 0);
     cloned(&counts, refused, 3, is_made, 1)
 }
 
 fn inline_clone(refused: u32) -> Outcome {
     let counts = Counts::refusing_clone(refused);
     let array = three_counted(&counts);
-    let is_made = match array.clone() {
-        Ok(copy) => digits(copy.as_slice()) == 123 && counts.drops() == 0,
-        Err(AllocError) => false,
-    };
+    let is_made = made_items(array.clone(), 123, &counts, 0);
     let outcome = cloned(&counts, refused, 3, is_made, 0).and(digits(array.as_slice()) == 123);
     let dropped = counts.drops().wrapping_add(3);
     drop(array);
@@ -100,80 +120,58 @@ fn boxed_iterator(alloc: Global, refused: u32) -> Outcome {
     outcome.and(counts.drops() == dropped)
 }
 
-#[test]
-fn a_refused_clone_drops_those_before_it(rt: HostRuntime) {
-    for refused in 1..5u32 {
-        play(&rt, "repeat of an inline array", |_| inline_repeat(refused));
-        play(
-            &rt,
-            "repeat of a boxed array",
-            |alloc| boxed_repeat(alloc, refused),
-        );
-        play(&rt, "clone of an inline array", |_| inline_clone(refused));
-        play(
-            &rt,
-            "clone of an inline iterator",
-            |_| inline_iterator(refused),
-        );
-        play(
-            &rt,
-            "clone of a boxed iterator",
-            |alloc| boxed_iterator(alloc, refused),
-        );
+fn case(alloc: Global, number: u32) -> (&'static str, Outcome) {
+    let refused = number / 5 + 1;
+    match number % 5 {
+        0 => ("repeat of an inline array", inline_repeat(refused)),
+        1 => ("repeat of a boxed array", boxed_repeat(alloc, refused)),
+        2 => ("clone of an inline array", inline_clone(refused)),
+        3 => ("clone of an inline iterator", inline_iterator(refused)),
+        _ => ("clone of a boxed iterator", boxed_iterator(alloc, refused)),
     }
 }
 
+#[test]
+fn a_refused_clone_drops_those_before_it(rt: HostRuntime) {
+    // The first to the fourth clone, each in five cases.
+    play(&rt, 20, case);
+}
+
 // The items are arrays, each of which is cloned item by item.
-
-fn rows_repeated(refused: u32) -> Outcome {
-    let counts = Counts::refusing_clone(refused);
-    let is_made = match GenericArray::<Row, U3>::repeat(row(&counts, 4)) {
-        Ok(rows) => row_digits(rows.as_slice()) == 454545 && counts.drops() == 0,
-        Err(AllocError) => false,
-    };
-    cloned(&counts, refused, 4, is_made, 2)
-}
-
-fn boxed_rows_repeated(alloc: Global, refused: u32) -> Outcome {
-    let counts = Counts::refusing_clone(refused);
-    let is_made = match BoxedArray::<Row, U3>::repeat(alloc, row(&counts, 4)) {
-        Ok(rows) => row_digits(rows.as_slice()) == 454545 && counts.drops() == 0,
-        Err(AllocError) => false,
-    };
-    cloned(&counts, refused, 4, is_made, 2)
-}
 
 fn two_rows(counts: &Counts) -> GenericArray<Row<'_>, U2> {
     GenericArray::from_array([row(counts, 1), row(counts, 3)])
 }
 
+fn rows_repeated(refused: u32) -> Outcome {
+    let counts = Counts::refusing_clone(refused);
+    let made = GenericArray::<Row, U3>::repeat(row(&counts, 4));
+    let is_made = made_rows(made, 454545, &counts, 0);
+    cloned(&counts, refused, 4, is_made, 2)
+}
+
+fn boxed_rows_repeated(alloc: Global, refused: u32) -> Outcome {
+    let counts = Counts::refusing_clone(refused);
+    let made = BoxedArray::<Row, U3>::repeat(alloc, row(&counts, 4));
+    let is_made = made_rows(made, 454545, &counts, 0);
+    cloned(&counts, refused, 4, is_made, 2)
+}
+
 fn rows_cloned(refused: u32) -> Outcome {
     let counts = Counts::refusing_clone(refused);
     let rows = two_rows(&counts);
-    let is_made = match rows.clone() {
-        Ok(copy) => row_digits(copy.as_slice()) == 1234 && counts.drops() == 0,
-        Err(AllocError) => false,
-    };
+    let is_made = made_rows(rows.clone(), 1234, &counts, 0);
     let outcome = cloned(&counts, refused, 4, is_made, 0);
-    let outcome = outcome.and(row_digits(rows.as_slice()) == 1234);
-    let dropped = counts.drops().wrapping_add(4);
-    drop(rows);
-    outcome.and(counts.drops() == dropped)
+    let dropped = counts.drops();
+    let is_kept = made_rows(Ok(rows), 1234, &counts, dropped);
+    outcome.and(is_kept && counts.drops() == dropped.wrapping_add(4))
 }
 
 fn rows_of_an_iterator(refused: u32) -> Outcome {
     let counts = Counts::refusing_clone(refused);
-    let mut rows = two_rows(&counts).into_iter();
-    let _ = rows.next();
-    let is_made = match rows.clone() {
-        Ok(copy) => row_digits(copy.as_slice()) == 34 && counts.drops() == 2,
-        Err(AllocError) => false,
-    };
-    let outcome = cloned(&counts, refused, 2, is_made, 2);
-    let outcome = outcome.and(row_digits(rows.as_slice()) == 34);
-    let dropped = counts.drops().wrapping_add(2);
-    drop(rows);
-    outcome.and(counts.drops() == dropped)
+    let (of_clone, of_left) = cloned_behind_first(two_rows(&counts), row_digits);
+    let is_known = of_left == 34 && (of_clone == 34 || of_clone == 0);
+    cloned(&counts, refused, 2, of_clone == 34, 4).and(is_known)
 }
 
 fn rows_of_a_boxed_iterator(alloc: Global, refused: u32) -> Outcome {
@@ -193,25 +191,28 @@ fn rows_of_a_boxed_iterator(alloc: Global, refused: u32) -> Outcome {
     outcome.and(counts.drops() == dropped)
 }
 
+fn case_of_rows(alloc: Global, number: u32) -> (&'static str, Outcome) {
+    let refused = number / 5 + 1;
+    match number % 5 {
+        0 => ("repeat of a row", rows_repeated(refused)),
+        1 => (
+            "repeat of a row in a block",
+            boxed_rows_repeated(alloc, refused),
+        ),
+        2 => ("clone of rows", rows_cloned(refused)),
+        3 => (
+            "clone of an iterator over rows",
+            rows_of_an_iterator(refused),
+        ),
+        _ => (
+            "clone of a boxed iterator over rows",
+            rows_of_a_boxed_iterator(alloc, refused),
+        ),
+    }
+}
+
 #[test]
 fn a_refused_clone_in_a_row_drops_those_before_it(rt: HostRuntime) {
-    for refused in 1..6u32 {
-        play(&rt, "repeat of a row", |_| rows_repeated(refused));
-        play(
-            &rt,
-            "repeat of a row in a block",
-            |alloc| boxed_rows_repeated(alloc, refused),
-        );
-        play(&rt, "clone of rows", |_| rows_cloned(refused));
-        play(
-            &rt,
-            "clone of an iterator over rows",
-            |_| rows_of_an_iterator(refused),
-        );
-        play(
-            &rt,
-            "clone of a boxed iterator over rows",
-            |alloc| rows_of_a_boxed_iterator(alloc, refused),
-        );
-    }
+    // The first to the fifth clone, each in five cases.
+    play(&rt, 25, case_of_rows);
 }

@@ -12,7 +12,7 @@ mod steps;
 mod zips;
 
 use crate::counted::{Counted, Counts};
-use generic_array::{AllocError, BoxedArray, GenericArray, U3};
+use generic_array::{AllocError, ArrayLength, BoxedArray, GenericArray, U3};
 use std::alloc::Global;
 
 /// The number of an item, from 1.
@@ -31,4 +31,21 @@ pub fn three_in_a_block(
     counts: &Counts,
 ) -> Result<BoxedArray<Counted<'_>, U3>, AllocError> {
     BoxedArray::generate(alloc, |index| Counted::new(counts, number(index)))
+}
+
+/// Clones what is left of an iterator behind its first item. Answers what `sum` makes of the clone, 0
+/// where that is refused, and of what is left then, all of which is dropped.
+pub fn cloned_behind_first<T: Clone + Default + Drop, N: ArrayLength<T>, F: Fn(&[T]) -> u32>(
+    array: GenericArray<T, N>,
+    sum: F,
+) -> (u32, u32)
+    requires { F.IsAlwaysCallable sum }
+{
+    let mut items = array.into_iter();
+    let _ = items.next();
+    let of_clone = match items.clone() {
+        Ok(copy) => sum(copy.as_slice()),
+        Err(AllocError) => 0,
+    };
+    (of_clone, sum(items.as_slice()))
 }

@@ -2,7 +2,7 @@
 use crate::counted::{Counted, Counts};
 use crate::outcome::{Outcome, digits, play};
 use crate::refused_memory::{number, three_counted};
-use generic_array::{AllocError, BoxedArray, Const, LiveBlock, U3, box_arr};
+use generic_array::{AllocError, BoxedArray, Const, LiveBlock, U3, Unsigned, box_arr};
 use std::alloc::Global;
 
 /// A length of which no block can be had, not even of the smallest items.
@@ -121,30 +121,41 @@ fn block(alloc: Global) -> Outcome {
     }
 }
 
-fn too_many(alloc: Global) -> Outcome {
+/// As many items as no block can hold. No memory is asked for.
+fn of_too_many<N: Unsigned>(alloc: Global) -> Outcome {
     let mut calls = 0u32;
-    let mut count = |index: usize| {
-        calls = calls.wrapping_add(1);
-        index as u64
-    };
-    let by_reference = BoxedArray::<u64, TooMany>::generate_by(alloc, &mut count).is_err();
-    let by_value = BoxedArray::<u64, TooMany>::generate(alloc, count).is_err();
-    Outcome::exact_if(by_reference && by_value && calls == 0)
+    let built = BoxedArray::<u64, N>::generate_by(
+        alloc,
+        &mut |_index: usize| {
+            calls = calls.wrapping_add(1);
+            7
+        },
+    );
+    match built {
+        Ok(_array) => Outcome::Wrong,
+        Err(AllocError) => Outcome::exact_if(calls == 0),
+    }
+}
+
+fn case(alloc: Global, number: u32) -> (&'static str, Outcome) {
+    match number {
+        0 => ("generate_by", generated_by(alloc)),
+        1 => ("generate", generated(alloc)),
+        2 => ("try_generate_by", tried_by(alloc, 9)),
+        3 => ("try_generate_by, an error", tried_by(alloc, 1)),
+        4 => ("try_generate", tried(alloc, 9)),
+        5 => ("try_generate, an error", tried(alloc, 1)),
+        6 => ("repeat", repeated(alloc)),
+        7 => ("default_boxed", of_defaults(alloc)),
+        8 => ("box_arr! of copies", of_copies(alloc)),
+        9 => ("box_arr!", written_out(alloc)),
+        10 => ("from_inline", from_inline(alloc)),
+        11 => ("LiveBlock::new", block(alloc)),
+        _ => ("more than any block holds", of_too_many::<TooMany>(alloc)),
+    }
 }
 
 #[test]
 fn a_build_is_whole_or_refused_before_any_call(rt: HostRuntime) {
-    play(&rt, "generate_by", generated_by);
-    play(&rt, "generate", generated);
-    play(&rt, "try_generate_by", |alloc| tried_by(alloc, 9));
-    play(&rt, "try_generate_by, an error", |alloc| tried_by(alloc, 1));
-    play(&rt, "try_generate", |alloc| tried(alloc, 9));
-    play(&rt, "try_generate, an error", |alloc| tried(alloc, 1));
-    play(&rt, "repeat", repeated);
-    play(&rt, "default_boxed", of_defaults);
-    play(&rt, "box_arr! of copies", of_copies);
-    play(&rt, "box_arr!", written_out);
-    play(&rt, "from_inline", from_inline);
-    play(&rt, "LiveBlock::new", block);
-    play(&rt, "more than any block holds", too_many);
+    play(&rt, 13, case);
 }

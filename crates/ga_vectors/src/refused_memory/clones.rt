@@ -1,9 +1,10 @@
 //! Clones that ask for memory: of a boxed iterator, and of items that are such iterators.
 use crate::counted::{Counted, Counts};
 use crate::outcome::{Outcome, digits, play};
-use crate::refused_memory::three_in_a_block;
+use crate::refused_memory::{cloned_behind_first, three_in_a_block};
 use generic_array::{AllocError, BoxedArray, BoxedArrayIter, GenericArray, U2, U3};
 use std::alloc::Global;
+use std::convert::AsSlice;
 
 /// An item whose clone asks for a block, and then for three clones.
 type Item<'a> = Option<BoxedArrayIter<Counted<'a>>>;
@@ -12,12 +13,22 @@ fn item(alloc: Global, counts: &Counts) -> Result<Item<'_>, AllocError> {
     Ok(Some(three_in_a_block(alloc, counts)?.into_iter()))
 }
 
-/// Whether each item holds the numbers 1 to 3.
-fn are_whole(items: &[Item]) -> bool {
-    items.iter().all(|item| match item {
-        Some(numbers) => digits(numbers.as_slice()) == 123,
-        None => false,
-    })
+/// The numbers in the items, as the digits of one number.
+fn numbers_of(items: &[Item]) -> u32 {
+    let mut all = 0u32;
+    for item in items {
+        if let Some(numbers) = item {
+            all = all
+                .wrapping_mul(1000)
+                .wrapping_add(digits(numbers.as_slice()));
+        }
+    }
+    all
+}
+
+/// Those of what was made, which is dropped.
+fn numbers_made<'a, S: AsSlice<Item<'a>> + Drop>(made: S) -> u32 {
+    numbers_of(made.as_slice())
 }
 
 fn boxed_iterator(alloc: Global) -> Outcome {
@@ -58,10 +69,12 @@ fn inline_array(alloc: Global) -> Outcome {
         return Outcome::Refused;
     };
     let outcome = match array.clone() {
-        Ok(copy) => Outcome::exact_if(are_whole(copy.as_slice()) && counts.clones() == 6),
+        Ok(copy) => Outcome::exact_if(numbers_made(copy) == 123123 && counts.clones() == 6),
         Err(AllocError) => Outcome::refused_if(counts.clones() == 0 || counts.clones() == 3),
     };
-    let outcome = outcome.and(are_whole(array.as_slice()) && counts.drops() == counts.clones());
+    let outcome = outcome.and(
+        numbers_of(array.as_slice()) == 123123 && counts.drops() == counts.clones(),
+    );
     drop(array);
     outcome.and(counts.drops() == counts.clones().wrapping_add(6))
 }
@@ -71,15 +84,13 @@ fn inline_iterator(alloc: Global) -> Outcome {
     let Ok(array) = two_items(alloc, &counts) else {
         return Outcome::Refused;
     };
-    let mut items = array.into_iter();
-    let _ = items.next();
-    let outcome = match items.clone() {
-        Ok(copy) => Outcome::exact_if(copy.len() == 1 && are_whole(copy.as_slice())),
-        Err(AllocError) => Outcome::refused_if(counts.clones() == 0),
+    let (of_clone, of_left) = cloned_behind_first(array, numbers_of);
+    let outcome = if of_clone == 123 {
+        Outcome::exact_if(counts.clones() == 3)
+    } else {
+        Outcome::refused_if(of_clone == 0 && counts.clones() == 0)
     };
-    let outcome = outcome.and(items.len() == 1 && are_whole(items.as_slice()));
-    drop(items);
-    outcome.and(counts.drops() == counts.clones().wrapping_add(6))
+    outcome.and(of_left == 123 && counts.drops() == counts.clones().wrapping_add(6))
 }
 
 fn inline_repeat(alloc: Global) -> Outcome {
@@ -88,7 +99,7 @@ fn inline_repeat(alloc: Global) -> Outcome {
         return Outcome::Refused;
     };
     let outcome = match GenericArray::<Item, U3>::repeat(item) {
-        Ok(array) => Outcome::exact_if(are_whole(array.as_slice()) && counts.clones() == 6),
+        Ok(array) => Outcome::exact_if(numbers_made(array) == 123123123 && counts.clones() == 6),
         Err(AllocError) => Outcome::refused_if(counts.clones() == 0 || counts.clones() == 3),
     };
     outcome.and(counts.drops() == counts.clones().wrapping_add(3))
@@ -100,18 +111,24 @@ fn boxed_repeat(alloc: Global) -> Outcome {
         return Outcome::Refused;
     };
     let outcome = match BoxedArray::<Item, U3>::repeat(alloc, item) {
-        Ok(array) => Outcome::exact_if(are_whole(array.as_slice()) && counts.clones() == 6),
+        Ok(array) => Outcome::exact_if(numbers_made(array) == 123123123 && counts.clones() == 6),
         Err(AllocError) => Outcome::refused_if(counts.clones() == 0 || counts.clones() == 3),
     };
     outcome.and(counts.drops() == counts.clones().wrapping_add(3))
 }
 
+fn case(alloc: Global, number: u32) -> (&'static str, Outcome) {
+    match number {
+        0 => ("clone of a boxed iterator", boxed_iterator(alloc)),
+        1 => ("clone of one with nothing left", finished_iterator(alloc)),
+        2 => ("clone of an inline array", inline_array(alloc)),
+        3 => ("clone of an inline iterator", inline_iterator(alloc)),
+        4 => ("repeat of an inline array", inline_repeat(alloc)),
+        _ => ("repeat of a boxed array", boxed_repeat(alloc)),
+    }
+}
+
 #[test]
 fn a_clone_is_whole_or_drops_what_was_cloned(rt: HostRuntime) {
-    play(&rt, "clone of a boxed iterator", boxed_iterator);
-    play(&rt, "clone of one with nothing left", finished_iterator);
-    play(&rt, "clone of an inline array", inline_array);
-    play(&rt, "clone of an inline iterator", inline_iterator);
-    play(&rt, "repeat of an inline array", inline_repeat);
-    play(&rt, "repeat of a boxed array", boxed_repeat);
+    play(&rt, 6, case);
 }

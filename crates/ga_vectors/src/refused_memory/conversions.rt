@@ -1,18 +1,18 @@
 //! Conversions from and to vectors and boxed slices.
 use crate::counted::{Counted, Counts};
 use crate::outcome::{Outcome, digits, play};
-use crate::refused_memory::{number, three_counted, three_in_a_block};
+use crate::refused_memory::{three_counted, three_in_a_block};
 use generic_array::{AllocError, BoxedArray, GenericArray, LengthError, U3, U4, Unsigned};
 use std::alloc::Global;
 use std::boxed::BoxedSlice;
 
-/// Counted items of the numbers 1 to 3 in a vector. None is made where its memory is refused.
+/// Counted items of the numbers 1 to 3 in a vector.
 fn three_in_a_vector(alloc: Global, counts: &Counts) -> Result<Vec<Counted<'_>>, AllocError> {
-    let mut items = Vec::with_capacity(alloc, 3)?;
-    for index in 0..3usize {
-        items.push_reserved(Counted::new(counts, number(index)));
-    }
-    Ok(items)
+    Ok(vec![in alloc;
+        Counted::new(counts, 1),
+        Counted::new(counts, 2),
+        Counted::new(counts, 3),
+    ]?)
 }
 
 /// The same in a boxed slice.
@@ -120,24 +120,34 @@ fn slice_to_inline(alloc: Global) -> Outcome {
     }
 }
 
+fn case(alloc: Global, number: u32) -> (&'static str, Outcome) {
+    match number {
+        0 => ("into_vec of an inline array", inline_to_vector(alloc)),
+        1 => (
+            "into_boxed_slice of an inline array",
+            inline_to_slice(alloc),
+        ),
+        2 => ("into_vec", block_to_vector(alloc)),
+        3 => ("into_boxed_slice", block_to_slice(alloc)),
+        4 => ("try_from_vec", vector_to_block::<U3>(alloc)),
+        5 => (
+            "try_from_vec of another length",
+            vector_to_block::<U4>(alloc),
+        ),
+        6 => ("try_from_boxed_slice", slice_to_block::<U3>(alloc)),
+        7 => (
+            "try_from_boxed_slice of another length",
+            slice_to_block::<U4>(alloc),
+        ),
+        8 => ("try_from_vec of an inline array", vector_to_inline(alloc)),
+        _ => (
+            "try_from_boxed_slice of an inline array",
+            slice_to_inline(alloc),
+        ),
+    }
+}
+
 #[test]
 fn a_conversion_keeps_the_items_or_drops_each_once(rt: HostRuntime) {
-    play(&rt, "into_vec of an inline array", inline_to_vector);
-    play(&rt, "into_boxed_slice of an inline array", inline_to_slice);
-    play(&rt, "into_vec", block_to_vector);
-    play(&rt, "into_boxed_slice", block_to_slice);
-    play(&rt, "try_from_vec", vector_to_block::<U3>);
-    play(&rt, "try_from_vec of another length", vector_to_block::<U4>);
-    play(&rt, "try_from_boxed_slice", slice_to_block::<U3>);
-    play(
-        &rt,
-        "try_from_boxed_slice of another length",
-        slice_to_block::<U4>,
-    );
-    play(&rt, "try_from_vec of an inline array", vector_to_inline);
-    play(
-        &rt,
-        "try_from_boxed_slice of an inline array",
-        slice_to_inline,
-    );
+    play(&rt, 10, case);
 }

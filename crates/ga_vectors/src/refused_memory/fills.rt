@@ -10,39 +10,61 @@ use std::cell::Cell;
 /// A boxed array of three counted items.
 type Three<'a> = BoxedArray<Counted<'a>, U3>;
 
-/// The item at a place from 0, of which it is counted that it was taken.
-fn taken<'a>(takes: &Cell<u32>, counts: &'a Counts, place: u32) -> Counted<'a> {
-    takes.set(takes.get().wrapping_add(1));
-    Counted::new(counts, place.wrapping_add(1))
-}
-
-/// The same, or an error at one of the places.
-fn taken_or_error<'a>(
-    takes: &Cell<u32>,
+/// Gives counted items of the numbers from 1, and counts how many it gave.
+#[derive(Drop)]
+struct Given<'a> {
     counts: &'a Counts,
-    place: u32,
-    error: u32,
-) -> Result<Counted<'a>, u32> {
-    let item = taken(takes, counts, place);
-    if place == error { Err(place) } else { Ok(item) }
+    takes: &'a Cell<u32>,
+    left: u32,
 }
 
-/// Of a fill of three places by so many items, with an error at one of the places or at none.
+impl<'a> Iterator for Given<'a> {
+    type Item = Counted<'a>;
+
+    fn next(&mut self) -> Option<Counted<'a>> {
+        self.left = self.left.checked_sub(1)?;
+        self.takes.set(self.takes.get().wrapping_add(1));
+        Some(Counted::new(self.counts, self.takes.get()))
+    }
+}
+
+/// The same, but for an error of one number.
+#[derive(Drop)]
+struct Tried<'a> {
+    items: Given<'a>,
+    error: u32,
+}
+
+impl<'a> Iterator for Tried<'a> {
+    type Item = Result<Counted<'a>, u32>;
+
+    fn next(&mut self) -> Option<Result<Counted<'a>, u32>> {
+        let item = self.items.next()?;
+        let number = item.place();
+        Some(if number == self.error {
+            Err(number)
+        } else {
+            Ok(item)
+        })
+    }
+}
+
+/// Of a fill of three places by so many items, one of which may be an error.
 fn filled(
-    filled: Result<Three<'_>, FillError<u32, AllocError>>,
+    made: Result<Three<'_>, FillError<u32, AllocError>>,
     given: u32,
     error: u32,
     takes: u32,
     counts: &Counts,
 ) -> Outcome {
-    let is_stopped = error < given.min(3);
-    let outcome = match filled {
+    let is_stopped = error <= given.min(3);
+    let outcome = match made {
         Ok(array) => {
             let is_whole = digits(array.as_slice()) == 123 && counts.drops() == 0;
             Outcome::exact_if(is_whole && given == 3 && takes == 3 && !is_stopped)
         }
-        Err(FillError::Item(place)) => {
-            Outcome::exact_if(is_stopped && place == error && takes == error.wrapping_add(1))
+        Err(FillError::Item(number)) => {
+            Outcome::exact_if(is_stopped && number == error && takes == error)
         }
         Err(FillError::Length(LengthError)) => {
             Outcome::exact_if(!is_stopped && given != 3 && takes == given.min(4))
@@ -67,44 +89,64 @@ fn filled_by_items(
     filled(made, given, u32::MAX, takes, counts)
 }
 
+fn given_items<'a>(counts: &'a Counts, takes: &'a Cell<u32>, left: u32) -> Given<'a> {
+    Given {
+        counts,
+        takes,
+        left,
+    }
+}
+
 fn from_iter_ref(alloc: Global, given: u32) -> Outcome {
     let (counts, takes) = (Counts::new(), Cell::new(0));
-    let mut items = (0..given).map(|place| taken(&takes, &counts, place));
+    let mut items = given_items(&counts, &takes, given);
     let made = Three::try_boxed_from_iter_ref(alloc, &mut items);
     filled_by_items(made, given, takes.get(), &counts)
 }
 
 fn from_iter(alloc: Global, given: u32) -> Outcome {
     let (counts, takes) = (Counts::new(), Cell::new(0));
-    let items = (0..given).map(|place| taken(&takes, &counts, place));
+    let items = given_items(&counts, &takes, given);
     let made = Three::try_boxed_from_iter(alloc, items);
     filled_by_items(made, given, takes.get(), &counts)
 }
 
 fn from_fallible_iter_ref(alloc: Global, given: u32, error: u32) -> Outcome {
     let (counts, takes) = (Counts::new(), Cell::new(0));
-    let mut items = (0..given).map(|place| taken_or_error(&takes, &counts, place, error));
+    let mut items = Tried {
+        items: given_items(&counts, &takes, given),
+        error,
+    };
     let made = Three::try_boxed_from_fallible_iter_ref(alloc, &mut items);
     filled(made, given, error, takes.get(), &counts)
 }
 
 fn from_fallible_iter(alloc: Global, given: u32, error: u32) -> Outcome {
     let (counts, takes) = (Counts::new(), Cell::new(0));
-    let items = (0..given).map(|place| taken_or_error(&takes, &counts, place, error));
+    let items = Tried {
+        items: given_items(&counts, &takes, given),
+        error,
+    };
     let made = Three::try_boxed_from_fallible_iter(alloc, items);
     filled(made, given, error, takes.get(), &counts)
 }
 
 fn by_the_trait_ref(alloc: Global, given: u32, error: u32) -> Outcome {
     let (counts, takes) = (Counts::new(), Cell::new(0));
-    let mut items = (0..given).map(|place| taken_or_error(&takes, &counts, place, error));
+    let mut items = Tried {
+        items: given_items(&counts, &takes, given),
+        error,
+    };
     let made = <Three as FromFallibleIterator<Counted>>::from_fallible_iter_ref(alloc, &mut items);
     filled(made, given, error, takes.get(), &counts)
 }
 
 fn by_the_trait(alloc: Global, given: u32, error: u32) -> Outcome {
     let (counts, takes) = (Counts::new(), Cell::new(0));
-    let items = (0..given).map(|place| taken_or_error(&takes, &counts, place, error));
+    let items = Tried {
+        items: given_items(&counts, &takes, given),
+        error,
+    };
     let made = <Three as FromFallibleIterator<Counted>>::from_fallible_iter(alloc, items);
     filled(made, given, error, takes.get(), &counts)
 }
@@ -131,50 +173,34 @@ fn from_lent_items(alloc: Global) -> Outcome {
     }
 }
 
+fn case(alloc: Global, number: u32) -> (&'static str, Outcome) {
+    match number {
+        0 => ("try_boxed_from_iter_ref", from_iter_ref(alloc, 3)),
+        1 => ("too few by reference", from_iter_ref(alloc, 2)),
+        2 => ("too many by reference", from_iter_ref(alloc, 5)),
+        3 => ("try_boxed_from_iter", from_iter(alloc, 3)),
+        4 => ("too many", from_iter(alloc, 5)),
+        5 => ("items that were there", from_items(alloc)),
+        6 => ("items that are lent", from_lent_items(alloc)),
+        7 => (
+            "good items by reference",
+            from_fallible_iter_ref(alloc, 3, 9),
+        ),
+        8 => ("an error by reference", from_fallible_iter_ref(alloc, 3, 2)),
+        9 => ("a surplus error", from_fallible_iter_ref(alloc, 4, 4)),
+        10 => ("good items", from_fallible_iter(alloc, 3, 9)),
+        11 => ("an error", from_fallible_iter(alloc, 3, 2)),
+        12 => ("the trait by reference", by_the_trait_ref(alloc, 3, 9)),
+        13 => (
+            "the trait by reference, an error",
+            by_the_trait_ref(alloc, 3, 2),
+        ),
+        14 => ("the trait", by_the_trait(alloc, 3, 9)),
+        _ => ("the trait, too few", by_the_trait(alloc, 2, 9)),
+    }
+}
+
 #[test]
 fn a_fill_is_exact_or_refused_before_any_item(rt: HostRuntime) {
-    play(
-        &rt,
-        "try_boxed_from_iter_ref",
-        |alloc| from_iter_ref(alloc, 3),
-    );
-    play(&rt, "too few by reference", |alloc| from_iter_ref(alloc, 2));
-    play(
-        &rt,
-        "too many by reference",
-        |alloc| from_iter_ref(alloc, 5),
-    );
-    play(&rt, "try_boxed_from_iter", |alloc| from_iter(alloc, 3));
-    play(&rt, "too many", |alloc| from_iter(alloc, 5));
-    play(&rt, "items that were there", from_items);
-    play(&rt, "items that are lent", from_lent_items);
-    play(
-        &rt,
-        "good items by reference",
-        |alloc| from_fallible_iter_ref(alloc, 3, 9),
-    );
-    play(
-        &rt,
-        "an error by reference",
-        |alloc| from_fallible_iter_ref(alloc, 3, 1),
-    );
-    play(
-        &rt,
-        "a surplus error",
-        |alloc| from_fallible_iter_ref(alloc, 4, 3),
-    );
-    play(&rt, "good items", |alloc| from_fallible_iter(alloc, 3, 9));
-    play(&rt, "an error", |alloc| from_fallible_iter(alloc, 3, 1));
-    play(
-        &rt,
-        "the trait by reference",
-        |alloc| by_the_trait_ref(alloc, 3, 9),
-    );
-    play(
-        &rt,
-        "the trait by reference, an error",
-        |alloc| by_the_trait_ref(alloc, 3, 1),
-    );
-    play(&rt, "the trait", |alloc| by_the_trait(alloc, 3, 9));
-    play(&rt, "the trait, too few", |alloc| by_the_trait(alloc, 2, 9));
+    play(&rt, 16, case);
 }

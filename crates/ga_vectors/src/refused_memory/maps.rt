@@ -196,26 +196,24 @@ fn map_totalled(alloc: Global) -> Outcome {
     outcome.and(counts.drops() == 3)
 }
 
+fn case(alloc: Global, number: u32) -> (&'static str, Outcome) {
+    match number {
+        0 => ("generate_by of the trait", generated_by(alloc)),
+        1 => ("generate of the trait", generated(alloc)),
+        2 => ("try_generate_by of the trait", tried_by(alloc)),
+        3 => ("try_generate of the trait", tried(alloc)),
+        4 => ("repeat of the trait", repeated(alloc)),
+        5 => ("map_by", mapped_by(alloc)),
+        6 => ("map", mapped(alloc)),
+        7 => ("try_map_by", map_tried_by_reference(alloc, 9)),
+        8 => ("try_map_by, an error", map_tried_by_reference(alloc, 2)),
+        9 => ("try_map", map_tried_by_value(alloc, 9)),
+        10 => ("try_map, an error", map_tried_by_value(alloc, 2)),
+        _ => ("map_total_by", map_totalled(alloc)),
+    }
+}
+
 #[test]
 fn the_traits_build_and_map_or_refuse_before_any_call(rt: HostRuntime) {
-    play(&rt, "generate_by of the trait", generated_by);
-    play(&rt, "generate of the trait", generated);
-    play(&rt, "try_generate_by of the trait", tried_by);
-    play(&rt, "try_generate of the trait", tried);
-    play(&rt, "repeat of the trait", repeated);
-    play(&rt, "map_by", mapped_by);
-    play(&rt, "map", mapped);
-    play(&rt, "try_map_by", |alloc| map_tried_by_reference(alloc, 9));
-    play(
-        &rt,
-        "try_map_by, an error",
-        |alloc| map_tried_by_reference(alloc, 2),
-    );
-    play(&rt, "try_map", |alloc| map_tried_by_value(alloc, 9));
-    play(
-        &rt,
-        "try_map, an error",
-        |alloc| map_tried_by_value(alloc, 2),
-    );
-    play(&rt, "map_total_by", map_totalled);
+    play(&rt, 12, case);
 }

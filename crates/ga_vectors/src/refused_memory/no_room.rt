@@ -105,11 +105,17 @@ fn of_a_block(alloc: Global) -> Outcome {
     Outcome::exact_if(is_taken && is_seen && counts.drops() == 3)
 }
 
+fn case(alloc: Global, number: u32) -> (&'static str, Outcome) {
+    match number {
+        0 => ("hex text", Outcome::exact_if(are_hex_digits())),
+        1 => ("shapes", Outcome::exact_if(are_shaped())),
+        2 => ("copies of none and one", Outcome::exact_if(are_copied())),
+        3 => ("no steps", Outcome::exact_if(are_no_steps_made(alloc))),
+        _ => ("a block", of_a_block(alloc)),
+    }
+}
+
 #[test]
 fn what_needs_no_room_is_not_refused(rt: HostRuntime) {
-    assert!(rt; are_hex_digits());
-    assert!(rt; are_shaped());
-    assert!(rt; are_copied());
-    assert!(rt; are_no_steps_made(rt.alloc()));
-    play(&rt, "a block", of_a_block);
+    play(&rt, 5, case);
 }
