@@ -1,0 +1,80 @@
+"""Cases with a line each, and programs that are run with streams of the caller's own."""
+import collections
+import contextlib
+import subprocess
+import tempfile
+import threading
+from subprocess import DEVNULL, PIPE
+
+Seen = collections.namedtuple("Seen", "status out err")
+
+
+def shown(it):
+    if isinstance(it, bytes) and len(it) > 200:
+        return f"{it[:60]!r} .. {len(it)} bytes"
+    return repr(it)
+
+
+class Tally:
+    """Prints a line for each case, and counts them."""
+
+    def __init__(self):
+        self.passed = self.failed = 0
+
+    def case(self, name, wrong):
+        if wrong:
+            self.failed += 1
+            print(f"FAILED  {name}: {wrong}", flush=True)
+        else:
+            self.passed += 1
+            print(f"ok      {name}", flush=True)
+
+    def compare(self, name, seen, wanted, *signals):
+        """Where one of the signals ends the program in place of a status, it tells nothing."""
+        if -seen.status in signals:
+            wanted = wanted._replace(status=seen.status, err=b"")
+        fields = zip(Seen._fields, seen, wanted)
+        wrong = [f"{it} {shown(a)}, and not {shown(b)}" for it, a, b in fields if a != b]
+        self.case(name, "; ".join(wrong))
+
+
+@contextlib.contextmanager
+def file_of(data=b""):
+    with tempfile.TemporaryFile() as file:
+        file.write(data)
+        file.seek(0)
+        yield file
+
+
+def read_again(file):
+    file.seek(0)
+    return file.read()
+
+
+def play(program, words=(), give=None, take=None, before=None, env=None, **streams):
+    """Runs a program for at most a minute. `give` feeds its input, and `take` reads its output."""
+    pipes = {"stdin": PIPE if give else DEVNULL, "stdout": PIPE, "stderr": PIPE, **streams}
+    command = [program, *words]
+    process = subprocess.Popen(command, bufsize=0, env=env or {}, preexec_fn=before, **pipes)
+    alarm = threading.Timer(60, process.kill)
+    giver = threading.Thread(target=feed, args=(process, give))
+    alarm.start()
+    giver.start()
+    try:
+        out = (take or read_all)(process.stdout) if process.stdout else b""
+        err = read_all(process.stderr) if process.stderr else b""
+        return Seen(process.wait(), out, err)
+    finally:
+        alarm.cancel()
+        process.kill()
+        giver.join()
+
+
+def feed(process, give):
+    if give:
+        with contextlib.suppress(OSError), process.stdin:
+            give(process)
+
+
+def read_all(pipe):
+    return b"".join(iter(lambda: pipe.read(2**16), b""))
