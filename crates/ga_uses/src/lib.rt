@@ -1,0 +1,3 @@
+//! What fixed-length arrays are for, as a user of `generic_array` builds it: by the library's public
+//! names and contracts alone.
+#![tactic(auto)]
