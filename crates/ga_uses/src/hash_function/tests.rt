@@ -1,11 +1,24 @@
-//! Digests of the standards' own example, by each hash function and however it is cut.
+//! A caller, and digests of the standards' own example, by each hash function and however it is cut.
+ghost use Rattle.std.specs.Prelude.{◌≡◌, ◌++◌};
+
 use super::*;
+
+fn digest_of_entry<H: HashFunction>(name: &[u8], body: &[u8]) -> GenericArray<u8, H::OutputSize>
+    ensures { result ≡ H.digest (name.now ++ body.now) }
+{
+    let mut hasher = H::start();
+    hasher.feed(name);
+    hasher.feed(body);
+    hasher.finish()
+}
 
 /// Whether `abc`, in one piece and in several, has this digest.
 fn digests_abc_to<H: HashFunction>(digest: &[u8]) -> bool {
     let whole: [&[u8]; 1] = [b"abc"];
     let cut: [&[u8]; 4] = [b"", b"a", b"", b"bc"];
-    H::digest_of(&whole).as_slice() == digest && H::digest_of(&cut).as_slice() == digest
+    H::digest_of(&whole).as_slice() == digest
+        && H::digest_of(&cut).as_slice() == digest
+        && digest_of_entry::<H>(b"ab", b"c").as_slice() == digest
 }
 
 #[test]

@@ -1,13 +1,15 @@
 //! Callers, each proved, and the published vectors: RFC 4231 for SHA-256 and SHA-512, RFC 2202 for
 //! MD5 and SHA-1.
+ghost use Rattle.ga_uses.specs.Hmac.{hmac_of};
 ghost use Rattle.sha2.specs.Sha256.{sha256};
+ghost use Rattle.std.specs.Prelude.{◌≡◌, ◌↔◌, ◌++◌, IsTrue};
 
 use super::*;
-use hex::FromHexError;
+use generic_array::AllocError;
 use md5::Md5;
 use sha1::Sha1;
 use sha2::{Sha256, Sha512};
-use std::alloc::{AllocError, Global};
+use std::alloc::Global;
 use std::test::Fail;
 
 fn tag_of_two_pieces<H: HashFunction>(
@@ -50,14 +52,14 @@ fn verifies_its_tag_alone<H: HashFunction>(
     key: &[u8],
     message: &[u8],
 ) -> Result<bool, AllocError> {
-    let mut tag = Vec::new(alloc);
-    tag.extend_from_slice(tag_of::<H>(key, message).as_slice())?;
-    let mut right = verify::<H>(key, message, &tag);
-    for index in 0..tag.len() {
+    let mut tag = tag_of::<H>(key, message);
+    let mut right = verify::<H>(key, message, tag.as_slice());
+    for index in 0..GenericArray::<u8, H::OutputSize>::len() {
         tag[index] ^= 1 << (index % 8);
-        right &= !verify::<H>(key, message, &tag);
+        right &= !verify::<H>(key, message, tag.as_slice());
         tag[index] ^= 1 << (index % 8);
     }
+    let mut tag = tag.into_vec(alloc)?;
     tag.push(0)?;
     right &= !verify::<H>(key, message, &tag);
     let _ = tag.pop();
@@ -99,7 +101,7 @@ fn have_tags<H: HashFunction>(
     alloc: Global,
     cases: &[Case<'_>],
     tags: &[&str],
-) -> Result<bool, FromHexError> {
+) -> Result<bool, Fail> {
     let mut right = cases.len() == tags.len();
     for (case, tag) in cases.iter().zip(tags) {
         let start = hex::decode(alloc, *tag)?;
