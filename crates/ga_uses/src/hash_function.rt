@@ -1,4 +1,6 @@
 //! Hash functions with their sizes as lengths, so that blocks and digests are arrays.
+//!
+//! MD5 and SHA-1 are broken where others may choose the messages; they are here for older formats.
 ghost use Rattle.generic_array.specs.Length.{FitsInline};
 ghost use Rattle.md5.specs.Md5 as md5_words;
 ghost use Rattle.md5.specs.Md5.{md5};
@@ -21,10 +23,10 @@ use sha2::{Digest, Sha256, Sha512};
 
 /// A hash function that takes a message piece by piece: `start`, a `feed` for each piece, `finish`.
 pub trait HashFunction: Drop {
-    /// How many bytes it takes in at once.
+    /// How many bytes it takes in at once, as a length: the counterpart of RustCrypto's `BlockSizeUser`.
     type BlockSize: ArrayLength<u8>;
 
-    /// How many bytes a digest has.
+    /// How many bytes a digest has, as a length: the counterpart of `OutputSizeUser`.
     type OutputSize: ArrayLength<u8>;
 
     // The digest of a message.
@@ -33,7 +35,7 @@ pub trait HashFunction: Drop {
     // It has been fed this message.
     ghost holds: { Self → List ℕ → Type 0 };
 
-    /// The hash function before any message.
+    /// The hash function with nothing fed yet.
     fn start() -> Self
         ensures { holds result [] };
 

@@ -1,11 +1,11 @@
 //! Callers, each proved, and the published vectors: RFC 4231 for SHA-256 and SHA-512, RFC 2202 for
-//! MD5 and SHA-1.
+//! MD5 and SHA-1, and one of FIPS 198.
 ghost use Rattle.ga_uses.specs.Hmac.{hmac_of};
 ghost use Rattle.sha2.specs.Sha256.{sha256};
 ghost use Rattle.std.specs.Prelude.{◌≡◌, ◌↔◌, ◌++◌, IsTrue};
 
 use super::*;
-use generic_array::AllocError;
+use generic_array::{AllocError, U64};
 use md5::Md5;
 use sha1::Sha1;
 use sha2::{Sha256, Sha512};
@@ -136,6 +136,11 @@ fn tags_of_md5_and_sha1_are_those_of_rfc_2202(rt: HostRuntime) -> Result<(), Fai
         "e8e99d0f45237d786d6bbaa7965c7808bbff1a91",
     ];
     assert!(rt; have_tags::<Sha1>(rt.alloc(), &cases(keys, &[0xaa; 80], last), &tags)?);
+    // A key of exactly a block, from FIPS 198.
+    let key = GenericArray::<u8, U64>::generate(|index| index as u8);
+    let cases: [Case<'_>; 1] = [(key.as_slice(), b"Sample #1")];
+    let tags = ["4f4ca3d5d68ba7cc0a1208c9c61e9c5da0403c0a"];
+    assert!(rt; have_tags::<Sha1>(rt.alloc(), &cases, &tags)?);
     Ok(())
 }
 
@@ -143,7 +148,7 @@ fn tags_of_md5_and_sha1_are_those_of_rfc_2202(rt: HostRuntime) -> Result<(), Fai
 fn tags_of_sha256_and_sha512_are_those_of_rfc_4231(rt: HostRuntime) -> Result<(), Fail> {
     let last =
         b"This is a test using a larger than block-size key and a larger than block-size data. \
-                 The key needs to be hashed before being used by the HMAC algorithm.";
+          The key needs to be hashed before being used by the HMAC algorithm.";
     let keys: [&[u8]; 3] = [&[0x0b; 20], &[0xaa; 20], &[0x0c; 20]];
     let cases = cases(keys, &[0xaa; 131], last);
     // Of the fifth tag the first 128 bits are published.
