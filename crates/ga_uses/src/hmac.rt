@@ -1,4 +1,4 @@
-//! HMAC (RFC 2104): a tag by which who shares a key knows who sent a message, and that it is whole.
+//! HMAC (RFC 2104): the tag of a message under a key, over any hash function.
 //!
 //! Nothing here takes memory, and nothing is refused.
 ghost use Rattle.ga_uses.specs.Hmac.{Holds, hmac_of, key_block, masked};
