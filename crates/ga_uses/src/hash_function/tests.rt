@@ -1,0 +1,38 @@
+//! A caller, and digests of the standards' own example, by each hash function and however it is cut.
+ghost use Rattle.std.specs.Prelude.{◌≡◌, ◌++◌};
+
+use super::*;
+
+fn digest_of_entry<H: HashFunction>(name: &[u8], body: &[u8]) -> GenericArray<u8, H::OutputSize>
+    ensures { result ≡ H.digest (name.now ++ body.now) }
+{
+    let mut hasher = H::start();
+    hasher.feed(name);
+    hasher.feed(body);
+    hasher.finish()
+}
+
+/// Whether `abc`, in one piece and in several, has this digest.
+fn digests_abc_to<H: HashFunction>(digest: &[u8]) -> bool {
+    let whole: [&[u8]; 1] = [b"abc"];
+    let cut: [&[u8]; 4] = [b"", b"a", b"", b"bc"];
+    H::digest_of(&whole).as_slice() == digest
+        && H::digest_of(&cut).as_slice() == digest
+        && digest_of_entry::<H>(b"ab", b"c").as_slice() == digest
+}
+
+#[test]
+fn each_hash_function_digests_pieces_as_one_message(rt: HostRuntime) {
+    let decoded = |text: &str| hex::decode(rt.alloc(), text).expect(&rt, "hex text");
+    let md5 = decoded("900150983cd24fb0d6963f7d28e17f72");
+    assert!(rt; digests_abc_to::<Md5>(&md5));
+    let sha1 = decoded("a9993e364706816aba3e25717850c26c9cd0d89d");
+    assert!(rt; digests_abc_to::<Sha1>(&sha1));
+    let sha256 = decoded("ba7816bf8f01cfea414140de5dae2223b00361a396177a9cb410ff61f20015ad");
+    assert!(rt; digests_abc_to::<Sha256>(&sha256));
+    let sha512 = decoded(
+        "ddaf35a193617abacc417349ae20413112e6fa4e89a97ea20a9eeee64b55d39a\
+         2192992a274fc1a836ba3c23a3feebbd454d4423643ce80e2a9ac94fa54ca49f",
+    );
+    assert!(rt; digests_abc_to::<Sha512>(&sha512));
+}

@@ -1,0 +1,8 @@
+//! What fixed-length arrays are for, as a user of `generic_array` builds it: by the library's public
+//! names and contracts alone.
+#![tactic(auto)]
+
+/// Hash functions whose sizes are lengths.
+pub mod hash_function;
+/// Tags of messages under a key.
+pub mod hmac;
