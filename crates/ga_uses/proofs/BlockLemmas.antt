@@ -53,22 +53,23 @@ module _ {X : Type 0} (width : ℕ) (some : 0 < width) where
   pub chunk_rest-joined : (xs ys : List X) → chunk_rest width (xs ++ ys) ≡ chunk_rest width (chunk_rest width xs ++ ys)
   chunk_rest-joined xs ys = (joins (length xs) xs ys (omega arith)).1
 
-  -- a list of one row is that row, and leaves no rest
-  module _ (row others : List X) (full : length row ≡ width) where
+  -- a row, and what follows it
+  module _ (row others all : List X) (joined : row ++ others ≡ all) (full : length row ≡ width) where
     enough_with : width ≤ length (row ++ others)
     enough_with = omega (arith, length-append row others)
 
     cut_behind : drop width (row ++ others) ≡ others
     cut_behind = ap (λ n. drop n (row ++ others)) (sym full) ∙ drop-append_seam row others
 
-    pub rows-behind : rows width (row ++ others) ≡ row ∷ rows width others
+    pub rows-behind : rows width all ≡ row ∷ rows width others
     rows-behind =
-        rows-first width (row ++ others) some enough_with
+        ap (rows width) (sym joined)
+        ∙ (rows-first width (row ++ others) some enough_with
         ∙ (ap (λ k. k ∷ rows width (drop width (row ++ others))) (ap (λ n. take n (row ++ others)) (sym full) ∙ take-append_seam row others)
-        ∙ ap (λ k. row ∷ rows width k) cut_behind)
+        ∙ ap (λ k. row ∷ rows width k) cut_behind))
 
-    pub chunk_rest-behind : chunk_rest width (row ++ others) ≡ chunk_rest width others
-    chunk_rest-behind = chunk_rest-first width (row ++ others) some enough_with ∙ ap (chunk_rest width) cut_behind
+    pub chunk_rest-behind : chunk_rest width all ≡ chunk_rest width others
+    chunk_rest-behind = ap (chunk_rest width) (sym joined) ∙ (chunk_rest-first width (row ++ others) some enough_with ∙ ap (chunk_rest width) cut_behind)
 
 module _ {V F : Type 0} (bytes_of : V → List ℕ) (step : F → V → Unit {0} → F → Type 0) where
   -- calls at some blocks, and then at others
@@ -76,12 +77,24 @@ module _ {V F : Type 0} (bytes_of : V → List ℕ) (step : F → V → Unit {0}
   Takes-join f xs ys between last first then =
       (first.0 ++ then.0, ClosureRun-in_turn (CallAt bytes_of step) f xs ys first.0 then.0 (first.0 ++ then.0) between last refl first.1 then.1)
 
+  -- no call at no block
+  pub Takes-none : (f : F) (blocks : List (List ℕ)) → blocks ≡ [] → Takes bytes_of step f blocks f
+  Takes-none f blocks none = subst (λ all. Takes bytes_of step f all f) (sym none) ([], refl)
+
+  -- blocks under another name
+  pub Takes-along : (f : F) (blocks others : List (List ℕ)) (last : F) → others ≡ blocks → Takes bytes_of step f blocks last → Takes bytes_of step f others last
+  Takes-along f blocks others last same taken = subst (λ all. Takes bytes_of step f all last) (sym same) taken
+
   -- a call at one block, and then at others
-  pub Takes-first : (f : F) (block : List ℕ) (v : V) (others : List (List ℕ)) (between last : F) → bytes_of v ≡ block → step f v tt between
-      → Takes bytes_of step between others last → Takes bytes_of step f (block ∷ others) last
-  Takes-first f block v others between last here call then = (tt ∷ then.0, (between, (v, here, call), then.1))
+  pub Takes-first : (f : F) (v : V) (others : List (List ℕ)) (between last : F) → step f v tt between → Takes bytes_of step between others last
+      → Takes bytes_of step f (bytes_of v ∷ others) last
+  Takes-first f v others between last call then = (tt ∷ then.0, (between, (v, refl, call), then.1))
 
   module _ (pre : F → V → Type 0) (width : ℕ) where
+    -- blocks under another name
+    pub MayTake-along : (f : F) (blocks others : List (List ℕ)) → blocks ≡ others → MayTake bytes_of step pre width f blocks → MayTake bytes_of step pre width f others
+    MayTake-along f blocks others same may = subst (λ all. MayTake bytes_of step pre width f all) same may
+
     -- what may be called at joined blocks may be called at the first of them
     pub MayTake-front : (f : F) (xs ys : List (List ℕ)) → MayTake bytes_of step pre width f (xs ++ ys) → MayTake bytes_of step pre width f xs
     MayTake-front f xs ys may = CallableOver-first (λ g block. length block ≡ width → MayCallAt bytes_of pre g block) (CallAt bytes_of step) f xs ys may
@@ -96,6 +109,33 @@ module _ {V F : Type 0} (bytes_of : V → List ℕ) (step : F → V → Unit {0}
     pub MayTake-first : (f : F) (v : V) (others : List (List ℕ)) → length (bytes_of v) ≡ width → MayTake bytes_of step pre width f (bytes_of v ∷ others) → pre f v
     MayTake-first f v others full may = may [] (bytes_of v) others [] f refl refl full v refl
 
+    -- and then those at the others
+    pub MayTake-others : (f : F) (v : V) (others : List (List ℕ)) (between : F) → step f v tt between → MayTake bytes_of step pre width f (bytes_of v ∷ others)
+        → MayTake bytes_of step pre width between others
+    MayTake-others f v others between call may =
+        MayTake-behind f (bytes_of v ∷ []) others between may (Takes-first f v [] between between call ([], refl))
+
+-- A block that is full now, the one that a call sees, and the bytes behind it are all bytes.
+module _ {V F : Type 0} (bytes_of : V → List ℕ) (step : F → V → Unit {0} → F → Type 0) (width : ℕ) (some : 0 < width) (all behind : List ℕ) (v : V)
+    (joined : bytes_of v ++ behind ≡ all) (full : length (bytes_of v) ≡ width) where
+  -- the blocks of all bytes are that block and those behind it
+  blocks : rows width all ≡ bytes_of v ∷ rows width behind
+  blocks = rows-behind width some (bytes_of v) behind all joined full
+
+  module _ (pre : F → V → Type 0) (f : F) (may : MayTake bytes_of step pre width f (rows width all)) where
+    may_first : MayTake bytes_of step pre width f (bytes_of v ∷ rows width behind)
+    may_first = MayTake-along bytes_of step pre width f (rows width all) (bytes_of v ∷ rows width behind) blocks may
+
+    pub full-callable : pre f v
+    full-callable = MayTake-first bytes_of step pre width f v (rows width behind) full may_first
+
+    pub full-then_callable : (between : F) → step f v tt between → MayTake bytes_of step pre width between (rows width behind)
+    full-then_callable between call = MayTake-others bytes_of step pre width f v (rows width behind) between call may_first
+
+  pub full-taken : (f between last : F) → step f v tt between → Takes bytes_of step between (rows width behind) last → Takes bytes_of step f (rows width all) last
+  full-taken f between last call then =
+      Takes-along bytes_of step f (bytes_of v ∷ rows width behind) (rows width all) last blocks (Takes-first bytes_of step f v (rows width behind) between last call then)
+
 -- Calls at the blocks passed led from f₀ to f, and those at the blocks that are left may be made.
 pub record BlocksLeft {V F : Type 0} (bytes_of : V → List ℕ) (step : F → V → Unit {0} → F → Type 0) (pre : F → V → Type 0) (width : ℕ) (f₀ : F) (all : List (List ℕ)) (f : F) (left : List (List ℕ)) : Type 0 where
   pub may : MayTake bytes_of step pre width f left
@@ -105,27 +145,26 @@ module _ {V F : Type 0} {bytes_of : V → List ℕ} {step : F → V → Unit {0}
   -- the next call may be made
   pub BlocksLeft-callable : (v : V) (left others : List (List ℕ)) → left ≡ bytes_of v ∷ others → length (bytes_of v) ≡ width → BlocksLeft bytes_of step pre width f₀ all f left → pre f v
   BlocksLeft-callable v left others next full state =
-      MayTake-first bytes_of step pre width f v others full (subst (λ blocks. MayTake bytes_of step pre width f blocks) next state.may)
+      MayTake-first bytes_of step pre width f v others full (MayTake-along bytes_of step pre width f left (bytes_of v ∷ others) next state.may)
 
   -- it was made
   pub BlocksLeft-more : (v : V) (left others : List (List ℕ)) (g : F) → left ≡ bytes_of v ∷ others → step f v tt g → BlocksLeft bytes_of step pre width f₀ all f left
       → BlocksLeft bytes_of step pre width f₀ all g others
   BlocksLeft-more v left others g next call state =
-      let may : MayTake bytes_of step pre width f ((bytes_of v ∷ []) ++ others) = subst (λ blocks. MayTake bytes_of step pre width f blocks) next state.may in
-      let one : Takes bytes_of step f (bytes_of v ∷ []) g = Takes-first bytes_of step f (bytes_of v) v [] g g refl call ([], refl) in
+      let may = MayTake-along bytes_of step pre width f left (bytes_of v ∷ others) next state.may in
       record {
-        may = MayTake-behind bytes_of step pre width f (bytes_of v ∷ []) others g may one;
-        then = λ last taken. state.then last (subst (λ blocks. Takes bytes_of step f blocks last) (sym next) (Takes-first bytes_of step f (bytes_of v) v others g last refl call taken));
+        may = MayTake-others bytes_of step pre width f v others g call may;
+        then = λ last taken. state.then last (Takes-along bytes_of step f (bytes_of v ∷ others) left last next (Takes-first bytes_of step f v others g last call taken));
       }
 
   -- no block is left
   pub BlocksLeft-end : (left : List (List ℕ)) → left ≡ [] → BlocksLeft bytes_of step pre width f₀ all f left → Takes bytes_of step f₀ all f
-  BlocksLeft-end left none state = state.then f (subst (λ blocks. Takes bytes_of step f blocks f) (sym none) ([], refl))
+  BlocksLeft-end left none state = state.then f (Takes-none bytes_of step f left none)
 
 module _ {V F : Type 0} {bytes_of : V → List ℕ} {step : F → V → Unit {0} → F → Type 0} {pre : F → V → Type 0} {width : ℕ} {f : F} {all : List (List ℕ)} where
   -- no block has passed
   pub BlocksLeft-start : (left : List (List ℕ)) → left ≡ all → MayTake bytes_of step pre width f all → BlocksLeft bytes_of step pre width f all f left
   BlocksLeft-start left same may = record {
-    may = subst (λ blocks. MayTake bytes_of step pre width f blocks) (sym same) may;
-    then = λ last taken. subst (λ blocks. Takes bytes_of step f blocks last) same taken;
+    may = MayTake-along bytes_of step pre width f all left (sym same) may;
+    then = λ last taken. Takes-along bytes_of step f left all last (sym same) taken;
   }

@@ -4,7 +4,7 @@ ghost use Rattle.generic_array.specs.Length.{FitsInline};
 ghost use Rattle.generic_array.specs.Rows.{chunk_rest, rows};
 ghost use Rattle.std.specs.Prelude.{◌≡◌, ◌+◌, ◌<◌, ◌≤◌, [], ◌++◌, length};
 
-use generic_array::{ArrayBuilder, ArrayLength, ChunksRef};
+use generic_array::{ArrayBuilder, ArrayLength, ChunksRef, GenericArray};
 use std::marker::Model;
 use std::mem;
 
@@ -60,9 +60,7 @@ impl<N: ArrayLength<u8>> BlockBuffer<N> {
             hand_on_rows(&mut self.kept, bytes, f);
             return;
         }
-        let (front, behind) = bytes.split_at(missing);
-        append(&mut self.kept, front);
-        let block = mem::replace(&mut self.kept, ArrayBuilder::new()).finish();
+        let (block, behind) = complete(&mut self.kept, bytes);
         f(block.as_slice());
         hand_on_rows(&mut self.kept, behind, f);
     }
@@ -74,6 +72,25 @@ fn append<N: ArrayLength<u8>>(builder: &mut ArrayBuilder<u8, N>, bytes: &[u8])
     ensures { builder.new ≡ builder.old ++ bytes.now }
 {
     builder.extend(&mut bytes.iter().copied());
+}
+
+/// The block that is full with the first of these bytes, and those that follow it.
+fn complete<'a, N: ArrayLength<u8>>(
+    builder: &mut ArrayBuilder<u8, N>,
+    bytes: &'a [u8],
+) -> (GenericArray<u8, N>, &'a [u8])
+    requires fits { FitsInline N.USIZE }
+    requires enough { N.USIZE ≤ length builder.old + length bytes.now }
+    ensures full { length result.0 ≡ N.USIZE }
+    ensures parts { result.0 ++ result.1.now ≡ builder.old ++ bytes.now }
+    ensures none_left { builder.new ≡ [] }
+{
+    let (front, behind) = bytes.split_at(N::USIZE - builder.position());
+    append(builder, front);
+    (
+        mem::replace(builder, ArrayBuilder::new()).finish(),
+        behind,
+    )
 }
 
 /// Calls `f` at each whole block that lies in `bytes`, where it lies, and keeps the rest.
