@@ -1,10 +1,10 @@
 -- Rows of joined lists, and calls at blocks in turn.
-use Rattle.ga_uses.specs.BlockBuffer.{MayTake, Takes}
+use Rattle.ga_uses.specs.BlockBuffer.{HasFed, MayTake, Takes}
 use Rattle.generic_array.proofs.LawLemmas.{CallableOver-first, CallableOver-second, ClosureRun-in_turn}
 use Rattle.generic_array.proofs.RowLemmas.{chunk_rest-few, chunk_rest-first, rows-few, rows-first}
 use Rattle.generic_array.specs.Entries.{CallAt, MayCallAt}
 use Rattle.generic_array.specs.Rows.{chunk_rest, rows}
-use Rattle.std.proofs.Common.{◌≡◌, ℕ, zero, suc, ◌+◌, ◌-◌, ◌<◌, ◌≤◌, List, [], ◌∷◌, ◌++◌, length, take, drop, refl, sym, ap, ◌∙◌, arith, subst, inl, inr, length-append, length-drop}
+use Rattle.std.proofs.Common.{◌≡◌, ℕ, zero, suc, ◌+◌, ◌-◌, ◌<◌, ◌≤◌, List, [], ◌∷◌, ◌++◌, length, take, drop, refl, sym, ap, ◌∙◌, append_assoc, arith, subst, inl, inr, length-append, length-drop}
 use Rattle.std.proofs.Math.Seq.{drop-append_seam, take-append_seam}
 use Rattle.std.proofs.lemmas.Bool.{cases_lt}
 use Rattle.std.proofs.lemmas.List.{drop-append-le, take-append-le}
@@ -114,6 +114,37 @@ module _ {V F : Type 0} (bytes_of : V → List ℕ) (step : F → V → Unit {0}
         → MayTake bytes_of step pre width between others
     MayTake-others f v others between call may =
         MayTake-behind f (bytes_of v ∷ []) others between may (Takes-first f v [] between between call ([], refl))
+
+-- A message that is fed.
+module _ {V F : Type 0} (bytes_of : V → List ℕ) (step : F → V → Unit {0} → F → Type 0) (width : ℕ) (some : 0 < width) where
+  -- fewer bytes than a block are kept, with no call
+  pub HasFed-few : (f : F) (bytes : List ℕ) → length bytes < width → HasFed bytes_of step width f bytes bytes f
+  HasFed-few f bytes few = record { blocks = Takes-none bytes_of step f (rows width bytes) (rows-few width bytes few); rest = sym (chunk_rest-few width bytes few) }
+
+  -- more bytes
+  pub HasFed-more : (first f last : F) (message kept bytes left : List ℕ) → HasFed bytes_of step width first message kept f
+      → Takes bytes_of step f (rows width (kept ++ bytes)) last → left ≡ chunk_rest width (kept ++ bytes) → HasFed bytes_of step width first (message ++ bytes) left last
+  HasFed-more first f last message kept bytes left fed taken rest =
+      let same = ap (λ k. rows width message ++ rows width (k ++ bytes)) fed.rest in
+      record {
+        blocks = Takes-along bytes_of step first (rows width message ++ rows width (kept ++ bytes)) (rows width (message ++ bytes)) last
+          (rows-joined width some message bytes ∙ sym same) (Takes-join bytes_of step first (rows width message) (rows width (kept ++ bytes)) f last fed.blocks taken);
+        rest = rest ∙ (ap (λ k. chunk_rest width (k ++ bytes)) fed.rest ∙ sym (chunk_rest-joined width some message bytes));
+      }
+
+  -- and when these may be fed
+  pub MayTake-more : (pre : F → V → Type 0) (first f : F) (all message kept bytes more : List ℕ) → all ≡ message ++ (bytes ++ more)
+      → MayTake bytes_of step pre width first (rows width all) → HasFed bytes_of step width first message kept f → MayTake bytes_of step pre width f (rows width (kept ++ bytes))
+  MayTake-more pre first f all message kept bytes more whole may fed =
+      let left = kept ++ (bytes ++ more) in
+      let parts : rows width all ≡ rows width message ++ rows width left =
+      ap (rows width) whole ∙ (rows-joined width some message (bytes ++ more) ∙ ap (λ k. rows width message ++ rows width (k ++ (bytes ++ more))) (sym fed.rest)) in
+      let then : rows width left ≡ rows width (kept ++ bytes) ++ rows width (chunk_rest width (kept ++ bytes) ++ more) =
+      ap (rows width) (sym (append_assoc kept bytes more)) ∙ rows-joined width some (kept ++ bytes) more in
+      let may_left = MayTake-behind bytes_of step pre width first (rows width message) (rows width left) f
+      (MayTake-along bytes_of step pre width first (rows width all) (rows width message ++ rows width left) parts may) fed.blocks in
+      MayTake-front bytes_of step pre width f (rows width (kept ++ bytes)) (rows width (chunk_rest width (kept ++ bytes) ++ more))
+      (MayTake-along bytes_of step pre width f (rows width left) (rows width (kept ++ bytes) ++ rows width (chunk_rest width (kept ++ bytes) ++ more)) then may_left)
 
 -- A block that is full now, the one that a call sees, and the bytes behind it are all bytes.
 module _ {V F : Type 0} (bytes_of : V → List ℕ) (step : F → V → Unit {0} → F → Type 0) (width : ℕ) (some : 0 < width) (all behind : List ℕ) (v : V)

@@ -1,8 +1,9 @@
 //! Messages of any length, handed on in blocks of one length.
-ghost use Rattle.ga_uses.specs.BlockBuffer.{MayTake, Takes, count_more};
+ghost use Rattle.ga_uses.specs.BlockBuffer.{HasFed, MayTake, Takes, count_more, padded, padding, zero_count};
 ghost use Rattle.generic_array.specs.Length.{FitsInline};
 ghost use Rattle.generic_array.specs.Rows.{chunk_rest, rows};
-ghost use Rattle.std.specs.Prelude.{◌≡◌, ◌+◌, ◌<◌, ◌≤◌, [], ◌++◌, length};
+ghost use Rattle.std.specs.List.{flat_map};
+ghost use Rattle.std.specs.Prelude.{◌≡◌, ℕ, ◌+◌, ◌^◌, ◌<◌, ◌≤◌, List, [], ◌++◌, length, replicate};
 
 use generic_array::{ArrayBuilder, ArrayLength, ChunksRef, GenericArray};
 use std::marker::Model;
@@ -49,6 +50,20 @@ impl<N: ArrayLength<u8>> BlockBuffer<N> {
         ensures blocks { Takes (λ slice. slice.now) F.step f.old (rows N.USIZE (self.old.kept ++ bytes.now)) f.new }
         ensures kept { self.new.kept ≡ chunk_rest N.USIZE (self.old.kept ++ bytes.now) }
         ensures len { self.new.len ≡ count_more self.old.len bytes.now }
+        ensures whole { (first : F) (message : List ℕ) → HasFed (λ slice. slice.now) F.step N.USIZE first message self.old.kept f.old
+            → HasFed (λ slice. slice.now) F.step N.USIZE first (message ++ bytes.now) self.new.kept f.new }
+    {
+        // Where a field is used, the type's invariant is known: blocks aren't empty.
+        let _ = &self.kept;
+        self.feed_blocks(bytes, f);
+    }
+
+    // The feed itself, of which `feed` says one thing more that follows.
+    fn feed_blocks<F: FnMut(&[u8])>(&mut self, bytes: &[u8], f: &mut F)
+        requires callable { MayTake (λ slice. slice.now) F.step F.pre N.USIZE f.old (rows N.USIZE (self.old.kept ++ bytes.now)) }
+        ensures blocks { Takes (λ slice. slice.now) F.step f.old (rows N.USIZE (self.old.kept ++ bytes.now)) f.new }
+        ensures kept { self.new.kept ≡ chunk_rest N.USIZE (self.old.kept ++ bytes.now) }
+        ensures len { self.new.len ≡ count_more self.old.len bytes.now }
     {
         self.len = self.len.saturating_add(bytes.len() as u64);
         let missing = N::USIZE - self.kept.position();
@@ -64,6 +79,86 @@ impl<N: ArrayLength<u8>> BlockBuffer<N> {
         f(block.as_slice());
         hand_on_rows(&mut self.kept, behind, f);
     }
+
+    /// Hands on the last block or blocks: what is kept, and the padding.
+    pub fn finish<F: FnMut(&[u8])>(self, f: &mut F)
+        requires len { self.len < 2 ^ 61 }
+        requires callable { MayTake (λ slice. slice.now) F.step F.pre N.USIZE f.old (rows N.USIZE (self.kept ++ padding N.USIZE (length self.kept) self.len)) }
+        ensures blocks { Takes (λ slice. slice.now) F.step f.old (rows N.USIZE (self.kept ++ padding N.USIZE (length self.kept) self.len)) f.new }
+        ensures whole { (first : F) (message : List ℕ) → HasFed (λ slice. slice.now) F.step N.USIZE first message self.kept f.old → self.len ≡ length message
+            → Takes (λ slice. slice.now) F.step first (rows N.USIZE (padded N.USIZE message)) f.new }
+    {
+        let mut buffer = self;
+        let bits = (8 * buffer.len).to_be_bytes();
+        let zeros = buffer.zero_count();
+        buffer.feed(&[0x80], f);
+        buffer.feed_zeros(zeros, f);
+        buffer.feed(&bits, f);
+    }
+
+    /// How many zeros the padding has.
+    fn zero_count(&self) -> usize
+        ensures count { result ≡ zero_count N.USIZE (length self.now.kept) }
+        ensures few { result < N.USIZE }
+    {
+        let width = N::USIZE;
+        (width - (self.kept.position() + 9) % width) % width
+    }
+
+    /// Feeds fewer zeros than a block has bytes.
+    fn feed_zeros<F: FnMut(&[u8])>(&mut self, count: usize, f: &mut F)
+        requires few { count < N.USIZE }
+        requires callable { MayTake (λ slice. slice.now) F.step F.pre N.USIZE f.old (rows N.USIZE (self.old.kept ++ replicate count 0)) }
+        ensures { (first : F) (message : List ℕ) → HasFed (λ slice. slice.now) F.step N.USIZE first message self.old.kept f.old
+            → HasFed (λ slice. slice.now) F.step N.USIZE first (message ++ replicate count 0) self.new.kept f.new }
+    {
+        // Where a field is used, the type's invariant is known: the length fits.
+        let _ = &self.kept;
+        let block = zeros::<N>();
+        let (zeros, _) = block.as_slice().split_at(count);
+        self.feed(zeros, f);
+    }
+}
+
+/// Feeds the pieces in turn to a new buffer.
+///
+/// Its contract says that the blocks are those of the pieces joined, so that they don't depend on where a message is cut.
+pub fn feed_pieces<N: ArrayLength<u8>, F: FnMut(&[u8])>(
+    pieces: &[&[u8]],
+    f: &mut F,
+) -> BlockBuffer<N>
+    requires some { 0 < N.USIZE }
+    requires fits { FitsInline N.USIZE }
+    requires callable { MayTake (λ slice. slice.now) F.step F.pre N.USIZE f.old (rows N.USIZE (flat_map (λ piece. piece.now) pieces.now)) }
+    ensures blocks { Takes (λ slice. slice.now) F.step f.old (rows N.USIZE (flat_map (λ piece. piece.now) pieces.now)) f.new }
+    ensures kept { result.kept ≡ chunk_rest N.USIZE (flat_map (λ piece. piece.now) pieces.now) }
+    ensures len { result.len ≡ count_more 0 (flat_map (λ piece. piece.now) pieces.now) }
+{
+    let mut buffer = BlockBuffer::new();
+    for piece in pieces {
+        buffer.feed(piece, f);
+    }
+    buffer
+}
+
+/// The blocks of a message and its padding, where the message comes in pieces.
+pub fn padded_blocks<N: ArrayLength<u8>, F: FnMut(&[u8])>(pieces: &[&[u8]], f: &mut F)
+    requires some { 0 < N.USIZE }
+    requires fits { FitsInline N.USIZE }
+    requires len { length (flat_map (λ piece. piece.now) pieces.now) < 2 ^ 61 }
+    requires callable { MayTake (λ slice. slice.now) F.step F.pre N.USIZE f.old (rows N.USIZE (padded N.USIZE (flat_map (λ piece. piece.now) pieces.now))) }
+    ensures { Takes (λ slice. slice.now) F.step f.old (rows N.USIZE (padded N.USIZE (flat_map (λ piece. piece.now) pieces.now))) f.new }
+{
+    let buffer: BlockBuffer<N> = feed_pieces(pieces, f);
+    buffer.finish(f);
+}
+
+/// A block of zeros.
+fn zeros<N: ArrayLength<u8>>() -> GenericArray<u8, N>
+    requires { FitsInline N.USIZE }
+    ensures { result ≡ replicate N.USIZE 0 }
+{
+    GenericArray::default()
 }
 
 /// Appends bytes for which there is room.
