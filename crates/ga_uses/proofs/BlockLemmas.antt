@@ -29,13 +29,13 @@ module _ {X : Type 0} (width : ℕ) (some : 0 < width) where
       let front : take width (xs ++ ys) ≡ take width xs = take-append-le width xs ys enough in
       let rest : chunk_rest width xs ≡ chunk_rest width (drop width xs) = chunk_rest-first width xs some enough in (
         rows-first width (xs ++ ys) some long
-        ∙ (ap (λ k. k ∷ rows width (drop width (xs ++ ys))) front
-        ∙ (ap (λ k. take width xs ∷ rows width k) behind
-        ∙ (ap (λ k. take width xs ∷ k) others.0
-        ∙ (ap (λ k. take width xs ∷ (rows width (drop width xs) ++ rows width (k ++ ys))) (sym rest)
-        ∙ ap (λ k. k ++ rows width (chunk_rest width xs ++ ys)) (sym (rows-first width xs some enough)))))),
+            ∙ (ap (λ k. k ∷ rows width (drop width (xs ++ ys))) front
+            ∙ (ap (λ k. take width xs ∷ rows width k) behind
+            ∙ (ap (λ k. take width xs ∷ k) others.0
+            ∙ (ap (λ k. take width xs ∷ (rows width (drop width xs) ++ rows width (k ++ ys))) (sym rest)
+            ∙ ap (λ k. k ++ rows width (chunk_rest width xs ++ ys)) (sym (rows-first width xs some enough)))))),
         chunk_rest-first width (xs ++ ys) some long
-        ∙ (ap (chunk_rest width) behind ∙ (others.1 ∙ ap (λ k. chunk_rest width (k ++ ys)) (sym rest))),
+            ∙ (ap (chunk_rest width) behind ∙ (others.1 ∙ ap (λ k. chunk_rest width (k ++ ys)) (sym rest))),
       )
 
   joins : (fuel : ℕ) (xs ys : List X) → length xs ≤ fuel → Joins xs ys
@@ -128,7 +128,7 @@ module _ {V F : Type 0} (bytes_of : V → List ℕ) (step : F → V → Unit {0}
       let same = ap (λ k. rows width message ++ rows width (k ++ bytes)) fed.rest in
       record {
         blocks = Takes-along bytes_of step first (rows width message ++ rows width (kept ++ bytes)) (rows width (message ++ bytes)) last
-          (rows-joined width some message bytes ∙ sym same) (Takes-join bytes_of step first (rows width message) (rows width (kept ++ bytes)) f last fed.blocks taken);
+            (rows-joined width some message bytes ∙ sym same) (Takes-join bytes_of step first (rows width message) (rows width (kept ++ bytes)) f last fed.blocks taken);
         rest = rest ∙ (ap (λ k. chunk_rest width (k ++ bytes)) fed.rest ∙ sym (chunk_rest-joined width some message bytes));
       }
 

@@ -5,6 +5,9 @@ ghost use Rattle.generic_array.specs.Rows.{chunk_rest, rows};
 ghost use Rattle.std.specs.List.{flat_map};
 ghost use Rattle.std.specs.Prelude.{◌≡◌, ℕ, ◌+◌, ◌^◌, ◌<◌, ◌≤◌, List, [], ◌++◌, length, replicate};
 
+#[cfg(test)]
+mod tests;
+
 use generic_array::{ArrayBuilder, ArrayLength, ChunksRef, GenericArray};
 use std::marker::Model;
 use std::mem;
@@ -42,6 +45,13 @@ impl<N: ArrayLength<u8>> BlockBuffer<N> {
             kept: ArrayBuilder::new(),
             len: 0,
         }
+    }
+
+    /// How many bytes were fed; `u64::MAX` stands for every number from there on. Constant time.
+    pub fn len(&self) -> u64
+        ensures { result ≡ self.now.len }
+    {
+        self.len
     }
 
     /// Feeds the next bytes of the message.
@@ -182,10 +192,7 @@ fn complete<'a, N: ArrayLength<u8>>(
 {
     let (front, behind) = bytes.split_at(N::USIZE - builder.position());
     append(builder, front);
-    (
-        mem::replace(builder, ArrayBuilder::new()).finish(),
-        behind,
-    )
+    (mem::replace(builder, ArrayBuilder::new()).finish(), behind)
 }
 
 /// Calls `f` at each whole block that lies in `bytes`, where it lies, and keeps the rest.

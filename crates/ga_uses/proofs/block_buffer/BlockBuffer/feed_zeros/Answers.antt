@@ -14,7 +14,7 @@ feed-requires g c =
     c.split_at.ensures.front ∙ (ap (take c.args.count) (c.as_slice.ensures.items ∙ c.zeros-block.ensures) ∙ take-replicate c.args.count width 0 (omega arith)) in
     record {
       callable = MayTake-along (λ slice. slice.now) (goal.F-step g) (goal.F-pre g) width c.args.f.now (rows width (kept ++ replicate c.args.count 0)) (rows width (kept ++ c.split_at.result.0.now))
-        (ap (λ b. rows width (kept ++ b)) (sym same)) c.requires.callable;
+          (ap (λ b. rows width (kept ++ b)) (sym same)) c.requires.callable;
     }
 
 pub returns : goal.returns

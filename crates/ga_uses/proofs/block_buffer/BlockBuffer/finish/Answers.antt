@@ -15,7 +15,7 @@ feed-requires g c =
     let begun = HasFed-few (λ slice. slice.now) (goal.F-step g) width (omega (arith, few)) c.args.f.now kept few in
     record {
       callable = MayTake-more (λ slice. slice.now) (goal.F-step g) width (omega (arith, few)) (goal.F-pre g) c.args.f.now c.args.f.now (kept ++ padding width (length kept) c.args.self.len) kept kept
-        (128 ∷ []) (replicate (zero_count width (length kept)) 0 ++ to_be_bytes w64 (8 * c.args.self.len)) refl c.requires.callable begun;
+          (128 ∷ []) (replicate (zero_count width (length kept)) 0 ++ to_be_bytes w64 (8 * c.args.self.len)) refl c.requires.callable begun;
     }
 
 -- and then the zeros
@@ -47,7 +47,7 @@ feed-requires-2 g c =
     padding-in_turn width kept c.args.self.len c.zero_count-zeros.result bits counted told ∙ ap (λ b. message ++ b) (sym (append-nil bits)) in
     record {
       callable = MayTake-more (λ slice. slice.now) (goal.F-step g) width (omega (arith, few)) (goal.F-pre g) c.args.f.now c.feed_zeros.new.f
-        (kept ++ padding width (length kept) c.args.self.len) message c.feed_zeros.new.self.kept bits [] whole c.requires.callable filled;
+          (kept ++ padding width (length kept) c.args.self.len) message c.feed_zeros.new.self.kept bits [] whole c.requires.callable filled;
     }
 
 pub returns-clause-blocks : goal.returns-clause-blocks
