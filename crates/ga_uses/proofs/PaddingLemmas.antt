@@ -1,11 +1,9 @@
 -- Padding: what is kept of a message tells how many zeros it takes.
-use Rattle.ga_uses.proofs.BlockLemmas.{HasFed-few, HasFed-more, MayTake-more}
-use Rattle.ga_uses.specs.BlockBuffer.{HasFed, MayTake, Takes, padded, padding, zero_count}
-use Rattle.generic_array.specs.Rows.{chunk_rest, rows}
-use Rattle.std.proofs.Common.{◌≡◌, ℕ, ◌+◌, ◌-◌, ◌*◌, ◌/◌, ◌%◌, ◌<◌, ◌∷◌, [], List, ◌++◌, length, replicate, ap, sym, refl, ◌∙◌, append_assoc, arith, drop, length-append, length-drop}
+use Rattle.ga_uses.specs.BlockBuffer.{padding, zero_count}
+use Rattle.generic_array.specs.Rows.{chunk_rest}
+use Rattle.std.proofs.Common.{◌≡◌, ℕ, ◌+◌, ◌-◌, ◌*◌, ◌/◌, ◌%◌, ◌∷◌, [], List, ◌++◌, length, replicate, ap, sym, ◌∙◌, append_assoc, arith, length-drop}
 use Rattle.std.proofs.Math.Nat.{add-mul-mod_self_right, div-mul-le_self}
 use Rattle.std.specs.Int.{to_be_bytes, w64}
-use Rattle.std.specs.List.{flat_map}
 
 module _ (width : ℕ) (message kept : List ℕ) (rest : kept ≡ chunk_rest width message) where
   place : (length kept + 9) % width ≡ (length message + 9) % width

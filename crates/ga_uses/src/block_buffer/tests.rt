@@ -85,6 +85,8 @@ fn seen_of_bytes(message: &[u8]) -> Seen {
     }
     if buffer.len() < 1 << 61 {
         buffer.finish(&mut |block: &[u8]| seen.take(block));
+    } else {
+        drop(buffer);
     }
     seen
 }

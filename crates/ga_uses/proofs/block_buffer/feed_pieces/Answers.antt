@@ -2,7 +2,7 @@ use Rattle.ga_uses.proofs.BlockLemmas.{MayTake-more}
 use Rattle.ga_uses.proofs.PieceLemmas.{pieces-cut, pieces-more}
 use Rattle.ga_uses.proofs.block_buffer.feed_pieces.Goals as goal
 use Rattle.ga_uses.specs.BlockBuffer.{HasFed}
-use Rattle.std.proofs.Common.{◌≡◌, ℕ, ◌+◌, ◌++◌, Bor, List, [], ap, arith, drop, get_or, length, length-append, subst, sym, take}
+use Rattle.std.proofs.Common.{ℕ, ◌+◌, Bor, List, [], ap, arith, drop, get_or, length, length-append, subst, sym, take}
 use Rattle.std.specs.List.{flat_map}
 
 pub feed-requires : goal.feed-requires

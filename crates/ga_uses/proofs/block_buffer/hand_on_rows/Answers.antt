@@ -1,7 +1,7 @@
 use Rattle.ga_uses.proofs.BlockLemmas.{BlocksLeft-callable, BlocksLeft-end, BlocksLeft-more, BlocksLeft-start}
 use Rattle.ga_uses.proofs.block_buffer.hand_on_rows.Given as given
 use Rattle.ga_uses.proofs.block_buffer.hand_on_rows.Goals as goal
-use Rattle.std.proofs.Common.{◌≡◌, [], ◌∷◌, ap, rules, sym, ◌∙◌}
+use Rattle.std.proofs.Common.{◌≡◌, ◌∷◌, ap, rules, sym, ◌∙◌}
 
 pub loop-block-init : goal.loop-block-init
 loop-block-init g c =

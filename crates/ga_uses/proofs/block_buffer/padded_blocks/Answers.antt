@@ -1,8 +1,7 @@
 use Rattle.ga_uses.proofs.BlockLemmas.{MayTake-along, MayTake-front, MayTake-more, rows-joined}
 use Rattle.ga_uses.proofs.PaddingLemmas.{padding-kept}
-use Rattle.ga_uses.proofs.block_buffer.padded_blocks.Given as given
 use Rattle.ga_uses.proofs.block_buffer.padded_blocks.Goals as goal
-use Rattle.ga_uses.specs.BlockBuffer.{HasFed, padded, padding}
+use Rattle.ga_uses.specs.BlockBuffer.{padded, padding}
 use Rattle.generic_array.specs.Rows.{chunk_rest, rows}
 use Rattle.std.proofs.Common.{◌≡◌, [], ◌++◌, ap, append-nil, arith, length, sym, ◌∙◌}
 use Rattle.std.specs.List.{flat_map}

@@ -1,6 +1,6 @@
 use Rattle.ga_uses.proofs.BlockLemmas.{HasFed-more}
 use Rattle.ga_uses.proofs.block_buffer.BlockBuffer.feed.Goals as goal
-use Rattle.std.proofs.Common.{arith, rules}
+use Rattle.std.proofs.Common.{arith}
 
 pub returns-clause-whole : goal.returns-clause-whole
 returns-clause-whole g c first message fed =

@@ -1,5 +1,4 @@
 use Rattle.ga_uses.proofs.BlockLemmas.{MayTake-along}
-use Rattle.ga_uses.proofs.block_buffer.BlockBuffer.feed_zeros.Given as given
 use Rattle.ga_uses.proofs.block_buffer.BlockBuffer.feed_zeros.Goals as goal
 use Rattle.ga_uses.specs.BlockBuffer.{HasFed}
 use Rattle.generic_array.specs.Rows.{rows}
