@@ -8,7 +8,7 @@ ghost use Rattle.std.specs.Prelude.{◌≡◌, ℕ, ◌+◌, ◌^◌, ◌<◌, �
 #[cfg(test)]
 mod tests;
 
-use generic_array::{ArrayBuilder, ArrayLength, ChunksRef, GenericArray};
+use generic_array::{ArrayBuilder, ArrayLength, ChunksRef, GenericArray, Unsigned};
 use std::marker::Model;
 use std::mem;
 
@@ -162,6 +162,13 @@ pub fn padded_blocks<N: ArrayLength<u8>, F: FnMut(&[u8])>(pieces: &[&[u8]], f: &
     let buffer: BlockBuffer<N> = feed_pieces(pieces, f);
     buffer.finish(f);
 }
+
+/// A padded message is whole blocks: nothing is left behind them, and the zeros are fewer than a
+/// block has bytes.
+pub fn padding_fills_blocks<N: Unsigned>()
+    ensures whole { 0 < N.USIZE → (message : List ℕ) → chunk_rest N.USIZE (padded N.USIZE message) ≡ [] }
+    ensures fewest { 0 < N.USIZE → (len : ℕ) → zero_count N.USIZE len < N.USIZE }
+{}
 
 /// A block of zeros.
 fn zeros<N: ArrayLength<u8>>() -> GenericArray<u8, N>
