@@ -12,9 +12,9 @@ use generic_array::{ArrayBuilder, ArrayLength, ChunksRef, GenericArray, Unsigned
 use std::marker::Model;
 use std::mem;
 
-/// What of a message has come that fills no block yet, and how long the message is so far.
+/// The bytes of a message that fill no block yet, and how long the message is so far.
 ///
-/// Contracts see it as these bytes, `kept`, and the number of bytes fed, `len`.
+/// Contracts see it as these bytes, `kept`, and the number of bytes fed, `len`. Takes no memory.
 #[derive(Drop)]
 pub struct BlockBuffer<N: ArrayLength<u8>> {
     kept: ArrayBuilder<u8, N>,
@@ -54,7 +54,11 @@ impl<N: ArrayLength<u8>> BlockBuffer<N> {
         self.len
     }
 
-    /// Feeds the next bytes of the message.
+    /// Feeds the next bytes of the message: calls `f` at each block that is full now, in order, and
+    /// keeps what follows.
+    ///
+    /// A block that lies whole in `bytes` isn't copied: `f` sees it where it lies. Any number of bytes
+    /// may be fed; `len` stops at `u64::MAX`.
     pub fn feed<F: FnMut(&[u8])>(&mut self, bytes: &[u8], f: &mut F)
         requires callable { MayTake (λ slice. slice.now) F.step F.pre N.USIZE f.old (rows N.USIZE (self.old.kept ++ bytes.now)) }
         ensures blocks { Takes (λ slice. slice.now) F.step f.old (rows N.USIZE (self.old.kept ++ bytes.now)) f.new }
@@ -90,7 +94,12 @@ impl<N: ArrayLength<u8>> BlockBuffer<N> {
         hand_on_rows(&mut self.kept, behind, f);
     }
 
-    /// Hands on the last block or blocks: what is kept, and the padding.
+    /// Ends the message: calls `f` at the last blocks, which are what is kept and the padding. With
+    /// blocks of 64 bytes this is how messages for SHA-256 are padded.
+    ///
+    /// The padding is a byte 0x80, as few zeros as fill a block, and the number of bits in 8 bytes, the
+    /// high byte first. For that number to fit, fewer than 2^61 bytes were fed: a caller who can't know
+    /// asks `len`.
     pub fn finish<F: FnMut(&[u8])>(self, f: &mut F)
         requires len { self.len < 2 ^ 61 }
         requires callable { MayTake (λ slice. slice.now) F.step F.pre N.USIZE f.old (rows N.USIZE (self.kept ++ padding N.USIZE (length self.kept) self.len)) }
@@ -130,9 +139,9 @@ impl<N: ArrayLength<u8>> BlockBuffer<N> {
     }
 }
 
-/// Feeds the pieces in turn to a new buffer.
+/// Feeds the pieces in turn to a new buffer, which is handed out.
 ///
-/// Its contract says that the blocks are those of the pieces joined, so that they don't depend on where a message is cut.
+/// The blocks are those of the pieces joined: however a message is cut, they are the same.
 pub fn feed_pieces<N: ArrayLength<u8>, F: FnMut(&[u8])>(
     pieces: &[&[u8]],
     f: &mut F,
@@ -151,7 +160,7 @@ pub fn feed_pieces<N: ArrayLength<u8>, F: FnMut(&[u8])>(
     buffer
 }
 
-/// The blocks of a message and its padding, where the message comes in pieces.
+/// Calls `f` at the blocks of a message that comes in pieces, and of its padding.
 pub fn padded_blocks<N: ArrayLength<u8>, F: FnMut(&[u8])>(pieces: &[&[u8]], f: &mut F)
     requires some { 0 < N.USIZE }
     requires fits { FitsInline N.USIZE }

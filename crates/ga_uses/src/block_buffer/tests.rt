@@ -1,7 +1,7 @@
 ghost use Rattle.std.specs.Prelude.{◌≡◌, ◌+◌, ◌^◌, ◌<◌, length};
 
 use super::{BlockBuffer, padded_blocks};
-use generic_array::{U16, U64};
+use generic_array::{GenericArrayRef, U16, U64};
 
 /// Bytes in order, and whether each block had `width` of them.
 #[derive(Drop)]
@@ -71,7 +71,12 @@ fn seen_of_three(first: &[u8], second: &[u8], third: &[u8]) -> Seen
     let mut seen = Seen::none(64);
     padded_blocks::<U64, _>(
         &[first, second, third],
-        &mut |block: &[u8]| seen.take(block),
+        &mut |block: &[u8]|
+            requires { length block.now ≡ 64 }
+        {
+            let view: GenericArrayRef<u8, U64> = GenericArrayRef::from_slice(block);
+            seen.take(view.as_slice());
+        },
     );
     seen
 }
