@@ -1,1 +1,4 @@
 pub mod SameBytes
+pub mod BlockLemmas
+pub mod PaddingLemmas
+pub mod PieceLemmas

@@ -6,3 +6,5 @@
 pub mod hash_function;
 /// Tags of messages under a key.
 pub mod hmac;
+/// Messages of any length, in blocks of one length.
+pub mod block_buffer;
