@@ -279,9 +279,9 @@ module _ {V : Type 0} (es : List (List ℕ × V)) (sorted : IsInKeyOrder es) whe
 
 -- ---- the edits keep the order
 
-pub sorted_empty : {V : Type 0} → IsInKeyOrder {V = V} []
+pub sorted_empty : (V : Type 0) → IsInKeyOrder {V = V} []
 unfolding IsStrictlySortedBy
-sorted_empty = tt
+sorted_empty V = tt
 
 module _ {V : Type 0} (es : List (List ℕ × V)) (sorted : IsInKeyOrder es) (key : List ℕ) (i : ℕ) where
   -- e is the entry that was there

@@ -10,6 +10,6 @@ use Rattle.std.specs.Ordering.{is_lt}
 pub returns-clause-parts : goal.returns-clause-parts
 returns-clause-parts g c =
     rw (← c.self.view_is, ← c.deref.ensures.value)
-        (IsPartitionPoint-from_clause (λ e. is_lt (key_order e.0 c.args.key.now)) _ _ c.partition_point.ensures.partitioned
-            (rw c.deref.ensures.value (parted nat_list_cmp_total c.args.key.now _ c.self.invariant))
-            (λ a r f called. search rules))
+    (IsPartitionPoint-from_clause (λ e. is_lt (key_order e.0 c.args.key.now)) _ _ c.partition_point.ensures.partitioned
+    (rw c.deref.ensures.value (parted nat_list_cmp_total c.args.key.now _ c.self.invariant))
+    (λ a r f called. search rules))

@@ -8,4 +8,4 @@ returns g c =
     let start = c.place_of-start.ensures in
     let end = c.place_of-end.ensures in
     rw (c.deref.ensures.value, c.self.view_is, c.min.ensures)
-        (sym (ranged _ start.ordered c.args.from.now c.args.to.now _ _ start.in_range end.in_range start.parts end.parts))
+    (sym (ranged _ start.ordered c.args.from.now c.args.to.now _ _ start.in_range end.in_range start.parts end.parts))

@@ -5,4 +5,4 @@ use Rattle.std.proofs.Common.{subst, sym}
 
 -- the other entries stay in order
 pub invariant_of-self : goal.invariant_of-self
-invariant_of-self g c = subst IsInKeyOrder (sym c.remove-key.ensures.items) (sorted_removed _ c.self.invariant _ _ (rw c.self.view_is c.in-Ok.ensures.found))
+invariant_of-self g c = subst IsInKeyOrder (sym c.remove-key.ensures.items) (sorted_removed c.self.inside.entries.items c.self.invariant c.args.key.now c.in-Ok.place (rw c.self.view_is c.in-Ok.ensures.found))
