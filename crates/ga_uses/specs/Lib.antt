@@ -1,1 +1,2 @@
 pub mod KeyTable
+pub mod Udp

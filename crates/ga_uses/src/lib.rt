@@ -4,3 +4,5 @@
 
 /// A table of keys of one width.
 pub mod key_table;
+/// UDP datagrams through views.
+pub mod udp;
