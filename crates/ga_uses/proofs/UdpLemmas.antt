@@ -2,7 +2,7 @@
 use Rattle.generic_array.proofs.RowLemmas.{chunk_rest-first, rows-first}
 use Rattle.generic_array.specs.Rows.{chunk_rest, rows}
 use Rattle.ga_uses.specs.Udp.{field_of, header_of, number_of, ones_complement_sum, sum_with_carry, summed_bytes, words}
-use Rattle.std.proofs.Common.{◌≡◌, ℕ, zero, suc, ◌+◌, ◌*◌, ◌<◌, ◌≤◌, ◌/◌, ◌%◌, ◌^◌, List, [], ◌∷◌, ◌++◌, length, map, refl, sym, ◌∙◌, ap, subst, arith}
+use Rattle.std.proofs.Common.{◌≡◌, ℕ, zero, suc, ◌+◌, ◌*◌, ◌<◌, ◌≤◌, ◌/◌, ◌%◌, ◌^◌, List, [], ◌∷◌, ◌++◌, get_or, length, map, refl, sym, ◌∙◌, ap, subst, arith}
 use Rattle.std.proofs.lemmas.Grind.{fold-append}
 use Rattle.std.specs.Prelude.{fold}
 
@@ -49,3 +49,26 @@ summed from to payload len source destination four_from four_to is =
     let third : words behind ≡ 17 ∷ len ∷ source ∷ destination ∷ len ∷ 0 ∷ words payload = λ i. 17 ∷ rejoined len i ∷ rejoined source i ∷ rejoined destination i ∷ rejoined len i ∷ 0 ∷ words payload in
     let all : fold sum_with_carry 0 (words (from ++ (to ++ behind))) ≡ fold sum_with_carry (fold sum_with_carry (fold sum_with_carry 0 (words from)) (words to)) (17 ∷ len ∷ source ∷ destination ∷ len ∷ 0 ∷ words payload) = first ∙ (second ∙ ap (fold sum_with_carry (fold sum_with_carry (fold sum_with_carry 0 (words from)) (words to))) third) in
     sym all ∙ ap (λ n. ones_complement_sum (from ++ (to ++ (0 ∷ 17 ∷ field_of n ++ (header_of source destination n 0 ++ payload))))) is
+
+one_left : (rest : List ℕ) → 1 ≤ length rest → length rest < 2 → words rest ≡ (get_or rest 0 0 * 2 ^ 8) ∷ []
+one_left [] least most = absurd (omega (arith, least))
+one_left (x ∷ []) least most = refl
+one_left (x ∷ y ∷ rest) least most = absurd (omega (arith, most))
+
+none_left : (rest : List ℕ) → length rest < 1 → words rest ≡ []
+none_left [] most = refl
+none_left (x ∷ rest) most = absurd (omega (arith, most))
+
+-- the total over whole rows is that of all bytes, once the byte that is left is added
+module _ (xs whole rest : List ℕ) (same : rows 2 whole ≡ rows 2 xs) (left : rest ≡ chunk_rest 2 xs) (sum total : ℕ) (is : total ≡ fold sum_with_carry sum (map number_of (rows 2 whole))) where
+  all : fold sum_with_carry sum (words xs) ≡ fold sum_with_carry total (words rest)
+  all =
+      fold-rows xs sum
+      ∙ (ap (λ t. fold sum_with_carry t (words (chunk_rest 2 xs))) (sym (is ∙ ap (λ rs. fold sum_with_carry sum (map number_of rs)) same))
+      ∙ ap (λ r. fold sum_with_carry total (words r)) (sym left))
+
+  pub total-one : 1 ≤ length rest → length rest < 2 → sum_with_carry total (get_or rest 0 0 * 2 ^ 8) ≡ fold sum_with_carry sum (words xs)
+  total-one least most = sym (all ∙ ap (fold sum_with_carry total) (one_left rest least most))
+
+  pub total-none : length rest < 1 → total ≡ fold sum_with_carry sum (words xs)
+  total-none most = sym (all ∙ ap (fold sum_with_carry total) (none_left rest most))

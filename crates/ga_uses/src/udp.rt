@@ -1,6 +1,7 @@
 //! UDP datagrams, as RFC 768 has them: read, summed and written through views.
-ghost use Rattle.ga_uses.specs.Udp.{IsDatagram, checksum_of, field_of, header_of, number_of, summed_bytes, sum_with_carry, words};
-ghost use Rattle.std.specs.Prelude.{◌≡◌, ◌≢◌, ◌+◌, ◌-◌, ◌*◌, ◌^◌, ◌<◌, ◌≤◌, ◌↔◌, ◌++◌, Err, IfOk, IsOk, Ok, drop, fold, length, slice_index, slice_range};
+ghost use Rattle.ga_uses.specs.Udp.{IsDatagram, checksum_of, field_of, header_of, number_of, ones_complement_sum, summed_bytes, sum_with_carry, words};
+ghost use Rattle.generic_array.specs.Rows.{rows};
+ghost use Rattle.std.specs.Prelude.{◌≡◌, ◌≢◌, ◌+◌, ◌-◌, ◌*◌, ◌^◌, ◌<◌, ◌≤◌, ◌↔◌, ◌++◌, Err, IfOk, IsOk, Ok, drop, fold, length, map, slice_index, slice_range};
 
 #[cfg(test)]
 mod tests;
@@ -82,35 +83,59 @@ pub fn checksum(
     requires fits { 8 + length payload.now < 2 ^ 16 }
     ensures { result ≡ checksum_of (summed_bytes source_address.entry.slice.now destination_address.entry.slice.now source destination payload.now) }
 {
-    let length = (8 + payload.len()) as u16;
-    // The protocol, the length, and the header, whose checksum counts as 0.
-    let between = GenericArray::<u16, U6>::from_array([17, length, source, destination, length, 0]);
-    let addresses = with_words(
-        with_words(0, source_address.into_slice()),
-        destination_address.into_slice(),
+    let sum = sum_of(
+        source_address,
+        destination_address,
+        source,
+        destination,
+        payload,
     );
-    let sum = between.fold(addresses, |sum: u16, word: u16| with_carry(sum, word));
-    match u16::MAX - with_words(sum, payload) {
+    match u16::MAX - sum {
         0 => u16::MAX,
         complement => complement,
     }
 }
 
-/// The sum and the words of the bytes, added one after the other. Behind an odd last byte there is a 0.
+// The sum of the addresses, the protocol, the length, the header, whose checksum counts as 0, and the
+// payload.
+fn sum_of(
+    source_address: GenericArrayRef<'_, u8, U4>,
+    destination_address: GenericArrayRef<'_, u8, U4>,
+    source: u16,
+    destination: u16,
+    payload: &[u8],
+) -> u16
+    requires fits { 8 + length payload.now < 2 ^ 16 }
+    ensures { result ≡ ones_complement_sum (summed_bytes source_address.entry.slice.now destination_address.entry.slice.now source destination payload.now) }
+{
+    let len = (8 + payload.len()) as u16;
+    let between = GenericArray::<u16, U6>::from_array([17, len, source, destination, len, 0]);
+    let first = with_words(0, source_address.into_slice());
+    let addresses = with_words(first, destination_address.into_slice());
+    let header = between.fold(addresses, |sum: u16, word: u16| with_carry(sum, word));
+    with_words(header, payload)
+}
+
+// The sum with the words of the bytes added, one after the other. Behind an odd last byte there is a 0.
 fn with_words(sum: u16, bytes: &[u8]) -> u16
     ensures { result ≡ fold sum_with_carry sum (words bytes.now) }
 {
     let (rows, rest) = ChunksRef::<u8, U2>::chunks_from_slice(bytes);
-    let total = rows
-        .iter()
-        .fold(sum, |total, row| with_carry(total, number(row)));
+    let total = with_rows(sum, rows);
     match rest {
         [last] => with_carry(total, *last as u16 * 0x100),
         _ => total,
     }
 }
 
-/// The sum of one's complement of two words.
+// The same over whole words, each a row of two bytes.
+fn with_rows(sum: u16, words: ChunksRef<'_, u8, U2>) -> u16
+    ensures { result ≡ fold sum_with_carry sum (map number_of (rows 2 words.entry.slice.now)) }
+{
+    words.iter().map(number).fold(sum, with_carry)
+}
+
+// The sum of one's complement of two words.
 fn with_carry(sum: u16, word: u16) -> u16
     ensures { result ≡ sum_with_carry sum word }
 {
@@ -131,7 +156,7 @@ pub fn write_header(
     requires fits { length datagram.old < 2 ^ 16 }
     ensures { datagram.new ≡ header_of source destination (length datagram.old) (checksum_of (summed_bytes source_address.entry.slice.now destination_address.entry.slice.now source destination (drop 8 datagram.old))) ++ drop 8 datagram.old }
 {
-    let length = datagram.len() as u16;
+    let len = datagram.len() as u16;
     let (header, payload) = datagram.split_at_mut(8);
     let checksum = checksum(
         source_address,
@@ -140,20 +165,20 @@ pub fn write_header(
         destination,
         payload,
     );
-    write_fields(header, source, destination, length, checksum);
+    write_fields(header, source, destination, len, checksum);
 }
 
-/// Writes the four fields, each as a row of two bytes.
-fn write_fields(header: &mut [u8], source: u16, destination: u16, length: u16, checksum: u16)
+// Writes the four fields, each as a row of two bytes.
+fn write_fields(header: &mut [u8], source: u16, destination: u16, len: u16, checksum: u16)
     requires { length header.old ≡ 8 }
-    ensures { header.new ≡ header_of source destination length checksum }
+    ensures { header.new ≡ header_of source destination len checksum }
 {
     let mut fields: ChunksMut<u8, U2> = ChunksMut::over(header);
     fields.row_mut(0).copy_from_slice(&source.to_be_bytes());
     fields
         .row_mut(1)
         .copy_from_slice(&destination.to_be_bytes());
-    fields.row_mut(2).copy_from_slice(&length.to_be_bytes());
+    fields.row_mut(2).copy_from_slice(&len.to_be_bytes());
     fields.row_mut(3).copy_from_slice(&checksum.to_be_bytes());
 }
 

@@ -1,3 +1,5 @@
+ghost use Rattle.std.specs.Prelude.{◌^◌, ◌<◌, ◌≤◌, length};
+
 use super::*;
 use generic_array::GenericArray;
 
@@ -5,7 +7,6 @@ use generic_array::GenericArray;
 fn write_example(datagram: &mut [u8])
     requires room { 8 ≤ length datagram.old }
     requires fits { length datagram.old < 2 ^ 16 }
-    ensures { length datagram.new ≡ length datagram.old }
 {
     let from = GenericArray::<u8, U4>::from_array([192, 0, 2, 1]);
     let to = GenericArray::<u8, U4>::from_array([198, 51, 100, 2]);
