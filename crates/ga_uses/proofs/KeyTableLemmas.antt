@@ -4,9 +4,14 @@ use mathlib.Core.Bool.{true≢false}
 use Rattle.std.specs.BTreeMap.{insert_entry, is_at}
 use Rattle.std.specs.Cmp.{IsTotalOrder, alike_right, tied_back}
 use Rattle.std.specs.List.{AllByRecursion, AllWithin, filter, insert, remove}
-use Rattle.ga_uses.specs.KeyTable.{HasKeyAt, IsGapFor, IsInKeyOrder, entries_from_to, key_order}
+use Rattle.ga_uses.specs.KeyTable.{HasKeyAt, IsGapFor, IsInKeyOrder, ChangesKey, entries_from_to, key_order, value_at, with_entry, without_key}
 use Rattle.std.specs.List.Sorted.{IsStrictlySortedBy, IsSearchInRange, IsBinarySearchResult, IsNonDecreasingBy, IsPartitionPoint, IsPartitionedBy}
 use Rattle.std.proofs.lemmas.Cmp.{nat_list_cmp_total}
+use Rattle.std.proofs.lemmas.Map.{lookup-remove_entry}
+use Rattle.std.proofs.lemmas.Map.Keys.{IsDistinct-from_sorted}
+use Rattle.std.proofs.lemmas.Map.Lookups.{exact_bytes}
+use Rattle.std.proofs.lemmas.Cmp.{eq_by_cmp_equiv, tied_itself}
+use Rattle.std.specs.Ordering.{eq_by_cmp}
 use Rattle.std.specs.Prelude.{slice_range}
 use Rattle.std.specs.Map.{keys_of, lookup, remove_entry}
 use Rattle.std.specs.Ordering.{is_eq, is_le, is_lt, match_ordering, ordering_index, ordering_reverse}
@@ -296,3 +301,77 @@ module _ {V : Type 0} (es : List (List ℕ × V)) (sorted : IsInKeyOrder es) (ke
 
   pub sorted_removed : HasKeyAt es key i → IsInKeyOrder (remove es i)
   sorted_removed has = subst IsInKeyOrder has.removed (sorted_remove key_order (is_at (key_order key)) es sorted)
+
+-- ---- what a look-up finds after an edit
+
+tie : (r : Ordering) → is_eq r ≡ true → r ≡ Equal
+tie Less h = absurd (true≢false (sym h))
+tie Equal h = refl
+tie Greater h = absurd (true≢false (sym h))
+
+module _ {X : Type 0} (v w : X) (rest : Option X) where
+  -- two tests of which at most one passes may be made in either order
+  swapped_tests : (a b : Bool) → (a ≡ true → b ≡ false) → cond a (Some w) (cond b (Some v) rest) ≡ cond b (Some v) (cond a (Some w) rest)
+  swapped_tests true true apart = absurd (true≢false (apart refl))
+  swapped_tests true false apart = refl
+  swapped_tests false b apart = refl
+
+  -- and one test made twice is made once
+  same_test : (b : Bool) → cond b (Some v) rest ≡ cond b (Some v) (cond b (Some w) rest)
+  same_test true = refl
+  same_test false = refl
+
+module _ {K X : Type 0} {R : K → K → Ordering} (o : IsTotalOrder R) (k : K) (v : X) (q : K) where
+  ties_back : is_eq (R q k) ≡ is_eq (R k q)
+  ties_back = ap is_eq (o.antisymm q k) ∙ same (R k q)
+    where
+      same : (r : Ordering) → is_eq (ordering_reverse r) ≡ is_eq r
+      same Less = refl
+      same Equal = refl
+      same Greater = refl
+
+  -- where q is the entry's key, which is below k, it isn't k
+  apart : (e : K × X) → R k e.0 ≡ Greater → is_eq (R q e.0) ≡ true → is_eq (R k q) ≡ false
+  apart e h at = ap is_eq (alike_right o q e.0 k (tie (R q e.0) at) ∙ h)
+
+  lookup_insert_by : (e : K × X) (es : List (K × X)) (r : Ordering) → R k e.0 ≡ r → lookup (is_at (R q)) (insert_entry R es k v) ≡ cond (is_eq (R k q)) (Some v) (lookup (is_at (R q)) es) → lookup (is_at (R q)) (match_ordering r ((k, v) ∷ e ∷ es) ((e.0, v) ∷ es) (e ∷ insert_entry R es k v)) ≡ cond (is_eq (R k q)) (Some v) (lookup (is_at (R q)) (e ∷ es))
+  lookup_insert_by e es Less h rest = ap (λ b. cond b (Some v) (lookup (is_at (R q)) (e ∷ es))) ties_back
+  lookup_insert_by e es Equal h rest =
+      let same : is_eq (R q e.0) ≡ is_eq (R k q) = ap is_eq (sym (alike_right o k e.0 q h)) ∙ ties_back in
+      ap (λ b. cond b (Some v) (lookup (is_at (R q)) es)) same ∙ (same_test v e.1 (lookup (is_at (R q)) es) (is_eq (R k q)) ∙ ap (λ b. cond (is_eq (R k q)) (Some v) (cond b (Some e.1) (lookup (is_at (R q)) es))) (sym same))
+  lookup_insert_by e es Greater h rest =
+      ap (λ l. cond (is_eq (R q e.0)) (Some e.1) l) rest ∙ swapped_tests v e.1 (lookup (is_at (R q)) es) (is_eq (R q e.0)) (is_eq (R k q)) (apart e h)
+
+  pub lookup-insert_entry : (es : List (K × X)) → lookup (is_at (R q)) (insert_entry R es k v) ≡ cond (is_eq (R k q)) (Some v) (lookup (is_at (R q)) es)
+  lookup-insert_entry [] = ap (λ b. cond b (Some v) None) ties_back
+  lookup-insert_entry (e ∷ es) = lookup_insert_by e es (R k e.0) refl (lookup-insert_entry es)
+
+-- keys that differ don't tie
+unlike : (x y : List ℕ) → (y ≡ x → ⊥) → is_eq (key_order x y) ≡ false
+unlike x y differ = by (key_order x y) refl
+  where
+    by : (r : Ordering) → key_order x y ≡ r → is_eq r ≡ false
+    by Less h = refl
+    by Equal h = absurd (differ (sym (exact_bytes x y h)))
+    by Greater h = refl
+
+module _ {V : Type 0} (es : List (List ℕ × V)) (key : List ℕ) where
+  pub changes-with_entry : (value : V) → ChangesKey es (with_entry es key value) key (Some value)
+  changes-with_entry value =
+      let at = λ (b : Bool) (q : List ℕ). cond b (Some value) (value_at es q) in (
+        lookup-insert_entry nat_list_cmp_total key value key es ∙ ap (λ b. at b key) (ap is_eq (tied_itself nat_list_cmp_total key)),
+        λ other differ. lookup-insert_entry nat_list_cmp_total key value other es ∙ ap (λ b. at b other) (unlike key other differ),
+      )
+
+  pub changes-without_key : IsInKeyOrder es → ChangesKey es (without_key es key) key None
+  changes-without_key sorted =
+      let at = λ (b : Bool) (q : List ℕ). cond b None (value_at es q) in
+      let taken = λ (q : List ℕ). lookup-remove_entry {eq = eq_by_cmp key_order} (eq_by_cmp_equiv nat_list_cmp_total) (is_at (key_order key)) (λ x y h. ap is_eq (nat_list_cmp_total.congr key x y (tie (key_order key x) h))) q es (IsDistinct-from_sorted key_order (keys_of es) sorted) in (
+        taken key ∙ ap (λ b. at b key) (ap is_eq (tied_itself nat_list_cmp_total key)),
+        λ other differ. taken other ∙ ap (λ b. at b other) (unlike key other differ),
+      )
+
+-- the same where place i is written over: e is the entry that was there
+pub changes_written : {V : Type 0} (es : List (List ℕ × V)) (key : List ℕ) (i : ℕ) → HasKeyAt es key i → (e : List ℕ × V) (v : V) → e ≡ get_or es i e → ChangesKey es (set es i (e.0, v)) key (Some v)
+changes_written {V} es key i has e v is =
+    subst (λ (x : List ℕ × V). ChangesKey es (set es i (x.0, v)) key (Some v)) (sym is) (subst (λ l. ChangesKey es l key (Some v)) (has.written v e) (changes-with_entry es key v))

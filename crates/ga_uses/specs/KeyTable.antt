@@ -5,7 +5,7 @@ use Rattle.std.specs.List.{insert, remove}
 use Rattle.std.specs.List.Sorted.{IsStrictlySortedBy}
 use Rattle.std.specs.Map.{keys_of, lookup, remove_entry}
 use Rattle.std.specs.Ordering.{is_le, is_lt, nat_cmp}
-use Rattle.std.specs.Prelude.{◌≡◌, ℕ, ◌<◌, ◌≤◌, ◌&&◌, List, None, Option, Some, filter, length, slice_index_or, slice_set}
+use Rattle.std.specs.Prelude.{◌≡◌, ◌≢◌, ℕ, ◌<◌, ◌≤◌, ◌&&◌, List, None, Option, Some, filter, length, slice_index_or, slice_set}
 use Rattle.std.specs.declared.cmp.Ordering.{Ordering}
 
 -- the order of keys: the first byte that differs decides
@@ -32,6 +32,10 @@ module _ {V : Type 0} where
   -- the entries whose keys are at least `from` and below `to`
   abbrev pub entries_from_to : List (List ℕ × V) → List ℕ → List ℕ → List (List ℕ × V)
   entries_from_to entries from to = filter (λ e. is_le (key_order from e.0) && is_lt (key_order e.0 to)) entries
+
+  -- the value at the key becomes this one, or none, and every other key keeps what it has
+  abbrev pub ChangesKey : List (List ℕ × V) → List (List ℕ × V) → List ℕ → Option V → Type 0
+  ChangesKey old new key value = (value_at new key ≡ value) × ((other : List ℕ) → other ≢ key → value_at new other ≡ value_at old other)
 
   -- place i has the key: what a look-up, a write and a removal at the key come to
   pub record HasKeyAt (entries : List (List ℕ × V)) (key : List ℕ) (i : ℕ) : Type 0 where

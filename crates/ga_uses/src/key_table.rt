@@ -1,9 +1,9 @@
 //! A table of keys of one width, kept as a sorted vector.
-ghost use Rattle.ga_uses.specs.KeyTable.{HasKeyAt, IsGapFor, IsInKeyOrder, entries_from_to, key_order, value_at, with_entry, without_key};
+ghost use Rattle.ga_uses.specs.KeyTable.{ChangesKey, HasKeyAt, IsGapFor, IsInKeyOrder, entries_from_to, key_order, value_at, with_entry, without_key};
 ghost use Rattle.std.specs.List.Sorted.{IsPartitionPoint};
 ghost use Rattle.std.specs.Option.{option_copied};
 ghost use Rattle.std.specs.Ordering.{is_lt};
-ghost use Rattle.std.specs.Prelude.{◌≡◌, ◌≤◌, [], IfErr, IfOk, OnErr, OnOk, false, length, true};
+ghost use Rattle.std.specs.Prelude.{◌≡◌, ◌≤◌, ◌↔◌, [], IfErr, IfOk, IsTrue, None, OnErr, OnOk, Some, false, length, true};
 
 mod std_maps;
 #[cfg(test)]
@@ -44,9 +44,17 @@ impl<N: ArrayLength<u8>, V> KeyTable<N, V> {
 
     /// The number of entries. Constant time.
     pub fn len(&self) -> usize
-        ensures { result ≡ length self.now }
+        ensures len { result ≡ length self.now }
+        ensures ordered { IsInKeyOrder self.now }
     {
         self.entries.len()
+    }
+
+    /// Whether there is no entry. Constant time.
+    pub fn is_empty(&self) -> bool
+        ensures { IsTrue result ↔ (length self.now ≡ 0) }
+    {
+        self.len() == 0
     }
 
     /// The value at a key, or `None` where the table doesn't have the key. Logarithmic time.
@@ -66,7 +74,11 @@ impl<N: ArrayLength<u8>, V> KeyTable<N, V> {
         V: Drop,
         ensures old { IfOk result (λ old. old ≡ value_at self.old key) }
         ensures entries { OnOk result (self.new ≡ with_entry self.old key value) }
+        ensures changes { OnOk result (ChangesKey self.old self.new key (Some value)) }
+
+        // Only a new key can be refused, and the table is then as it was.
         ensures refused { OnErr result (self.new ≡ self.old) }
+        ensures absent { OnErr result (value_at self.old key ≡ None) }
     {
         match self.search(&key) {
             Ok(place) => {
@@ -85,6 +97,7 @@ impl<N: ArrayLength<u8>, V> KeyTable<N, V> {
     pub fn remove(&mut self, key: &GenericArray<u8, N>) -> Option<V>
         ensures old { result ≡ value_at self.old key.now }
         ensures entries { self.new ≡ without_key self.old key.now }
+        ensures changes { ChangesKey self.old self.new key.now None }
     {
         match self.search(key) {
             Ok(place) => {

@@ -1,8 +1,35 @@
+ghost use Rattle.ga_uses.specs.KeyTable.{value_at};
+ghost use Rattle.std.specs.Prelude.{◌≡◌, ◌≢◌, IsTrue};
+
 use super::std_maps::{put_in_hashes, put_in_tree};
 use super::*;
 use generic_array::U2;
 use std::collections::{BTreeMap, HashMap};
 use std::test::Fail;
+
+/// Whether a key that was taken out is gone, which it always is, and the other keeps its value.
+fn taken_out<N: ArrayLength<u8>, V: Drop>(
+    table: &mut KeyTable<N, V>,
+    key: &GenericArray<u8, N>,
+    other: &GenericArray<u8, N>,
+) -> bool
+    requires { other.now ≢ key.now }
+    ensures gone { IsTrue result }
+    ensures kept { value_at table.new other.now ≡ value_at table.old other.now }
+{
+    let _value = table.remove(key);
+    table.get(key).is_none()
+}
+
+/// Whether a key of two can be taken out alone.
+fn one_of_two_taken_out(alloc: Global) -> Result<bool, AllocError> {
+    let mut table = KeyTable::new(alloc);
+    let _none = table.insert(key_of(1), 10)?;
+    let _none = table.insert(key_of(2), 20)?;
+    let (first, second) = (key_of(1), key_of(2));
+    let gone = first != second && taken_out(&mut table, &first, &second);
+    Ok(gone && table.get(&second).copied() == Some(20) && !table.is_empty())
+}
 
 /// The key of two bytes below 12 that a number stands for.
 fn key_of(number: u64) -> GenericArray<u8, U2> {
@@ -105,6 +132,7 @@ fn hashed_twice(alloc: Global) -> Result<(Option<u64>, Option<u64>), AllocError>
 fn a_table_answers_as_the_maps_of_std(rt: HostRuntime) -> Result<(), Fail> {
     assert!(rt; all_steps_alike(rt.alloc(), 1_000)?);
     assert!(rt; hashed_twice(rt.alloc())? == (None, Some(1)));
+    assert!(rt; one_of_two_taken_out(rt.alloc())?);
     Ok(())
 }
 
