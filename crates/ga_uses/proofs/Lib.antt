@@ -1,2 +1,4 @@
+mod EntryLemmas
 pub mod KeyTableLemmas
+pub mod SearchLemmas
 pub mod UdpLemmas

@@ -1,7 +1,7 @@
 //! UDP datagrams, as RFC 768 has them: read, summed and written through views.
-ghost use Rattle.ga_uses.specs.Udp.{IsDatagram, checksum_of, field_of, header_of, number_of, ones_complement_sum, summed_bytes, sum_with_carry, words};
+ghost use Rattle.ga_uses.specs.Udp.{IsDatagram, checksum_of, header_of, number_of, ones_complement_sum, summed_bytes, sum_with_carry, words};
 ghost use Rattle.generic_array.specs.Rows.{rows};
-ghost use Rattle.std.specs.Prelude.{◌≡◌, ◌≢◌, ◌+◌, ◌-◌, ◌*◌, ◌^◌, ◌<◌, ◌≤◌, ◌↔◌, ◌++◌, Err, IfOk, IsOk, Ok, drop, fold, length, map, slice_index, slice_range};
+ghost use Rattle.std.specs.Prelude.{◌≡◌, ◌+◌, ◌-◌, ◌^◌, ◌<◌, ◌≤◌, ◌↔◌, ◌++◌, Err, IfOk, IsOk, Ok, drop, fold, length, map, slice_range};
 
 #[cfg(test)]
 mod tests;
@@ -38,6 +38,8 @@ pub struct Datagram<'a> {
 pub fn parse(datagram: &[u8]) -> Result<Datagram<'_>, HeaderError>
     ensures variant { IsOk result ↔ IsDatagram datagram.now }
     ensures short { (result ≡ Err HeaderError.TooShort) ↔ (length datagram.now < 8) }
+    ensures other_length { (result ≡ Err HeaderError.OtherLength) ↔ ((8 ≤ length datagram.now) × ¬ IsDatagram datagram.now) }
+
     ensures source { IfOk result (λ read. read.source.slice.now ≡ slice_range datagram.now 0 2) }
     ensures destination { IfOk result (λ read. read.destination.slice.now ≡ slice_range datagram.now 2 4) }
     ensures len { IfOk result (λ read. read.length.slice.now ≡ slice_range datagram.now 4 6) }
@@ -154,7 +156,9 @@ pub fn write_header(
 )
     requires room { 8 ≤ length datagram.old }
     requires fits { length datagram.old < 2 ^ 16 }
-    ensures { datagram.new ≡ header_of source destination (length datagram.old) (checksum_of (summed_bytes source_address.entry.slice.now destination_address.entry.slice.now source destination (drop 8 datagram.old))) ++ drop 8 datagram.old }
+    ensures { let payload = drop 8 datagram.old in
+        let summed = summed_bytes source_address.entry.slice.now destination_address.entry.slice.now source destination payload in
+        datagram.new ≡ header_of source destination (length datagram.old) (checksum_of summed) ++ payload }
 {
     let len = datagram.len() as u16;
     let (header, payload) = datagram.split_at_mut(8);

@@ -1,4 +1,4 @@
-use Rattle.ga_uses.proofs.KeyTableLemmas.{parted}
+use Rattle.ga_uses.proofs.SearchLemmas.{parted}
 use Rattle.ga_uses.proofs.key_table.KeyTable.place_of.Goals as goal
 use Rattle.ga_uses.specs.KeyTable.{key_order}
 use Rattle.std.proofs.Common.{rules}
