@@ -2,7 +2,7 @@
 use Rattle.generic_array.proofs.RowLemmas.{chunk_rest-first, rows-first}
 use Rattle.generic_array.specs.Rows.{chunk_rest, rows}
 use Rattle.ga_uses.specs.Udp.{field_of, header_of, number_of, ones_complement_sum, sum_with_carry, summed_bytes, words}
-use Rattle.std.proofs.Common.{◌≡◌, ℕ, zero, suc, ◌+◌, ◌*◌, ◌<◌, ◌≤◌, ◌/◌, ◌%◌, ◌^◌, List, [], ◌∷◌, ◌++◌, get_or, length, map, refl, sym, ◌∙◌, ap, subst, arith}
+use Rattle.std.proofs.Common.{◌≡◌, ℕ, zero, suc, ◌+◌, ◌*◌, ◌<◌, ◌≤◌, ◌/◌, ◌%◌, ◌^◌, List, [], ◌∷◌, ◌++◌, get_or, length, map, refl, sym, ◌∙◌, ap, arith}
 use Rattle.std.proofs.lemmas.Grind.{fold-append}
 use Rattle.std.specs.Prelude.{fold}
 
@@ -21,12 +21,6 @@ words-rows (x ∷ y ∷ xs) =
     let first = rows-first {X = ℕ} 2 (x ∷ y ∷ xs) (omega arith) (omega arith) in
     let rest = chunk_rest-first {X = ℕ} 2 (x ∷ y ∷ xs) (omega arith) (omega arith) in
     ap (λ ws. (x * 2 ^ 8 + y) ∷ ws) (words-rows xs) ∙ sym (ap (λ r. map number_of r ++ words (chunk_rest 2 (x ∷ y ∷ xs))) first ∙ ap (λ r. (x * 2 ^ 8 + y) ∷ (map number_of (rows 2 xs) ++ words r)) rest)
-
--- fewer than two bytes are left
-pub length-rest : (xs : List ℕ) → length (chunk_rest 2 xs) < 2
-length-rest [] = omega arith
-length-rest (x ∷ []) = omega arith
-length-rest (x ∷ y ∷ xs) = subst (λ (r : List ℕ). length r < 2) (sym (chunk_rest-first {X = ℕ} 2 (x ∷ y ∷ xs) (omega arith) (omega arith))) (length-rest xs)
 
 -- the sum over the rows' numbers, and then over the rest
 pub fold-rows : (xs : List ℕ) (sum : ℕ) → fold sum_with_carry sum (words xs) ≡ fold sum_with_carry (fold sum_with_carry sum (map number_of (rows 2 xs))) (words (chunk_rest 2 xs))

@@ -1,2 +1,3 @@
+pub mod HeaderError
 pub mod KeyTable
 pub mod Udp

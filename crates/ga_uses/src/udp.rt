@@ -1,7 +1,7 @@
 //! UDP datagrams, as RFC 768 has them: read, summed and written through views.
-ghost use Rattle.ga_uses.specs.Udp.{IsDatagram, checksum_of, header_of, number_of, ones_complement_sum, summed_bytes, sum_with_carry, words};
+ghost use Rattle.ga_uses.specs.Udp.{IsDatagram, checksum_of, datagram_of, header_of, number_of, ones_complement_sum, summed_bytes, sum_with_carry, words};
 ghost use Rattle.generic_array.specs.Rows.{rows};
-ghost use Rattle.std.specs.Prelude.{◌≡◌, ◌+◌, ◌-◌, ◌^◌, ◌<◌, ◌≤◌, ◌↔◌, ◌++◌, Err, IfOk, IsOk, Ok, drop, fold, length, map, slice_range};
+ghost use Rattle.std.specs.Prelude.{◌≡◌, ◌+◌, ◌-◌, ◌^◌, ◌<◌, ◌≤◌, ◌↔◌, Err, IfOk, IsOk, Ok, drop, fold, length, map, slice_range};
 
 #[cfg(test)]
 mod tests;
@@ -9,6 +9,8 @@ mod tests;
 use generic_array::functional::FunctionalSequence;
 use generic_array::sequence::Split;
 use generic_array::{ChunksMut, ChunksRef, GenericArray, GenericArrayRef, U2, U4, U6, U8};
+use std::error::Error;
+use std::fmt;
 
 /// Why bytes are no datagram.
 #[derive(Clone, Copy, Debug, PartialEq, Eq)]
@@ -18,6 +20,22 @@ pub enum HeaderError {
     /// The length field says another number of bytes.
     OtherLength,
 }
+
+impl fmt::Display for HeaderError {
+    ghost use Rattle.ga_uses.specs.HeaderError.{text_of};
+    ghost use Rattle.std.specs.Prelude.{Some};
+
+    ghost output = { λ error. Some (text_of error) };
+
+    fn fmt<W: fmt::Write>(&self, f: &mut fmt::Formatter<W>) -> fmt::Result {
+        f.write_str(match self {
+            HeaderError::TooShort => "fewer bytes than a header of UDP has",
+            HeaderError::OtherLength => "another number of bytes than the length field says",
+        })
+    }
+}
+
+impl Error for HeaderError {}
 
 /// The fields of a datagram, as the bytes that they are, and its payload. Nothing is copied.
 #[derive(Clone, Copy)]
@@ -156,9 +174,7 @@ pub fn write_header(
 )
     requires room { 8 ≤ length datagram.old }
     requires fits { length datagram.old < 2 ^ 16 }
-    ensures { let payload = drop 8 datagram.old in
-        let summed = summed_bytes source_address.entry.slice.now destination_address.entry.slice.now source destination payload in
-        datagram.new ≡ header_of source destination (length datagram.old) (checksum_of summed) ++ payload }
+    ensures { datagram.new ≡ datagram_of source_address.entry.slice.now destination_address.entry.slice.now source destination (drop 8 datagram.old) }
 {
     let len = datagram.len() as u16;
     let (header, payload) = datagram.split_at_mut(8);
@@ -196,7 +212,8 @@ pub fn read_back(
 ) -> Result<(u16, u16, usize), HeaderError>
     requires room { 8 ≤ length datagram.old }
     requires fits { length datagram.old < 2 ^ 16 }
-    ensures { result ≡ Ok (source, destination, length datagram.old - 8) }
+    ensures written { datagram.new ≡ datagram_of source_address.entry.slice.now destination_address.entry.slice.now source destination (drop 8 datagram.old) }
+    ensures read { result ≡ Ok (source, destination, length datagram.old - 8) }
 {
     write_header(
         datagram,

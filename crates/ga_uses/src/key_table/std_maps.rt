@@ -2,13 +2,13 @@
 ghost use Rattle.ga_uses.specs.KeyTable.{value_at, with_entry};
 ghost use Rattle.std.specs.Cmp.Lexicographic.{pointwise};
 ghost use Rattle.std.specs.HashMap as hash;
-ghost use Rattle.std.specs.Prelude.{◌≡◌, IfOk, OnOk, Some, nat_eq};
+ghost use Rattle.std.specs.Prelude.{◌≡◌, IfOk, OnErr, OnOk, Some, nat_eq};
 
 use generic_array::{AllocError, ArrayLength, GenericArray};
 use std::collections::{BTreeMap, HashMap};
 
-/// Puts the value at the key of std's sorted map, whose entries are then what a `KeyTable`'s are.
-/// Answers the value that was there.
+/// Puts the value at the key of std's sorted map, and answers the value that was there. The entries are
+/// then those that a `KeyTable` would have.
 pub fn put_in_tree<N: ArrayLength<u8>, V: Drop>(
     map: &mut BTreeMap<GenericArray<u8, N>, V>,
     key: GenericArray<u8, N>,
@@ -16,6 +16,7 @@ pub fn put_in_tree<N: ArrayLength<u8>, V: Drop>(
 ) -> Result<Option<V>, AllocError>
     ensures old { IfOk result (λ old. old ≡ value_at map.old.entries key) }
     ensures entries { OnOk result (map.new.entries ≡ with_entry map.old.entries key value) }
+    ensures refused { OnErr result (map.new.entries ≡ map.old.entries) }
 {
     Ok(map.insert(key, value)?)
 }
@@ -27,7 +28,8 @@ pub fn put_in_hashes<N: ArrayLength<u8>, V: Drop>(
     value: V,
 ) -> Result<Option<V>, AllocError>
     ensures old { IfOk result (λ old. old ≡ hash.get (pointwise nat_eq) map.old key) }
-    ensures put { OnOk result (hash.get (pointwise nat_eq) map.new key ≡ Some value) }
+    ensures updates { OnOk result (hash.Updates (pointwise nat_eq) map.old map.new key (Some value)) }
+    ensures refused { OnErr result (hash.IsUnchanged map.old map.new) }
 {
     Ok(map.insert(key, value)?)
 }
