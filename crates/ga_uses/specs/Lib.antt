@@ -5,3 +5,6 @@ pub use Rattle.generic_array.specs.EntryRuns
 pub use Rattle.generic_array.specs.Length
 pub use Rattle.generic_array.specs.Rows
 pub use Rattle.generic_array.specs.Runs
+pub mod HeaderError
+pub mod KeyTable
+pub mod Udp

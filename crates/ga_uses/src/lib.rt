@@ -8,3 +8,7 @@ pub mod hash_function;
 pub mod hmac;
 /// Messages of any length, in blocks of one length.
 pub mod block_buffer;
+/// A table of keys of one width.
+pub mod key_table;
+/// UDP datagrams through views.
+pub mod udp;

@@ -1,0 +1,142 @@
+ghost use Rattle.ga_uses.specs.KeyTable.{value_at};
+ghost use Rattle.std.specs.Prelude.{◌≡◌, ◌≢◌, IsTrue};
+
+use super::std_maps::{put_in_hashes, put_in_tree};
+use super::*;
+use generic_array::U2;
+use std::collections::{BTreeMap, HashMap};
+use std::test::Fail;
+
+/// Whether a key that was taken out is gone, which it always is, and the other keeps its value.
+fn taken_out<N: ArrayLength<u8>, V: Drop>(
+    table: &mut KeyTable<N, V>,
+    key: &GenericArray<u8, N>,
+    other: &GenericArray<u8, N>,
+) -> bool
+    requires { other.now ≢ key.now }
+    ensures gone { IsTrue result }
+    ensures kept { value_at table.new other.now ≡ value_at table.old other.now }
+{
+    let _value = table.remove(key);
+    table.get(key).is_none()
+}
+
+/// Whether a key of two can be taken out alone.
+fn one_of_two_taken_out(alloc: Global) -> Result<bool, AllocError> {
+    let mut table = KeyTable::new(alloc);
+    let _none = table.insert(key_of(1), 10)?;
+    let _none = table.insert(key_of(2), 20)?;
+    let (first, second) = (key_of(1), key_of(2));
+    let gone = first != second && taken_out(&mut table, &first, &second);
+    Ok(gone && table.get(&second).copied() == Some(20) && !table.is_empty())
+}
+
+/// The key of two bytes below 12 that a number stands for.
+fn key_of(number: u64) -> GenericArray<u8, U2> {
+    GenericArray::from_array([(number / 12 % 12) as u8, (number % 12) as u8])
+}
+
+/// The next number of a small generator.
+fn next_number(state: u64) -> u64 {
+    state
+        .wrapping_mul(6_364_136_223_846_793_005)
+        .wrapping_add(1_442_695_040_888_963_407)
+}
+
+/// Whether table and map answer the same to one edit or look-up, which the number tells.
+fn answers_alike(
+    table: &mut KeyTable<U2, u64>,
+    map: &mut BTreeMap<GenericArray<u8, U2>, u64>,
+    number: u64,
+) -> Result<bool, AllocError> {
+    let place = number / 4;
+    let key = key_of(place);
+    match number % 4 {
+        0 | 1 => Ok(table.insert(key_of(place), number)? == put_in_tree(map, key, number)?),
+        2 => Ok(table.remove(&key) == map.remove(&key)),
+        _ => Ok(table.get(&key).copied() == map.get(&key).copied()),
+    }
+}
+
+/// Whether a range of the table has the map's entries whose keys are in it.
+fn ranges_alike(
+    table: &KeyTable<U2, u64>,
+    map: &BTreeMap<GenericArray<u8, U2>, u64>,
+    from: &GenericArray<u8, U2>,
+    to: &GenericArray<u8, U2>,
+) -> bool {
+    let mut entries = table.range(from, to).iter();
+    for (key, value) in map.iter() {
+        if *from <= *key && *key < *to {
+            match entries.next() {
+                Some(entry) => {
+                    if entry.0 != *key || entry.1 != *value {
+                        return false;
+                    }
+                }
+                None => return false,
+            }
+        }
+    }
+    entries.next().is_none()
+}
+
+/// Whether so many random steps, each with a random range after it, answer as std's map does.
+fn all_steps_alike(alloc: Global, steps: u64) -> Result<bool, AllocError> {
+    let mut table = KeyTable::new(alloc);
+    let mut map = BTreeMap::new(alloc);
+    let mut state = 20_260_117;
+    for _ in 0..steps {
+        state = next_number(state);
+        if !answers_alike(&mut table, &mut map, state >> 33)? || table.len() != map.len() {
+            return Ok(false);
+        }
+        state = next_number(state);
+        if !ranges_alike(&table, &map, &key_of(state >> 33), &key_of(state >> 41)) {
+            return Ok(false);
+        }
+    }
+    Ok(true)
+}
+
+/// Whether the table, at one more entry, has it, or is as it was where memory is refused.
+fn kept_or_refused(table: &mut KeyTable<U2, u64>, number: u64) -> bool {
+    let (len, had) = (table.len(), table.get(&key_of(number)).copied());
+    match table.insert(key_of(number), number) {
+        Ok(old) => old == had && table.get(&key_of(number)).copied() == Some(number),
+        Err(_) => table.len() == len && table.get(&key_of(number)).copied() == had,
+    }
+}
+
+/// Whether so many entries in turn are each kept or refused.
+fn all_kept_or_refused(alloc: Global, count: u64) -> bool {
+    let mut table = KeyTable::new(alloc);
+    for number in 0..count {
+        if !kept_or_refused(&mut table, number.wrapping_mul(5)) {
+            return false;
+        }
+    }
+    true
+}
+
+/// The values at one key of std's hashed map, before and after it is put there.
+fn hashed_twice(alloc: Global) -> Result<(Option<u64>, Option<u64>), AllocError> {
+    let mut map = HashMap::new(alloc);
+    let first = put_in_hashes(&mut map, key_of(7), 1)?;
+    let _other = put_in_hashes(&mut map, key_of(8), 2)?;
+    let second = put_in_hashes(&mut map, key_of(7), 3)?;
+    Ok((first, second))
+}
+
+#[test]
+fn a_table_answers_as_the_maps_of_std(rt: HostRuntime) -> Result<(), Fail> {
+    assert!(rt; all_steps_alike(rt.alloc(), 1_000)?);
+    assert!(rt; hashed_twice(rt.alloc())? == (None, Some(1)));
+    assert!(rt; one_of_two_taken_out(rt.alloc())?);
+    Ok(())
+}
+
+#[test]
+fn refused_memory_leaves_the_table_as_it_was(rt: HostRuntime) {
+    assert!(rt; all_kept_or_refused(rt.alloc(), 40));
+}
