@@ -1,8 +1,8 @@
-pub mod SameBytes
 pub mod BlockLemmas
-pub mod PaddingLemmas
-pub mod PieceLemmas
 mod EntryLemmas
 pub mod KeyTableLemmas
+pub mod PaddingLemmas
+pub mod PieceLemmas
+pub mod SameBytes
 pub mod SearchLemmas
 pub mod UdpLemmas
