@@ -5,10 +5,16 @@
 #[cfg(test)]
 mod blocks;
 #[cfg(test)]
+mod builds;
+#[cfg(test)]
 mod conversions;
 #[cfg(test)]
 mod counted;
 #[cfg(test)]
 mod documentation;
 #[cfg(test)]
+mod liars;
+#[cfg(test)]
 mod readme;
+#[cfg(test)]
+mod scripted;
