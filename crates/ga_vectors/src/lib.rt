@@ -15,6 +15,8 @@ mod documentation;
 #[cfg(test)]
 mod first_errors;
 #[cfg(test)]
+mod left_over;
+#[cfg(test)]
 mod liars;
 #[cfg(test)]
 mod readme;
