@@ -1,151 +1,298 @@
-//! Iterators that are left after takes from both ends, and their clones: each item is dropped once.
+//! Iterators by value, and their clones, of which items are left over: how often each is dropped.
+ghost use Rattle.std.specs.Prelude.{◌<◌};
+
 use crate::counted::{Counted, Counts};
-use crate::outcome::digits;
-use generic_array::steps::TwoEnded;
+use crate::scripted::Numbered;
 use generic_array::{
-    AllocError, BoxedArray, BoxedArrayIter, Const, GenericArray, GenericArrayIter, U3, U4,
+    AllocError, ArrayLength, BoxedArray, BoxedArrayIter, GenericArray, GenericArrayIter, U4,
 };
 use std::alloc::Global;
 use std::test::Fail;
 
-/// Counted items, numbered from 1 to 4, that move out of an array.
-fn four_inline(counts: &Counts) -> GenericArrayIter<Counted<'_>, U4> {
-    GenericArray::generate(|index| Counted::new(counts, index as u32 + 1)).into_iter()
+/// Takes from both ends, and drops what came out.
+fn take_inline<T: Default + Drop, N: ArrayLength<T>>(
+    items: &mut GenericArrayIter<T, N>,
+    fronts: u32,
+    backs: u32,
+) {
+    for _taken in 0..fronts {
+        let _ = items.next();
+    }
+    for _taken_back in 0..backs {
+        let _ = items.next_back();
+    }
 }
 
-/// The same, out of a block.
-fn four_boxed(alloc: Global, counts: &Counts) -> Result<BoxedArrayIter<Counted<'_>>, AllocError> {
-    let items: BoxedArray<Counted, U4> = BoxedArray::generate(
+fn take_boxed<T: Drop>(items: &mut BoxedArrayIter<T>, fronts: u32, backs: u32) {
+    for _taken in 0..fronts {
+        let _ = items.next();
+    }
+    for _taken_back in 0..backs {
+        let _ = items.next_back();
+    }
+}
+
+/// How many items of four, and of a clone of what is left of them, are dropped on their way.
+#[derive(Clone, Copy, PartialEq, Eq)]
+struct Drops {
+    /// After takes from both ends.
+    by_takes: u32,
+    /// Once the iterator was dropped, which then has a clone.
+    with_the_rest: u32,
+    /// After takes from both ends of the clone.
+    by_takes_of_clone: u32,
+    /// Clones that were asked for.
+    clones: u32,
+}
+
+/// The drops where so many are taken from the front and the back, and then of the clone.
+fn inline_drops<T: Default + Clone, N: ArrayLength<T>>(
+    items: GenericArrayIter<T, N>,
+    takes: [u32; 4],
+    counts: &Counts,
+) -> Result<Drops, AllocError> {
+    let mut items = items;
+    let [fronts, backs, fronts_of_clone, backs_of_clone] = takes;
+    take_inline(&mut items, fronts, backs);
+    let by_takes = counts.drops();
+    let mut copies = items.clone()?;
+    drop(items);
+    let with_the_rest = counts.drops();
+    take_inline(&mut copies, fronts_of_clone, backs_of_clone);
+    Ok(Drops {
+        by_takes,
+        with_the_rest,
+        by_takes_of_clone: counts.drops(),
+        clones: counts.clones(),
+    })
+}
+
+fn boxed_drops<T: Clone>(
+    items: BoxedArrayIter<T>,
+    takes: [u32; 4],
+    counts: &Counts,
+) -> Result<Drops, AllocError> {
+    let mut items = items;
+    let [fronts, backs, fronts_of_clone, backs_of_clone] = takes;
+    take_boxed(&mut items, fronts, backs);
+    let by_takes = counts.drops();
+    let mut copies = items.clone()?;
+    drop(items);
+    let with_the_rest = counts.drops();
+    take_boxed(&mut copies, fronts_of_clone, backs_of_clone);
+    Ok(Drops {
+        by_takes,
+        with_the_rest,
+        by_takes_of_clone: counts.drops(),
+        clones: counts.clones(),
+    })
+}
+
+/// Four items that are counted here, numbered from 1.
+fn inline_four(counts: &Counts) -> GenericArrayIter<Counted<'_>, U4> {
+    GenericArray::<Counted, U4>::generate(|index| Counted::new(
+        counts,
+        index as u32 + 1,
+    )).into_iter()
+}
+
+fn boxed_four(alloc: Global, counts: &Counts) -> Result<BoxedArrayIter<Counted<'_>>, AllocError> {
+    let array: BoxedArray<Counted, U4> = BoxedArray::generate(
         alloc,
         |index| Counted::new(counts, index as u32 + 1),
     )?;
-    Ok(items.into_iter())
+    Ok(array.into_iter())
 }
 
-/// Takes so many items from each end and drops them.
-fn take_from_both_ends<'a, I: TwoEnded<Counted<'a>>>(items: &mut I, front: u32, back: u32) {
-    for _taken in 0..front {
-        drop(items.front());
-    }
-    for _taken in 0..back {
-        drop(items.back());
-    }
-}
-
-/// The numbers of the items between those that were taken, as digits.
-fn numbers_between(front: u32, back: u32) -> u32 {
-    let mut all = 0u32;
-    for number in 1..5u32 {
-        if number > front && number <= 4u32.wrapping_sub(back) {
-            all = all.wrapping_mul(10).wrapping_add(number);
-        }
-    }
-    all
-}
-
-/// Whether what is left and its clone hold the items between, and each item and clone is dropped once.
-fn is_dropped_once<'a, I: TwoEnded<Counted<'a>> + Drop>(
-    left: I,
-    copy: Result<I, AllocError>,
-    counts: &Counts,
-    front: u32,
-    back: u32,
-) -> bool {
-    let Ok(copy) = copy else {
-        return false;
-    };
-    let taken = front.wrapping_add(back);
-    let count = 4u32.wrapping_sub(taken);
-    let between = numbers_between(front, back);
-    let is_held = digits(left.live()) == between && digits(copy.live()) == between;
-    let is_counted = counts.drops() == taken && counts.clones() == count;
-    drop(copy);
-    let is_copy_dropped = counts.drops() == 4;
-    drop(left);
-    is_held && is_counted && is_copy_dropped && counts.drops() == count.wrapping_add(4)
+/// The drops of the inline and the boxed iterator, and how many there were of each in the end.
+fn drops_of_both(alloc: Global, takes: [u32; 4]) -> Result<[(Drops, u32); 2], AllocError> {
+    let counts = Counts::new();
+    let inline = inline_drops(inline_four(&counts), takes, &counts)?;
+    let all_inline = counts.drops();
+    let counts = Counts::new();
+    let boxed = boxed_drops(boxed_four(alloc, &counts)?, takes, &counts)?;
+    Ok([(inline, all_inline), (boxed, counts.drops())])
 }
 
 #[test]
-fn what_is_left_of_four_items_is_dropped_once(rt: HostRuntime) -> Result<(), Fail> {
-    for front in 0..5u32 {
-        for back in 0..5u32 {
-            if front + back > 4 {
-                continue;
+fn what_is_left_of_an_iterator_and_its_clone_is_dropped_once(rt: HostRuntime) -> Result<(), Fail> {
+    let mut cases = 0u32;
+    for fronts in 0..5u32 {
+        for backs in 0..5 - fronts {
+            let left = 4 - fronts - backs;
+            for fronts_of_clone in 0..left + 1 {
+                for backs_of_clone in 0..left - fronts_of_clone + 1 {
+                    let takes = [fronts, backs, fronts_of_clone, backs_of_clone];
+                    let wanted = Drops {
+                        by_takes: fronts + backs,
+                        with_the_rest: 4,
+                        by_takes_of_clone: 4 + fronts_of_clone + backs_of_clone,
+                        clones: left,
+                    };
+                    assert!(rt; drops_of_both(rt.alloc(), takes)? == [(wanted, 4 + left); 2]);
+                    cases = cases.wrapping_add(1);
+                }
             }
-            let counts = Counts::new();
-            let mut left = four_inline(&counts);
-            take_from_both_ends(&mut left, front, back);
-            let copy = left.clone();
-            let is_right = is_dropped_once(left, copy, &counts, front, back);
-            assert!(rt; is_right, "{front} and {back} taken out of an array");
-            let counts = Counts::new();
-            let mut left = four_boxed(rt.alloc(), &counts)?;
-            take_from_both_ends(&mut left, front, back);
-            let copy = left.clone();
-            let is_right = is_dropped_once(left, copy, &counts, front, back);
-            assert!(rt; is_right, "{front} and {back} taken out of a block");
         }
     }
+    assert!(rt; cases == 70);
     Ok(())
 }
 
-/// Whether the items that are passed over are dropped at once, and each once in the end.
-fn is_passed_once<'a, I: TwoEnded<Counted<'a>> + Drop>(
-    items: I,
+/// A step over items: how many were taken from the other end before, how many it passes over, and whether
+/// it goes from the back.
+#[derive(Clone, Copy)]
+struct Pass {
+    before: u32,
+    passed: usize,
+    is_back: bool,
+}
+
+/// The number of an item, 0 where there is none.
+fn number_of<T: Numbered>(item: &Option<T>) -> u32 {
+    match item {
+        Some(item) => item.number(),
+        None => 0,
+    }
+}
+
+/// What the step gives, how many items were dropped when it had, and how many were left.
+type Passed = (u32, u32, usize);
+
+fn inline_pass<T: Default + Drop + Numbered, N: ArrayLength<T>>(
+    items: GenericArrayIter<T, N>,
+    pass: Pass,
     counts: &Counts,
-    passed: u32,
-    from_the_back: bool,
-) -> bool {
-    let mut left = items;
-    let (reply, wanted) = if from_the_back {
-        (left.back_nth(passed as usize), 4u32.saturating_sub(passed))
+) -> Passed {
+    let mut items = items;
+    let item = if pass.is_back {
+        take_inline(&mut items, pass.before, 0);
+        items.nth_back(pass.passed)
     } else {
-        (
-            left.front_nth(passed as usize),
-            if passed < 4 { passed + 1 } else { 0 },
-        )
+        take_inline(&mut items, 0, pass.before);
+        items.nth(pass.passed)
     };
-    let is_passed = counts.drops() == passed.min(4);
-    let number = reply.map_or(0, |item| item.place());
-    let is_taken = counts.drops() == passed.saturating_add(1).min(4);
-    drop(left);
-    is_passed && number == wanted && is_taken && counts.drops() == 4
+    (number_of(&item), counts.drops(), items.count())
+}
+
+fn boxed_pass<T: Drop + Numbered>(items: BoxedArrayIter<T>, pass: Pass, counts: &Counts) -> Passed {
+    let mut items = items;
+    let item = if pass.is_back {
+        take_boxed(&mut items, pass.before, 0);
+        items.nth_back(pass.passed)
+    } else {
+        take_boxed(&mut items, 0, pass.before);
+        items.nth(pass.passed)
+    };
+    (number_of(&item), counts.drops(), items.count())
+}
+
+/// The same of both iterators over four items, and how many of each were dropped in the end.
+fn passes_of_both(alloc: Global, pass: Pass) -> Result<[(Passed, u32); 2], AllocError> {
+    let counts = Counts::new();
+    let inline = inline_pass(inline_four(&counts), pass, &counts);
+    let all_inline = counts.drops();
+    let counts = Counts::new();
+    let boxed = boxed_pass(boxed_four(alloc, &counts)?, pass, &counts);
+    Ok([(inline, all_inline), (boxed, counts.drops())])
+}
+
+/// What a step comes to over four items.
+fn wanted_of(pass: Pass) -> Passed
+    requires { pass.before < 5 }
+{
+    let left = 4 - pass.before as usize;
+    if pass.passed >= left {
+        return (0, 4, 0);
+    }
+    let passed = pass.passed as u32;
+    let number = if pass.is_back { 4 - passed } else { passed + 1 };
+    (number, pass.before + passed, left - pass.passed - 1)
 }
 
 #[test]
-fn what_is_passed_over_is_dropped_once(rt: HostRuntime) -> Result<(), Fail> {
-    for passed in 0..6u32 {
-        for from_the_back in [false, true] {
-            let counts = Counts::new();
-            let is_right = is_passed_once(four_inline(&counts), &counts, passed, from_the_back);
-            assert!(rt; is_right, "{passed} passed over in an array");
-            let counts = Counts::new();
-            let items = four_boxed(rt.alloc(), &counts)?;
-            let is_right = is_passed_once(items, &counts, passed, from_the_back);
-            assert!(rt; is_right, "{passed} passed over in a block");
+fn a_step_drops_the_items_that_it_passes_over(rt: HostRuntime) -> Result<(), Fail> {
+    for before in 0..5u32 {
+        for passed in [0, 1, 2, 3, 4, 5, usize::MAX] {
+            for is_back in [false, true] {
+                let pass = Pass {
+                    before,
+                    passed,
+                    is_back,
+                };
+                assert!(rt; passes_of_both(rt.alloc(), pass)? == [(wanted_of(pass), 4); 2]);
+            }
         }
     }
     Ok(())
 }
 
-/// Which of four takes answer an item, of three that take no space.
-fn taken_of_three_units(alloc: Global) -> Result<[bool; 4], AllocError> {
-    let units: BoxedArray<(), U3> = BoxedArray::generate(alloc, |_index| ())?;
-    let mut left = units.into_iter();
-    let (first, second) = (left.next(), left.next());
-    let (third, fourth) = (left.next(), left.next());
-    Ok([
-        first.is_some(),
-        second.is_some(),
-        third.is_some(),
-        fourth.is_some(),
-    ])
+/// What the calls come to that consume an iterator over four items.
+#[derive(Clone, Copy, PartialEq, Eq)]
+struct Consumed {
+    /// The number of the last, and how many were dropped beside it.
+    last: (u32, u32),
+    count: usize,
+    /// The numbers as digits, from the front and from the back.
+    folded: (u32, u32),
+    /// How many were dropped by the four calls.
+    drops: u32,
+}
+
+fn inline_consumed() -> Consumed {
+    let counts = Counts::new();
+    let last = inline_four(&counts).last();
+    let beside = counts.drops();
+    let mut digits = |digits: u32, item: Counted| {
+        digits.wrapping_mul(10).wrapping_add(item.place())
+    };
+    let consumed = Consumed {
+        last: (number_of(&last), beside),
+        count: inline_four(&counts).count(),
+        folded: (
+            inline_four(&counts).fold_by(0, &mut digits),
+            inline_four(&counts).rfold_by(0, &mut digits),
+        ),
+        drops: 0,
+    };
+    drop(last);
+    Consumed {
+        drops: counts.drops(),
+        ..consumed
+    }
+}
+
+fn boxed_consumed(alloc: Global) -> Result<Consumed, AllocError> {
+    let counts = Counts::new();
+    let last = boxed_four(alloc, &counts)?.last();
+    let beside = counts.drops();
+    let mut digits = |digits: u32, item: Counted| {
+        digits.wrapping_mul(10).wrapping_add(item.place())
+    };
+    let consumed = Consumed {
+        last: (number_of(&last), beside),
+        count: boxed_four(alloc, &counts)?.count(),
+        folded: (
+            boxed_four(alloc, &counts)?.fold_by(0, &mut digits),
+            boxed_four(alloc, &counts)?.rfold_by(0, &mut digits),
+        ),
+        drops: 0,
+    };
+    drop(last);
+    Ok(Consumed {
+        drops: counts.drops(),
+        ..consumed
+    })
 }
 
 #[test]
-fn units_and_the_longest_inline_array_are_held(rt: HostRuntime) -> Result<(), Fail> {
-    assert!(rt; taken_of_three_units(rt.alloc())? == [true, true, true, false]);
-    let bytes: GenericArray<u8, Const<65536>> = GenericArray::generate(|index| (index % 256) as u8);
-    assert!(rt; bytes[65_535] == 255 && bytes[65_280] == 0);
+fn calls_that_consume_an_iterator_drop_each_item_once(rt: HostRuntime) -> Result<(), Fail> {
+    let wanted = Consumed {
+        last: (4, 3),
+        count: 4,
+        folded: (1234, 4321),
+        drops: 16,
+    };
+    assert!(rt; inline_consumed() == wanted && boxed_consumed(rt.alloc())? == wanted);
     Ok(())
 }

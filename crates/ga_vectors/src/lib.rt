@@ -5,6 +5,8 @@
 #[cfg(test)]
 mod blocks;
 #[cfg(test)]
+mod builds;
+#[cfg(test)]
 mod conversions;
 #[cfg(test)]
 mod counted;
@@ -17,6 +19,8 @@ mod hex_writers;
 #[cfg(test)]
 mod left_over;
 #[cfg(test)]
+mod liars;
+#[cfg(test)]
 mod no_items;
 #[cfg(test)]
 mod outcome;
@@ -28,3 +32,5 @@ mod readme;
 mod refused_clones;
 #[cfg(test)]
 mod refused_memory;
+#[cfg(test)]
+mod scripted;
