@@ -13,6 +13,8 @@ mod counted;
 #[cfg(test)]
 mod documentation;
 #[cfg(test)]
+mod extremes;
+#[cfg(test)]
 mod first_errors;
 #[cfg(test)]
 mod hex_writers;
