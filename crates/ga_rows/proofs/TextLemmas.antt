@@ -1,11 +1,33 @@
--- The text so far and that of what is left, and the front of what was put behind a text.
-use Rattle.std.proofs.Common.{◌≡◌, ℕ, ◌+◌, ◌≤◌, List, ◌++◌, append_assoc, ap, arith, length, length-take, sym, take, ◌∙◌}
+-- The lines of rows, put down one after the other, and the front of what was put behind a text.
+use Rattle.ga_rows.specs.Text.{line, row_text}
+use Rattle.ga_rows.specs.declared.words.Mode.{Mode}
+use Rattle.std.proofs.Common.{◌≡◌, ℕ, ◌+◌, ◌≤◌, List, ◌∷◌, ◌++◌, Option, append_assoc, ap, arith, length, length-take, sym, take, ◌∙◌}
+use Rattle.std.proofs.KnownBytes.{Appends-trans}
 use Rattle.std.proofs.Math.Seq.{take-append-add}
 use Rattle.std.proofs.lemmas.List.{take-append-le}
+use Rattle.std.specs.Io.KnownBytes.{Appends}
+use Rattle.std.specs.List.{flat_map}
 
--- they are the whole text, also after one more line
-pub done-more : (all done first after left : List ℕ) → all ≡ done ++ left → left ≡ first ++ after → all ≡ (done ++ first) ++ after
-done-more all done first after left whole step = whole ∙ (ap (λ rest. done ++ rest) step ∙ sym (append_assoc done first after))
+module _ (mode : Mode) where
+  abbrev pub lines : List (List ℕ) → List ℕ
+  lines = flat_map (λ row. line (row_text mode row))
+
+  -- known bytes grew by what is, with the lines of the rows that are left, the lines of all
+  pub record LinesSoFar (all left : List (List ℕ)) (before now : Option (List ℕ)) : Type 0 where
+    pub done : List ℕ
+    pub appended : Appends before now done
+    pub whole : lines all ≡ done ++ lines left
+
+  -- also after one more line
+  pub lines-more : (all left after : List (List ℕ)) (row : List ℕ) (before now later : Option (List ℕ))
+      → LinesSoFar all left before now → left ≡ row ∷ after → Appends now later (line (row_text mode row)) → LinesSoFar all after before later
+  lines-more all left after row before now later so_far step put =
+      let first = line (row_text mode row) in
+      record {
+        done = so_far.done ++ first;
+        appended = Appends-trans before now later so_far.done first so_far.appended put;
+        whole = so_far.whole ∙ (ap (λ rows. so_far.done ++ lines rows) step ∙ sym (append_assoc so_far.done first (lines after)));
+      }
 
 -- a text up to a place within what was put there
 pub take-put : (start count : ℕ) (text put behind : List ℕ) → start ≤ length text → count ≤ length put

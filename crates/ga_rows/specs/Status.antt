@@ -14,6 +14,6 @@ exit_status Fault = 4
 abbrev pub message_of : Status → Option (List ℕ)
 message_of Whole = None
 message_of Rest = None
-message_of Words = Some (codes "usage: ga_rows [dec|hex|back|sum] [1|2|4|8|16]")
+message_of Words = Some (codes "usage: ga_rows [dec|hex|back|sum|last] [1|2|4|8|16]")
 message_of Memory = Some (codes "ga_rows: out of memory")
 message_of Fault = Some (codes "ga_rows: read or write fault")

@@ -1,6 +1,6 @@
 -- What the words after the program's name mean: a mode and a width, or nothing. A word is the list of its bytes.
 use Rattle.ga_rows.specs.declared.words.Mode.{Mode}
-use Rattle.ga_rows.specs.declared.words.Mode.TheVariants.{Back, Dec, Hex, Sum}
+use Rattle.ga_rows.specs.declared.words.Mode.TheVariants.{Back, Dec, Hex, Last, Sum}
 use Rattle.ga_rows.specs.declared.words.Width.{Width}
 use Rattle.ga_rows.specs.declared.words.Width.TheVariants.{W1, W16, W2, W4, W8}
 use Rattle.std.specs.Prelude.{ℕ, List, [], ◌∷◌, Option, None, Some, codes, if◌then◌else◌}
@@ -16,7 +16,9 @@ bytes_of W16 = 16
 
 -- the mode of this name
 abbrev pub mode_named : List ℕ → Option Mode
-mode_named word = if bytes_eq word (codes "dec") then Some Dec else if bytes_eq word (codes "hex") then Some Hex else if bytes_eq word (codes "back") then Some Back else if bytes_eq word (codes "sum") then Some Sum else None
+mode_named word =
+    if bytes_eq word (codes "dec") then Some Dec else if bytes_eq word (codes "hex") then Some Hex else if bytes_eq word (codes "back") then Some Back else if bytes_eq word (codes "sum") then Some Sum
+    else if bytes_eq word (codes "last") then Some Last else None
 
 -- the width of this number
 abbrev pub width_named : List ℕ → Option Width

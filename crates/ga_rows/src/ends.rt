@@ -40,7 +40,7 @@ impl Status {
     {
         match self {
             Status::Whole | Status::Rest => None,
-            Status::Words => Some("usage: ga_rows [dec|hex|back|sum] [1|2|4|8|16]"),
+            Status::Words => Some("usage: ga_rows [dec|hex|back|sum|last] [1|2|4|8|16]"),
             Status::Memory => Some("ga_rows: out of memory"),
             Status::Fault => Some("ga_rows: read or write fault"),
         }

@@ -1,6 +1,7 @@
 //! Writing the rows of an input.
-ghost use Rattle.generic_array.specs.Rows.{chunk_rest};
-ghost use Rattle.ga_rows.specs.Text.{line, lines_of, rest_line, row_text, text_of};
+ghost use Rattle.generic_array.specs.Rows.{chunk_rest, rows};
+ghost use Rattle.generic_array.specs.Views.{items_of_chunks};
+ghost use Rattle.ga_rows.specs.Text.{line, lines_of, rest_line, row_lines, row_text, text_of};
 ghost use Rattle.ga_rows.specs.Words.{bytes_of};
 ghost use Rattle.std.specs.Io.KnownBytes.{Appends, Keeps, append_known};
 ghost use Rattle.std.specs.Prelude.{◌≡◌, ◌≢◌, ◌+◌, ◌<◌, ◌≤◌, ◌↔◌, [], IfOk, IsOk, IsTrue, OnOk, length, sum, take};
@@ -50,16 +51,39 @@ fn rows_of<N: ArrayLength<u8>, W: Write>(
 {
     let (chunks, rest) = ChunksRef::<u8, N>::chunks_from_slice(input);
     let mut piece = Piece::new();
-    for row in chunks.iter() {
-        put_row(&mut piece, w, mode, row)?;
-    }
+    put_rows(&mut piece, w, mode, &chunks)?;
     put_rest(&mut piece, w, rest)?;
     hand_over(&mut piece, w)?;
     Ok(!rest.is_empty())
 }
 
-/// Puts the line of one row behind the piece.
+/// Puts the lines of all rows behind the piece, from the last on in mode `last`.
 #[inline]
+fn put_rows<N: ArrayLength<u8>, W: Write>(
+    piece: &mut Piece,
+    w: &mut W,
+    mode: Mode,
+    chunks: &ChunksRef<'_, u8, N>,
+) -> Result<(), io::Error>
+    requires { N.USIZE ≤ 16 }
+    ensures text { OnOk result (Appends (append_known (W.contents w.old) piece.old) (append_known (W.contents w.new) piece.new) (row_lines mode (rows N.USIZE (items_of_chunks chunks.now)))) }
+    ensures empty { rows N.USIZE (items_of_chunks chunks.now) ≡ [] → IsOk result × (piece.new ≡ piece.old) }
+{
+    if mode == Mode::Last {
+        for last in chunks.iter().rev() {
+            put_row(piece, w, mode, last)?;
+        }
+    } else {
+        for row in chunks.iter() {
+            put_row(piece, w, mode, row)?;
+        }
+    }
+    Ok(())
+}
+
+/// Puts the line of one row behind the piece.
+// Two loops call it, and each is the faster for a copy of its own.
+#[inline(always)]
 fn put_row<N: ArrayLength<u8>, W: Write>(
     piece: &mut Piece,
     w: &mut W,
@@ -71,7 +95,7 @@ fn put_row<N: ArrayLength<u8>, W: Write>(
 {
     make_room(piece, w)?;
     match mode {
-        Mode::Dec => piece.push_numbers(row.as_slice()),
+        Mode::Dec | Mode::Last => piece.push_numbers(row.as_slice()),
         Mode::Hex => write_hex(row.as_slice(), false, None, piece)?,
         Mode::Back => piece.push_numbers_back(row.as_slice()),
         Mode::Sum => piece.push_decimal(sum_of(row)),

@@ -18,7 +18,9 @@ fn words_mean_a_mode_and_a_width(rt: HostRuntime) -> Result<(), Fail> {
         ("dec 1", Some((Mode::Dec, Width::W1))),
         ("hex 8", Some((Mode::Hex, Width::W8))),
         ("sum 16", Some((Mode::Sum, Width::W16))),
+        ("last", Some((Mode::Last, Width::W4))),
         ("dec 3", None),
+        ("last 3", None),
         ("4", None),
         ("dec 4 4", None),
     ];
@@ -34,7 +36,7 @@ fn words_mean_a_mode_and_a_width(rt: HostRuntime) -> Result<(), Fail> {
 }
 
 /// The words as listed, joined by a space, the input, what is printed, and the exit status.
-const CASES: [(&str, &str, &str, u8); 16] = [
+const CASES: [(&str, &str, &str, u8); 18] = [
     ("ga_rows", "abcdefgh", "97 98 99 100\n101 102 103 104\n", 0),
     ("back", "abcdef", "97 98 99 100\nrest 101 102\n", 1),
     ("ga_rows dec", "", "", 0),
@@ -51,11 +53,13 @@ const CASES: [(&str, &str, &str, u8); 16] = [
     ("ga_rows hex 04", "abcd", "", 2),
     ("ga_rows Hex", "abcd", "", 2),
     ("ga_rows dec 4 4", "abcd", "", 2),
+    ("ga_rows last 2", "abcde", "99 100\n97 98\nrest 101\n", 1),
+    ("ga_rows last 3", "abcd", "", 2),
 ];
 
 #[test]
 fn words_and_input_give_texts_and_an_exit_status(rt: HostRuntime) -> Result<(), Fail> {
-    let usage = "usage: ga_rows [dec|hex|back|sum] [1|2|4|8|16]\n";
+    let usage = "usage: ga_rows [dec|hex|back|sum|last] [1|2|4|8|16]\n";
     for (words, input, printed, code) in CASES {
         let mut listed = Vec::new(rt.alloc());
         for word in words.split(' ') {

@@ -7,7 +7,7 @@ ghost use Rattle.std.specs.Prelude.{◌≡◌, IfErr, IfOk, drop, map, string_by
 use crate::ends::Status;
 use std::alloc::Global;
 
-/// How a row is written.
+/// How a row is written, and in which order the rows are.
 #[derive(Clone, Copy, Debug, PartialEq, Eq)]
 pub enum Mode {
     /// The bytes in decimal, joined by one space.
@@ -18,6 +18,8 @@ pub enum Mode {
     Back,
     /// The sum of the bytes, in decimal.
     Sum,
+    /// As `Dec`, the last row first.
+    Last,
 }
 
 impl Mode {
@@ -30,6 +32,7 @@ impl Mode {
             "hex" => Some(Mode::Hex),
             "back" => Some(Mode::Back),
             "sum" => Some(Mode::Sum),
+            "last" => Some(Mode::Last),
             _ => None,
         }
     }

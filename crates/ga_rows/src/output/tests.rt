@@ -10,7 +10,7 @@ const INPUT: [u8; 17] = [
 const WIDTHS: [Width; 5] = [Width::W1, Width::W2, Width::W4, Width::W8, Width::W16];
 
 /// The lines of that input by each width.
-const LINES: [(Mode, [&str; 5]); 4] = [
+const LINES: [(Mode, [&str; 5]); 5] = [
     (
         Mode::Dec,
         [
@@ -51,10 +51,20 @@ const LINES: [(Mode, [&str; 5]); 4] = [
             "738\nrest 200\n",
         ],
     ),
+    (
+        Mode::Last,
+        [
+            "200\n4\n3\n2\n1\n128\n64\n32\n16\n8\n7\n255\n100\n99\n10\n9\n0\n",
+            "3 4\n1 2\n64 128\n16 32\n7 8\n100 255\n10 99\n0 9\nrest 200\n",
+            "1 2 3 4\n16 32 64 128\n100 255 7 8\n0 9 10 99\nrest 200\n",
+            "16 32 64 128 1 2 3 4\n0 9 10 99 100 255 7 8\nrest 200\n",
+            "0 9 10 99 100 255 7 8 16 32 64 128 1 2 3 4\nrest 200\n",
+        ],
+    ),
 ];
 
 /// Short inputs, and their lines.
-const SHORT: [(&[u8], Mode, Width, &str); 10] = [
+const SHORT: [(&[u8], Mode, Width, &str); 13] = [
     (
         &[1, 2, 3, 4, 5, 6],
         Mode::Dec,
@@ -90,6 +100,14 @@ const SHORT: [(&[u8], Mode, Width, &str); 10] = [
         Width::W16,
         "00000000000000000000000000000000\n",
     ),
+    (
+        &[1, 2, 3, 4, 255],
+        Mode::Last,
+        Width::W2,
+        "3 4\n1 2\nrest 255\n",
+    ),
+    (&[1, 1, 1], Mode::Last, Width::W4, "rest 1 1 1\n"),
+    (&[], Mode::Last, Width::W1, ""),
 ];
 
 /// Whether these lines are written, and the answer says whether a rest is among them.

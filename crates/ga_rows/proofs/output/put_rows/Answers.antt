@@ -1,0 +1,20 @@
+use Rattle.ga_rows.proofs.TextLemmas.{lines-more}
+use Rattle.ga_rows.proofs.output.put_rows.Goals as goal
+use Rattle.std.proofs.Common.{[], ◌∷◌, ◌∙◌, ap, arith, length, length-append, reverse}
+use Rattle.std.proofs.lemmas.List.{reverse-append}
+
+pub loop-last-preserved : goal.loop-last-preserved
+loop-last-preserved g c =
+    let left = c.next.new.self.iter in
+    let row = c.in-Some.last.slice.now in
+    let came = c.in-Some.ensures.steps in
+    record {
+      text = lines-more c.args.mode _ _ (reverse left) row _ _ _ c.loop-last.invariant.text (ap reverse came ∙ reverse-append left (row ∷ [])) c.in_ok-put_row.ensures.text;
+      empty = λ none. absurd (omega (arith, ap length (c.loop-last.invariant.empty none).0, ap length came, length-append left (row ∷ [])));
+    }
+
+pub loop-row-preserved : goal.loop-row-preserved
+loop-row-preserved g c = record {
+  text = lines-more c.args.mode _ _ c.next-in-loop-row.new.self c.in-Some-row.row.slice.now _ _ _ c.loop-row.invariant.text c.in-Some-row.ensures.steps c.in_ok-put_row-2.ensures.text;
+  empty = λ none. absurd (omega (arith, ap length (c.loop-row.invariant.empty none).0, ap length c.in-Some-row.ensures.steps));
+}
