@@ -7,6 +7,8 @@ ghost use Rattle.std.specs.Prelude.{◌≡◌, ℕ, ◌+◌, ◌^◌, ◌<◌, �
 
 #[cfg(test)]
 mod tests;
+#[cfg(test)]
+mod uses;
 
 use generic_array::{ArrayBuilder, ArrayLength, ChunksRef, GenericArray, Unsigned};
 use std::marker::Model;
