@@ -7,6 +7,8 @@ ghost use Rattle.std.specs.Prelude.{◌≡◌, ℕ, ◌+◌, ◌^◌, ◌<◌, �
 
 #[cfg(test)]
 mod tests;
+#[cfg(test)]
+mod uses;
 
 use generic_array::{ArrayBuilder, ArrayLength, ChunksRef, GenericArray, Unsigned};
 use std::marker::Model;
@@ -95,7 +97,7 @@ impl<N: ArrayLength<u8>> BlockBuffer<N> {
     }
 
     /// Ends the message: calls `f` at the last blocks, which are what is kept and the padding. With
-    /// blocks of 64 bytes this is how messages for SHA-256 are padded.
+    /// blocks of 64 bytes this is how FIPS 180-4 pads messages for SHA-1 and SHA-256.
     ///
     /// The padding is a byte 0x80, as few zeros as fill a block, and the number of bits in 8 bytes, the
     /// high byte first. For that number to fit, fewer than 2^61 bytes were fed: a caller who can't know

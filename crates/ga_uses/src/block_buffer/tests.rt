@@ -1,5 +1,6 @@
 ghost use Rattle.std.specs.Prelude.{◌≡◌, ◌+◌, ◌^◌, ◌<◌, length};
 
+use super::uses::blocks_of_two;
 use super::{BlockBuffer, padded_blocks};
 use generic_array::{GenericArrayRef, U16, U64};
 
@@ -151,6 +152,13 @@ fn blocks_of_a_message_are_those_of_the_standard(rt: HostRuntime) {
     let message = b"abcdbcdecdefdefgefghfghighijhijkijkljklmklmnlmnomnopnopq";
     let two = seen_of_three(message, b"", b"");
     assert!(rt; two.len == 128 && two.is(&by_hand(message, 69, [0x01, 0xc0])));
+    let mut cut = Seen::none(64);
+    blocks_of_two(
+        &message[..31],
+        &message[31..],
+        &mut |block: &[u8]| cut.take(block),
+    );
+    assert!(rt; cut.is(&two));
     // No bytes, those with which the length just fits or not, and whole blocks.
     let bytes = [0x61; 192];
     for len in [0, 1, 55, 56, 63, 64, 65, 119, 120, 128, 192] {
