@@ -132,7 +132,7 @@ fn sum_of(
     let between = GenericArray::<u16, U6>::from_array([17, len, source, destination, len, 0]);
     let first = with_words(0, source_address.into_slice());
     let addresses = with_words(first, destination_address.into_slice());
-    let header = between.fold(addresses, |sum: u16, word: u16| with_carry(sum, word));
+    let header = between.fold(addresses, with_carry);
     with_words(header, payload)
 }
 
