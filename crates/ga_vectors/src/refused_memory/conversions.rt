@@ -1,6 +1,6 @@
 //! Conversions from and to vectors and boxed slices.
 use crate::counted::{Counted, Counts};
-use crate::outcome::{Outcome, Played, digits, named, play};
+use crate::outcome::{Outcome, digits, play};
 use crate::refused_memory::{three_counted, three_in_a_block};
 use generic_array::{AllocError, BoxedArray, GenericArray, LengthError, U3, U4, Unsigned};
 use std::alloc::Global;
@@ -120,30 +120,18 @@ fn slice_to_inline(alloc: Global) -> Outcome {
     }
 }
 
-fn case(alloc: Global, number: u32) -> Played {
+fn case(alloc: Global, number: u32) -> Outcome {
     match number {
-        0 => named("into_vec of an inline array", inline_to_vector(alloc)),
-        1 => named(
-            "into_boxed_slice of an inline array",
-            inline_to_slice(alloc),
-        ),
-        2 => named("into_vec", block_to_vector(alloc)),
-        3 => named("into_boxed_slice", block_to_slice(alloc)),
-        4 => named("try_from_vec", vector_to_block::<U3>(alloc)),
-        5 => named(
-            "try_from_vec of another length",
-            vector_to_block::<U4>(alloc),
-        ),
-        6 => named("try_from_boxed_slice", slice_to_block::<U3>(alloc)),
-        7 => named(
-            "try_from_boxed_slice of another length",
-            slice_to_block::<U4>(alloc),
-        ),
-        8 => named("try_from_vec of an inline array", vector_to_inline(alloc)),
-        _ => named(
-            "try_from_boxed_slice of an inline array",
-            slice_to_inline(alloc),
-        ),
+        0 => inline_to_vector(alloc),
+        1 => inline_to_slice(alloc),
+        2 => block_to_vector(alloc),
+        3 => block_to_slice(alloc),
+        4 => vector_to_block::<U3>(alloc),
+        5 => vector_to_block::<U4>(alloc),
+        6 => slice_to_block::<U3>(alloc),
+        7 => slice_to_block::<U4>(alloc),
+        8 => vector_to_inline(alloc),
+        _ => slice_to_inline(alloc),
     }
 }
 
