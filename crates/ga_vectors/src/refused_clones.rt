@@ -120,6 +120,7 @@ fn boxed_iterator(alloc: Global, refused: u32) -> Outcome {
     outcome.and(counts.drops() == dropped)
 }
 
+/// A case, by its number.
 fn case(alloc: Global, number: u32) -> Outcome {
     let refused = number / 5 + 1;
     match number % 5 {
@@ -191,6 +192,7 @@ fn rows_of_a_boxed_iterator(alloc: Global, refused: u32) -> Outcome {
     outcome.and(counts.drops() == dropped)
 }
 
+/// A case over rows, by its number.
 fn case_of_rows(alloc: Global, number: u32) -> Outcome {
     let refused = number / 5 + 1;
     match number % 5 {

@@ -137,6 +137,7 @@ fn of_too_many<N: Unsigned>(alloc: Global) -> Outcome {
     }
 }
 
+/// A case, by its number.
 fn case(alloc: Global, number: u32) -> Outcome {
     match number {
         0 => generated_by(alloc),

@@ -117,6 +117,7 @@ fn boxed_repeat(alloc: Global) -> Outcome {
     outcome.and(counts.drops() == counts.clones().wrapping_add(3))
 }
 
+/// A case, by its number.
 fn case(alloc: Global, number: u32) -> Outcome {
     match number {
         0 => boxed_iterator(alloc),

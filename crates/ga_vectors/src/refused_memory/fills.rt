@@ -173,6 +173,7 @@ fn from_lent_items(alloc: Global) -> Outcome {
     }
 }
 
+/// A case, by its number.
 fn case(alloc: Global, number: u32) -> Outcome {
     match number {
         0 => from_iter_ref(alloc, 3),

@@ -196,6 +196,7 @@ fn map_totalled(alloc: Global) -> Outcome {
     outcome.and(counts.drops() == 3)
 }
 
+/// A case, by its number.
 fn case(alloc: Global, number: u32) -> Outcome {
     match number {
         0 => generated_by(alloc),

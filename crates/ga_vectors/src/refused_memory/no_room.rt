@@ -105,6 +105,7 @@ fn of_a_block(alloc: Global) -> Outcome {
     Outcome::exact_if(is_taken && is_seen && counts.drops() == 3)
 }
 
+/// A case, by its number.
 fn case(alloc: Global, number: u32) -> Outcome {
     match number {
         0 => Outcome::exact_if(are_hex_digits()),

@@ -87,6 +87,7 @@ fn counted_inline(alloc: Global) -> Outcome {
     }
 }
 
+/// A case, by its number.
 fn case(alloc: Global, number: u32) -> Outcome {
     match number {
         0 => in_a_block(alloc).unwrap_or(Outcome::Refused),

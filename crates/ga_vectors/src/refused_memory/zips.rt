@@ -143,6 +143,7 @@ fn inline_inverted(alloc: Global) -> Outcome {
     Outcome::exact_if(is_exact && counts.drops() == 6)
 }
 
+/// A case, by its number.
 fn case(alloc: Global, number: u32) -> Outcome {
     match number {
         0 => boxed_zip_by(alloc),
