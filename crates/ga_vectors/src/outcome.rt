@@ -90,24 +90,12 @@ pub fn digits(items: &[Counted]) -> u32 {
     all
 }
 
-/// A case that was played.
-#[derive(Drop)]
-pub struct Played {
-    name: &'static str,
-    outcome: Outcome,
-}
-
-/// What came of the case of this name.
-pub fn named(name: &'static str, outcome: Outcome) -> Played {
-    Played { name, outcome }
-}
-
 /// Plays the cases of the numbers below `count`, each once more where memory was refused in it. The answer
 /// must be exact then: `rt try --test --fail-alloc K` refuses one request of a test, the K-th, and the
 /// gate none. So a call that always finds no memory is seen, at the gate too.
 ///
-/// Prints the name of a case in which memory was refused.
-pub fn play<R: Abort + AllocGlobal + Print, F: Fn(Global, u32) -> Played>(
+/// Prints the number of a case in which memory was refused.
+pub fn play<R: Abort + AllocGlobal + Print, F: Fn(Global, u32) -> Outcome>(
     rt: &R,
     count: u32,
     case: F,
@@ -115,11 +103,11 @@ pub fn play<R: Abort + AllocGlobal + Print, F: Fn(Global, u32) -> Played>(
     requires { F.IsAlwaysCallable case }
 {
     for number in 0..count {
-        let Played { name, mut outcome } = case(rt.alloc(), number);
+        let mut outcome = case(rt.alloc(), number);
         if let Outcome::Refused = outcome {
-            let _ = println!(rt; "refused: {name}");
-            outcome = case(rt.alloc(), number).outcome;
+            let _ = println!(rt; "refused: case {number}");
+            outcome = case(rt.alloc(), number);
         }
-        assert!(rt; matches!(outcome, Outcome::Exact), "{name}");
+        assert!(rt; matches!(outcome, Outcome::Exact), "case {number}");
     }
 }

@@ -3,7 +3,7 @@
 //! What is repeated or cloned asks for `due` clones of counted items, of which the one of the number
 //! `refused` is refused; none is where that is beyond them.
 use crate::counted::{Counted, Counts};
-use crate::outcome::{Outcome, Played, digits, named, play};
+use crate::outcome::{Outcome, digits, play};
 use crate::refused_memory::{cloned_behind_first, three_counted, three_in_a_block};
 use generic_array::{AllocError, BoxedArray, GenericArray, U2, U3, U4};
 use std::alloc::Global;
@@ -120,14 +120,15 @@ fn boxed_iterator(alloc: Global, refused: u32) -> Outcome {
     outcome.and(counts.drops() == dropped)
 }
 
-fn case(alloc: Global, number: u32) -> Played {
+/// A case, by its number.
+fn case(alloc: Global, number: u32) -> Outcome {
     let refused = number / 5 + 1;
     match number % 5 {
-        0 => named("repeat of an inline array", inline_repeat(refused)),
-        1 => named("repeat of a boxed array", boxed_repeat(alloc, refused)),
-        2 => named("clone of an inline array", inline_clone(refused)),
-        3 => named("clone of an inline iterator", inline_iterator(refused)),
-        _ => named("clone of a boxed iterator", boxed_iterator(alloc, refused)),
+        0 => inline_repeat(refused),
+        1 => boxed_repeat(alloc, refused),
+        2 => inline_clone(refused),
+        3 => inline_iterator(refused),
+        _ => boxed_iterator(alloc, refused),
     }
 }
 
@@ -191,23 +192,15 @@ fn rows_of_a_boxed_iterator(alloc: Global, refused: u32) -> Outcome {
     outcome.and(counts.drops() == dropped)
 }
 
-fn case_of_rows(alloc: Global, number: u32) -> Played {
+/// A case over rows, by its number.
+fn case_of_rows(alloc: Global, number: u32) -> Outcome {
     let refused = number / 5 + 1;
     match number % 5 {
-        0 => named("repeat of a row", rows_repeated(refused)),
-        1 => named(
-            "repeat of a row in a block",
-            boxed_rows_repeated(alloc, refused),
-        ),
-        2 => named("clone of rows", rows_cloned(refused)),
-        3 => named(
-            "clone of an iterator over rows",
-            rows_of_an_iterator(refused),
-        ),
-        _ => named(
-            "clone of a boxed iterator over rows",
-            rows_of_a_boxed_iterator(alloc, refused),
-        ),
+        0 => rows_repeated(refused),
+        1 => boxed_rows_repeated(alloc, refused),
+        2 => rows_cloned(refused),
+        3 => rows_of_an_iterator(refused),
+        _ => rows_of_a_boxed_iterator(alloc, refused),
     }
 }
 

@@ -1,6 +1,6 @@
 //! Builds from closures, of copies, and of items that are written out.
 use crate::counted::{Counted, Counts};
-use crate::outcome::{Outcome, Played, digits, named, play};
+use crate::outcome::{Outcome, digits, play};
 use crate::refused_memory::{number, three_counted};
 use generic_array::{AllocError, BoxedArray, Const, LiveBlock, U3, Unsigned, box_arr};
 use std::alloc::Global;
@@ -137,21 +137,22 @@ fn of_too_many<N: Unsigned>(alloc: Global) -> Outcome {
     }
 }
 
-fn case(alloc: Global, number: u32) -> Played {
+/// A case, by its number.
+fn case(alloc: Global, number: u32) -> Outcome {
     match number {
-        0 => named("generate_by", generated_by(alloc)),
-        1 => named("generate", generated(alloc)),
-        2 => named("try_generate_by", tried_by(alloc, 9)),
-        3 => named("try_generate_by, an error", tried_by(alloc, 1)),
-        4 => named("try_generate", tried(alloc, 9)),
-        5 => named("try_generate, an error", tried(alloc, 1)),
-        6 => named("repeat", repeated(alloc)),
-        7 => named("default_boxed", of_defaults(alloc)),
-        8 => named("box_arr! of copies", of_copies(alloc)),
-        9 => named("box_arr!", written_out(alloc)),
-        10 => named("from_inline", from_inline(alloc)),
-        11 => named("LiveBlock::new", block(alloc)),
-        _ => named("more than any block holds", of_too_many::<TooMany>(alloc)),
+        0 => generated_by(alloc),
+        1 => generated(alloc),
+        2 => tried_by(alloc, 9),
+        3 => tried_by(alloc, 1),
+        4 => tried(alloc, 9),
+        5 => tried(alloc, 1),
+        6 => repeated(alloc),
+        7 => of_defaults(alloc),
+        8 => of_copies(alloc),
+        9 => written_out(alloc),
+        10 => from_inline(alloc),
+        11 => block(alloc),
+        _ => of_too_many::<TooMany>(alloc),
     }
 }
 

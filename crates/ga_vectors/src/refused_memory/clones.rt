@@ -1,6 +1,6 @@
 //! Clones that ask for memory: of a boxed iterator, and of items that are such iterators.
 use crate::counted::{Counted, Counts};
-use crate::outcome::{Outcome, Played, digits, named, play};
+use crate::outcome::{Outcome, digits, play};
 use crate::refused_memory::{cloned_behind_first, three_in_a_block};
 use generic_array::{AllocError, BoxedArray, BoxedArrayIter, GenericArray, U2, U3};
 use std::alloc::Global;
@@ -117,14 +117,15 @@ fn boxed_repeat(alloc: Global) -> Outcome {
     outcome.and(counts.drops() == counts.clones().wrapping_add(3))
 }
 
-fn case(alloc: Global, number: u32) -> Played {
+/// A case, by its number.
+fn case(alloc: Global, number: u32) -> Outcome {
     match number {
-        0 => named("clone of a boxed iterator", boxed_iterator(alloc)),
-        1 => named("clone of one with nothing left", finished_iterator(alloc)),
-        2 => named("clone of an inline array", inline_array(alloc)),
-        3 => named("clone of an inline iterator", inline_iterator(alloc)),
-        4 => named("repeat of an inline array", inline_repeat(alloc)),
-        _ => named("repeat of a boxed array", boxed_repeat(alloc)),
+        0 => boxed_iterator(alloc),
+        1 => finished_iterator(alloc),
+        2 => inline_array(alloc),
+        3 => inline_iterator(alloc),
+        4 => inline_repeat(alloc),
+        _ => boxed_repeat(alloc),
     }
 }
 

@@ -1,8 +1,10 @@
 //! Conversions from and to vectors and boxed slices.
 use crate::counted::{Counted, Counts};
-use crate::outcome::{Outcome, Played, digits, named, play};
+use crate::outcome::{Outcome, digits, play};
 use crate::refused_memory::{three_counted, three_in_a_block};
-use generic_array::{AllocError, BoxedArray, GenericArray, LengthError, U3, U4, Unsigned};
+use generic_array::{
+    AllocError, ArrayLength, BoxedArray, GenericArray, LengthError, U3, U4, Unsigned,
+};
 use std::alloc::Global;
 use std::boxed::BoxedSlice;
 
@@ -97,57 +99,68 @@ fn slice_to_block<N: Unsigned>(alloc: Global) -> Outcome {
 
 // Into an inline array, which asks for no memory.
 
-fn vector_to_inline(alloc: Global) -> Outcome {
-    let counts = Counts::new();
-    let outcome = match three_in_a_vector(alloc, &counts) {
-        Ok(items) => match GenericArray::<Counted, U3>::try_from_vec(items) {
-            Ok(array) => Outcome::exact_if(digits(array.as_slice()) == 123 && counts.drops() == 0),
-            Err(LengthError) => Outcome::Wrong,
-        },
-        Err(AllocError) => return Outcome::Refused,
+/// Of three counted items that were handed over to be an inline array of `N`.
+fn taken_inline<'a, N: ArrayLength<Counted<'a>>>(
+    made: Result<GenericArray<Counted<'a>, N>, LengthError>,
+    counts: &Counts,
+) -> Outcome {
+    let outcome = match made {
+        Ok(array) => {
+            let is_whole = digits(array.as_slice()) == 123 && counts.drops() == 0;
+            Outcome::exact_if(is_whole && N::USIZE == 3)
+        }
+        Err(LengthError) => Outcome::exact_if(N::USIZE != 3),
     };
     outcome.and(counts.drops() == 3)
 }
 
-fn slice_to_inline(alloc: Global) -> Outcome {
+fn vector_to_inline(alloc: Global, is_long: bool) -> Outcome {
     let counts = Counts::new();
-    match three_in_a_slice(alloc, &counts) {
-        Ok(items) => {
-            let made = GenericArray::<Counted, U4>::try_from_boxed_slice(items);
-            Outcome::exact_if(made.is_err() && counts.drops() == 3)
+    match three_in_a_vector(alloc, &counts) {
+        Ok(items) if is_long => {
+            taken_inline(GenericArray::<Counted, U4>::try_from_vec(items), &counts)
         }
+        Ok(items) => taken_inline(GenericArray::<Counted, U3>::try_from_vec(items), &counts),
         Err(AllocError) => Outcome::Refused,
     }
 }
 
-fn case(alloc: Global, number: u32) -> Played {
+fn slice_to_inline(alloc: Global, is_long: bool) -> Outcome {
+    let counts = Counts::new();
+    match three_in_a_slice(alloc, &counts) {
+        Ok(items) if is_long => {
+            taken_inline(
+                GenericArray::<Counted, U4>::try_from_boxed_slice(items),
+                &counts,
+            )
+        }
+        Ok(items) => taken_inline(
+            GenericArray::<Counted, U3>::try_from_boxed_slice(items),
+            &counts,
+        ),
+        Err(AllocError) => Outcome::Refused,
+    }
+}
+
+/// A case, by its number.
+fn case(alloc: Global, number: u32) -> Outcome {
     match number {
-        0 => named("into_vec of an inline array", inline_to_vector(alloc)),
-        1 => named(
-            "into_boxed_slice of an inline array",
-            inline_to_slice(alloc),
-        ),
-        2 => named("into_vec", block_to_vector(alloc)),
-        3 => named("into_boxed_slice", block_to_slice(alloc)),
-        4 => named("try_from_vec", vector_to_block::<U3>(alloc)),
-        5 => named(
-            "try_from_vec of another length",
-            vector_to_block::<U4>(alloc),
-        ),
-        6 => named("try_from_boxed_slice", slice_to_block::<U3>(alloc)),
-        7 => named(
-            "try_from_boxed_slice of another length",
-            slice_to_block::<U4>(alloc),
-        ),
-        8 => named("try_from_vec of an inline array", vector_to_inline(alloc)),
-        _ => named(
-            "try_from_boxed_slice of an inline array",
-            slice_to_inline(alloc),
-        ),
+        0 => inline_to_vector(alloc),
+        1 => inline_to_slice(alloc),
+        2 => block_to_vector(alloc),
+        3 => block_to_slice(alloc),
+        4 => vector_to_block::<U3>(alloc),
+        5 => vector_to_block::<U4>(alloc),
+        6 => slice_to_block::<U3>(alloc),
+        7 => slice_to_block::<U4>(alloc),
+        8 => vector_to_inline(alloc, false),
+        9 => vector_to_inline(alloc, true),
+        10 => slice_to_inline(alloc, false),
+        _ => slice_to_inline(alloc, true),
     }
 }
 
 #[test]
 fn a_conversion_keeps_the_items_or_drops_each_once(rt: HostRuntime) {
-    play(&rt, 10, case);
+    play(&rt, 12, case);
 }

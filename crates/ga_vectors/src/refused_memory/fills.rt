@@ -1,6 +1,6 @@
 //! Fills from iterators, whose items may be errors.
 use crate::counted::{Counted, Counts};
-use crate::outcome::{Outcome, Played, digits, named, play};
+use crate::outcome::{Outcome, digits, play};
 use crate::refused_memory::three_counted;
 use generic_array::sequence::FromFallibleIterator;
 use generic_array::{AllocError, BoxedArray, FillError, LengthError, U3};
@@ -173,30 +173,25 @@ fn from_lent_items(alloc: Global) -> Outcome {
     }
 }
 
-fn case(alloc: Global, number: u32) -> Played {
+/// A case, by its number.
+fn case(alloc: Global, number: u32) -> Outcome {
     match number {
-        0 => named("try_boxed_from_iter_ref", from_iter_ref(alloc, 3)),
-        1 => named("too few by reference", from_iter_ref(alloc, 2)),
-        2 => named("too many by reference", from_iter_ref(alloc, 5)),
-        3 => named("try_boxed_from_iter", from_iter(alloc, 3)),
-        4 => named("too many", from_iter(alloc, 5)),
-        5 => named("items that were there", from_items(alloc)),
-        6 => named("items that are lent", from_lent_items(alloc)),
-        7 => named(
-            "good items by reference",
-            from_fallible_iter_ref(alloc, 3, 9),
-        ),
-        8 => named("an error by reference", from_fallible_iter_ref(alloc, 3, 2)),
-        9 => named("a surplus error", from_fallible_iter_ref(alloc, 4, 4)),
-        10 => named("good items", from_fallible_iter(alloc, 3, 9)),
-        11 => named("an error", from_fallible_iter(alloc, 3, 2)),
-        12 => named("the trait by reference", by_the_trait_ref(alloc, 3, 9)),
-        13 => named(
-            "the trait by reference, an error",
-            by_the_trait_ref(alloc, 3, 2),
-        ),
-        14 => named("the trait", by_the_trait(alloc, 3, 9)),
-        _ => named("the trait, too few", by_the_trait(alloc, 2, 9)),
+        0 => from_iter_ref(alloc, 3),
+        1 => from_iter_ref(alloc, 2),
+        2 => from_iter_ref(alloc, 5),
+        3 => from_iter(alloc, 3),
+        4 => from_iter(alloc, 5),
+        5 => from_items(alloc),
+        6 => from_lent_items(alloc),
+        7 => from_fallible_iter_ref(alloc, 3, 9),
+        8 => from_fallible_iter_ref(alloc, 3, 2),
+        9 => from_fallible_iter_ref(alloc, 4, 4),
+        10 => from_fallible_iter(alloc, 3, 9),
+        11 => from_fallible_iter(alloc, 3, 2),
+        12 => by_the_trait_ref(alloc, 3, 9),
+        13 => by_the_trait_ref(alloc, 3, 2),
+        14 => by_the_trait(alloc, 3, 9),
+        _ => by_the_trait(alloc, 2, 9),
     }
 }
 

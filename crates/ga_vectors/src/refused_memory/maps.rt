@@ -1,6 +1,6 @@
 //! What the traits build and map in blocks.
 use crate::counted::{Counted, Counts};
-use crate::outcome::{Outcome, Played, digits, named, play};
+use crate::outcome::{Outcome, digits, play};
 use crate::refused_memory::{number, three_in_a_block};
 use generic_array::checks::map_total_by;
 use generic_array::functional::FunctionalSequence;
@@ -196,20 +196,21 @@ fn map_totalled(alloc: Global) -> Outcome {
     outcome.and(counts.drops() == 3)
 }
 
-fn case(alloc: Global, number: u32) -> Played {
+/// A case, by its number.
+fn case(alloc: Global, number: u32) -> Outcome {
     match number {
-        0 => named("generate_by of the trait", generated_by(alloc)),
-        1 => named("generate of the trait", generated(alloc)),
-        2 => named("try_generate_by of the trait", tried_by(alloc)),
-        3 => named("try_generate of the trait", tried(alloc)),
-        4 => named("repeat of the trait", repeated(alloc)),
-        5 => named("map_by", mapped_by(alloc)),
-        6 => named("map", mapped(alloc)),
-        7 => named("try_map_by", map_tried_by_reference(alloc, 9)),
-        8 => named("try_map_by, an error", map_tried_by_reference(alloc, 2)),
-        9 => named("try_map", map_tried_by_value(alloc, 9)),
-        10 => named("try_map, an error", map_tried_by_value(alloc, 2)),
-        _ => named("map_total_by", map_totalled(alloc)),
+        0 => generated_by(alloc),
+        1 => generated(alloc),
+        2 => tried_by(alloc),
+        3 => tried(alloc),
+        4 => repeated(alloc),
+        5 => mapped_by(alloc),
+        6 => mapped(alloc),
+        7 => map_tried_by_reference(alloc, 9),
+        8 => map_tried_by_reference(alloc, 2),
+        9 => map_tried_by_value(alloc, 9),
+        10 => map_tried_by_value(alloc, 2),
+        _ => map_totalled(alloc),
     }
 }
 

@@ -4,9 +4,8 @@ use crate::refused_memory::number;
 use generic_array::checks::{dot_by, map_total_by};
 use generic_array::functional::{FunctionalSequence, inverted_zip2};
 use generic_array::sequence::{FromFallibleIterator, GenericSequence};
-use generic_array::steps::{Reply, Step, run_steps};
 use generic_array::{
-    AllocError, BoxedArray, FillError, GenericArray, LengthError, LiveBlock, U0, U1, U3, box_arr,
+    AllocError, BoxedArray, FillError, GenericArray, LengthError, LiveBlock, U0, U3, box_arr,
 };
 use std::alloc::Global;
 use std::convert::AsSlice;
@@ -77,33 +76,69 @@ fn are_converted(alloc: Global) -> bool {
     let boxed = BoxedArray::from_inline(alloc, none());
     let again = BoxedArray::from_inline(alloc, none());
     let other = BoxedArray::<u32, U3>::try_from_vec(alloc, Vec::new(alloc));
+    let slice = Vec::new(alloc).into_boxed_slice();
     is_none(none().into_vec(alloc))
         && is_none(none().into_boxed_slice(alloc))
         && boxed.is_ok_and(|boxed| is_none(boxed.into_vec()))
         && again.is_ok_and(|boxed| is_none(boxed.into_boxed_slice()))
         && NoItems::try_from_vec(alloc, Vec::new(alloc)).is_ok_and(|taken| is_none(taken))
+        && NoItems::try_from_boxed_slice(alloc, slice).is_ok_and(|taken| is_none(taken))
         && matches!(other, Ok(Err(LengthError)))
 }
 
-/// Whether maps, zips and totals of no items are made, with no call.
+/// Boxed arrays of no items.
+fn none_thrice(alloc: Global) -> Result<(NoItems, NoItems, NoItems), AllocError> {
+    let none = || NoItems::generate(alloc, number);
+    Ok((none()?, none()?, none()?))
+}
+
+/// Whether maps and zips of no items are made, with no call.
 fn are_mapped(alloc: Global) -> bool {
+    let Ok((first, second, third)) = none_thrice(alloc) else {
+        return false;
+    };
+    let mut calls = 0u32;
+    let mut count = |item: u32| {
+        calls = calls.wrapping_add(1);
+        item
+    };
+    let mapped = first.map_by(alloc, &mut count);
+    let tried = second.try_map(
+        alloc,
+        |item: u32| if item < 9 { Ok(count(item)) } else { Err(item) },
+    );
+    let right = GenericArray::<u32, U0>::from_array([]);
+    let zipped = third.zip(
+        alloc,
+        right,
+        |left: u32, right: u32| left.wrapping_sub(right),
+    );
+    is_none(mapped) && tried.is_ok_and(|made| is_none(made)) && is_none(zipped) && calls == 0
+}
+
+/// Whether zips told from the right side and totals of no items are made, with no call.
+fn are_totalled(alloc: Global) -> bool {
+    let (Ok((first, second, third)), Ok((fourth, _, _))) = (none_thrice(alloc), none_thrice(alloc))
+    else {
+        return false;
+    };
     let mut calls = 0u32;
     let mut count = |left: u32, right: u32| {
         calls = calls.wrapping_add(1);
         left.wrapping_add(right)
     };
-    let none = || NoItems::generate(alloc, number);
-    let (Ok(first), Ok(second), Ok(third)) = (none(), none(), none()) else {
-        return false;
-    };
-    let mapped = first.map(alloc, |item: u32| item);
-    let zipped = second.zip_by(alloc, third, &mut count);
-    let (Ok(first), Ok(second), Ok(third)) = (none(), none(), none()) else {
-        return false;
-    };
     let inverted = inverted_zip2(first, alloc, second, &mut count);
     let total = map_total_by(third, alloc, &mut |item: u32| item, 5, &mut count);
-    is_none(mapped) && is_none(zipped) && is_none(inverted) && matches!(total, Ok(5)) && calls == 0
+    let right = GenericArray::<u32, U0>::from_array([]);
+    let dot = dot_by(
+        fourth,
+        alloc,
+        right,
+        &mut count,
+        6,
+        &mut |total: u32, _: u32| total,
+    );
+    is_none(inverted) && matches!(total, Ok(5)) && matches!(dot, Ok(6)) && calls == 0
 }
 
 #[test]
@@ -113,4 +148,5 @@ fn what_is_made_of_no_items_is_not_refused(rt: HostRuntime) {
     assert!(rt; are_filled(rt.alloc()));
     assert!(rt; are_converted(rt.alloc()));
     assert!(rt; are_mapped(rt.alloc()));
+    assert!(rt; are_totalled(rt.alloc()));
 }

@@ -1,6 +1,6 @@
 //! What needs no room of its own: it answers the same whatever memory there is.
 use crate::counted::{Counted, Counts};
-use crate::outcome::{Outcome, Played, digits, named, play};
+use crate::outcome::{Outcome, digits, play};
 use crate::refused_memory::{number, three_counted, three_in_a_block};
 use generic_array::checks::total_by;
 use generic_array::functional::FunctionalSequence;
@@ -105,13 +105,14 @@ fn of_a_block(alloc: Global) -> Outcome {
     Outcome::exact_if(is_taken && is_seen && counts.drops() == 3)
 }
 
-fn case(alloc: Global, number: u32) -> Played {
+/// A case, by its number.
+fn case(alloc: Global, number: u32) -> Outcome {
     match number {
-        0 => named("hex text", Outcome::exact_if(are_hex_digits())),
-        1 => named("shapes", Outcome::exact_if(are_shaped())),
-        2 => named("copies of none and one", Outcome::exact_if(are_copied())),
-        3 => named("no steps", Outcome::exact_if(are_no_steps_made(alloc))),
-        _ => named("a block", of_a_block(alloc)),
+        0 => Outcome::exact_if(are_hex_digits()),
+        1 => Outcome::exact_if(are_shaped()),
+        2 => Outcome::exact_if(are_copied()),
+        3 => Outcome::exact_if(are_no_steps_made(alloc)),
+        _ => of_a_block(alloc),
     }
 }
 

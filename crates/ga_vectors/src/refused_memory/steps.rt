@@ -1,6 +1,6 @@
 //! Runs of steps, whose replies need room.
 use crate::counted::{Counted, Counts};
-use crate::outcome::{Outcome, Played, digits, named, play};
+use crate::outcome::{Outcome, digits, play};
 use crate::refused_memory::{number, three_counted};
 use generic_array::steps::{Reply, Step, run_steps};
 use generic_array::{AllocError, BoxedArray, U2};
@@ -87,13 +87,11 @@ fn counted_inline(alloc: Global) -> Outcome {
     }
 }
 
-fn case(alloc: Global, number: u32) -> Played {
+/// A case, by its number.
+fn case(alloc: Global, number: u32) -> Outcome {
     match number {
-        0 => named(
-            "run_steps in a block",
-            in_a_block(alloc).unwrap_or(Outcome::Refused),
-        ),
-        _ => named("run_steps inline", counted_inline(alloc)),
+        0 => in_a_block(alloc).unwrap_or(Outcome::Refused),
+        _ => counted_inline(alloc),
     }
 }
 

@@ -1,6 +1,6 @@
 //! Zips of two kinds, where what is made is boxed, and where it is not.
 use crate::counted::{Counted, Counts};
-use crate::outcome::{Outcome, Played, named, play};
+use crate::outcome::{Outcome, play};
 use crate::refused_memory::{three_counted, three_in_a_block};
 use generic_array::checks::dot_by;
 use generic_array::functional::{
@@ -143,15 +143,16 @@ fn inline_inverted(alloc: Global) -> Outcome {
     Outcome::exact_if(is_exact && counts.drops() == 6)
 }
 
-fn case(alloc: Global, number: u32) -> Played {
+/// A case, by its number.
+fn case(alloc: Global, number: u32) -> Outcome {
     match number {
-        0 => named("zip_by", boxed_zip_by(alloc)),
-        1 => named("zip", boxed_zip(alloc)),
-        2 => named("inverted_zip2_by", inverted_by(alloc)),
-        3 => named("inverted_zip2", inverted(alloc)),
-        4 => named("dot_by", dot(alloc)),
-        5 => named("zip of an inline array", inline_zip(alloc)),
-        _ => named("inverted_zip", inline_inverted(alloc)),
+        0 => boxed_zip_by(alloc),
+        1 => boxed_zip(alloc),
+        2 => inverted_by(alloc),
+        3 => inverted(alloc),
+        4 => dot(alloc),
+        5 => inline_zip(alloc),
+        _ => inline_inverted(alloc),
     }
 }
 
