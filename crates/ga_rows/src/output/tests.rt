@@ -54,7 +54,7 @@ const LINES: [(Mode, [&str; 5]); 4] = [
 ];
 
 /// Short inputs, and their lines.
-const SHORT: [(&[u8], Mode, Width, &str); 10] = [
+const SHORT: [(&[u8], Mode, Width, &str); 11] = [
     (
         &[1, 2, 3, 4, 5, 6],
         Mode::Dec,
@@ -84,6 +84,12 @@ const SHORT: [(&[u8], Mode, Width, &str); 10] = [
         "1\n2\n3\n4\n255\n",
     ),
     (&[255; 16], Mode::Sum, Width::W16, "4080\n"),
+    (
+        &[255, 255, 255, 255, 1],
+        Mode::Sum,
+        Width::W4,
+        "1020\nrest 1\n",
+    ),
     (
         &[0; 16],
         Mode::Hex,

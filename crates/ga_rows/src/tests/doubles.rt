@@ -3,8 +3,8 @@ use std::alloc::{AllocError, Global};
 use std::io;
 use std::io::{ErrorKind, Read, Write};
 
-/// How much goes at a call: at most so many bytes, and nothing at the first of each so many calls,
-/// which is interrupted; none is where that is 0.
+/// At most `step` bytes go at a call. The first of each `period` calls is interrupted, none where that
+/// is 0.
 #[derive(Clone, Copy)]
 pub struct Manner {
     pub step: usize,

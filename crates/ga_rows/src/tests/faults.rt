@@ -155,6 +155,7 @@ fn each_fails(alloc: Global, case: &Case<'_>, writes: usize) -> bool {
             return false;
         }
     }
+    // A long input is for the writes alone, for the time that it takes.
     if case.input.len() > 100 {
         return true;
     }
