@@ -12,6 +12,7 @@ MODES = {
     "hex": lambda rows: [row.hex() for row in rows],
     "back": lambda rows: [numbers(row[::-1]) for row in rows],
     "sum": lambda rows: [str(sum(row)) for row in rows],
+    "last": lambda rows: [numbers(row) for row in reversed(rows)],
 }
 USAGE = f"usage: ga_rows [{'|'.join(MODES)}] [1|2|4|8|16]\n".encode()
 NO_MEMORY = b"ga_rows: out of memory\n"

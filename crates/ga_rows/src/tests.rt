@@ -3,7 +3,7 @@ mod doubles;
 mod faults;
 mod refused_memory;
 
-use crate::{Mode, Status, Width, parse_words, rows, run, run_listed};
+use crate::{Mode, Status, Width, parse_words, run, run_listed};
 use doubles::{Manner, Sink, Source, WHOLE, repeated};
 use std::env::Args;
 use std::io;

@@ -6,8 +6,8 @@ use std::io;
 use std::io::{ErrorKind, Write};
 use std::test::Fail;
 
-/// How a writer takes what it is given: at most so many bytes a call, and interrupted at the first of
-/// each so many calls, at none where that is 0.
+/// At most `step` bytes are taken at a call. The first of each `period` calls is interrupted, none where
+/// that is 0.
 #[derive(Clone, Copy)]
 struct Manner {
     step: usize,

@@ -64,7 +64,7 @@ const LINES: [(Mode, [&str; 5]); 5] = [
 ];
 
 /// Short inputs, and their lines.
-const SHORT: [(&[u8], Mode, Width, &str); 13] = [
+const SHORT: [(&[u8], Mode, Width, &str); 14] = [
     (
         &[1, 2, 3, 4, 5, 6],
         Mode::Dec,
@@ -94,6 +94,12 @@ const SHORT: [(&[u8], Mode, Width, &str); 13] = [
         "1\n2\n3\n4\n255\n",
     ),
     (&[255; 16], Mode::Sum, Width::W16, "4080\n"),
+    (
+        &[255, 255, 255, 255, 1],
+        Mode::Sum,
+        Width::W4,
+        "1020\nrest 1\n",
+    ),
     (
         &[0; 16],
         Mode::Hex,

@@ -3,26 +3,30 @@ use std::alloc::{AllocError, Global};
 use std::io;
 use std::io::{ErrorKind, Read, Write};
 
-/// How much goes at a call: at most so many bytes, and nothing at the first of each so many calls,
-/// which is interrupted; none is where that is 0.
+/// At most `step` bytes go at a call. The first of each `period` calls is interrupted, none where that
+/// is 0.
 #[derive(Clone, Copy)]
 pub struct Manner {
     pub step: usize,
     pub period: usize,
 }
 
+/// All that is asked for at each call.
 pub const WHOLE: Manner = Manner {
     step: usize::MAX,
     period: 0,
 };
 
+/// One byte at each call.
 pub const BYTE_BY_BYTE: Manner = Manner { step: 1, period: 0 };
 
+/// Each call is interrupted once.
 pub const INTERRUPTED: Manner = Manner {
     step: usize::MAX,
     period: 2,
 };
 
+/// No byte at any call.
 pub const NOTHING: Manner = Manner { step: 0, period: 0 };
 
 /// Gives its bytes, and at last fails or ends.
@@ -35,6 +39,7 @@ pub struct Source<'a> {
 }
 
 impl<'a> Source<'a> {
+    /// A reader of these bytes, which fails behind them or ends.
     pub fn new(bytes: &'a [u8], manner: Manner, fails: bool) -> Self {
         Source {
             bytes,
@@ -73,6 +78,7 @@ pub struct Sink<'a> {
 }
 
 impl<'a> Sink<'a> {
+    /// A writer that expects this text, and fails at the call of this number, from 1.
     pub fn new(text: &'a [u8], manner: Manner, fails_at: usize) -> Self {
         Sink {
             to_come: text,

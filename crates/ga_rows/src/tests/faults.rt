@@ -8,11 +8,12 @@ use std::test::Fail;
 
 /// Each mode with its word, its line for `ROW`, and in how many writes 2,000 such lines go: a piece of
 /// text has 8,192 bytes, or up to 70 fewer.
-const MODES: [(&str, Mode, &str, usize); 4] = [
+const MODES: [(&str, Mode, &str, usize); 5] = [
     ("dec", Mode::Dec, "255 254 253 252\n", 4),
     ("hex", Mode::Hex, "fffefdfc\n", 3),
     ("back", Mode::Back, "252 253 254 255\n", 4),
     ("sum", Mode::Sum, "1014\n", 2),
+    ("last", Mode::Last, "255 254 253 252\n", 4),
 ];
 
 const ROW: [u8; 4] = [255, 254, 253, 252];
@@ -155,6 +156,7 @@ fn each_fails(alloc: Global, case: &Case<'_>, writes: usize) -> bool {
             return false;
         }
     }
+    // A long input is for the writes alone, for the time that it takes.
     if case.input.len() > 100 {
         return true;
     }
