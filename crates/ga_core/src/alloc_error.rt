@@ -31,3 +31,10 @@ impl<T: Drop> From<AllocFailed<T>> for AllocError {
         AllocError
     }
 }
+
+/// So that `?` hands it on in a function that answers std's error.
+impl From<AllocError> for alloc::AllocError {
+    fn from(_refused: AllocError) -> alloc::AllocError {
+        alloc::AllocError
+    }
+}

@@ -1,75 +1,11 @@
--- Rows of joined lists, and calls at blocks in turn.
+-- Calls at blocks in turn, and messages that are fed.
 use Rattle.ga_uses.specs.BlockBuffer.{HasFed, MayTake, Takes}
+use Rattle.generic_array.proofs.JoinLemmas.{chunk_rest-joined, rows-behind, rows-joined}
 use Rattle.generic_array.proofs.LawLemmas.{CallableOver-first, CallableOver-second, ClosureRun-in_turn}
-use Rattle.generic_array.proofs.RowLemmas.{chunk_rest-few, chunk_rest-first, rows-few, rows-first}
+use Rattle.generic_array.proofs.RowLemmas.{chunk_rest-few, rows-few}
 use Rattle.generic_array.specs.Entries.{CallAt, MayCallAt}
 use Rattle.generic_array.specs.Rows.{chunk_rest, rows}
-use Rattle.std.proofs.Common.{◌≡◌, ℕ, zero, suc, ◌<◌, ◌≤◌, List, [], ◌∷◌, ◌++◌, length, take, drop, refl, sym, ap, ◌∙◌, append_assoc, arith, subst, inl, inr, length-append, length-drop}
-use Rattle.std.proofs.Math.Seq.{drop-append_seam, take-append_seam}
-use Rattle.std.proofs.lemmas.Bool.{cases_lt}
-use Rattle.std.proofs.lemmas.List.{drop-append-le, take-append-le}
-
-module _ {X : Type 0} (width : ℕ) (some : 0 < width) where
-  -- what is said of joined lists, for each two of them
-  abbrev Joins : List X → List X → Type 0
-  Joins xs ys = (rows width (xs ++ ys) ≡ rows width xs ++ rows width (chunk_rest width xs ++ ys)) × (chunk_rest width (xs ++ ys) ≡ chunk_rest width (chunk_rest width xs ++ ys))
-
-  joins-few : (xs ys : List X) → length xs < width → Joins xs ys
-  joins-few xs ys few =
-      let none = rows-few width xs few in
-      let all = chunk_rest-few width xs few in (
-        sym (ap (λ k. k ++ rows width (chunk_rest width xs ++ ys)) none ∙ ap (λ k. rows width (k ++ ys)) all),
-        sym (ap (λ k. chunk_rest width (k ++ ys)) all),
-      )
-
-  joins-more : (xs ys : List X) → width ≤ length xs → Joins (drop width xs) ys → Joins xs ys
-  joins-more xs ys enough others =
-      let long : width ≤ length (xs ++ ys) = omega (arith, length-append xs ys) in
-      let behind : drop width (xs ++ ys) ≡ drop width xs ++ ys = drop-append-le width xs ys enough in
-      let front : take width (xs ++ ys) ≡ take width xs = take-append-le width xs ys enough in
-      let rest : chunk_rest width xs ≡ chunk_rest width (drop width xs) = chunk_rest-first width xs some enough in (
-        rows-first width (xs ++ ys) some long
-            ∙ (ap (λ k. k ∷ rows width (drop width (xs ++ ys))) front
-            ∙ (ap (λ k. take width xs ∷ rows width k) behind
-            ∙ (ap (λ k. take width xs ∷ k) others.0
-            ∙ (ap (λ k. take width xs ∷ (rows width (drop width xs) ++ rows width (k ++ ys))) (sym rest)
-            ∙ ap (λ k. k ++ rows width (chunk_rest width xs ++ ys)) (sym (rows-first width xs some enough)))))),
-        chunk_rest-first width (xs ++ ys) some long
-            ∙ (ap (chunk_rest width) behind ∙ (others.1 ∙ ap (λ k. chunk_rest width (k ++ ys)) (sym rest))),
-      )
-
-  joins : (fuel : ℕ) (xs ys : List X) → length xs ≤ fuel → Joins xs ys
-  joins zero xs ys short = joins-few xs ys (omega arith)
-  joins (suc fuel) xs ys short =
-      elim (cases_lt (length xs) width) as (λ _. Joins xs ys) [
-        | inl few ↦ joins-few xs ys few
-        | inr enough ↦ joins-more xs ys enough (joins fuel (drop width xs) ys (omega (arith, length-drop width xs)))
-      ]
-
-  -- the rows of joined lists are those of the first, and those of its rest joined with the second
-  pub rows-joined : (xs ys : List X) → rows width (xs ++ ys) ≡ rows width xs ++ rows width (chunk_rest width xs ++ ys)
-  rows-joined xs ys = (joins (length xs) xs ys (omega arith)).0
-
-  pub chunk_rest-joined : (xs ys : List X) → chunk_rest width (xs ++ ys) ≡ chunk_rest width (chunk_rest width xs ++ ys)
-  chunk_rest-joined xs ys = (joins (length xs) xs ys (omega arith)).1
-
-  -- a row, and what follows it
-  module _ (row others all : List X) (joined : row ++ others ≡ all) (full : length row ≡ width) where
-    enough_with : width ≤ length (row ++ others)
-    enough_with = omega (arith, length-append row others)
-
-    cut_behind : drop width (row ++ others) ≡ others
-    cut_behind = ap (λ n. drop n (row ++ others)) (sym full) ∙ drop-append_seam row others
-
-    pub rows-behind : rows width all ≡ row ∷ rows width others
-    rows-behind =
-        ap (rows width) (sym joined)
-        ∙ (rows-first width (row ++ others) some enough_with
-        ∙ (ap (λ k. k ∷ rows width (drop width (row ++ others))) (ap (λ n. take n (row ++ others)) (sym full) ∙ take-append_seam row others)
-        ∙ ap (λ k. row ∷ rows width k) cut_behind))
-
-    pub chunk_rest-behind : chunk_rest width all ≡ chunk_rest width others
-    chunk_rest-behind = ap (chunk_rest width) (sym joined) ∙ (chunk_rest-first width (row ++ others) some enough_with ∙ ap (chunk_rest width) cut_behind)
+use Rattle.std.proofs.Common.{◌≡◌, ℕ, ◌<◌, List, [], ◌∷◌, ◌++◌, length, refl, sym, ap, ◌∙◌, append_assoc, subst}
 
 module _ {V F : Type 0} (bytes_of : V → List ℕ) (step : F → V → Unit {0} → F → Type 0) where
   -- calls at some blocks, and then at others

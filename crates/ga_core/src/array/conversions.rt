@@ -1,4 +1,4 @@
-//! Conversions from and to native arrays, vectors and boxed slices.
+//! Conversions from and to native arrays, vectors and boxed slices, and from views.
 ghost use Rattle.ga_views.specs.Length.{FitsInline};
 ghost use Rattle.std.specs.Box.{boxed_slice_items};
 ghost use Rattle.std.specs.Prelude.{◌≡◌, ◌↔◌, IfOk, IsOk, length};
@@ -11,7 +11,7 @@ use crate::array::GenericArray;
 use crate::length::ArrayLength;
 use crate::places::move_items;
 use crate::store::{Store, store_of_array};
-use ga_views::{Const, LengthError};
+use ga_views::{Const, GenericArrayRef, LengthError};
 use std::alloc::Global;
 use std::boxed::BoxedSlice;
 use std::mem;
@@ -31,6 +31,19 @@ impl<T: Default + Drop, const U: usize> GenericArray<T, Const<U>> {
 }
 
 impl<T: Copy + Default + Drop, N: ArrayLength<T>> GenericArray<T, N> {
+    /// The array of copies of a view's items. The counterpart of `*view` where `GenericArray` is `Copy`.
+    ///
+    /// The length fits. Copies the items once, and takes no memory.
+    #[inline]
+    pub fn from_view(view: GenericArrayRef<'_, T, N>) -> Self
+        requires fits { FitsInline N.USIZE }
+        ensures { result ≡ view.entry.slice.now }
+    {
+        let mut store: N::ArrayType = Store::filled();
+        store.as_mut_slice().copy_from_slice(view.as_slice());
+        GenericArray::of_store(store)
+    }
+
     /// The native array of the items, of as many. The counterpart of `GenericArray::into_array`.
     ///
     /// Copies the items once.

@@ -1,6 +1,6 @@
 //! Callers of the conversions, each proved, and conversions at short and long lengths.
 ghost use Rattle.ga_views.specs.Length.{FitsInline};
-ghost use Rattle.std.specs.Prelude.{◌≡◌, ◌∷◌, [], IfOk, IsOk, Ok};
+ghost use Rattle.std.specs.Prelude.{◌≡◌, ◌∷◌, ◌≤◌, ◌↔◌, [], IfOk, IsOk, Ok, length, take};
 
 use super::*;
 use crate::counted::{Counted, Counts, all_counted};
@@ -11,6 +11,18 @@ fn native_and_back(items: [u32; 3]) -> [u32; 3]
 {
     let array = GenericArray::<u32, U3>::from_array(items);
     array.into_array()
+}
+
+fn key_in_front<N: ArrayLength<u8>>(packet: &[u8]) -> Result<GenericArray<u8, N>, LengthError>
+    requires { FitsInline N.USIZE }
+    ensures variant { IsOk result ↔ (N.USIZE ≤ length packet.now) }
+    ensures ok { IfOk result (λ key. key ≡ take N.USIZE packet.now) }
+{
+    if packet.len() < N::USIZE {
+        return Err(LengthError);
+    }
+    let (key, _message) = packet.split_at(N::USIZE);
+    Ok(GenericArray::from_view(GenericArrayRef::from_slice(key)))
 }
 
 fn array_of_pair(pair: (u8, u8)) -> GenericArray<u8, U2>
@@ -41,6 +53,16 @@ fn boxed_slice_and_back(
     ensures { IfOk result (λ again. again ≡ Ok array) }
 {
     Ok(GenericArray::try_from_boxed_slice(array.into_boxed_slice(alloc)?))
+}
+
+// `?` makes std's error of ours.
+fn vector_as_in_std(
+    alloc: Global,
+    array: GenericArray<u32, U3>,
+) -> Result<Vec<u32>, std::alloc::AllocError>
+    ensures { IfOk result (λ items. items.items ≡ array) }
+{
+    Ok(array.into_vec(alloc)?)
 }
 
 fn vector_of_none(alloc: Global) -> Result<Vec<u32>, AllocError>
@@ -107,6 +129,14 @@ fn conversions_there_and_back_give_the_items(rt: HostRuntime) {
     let array = GenericArray::from_array([4, 5, 6]);
     let again = boxed_slice_and_back(rt.alloc(), array).expect(&rt, "no memory");
     assert!(rt; again.is_ok_and(|array| array.as_slice() == [4, 5, 6].as_slice()));
+    let key = key_in_front::<U3>(&[1, 2, 3, 4]);
+    assert!(rt; key.is_ok_and(|key| key.as_slice() == [1, 2, 3].as_slice()));
+    assert!(rt; key_in_front::<U3>(&[1, 2]).is_err());
+    let array = GenericArray::from_array([4, 5, 6]);
+    assert!(rt;
+        vector_as_in_std(rt.alloc(), array).is_ok_and(|items| items.as_slice()
+            == [4, 5, 6].as_slice())
+    );
     assert!(rt; vector_of_none(rt.alloc()).is_ok_and(|items| items.is_empty()));
     assert!(rt;
         GenericArray::<u8, U0>::from_array([])
