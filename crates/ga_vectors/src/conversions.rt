@@ -23,7 +23,8 @@ fn vector_and_back(alloc: Global) -> Result<bool, AllocError> {
 /// Whether an inline array goes to a vector, to a boxed slice, and through a block to a boxed slice and
 /// back.
 fn inline_and_boxed(alloc: Global) -> Result<bool, AllocError> {
-    let is_vector = arr![1u8, 2].into_vec(alloc)?.as_slice() == [1, 2].as_slice();
+    let vector = arr![1u8, 2].into_vec(alloc)?;
+    let is_vector = vector.as_slice() == [1, 2].as_slice() && vector.capacity() == 2;
     let is_slice = arr![1u8, 2].into_boxed_slice(alloc)?.as_slice() == [1, 2].as_slice();
     let items = BoxedArray::from_inline(alloc, arr![1u8, 2])?.into_boxed_slice()?;
     let is_kept = items.as_slice() == [1, 2].as_slice();

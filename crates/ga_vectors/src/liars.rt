@@ -247,20 +247,31 @@ where
     )
 }
 
-/// The same of fills of `N` items from 1, 2, 3, and how many items they all dropped.
+/// The same of fills of `N` items, and how many items they all dropped.
+fn strict_fills_from<const N: usize, R: Abort>(
+    rt: &R,
+    alloc: Global,
+    script: Script,
+) -> (([Outcome; 6], [Outcome; 2]), u32)
+    requires { FitsInline N }
+{
+    let counts = Counts::new();
+    let outcomes = strict_fills::<Counted, Const<N>, R>(rt, alloc, script, &counts);
+    (outcomes, counts.drops())
+}
+
+/// The same from 1, 2, 3.
 fn strict_fills_of_three<const N: usize, R: Abort>(
     rt: &R,
     alloc: Global,
 ) -> (([Outcome; 6], [Outcome; 2]), u32)
     requires { FitsInline N }
 {
-    let counts = Counts::new();
     let script = Script {
         answers: &[Some(Ok(1)), Some(Ok(2)), Some(Ok(3))],
         hinted: 3,
     };
-    let outcomes = strict_fills::<Counted, Const<N>, R>(rt, alloc, script, &counts);
-    (outcomes, counts.drops())
+    strict_fills_from::<N, R>(rt, alloc, script)
 }
 
 #[test]
@@ -276,4 +287,19 @@ fn a_fill_by_value_asks_nothing_after_the_end(rt: HostRuntime) {
     assert!(rt;
         strict_fills_of_three::<0, _>(&rt, alloc) == (([refused; 6], [Outcome::Made(0); 2]), 6)
     );
+}
+
+#[test]
+fn a_fill_by_value_asks_nothing_after_an_error(rt: HostRuntime) {
+    // Each fill from results drops the item before the error, and none asks for the one behind it.
+    let script = Script {
+        answers: &[Some(Ok(1)), Some(Err(9)), Some(Ok(3))],
+        hinted: 3,
+    };
+    let (made, stopped) = (Outcome::Made(193), Outcome::Error(9));
+    let outcomes = (
+        [made, made, stopped, stopped, stopped, stopped],
+        [made, stopped],
+    );
+    assert!(rt; strict_fills_from::<3, _>(&rt, rt.alloc(), script) == (outcomes, 14));
 }
