@@ -1,0 +1,146 @@
+//! Runs each case on both sides, and on a third where there is one.
+//!
+//! `check` compares their checksums, `count` calls them between requests to callgrind, and
+//! `time ROUNDS` prints the medians of interleaved rounds, in nanoseconds for one operation.
+mod cases;
+mod items;
+// An array of arrays is a case of one kind alone.
+#[allow(dead_code)]
+mod native;
+#[allow(dead_code)]
+mod original;
+
+use cases::{Ours, CASES};
+use std::ffi::CString;
+use std::hint::black_box;
+use std::time::Instant;
+
+/// A call of a kind, with a seed and how often it is repeated, which answers a checksum.
+type Call = fn(u64, u64) -> u64;
+
+pub struct Case {
+    name: &'static str,
+    /// The item and the length, as u8_64.
+    kind: &'static str,
+    ours: (Ours, u32),
+    original: Call,
+    third: Option<Call>,
+    is_large: bool,
+}
+
+#[derive(Clone, Copy)]
+enum Side {
+    Ours(Ours, u32),
+    Rust(Call),
+}
+
+impl Side {
+    fn run(self, seed: u64, repeats: u64) -> u64 {
+        let (seed, repeats) = (black_box(seed), black_box(repeats));
+        black_box(match self {
+            // The function takes numbers alone, and answers one.
+            Side::Ours(call, kind) => unsafe { call(black_box(kind), seed, repeats) },
+            Side::Rust(call) => call(seed, repeats),
+        })
+    }
+}
+
+impl Case {
+    fn sides(&self) -> Vec<(&'static str, Side)> {
+        let mut sides = vec![
+            ("ours", Side::Ours(self.ours.0, self.ours.1)),
+            ("original", Side::Rust(self.original)),
+        ];
+        sides.extend(self.third.map(|call| ("third", Side::Rust(call))));
+        sides
+    }
+
+    /// Prints how many of some seeds have checksums that differ.
+    fn check(&self) {
+        let seeds = if self.is_large { 8 } else { 2000u64 };
+        let sides = self.sides();
+        let differs = |number: &u64| {
+            let seed = number.wrapping_mul(0x2545_F491_4F6C_DD1D) ^ number;
+            let mut sums = sides.iter().map(|(_, it)| it.run(seed, seed % 5 + 1));
+            let first = sums.next();
+            sums.any(|sum| Some(sum) != first)
+        };
+        let wrong = (0..seeds).filter(differs).count();
+        println!("{},{},{wrong},{seeds}", self.name, self.kind);
+    }
+
+    /// Has callgrind dump what few and what many repeats cost, so that the rest can be taken off.
+    fn count(&self) {
+        for (side, call) in self.sides() {
+            for repeats in if self.is_large { [1, 3] } else { [4, 20] } {
+                let name = format!("{}/{}/{side}/{repeats}", self.name, self.kind);
+                request(ZERO_STATS, 0);
+                call.run(12345, repeats);
+                let name = CString::new(name).expect("a name without a zero byte");
+                request(DUMP_STATS_AT, name.as_ptr() as u64);
+            }
+        }
+    }
+
+    fn time(&self, rounds: u64) {
+        let sides = self.sides();
+        let repeats = self.repeats_of_a_millisecond();
+        let mut times = vec![vec![]; sides.len()];
+        for round in 0..rounds {
+            for ((_, side), times) in sides.iter().zip(&mut times) {
+                times.push(nanoseconds(*side, round, repeats) / repeats as f64);
+            }
+        }
+        let medians = times.iter_mut().map(|times| {
+            times.sort_by(f64::total_cmp);
+            format!("{:.2}", times[times.len() / 2])
+        });
+        let medians: Vec<String> = medians.collect();
+        println!("{},{},{}", self.name, self.kind, medians.join(","));
+    }
+
+    fn repeats_of_a_millisecond(&self) -> u64 {
+        let mut repeats = if self.is_large { 1 } else { 64 };
+        while repeats <= 1 << 24 && nanoseconds(Side::Rust(self.original), 1, repeats) < 7e5 {
+            repeats *= 2;
+        }
+        repeats
+    }
+}
+
+fn nanoseconds(side: Side, seed: u64, repeats: u64) -> f64 {
+    let start = Instant::now();
+    side.run(seed, repeats);
+    start.elapsed().as_nanos() as f64
+}
+
+// Callgrind's requests, which do nothing outside it.
+const ZERO_STATS: u64 = 0x4354_0001;
+const DUMP_STATS_AT: u64 = 0x4354_0003;
+
+#[inline(never)]
+fn request(code: u64, argument: u64) -> u64 {
+    let words: [u64; 6] = [code, argument, 0, 0, 0, 0];
+    let mut result: u64 = 0;
+    // Valgrind's sign, which changes no register but that of the result.
+    unsafe {
+        std::arch::asm!(
+            "rol rdi, 3", "rol rdi, 13", "rol rdi, 61", "rol rdi, 51", "xchg rbx, rbx",
+            inout("rdx") result, in("rax") words.as_ptr(), options(nostack)
+        );
+    }
+    result
+}
+
+fn main() {
+    let words: Vec<String> = std::env::args().skip(1).collect();
+    let words: Vec<&str> = words.iter().map(String::as_str).collect();
+    for case in CASES {
+        match words[..] {
+            ["check"] => case.check(),
+            ["count"] => case.count(),
+            ["time", rounds] => case.time(rounds.parse().expect("a number of rounds")),
+            _ => panic!("check, count or time ROUNDS"),
+        }
+    }
+}

@@ -1,0 +1,80 @@
+//! The original crate's arrays, boxes of them and hex text: a module for each type and length.
+use super::items::{mixed, poke, touch, touch_items, Word};
+use generic_array::functional::FunctionalSequence;
+use generic_array::internals::ArrayBuilder;
+use generic_array::sequence::*;
+use generic_array::typenum::*;
+use generic_array::{GenericArray, LengthError};
+use std::cmp::Ordering;
+use std::fmt::Write;
+
+type U2000 = Sum<U1024, Sum<U512, Sum<U256, Sum<U128, Sum<U64, U16>>>>>;
+type U4099 = Sum<U4096, U3>;
+
+macro_rules! arrays {
+    ($kind:ident, $item:ty, $length:ty, half $half:ty, rows $rows:ty, width $width:ty) => {
+        pub mod $kind {
+            use super::*;
+            type Item = $item;
+            type Length = $length;
+            type Array = GenericArray<Item, Length>;
+            type HalfLength = $half;
+            type Half = GenericArray<Item, HalfLength>;
+            type Rows = GenericArray<GenericArray<Item, $width>, $rows>;
+            const LENGTH: usize = <$length>::USIZE;
+            const ROWS: usize = <$rows>::USIZE;
+            include!("original_builds.rs");
+            include!("arrays.rs");
+            include!("closures.rs");
+            include!("shapes.rs");
+            include!("conversions.rs");
+            include!("rows.rs");
+        }
+    };
+}
+
+arrays!(u8_4, u8, U4, half U2, rows U2, width U2);
+arrays!(u8_64, u8, U64, half U32, rows U8, width U8);
+arrays!(u8_1024, u8, U1024, half U512, rows U128, width U8);
+arrays!(u64_4, u64, U4, half U2, rows U2, width U2);
+arrays!(u64_64, u64, U64, half U32, rows U8, width U8);
+arrays!(u64_1024, u64, U1024, half U512, rows U128, width U8);
+
+macro_rules! boxes {
+    ($kind:ident, $item:ty, $length:ty) => {
+        pub mod $kind {
+            use super::super::*;
+            type Item = $item;
+            type Boxed = Box<GenericArray<$item, $length>>;
+            const LENGTH: usize = <$length>::USIZE;
+            include!("boxed.rs");
+        }
+    };
+}
+
+pub mod boxed {
+    boxes!(u8_64, u8, U64);
+    boxes!(u8_1024, u8, U1024);
+    boxes!(u64_64, u64, U64);
+    boxes!(u64_1024, u64, U1024);
+    boxes!(u8_1000000, u8, U1000000);
+    boxes!(u64_1000000, u64, U1000000);
+}
+
+macro_rules! texts {
+    ($kind:ident, $length:ty) => {
+        pub mod $kind {
+            use super::super::*;
+            type Array = GenericArray<u8, $length>;
+            const LENGTH: usize = <$length>::USIZE;
+            include!("hex.rs");
+        }
+    };
+}
+
+pub mod hex {
+    texts!(u8_16, U16);
+    texts!(u8_64, U64);
+    texts!(u8_1024, U1024);
+    texts!(u8_2000, U2000);
+}
