@@ -1,0 +1,89 @@
+//! Builds from closures and iterators.
+use crate::random::{all, mixed, seen, Array, Random};
+use crate::sources::{Source, Trials};
+use generic_array::internals::ArrayBuilder;
+use generic_array::sequence::{FallibleGenericSequence, GenericSequence};
+use generic_array::{ArrayLength, GenericArray};
+
+fn filled<N: ArrayLength>(sum: u64, left: usize) -> u64 {
+    let mut source = Source::of(left);
+    let sum = match Array::<N>::try_from_iter(&mut source) {
+        Ok(array) => all(sum, &array),
+        Err(_) => mixed(sum, 11),
+    };
+    let sum = seen(sum, source.next());
+    mixed(sum, source.asked)
+}
+
+fn filled_fallibly<N: ArrayLength>(sum: u64, left: usize, bad: u64) -> u64 {
+    let mut trials = Trials::of(left, bad);
+    let sum = match Array::<N>::try_from_fallible_iter(&mut trials) {
+        Ok(Ok(array)) => all(sum, &array),
+        Ok(Err(error)) => mixed(sum, error),
+        Err(_) => mixed(sum, 12),
+    };
+    let sum = match trials.next() {
+        Some(Ok(item)) => mixed(sum, item),
+        Some(Err(error)) => mixed(sum, error),
+        None => mixed(sum, 13),
+    };
+    mixed(sum, trials.asked)
+}
+
+fn generated<N: ArrayLength>(sum: u64) -> u64 {
+    let mut calls = 0;
+    let array: Array<N> = GenericArray::generate(|index| {
+        calls = mixed(calls, index as u64);
+        calls
+    });
+    mixed(all(sum, &array), calls)
+}
+
+fn generated_fallibly<N: ArrayLength>(sum: u64, bad: usize) -> u64 {
+    let mut calls = 0;
+    let Ok(built) = <Array<N> as FallibleGenericSequence<u64>>::try_generate(|index| {
+        calls = mixed(calls, index as u64);
+        if index == bad {
+            Err(index)
+        } else {
+            Ok(calls)
+        }
+    });
+    let sum = match built {
+        Ok(array) => all(sum, &array),
+        Err(error) => mixed(sum, error as u64),
+    };
+    mixed(sum, calls)
+}
+
+fn extended<N: ArrayLength>(sum: u64, left: usize) -> u64 {
+    let mut source = Source::of(left);
+    let mut builder: ArrayBuilder<u64, N> = ArrayBuilder::new();
+    // It is extended once, so nothing is written over that has to be dropped.
+    unsafe { builder.extend(&mut source) };
+    let mut sum = mixed(sum, builder.is_full().into());
+    if builder.is_full() {
+        // It is full.
+        sum = all(sum, &unsafe { builder.assume_init() });
+    }
+    mixed(sum, source.asked)
+}
+
+fn of_one_value<N: ArrayLength>(sum: u64) -> u64 {
+    let sum = all(sum, &Array::<N>::default());
+    all(sum, &<Array<N> as GenericSequence<u64>>::repeat(sum))
+}
+
+pub fn builds_run<N: ArrayLength>(seed: u64) -> u64 {
+    let mut random = Random::of(seed);
+    let near = random.near(N::USIZE);
+    let bad = random.word() % 20;
+    match random.word() % 6 {
+        0 => filled::<N>(seed, near),
+        1 => filled_fallibly::<N>(seed, near, bad),
+        2 => generated::<N>(seed),
+        3 => generated_fallibly::<N>(seed, bad as usize),
+        4 => extended::<N>(seed, near),
+        _ => of_one_value::<N>(seed),
+    }
+}

@@ -1,0 +1,39 @@
+//! Arrays cut into rows and joined.
+use crate::random::{all, array_of, mixed, Array};
+use generic_array::sequence::{Flatten, Unflatten};
+use generic_array::typenum::*;
+use generic_array::{ArrayLength, GenericArray};
+use std::ops::{Div, Mul};
+
+type Rows<W, R> = GenericArray<Array<W>, R>;
+
+fn run<W: ArrayLength, R: ArrayLength, N: ArrayLength>(seed: u64) -> u64
+where
+    N: Div<W, Output = R>,
+    W: Mul<R, Output = N>,
+    Array<N>: Unflatten<u64, N, W, Output = Rows<W, R>>,
+    Rows<W, R>: Flatten<u64, W, R, Output = Array<N>>,
+    for<'a> &'a Rows<W, R>: Flatten<u64, W, R, Output = &'a Array<N>>,
+{
+    let rows = array_of::<N>(seed).unflatten();
+    let mut sum = seed;
+    for row in rows.as_slice() {
+        sum = all(sum, row);
+    }
+    for item in (&rows).flatten() {
+        sum = mixed(sum, *item);
+    }
+    all(sum, &rows.flatten())
+}
+
+/// By the width of the rows, a hundred times, and their number.
+pub fn flat_run(rows: u32, seed: u64) -> u64 {
+    match rows {
+        104 => run::<U1, U4, U4>(seed),
+        203 => run::<U2, U3, U6>(seed),
+        302 => run::<U3, U2, U6>(seed),
+        404 => run::<U4, U4, U16>(seed),
+        1203 => run::<U12, U3, U36>(seed),
+        _ => run::<U5, U0, U0>(seed),
+    }
+}
