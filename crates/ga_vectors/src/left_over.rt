@@ -1,14 +1,10 @@
 //! Iterators by value, and their clones, of which items are left over: how often each is dropped.
 ghost use Rattle.std.specs.Prelude.{◌<◌};
 
-use crate::builds::{
-    Outcome, boxed_fallible_fill_by_value, boxed_fill_by_value, inline_fallible_fill_by_value,
-    inline_fill_by_value, kind_fill_by_value,
-};
 use crate::counted::{Counted, Counts};
 use crate::scripted::Numbered;
 use generic_array::{
-    AllocError, ArrayLength, BoxedArray, BoxedArrayIter, GenericArray, GenericArrayIter, U2, U4,
+    AllocError, ArrayLength, BoxedArray, BoxedArrayIter, GenericArray, GenericArrayIter, U4,
 };
 use std::alloc::Global;
 use std::test::Fail;
@@ -93,14 +89,17 @@ fn boxed_drops<T: Clone>(
 }
 
 /// Four items that are counted here, numbered from 1.
-fn inline_four(counts: &Counts) -> GenericArrayIter<Counted<'_>, U4> {
+pub(crate) fn inline_four(counts: &Counts) -> GenericArrayIter<Counted<'_>, U4> {
     GenericArray::<Counted, U4>::generate(|index| Counted::new(
         counts,
         index as u32 + 1,
     )).into_iter()
 }
 
-fn boxed_four(alloc: Global, counts: &Counts) -> Result<BoxedArrayIter<Counted<'_>>, AllocError> {
+pub(crate) fn boxed_four(
+    alloc: Global,
+    counts: &Counts,
+) -> Result<BoxedArrayIter<Counted<'_>>, AllocError> {
     let array: BoxedArray<Counted, U4> = BoxedArray::generate(
         alloc,
         |index| Counted::new(counts, index as u32 + 1),
@@ -298,40 +297,5 @@ fn calls_that_consume_an_iterator_drop_each_item_once(rt: HostRuntime) -> Result
         drops: 16,
     };
     assert!(rt; inline_consumed() == wanted && boxed_consumed(rt.alloc())? == wanted);
-    Ok(())
-}
-
-/// Four items that are counted here, each as a result.
-fn four_results(
-    alloc: Global,
-    counts: &Counts,
-) -> Result<BoxedArrayIter<Result<Counted<'_>, u32>>, AllocError> {
-    let array: BoxedArray<Result<Counted, u32>, U4> = BoxedArray::generate(
-        alloc,
-        |index| Ok(Counted::new(counts, index as u32 + 1)),
-    )?;
-    Ok(array.into_iter())
-}
-
-/// What the fills of two places by four items come to, of which the last is left in the iterator.
-fn fills_of_two(alloc: Global, counts: &Counts) -> Result<[Outcome; 6], AllocError> {
-    let inline = inline_fill_by_value::<Counted, U2, _>(inline_four(counts));
-    let boxed = boxed_fill_by_value::<Counted, U2, _>(alloc, boxed_four(alloc, counts)?);
-    let results = four_results(alloc, counts)?;
-    let tried = inline_fallible_fill_by_value::<Counted, U2, _>(results);
-    let results = four_results(alloc, counts)?;
-    let tried_boxed = boxed_fallible_fill_by_value::<Counted, U2, _>(alloc, results);
-    let results = four_results(alloc, counts)?;
-    let kind = kind_fill_by_value::<Counted, GenericArray<Counted, U2>, _>((), results);
-    let results = four_results(alloc, counts)?;
-    let boxed_kind = kind_fill_by_value::<Counted, BoxedArray<Counted, U2>, _>(alloc, results);
-    Ok([inline, boxed, tried, tried_boxed, kind, boxed_kind])
-}
-
-#[test]
-fn what_a_fill_leaves_of_its_iterator_is_dropped(rt: HostRuntime) -> Result<(), Fail> {
-    let counts = Counts::new();
-    assert!(rt; fills_of_two(rt.alloc(), &counts)? == [Outcome::WrongLength; 6]);
-    assert!(rt; counts.drops() == 24);
     Ok(())
 }

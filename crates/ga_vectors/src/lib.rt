@@ -15,6 +15,8 @@ mod documentation;
 #[cfg(test)]
 mod extremes;
 #[cfg(test)]
+mod fills_by_value;
+#[cfg(test)]
 mod first_errors;
 #[cfg(test)]
 mod hex_writers;
