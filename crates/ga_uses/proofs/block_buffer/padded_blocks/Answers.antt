@@ -1,7 +1,8 @@
-use Rattle.ga_uses.proofs.BlockLemmas.{MayTake-along, MayTake-front, MayTake-more, rows-joined}
+use Rattle.ga_uses.proofs.BlockLemmas.{MayTake-along, MayTake-front, MayTake-more}
 use Rattle.ga_uses.proofs.PaddingLemmas.{padding-kept}
 use Rattle.ga_uses.proofs.block_buffer.padded_blocks.Goals as goal
 use Rattle.ga_uses.specs.BlockBuffer.{padded, padding}
+use Rattle.generic_array.proofs.JoinLemmas.{rows-joined}
 use Rattle.generic_array.specs.Rows.{chunk_rest, rows}
 use Rattle.std.proofs.Common.{◌≡◌, [], ◌++◌, ap, append-nil, arith, length, sym, ◌∙◌}
 use Rattle.std.specs.List.{flat_map}

@@ -1,6 +1,7 @@
-use Rattle.ga_uses.proofs.BlockLemmas.{MayTake-along, Takes-none, chunk_rest-behind, full-callable, full-taken, full-then_callable}
+use Rattle.ga_uses.proofs.BlockLemmas.{MayTake-along, Takes-none, full-callable, full-taken, full-then_callable}
 use Rattle.ga_uses.proofs.block_buffer.BlockBuffer.feed_blocks.Given as given
 use Rattle.ga_uses.proofs.block_buffer.BlockBuffer.feed_blocks.Goals as goal
+use Rattle.generic_array.proofs.JoinLemmas.{chunk_rest-behind}
 use Rattle.generic_array.proofs.RowLemmas.{chunk_rest-few, rows-few}
 use Rattle.generic_array.specs.Rows.{rows}
 use Rattle.std.proofs.Common.{◌≡◌, [], ◌++◌, ◌<◌, ap, arith, length, length-append, rules, sym, ◌∙◌}
