@@ -1,4 +1,5 @@
 //! The comparison of both sides over the seeds of a case, and what it came to.
+use std::collections::BTreeMap;
 use std::fmt::Debug;
 
 /// The checksum of a run, by its length and its seed.
@@ -26,13 +27,17 @@ pub struct Tally {
     runs: u64,
     differ: u64,
     /// How many differ as they should, by the name of the difference.
-    wanted: Vec<(&'static str, u64)>,
+    wanted: BTreeMap<&'static str, u64>,
 }
 
 impl Tally {
     fn count(&mut self, runs: u64, differ: u64) {
         self.runs += runs;
         self.differ += differ;
+    }
+
+    fn count_wanted(&mut self, name: &'static str, runs: u64) {
+        *self.wanted.entry(name).or_default() += runs;
     }
 
     /// Runs a case on both sides, and prints its line.
@@ -46,11 +51,8 @@ impl Tally {
                 if ours == (case.original)(n, seed) {
                     continue;
                 }
-                if case
-                    .wanted
-                    .as_ref()
-                    .is_some_and(|it| ours == (it.run)(n, seed))
-                {
+                let as_wanted = |it: &Wanted| ours == (it.run)(n, seed);
+                if case.wanted.as_ref().is_some_and(as_wanted) {
                     wanted += 1;
                 } else {
                     differ += 1;
@@ -65,7 +67,7 @@ impl Tally {
         }
         if let Some(it) = &case.wanted {
             line += &format!("; {wanted} as wanted: {}", it.name);
-            self.wanted.push((it.name, wanted));
+            self.count_wanted(it.name, wanted);
         }
         println!("{line}");
     }
@@ -100,7 +102,7 @@ impl Tally {
         self.count(1, differs.into());
         match wanted {
             _ if differs => println!("{name}: {ours:?} differs from {original:?}"),
-            Some((wanted, _)) if is_wanted => self.wanted.push((wanted, 1)),
+            Some((wanted, _)) if is_wanted => self.count_wanted(wanted, 1),
             _ => println!("{name}: agree"),
         }
     }
@@ -108,9 +110,11 @@ impl Tally {
     /// Prints the sums, and answers whether no run differs in a way that isn't wanted.
     pub fn end(&self) -> bool {
         for (name, number) in &self.wanted {
-            println!("wanted difference: {name}: {number} runs");
+            println!("differ as wanted: {name}: {number} runs");
         }
-        println!("diff: {} runs, {} differ", self.runs, self.differ);
+        let wanted: u64 = self.wanted.values().sum();
+        let (runs, differ) = (self.runs, self.differ);
+        println!("diff: {runs} runs, {differ} differ, and {wanted} as wanted");
         self.differ == 0
     }
 }

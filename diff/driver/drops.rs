@@ -71,17 +71,6 @@ fn mapped<N: ArrayLength>(log: &Log) {
     drop(noted_of::<N>(log).map(|item: Noted<'_>| item_of(log, item.id.wrapping_add(100))));
 }
 
-fn tried<N: ArrayLength>(log: &Log, bad: u64) {
-    let call = |item: Noted<'_>| {
-        if item.id == bad {
-            Err(bad)
-        } else {
-            Ok(item_of(log, item.id.wrapping_add(100)))
-        }
-    };
-    drop(noted_of::<N>(log).try_map(call));
-}
-
 fn folded<N: ArrayLength>(log: &Log) -> u64 {
     let call = |sum, item: Noted<'_>| mixed(sum, item.id);
     FunctionalSequence::fold(noted_of::<N>(log), 0, call)
@@ -107,10 +96,9 @@ pub fn closure_drops_run<N: ArrayLength>(ordered: u64, seed: u64) -> u64 {
     let mut random = Random::of(seed);
     let bad = random.word() % 20;
     let mut sum = seed;
-    match random.word() & 3 {
+    match random.word() % 3 {
         0 => mapped::<N>(log),
-        1 => tried::<N>(log, bad),
-        2 => sum = folded::<N>(log),
+        1 => sum = folded::<N>(log),
         _ => sum = tried_fold::<N>(log, bad),
     }
     mixed(sum, log.told(ordered))
