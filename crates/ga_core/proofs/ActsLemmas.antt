@@ -1,7 +1,7 @@
 -- What runs of a closure come to, where it acts as a function: each call answers h, and leaves the closure as it is.
 use Rattle.ga_core.specs.Runs.{CallableInFold, ClosureRun, FirstErrorRun, FoldRun}
 use Rattle.ga_core.specs.Tries.{result_and_then, try_map}
-use Rattle.std.proofs.Common.{◌≡◌, ℕ, ◌+◌, ◌<◌, List, [], ◌∷◌, ◌++◌, Result, Ok, Err, inl, inr, ap, arith, fold, map, refl, subst, sym, ◌∙◌}
+use Rattle.std.proofs.Common.{◌≡◌, ℕ, ◌+◌, ◌<◌, List, [], ◌∷◌, Result, Ok, Err, inl, inr, ap, arith, fold, map, refl, subst, sym, ◌∙◌}
 use Rattle.std.proofs.lemmas.List.Sums.{sum_by-append, sum_by-cons}
 use Rattle.std.specs.List.{sum_by}
 

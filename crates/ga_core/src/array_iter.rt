@@ -2,7 +2,7 @@
 ghost use Rattle.ga_views.specs.Length.{FitsInline};
 ghost use Rattle.std.specs.Borrow.{sem};
 ghost use Rattle.std.specs.Iterator.{YieldsFirst, YieldsLast, item_count};
-ghost use Rattle.std.specs.Prelude.{◌≡◌, ◌+◌, ◌-◌, ◌≤◌, drop, length, slice_range, take};
+ghost use Rattle.std.specs.Prelude.{◌≡◌, ◌+◌, ◌-◌, ◌<◌, ◌≤◌, drop, length, slice_index_or, slice_range, slice_set, take};
 
 mod copies;
 mod folds;
@@ -103,7 +103,7 @@ impl<T: Default + Drop, N: ArrayLength<T>> Iterator for GenericArrayIter<T, N> {
             return None;
         }
         self.front = first + 1;
-        Some(mem::take(&mut self.store.as_mut_slice()[first % MAX_INLINE]))
+        Some(take_in(&mut self.store, first))
     }
 
     #[inline]
@@ -125,7 +125,7 @@ impl<T: Default + Drop, N: ArrayLength<T>> DoubleEndedIterator for GenericArrayI
         }
         let last = self.back - 1;
         self.back = last;
-        Some(mem::take(&mut self.store.as_mut_slice()[last % MAX_INLINE]))
+        Some(take_in(&mut self.store, last))
     }
 }
 
@@ -168,6 +168,31 @@ fn keep_range<T: Drop, S: Store<T>>(store: &mut S, front: usize, back: usize)
             let _ = store.pop();
         }
     }
+}
+
+/// Takes the item at a place of a store, and leaves a default there.
+// `place % MAX_INLINE` is the place: by it the compiler sees that the write reaches nothing before the
+// store.
+#[inline]
+fn take_in<T: Default + Drop, S: Store<T>>(store: &mut S, place: usize) -> T
+    requires fits { FitsInline (length (S.items store.old)) }
+    requires in_bounds { place < length (S.items store.old) }
+    ensures item { result ≡ slice_index_or (S.items store.old) place result }
+    ensures left { (blank : T) × (S.items store.new ≡ slice_set (S.items store.old) place blank) }
+{
+    mem::take(&mut store.as_mut_slice()[place % MAX_INLINE])
+}
+
+/// Writes defaults over the places of a store from `front` up to `back`, which drops the items there, in
+/// order.
+#[inline]
+fn blank_in<T: Default + Drop, S: Store<T>>(store: &mut S, front: usize, back: usize)
+    requires in_bounds { back ≤ length (S.items store.old) }
+    ensures len { length (S.items store.new) ≡ length (S.items store.old) }
+    ensures before { take front (S.items store.new) ≡ take front (S.items store.old) }
+    ensures behind { front ≤ back → drop back (S.items store.new) ≡ drop back (S.items store.old) }
+{
+    blank(store.as_mut_slice(), front, back);
 }
 
 /// Writes defaults over the places from `front` up to `back`, which drops the items there, in order.

@@ -2,9 +2,8 @@
 ghost use Rattle.ga_core.specs.Cut.{StepGives, back, front};
 ghost use Rattle.std.specs.Prelude.{◌≡◌, ◌-◌, ◌≤◌, drop, length, slice_get, take};
 
-use crate::array_iter::{GenericArrayIter, blank};
+use crate::array_iter::{GenericArrayIter, blank_in};
 use crate::length::ArrayLength;
-use crate::store::Store;
 
 impl<T: Default + Drop, N: ArrayLength<T>> GenericArrayIter<T, N> {
     /// Drops `n` items from the front, or as many as are left, and takes the next.
@@ -50,8 +49,7 @@ impl<T: Default + Drop, N: ArrayLength<T>> GenericArrayIter<T, N> {
         ensures { self.new ≡ drop passed self.old }
     {
         let front = self.front + passed;
-        let places = self.store.as_mut_slice();
-        blank(places, self.front, front);
+        blank_in(&mut self.store, self.front, front);
         self.front = front;
     }
 
@@ -62,8 +60,7 @@ impl<T: Default + Drop, N: ArrayLength<T>> GenericArrayIter<T, N> {
         ensures { self.new ≡ take (length self.old - passed) self.old }
     {
         let back = self.back - passed;
-        let places = self.store.as_mut_slice();
-        blank(places, back, self.back);
+        blank_in(&mut self.store, back, self.back);
         self.back = back;
     }
 

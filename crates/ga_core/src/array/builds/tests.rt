@@ -1,37 +1,9 @@
 //! Builds at concrete types, and what no clause says of them.
-ghost use Rattle.ga_views.specs.Length.{FitsInline};
-
 use crate::counted::{Counted, Counts, holds};
 use crate::{
-    ArrayLength, Const, ConstArrayLength, ConstGenericArray, GenericArray, IntoArrayLength,
-    LengthError, U0, U2, U3, U4, U5,
+    Const, ConstArrayLength, ConstGenericArray, GenericArray, IntoArrayLength, LengthError, U3, U4,
+    U5,
 };
-
-/// Gives 1, 2, an end, 3, 4, 5 and ends, and hints at nine items all the while.
-#[derive(Drop)]
-struct Liar {
-    asked: usize,
-}
-
-impl Iterator for Liar {
-    type Item = u32;
-
-    fn next(&mut self) -> Option<u32> {
-        self.asked = self.asked.saturating_add(1);
-        match self.asked {
-            1 => Some(1),
-            2 => Some(2),
-            4 => Some(3),
-            5 => Some(4),
-            6 => Some(5),
-            _ => None,
-        }
-    }
-
-    fn size_hint(&self) -> (usize, Option<usize>) {
-        (9, None)
-    }
-}
 
 fn named_length<T, N: IntoArrayLength<T>>() -> usize {
     GenericArray::<T, N::ArrayLength>::len()
@@ -71,32 +43,9 @@ fn four_of_seven() -> (bool, Option<u32>) {
     (is_made, items.next())
 }
 
-/// Whether there is an array of what one that lies gives, how often it was asked, and its next item.
-fn filled_by_a_liar<N: ArrayLength<u32>>() -> (bool, usize, Option<u32>)
-    requires { FitsInline N.USIZE }
-{
-    let mut liar = Liar { asked: 0 };
-    let is_made = GenericArray::<u32, N>::try_from_iter_ref(&mut liar).is_ok();
-    (is_made, liar.asked, liar.next())
-}
-
-/// How often one that lies is asked by a fallible fill of four items.
-fn asked_by_a_fallible_fill() -> usize {
-    let mut liar = Liar { asked: 0 };
-    let mut items = liar
-        .by_ref()
-        .map(|item| if item > 0 { Ok(item) } else { Err(item) });
-    let _ = GenericArray::<u32, U4>::try_from_fallible_iter_ref(&mut items);
-    liar.asked
-}
-
 #[test]
-fn fills_believe_no_hint_and_ask_nothing_after_the_end(rt: HostRuntime) {
+fn a_fill_takes_one_item_more_than_fits(rt: HostRuntime) {
     assert!(rt; four_of_seven() == (false, Some(6)));
-    assert!(rt; filled_by_a_liar::<U2>() == (true, 3, Some(3)));
-    assert!(rt; filled_by_a_liar::<U3>() == (false, 3, Some(3)));
-    assert!(rt; filled_by_a_liar::<U0>() == (false, 1, Some(2)));
-    assert!(rt; asked_by_a_fallible_fill() == 3);
 }
 
 /// How many items a fill of four drops where it is given so many.

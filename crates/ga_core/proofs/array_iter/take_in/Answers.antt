@@ -1,0 +1,14 @@
+use Rattle.ga_core.proofs.PlaceLemmas.{refill-set}
+use Rattle.ga_core.proofs.array_iter.take_in.Goals as goal
+use Rattle.std.proofs.Common.{◌≡◌, ◌%◌, ◌∙◌, ap, arith, slice_set}
+use Rattle.std.proofs.Math.Nat.{mod-eq_of_lt}
+
+pub returns-clause-left : goal.returns-clause-left
+returns-clause-left g c =
+    let items = g.S.Store.items c.args.store.now in
+    let at = c.args.place % 65536 in
+    let here : at ≡ c.args.place = mod-eq_of_lt (omega (arith, c.requires.fits, c.requires.in_bounds)) in
+    let places = c.as_mut_slice.result.now in
+    let blank = c.take.new.dest in
+    let after = g.S.Store.refilled c.args.store.now (slice_set places at blank) in
+    (blank, refill-set items places (g.S.Store.items after.0) at blank c.as_mut_slice.ensures.value after.1 ∙ ap (λ k. slice_set items k blank) here)
