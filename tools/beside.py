@@ -44,14 +44,15 @@ def need(*commands):
         stop(f"{' and '.join(missing)} must be installed")
 
 
-def said(command, log, **how):
+def said(command, log, advice="", **how):
     """Runs a command whose words go into a file, and stops with their last lines where it fails."""
     log.parent.mkdir(parents=True, exist_ok=True)
     with open(log, "w", encoding="utf-8") as file:
         done = subprocess.run(command, stdout=file, stderr=subprocess.STDOUT, **how)
     if done.returncode:
         lines = log.read_text(errors="replace").splitlines()[-5:]
-        stop("\n".join([f"{' '.join(map(str, command))} failed:", *lines, f"(all of it: {log})"]))
+        told = [f"{' '.join(map(str, command))} failed:", *lines, f"(all of it: {log})", advice]
+        stop("\n".join(filter(None, told)))
 
 
 def put(path, text):
@@ -99,5 +100,6 @@ def build_driver(folder, name, crate, sources):
         put(driver / "src" / file, text)
     flags = {"CARGO_TARGET_DIR": str(folder / "target"), "RUSTFLAGS": "-C target-cpu=x86-64-v2"}
     command = ["cargo", *(["--offline"] if given else []), "build", "--release"]
-    said(command, folder / "cargo.log", cwd=driver, env={**os.environ, **flags})
+    advice = "" if given else f"Without a registry: {ORIGINAL} names a folder with the sources."
+    said(command, folder / "cargo.log", advice, cwd=driver, env={**os.environ, **flags})
     return folder / "target" / "release" / name

@@ -90,6 +90,7 @@ pub struct Scripted<'a, T> {
 }
 
 impl<'a, T: Given<'a>> Scripted<'a, T> {
+    /// The iterator before its first answer. The drops of `counts` are told from here on.
     pub fn new(script: Script<'a>, counts: &'a Counts) -> Self {
         Scripted {
             script,
@@ -142,6 +143,7 @@ pub struct Strict<'a, I, R: Abort> {
 }
 
 impl<'a, I: Iterator, R: Abort> Strict<'a, I, R> {
+    /// The same items, asked through this; `rt` ends the test.
     pub fn new(rt: &'a R, items: I) -> Self {
         Strict {
             items,
