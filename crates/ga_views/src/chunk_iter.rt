@@ -4,7 +4,7 @@ ghost use Rattle.ga_views.specs.Rows.{chunk_count, rows};
 ghost use Rattle.std.specs.Iterator.{YieldsFirstBy, YieldsLastBy, item_count};
 ghost use Rattle.std.specs.Iterator.Runs.{EveryRun, ItemsMapTo, ItemsMapToReversed};
 ghost use Rattle.std.specs.Option.{option_map};
-ghost use Rattle.std.specs.Prelude.{◌≡◌, ◌-◌, ◌*◌, ◌≤◌, List, drop, length, take};
+ghost use Rattle.std.specs.Prelude.{◌≡◌, ◌-◌, ◌*◌, ◌<◌, ◌≤◌, [], List, drop, false, length, take, true};
 
 use crate::{GenericArrayRef, Unsigned};
 use std::marker::{Model, PhantomData};
@@ -65,14 +65,8 @@ impl<'a, T, N: Unsigned> ChunkIter<'a, T, N> {
     pub fn nth(&mut self, n: usize) -> Option<GenericArrayRef<'a, T, N>>
         ensures step { StepGives (front n) self.old (option_map (λ view. view.slice.now) result) self.new }
     {
-        let rows = self.len();
-        if n < rows {
-            self.pass_front(n);
-            self.next()
-        } else {
-            self.pass_front(rows);
-            None
-        }
+        self.pass_front(n.min(self.len()));
+        self.next()
     }
 
     /// Passes over `n` rows from the back, or as many as are left, and gives the last of those before.
@@ -82,14 +76,8 @@ impl<'a, T, N: Unsigned> ChunkIter<'a, T, N> {
     pub fn nth_back(&mut self, n: usize) -> Option<GenericArrayRef<'a, T, N>>
         ensures step { StepGives (back n) self.old (option_map (λ view. view.slice.now) result) self.new }
     {
-        let rows = self.len();
-        if n < rows {
-            self.pass_back(n);
-            self.next_back()
-        } else {
-            self.pass_back(rows);
-            None
-        }
+        self.pass_back(n.min(self.len()));
+        self.next_back()
     }
 
     // Passes over the first `passed` rows.
@@ -124,7 +112,7 @@ impl<'a, T, N: Unsigned> Iterator for ChunkIter<'a, T, N> {
     #[inline]
     fn next(&mut self) -> Option<GenericArrayRef<'a, T, N>> {
         let width = N::USIZE;
-        if width == 0 || self.left.len() < width {
+        if !has_row(self.left, width) {
             return None;
         }
         let (row, left) = self.left.split_at(width);
@@ -148,12 +136,20 @@ impl<'a, T, N: Unsigned> DoubleEndedIterator for ChunkIter<'a, T, N> {
     #[inline]
     fn next_back(&mut self) -> Option<GenericArrayRef<'a, T, N>> {
         let width = N::USIZE;
-        let len = self.left.len();
-        if width == 0 || len < width {
+        if !has_row(self.left, width) {
             return None;
         }
-        let (left, row) = self.left.split_at(len - width);
+        let (left, row) = self.left.split_at(self.left.len() - width);
         self.left = left;
         Some(GenericArrayRef::from_slice(row))
     }
+}
+
+// Whether the slice holds a row of this width, of which there is none where the width is 0.
+#[inline]
+fn has_row<T>(slice: &[T], width: usize) -> bool
+    ensures some { result ≡ true → (0 < width) × (width ≤ length slice.now) }
+    ensures none { result ≡ false → rows width slice.now ≡ [] }
+{
+    width > 0 && width <= slice.len()
 }

@@ -1,20 +1,14 @@
-use Rattle.ga_views.proofs.RowLemmas.{rows-few, rows-flat, rows-last}
+use Rattle.ga_views.proofs.RowLemmas.{rows-last}
 use Rattle.ga_views.proofs.chunk_iter.ChunkIterDoubleEndedIterator.next_back.Given as given
 use Rattle.ga_views.proofs.chunk_iter.ChunkIterDoubleEndedIterator.next_back.Goals as goal
-use Rattle.ga_views.proofs.chunk_iter.ChunkIterDoubleEndedIterator.next_back.Goals.{then-width-eq0-via-else-width-eq0+then-len-width, then-width-eq0-via-then-width-eq0}
 use Rattle.ga_views.specs.Rows.{rows}
-use Rattle.std.proofs.Common.{[], ◌++◌, ◌-◌, ◌∙◌, ◌∷◌, ◌≡◌, ap, arith, drop, length, length-append, sym, take}
+use Rattle.std.proofs.Common.{rules, [], ◌++◌, ◌-◌, ◌∙◌, ◌∷◌, ◌≡◌, ap, arith, drop, length, length-append, sym, take}
 
--- of width 0, or where fewer items are left than a row takes, no row is left
-pub returns-then-width-eq0-clause-steps : goal.returns-then-width-eq0-clause-steps
-returns-then-width-eq0-clause-steps g c =
-    let width = g.N.Unsigned.USIZE in
-    let left = c.self.inside.left.now in
-    let none : rows width left ≡ [] = elim c.then-width-eq0.branch [
-      | then-width-eq0-via-then-width-eq0 w ↦ rows-flat width left (omega arith)
-      | then-width-eq0-via-else-width-eq0+then-len-width w ↦ rows-few width left (omega arith)
-    ] in
-    (sym c.self.view_is ∙ none, sym c.self.view_is ∙ none)
+-- where no row is held, none is left
+pub returns-then-not-has_row-clause-steps : goal.returns-then-not-has_row-clause-steps
+returns-then-not-has_row-clause-steps g c =
+    let none = sym c.self.view_is ∙ (ap (λ width. rows width c.self.inside.left.now) (sym c.USIZE-width.ensures) ∙ c.has_row.ensures.none (search rules)) in
+    (none, none)
 
 -- what is split off is the last of the rows that are left
 split : (g : given.Over) (c : goal.After-from_slice g) → c.args.self.now ≡ rows g.N.Unsigned.USIZE c.split_at.result.0.now ++ c.from_slice.result.slice.now ∷ []
