@@ -30,11 +30,12 @@ sum_with_carry sum word = (sum + word) % 2 ^ 16 + (sum + word) / 2 ^ 16
 abbrev pub ones_complement_sum : List ℕ → ℕ
 ones_complement_sum bytes = fold sum_with_carry 0 (words bytes)
 
--- the complement of the sum, where 0 is sent as all ones
+-- the complement of a sum, where 0 is sent as all ones
+abbrev pub complement_of : ℕ → ℕ
+complement_of sum = if 2 ^ 16 - 1 - sum == 0 then 2 ^ 16 - 1 else 2 ^ 16 - 1 - sum
+
 abbrev pub checksum_of : List ℕ → ℕ
-checksum_of bytes =
-    let complement = 2 ^ 16 - 1 - ones_complement_sum bytes in
-    if complement == 0 then 2 ^ 16 - 1 else complement
+checksum_of bytes = complement_of (ones_complement_sum bytes)
 
 -- what is summed: the pseudo header of both addresses, the protocol's number 17 and the length, then the header with no checksum, and the payload
 abbrev pub summed_bytes : List ℕ → List ℕ → ℕ → ℕ → List ℕ → List ℕ

@@ -1,5 +1,5 @@
 //! UDP datagrams, as RFC 768 has them: read, summed and written through views.
-ghost use Rattle.ga_uses.specs.Udp.{IsDatagram, checksum_of, datagram_of, header_of, number_of, ones_complement_sum, summed_bytes, sum_with_carry, words};
+ghost use Rattle.ga_uses.specs.Udp.{IsDatagram, checksum_of, complement_of, datagram_of, header_of, number_of, summed_bytes, sum_with_carry, words};
 ghost use Rattle.generic_array.specs.Rows.{rows};
 ghost use Rattle.std.specs.Prelude.{◌≡◌, ◌+◌, ◌-◌, ◌^◌, ◌<◌, ◌≤◌, ◌↔◌, Err, IfOk, IsOk, Ok, drop, fold, length, map, slice_range};
 
@@ -103,37 +103,24 @@ pub fn checksum(
     requires fits { 8 + length payload.now < 2 ^ 16 }
     ensures { result ≡ checksum_of (summed_bytes source_address.entry.slice.now destination_address.entry.slice.now source destination payload.now) }
 {
-    let sum = sum_of(
-        source_address,
-        destination_address,
-        source,
-        destination,
-        payload,
-    );
-    match u16::MAX - sum {
-        0 => u16::MAX,
-        complement => complement,
-    }
-}
-
-// The sum of the addresses, the protocol, the length, the header, whose checksum counts as 0, and the
-// payload.
-fn sum_of(
-    source_address: GenericArrayRef<'_, u8, U4>,
-    destination_address: GenericArrayRef<'_, u8, U4>,
-    source: u16,
-    destination: u16,
-    payload: &[u8],
-) -> u16
-    requires fits { 8 + length payload.now < 2 ^ 16 }
-    ensures { result ≡ ones_complement_sum (summed_bytes source_address.entry.slice.now destination_address.entry.slice.now source destination payload.now) }
-{
+    // The sum of the addresses, the protocol, the length, the header, whose checksum counts as 0, and
+    // the payload.
     let len = (8 + payload.len()) as u16;
     let between = GenericArray::<u16, U6>::from_array([17, len, source, destination, len, 0]);
     let first = with_words(0, source_address.into_slice());
     let addresses = with_words(first, destination_address.into_slice());
     let header = between.fold(addresses, with_carry);
-    with_words(header, payload)
+    complement(with_words(header, payload))
+}
+
+// The checksum that is sent for a sum.
+fn complement(sum: u16) -> u16
+    ensures { result ≡ complement_of sum }
+{
+    match u16::MAX - sum {
+        0 => u16::MAX,
+        complement => complement,
+    }
 }
 
 // The sum with the words of the bytes added, one after the other. Behind an odd last byte there is a 0.
