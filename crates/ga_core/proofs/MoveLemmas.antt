@@ -22,20 +22,23 @@ module _ {T : Type 0} where
   pub drop-next : (n : ℕ) (items left : List T) (item : T) → drop n items ≡ item ∷ left → left ≡ drop (n + 1) items
   drop-next n items left item here = ap (drop 1) (sym here) ∙ drop-drop 1 n items
 
+  -- the first n items were moved, and the others are left in their places
+  abbrev pub MovedSoFar : ℕ → List T → List T → List T → Type 0
+  MovedSoFar n items left moved = (moved ≡ take n items) × (drop n left ≡ drop n items)
+
   -- one item more moved out of a list, behind those before it
   pub pushed-next : (n : ℕ) (items left before after : List T) (item blank : T) → n < length left → item ≡ slice_index_or left n item
-      → before ≡ take n items → drop n left ≡ drop n items → after ≡ before ++ item ∷ []
-      → (after ≡ take (n + 1) items) × (drop (n + 1) (slice_set left n blank) ≡ drop (n + 1) items)
-  pushed-next n items left before after item blank some this moved behind grows =
-      let here : drop n items ≡ item ∷ drop (n + 1) left = sym behind ∙ (drop_more left n item some ∙ ap (λ x. x ∷ drop (n + 1) left) (sym this)) in
-      (take-next n [] before after items (drop (n + 1) left) item here moved grows, drop-set-lt (n + 1) left n blank (omega arith) ∙ drop-next n items (drop (n + 1) left) item here)
+      → MovedSoFar n items left before → after ≡ before ++ item ∷ [] → MovedSoFar (n + 1) items (slice_set left n blank) after
+  pushed-next n items left before after item blank some this moved grows =
+      let here : drop n items ≡ item ∷ drop (n + 1) left = sym moved.1 ∙ (drop_more left n item some ∙ ap (λ x. x ∷ drop (n + 1) left) (sym this)) in
+      (take-next n [] before after items (drop (n + 1) left) item here moved.0 grows, drop-set-lt (n + 1) left n blank (omega arith) ∙ drop-next n items (drop (n + 1) left) item here)
 
   -- the same, to its place in another
   pub moved-next : (n : ℕ) (items left places : List T) (item blank : T) → n < length left → n < length places → item ≡ slice_index_or left n item
       → take n places ≡ take n items → drop n left ≡ drop n items
       → (take (n + 1) (slice_set places n item) ≡ take (n + 1) items) × (drop (n + 1) (slice_set left n blank) ≡ drop (n + 1) items)
   moved-next n items left places item blank some room this before behind =
-      pushed-next n items left (take n places) (take (n + 1) (slice_set places n item)) item blank some this before behind (take_more_set places n item room)
+      pushed-next n items left (take n places) (take (n + 1) (slice_set places n item)) item blank some this (before, behind) (take_more_set places n item room)
 
   -- a property of what is left in the places before, and of what is left in this one
   pub left-next : (P : T → Type 0) (n : ℕ) (left : List T) (blank : T) → n < length left → All P (take n left) → P blank → All P (take (n + 1) (slice_set left n blank))

@@ -5,6 +5,5 @@ use Rattle.std.proofs.Common.{rules}
 pub loop-place-preserved : goal.loop-place-preserved
 loop-place-preserved g c =
     let at = c.loop-place in
-    let next = pushed-next at.place-index c.args.array at.places at.block.items c.put.new.self.items c.take.result c.take.new.dest
-    (search rules) (search rules) at.invariant.moved at.invariant.left (search rules) in
-    record { moved = next.0; left = next.1; room = search rules }
+    let moved = pushed-next at.place-index c.args.array at.places at.block.items c.put.new.self.items c.take.result c.take.new.dest (search rules) (search rules) at.invariant.moved (search rules) in
+    record { moved = moved; room = search rules }

@@ -1,6 +1,5 @@
 use Rattle.ga_core.proofs.LeftLemmas.{left-before}
 use Rattle.ga_core.proofs.array_iter.GenericArrayIter.pass_back.Goals as goal
-use Rattle.std.proofs.Common.{arith}
 
 pub returns : goal.returns
 returns g c =
