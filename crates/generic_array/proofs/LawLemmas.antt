@@ -3,8 +3,8 @@ use Rattle.ga_core.specs.Runs.{ClosureRun, FirstErrorRun}
 use Rattle.generic_array.proofs.RowLemmas.{rows-few, rows-first}
 use Rattle.generic_array.specs.Rows.{rows}
 use Rattle.generic_array.specs.EntryRuns.{CallableOver}
-use Rattle.generic_array.specs.Laws.{HaveWidth, RunInParts, RunsJoin, GoodRunInParts, GoodRunsJoin, ErrorRunInParts, ErrorRunsJoin, FoldsJoin}
-use Rattle.std.proofs.Common.{◌≡◌, ℕ, zero, suc, ◌+◌, ◌*◌, ◌<◌, ◌≤◌, ◌∙◌, List, [], ◌∷◌, ◌++◌, Result, Ok, Err, inl, inr, refl, sym, subst, ap, arith, append_assoc, drop, take, length, length-append, length-drop, slice_index_or}
+use Rattle.generic_array.specs.Laws.{HaveWidth, RunInParts, RunsJoin, GoodRunsJoin, ErrorRunInParts, ErrorRunsJoin, FoldsJoin}
+use Rattle.std.proofs.Common.{◌≡◌, ◌↔◌, ℕ, zero, suc, ◌+◌, ◌*◌, ◌<◌, ◌≤◌, ◌∙◌, List, [], ◌∷◌, ◌++◌, Result, Ok, Err, inl, inr, refl, sym, subst, ap, arith, append_assoc, drop, take, length, length-append, length-drop, slice_index_or}
 use Rattle.std.proofs.Math.Nat.{suc-mul}
 use Rattle.std.proofs.Math.Seq.{drop-append_seam, take-append_seam}
 use Rattle.std.proofs.lemmas.List.{nil_from_length, take-append-drop}
@@ -38,26 +38,30 @@ module _ {F X Y : Type 0} (step : F → X → Y → F → Type 0) where
   ClosureRun-in_turn f xs ys first second all between last joined run then = (ClosureRun-joined f xs ys all last).1 (first, second, between, joined, run, then)
 
 module _ {F X Y E : Type 0} (step : F → X → Result Y E → F → Type 0) where
-  good-cut : (f : F) (xs ys : List X) (answers : List Y) (last : F) → FirstErrorRun step f (xs ++ ys) (Ok answers) last → GoodRunInParts step f xs ys answers last
-  good-cut f [] ys answers last run = ([], answers, f, refl, refl, run)
-  good-cut f (x ∷ xs) ys [] last run = absurd run
-  good-cut f (x ∷ xs) ys (y ∷ answers) last run =
-      let others = good-cut run.0 xs ys answers last run.2 in
-      (y ∷ others.0, others.1, others.2, ap (λ more. y ∷ more) others.3, (run.0, run.1, others.4), others.5)
+  abbrev GoodCall : F → X → Y → F → Type 0
+  GoodCall f x y g = step f x (Ok y) g
 
-  good-join : (f : F) (xs ys : List X) (first second : List Y) (reached last : F) → FirstErrorRun step f xs (Ok first) reached
-      → FirstErrorRun step reached ys (Ok second) last → FirstErrorRun step f (xs ++ ys) (Ok (first ++ second)) last
-  good-join f [] ys [] second reached last run then = subst (λ k. FirstErrorRun step k ys (Ok second) last) (sym run) then
-  good-join f [] ys (y ∷ first) second reached last run then = absurd run
-  good-join f (x ∷ xs) ys [] second reached last run then = absurd run
-  good-join f (x ∷ xs) ys (y ∷ first) second reached last run then = (run.0, run.1, good-join run.0 xs ys first second reached last run.2 then)
+  -- a run with no error is a run of good calls
+  good-run : (f : F) (xs : List X) (answers : List Y) (last : F) → FirstErrorRun step f xs (Ok answers) last ↔ ClosureRun GoodCall f xs answers last
+  good-run f [] [] last = (λ run. run, λ run. run)
+  good-run f [] (y ∷ answers) last = (λ run. run, λ run. run)
+  good-run f (x ∷ xs) [] last = (λ run. run, λ run. run)
+  good-run f (x ∷ xs) (y ∷ answers) last = (
+    λ run. (run.0, run.1, (good-run run.0 xs answers last).0 run.2),
+    λ run. (run.0, run.1, (good-run run.0 xs answers last).1 run.2),
+  )
 
   -- where no call of the first part failed
   pub FirstErrorRun-joined : GoodRunsJoin step
-  FirstErrorRun-joined f xs ys answers last = (
-    good-cut f xs ys answers last,
-    λ parts. subst (λ all. FirstErrorRun step f (xs ++ ys) (Ok all) last) (sym parts.3) (good-join f xs ys parts.0 parts.1 parts.2 last parts.4 parts.5),
-  )
+  FirstErrorRun-joined f xs ys answers last =
+      let whole = good-run f (xs ++ ys) answers last in
+      let joined = ClosureRun-joined GoodCall f xs ys answers last in (
+        λ run.
+            let parts = joined.0 (whole.0 run) in
+            (parts.0, parts.1, parts.2, parts.3, (good-run f xs parts.0 parts.2).1 parts.4, (good-run parts.2 ys parts.1 last).1 parts.5),
+        λ parts.
+            whole.1 (joined.1 (parts.0, parts.1, parts.2, parts.3, (good-run f xs parts.0 parts.2).0 parts.4, (good-run parts.2 ys parts.1 last).0 parts.5)),
+      )
 
   error-cut : (f : F) (xs ys : List X) (error : E) (last : F) → FirstErrorRun step f (xs ++ ys) (Err error) last → ErrorRunInParts step f xs ys error last
   error-cut f [] ys error last run = inr ([], f, refl, run)
