@@ -1,13 +1,12 @@
 -- Walks over what a sequence gives, and the calls along them.
 use Rattle.ga_core.proofs.RunLemmas.{FirstErrorRun-good}
-use Rattle.ga_core.specs.Runs.{CallableInFold, ClosureRun, FirstErrorRun, FoldRun}
+use Rattle.ga_core.specs.Runs.{ClosureRun, FirstErrorRun}
 use Rattle.generic_array.specs.Built.{built_items}
-use Rattle.generic_array.specs.Entries.{CallAt, CallAtPair, FoldAt, MayCallAt, MayCallAtPair, MayFoldAt}
-use Rattle.generic_array.specs.EntryRuns.{CallableOver, CallableOverUntilError, FirstErrorRan, TryFoldRun, good_step}
-use Rattle.std.proofs.Common.{◌≡◌, suc, ◌<◌, List, [], ◌∷◌, ◌++◌, length, length-append, arith, ◌⊎◌, inl, inr, map, Result, Ok, Err, Option, None, Some, append_assoc, append-nil, refl, ap, sym, ◌∙◌, subst}
-use Rattle.std.proofs.lemmas.Fn.{FoldsTo-push}
+use Rattle.generic_array.specs.Entries.{CallAt, CallAtNext, CallAtNextPair, CallAtPair, MayCallAt, MayCallAtNext, MayCallAtNextPair, MayCallAtPair}
+use Rattle.generic_array.specs.EntryRuns.{CallableOver, CallableOverUntilError, FirstErrorRan}
+use Rattle.std.proofs.Common.{◌≡◌, suc, ◌<◌, List, [], ◌∷◌, ◌++◌, length, length-append, arith, ◌⊎◌, inl, inr, map, Result, Ok, Err, Option, None, Some, append-nil, refl, ap, sym, ◌∙◌, subst}
 use Rattle.std.specs.Iterator.{AlwaysYields}
-use Rattle.std.specs.List.{FoldsTo, zip}
+use Rattle.std.specs.List.{zip}
 use Rattle.std.specs.Prelude.{MatchOption}
 
 module _ {A : Type 0} where
@@ -27,45 +26,10 @@ module _ {S I T : Type 0} (steps : S → Option I → S → Type 0) (entry : I �
   end_given s [] t gives step = refl
   end_given s (x ∷ left) t gives step = absurd (gives.0 t step)
 
--- Calls of f at the entries passed led from f₀ and a₀ to f and a, and the iterator gives what is left, in order.
-pub record FoldsSoFar {S I T F A : Type 0} (steps : S → Option I → S → Type 0) (entry : I → T) (step : F → A → I → A → F → Type 0) (values : List T) (f₀ : F) (a₀ : A) (s : S) (f : F) (a : A) : Type 0 where
-  pub passed : List T
-  pub left : List T
-  pub whole : values ≡ passed ++ left
-  pub gives : AlwaysYields steps entry s left
-  pub ran : FoldRun (FoldAt entry step) f₀ a₀ passed a f
-
-module _ {S I T F A : Type 0} {steps : S → Option I → S → Type 0} {entry : I → T} {step : F → A → I → A → F → Type 0} {values : List T} {f₀ : F} {a₀ : A} {s : S} {f : F} {a : A} where
-  -- the call at the item that comes may be made
-  pub FoldsSoFar-callable : (pre : F → A → I → Type 0) (item : I) (t : S) → FoldsSoFar steps entry step values f₀ a₀ s f a
-      → CallableInFold (MayFoldAt entry pre) (FoldAt entry step) f₀ a₀ values → steps s (Some item) t → pre f a item
-  FoldsSoFar-callable pre item t so_far callable next =
-      let given = next_given steps entry s so_far.left item t so_far.gives next in
-      callable so_far.passed (entry item) given.0 f a (so_far.whole ∙ ap (λ left. so_far.passed ++ left) given.1) so_far.ran item refl
-
-  -- it was made
-  pub FoldsSoFar-more : (item : I) (t : S) (g : F) (b : A) → FoldsSoFar steps entry step values f₀ a₀ s f a → steps s (Some item) t → step f a item b g
-      → FoldsSoFar steps entry step values f₀ a₀ t g b
-  FoldsSoFar-more item t g b so_far next call =
-      let given = next_given steps entry s so_far.left item t so_far.gives next in
-      record {
-        passed = so_far.passed ++ entry item ∷ [];
-        left = given.0;
-        whole = so_far.whole ∙ (ap (λ left. so_far.passed ++ left) given.1 ∙ sym (append_assoc so_far.passed (entry item ∷ []) given.0));
-        gives = given.2;
-        ran = FoldsTo-push _ (f₀, a₀) so_far.passed (f, a) (entry item) (g, b) so_far.ran (item, refl, call);
-      }
-
-  -- no item is left
-  pub FoldsSoFar-end : (t : S) → FoldsSoFar steps entry step values f₀ a₀ s f a → steps s None t → FoldRun (FoldAt entry step) f₀ a₀ values a f
-  FoldsSoFar-end t so_far next =
-      let whole : values ≡ so_far.passed = so_far.whole ∙ (ap (λ left. so_far.passed ++ left) (end_given steps entry s so_far.left t so_far.gives next) ∙ append-nil so_far.passed) in
-      subst (λ passed. FoldRun (FoldAt entry step) f₀ a₀ passed a f) (sym whole) so_far.ran
-
 -- A closure that takes the next item at each call and answers what f answers at it: c is its state, `it c` the iterator's and `fn c` that of f.
 module _ {S I T C F K Y : Type 0} (steps : S → Option I → S → Type 0) (can : S → Type 0) (entry : I → T) (pre : F → I → Type 0) (step : F → I → Y → F → Type 0)
     (it : C → S) (fn : C → F) (calls : C → K → Y → C → Type 0)
-    (reads : (c : C) (k : K) (y : Y) (d : C) → calls c k y d → ((item : I) × steps (it c) (Some item) (it d) × step (fn c) item y (fn d)) × can (it d)) where
+    (reads : (c : C) (k : K) (y : Y) (d : C) → calls c k y d → CallAtNext can steps step (it c) (fn c) y (it d) (fn d)) where
   -- calls from c to d passed entries, and gave what f answers at these
   abbrev pub Walks : List T → C → List K → List Y → C → Type 0
   Walks values c ks ys d = (passed : List T) × (left : List T) × (values ≡ passed ++ left) × (length passed ≡ length ks) × AlwaysYields steps entry (it d) left × can (it d)
@@ -90,22 +54,24 @@ module _ {S I T C F K Y : Type 0} (steps : S → Option I → S → Type 0) (can
         (fn run.0, (item, refl, read.0.2), others.6),
       )
 
-  -- where entries are left, the next call may be made
+  -- where entries are left, the next call may be made if f may be called at the next entry
+  pub walked-callable : (values : List T) (c : C) (ks : List K) (ys : List Y) (d : C) (walked : Walks values c ks ys d) → length ks < length values
+      → ((x : T) (others : List T) → values ≡ walked.0 ++ x ∷ others → MayCallAt entry pre (fn d) x) → MayCallAtNext can steps pre (it d) (fn d)
+  walked-callable values c ks ys d walked more callable = (
+    walked.5,
+    (λ t ended.
+        let none : walked.1 ≡ [] = end_given steps entry (it d) walked.1 t walked.4 ended in
+        omega (arith, ap length walked.2, ap length none, length-append walked.0 walked.1, walked.3, more)),
+    (λ item t next.
+        let given = next_given steps entry (it d) walked.1 item t walked.4 next in
+        callable (entry item) given.0 (walked.2 ∙ ap (λ left. walked.0 ++ left) given.1) item refl),
+  )
+
   pub walk-callable : (values : List T) (c : C) (ks : List K) (ys : List Y) (d : C) → AlwaysYields steps entry (it c) values → can (it c) → ClosureRun calls c ks ys d
-      → length ks < length values → CallableOver (MayCallAt entry pre) (CallAt entry step) (fn c) values
-      → can (it d) × (((t : S) → steps (it d) None t → ⊥) × ((item : I) (t : S) → steps (it d) (Some item) t → pre (fn d) item))
+      → length ks < length values → CallableOver (MayCallAt entry pre) (CallAt entry step) (fn c) values → MayCallAtNext can steps pre (it d) (fn d)
   walk-callable values c ks ys d gives may run more callable =
-      let walked = walk values c ks ys d gives may run in (
-        walked.5,
-        (
-          (λ t ended.
-              let none : walked.1 ≡ [] = end_given steps entry (it d) walked.1 t walked.4 ended in
-              omega (arith, ap length walked.2, ap length none, length-append walked.0 walked.1, walked.3, more)),
-          (λ item t next.
-              let given = next_given steps entry (it d) walked.1 item t walked.4 next in
-              callable walked.0 (entry item) given.0 ys (fn d) (walked.2 ∙ ap (λ left. walked.0 ++ left) given.1) walked.6 item refl),
-        ),
-      )
+      let walked = walk values c ks ys d gives may run in
+      walked-callable values c ks ys d walked more (λ x others whole. callable walked.0 x others ys (fn d) whole walked.6)
 
   -- after as many calls as there are entries, all are passed
   pub walk-whole : (values : List T) (c : C) (ks : List K) (ys : List Y) (d : C) → AlwaysYields steps entry (it c) values → can (it c) → ClosureRun calls c ks ys d
@@ -159,28 +125,29 @@ module _ {S R I J T B : Type 0} (steps : S → Option I → S → Type 0) (other
     abbrev pub pair_step : F → I × J → Y → F → Type 0
     pair_step f p y g = step f p.0 p.1 y g
 
+    module _ (can : S → Type 0) (other_can : R → Type 0) where
+      abbrev pub both_can : S × R → Type 0
+      both_can s = can s.0 × other_can s.1
+
+      pub pair-may_call : (s : S) (r : R) (f : F) → MayCallAtNext both_can PairSteps pair_pre (s, r) f → MayCallAtNextPair can steps other_can others pre s r f
+      pair-may_call s r f may = (
+        may.0.0,
+        may.0.1,
+        (λ t ended. may.1 (t, r) (inl ended)),
+        (λ u ended. may.1 (s, u) (inr ended)),
+        (λ item t o u next more. may.2 (item, o) (t, u) (next, more)),
+      )
+
+      pub pair-called : (s : S) (r : R) (f : F) (y : Y) (t : S) (u : R) (g : F) → CallAtNextPair can steps other_can others step s r f y t u g
+          → CallAtNext both_can PairSteps pair_step (s, r) f y (t, u) g
+      pair-called s r f y t u g call = (((call.0.0, call.0.1), (call.0.2, call.0.3), call.0.4), (call.1, call.2))
+
     pub pair-call : (f : F) (q : T × B) (y : Y) (g : F) → CallAt pair_entry pair_step f q y g → CallAtPair entry other step f q y g
     pair-call f q y g call = (call.0.0, call.0.1, ap (λ p. p.0) call.1, ap (λ p. p.1) call.1, call.2)
 
     pub pair-callable : (f : F) (qs : List (T × B)) → CallableOver (MayCallAtPair entry other pre) (CallAtPair entry other step) f qs → CallableOver (MayCallAt pair_entry pair_pre) (CallAt pair_entry pair_step) f qs
     pair-callable f qs callable = λ passed q rest ys reached whole run item same.
         callable passed q rest ys reached whole (ClosureRun-map _ _ pair-call f passed ys reached run) item.0 item.1 (ap (λ p. p.0) same) (ap (λ p. p.1) same)
-
-module _ {P X : Type 0} (R Q : P → X → P → Type 0) (each : (p : P) (x : X) (q : P) → R p x q → Q p x q) where
-  -- a fold by steps that each are also another kind of step
-  pub FoldsTo-each : (p : P) (xs : List X) (q : P) → FoldsTo R p xs q → FoldsTo Q p xs q
-  FoldsTo-each p [] q run = run
-  FoldsTo-each p (x ∷ xs) q run = (run.0, each p x run.0 run.1, FoldsTo-each run.0 xs q run.2)
-
--- items that stand for themselves
-module _ {F A X : Type 0} (pre : F → A → X → Type 0) (step : F → A → X → A → F → Type 0) where
-  pub FoldRun-of_items : (f : F) (a : A) (xs : List X) (b : A) (g : F) → FoldRun (FoldAt (λ x. x) step) f a xs b g → FoldRun step f a xs b g
-  FoldRun-of_items f a xs b g run =
-      FoldsTo-each _ _ (λ p x q call. subst (λ y. step p.0 p.1 y q.1 q.0) call.1 call.2) (f, a) xs (g, b) run
-
-  pub CallableInFold-of_items : (f : F) (a : A) (xs : List X) → CallableInFold pre step f a xs → CallableInFold (MayFoldAt (λ x. x) pre) (FoldAt (λ x. x) step) f a xs
-  CallableInFold-of_items f a xs callable = λ passed item others reached value whole run x same.
-      subst (λ y. pre reached value y) (sym same) (callable passed item others reached value whole (FoldRun-of_items f a passed value reached run))
 
 -- what was made is a list itself
 pub built_items-list : {T E : Type 0} (built : Result (List T) E) → built_items (λ items. items) built ≡ built
@@ -205,7 +172,7 @@ module _ {C K Y E : Type 0} (calls : C → K → Result Y E → C → Type 0) wh
 
 module _ {S I T C F K Y E : Type 0} (steps : S → Option I → S → Type 0) (can : S → Type 0) (entry : I → T) (step : F → I → Result Y E → F → Type 0)
     (it : C → S) (fn : C → F) (calls : C → K → Result Y E → C → Type 0)
-    (reads : (c : C) (k : K) (y : Result Y E) (d : C) → calls c k y d → ((item : I) × steps (it c) (Some item) (it d) × step (fn c) item y (fn d)) × can (it d)) where
+    (reads : (c : C) (k : K) (y : Result Y E) (d : C) → calls c k y d → CallAtNext can steps step (it c) (fn c) y (it d) (fn d)) where
   -- an error at some call is one at some entry
   pub walk-error : (values : List T) (c : C) (ks : List K) (error : E) (d : C) → AlwaysYields steps entry (it c) values → FirstErrorRun calls c ks (Err error) d
       → FirstErrorRun (CallAt entry step) (fn c) values (Err error) (fn d)
@@ -220,22 +187,14 @@ module _ {S I T C F K Y E : Type 0} (steps : S → Option I → S → Type 0) (c
       subst (λ xs. FirstErrorRun (CallAt entry step) (fn c) xs (Err error) (fn d)) (sym given.1)
       (inr (more.0, fn more.1, (read.0.0, refl, read.0.2), walk-error given.0 more.1 ks error d given.2 more.3))
 
-  -- good calls, and then the next may be made
+  -- the same after good calls
   pub walk-callable_good : (pre : F → I → Type 0) (values : List T) (c : C) (ks : List K) (good : List Y) (d : C) → AlwaysYields steps entry (it c) values → can (it c)
       → ClosureRun calls c ks (map Ok good) d → length ks < length values → CallableOverUntilError (MayCallAt entry pre) (CallAt entry step) (fn c) values
-      → can (it d) × (((t : S) → steps (it d) None t → ⊥) × ((item : I) (t : S) → steps (it d) (Some item) t → pre (fn d) item))
+      → MayCallAtNext can steps pre (it d) (fn d)
   walk-callable_good pre values c ks good d gives may run more callable =
-      let walked = walk steps can entry pre step it fn calls reads values c ks (map Ok good) d gives may run in (
-        walked.5,
-        (
-          (λ t ended.
-              let none : walked.1 ≡ [] = end_given steps entry (it d) walked.1 t walked.4 ended in
-              omega (arith, ap length walked.2, ap length none, length-append walked.0 walked.1, walked.3, more)),
-          (λ item t next.
-              let given = next_given steps entry (it d) walked.1 item t walked.4 next in
-              callable walked.0 (entry item) given.0 good (fn d) (walked.2 ∙ ap (λ left. walked.0 ++ left) given.1) walked.6 item refl),
-        ),
-      )
+      let walked = walk steps can entry pre step it fn calls reads values c ks (map Ok good) d gives may run in
+      walked-callable steps can entry pre step it fn calls reads values c ks (map Ok good) d walked more
+      (λ x others whole. callable walked.0 x others good (fn d) whole walked.6)
 
   -- the run that came to the answer is the run over all entries
   pub walk-answer : (pre : F → I → Type 0) (answer : Result (List Y) E) (values : List T) (c : C) (ks : List K) (d : C) → AlwaysYields steps entry (it c) values → can (it c)
@@ -252,28 +211,6 @@ module _ {C K Y E : Type 0} {calls : C → K → Result Y E → C → Type 0} {c
 
   pub walk-ran : {S I T F : Type 0} (steps : S → Option I → S → Type 0) (can : S → Type 0) (entry : I → T) (pre : F → I → Type 0) (step : F → I → Result Y E → F → Type 0)
       (it : C → S) (fn : C → F) → FirstErrorRan calls c ks answer d
-      → ((f : C) (k : K) (y : Result Y E) (g : C) → calls f k y g → ((item : I) × steps (it f) (Some item) (it g) × step (fn f) item y (fn g)) × can (it g))
+      → ((f : C) (k : K) (y : Result Y E) (g : C) → calls f k y g → CallAtNext can steps step (it f) (fn f) y (it g) (fn g))
       → (values : List T) → AlwaysYields steps entry (it c) values → can (it c) → length ks ≡ length values → FirstErrorRun (CallAt entry step) (fn c) values answer (fn d)
   walk-ran steps can entry pre step it fn ran reads values gives may all = walk-answer steps can entry step it fn calls reads pre answer values c ks d gives may all ran.run
-
-module _ {F A X E : Type 0} (step : F → A → X → Result A E → F → Type 0) where
-  -- all calls were good
-  pub TryFoldRun-good : (f : F) (a : A) (xs : List X) (b : A) (g : F) → FoldRun (good_step step) f a xs b g → TryFoldRun step f a xs (Ok b) g
-  TryFoldRun-good f a [] b g run = (ap (λ p. p.1) run, ap (λ p. p.0) run)
-  TryFoldRun-good f a (x ∷ xs) b g run = (run.0.1, run.0.0, run.1, TryFoldRun-good run.0.0 run.0.1 xs b g run.2)
-
-  -- an error came after good calls
-  pub TryFoldRun-error : (f : F) (a : A) (passed : List X) (b : A) (g : F) (x : X) (others : List X) (error : E) (last : F)
-      → FoldRun (good_step step) f a passed b g → step g b x (Err error) last → TryFoldRun step f a (passed ++ x ∷ others) (Err error) last
-  TryFoldRun-error f a [] b g x others error last run call = inl (subst (λ p. step p.0 p.1 x (Err error) last) (sym run) call)
-  TryFoldRun-error f a (y ∷ passed) b g x others error last run call =
-      inr (run.0.1, run.0.0, run.1, TryFoldRun-error run.0.0 run.0.1 passed b g x others error last run.2 call)
-
--- an error at the item that comes
-module _ {S I T F A E : Type 0} {steps : S → Option I → S → Type 0} {entry : I → T} {values : List T} {f₀ : F} {a₀ : A} {s : S} {f : F} {a : A} where
-  pub FoldsSoFar-error : (step : F → A → I → Result A E → F → Type 0) (item : I) (t : S) (error : E) (last : F) → FoldsSoFar steps entry (good_step step) values f₀ a₀ s f a
-      → steps s (Some item) t → step f a item (Err error) last → TryFoldRun (FoldAt entry step) f₀ a₀ values (Err error) last
-  FoldsSoFar-error step item t error last so_far next call =
-      let given = next_given steps entry s so_far.left item t so_far.gives next in
-      subst (λ xs. TryFoldRun (FoldAt entry step) f₀ a₀ xs (Err error) last) (sym (so_far.whole ∙ ap (λ left. so_far.passed ++ left) given.1))
-      (TryFoldRun-error (FoldAt entry step) f₀ a₀ so_far.passed a f (entry item) given.0 error last so_far.ran (item, refl, call))

@@ -14,7 +14,7 @@ mod walks;
 use crate::sequence::{FallibleGenericSequence, GenericSequence};
 pub use inverted::{inverted_zip, inverted_zip_by, inverted_zip2, inverted_zip2_by};
 pub(crate) use walks::fold_entries;
-use walks::{map_entries, try_fold_entries, try_map_entries, zip_entries};
+use walks::{entries_of, map_entries, try_fold_entries, try_map_entries};
 
 /// The kind of sequence that a map to `U` makes.
 pub type Mapped<S, T, U> = <S as MappedGenericSequence<T, U>>::Mapped;
@@ -78,9 +78,7 @@ pub trait FunctionalSequence<T>: GenericSequence<T> {
         ensures err { OnErr result (f.new ≡ f.old) }
         ensures promised { Self.Mapped.IsPromised → IsOk result }
     {
-        // The view knows the length.
-        let _ = self.view();
-        map_entries::<T, Self::IntoIter, U, Mapped<Self, T, U>, F>(self.into_iter(), place, f)
+        map_entries::<T, Self::IntoIter, U, Mapped<Self, T, U>, F>(entries_of(self), place, f)
     }
 
     /// `map` with a closure that may fail: the sequence of its answers, or its first error.
@@ -120,10 +118,8 @@ pub trait FunctionalSequence<T>: GenericSequence<T> {
         ensures err { OnErr result (f.new ≡ f.old) }
         ensures promised { Self.Mapped.IsPromised → IsOk result }
     {
-        // The view knows the length.
-        let _ = self.view();
         try_map_entries::<T, Self::IntoIter, U, E, Mapped<Self, T, U>, F>(
-            self.into_iter(),
+            entries_of(self),
             place,
             f,
         )
@@ -169,15 +165,7 @@ pub trait FunctionalSequence<T>: GenericSequence<T> {
         ensures err { OnErr result (f.new ≡ f.old) }
         ensures promised { Self.Mapped.IsPromised → IsOk result }
     {
-        // The views know the lengths.
-        let _ = self.view();
-        let _ = rhs.view();
-        zip_entries::<T, B, Self::IntoIter, R::IntoIter, U, Mapped<Self, T, U>, F>(
-            self.into_iter(),
-            rhs.into_iter(),
-            place,
-            f,
-        )
+        inverted_zip2_by(rhs, place, self, f)
     }
 
     /// The last answer of `f`, called with `init` and the first entry, and then with its own answer
@@ -197,7 +185,7 @@ pub trait FunctionalSequence<T>: GenericSequence<T> {
         ensures run { FoldRun (FoldAt Self.entry F.step) f.old init (Self.items self) result f.new }
         ensures acts { (h : A → T → A) → ActsInFold Self.entry F.step f.old h → result ≡ fold h init (Self.items self) }
     {
-        fold_entries::<T, Self::IntoIter, A, F>(self.into_iter(), init, f)
+        fold_entries::<T, Self::IntoIter, A, F>(entries_of(self), init, f)
     }
 
     /// `fold` with a closure that may fail: its last answer, or its first error.
@@ -226,6 +214,6 @@ pub trait FunctionalSequence<T>: GenericSequence<T> {
         ensures run { TryFoldRun (FoldAt Self.entry F.step) f.old init (Self.items self) result f.new }
         ensures acts { (h : A → T → Result A E) → ActsInFold Self.entry F.step f.old h → result ≡ try_fold h init (Self.items self) }
     {
-        try_fold_entries::<T, Self::IntoIter, A, E, F>(self.into_iter(), init, f)
+        try_fold_entries::<T, Self::IntoIter, A, E, F>(entries_of(self), init, f)
     }
 }

@@ -5,10 +5,10 @@ ghost use Rattle.generic_array.specs.EntryRuns.{CallableOver};
 ghost use Rattle.std.specs.List.{zip};
 ghost use Rattle.std.specs.Prelude.{◌≡◌, IfOk, IsOk, OnErr, map};
 
-use crate::functional::walks::zip_entries;
+use crate::functional::walks::{entries_of, zip_entries};
 use crate::functional::{Mapped, MappedError, MappedGenericSequence, MappedPlace, MappedSequence};
 use crate::sequence::{GenericSequence, SequenceItem};
-use ga_core::{ArrayLength, GenericArray, GenericArrayIter, always};
+use ga_core::{ArrayLength, GenericArray, always};
 
 /// The array of what `f` answers at each item of `lhs` and the entry of `s` in its place, called in
 /// order.
@@ -43,18 +43,7 @@ where
     ensures run { ClosureRun (CallAtPair (λ item. item) S.entry F.step) f.old (zip lhs (S.items s)) result f.new }
     ensures acts { (h : B × T → U) → ActsOnEntries (λ item. item) S.entry F.step f.old h → result ≡ map h (zip lhs (S.items s)) }
 {
-    // The slice and the view know the lengths.
-    let _ = lhs.as_slice();
-    let _ = s.view();
-    always(zip_entries::<
-        B,
-        T,
-        GenericArrayIter<B, S::Length>,
-        S::IntoIter,
-        U,
-        GenericArray<U, S::Length>,
-        F,
-    >(lhs.into_iter(), s.into_iter(), (), f))
+    always(inverted_zip2_by(s, (), lhs, f))
 }
 
 /// `inverted_zip` with a left side of any kind, which is that of the answer too.
@@ -107,12 +96,9 @@ pub fn inverted_zip2_by<
     ensures err { OnErr result (f.new ≡ f.old) }
     ensures promised { Lhs.Mapped.IsPromised → IsOk result }
 {
-    // The views know the lengths.
-    let _ = lhs.view();
-    let _ = s.view();
     zip_entries::<B, T, Lhs::IntoIter, S::IntoIter, U, Mapped<Lhs, B, U>, F>(
-        lhs.into_iter(),
-        s.into_iter(),
+        entries_of(lhs),
+        entries_of(s),
         place,
         f,
     )

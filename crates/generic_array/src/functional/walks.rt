@@ -4,12 +4,22 @@
 //! iterator has no proof today.
 ghost use Rattle.ga_core.specs.Runs.{CallableInFold, CallableUntilError, ClosureRun, FirstErrorRun, FoldRun};
 ghost use Rattle.generic_array.specs.Built.{built_items};
-ghost use Rattle.generic_array.specs.Entries.{AllEntries, CallAt, CallAtPair, FoldAt, GivesEntries, MayCallAt, MayCallAtPair, MayFoldAt, SomeEntries, SomeEntriesOf};
+ghost use Rattle.generic_array.specs.Entries.{AllEntries, CallAt, CallAtNext, CallAtNextPair, CallAtPair, FoldAt, GivesEntries, MayCallAt, MayCallAtNext, MayCallAtNextPair, MayCallAtPair, MayFoldAt, SomeEntries, SomeEntriesOf};
 ghost use Rattle.generic_array.specs.EntryRuns.{CallableOver, CallableOverUntilError, FirstErrorRan, TryFoldRun, good_step};
 ghost use Rattle.std.specs.List.{range_with_len, zip};
-ghost use Rattle.std.specs.Prelude.{◌≡◌, IfOk, IsOk, List, None, OnErr, Some, length};
+ghost use Rattle.std.specs.Prelude.{◌≡◌, IfOk, IsOk, List, OnErr, length};
 
 use crate::sequence::{FallibleGenericSequence, GenericSequence};
+
+/// The entries of a sequence. It has as many as its length says.
+pub(super) fn entries_of<T, S: GenericSequence<T>>(s: S) -> S::IntoIter
+    ensures gives { GivesEntries S.IntoIter.can_next S.IntoIter.next_gives S.IntoIter.remaining S.entry result (S.items s) }
+    ensures long { length (S.items s) ≡ S.Length.USIZE }
+{
+    // The view knows the length.
+    let _ = s.view();
+    s.into_iter()
+}
 
 /// The last answer of `f`, called with `init` and the first entry, and then with its own answer and
 /// each other entry in order.
@@ -51,11 +61,8 @@ pub(super) fn try_fold_entries<T, I: Iterator + Drop, A, E, F: FnMut(A, I::Item)
 /// The answer of `f` at the next entry, of which there is one.
 #[inline]
 fn answer_at_next<I: Iterator, U, F: FnMut(I::Item) -> U>(entries: &mut I, f: &mut F) -> U
-    requires can { I.can_next entries.old }
-    requires more { (after : I) → I.next_gives entries.old None after → ⊥ }
-    requires callable { (item : I.Item) (after : I) → I.next_gives entries.old (Some item) after → F.pre f.old item }
-    ensures call { (item : I.Item) × I.next_gives entries.old (Some item) entries.new × F.step f.old item result f.new }
-    ensures can { I.can_next entries.new }
+    requires { MayCallAtNext I.can_next I.next_gives F.pre entries.old f.old }
+    ensures { CallAtNext I.can_next I.next_gives F.step entries.old f.old result entries.new f.new }
 {
     match entries.next() {
         Some(entry) => f(entry),
@@ -81,11 +88,8 @@ pub(super) fn map_entries<T, I: Iterator + Drop, U, M: GenericSequence<U>, F: Fn
     M::generate_by(
         place,
         &mut |_index: usize| -> U
-            requires can { I.can_next entries }
-            requires more { (after : I) → I.next_gives entries None after → ⊥ }
-            requires callable { (item : I.Item) (after : I) → I.next_gives entries (Some item) after → F.pre f.now item }
-            ensures call { (item : I.Item) × I.next_gives entries.entry (Some item) entries.exit × F.step f.entry.now item result f.exit.now }
-            ensures can { I.can_next entries.exit }
+            requires { MayCallAtNext I.can_next I.next_gives F.pre entries f.now }
+            ensures call { CallAtNext I.can_next I.next_gives F.step entries.entry f.entry.now result entries.exit f.exit.now }
             ensures same { f.exit.ghost_name ≡ f.entry.ghost_name }
         { answer_at_next(&mut entries, f) },
     )
@@ -98,11 +102,8 @@ fn result_at_next<I: Iterator, U, E, F: FnMut(I::Item) -> Result<U, E>>(
     entries: &mut I,
     f: &mut F,
 ) -> Result<U, E>
-    requires can { I.can_next entries.old }
-    requires more { (after : I) → I.next_gives entries.old None after → ⊥ }
-    requires callable { (item : I.Item) (after : I) → I.next_gives entries.old (Some item) after → F.pre f.old item }
-    ensures call { (item : I.Item) × I.next_gives entries.old (Some item) entries.new × F.step f.old item result f.new }
-    ensures can { I.can_next entries.new }
+    requires { MayCallAtNext I.can_next I.next_gives F.pre entries.old f.old }
+    ensures { CallAtNext I.can_next I.next_gives F.step entries.old f.old result entries.new f.new }
 {
     match entries.next() {
         Some(entry) => f(entry),
@@ -146,11 +147,8 @@ pub(super) fn try_map_entries<
     try_build::<U, E, M, _>(
         place,
         &mut |_index: usize| -> Result<U, E>
-            requires can { I.can_next entries }
-            requires more { (after : I) → I.next_gives entries None after → ⊥ }
-            requires callable { (item : I.Item) (after : I) → I.next_gives entries (Some item) after → F.pre f.now item }
-            ensures call { (item : I.Item) × I.next_gives entries.entry (Some item) entries.exit × F.step f.entry.now item result f.exit.now }
-            ensures can { I.can_next entries.exit }
+            requires { MayCallAtNext I.can_next I.next_gives F.pre entries f.now }
+            ensures call { CallAtNext I.can_next I.next_gives F.step entries.entry f.entry.now result entries.exit f.exit.now }
             ensures same { f.exit.ghost_name ≡ f.entry.ghost_name }
         { result_at_next(&mut entries, f) },
     )
@@ -163,14 +161,8 @@ fn answer_at_next_pair<I: Iterator + Drop, J: Iterator + Drop, U, F: FnMut(I::It
     right: &mut J,
     f: &mut F,
 ) -> U
-    requires can { I.can_next left.old × J.can_next right.old }
-    requires more { (after : I) → I.next_gives left.old None after → ⊥ }
-    requires more_right { (after : J) → J.next_gives right.old None after → ⊥ }
-    requires callable { (item : I.Item) (after : I) (other : J.Item) (then : J)
-        → I.next_gives left.old (Some item) after → J.next_gives right.old (Some other) then → F.pre f.old item other }
-    ensures call { (item : I.Item) × (other : J.Item)
-        × I.next_gives left.old (Some item) left.new × J.next_gives right.old (Some other) right.new × F.step f.old item other result f.new }
-    ensures can { I.can_next left.new × J.can_next right.new }
+    requires { MayCallAtNextPair I.can_next I.next_gives J.can_next J.next_gives F.pre left.old right.old f.old }
+    ensures { CallAtNextPair I.can_next I.next_gives J.can_next J.next_gives F.step left.old right.old f.old result left.new right.new f.new }
 {
     let Some(entry) = left.next() else {
         unreachable!()
@@ -210,14 +202,8 @@ pub(super) fn zip_entries<
     M::generate_by(
         place,
         &mut |_index: usize| -> U
-            requires can { I.can_next left × J.can_next right }
-            requires more { (after : I) → I.next_gives left None after → ⊥ }
-            requires more_right { (after : J) → J.next_gives right None after → ⊥ }
-            requires callable { (item : I.Item) (after : I) (other : J.Item) (then : J)
-                → I.next_gives left (Some item) after → J.next_gives right (Some other) then → F.pre f.now item other }
-            ensures call { (item : I.Item) × (other : J.Item)
-                × I.next_gives left.entry (Some item) left.exit × J.next_gives right.entry (Some other) right.exit × F.step f.entry.now item other result f.exit.now }
-            ensures can { I.can_next left.exit × J.can_next right.exit }
+            requires { MayCallAtNextPair I.can_next I.next_gives J.can_next J.next_gives F.pre left right f.now }
+            ensures call { CallAtNextPair I.can_next I.next_gives J.can_next J.next_gives F.step left.entry right.entry f.entry.now result left.exit right.exit f.exit.now }
             ensures same { f.exit.ghost_name ≡ f.entry.ghost_name }
         { answer_at_next_pair(&mut left, &mut right, f) },
     )

@@ -1,5 +1,3 @@
-use Rattle.ga_core.proofs.ActsLemmas.{answer_of_fold}
-use Rattle.generic_array.proofs.EntryActs.{answers_at_pairs}
 use Rattle.generic_array.proofs.checks.dot_by.Goals as goal
 use Rattle.std.proofs.Common.{◌∙◌, ap, fold}
 
@@ -10,5 +8,4 @@ pub returns-in-Ok-clause-run : goal.returns-in-Ok-clause-run
 returns-in-Ok-clause-run g c = (_, c.in-Ok.ensures.run, c.fold_items_by.ensures.run)
 
 pub returns-in-Ok-clause-acts : goal.returns-in-Ok-clause-acts
-returns-in-Ok-clause-acts g c h k acts then_acts =
-    answer_of_fold _ _ k then_acts _ _ _ _ c.fold_items_by.ensures.run ∙ ap (fold k c.args.zero) (answers_at_pairs _ _ _ _ h acts _ _ _ c.in-Ok.ensures.run)
+returns-in-Ok-clause-acts g c h k acts then_acts = c.fold_items_by.ensures.acts k then_acts ∙ ap (fold k c.args.zero) (c.in-Ok.ensures.acts h acts)

@@ -1,6 +1,6 @@
-use Rattle.generic_array.proofs.WalkLemmas.{ClosureRun-keeps, ClosureRun-map, PairSteps, pair-call, pair-callable, pair_entry, pair_pre, pair_step, pairs_given, walk-callable, walk-whole}
+use Rattle.generic_array.proofs.WalkLemmas.{ClosureRun-keeps, ClosureRun-map, PairSteps, both_can, pair-call, pair-callable, pair-called, pair-may_call, pair_entry, pair_pre, pair_step, pairs_given, walk-callable, walk-whole}
 use Rattle.generic_array.proofs.functional.walks.zip_entries.Goals as goal
-use Rattle.std.proofs.Common.{◌∙◌, Some, arith, inl, inr, rules, sym}
+use Rattle.std.proofs.Common.{◌∙◌, arith, rules, sym}
 use Rattle.std.proofs.lemmas.List.FromFn.{length-range_with_len}
 use Rattle.std.proofs.lemmas.Result.{IfOk-weaker}
 use Rattle.std.proofs.lemmas.Slice.Zip.{length-zip}
@@ -11,42 +11,31 @@ generate_by-requires-clause-callable g c =
     let asked = c.requires.callable in
     let steps = g.I.Iterator.next_gives in
     let others = g.J.Iterator.next_gives in
+    let may = g.I.Iterator.can_next in
+    let other_may = g.J.Iterator.can_next in
     let both = pairs_given steps others asked.0 asked.2 c.args.left c.args.right asked.1 asked.3 (asked.6 ∙ sym asked.7) asked.4.2 asked.5.2 in
-    λ k ys reached below run.
-    let went = walk-callable (PairSteps steps others asked.0 asked.2) (λ s. g.I.Iterator.can_next s.0 × g.J.Iterator.can_next s.1) (pair_entry steps others asked.0 asked.2)
+    λ k ys reached below run. pair-may_call steps others asked.0 asked.2 (goal.F-pre g) (goal.F-step g) may other_may reached.0.now reached.1.now reached.2.now
+    (walk-callable (PairSteps steps others asked.0 asked.2) (both_can steps others asked.0 asked.2 (goal.F-pre g) (goal.F-step g) may other_may) (pair_entry steps others asked.0 asked.2)
     (pair_pre steps others asked.0 asked.2 (goal.F-pre g) (goal.F-step g)) (pair_step steps others asked.0 asked.2 (goal.F-pre g) (goal.F-step g))
     (λ d. (d.0.now, d.1.now)) (λ d. d.2.now) _
-    (λ d j y e call.
-    let made : (x : g.row.I-Item.Denot) × (o : g.row.J-Item.Denot) × steps d.0.now (Some x) e.0.now × others d.1.now (Some o) e.1.now × goal.F-step g d.2.now x o y e.2.now = search rules in
-    let may : g.I.Iterator.can_next e.0.now × g.J.Iterator.can_next e.1.now = search rules in
-    (((made.0, made.1), (made.2, made.3), made.4), may))
+    (λ d j y e call. pair-called steps others asked.0 asked.2 (goal.F-pre g) (goal.F-step g) may other_may d.0.now d.1.now d.2.now y e.0.now e.1.now e.2.now (search rules))
     (zip asked.1 asked.3) _ _ ys reached both (asked.4.0, asked.5.0) run
     (omega (arith, length-range_with_len 0 k, length-zip asked.1 asked.3, asked.6, asked.7, below))
-    (pair-callable steps others asked.0 asked.2 (goal.F-pre g) (goal.F-step g) c.args.f.now (zip asked.1 asked.3) asked.8) in (
-      went.0,
-      (
-        (λ after ended. went.1.0 (after, reached.1.now) (inl ended)),
-        (
-          (λ after ended. went.1.0 (reached.0.now, after) (inr ended)),
-          (λ item after other then next more. went.1.1 (item, other) (after, then) (next, more)),
-        ),
-      ),
-    )
+    (pair-callable steps others asked.0 asked.2 (goal.F-pre g) (goal.F-step g) c.args.f.now (zip asked.1 asked.3) asked.8))
 
 pub returns-clause-run : goal.returns-clause-run
 returns-clause-run g c = λ entry values other more gives also long same.
     let steps = g.I.Iterator.next_gives in
     let others = g.J.Iterator.next_gives in
+    let may = g.I.Iterator.can_next in
+    let other_may = g.J.Iterator.can_next in
     let both = pairs_given steps others entry other c.args.left c.args.right values more (long ∙ sym same) gives.2 also.2 in
     IfOk-weaker c.generate_by.result _ _ (λ made run.
     let kept = ClosureRun-keeps _ (λ d. d.2.ghost_name) (λ d j y e call. search rules) _ _ _ c.generate_by.new.f run in
-    let whole = walk-whole (PairSteps steps others entry other) (λ s. g.I.Iterator.can_next s.0 × g.J.Iterator.can_next s.1) (pair_entry steps others entry other)
+    let whole = walk-whole (PairSteps steps others entry other) (both_can steps others entry other (goal.F-pre g) (goal.F-step g) may other_may) (pair_entry steps others entry other)
     (pair_pre steps others entry other (goal.F-pre g) (goal.F-step g)) (pair_step steps others entry other (goal.F-pre g) (goal.F-step g))
     (λ d. (d.0.now, d.1.now)) (λ d. d.2.now) _
-    (λ d j y e call.
-    let made : (x : g.row.I-Item.Denot) × (o : g.row.J-Item.Denot) × steps d.0.now (Some x) e.0.now × others d.1.now (Some o) e.1.now × goal.F-step g d.2.now x o y e.2.now = search rules in
-    let may : g.I.Iterator.can_next e.0.now × g.J.Iterator.can_next e.1.now = search rules in
-    (((made.0, made.1), (made.2, made.3), made.4), may))
+    (λ d j y e call. pair-called steps others entry other (goal.F-pre g) (goal.F-step g) may other_may d.0.now d.1.now d.2.now y e.0.now e.1.now e.2.now (search rules))
     (zip values more) _ _ (g.M.Sequence.AsSlice.items made) c.generate_by.new.f both (gives.0, also.0) run
     (omega (arith, length-range_with_len 0 g.M.Length.Unsigned.USIZE, length-zip values more, long, same)) in
     let calls = ClosureRun-map _ _ (pair-call steps others entry other (goal.F-pre g) (goal.F-step g)) _ _ _ _ whole in

@@ -1,5 +1,5 @@
 use Rattle.ga_core.proofs.ActsLemmas.{answer_of_fold}
-use Rattle.generic_array.proofs.WalkLemmas.{CallableInFold-of_items, FoldRun-of_items}
+use Rattle.generic_array.proofs.FoldLemmas.{CallableInFold-of_items, FoldRun-of_items}
 use Rattle.generic_array.proofs.sequence.OwnedSequence.fold_items_by.Goals as goal
 
 pub fold_entries-requires : goal.fold_entries-requires
