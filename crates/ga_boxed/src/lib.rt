@@ -6,8 +6,6 @@
 
 mod boxed_array;
 mod boxed_array_iter;
-#[cfg(test)]
-mod counted;
 mod live_block;
 #[cfg(test)]
 mod uses;

@@ -206,47 +206,33 @@ fn array_shared<T: Sync, N: Unsigned + Sync>(array: &BoxedArray<T, N>) -> &Boxed
     shared(array)
 }
 
+/// Whether a build succeeded, with exactly these items.
+fn gives<T: PartialEq + Drop, N: Unsigned, E: Drop>(
+    built: Result<BoxedArray<T, N>, E>,
+    items: &[T],
+) -> bool {
+    built.is_ok_and(|array| array.as_slice() == items)
+}
+
 #[test]
 fn callers_that_build_get_what_their_contracts_say(rt: HostRuntime) {
     let alloc = rt.alloc();
-    assert_eq!(rt;
-        doubled(alloc).expect(&rt, "no memory").as_slice(),
-        [0, 2, 4, 6].as_slice()
-    );
-    assert!(rt; none(alloc).expect(&rt, "no memory").as_slice().is_empty());
+    assert!(rt; gives(doubled(alloc), &[0, 2, 4, 6]) && gives(none(alloc), &[]));
     assert_eq!(rt; calls_made(alloc), 3);
-    assert!(rt; matches!(refused_at_two(alloc).expect(&rt, "no memory"), Err(2)));
-    assert_eq!(rt;
-        four_of(alloc, b"abcd")
-            .expect(&rt, "no memory")
-            .expect(&rt, "another length")
-            .as_slice(),
-        b"abcd".as_slice()
-    );
-    assert!(rt; four_of(alloc, b"abc").expect(&rt, "no memory").is_err());
+    assert!(rt; matches!(refused_at_two(alloc), Ok(Err(2))));
+    assert!(rt; four_of(alloc, b"abcd").is_ok_and(|built| gives(built, b"abcd")));
+    assert!(rt; matches!(four_of(alloc, b"abc"), Ok(Err(LengthError))));
     assert_eq!(rt; next_after_a_fill(alloc), Ok(None));
-    assert_eq!(rt;
-        four_digits(alloc, b"1804")
-            .expect(&rt, "no memory")
-            .as_slice(),
-        [1, 8, 0, 4].as_slice()
-    );
+    assert!(rt; gives(four_digits(alloc, b"1804"), &[1, 8, 0, 4]));
     assert!(rt; matches!(four_digits(alloc, b"18x4"), Err(FillError::Item(b'x'))));
-    assert_eq!(rt;
-        four_digits_lent(alloc, b"1804")
-            .expect(&rt, "no memory")
-            .as_slice(),
-        [1, 8, 0, 4].as_slice()
-    );
+    assert!(rt; gives(four_digits_lent(alloc, b"1804"), &[1, 8, 0, 4]));
     assert!(rt; matches!(four_digits_lent(alloc, b"18x4"), Err(FillError::Item(b'x'))));
-    assert_eq!(rt;
-        sevens(alloc).expect(&rt, "no memory").as_slice(),
-        [7, 7, 7].as_slice()
-    );
-    assert_eq!(rt;
-        blank(alloc).expect(&rt, "no memory").as_slice(),
-        [0, 0, 0].as_slice()
-    );
+    assert!(rt; gives(sevens(alloc), &[7, 7, 7]) && gives(blank(alloc), &[0, 0, 0]));
+}
+
+/// The array of the three numbers from this one.
+fn three_from(alloc: Global, first: u8) -> Result<BoxedArray<u8, U3>, AllocError> {
+    BoxedArray::generate(alloc, |index| first.wrapping_add(index as u8))
 }
 
 #[test]
@@ -262,21 +248,10 @@ fn callers_that_write_and_walk_get_what_their_contracts_say(rt: HostRuntime) {
         "no memory",
     );
     assert_eq!(rt; total(array), 6);
-    let array: BoxedArray<u8, U3> = BoxedArray::generate(alloc, |index| index as u8 + 1).expect(
-        &rt,
-        "no memory",
-    );
-    assert_eq!(rt;
-        reversed(alloc, array)
-            .expect(&rt, "no memory")
-            .expect(&rt, "another length")
-            .as_slice(),
-        [3, 2, 1].as_slice()
-    );
+    let array = three_from(alloc, 1).expect(&rt, "no memory");
+    let turned = reversed(alloc, array);
+    assert!(rt; turned.is_ok_and(|built| gives(built, &[3, 2, 1])));
     assert_eq!(rt; total_or_nought(alloc), 12);
-    let array: BoxedArray<u8, U3> = BoxedArray::generate(alloc, |index| index as u8 + 4).expect(
-        &rt,
-        "no memory",
-    );
+    let array = three_from(alloc, 4).expect(&rt, "no memory");
     assert!(rt; moved_out(array).is_ok_and(|inline| inline.as_slice() == [4, 5, 6].as_slice()));
 }

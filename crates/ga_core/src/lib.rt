@@ -9,7 +9,7 @@ mod array;
 mod array_iter;
 mod builder;
 #[cfg(test)]
-mod counted;
+mod compared;
 mod fill_error;
 mod length;
 mod never;

@@ -4,9 +4,6 @@ ghost use Rattle.ga_core.specs.Runs.{CallableAlong, CallableUntilError, ClosureR
 ghost use Rattle.std.specs.List.{All, AllZip, range_with_len};
 ghost use Rattle.std.specs.Prelude.{◌≡◌, ◌≤◌, Err, IsOk, MatchResult, Ok, OnOk, length, replicate};
 
-#[cfg(test)]
-mod tests;
-
 use crate::alloc_error::AllocError;
 use std::mem;
 

@@ -2,11 +2,12 @@
 use std::alloc::AllocError;
 use std::cell::Cell;
 
-/// How many items were dropped, how many clones were asked for, and which of these is refused.
+/// How many items were dropped, which clones were asked for, and which of these is refused.
 #[derive(Default, Drop)]
 pub struct Counts {
     drops: Cell<u32>,
     clones: Cell<u32>,
+    cloned: Cell<u32>,
     refused_clone: u32,
 }
 
@@ -21,6 +22,7 @@ impl Counts {
         Counts {
             drops: Cell::new(0),
             clones: Cell::new(0),
+            cloned: Cell::new(0),
             refused_clone: number,
         }
     }
@@ -33,6 +35,16 @@ impl Counts {
     /// How many clones were asked for, the refused one among them.
     pub fn clones(&self) -> u32 {
         self.clones.get()
+    }
+
+    /// The numbers of the items whose clones were asked for, as digits, in this order.
+    pub fn cloned(&self) -> u32 {
+        self.cloned.get()
+    }
+
+    /// The number of the clone that is refused, 0 where none is.
+    pub fn refused_clone(&self) -> u32 {
+        self.refused_clone
     }
 }
 
@@ -75,6 +87,9 @@ impl Clone for Counted<'_> {
     fn clone(&self) -> Result<Self, AllocError> {
         if let Some(counts) = self.counts {
             count(&counts.clones);
+            counts
+                .cloned
+                .set(counts.cloned().wrapping_mul(10).wrapping_add(self.place));
             if counts.clones() == counts.refused_clone {
                 return Err(AllocError);
             }

@@ -3,32 +3,18 @@ ghost use Rattle.std.specs.Prelude.{◌<◌};
 
 use crate::counted::{Counted, Counts};
 use crate::scripted::Numbered;
-use generic_array::{
-    AllocError, ArrayLength, BoxedArray, BoxedArrayIter, GenericArray, GenericArrayIter, U4,
-};
+use generic_array::steps::TwoEnded;
+use generic_array::{AllocError, BoxedArray, BoxedArrayIter, GenericArray, GenericArrayIter, U4};
 use std::alloc::Global;
 use std::test::Fail;
 
 /// Takes from both ends, and drops what came out.
-fn take_inline<T: Default + Drop, N: ArrayLength<T>>(
-    items: &mut GenericArrayIter<T, N>,
-    fronts: u32,
-    backs: u32,
-) {
+fn take<T: Drop, I: TwoEnded<T>>(items: &mut I, fronts: u32, backs: u32) {
     for _taken in 0..fronts {
-        let _ = items.next();
+        let _ = items.front();
     }
     for _taken_back in 0..backs {
-        let _ = items.next_back();
-    }
-}
-
-fn take_boxed<T: Drop>(items: &mut BoxedArrayIter<T>, fronts: u32, backs: u32) {
-    for _taken in 0..fronts {
-        let _ = items.next();
-    }
-    for _taken_back in 0..backs {
-        let _ = items.next_back();
+        let _ = items.back();
     }
 }
 
@@ -46,40 +32,19 @@ struct Drops {
 }
 
 /// The drops where so many are taken from the front and the back, and then of the clone.
-fn inline_drops<T: Default + Clone, N: ArrayLength<T>>(
-    items: GenericArrayIter<T, N>,
+fn drops_of<T: Drop, I: TwoEnded<T> + Clone + Drop>(
+    items: I,
     takes: [u32; 4],
     counts: &Counts,
 ) -> Result<Drops, AllocError> {
     let mut items = items;
     let [fronts, backs, fronts_of_clone, backs_of_clone] = takes;
-    take_inline(&mut items, fronts, backs);
+    take(&mut items, fronts, backs);
     let by_takes = counts.drops();
     let mut copies = items.clone()?;
     drop(items);
     let with_the_rest = counts.drops();
-    take_inline(&mut copies, fronts_of_clone, backs_of_clone);
-    Ok(Drops {
-        by_takes,
-        with_the_rest,
-        by_takes_of_clone: counts.drops(),
-        clones: counts.clones(),
-    })
-}
-
-fn boxed_drops<T: Clone>(
-    items: BoxedArrayIter<T>,
-    takes: [u32; 4],
-    counts: &Counts,
-) -> Result<Drops, AllocError> {
-    let mut items = items;
-    let [fronts, backs, fronts_of_clone, backs_of_clone] = takes;
-    take_boxed(&mut items, fronts, backs);
-    let by_takes = counts.drops();
-    let mut copies = items.clone()?;
-    drop(items);
-    let with_the_rest = counts.drops();
-    take_boxed(&mut copies, fronts_of_clone, backs_of_clone);
+    take(&mut copies, fronts_of_clone, backs_of_clone);
     Ok(Drops {
         by_takes,
         with_the_rest,
@@ -110,10 +75,10 @@ pub(crate) fn boxed_four(
 /// The drops of the inline and the boxed iterator, and how many there were of each in the end.
 fn drops_of_both(alloc: Global, takes: [u32; 4]) -> Result<[(Drops, u32); 2], AllocError> {
     let counts = Counts::new();
-    let inline = inline_drops(inline_four(&counts), takes, &counts)?;
+    let inline = drops_of(inline_four(&counts), takes, &counts)?;
     let all_inline = counts.drops();
     let counts = Counts::new();
-    let boxed = boxed_drops(boxed_four(alloc, &counts)?, takes, &counts)?;
+    let boxed = drops_of(boxed_four(alloc, &counts)?, takes, &counts)?;
     Ok([(inline, all_inline), (boxed, counts.drops())])
 }
 
@@ -162,41 +127,29 @@ fn number_of<T: Numbered>(item: &Option<T>) -> u32 {
 /// What the step gives, how many items were dropped when it had, and how many were left.
 type Passed = (u32, u32, usize);
 
-fn inline_pass<T: Default + Drop + Numbered, N: ArrayLength<T>>(
-    items: GenericArrayIter<T, N>,
+fn passed<T: Drop + Numbered, I: TwoEnded<T> + Drop>(
+    items: I,
     pass: Pass,
     counts: &Counts,
 ) -> Passed {
     let mut items = items;
     let item = if pass.is_back {
-        take_inline(&mut items, pass.before, 0);
-        items.nth_back(pass.passed)
+        take(&mut items, pass.before, 0);
+        items.back_nth(pass.passed)
     } else {
-        take_inline(&mut items, 0, pass.before);
-        items.nth(pass.passed)
+        take(&mut items, 0, pass.before);
+        items.front_nth(pass.passed)
     };
-    (number_of(&item), counts.drops(), items.count())
-}
-
-fn boxed_pass<T: Drop + Numbered>(items: BoxedArrayIter<T>, pass: Pass, counts: &Counts) -> Passed {
-    let mut items = items;
-    let item = if pass.is_back {
-        take_boxed(&mut items, pass.before, 0);
-        items.nth_back(pass.passed)
-    } else {
-        take_boxed(&mut items, 0, pass.before);
-        items.nth(pass.passed)
-    };
-    (number_of(&item), counts.drops(), items.count())
+    (number_of(&item), counts.drops(), items.live().len())
 }
 
 /// The same of both iterators over four items, and how many of each were dropped in the end.
 fn passes_of_both(alloc: Global, pass: Pass) -> Result<[(Passed, u32); 2], AllocError> {
     let counts = Counts::new();
-    let inline = inline_pass(inline_four(&counts), pass, &counts);
+    let inline = passed(inline_four(&counts), pass, &counts);
     let all_inline = counts.drops();
     let counts = Counts::new();
-    let boxed = boxed_pass(boxed_four(alloc, &counts)?, pass, &counts);
+    let boxed = passed(boxed_four(alloc, &counts)?, pass, &counts);
     Ok([(inline, all_inline), (boxed, counts.drops())])
 }
 
@@ -235,67 +188,62 @@ fn a_step_drops_the_items_that_it_passes_over(rt: HostRuntime) -> Result<(), Fai
 struct Consumed {
     /// The number of the last, and how many were dropped beside it.
     last: (u32, u32),
-    count: usize,
+    /// How many there are, and how many behind a second that was taken.
+    counts: (usize, usize),
     /// The numbers as digits, from the front and from the back.
     folded: (u32, u32),
-    /// How many were dropped by the four calls.
-    drops: u32,
 }
 
-fn inline_consumed() -> Consumed {
+fn digits_with(digits: u32, item: Counted) -> u32 {
+    digits.wrapping_mul(10).wrapping_add(item.place())
+}
+
+/// What they come to, and how many items were dropped in the end.
+fn inline_consumed() -> (Consumed, u32) {
     let counts = Counts::new();
     let last = inline_four(&counts).last();
     let beside = counts.drops();
-    let mut digits = |digits: u32, item: Counted| {
-        digits.wrapping_mul(10).wrapping_add(item.place())
-    };
+    let mut items = inline_four(&counts);
+    let _ = items.nth(1);
     let consumed = Consumed {
         last: (number_of(&last), beside),
-        count: inline_four(&counts).count(),
+        counts: (inline_four(&counts).count(), items.count()),
         folded: (
-            inline_four(&counts).fold_by(0, &mut digits),
-            inline_four(&counts).rfold_by(0, &mut digits),
+            inline_four(&counts).fold_by(0, &mut digits_with),
+            inline_four(&counts).rfold_by(0, &mut digits_with),
         ),
-        drops: 0,
     };
     drop(last);
-    Consumed {
-        drops: counts.drops(),
-        ..consumed
-    }
+    (consumed, counts.drops())
 }
 
-fn boxed_consumed(alloc: Global) -> Result<Consumed, AllocError> {
+fn boxed_consumed(alloc: Global) -> Result<(Consumed, u32), AllocError> {
     let counts = Counts::new();
-    let last = boxed_four(alloc, &counts)?.last();
+    let four = || boxed_four(alloc, &counts);
+    let last = four()?.last();
     let beside = counts.drops();
-    let mut digits = |digits: u32, item: Counted| {
-        digits.wrapping_mul(10).wrapping_add(item.place())
-    };
+    let mut items = four()?;
+    let _ = items.nth(1);
     let consumed = Consumed {
         last: (number_of(&last), beside),
-        count: boxed_four(alloc, &counts)?.count(),
+        counts: (four()?.count(), items.count()),
         folded: (
-            boxed_four(alloc, &counts)?.fold_by(0, &mut digits),
-            boxed_four(alloc, &counts)?.rfold_by(0, &mut digits),
+            four()?.fold_by(0, &mut digits_with),
+            four()?.rfold_by(0, &mut digits_with),
         ),
-        drops: 0,
     };
     drop(last);
-    Ok(Consumed {
-        drops: counts.drops(),
-        ..consumed
-    })
+    Ok((consumed, counts.drops()))
 }
 
 #[test]
 fn calls_that_consume_an_iterator_drop_each_item_once(rt: HostRuntime) -> Result<(), Fail> {
-    let wanted = Consumed {
+    let consumed = Consumed {
         last: (4, 3),
-        count: 4,
+        counts: (4, 2),
         folded: (1234, 4321),
-        drops: 16,
     };
-    assert!(rt; inline_consumed() == wanted && boxed_consumed(rt.alloc())? == wanted);
+    assert!(rt; inline_consumed() == (consumed, 20));
+    assert!(rt; boxed_consumed(rt.alloc())? == (consumed, 20));
     Ok(())
 }

@@ -147,6 +147,9 @@ fn a_fill_believes_no_hint_and_asks_nothing_after_the_end(rt: HostRuntime) {
     assert!(rt; all_run::<2>(alloc, LIES, run_with(made, 3, 2, 3), builder));
     let too_short = run_with(Outcome::WrongLength, 3, 2, 3);
     assert!(rt; all_run::<3>(alloc, LIES, too_short, too_short));
+    let too_long = run_with(Outcome::WrongLength, 2, 2, 0);
+    let builder = run_with(Outcome::Made(1), 1, 1, 2);
+    assert!(rt; all_run::<1>(alloc, LIES, too_long, builder));
     let too_long = run_with(Outcome::WrongLength, 1, 1, 2);
     let builder = run_with(Outcome::Made(0), 0, 0, 1);
     assert!(rt; all_run::<0>(alloc, LIES, too_long, builder));

@@ -1,5 +1,6 @@
 //! Cases that are played whatever memory there is, and what comes of them.
 use crate::counted::{Counted, Counts};
+use crate::scripted::digits;
 use generic_array::AllocError;
 use std::alloc::Global;
 use std::convert::AsSlice;
@@ -79,15 +80,6 @@ impl Outcome {
         };
         outcome.and(counts.drops() == counts.clones().wrapping_add(handed_over))
     }
-}
-
-/// The numbers of counted items, as the digits of one number.
-pub fn digits(items: &[Counted]) -> u32 {
-    let mut all = 0u32;
-    for item in items {
-        all = all.wrapping_mul(10).wrapping_add(item.place());
-    }
-    all
 }
 
 /// Plays the cases of the numbers below `count`, each once more where memory was refused in it. The answer

@@ -1,63 +1,90 @@
 //! The clone of each item refused in turn: the clones before it are dropped, and no other is asked for.
+//! They are asked for in the order of the items.
 //!
-//! What is repeated or cloned asks for `due` clones of counted items, of which the one of the number
-//! `refused` is refused; none is where that is beyond them.
+//! What is repeated or cloned asks for `due` clones of counted items. Where the one that the counts refuse
+//! is beyond them, none is refused.
 use crate::counted::{Counted, Counts};
-use crate::outcome::{Outcome, digits, play};
-use crate::refused_memory::{cloned_behind_first, three_counted, three_in_a_block};
-use generic_array::{AllocError, BoxedArray, GenericArray, U2, U3, U4};
+use crate::outcome::{Outcome, play};
+use generic_array::steps::TwoEnded;
+use generic_array::{BoxedArray, GenericArray, U2, U3, U4};
 use std::alloc::Global;
 use std::convert::AsSlice;
+
+/// What is cloned: a counted item, or an array of such, which is cloned item by item.
+trait Item<'a>: Clone + Default + Drop {
+    /// How many counted items it is.
+    fn width() -> u32;
+
+    /// One whose counted items have the numbers from this.
+    fn numbered(counts: &'a Counts, first: u32) -> Self;
+
+    /// Its numbers as digits behind these.
+    fn digits_behind(&self, digits: u32) -> u32;
+}
+
+impl<'a> Item<'a> for Counted<'a> {
+    fn width() -> u32 {
+        1
+    }
+
+    fn numbered(counts: &'a Counts, first: u32) -> Self {
+        Counted::new(counts, first)
+    }
+
+    fn digits_behind(&self, digits: u32) -> u32 {
+        digits.wrapping_mul(10).wrapping_add(self.place())
+    }
+}
 
 /// Two counted items.
 type Row<'a> = GenericArray<Counted<'a>, U2>;
 
-fn row(counts: &Counts, first: u32) -> Row<'_> {
-    let second = first.wrapping_add(1);
-    GenericArray::from_array([Counted::new(counts, first), Counted::new(counts, second)])
+impl<'a> Item<'a> for GenericArray<Counted<'a>, U2> {
+    fn width() -> u32 {
+        2
+    }
+
+    fn numbered(counts: &'a Counts, first: u32) -> Self {
+        let second = first.wrapping_add(1);
+        GenericArray::from_array([Counted::new(counts, first), Counted::new(counts, second)])
+    }
+
+    fn digits_behind(&self, digits: u32) -> u32 {
+        let mut all = digits;
+        for item in self.as_slice() {
+            all = item.digits_behind(all);
+        }
+        all
+    }
 }
 
-/// The numbers of rows, as the digits of one number.
-fn row_digits(rows: &[Row]) -> u32 {
+/// The numbers of counted items, as the digits of one number.
+fn written<'a, T: Item<'a>>(items: &[T]) -> u32 {
     let mut all = 0u32;
-    for row in rows {
-        all = all.wrapping_mul(100).wrapping_add(digits(row.as_slice()));
+    for item in items {
+        all = item.digits_behind(all);
     }
     all
 }
 
-/// Whether items of these digits were made, with so many dropped by then. Drops them.
-fn made_items<'a, S: AsSlice<Counted<'a>> + Drop>(
-    made: Result<S, AllocError>,
-    wanted: u32,
-    counts: &Counts,
-    dropped: u32,
-) -> bool {
-    match made {
-        Ok(made) => digits(made.as_slice()) == wanted && counts.drops() == dropped,
-        Err(AllocError) => false,
+/// Whether the digits of this number begin with these.
+fn begins_with(number: u32, digits: u32) -> bool {
+    let mut left = number;
+    for _digit in 0..9u32 {
+        if left > digits {
+            left /= 10;
+        }
     }
+    left == digits
 }
 
-/// The same of rows.
-fn made_rows<'a, S: AsSlice<Row<'a>> + Drop>(
-    made: Result<S, AllocError>,
-    wanted: u32,
-    counts: &Counts,
-    dropped: u32,
-) -> bool {
-    match made {
-        Ok(made) => row_digits(made.as_slice()) == wanted && counts.drops() == dropped,
-        Err(AllocError) => false,
-    }
-}
-
-/// Of what was cloned, once the clones are dropped again, as so many other items were. Where no clone
-/// was asked for, it was the block that was refused.
-fn cloned(counts: &Counts, refused: u32, due: u32, is_made: bool, others: u32) -> Outcome {
+/// Of clones that were asked for, once those that were made are dropped again, as so many other items were.
+/// Where none was asked for, it was the block that was refused.
+fn outcome_of(counts: &Counts, due: u32, is_made: bool, others: u32) -> Outcome {
     if counts.clones() == 0 {
         return Outcome::refused_if(!is_made && counts.drops() == others);
     }
+    let refused = counts.refused_clone();
     let made = refused.wrapping_sub(1).min(due);
     let are_dropped = counts.drops() == made.wrapping_add(others);
     Outcome::exact_if(
@@ -65,147 +92,116 @@ fn cloned(counts: &Counts, refused: u32, due: u32, is_made: bool, others: u32) -
     )
 }
 
-fn inline_repeat(refused: u32) -> Outcome {
-    let counts = Counts::refusing_clone(refused);
-    let made = GenericArray::<Counted, U4>::repeat(Counted::new(&counts, 7));
-    let is_made = made_items(made, 7777, &counts, 0);
-    cloned(&counts, refused, 3, is_made, 1)
+/// Of an item that was repeated four times.
+fn repeated<'a, T: Item<'a>, S: AsSlice<T> + Drop, E: Drop>(
+    made: Result<S, E>,
+    wanted: u32,
+    counts: &Counts,
+) -> Outcome {
+    let is_made = match made {
+        Ok(made) => written(made.as_slice()) == wanted && counts.drops() == 0,
+        Err(_refused) => false,
+    };
+    let due = T::width().wrapping_mul(3);
+    outcome_of(counts, due, is_made, T::width()).and(begins_with(wanted, counts.cloned()))
 }
 
-fn boxed_repeat(alloc: Global, refused: u32) -> Outcome {
-    let counts = Counts::refusing_clone(refused);
-    let made = BoxedArray::<Counted, U4>::repeat(alloc, Counted::new(&counts, 7));
-    let is_made = made_items(made, 7777, &counts, 0);
-    cloned(&counts, refused, 3, is_made, 1)
+fn inline_repeat<'a, T: Item<'a>>(counts: &'a Counts, wanted: u32) -> Outcome {
+    let made = GenericArray::<T, U4>::repeat(T::numbered(counts, 4));
+    repeated(made, wanted, counts)
 }
 
-fn inline_clone(refused: u32) -> Outcome {
-    let counts = Counts::refusing_clone(refused);
-    let array = three_counted(&counts);
-    let is_made = made_items(array.clone(), 123, &counts, 0);
-    let outcome = cloned(&counts, refused, 3, is_made, 0).and(digits(array.as_slice()) == 123);
-    let dropped = counts.drops().wrapping_add(3);
+fn boxed_repeat<'a, T: Item<'a>>(alloc: Global, counts: &'a Counts, wanted: u32) -> Outcome {
+    let made = BoxedArray::<T, U4>::repeat(alloc, T::numbered(counts, 4));
+    repeated(made, wanted, counts)
+}
+
+/// Of what has `due` counted items: the digits of its clone, 0 where that was refused, and its own then.
+fn cloned(
+    of_clone: u32,
+    of_source: u32,
+    wanted: u32,
+    due: u32,
+    others: u32,
+    counts: &Counts,
+) -> Outcome {
+    let is_known = of_source == wanted && (of_clone == wanted || of_clone == 0);
+    let is_in_order = begins_with(wanted, counts.cloned());
+    outcome_of(counts, due, of_clone == wanted, others).and(is_known && is_in_order)
+}
+
+/// Three items, numbered from 1.
+fn three<'a, T: Item<'a>>(counts: &'a Counts) -> GenericArray<T, U3> {
+    let numbered = |place: u32| {
+        T::numbered(counts, place.wrapping_mul(T::width()).wrapping_add(1))
+    };
+    GenericArray::from_array([numbered(0), numbered(1), numbered(2)])
+}
+
+fn inline_clone<'a, T: Item<'a>>(counts: &'a Counts, wanted: u32) -> Outcome {
+    let array = three::<T>(counts);
+    let of_clone = match array.clone() {
+        Ok(copy) => written(copy.as_slice()),
+        Err(_refused) => 0,
+    };
+    let due = T::width().wrapping_mul(3);
+    let outcome = cloned(of_clone, written(array.as_slice()), wanted, due, 0, counts);
+    let dropped = counts.drops().wrapping_add(due);
     drop(array);
     outcome.and(counts.drops() == dropped)
 }
 
-fn inline_iterator(refused: u32) -> Outcome {
-    let counts = Counts::refusing_clone(refused);
-    let mut items = three_counted(&counts).into_iter();
-    let _ = items.next_back();
-    let is_made = match items.clone() {
-        Ok(copy) => digits(copy.as_slice()) == 12 && counts.drops() == 1,
-        Err(AllocError) => false,
+/// Clones two items of three.
+fn iterator_clone<'a, T: Item<'a>, I: TwoEnded<T> + Clone + Drop>(
+    items: I,
+    wanted: u32,
+    counts: &Counts,
+) -> Outcome {
+    let of_clone = match items.clone() {
+        Ok(copy) => written(copy.live()),
+        Err(_refused) => 0,
     };
-    let outcome = cloned(&counts, refused, 2, is_made, 1).and(digits(items.as_slice()) == 12);
-    let dropped = counts.drops().wrapping_add(2);
+    let (due, others) = (T::width().wrapping_mul(2), T::width());
+    let outcome = cloned(of_clone, written(items.live()), wanted, due, others, counts);
+    let dropped = counts.drops().wrapping_add(due);
     drop(items);
     outcome.and(counts.drops() == dropped)
 }
 
-fn boxed_iterator(alloc: Global, refused: u32) -> Outcome {
-    let counts = Counts::refusing_clone(refused);
-    let Ok(array) = three_in_a_block(alloc, &counts) else {
+fn inline_iterator<'a, T: Item<'a>>(counts: &'a Counts, wanted: u32) -> Outcome {
+    let mut items = three::<T>(counts).into_iter();
+    let _ = items.next_back();
+    iterator_clone::<T, _>(items, wanted, counts)
+}
+
+fn boxed_iterator<'a, T: Item<'a>>(alloc: Global, counts: &'a Counts, wanted: u32) -> Outcome {
+    let Ok(array) = BoxedArray::from_inline(alloc, three::<T>(counts)) else {
         return Outcome::Refused;
     };
     let mut items = array.into_iter();
     let _ = items.next();
-    let is_made = match items.clone() {
-        Ok(copy) => digits(copy.as_slice()) == 23 && counts.drops() == 1,
-        Err(AllocError) => false,
-    };
-    let outcome = cloned(&counts, refused, 2, is_made, 1).and(digits(items.as_slice()) == 23);
-    let dropped = counts.drops().wrapping_add(2);
-    drop(items);
-    outcome.and(counts.drops() == dropped)
+    iterator_clone::<T, _>(items, wanted, counts)
 }
 
 /// A case, by its number.
 fn case(alloc: Global, number: u32) -> Outcome {
-    let refused = number / 5 + 1;
-    match number % 5 {
-        0 => inline_repeat(refused),
-        1 => boxed_repeat(alloc, refused),
-        2 => inline_clone(refused),
-        3 => inline_iterator(refused),
-        _ => boxed_iterator(alloc, refused),
+    let counts = Counts::refusing_clone(number / 10 + 1);
+    match number % 10 {
+        0 => inline_repeat::<Counted>(&counts, 4444),
+        1 => inline_repeat::<Row>(&counts, 45454545),
+        2 => boxed_repeat::<Counted>(alloc, &counts, 4444),
+        3 => boxed_repeat::<Row>(alloc, &counts, 45454545),
+        4 => inline_clone::<Counted>(&counts, 123),
+        5 => inline_clone::<Row>(&counts, 123456),
+        6 => inline_iterator::<Counted>(&counts, 12),
+        7 => inline_iterator::<Row>(&counts, 1234),
+        8 => boxed_iterator::<Counted>(alloc, &counts, 23),
+        _ => boxed_iterator::<Row>(alloc, &counts, 3456),
     }
 }
 
 #[test]
 fn a_refused_clone_drops_those_before_it(rt: HostRuntime) {
-    // The first to the fourth clone, each in five cases.
-    play(&rt, 20, case);
-}
-
-// The items are arrays, each of which is cloned item by item.
-
-fn two_rows(counts: &Counts) -> GenericArray<Row<'_>, U2> {
-    GenericArray::from_array([row(counts, 1), row(counts, 3)])
-}
-
-fn rows_repeated(refused: u32) -> Outcome {
-    let counts = Counts::refusing_clone(refused);
-    let made = GenericArray::<Row, U3>::repeat(row(&counts, 4));
-    let is_made = made_rows(made, 454545, &counts, 0);
-    cloned(&counts, refused, 4, is_made, 2)
-}
-
-fn boxed_rows_repeated(alloc: Global, refused: u32) -> Outcome {
-    let counts = Counts::refusing_clone(refused);
-    let made = BoxedArray::<Row, U3>::repeat(alloc, row(&counts, 4));
-    let is_made = made_rows(made, 454545, &counts, 0);
-    cloned(&counts, refused, 4, is_made, 2)
-}
-
-fn rows_cloned(refused: u32) -> Outcome {
-    let counts = Counts::refusing_clone(refused);
-    let rows = two_rows(&counts);
-    let is_made = made_rows(rows.clone(), 1234, &counts, 0);
-    let outcome = cloned(&counts, refused, 4, is_made, 0);
-    let dropped = counts.drops();
-    let is_kept = made_rows(Ok(rows), 1234, &counts, dropped);
-    outcome.and(is_kept && counts.drops() == dropped.wrapping_add(4))
-}
-
-fn rows_of_an_iterator(refused: u32) -> Outcome {
-    let counts = Counts::refusing_clone(refused);
-    let (of_clone, of_left) = cloned_behind_first(two_rows(&counts), row_digits);
-    let is_known = of_left == 34 && (of_clone == 34 || of_clone == 0);
-    cloned(&counts, refused, 2, of_clone == 34, 4).and(is_known)
-}
-
-fn rows_of_a_boxed_iterator(alloc: Global, refused: u32) -> Outcome {
-    let counts = Counts::refusing_clone(refused);
-    let Ok(rows) = BoxedArray::from_inline(alloc, two_rows(&counts)) else {
-        return Outcome::refused_if(counts.drops() == 4);
-    };
-    let rows = rows.into_iter();
-    let is_made = match rows.clone() {
-        Ok(copy) => row_digits(copy.as_slice()) == 1234 && counts.drops() == 0,
-        Err(AllocError) => false,
-    };
-    let outcome = cloned(&counts, refused, 4, is_made, 0);
-    let outcome = outcome.and(row_digits(rows.as_slice()) == 1234);
-    let dropped = counts.drops().wrapping_add(4);
-    drop(rows);
-    outcome.and(counts.drops() == dropped)
-}
-
-/// A case over rows, by its number.
-fn case_of_rows(alloc: Global, number: u32) -> Outcome {
-    let refused = number / 5 + 1;
-    match number % 5 {
-        0 => rows_repeated(refused),
-        1 => boxed_rows_repeated(alloc, refused),
-        2 => rows_cloned(refused),
-        3 => rows_of_an_iterator(refused),
-        _ => rows_of_a_boxed_iterator(alloc, refused),
-    }
-}
-
-#[test]
-fn a_refused_clone_in_a_row_drops_those_before_it(rt: HostRuntime) {
-    // The first to the fifth clone, each in five cases.
-    play(&rt, 25, case_of_rows);
+    // The first to the seventh clone, each in ten cases.
+    play(&rt, 70, case);
 }

@@ -12,8 +12,30 @@ mod steps;
 mod zips;
 
 use crate::counted::{Counted, Counts};
-use generic_array::{AllocError, ArrayLength, BoxedArray, GenericArray, U3};
+use crate::outcome::Outcome;
+use crate::scripted::digits;
+use generic_array::{AllocError, BoxedArray, GenericArray, U3};
 use std::alloc::Global;
+
+/// A boxed array of three counted items.
+type Three<'a> = BoxedArray<Counted<'a>, U3>;
+
+/// Which call makes an array: that of the type or of a trait, to which a closure or an iterator is lent
+/// or handed over.
+#[derive(Clone, Copy)]
+enum Call {
+    Lent,
+    HandedOver,
+    LentToTrait,
+    HandedToTrait,
+}
+
+const CALLS: [Call; 4] = [
+    Call::Lent,
+    Call::HandedOver,
+    Call::LentToTrait,
+    Call::HandedToTrait,
+];
 
 /// The number of an item, from 1.
 fn number(index: usize) -> u32 {
@@ -21,31 +43,42 @@ fn number(index: usize) -> u32 {
 }
 
 /// Counted items of the numbers 1 to 3.
-pub fn three_counted(counts: &Counts) -> GenericArray<Counted<'_>, U3> {
+fn three_counted(counts: &Counts) -> GenericArray<Counted<'_>, U3> {
     GenericArray::generate(|index| Counted::new(counts, number(index)))
 }
 
 /// The same in a block. None is made where that is refused.
-pub fn three_in_a_block(
-    alloc: Global,
-    counts: &Counts,
-) -> Result<BoxedArray<Counted<'_>, U3>, AllocError> {
+fn three_in_a_block(alloc: Global, counts: &Counts) -> Result<Three<'_>, AllocError> {
     BoxedArray::generate(alloc, |index| Counted::new(counts, number(index)))
 }
 
-/// Clones what is left of an iterator behind its first item. Answers what `sum` makes of the clone, 0
-/// where that is refused, and of what is left then, all of which is dropped.
-pub fn cloned_behind_first<T: Clone + Default + Drop, N: ArrayLength<T>, F: Fn(&[T]) -> u32>(
-    array: GenericArray<T, N>,
-    sum: F,
-) -> (u32, u32)
-    requires { F.IsAlwaysCallable sum }
-{
-    let mut items = array.into_iter();
-    let _ = items.next();
-    let of_clone = match items.clone() {
-        Ok(copy) => sum(copy.as_slice()),
-        Err(AllocError) => 0,
-    };
-    (of_clone, sum(items.as_slice()))
+/// Whether these are the three items, of which none was dropped.
+fn are_whole(items: &[Counted], counts: &Counts) -> bool {
+    digits(items) == 123 && counts.drops() == 0
+}
+
+/// The item, or its number as an error where it is this one.
+fn unless_error(item: Counted<'_>, error: u32) -> Result<Counted<'_>, u32> {
+    let number = item.place();
+    if number == error {
+        Err(number)
+    } else {
+        Ok(item)
+    }
+}
+
+/// Of three items that such a closure answered, but for an error.
+fn stopped(
+    made: Result<Result<Three<'_>, u32>, AllocError>,
+    error: u32,
+    calls: u32,
+    counts: &Counts,
+) -> Outcome {
+    match made {
+        Ok(Ok(array)) => {
+            Outcome::exact_if(are_whole(array.as_slice(), counts) && error > 3 && calls == 3)
+        }
+        Ok(Err(number)) => Outcome::exact_if(number == error && calls == error),
+        Err(AllocError) => Outcome::refused_if(calls == 0),
+    }
 }

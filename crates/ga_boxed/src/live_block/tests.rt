@@ -4,7 +4,6 @@ ghost use Rattle.ga_boxed.specs.Live.{live};
 ghost use Rattle.std.specs.Prelude.{◌≡◌, ◌∷◌, [], IfOk, IsOk, None, Some};
 
 use super::*;
-use crate::counted::{Counted, Counts};
 use std::cell::Cell;
 
 /// What the first item of two is, and the room after it was taken.
@@ -86,39 +85,6 @@ fn a_block_is_refused_where_it_has_too_many_bytes(rt: HostRuntime) {
     assert!(rt; LiveBlock::<u8>::new(rt.alloc(), usize::MAX).is_err());
     let units = LiveBlock::<()>::new(rt.alloc(), usize::MAX).expect(&rt, "no memory");
     assert!(rt; units.room() == usize::MAX);
-}
-
-/// How many of four counted items are dropped after this many were taken from each end, and how many
-/// with the block, where another was put behind them.
-fn dropped(alloc: Global, fronts: u32, backs: u32) -> Result<(u32, u32), AllocError> {
-    let counts = Counts::new();
-    let mut block = LiveBlock::new(alloc, 5)?;
-    block.put(Counted::new(&counts));
-    block.put(Counted::new(&counts));
-    block.put(Counted::new(&counts));
-    block.put(Counted::new(&counts));
-    for _taken in 0..fronts {
-        let _ = block.take_front();
-    }
-    for _taken in 0..backs {
-        let _ = block.take_back();
-    }
-    let before = counts.drops();
-    if block.room() > 0 {
-        block.put(Counted::new(&counts));
-    }
-    drop(block);
-    Ok((before, counts.drops()))
-}
-
-#[test]
-fn each_item_is_dropped_once_in_any_mix_of_puts_and_takes(rt: HostRuntime) {
-    for fronts in 0..6u32 {
-        for backs in 0..6u32 {
-            let (before, all) = dropped(rt.alloc(), fronts, backs).expect(&rt, "no memory");
-            assert!(rt; before == 4.min(fronts + backs) && all == 5);
-        }
-    }
 }
 
 /// Writes its digit behind those before it where it is dropped.

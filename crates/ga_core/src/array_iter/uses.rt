@@ -1,7 +1,7 @@
 //! Callers of the iterator by value, each proved.
 ghost use Rattle.std.specs.Prelude.{◌≡◌, ◌^◌, ◌<◌, IfOk, IsOk, reverse, sum};
 
-use crate::counted::succeeds_with;
+use crate::compared::succeeds_with;
 use crate::{ArrayLength, GenericArray, LengthError, U3};
 
 fn total<N: ArrayLength<u32>>(array: GenericArray<u32, N>) -> u32

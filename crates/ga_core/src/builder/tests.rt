@@ -1,8 +1,6 @@
 //! Builders at concrete types.
-ghost use Rattle.ga_views.specs.Length.{FitsInline};
-
-use crate::counted::{Counted, Counts, all_counted, digits};
-use crate::{ArrayBuilder, ArrayLength, GenericArray, U3, U4};
+use crate::compared::digits;
+use crate::{ArrayBuilder, U3, U4};
 
 /// The position of a builder after two bytes.
 fn after_two_bytes() -> usize {
@@ -42,53 +40,4 @@ fn builders_go_on_at_their_position(rt: HostRuntime) {
     assert!(rt; after_two_bytes() == 2);
     assert!(rt; extended() == [1234, 5]);
     assert!(rt; extended_up_to_an_error() == [7, 1, 2]);
-}
-
-/// How many items are dropped where a builder holds some.
-fn drops_beside_a_builder<T: Default + Drop, N: ArrayLength<T>>(
-    item: T,
-    others: GenericArray<T, N>,
-    counts: &Counts,
-) -> u32
-    requires { FitsInline N.USIZE }
-{
-    let mut builder: ArrayBuilder<T, N> = ArrayBuilder::new();
-    if !builder.is_full() {
-        builder.push(item);
-    }
-    builder.extend(&mut others.into_iter());
-    counts.drops()
-}
-
-/// The same of a builder that is finished, and its array.
-fn drops_beside_its_array<T: Default + Drop, N: ArrayLength<T>>(
-    items: GenericArray<T, N>,
-    counts: &Counts,
-) -> u32
-    requires { FitsInline N.USIZE }
-{
-    let mut builder: ArrayBuilder<T, N> = ArrayBuilder::new();
-    builder.extend(&mut items.into_iter());
-    if builder.is_full() {
-        let _array = builder.finish();
-        return counts.drops();
-    }
-    0
-}
-
-fn drops_of_builders() -> [u32; 4] {
-    let counts = Counts::new();
-    let builder = drops_beside_a_builder(
-        Counted::new(&counts, 1),
-        all_counted::<U3>(&counts),
-        &counts,
-    );
-    let after_builder = counts.drops();
-    let array = drops_beside_its_array(all_counted::<U3>(&counts), &counts);
-    [builder, after_builder, array, counts.drops()]
-}
-
-#[test]
-fn the_items_are_dropped_with_the_builder_or_the_array(rt: HostRuntime) {
-    assert!(rt; drops_of_builders() == [1, 4, 4, 7]);
 }

@@ -1,87 +1,71 @@
-//! Builds from closures, of copies, and of items that are written out.
+//! Builds from closures, by the type and by the traits, of copies, and of items that are written out.
 use crate::counted::{Counted, Counts};
-use crate::outcome::{Outcome, digits, play};
-use crate::refused_memory::{number, three_counted};
-use generic_array::{AllocError, BoxedArray, Const, LiveBlock, U3, Unsigned, box_arr};
+use crate::outcome::{Outcome, play};
+use crate::refused_memory::{CALLS, Call, Three, number, stopped, three_counted, unless_error};
+use generic_array::sequence::{FallibleGenericSequence, GenericSequence};
+use generic_array::{AllocError, BoxedArray, Const, LiveBlock, U1, U3, Unsigned, box_arr};
 use std::alloc::Global;
 
 /// A length of which no block can be had, not even of the smallest items.
 type TooMany = Const<18446744073709551615>;
 
-fn generated_by(alloc: Global) -> Outcome {
-    let mut calls = 0u32;
-    let built = BoxedArray::<usize, U3>::generate_by(
-        alloc,
-        &mut |index: usize| {
-            calls = calls.wrapping_add(1);
-            index.wrapping_mul(index)
-        },
-    );
-    Outcome::of_calls(built, [0, 1, 4].as_slice(), calls)
-}
+/// A boxed array of three squares.
+type Squares = BoxedArray<usize, U3>;
 
-fn generated(alloc: Global) -> Outcome {
+fn generated(alloc: Global, call: Call) -> Outcome {
     let mut calls = 0u32;
-    let built = BoxedArray::<usize, U3>::generate(alloc, |index: usize| {
+    let mut square = |index: usize| {
         calls = calls.wrapping_add(1);
         index.wrapping_mul(index)
-    });
+    };
+    let built = match call {
+        Call::Lent => Squares::generate_by(alloc, &mut square),
+        Call::HandedOver => Squares::generate(alloc, square),
+        Call::LentToTrait => <Squares as GenericSequence<usize>>::generate_by(alloc, &mut square),
+        Call::HandedToTrait => <Squares as GenericSequence<usize>>::generate(alloc, square),
+    };
     Outcome::of_calls(built, [0, 1, 4].as_slice(), calls)
 }
 
-/// Of a build of three counted items by a closure that fails at the index `stop`.
-fn stopped(
-    built: Result<Result<BoxedArray<Counted<'_>, U3>, usize>, AllocError>,
-    stop: usize,
-    counts: &Counts,
-    calls: usize,
-) -> Outcome {
-    let outcome = match built {
-        Ok(Ok(array)) => {
-            let is_whole = digits(array.as_slice()) == 123 && calls == 3;
-            Outcome::exact_if(is_whole && stop >= 3 && counts.drops() == 0)
-        }
-        Ok(Err(index)) => Outcome::exact_if(index == stop && calls == stop.wrapping_add(1)),
-        Err(AllocError) => Outcome::refused_if(calls == 0),
-    };
-    let made = if calls == 0 { 0 } else { stop.min(3) };
-    outcome.and(counts.drops() as usize == made)
-}
-
-fn tried_by(alloc: Global, stop: usize) -> Outcome {
+/// Three counted items by a closure that fails at the number `error`.
+fn tried(alloc: Global, error: u32, call: Call) -> Outcome {
     let counts = Counts::new();
-    let mut calls = 0usize;
-    let built = BoxedArray::<Counted, U3>::try_generate_by(
-        alloc,
-        &mut |index: usize| {
-            calls = calls.wrapping_add(1);
-            if index == stop {
-                Err(index)
-            } else {
-                Ok(Counted::new(&counts, number(index)))
-            }
-        },
-    );
-    stopped(built, stop, &counts, calls)
-}
-
-fn tried(alloc: Global, stop: usize) -> Outcome {
-    let counts = Counts::new();
-    let mut calls = 0usize;
-    let built = BoxedArray::<Counted, U3>::try_generate(alloc, |index: usize| {
+    let mut calls = 0u32;
+    let mut answer = |index: usize| {
         calls = calls.wrapping_add(1);
-        if index == stop {
-            Err(index)
-        } else {
-            Ok(Counted::new(&counts, number(index)))
+        unless_error(Counted::new(&counts, number(index)), error)
+    };
+    let built = match call {
+        Call::Lent => Three::try_generate_by(alloc, &mut answer),
+        Call::HandedOver => Three::try_generate(alloc, answer),
+        Call::LentToTrait => {
+            <Three as FallibleGenericSequence<Counted>>::try_generate_by(alloc, &mut answer)
         }
-    });
-    stopped(built, stop, &counts, calls)
+        Call::HandedToTrait => {
+            <Three as FallibleGenericSequence<Counted>>::try_generate(alloc, answer)
+        }
+    };
+    stopped(built, error, calls, &counts).and(counts.drops() == calls)
 }
+
+// An item is cloned for all places but the last, which takes the item itself.
 
 fn repeated(alloc: Global) -> Outcome {
     let counts = Counts::new();
     let made = BoxedArray::<Counted, U3>::repeat(alloc, Counted::new(&counts, 7));
+    let outcome = Outcome::of_counted(made, 777, &counts, 1);
+    outcome.and(counts.clones() == 2 || counts.clones() == 0)
+}
+
+fn repeated_once(alloc: Global) -> Outcome {
+    let counts = Counts::new();
+    let made = BoxedArray::<Counted, U1>::repeat(alloc, Counted::new(&counts, 7));
+    Outcome::of_counted(made, 7, &counts, 1).and(counts.clones() == 0)
+}
+
+fn repeated_by_trait(alloc: Global) -> Outcome {
+    let counts = Counts::new();
+    let made = <Three as GenericSequence<Counted>>::repeat(alloc, Counted::new(&counts, 7));
     let outcome = Outcome::of_counted(made, 777, &counts, 1);
     outcome.and(counts.clones() == 2 || counts.clones() == 0)
 }
@@ -121,7 +105,7 @@ fn block(alloc: Global) -> Outcome {
     }
 }
 
-/// As many items as no block can hold. No memory is asked for.
+/// As many items as no block can hold. No memory is asked for, and what was handed over is dropped.
 fn of_too_many<N: Unsigned>(alloc: Global) -> Outcome {
     let mut calls = 0u32;
     let built = BoxedArray::<u64, N>::generate_by(
@@ -131,32 +115,34 @@ fn of_too_many<N: Unsigned>(alloc: Global) -> Outcome {
             7
         },
     );
-    match built {
-        Ok(_array) => Outcome::Wrong,
-        Err(AllocError) => Outcome::exact_if(calls == 0),
-    }
+    let counts = Counts::new();
+    let repeated = BoxedArray::<Counted, N>::repeat(alloc, Counted::new(&counts, 7));
+    let items = three_counted(&counts).into_iter();
+    let filled = BoxedArray::<Counted, N>::try_boxed_from_iter(alloc, items);
+    let are_refused = built.is_err() && repeated.is_err() && filled.is_err();
+    Outcome::exact_if(are_refused && calls == 0 && counts.clones() == 0 && counts.drops() == 4)
 }
 
 /// A case, by its number.
 fn case(alloc: Global, number: u32) -> Outcome {
+    let call = CALLS[number as usize % 4];
     match number {
-        0 => generated_by(alloc),
-        1 => generated(alloc),
-        2 => tried_by(alloc, 9),
-        3 => tried_by(alloc, 1),
-        4 => tried(alloc, 9),
-        5 => tried(alloc, 1),
-        6 => repeated(alloc),
-        7 => of_defaults(alloc),
-        8 => of_copies(alloc),
-        9 => written_out(alloc),
-        10 => from_inline(alloc),
-        11 => block(alloc),
+        0..=3 => generated(alloc, call),
+        4..=7 => tried(alloc, 9, call),
+        8..=11 => tried(alloc, 2, call),
+        12 => repeated(alloc),
+        13 => repeated_once(alloc),
+        14 => repeated_by_trait(alloc),
+        15 => of_defaults(alloc),
+        16 => of_copies(alloc),
+        17 => written_out(alloc),
+        18 => from_inline(alloc),
+        19 => block(alloc),
         _ => of_too_many::<TooMany>(alloc),
     }
 }
 
 #[test]
 fn a_build_is_whole_or_refused_before_any_call(rt: HostRuntime) {
-    play(&rt, 13, case);
+    play(&rt, 21, case);
 }

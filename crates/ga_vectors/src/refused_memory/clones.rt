@@ -1,8 +1,9 @@
 //! Clones that ask for memory: of a boxed iterator, and of items that are such iterators.
 use crate::counted::{Counted, Counts};
-use crate::outcome::{Outcome, digits, play};
-use crate::refused_memory::{cloned_behind_first, three_in_a_block};
-use generic_array::{AllocError, BoxedArray, BoxedArrayIter, GenericArray, U2, U3};
+use crate::outcome::{Outcome, play};
+use crate::refused_memory::three_in_a_block;
+use crate::scripted::digits;
+use generic_array::{AllocError, ArrayLength, BoxedArray, BoxedArrayIter, GenericArray, U2, U3};
 use std::alloc::Global;
 use std::convert::AsSlice;
 
@@ -79,6 +80,23 @@ fn inline_array(alloc: Global) -> Outcome {
     outcome.and(counts.drops() == counts.clones().wrapping_add(6))
 }
 
+/// Clones what is left of an iterator behind its first item. Answers what `sum` makes of the clone, 0
+/// where that is refused, and of what is left then, all of which is dropped.
+fn cloned_behind_first<T: Clone + Default + Drop, N: ArrayLength<T>, F: Fn(&[T]) -> u32>(
+    array: GenericArray<T, N>,
+    sum: F,
+) -> (u32, u32)
+    requires { F.IsAlwaysCallable sum }
+{
+    let mut items = array.into_iter();
+    let _ = items.next();
+    let of_clone = match items.clone() {
+        Ok(copy) => sum(copy.as_slice()),
+        Err(AllocError) => 0,
+    };
+    (of_clone, sum(items.as_slice()))
+}
+
 fn inline_iterator(alloc: Global) -> Outcome {
     let counts = Counts::new();
     let Ok(array) = two_items(alloc, &counts) else {
@@ -93,28 +111,28 @@ fn inline_iterator(alloc: Global) -> Outcome {
     outcome.and(of_left == 123 && counts.drops() == counts.clones().wrapping_add(6))
 }
 
-fn inline_repeat(alloc: Global) -> Outcome {
-    let counts = Counts::new();
-    let Ok(item) = item(alloc, &counts) else {
-        return Outcome::Refused;
-    };
-    let outcome = match GenericArray::<Item, U3>::repeat(item) {
+/// Of an item that was repeated three times.
+fn repeated<'a, S: AsSlice<Item<'a>> + Drop>(
+    made: Result<S, AllocError>,
+    counts: &Counts,
+) -> Outcome {
+    let outcome = match made {
         Ok(array) => Outcome::exact_if(numbers_made(array) == 123123123 && counts.clones() == 6),
         Err(AllocError) => Outcome::refused_if(counts.clones() == 0 || counts.clones() == 3),
     };
     outcome.and(counts.drops() == counts.clones().wrapping_add(3))
 }
 
-fn boxed_repeat(alloc: Global) -> Outcome {
+fn repeat(alloc: Global, is_boxed: bool) -> Outcome {
     let counts = Counts::new();
     let Ok(item) = item(alloc, &counts) else {
         return Outcome::Refused;
     };
-    let outcome = match BoxedArray::<Item, U3>::repeat(alloc, item) {
-        Ok(array) => Outcome::exact_if(numbers_made(array) == 123123123 && counts.clones() == 6),
-        Err(AllocError) => Outcome::refused_if(counts.clones() == 0 || counts.clones() == 3),
-    };
-    outcome.and(counts.drops() == counts.clones().wrapping_add(3))
+    if is_boxed {
+        repeated(BoxedArray::<Item, U3>::repeat(alloc, item), &counts)
+    } else {
+        repeated(GenericArray::<Item, U3>::repeat(item), &counts)
+    }
 }
 
 /// A case, by its number.
@@ -124,8 +142,8 @@ fn case(alloc: Global, number: u32) -> Outcome {
         1 => finished_iterator(alloc),
         2 => inline_array(alloc),
         3 => inline_iterator(alloc),
-        4 => inline_repeat(alloc),
-        _ => boxed_repeat(alloc),
+        4 => repeat(alloc, false),
+        _ => repeat(alloc, true),
     }
 }
 

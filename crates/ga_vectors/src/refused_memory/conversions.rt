@@ -1,7 +1,8 @@
 //! Conversions from and to vectors and boxed slices.
 use crate::counted::{Counted, Counts};
-use crate::outcome::{Outcome, digits, play};
+use crate::outcome::{Outcome, play};
 use crate::refused_memory::{three_counted, three_in_a_block};
+use crate::scripted::digits;
 use generic_array::{
     AllocError, ArrayLength, BoxedArray, GenericArray, LengthError, U3, U4, Unsigned,
 };

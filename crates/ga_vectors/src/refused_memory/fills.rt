@@ -1,14 +1,12 @@
 //! Fills from iterators, whose items may be errors.
 use crate::counted::{Counted, Counts};
-use crate::outcome::{Outcome, digits, play};
-use crate::refused_memory::three_counted;
+use crate::outcome::{Outcome, play};
+use crate::refused_memory::{CALLS, Call, Three, are_whole, three_counted};
+use crate::scripted::digits;
 use generic_array::sequence::FromFallibleIterator;
-use generic_array::{AllocError, BoxedArray, FillError, LengthError, U3};
+use generic_array::{AllocError, FillError, LengthError};
 use std::alloc::Global;
 use std::cell::Cell;
-
-/// A boxed array of three counted items.
-type Three<'a> = BoxedArray<Counted<'a>, U3>;
 
 /// Gives counted items of the numbers from 1, and counts how many it gave.
 #[derive(Drop)]
@@ -60,8 +58,8 @@ fn filled(
     let is_stopped = error <= given.min(3);
     let outcome = match made {
         Ok(array) => {
-            let is_whole = digits(array.as_slice()) == 123 && counts.drops() == 0;
-            Outcome::exact_if(is_whole && given == 3 && takes == 3 && !is_stopped)
+            let is_due = given == 3 && takes == 3 && !is_stopped;
+            Outcome::exact_if(is_due && are_whole(array.as_slice(), counts))
         }
         Err(FillError::Item(number)) => {
             Outcome::exact_if(is_stopped && number == error && takes == error)
@@ -97,57 +95,33 @@ fn given_items<'a>(counts: &'a Counts, takes: &'a Cell<u32>, left: u32) -> Given
     }
 }
 
-fn from_iter_ref(alloc: Global, given: u32) -> Outcome {
+fn from_iter(alloc: Global, given: u32, is_lent: bool) -> Outcome {
     let (counts, takes) = (Counts::new(), Cell::new(0));
     let mut items = given_items(&counts, &takes, given);
-    let made = Three::try_boxed_from_iter_ref(alloc, &mut items);
+    let made = if is_lent {
+        Three::try_boxed_from_iter_ref(alloc, &mut items)
+    } else {
+        Three::try_boxed_from_iter(alloc, items)
+    };
     filled_by_items(made, given, takes.get(), &counts)
 }
 
-fn from_iter(alloc: Global, given: u32) -> Outcome {
-    let (counts, takes) = (Counts::new(), Cell::new(0));
-    let items = given_items(&counts, &takes, given);
-    let made = Three::try_boxed_from_iter(alloc, items);
-    filled_by_items(made, given, takes.get(), &counts)
-}
-
-fn from_fallible_iter_ref(alloc: Global, given: u32, error: u32) -> Outcome {
+fn from_fallible_iter(alloc: Global, given: u32, error: u32, call: Call) -> Outcome {
     let (counts, takes) = (Counts::new(), Cell::new(0));
     let mut items = Tried {
         items: given_items(&counts, &takes, given),
         error,
     };
-    let made = Three::try_boxed_from_fallible_iter_ref(alloc, &mut items);
-    filled(made, given, error, takes.get(), &counts)
-}
-
-fn from_fallible_iter(alloc: Global, given: u32, error: u32) -> Outcome {
-    let (counts, takes) = (Counts::new(), Cell::new(0));
-    let items = Tried {
-        items: given_items(&counts, &takes, given),
-        error,
+    let made = match call {
+        Call::Lent => Three::try_boxed_from_fallible_iter_ref(alloc, &mut items),
+        Call::HandedOver => Three::try_boxed_from_fallible_iter(alloc, items),
+        Call::LentToTrait => {
+            <Three as FromFallibleIterator<Counted>>::from_fallible_iter_ref(alloc, &mut items)
+        }
+        Call::HandedToTrait => {
+            <Three as FromFallibleIterator<Counted>>::from_fallible_iter(alloc, items)
+        }
     };
-    let made = Three::try_boxed_from_fallible_iter(alloc, items);
-    filled(made, given, error, takes.get(), &counts)
-}
-
-fn by_the_trait_ref(alloc: Global, given: u32, error: u32) -> Outcome {
-    let (counts, takes) = (Counts::new(), Cell::new(0));
-    let mut items = Tried {
-        items: given_items(&counts, &takes, given),
-        error,
-    };
-    let made = <Three as FromFallibleIterator<Counted>>::from_fallible_iter_ref(alloc, &mut items);
-    filled(made, given, error, takes.get(), &counts)
-}
-
-fn by_the_trait(alloc: Global, given: u32, error: u32) -> Outcome {
-    let (counts, takes) = (Counts::new(), Cell::new(0));
-    let items = Tried {
-        items: given_items(&counts, &takes, given),
-        error,
-    };
-    let made = <Three as FromFallibleIterator<Counted>>::from_fallible_iter(alloc, items);
     filled(made, given, error, takes.get(), &counts)
 }
 
@@ -175,27 +149,23 @@ fn from_lent_items(alloc: Global) -> Outcome {
 
 /// A case, by its number.
 fn case(alloc: Global, number: u32) -> Outcome {
+    let call = CALLS[number as usize % 4];
     match number {
-        0 => from_iter_ref(alloc, 3),
-        1 => from_iter_ref(alloc, 2),
-        2 => from_iter_ref(alloc, 5),
-        3 => from_iter(alloc, 3),
-        4 => from_iter(alloc, 5),
+        0 => from_iter(alloc, 3, true),
+        1 => from_iter(alloc, 2, true),
+        2 => from_iter(alloc, 5, true),
+        3 => from_iter(alloc, 3, false),
+        4 => from_iter(alloc, 5, false),
         5 => from_items(alloc),
         6 => from_lent_items(alloc),
-        7 => from_fallible_iter_ref(alloc, 3, 9),
-        8 => from_fallible_iter_ref(alloc, 3, 2),
-        9 => from_fallible_iter_ref(alloc, 4, 4),
-        10 => from_fallible_iter(alloc, 3, 9),
-        11 => from_fallible_iter(alloc, 3, 2),
-        12 => by_the_trait_ref(alloc, 3, 9),
-        13 => by_the_trait_ref(alloc, 3, 2),
-        14 => by_the_trait(alloc, 3, 9),
-        _ => by_the_trait(alloc, 2, 9),
+        7..=10 => from_fallible_iter(alloc, 3, 9, call),
+        11..=14 => from_fallible_iter(alloc, 3, 2, call),
+        15 => from_fallible_iter(alloc, 4, 4, Call::Lent),
+        _ => from_fallible_iter(alloc, 2, 9, Call::HandedToTrait),
     }
 }
 
 #[test]
 fn a_fill_is_exact_or_refused_before_any_item(rt: HostRuntime) {
-    play(&rt, 16, case);
+    play(&rt, 17, case);
 }

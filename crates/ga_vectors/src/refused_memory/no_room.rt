@@ -1,7 +1,8 @@
 //! What needs no room of its own: it answers the same whatever memory there is.
 use crate::counted::{Counted, Counts};
-use crate::outcome::{Outcome, digits, play};
+use crate::outcome::{Outcome, play};
 use crate::refused_memory::{number, three_counted, three_in_a_block};
+use crate::scripted::digits;
 use generic_array::checks::total_by;
 use generic_array::functional::FunctionalSequence;
 use generic_array::hex_text::write_hex;

@@ -1,7 +1,8 @@
 //! Runs of steps, whose replies need room.
 use crate::counted::{Counted, Counts};
-use crate::outcome::{Outcome, digits, play};
+use crate::outcome::{Outcome, play};
 use crate::refused_memory::{number, three_counted};
+use crate::scripted::digits;
 use generic_array::steps::{Reply, Step, run_steps};
 use generic_array::{AllocError, BoxedArray, U2};
 use std::alloc::Global;

@@ -9,6 +9,7 @@ use generic_array::functional::{
 use generic_array::{AllocError, BoxedArray, GenericArray, U3, always};
 use std::alloc::Global;
 use std::cell::Cell;
+use std::convert::AsSlice;
 
 /// Both numbers as digits, of which it is counted that they were asked for.
 fn both(calls: &Cell<u32>, left: Counted, right: Counted) -> u32 {
@@ -17,71 +18,38 @@ fn both(calls: &Cell<u32>, left: Counted, right: Counted) -> u32 {
 }
 
 /// Of a zip of twice three counted items, which are dropped once each, in the calls or at the refusal.
-fn zipped(
-    made: Result<BoxedArray<u32, U3>, AllocError>,
+fn zipped<S: AsSlice<u32> + Drop>(
+    made: Result<S, AllocError>,
     calls: &Cell<u32>,
     counts: &Counts,
 ) -> Outcome {
     Outcome::of_calls(made, [11, 22, 33].as_slice(), calls.get()).and(counts.drops() == 6)
 }
 
-fn boxed_zip_by(alloc: Global) -> Outcome {
-    let (counts, calls) = (Counts::new(), Cell::new(0));
-    let Ok(left) = three_in_a_block(alloc, &counts) else {
-        return Outcome::Refused;
-    };
-    let right = three_counted(&counts);
-    let made = left.zip_by(
-        alloc,
-        right,
-        &mut |left: Counted, right: Counted| both(&calls, left, right),
-    );
-    zipped(made, &calls, &counts)
+/// Which call zips a block with an inline array, or with a block.
+#[derive(Clone, Copy)]
+enum Zip {
+    Lent,
+    WithBlock,
+    InvertedLent,
+    Inverted,
 }
 
-fn boxed_zip(alloc: Global) -> Outcome {
+fn boxed_zip(alloc: Global, zip: Zip) -> Outcome {
     let (counts, calls) = (Counts::new(), Cell::new(0));
     let Ok(left) = three_in_a_block(alloc, &counts) else {
         return Outcome::Refused;
     };
-    let Ok(right) = three_in_a_block(alloc, &counts) else {
-        return Outcome::Refused;
+    let mut both = |left: Counted, right: Counted| both(&calls, left, right);
+    let made = match zip {
+        Zip::Lent => left.zip_by(alloc, three_counted(&counts), &mut both),
+        Zip::WithBlock => match three_in_a_block(alloc, &counts) {
+            Ok(right) => left.zip(alloc, right, both),
+            Err(AllocError) => return Outcome::Refused,
+        },
+        Zip::InvertedLent => inverted_zip2_by(three_counted(&counts), alloc, left, &mut both),
+        Zip::Inverted => inverted_zip2(three_counted(&counts), alloc, left, both),
     };
-    let made = left.zip(
-        alloc,
-        right,
-        |left: Counted, right: Counted| both(&calls, left, right),
-    );
-    zipped(made, &calls, &counts)
-}
-
-fn inverted_by(alloc: Global) -> Outcome {
-    let (counts, calls) = (Counts::new(), Cell::new(0));
-    let Ok(left) = three_in_a_block(alloc, &counts) else {
-        return Outcome::Refused;
-    };
-    let right = three_counted(&counts);
-    let made = inverted_zip2_by(
-        right,
-        alloc,
-        left,
-        &mut |left: Counted, right: Counted| both(&calls, left, right),
-    );
-    zipped(made, &calls, &counts)
-}
-
-fn inverted(alloc: Global) -> Outcome {
-    let (counts, calls) = (Counts::new(), Cell::new(0));
-    let Ok(left) = three_in_a_block(alloc, &counts) else {
-        return Outcome::Refused;
-    };
-    let right = three_counted(&counts);
-    let made = inverted_zip2(
-        right,
-        alloc,
-        left,
-        |left: Counted, right: Counted| both(&calls, left, right),
-    );
     zipped(made, &calls, &counts)
 }
 
@@ -113,46 +81,31 @@ fn dot(alloc: Global) -> Outcome {
 
 // What is made is inline, so that only the boxed side asks for memory.
 
-fn inline_zip(alloc: Global) -> Outcome {
+fn inline_zip(alloc: Global, is_inverted: bool) -> Outcome {
     let (counts, calls) = (Counts::new(), Cell::new(0));
     let Ok(right) = three_in_a_block(alloc, &counts) else {
         return Outcome::Refused;
     };
     let left = three_counted(&counts);
-    let made: GenericArray<u32, U3> = always(left.zip(
-        (),
-        right,
-        |left: Counted, right: Counted| both(&calls, left, right),
-    ));
-    let is_exact = made.as_slice() == [11, 22, 33].as_slice() && calls.get() == 3;
-    Outcome::exact_if(is_exact && counts.drops() == 6)
-}
-
-fn inline_inverted(alloc: Global) -> Outcome {
-    let (counts, calls) = (Counts::new(), Cell::new(0));
-    let Ok(right) = three_in_a_block(alloc, &counts) else {
-        return Outcome::Refused;
+    let both = |left: Counted, right: Counted| both(&calls, left, right);
+    let made: GenericArray<u32, U3> = if is_inverted {
+        inverted_zip(right, left, both)
+    } else {
+        always(left.zip((), right, both))
     };
-    let left = three_counted(&counts);
-    let made: GenericArray<u32, U3> = inverted_zip(
-        right,
-        left,
-        |left: Counted, right: Counted| both(&calls, left, right),
-    );
-    let is_exact = made.as_slice() == [11, 22, 33].as_slice() && calls.get() == 3;
-    Outcome::exact_if(is_exact && counts.drops() == 6)
+    zipped(Ok(made), &calls, &counts)
 }
 
 /// A case, by its number.
 fn case(alloc: Global, number: u32) -> Outcome {
     match number {
-        0 => boxed_zip_by(alloc),
-        1 => boxed_zip(alloc),
-        2 => inverted_by(alloc),
-        3 => inverted(alloc),
+        0 => boxed_zip(alloc, Zip::Lent),
+        1 => boxed_zip(alloc, Zip::WithBlock),
+        2 => boxed_zip(alloc, Zip::InvertedLent),
+        3 => boxed_zip(alloc, Zip::Inverted),
         4 => dot(alloc),
-        5 => inline_zip(alloc),
-        _ => inline_inverted(alloc),
+        5 => inline_zip(alloc, false),
+        _ => inline_zip(alloc, true),
     }
 }
 

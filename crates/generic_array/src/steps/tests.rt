@@ -1,4 +1,4 @@
-//! Runs of steps beside a vector cut by the test itself; each item is dropped once; what is refused.
+//! Runs of steps beside a vector cut by the test itself; each item is dropped once.
 use crate::steps::uses::kinds::{replaced_boxed, replaced_inline, taken_boxed, taken_inline};
 use crate::steps::{Reply, Step, TwoEnded, run_steps};
 use crate::{AllocError, BoxedArray, GenericArray, U8};
@@ -224,43 +224,6 @@ fn random_runs_cut_a_list_from_both_ends_and_drop_each_item_once(
     assert!(rt; counts.drops.get() == counts.made.get());
     assert!(rt; counts.made.get() > 800_000);
     Ok(())
-}
-
-/// Whether a run of four steps is made, or its room refused and all as it was.
-fn made_or_as_it_was(alloc: Global, counts: &Counts) -> Result<bool, AllocError> {
-    let mut items = GenericArray::<Numbered, U8>::generate(|_| counts.item()).into_iter();
-    let steps = vec![in alloc;
-        Step::Look,
-        Step::Set(0, counts.item()),
-        Step::Next,
-        Step::Look,
-    ]?;
-    let mut replies = Vec::new(alloc);
-    let mut looks = 0u32;
-    let run = run_steps(
-        &mut items,
-        steps,
-        &mut |live: &[Numbered]| -> usize {
-            looks = looks.wrapping_add(1);
-            live.len()
-        },
-        &mut replies,
-    );
-    Ok(match run {
-        Ok(()) => replies.len() == 4 && items.len() == 7 && looks == 2 && counts.drops.get() == 0,
-        Err(_refused) => {
-            replies.is_empty() && items.len() == 8 && looks == 0 && counts.drops.get() == 1
-        }
-    })
-}
-
-// At the gate memory is ample; `rt try --test --fail-alloc K` runs it with the K-th request refused.
-#[test]
-fn a_run_is_made_or_all_is_as_it_was_whatever_memory_there_is(rt: HostRuntime) {
-    let counts = Counts::new();
-    // Where no room is found for the steps, there is no run.
-    assert!(rt; made_or_as_it_was(rt.alloc(), &counts).unwrap_or(true));
-    assert!(rt; counts.drops.get() == counts.made.get());
 }
 
 #[test]

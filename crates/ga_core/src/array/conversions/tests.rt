@@ -1,9 +1,8 @@
-//! Callers of the conversions, each proved, and conversions at short and long lengths.
+//! Callers of the conversions, each proved.
 ghost use Rattle.ga_views.specs.Length.{FitsInline};
 ghost use Rattle.std.specs.Prelude.{◌≡◌, ◌∷◌, ◌≤◌, ◌↔◌, [], IfOk, IsOk, Ok, length, take};
 
 use super::*;
-use crate::counted::{Counted, Counts, all_counted};
 use crate::{U0, U1, U2, U3, U12};
 
 fn native_and_back(items: [u32; 3]) -> [u32; 3]
@@ -37,21 +36,16 @@ fn pair_and_back(pair: (u8, u8)) -> (u8, u8)
     array_of_pair(pair).into()
 }
 
-fn vector_and_back(
+/// To a vector, and from what that gave to a boxed slice.
+fn there_and_back(
     alloc: Global,
     array: GenericArray<u32, U3>,
 ) -> Result<Result<GenericArray<u32, U3>, LengthError>, AllocError>
     ensures { IfOk result (λ again. again ≡ Ok array) }
 {
-    Ok(GenericArray::try_from_vec(array.into_vec(alloc)?))
-}
-
-fn boxed_slice_and_back(
-    alloc: Global,
-    array: GenericArray<u32, U3>,
-) -> Result<Result<GenericArray<u32, U3>, LengthError>, AllocError>
-    ensures { IfOk result (λ again. again ≡ Ok array) }
-{
+    let Ok(array) = GenericArray::<_, U3>::try_from_vec(array.into_vec(alloc)?) else {
+        return Ok(Err(LengthError));
+    };
     Ok(GenericArray::try_from_boxed_slice(array.into_boxed_slice(alloc)?))
 }
 
@@ -79,43 +73,6 @@ fn twelve_and_back(tuple: Twelve) -> Twelve
     GenericArray::<u8, U12>::from(tuple).into()
 }
 
-/// Whether as many counted items as `N` says come back, through a vector and a boxed slice, and how
-/// many were dropped by then.
-fn kept_on_the_way<'a, N: ArrayLength<Counted<'a>>>(
-    alloc: Global,
-    counts: &'a Counts,
-) -> Result<(bool, u32), AllocError>
-    requires { FitsInline N.USIZE }
-{
-    let items = all_counted::<N>(counts).into_vec(alloc)?;
-    let Ok(array) = GenericArray::<_, N>::try_from_vec(items) else {
-        return Ok((false, counts.drops()));
-    };
-    let items = array.into_boxed_slice(alloc)?;
-    let array = GenericArray::<_, N>::try_from_boxed_slice(items);
-    Ok((array.is_ok(), counts.drops()))
-}
-
-/// Whether a vector, and a boxed slice, of `len` counted items is taken as `N`, and how many were
-/// dropped by then.
-fn taken_as<'a, N: ArrayLength<Counted<'a>>>(
-    alloc: Global,
-    counts: &'a Counts,
-    len: usize,
-) -> Result<(bool, bool, u32), AllocError>
-    requires { FitsInline N.USIZE }
-{
-    let mut items = Vec::with_capacity(alloc, len)?;
-    let mut more = Vec::with_capacity(alloc, len)?;
-    for _place in 0..len {
-        items.push(Counted::new(counts, 1))?;
-        more.push(Counted::new(counts, 1))?;
-    }
-    let array = GenericArray::<_, N>::try_from_vec(items);
-    let other = GenericArray::<_, N>::try_from_boxed_slice(more.into_boxed_slice());
-    Ok((array.is_ok(), other.is_ok(), counts.drops()))
-}
-
 #[test]
 fn conversions_there_and_back_give_the_items(rt: HostRuntime) {
     assert!(rt; native_and_back([1, 2, 3]) == [1, 2, 3] && pair_and_back((7, 8)) == (7, 8));
@@ -124,10 +81,7 @@ fn conversions_there_and_back_give_the_items(rt: HostRuntime) {
     let twelve = twelve_and_back((1, 2, 3, 4, 5, 6, 7, 8, 9, 10, 11, 12));
     assert!(rt; twelve.0 == 1 && twelve.5 == 6 && twelve.11 == 12);
     let array = GenericArray::from_array([4, 5, 6]);
-    let again = vector_and_back(rt.alloc(), array).expect(&rt, "no memory");
-    assert!(rt; again.is_ok_and(|array| array.as_slice() == [4, 5, 6].as_slice()));
-    let array = GenericArray::from_array([4, 5, 6]);
-    let again = boxed_slice_and_back(rt.alloc(), array).expect(&rt, "no memory");
+    let again = there_and_back(rt.alloc(), array).expect(&rt, "no memory");
     assert!(rt; again.is_ok_and(|array| array.as_slice() == [4, 5, 6].as_slice()));
     let key = key_in_front::<U3>(&[1, 2, 3, 4]);
     assert!(rt; key.is_ok_and(|key| key.as_slice() == [1, 2, 3].as_slice()));
@@ -145,48 +99,4 @@ fn conversions_there_and_back_give_the_items(rt: HostRuntime) {
     );
     let long = [1, 2, 3, 4, 5, 6, 7, 8, 9, 10, 11, 12];
     assert!(rt; GenericArray::<u8, U12>::from_array(long).into_array() == long);
-}
-
-#[test]
-fn the_items_are_kept_and_none_is_dropped_on_the_way(rt: HostRuntime) {
-    let counts = Counts::new();
-    assert!(rt; kept_on_the_way::<U0>(rt.alloc(), &counts).expect(&rt, "no memory") == (true, 0));
-    assert!(rt; kept_on_the_way::<U1>(rt.alloc(), &counts).expect(&rt, "no memory") == (true, 0));
-    assert!(rt; counts.drops() == 1);
-    assert!(rt; kept_on_the_way::<U12>(rt.alloc(), &counts).expect(&rt, "no memory") == (true, 1));
-    assert!(rt; counts.drops() == 13);
-}
-
-#[test]
-fn another_length_is_refused_and_the_items_dropped(rt: HostRuntime) {
-    let counts = Counts::new();
-    let (is_taken, is_other_taken, _) = taken_as::<U1>(rt.alloc(), &counts, 1).expect(
-        &rt,
-        "no memory",
-    );
-    assert!(rt; is_taken && is_other_taken);
-    for len in [0, 2, 11, 13] {
-        let counts = Counts::new();
-        let answers = if len < 3 {
-            taken_as::<U1>(rt.alloc(), &counts, len)
-        } else {
-            taken_as::<U12>(rt.alloc(), &counts, len)
-        };
-        assert!(rt; answers.expect(&rt, "no memory") == (false, false, 2 * len as u32));
-    }
-    let counts = Counts::new();
-    let answers = taken_as::<U0>(rt.alloc(), &counts, 1).expect(&rt, "no memory");
-    assert!(rt; answers == (false, false, 2));
-}
-
-// At the gate memory is ample; `rt try --test --fail-alloc K` runs it with the K-th request refused.
-#[test]
-fn the_items_are_dropped_once_whatever_memory_there_is(rt: HostRuntime) {
-    let counts = Counts::new();
-    let is_made = all_counted::<U3>(&counts).into_vec(rt.alloc()).is_ok();
-    assert!(rt; counts.drops() == 3);
-    let is_boxed = all_counted::<U3>(&counts)
-        .into_boxed_slice(rt.alloc())
-        .is_ok();
-    assert!(rt; counts.drops() == 6 && (is_made || is_boxed));
 }

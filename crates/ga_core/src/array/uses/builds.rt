@@ -1,7 +1,7 @@
 //! Builds, fills and copies.
 ghost use Rattle.std.specs.Prelude.{◌≡◌, ◌+◌, ◌<◌, ◌⊎◌, ◌∷◌, [], ◌↔◌, Err, IfErr, IfOk, IsOk, IsTrue, Ok, OnErr, OnOk, ◌≢◌, length, map};
 
-use crate::counted::{holds, succeeds_with};
+use crate::compared::{holds, succeeds_with};
 use crate::{AllocError, ArrayBuilder, GenericArray, LengthError, U2, U3, U4, U7};
 
 fn four_of(bytes: &[u8]) -> Result<GenericArray<u8, U4>, LengthError>
