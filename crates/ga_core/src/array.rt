@@ -54,7 +54,7 @@ impl<T, N: ArrayLength<T>> GenericArray<T, N> {
     ghost use Rattle.ga_core.specs.Lends.{LendsItems, LendsIter};
 
     /// The array of the items of a full store.
-    #[inline]
+    #[inline(always)]
     pub(crate) fn of_store(store: N::ArrayType) -> Self
         requires full { length (N.ArrayType.items store) ≡ N.USIZE }
         requires fits { FitsInline N.USIZE }

@@ -1,4 +1,6 @@
 //! Calls of a closure at all entries of a sequence, from the first to the last.
+//!
+//! Each is inlined wherever it stands: a call that isn't copies an array that is handed on by value.
 ghost use Rattle.ga_core.specs.Runs.{CallableInFold, ClosureRun, FirstErrorRun, FoldRun};
 ghost use Rattle.ga_core.specs.Tries.{try_fold, try_map};
 ghost use Rattle.generic_array.specs.Built.{built_items};
@@ -46,6 +48,7 @@ pub trait MappedGenericSequence<T, U>: GenericSequence<T> {
 /// closure may be called at each entry.
 pub trait FunctionalSequence<T>: GenericSequence<T> {
     /// The sequence of what `f` answers at each entry, called in order.
+    #[inline(always)]
     final fn map<U, F: FnMut(Self::Item) -> U>(
         self,
         place: MappedPlace<Self, T, U>,
@@ -64,6 +67,7 @@ pub trait FunctionalSequence<T>: GenericSequence<T> {
     }
 
     /// `map` with a closure that is lent, and can be used again in the state that it reached.
+    #[inline(always)]
     final fn map_by<U, F: FnMut(Self::Item) -> U>(
         self,
         place: MappedPlace<Self, T, U>,
@@ -84,6 +88,7 @@ pub trait FunctionalSequence<T>: GenericSequence<T> {
     /// `map` with a closure that may fail: the sequence of its answers, or its first error.
     ///
     /// No call follows an error. The answers made before it, and the entries left, are dropped.
+    #[inline(always)]
     final fn try_map<U, E, F: FnMut(Self::Item) -> Result<U, E>>(
         self,
         place: MappedPlace<Self, T, U>,
@@ -103,6 +108,7 @@ pub trait FunctionalSequence<T>: GenericSequence<T> {
     }
 
     /// `try_map` with a closure that is lent, and can be used again in the state that it reached.
+    #[inline(always)]
     final fn try_map_by<U, E, F: FnMut(Self::Item) -> Result<U, E>>(
         self,
         place: MappedPlace<Self, T, U>,
@@ -129,6 +135,7 @@ pub trait FunctionalSequence<T>: GenericSequence<T> {
     /// order. It is of the kind of `self`.
     ///
     /// The lengths are equal. `rhs` may be of another kind.
+    #[inline(always)]
     final fn zip<B, U, R: GenericSequence<B>, F: FnMut(Self::Item, R::Item) -> U>(
         self,
         place: MappedPlace<Self, T, U>,
@@ -149,6 +156,7 @@ pub trait FunctionalSequence<T>: GenericSequence<T> {
     }
 
     /// `zip` with a closure that is lent, and can be used again in the state that it reached.
+    #[inline(always)]
     final fn zip_by<B, U, R: GenericSequence<B>, F: FnMut(Self::Item, R::Item) -> U>(
         self,
         place: MappedPlace<Self, T, U>,
@@ -170,6 +178,7 @@ pub trait FunctionalSequence<T>: GenericSequence<T> {
 
     /// The last answer of `f`, called with `init` and the first entry, and then with its own answer
     /// and each other entry in order; `init` where there is none.
+    #[inline(always)]
     final fn fold<A, F: FnMut(A, Self::Item) -> A>(self, init: A, f: F) -> A
         requires callable { CallableInFold (MayFoldAt Self.entry F.pre) (FoldAt Self.entry F.step) f init (Self.items self) }
         ensures run { (last : F) × FoldRun (FoldAt Self.entry F.step) f init (Self.items self) result last }
@@ -180,6 +189,7 @@ pub trait FunctionalSequence<T>: GenericSequence<T> {
     }
 
     /// `fold` with a closure that is lent, and can be used again in the state that it reached.
+    #[inline(always)]
     final fn fold_by<A, F: FnMut(A, Self::Item) -> A>(self, init: A, f: &mut F) -> A
         requires callable { CallableInFold (MayFoldAt Self.entry F.pre) (FoldAt Self.entry F.step) f.old init (Self.items self) }
         ensures run { FoldRun (FoldAt Self.entry F.step) f.old init (Self.items self) result f.new }
@@ -191,6 +201,7 @@ pub trait FunctionalSequence<T>: GenericSequence<T> {
     /// `fold` with a closure that may fail: its last answer, or its first error.
     ///
     /// No call follows an error, and the entries left are dropped.
+    #[inline(always)]
     final fn try_fold<A, E, F: FnMut(A, Self::Item) -> Result<A, E>>(
         self,
         init: A,
@@ -205,6 +216,7 @@ pub trait FunctionalSequence<T>: GenericSequence<T> {
     }
 
     /// `try_fold` with a closure that is lent, and can be used again in the state that it reached.
+    #[inline(always)]
     final fn try_fold_by<A, E, F: FnMut(A, Self::Item) -> Result<A, E>>(
         self,
         init: A,

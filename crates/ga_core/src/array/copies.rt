@@ -44,6 +44,7 @@ impl<T: Clone, N: ArrayLength<T>> GenericArray<T, N> {
     ///
     /// The length fits. Refused where a clone is, so never for a length of 0 or 1; the clones made
     /// are then dropped. The counterpart of `GenericSequence::repeat`.
+    #[inline(always)]
     pub fn repeat(item: T) -> Result<Self, AllocError>
         requires fits { FitsInline N.USIZE }
         ensures items { IfOk result (λ array. Repeats T.is_clone item N.USIZE array) }

@@ -12,6 +12,7 @@ use ga_core::{ArrayLength, GenericArray, always};
 
 /// The array of what `f` answers at each item of `lhs` and the entry of `s` in its place, called in
 /// order.
+#[inline(always)]
 pub fn inverted_zip<
     T,
     S: GenericSequence<T>,
@@ -30,6 +31,7 @@ where
 }
 
 /// `inverted_zip` with a closure that is lent, and can be used again in the state that it reached.
+#[inline(always)]
 pub fn inverted_zip_by<
     T,
     S: GenericSequence<T>,
@@ -50,6 +52,7 @@ where
 ///
 /// The lengths are equal. Memory is asked for first: where it is refused, no call is made, and the
 /// entries are dropped.
+#[inline(always)]
 pub fn inverted_zip2<
     T,
     S: GenericSequence<T>,
@@ -75,6 +78,7 @@ pub fn inverted_zip2<
 }
 
 /// `inverted_zip2` with a closure that is lent, and can be used again in the state that it reached.
+#[inline(always)]
 pub fn inverted_zip2_by<
     T,
     S: GenericSequence<T>,

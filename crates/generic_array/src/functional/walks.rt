@@ -12,6 +12,7 @@ ghost use Rattle.std.specs.Prelude.{◌≡◌, IfOk, IsOk, List, OnErr, length};
 use crate::sequence::{FallibleGenericSequence, GenericSequence};
 
 /// The entries of a sequence. It has as many as its length says.
+#[inline(always)]
 pub(super) fn entries_of<T, S: GenericSequence<T>>(s: S) -> S::IntoIter
     ensures gives { GivesEntries S.IntoIter.can_next S.IntoIter.next_gives S.IntoIter.remaining S.entry result (S.items s) }
     ensures long { length (S.items s) ≡ S.Length.USIZE }
@@ -23,6 +24,7 @@ pub(super) fn entries_of<T, S: GenericSequence<T>>(s: S) -> S::IntoIter
 
 /// The last answer of `f`, called with `init` and the first entry, and then with its own answer and
 /// each other entry in order.
+#[inline(always)]
 pub(crate) fn fold_entries<T, I: Iterator + Drop, A, F: FnMut(A, I::Item) -> A>(
     entries: I,
     init: A,
@@ -39,6 +41,7 @@ pub(crate) fn fold_entries<T, I: Iterator + Drop, A, F: FnMut(A, I::Item) -> A>(
 }
 
 /// `fold_entries` of a closure that may fail: its first error, after which no call is made.
+#[inline(always)]
 pub(super) fn try_fold_entries<T, I: Iterator + Drop, A, E, F: FnMut(A, I::Item) -> Result<A, E>>(
     entries: I,
     init: A,
@@ -71,6 +74,7 @@ fn answer_at_next<I: Iterator, U, F: FnMut(I::Item) -> U>(entries: &mut I, f: &m
 }
 
 /// What `f` answers at the entries, as a sequence of the kind `M`.
+#[inline(always)]
 pub(super) fn map_entries<T, I: Iterator + Drop, U, M: GenericSequence<U>, F: FnMut(I::Item) -> U>(
     entries: I,
     place: M::Place,
@@ -127,6 +131,7 @@ fn try_build<U, E, M: FallibleGenericSequence<U>, G: FnMut(usize) -> Result<U, E
 }
 
 /// What `f` answers at the entries, as a sequence of the kind `M`, or its first error.
+#[inline(always)]
 pub(super) fn try_map_entries<
     T,
     I: Iterator + Drop,
