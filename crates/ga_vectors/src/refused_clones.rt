@@ -6,7 +6,7 @@
 use crate::counted::{Counted, Counts};
 use crate::outcome::{Outcome, play};
 use generic_array::steps::TwoEnded;
-use generic_array::{BoxedArray, GenericArray, U2, U3, U4};
+use generic_array::{ArrayLength, BoxedArray, GenericArray, U2, U3, U4};
 use std::alloc::Global;
 use std::convert::AsSlice;
 
@@ -106,16 +106,6 @@ fn repeated<'a, T: Item<'a>, S: AsSlice<T> + Drop, E: Drop>(
     outcome_of(counts, due, is_made, T::width()).and(begins_with(wanted, counts.cloned()))
 }
 
-fn inline_repeat<'a, T: Item<'a>>(counts: &'a Counts, wanted: u32) -> Outcome {
-    let made = GenericArray::<T, U4>::repeat(T::numbered(counts, 4));
-    repeated(made, wanted, counts)
-}
-
-fn boxed_repeat<'a, T: Item<'a>>(alloc: Global, counts: &'a Counts, wanted: u32) -> Outcome {
-    let made = BoxedArray::<T, U4>::repeat(alloc, T::numbered(counts, 4));
-    repeated(made, wanted, counts)
-}
-
 /// Of what has `due` counted items: the digits of its clone, 0 where that was refused, and its own then.
 fn cloned(
     of_clone: u32,
@@ -138,8 +128,11 @@ fn three<'a, T: Item<'a>>(counts: &'a Counts) -> GenericArray<T, U3> {
     GenericArray::from_array([numbered(0), numbered(1), numbered(2)])
 }
 
-fn inline_clone<'a, T: Item<'a>>(counts: &'a Counts, wanted: u32) -> Outcome {
-    let array = three::<T>(counts);
+fn array_clone<'a, T: Item<'a>, N: ArrayLength<T>>(
+    array: GenericArray<T, N>,
+    wanted: u32,
+    counts: &Counts,
+) -> Outcome {
     let of_clone = match array.clone() {
         Ok(copy) => written(copy.as_slice()),
         Err(_refused) => 0,
@@ -151,7 +144,7 @@ fn inline_clone<'a, T: Item<'a>>(counts: &'a Counts, wanted: u32) -> Outcome {
     outcome.and(counts.drops() == dropped)
 }
 
-/// Clones two items of three.
+/// Clones the two items that are left of three.
 fn iterator_clone<'a, T: Item<'a>, I: TwoEnded<T> + Clone + Drop>(
     items: I,
     wanted: u32,
@@ -168,15 +161,24 @@ fn iterator_clone<'a, T: Item<'a>, I: TwoEnded<T> + Clone + Drop>(
     outcome.and(counts.drops() == dropped)
 }
 
-fn inline_iterator<'a, T: Item<'a>>(counts: &'a Counts, wanted: u32) -> Outcome {
-    let mut items = three::<T>(counts).into_iter();
+fn inline_iterator<'a, T: Item<'a>, N: ArrayLength<T>>(
+    array: GenericArray<T, N>,
+    wanted: u32,
+    counts: &Counts,
+) -> Outcome {
+    let mut items = array.into_iter();
     let _ = items.next_back();
     iterator_clone::<T, _>(items, wanted, counts)
 }
 
-fn boxed_iterator<'a, T: Item<'a>>(alloc: Global, counts: &'a Counts, wanted: u32) -> Outcome {
-    let Ok(array) = BoxedArray::from_inline(alloc, three::<T>(counts)) else {
-        return Outcome::Refused;
+fn boxed_iterator<'a, T: Item<'a>, N: ArrayLength<T>>(
+    alloc: Global,
+    array: GenericArray<T, N>,
+    wanted: u32,
+    counts: &Counts,
+) -> Outcome {
+    let Ok(array) = BoxedArray::from_inline(alloc, array) else {
+        return Outcome::refused_if(counts.drops() == T::width().wrapping_mul(3));
     };
     let mut items = array.into_iter();
     let _ = items.next();
@@ -185,18 +187,34 @@ fn boxed_iterator<'a, T: Item<'a>>(alloc: Global, counts: &'a Counts, wanted: u3
 
 /// A case, by its number.
 fn case(alloc: Global, number: u32) -> Outcome {
-    let counts = Counts::refusing_clone(number / 10 + 1);
+    let counts = &Counts::refusing_clone(number / 10 + 1);
     match number % 10 {
-        0 => inline_repeat::<Counted>(&counts, 4444),
-        1 => inline_repeat::<Row>(&counts, 45454545),
-        2 => boxed_repeat::<Counted>(alloc, &counts, 4444),
-        3 => boxed_repeat::<Row>(alloc, &counts, 45454545),
-        4 => inline_clone::<Counted>(&counts, 123),
-        5 => inline_clone::<Row>(&counts, 123456),
-        6 => inline_iterator::<Counted>(&counts, 12),
-        7 => inline_iterator::<Row>(&counts, 1234),
-        8 => boxed_iterator::<Counted>(alloc, &counts, 23),
-        _ => boxed_iterator::<Row>(alloc, &counts, 3456),
+        0 => repeated(
+            GenericArray::<_, U4>::repeat(Counted::new(counts, 4)),
+            4444,
+            counts,
+        ),
+        1 => repeated(
+            GenericArray::<_, U4>::repeat(Row::numbered(counts, 4)),
+            45454545,
+            counts,
+        ),
+        2 => repeated(
+            BoxedArray::<_, U4>::repeat(alloc, Counted::new(counts, 4)),
+            4444,
+            counts,
+        ),
+        3 => repeated(
+            BoxedArray::<_, U4>::repeat(alloc, Row::numbered(counts, 4)),
+            45454545,
+            counts,
+        ),
+        4 => array_clone(three::<Counted>(counts), 123, counts),
+        5 => array_clone(three::<Row>(counts), 123456, counts),
+        6 => inline_iterator(three::<Counted>(counts), 12, counts),
+        7 => inline_iterator(three::<Row>(counts), 1234, counts),
+        8 => boxed_iterator(alloc, three::<Counted>(counts), 23, counts),
+        _ => boxed_iterator(alloc, three::<Row>(counts), 3456, counts),
     }
 }
 
