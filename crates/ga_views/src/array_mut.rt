@@ -7,6 +7,7 @@ ghost use Rattle.std.specs.Prelude.{◌≡◌, ◌<◌, ◌↔◌, IfOk, IsOk, I
 use crate::slice_mut::SliceMut;
 use crate::{LengthError, Unsigned};
 use std::marker::PhantomData;
+use std::ops::{DerefSlice, DerefSliceMut};
 use std::slice;
 
 /// A view of exactly `N` items that lie in a slice, for writing. What is written through it
@@ -16,11 +17,17 @@ use std::slice;
 pub type GenericArrayMut<'a, T, N> = ArrayMut<&'a mut [T], T, N>;
 
 /// A view of exactly `N` items for writing, over what lends them: see `GenericArrayMut`.
+///
+/// The fields are public so that a view can be made by a literal and taken apart by a pattern: a proof
+/// follows both where it doesn't follow a call. That there are `N` items holds of each literal.
 #[derive(Drop)]
 pub struct ArrayMut<S: SliceMut<T>, T, N: Unsigned> {
-    slice: S,
-    of: PhantomData<T>,
-    len: PhantomData<N>,
+    /// What lends the items.
+    pub slice: S,
+    /// The type of the items.
+    pub of: PhantomData<T>,
+    /// The length.
+    pub len: PhantomData<N>,
     ghost full: { length (S.items slice) ≡ N.USIZE },
 }
 
@@ -147,6 +154,14 @@ impl<S: SliceMut<T>, T, N: Unsigned> ArrayMut<S, T, N> {
         }
     }
 
+    /// The number of items, which is `N`.
+    #[inline]
+    pub fn len(&self) -> usize
+        ensures { result ≡ N.USIZE }
+    {
+        N::USIZE
+    }
+
     /// The items by reference, in order.
     #[inline]
     pub fn iter(&self) -> slice::Iter<'_, T>
@@ -162,5 +177,30 @@ impl<S: SliceMut<T>, T, N: Unsigned> ArrayMut<S, T, N> {
         ensures items { IteratesMutOver (S.items self.old.slice) N.USIZE result }
     {
         self.as_mut_slice().iter_mut()
+    }
+}
+
+/// The methods of slices, and `view[index]`.
+impl<S: SliceMut<T>, T, N: Unsigned> DerefSlice for ArrayMut<S, T, N> {
+    type Elem = T;
+
+    ghost deref_gives = { λ view items. (items ≡ S.items view.slice) × (length items ≡ N.USIZE) };
+
+    #[inline]
+    fn deref(&self) -> &[T] {
+        ArrayMut::as_slice(self)
+    }
+}
+
+impl<S: SliceMut<T>, T, N: Unsigned> DerefSliceMut for ArrayMut<S, T, N> {
+    ghost use Rattle.ga_views.specs.ArrayMut.{LendsItems};
+
+    #[inline]
+    fn deref_mut(&mut self) -> &mut [T]
+        ensures* writes_back { sem 𝓛 (LendsItems S.row T.row N.row S.SliceMut N.Unsigned self.entry result) }
+        ensures items { result.now ≡ S.items self.old.slice }
+        ensures len { length result.now ≡ N.USIZE }
+    {
+        ArrayMut::as_mut_slice(self)
     }
 }

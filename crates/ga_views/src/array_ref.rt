@@ -7,6 +7,7 @@ use crate::{LengthError, Unsigned};
 use std::alloc::AllocError;
 use std::convert::AsSlice;
 use std::marker::PhantomData;
+use std::ops::DerefSlice;
 use std::slice;
 
 /// A view of exactly `N` items that lie in a slice. It can be copied, and copies no item.
@@ -86,12 +87,44 @@ impl<'a, T, N: Unsigned> GenericArrayRef<'a, T, N> {
         self.as_slice().get(index)
     }
 
+    /// The number of items, which is `N`.
+    #[inline]
+    pub fn len(&self) -> usize
+        ensures { result ≡ N.USIZE }
+    {
+        N::USIZE
+    }
+
     /// The items by reference, in order.
     #[inline]
     pub fn iter(&self) -> slice::Iter<'_, T>
         ensures { IteratesOver self.now.slice.now N.USIZE result }
     {
         self.as_slice().iter()
+    }
+}
+
+/// The methods of slices, and `view[index]`.
+impl<'a, T, N: Unsigned> DerefSlice for GenericArrayRef<'a, T, N> {
+    type Elem = T;
+
+    ghost deref_gives = { λ view items. (items ≡ view.slice.now) × (length items ≡ N.USIZE) };
+
+    #[inline]
+    fn deref(&self) -> &[T] {
+        GenericArrayRef::as_slice(self)
+    }
+}
+
+/// See `try_from_slice`.
+impl<'a, T, N: Unsigned> TryFrom<&'a [T]> for GenericArrayRef<'a, T, N> {
+    type Error = LengthError;
+
+    ghost try_from_gives = { λ slice made. (IsOk made ↔ (length slice.now ≡ N.USIZE)) × IfOk made (λ view. view.slice.now ≡ slice.now) };
+
+    #[inline]
+    fn try_from(slice: &'a [T]) -> Result<Self, LengthError> {
+        Self::try_from_slice(slice)
     }
 }
 

@@ -1,7 +1,7 @@
 //! Rows of one width that lie in a slice, for writing.
 ghost use Rattle.ga_views.specs.Parts.{part_set};
 ghost use Rattle.ga_views.specs.Rows.{chunk_count, chunk_rest, row_at, rows};
-ghost use Rattle.std.specs.Borrow.{Array, Lends, follows_both, sem};
+ghost use Rattle.std.specs.Borrow.{Array, Lends, LendsBoth, follows_both, sem};
 ghost use Rattle.std.specs.Iterator.Runs.{EveryRun, ItemsMapTo, ItemsMapToReversed};
 ghost use Rattle.std.specs.Iterator.{YieldsFirstBy, YieldsLastBy};
 ghost use Rattle.std.specs.Option.{option_map};
@@ -19,11 +19,16 @@ use std::marker::PhantomData;
 pub type ChunksMut<'a, T, N> = RowsMut<&'a mut [T], T, N>;
 
 /// Rows of `N` items each for writing, over what lends them: see `ChunksMut`.
+///
+/// The fields are public for the reason that those of `ArrayMut` are.
 #[derive(Drop)]
 pub struct RowsMut<S: SliceMut<T>, T, N: Unsigned> {
-    slice: S,
-    of: PhantomData<T>,
-    len: PhantomData<N>,
+    /// What lends the items.
+    pub slice: S,
+    /// The type of the items.
+    pub of: PhantomData<T>,
+    /// The length of a row.
+    pub len: PhantomData<N>,
     // The rows leave no rest.
     ghost whole: { length (S.items slice) ≡ chunk_count N.USIZE (S.items slice) * N.USIZE },
 }
@@ -48,6 +53,22 @@ impl<'a, T, N: Unsigned> RowsMut<&'a mut [T], T, N> {
         let count = len_of_rows(slice.len(), N::USIZE);
         let (whole, rest) = slice.split_at_mut(count);
         (Self::over(whole), rest)
+    }
+
+    /// The items of the whole rows of a slice, and the items that follow them, both for writing: the two
+    /// parts of `chunks_from_slice_mut` as slices. With `N = 0` the slice has to be empty.
+    ///
+    /// A proof follows what is written through both. `over` makes rows of the first. Constant time.
+    #[inline]
+    pub fn whole_and_rest(slice: &'a mut [T]) -> (&'a mut [T], &'a mut [T])
+        requires width { (0 < N.USIZE) ⊎ (length slice.old ≡ 0) }
+        ensures* writes_back { sem 𝓛 (LendsBoth (Array T.row 0) (Array T.row 0) (Array T.row 0) slice.entry result ◌++◌) }
+        ensures whole { length result.0.now ≡ chunk_count N.USIZE slice.old * N.USIZE }
+        ensures rest { result.1.now ≡ chunk_rest N.USIZE slice.old }
+        ensures parts { result.0.now ++ result.1.now ≡ slice.old }
+    {
+        let whole = len_of_rows(slice.len(), N::USIZE);
+        slice.split_at_mut(whole)
     }
 
     /// The items of all rows, in order, for writing, for the whole borrow that the rows were cut from.

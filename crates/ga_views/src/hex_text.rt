@@ -97,6 +97,3 @@ fn put_digits(bytes: &[u8], upper: bool, text: &mut [u8])
         text.make_ascii_uppercase();
     }
 }
-
-#[cfg(test)]
-mod tests;

@@ -1,4 +1,5 @@
 //! Lengths that are types.
+ghost use Rattle.ga_views.specs.Length.{FitsInline};
 ghost use Rattle.std.specs.Prelude.{ℕ};
 
 /// The most items that an inline array may have.
@@ -15,7 +16,18 @@ pub trait Unsigned {
     const USIZE: usize;
 }
 
+/// A length that fits inline, as a bound: code under it needs no condition that it fits.
+///
+/// Every named length is one. An `impl` for another, as for `Const<100>`, is two lines: it proves that the
+/// length is at most `MAX_INLINE`.
+pub trait InlineLength: Unsigned {
+    ghost fits: { FitsInline Self.USIZE };
+}
+
 /// The length `N`. The counterpart of `typenum::Const`, which here is the length itself.
+///
+/// What is derived here is there so that it can be derived for a type that has a length as a parameter.
+#[derive(Clone, Copy, Debug, Default, PartialEq, Eq, PartialOrd, Ord, Hash)]
 pub struct Const<const N: usize>;
 
 impl<const N: usize> Unsigned for Const<N> {

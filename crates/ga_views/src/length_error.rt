@@ -19,21 +19,3 @@ impl fmt::Display for LengthError {
 }
 
 impl Error for LengthError {}
-
-#[cfg(test)]
-mod tests {
-    use super::*;
-    use std::test::Fail;
-
-    #[test]
-    fn length_error_prints_the_text_of_the_rust_crate(rt: HostRuntime) -> Result<(), Fail> {
-        let text = format!(in rt.alloc(); "{}", LengthError)?;
-        assert_eq!(rt;
-            text.as_str(),
-            "LengthError: Slice or iterator does not match GenericArray length"
-        );
-        let debug = format!(in rt.alloc(); "{:?}", LengthError)?;
-        assert_eq!(rt; debug.as_str(), "LengthError");
-        Ok(())
-    }
-}

@@ -10,19 +10,18 @@ mod chunks_mut;
 mod chunks_ref;
 /// Bytes as hex text.
 pub mod hex_text;
+mod inline_lengths;
 mod length;
 mod length_error;
 mod numbers;
 mod slice_mut;
-#[cfg(test)]
-mod uses;
 
 pub use array_mut::{ArrayMut, GenericArrayMut};
 pub use array_ref::GenericArrayRef;
 pub use chunk_iter::ChunkIter;
 pub use chunks_mut::{ChunksMut, RowsMut};
 pub use chunks_ref::ChunksRef;
-pub use length::{Const, MAX_INLINE, Unsigned};
+pub use length::{Const, InlineLength, MAX_INLINE, Unsigned};
 pub use length_error::LengthError;
 pub use numbers::{
     U0, U1, U2, U3, U4, U5, U6, U7, U8, U9, U10, U11, U12, U13, U14, U15, U16, U17, U18, U19, U20,

@@ -12,12 +12,17 @@ ghost use Rattle.std.specs.Prelude.{◌≡◌, ℕ, ◌+◌, ◌<◌, ◌≤◌,
 pub trait SliceMut<T>: Drop {
     ghost items: { Self → List T };
 
+    // Both are the same reference, whatever has been written through it.
+    ghost stays: { Self → Self → Type 0 };
+
     /// The items, in order.
     fn all(&self) -> &[T]
         ensures { result.now ≡ items self.now };
 
     // The slice with these items written over its own, as many as it has.
     ghost refilled: { (slice : Self) (written : List T) → (after : Self) × (items after ≡ refill (length (items slice)) (items slice) written) };
+
+    ghost refilled_stays: { (slice : Self) (written : List T) → stays slice (refilled slice written).0 };
 
     /// The items, in order, for writing.
     fn all_mut(&mut self) -> &mut [T]
@@ -32,6 +37,8 @@ pub trait SliceMut<T>: Drop {
 
     // The slice with this item at the index, and the others as they are.
     ghost replaced: { (slice : Self) (index : ℕ) (item : T) → (after : Self) × (items after ≡ slice_set (items slice) index item) };
+
+    ghost replaced_stays: { (slice : Self) (index : ℕ) (item : T) → stays slice (replaced slice index item).0 };
 
     /// The item at `index`, for writing.
     fn item_mut(&mut self, index: usize) -> &mut T
@@ -51,9 +58,11 @@ pub trait PartMut<T>: SliceMut<T> {
 
 impl<'a, T> SliceMut<T> for &'a mut [T] {
     ghost use Rattle.std.specs.List.{refill};
-    ghost use Rattle.std.specs.Prelude.{length, refl, slice_set};
+    ghost use Rattle.std.specs.Prelude.{◌≡◌, length, refl, slice_set};
 
     ghost items = { λ slice. slice.now };
+
+    ghost stays = { λ slice after. after.ghost_name ≡ slice.ghost_name };
 
     #[inline]
     fn all(&self) -> &[T] {
@@ -61,6 +70,8 @@ impl<'a, T> SliceMut<T> for &'a mut [T] {
     }
 
     ghost refilled = { λ slice written. (record slice { now = refill (length slice.now) slice.now written }, refl) };
+
+    ghost refilled_stays = { λ slice written. refl };
 
     #[inline]
     fn all_mut(&mut self) -> &mut [T] {
@@ -73,6 +84,8 @@ impl<'a, T> SliceMut<T> for &'a mut [T] {
     }
 
     ghost replaced = { λ slice index item. (record slice { now = slice_set slice.now index item }, refl) };
+
+    ghost replaced_stays = { λ slice index item. refl };
 
     #[inline]
     fn item_mut(&mut self, index: usize) -> &mut T {
