@@ -1,5 +1,5 @@
 -- Copies of one value that equal it, and answers that share a property.
-use Rattle.ga_core.specs.Copies.{Repeats}
+use Rattle.ga_core.specs.Copies.{ExactlyEach, Repeats}
 use Rattle.ga_core.specs.Runs.{ClosureRun}
 use Rattle.std.proofs.Common.{◌≡◌, ℕ, zero, suc, ◌+◌, ◌-◌, List, [], ◌∷◌, ◌++◌, length, replicate, refl, ap, ◌∙◌, arith, slice_index_or, slice_set}
 use Rattle.std.proofs.Math.Seq.{set-append_seam}
@@ -46,3 +46,12 @@ module _ {F X Y : Type 0} (step : F → X → Y → F → Type 0) (P : Y → Typ
   ClosureRun-all each f (x ∷ xs) [] last run = absurd run
   ClosureRun-all each f (x ∷ xs) (y ∷ ys) last run =
       all_more P y ys (each f x y run.0 run.1) (ClosureRun-all each run.0 xs ys last run.2)
+
+module _ {T : Type 0} (P : T → Type 0) where
+  -- P holds of each of n items
+  pub ExactlyEach-all : (n : ℕ) (items : List T) → length items ≡ n → All P items → ExactlyEach P n items
+  ExactlyEach-all zero [] long all = refl
+  ExactlyEach-all zero (x ∷ items) long all = absurd (omega (arith, long))
+  ExactlyEach-all (suc n) [] long all = absurd (omega (arith, long))
+  ExactlyEach-all (suc n) (x ∷ items) long all =
+      (x, items, refl, all 0 x (omega arith), ExactlyEach-all n items (omega (arith, long)) (λ k d within. all (suc k) d (omega (arith, within))))

@@ -1,6 +1,6 @@
 -- A fill, or what is taken of an iterator, as one run of calls, and as so many calls.
 use Rattle.ga_core.specs.Fill.{Asks, FillFalliblyRuns, FillRuns, Fills, FillsFallibly, TakeRuns, Takes}
-use Rattle.std.proofs.Common.{◌≡◌, ℕ, zero, suc, ◌+◌, ◌-◌, ◌<◌, ◌≤◌, List, [], ◌∷◌, ◌++◌, length, length-append, map, ap, arith, refl, subst, sym, true, false, inl, inr, Option, None, Some, Result, Ok, Err, MatchOption}
+use Rattle.std.proofs.Common.{◌≡◌, ◌≢◌, ◌⊎◌, ℕ, zero, suc, ◌+◌, ◌-◌, ◌<◌, ◌≤◌, List, [], ◌∷◌, ◌++◌, length, length-append, map, ap, arith, refl, subst, sym, true, false, inl, inr, Option, None, Some, Result, Ok, Err, MatchOption}
 use Rattle.std.proofs.lemmas.List.{length-map}
 use Rattle.std.proofs.iter.runs.Made.{run, to_end, to_item}
 use Rattle.std.specs.Iterator.{Yields, YieldsThen}
@@ -101,3 +101,19 @@ module _ {S T E F : Type 0} (next_gives : S → Option (Result T E) → S → Ty
       (run next_gives before (map Ok good ++ Err error ∷ []) false (to_item next_gives before after (map Ok good) (Err error) came), refl, (good, refl, first.1))
   FillFalliblyRuns-from_fill before n (Err refused) after (good, last, calls, short) =
       refused_fallible_runs before n refused after good last calls short
+
+module _ {S T E : Type 0} (next_gives : S → Option (Result T E) → S → Type 0) where
+  -- as many values as there was room for came with no end and no error
+  pub good_all : (before : S) (n : ℕ) (good : List T) (after : S) → Takes next_gives before n (map Ok good) after → length good ≡ n → Yields next_gives before (map Ok good) after
+  good_all before n good after (inl (calls, all)) full = calls
+  good_all before n good after (inr (calls, short)) full = absurd (omega (arith, short, full, length-map {B = Result T E} good Ok))
+
+  -- an end before so many good values, or one item more, in which case there is no array
+  pub good_refused : (before : S) (n : ℕ) (good : List T) (reached after : S) → Takes next_gives before n (map Ok good) reached
+      → ((length good ≢ n) × (after ≡ reached)) ⊎ ((length good ≡ n) × ((more : Result T E) × next_gives reached (Some more) after))
+      → (last : Option (Result T E)) × YieldsThen next_gives before (map Ok good) last after × MatchOption last (length good < n) (λ _. length good ≡ n)
+  good_refused before n good reached after (inl (calls, all)) (inl (other, same)) = absurd (other (omega (arith, all, length-map {B = Result T E} good Ok)))
+  good_refused before n good reached after (inl (calls, all)) (inr (full, (more, call))) = (Some more, (reached, calls, call), full)
+  good_refused before n good reached after (inr (calls, short)) (inl (other, same)) =
+      (None, subst (λ s. YieldsThen next_gives before (map Ok good) None s) (sym same) calls, omega (arith, short, length-map {B = Result T E} good Ok))
+  good_refused before n good reached after (inr (calls, short)) (inr (full, (more, call))) = absurd (omega (arith, short, full, length-map {B = Result T E} good Ok))

@@ -6,7 +6,7 @@ use Rattle.std.specs.List.{slice_range}
 
 module _ {T : Type 0} where
   -- how many are left
-  left-count : (items : List T) (front back : ℕ) → front ≤ back → back ≤ length items → length (slice_range items front back) ≡ back - front
+  pub left-count : (items : List T) (front back : ℕ) → front ≤ back → back ≤ length items → length (slice_range items front back) ≡ back - front
   left-count items front back ordered within = omega (arith, length-take (back - front) (drop front items), length-drop front items)
 
   -- the first was taken, and a blank stands in its place

@@ -1,7 +1,7 @@
 -- Items moved one by one from the front of a list.
 use Rattle.std.proofs.Common.{◌≡◌, ℕ, zero, suc, ◌+◌, ◌<◌, List, [], ◌∷◌, ◌++◌, take, drop, ap, ◌∙◌, sym, arith, append_assoc, length, slice_index_or, slice_set, subst}
 use Rattle.std.proofs.lemmas.List.Elements.{All-append, All-cons, All-nil}
-use Rattle.std.proofs.lemmas.List.{drop-drop, drop-set-lt, drop_more, take_more_set}
+use Rattle.std.proofs.lemmas.List.{drop-drop, drop-set-lt, drop_more, take-append-drop, take_more_set}
 use Rattle.std.specs.List.{All}
 
 module _ {T : Type 0} where
@@ -22,6 +22,23 @@ module _ {T : Type 0} where
   pub drop-next : (n : ℕ) (items left : List T) (item : T) → drop n items ≡ item ∷ left → left ≡ drop (n + 1) items
   drop-next n items left item here = ap (drop 1) (sym here) ∙ drop-drop 1 n items
 
+  -- what was taken from a place is what stood there
+  pub this-here : (n : ℕ) (left : List T) (there item : T) → there ≡ slice_index_or left n there → item ≡ slice_index_or left n there → item ≡ slice_index_or left n item
+  this-here n left there item is value = subst (λ x. x ≡ slice_index_or left n x) (is ∙ sym value) is
+
+  -- the next item of those that are left is the next of all
+  pub next-here : (n : ℕ) (items left : List T) (item : T) → n < length left → item ≡ slice_index_or left n item → drop n left ≡ drop n items
+      → drop n items ≡ item ∷ drop (n + 1) left
+  next-here n items left item some this behind = sym behind ∙ (drop_more left n item some ∙ ap (λ x. x ∷ drop (n + 1) left) (sym this))
+
+  -- a list is what was passed, the next item, and the others
+  pub cut-here : (n : ℕ) (items others : List T) (item : T) → drop n items ≡ item ∷ others → items ≡ take n items ++ item ∷ others
+  cut-here n items others item here = sym (take-append-drop n items) ∙ ap (λ l. take n items ++ l) here
+
+  -- where an item was taken out, the others stand in their places
+  pub behind-next : (n : ℕ) (items left : List T) (item blank : T) → n < length left → drop n items ≡ item ∷ drop (n + 1) left → drop (n + 1) (slice_set left n blank) ≡ drop (n + 1) items
+  behind-next n items left item blank some here = drop-set-lt (n + 1) left n blank (omega arith) ∙ drop-next n items (drop (n + 1) left) item here
+
   -- the first n items were moved, and the others are left in their places
   abbrev pub MovedSoFar : ℕ → List T → List T → List T → Type 0
   MovedSoFar n items left moved = (moved ≡ take n items) × (drop n left ≡ drop n items)
@@ -30,8 +47,8 @@ module _ {T : Type 0} where
   pub pushed-next : (n : ℕ) (items left before after : List T) (item blank : T) → n < length left → item ≡ slice_index_or left n item
       → MovedSoFar n items left before → after ≡ before ++ item ∷ [] → MovedSoFar (n + 1) items (slice_set left n blank) after
   pushed-next n items left before after item blank some this moved grows =
-      let here : drop n items ≡ item ∷ drop (n + 1) left = sym moved.1 ∙ (drop_more left n item some ∙ ap (λ x. x ∷ drop (n + 1) left) (sym this)) in
-      (take-next n [] before after items (drop (n + 1) left) item here moved.0 grows, drop-set-lt (n + 1) left n blank (omega arith) ∙ drop-next n items (drop (n + 1) left) item here)
+      let here = next-here n items left item some this moved.1 in
+      (take-next n [] before after items (drop (n + 1) left) item here moved.0 grows, behind-next n items left item blank some here)
 
   -- the same, to its place in another
   pub moved-next : (n : ℕ) (items left places : List T) (item blank : T) → n < length left → n < length places → item ≡ slice_index_or left n item
@@ -39,6 +56,12 @@ module _ {T : Type 0} where
       → (take (n + 1) (slice_set places n item) ≡ take (n + 1) items) × (drop (n + 1) (slice_set left n blank) ≡ drop (n + 1) items)
   moved-next n items left places item blank some room this before behind =
       pushed-next n items left (take n places) (take (n + 1) (slice_set places n item)) item blank some this (before, behind) (take_more_set places n item room)
+
+  -- what was passed, and the next
+  pub take-one_more : (n : ℕ) (items others : List T) (item : T) → drop n items ≡ item ∷ others → take (n + 1) items ≡ take n items ++ item ∷ []
+  take-one_more n items others item here =
+      let more : n + 1 ≡ suc n = omega arith in
+      ap (λ k. take k items) more ∙ take-suc_next n items others item here
 
   -- a property of what is left in the places before, and of what is left in this one
   pub left-next : (P : T → Type 0) (n : ℕ) (left : List T) (blank : T) → n < length left → All P (take n left) → P blank → All P (take (n + 1) (slice_set left n blank))

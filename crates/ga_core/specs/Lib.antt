@@ -1,4 +1,6 @@
+pub mod Calls
 pub mod Copies
+pub mod Entries
 pub mod Fill
 pub mod IterLends
 pub mod Lends

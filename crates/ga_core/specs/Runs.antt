@@ -10,6 +10,12 @@ module _ {F X Y : Type 0} (step : F → X → Y → F → Type 0) where
   ClosureRun f (x ∷ xs) [] last = ⊥
   ClosureRun f (x ∷ xs) (y ∷ ys) last = (next : F) × step f x y next × ClosureRun next xs ys last
 
+module _ {F X Y : Type 0} (pre : F → X → Type 0) (step : F → X → Y → F → Type 0) where
+  -- f may be called at each input in turn, in each state that the calls at the inputs before it lead to
+  abbrev pub CallableOver : F → List X → Type 0
+  CallableOver f xs = (passed : List X) (x : X) (others : List X) (ys : List Y) (reached : F)
+      → xs ≡ passed ++ x ∷ others → ClosureRun step f passed ys reached → pre reached x
+
 module _ {F Y : Type 0} (pre : F → ℕ → Type 0) (step : F → ℕ → Y → F → Type 0) where
   -- f may be called at each number below n, in each state that the calls at the numbers before it lead to
   abbrev pub CallableAlong : F → ℕ → Type 0
@@ -25,6 +31,12 @@ module _ {F X Y E : Type 0} (step : F → X → Result Y E → F → Type 0) whe
   FirstErrorRun f (x ∷ xs) (Ok []) last = ⊥
   FirstErrorRun f (x ∷ xs) (Ok (y ∷ ys)) last = (next : F) × step f x (Ok y) next × FirstErrorRun next xs (Ok ys) last
   FirstErrorRun f (x ∷ xs) (Err error) last = step f x (Err error) last ⊎ ((y : Y) × (next : F) × step f x (Ok y) next × FirstErrorRun next xs (Err error) last)
+
+module _ {F X Y E : Type 0} (pre : F → X → Type 0) (step : F → X → Result Y E → F → Type 0) where
+  -- f may be called at each input in turn, in each state that good calls at the inputs before it lead to
+  abbrev pub CallableOverUntilError : F → List X → Type 0
+  CallableOverUntilError f xs = (passed : List X) (x : X) (others : List X) (good : List Y) (reached : F)
+      → xs ≡ passed ++ x ∷ others → ClosureRun step f passed (map Ok good) reached → pre reached x
 
 module _ {F Y E : Type 0} (pre : F → ℕ → Type 0) (step : F → ℕ → Result Y E → F → Type 0) where
   -- f may be called at each number below n, in each state that good calls at the numbers before it lead to

@@ -8,23 +8,23 @@ ghost use Rattle.std.specs.Iterator.Runs.{EveryRun, ItemsMapTo, ItemsMapToRevers
 ghost use Rattle.std.specs.Prelude.{◌≡◌, ◌^◌, ◌<◌, ◌↔◌, IsTrue, List, Some, length, slice_get};
 ghost use Rattle.std.specs.Slice.Iter.{iter_mut_rest, iter_mut_steps, iter_mut_steps_back, iter_rest};
 
+mod as_slice;
 mod builds;
 mod comparisons;
 mod conversions;
 mod copies;
 mod defaults;
+mod functional;
 mod hex_text;
 mod slice_mut;
 mod slices;
 mod tuples;
-#[cfg(test)]
-mod uses;
 
 use crate::array_iter::GenericArrayIter;
 use crate::length::ArrayLength;
 use crate::store::Store;
+pub use as_slice::Len;
 use ga_views::{Const, MAX_INLINE};
-use std::convert::AsSlice;
 use std::marker::{Model, PhantomData};
 use std::ops::{Index, IndexMut};
 use std::slice;
@@ -147,15 +147,6 @@ impl<T, N: ArrayLength<T>> IndexMut<usize> for GenericArray<T, N> {
         ensures value { slice_get self.old index ≡ Some result.now }
     {
         self.store.item_mut(index)
-    }
-}
-
-impl<T, N: ArrayLength<T>> AsSlice<T> for GenericArray<T, N> {
-    ghost items = { λ array. array };
-
-    #[inline]
-    fn as_slice(&self) -> &[T] {
-        GenericArray::as_slice(self)
     }
 }
 

@@ -7,10 +7,6 @@ ghost use Rattle.std.specs.Prelude.{◌≡◌, ◌+◌, ◌-◌, ◌<◌, ◌≤
 mod copies;
 mod folds;
 mod steps;
-#[cfg(test)]
-mod tests;
-#[cfg(test)]
-mod uses;
 
 use crate::length::ArrayLength;
 use crate::store::Store;

@@ -3,9 +3,6 @@ ghost use Rattle.ga_core.specs.Fill.{Asks, TakeRuns, Takes, TakesGood};
 ghost use Rattle.ga_views.specs.Length.{FitsInline};
 ghost use Rattle.std.specs.Prelude.{◌≡◌, ◌≢◌, ◌⊎◌, ◌-◌, ◌<◌, ◌≤◌, ◌↔◌, IfOk, IsTrue, None, OnErr, Some, List, [], ◌∷◌, ◌++◌, length};
 
-#[cfg(test)]
-mod tests;
-
 use crate::array::GenericArray;
 use crate::length::ArrayLength;
 use crate::store::Store;
@@ -105,13 +102,14 @@ impl<T: Drop, N: ArrayLength<T>> ArrayBuilder<T, N> {
 
     /// `extend` with the good values of `items`, up to the first error, which is taken and
     /// answered. What came before it stays.
-    pub fn try_extend<E: Drop, I: Iterator<Item = Result<T, E>>>(
+    pub fn try_extend<I: Iterator<Item = Result<T, E>>, E: Drop>(
         &mut self,
         items: &mut I,
     ) -> Result<(), E>
         requires can { I.can_next items.old }
         ensures taken { (taken : List T) × (self.new ≡ self.old ++ taken) × TakesGood I.next_gives items.old (N.USIZE - length self.old) taken result items.new }
         ensures can { length self.new ≡ N.USIZE → I.can_next items.new }
+        ensures can_on { OnErr result (I.can_next items.new) }
     {
         while !self.is_full() {
             match items.next() {

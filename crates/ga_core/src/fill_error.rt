@@ -11,24 +11,3 @@ pub enum FillError<E, P> {
     /// The first error among the first items.
     Item(E),
 }
-
-#[cfg(test)]
-mod tests {
-    use super::*;
-    use crate::AllocError;
-    use std::test::Fail;
-
-    #[test]
-    fn fill_errors_print_what_they_hold(rt: HostRuntime) -> Result<(), Fail> {
-        let place = FillError::<&str, AllocError>::Place(AllocError);
-        let text = format!(in rt.alloc(); "{place:?}")?;
-        assert_eq!(rt; text.as_str(), "Place(AllocError)");
-        let length = FillError::<&str, AllocError>::Length(LengthError);
-        let text = format!(in rt.alloc(); "{length:?}")?;
-        assert_eq!(rt; text.as_str(), "Length(LengthError)");
-        let item = FillError::<&str, AllocError>::Item("x");
-        let text = format!(in rt.alloc(); "{item:?}")?;
-        assert_eq!(rt; text.as_str(), "Item(\"x\")");
-        Ok(())
-    }
-}

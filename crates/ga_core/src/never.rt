@@ -1,9 +1,8 @@
 //! The error of what can't fail.
 ghost use Rattle.std.specs.Prelude.{◌≡◌, Ok};
 
-/// The error of a call that is never refused. There is no value of it.
-#[derive(Drop)]
-pub enum Never {}
+/// The error of a call that can't fail. There is no value of it.
+pub use std::convert::Infallible as Never;
 
 /// The value of an answer that can't be an error.
 #[inline]

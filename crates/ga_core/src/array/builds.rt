@@ -1,14 +1,12 @@
 //! Arrays built from a closure or an iterator.
+ghost use Rattle.ga_core.specs.Calls.{MayCallAlong, MayCallAlongUntilError};
 ghost use Rattle.ga_core.specs.Fill.{Asks, FillFalliblyRuns, FillRuns, Fills, FillsFallibly};
-ghost use Rattle.ga_core.specs.Runs.{CallableAlong, CallableUntilError, ClosureRun, FirstErrorRun};
+ghost use Rattle.ga_core.specs.Runs.{ClosureRun, FirstErrorRun};
 ghost use Rattle.ga_core.specs.Tries.{try_map};
 ghost use Rattle.ga_views.specs.Length.{FitsInline};
 ghost use Rattle.std.specs.Iterator.{ActsAs};
 ghost use Rattle.std.specs.List.{range_with_len};
-ghost use Rattle.std.specs.Prelude.{◌≡◌, ℕ, ◌+◌, Result, map};
-
-#[cfg(test)]
-mod tests;
+ghost use Rattle.std.specs.Prelude.{◌≡◌, ℕ, ◌+◌, IfOk, OnErr, Result, map};
 
 use crate::array::GenericArray;
 use crate::builder::ArrayBuilder;
@@ -23,7 +21,7 @@ impl<T: Drop, N: ArrayLength<T>> GenericArray<T, N> {
     /// The length fits. Takes no memory.
     pub fn generate<F: FnMut(usize) -> T>(f: F) -> Self
         requires fits { FitsInline N.USIZE }
-        requires callable { CallableAlong F.pre F.step f N.USIZE }
+        requires callable { MayCallAlong F.pre F.step f N.USIZE }
         ensures run { (last : F) × ClosureRun F.step f (range_with_len 0 N.USIZE) result last }
         ensures acts { (h : ℕ → T) → ActsAs F.FnMut f h → result ≡ map h (range_with_len 0 N.USIZE) }
     {
@@ -34,7 +32,7 @@ impl<T: Drop, N: ArrayLength<T>> GenericArray<T, N> {
     /// `generate` with a closure that is lent, and can be used again in the state that it reached.
     pub fn generate_by<F: FnMut(usize) -> T>(f: &mut F) -> Self
         requires fits { FitsInline N.USIZE }
-        requires callable { CallableAlong F.pre F.step f.old N.USIZE }
+        requires callable { MayCallAlong F.pre F.step f.old N.USIZE }
         ensures run { ClosureRun F.step f.old (range_with_len 0 N.USIZE) result f.new }
         ensures acts { (h : ℕ → T) → ActsAs F.FnMut f.old h → result ≡ map h (range_with_len 0 N.USIZE) }
     {
@@ -46,9 +44,9 @@ impl<T: Drop, N: ArrayLength<T>> GenericArray<T, N> {
     /// `generate` with a closure that may fail: the array of its answers, or its first error.
     ///
     /// No call follows an error, and the items made before it are dropped.
-    pub fn try_generate<E, F: FnMut(usize) -> Result<T, E>>(f: F) -> Result<Self, E>
+    pub fn try_generate<F: FnMut(usize) -> Result<T, E>, E>(f: F) -> Result<Self, E>
         requires fits { FitsInline N.USIZE }
-        requires callable { CallableUntilError F.pre F.step f N.USIZE }
+        requires callable { MayCallAlongUntilError F.pre F.step f N.USIZE }
         ensures run { (last : F) × FirstErrorRun F.step f (range_with_len 0 N.USIZE) result last }
         ensures acts { (h : ℕ → Result T E) → ActsAs F.FnMut f h → result ≡ try_map h (range_with_len 0 N.USIZE) }
     {
@@ -57,9 +55,9 @@ impl<T: Drop, N: ArrayLength<T>> GenericArray<T, N> {
     }
 
     /// `try_generate` with a closure that is lent, and can be used again in the state that it reached.
-    pub fn try_generate_by<E, F: FnMut(usize) -> Result<T, E>>(f: &mut F) -> Result<Self, E>
+    pub fn try_generate_by<F: FnMut(usize) -> Result<T, E>, E>(f: &mut F) -> Result<Self, E>
         requires fits { FitsInline N.USIZE }
-        requires callable { CallableUntilError F.pre F.step f.old N.USIZE }
+        requires callable { MayCallAlongUntilError F.pre F.step f.old N.USIZE }
         ensures run { FirstErrorRun F.step f.old (range_with_len 0 N.USIZE) result f.new }
         ensures acts { (h : ℕ → Result T E) → ActsAs F.FnMut f.old h → result ≡ try_map h (range_with_len 0 N.USIZE) }
     {
@@ -104,7 +102,7 @@ impl<T: Drop, N: ArrayLength<T>> GenericArray<T, N> {
     ///
     /// The length fits. An error that comes after `N` values is one item too many. Size hints aren't
     /// consulted. Takes no memory.
-    pub fn try_from_fallible_iter<E: Drop, I: Iterator<Item = Result<T, E>>>(
+    pub fn try_from_fallible_iter<I: Iterator<Item = Result<T, E>>, E: Drop>(
         items: I,
     ) -> Result<Result<Self, E>, LengthError>
         requires fits { FitsInline N.USIZE }
@@ -120,24 +118,26 @@ impl<T: Drop, N: ArrayLength<T>> GenericArray<T, N> {
     ///
     /// The error that is answered is the last item taken. An iterator isn't asked again once it has
     /// ended.
-    pub fn try_from_fallible_iter_ref<E: Drop, I: Iterator<Item = Result<T, E>>>(
+    pub fn try_from_fallible_iter_ref<I: Iterator<Item = Result<T, E>>, E: Drop>(
         items: &mut I,
     ) -> Result<Result<Self, E>, LengthError>
         requires fits { FitsInline N.USIZE }
         requires can { I.can_next items.old }
         ensures fill { FillsFallibly I.next_gives items.old N.USIZE result items.new }
         ensures runs { FillFalliblyRuns I.next_gives items.old N.USIZE result }
+        ensures can_on { IfOk result (λ made. OnErr made (I.can_next items.new)) }
     {
         Self::fill_fallibly_from(items)
     }
 
     // The fill itself, of which `try_from_fallible_iter_ref` says one thing more that follows.
-    fn fill_fallibly_from<E: Drop, I: Iterator<Item = Result<T, E>>>(
+    fn fill_fallibly_from<I: Iterator<Item = Result<T, E>>, E: Drop>(
         items: &mut I,
     ) -> Result<Result<Self, E>, LengthError>
         requires fits { FitsInline N.USIZE }
         requires can { I.can_next items.old }
-        ensures { FillsFallibly I.next_gives items.old N.USIZE result items.new }
+        ensures fill { FillsFallibly I.next_gives items.old N.USIZE result items.new }
+        ensures can_on { IfOk result (λ made. OnErr made (I.can_next items.new)) }
     {
         let mut builder = ArrayBuilder::new();
         if let Err(error) = builder.try_extend(items) {

@@ -4,9 +4,6 @@ ghost use Rattle.std.specs.Cmp.Lexicographic.{lists_agrees, lists_equiv, lists_p
 ghost use Rattle.std.specs.Hash as fed;
 ghost use Rattle.std.specs.Hash.{items_Alike, on_Alike};
 
-#[cfg(test)]
-mod tests;
-
 use crate::array::GenericArray;
 use crate::length::ArrayLength;
 use std::cmp::Ordering;

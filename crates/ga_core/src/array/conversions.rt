@@ -3,15 +3,12 @@ ghost use Rattle.ga_views.specs.Length.{FitsInline};
 ghost use Rattle.std.specs.Box.{boxed_slice_items};
 ghost use Rattle.std.specs.Prelude.{◌≡◌, ◌↔◌, IfOk, IsOk, length};
 
-#[cfg(test)]
-mod tests;
-
 use crate::alloc_error::AllocError;
 use crate::array::GenericArray;
 use crate::length::ArrayLength;
 use crate::places::move_items;
 use crate::store::{Store, store_of_array};
-use ga_views::{Const, GenericArrayRef, LengthError};
+use ga_views::{Const, GenericArrayRef, InlineLength, LengthError};
 use std::alloc::Global;
 use std::boxed::BoxedSlice;
 use std::mem;
@@ -109,5 +106,51 @@ impl<T: Default + Drop, N: ArrayLength<T>> GenericArray<T, N> {
         ensures empty { N.USIZE ≡ 0 → IsOk result }
     {
         Ok(self.into_vec(alloc)?.into_boxed_slice())
+    }
+}
+
+/// See `from_array`.
+impl<T: Default + Drop, const U: usize> From<[T; U]> for GenericArray<T, Const<U>>
+where
+    Const<U>: InlineLength,
+{
+    ghost from_gives = { λ items array. array ≡ items };
+
+    #[inline]
+    fn from(items: [T; U]) -> Self {
+        GenericArray::from_array(items)
+    }
+}
+
+/// See `into_array`.
+impl<T: Copy + Default + Drop, const U: usize> From<GenericArray<T, Const<U>>> for [T; U] {
+    ghost from_gives = { λ array items. items ≡ array };
+
+    #[inline]
+    fn from(array: GenericArray<T, Const<U>>) -> Self {
+        array.into_array()
+    }
+}
+
+/// See `try_from_vec`.
+impl<T: Default + Drop, N: ArrayLength<T> + InlineLength> TryFrom<Vec<T>> for GenericArray<T, N> {
+    type Error = LengthError;
+
+    ghost try_from_gives = { λ items made. (IsOk made ↔ (length items.items ≡ N.USIZE)) × IfOk made (λ array. array ≡ items.items) };
+
+    fn try_from(items: Vec<T>) -> Result<Self, LengthError> {
+        Self::try_from_vec(items)
+    }
+}
+
+/// See `try_from_boxed_slice`.
+impl<T: Default + Drop, N: ArrayLength<T> + InlineLength> TryFrom<BoxedSlice<T, Global>>
+    for GenericArray<T, N> {
+    type Error = LengthError;
+
+    ghost try_from_gives = { λ items made. (IsOk made ↔ (length (boxed_slice_items items) ≡ N.USIZE)) × IfOk made (λ array. array ≡ boxed_slice_items items) };
+
+    fn try_from(items: BoxedSlice<T, Global>) -> Result<Self, LengthError> {
+        Self::try_from_boxed_slice(items)
     }
 }

@@ -1,11 +1,8 @@
 //! Arrays of defaults, of copies of one value, and copies of arrays.
-ghost use Rattle.ga_core.specs.Copies.{Repeats};
+ghost use Rattle.ga_core.specs.Copies.{ExactlyEach, Repeats};
 ghost use Rattle.ga_views.specs.Length.{FitsInline};
 ghost use Rattle.std.specs.List.{All, AllZip};
-ghost use Rattle.std.specs.Prelude.{◌≡◌, ◌≤◌, IfOk, IsOk, replicate};
-
-#[cfg(test)]
-mod tests;
+ghost use Rattle.std.specs.Prelude.{◌≡◌, ◌≤◌, IfOk, IsOk, length, replicate};
 
 use crate::alloc_error::AllocError;
 use crate::array::GenericArray;
@@ -17,10 +14,12 @@ use std::alloc;
 impl<T: Default + Drop, N: ArrayLength<T>> GenericArray<T, N> {
     /// The array of `N` times `T::default()`, called in order. The length fits.
     ///
-    /// Stands for every length; the trait `Default`, which elements need, stands for `U0` to `U12`.
+    /// For every length; the trait `Default`, which items of arrays need, is there for every `InlineLength`.
     pub fn default() -> Self
         requires fits { FitsInline N.USIZE }
-        ensures { All T.is_default result }
+        ensures items { All T.is_default result }
+        ensures len { length result ≡ N.USIZE }
+        ensures each { ExactlyEach T.is_default N.USIZE result }
     {
         Self::generate(|_| T::default())
     }
@@ -66,6 +65,7 @@ impl<T: Clone, N: ArrayLength<T>> GenericArray<T, N> {
     pub fn clone(&self) -> Result<Self, AllocError>
         ensures items { IfOk result (λ copy. AllZip T.is_clone self.now copy) }
         ensures succeeds { All T.is_infallible self.now → IsOk result }
+        ensures empty { N.USIZE ≡ 0 → IsOk result }
     {
         let items = self.as_slice();
         let mut store: N::ArrayType = Store::filled();

@@ -1,107 +1,14 @@
-//! `Default` for the lengths that elements of arrays may have.
+//! `Default` for the lengths that fit inline, so that arrays of these can be items of arrays.
+ghost use Rattle.ga_core.specs.Copies.{ExactlyEach};
 ghost use Rattle.std.specs.List.{All};
+ghost use Rattle.std.specs.Prelude.{◌≡◌, length};
 
 use crate::array::GenericArray;
-use ga_views::{U0, U1, U2, U3, U4, U5, U6, U7, U8, U9, U10, U11, U12};
+use crate::length::ArrayLength;
+use ga_views::InlineLength;
 
-impl<T: Default + Drop> Default for GenericArray<T, U0> {
-    ghost is_default = { λ array. All T.is_default array };
-
-    fn default() -> Self {
-        GenericArray::default()
-    }
-}
-
-impl<T: Default + Drop> Default for GenericArray<T, U1> {
-    ghost is_default = { λ array. All T.is_default array };
-
-    fn default() -> Self {
-        GenericArray::default()
-    }
-}
-
-impl<T: Default + Drop> Default for GenericArray<T, U2> {
-    ghost is_default = { λ array. All T.is_default array };
-
-    fn default() -> Self {
-        GenericArray::default()
-    }
-}
-
-impl<T: Default + Drop> Default for GenericArray<T, U3> {
-    ghost is_default = { λ array. All T.is_default array };
-
-    fn default() -> Self {
-        GenericArray::default()
-    }
-}
-
-impl<T: Default + Drop> Default for GenericArray<T, U4> {
-    ghost is_default = { λ array. All T.is_default array };
-
-    fn default() -> Self {
-        GenericArray::default()
-    }
-}
-
-impl<T: Default + Drop> Default for GenericArray<T, U5> {
-    ghost is_default = { λ array. All T.is_default array };
-
-    fn default() -> Self {
-        GenericArray::default()
-    }
-}
-
-impl<T: Default + Drop> Default for GenericArray<T, U6> {
-    ghost is_default = { λ array. All T.is_default array };
-
-    fn default() -> Self {
-        GenericArray::default()
-    }
-}
-
-impl<T: Default + Drop> Default for GenericArray<T, U7> {
-    ghost is_default = { λ array. All T.is_default array };
-
-    fn default() -> Self {
-        GenericArray::default()
-    }
-}
-
-impl<T: Default + Drop> Default for GenericArray<T, U8> {
-    ghost is_default = { λ array. All T.is_default array };
-
-    fn default() -> Self {
-        GenericArray::default()
-    }
-}
-
-impl<T: Default + Drop> Default for GenericArray<T, U9> {
-    ghost is_default = { λ array. All T.is_default array };
-
-    fn default() -> Self {
-        GenericArray::default()
-    }
-}
-
-impl<T: Default + Drop> Default for GenericArray<T, U10> {
-    ghost is_default = { λ array. All T.is_default array };
-
-    fn default() -> Self {
-        GenericArray::default()
-    }
-}
-
-impl<T: Default + Drop> Default for GenericArray<T, U11> {
-    ghost is_default = { λ array. All T.is_default array };
-
-    fn default() -> Self {
-        GenericArray::default()
-    }
-}
-
-impl<T: Default + Drop> Default for GenericArray<T, U12> {
-    ghost is_default = { λ array. All T.is_default array };
+impl<T: Default + Drop, N: ArrayLength<T> + InlineLength> Default for GenericArray<T, N> {
+    ghost is_default = { λ array. (length array ≡ N.USIZE) × All T.is_default array × ExactlyEach T.is_default N.USIZE array };
 
     fn default() -> Self {
         GenericArray::default()

@@ -5,9 +5,11 @@ use ga_views::SliceMut;
 
 impl<'a, T, N: ArrayLength<T>> SliceMut<T> for &'a mut GenericArray<T, N> {
     ghost use Rattle.std.specs.List.{refill};
-    ghost use Rattle.std.specs.Prelude.{length, refl, slice_set};
+    ghost use Rattle.std.specs.Prelude.{◌≡◌, length, refl, slice_set};
 
     ghost items = { λ array. array.now };
+
+    ghost stays = { λ array after. after.ghost_name ≡ array.ghost_name };
 
     #[inline]
     fn all(&self) -> &[T] {
@@ -15,6 +17,8 @@ impl<'a, T, N: ArrayLength<T>> SliceMut<T> for &'a mut GenericArray<T, N> {
     }
 
     ghost refilled = { λ array written. (record array { now = refill (length array.now) array.now written }, refl) };
+
+    ghost refilled_stays = { λ array written. refl };
 
     #[inline]
     fn all_mut(&mut self) -> &mut [T] {
@@ -27,6 +31,8 @@ impl<'a, T, N: ArrayLength<T>> SliceMut<T> for &'a mut GenericArray<T, N> {
     }
 
     ghost replaced = { λ array index item. (record array { now = slice_set array.now index item }, refl) };
+
+    ghost replaced_stays = { λ array index item. refl };
 
     #[inline]
     fn item_mut(&mut self, index: usize) -> &mut T {

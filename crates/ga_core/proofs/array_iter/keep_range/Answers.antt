@@ -1,7 +1,8 @@
 use Rattle.ga_core.proofs.CutLemmas.{front-popped}
+use Rattle.ga_core.proofs.PlaceLemmas.{refill-over}
 use Rattle.ga_core.proofs.array_iter.keep_range.Goals as goal
-use Rattle.std.proofs.Common.{◌≡◌, ◌<◌, ◌-◌, ◌++◌, ◌∙◌, ap, arith, drop, length, length-append, length-drop, length-take, take}
-use Rattle.std.proofs.lemmas.List.{take-append-le}
+use Rattle.std.proofs.Common.{◌≡◌, ◌<◌, ◌-◌, ◌++◌, ◌∙◌, ap, arith, drop, length, length-append, length-drop, length-take, sym, take}
+use Rattle.std.proofs.lemmas.List.{take-append-le, take_all}
 
 pub loop-given-preserved : goal.loop-given-preserved
 loop-given-preserved g c =
@@ -25,3 +26,20 @@ returns-after-loop-given g c =
     c.loop-given.invariant
     ∙ (ap (λ k. take k (drop front items ++ take front items)) kept
     ∙ take-append-le (back - front) (drop front items) (take front items) (omega (arith, length-drop front items, c.requires.in_bounds)))
+
+pub loop-given-init : goal.loop-given-init
+loop-given-init g c =
+    let items = g.S.Store.items c.args.store.now in
+    let front = c.args.front in
+    refill-over _ _ _ _ c.as_mut_slice.ensures.value c.rotate_left.ensures.len (g.S.Store.refilled c.args.store.now c.rotate_left.new.self).1
+    ∙ (c.rotate_left.ensures.after ∙ (ap (λ l. drop front l ++ take front l) c.as_mut_slice.ensures.value
+    ∙ sym (take_all (length items - 0) (drop front items ++ take front items) (omega (arith, length-append (drop front items) (take front items), length-drop front items, length-take front items)))))
+
+pub pop-requires : goal.pop-requires
+pop-requires g c = λ κs longer. longer
+
+pub rotate_left-requires : goal.rotate_left-requires
+rotate_left-requires g c = omega (arith, ap length c.as_mut_slice.ensures.value, c.requires.ordered, c.requires.in_bounds)
+
+pub overflow_sub-back : goal.overflow_sub-back
+overflow_sub-back g c = c.requires.ordered

@@ -1,17 +1,17 @@
 //! Tuples of the items of arrays, taken one by one from the front.
-ghost use Rattle.std.specs.Prelude.{◌≡◌, ◌≢◌, ◌∷◌, []};
+ghost use Rattle.std.specs.Prelude.{◌≡◌, ◌∷◌, []};
 
 use crate::array::GenericArray;
-use crate::array_iter::GenericArrayIter;
 use crate::length::ArrayLength;
+use crate::places::move_items;
 use ga_views::{U1, U2, U3, U4, U5, U6, U7, U8, U9, U10, U11, U12};
 
 impl<T: Default + Drop> From<GenericArray<T, U1>> for (T,) {
     ghost from_gives = { λ array tuple. array ≡ tuple.0 ∷ [] };
 
     fn from(array: GenericArray<T, U1>) -> Self {
-        let mut left = array.into_iter();
-        (first_of(&mut left),)
+        let [a]: [T; 1] = native(array);
+        (a,)
     }
 }
 
@@ -19,8 +19,8 @@ impl<T: Default + Drop> From<GenericArray<T, U2>> for (T, T) {
     ghost from_gives = { λ array tuple. array ≡ tuple.0 ∷ tuple.1 ∷ [] };
 
     fn from(array: GenericArray<T, U2>) -> Self {
-        let mut left = array.into_iter();
-        (first_of(&mut left), first_of(&mut left))
+        let [a, b]: [T; 2] = native(array);
+        (a, b)
     }
 }
 
@@ -28,12 +28,8 @@ impl<T: Default + Drop> From<GenericArray<T, U3>> for (T, T, T) {
     ghost from_gives = { λ array tuple. array ≡ tuple.0 ∷ tuple.1 ∷ tuple.2 ∷ [] };
 
     fn from(array: GenericArray<T, U3>) -> Self {
-        let mut left = array.into_iter();
-        (
-            first_of(&mut left),
-            first_of(&mut left),
-            first_of(&mut left),
-        )
+        let [a, b, c]: [T; 3] = native(array);
+        (a, b, c)
     }
 }
 
@@ -41,13 +37,8 @@ impl<T: Default + Drop> From<GenericArray<T, U4>> for (T, T, T, T) {
     ghost from_gives = { λ array tuple. array ≡ tuple.0 ∷ tuple.1 ∷ tuple.2 ∷ tuple.3 ∷ [] };
 
     fn from(array: GenericArray<T, U4>) -> Self {
-        let mut left = array.into_iter();
-        (
-            first_of(&mut left),
-            first_of(&mut left),
-            first_of(&mut left),
-            first_of(&mut left),
-        )
+        let [a, b, c, d]: [T; 4] = native(array);
+        (a, b, c, d)
     }
 }
 
@@ -55,14 +46,8 @@ impl<T: Default + Drop> From<GenericArray<T, U5>> for (T, T, T, T, T) {
     ghost from_gives = { λ array tuple. array ≡ tuple.0 ∷ tuple.1 ∷ tuple.2 ∷ tuple.3 ∷ tuple.4 ∷ [] };
 
     fn from(array: GenericArray<T, U5>) -> Self {
-        let mut left = array.into_iter();
-        (
-            first_of(&mut left),
-            first_of(&mut left),
-            first_of(&mut left),
-            first_of(&mut left),
-            first_of(&mut left),
-        )
+        let [a, b, c, d, e]: [T; 5] = native(array);
+        (a, b, c, d, e)
     }
 }
 
@@ -70,15 +55,8 @@ impl<T: Default + Drop> From<GenericArray<T, U6>> for (T, T, T, T, T, T) {
     ghost from_gives = { λ array tuple. array ≡ tuple.0 ∷ tuple.1 ∷ tuple.2 ∷ tuple.3 ∷ tuple.4 ∷ tuple.5 ∷ [] };
 
     fn from(array: GenericArray<T, U6>) -> Self {
-        let mut left = array.into_iter();
-        (
-            first_of(&mut left),
-            first_of(&mut left),
-            first_of(&mut left),
-            first_of(&mut left),
-            first_of(&mut left),
-            first_of(&mut left),
-        )
+        let [a, b, c, d, e, f]: [T; 6] = native(array);
+        (a, b, c, d, e, f)
     }
 }
 
@@ -86,16 +64,8 @@ impl<T: Default + Drop> From<GenericArray<T, U7>> for (T, T, T, T, T, T, T) {
     ghost from_gives = { λ array tuple. array ≡ tuple.0 ∷ tuple.1 ∷ tuple.2 ∷ tuple.3 ∷ tuple.4 ∷ tuple.5 ∷ tuple.6 ∷ [] };
 
     fn from(array: GenericArray<T, U7>) -> Self {
-        let mut left = array.into_iter();
-        (
-            first_of(&mut left),
-            first_of(&mut left),
-            first_of(&mut left),
-            first_of(&mut left),
-            first_of(&mut left),
-            first_of(&mut left),
-            first_of(&mut left),
-        )
+        let [a, b, c, d, e, f, g]: [T; 7] = native(array);
+        (a, b, c, d, e, f, g)
     }
 }
 
@@ -103,17 +73,8 @@ impl<T: Default + Drop> From<GenericArray<T, U8>> for (T, T, T, T, T, T, T, T) {
     ghost from_gives = { λ array tuple. array ≡ tuple.0 ∷ tuple.1 ∷ tuple.2 ∷ tuple.3 ∷ tuple.4 ∷ tuple.5 ∷ tuple.6 ∷ tuple.7 ∷ [] };
 
     fn from(array: GenericArray<T, U8>) -> Self {
-        let mut left = array.into_iter();
-        (
-            first_of(&mut left),
-            first_of(&mut left),
-            first_of(&mut left),
-            first_of(&mut left),
-            first_of(&mut left),
-            first_of(&mut left),
-            first_of(&mut left),
-            first_of(&mut left),
-        )
+        let [a, b, c, d, e, f, g, h]: [T; 8] = native(array);
+        (a, b, c, d, e, f, g, h)
     }
 }
 
@@ -121,18 +82,8 @@ impl<T: Default + Drop> From<GenericArray<T, U9>> for (T, T, T, T, T, T, T, T, T
     ghost from_gives = { λ array tuple. array ≡ tuple.0 ∷ tuple.1 ∷ tuple.2 ∷ tuple.3 ∷ tuple.4 ∷ tuple.5 ∷ tuple.6 ∷ tuple.7 ∷ tuple.8 ∷ [] };
 
     fn from(array: GenericArray<T, U9>) -> Self {
-        let mut left = array.into_iter();
-        (
-            first_of(&mut left),
-            first_of(&mut left),
-            first_of(&mut left),
-            first_of(&mut left),
-            first_of(&mut left),
-            first_of(&mut left),
-            first_of(&mut left),
-            first_of(&mut left),
-            first_of(&mut left),
-        )
+        let [a, b, c, d, e, f, g, h, i]: [T; 9] = native(array);
+        (a, b, c, d, e, f, g, h, i)
     }
 }
 
@@ -140,19 +91,8 @@ impl<T: Default + Drop> From<GenericArray<T, U10>> for (T, T, T, T, T, T, T, T, 
     ghost from_gives = { λ array tuple. array ≡ tuple.0 ∷ tuple.1 ∷ tuple.2 ∷ tuple.3 ∷ tuple.4 ∷ tuple.5 ∷ tuple.6 ∷ tuple.7 ∷ tuple.8 ∷ tuple.9 ∷ [] };
 
     fn from(array: GenericArray<T, U10>) -> Self {
-        let mut left = array.into_iter();
-        (
-            first_of(&mut left),
-            first_of(&mut left),
-            first_of(&mut left),
-            first_of(&mut left),
-            first_of(&mut left),
-            first_of(&mut left),
-            first_of(&mut left),
-            first_of(&mut left),
-            first_of(&mut left),
-            first_of(&mut left),
-        )
+        let [a, b, c, d, e, f, g, h, i, j]: [T; 10] = native(array);
+        (a, b, c, d, e, f, g, h, i, j)
     }
 }
 
@@ -160,20 +100,8 @@ impl<T: Default + Drop> From<GenericArray<T, U11>> for (T, T, T, T, T, T, T, T, 
     ghost from_gives = { λ array tuple. array ≡ tuple.0 ∷ tuple.1 ∷ tuple.2 ∷ tuple.3 ∷ tuple.4 ∷ tuple.5 ∷ tuple.6 ∷ tuple.7 ∷ tuple.8 ∷ tuple.9 ∷ tuple.10 ∷ [] };
 
     fn from(array: GenericArray<T, U11>) -> Self {
-        let mut left = array.into_iter();
-        (
-            first_of(&mut left),
-            first_of(&mut left),
-            first_of(&mut left),
-            first_of(&mut left),
-            first_of(&mut left),
-            first_of(&mut left),
-            first_of(&mut left),
-            first_of(&mut left),
-            first_of(&mut left),
-            first_of(&mut left),
-            first_of(&mut left),
-        )
+        let [a, b, c, d, e, f, g, h, i, j, k]: [T; 11] = native(array);
+        (a, b, c, d, e, f, g, h, i, j, k)
     }
 }
 
@@ -181,29 +109,19 @@ impl<T: Default + Drop> From<GenericArray<T, U12>> for (T, T, T, T, T, T, T, T, 
     ghost from_gives = { λ array tuple. array ≡ tuple.0 ∷ tuple.1 ∷ tuple.2 ∷ tuple.3 ∷ tuple.4 ∷ tuple.5 ∷ tuple.6 ∷ tuple.7 ∷ tuple.8 ∷ tuple.9 ∷ tuple.10 ∷ tuple.11 ∷ [] };
 
     fn from(array: GenericArray<T, U12>) -> Self {
-        let mut left = array.into_iter();
-        (
-            first_of(&mut left),
-            first_of(&mut left),
-            first_of(&mut left),
-            first_of(&mut left),
-            first_of(&mut left),
-            first_of(&mut left),
-            first_of(&mut left),
-            first_of(&mut left),
-            first_of(&mut left),
-            first_of(&mut left),
-            first_of(&mut left),
-            first_of(&mut left),
-        )
+        let [a, b, c, d, e, f, g, h, i, j, k, l]: [T; 12] = native(array);
+        (a, b, c, d, e, f, g, h, i, j, k, l)
     }
 }
 
-/// The first item that is left. There is one.
+/// The items as a native array.
 #[inline]
-fn first_of<T: Default + Drop, N: ArrayLength<T>>(left: &mut GenericArrayIter<T, N>) -> T
-    requires { left.old ≢ [] }
-    ensures { left.old ≡ result ∷ left.new }
+fn native<T: Default + Drop, N: ArrayLength<T>, const U: usize>(array: GenericArray<T, N>) -> [T; U]
+    requires len { N.USIZE ≡ U }
+    ensures { result ≡ array }
 {
-    left.next().unwrap()
+    let mut array = array;
+    let mut items: [T; U] = Default::default();
+    move_items(array.as_mut_slice(), &mut items);
+    items
 }

@@ -3,12 +3,11 @@ use Rattle.ga_core.proofs.array.GenericArray.try_from_iter_ref.Goals as goal
 use Rattle.ga_core.specs.Fill.{Fills}
 use Rattle.std.proofs.Common.{rules}
 
-pub returns-clause-runs : goal.returns-clause-runs
-returns-clause-runs g c =
+pub returns : goal.returns
+returns g c =
     let fill : Fills g.I.Iterator.next_gives c.args.items.now g.N.Unsigned.USIZE c.finish_at_end.result c.finish_at_end.new.items = search rules in
-    FillRuns-from_fill g.I.Iterator.next_gives c.args.items.now g.N.Unsigned.USIZE c.finish_at_end.result c.finish_at_end.new.items fill
-
-pub returns-clause-asks : goal.returns-clause-asks
-returns-clause-asks g c =
-    let fill : Fills g.I.Iterator.next_gives c.args.items.now g.N.Unsigned.USIZE c.finish_at_end.result c.finish_at_end.new.items = search rules in
-    Asks-from_fill g.I.Iterator.next_gives c.args.items.now g.N.Unsigned.USIZE c.finish_at_end.result c.finish_at_end.new.items fill
+    record {
+      fill = fill;
+      runs = FillRuns-from_fill g.I.Iterator.next_gives c.args.items.now g.N.Unsigned.USIZE c.finish_at_end.result c.finish_at_end.new.items fill;
+      asks = Asks-from_fill g.I.Iterator.next_gives c.args.items.now g.N.Unsigned.USIZE c.finish_at_end.result c.finish_at_end.new.items fill;
+    }

@@ -2,10 +2,21 @@ use Rattle.ga_core.proofs.ActsLemmas.{answer_of_fold}
 use Rattle.ga_core.proofs.CutLemmas.{taken-more}
 use Rattle.ga_core.proofs.array_iter.GenericArrayIter.fold_by.Goals as goal
 use Rattle.ga_core.specs.Runs.{FoldRun}
-use Rattle.std.proofs.Common.{◌≡◌, ◌∷◌, [], ◌++◌, ◌+◌, drop, sym, ap, ◌∙◌, arith, slice_set}
-use Rattle.std.proofs.lemmas.Grind.{common_steps}
+use Rattle.std.proofs.Common.{◌≡◌, ◌∷◌, [], ◌++◌, ◌+◌, drop, ◌-◌, sym, ap, ◌∙◌, arith, refl, slice_set, subst, take}
 use Rattle.std.proofs.lemmas.Fn.{FoldsTo-push}
-use Rattle.std.proofs.lemmas.List.{drop-set-lt, drop_more}
+use Rattle.std.proofs.lemmas.List.{append-nil, drop-set-lt, drop_all, drop_more}
+
+pub loop-place-init : goal.loop-place-init
+loop-place-init g c = ([], sym c.items.view_is ∙ ap (λ l. take (c.items.inside.back - c.items.inside.front) (drop c.items.inside.front l)) (sym c.as_mut_slice-places.ensures.value), refl)
+
+pub f-answer-requires : goal.f-answer-requires
+f-answer-requires g c =
+    let so_far = c.loop-place.invariant in
+    let places = c.loop-place.place-items in
+    let i = c.loop-place.place-index in
+    let step : drop i places ≡ c.take.result ∷ drop (i + 1) places =
+    drop_more places i c.place-item.result (omega (arith, c.loop-place-test.true, c.loop-place.auto.place-items)) ∙ ap (λ x. x ∷ drop (i + 1) places) (sym c.take.ensures.value) in
+    c.requires.callable so_far.0 c.take.result (drop (i + 1) places) c.loop-place.f c.loop-place.answer (so_far.1 ∙ ap (λ rest. so_far.0 ++ rest) step) so_far.2
 
 pub loop-place-preserved : goal.loop-place-preserved
 loop-place-preserved g c =
@@ -22,7 +33,10 @@ loop-place-preserved g c =
       FoldsTo-push _ (c.args.f.now, c.args.init) so_far.0 (c.loop-place.f, c.loop-place.answer) item (c.f-answer.new.self, c.f-answer.result) so_far.2 c.f-answer.ensures,
     )
 
-pub returns-clause-acts : goal.returns-clause-acts
-returns-clause-acts g c h acts =
-    let run : FoldRun (goal.F-step g) c.args.f.now c.args.init c.args.self c.loop-place.answer c.loop-place.f = grind (arith, common_steps) in
-    answer_of_fold _ _ h acts _ _ _ _ run
+pub returns : goal.returns
+returns g c =
+    let so_far = c.loop-place.invariant in
+    let none : drop c.loop-place.place-index c.loop-place.place-items ≡ [] = drop_all c.loop-place.place-index c.loop-place.place-items (omega (arith, c.loop-place-test.false, c.loop-place.auto.place-items)) in
+    let run : FoldRun (goal.F-step g) c.args.f.now c.args.init c.args.self c.loop-place.answer c.loop-place.f =
+    subst (λ items. FoldRun (goal.F-step g) c.args.f.now c.args.init items c.loop-place.answer c.loop-place.f) (sym (so_far.1 ∙ (ap (λ rest. so_far.0 ++ rest) none ∙ append-nil so_far.0))) so_far.2 in
+    record { run = run; acts = λ h acts. answer_of_fold _ _ h acts _ _ _ _ run }

@@ -1,7 +1,7 @@
 use Rattle.ga_core.proofs.FillLemmas.{Asks-from_takes, TakeRuns-from_takes}
 use Rattle.ga_core.proofs.builder.ArrayBuilder.extend.Goals as goal
 use Rattle.ga_core.specs.Fill.{Takes}
-use Rattle.std.proofs.Common.{◌≡◌, ◌∷◌, [], ◌++◌, ◌-◌, ◌<◌, ap, append_assoc, arith, inl, inr, length, length-append, rules, ◌∙◌}
+use Rattle.std.proofs.Common.{◌≡◌, ◌∷◌, [], ◌++◌, ◌-◌, ◌<◌, ap, append_assoc, arith, inl, inr, length, length-append, refl, rules, ◌∙◌}
 use Rattle.std.proofs.iter.Next.{Yields-more}
 
 pub loop-items-preserved : goal.loop-items-preserved
@@ -47,3 +47,14 @@ returns-clause-asks g c =
     let so_far = c.loop-items.invariant.taken in
     Asks-from_takes g.I.Iterator.next_gives c.args.items.now (g.N.Unsigned.USIZE - length c.args.self.now) so_far.0 c.loop-items.items
     (inl (so_far.2, omega (arith, length-append c.args.self.now so_far.0, ap length so_far.1)))
+
+pub returns-clause-taken : goal.returns-clause-taken
+returns-clause-taken g c =
+    let so_far = c.loop-items.invariant.taken in
+    (so_far.0, so_far.1, inl (so_far.2, omega (arith, length-append c.args.self.now so_far.0, ap length so_far.1, c.loop-items-test.ensures.full.0 refl)))
+
+pub returns-in-None-clause-taken : goal.returns-in-None-clause-taken
+returns-in-None-clause-taken g c =
+    let so_far = c.loop-items.invariant.taken in
+    let short : length c.loop-items.self < g.N.Unsigned.USIZE = search rules in
+    (so_far.0, so_far.1, inr ((c.loop-items.items, so_far.2, c.in-None.ensures.steps), omega (arith, length-append c.args.self.now so_far.0, ap length so_far.1, short)))

@@ -1,7 +1,8 @@
+use mathlib.Core.Bool.{true≢false}
 use Rattle.ga_core.proofs.builder.ArrayBuilder.try_extend.Goals as goal
-use Rattle.std.proofs.Common.{◌∷◌, [], ◌++◌, Ok, Some, ap, append_assoc, map, subst, sym, ◌∙◌}
+use Rattle.std.proofs.Common.{◌≢◌, ◌∷◌, [], ◌++◌, Ok, Result, Some, ap, append_assoc, arith, inl, inr, length, length-append, map, refl, subst, sym, ◌∙◌}
 use Rattle.std.proofs.iter.Next.{Yields-more}
-use Rattle.std.proofs.lemmas.List.{map-append}
+use Rattle.std.proofs.lemmas.List.{length-map, map-append}
 use Rattle.std.specs.Iterator.{Yields}
 
 pub loop-items-preserved : goal.loop-items-preserved
@@ -17,4 +18,41 @@ loop-items-preserved g c =
             (Yields-more g.I.Iterator.next_gives c.args.items.now (map Ok so_far.0) c.loop-items.items (Ok item) c.next.new.self so_far.2
             (subst (λ reply. g.I.Iterator.next_gives c.loop-items.items (Some reply) c.next.new.self) c.in-Some-Ok.field-0-is c.in-Some-Ok.ensures.steps)),
       );
+    }
+
+pub returns : goal.returns
+returns g c =
+    let taken = c.loop-items.invariant.taken in
+    record {
+      taken = (taken.0, taken.1, inl (taken.2, omega (arith, length-map {B = Result g.row.T.Denot g.row.E.Denot} taken.0 Ok, ap length taken.1, length-append c.args.self.now taken.0, c.loop-items-test.ensures.full.0 refl)));
+      can = λ _. c.loop-items.invariant.can;
+      can_on = tt;
+    }
+
+pub returns-in-None : goal.returns-in-None
+returns-in-None g c =
+    let taken = c.loop-items.invariant.taken in
+    let other : length c.loop-items.self ≢ g.N.Unsigned.USIZE = λ full. true≢false (sym (c.loop-items-test.ensures.full.1 full)) in
+    record {
+      taken = (
+        taken.0,
+        taken.1,
+        inr (
+          (c.loop-items.items, taken.2, c.in-None.ensures.steps),
+          omega (arith, length-map {B = Result g.row.T.Denot g.row.E.Denot} taken.0 Ok, ap length taken.1, length-append c.args.self.now taken.0, c.loop-items-test.ensures.bound, other),
+        ),
+      );
+      can = λ full. absurd (other full);
+      can_on = tt;
+    }
+
+pub returns-in-Some-Err : goal.returns-in-Some-Err
+returns-in-Some-Err g c =
+    let taken = c.loop-items.invariant.taken in
+    let other : length c.loop-items.self ≢ g.N.Unsigned.USIZE = λ full. true≢false (sym (c.loop-items-test.ensures.full.1 full)) in
+    let call = subst (λ reply. g.I.Iterator.next_gives c.loop-items.items (Some reply) c.next.new.self) c.in-Some-Err.field-0-is c.in-Some-Err.ensures.steps in
+    record {
+      taken = (taken.0, taken.1, ((c.loop-items.items, taken.2, call), omega (arith, ap length taken.1, length-append c.args.self.now taken.0, c.loop-items-test.ensures.bound, other)));
+      can = λ full. absurd (other full);
+      can_on = c.in-Some-Err.ensures.goes.keeps;
     }

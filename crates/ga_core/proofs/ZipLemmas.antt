@@ -1,0 +1,20 @@
+-- Pairs of the items of two lists, from a place on.
+use Rattle.std.proofs.Common.{◌≡◌, ℕ, zero, suc, List, [], ◌∷◌, drop, refl, sym, ◌∙◌, ap}
+use Rattle.std.specs.List.{zip}
+
+module _ {A B : Type 0} where
+  zip-nil : (xs : List A) → zip {X = B} xs [] ≡ []
+  zip-nil [] = refl
+  zip-nil (x ∷ xs) = refl
+
+  drop-zip : (n : ℕ) (xs : List A) (ys : List B) → drop n (zip xs ys) ≡ zip (drop n xs) (drop n ys)
+  drop-zip zero xs ys = refl
+  drop-zip (suc n) [] ys = refl
+  drop-zip (suc n) (x ∷ xs) [] = sym (zip-nil (drop n xs))
+  drop-zip (suc n) (x ∷ xs) (y ∷ ys) = drop-zip n xs ys
+
+  -- the pairs from a place on begin with that of the two items there
+  pub pairs-here : (n : ℕ) (xs more : List A) (ys others : List B) (x : A) (y : B) → drop n xs ≡ x ∷ more → drop n ys ≡ y ∷ others
+      → drop n (zip xs ys) ≡ (x, y) ∷ zip more others
+  pairs-here n xs more ys others x y left right =
+      drop-zip n xs ys ∙ (ap (λ l. zip l (drop n ys)) left ∙ ap (λ r. zip (x ∷ more) r) right)

@@ -1,0 +1,173 @@
+//! Calls of a closure at the items of an inline array, in plain types: what is made is an inline array too.
+//!
+//! The traits of `generic_array` have `map`, `try_map` and `zip` for every kind of sequence. These calls
+//! name their types, so that who writes one has less to prove.
+ghost use Rattle.ga_core.specs.Calls.{MayCallOver, MayCallOverEntryPairs, MayCallOverPairs, MayCallOverUntilError};
+ghost use Rattle.ga_core.specs.Entries.{ActsOnEntries, ActsOnPair, CallAtPair, CallOnPair};
+ghost use Rattle.ga_core.specs.Runs.{ClosureRun, FirstErrorRun};
+ghost use Rattle.ga_core.specs.Tries.{try_map};
+ghost use Rattle.std.specs.Iterator.{ActsAs};
+ghost use Rattle.std.specs.List.{zip};
+ghost use Rattle.std.specs.Prelude.{◌≡◌, Result, map};
+
+use crate::array::GenericArray;
+use crate::length::ArrayLength;
+use crate::mapping::{try_write_mapped, write_mapped, write_zipped, write_zipped_ref};
+use crate::store::Store;
+use ga_views::GenericArrayRef;
+
+impl<T: Default + Drop, N: ArrayLength<T>> GenericArray<T, N> {
+    /// The array of what `f` returns at each item, called in order. Takes the items by value.
+    ///
+    /// The counterpart of `map`. Allocates nothing.
+    #[inline(always)]
+    pub fn map_inline<U: Default + Drop, F: FnMut(T) -> U>(self, f: F) -> GenericArray<U, N>
+    where
+        N: ArrayLength<U>,
+        requires callable { MayCallOver F.pre F.step f self }
+        ensures run { (last : F) × ClosureRun F.step f self result last }
+        ensures acts { (h : T → U) → ActsAs F.FnMut f h → result ≡ map h self }
+    {
+        let mut f = f;
+        self.map_inline_by(&mut f)
+    }
+
+    /// `map_inline` with a borrowed closure, which can be used again in the state that it reached.
+    #[inline(always)]
+    pub fn map_inline_by<U: Default + Drop, F: FnMut(T) -> U>(self, f: &mut F) -> GenericArray<U, N>
+    where
+        N: ArrayLength<U>,
+        requires callable { MayCallOver F.pre F.step f.old self }
+        ensures run { ClosureRun F.step f.old self result f.new }
+        ensures acts { (h : T → U) → ActsAs F.FnMut f.old h → result ≡ map h self }
+    {
+        let mut items = self;
+        let mut store: <N as ArrayLength<U>>::ArrayType = Store::filled();
+        write_mapped(items.as_mut_slice(), store.as_mut_slice(), f);
+        GenericArray::of_store(store)
+    }
+
+    /// `map_inline` with a closure that may fail: the array of what it returns, or its first error.
+    ///
+    /// No call follows an error. The items that were made, and those that are left, are dropped.
+    #[inline(always)]
+    pub fn try_map_inline<U: Default + Drop, F: FnMut(T) -> Result<U, E>, E>(
+        self,
+        f: F,
+    ) -> Result<GenericArray<U, N>, E>
+    where
+        N: ArrayLength<U>,
+        requires callable { MayCallOverUntilError F.pre F.step f self }
+        ensures run { (last : F) × FirstErrorRun F.step f self result last }
+        ensures acts { (h : T → Result U E) → ActsAs F.FnMut f h → result ≡ try_map h self }
+    {
+        let mut f = f;
+        self.try_map_inline_by(&mut f)
+    }
+
+    /// `try_map_inline` with a borrowed closure, which can be used again in the state that it reached.
+    #[inline(always)]
+    pub fn try_map_inline_by<U: Default + Drop, F: FnMut(T) -> Result<U, E>, E>(
+        self,
+        f: &mut F,
+    ) -> Result<GenericArray<U, N>, E>
+    where
+        N: ArrayLength<U>,
+        requires callable { MayCallOverUntilError F.pre F.step f.old self }
+        ensures run { FirstErrorRun F.step f.old self result f.new }
+        ensures acts { (h : T → Result U E) → ActsAs F.FnMut f.old h → result ≡ try_map h self }
+    {
+        let mut items = self;
+        let mut store: <N as ArrayLength<U>>::ArrayType = Store::filled();
+        match try_write_mapped(items.as_mut_slice(), store.as_mut_slice(), f) {
+            Ok(()) => Ok(GenericArray::of_store(store)),
+            Err(error) => Err(error),
+        }
+    }
+
+    /// The array of what `f` returns at each item and that of `rhs` in its place, called in order. Takes
+    /// the items of both by value.
+    ///
+    /// The counterpart of `zip`. Allocates nothing.
+    #[inline(always)]
+    pub fn zip_inline<B: Default + Drop, U: Default + Drop, F: FnMut(T, B) -> U>(
+        self,
+        rhs: GenericArray<B, N>,
+        f: F,
+    ) -> GenericArray<U, N>
+    where
+        N: ArrayLength<B> + ArrayLength<U>,
+        requires callable { MayCallOverPairs F.pre F.step f (zip self rhs) }
+        ensures run { (last : F) × ClosureRun (CallOnPair F.step) f (zip self rhs) result last }
+        ensures acts { (h : T × B → U) → ActsOnPair F.step f h → result ≡ map h (zip self rhs) }
+    {
+        let mut f = f;
+        self.zip_inline_by(rhs, &mut f)
+    }
+
+    /// `zip_inline` with a borrowed closure, which can be used again in the state that it reached.
+    #[inline(always)]
+    pub fn zip_inline_by<B: Default + Drop, U: Default + Drop, F: FnMut(T, B) -> U>(
+        self,
+        rhs: GenericArray<B, N>,
+        f: &mut F,
+    ) -> GenericArray<U, N>
+    where
+        N: ArrayLength<B> + ArrayLength<U>,
+        requires callable { MayCallOverPairs F.pre F.step f.old (zip self rhs) }
+        ensures run { ClosureRun (CallOnPair F.step) f.old (zip self rhs) result f.new }
+        ensures acts { (h : T × B → U) → ActsOnPair F.step f.old h → result ≡ map h (zip self rhs) }
+    {
+        let mut left = self;
+        let mut right = rhs;
+        let mut store: <N as ArrayLength<U>>::ArrayType = Store::filled();
+        write_zipped(
+            left.as_mut_slice(),
+            right.as_mut_slice(),
+            store.as_mut_slice(),
+            f,
+        );
+        GenericArray::of_store(store)
+    }
+
+    /// `zip_inline` with a view as the right-hand side, whose items are borrowed.
+    #[inline(always)]
+    pub fn zip_inline_ref<B, U: Default + Drop, F: FnMut(T, &B) -> U>(
+        self,
+        rhs: GenericArrayRef<'_, B, N>,
+        f: F,
+    ) -> GenericArray<U, N>
+    where
+        N: ArrayLength<U>,
+        requires callable { MayCallOverEntryPairs (λ item. item) (λ item. item.now) F.pre F.step f (zip self rhs.slice.now) }
+        ensures run { (last : F) × ClosureRun (CallAtPair (λ item. item) (λ item. item.now) F.step) f (zip self rhs.entry.slice.now) result last }
+        ensures acts { (h : T × B → U) → ActsOnEntries (λ item. item) (λ item. item.now) F.step f h → result ≡ map h (zip self rhs.entry.slice.now) }
+    {
+        let mut f = f;
+        self.zip_inline_ref_by(rhs, &mut f)
+    }
+
+    /// `zip_inline_ref` with a borrowed closure, which can be used again in the state that it reached.
+    #[inline(always)]
+    pub fn zip_inline_ref_by<B, U: Default + Drop, F: FnMut(T, &B) -> U>(
+        self,
+        rhs: GenericArrayRef<'_, B, N>,
+        f: &mut F,
+    ) -> GenericArray<U, N>
+    where
+        N: ArrayLength<U>,
+        requires callable { MayCallOverEntryPairs (λ item. item) (λ item. item.now) F.pre F.step f.old (zip self rhs.slice.now) }
+        ensures run { ClosureRun (CallAtPair (λ item. item) (λ item. item.now) F.step) f.old (zip self rhs.entry.slice.now) result f.new }
+        ensures acts { (h : T × B → U) → ActsOnEntries (λ item. item) (λ item. item.now) F.step f.old h → result ≡ map h (zip self rhs.entry.slice.now) }
+    {
+        let mut left = self;
+        let mut store: <N as ArrayLength<U>>::ArrayType = Store::filled();
+        write_zipped_ref(
+            left.as_mut_slice(),
+            rhs.into_slice(),
+            store.as_mut_slice(),
+            f,
+        );
+        GenericArray::of_store(store)
+    }
+}

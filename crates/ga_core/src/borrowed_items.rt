@@ -1,0 +1,169 @@
+//! Calls of a closure at borrowed items, in plain types: what is made is an inline array.
+ghost use Rattle.ga_core.specs.Calls.{MayCallOverEntries, MayCallOverEntriesUntilError, MayCallOverEntryPairs};
+ghost use Rattle.ga_core.specs.Entries.{ActsOnEntries, ActsOnEntry, CallAt, CallAtPair};
+ghost use Rattle.ga_core.specs.Runs.{ClosureRun, FirstErrorRun};
+ghost use Rattle.ga_core.specs.Tries.{try_map};
+ghost use Rattle.ga_views.specs.Length.{FitsInline};
+ghost use Rattle.std.specs.List.{zip};
+ghost use Rattle.std.specs.Prelude.{◌≡◌, List, Result, length, map, ⊤};
+
+use crate::array::GenericArray;
+use crate::length::ArrayLength;
+use crate::mapping::{try_write_mapped_ref, write_mapped_ref, write_zipped_refs};
+use crate::store::Store;
+use ga_views::{GenericArrayRef, Unsigned};
+
+/// Items that are borrowed: those of a read-only view, or of an inline array by reference.
+///
+/// Its calls are `map_inline` and its kin of `GenericArray`, with references in place of items. Of a view
+/// they require that the length fits inline; an array's always does.
+pub trait BorrowedItems<T, N: Unsigned> {
+    // The items, in order.
+    ghost items: { Self → List T };
+
+    // An inline array may have as many.
+    ghost Fits: { Type 0 };
+
+    /// The items as a slice. O(1).
+    fn borrowed(&self) -> &[T]
+        requires { Fits }
+        ensures items { result.now ≡ items self.now }
+        ensures len { length result.now ≡ N.USIZE }
+        ensures fits { FitsInline N.USIZE };
+
+    /// The array of what `f` returns at each item, called in order.
+    #[inline(always)]
+    final fn map_inline_ref<U: Default + Drop, F: FnMut(&T) -> U>(&self, f: F) -> GenericArray<U, N>
+    where
+        N: ArrayLength<U>,
+        requires fits { Fits }
+        requires callable { MayCallOverEntries (λ item. item.now) F.pre F.step f (items self.now) }
+        ensures run { (last : F) × ClosureRun (CallAt (λ item. item.now) F.step) f (items self.now) result last }
+        ensures acts { (h : T → U) → ActsOnEntry (λ item. item.now) F.step f h → result ≡ map h (items self.now) }
+    {
+        let mut f = f;
+        self.map_inline_ref_by(&mut f)
+    }
+
+    /// `map_inline_ref` with a borrowed closure, which can be used again in the state that it reached.
+    #[inline(always)]
+    final fn map_inline_ref_by<U: Default + Drop, F: FnMut(&T) -> U>(
+        &self,
+        f: &mut F,
+    ) -> GenericArray<U, N>
+    where
+        N: ArrayLength<U>,
+        requires fits { Fits }
+        requires callable { MayCallOverEntries (λ item. item.now) F.pre F.step f.old (items self.now) }
+        ensures run { ClosureRun (CallAt (λ item. item.now) F.step) f.old (items self.now) result f.new }
+        ensures acts { (h : T → U) → ActsOnEntry (λ item. item.now) F.step f.old h → result ≡ map h (items self.now) }
+    {
+        let items = self.borrowed();
+        let mut store: <N as ArrayLength<U>>::ArrayType = Store::filled();
+        write_mapped_ref(items, store.as_mut_slice(), f);
+        GenericArray::of_store(store)
+    }
+
+    /// `map_inline_ref` with a closure that may fail: the array of what it returns, or its first error.
+    ///
+    /// No call follows an error. The items that were made are dropped.
+    #[inline(always)]
+    final fn try_map_inline_ref<U: Default + Drop, F: FnMut(&T) -> Result<U, E>, E>(
+        &self,
+        f: F,
+    ) -> Result<GenericArray<U, N>, E>
+    where
+        N: ArrayLength<U>,
+        requires fits { Fits }
+        requires callable { MayCallOverEntriesUntilError (λ item. item.now) F.pre F.step f (items self.now) }
+        ensures run { (last : F) × FirstErrorRun (CallAt (λ item. item.now) F.step) f (items self.now) result last }
+        ensures acts { (h : T → Result U E) → ActsOnEntry (λ item. item.now) F.step f h → result ≡ try_map h (items self.now) }
+    {
+        let mut f = f;
+        self.try_map_inline_ref_by(&mut f)
+    }
+
+    /// `try_map_inline_ref` with a borrowed closure, which can be used again in the state that it reached.
+    #[inline(always)]
+    final fn try_map_inline_ref_by<U: Default + Drop, F: FnMut(&T) -> Result<U, E>, E>(
+        &self,
+        f: &mut F,
+    ) -> Result<GenericArray<U, N>, E>
+    where
+        N: ArrayLength<U>,
+        requires fits { Fits }
+        requires callable { MayCallOverEntriesUntilError (λ item. item.now) F.pre F.step f.old (items self.now) }
+        ensures run { FirstErrorRun (CallAt (λ item. item.now) F.step) f.old (items self.now) result f.new }
+        ensures acts { (h : T → Result U E) → ActsOnEntry (λ item. item.now) F.step f.old h → result ≡ try_map h (items self.now) }
+    {
+        let items = self.borrowed();
+        let mut store: <N as ArrayLength<U>>::ArrayType = Store::filled();
+        match try_write_mapped_ref(items, store.as_mut_slice(), f) {
+            Ok(()) => Ok(GenericArray::of_store(store)),
+            Err(error) => Err(error),
+        }
+    }
+
+    /// The array of what `f` returns at each item and that of `rhs` in its place, called in order.
+    ///
+    /// With an array by value on one side, call `zip_inline_ref` of that array.
+    #[inline(always)]
+    final fn zip_inline_refs<B, U: Default + Drop, F: FnMut(&T, &B) -> U>(
+        &self,
+        rhs: GenericArrayRef<'_, B, N>,
+        f: F,
+    ) -> GenericArray<U, N>
+    where
+        N: ArrayLength<U>,
+        requires fits { Fits }
+        requires callable { MayCallOverEntryPairs (λ item. item.now) (λ item. item.now) F.pre F.step f (zip (items self.now) rhs.slice.now) }
+        ensures run { (last : F) × ClosureRun (CallAtPair (λ item. item.now) (λ item. item.now) F.step) f (zip (items self.now) rhs.entry.slice.now) result last }
+        ensures acts { (h : T × B → U) → ActsOnEntries (λ item. item.now) (λ item. item.now) F.step f h → result ≡ map h (zip (items self.now) rhs.entry.slice.now) }
+    {
+        let mut f = f;
+        self.zip_inline_refs_by(rhs, &mut f)
+    }
+
+    /// `zip_inline_refs` with a borrowed closure, which can be used again in the state that it reached.
+    #[inline(always)]
+    final fn zip_inline_refs_by<B, U: Default + Drop, F: FnMut(&T, &B) -> U>(
+        &self,
+        rhs: GenericArrayRef<'_, B, N>,
+        f: &mut F,
+    ) -> GenericArray<U, N>
+    where
+        N: ArrayLength<U>,
+        requires fits { Fits }
+        requires callable { MayCallOverEntryPairs (λ item. item.now) (λ item. item.now) F.pre F.step f.old (zip (items self.now) rhs.slice.now) }
+        ensures run { ClosureRun (CallAtPair (λ item. item.now) (λ item. item.now) F.step) f.old (zip (items self.now) rhs.entry.slice.now) result f.new }
+        ensures acts { (h : T × B → U) → ActsOnEntries (λ item. item.now) (λ item. item.now) F.step f.old h → result ≡ map h (zip (items self.now) rhs.entry.slice.now) }
+    {
+        let items = self.borrowed();
+        let mut store: <N as ArrayLength<U>>::ArrayType = Store::filled();
+        write_zipped_refs(items, rhs.as_slice(), store.as_mut_slice(), f);
+        GenericArray::of_store(store)
+    }
+}
+
+/// The items of a view, whose length may be any: that it fits inline is a condition.
+impl<'a, T, N: Unsigned> BorrowedItems<T, N> for GenericArrayRef<'a, T, N> {
+    ghost items = { λ view. view.slice.now };
+
+    ghost Fits = { FitsInline N.USIZE };
+
+    #[inline(always)]
+    fn borrowed(&self) -> &[T] {
+        self.as_slice()
+    }
+}
+
+impl<T, N: ArrayLength<T>> BorrowedItems<T, N> for GenericArray<T, N> {
+    ghost items = { λ array. array };
+
+    ghost Fits = { ⊤ };
+
+    #[inline(always)]
+    fn borrowed(&self) -> &[T] {
+        self.as_slice()
+    }
+}

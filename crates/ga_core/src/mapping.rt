@@ -1,0 +1,137 @@
+//! What a closure returns at the items of slices, written over the slots of another slice, in order.
+ghost use Rattle.ga_core.specs.Entries.{CallAt, CallAtPair, CallOnPair, MayCallAt, MayCallAtPair, MayCallOnPair};
+ghost use Rattle.ga_core.specs.Runs.{CallableOver, CallableOverUntilError, ClosureRun, FirstErrorRun};
+ghost use Rattle.std.specs.List.{zip};
+ghost use Rattle.std.specs.Prelude.{◌≡◌, Err, MatchResult, Ok, length};
+
+use std::mem;
+
+/// Writes what `f` returns at each item, which is moved to it. Leaves defaults.
+#[inline]
+pub(crate) fn write_mapped<T: Default + Drop, U: Drop, F: FnMut(T) -> U>(
+    items: &mut [T],
+    slots: &mut [U],
+    f: &mut F,
+)
+    requires len { length items.old ≡ length slots.old }
+    requires callable { CallableOver F.pre F.step f.old items.old }
+    ensures run { ClosureRun F.step f.old items.old slots.new f.new }
+{
+    for (index, slot) in slots.iter_mut().enumerate() {
+        *slot = f(mem::take(&mut items[index]));
+    }
+}
+
+/// `write_mapped` of a closure that may fail, up to its first error, which is returned.
+#[inline]
+pub(crate) fn try_write_mapped<T: Default + Drop, U: Drop, E, F: FnMut(T) -> Result<U, E>>(
+    items: &mut [T],
+    slots: &mut [U],
+    f: &mut F,
+) -> Result<(), E>
+    requires len { length items.old ≡ length slots.old }
+    requires callable { CallableOverUntilError F.pre F.step f.old items.old }
+    ensures run { MatchResult result
+        (λ _. FirstErrorRun F.step f.old items.old (Ok slots.new) f.new)
+        (λ error. FirstErrorRun F.step f.old items.old (Err error) f.new) }
+{
+    for (index, slot) in slots.iter_mut().enumerate() {
+        match f(mem::take(&mut items[index])) {
+            Ok(item) => *slot = item,
+            Err(error) => return Err(error),
+        }
+    }
+    Ok(())
+}
+
+/// Writes what `f` returns at each item, which is borrowed.
+#[inline]
+pub(crate) fn write_mapped_ref<T, U: Drop, F: FnMut(&T) -> U>(
+    items: &[T],
+    slots: &mut [U],
+    f: &mut F,
+)
+    requires len { length items.now ≡ length slots.old }
+    requires callable { CallableOver (MayCallAt (λ item. item.now) F.pre) (CallAt (λ item. item.now) F.step) f.old items.now }
+    ensures run { ClosureRun (CallAt (λ item. item.now) F.step) f.old items.now slots.new f.new }
+{
+    for (index, slot) in slots.iter_mut().enumerate() {
+        *slot = f(&items[index]);
+    }
+}
+
+/// `write_mapped_ref` of a closure that may fail, up to its first error, which is returned.
+#[inline]
+pub(crate) fn try_write_mapped_ref<T, U: Drop, E, F: FnMut(&T) -> Result<U, E>>(
+    items: &[T],
+    slots: &mut [U],
+    f: &mut F,
+) -> Result<(), E>
+    requires len { length items.now ≡ length slots.old }
+    requires callable { CallableOverUntilError (MayCallAt (λ item. item.now) F.pre) (CallAt (λ item. item.now) F.step) f.old items.now }
+    ensures run { MatchResult result
+        (λ _. FirstErrorRun (CallAt (λ item. item.now) F.step) f.old items.now (Ok slots.new) f.new)
+        (λ error. FirstErrorRun (CallAt (λ item. item.now) F.step) f.old items.now (Err error) f.new) }
+{
+    for (index, slot) in slots.iter_mut().enumerate() {
+        match f(&items[index]) {
+            Ok(item) => *slot = item,
+            Err(error) => return Err(error),
+        }
+    }
+    Ok(())
+}
+
+/// Writes what `f` returns at each two items in the same place, which are moved to it. Leaves defaults.
+#[inline]
+pub(crate) fn write_zipped<T: Default + Drop, B: Default + Drop, U: Drop, F: FnMut(T, B) -> U>(
+    left: &mut [T],
+    right: &mut [B],
+    slots: &mut [U],
+    f: &mut F,
+)
+    requires left { length left.old ≡ length slots.old }
+    requires right { length right.old ≡ length slots.old }
+    requires callable { CallableOver (MayCallOnPair F.pre) (CallOnPair F.step) f.old (zip left.old right.old) }
+    ensures run { ClosureRun (CallOnPair F.step) f.old (zip left.old right.old) slots.new f.new }
+{
+    for (index, slot) in slots.iter_mut().enumerate() {
+        *slot = f(mem::take(&mut left[index]), mem::take(&mut right[index]));
+    }
+}
+
+/// `write_zipped` where the items of the right side are borrowed.
+#[inline]
+pub(crate) fn write_zipped_ref<T: Default + Drop, B, U: Drop, F: FnMut(T, &B) -> U>(
+    left: &mut [T],
+    right: &[B],
+    slots: &mut [U],
+    f: &mut F,
+)
+    requires left { length left.old ≡ length slots.old }
+    requires right { length right.now ≡ length slots.old }
+    requires callable { CallableOver (MayCallAtPair (λ item. item) (λ item. item.now) F.pre) (CallAtPair (λ item. item) (λ item. item.now) F.step) f.old (zip left.old right.now) }
+    ensures run { ClosureRun (CallAtPair (λ item. item) (λ item. item.now) F.step) f.old (zip left.old right.now) slots.new f.new }
+{
+    for (index, slot) in slots.iter_mut().enumerate() {
+        *slot = f(mem::take(&mut left[index]), &right[index]);
+    }
+}
+
+/// `write_zipped` where the items of both sides are borrowed.
+#[inline]
+pub(crate) fn write_zipped_refs<T, B, U: Drop, F: FnMut(&T, &B) -> U>(
+    left: &[T],
+    right: &[B],
+    slots: &mut [U],
+    f: &mut F,
+)
+    requires left { length left.now ≡ length slots.old }
+    requires right { length right.now ≡ length slots.old }
+    requires callable { CallableOver (MayCallAtPair (λ item. item.now) (λ item. item.now) F.pre) (CallAtPair (λ item. item.now) (λ item. item.now) F.step) f.old (zip left.now right.now) }
+    ensures run { ClosureRun (CallAtPair (λ item. item.now) (λ item. item.now) F.step) f.old (zip left.now right.now) slots.new f.new }
+{
+    for (index, slot) in slots.iter_mut().enumerate() {
+        *slot = f(&left[index], &right[index]);
+    }
+}
