@@ -1,9 +1,11 @@
 //! The boxed array, and what it lends.
+ghost use Rattle.ga_core.specs.Iteration.{IteratesMutOver, IteratesOver};
 ghost use Rattle.std.specs.Borrow.{sem};
 ghost use Rattle.std.specs.Iterator.{YieldsFirst, YieldsLast};
 ghost use Rattle.std.specs.Iterator.Runs.{YieldsInOrder, YieldsInReverse};
 ghost use Rattle.std.specs.Prelude.{◌≡◌, length};
 
+mod as_slice;
 mod builds;
 mod conversions;
 mod copies;
@@ -11,8 +13,8 @@ mod copies;
 use crate::boxed_array_iter::BoxedArrayIter;
 use crate::live_block::LiveBlock;
 use ga_core::{GenericArrayRef, Unsigned};
-use std::convert::AsSlice;
 use std::marker::{Model, PhantomData};
+use std::slice;
 
 /// An array of exactly `N` items of `T`, kept in one block of memory. Contracts see it as the list
 /// of its items.
@@ -36,7 +38,7 @@ impl<T, N: Unsigned> Model for BoxedArray<T, N> {
 }
 
 impl<T, N: Unsigned> BoxedArray<T, N> {
-    ghost use Rattle.ga_boxed.specs.Lends.{LendsItems};
+    ghost use Rattle.ga_boxed.specs.Lends.{LendsItems, LendsIter};
 
     /// The array of `N` items. Moves none of them.
     fn of_items(items: LiveBlock<T>) -> Self
@@ -68,21 +70,37 @@ impl<T, N: Unsigned> BoxedArray<T, N> {
         self.items.as_mut_slice()
     }
 
+    /// The number of items, which is `N`.
+    #[inline]
+    pub fn len(&self) -> usize
+        ensures { result ≡ N.USIZE }
+    {
+        N::USIZE
+    }
+
+    /// The items by reference, in order.
+    #[inline]
+    pub fn iter(&self) -> slice::Iter<'_, T>
+        ensures { IteratesOver self.now N.USIZE result }
+    {
+        self.as_slice().iter()
+    }
+
+    /// The items by reference, in order, for writing.
+    #[inline]
+    pub fn iter_mut(&mut self) -> slice::IterMut<'_, T>
+        ensures* writes_back { sem 𝓛 (LendsIter T.row N.row N.Unsigned self.entry result) }
+        ensures items { IteratesMutOver self.old N.USIZE result }
+    {
+        self.as_mut_slice().iter_mut()
+    }
+
     /// The read-only view of the items.
     #[inline]
     pub fn view(&self) -> GenericArrayRef<'_, T, N>
         ensures { result.slice.now ≡ self.now }
     {
         GenericArrayRef::from_slice(self.as_slice())
-    }
-}
-
-impl<T, N: Unsigned> AsSlice<T> for BoxedArray<T, N> {
-    ghost items = { λ array. array };
-
-    #[inline]
-    fn as_slice(&self) -> &[T] {
-        BoxedArray::as_slice(self)
     }
 }
 

@@ -6,9 +6,6 @@ ghost use Rattle.std.specs.Iterator.{ActsAsOnTwo, YieldsFirst, YieldsLast, item_
 ghost use Rattle.std.specs.List.{AllZip};
 ghost use Rattle.std.specs.Prelude.{◌≡◌, ◌-◌, ◌<◌, [], ◌∷◌, ◌++◌, IfOk, IsOk, fold, length, reverse, slice_get};
 
-#[cfg(test)]
-mod tests;
-
 use crate::live_block::LiveBlock;
 use ga_core::AllocError;
 use std::alloc;

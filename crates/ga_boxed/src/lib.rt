@@ -7,8 +7,6 @@
 mod boxed_array;
 mod boxed_array_iter;
 mod live_block;
-#[cfg(test)]
-mod uses;
 
 pub use boxed_array::BoxedArray;
 pub use boxed_array_iter::BoxedArrayIter;

@@ -4,8 +4,6 @@ ghost use Rattle.std.specs.Borrow.{sem};
 ghost use Rattle.std.specs.Prelude.{◌≡◌, ◌≢◌, ◌+◌, ◌<◌, ◌∷◌, ◌++◌, [], IfOk, IsOk, MatchOption, length};
 
 mod cells;
-#[cfg(test)]
-mod tests;
 
 #[doc(hidden)]
 pub use cells::{Base, Cells, Deed};

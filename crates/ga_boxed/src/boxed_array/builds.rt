@@ -7,9 +7,6 @@ ghost use Rattle.std.specs.Iterator.{ActsAs};
 ghost use Rattle.std.specs.List.{range_with_len};
 ghost use Rattle.std.specs.Prelude.{◌≡◌, ℕ, ◌+◌, IfOk, IsOk, OnErr, OnOk, Result, map};
 
-#[cfg(test)]
-mod tests;
-
 use crate::boxed_array::BoxedArray;
 use crate::live_block::LiveBlock;
 use ga_core::{AllocError, FillError, LengthError, Unsigned};
@@ -50,7 +47,7 @@ impl<T: Drop, N: Unsigned> BoxedArray<T, N> {
     /// `generate` with a closure that may fail: the array of its answers, or its first error.
     ///
     /// No call follows an error, and the items made before it are dropped.
-    pub fn try_generate<E, F: FnMut(usize) -> Result<T, E>>(
+    pub fn try_generate<F: FnMut(usize) -> Result<T, E>, E>(
         alloc: Global,
         f: F,
     ) -> Result<Result<Self, E>, AllocError>
@@ -64,7 +61,7 @@ impl<T: Drop, N: Unsigned> BoxedArray<T, N> {
     }
 
     /// `try_generate` with a closure that is lent, and can be used again in the state that it reached.
-    pub fn try_generate_by<E, F: FnMut(usize) -> Result<T, E>>(
+    pub fn try_generate_by<F: FnMut(usize) -> Result<T, E>, E>(
         alloc: Global,
         f: &mut F,
     ) -> Result<Result<Self, E>, AllocError>
@@ -147,7 +144,7 @@ impl<T: Drop, N: Unsigned> BoxedArray<T, N> {
     ///
     /// Asks for the whole block first: where that is refused, the answer is `Place`, and no item is
     /// taken. An error that comes after `N` values is one item too many. Size hints aren't consulted.
-    pub fn try_boxed_from_fallible_iter<E: Drop, I: Iterator<Item = Result<T, E>>>(
+    pub fn try_boxed_from_fallible_iter<I: Iterator<Item = Result<T, E>>, E: Drop>(
         alloc: Global,
         items: I,
     ) -> Result<Self, FillError<E, AllocError>>
@@ -164,7 +161,7 @@ impl<T: Drop, N: Unsigned> BoxedArray<T, N> {
     ///
     /// The error that is answered is the last item taken. An iterator isn't asked again once it has
     /// ended.
-    pub fn try_boxed_from_fallible_iter_ref<E: Drop, I: Iterator<Item = Result<T, E>>>(
+    pub fn try_boxed_from_fallible_iter_ref<I: Iterator<Item = Result<T, E>>, E: Drop>(
         alloc: Global,
         items: &mut I,
     ) -> Result<Self, FillError<E, AllocError>>
@@ -178,7 +175,7 @@ impl<T: Drop, N: Unsigned> BoxedArray<T, N> {
     }
 
     // The fill itself, of which `try_boxed_from_fallible_iter_ref` says one thing more that follows.
-    fn fill_fallibly_from<E: Drop, I: Iterator<Item = Result<T, E>>>(
+    fn fill_fallibly_from<I: Iterator<Item = Result<T, E>>, E: Drop>(
         alloc: Global,
         items: &mut I,
     ) -> Result<Self, FillError<E, AllocError>>

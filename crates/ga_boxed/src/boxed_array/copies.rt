@@ -3,9 +3,6 @@ ghost use Rattle.ga_core.specs.Copies.{Repeats};
 ghost use Rattle.std.specs.List.{All};
 ghost use Rattle.std.specs.Prelude.{◌≡◌, IfOk, IsOk, replicate};
 
-#[cfg(test)]
-mod tests;
-
 use crate::boxed_array::BoxedArray;
 use crate::live_block::LiveBlock;
 use ga_core::{AllocError, Unsigned};

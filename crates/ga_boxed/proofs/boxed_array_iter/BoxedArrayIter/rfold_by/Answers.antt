@@ -17,7 +17,7 @@ loop-item-preserved g c =
       FoldsTo-push _ (c.args.f.now, c.args.init) so_far.0 (c.loop-item.f, c.loop-item.answer) item (c.f-answer.new.self, c.f-answer.result) so_far.2 c.f-answer.ensures,
     )
 
-pub returns-clause-acts : goal.returns-clause-acts
-returns-clause-acts g c h acts =
+pub returns : goal.returns
+returns g c =
     let run : FoldRun (goal.F-step g) c.args.f.now c.args.init (reverse c.args.self) c.loop-item.answer c.loop-item.f = grind (arith, common_steps) in
-    answer_of_fold _ _ h acts _ _ _ _ run
+    record { run = run; acts = λ h acts. answer_of_fold _ _ h acts _ _ _ _ run }
