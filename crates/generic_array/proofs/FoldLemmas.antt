@@ -1,6 +1,7 @@
 -- The loop of a fold over what a sequence gives, and what its calls come to.
 use Rattle.ga_core.specs.Runs.{CallableInFold, FoldRun}
-use Rattle.generic_array.specs.Entries.{FoldAt, GivesEntries, MayFoldAt, SomeEntries}
+use Rattle.ga_core.specs.Entries.{FoldAt, MayFoldAt}
+use Rattle.generic_array.specs.GivenEntries.{GivesEntries, SomeEntries}
 use Rattle.generic_array.specs.EntryRuns.{TryFoldRun, good_step}
 use Rattle.std.proofs.Common.{◌≡◌, List, [], ◌∷◌, ◌++◌, inl, inr, Result, Ok, Err, Option, None, Some, append_assoc, append-nil, refl, ap, sym, ◌∙◌, subst}
 use Rattle.std.proofs.lemmas.Fn.{FoldsTo-push}

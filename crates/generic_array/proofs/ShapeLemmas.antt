@@ -1,12 +1,13 @@
 -- Items taken out of a list, and rows of it joined and cut.
-use Rattle.std.proofs.Common.{◌≡◌, ℕ, zero, suc, ◌+◌, ◌-◌, ◌*◌, ◌/◌, ◌<◌, List, [], ◌∷◌, ◌++◌, Some, take, drop, refl, ap, ◌∙◌, sym, arith, append_assoc, get_or, length, length-append, length-drop, length-take, map, slice_get, slice_index_or, slice_set}
+use Rattle.std.proofs.Common.{◌≡◌, ℕ, zero, suc, ◌+◌, ◌-◌, ◌*◌, ◌/◌, ◌<◌, ◌≤◌, List, [], ◌∷◌, ◌++◌, Some, take, drop, refl, subst, ap, ◌∙◌, sym, arith, append_assoc, get_or, length, length-append, length-drop, length-set, length-take, map, slice_get, slice_index_or, slice_set}
+use Rattle.ga_core.proofs.PlaceLemmas.{refill-whole}
 use Rattle.std.proofs.Math.Seq.{drop-append_seam, take-append_seam}
 use Rattle.generic_array.specs.Rows.{row_at, rows}
 use Rattle.std.proofs.Math.Nat.{suc-mul}
-use Rattle.std.proofs.lemmas.List.{drop_more}
+use Rattle.std.proofs.lemmas.List.{append-nil, drop_all, drop_more, get_or-drop, get_or-set_same, get_or_default, take-set-le, take_all}
 use Rattle.std.proofs.lemmas.List.FromFn.{map-range_with_len_more}
 use Rattle.std.proofs.lemmas.Nat.{div-mul-add}
-use Rattle.std.specs.List.{flat_map, range_with_len, remove, swap_remove}
+use Rattle.std.specs.List.{flat_map, range_with_len, refill, remove, swap, swap_remove}
 
 -- how many items the rows have that are left after the first of them
 pub area-next : {R : Type 0} (row : R) (these left : List R) → these ≡ row ∷ left → (w at total : ℕ) → at + length these * w ≡ total → (at + w) + length left * w ≡ total
@@ -14,7 +15,29 @@ area-next row these left first w at total same =
     let more : length these * w ≡ length left * w + w = ap (λ all. length all * w) first ∙ suc-mul (length left) w in
     omega arith
 
+pub area-room : (R : Type 0) (rows : List R) (i : ℕ) (d : R) (w at total : ℕ) → i < length rows → at + length (drop i rows) * w ≡ total → at + w ≤ total
+area-room R rows i d w at total here same =
+    let more = area-next (get_or rows i d) (drop i rows) (drop (i + 1) rows) (drop_more rows i d here) w at total same in
+    omega (arith, more)
+
 module _ {T : Type 0} where
+  -- what stands in an array whose places were written in two parts
+  pub refill-parts : (n : ℕ) (items front back first rest : List T) → front ≡ first → back ≡ rest → n ≡ length front + length back → refill n items (front ++ back) ≡ first ++ rest
+  refill-parts n items front back first rest one two long =
+      refill-whole n items (front ++ back) (long ∙ sym (length-append front back))
+      ∙ (ap (λ l. l ++ back) one ∙ ap (λ l. first ++ l) two)
+
+  -- a list of one item
+  pub set-only : (items : List T) (item : T) → length items ≡ 1 → slice_set items 0 item ≡ item ∷ []
+  set-only [] item long = cc
+  set-only (x ∷ []) item long = refl
+  set-only (x ∷ y ∷ items) item long = absurd (omega (arith, long))
+
+  pub get-only : (items : List T) (d : T) → length items ≡ 1 → items ≡ get_or items 0 d ∷ []
+  get-only [] d long = cc
+  get-only (x ∷ []) d long = refl
+  get-only (x ∷ y ∷ items) d long = absurd (omega (arith, long))
+
   -- the item at a place, and the list without it
   pub slice_get-next : (n : ℕ) (items left : List T) (item : T) → drop n items ≡ item ∷ left → slice_get items n ≡ Some item
   slice_get-next zero items left item here = ap (λ all. slice_get all 0) here
@@ -102,6 +125,22 @@ module _ {T : Type 0} where
       ap (drop n) (sym (append_assoc front passed rest))
       ∙ (ap (λ k. drop k ((front ++ passed) ++ rest)) (omega (arith, length-append front passed)) ∙ drop-append_seam (front ++ passed) rest)
 
+  -- where nothing is left of a row, what follows begins with the next row
+  pub rows-begun : (begun row now : List T) (these left : List (List T)) (whole : List T) → length begun ≡ 0 → these ≡ row ∷ left → now ≡ row
+      → begun ++ flat_map (λ r. r) these ≡ whole → now ++ flat_map (λ r. r) left ≡ whole
+  rows-begun [] row now these left whole none first starts same =
+      ap (λ l. l ++ flat_map (λ r. r) left) starts ∙ (sym (ap (flat_map (λ r. r)) first) ∙ same)
+  rows-begun (x ∷ begun) row now these left whole none first starts same = absurd (omega (arith, none))
+
+  -- where no row is left, the places are the rows joined
+  pub flat_map-whole : (R : Type 0) (f : R → List T) (rows : List R) (i at w : ℕ) (places whole : List T) → length rows ≤ i → at + length (drop i rows) * w ≡ length places
+      → take at places ++ flat_map (λ r. r) (map f (drop i rows)) ≡ whole → places ≡ whole
+  flat_map-whole R f rows i at w places whole past long same =
+      let none : drop i rows ≡ [] = drop_all i rows past in
+      let full : at + length {A = R} [] * w ≡ length places = subst (λ l. at + length l * w ≡ length places) none long in
+      sym (take_all at places (omega (arith, full)))
+      ∙ (sym (append-nil (take at places)) ∙ (ap (λ l. take at places ++ flat_map (λ r. r) (map f l)) (sym none) ∙ same))
+
   -- rows joined, where the first of those that are left was moved
   module _ {R : Type 0} (row : R) (these left : List R) (first : these ≡ row ∷ left) where
     pub flat_map-next : (f : R → List T) (built grown whole : List T) → grown ≡ built ++ f row → built ++ flat_map (λ r. r) (map f these) ≡ whole → grown ++ flat_map (λ r. r) (map f left) ≡ whole
@@ -121,3 +160,58 @@ module _ {T : Type 0} where
   rows-whole w r items some whole =
       let count : length items / w ≡ r = ap (λ n. n / w) (omega (arith, whole)) ∙ div-mul-add r w 0 some in
       ap (λ n. map (row_at w items) (range_with_len 0 n)) (sym count)
+
+  -- the list of which the item at a place and the last one changed places: the others, and the item
+  pub swapped-others : (items : List T) (i m : ℕ) (x : T) → i < length items → length items ≡ m + 1 → take m (swap items i m) ≡ swap_remove items i x
+  swapped-others [] i m x here long = absurd (omega (arith, here))
+  swapped-others (d ∷ ys) i m x here long =
+      let last : length (d ∷ ys) - 1 ≡ m = omega (arith, long) in
+      take-set-le m (slice_set (d ∷ ys) i (slice_index_or (d ∷ ys) m d)) m (slice_index_or (d ∷ ys) i d) (omega arith)
+      ∙ (ap (λ v. take m (slice_set (d ∷ ys) i v)) (get_or_default (d ∷ ys) m d x (omega (arith, long)))
+      ∙ ap (λ k. take k (slice_set (d ∷ ys) i (slice_index_or (d ∷ ys) k x))) (sym last))
+
+  pub swapped-item : (items : List T) (i m : ℕ) (x : T) → i < length items → length items ≡ m + 1 → slice_get items i ≡ Some (get_or (drop m (swap items i m)) 0 x)
+  swapped-item [] i m x here long = absurd (omega (arith, here))
+  swapped-item (d ∷ ys) i m x here long =
+      let items = d ∷ ys in
+      let carried = slice_set items i (slice_index_or items m d) in
+      slice_get-next i items (drop (i + 1) items) (get_or items i d) (drop_more items i d here)
+      ∙ ap (λ item. Some item) (sym (get_or-drop m (slice_set carried m (slice_index_or items i d)) 0 x
+      ∙ (ap (λ k. get_or (slice_set carried m (slice_index_or items i d)) k x) (omega arith)
+      ∙ get_or-set_same carried m (slice_index_or items i d) x (omega (arith, long, length-set items i (slice_index_or items m d))))))
+
+  -- the same, from what each step of the removal tells
+  module _ (self items : List T) (i n m u : ℕ) (x : T) (here : i < length self) (same : items ≡ self) (long : length items ≡ n) (shorter : n ≡ m + 1) (asked : u ≡ m) where
+    length-self : length self ≡ m + 1
+    length-self = omega (arith, ap length same, long, shorter)
+
+    module _ (front behind turned others last : List T) (is_front : front ≡ take i items) (is_behind : behind ≡ drop i items) (turns : turned ≡ drop 1 behind ++ take 1 behind) where
+      length-u : length self ≡ u + 1
+      length-u = omega (arith, length-self, asked)
+
+      carried : turned ≡ drop 1 (drop i self) ++ take 1 (drop i self)
+      carried = turns ∙ ap (λ l. drop 1 l ++ take 1 l) (is_behind ∙ ap (drop i) same)
+
+      parted : front ++ turned ≡ take i self ++ turned
+      parted = ap (λ l. l ++ turned) (is_front ∙ ap (take i) same)
+
+      pub remove-others : (made : List T) → made ≡ others → others ≡ take u (front ++ turned) → made ≡ remove self i
+      remove-others made is_made is_others = is_made ∙ (is_others ∙ carried-others i u self turned (front ++ turned) x here length-u carried parted)
+
+      pub remove-item : (got : T) → got ≡ slice_index_or last 0 x → last ≡ drop u (front ++ turned) → slice_get self i ≡ Some got
+      remove-item got is_got is_last =
+          carried-item i u self turned (front ++ turned) x here length-u carried parted
+          ∙ ap (λ y. Some y) (sym (is_got ∙ ap (λ l. slice_index_or l 0 x) is_last))
+
+    module _ (swapped others last : List T) (v : ℕ) (swaps : swapped ≡ swap items i u) (then : v ≡ m) where
+      swapped-is : swapped ≡ swap self i m
+      swapped-is = swaps ∙ (ap (λ l. swap l i u) same ∙ ap (λ k. swap self i k) asked)
+
+      pub swap_remove-others : (made : List T) → made ≡ others → others ≡ take v swapped → made ≡ swap_remove self i x
+      swap_remove-others made is_made is_others =
+          is_made ∙ (is_others ∙ (ap (λ k. take k swapped) then ∙ (ap (take m) swapped-is ∙ swapped-others self i m x here length-self)))
+
+      pub swap_remove-item : (got : T) → got ≡ get_or last 0 x → last ≡ drop v swapped → slice_get self i ≡ Some got
+      swap_remove-item got is_got is_last =
+          swapped-item self i m x here length-self
+          ∙ ap (λ y. Some y) (sym (is_got ∙ ap (λ l. get_or l 0 x) (is_last ∙ (ap (λ k. drop k swapped) then ∙ ap (drop m) swapped-is))))

@@ -1,9 +1,10 @@
 -- Walks over what a sequence gives, and the calls along them.
 use Rattle.ga_core.proofs.RunLemmas.{FirstErrorRun-good}
-use Rattle.ga_core.specs.Runs.{ClosureRun, FirstErrorRun}
+use Rattle.ga_core.specs.Runs.{CallableOver, CallableOverUntilError, ClosureRun, FirstErrorRun}
 use Rattle.generic_array.specs.Built.{built_items}
-use Rattle.generic_array.specs.Entries.{CallAt, CallAtNext, CallAtNextPair, CallAtPair, MayCallAt, MayCallAtNext, MayCallAtNextPair, MayCallAtPair}
-use Rattle.generic_array.specs.EntryRuns.{CallableOver, CallableOverUntilError, FirstErrorRan}
+use Rattle.ga_core.specs.Entries.{CallAt, CallAtPair, MayCallAt, MayCallAtPair}
+use Rattle.generic_array.specs.GivenEntries.{CallAtNext, CallAtNextPair, MayCallAtNext, MayCallAtNextPair}
+use Rattle.generic_array.specs.EntryRuns.{FirstErrorRan}
 use Rattle.std.proofs.Common.{◌≡◌, suc, ◌<◌, List, [], ◌∷◌, ◌++◌, length, length-append, arith, ◌⊎◌, inl, inr, map, Result, Ok, Err, Option, None, Some, append-nil, refl, ap, sym, ◌∙◌, subst}
 use Rattle.std.specs.Iterator.{AlwaysYields}
 use Rattle.std.specs.List.{zip}

@@ -1,18 +1,6 @@
--- Runs of a closure over a list: when it may be called along them, and folds that may fail.
-use Rattle.ga_core.specs.Runs.{ClosureRun, FirstErrorRun}
-use Rattle.std.specs.Prelude.{◌≡◌, ◌⊎◌, [], List, ◌∷◌, ◌++◌, Result, Ok, Err, map}
-
-module _ {F X Y : Type 0} (pre : F → X → Type 0) (step : F → X → Y → F → Type 0) where
-  -- f may be called at each input in turn, in each state that the calls at the inputs before it lead to
-  abbrev pub CallableOver : F → List X → Type 0
-  CallableOver f xs = (passed : List X) (x : X) (others : List X) (ys : List Y) (reached : F)
-      → xs ≡ passed ++ x ∷ others → ClosureRun step f passed ys reached → pre reached x
-
-module _ {F X Y E : Type 0} (pre : F → X → Type 0) (step : F → X → Result Y E → F → Type 0) where
-  -- f may be called at each input in turn, in each state that good calls at the inputs before it lead to
-  abbrev pub CallableOverUntilError : F → List X → Type 0
-  CallableOverUntilError f xs = (passed : List X) (x : X) (others : List X) (good : List Y) (reached : F)
-      → xs ≡ passed ++ x ∷ others → ClosureRun step f passed (map Ok good) reached → pre reached x
+-- Runs over a list that a proof finds its way along, and folds that may fail.
+use Rattle.ga_core.specs.Runs.{FirstErrorRun}
+use Rattle.std.specs.Prelude.{◌≡◌, ◌⊎◌, [], List, ◌∷◌, Result, Ok, Err}
 
 -- `FirstErrorRun` as a record, from which a proof finds the step
 pub record FirstErrorRan {F X Y E : Type 0} (step : F → X → Result Y E → F → Type 0) (f : F) (xs : List X) (answer : Result (List Y) E) (last : F) : Type 0 where

@@ -1,7 +1,6 @@
 //! Generic functions that know the traits alone, at work for every kind of sequence.
-ghost use Rattle.ga_core.specs.Runs.{CallableInFold, ClosureRun, FoldRun};
-ghost use Rattle.generic_array.specs.Entries.{ActsInFold, ActsOnEntries, ActsOnEntry, CallAt, CallAtPair, FoldAt, MayCallAt, MayCallAtPair, MayFoldAt};
-ghost use Rattle.generic_array.specs.EntryRuns.{CallableOver};
+ghost use Rattle.ga_core.specs.Runs.{CallableInFold, CallableOver, ClosureRun, FoldRun};
+ghost use Rattle.ga_core.specs.Entries.{ActsInFold, ActsOnEntries, ActsOnEntry, CallAt, CallAtPair, FoldAt, MayCallAt, MayCallAtPair, MayFoldAt};
 ghost use Rattle.std.specs.Iterator.{ActsAsOnTwo};
 ghost use Rattle.std.specs.List.{zip};
 ghost use Rattle.std.specs.Prelude.{◌≡◌, IfOk, IsOk, List, OnErr, fold, map};

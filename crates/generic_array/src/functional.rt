@@ -1,11 +1,11 @@
 //! Calls of a closure at all entries of a sequence, from the first to the last.
 //!
 //! Each is inlined wherever it stands: a call that isn't copies an array that is handed on by value.
-ghost use Rattle.ga_core.specs.Runs.{CallableInFold, ClosureRun, FirstErrorRun, FoldRun};
+ghost use Rattle.ga_core.specs.Runs.{CallableInFold, CallableOver, CallableOverUntilError, ClosureRun, FirstErrorRun, FoldRun};
 ghost use Rattle.ga_core.specs.Tries.{try_fold, try_map};
 ghost use Rattle.generic_array.specs.Built.{built_items};
-ghost use Rattle.generic_array.specs.Entries.{ActsInFold, ActsOnEntries, ActsOnEntry, CallAt, CallAtPair, FoldAt, MayCallAt, MayCallAtPair, MayFoldAt};
-ghost use Rattle.generic_array.specs.EntryRuns.{CallableOver, CallableOverUntilError, TryFoldRun, good_step};
+ghost use Rattle.ga_core.specs.Entries.{ActsInFold, ActsOnEntries, ActsOnEntry, CallAt, CallAtPair, FoldAt, MayCallAt, MayCallAtPair, MayFoldAt};
+ghost use Rattle.generic_array.specs.EntryRuns.{TryFoldRun, good_step};
 ghost use Rattle.std.specs.List.{zip};
 ghost use Rattle.std.specs.Prelude.{◌≡◌, IfOk, IsOk, OnErr, Result, fold, map};
 
@@ -89,7 +89,7 @@ pub trait FunctionalSequence<T>: GenericSequence<T> {
     ///
     /// No call follows an error. The answers made before it, and the entries left, are dropped.
     #[inline(always)]
-    final fn try_map<U, E, F: FnMut(Self::Item) -> Result<U, E>>(
+    final fn try_map<U, F: FnMut(Self::Item) -> Result<U, E>, E>(
         self,
         place: MappedPlace<Self, T, U>,
         f: F,
@@ -109,7 +109,7 @@ pub trait FunctionalSequence<T>: GenericSequence<T> {
 
     /// `try_map` with a closure that is lent, and can be used again in the state that it reached.
     #[inline(always)]
-    final fn try_map_by<U, E, F: FnMut(Self::Item) -> Result<U, E>>(
+    final fn try_map_by<U, F: FnMut(Self::Item) -> Result<U, E>, E>(
         self,
         place: MappedPlace<Self, T, U>,
         f: &mut F,
@@ -136,19 +136,19 @@ pub trait FunctionalSequence<T>: GenericSequence<T> {
     ///
     /// The lengths are equal. `rhs` may be of another kind.
     #[inline(always)]
-    final fn zip<B, U, R: GenericSequence<B>, F: FnMut(Self::Item, R::Item) -> U>(
+    final fn zip<B, Rhs: GenericSequence<B>, U, F: FnMut(Self::Item, Rhs::Item) -> U>(
         self,
         place: MappedPlace<Self, T, U>,
-        rhs: R,
+        rhs: Rhs,
         f: F,
     ) -> Result<MappedSequence<Self, T, U>, MappedError<Self, T, U>>
     where
         Self: MappedGenericSequence<T, U>,
-        requires lengths { Self.Length.USIZE ≡ R.Length.USIZE }
+        requires lengths { Self.Length.USIZE ≡ Rhs.Length.USIZE }
         requires fits { Self.Mapped.Fits }
-        requires callable { CallableOver (MayCallAtPair Self.entry R.entry F.pre) (CallAtPair Self.entry R.entry F.step) f (zip (Self.items self) (R.items rhs)) }
-        ensures run { (last : F) × IfOk result (λ made. ClosureRun (CallAtPair Self.entry R.entry F.step) f (zip (Self.items self) (R.items rhs)) (Self.Mapped.Sequence.items made) last) }
-        ensures acts { IfOk result (λ made. (h : T × B → U) → ActsOnEntries Self.entry R.entry F.step f h → Self.Mapped.Sequence.items made ≡ map h (zip (Self.items self) (R.items rhs))) }
+        requires callable { CallableOver (MayCallAtPair Self.entry Rhs.entry F.pre) (CallAtPair Self.entry Rhs.entry F.step) f (zip (Self.items self) (Rhs.items rhs)) }
+        ensures run { (last : F) × IfOk result (λ made. ClosureRun (CallAtPair Self.entry Rhs.entry F.step) f (zip (Self.items self) (Rhs.items rhs)) (Self.Mapped.Sequence.items made) last) }
+        ensures acts { IfOk result (λ made. (h : T × B → U) → ActsOnEntries Self.entry Rhs.entry F.step f h → Self.Mapped.Sequence.items made ≡ map h (zip (Self.items self) (Rhs.items rhs))) }
         ensures promised { Self.Mapped.IsPromised → IsOk result }
     {
         let mut f = f;
@@ -157,19 +157,19 @@ pub trait FunctionalSequence<T>: GenericSequence<T> {
 
     /// `zip` with a closure that is lent, and can be used again in the state that it reached.
     #[inline(always)]
-    final fn zip_by<B, U, R: GenericSequence<B>, F: FnMut(Self::Item, R::Item) -> U>(
+    final fn zip_by<B, Rhs: GenericSequence<B>, U, F: FnMut(Self::Item, Rhs::Item) -> U>(
         self,
         place: MappedPlace<Self, T, U>,
-        rhs: R,
+        rhs: Rhs,
         f: &mut F,
     ) -> Result<MappedSequence<Self, T, U>, MappedError<Self, T, U>>
     where
         Self: MappedGenericSequence<T, U>,
-        requires lengths { Self.Length.USIZE ≡ R.Length.USIZE }
+        requires lengths { Self.Length.USIZE ≡ Rhs.Length.USIZE }
         requires fits { Self.Mapped.Fits }
-        requires callable { CallableOver (MayCallAtPair Self.entry R.entry F.pre) (CallAtPair Self.entry R.entry F.step) f.old (zip (Self.items self) (R.items rhs)) }
-        ensures run { IfOk result (λ made. ClosureRun (CallAtPair Self.entry R.entry F.step) f.old (zip (Self.items self) (R.items rhs)) (Self.Mapped.Sequence.items made) f.new) }
-        ensures acts { IfOk result (λ made. (h : T × B → U) → ActsOnEntries Self.entry R.entry F.step f.old h → Self.Mapped.Sequence.items made ≡ map h (zip (Self.items self) (R.items rhs))) }
+        requires callable { CallableOver (MayCallAtPair Self.entry Rhs.entry F.pre) (CallAtPair Self.entry Rhs.entry F.step) f.old (zip (Self.items self) (Rhs.items rhs)) }
+        ensures run { IfOk result (λ made. ClosureRun (CallAtPair Self.entry Rhs.entry F.step) f.old (zip (Self.items self) (Rhs.items rhs)) (Self.Mapped.Sequence.items made) f.new) }
+        ensures acts { IfOk result (λ made. (h : T × B → U) → ActsOnEntries Self.entry Rhs.entry F.step f.old h → Self.Mapped.Sequence.items made ≡ map h (zip (Self.items self) (Rhs.items rhs))) }
         ensures err { OnErr result (f.new ≡ f.old) }
         ensures promised { Self.Mapped.IsPromised → IsOk result }
     {
@@ -202,7 +202,7 @@ pub trait FunctionalSequence<T>: GenericSequence<T> {
     ///
     /// No call follows an error, and the entries left are dropped.
     #[inline(always)]
-    final fn try_fold<A, E, F: FnMut(A, Self::Item) -> Result<A, E>>(
+    final fn try_fold<A, F: FnMut(A, Self::Item) -> Result<A, E>, E>(
         self,
         init: A,
         f: F,
@@ -217,7 +217,7 @@ pub trait FunctionalSequence<T>: GenericSequence<T> {
 
     /// `try_fold` with a closure that is lent, and can be used again in the state that it reached.
     #[inline(always)]
-    final fn try_fold_by<A, E, F: FnMut(A, Self::Item) -> Result<A, E>>(
+    final fn try_fold_by<A, F: FnMut(A, Self::Item) -> Result<A, E>, E>(
         self,
         init: A,
         f: &mut F,

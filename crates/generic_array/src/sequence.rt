@@ -5,7 +5,7 @@ ghost use Rattle.ga_core.specs.Fill.{FillFalliblyRuns, FillsFallibly};
 ghost use Rattle.ga_core.specs.Runs.{CallableAlong, CallableInFold, CallableUntilError, ClosureRun, FirstErrorRun, FoldRun};
 ghost use Rattle.ga_core.specs.Tries.{try_map};
 ghost use Rattle.generic_array.specs.Built.{built_items};
-ghost use Rattle.generic_array.specs.Entries.{GivesEntriesOf};
+ghost use Rattle.generic_array.specs.GivenEntries.{GivesEntriesOf};
 ghost use Rattle.std.specs.Iterator.{ActsAs, ActsAsOnTwo};
 ghost use Rattle.std.specs.List.{range_with_len};
 ghost use Rattle.std.specs.Prelude.{◌≡◌, ℕ, ◌≤◌, ◌↔◌, IfOk, IsOk, IsTrue, OnErr, Result, fold, map, replicate};
@@ -143,7 +143,7 @@ pub trait FallibleGenericSequence<T>: GenericSequence<T> {
     /// `generate` with a closure that may fail: the sequence of its answers, or its first error.
     ///
     /// No call follows an error, and the items made before it are dropped.
-    final fn try_generate<E, F: FnMut(usize) -> Result<T, E>>(
+    final fn try_generate<F: FnMut(usize) -> Result<T, E>, E>(
         place: Self::Place,
         f: F,
     ) -> Result<Result<Self::Sequence, E>, Self::Error>
@@ -159,7 +159,7 @@ pub trait FallibleGenericSequence<T>: GenericSequence<T> {
 
     /// `try_generate` with a closure that is lent, and can be used again in the state that it
     /// reached.
-    fn try_generate_by<E, F: FnMut(usize) -> Result<T, E>>(
+    fn try_generate_by<F: FnMut(usize) -> Result<T, E>, E>(
         place: Self::Place,
         f: &mut F,
     ) -> Result<Result<Self::Sequence, E>, Self::Error>
@@ -179,7 +179,7 @@ pub trait FromFallibleIterator<T>: GenericSequence<T> {
     ///
     /// Memory is asked for first: where it is refused, the answer is `Place`, and no item is taken.
     /// An error that comes after `Length` values is one item too many. Size hints aren't consulted.
-    fn from_fallible_iter<E: Drop, I: Iterator<Item = Result<T, E>>>(
+    fn from_fallible_iter<I: Iterator<Item = Result<T, E>>, E: Drop>(
         place: Self::Place,
         items: I,
     ) -> Result<Self, FillError<E, Self::Error>>
@@ -193,7 +193,7 @@ pub trait FromFallibleIterator<T>: GenericSequence<T> {
     ///
     /// The error that is answered as `Item` is the last item taken. An iterator isn't asked again
     /// once it has ended.
-    fn from_fallible_iter_ref<E: Drop, I: Iterator<Item = Result<T, E>>>(
+    fn from_fallible_iter_ref<I: Iterator<Item = Result<T, E>>, E: Drop>(
         place: Self::Place,
         items: &mut I,
     ) -> Result<Self, FillError<E, Self::Error>>

@@ -5,7 +5,7 @@
 //! no item is lost or doubled.
 ghost use Rattle.ga_core.specs.Cut.{StepGives, back, front};
 ghost use Rattle.generic_array.specs.Account.{Account};
-ghost use Rattle.generic_array.specs.Entries.{CallAt, MayCallAt};
+ghost use Rattle.ga_core.specs.Entries.{CallAt, MayCallAt};
 ghost use Rattle.generic_array.specs.Steps.{MayStep, MaySteps, StepGivesReply, StepsRun};
 ghost use Rattle.std.specs.Borrow.{Array, Lends, sem};
 ghost use Rattle.std.specs.List.{refill};
@@ -13,10 +13,6 @@ ghost use Rattle.std.specs.Prelude.{◌≡◌, IsOk, List, OnErr, OnOk, [], ◌+
 
 mod kinds;
 mod step;
-#[cfg(test)]
-mod tests;
-#[cfg(test)]
-mod uses;
 
 use ga_core::AllocError;
 use std::mem;

@@ -1,14 +1,13 @@
 //! Zips told from the right side. Each is one function over the traits.
-ghost use Rattle.ga_core.specs.Runs.{ClosureRun};
-ghost use Rattle.generic_array.specs.Entries.{ActsOnEntries, CallAtPair, MayCallAtPair};
-ghost use Rattle.generic_array.specs.EntryRuns.{CallableOver};
+ghost use Rattle.ga_core.specs.Runs.{CallableOver, ClosureRun};
+ghost use Rattle.ga_core.specs.Entries.{ActsOnEntries, CallAtPair, MayCallAtPair};
 ghost use Rattle.std.specs.List.{zip};
 ghost use Rattle.std.specs.Prelude.{◌≡◌, IfOk, IsOk, OnErr, map};
 
 use crate::functional::walks::{entries_of, zip_entries};
 use crate::functional::{Mapped, MappedError, MappedGenericSequence, MappedPlace, MappedSequence};
 use crate::sequence::{GenericSequence, SequenceItem};
-use ga_core::{ArrayLength, GenericArray, always};
+use ga_core::{ArrayLength, GenericArray, GenericArrayIter, always};
 
 /// The array of what `f` answers at each item of `lhs` and the entry of `s` in its place, called in
 /// order.
@@ -45,7 +44,17 @@ where
     ensures run { ClosureRun (CallAtPair (λ item. item) S.entry F.step) f.old (zip lhs (S.items s)) result f.new }
     ensures acts { (h : B × T → U) → ActsOnEntries (λ item. item) S.entry F.step f.old h → result ≡ map h (zip lhs (S.items s)) }
 {
-    always(inverted_zip2_by(s, (), lhs, f))
+    // The slice knows that the length fits, and how many items there are.
+    let _ = lhs.as_slice();
+    always(zip_entries::<
+        B,
+        T,
+        GenericArrayIter<B, S::Length>,
+        S::IntoIter,
+        U,
+        GenericArray<U, S::Length>,
+        F,
+    >(lhs.into_iter(), entries_of(s), (), f))
 }
 
 /// `inverted_zip` with a left side of any kind, which is that of the answer too.
@@ -57,8 +66,8 @@ pub fn inverted_zip2<
     T,
     S: GenericSequence<T>,
     B,
-    U,
     Lhs: MappedGenericSequence<B, U>,
+    U,
     F: FnMut(SequenceItem<Lhs>, SequenceItem<S>) -> U,
 >(
     s: S,
@@ -83,8 +92,8 @@ pub fn inverted_zip2_by<
     T,
     S: GenericSequence<T>,
     B,
-    U,
     Lhs: MappedGenericSequence<B, U>,
+    U,
     F: FnMut(SequenceItem<Lhs>, SequenceItem<S>) -> U,
 >(
     s: S,

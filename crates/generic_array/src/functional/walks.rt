@@ -2,10 +2,11 @@
 //!
 //! The iterator is a type parameter of its own: a closure that holds a sequence's associated
 //! iterator has no proof today.
-ghost use Rattle.ga_core.specs.Runs.{CallableInFold, CallableUntilError, ClosureRun, FirstErrorRun, FoldRun};
+ghost use Rattle.ga_core.specs.Runs.{CallableInFold, CallableOver, CallableOverUntilError, CallableUntilError, ClosureRun, FirstErrorRun, FoldRun};
 ghost use Rattle.generic_array.specs.Built.{built_items};
-ghost use Rattle.generic_array.specs.Entries.{AllEntries, CallAt, CallAtNext, CallAtNextPair, CallAtPair, FoldAt, GivesEntries, MayCallAt, MayCallAtNext, MayCallAtNextPair, MayCallAtPair, MayFoldAt, SomeEntries, SomeEntriesOf};
-ghost use Rattle.generic_array.specs.EntryRuns.{CallableOver, CallableOverUntilError, FirstErrorRan, TryFoldRun, good_step};
+ghost use Rattle.generic_array.specs.GivenEntries.{AllEntries, CallAtNext, CallAtNextPair, GivesEntries, MayCallAtNext, MayCallAtNextPair, SomeEntries, SomeEntriesOf};
+ghost use Rattle.ga_core.specs.Entries.{CallAt, CallAtPair, FoldAt, MayCallAt, MayCallAtPair, MayFoldAt};
+ghost use Rattle.generic_array.specs.EntryRuns.{FirstErrorRan, TryFoldRun, good_step};
 ghost use Rattle.std.specs.List.{range_with_len, zip};
 ghost use Rattle.std.specs.Prelude.{◌≡◌, IfOk, IsOk, List, OnErr, length};
 

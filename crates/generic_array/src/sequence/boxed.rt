@@ -65,7 +65,7 @@ impl<T: Drop, N: Unsigned> GenericSequence<T> for BoxedArray<T, N> {
 
 impl<T: Drop, N: Unsigned> FallibleGenericSequence<T> for BoxedArray<T, N> {
     #[inline]
-    fn try_generate_by<E, F: FnMut(usize) -> Result<T, E>>(
+    fn try_generate_by<F: FnMut(usize) -> Result<T, E>, E>(
         place: Global,
         f: &mut F,
     ) -> Result<Result<BoxedArray<T, N>, E>, AllocError> {
@@ -74,14 +74,14 @@ impl<T: Drop, N: Unsigned> FallibleGenericSequence<T> for BoxedArray<T, N> {
 }
 
 impl<T: Drop, N: Unsigned> FromFallibleIterator<T> for BoxedArray<T, N> {
-    fn from_fallible_iter<E: Drop, I: Iterator<Item = Result<T, E>>>(
+    fn from_fallible_iter<I: Iterator<Item = Result<T, E>>, E: Drop>(
         place: Global,
         items: I,
     ) -> Result<BoxedArray<T, N>, FillError<E, AllocError>> {
         BoxedArray::try_boxed_from_fallible_iter(place, items)
     }
 
-    fn from_fallible_iter_ref<E: Drop, I: Iterator<Item = Result<T, E>>>(
+    fn from_fallible_iter_ref<I: Iterator<Item = Result<T, E>>, E: Drop>(
         place: Global,
         items: &mut I,
     ) -> Result<BoxedArray<T, N>, FillError<E, AllocError>> {

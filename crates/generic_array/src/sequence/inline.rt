@@ -66,7 +66,7 @@ impl<T: Default + Drop, N: ArrayLength<T>> GenericSequence<T> for GenericArray<T
 
 impl<T: Default + Drop, N: ArrayLength<T>> FallibleGenericSequence<T> for GenericArray<T, N> {
     #[inline]
-    fn try_generate_by<E, F: FnMut(usize) -> Result<T, E>>(
+    fn try_generate_by<F: FnMut(usize) -> Result<T, E>, E>(
         place: (),
         f: &mut F,
     ) -> Result<Result<GenericArray<T, N>, E>, Never> {
@@ -86,14 +86,14 @@ fn with_no_place<A, E>(answer: Result<Result<A, E>, LengthError>) -> Result<A, F
 }
 
 impl<T: Default + Drop, N: ArrayLength<T>> FromFallibleIterator<T> for GenericArray<T, N> {
-    fn from_fallible_iter<E: Drop, I: Iterator<Item = Result<T, E>>>(
+    fn from_fallible_iter<I: Iterator<Item = Result<T, E>>, E: Drop>(
         place: (),
         items: I,
     ) -> Result<GenericArray<T, N>, FillError<E, Never>> {
         with_no_place(GenericArray::try_from_fallible_iter(items))
     }
 
-    fn from_fallible_iter_ref<E: Drop, I: Iterator<Item = Result<T, E>>>(
+    fn from_fallible_iter_ref<I: Iterator<Item = Result<T, E>>, E: Drop>(
         place: (),
         items: &mut I,
     ) -> Result<GenericArray<T, N>, FillError<E, Never>> {

@@ -65,6 +65,9 @@ pub trait Concat<T, Rest, Output>: Sized {
 
     ghost output_items: { Output → List T };
 
+    // How many items the sequence has.
+    ghost LEN: { ℕ };
+
     // What is made has room for exactly both, and its length fits.
     ghost IsSum: { Type 0 };
 
@@ -72,7 +75,9 @@ pub trait Concat<T, Rest, Output>: Sized {
     /// and fits.
     fn concat(self, rest: Rest) -> Output
         requires { IsSum }
-        ensures { output_items result ≡ items self ++ rest_items rest };
+        ensures joined { output_items result ≡ items self ++ rest_items rest }
+        ensures first { take LEN (output_items result) ≡ items self }
+        ensures rest { drop LEN (output_items result) ≡ rest_items rest };
 }
 
 /// A sequence that can be cut in two.

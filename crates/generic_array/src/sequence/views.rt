@@ -57,7 +57,7 @@ impl<'a, T: Default + Drop, N: ArrayLength<T>> GenericSequence<T> for GenericArr
 impl<'a, T: Default + Drop, N: ArrayLength<T>> FallibleGenericSequence<T>
     for GenericArrayRef<'a, T, N> {
     #[inline]
-    fn try_generate_by<E, F: FnMut(usize) -> Result<T, E>>(
+    fn try_generate_by<F: FnMut(usize) -> Result<T, E>, E>(
         place: (),
         f: &mut F,
     ) -> Result<Result<GenericArray<T, N>, E>, Never> {

@@ -69,6 +69,8 @@ impl<T: Default + Drop, N: ArrayLength<T>, R: ArrayLength<T>, M: ArrayLength<T>>
 
     ghost output_items = { λ array. array };
 
+    ghost LEN = { N.USIZE };
+
     ghost IsSum = { (M.USIZE ≡ N.USIZE + R.USIZE) × FitsInline M.USIZE };
 
     #[inline]

@@ -1,4 +1,4 @@
-use Rattle.generic_array.proofs.EntryActs.{answers_at_pairs}
+use Rattle.ga_core.proofs.EntryActs.{answers_at_pairs}
 use Rattle.generic_array.proofs.functional.inverted.inverted_zip2_by.Goals as goal
 use Rattle.std.proofs.Common.{◌∙◌, sym}
 use Rattle.std.proofs.lemmas.Result.{IfOk-weaker}

@@ -1,6 +1,6 @@
 use Rattle.generic_array.proofs.FoldLemmas.{FoldLoop-callable, FoldLoop-end, FoldLoop-entry, FoldLoop-error, FoldLoop-more, TryFoldRun-good}
 use Rattle.generic_array.proofs.functional.walks.try_fold_entries.Goals as goal
-use Rattle.generic_array.specs.Entries.{FoldAt}
+use Rattle.ga_core.specs.Entries.{FoldAt}
 use Rattle.std.proofs.Common.{◌≡◌, rules}
 
 pub loop-entry-init : goal.loop-entry-init

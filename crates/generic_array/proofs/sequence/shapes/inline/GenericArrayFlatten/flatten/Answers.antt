@@ -1,6 +1,7 @@
-use Rattle.generic_array.proofs.ShapeLemmas.{area-next, flat_map-next, taken-row}
+use Rattle.ga_core.proofs.PlaceLemmas.{refill-whole}
+use Rattle.generic_array.proofs.ShapeLemmas.{area-next, area-room, flat_map-next, flat_map-whole, taken-row}
 use Rattle.generic_array.proofs.sequence.shapes.inline.GenericArrayFlatten.flatten.Goals as goal
-use Rattle.std.proofs.Common.{◌≡◌, ◌∷◌, ◌∙◌, ◌+◌, ◌++◌, ap, arith, drop, get_or, length, length-append, map, slice_set, sym, take}
+use Rattle.std.proofs.Common.{◌≡◌, ◌∷◌, ◌∙◌, ◌+◌, ◌++◌, ◌*◌, ◌<◌, ◌≤◌, ap, arith, drop, get_or, length, length-append, map, slice_set, sym, take}
 use Rattle.std.proofs.lemmas.List.{drop-set-lt, drop_more}
 use Rattle.std.specs.List.{flat_map}
 
@@ -23,3 +24,37 @@ loop-row-preserved g c =
           (flat_map (λ r. r) (map g.I.Row.items c.args.self)) grown c.loop-row.invariant.same;
       long = omega (arith, room, length-append front c.move_over-at.new.places);
     }
+
+pub loop-row-init : goal.loop-row-init
+loop-row-init g c =
+    let area = ap (λ n. n * g.I.Row.WIDTH) c.as_mut_slice-row-items.ensures.len ∙ (sym c.requires.0 ∙ sym c.as_mut_slice-places.ensures.len) in
+    record {
+      same = ap (λ l. flat_map (λ r. r) (map g.I.Row.items l)) c.as_mut_slice-row-items.ensures.items;
+      long = omega (arith, area);
+    }
+
+pub overflow_add-at : goal.overflow_add-at
+overflow_add-at g c =
+    let here : c.loop-row.row-index < length c.loop-row.row-items = omega (arith, c.loop-row-test.true, c.loop-row.auto.row-items) in
+    let room = area-room g.row.I.Denot c.loop-row.row-items c.loop-row.row-index c.row-item.result g.I.Row.WIDTH c.loop-row.at (length c.loop-row.places) here c.loop-row.invariant.long in
+    omega (arith, room, c.move_over-at.ensures.count, c.loop-row.auto.places, c.as_mut_slice-places.type_inv.0)
+
+pub move_over-at-requires : goal.move_over-at-requires
+move_over-at-requires g c =
+    let here : c.loop-row.row-index < length c.loop-row.row-items = omega (arith, c.loop-row-test.true, c.loop-row.auto.row-items) in
+    let room = area-room g.row.I.Denot c.loop-row.row-items c.loop-row.row-index c.row-item.result g.I.Row.WIDTH c.loop-row.at (length c.loop-row.places) here c.loop-row.invariant.long in
+    record { room = omega (arith, room, c.split_at_mut-behind.ensures.back_len) }
+
+pub split_at_mut-behind-requires : goal.split_at_mut-behind-requires
+split_at_mut-behind-requires g c = omega (arith, c.loop-row.invariant.long)
+
+pub loop-row-smaller : goal.loop-row-smaller
+loop-row-smaller g c = omega (arith, c.loop-row-test.true)
+
+pub returns : goal.returns
+returns g c =
+    let places = c.loop-row.places in
+    let long : length c.default-array.result ≡ length places = sym (c.loop-row.auto.places ∙ ap length c.as_mut_slice-places.ensures.items) in
+    let past : length c.loop-row.row-items ≤ c.loop-row.row-index = omega (arith, c.loop-row-test.false, c.loop-row.auto.row-items) in
+    refill-whole (length c.default-array.result) c.default-array.result places long
+    ∙ flat_map-whole g.row.I.Denot g.I.Row.items c.loop-row.row-items c.loop-row.row-index c.loop-row.at g.I.Row.WIDTH places (flat_map (λ r. r) (map g.I.Row.items c.args.self)) past c.loop-row.invariant.long c.loop-row.invariant.same

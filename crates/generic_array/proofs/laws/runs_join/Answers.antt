@@ -1,5 +1,0 @@
-use Rattle.generic_array.proofs.LawLemmas.{ClosureRun-joined}
-use Rattle.generic_array.proofs.laws.runs_join.Goals as goal
-
-pub returns : goal.returns
-returns g c = ClosureRun-joined _
