@@ -1,0 +1,3 @@
+pub mod JobLemmas
+pub mod LawLemmas
+pub mod SumLemmas

@@ -1,0 +1,4 @@
+pub mod AnyLength
+pub mod Jobs
+pub mod Laws
+pub mod Matrix

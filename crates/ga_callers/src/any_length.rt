@@ -1,0 +1,285 @@
+//! Callers of any length, each with its exact answer.
+ghost use Rattle.generic_array.specs.Length.{FitsInline};
+ghost use Rattle.generic_array.specs.Tries.{try_map};
+ghost use Rattle.ga_callers.specs.AnyLength.{digit_of};
+ghost use Rattle.generic_array.specs.Entries.{ActsOnEntry, CallAt, MayCallAt};
+ghost use Rattle.generic_array.specs.Runs.{CallableOver};
+ghost use Rattle.std.specs.Int.Bits.{bit_xor};
+ghost use Rattle.std.specs.List.{range_with_len, zip};
+ghost use Rattle.std.specs.Prelude.{◌≡◌, ℕ, ◌+◌, ◌-◌, ◌*◌, ◌%◌, ◌^◌, ◌++◌, ◌<◌, ◌≤◌, IfOk, fold, length, map, replicate, reverse, sum};
+
+use crate::answers::{gives, has};
+use crate::kinds::{boxed_one_two_three, four_five_six, one_two_three};
+use generic_array::checks::{map_total_by, total_by};
+use generic_array::functional::{
+    FunctionalSequence, MappedError, MappedGenericSequence, MappedPlace, MappedSequence,
+};
+use generic_array::sequence::{GenericSequence, SequenceItem};
+use generic_array::{
+    AllocError, ArrayLength, BoxedArray, GenericArray, GenericArrayRef, U3, U4, Unsigned, always,
+};
+use std::alloc::Global;
+use std::test::Fail;
+
+// A mask over every byte, as a digest makes of a key.
+
+fn masked<N: ArrayLength<u8>>(key: GenericArray<u8, N>) -> GenericArray<u8, N>
+    ensures { result ≡ map (λ b. bit_xor b 54) key }
+{
+    key.map_inline(|b: u8| b ^ 0x36)
+}
+
+fn masked_view<N: ArrayLength<u8>>(key: GenericArrayRef<'_, u8, N>, mask: u8) -> GenericArray<u8, N>
+    requires { FitsInline N.USIZE }
+    ensures { result ≡ map (λ b. bit_xor b mask) key.entry.slice.now }
+{
+    always(key.map((), |b: &u8| *b ^ mask))
+}
+
+fn masked_boxed<N: Unsigned>(
+    alloc: Global,
+    key: BoxedArray<u8, N>,
+    mask: u8,
+) -> Result<BoxedArray<u8, N>, AllocError>
+    ensures { IfOk result (λ made. made ≡ map (λ b. bit_xor b mask) key) }
+{
+    key.map(alloc, |b: u8| b ^ mask)
+}
+
+// The same over the traits alone: where entries are the items, and where they may be references.
+
+fn masked_sequence<
+    S: FunctionalSequence<u8> + MappedGenericSequence<u8, u8> + IntoIterator<Item = u8>,
+>(
+    key: S,
+    place: MappedPlace<S, u8, u8>,
+    mask: u8,
+) -> Result<MappedSequence<S, u8, u8>, MappedError<S, u8, u8>>
+    requires fits { S.Mapped.Fits }
+    requires by_value { (b : ℕ) → S.entry b ≡ b }
+    ensures { IfOk result (λ made. S.Mapped.Sequence.items made ≡ map (λ b. bit_xor b mask) (S.items key)) }
+{
+    key.map(place, |b: u8| b ^ mask)
+}
+
+fn checksum<S: FunctionalSequence<u8> + IntoIterator<Item = u8>>(bytes: S) -> u8
+    requires by_value { (b : ℕ) → S.entry b ≡ b }
+    ensures { result ≡ fold (λ total b. (total + b) % 2 ^ 8) 0 (S.items bytes) }
+{
+    bytes.fold(0, |total: u8, b: u8| total.wrapping_add(b))
+}
+
+fn masked_and_totalled<
+    S: FunctionalSequence<u8> + MappedGenericSequence<u8, u8>,
+    F: FnMut(SequenceItem<S>) -> u8,
+>(key: S, place: MappedPlace<S, u8, u8>, mask: &mut F) -> Result<u8, MappedError<S, u8, u8>>
+    requires fits { S.Mapped.Fits }
+    requires callable { CallableOver (MayCallAt S.entry F.pre) (CallAt S.entry F.step) mask.old (S.items key) }
+    requires acts { ActsOnEntry S.entry F.step mask.old (λ b. bit_xor b 54) }
+    ensures { IfOk result (λ total. total ≡ fold (λ total b. (total + b) % 2 ^ 8) 0 (map (λ b. bit_xor b 54) (S.items key))) }
+{
+    map_total_by(
+        key,
+        place,
+        mask,
+        0,
+        &mut |total: u8, b: u8| total.wrapping_add(b),
+    )
+}
+
+fn checksum_of_any<S: GenericSequence<u8>>(bytes: &S) -> u8
+where
+    S::Length: ArrayLength<u8>,
+    ensures { result ≡ fold (λ total b. (total + b) % 2 ^ 8) 0 (S.items bytes.now) }
+{
+    bytes
+        .view()
+        .fold(0, |total: u8, b: &u8| total.wrapping_add(*b))
+}
+
+// Sums place by place of two kinds, and the sum of the products.
+
+fn place_sums<N: ArrayLength<u32>>(
+    left: GenericArray<u32, N>,
+    right: GenericArrayRef<'_, u32, N>,
+) -> GenericArray<u32, N>
+    ensures { result ≡ map (λ p. (p.0 + p.1) % 2 ^ 32) (zip left right.entry.slice.now) }
+{
+    left.zip_inline_ref(right, |l: u32, r: &u32| l.wrapping_add(*r))
+}
+
+fn scaled_sums<N: ArrayLength<u32>>(
+    alloc: Global,
+    left: BoxedArray<u32, N>,
+    right: GenericArray<u32, N>,
+    scale: u32,
+) -> Result<BoxedArray<u32, N>, AllocError>
+    ensures { IfOk result (λ made. made ≡ map (λ p. (p.0 + p.1 * scale % 2 ^ 32) % 2 ^ 32) (zip left right)) }
+{
+    left.zip(
+        alloc,
+        right,
+        |l: u32, r: u32| l.wrapping_add(r.wrapping_mul(scale)),
+    )
+}
+
+fn dot<N: ArrayLength<u32>>(left: GenericArray<u32, N>, right: GenericArrayRef<'_, u32, N>) -> u32
+    ensures { result ≡ fold (λ total x. (total + x) % 2 ^ 32) 0 (map (λ p. p.0 * p.1 % 2 ^ 32) (zip left right.entry.slice.now)) }
+{
+    let products = left.zip_inline_ref(right, |l: u32, r: &u32| l.wrapping_mul(*r));
+    products
+        .into_iter()
+        .fold(0, |total: u32, x: u32| total.wrapping_add(x))
+}
+
+// The value of a polynomial at x, with the highest coefficient first, and last.
+
+fn value_from_highest<N: ArrayLength<u32>>(coefficients: GenericArray<u32, N>, x: u32) -> u32
+    ensures { result ≡ fold (λ value c. (value * x % 2 ^ 32 + c) % 2 ^ 32) 0 coefficients }
+{
+    coefficients.into_iter().fold(
+        0,
+        |value: u32, c: u32| value.wrapping_mul(x).wrapping_add(c),
+    )
+}
+
+fn value_from_lowest<N: Unsigned>(coefficients: BoxedArray<u32, N>, x: u32) -> u32
+    ensures { result ≡ fold (λ value c. (value * x % 2 ^ 32 + c) % 2 ^ 32) 0 (reverse coefficients) }
+{
+    coefficients.into_iter().rfold(
+        0,
+        |value: u32, c: u32| value.wrapping_mul(x).wrapping_add(c),
+    )
+}
+
+// The sum, where it fits its type. Its condition is one line of proof.
+
+fn sum_of<N: ArrayLength<u32>>(view: GenericArrayRef<'_, u32, N>) -> u32
+    requires fits { sum view.slice.now < 2 ^ 32 }
+    ensures { result ≡ sum view.entry.slice.now }
+{
+    total_by(view, 0, &mut |total: u32, item: &u32| total + *item)
+}
+
+// Counting up.
+
+fn counted_up<N: ArrayLength<usize>>(first: usize) -> GenericArray<usize, N>
+    requires { FitsInline N.USIZE }
+    ensures { result ≡ map (λ index. (first + index) % 2 ^ 64) (range_with_len 0 N.USIZE) }
+{
+    GenericArray::generate(|index| first.wrapping_add(index))
+}
+
+fn counted_up_boxed<N: Unsigned>(
+    alloc: Global,
+    first: usize,
+) -> Result<BoxedArray<usize, N>, AllocError>
+    ensures { IfOk result (λ made. made ≡ map (λ index. (first + index) % 2 ^ 64) (range_with_len 0 N.USIZE)) }
+{
+    BoxedArray::generate(alloc, |index| first.wrapping_add(index))
+}
+
+// Digits in some base, or the first byte that is none.
+
+pub(super) fn digit_in(base: u8, byte: u8) -> Result<u8, u8>
+    ensures { result ≡ digit_of base byte }
+{
+    if byte >= b'0' && byte - b'0' < base {
+        Ok(byte - b'0')
+    } else {
+        Err(byte)
+    }
+}
+
+fn digits_of<N: ArrayLength<u8>>(
+    text: GenericArray<u8, N>,
+    base: u8,
+) -> Result<GenericArray<u8, N>, u8>
+    ensures { result ≡ try_map (digit_of base) text }
+{
+    // The slice knows that the length fits.
+    let _ = text.as_slice();
+    always(text.try_map((), |byte: u8| digit_in(base, byte)))
+}
+
+fn digits_of_view<N: ArrayLength<u8>>(
+    text: GenericArrayRef<'_, u8, N>,
+    base: u8,
+) -> Result<GenericArray<u8, N>, u8>
+    requires { FitsInline N.USIZE }
+    ensures { result ≡ try_map (digit_of base) text.entry.slice.now }
+{
+    always(text.try_map((), |byte: &u8| digit_in(base, *byte)))
+}
+
+// A block that begins with a message, and is zero behind it.
+
+fn padded<N: ArrayLength<u8>>(message: &[u8]) -> GenericArray<u8, N>
+    requires fits { FitsInline N.USIZE }
+    requires room { length message.now ≤ N.USIZE }
+    ensures { result ≡ message.now ++ replicate (N.USIZE - length message.now) 0 }
+{
+    let mut block = GenericArray::default();
+    let (front, _zeros) = block.as_mut_slice().split_at_mut(message.len());
+    front.copy_from_slice(message);
+    block
+}
+
+/// Whether a key of three bytes is masked as each caller says.
+fn masks_are_right(alloc: Global) -> Result<bool, AllocError> {
+    let key = GenericArray::<u8, U3>::from_array([0x36, 0, 0xff]);
+    let seen = has(masked_view(key.view(), 1), &[0x37, 1, 0xfe]);
+    let boxed = masked_boxed(
+        alloc,
+        BoxedArray::<u8, U3>::from_array(alloc, [0x36, 0, 0xff])?,
+        1,
+    )?;
+    let sum = checksum_of_any(&boxed);
+    let again = always(masked_sequence(GenericArray::<u8, U3>::from_array([1, 2, 3]), (), 1));
+    let total = always(masked_and_totalled(key.view(), (), &mut |b: &u8| *b ^ 0x36));
+    Ok(
+        seen && has(boxed, &[0x37, 1, 0xfe])
+            && sum == 0x36
+            && checksum(again) == 5
+            && total == 0xff
+            && has(masked(key), &[0, 0x36, 0xc9]),
+    )
+}
+
+/// Whether sums, products and values are those worked out by hand.
+fn numbers_are_right(alloc: Global) -> Result<bool, AllocError> {
+    let right = four_five_six();
+    let boxed = boxed_one_two_three(alloc)?;
+    let scaled = scaled_sums(alloc, boxed, one_two_three(), 10)?;
+    Ok(
+        has(place_sums(one_two_three(), right.view()), &[5, 7, 9])
+            && dot(one_two_three(), right.view()) == 32
+            && value_from_highest(one_two_three(), 10) == 123
+            && value_from_lowest(scaled, 10) == 3531
+            && sum_of(right.view()) == 15
+            && has(counted_up::<U3>(5), &[5, 6, 7])
+            && has(counted_up_boxed::<U3>(alloc, 7)?, &[7, 8, 9]),
+    )
+}
+
+/// Whether text is read and padded as the callers say.
+fn text_is_right() -> bool {
+    let digits = match digits_of(GenericArray::<u8, U3>::from_array(*b"190"), 10) {
+        Ok(digits) => has(digits, &[1, 9, 0]),
+        Err(_byte) => false,
+    };
+    let refused = match digits_of(GenericArray::<u8, U3>::from_array(*b"182"), 8) {
+        Ok(_digits) => false,
+        Err(byte) => byte == b'8',
+    };
+    let viewed = digits_of_view(GenericArrayRef::<u8, U3>::from_slice(b"190"), 10);
+    digits && refused && gives(viewed, &[1, 9, 0]) && has(padded::<U4>(b"ab"), &[97, 98, 0, 0])
+}
+
+#[test]
+fn callers_of_any_length_get_what_their_contracts_say(rt: HostRuntime) -> Result<(), Fail> {
+    assert!(rt; masks_are_right(rt.alloc())?);
+    assert!(rt; numbers_are_right(rt.alloc())?);
+    assert!(rt; text_is_right());
+    Ok(())
+}

@@ -1,0 +1,231 @@
+//! Boxed arrays: builds, writes and walks, and threads.
+ghost use Rattle.generic_array.specs.FillAnswer.{fill_answer};
+ghost use Rattle.std.specs.Prelude.{◌≡◌, ◌∷◌, [], ◌^◌, ◌<◌, ◌↔◌, ◌⊎◌, IfErr, IfOk, IsOk, Ok, OnOk, length, reverse, slice_set, sum};
+
+use crate::answers::gives;
+use crate::digits::decimal_digit;
+use crate::kinds::boxed_one_two_three;
+use generic_array::{
+    AllocError, BoxedArray, BoxedArrayIter, FillError, GenericArray, LengthError, LiveBlock, U0,
+    U2, U3, U4, Unsigned, box_arr,
+};
+use std::alloc::Global;
+use std::marker::{Send, Sync};
+
+fn doubled(alloc: Global) -> Result<BoxedArray<usize, U4>, AllocError>
+    ensures { IfOk result (λ array. array ≡ 0 ∷ 2 ∷ 4 ∷ 6 ∷ []) }
+{
+    BoxedArray::generate(alloc, |index| 2 * index)
+}
+
+fn none(alloc: Global) -> Result<BoxedArray<usize, U0>, AllocError>
+    ensures { result ≡ Ok [] }
+{
+    BoxedArray::generate(alloc, |index| index)
+}
+
+fn calls_made(alloc: Global) -> u32
+    ensures { (result ≡ 0) ⊎ (result ≡ 3) }
+{
+    let mut calls = 0u32;
+    let built: Result<BoxedArray<usize, U3>, AllocError> = BoxedArray::generate_by(
+        alloc,
+        &mut |index: usize| {
+            calls = calls.wrapping_add(1);
+            index
+        },
+    );
+    match built {
+        Ok(_array) => calls,
+        Err(_refused) => calls,
+    }
+}
+
+fn refused_at_two(alloc: Global) -> Result<Result<BoxedArray<usize, U4>, usize>, AllocError>
+    ensures { IfOk result (λ built. built ≡ Err 2) }
+{
+    BoxedArray::try_generate(
+        alloc,
+        |index| if index < 2 { Ok(index) } else { Err(index) },
+    )
+}
+
+fn four_of(
+    alloc: Global,
+    bytes: &[u8],
+) -> Result<Result<BoxedArray<u8, U4>, LengthError>, AllocError>
+    ensures variant { IfOk result (λ built. IsOk built ↔ (length bytes.now ≡ 4)) }
+    ensures ok { IfOk result (λ built. IfOk built (λ row. row ≡ bytes.now)) }
+{
+    BoxedArray::try_boxed_from_iter(alloc, bytes.iter().copied())
+}
+
+// The item behind those that filled the array, or that comes first where memory was refused.
+fn next_after_a_fill(alloc: Global) -> Result<Option<u32>, Option<u32>>
+    ensures filled { IfOk result (λ next. next ≡ None) }
+    ensures refused { IfErr result (λ next. next ≡ Some 1) }
+{
+    let mut items = 1..3u32;
+    match BoxedArray::<u32, U2>::try_boxed_from_iter_ref(alloc, &mut items) {
+        Ok(Ok(_filled)) => Ok(items.next()),
+        Ok(Err(_other_length)) => Ok(None),
+        Err(_refused) => Err(items.next()),
+    }
+}
+
+fn four_digits(alloc: Global, text: &[u8]) -> Result<BoxedArray<u8, U4>, FillError<u8, AllocError>>
+    ensures long { OnOk result (length text.now ≡ 4) }
+{
+    BoxedArray::try_boxed_from_fallible_iter(alloc, text.iter().map(decimal_digit))
+}
+
+/// The digits that four bytes stand for, or why there are none. The iterator is lent.
+fn four_digits_lent(
+    alloc: Global,
+    text: &[u8],
+) -> Result<BoxedArray<u8, U4>, FillError<u8, AllocError>>
+    ensures other { IfOk (fill_answer result) (λ built. IfOk built (λ made. IfErr made (λ byte. (byte < 48) ⊎ (57 < byte)))) }
+    ensures long { OnOk result (length text.now ≡ 4) }
+{
+    let mut digits = text.iter().map(decimal_digit);
+    BoxedArray::try_boxed_from_fallible_iter_ref(alloc, &mut digits)
+}
+
+fn sevens(alloc: Global) -> Result<BoxedArray<u8, U3>, AllocError>
+    ensures { IfOk result (λ array. array ≡ 7 ∷ 7 ∷ 7 ∷ []) }
+{
+    BoxedArray::repeat(alloc, 7)
+}
+
+fn blank(alloc: Global) -> Result<BoxedArray<u8, U3>, AllocError>
+    ensures { IfOk result (λ array. array ≡ 0 ∷ 0 ∷ 0 ∷ []) }
+{
+    BoxedArray::default_boxed(alloc)
+}
+
+fn second_place_set(array: &mut BoxedArray<u8, U2>)
+    ensures { array.new ≡ slice_set array.old 1 6 }
+{
+    let items = array.as_mut_slice();
+    items[1] = 6;
+}
+
+fn four_and_six(alloc: Global) -> Result<BoxedArray<u8, U2>, AllocError>
+    ensures { IfOk result (λ array. array ≡ 4 ∷ 6 ∷ []) }
+{
+    let mut array: BoxedArray<u8, U2> = BoxedArray::repeat(alloc, 4)?;
+    let items = array.as_mut_slice();
+    items[1] = 6;
+    Ok(array)
+}
+
+fn total<N: Unsigned>(array: BoxedArray<u32, N>) -> u32
+    requires fits { sum array < 2 ^ 32 }
+    ensures { result ≡ sum array }
+{
+    let mut total = 0;
+    for item in array {
+        total += item;
+    }
+    total
+}
+
+fn reversed(
+    alloc: Global,
+    array: BoxedArray<u8, U3>,
+) -> Result<Result<BoxedArray<u8, U3>, LengthError>, AllocError>
+    ensures ok { IfOk result (λ built. IsOk built) }
+    ensures items { IfOk result (λ built. IfOk built (λ turned. turned ≡ reverse array)) }
+{
+    BoxedArray::try_boxed_from_iter(alloc, array.into_iter().rev())
+}
+
+/// The items of a block as an inline array.
+fn moved_out(array: BoxedArray<u8, U3>) -> Result<GenericArray<u8, U3>, LengthError>
+    ensures { result ≡ Ok array }
+{
+    GenericArray::try_from_iter(array.into_iter())
+}
+
+fn total_or_nought(alloc: Global) -> usize
+    ensures { (result ≡ 0) ⊎ (result ≡ 12) }
+{
+    match doubled(alloc) {
+        Ok(array) => array
+            .into_iter()
+            .fold(0, |sum: usize, item: usize| sum.wrapping_add(item)),
+        Err(_refused) => 0,
+    }
+}
+
+/// What may go to another thread.
+fn sent<A: Send>(value: A) -> A
+    ensures { result ≡ value }
+{
+    value
+}
+
+/// What threads may share.
+fn shared<A: Sync>(value: &A) -> &A
+    ensures { result.now ≡ value.now }
+{
+    value
+}
+
+fn array_sent<T: Send, N: Unsigned + Send>(array: BoxedArray<T, N>) -> BoxedArray<T, N>
+    ensures { result ≡ array }
+{
+    sent(array)
+}
+
+fn items_sent<T: Send>(items: BoxedArrayIter<T>) -> BoxedArrayIter<T>
+    ensures { result ≡ items }
+{
+    sent(items)
+}
+
+fn block_sent<T: Send>(block: LiveBlock<T>) -> LiveBlock<T>
+    ensures { result ≡ block }
+{
+    sent(block)
+}
+
+fn array_shared<T: Sync, N: Unsigned + Sync>(array: &BoxedArray<T, N>) -> &BoxedArray<T, N>
+    ensures { result.now ≡ array.now }
+{
+    shared(array)
+}
+
+#[test]
+fn callers_that_build_get_what_their_contracts_say(rt: HostRuntime) {
+    let alloc = rt.alloc();
+    assert!(rt; gives(doubled(alloc), &[0, 2, 4, 6]) && gives(none(alloc), &[]));
+    assert_eq!(rt; calls_made(alloc), 3);
+    assert!(rt; matches!(refused_at_two(alloc), Ok(Err(2))));
+    assert!(rt; four_of(alloc, b"abcd").is_ok_and(|built| gives(built, b"abcd")));
+    assert!(rt; matches!(four_of(alloc, b"abc"), Ok(Err(LengthError))));
+    assert_eq!(rt; next_after_a_fill(alloc), Ok(None));
+    assert!(rt; gives(four_digits(alloc, b"1804"), &[1, 8, 0, 4]));
+    assert!(rt; matches!(four_digits(alloc, b"18x4"), Err(FillError::Item(b'x'))));
+    assert!(rt; gives(four_digits_lent(alloc, b"1804"), &[1, 8, 0, 4]));
+    assert!(rt; matches!(four_digits_lent(alloc, b"18x4"), Err(FillError::Item(b'x'))));
+    assert!(rt; gives(sevens(alloc), &[7, 7, 7]) && gives(blank(alloc), &[0, 0, 0]));
+}
+
+#[test]
+fn callers_that_write_and_walk_get_what_their_contracts_say(rt: HostRuntime) {
+    let alloc = rt.alloc();
+    let mut pair = four_and_six(alloc).expect(&rt, "no memory");
+    assert_eq!(rt; pair.as_slice(), [4, 6].as_slice());
+    pair.as_mut_slice()[1] = 5;
+    second_place_set(&mut pair);
+    assert_eq!(rt; pair.as_slice(), [4, 6].as_slice());
+    let array = boxed_one_two_three(alloc).expect(&rt, "no memory");
+    assert_eq!(rt; total(array), 6);
+    let array: BoxedArray<u8, U3> = box_arr!(alloc, [1, 2, 3]).expect(&rt, "no memory");
+    let turned = reversed(alloc, array);
+    assert!(rt; turned.is_ok_and(|built| gives(built, &[3, 2, 1])));
+    assert_eq!(rt; total_or_nought(alloc), 12);
+    let array: BoxedArray<u8, U3> = box_arr!(alloc, [4, 5, 6]).expect(&rt, "no memory");
+    assert!(rt; moved_out(array).is_ok_and(|inline| inline.as_slice() == [4, 5, 6].as_slice()));
+}

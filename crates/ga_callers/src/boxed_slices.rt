@@ -1,0 +1,87 @@
+//! Boxed arrays as slices.
+ghost use Rattle.std.specs.List.{list_any};
+ghost use Rattle.std.specs.Prelude.{◌≡◌, ◌==◌, ◌<◌, ◌↔◌, ◌^◌, IsTrue, Some, replicate, slice_get, slice_set, sum};
+
+use generic_array::{AllocError, BoxedArray, U3, Unsigned, box_arr};
+use std::alloc::Global;
+use std::test::Fail;
+
+fn holds_nothing<N: Unsigned>(array: &BoxedArray<u8, N>) -> bool
+    ensures { IsTrue result ↔ (N.USIZE ≡ 0) }
+{
+    array.is_empty()
+}
+
+fn length_of<N: Unsigned>(array: &BoxedArray<u8, N>) -> usize
+    ensures { result ≡ N.USIZE }
+{
+    array.len()
+}
+
+fn item_at<N: Unsigned>(array: &BoxedArray<u8, N>, index: usize) -> u8
+    requires { index < N.USIZE }
+    ensures { slice_get array.now index ≡ Some result }
+{
+    array[index]
+}
+
+fn item_set<N: Unsigned>(array: &mut BoxedArray<u8, N>, index: usize)
+    requires { index < N.USIZE }
+    ensures { array.new ≡ slice_set array.old index 9 }
+{
+    array[index] = 9;
+}
+
+fn filled<N: Unsigned>(array: &mut BoxedArray<u8, N>)
+    ensures { array.new ≡ replicate N.USIZE 7 }
+{
+    array.fill(7);
+}
+
+fn items_counted<N: Unsigned>(array: &BoxedArray<u8, N>) -> usize
+    ensures { result ≡ N.USIZE }
+{
+    array.iter().count()
+}
+
+fn has_zero<N: Unsigned>(array: &BoxedArray<u8, N>) -> bool
+    ensures { result ≡ list_any (λ byte. byte == 0) array.now }
+{
+    array.contains(&0)
+}
+
+fn sum_of_references<N: Unsigned>(array: &BoxedArray<u8, N>) -> u64
+    requires fits { sum array.now < 2 ^ 64 }
+    ensures { result ≡ sum array.now }
+{
+    array.into_iter().map(|item: &u8| u64::from(*item)).sum()
+}
+
+fn all_raised<N: Unsigned>(array: &mut BoxedArray<u8, N>) {
+    for item in array {
+        *item = item.wrapping_add(1);
+    }
+}
+
+/// What each caller returns, and leaves, at the items 1, 2, 3.
+fn read_and_written(alloc: Global) -> Result<bool, AllocError> {
+    let mut array: BoxedArray<u8, U3> = box_arr!(alloc, [1, 2, 3])?;
+    let read = !holds_nothing(&array)
+        && length_of(&array) == 3
+        && items_counted(&array) == 3
+        && item_at(&array, 1) == 2
+        && !has_zero(&array)
+        && sum_of_references(&array) == 6;
+    item_set(&mut array, 1);
+    let set = array.as_slice() == [1, 9, 3].as_slice();
+    all_raised(&mut array);
+    let raised = array.as_slice() == [2, 10, 4].as_slice();
+    filled(&mut array);
+    Ok(read && set && raised && array.as_slice() == [7, 7, 7].as_slice())
+}
+
+#[test]
+fn a_boxed_array_is_read_and_written_as_a_slice(rt: HostRuntime) -> Result<(), Fail> {
+    assert!(rt; read_and_written(rt.alloc())?);
+    Ok(())
+}

@@ -1,0 +1,100 @@
+//! Functions that know the traits alone.
+ghost use Rattle.generic_array.specs.FillAnswer.{fill_answer};
+ghost use Rattle.generic_array.specs.Built.{built_items};
+ghost use Rattle.generic_array.specs.Entries.{CallAt, MayCallAt};
+ghost use Rattle.generic_array.specs.Runs.{CallableOver};
+ghost use Rattle.std.specs.List.{range_with_len};
+ghost use Rattle.std.specs.Prelude.{◌≡◌, ◌<◌, ◌⊎◌, [], Err, IfErr, IfOk, IsOk, Ok, OnOk, length, map, replicate};
+
+use crate::digits::decimal_digit;
+use generic_array::functional::{
+    FunctionalSequence, MappedError, MappedGenericSequence, MappedPlace, MappedSequence,
+};
+use generic_array::sequence::{FromFallibleIterator, GenericSequence, SequenceItem};
+use generic_array::{AllocError, BoxedArray, FillError, GenericArray, U0, U3};
+use std::convert::AsSlice;
+
+fn length_of<T, S: GenericSequence<T>>(s: &S) -> usize
+    ensures value { result ≡ S.Length.USIZE }
+    ensures items { length (S.items s.now) ≡ S.Length.USIZE }
+{
+    s.view().as_slice().len()
+}
+
+fn sevens<S: GenericSequence<u8>>(place: S::Place) -> Result<S::Sequence, AllocError>
+    requires fits { S.Fits }
+    ensures items { IfOk result (λ made. S.Sequence.items made ≡ replicate S.Length.USIZE 7) }
+    ensures given { S.IsPromised → IsOk result }
+{
+    S::repeat(place, 7)
+}
+
+fn places<S: GenericSequence<usize>>(place: S::Place) -> Result<S::Sequence, S::Error>
+    requires fits { S.Fits }
+    ensures items { IfOk result (λ made. S.Sequence.items made ≡ map (λ place. place) (range_with_len 0 S.Length.USIZE)) }
+    ensures given { S.IsPromised → IsOk result }
+{
+    S::generate(place, |index| index)
+}
+
+fn no_places<S: GenericSequence<usize>>(place: S::Place) -> Result<S::Sequence, S::Error>
+    requires none { S.Length.USIZE ≡ 0 }
+    requires fits { S.Fits }
+    ensures { IsOk result }
+{
+    S::generate(place, |index| index)
+}
+
+fn nothing_mapped<
+    T,
+    U,
+    S: FunctionalSequence<T> + MappedGenericSequence<T, U>,
+    F: FnMut(SequenceItem<S>) -> U,
+>(
+    s: S,
+    place: MappedPlace<S, T, U>,
+    f: &mut F,
+) -> Result<MappedSequence<S, T, U>, MappedError<S, T, U>>
+    requires none { S.Length.USIZE ≡ 0 }
+    requires fits { S.Mapped.Fits }
+    requires callable { CallableOver (MayCallAt S.entry F.pre) (CallAt S.entry F.step) f.old (S.items s) }
+    ensures { IsOk result }
+{
+    s.map_by(place, f)
+}
+
+fn sevens_of_none() -> Result<GenericArray<u8, U0>, AllocError>
+    ensures { result ≡ Ok [] }
+{
+    sevens::<GenericArray<u8, U0>>(())
+}
+
+fn digits<S: FromFallibleIterator<u8>>(
+    place: S::Place,
+    text: &[u8],
+) -> Result<S, FillError<u8, S::Error>>
+    requires fits { S.Fits }
+    ensures long { OnOk result (length text.now ≡ S.Length.USIZE) }
+{
+    S::from_fallible_iter(place, text.iter().map(decimal_digit))
+}
+
+/// The digits that the bytes stand for, or why there are none. The iterator is lent.
+fn digits_lent<S: FromFallibleIterator<u8>>(
+    place: S::Place,
+    text: &[u8],
+) -> Result<S, FillError<u8, S::Error>>
+    requires fits { S.Fits }
+    ensures other { IfOk (fill_answer (built_items S.items result)) (λ built. IfOk built (λ made. IfErr made (λ byte. (byte < 48) ⊎ (57 < byte)))) }
+    ensures long { OnOk result (length text.now ≡ S.Length.USIZE) }
+{
+    let mut digits = text.iter().map(decimal_digit);
+    S::from_fallible_iter_ref(place, &mut digits)
+}
+
+#[test]
+fn digits_are_read_where_the_traits_alone_are_known(rt: HostRuntime) {
+    assert!(rt; digits::<GenericArray<u8, U3>>((), b"180").is_ok());
+    assert!(rt; digits_lent::<GenericArray<u8, U3>>((), b"180").is_ok());
+    assert!(rt; digits_lent::<BoxedArray<u8, U3>>(rt.alloc(), b"18").is_err());
+}

@@ -1,0 +1,40 @@
+//! Bytes as hex text.
+ghost use Rattle.generic_array.specs.HexText.{hex_digits};
+ghost use Rattle.std.specs.Io.KnownBytes.{Appends};
+ghost use Rattle.std.specs.Prelude.{OnOk, codes, true};
+
+use generic_array::hex_text::write_hex;
+use generic_array::{ArrayLength, GenericArray, U1, U3, arr};
+use std::io;
+use std::io::Write;
+
+#[tactic(auto, unfolding(hex::specs::Hex::encode_with))]
+fn three_digits_written<W: Write>(w: &mut W) -> Result<(), io::Error>
+    ensures { OnOk result (Appends (W.contents w.old) (W.contents w.new) (codes "0a1")) }
+{
+    write_hex(&[10, 20, 30], false, Some(3), w)
+}
+
+fn upper_digits_written<N: ArrayLength<u8>, W: Write>(
+    row: &GenericArray<u8, N>,
+    w: &mut W,
+) -> Result<(), io::Error>
+    ensures { OnOk result (Appends (W.contents w.old) (W.contents w.new) (hex_digits true row.now)) }
+{
+    row.write_upper_hex(w, None)
+}
+
+#[test]
+fn bytes_are_written_as_digits(rt: HostRuntime) {
+    let row: GenericArray<u8, U3> = arr![10, 20, 30];
+    let (mut upper, mut lower) = (Vec::new(rt.alloc()), Vec::new(rt.alloc()));
+    assert!(rt; upper_digits_written(&row, &mut upper).is_ok());
+    assert!(rt; row.write_lower_hex(&mut lower, Some(5)).is_ok());
+    assert!(rt;
+        upper.as_slice() == b"0A141E".as_slice() && lower.as_slice() == b"0a141".as_slice()
+    );
+    let five: GenericArray<u8, U1> = arr![5];
+    let mut one = Vec::new(rt.alloc());
+    assert!(rt; five.write_lower_hex(&mut one, Some(1)).is_ok());
+    assert!(rt; one.as_slice() == b"0".as_slice());
+}

@@ -1,0 +1,296 @@
+//! Callers at each kind of sequence, with exact answers.
+ghost use Rattle.generic_array.specs.Length.{FitsInline};
+ghost use Rattle.std.specs.List.{zip};
+ghost use Rattle.std.specs.Prelude.{◌≡◌, ◌∷◌, [], ◌+◌, ◌*◌, ◌%◌, ◌^◌, ◌⊎◌, Err, IfOk, Ok, fold, if◌then◌else◌, map, nat_eq};
+
+use generic_array::checks::{dot_by, map_total_by, total_by};
+use generic_array::functional::{FunctionalSequence, inverted_zip_by, inverted_zip2_by};
+use generic_array::{
+    AllocError, ArrayLength, BorrowedItems, BoxedArray, GenericArray, GenericArrayRef, U2, U3,
+    always,
+};
+use std::alloc::Global;
+use std::test::Fail;
+
+// A sum at each kind; that of a view is `sum_of` of `any_length`.
+
+fn total_of_array(array: GenericArray<u32, U3>) -> u32
+    requires { array ≡ 1 ∷ 2 ∷ 3 ∷ [] }
+    ensures { result ≡ 6 }
+{
+    total_by(
+        array,
+        0,
+        &mut |total: u32, item: u32| total.wrapping_add(item),
+    )
+}
+
+fn total_of_boxed(array: BoxedArray<u32, U3>) -> u32
+    requires { array ≡ 1 ∷ 2 ∷ 3 ∷ [] }
+    ensures { result ≡ 6 }
+{
+    total_by(
+        array,
+        0,
+        &mut |total: u32, item: u32| total.wrapping_add(item),
+    )
+}
+
+// The dot product of two kinds of any length.
+
+fn dot_of_array_and_view<N: ArrayLength<u32>>(
+    left: GenericArray<u32, N>,
+    right: GenericArrayRef<'_, u32, N>,
+) -> u32
+    ensures { result ≡ fold (λ total x. (total + x) % 2 ^ 32) 0 (map (λ p. p.0 * p.1 % 2 ^ 32) (zip left right.entry.slice.now)) }
+{
+    // The slice knows that the length fits.
+    let _ = left.as_slice();
+    always(dot_by(
+        left,
+        (),
+        right,
+        &mut |l: u32, r: &u32| l.wrapping_mul(*r),
+        0,
+        &mut |total: u32, item: u32| total.wrapping_add(item),
+    ))
+}
+
+fn dot_of_view_and_boxed<N: ArrayLength<u32>>(
+    left: GenericArrayRef<'_, u32, N>,
+    right: BoxedArray<u32, N>,
+) -> u32
+    requires { FitsInline N.USIZE }
+    ensures { result ≡ fold (λ total x. (total + x) % 2 ^ 32) 0 (map (λ p. p.0 * p.1 % 2 ^ 32) (zip left.entry.slice.now right)) }
+{
+    always(dot_by(
+        left,
+        (),
+        right,
+        &mut |l: &u32, r: u32| l.wrapping_mul(r),
+        0,
+        &mut |total: u32, item: u32| total.wrapping_add(item),
+    ))
+}
+
+fn dot_of_boxed_and_array<N: ArrayLength<u32>>(
+    alloc: Global,
+    left: BoxedArray<u32, N>,
+    right: GenericArray<u32, N>,
+) -> Result<u32, AllocError>
+    ensures { IfOk result (λ dot. dot ≡ fold (λ total x. (total + x) % 2 ^ 32) 0 (map (λ p. p.0 * p.1 % 2 ^ 32) (zip left right))) }
+{
+    dot_by(
+        left,
+        alloc,
+        right,
+        &mut |l: u32, r: u32| l.wrapping_mul(r),
+        0,
+        &mut |total: u32, item: u32| total.wrapping_add(item),
+    )
+}
+
+// A map with a running total, by a closure that is lent to one map and then to the next.
+
+fn running_totals_of_arrays(
+    left: GenericArray<u32, U2>,
+    right: GenericArray<u32, U2>,
+) -> (GenericArray<u32, U2>, GenericArray<u32, U2>)
+    requires left { left ≡ 1 ∷ 2 ∷ [] }
+    requires right { right ≡ 3 ∷ 4 ∷ [] }
+    ensures { result ≡ (1 ∷ 3 ∷ [], 6 ∷ 10 ∷ []) }
+{
+    let mut total = 0u32;
+    let mut add = |item: u32| {
+        total = total.wrapping_add(item);
+        total
+    };
+    let first = left.map_inline_by(&mut add);
+    let second = right.map_inline_by(&mut add);
+    (first, second)
+}
+
+fn running_totals_of_view(view: GenericArrayRef<'_, u32, U3>) -> GenericArray<u32, U3>
+    requires { view.slice.now ≡ 1 ∷ 2 ∷ 3 ∷ [] }
+    ensures { result ≡ 1 ∷ 3 ∷ 6 ∷ [] }
+{
+    let mut total = 0u32;
+    view.map_inline_ref(|item: &u32| {
+        total = total.wrapping_add(*item);
+        total
+    })
+}
+
+fn running_totals_of_boxed(
+    alloc: Global,
+    array: BoxedArray<u32, U3>,
+) -> Result<BoxedArray<u32, U3>, AllocError>
+    requires { array ≡ 1 ∷ 2 ∷ 3 ∷ [] }
+    ensures { IfOk result (λ totals. totals ≡ 1 ∷ 3 ∷ 6 ∷ []) }
+{
+    let mut total = 0u32;
+    array.map(alloc, |item: u32| {
+        total = total.wrapping_add(item);
+        total
+    })
+}
+
+// A map that stops at the entry 2, and the fold of a map.
+
+fn stopped_at_two(entry: u32) -> Result<u32, u32>
+    ensures { result ≡ (if nat_eq entry 2 then Err entry else Ok entry) }
+{
+    if entry == 2 { Err(entry) } else { Ok(entry) }
+}
+
+fn stopped_in_array(array: GenericArray<u32, U3>) -> Result<GenericArray<u32, U3>, u32>
+    requires { array ≡ 1 ∷ 2 ∷ 3 ∷ [] }
+    ensures { result ≡ Err 2 }
+{
+    array.try_map_inline(stopped_at_two)
+}
+
+fn stopped_in_view(view: GenericArrayRef<'_, u32, U3>) -> Result<GenericArray<u32, U3>, u32>
+    requires { view.slice.now ≡ 1 ∷ 2 ∷ 3 ∷ [] }
+    ensures { result ≡ Err 2 }
+{
+    view.try_map_inline_ref(|item: &u32| stopped_at_two(*item))
+}
+
+fn stopped_in_boxed(
+    alloc: Global,
+    array: BoxedArray<u32, U3>,
+) -> Result<Result<BoxedArray<u32, U3>, u32>, AllocError>
+    requires { array ≡ 1 ∷ 2 ∷ 3 ∷ [] }
+    ensures { IfOk result (λ built. built ≡ Err 2) }
+{
+    array.try_map(alloc, stopped_at_two)
+}
+
+fn stopped_past_three(view: GenericArrayRef<'_, u32, U3>) -> Result<u32, u32>
+    requires { view.slice.now ≡ 1 ∷ 3 ∷ 9 ∷ [] }
+    ensures { result ≡ Err 4 }
+{
+    view.try_fold(0, |sum: u32, item: &u32| {
+        let sum = sum.wrapping_add(*item);
+        if sum > 3 { Err(sum) } else { Ok(sum) }
+    })
+}
+
+fn digits_of_boxed(alloc: Global, array: BoxedArray<u32, U3>) -> Result<u32, AllocError>
+    requires { array ≡ 1 ∷ 2 ∷ 3 ∷ [] }
+    ensures { IfOk result (λ total. total ≡ 246) }
+{
+    map_total_by(
+        array,
+        alloc,
+        &mut |item: u32| item.wrapping_mul(2),
+        0,
+        &mut |total: u32, item: u32| total.wrapping_mul(10).wrapping_add(item),
+    )
+}
+
+// Zips told from the right side.
+
+fn less_by_boxed(s: BoxedArray<u32, U2>, lhs: GenericArray<u32, U2>) -> GenericArray<u32, U2>
+    requires s { s ≡ 1 ∷ 2 ∷ [] }
+    requires lhs { lhs ≡ 10 ∷ 20 ∷ [] }
+    ensures { result ≡ 9 ∷ 18 ∷ [] }
+{
+    inverted_zip_by(s, lhs, &mut |l: u32, r: u32| l.wrapping_sub(r))
+}
+
+fn boxed_less_by_view(
+    alloc: Global,
+    s: GenericArrayRef<'_, u32, U2>,
+    lhs: BoxedArray<u32, U2>,
+) -> Result<BoxedArray<u32, U2>, AllocError>
+    requires s { s.slice.now ≡ 1 ∷ 2 ∷ [] }
+    requires lhs { lhs ≡ 10 ∷ 20 ∷ [] }
+    ensures { IfOk result (λ made. made ≡ 9 ∷ 18 ∷ []) }
+{
+    inverted_zip2_by(s, alloc, lhs, &mut |l: u32, r: &u32| l.wrapping_sub(*r))
+}
+
+// Calls that were made, and items that were taken, where memory was had or refused.
+
+fn calls_of_a_boxed_map(alloc: Global, array: BoxedArray<u32, U3>) -> u32
+    requires { array ≡ 1 ∷ 2 ∷ 3 ∷ [] }
+    ensures { (result ≡ 0) ⊎ (result ≡ 3) }
+{
+    let mut calls = 0u32;
+    let mapped = array.map_by(
+        alloc,
+        &mut |item: u32| {
+            calls = calls.wrapping_add(1);
+            item
+        },
+    );
+    match mapped {
+        Ok(_mapped) => calls,
+        Err(_refused) => calls,
+    }
+}
+
+/// The array of 1 to 3.
+pub fn one_two_three() -> GenericArray<u32, U3>
+    ensures { result ≡ 1 ∷ 2 ∷ 3 ∷ [] }
+{
+    GenericArray::from_array([1, 2, 3])
+}
+
+/// The array of 4 to 6.
+pub fn four_five_six() -> GenericArray<u32, U3>
+    ensures { result ≡ 4 ∷ 5 ∷ 6 ∷ [] }
+{
+    GenericArray::from_array([4, 5, 6])
+}
+
+/// The boxed array of 1 to 3, or `AllocError` where its block can't be had.
+pub fn boxed_one_two_three(alloc: Global) -> Result<BoxedArray<u32, U3>, AllocError>
+    ensures { IfOk result (λ array. array ≡ 1 ∷ 2 ∷ 3 ∷ []) }
+{
+    BoxedArray::from_array(alloc, [1, 2, 3])
+}
+
+/// The total and the dot product of inline arrays.
+fn numbers_of_arrays() -> (u32, u32) {
+    (
+        total_of_array(one_two_three()),
+        dot_of_array_and_view(one_two_three(), four_five_six().view()),
+    )
+}
+
+/// The same of boxed arrays, with the digits of a doubled one, and the calls of a map.
+fn numbers_of_boxed(alloc: Global) -> Result<(u32, u32, u32, u32, u32), AllocError> {
+    let array = four_five_six();
+    let total = total_of_boxed(boxed_one_two_three(alloc)?);
+    let mixed = dot_of_view_and_boxed(array.view(), boxed_one_two_three(alloc)?);
+    let dot = dot_of_boxed_and_array(alloc, boxed_one_two_three(alloc)?, four_five_six())?;
+    let digits = digits_of_boxed(alloc, boxed_one_two_three(alloc)?)?;
+    let calls = calls_of_a_boxed_map(alloc, boxed_one_two_three(alloc)?);
+    Ok((total, mixed, dot, digits, calls))
+}
+
+/// Where maps stop, and the last of running totals.
+fn numbers_of_runs(alloc: Global) -> Result<(u32, u32, u32), AllocError> {
+    let array = one_two_three();
+    let last = running_totals_of_boxed(alloc, boxed_one_two_three(alloc)?)?.as_slice()[2];
+    let stopped = match stopped_in_boxed(alloc, boxed_one_two_three(alloc)?)? {
+        Ok(_all) => 0,
+        Err(entry) => entry,
+    };
+    let seen = match stopped_in_view(array.view()) {
+        Ok(_all) => 0,
+        Err(entry) => entry,
+    };
+    Ok((last, stopped, seen))
+}
+
+#[test]
+fn callers_get_what_their_contracts_say(rt: HostRuntime) -> Result<(), Fail> {
+    assert!(rt; numbers_of_arrays() == (6, 32));
+    assert!(rt; numbers_of_boxed(rt.alloc())? == (6, 32, 32, 246, 3));
+    assert!(rt; numbers_of_runs(rt.alloc())? == (6, 2, 2));
+    Ok(())
+}

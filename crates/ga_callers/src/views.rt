@@ -1,0 +1,109 @@
+//! Views of slices, read and written.
+ghost use Rattle.std.specs.Prelude.{◌≡◌, ◌≢◌, ◌==◌, IfOk, IsOk, length, position, reverse, slice_set, sum};
+
+use generic_array::{Const, GenericArrayMut, GenericArrayRef, U2, U3};
+use std::alloc::AllocError;
+
+fn second_written(slice: &mut [u8])
+    requires { length slice.old ≡ 2 }
+    ensures { slice.new ≡ slice_set slice.old 1 6 }
+{
+    let mut view: GenericArrayMut<u8, U2> = GenericArrayMut::from_mut_slice(slice);
+    let items = view.as_mut_slice();
+    items[1] = 6;
+}
+
+fn second_got(slice: &mut [u8])
+    requires { length slice.old ≡ 2 }
+    ensures { slice.new ≡ slice_set slice.old 1 6 }
+{
+    let mut view: GenericArrayMut<u8, U2> = GenericArrayMut::from_mut_slice(slice);
+    if let Some(item) = view.get_mut(1) {
+        *item = 6;
+    }
+}
+
+fn second_of_two(slice: &mut [u8])
+    ensures two { length slice.old ≡ 2 → slice.new ≡ slice_set slice.old 1 6 }
+    ensures others { length slice.old ≢ 2 → slice.new ≡ slice.old }
+{
+    if slice.len() == 2 {
+        let mut view: GenericArrayMut<u8, U2> = GenericArrayMut::from_mut_slice(slice);
+        let items = view.as_mut_slice();
+        items[1] = 6;
+    }
+}
+
+fn count_for_writing(slice: &mut [u8]) -> usize
+    requires { length slice.old ≡ 2 }
+    ensures { result ≡ 2 }
+{
+    let mut view: GenericArrayMut<u8, U2> = GenericArrayMut::from_mut_slice(slice);
+    view.iter_mut().count()
+}
+
+/// The sum of two bytes that a view shows.
+pub fn sum_of(view: &GenericArrayRef<u8, U2>) -> u32
+    ensures { result ≡ sum view.now.slice.now }
+{
+    view.iter().map(|item| *item as u32).sum()
+}
+
+fn six_from_the_back(view: GenericArrayRef<u8, U2>) -> Option<usize>
+    ensures { result ≡ position (λ item. item == 6) (reverse view.entry.slice.now) }
+{
+    view.into_iter().rev().position(|item| *item == 6)
+}
+
+fn shown_by_a_clone<'a>(view: &GenericArrayRef<'a, u8, U2>) -> Result<&'a [u8], AllocError>
+    ensures succeeds { IsOk result }
+    ensures items { IfOk result (λ items. items.now ≡ view.now.slice.now) }
+{
+    let copy = view.clone()?;
+    Ok(copy.into_slice())
+}
+
+#[test]
+fn what_is_written_through_a_view_stands_in_its_slice(rt: HostRuntime) {
+    let mut written = [4u8, 5];
+    second_written(&mut written);
+    let mut got = [4u8, 5];
+    second_got(&mut got);
+    let mut taken = [4u8, 5];
+    if let Ok(mut view) = GenericArrayMut::<u8, U2>::try_from_mut_slice(&mut taken) {
+        let slice = view.as_mut_slice();
+        slice[1] = 6;
+    }
+    let mut walked = [4u8, 5];
+    let mut view: GenericArrayMut<u8, U2> = GenericArrayMut::from_mut_slice(&mut walked);
+    for item in view.iter_mut() {
+        *item += 1;
+    }
+    assert_eq!(rt; view.as_slice(), [5, 6].as_slice());
+    for items in [written, got, taken] {
+        assert_eq!(rt; items.as_slice(), [4, 6].as_slice());
+    }
+}
+
+#[test]
+fn a_slice_of_another_length_is_refused_and_left_alone(rt: HostRuntime) {
+    let mut items = [1u8, 2, 3, 4];
+    assert!(rt; GenericArrayMut::<u8, U3>::try_from_mut_slice(&mut items).is_err());
+    assert!(rt; GenericArrayRef::<u8, U3>::try_from_slice(&items).is_err());
+    second_of_two(&mut items);
+    assert_eq!(rt; items.as_slice(), [1, 2, 3, 4].as_slice());
+    let many = [0u8; 65_537];
+    assert!(rt; GenericArrayRef::<u8, Const<65_537>>::try_from_slice(&many).is_ok());
+}
+
+#[test]
+fn a_view_shows_its_slice(rt: HostRuntime) {
+    let mut items = [4u8, 6];
+    assert_eq!(rt; count_for_writing(&mut items), 2);
+    let view: GenericArrayRef<u8, U2> = GenericArrayRef::from_slice(&items);
+    assert_eq!(rt; sum_of(&view), 10);
+    assert_eq!(rt; six_from_the_back(view), Some(0));
+    assert_eq!(rt; shown_by_a_clone(&view), Ok([4, 6].as_slice()));
+    assert_eq!(rt; view.get(1).copied(), Some(6));
+    assert!(rt; view.get(2).is_none());
+}
