@@ -7,11 +7,6 @@ ghost use Rattle.std.specs.Iterator.Runs.{EveryRun, ItemsMapTo, ItemsMapToRevers
 ghost use Rattle.std.specs.Option.{option_map};
 ghost use Rattle.std.specs.Prelude.{◌≡◌, ◌<◌, ◌↔◌, IfOk, IfSome, IsNone, ℕ, IsOk, List, OnOk, length, slice_get, ⊤};
 
-#[cfg(test)]
-mod tests;
-#[cfg(test)]
-mod uses;
-
 use generic_array::{
     ArrayLength, ChunkIter, ChunksRef, GenericArray, GenericArrayRef, LengthError,
 };

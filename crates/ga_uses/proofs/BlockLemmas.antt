@@ -1,7 +1,7 @@
 -- Calls at blocks in turn, and messages that are fed.
 use Rattle.ga_uses.specs.BlockBuffer.{HasFed, MayTake, Takes}
 use Rattle.generic_array.proofs.JoinLemmas.{chunk_rest-joined, rows-behind, rows-joined}
-use Rattle.generic_array.proofs.LawLemmas.{CallableOver-first, CallableOver-second, ClosureRun-in_turn}
+use Rattle.generic_array.proofs.JoinedRuns.{CallableOver-first, CallableOver-second, ClosureRun-in_turn}
 use Rattle.generic_array.proofs.RowLemmas.{chunk_rest-few, rows-few}
 use Rattle.generic_array.specs.Entries.{CallAt, MayCallAt}
 use Rattle.generic_array.specs.Rows.{chunk_rest, rows}

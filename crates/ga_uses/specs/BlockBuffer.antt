@@ -1,8 +1,7 @@
 -- Messages in blocks: what a buffer keeps of them, the calls at their blocks, and the padded message.
 use Rattle.generic_array.specs.Entries.{CallAt, MayCallAt}
-use Rattle.generic_array.specs.EntryRuns.{CallableOver}
+use Rattle.generic_array.specs.Runs.{CallableOver, ClosureRun}
 use Rattle.generic_array.specs.Rows.{chunk_rest, rows}
-use Rattle.generic_array.specs.Runs.{ClosureRun}
 use Rattle.std.specs.Int.{to_be_bytes, w64}
 use Rattle.std.specs.Prelude.{◌≡◌, ℕ, ◌+◌, ◌-◌, ◌*◌, ◌%◌, ◌^◌, List, ◌∷◌, ◌++◌, length, min, replicate}
 

@@ -5,11 +5,6 @@ ghost use Rattle.generic_array.specs.Rows.{chunk_rest, rows};
 ghost use Rattle.std.specs.List.{flat_map};
 ghost use Rattle.std.specs.Prelude.{◌≡◌, ℕ, ◌+◌, ◌^◌, ◌<◌, ◌≤◌, List, [], ◌++◌, length, replicate};
 
-#[cfg(test)]
-mod tests;
-#[cfg(test)]
-mod uses;
-
 use generic_array::{ArrayBuilder, ArrayLength, ChunksRef, GenericArray, Unsigned};
 use std::marker::Model;
 use std::mem;

@@ -13,9 +13,6 @@ ghost use Rattle.std.proofs.Common.{lit≤};
 ghost use Rattle.std.specs.List.{concat};
 ghost use Rattle.std.specs.Prelude.{◌≡◌, ℕ, ◌≤◌, ◌++◌, List, [], map};
 
-#[cfg(test)]
-mod tests;
-
 use generic_array::{ArrayLength, GenericArray, U16, U20, U32, U64, U128};
 use md5::{Digest as Md5Digest, Md5};
 use sha1::Sha1;

@@ -5,12 +5,8 @@ ghost use Rattle.ga_uses.specs.Hmac.{Holds, hmac_of, key_block, masked};
 ghost use Rattle.generic_array.specs.Length.{FitsInline};
 ghost use Rattle.std.specs.Prelude.{◌≡◌, ℕ, ◌-◌, ◌≤◌, ◌↔◌, ◌++◌, IsTrue, List, [], length, replicate};
 
-#[cfg(test)]
-mod tests;
-
 use crate::hash_function::HashFunction;
-use generic_array::functional::FunctionalSequence;
-use generic_array::{ArrayLength, GenericArray, GenericArrayRef, always};
+use generic_array::{ArrayLength, BorrowedItems, GenericArray};
 
 /// The mask of the key before the message.
 const INNER: u8 = 0x36;
@@ -34,8 +30,8 @@ impl<H: HashFunction> Hmac<H> {
     {
         let block = block_of_key::<H>(key);
         Hmac {
-            inner: keyed(block.view(), INNER),
-            outer: keyed(block.view(), OUTER),
+            inner: keyed(&block, INNER),
+            outer: keyed(&block, OUTER),
         }
     }
 
@@ -109,11 +105,11 @@ fn block_of_key<H: HashFunction>(key: &[u8]) -> GenericArray<u8, H::BlockSize>
 }
 
 /// A hash function that was fed the key under a mask.
-fn keyed<H: HashFunction>(block: GenericArrayRef<'_, u8, H::BlockSize>, mask: u8) -> H
-    ensures { H.holds result (masked mask block.entry.slice.now) }
+fn keyed<H: HashFunction>(block: &GenericArray<u8, H::BlockSize>, mask: u8) -> H
+    ensures { H.holds result (masked mask block.now) }
 {
     let mut hasher = H::start();
-    hasher.feed(always(block.map((), |b: &u8| *b ^ mask)).as_slice());
+    hasher.feed(block.map_inline_ref(|b: &u8| *b ^ mask).as_slice());
     hasher
 }
 
@@ -124,6 +120,9 @@ fn same_bytes<N: ArrayLength<u8>>(left: GenericArray<u8, N>, right: &[u8]) -> bo
     let Ok(right) = GenericArray::<u8, N>::try_from_slice(right) else {
         return false;
     };
-    let differences = always(left.zip((), right, |l: u8, r: &u8| l ^ *r));
-    differences.fold(0, |all: u8, difference: u8| all | difference) == 0
+    let differences = left.zip_inline_ref(right, |l: u8, r: &u8| l ^ *r);
+    differences
+        .into_iter()
+        .fold(0, |all: u8, difference: u8| all | difference)
+        == 0
 }

@@ -5,10 +5,6 @@ ghost use Rattle.std.specs.Option.{option_copied};
 ghost use Rattle.std.specs.Ordering.{is_lt};
 ghost use Rattle.std.specs.Prelude.{◌≡◌, ◌≤◌, ◌↔◌, [], IfErr, IfOk, IsTrue, None, OnErr, OnOk, Some, false, length, true};
 
-mod std_maps;
-#[cfg(test)]
-mod tests;
-
 use generic_array::{AllocError, ArrayLength, GenericArray};
 use std::alloc::Global;
 use std::marker::Model;

@@ -3,9 +3,6 @@ ghost use Rattle.ga_uses.specs.Udp.{IsDatagram, checksum_of, complement_of, data
 ghost use Rattle.generic_array.specs.Rows.{rows};
 ghost use Rattle.std.specs.Prelude.{◌≡◌, ◌+◌, ◌-◌, ◌^◌, ◌<◌, ◌≤◌, ◌↔◌, Err, IfOk, IsOk, Ok, drop, fold, length, map, slice_range};
 
-#[cfg(test)]
-mod tests;
-
 use generic_array::functional::FunctionalSequence;
 use generic_array::sequence::Split;
 use generic_array::{ChunksMut, ChunksRef, GenericArray, GenericArrayRef, U2, U4, U6, U8};

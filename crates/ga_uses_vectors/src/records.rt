@@ -2,7 +2,7 @@
 ghost use Rattle.ga_records.specs.Records.{has};
 ghost use Rattle.std.specs.Prelude.{◌≡◌, ◌∷◌, [], IfSome, IsErr, None, Ok, Some, true};
 
-use crate::RecordBlock;
+use ga_records::RecordBlock;
 use generic_array::{ArrayLength, GenericArrayRef, LengthError, U2};
 
 /// Where the bytes 2, 1 and 9 stand for the last time in two records of two.

@@ -1,7 +1,7 @@
 ghost use Rattle.std.specs.Prelude.{◌^◌, ◌<◌, ◌≤◌, length};
 
-use super::*;
-use generic_array::GenericArray;
+use ga_uses::udp::{HeaderError, number, parse, read_back, write_header};
+use generic_array::{GenericArray, U4};
 
 /// The datagram with the payload from 192.0.2.1, port 4660, to 198.51.100.2, port 53.
 fn write_example(datagram: &mut [u8])

@@ -3,7 +3,7 @@ ghost use Rattle.ga_uses.specs.BlockBuffer.{Takes, padded};
 ghost use Rattle.generic_array.specs.Rows.{rows};
 ghost use Rattle.std.specs.Prelude.{◌≡◌, ◌^◌, ◌+◌, ◌<◌, ◌++◌, length};
 
-use super::BlockBuffer;
+use ga_uses::block_buffer::BlockBuffer;
 use generic_array::U64;
 
 /// Calls `f` at the blocks of a message in two pieces, and of its padding.

@@ -4,8 +4,9 @@ ghost use Rattle.ga_uses.specs.Hmac.{hmac_of};
 ghost use Rattle.sha2.specs.Sha256.{sha256};
 ghost use Rattle.std.specs.Prelude.{◌≡◌, ◌↔◌, ◌++◌, IsTrue};
 
-use super::*;
-use generic_array::{AllocError, U64};
+use ga_uses::hash_function::HashFunction;
+use ga_uses::hmac::{Hmac, tag_of, verify};
+use generic_array::{AllocError, ArrayLength, GenericArray, U64};
 use md5::Md5;
 use sha1::Sha1;
 use sha2::{Sha256, Sha512};

@@ -1,7 +1,11 @@
 //! A caller, and digests of the standards' own example, by each hash function and however it is cut.
 ghost use Rattle.std.specs.Prelude.{◌≡◌, ◌++◌};
 
-use super::*;
+use ga_uses::hash_function::HashFunction;
+use generic_array::GenericArray;
+use md5::Md5;
+use sha1::Sha1;
+use sha2::{Sha256, Sha512};
 
 fn digest_of_entry<H: HashFunction>(name: &[u8], body: &[u8]) -> GenericArray<u8, H::OutputSize>
     ensures { result ≡ H.digest (name.now ++ body.now) }

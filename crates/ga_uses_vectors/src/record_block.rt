@@ -1,5 +1,5 @@
 //! Blocks of records that are opened, looked at from both ends, and written out.
-use crate::RecordBlock;
+use ga_records::RecordBlock;
 use generic_array::{ArrayLength, LengthError, U2, U3, U4};
 use std::io;
 use std::io::{ErrorKind, Write};

@@ -1,9 +1,10 @@
 ghost use Rattle.ga_uses.specs.KeyTable.{value_at};
 ghost use Rattle.std.specs.Prelude.{◌≡◌, ◌≢◌, IsTrue};
 
-use super::std_maps::{put_in_hashes, put_in_tree};
-use super::*;
-use generic_array::U2;
+use crate::std_maps::{put_in_hashes, put_in_tree};
+use ga_uses::key_table::KeyTable;
+use generic_array::{AllocError, ArrayLength, GenericArray, U2};
+use std::alloc::Global;
 use std::collections::{BTreeMap, HashMap};
 use std::test::Fail;
 
