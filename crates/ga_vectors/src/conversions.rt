@@ -2,6 +2,7 @@
 ghost use Rattle.generic_array.specs.Length.{FitsInline};
 
 use crate::counted::{Counted, Counts};
+use crate::items::counted_from;
 use generic_array::{
     AllocError, ArrayLength, BoxedArray, GenericArray, U0, U1, U2, U3, U12, arr, box_arr,
     move_items,
@@ -58,7 +59,7 @@ fn kept_on_the_way<'a, N: ArrayLength<Counted<'a>>>(
 ) -> Result<(usize, u32), Fail>
     requires { FitsInline N.USIZE }
 {
-    let array = GenericArray::<Counted, N>::generate(|_| Counted::new(counts, 1));
+    let array = counted_from::<N>(counts, 1);
     let array = GenericArray::<_, N>::try_from_vec(array.into_vec(alloc)?)?;
     let array = GenericArray::<_, N>::try_from_boxed_slice(array.into_boxed_slice(alloc)?)?;
     let boxed = BoxedArray::from_inline(alloc, array)?;
@@ -130,14 +131,13 @@ fn another_length_is_refused_and_the_items_dropped(rt: HostRuntime) -> Result<()
 
 /// How many of the items that are moved, and of those that they are moved over, are dropped by then; the
 /// same once what they came from is gone.
-fn drops_of_a_move<'a, N: ArrayLength<Counted<'a>>>(
-    moved: &'a Counts,
-    replaced: &'a Counts,
-) -> [u32; 4]
-    requires { FitsInline N.USIZE }
-{
-    let mut items = GenericArray::<Counted, N>::generate(|_| Counted::new(moved, 1));
-    let mut places = GenericArray::<Counted, N>::generate(|_| Counted::new(replaced, 2));
+fn drops_of_a_move<T: Default + Drop, N: ArrayLength<T>>(
+    items: GenericArray<T, N>,
+    places: GenericArray<T, N>,
+    moved: &Counts,
+    replaced: &Counts,
+) -> [u32; 4] {
+    let (mut items, mut places) = (items, places);
     move_items(items.as_mut_slice(), places.as_mut_slice());
     let (moved_at_once, replaced_at_once) = (moved.drops(), replaced.drops());
     drop(items);
@@ -154,8 +154,10 @@ fn drops_of_a_move<'a, N: ArrayLength<Counted<'a>>>(
 #[test]
 fn what_is_moved_over_is_dropped_once(rt: HostRuntime) {
     let (moved, replaced) = (Counts::new(), Counts::new());
-    assert!(rt; drops_of_a_move::<U0>(&moved, &replaced) == [0; 4]);
-    assert!(rt; drops_of_a_move::<U3>(&moved, &replaced) == [0, 3, 0, 3]);
+    let (items, places) = (counted_from::<U0>(&moved, 1), counted_from(&replaced, 1));
+    assert!(rt; drops_of_a_move(items, places, &moved, &replaced) == [0; 4]);
+    let (items, places) = (counted_from::<U3>(&moved, 1), counted_from(&replaced, 1));
+    assert!(rt; drops_of_a_move(items, places, &moved, &replaced) == [0, 3, 0, 3]);
     assert!(rt; moved.drops() == 3 && replaced.drops() == 3);
 }
 

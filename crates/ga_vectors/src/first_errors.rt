@@ -1,10 +1,14 @@
 //! Closures that fail at each place: which calls are made, and what is dropped.
 ghost use Rattle.generic_array.specs.Length.{FitsInline};
 
+use crate::calls::{boxed, inline};
 use crate::counted::{Counted, Counts};
+use crate::items::{boxed_counted_from, counted_from};
 use generic_array::functional::FunctionalSequence;
 use generic_array::sequence::FallibleGenericSequence;
-use generic_array::{AllocError, BoxedArray, GenericArray, GenericArrayRef, U5, always};
+use generic_array::{
+    AllocError, BorrowedItems, BoxedArray, GenericArray, GenericArrayRef, U5, always,
+};
 use std::alloc::Global;
 use std::cell::Cell;
 use std::test::Fail;
@@ -104,43 +108,50 @@ fn view_generate(refused: u32) -> End {
     end_of(built, &failing, &none)
 }
 
-/// The array of five items that are counted here, numbered from 1.
-fn five(counts: &Counts) -> GenericArray<Counted<'_>, U5> {
-    GenericArray::generate(|index| Counted::new(counts, index as u32 + 1))
-}
-
-fn boxed_five(alloc: Global, counts: &Counts) -> Result<BoxedArray<Counted<'_>, U5>, AllocError> {
-    BoxedArray::generate(alloc, |index| Counted::new(counts, index as u32 + 1))
-}
-
 /// The end of `try_map_by` of five items, inline.
 fn inline_map(refused: u32) -> End {
     let (answers, entries) = (Counts::new(), Counts::new());
     let failing = Failing::at(refused, &answers);
-    let built: Result<GenericArray<Counted, U5>, u32> = always(five(&entries).try_map_by(
-        (),
-        &mut |item: Counted| failing.answer(item.place()),
-    ));
+    let five = counted_from::<U5>(&entries, 1);
+    let built = inline::try_map_by(five, &mut |item: Counted| failing.answer(item.place()));
+    end_of(built, &failing, &entries)
+}
+
+/// The same of the plain call.
+fn plain_map(refused: u32) -> End {
+    let (answers, entries) = (Counts::new(), Counts::new());
+    let failing = Failing::at(refused, &answers);
+    let five = counted_from::<U5>(&entries, 1);
+    let built = five.try_map_inline_by(&mut |item: Counted| failing.answer(item.place()));
+    end_of(built, &failing, &entries)
+}
+
+/// The same of the plain call by reference.
+fn plain_map_ref(refused: u32) -> End {
+    let (answers, entries) = (Counts::new(), Counts::new());
+    let failing = Failing::at(refused, &answers);
+    let five = counted_from::<U5>(&entries, 1);
+    let mut answer = |item: &Counted| failing.answer(item.place());
+    let built = five.try_map_inline_ref_by(&mut answer);
     end_of(built, &failing, &entries)
 }
 
 fn boxed_map(alloc: Global, refused: u32) -> Result<End, AllocError> {
     let (answers, entries) = (Counts::new(), Counts::new());
     let failing = Failing::at(refused, &answers);
-    let built: Result<BoxedArray<Counted, U5>, u32> = boxed_five(alloc, &entries)?.try_map_by(
-        alloc,
-        &mut |item: Counted| failing.answer(item.place()),
-    )?;
+    let five = boxed_counted_from::<U5>(alloc, &entries, 1)?;
+    let mut answer = |item: Counted| failing.answer(item.place());
+    let built = boxed::try_map_by(alloc, five, &mut answer)?;
     Ok(end_of(built, &failing, &entries))
 }
 
 fn view_map(refused: u32) -> End {
     let (answers, entries) = (Counts::new(), Counts::new());
     let failing = Failing::at(refused, &answers);
-    let array = five(&entries);
+    let five = counted_from::<U5>(&entries, 1);
+    // Not by the function of `calls`, which isn't followed where items and results hold a lifetime.
     let built: Result<GenericArray<Counted, U5>, u32> = always(
-        array
-            .view()
+        five.view()
             .try_map_by((), &mut |item: &Counted| failing.answer(item.place())),
     );
     end_of(built, &failing, &entries)
@@ -150,31 +161,27 @@ fn view_map(refused: u32) -> End {
 fn inline_fold(refused: u32) -> End {
     let (answers, entries) = (Counts::new(), Counts::new());
     let failing = Failing::at(refused, &answers);
-    let first = Counted::new(&answers, 0);
-    let built = five(&entries).try_fold_by(
-        first,
-        &mut |_before: Counted, item: Counted| { failing.answer(item.place()) },
-    );
+    let five = counted_from::<U5>(&entries, 1);
+    let mut answer = |_before: Counted, item: Counted| failing.answer(item.place());
+    let built = inline::try_fold_by(five, Counted::new(&answers, 0), &mut answer);
     end_of(built, &failing, &entries)
 }
 
 fn boxed_fold(alloc: Global, refused: u32) -> Result<End, AllocError> {
     let (answers, entries) = (Counts::new(), Counts::new());
     let failing = Failing::at(refused, &answers);
-    let first = Counted::new(&answers, 0);
-    let built = boxed_five(alloc, &entries)?.try_fold_by(
-        first,
-        &mut |_before: Counted, item: Counted| failing.answer(item.place()),
-    );
+    let five = boxed_counted_from::<U5>(alloc, &entries, 1)?;
+    let mut answer = |_before: Counted, item: Counted| failing.answer(item.place());
+    let built = boxed::try_fold_by(five, Counted::new(&answers, 0), &mut answer);
     Ok(end_of(built, &failing, &entries))
 }
 
 fn view_fold(refused: u32) -> End {
     let (answers, entries) = (Counts::new(), Counts::new());
     let failing = Failing::at(refused, &answers);
+    let five = counted_from::<U5>(&entries, 1);
     let first = Counted::new(&answers, 0);
-    let array = five(&entries);
-    let built = array.view().try_fold_by(
+    let built = five.view().try_fold_by(
         first,
         &mut |_before: Counted, item: &Counted| failing.answer(item.place()),
     );
@@ -207,8 +214,10 @@ fn no_call_follows_an_error_and_what_was_made_is_dropped(rt: HostRuntime) -> Res
         };
         assert!(rt; inline_generate(refused) == made && view_generate(refused) == made);
         assert!(rt; boxed_generate(alloc, refused)? == made && view_map(refused) == made);
+        assert!(rt; plain_map_ref(refused) == made);
         let made = End { entries: 5, ..made };
         assert!(rt; inline_map(refused) == made && boxed_map(alloc, refused)? == made);
+        assert!(rt; plain_map(refused) == made);
         // A fold drops each answer at the next call, and first what it began with.
         let folded = End {
             error,

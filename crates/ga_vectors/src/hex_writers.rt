@@ -1,64 +1,11 @@
 //! Hex text through writers that take it in parts, are interrupted, or fail at one of their calls.
+use crate::sinks::{BYTE_BY_BYTE, INTERRUPTED, Manner, NOTHING, Sink, WHOLE};
 use generic_array::hex_text::write_hex;
 use generic_array::{AllocError, arr};
 use std::alloc::Global;
 use std::io;
-use std::io::{ErrorKind, Write};
+use std::io::ErrorKind;
 use std::test::Fail;
-
-/// At most `step` bytes are taken at a call. The first of each `period` calls is interrupted, none where
-/// that is 0.
-#[derive(Clone, Copy)]
-struct Manner {
-    step: usize,
-    period: usize,
-}
-
-const WHOLE: Manner = Manner {
-    step: usize::MAX,
-    period: 0,
-};
-
-const BYTE_BY_BYTE: Manner = Manner { step: 1, period: 0 };
-
-const INTERRUPTED: Manner = Manner {
-    step: usize::MAX,
-    period: 2,
-};
-
-const NOTHING: Manner = Manner { step: 0, period: 0 };
-
-/// Compares what it takes with the text that is to come, counts its calls, and fails at one of them.
-#[derive(Drop)]
-struct Sink<'a> {
-    to_come: &'a [u8],
-    is_exact: bool,
-    manner: Manner,
-    calls: usize,
-    fails_at: usize,
-}
-
-impl Write for Sink<'_> {
-    fn write(&mut self, buf: &[u8]) -> io::Result<usize> {
-        self.calls = self.calls.saturating_add(1);
-        if self.calls == self.fails_at {
-            return Err(io::Error::from(ErrorKind::BrokenPipe));
-        }
-        if self.calls.checked_rem(self.manner.period) == Some(1) {
-            return Err(io::Error::from(ErrorKind::Interrupted));
-        }
-        let taken = &buf[..buf.len().min(self.manner.step)];
-        match self.to_come.strip_prefix(taken) {
-            Some(to_come) => self.to_come = to_come,
-            None => self.is_exact = false,
-        }
-        Ok(taken.len())
-    }
-
-    fn flush(&mut self) -> io::Result<()> {
-        Ok(())
-    }
-}
 
 /// A call that writes hex text: of a slice in upper or lower digits, or of the array of 10, 20, 30.
 #[derive(Clone, Copy)]
@@ -90,13 +37,7 @@ fn faults(
 ) -> Option<usize> {
     for run in 0..usize::MAX {
         let fails_at = run.wrapping_mul(stride).wrapping_add(1);
-        let mut sink = Sink {
-            to_come: text,
-            is_exact: true,
-            manner,
-            calls: 0,
-            fails_at,
-        };
+        let mut sink = Sink::new(text, manner, fails_at);
         let answer = call.made(limit, &mut sink);
         let is_disturbed = sink.calls >= fails_at;
         let is_right = match answer {
@@ -130,7 +71,7 @@ fn each_fails(call: Call<'_>, limit: Option<usize>, text: &[u8], writes: usize) 
 }
 
 /// So many bytes, of which each is one more than the one before it, until they begin anew.
-fn rising(alloc: Global, len: usize) -> Result<Vec<u8>, AllocError> {
+pub fn rising(alloc: Global, len: usize) -> Result<Vec<u8>, AllocError> {
     let mut bytes = Vec::new(alloc);
     for place in 0..len {
         bytes.push((place % 251) as u8)?;
@@ -139,7 +80,7 @@ fn rising(alloc: Global, len: usize) -> Result<Vec<u8>, AllocError> {
 }
 
 /// The digits of the bytes, by a table.
-fn digits_of(alloc: Global, bytes: &[u8], upper: bool) -> Result<Vec<u8>, AllocError> {
+pub fn digits_of(alloc: Global, bytes: &[u8], upper: bool) -> Result<Vec<u8>, AllocError> {
     let table = if upper {
         b"0123456789ABCDEF"
     } else {
@@ -151,6 +92,22 @@ fn digits_of(alloc: Global, bytes: &[u8], upper: bool) -> Result<Vec<u8>, AllocE
         text.push(table[usize::from(*byte % 16)])?;
     }
     Ok(text)
+}
+
+/// The same of so many bytes, which have so many digits up to the limit.
+fn each_fails_of(
+    alloc: Global,
+    len: usize,
+    upper: bool,
+    limit: Option<usize>,
+    count: usize,
+    writes: usize,
+) -> Result<bool, AllocError> {
+    let bytes = rising(alloc, len)?;
+    let mut text = digits_of(alloc, bytes.as_slice(), upper)?;
+    text.truncate(count);
+    let call = Call::Slice(bytes.as_slice(), upper);
+    Ok(each_fails(call, limit, text.as_slice(), writes))
 }
 
 #[test]
@@ -168,12 +125,8 @@ fn each_write_of_a_slice_fails_in_turn(rt: HostRuntime) -> Result<(), Fail> {
         (0, None, 0, 0),
     ];
     for (len, limit, count, writes) in cases {
-        let bytes = rising(rt.alloc(), len)?;
         for upper in [false, true] {
-            let mut text = digits_of(rt.alloc(), bytes.as_slice(), upper)?;
-            text.truncate(count);
-            let call = Call::Slice(bytes.as_slice(), upper);
-            let is_right = each_fails(call, limit, text.as_slice(), writes);
+            let is_right = each_fails_of(rt.alloc(), len, upper, limit, count, writes)?;
             assert!(rt; is_right, "{len} bytes in {writes} writes");
         }
     }

@@ -2,9 +2,10 @@
 ghost use Rattle.std.specs.Prelude.{◌<◌};
 
 use crate::counted::{Counted, Counts};
+use crate::items::{boxed_counted_from, counted_from};
 use crate::scripted::Numbered;
 use generic_array::steps::TwoEnded;
-use generic_array::{AllocError, BoxedArray, BoxedArrayIter, GenericArray, GenericArrayIter, U4};
+use generic_array::{AllocError, BoxedArrayIter, GenericArrayIter, U4};
 use std::alloc::Global;
 use std::test::Fail;
 
@@ -55,21 +56,14 @@ fn drops_of<T: Drop, I: TwoEnded<T> + Clone + Drop>(
 
 /// Four items that are counted here, numbered from 1.
 pub(crate) fn inline_four(counts: &Counts) -> GenericArrayIter<Counted<'_>, U4> {
-    GenericArray::<Counted, U4>::generate(|index| Counted::new(
-        counts,
-        index as u32 + 1,
-    )).into_iter()
+    counted_from::<U4>(counts, 1).into_iter()
 }
 
 pub(crate) fn boxed_four(
     alloc: Global,
     counts: &Counts,
 ) -> Result<BoxedArrayIter<Counted<'_>>, AllocError> {
-    let array: BoxedArray<Counted, U4> = BoxedArray::generate(
-        alloc,
-        |index| Counted::new(counts, index as u32 + 1),
-    )?;
-    Ok(array.into_iter())
+    Ok(boxed_counted_from::<U4>(alloc, counts, 1)?.into_iter())
 }
 
 /// The drops of the inline and the boxed iterator, and how many there were of each in the end.

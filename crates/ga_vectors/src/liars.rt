@@ -38,47 +38,55 @@ fn run_of<'a, T: Given<'a>>(outcome: Outcome, items: Scripted<'a, T>) -> Run {
     }
 }
 
-/// The runs of the fills of an array, and of a builder.
-fn fills<'a, T: Given<'a> + Numbered, N: ArrayLength<T>>(
+/// What is filled.
+#[derive(Clone, Copy)]
+enum Filled {
+    Inline,
+    Boxed,
+    Builder,
+    /// By the call of the trait of kinds, which takes results alone.
+    InlineKind,
+    BoxedKind,
+}
+
+/// The run of a fill of `N` items.
+fn fill<'a, T: Given<'a> + Numbered + Default, N: ArrayLength<T>>(
     alloc: Global,
     script: Script<'a>,
     counts: &'a Counts,
-) -> ([Run; 2], Run)
+    filled: Filled,
+) -> Run
     requires { FitsInline N.USIZE }
 {
     let mut items = Scripted::new(script, counts);
-    let inline = run_of(inline_fill::<T, N, _>(&mut items), items);
-    let mut items = Scripted::new(script, counts);
-    let boxed = run_of(boxed_fill::<T, N, _>(alloc, &mut items), items);
-    let mut items = Scripted::new(script, counts);
-    let builder = run_of(builder_fill::<T, N, _>(&mut items), items);
-    ([inline, boxed], builder)
+    let outcome = match filled {
+        Filled::Inline => inline_fill::<T, N, _>(&mut items),
+        Filled::Boxed => boxed_fill::<T, N, _>(alloc, &mut items),
+        _ => builder_fill::<T, N, _>(&mut items),
+    };
+    run_of(outcome, items)
 }
 
-/// The runs of the fills from results.
-fn fallible_fills<'a, T: Numbered + Default + Drop, N: ArrayLength<T>>(
+/// The run of a fill of `N` items from results.
+fn fallible_fill<'a, T: Numbered + Default + Drop, N: ArrayLength<T>>(
     alloc: Global,
     script: Script<'a>,
     counts: &'a Counts,
-) -> ([Run; 4], Run)
+    filled: Filled,
+) -> Run
 where
     Result<T, u32>: Given<'a>,
     requires { FitsInline N.USIZE }
 {
     let mut items = Scripted::new(script, counts);
-    let inline = run_of(inline_fallible_fill::<T, N, _>(&mut items), items);
-    let mut items = Scripted::new(script, counts);
-    let boxed = run_of(boxed_fallible_fill::<T, N, _>(alloc, &mut items), items);
-    let mut items = Scripted::new(script, counts);
-    let inline_kind = run_of(kind_fill::<T, GenericArray<T, N>, _>((), &mut items), items);
-    let mut items = Scripted::new(script, counts);
-    let boxed_kind = run_of(
-        kind_fill::<T, BoxedArray<T, N>, _>(alloc, &mut items),
-        items,
-    );
-    let mut items = Scripted::new(script, counts);
-    let builder = run_of(builder_fallible_fill::<T, N, _>(&mut items), items);
-    ([inline, boxed, inline_kind, boxed_kind], builder)
+    let outcome = match filled {
+        Filled::Inline => inline_fallible_fill::<T, N, _>(&mut items),
+        Filled::Boxed => boxed_fallible_fill::<T, N, _>(alloc, &mut items),
+        Filled::InlineKind => kind_fill::<T, GenericArray<T, N>, _>((), &mut items),
+        Filled::BoxedKind => kind_fill::<T, BoxedArray<T, N>, _>(alloc, &mut items),
+        Filled::Builder => builder_fallible_fill::<T, N, _>(&mut items),
+    };
+    run_of(outcome, items)
 }
 
 /// Whether each fill of `N` items from this script runs as is wanted, and that of a builder, which asks
@@ -92,7 +100,9 @@ fn each_fill_runs<const N: usize>(
     requires { FitsInline N }
 {
     let counts = Counts::new();
-    fills::<Counted, Const<N>>(alloc, script, &counts) == ([wanted; 2], of_builder)
+    fill::<Counted, Const<N>>(alloc, script, &counts, Filled::Inline) == wanted
+        && fill::<Counted, Const<N>>(alloc, script, &counts, Filled::Boxed) == wanted
+        && fill::<Counted, Const<N>>(alloc, script, &counts, Filled::Builder) == of_builder
 }
 
 /// The same of each fill from results.
@@ -105,7 +115,17 @@ fn each_fallible_fill_runs<const N: usize>(
     requires { FitsInline N }
 {
     let counts = Counts::new();
-    fallible_fills::<Counted, Const<N>>(alloc, script, &counts) == ([wanted; 4], of_builder)
+    for filled in [
+        Filled::Inline,
+        Filled::Boxed,
+        Filled::InlineKind,
+        Filled::BoxedKind,
+    ] {
+        if fallible_fill::<Counted, Const<N>>(alloc, script, &counts, filled) != wanted {
+            return false;
+        }
+    }
+    fallible_fill::<Counted, Const<N>>(alloc, script, &counts, Filled::Builder) == of_builder
 }
 
 /// The same of all fills.

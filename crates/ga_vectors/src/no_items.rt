@@ -1,7 +1,7 @@
 //! Arrays and views of no items: each build, map, zip, shape and conversion, with no call of a closure.
 //! Those that make boxed arrays are in `refused_memory::no_items`.
+use crate::calls::{inline, views};
 use crate::counted::{Counted, Counts};
-use generic_array::functional::{FunctionalSequence, inverted_zip};
 use generic_array::sequence::{
     Concat, FallibleGenericSequence, Flatten, FromFallibleIterator, GenericSequence, Lengthen,
     Remove, Shorten, Split, Unflatten, iter_flat,
@@ -21,30 +21,28 @@ fn is_none<S: AsSlice<u32> + Drop>(made: S) -> bool {
     made.as_slice().is_empty()
 }
 
-/// Whether builds make no calls.
-fn are_built() -> bool {
+/// Whether builds of the type and of the kind of arrays and of views make no calls.
+fn are_generated() -> bool {
     let mut calls = 0u32;
     let mut count = |_index: usize| {
         calls = calls.wrapping_add(1);
         calls
     };
-    let by_type = is_none(NoItems::generate_by(&mut count));
-    let by_trait = is_none(always(<NoItems as GenericSequence<u32>>::generate_by((), &mut count)));
+    let by_type = NoItems::generate_by(&mut count);
+    let by_trait = <NoItems as GenericSequence<u32>>::generate_by((), &mut count);
     let of_view = <GenericArrayRef<'_, u32, U0> as GenericSequence<u32>>::generate_by(
         (),
         &mut count,
     );
-    let of_view = is_none(always(of_view));
-    let mut fail = |index: usize| -> Result<u32, usize> {
-        calls = calls.wrapping_add(1);
-        Err(index)
-    };
-    let tried = NoItems::try_generate_by(&mut fail).is_ok_and(is_none);
-    let by_fallible = always(<NoItems as FallibleGenericSequence<u32>>::try_generate_by(
-        (),
-        &mut fail,
-    ));
-    by_type && by_trait && of_view && tried && by_fallible.is_ok_and(is_none) && calls == 0
+    let are_none = is_none(by_type) && is_none(always(by_trait)) && is_none(always(of_view));
+    are_none && calls == 0
+}
+
+/// Whether builds that may fail make no calls.
+fn are_built() -> bool {
+    let by_type = NoItems::try_generate(Err::<u32, usize>);
+    let by_trait = <NoItems as FallibleGenericSequence<u32>>::try_generate((), Err::<u32, usize>);
+    are_generated() && by_type.is_ok_and(is_none) && always(by_trait).is_ok_and(is_none)
 }
 
 /// Whether copies and clones of none are made, of which an item that is handed over is dropped uncloned.
@@ -104,40 +102,46 @@ fn are_converted(alloc: Global) -> Result<bool, AllocError> {
     )
 }
 
-/// Whether maps, zips and folds of arrays and views make no call.
-fn are_mapped() -> bool {
+/// Whether zips and folds of arrays make no call.
+fn are_zipped_and_folded() -> bool {
     let mut calls = 0u32;
     let mut count = |left: u32, right: u32| {
         calls = calls.wrapping_add(1);
         left.wrapping_add(right)
     };
     let none = NoItems::default;
-    let zipped = always(none().zip_by((), none(), &mut count));
-    let inverted = inverted_zip(none(), none(), &mut count);
-    let total = none().fold_by(5, &mut count);
+    let zipped = inline::zip_by(none(), none(), &mut count);
+    let total = inline::fold_by(none(), 5, &mut count);
     let right_total = none().into_iter().rfold_by(6, &mut count);
-    let mut seen = 0u32;
-    let lent = none();
-    let mapped = always(
-        lent.view().map_by(
-            (),
-            &mut |item: &u32| {
-                seen = seen.wrapping_add(1);
-                *item
-            },
-        ),
-    );
-    let tried = always(none().try_map((), |item: u32| Err::<u32, u32>(item)));
-    let stopped = none().try_fold(7, |_total: u32, item: u32| Err::<u32, u32>(item));
-    is_none(zipped)
-        && is_none(inverted)
-        && is_none(mapped)
-        && tried.is_ok_and(is_none)
-        && stopped == Ok(7)
-        && total == 5
-        && right_total == 6
-        && calls == 0
-        && seen == 0
+    let inverted = inline::inverted_zip(none(), none(), count);
+    is_none(zipped) && is_none(inverted) && total == 5 && right_total == 6 && calls == 0
+}
+
+/// Whether a map of a view makes no call.
+fn is_view_mapped() -> bool {
+    let mut calls = 0u32;
+    let mut count = |item: &u32| {
+        calls = calls.wrapping_add(1);
+        *item
+    };
+    let none = NoItems::default();
+    let mapped = views::map_by(none.view(), &mut count);
+    is_none(mapped) && calls == 0
+}
+
+fn always_fails(item: u32) -> Result<u32, u32> {
+    Err(item)
+}
+
+fn always_stops(_total: u32, item: u32) -> Result<u32, u32> {
+    Err(item)
+}
+
+/// Whether maps, zips and folds of arrays and views make no call.
+fn are_mapped() -> bool {
+    let tried = inline::try_map(NoItems::default(), always_fails);
+    let stopped = inline::try_fold(NoItems::default(), 7, always_stops);
+    tried.is_ok_and(is_none) && stopped == Ok(7) && are_zipped_and_folded() && is_view_mapped()
 }
 
 /// Whether shapes come from no items and go to none.

@@ -1,27 +1,11 @@
 //! Random steps over both iterators, and over blocks, beside the numbers that they have to leave.
 use crate::counted::{Counted, Counts};
-use generic_array::{
-    AllocError, BoxedArray, BoxedArrayIter, GenericArray, GenericArrayIter, LiveBlock, U8,
-};
+use crate::items::{boxed_counted_from, counted_from};
+use crate::random::Numbers;
+use generic_array::steps::TwoEnded;
+use generic_array::{AllocError, LiveBlock, U8};
 use std::alloc::Global;
 use std::test::Fail;
-
-/// Numbers that look random, from a seed: a linear congruence, of which the high bits are taken.
-#[derive(Drop)]
-struct Numbers {
-    state: u64,
-}
-
-impl Numbers {
-    /// A number below this one, which isn't 0.
-    fn below(&mut self, bound: u32) -> u32 {
-        self.state = self
-            .state
-            .wrapping_mul(6364136223846793005)
-            .wrapping_add(1442695040888963407);
-        ((self.state >> 33) as u32).checked_rem(bound).unwrap_or(0)
-    }
-}
 
 /// A step over either iterator, each with how many items it passes over.
 #[derive(Clone, Copy)]
@@ -67,21 +51,12 @@ fn number_of(item: Option<Counted>) -> u32 {
     item.map_or(0, |item| item.place())
 }
 
-fn taken_inline(items: &mut GenericArrayIter<Counted, U8>, step: Step) -> u32 {
+fn taken<'a, I: TwoEnded<Counted<'a>>>(items: &mut I, step: Step) -> u32 {
     number_of(match step {
-        Step::Next => items.next(),
-        Step::NextBack => items.next_back(),
-        Step::Nth(passed) => GenericArrayIter::nth(items, passed as usize),
-        Step::NthBack(passed) => GenericArrayIter::nth_back(items, passed as usize),
-    })
-}
-
-fn taken_boxed(items: &mut BoxedArrayIter<Counted>, step: Step) -> u32 {
-    number_of(match step {
-        Step::Next => items.next(),
-        Step::NextBack => items.next_back(),
-        Step::Nth(passed) => BoxedArrayIter::nth(items, passed as usize),
-        Step::NthBack(passed) => BoxedArrayIter::nth_back(items, passed as usize),
+        Step::Next => items.front(),
+        Step::NextBack => items.back(),
+        Step::Nth(passed) => items.front_nth(passed as usize),
+        Step::NthBack(passed) => items.back_nth(passed as usize),
     })
 }
 
@@ -103,20 +78,14 @@ fn walks_alike(
     counts: &Counts,
     steps: u32,
 ) -> Result<bool, AllocError> {
-    let inline: GenericArray<Counted, U8> = GenericArray::generate(|index| Counted::new(
-        counts,
-        index as u32 + 1,
-    ));
-    let boxed: BoxedArray<Counted, U8> = BoxedArray::generate(
-        alloc,
-        |index| Counted::new(counts, index as u32 + 1),
-    )?;
+    let inline = counted_from::<U8>(counts, 1);
+    let boxed = boxed_counted_from::<U8>(alloc, counts, 1)?;
     let (mut inline, mut boxed) = (inline.into_iter(), boxed.into_iter());
     let mut left = Left { first: 1, end: 9 };
     for _step in 0..steps {
         let step = random_step(numbers);
         let wanted = left.taken(step);
-        if taken_inline(&mut inline, step) != wanted || taken_boxed(&mut boxed, step) != wanted {
+        if taken(&mut inline, step) != wanted || taken(&mut boxed, step) != wanted {
             return Ok(false);
         }
     }
@@ -126,7 +95,7 @@ fn walks_alike(
 
 #[test]
 fn random_walks_answer_alike_and_drop_each_item_once(rt: HostRuntime) -> Result<(), Fail> {
-    let mut numbers = Numbers { state: 20_261_123 };
+    let mut numbers = Numbers::from_seed(20_261_123);
     let counts = Counts::new();
     let mut steps = 0u32;
     for walk in 1..25_001u32 {
@@ -174,7 +143,7 @@ fn block_is_right(
 
 #[test]
 fn random_puts_and_takes_of_a_block_drop_each_item_once(rt: HostRuntime) -> Result<(), Fail> {
-    let mut numbers = Numbers { state: 8 };
+    let mut numbers = Numbers::from_seed(8);
     let counts = Counts::new();
     let mut made = 0u32;
     for round in 0..12_000u32 {

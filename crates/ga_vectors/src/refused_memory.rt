@@ -12,6 +12,7 @@ mod steps;
 mod zips;
 
 use crate::counted::{Counted, Counts};
+use crate::items::{boxed_counted_from, counted_from};
 use crate::outcome::Outcome;
 use crate::scripted::digits;
 use generic_array::{AllocError, BoxedArray, GenericArray, U3};
@@ -37,19 +38,14 @@ const CALLS: [Call; 4] = [
     Call::HandedToTrait,
 ];
 
-/// The number of an item, from 1.
-fn number(index: usize) -> u32 {
-    (index % 9) as u32 + 1
-}
-
 /// Counted items of the numbers 1 to 3.
 fn three_counted(counts: &Counts) -> GenericArray<Counted<'_>, U3> {
-    GenericArray::generate(|index| Counted::new(counts, number(index)))
+    counted_from(counts, 1)
 }
 
-/// The same in a block. None is made where that is refused.
+/// The same in a block.
 fn three_in_a_block(alloc: Global, counts: &Counts) -> Result<Three<'_>, AllocError> {
-    BoxedArray::generate(alloc, |index| Counted::new(counts, number(index)))
+    boxed_counted_from(alloc, counts, 1)
 }
 
 /// Whether these are the three items, of which none was dropped.

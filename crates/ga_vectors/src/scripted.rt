@@ -23,11 +23,16 @@ impl Numbered for Counted<'_> {
     }
 }
 
+/// The digits so far and one more.
+pub fn next_digit(digits: u32, digit: u32) -> u32 {
+    digits.wrapping_mul(10).wrapping_add(digit)
+}
+
 /// The numbers of the items as the digits of one.
 pub fn digits<T: Numbered>(items: &[T]) -> u32 {
     let mut all = 0u32;
     for item in items {
-        all = all.wrapping_mul(10).wrapping_add(item.number());
+        all = next_digit(all, item.number());
     }
     all
 }

@@ -1,13 +1,11 @@
 //! Builds from closures, by the type and by the traits, of copies, and of items that are written out.
 use crate::counted::{Counted, Counts};
+use crate::items::{TooMany, number};
 use crate::outcome::{Outcome, play};
-use crate::refused_memory::{CALLS, Call, Three, number, stopped, three_counted, unless_error};
+use crate::refused_memory::{CALLS, Call, Three, stopped, three_counted, unless_error};
 use generic_array::sequence::{FallibleGenericSequence, GenericSequence};
-use generic_array::{AllocError, BoxedArray, Const, LiveBlock, U1, U3, Unsigned, box_arr};
+use generic_array::{AllocError, BoxedArray, LiveBlock, U1, U3, Unsigned, box_arr};
 use std::alloc::Global;
-
-/// A length of which no block can be had, not even of the smallest items.
-type TooMany = Const<18446744073709551615>;
 
 /// A boxed array of three squares.
 type Squares = BoxedArray<usize, U3>;

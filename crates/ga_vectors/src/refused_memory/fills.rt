@@ -2,9 +2,9 @@
 use crate::counted::{Counted, Counts};
 use crate::outcome::{Outcome, play};
 use crate::refused_memory::{CALLS, Call, Three, are_whole, three_counted};
-use crate::scripted::digits;
+use crate::scripted::{Numbered, digits};
 use generic_array::sequence::FromFallibleIterator;
-use generic_array::{AllocError, FillError, LengthError};
+use generic_array::{AllocError, ArrayLength, BoxedArray, FillError, GenericArray, LengthError};
 use std::alloc::Global;
 use std::cell::Cell;
 
@@ -137,14 +137,21 @@ fn from_items(alloc: Global) -> Outcome {
 }
 
 /// The same, lent: at a refusal all are still there.
-fn from_lent_items(alloc: Global) -> Outcome {
-    let counts = Counts::new();
-    let mut items = three_counted(&counts).into_iter();
-    match Three::try_boxed_from_iter_ref(alloc, &mut items) {
+fn from_lent<T: Numbered + Default + Drop, N: ArrayLength<T>>(
+    alloc: Global,
+    array: GenericArray<T, N>,
+) -> Outcome {
+    let mut items = array.into_iter();
+    match BoxedArray::<T, N>::try_boxed_from_iter_ref(alloc, &mut items) {
         Ok(Ok(array)) => Outcome::exact_if(digits(array.as_slice()) == 123 && items.len() == 0),
         Ok(Err(LengthError)) => Outcome::Wrong,
         Err(AllocError) => Outcome::refused_if(digits(items.as_slice()) == 123),
     }
+}
+
+fn from_lent_items(alloc: Global) -> Outcome {
+    let counts = Counts::new();
+    from_lent(alloc, three_counted(&counts))
 }
 
 /// A case, by its number.

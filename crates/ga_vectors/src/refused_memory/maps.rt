@@ -1,10 +1,9 @@
 //! Maps of three counted items in a block, which are dropped once each, in the calls or at the refusal.
+use crate::calls::boxed;
 use crate::counted::{Counted, Counts};
 use crate::outcome::{Outcome, play};
 use crate::refused_memory::{Three, stopped, three_in_a_block, unless_error};
 use generic_array::AllocError;
-use generic_array::checks::map_total_by;
-use generic_array::functional::FunctionalSequence;
 use std::alloc::Global;
 
 fn mapped(alloc: Global, entries: Three, is_lent: bool) -> Outcome {
@@ -14,9 +13,9 @@ fn mapped(alloc: Global, entries: Three, is_lent: bool) -> Outcome {
         entry.place()
     };
     let made = if is_lent {
-        entries.map_by(alloc, &mut answer)
+        boxed::map_by(alloc, entries, &mut answer)
     } else {
-        entries.map(alloc, answer)
+        boxed::map(alloc, entries, answer)
     };
     Outcome::of_calls(made, [1, 2, 3].as_slice(), calls)
 }
@@ -29,18 +28,18 @@ fn tried(alloc: Global, entries: Three, counts: &Counts, error: u32, is_lent: bo
         unless_error(entry, error)
     };
     let made = if is_lent {
-        entries.try_map_by(alloc, &mut answer)
+        boxed::try_map_by(alloc, entries, &mut answer)
     } else {
-        entries.try_map(alloc, answer)
+        boxed::try_map(alloc, entries, answer)
     };
     stopped(made, error, calls, counts)
 }
 
 fn totalled(alloc: Global, entries: Three) -> Outcome {
     let (mut maps, mut folds) = (0u32, 0u32);
-    let total = map_total_by(
-        entries,
+    let total = boxed::map_total_by(
         alloc,
+        entries,
         &mut |entry: Counted| {
             maps = maps.wrapping_add(1);
             entry.place().wrapping_mul(2)

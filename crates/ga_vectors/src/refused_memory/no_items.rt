@@ -1,11 +1,10 @@
 //! What is made of no items, which is never refused for memory.
+use crate::calls::boxed;
 use crate::counted::{Counted, Counts};
-use crate::refused_memory::number;
-use generic_array::checks::{dot_by, map_total_by};
-use generic_array::functional::{FunctionalSequence, inverted_zip2};
+use crate::items::number;
 use generic_array::sequence::{FromFallibleIterator, GenericSequence};
 use generic_array::{
-    AllocError, BoxedArray, FillError, GenericArray, LengthError, LiveBlock, U0, U3, box_arr,
+    AllocError, BoxedArray, FillError, GenericArray, LengthError, LiveBlock, Never, U0, U3, box_arr,
 };
 use std::alloc::Global;
 use std::convert::AsSlice;
@@ -86,59 +85,44 @@ fn are_converted(alloc: Global) -> bool {
         && matches!(other, Ok(Err(LengthError)))
 }
 
-/// Boxed arrays of no items.
-fn none_thrice(alloc: Global) -> Result<(NoItems, NoItems, NoItems), AllocError> {
-    let none = || NoItems::generate(alloc, number);
-    Ok((none()?, none()?, none()?))
+/// A boxed array of no items.
+fn none_in_a_block(alloc: Global) -> Result<NoItems, AllocError> {
+    NoItems::generate(alloc, number)
+}
+
+fn less_than_9(item: u32) -> Result<u32, u32> {
+    if item < 9 { Ok(item) } else { Err(item) }
 }
 
 /// Whether maps and zips of no items are made, with no call.
-fn are_mapped(alloc: Global) -> bool {
-    let Ok((first, second, third)) = none_thrice(alloc) else {
-        return false;
-    };
+fn are_mapped(alloc: Global) -> Result<bool, AllocError> {
     let mut calls = 0u32;
-    let mut count = |item: u32| {
+    let count = |item: u32| {
         calls = calls.wrapping_add(1);
         item
     };
-    let mapped = first.map_by(alloc, &mut count);
-    let tried = second.try_map(
-        alloc,
-        |item: u32| if item < 9 { Ok(count(item)) } else { Err(item) },
-    );
+    let mapped = boxed::map(alloc, none_in_a_block(alloc)?, count)?;
+    let tried = boxed::try_map(alloc, none_in_a_block(alloc)?, less_than_9)?;
     let right = GenericArray::<u32, U0>::from_array([]);
-    let zipped = third.zip(
-        alloc,
-        right,
-        |left: u32, right: u32| left.wrapping_sub(right),
-    );
-    is_none(mapped) && tried.is_ok_and(|made| is_none(made)) && is_none(zipped) && calls == 0
+    let zipped = boxed::zip(alloc, none_in_a_block(alloc)?, right, u32::wrapping_sub);
+    let are_made = is_none::<_, Never>(Ok(mapped)) && is_none(tried) && is_none(zipped);
+    Ok(are_made && calls == 0)
 }
 
 /// Whether zips told from the right side and totals of no items are made, with no call.
-fn are_totalled(alloc: Global) -> bool {
-    let (Ok((first, second, third)), Ok((fourth, _, _))) = (none_thrice(alloc), none_thrice(alloc))
-    else {
-        return false;
-    };
+fn are_totalled(alloc: Global) -> Result<bool, AllocError> {
     let mut calls = 0u32;
     let mut count = |left: u32, right: u32| {
         calls = calls.wrapping_add(1);
         left.wrapping_add(right)
     };
-    let inverted = inverted_zip2(first, alloc, second, &mut count);
-    let total = map_total_by(third, alloc, &mut |item: u32| item, 5, &mut count);
-    let right = GenericArray::<u32, U0>::from_array([]);
-    let dot = dot_by(
-        fourth,
-        alloc,
-        right,
-        &mut count,
-        6,
-        &mut |total: u32, _: u32| total,
-    );
-    is_none(inverted) && matches!(total, Ok(5)) && matches!(dot, Ok(6)) && calls == 0
+    let (left, right) = (none_in_a_block(alloc)?, none_in_a_block(alloc)?);
+    let inverted = boxed::inverted_zip2_boxed(alloc, left, right, u32::wrapping_sub);
+    let left = none_in_a_block(alloc)?;
+    let total = boxed::map_total_by(alloc, left, &mut u32::count_ones, 5, &mut count)?;
+    let (left, right) = (none_in_a_block(alloc)?, GenericArray::from_array([]));
+    let dot = boxed::dot_by(alloc, left, right, &mut count, 6, &mut u32::wrapping_sub)?;
+    Ok(is_none(inverted) && total == 5 && dot == 6 && calls == 0)
 }
 
 #[test]
@@ -147,6 +131,6 @@ fn what_is_made_of_no_items_is_not_refused(rt: HostRuntime) {
     assert!(rt; are_copied(rt.alloc()));
     assert!(rt; are_filled(rt.alloc()));
     assert!(rt; are_converted(rt.alloc()));
-    assert!(rt; are_mapped(rt.alloc()));
-    assert!(rt; are_totalled(rt.alloc()));
+    assert!(rt; are_mapped(rt.alloc()) == Ok(true));
+    assert!(rt; are_totalled(rt.alloc()) == Ok(true));
 }

@@ -1,7 +1,8 @@
 //! What needs no room of its own: it answers the same whatever memory there is.
 use crate::counted::{Counted, Counts};
+use crate::items::from_one;
 use crate::outcome::{Outcome, play};
-use crate::refused_memory::{number, three_counted, three_in_a_block};
+use crate::refused_memory::{three_counted, three_in_a_block};
 use crate::scripted::digits;
 use generic_array::checks::total_by;
 use generic_array::functional::FunctionalSequence;
@@ -72,17 +73,20 @@ fn are_copied() -> bool {
     none && one && copy && finished && counts.clones() == 0 && counts.drops() == 5
 }
 
+fn length(live: &[u32]) -> usize {
+    live.len()
+}
+
 /// Whether a run of no steps replies nothing.
 fn are_no_steps_made(alloc: Global) -> bool {
-    let mut items = GenericArray::<u32, U2>::generate(number).into_iter();
+    let mut items = from_one::<U2>().into_iter();
     let mut replies = Vec::new(alloc);
-    let run = run_steps(
-        &mut items,
-        Vec::new(alloc),
-        &mut |live: &[u32]| live.len(),
-        &mut replies,
-    );
+    let run = run_steps(&mut items, Vec::new(alloc), &mut length, &mut replies);
     run.is_ok() && replies.is_empty() && items.len() == 2
+}
+
+fn with_place(total: u32, item: &Counted) -> u32 {
+    total.wrapping_add(item.place())
 }
 
 /// What is lent, summed, mapped inline, and taken from both ends of a block.
@@ -91,12 +95,9 @@ fn of_a_block(alloc: Global) -> Outcome {
     let Ok(array) = three_in_a_block(alloc, &counts) else {
         return Outcome::Refused;
     };
-    let total = total_by(
-        array.view(),
-        0,
-        &mut |total: u32, item: &Counted| total.wrapping_add(item.place()),
-    );
-    let places: GenericArray<u32, U3> = always(array.view().map((), |item: &Counted| item.place()));
+    // Not by the functions of `calls`, which aren't followed where items hold a lifetime.
+    let total = total_by(array.view(), 0, &mut with_place);
+    let places: GenericArray<u32, U3> = always(array.view().map((), Counted::place));
     let mut items = array.into_iter();
     let first = items.front().map_or(0, |item| item.place());
     let last = items.back().map_or(0, |item| item.place());

@@ -1,15 +1,16 @@
 //! Runs of steps, whose replies need room.
 use crate::counted::{Counted, Counts};
+use crate::items::boxed_from_one;
 use crate::outcome::{Outcome, play};
-use crate::refused_memory::{number, three_counted};
+use crate::refused_memory::three_counted;
 use crate::scripted::digits;
 use generic_array::steps::{Reply, Step, run_steps};
-use generic_array::{AllocError, BoxedArray, U2};
+use generic_array::{AllocError, U2};
 use std::alloc::Global;
 
 /// Taken and looked at in a block, behind an earlier reply.
 fn in_a_block(alloc: Global) -> Result<Outcome, AllocError> {
-    let mut items = BoxedArray::<u32, U2>::generate(alloc, number)?.into_iter();
+    let mut items = boxed_from_one::<U2>(alloc)?.into_iter();
     let steps = vec![in alloc; Step::Next, Step::Look]?;
     let mut replies = vec![in alloc; Reply::Old(7)]?;
     let mut looks = 0u32;
@@ -54,6 +55,10 @@ fn reply_digits(replies: Vec<Reply<Counted<'_>, u32>>) -> u32 {
     all
 }
 
+fn digits_of(live: &[Counted]) -> u32 {
+    digits(live)
+}
+
 /// Counted items replaced, taken and looked at. One that was to be put there is dropped with its step.
 fn inline(alloc: Global, counts: &Counts) -> Result<Outcome, AllocError> {
     let steps = vec![in alloc;
@@ -63,12 +68,7 @@ fn inline(alloc: Global, counts: &Counts) -> Result<Outcome, AllocError> {
     ]?;
     let mut items = three_counted(counts).into_iter();
     let mut replies = Vec::new(alloc);
-    let run = run_steps(
-        &mut items,
-        steps,
-        &mut |live: &[Counted]| digits(live),
-        &mut replies,
-    );
+    let run = run_steps(&mut items, steps, &mut digits_of, &mut replies);
     let left = digits(items.as_slice());
     Ok(match run {
         Ok(()) => Outcome::exact_if(left == 23 && counts.drops() == 0).and(

@@ -1,12 +1,10 @@
 //! Zips of two kinds, where what is made is boxed, and where it is not.
+use crate::calls::{boxed, inline};
 use crate::counted::{Counted, Counts};
+use crate::items::{boxed_counted_from, boxed_from_one, counted_from};
 use crate::outcome::{Outcome, play};
 use crate::refused_memory::{three_counted, three_in_a_block};
-use generic_array::checks::dot_by;
-use generic_array::functional::{
-    FunctionalSequence, inverted_zip, inverted_zip2, inverted_zip2_by,
-};
-use generic_array::{AllocError, BoxedArray, GenericArray, U3, always};
+use generic_array::{AllocError, GenericArray, U3};
 use std::alloc::Global;
 use std::cell::Cell;
 use std::convert::AsSlice;
@@ -17,13 +15,18 @@ fn both(calls: &Cell<u32>, left: Counted, right: Counted) -> u32 {
     left.place().wrapping_mul(10).wrapping_add(right.place())
 }
 
-/// Of a zip of twice three counted items, which are dropped once each, in the calls or at the refusal.
+/// The right side: counted items of the numbers 4 to 6.
+fn right_side(counts: &Counts) -> GenericArray<Counted<'_>, U3> {
+    counted_from(counts, 4)
+}
+
+/// Of a zip of 1 to 3 with 4 to 6, which are dropped once each, in the calls or at the refusal.
 fn zipped<S: AsSlice<u32> + Drop>(
     made: Result<S, AllocError>,
     calls: &Cell<u32>,
     counts: &Counts,
 ) -> Outcome {
-    Outcome::of_calls(made, [11, 22, 33].as_slice(), calls.get()).and(counts.drops() == 6)
+    Outcome::of_calls(made, [14, 25, 36].as_slice(), calls.get()).and(counts.drops() == 6)
 }
 
 /// Which call zips a block with an inline array, or with a block.
@@ -42,26 +45,28 @@ fn boxed_zip(alloc: Global, zip: Zip) -> Outcome {
     };
     let mut both = |left: Counted, right: Counted| both(&calls, left, right);
     let made = match zip {
-        Zip::Lent => left.zip_by(alloc, three_counted(&counts), &mut both),
-        Zip::WithBlock => match three_in_a_block(alloc, &counts) {
-            Ok(right) => left.zip(alloc, right, both),
+        Zip::Lent => boxed::zip_by(alloc, left, right_side(&counts), &mut both),
+        Zip::WithBlock => match boxed_counted_from(alloc, &counts, 4) {
+            Ok(right) => boxed::zip_boxed(alloc, left, right, both),
             Err(AllocError) => return Outcome::Refused,
         },
-        Zip::InvertedLent => inverted_zip2_by(three_counted(&counts), alloc, left, &mut both),
-        Zip::Inverted => inverted_zip2(three_counted(&counts), alloc, left, both),
+        Zip::InvertedLent => {
+            boxed::inverted_zip2_by(alloc, right_side(&counts), left, &mut both)
+        }
+        Zip::Inverted => boxed::inverted_zip2(alloc, right_side(&counts), left, both),
     };
     zipped(made, &calls, &counts)
 }
 
 fn dot(alloc: Global) -> Outcome {
-    let Ok(left) = BoxedArray::<u32, U3>::generate(alloc, |index| index as u32 + 1) else {
+    let Ok(left) = boxed_from_one::<U3>(alloc) else {
         return Outcome::Refused;
     };
-    let right = GenericArray::<u32, U3>::generate(|index| index as u32 + 4);
+    let right = GenericArray::<u32, U3>::from_array([4, 5, 6]);
     let (mut products, mut sums) = (0u32, 0u32);
-    let total = dot_by(
-        left,
+    let total = boxed::dot_by(
         alloc,
+        left,
         right,
         &mut |left: u32, right: u32| {
             products = products.wrapping_add(1);
@@ -83,15 +88,15 @@ fn dot(alloc: Global) -> Outcome {
 
 fn inline_zip(alloc: Global, is_inverted: bool) -> Outcome {
     let (counts, calls) = (Counts::new(), Cell::new(0));
-    let Ok(right) = three_in_a_block(alloc, &counts) else {
+    let Ok(right) = boxed_counted_from::<U3>(alloc, &counts, 4) else {
         return Outcome::Refused;
     };
     let left = three_counted(&counts);
     let both = |left: Counted, right: Counted| both(&calls, left, right);
-    let made: GenericArray<u32, U3> = if is_inverted {
-        inverted_zip(right, left, both)
+    let made = if is_inverted {
+        boxed::inverted_zip(right, left, both)
     } else {
-        always(left.zip((), right, both))
+        inline::zip(left, right, both)
     };
     zipped(Ok(made), &calls, &counts)
 }

@@ -1,0 +1,4 @@
+//! Inline arrays at concrete types.
+mod builds;
+mod comparisons;
+mod conversions;

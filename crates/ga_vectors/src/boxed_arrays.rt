@@ -1,0 +1,3 @@
+//! Boxed arrays at concrete types.
+mod builds;
+mod conversions;

@@ -1,0 +1,139 @@
+//! Calls at inline arrays.
+use generic_array::checks::map_total_by as map_total_of_any;
+use generic_array::functional::{
+    FunctionalSequence, inverted_zip as inverted_zip_of_any, inverted_zip2 as inverted_zip2_of_any,
+};
+use generic_array::{ArrayLength, BoxedArray, GenericArray, always};
+
+/// `try_map` of an inline array.
+pub fn try_map<
+    T: Default + Drop,
+    U: Default + Drop,
+    E,
+    N: ArrayLength<T> + ArrayLength<U>,
+    F: FnMut(T) -> Result<U, E>,
+>(array: GenericArray<T, N>, f: F) -> Result<GenericArray<U, N>, E>
+    requires { (f : _) (x : _) → F.pre f x }
+{
+    // The slice knows that the length fits.
+    let _ = array.as_slice();
+    always(array.try_map((), f))
+}
+
+/// `try_map_by` of an inline array.
+pub fn try_map_by<
+    T: Default + Drop,
+    U: Default + Drop,
+    E,
+    N: ArrayLength<T> + ArrayLength<U>,
+    F: FnMut(T) -> Result<U, E>,
+>(array: GenericArray<T, N>, f: &mut F) -> Result<GenericArray<U, N>, E>
+    requires { (f : _) (x : _) → F.pre f x }
+{
+    let _ = array.as_slice();
+    always(array.try_map_by((), f))
+}
+
+/// `fold_by` of an inline array.
+pub fn fold_by<T: Default + Drop, A, N: ArrayLength<T>, F: FnMut(A, T) -> A>(
+    array: GenericArray<T, N>,
+    init: A,
+    f: &mut F,
+) -> A
+    requires { (f : _) (total : _) (x : _) → F.pre f total x }
+{
+    array.fold_by(init, f)
+}
+
+/// `try_fold` of an inline array.
+pub fn try_fold<T: Default + Drop, A, E, N: ArrayLength<T>, F: FnMut(A, T) -> Result<A, E>>(
+    array: GenericArray<T, N>,
+    init: A,
+    f: F,
+) -> Result<A, E>
+    requires { (f : _) (total : _) (x : _) → F.pre f total x }
+{
+    array.try_fold(init, f)
+}
+
+/// `try_fold_by` of an inline array.
+pub fn try_fold_by<T: Default + Drop, A, E, N: ArrayLength<T>, F: FnMut(A, T) -> Result<A, E>>(
+    array: GenericArray<T, N>,
+    init: A,
+    f: &mut F,
+) -> Result<A, E>
+    requires { (f : _) (total : _) (x : _) → F.pre f total x }
+{
+    array.try_fold_by(init, f)
+}
+
+/// The zip with an inline array.
+pub fn zip_by<
+    T: Default + Drop,
+    B: Default + Drop,
+    U: Default + Drop,
+    N: ArrayLength<T> + ArrayLength<B> + ArrayLength<U>,
+    F: FnMut(T, B) -> U,
+>(left: GenericArray<T, N>, right: GenericArray<B, N>, f: &mut F) -> GenericArray<U, N>
+    requires { (f : _) (x : _) (y : _) → F.pre f x y }
+{
+    let _ = left.as_slice();
+    always(left.zip_by((), right, f))
+}
+
+/// The zip with a boxed array.
+pub fn zip<
+    T: Default + Drop,
+    B: Drop,
+    U: Default + Drop,
+    N: ArrayLength<T> + ArrayLength<U>,
+    F: FnMut(T, B) -> U,
+>(left: GenericArray<T, N>, right: BoxedArray<B, N>, f: F) -> GenericArray<U, N>
+    requires { (f : _) (x : _) (y : _) → F.pre f x y }
+{
+    let _ = left.as_slice();
+    always(left.zip((), right, f))
+}
+
+/// `inverted_zip` of an inline array, with an inline left side.
+pub fn inverted_zip<
+    T: Default + Drop,
+    B: Default + Drop,
+    U: Default + Drop,
+    N: ArrayLength<T> + ArrayLength<B> + ArrayLength<U>,
+    F: FnMut(B, T) -> U,
+>(array: GenericArray<T, N>, left: GenericArray<B, N>, f: F) -> GenericArray<U, N>
+    requires { (f : _) (x : _) (y : _) → F.pre f x y }
+{
+    inverted_zip_of_any(array, left, f)
+}
+
+/// `inverted_zip2` of an inline array, with an inline left side.
+pub fn inverted_zip2<
+    T: Default + Drop,
+    B: Default + Drop,
+    U: Default + Drop,
+    N: ArrayLength<T> + ArrayLength<B> + ArrayLength<U>,
+    F: FnMut(B, T) -> U,
+>(array: GenericArray<T, N>, left: GenericArray<B, N>, f: F) -> GenericArray<U, N>
+    requires { (f : _) (x : _) (y : _) → F.pre f x y }
+{
+    let _ = left.as_slice();
+    always(inverted_zip2_of_any(array, (), left, f))
+}
+
+/// `map_total_by` of an inline array.
+pub fn map_total_by<
+    T: Default + Drop,
+    U: Default + Drop,
+    A: Drop,
+    N: ArrayLength<T> + ArrayLength<U>,
+    F: FnMut(T) -> U,
+    G: FnMut(A, U) -> A,
+>(array: GenericArray<T, N>, f: &mut F, init: A, g: &mut G) -> A
+    requires first { (f : _) (x : _) → F.pre f x }
+    requires second { (g : _) (total : _) (x : _) → G.pre g total x }
+{
+    let _ = array.as_slice();
+    always(map_total_of_any(array, (), f, init, g))
+}

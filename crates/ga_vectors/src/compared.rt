@@ -1,0 +1,28 @@
+//! Comparisons that tests share, each proved once.
+use generic_array::{ArrayLength, GenericArray};
+use std::alloc::Global;
+use std::fmt;
+
+/// Whether the array has exactly these items.
+pub fn holds<T: PartialEq + Drop, N: ArrayLength<T>>(
+    array: GenericArray<T, N>,
+    items: &[T],
+) -> bool {
+    array.as_slice() == items
+}
+
+/// Whether this is the text of `{}`.
+pub fn shows<T: fmt::Display>(value: &T, text: &str, alloc: Global) -> bool {
+    match format!(in alloc; "{value}") {
+        Ok(shown) => shown.as_str() == text,
+        Err(_) => false,
+    }
+}
+
+/// Whether this is the text of `{:?}`.
+pub fn prints<T: fmt::Debug>(value: &T, text: &str, alloc: Global) -> bool {
+    match format!(in alloc; "{value:?}") {
+        Ok(printed) => printed.as_str() == text,
+        Err(_) => false,
+    }
+}
