@@ -20,6 +20,7 @@ class Kind(collections.namedtuple("Kind", "item length")):
 SMALL = [Kind(item, length) for item in ("u8", "u64") for length in (4, 64, 1024)]
 BOXED = [Kind(item, length) for length in (64, 1024, 1_000_000) for item in ("u8", "u64")]
 TEXTS = [Kind("u8", length) for length in (16, 64, 1024, 2000)]
+TUPLES = [Kind(item, length) for item in ("u8", "u64") for length in (2, 4, 12)]
 # A case at fewer types and lengths than the others of its part.
 ONLY = {"nested": SMALL[:1]}
 # How an array of each length is cut into rows: their width, and how many there are.
@@ -27,8 +28,8 @@ ROWS = {4: (2, 2), 64: (8, 8), 1024: (8, 128)}
 
 # Cases of one module of calls/, which are called with the same types. A case may name, each behind
 # a minus, other cases that it contains: the table has a column without them. `types` is None where
-# the module is laid out for each kind, with no type of its own left open. `original` and `third`
-# say where the other sides stand in driver/.
+# the module is laid out for each kind, with no type of its own left open, and `module` where it has
+# the kind's name. `original` and `third` say where the other sides stand in driver/.
 Part = collections.namedtuple("Part", "group module types cases kinds allocator original third")
 Case = collections.namedtuple("Case", "name contains part kinds")
 
@@ -37,6 +38,7 @@ OTHER = ARRAY + ", Const<{other}>"
 ORIGINAL = "original::{kind}::{case}_of"
 ORIGINAL_BOX = "original::boxed::{kind}::{case}_of"
 ORIGINAL_TEXT = "original::hex::{kind}::{case}_of"
+ORIGINAL_TUPLE = "original::tuples::{kind}::{case}_of"
 NATIVE = "native::{kind}::{case}_of"
 TABLE_OF_DIGITS = "original::hex::{kind}::{case}_by_table"
 
@@ -86,6 +88,14 @@ PARTS = [
         " inverted_zip - generate, inverted_zip2 - generate - generate, fold_array - generate,"
         " fold_view, try_fold_view",
     ),
+    small(
+        "closures, plain",
+        "plain",
+        ARRAY,
+        "map_inline - generate, map_inline_ref, try_map_inline - generate,"
+        " zip_inline - generate - generate, zip_inline_ref - generate",
+    ),
+    small("closures, plain", None, None, "zip_inline_refs"),
     boxed(
         "closures, boxed",
         "closures",
@@ -108,6 +118,16 @@ PARTS = [
         ARRAY,
         "into_vec - generate, try_from_vec - into_vec",
         allocator=True,
+    ),
+    Part(
+        "tuples",
+        "tuples_{item}_{length}",
+        None,
+        "from_tuple, into_tuple - from_tuple",
+        TUPLES,
+        False,
+        ORIGINAL_TUPLE,
+        None,
     ),
     Part(
         "hex text",

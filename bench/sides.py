@@ -1,13 +1,15 @@
 """The texts of both sides, laid out from calls/ and driver/ and written from the list of cases."""
 import pathlib
 
-from cases import CASES, ROWS, SMALL
+from cases import CASES, ROWS, SMALL, TUPLES
 
 HERE = pathlib.Path(__file__).resolve().parent
 
 # A module of calls/ whose text is laid out once for each of the small kinds, and the words in it
 # for which a type and numbers stand.
 FOR_EACH, WORDS = "concrete", ("ITEM", "LENGTH", "WIDTH", "ROWS")
+# The same, for each kind of tuple.
+FOR_TUPLES = "tuples"
 # A function that has no types left open.
 NO_TYPES = {"nested"}
 
@@ -51,14 +53,27 @@ def concrete(text, kind):
     return text
 
 
+def of_tuples(text, kind):
+    """The text for tuples of one type and length."""
+    item, length = kind
+    types, values = [item] * length, [f"{item}::make(seed, {it})" for it in range(length)]
+    words = {"ITEM": item, "LENGTH": length, "LAST": length - 1}
+    for word, stands in {**words, "TYPES": ", ".join(types), "VALUES": ", ".join(values)}.items():
+        text = text.replace(word, str(stands))
+    return text
+
+
+def module_of(part, kind):
+    return part.module.format(**kind.types) if part.module else kind.name
+
+
 def call_of_ours(case, kind):
     """How the export calls the function of one type and length."""
     part = case.part
-    if not part.types:
-        return f"{kind.name}::{case.name}_of(seed, reps)"
-    types = "" if case.name in NO_TYPES else f"::<{part.types.format(**kind.types)}>"
+    has_types = part.types and case.name not in NO_TYPES
+    types = f"::<{part.types.format(**kind.types)}>" if has_types else ""
     alloc = "alloc, " if part.allocator else ""
-    return f"{part.module}::{case.name}_of{types}({alloc}seed, reps)"
+    return f"{module_of(part, kind)}::{case.name}_of{types}({alloc}seed, reps)"
 
 
 def export(case):
@@ -72,8 +87,7 @@ def export(case):
 
 def exports():
     """The module of all exports, and with it those that are laid out for each kind."""
-    modules = {part.module for part in (case.part for case in CASES) if part.module}
-    modules = sorted(modules | {kind.name for kind in SMALL})
+    modules = sorted({module_of(case.part, kind) for case in CASES for kind in case.kinds})
     head = [
         "//! What the driver calls, written by bench/run from its list of cases.",
         "use crate::{",
@@ -88,11 +102,11 @@ def exports():
 def our_modules():
     """Each module of the crate that is laid out over ours, by its name."""
     texts = {path.stem: path.read_text() for path in (HERE / "calls").glob("*.rattle")}
-    text = texts.pop(FOR_EACH)
-    for kind in SMALL:
-        texts[kind.name] = concrete(text, kind)
-    declared = "".join(f"mod {kind.name};\n" for kind in SMALL)
-    return {**texts, "lib": texts["lib"] + declared, "exports": exports()}
+    text, tuples = texts.pop(FOR_EACH), texts.pop(FOR_TUPLES)
+    made = {kind.name: concrete(text, kind) for kind in SMALL}
+    made |= {f"tuples_{kind.name}": of_tuples(tuples, kind) for kind in TUPLES}
+    declared = "".join(f"mod {name};\n" for name in made)
+    return {**texts, **made, "lib": texts["lib"] + declared, "exports": exports()}
 
 
 def entry(case, kind, number):

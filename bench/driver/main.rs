@@ -73,10 +73,11 @@ impl Case {
     fn count(&self) {
         for (side, call) in self.sides() {
             for repeats in if self.is_large { [1, 3] } else { [4, 20] } {
+                // Made before the count begins: what it allocates depends on the name's length.
                 let name = format!("{}/{}/{side}/{repeats}", self.name, self.kind);
+                let name = CString::new(name).expect("a name without a zero byte");
                 request(ZERO_STATS, 0);
                 call.run(12345, repeats);
-                let name = CString::new(name).expect("a name without a zero byte");
                 request(DUMP_STATS_AT, name.as_ptr() as u64);
             }
         }

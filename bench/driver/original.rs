@@ -26,6 +26,7 @@ macro_rules! arrays {
             include!("original_builds.rs");
             include!("arrays.rs");
             include!("closures.rs");
+            include!("plain.rs");
             include!("shapes.rs");
             include!("conversions.rs");
             include!("rows.rs");
@@ -77,4 +78,38 @@ pub mod hex {
     texts!(u8_64, U64);
     texts!(u8_1024, U1024);
     texts!(u8_2000, U2000);
+}
+
+macro_rules! item_at {
+    ($place:tt) => {
+        Item
+    };
+}
+
+macro_rules! tuples {
+    ($kind:ident, $item:ty, $length:ty, [$($place:tt)+], last $last:tt) => {
+        pub mod $kind {
+            use super::super::*;
+            type Item = $item;
+            type Array = GenericArray<Item, $length>;
+            type Tuple = ($(item_at!($place),)+);
+            #[inline(never)]
+            fn tuple(seed: u64) -> Tuple {
+                ($(Item::make(seed, $place),)+)
+            }
+            fn ends(tuple: &Tuple) -> u64 {
+                tuple.0.word() ^ tuple.$last.word()
+            }
+            include!("tuples.rs");
+        }
+    };
+}
+
+pub mod tuples {
+    tuples!(u8_2, u8, U2, [0 1], last 1);
+    tuples!(u8_4, u8, U4, [0 1 2 3], last 3);
+    tuples!(u8_12, u8, U12, [0 1 2 3 4 5 6 7 8 9 10 11], last 11);
+    tuples!(u64_2, u64, U2, [0 1], last 1);
+    tuples!(u64_4, u64, U4, [0 1 2 3], last 3);
+    tuples!(u64_12, u64, U12, [0 1 2 3 4 5 6 7 8 9 10 11], last 11);
 }
