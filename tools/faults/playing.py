@@ -51,12 +51,12 @@ def read_again(file):
     return file.read()
 
 
-def play(program, words=(), give=None, take=None, before=None, env=None, **streams):
-    """Runs a program for at most a minute. `give` feeds its input, and `take` reads its output."""
+def play(program, words=(), give=None, take=None, before=None, env=None, seconds=60, **streams):
+    """Runs a program for at most so long. `give` feeds its input, and `take` reads its output."""
     pipes = {"stdin": PIPE if give else DEVNULL, "stdout": PIPE, "stderr": PIPE, **streams}
     command = [program, *words]
     process = subprocess.Popen(command, bufsize=0, env=env or {}, preexec_fn=before, **pipes)
-    alarm = threading.Timer(60, process.kill)
+    alarm = threading.Timer(seconds, process.kill)
     giver = threading.Thread(target=feed, args=(process, give))
     alarm.start()
     giver.start()
