@@ -1,6 +1,7 @@
 -- A fill, or what is taken of an iterator, as one run of calls, and as so many calls.
-use Rattle.ga_core.specs.Fill.{Asks, FillFalliblyRuns, FillRuns, Fills, FillsFallibly, TakeRuns, Takes}
-use Rattle.std.proofs.Common.{◌≡◌, ◌≢◌, ◌⊎◌, ℕ, zero, suc, ◌+◌, ◌-◌, ◌<◌, ◌≤◌, List, [], ◌∷◌, ◌++◌, length, length-append, map, ap, arith, refl, subst, sym, true, false, inl, inr, Option, None, Some, Result, Ok, Err, MatchOption}
+use Rattle.ga_core.specs.Fill.{Asks, FillFalliblyRuns, FillRuns, Fills, FillsFallibly, TakeGoodRuns, TakeRuns, Takes, TakesGood}
+use Rattle.ga_core.specs.Tries.{result_and_then, try_map}
+use Rattle.std.proofs.Common.{◌≡◌, ◌≢◌, ◌∙◌, ◌⊎◌, ℕ, zero, suc, ◌+◌, ◌-◌, ◌<◌, ◌≤◌, List, [], ◌∷◌, ◌++◌, length, length-append, map, ap, arith, refl, subst, sym, true, false, inl, inr, Option, None, Some, Result, Ok, Err, MatchOption}
 use Rattle.std.proofs.lemmas.List.{length-map}
 use Rattle.std.proofs.iter.runs.Made.{run, to_end, to_item}
 use Rattle.std.specs.Iterator.{Yields, YieldsThen}
@@ -75,6 +76,20 @@ module _ {S T E : Type 0} (next_gives : S → Option T → S → Type 0) where
   FillRuns-from_fill before n (Err error) after (taken, last, calls, short) =
       refused_runs before n error after taken last calls short
 
+-- good values are all good
+pub all_good : {T E : Type 0} (good : List T) → try_map (λ (item : Result T E). item) (map Ok good) ≡ Ok good
+all_good [] = refl
+all_good (item ∷ good) = ap (result_and_then (λ items. Ok (item ∷ items))) (all_good good)
+
+module _ {S T E : Type 0} (next_gives : S → Option (Result T E) → S → Type 0) where
+  pub TakeGoodRuns-from_takes : (P : List T → Type 0) (before : S) (room : ℕ) (good : List T) (result : Result Unit E) (after : S)
+      → TakesGood next_gives before room good result after → P good → TakeGoodRuns next_gives before room result P
+  TakeGoodRuns-from_takes P before room good (Ok done) after takes holds =
+      TakeRuns-from_takes next_gives (λ items. (values : List T) × P values × (items ≡ map Ok values) × (try_map (λ item. item) items ≡ Ok values)) before room (map Ok good) after takes
+      (good, holds, refl, all_good good)
+  TakeGoodRuns-from_takes P before room good (Err error) after (calls, short) holds =
+      (run next_gives before (map Ok good ++ Err error ∷ []) false (to_item next_gives before after (map Ok good) (Err error) calls), refl, (good, holds, refl, short))
+
 module _ {S T E F : Type 0} (next_gives : S → Option (Result T E) → S → Type 0) where
   -- the calls of a fallible fill that is refused, by how they ended
   refused_fallible_runs : (before : S) (n : ℕ) (refused : F) (after : S) (good : List T) (last : Option (Result T E)) → YieldsThen next_gives before (map Ok good) last after
@@ -94,7 +109,7 @@ module _ {S T E F : Type 0} (next_gives : S → Option (Result T E) → S → Ty
         run next_gives before (map Ok good) true (to_end next_gives before (map Ok good) (after, ended)),
         refl,
         refl,
-        (ap (λ items. map Ok items) (sym whole.0), omega (arith, length-map {B = Result T E} good Ok, whole.1)),
+        (ap (λ items. map Ok items) (sym whole.0), all_good good ∙ ap Ok (sym whole.0), omega (arith, length-map {B = Result T E} good Ok, whole.1)),
       )
   FillFalliblyRuns-from_fill before n (Ok (Err error)) after (good, last, calls, first) =
       let came = subst (λ o. YieldsThen next_gives before (map Ok good) o after) first.0 calls in

@@ -1,8 +1,9 @@
 -- Lemmas on runs of closures, for the builds of this crate and for callers.
 use Rattle.ga_core.specs.Runs.{ClosureRun, FirstErrorRun}
-use Rattle.std.proofs.Common.{◌≡◌, ℕ, zero, suc, ◌+◌, ◌-◌, ◌<◌, List, [], ◌∷◌, ◌++◌, Result, Ok, Err, inl, inr, length, map, refl, subst, ap, sym, arith}
+use Rattle.std.proofs.Common.{◌≡◌, ℕ, zero, suc, ◌+◌, ◌-◌, ◌<◌, List, [], ◌∷◌, ◌++◌, Result, Ok, Err, inl, inr, length, map, refl, subst, ap, sym, ◌∙◌, arith}
 use Rattle.std.proofs.lemmas.List.{map-append}
 use Rattle.std.specs.List.{range_with_len}
+use Rattle.std.specs.Prelude.{IfOk}
 
 -- one number more, at the end
 range_with_len-more : (n a m last : ℕ) → m ≡ suc n → last ≡ a + n → range_with_len a m ≡ range_with_len a n ++ last ∷ []
@@ -58,6 +59,17 @@ module _ {F X Y E : Type 0} (step : F → X → Result Y E → F → Type 0) whe
   FirstErrorRun-good f [] (y ∷ good) last run = absurd run
   FirstErrorRun-good f (x ∷ xs) [] last run = absurd run
   FirstErrorRun-good f (x ∷ xs) (y ∷ good) last run = (run.0, run.1, FirstErrorRun-good run.0 xs good last run.2)
+
+  good-length : (f : F) (xs : List X) (ys : List Y) (last : F) → FirstErrorRun step f xs (Ok ys) last → length ys ≡ length xs
+  good-length f [] [] last run = refl
+  good-length f [] (y ∷ ys) last run = absurd run
+  good-length f (x ∷ xs) [] last run = absurd run
+  good-length f (x ∷ xs) (y ∷ ys) last run = ap suc (good-length run.0 xs ys last run.2)
+
+  -- where all calls were good, there is one answer for each input
+  pub FirstErrorRun-length : (f : F) (xs : List X) (answer : Result (List Y) E) (last : F) (n : ℕ) → length xs ≡ n → FirstErrorRun step f xs answer last → IfOk answer (λ ys. length ys ≡ n)
+  FirstErrorRun-length f xs (Ok ys) last n all run = good-length f xs ys last run ∙ all
+  FirstErrorRun-length f xs (Err error) last n all run = tt
 
   -- an error came after good calls
   pub FirstErrorRun-error : (f : F) (xs : List X) (good : List Y) (reached : F) (x : X) (others : List X) (error : E) (last : F)

@@ -1,4 +1,5 @@
 -- Filling an array of n items, or what is left of a builder, from an iterator.
+use Rattle.ga_core.specs.Tries.{try_map}
 use Rattle.std.specs.Iterator.{Yields, YieldsThen}
 use Rattle.std.specs.Iterator.Runs.{SomeRun, WholeRun}
 use Rattle.std.specs.Prelude.{◌≡◌, ◌⊎◌, ℕ, zero, suc, ◌+◌, ◌<◌, IsTrue, List, [], ◌∷◌, ◌++◌, length, map, Option, None, Some, Result, Ok, Err, MatchOption, MatchResult}
@@ -52,10 +53,16 @@ module _ {S T E : Type 0} (next_gives : S → Option (Result T E) → S → Type
       (λ error. (last ≡ Some (Err error)) × (length good < n)))
       (λ _. MatchOption last (length good < n) (λ _. length good ≡ n))
 
+  -- what `TakesGood` says, as one run of calls that gave good values of which P holds
+  abbrev pub TakeGoodRuns : S → ℕ → Result Unit E → (List T → Type 0) → Type 0
+  TakeGoodRuns before room result P = MatchResult result
+      (λ _. TakeRuns next_gives before room (λ items. (good : List T) × P good × (items ≡ map Ok good) × (try_map (λ item. item) items ≡ Ok good)))
+      (λ error. SomeRun next_gives before (λ run. (good : List T) × P good × (run.items ≡ map Ok good ++ Err error ∷ []) × (length good < room)))
+
   -- what `FillsFallibly` says, as one run of calls: the form that proofs follow along a chain of std's iterators
   abbrev pub FillFalliblyRuns : {F : Type 0} → S → ℕ → Result (Result (List T) E) F → Type 0
   FillFalliblyRuns before n result = MatchResult result
       (λ built. MatchResult built
-      (λ array. WholeRun next_gives before (λ run. (run.items ≡ map Ok array) × (run.len ≡ n)))
+      (λ array. WholeRun next_gives before (λ run. (run.items ≡ map Ok array) × (try_map (λ item. item) run.items ≡ Ok array) × (run.len ≡ n)))
       (λ error. SomeRun next_gives before (λ run. (good : List T) × (run.items ≡ map Ok good ++ Err error ∷ []) × (length good < n))))
       (λ _. SomeRun next_gives before (λ run. (IsTrue run.whole × (run.len < n)) ⊎ (run.len ≡ n + 1)))

@@ -1,5 +1,5 @@
 //! An array that is being built, item by item.
-ghost use Rattle.ga_core.specs.Fill.{Asks, TakeRuns, Takes, TakesGood};
+ghost use Rattle.ga_core.specs.Fill.{Asks, TakeGoodRuns, TakeRuns, Takes, TakesGood};
 ghost use Rattle.ga_views.specs.Length.{FitsInline};
 ghost use Rattle.std.specs.Prelude.{◌≡◌, ◌≢◌, ◌⊎◌, ◌-◌, ◌<◌, ◌≤◌, ◌↔◌, IfOk, IsTrue, None, OnErr, Some, List, [], ◌∷◌, ◌++◌, length};
 
@@ -108,6 +108,7 @@ impl<T: Drop, N: ArrayLength<T>> ArrayBuilder<T, N> {
     ) -> Result<(), E>
         requires can { I.can_next items.old }
         ensures taken { (taken : List T) × (self.new ≡ self.old ++ taken) × TakesGood I.next_gives items.old (N.USIZE - length self.old) taken result items.new }
+        ensures runs { TakeGoodRuns I.next_gives items.old (N.USIZE - length self.old) result (λ taken. self.new ≡ self.old ++ taken) }
         ensures can { length self.new ≡ N.USIZE → I.can_next items.new }
         ensures can_on { OnErr result (I.can_next items.new) }
     {

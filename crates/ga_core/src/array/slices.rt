@@ -1,6 +1,6 @@
 //! Views: of the items of an array, and of slices of the array's length.
 ghost use Rattle.ga_views.specs.Rows.{chunk_rest, rows};
-ghost use Rattle.std.specs.Borrow.{Array, follows_both, sem};
+ghost use Rattle.std.specs.Borrow.{Array, RestsIfErr, follows_both, sem};
 ghost use Rattle.std.specs.Option.{option_copied};
 ghost use Rattle.std.specs.Prelude.{◌≡◌, ◌<◌, ◌↔◌, ◌⊎◌, ◌++◌, IfOk, IsOk, Some, length, map};
 
@@ -65,9 +65,10 @@ impl<T, N: ArrayLength<T>> GenericArray<T, N> {
 
     /// The view of a slice for writing, or `LengthError` where it doesn't have `N` items. The length
     /// need not fit inline. Proofs don't learn what is written: see
-    /// `GenericArrayMut::try_from_mut_slice`.
+    /// `GenericArrayMut::try_from_mut_slice`. A slice of another length stays as it was.
     #[inline]
     pub fn try_from_mut_slice(slice: &mut [T]) -> Result<GenericArrayMut<'_, T, N>, LengthError>
+        ensures* writes_back { sem 𝓛 (RestsIfErr (Array T.row 0) slice.entry (λ view. view.slice.ghost_name) result (λ rest. rest ≡ slice.old)) }
         ensures variant { IsOk result ↔ (length slice.old ≡ N.USIZE) }
         ensures ok { IfOk result (λ view. view.slice ≡ slice.entry) }
     {
