@@ -168,6 +168,7 @@ impl<T: Drop, N: Unsigned> BoxedArray<T, N> {
         requires can { I.can_next items.old }
         ensures fill { IfOk (fill_answer result) (λ built. FillsFallibly I.next_gives items.old N.USIZE built items.new) }
         ensures runs { IfOk (fill_answer result) (λ built. FillFalliblyRuns I.next_gives items.old N.USIZE built) }
+        ensures can_on { IfOk (fill_answer result) (λ built. IfOk built (λ made. OnErr made (I.can_next items.new))) }
         ensures err { OnErr (fill_answer result) (items.new ≡ items.old) }
         ensures empty { N.USIZE ≡ 0 → IsOk (fill_answer result) }
     {
@@ -181,6 +182,7 @@ impl<T: Drop, N: Unsigned> BoxedArray<T, N> {
     ) -> Result<Self, FillError<E, AllocError>>
         requires can { I.can_next items.old }
         ensures fill { IfOk (fill_answer result) (λ built. FillsFallibly I.next_gives items.old N.USIZE built items.new) }
+        ensures can_on { IfOk (fill_answer result) (λ built. IfOk built (λ made. OnErr made (I.can_next items.new))) }
         ensures err { OnErr (fill_answer result) (items.new ≡ items.old) }
         ensures empty { N.USIZE ≡ 0 → IsOk (fill_answer result) }
     {
