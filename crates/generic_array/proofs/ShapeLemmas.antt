@@ -1,13 +1,16 @@
 -- Items taken out of a list, and rows of it joined and cut.
 use Rattle.std.proofs.Common.{◌≡◌, ℕ, zero, suc, ◌+◌, ◌-◌, ◌*◌, ◌/◌, ◌<◌, ◌≤◌, List, [], ◌∷◌, ◌++◌, Some, take, drop, refl, subst, ap, ◌∙◌, sym, arith, append_assoc, get_or, length, length-append, length-drop, length-set, length-take, map, slice_get, slice_index_or, slice_set}
 use Rattle.ga_core.proofs.PlaceLemmas.{refill-whole}
+use Rattle.ga_core.proofs.RowLemmas.{rows-few, rows-first}
 use Rattle.std.proofs.Math.Seq.{drop-append_seam, take-append_seam}
 use Rattle.generic_array.specs.Rows.{row_at, rows}
 use Rattle.std.proofs.Math.Nat.{suc-mul}
-use Rattle.std.proofs.lemmas.List.{append-nil, drop_all, drop_more, get_or-drop, get_or-set_same, get_or_default, take-set-le, take_all}
+use Rattle.std.proofs.lemmas.List.{append-nil, drop_all, drop_more, get_or-drop, get_or-set_same, get_or_default, nil_from_length, take-append-drop, take-set-le, take_all}
 use Rattle.std.proofs.lemmas.List.FromFn.{map-range_with_len_more}
 use Rattle.std.proofs.lemmas.Nat.{div-mul-add}
-use Rattle.std.specs.List.{flat_map, range_with_len, refill, remove, swap, swap_remove}
+use Rattle.std.proofs.lemmas.List.Concat.{flat_map-cons}
+use Rattle.std.proofs.lemmas.List.Elements.{All-head, All-tail}
+use Rattle.std.specs.List.{All, flat_map, range_with_len, refill, remove, swap, swap_remove}
 
 -- how many items the rows have that are left after the first of them
 pub area-next : {R : Type 0} (row : R) (these left : List R) → these ≡ row ∷ left → (w at total : ℕ) → at + length these * w ≡ total → (at + w) + length left * w ≡ total
@@ -215,3 +218,30 @@ module _ {T : Type 0} where
       swap_remove-item got is_got is_last =
           swapped-item self i m x here length-self
           ∙ ap (λ y. Some y) (sym (is_got ∙ ap (λ l. get_or l 0 x) (is_last ∙ (ap (λ k. drop k swapped) then ∙ ap (drop m) swapped-is))))
+
+module _ {X : Type 0} (width : ℕ) (some : 0 < width) where
+  -- rows joined, and cut again
+  pub rows-of_joined : (all : List (List X)) → All (λ row. length row ≡ width) all → rows width (flat_map (λ row. row) all) ≡ all
+  rows-of_joined [] wide = rows-few width [] some
+  rows-of_joined (row ∷ others) wide =
+      let first_wide = All-head (λ r. length r ≡ width) row others wide in
+      let rest = flat_map (λ r. r) others in
+      let joined : flat_map (λ r. r) (row ∷ others) ≡ row ++ rest = flat_map-cons (λ r. r) row others in
+      let enough : width ≤ length (row ++ rest) = omega (arith, length-append row rest, first_wide) in
+      let first : take width (row ++ rest) ≡ row = ap (λ n. take n (row ++ rest)) (sym first_wide) ∙ take-append_seam row rest in
+      let after : drop width (row ++ rest) ≡ rest = ap (λ n. drop n (row ++ rest)) (sym first_wide) ∙ drop-append_seam row rest in
+      ap (rows width) joined ∙ (rows-first width (row ++ rest) some enough ∙ (ap (λ r. r ∷ rows width (drop width (row ++ rest))) first
+      ∙ (ap (λ items. row ∷ rows width items) after ∙ ap (λ more. row ∷ more) (rows-of_joined others (All-tail (λ r. length r ≡ width) row others wide)))))
+
+  -- items cut into rows, and joined again
+  pub joined-of_rows : (count : ℕ) (items : List X) → length items ≡ count * width → flat_map (λ row. row) (rows width items) ≡ items
+  joined-of_rows zero items whole =
+      let none : items ≡ [] = nil_from_length items (omega (arith, whole)) in
+      ap (λ all. flat_map (λ r. r) (rows width all)) none ∙ (ap (flat_map (λ r. r)) (rows-few width [] some) ∙ sym none)
+  joined-of_rows (suc count) items whole =
+      let more : suc count * width ≡ count * width + width = suc-mul count width in
+      let enough : width ≤ length items = omega (arith, whole, more) in
+      let left : length (drop width items) ≡ count * width = omega (arith, whole, more, length-drop width items) in
+      ap (flat_map (λ r. r)) (rows-first width items some enough)
+      ∙ (flat_map-cons (λ r. r) (take width items) (rows width (drop width items))
+      ∙ (ap (λ rest. take width items ++ rest) (joined-of_rows count (drop width items) left) ∙ take-append-drop width items))

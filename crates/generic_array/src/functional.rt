@@ -7,7 +7,7 @@ ghost use Rattle.generic_array.specs.Built.{built_items};
 ghost use Rattle.ga_core.specs.Entries.{ActsInFold, ActsOnEntries, ActsOnEntry, CallAt, CallAtPair, FoldAt, MayCallAt, MayCallAtPair, MayFoldAt};
 ghost use Rattle.generic_array.specs.EntryRuns.{TryFoldRun, good_step};
 ghost use Rattle.std.specs.List.{zip};
-ghost use Rattle.std.specs.Prelude.{◌≡◌, IfOk, IsOk, OnErr, Result, fold, map};
+ghost use Rattle.std.specs.Prelude.{◌≡◌, IfOk, IsOk, OnErr, Result, fold, length, map};
 
 mod inverted;
 mod kinds;
@@ -58,6 +58,7 @@ pub trait FunctionalSequence<T>: GenericSequence<T> {
         Self: MappedGenericSequence<T, U>,
         requires fits { Self.Mapped.Fits }
         requires callable { CallableOver (MayCallAt Self.entry F.pre) (CallAt Self.entry F.step) f (Self.items self) }
+        ensures len { IfOk result (λ made. length (Self.Mapped.Sequence.items made) ≡ Self.Length.USIZE) }
         ensures run { (last : F) × IfOk result (λ made. ClosureRun (CallAt Self.entry F.step) f (Self.items self) (Self.Mapped.Sequence.items made) last) }
         ensures acts { IfOk result (λ made. (h : T → U) → ActsOnEntry Self.entry F.step f h → Self.Mapped.Sequence.items made ≡ map h (Self.items self)) }
         ensures promised { Self.Mapped.IsPromised → IsOk result }
@@ -77,6 +78,7 @@ pub trait FunctionalSequence<T>: GenericSequence<T> {
         Self: MappedGenericSequence<T, U>,
         requires fits { Self.Mapped.Fits }
         requires callable { CallableOver (MayCallAt Self.entry F.pre) (CallAt Self.entry F.step) f.old (Self.items self) }
+        ensures len { IfOk result (λ made. length (Self.Mapped.Sequence.items made) ≡ Self.Length.USIZE) }
         ensures run { IfOk result (λ made. ClosureRun (CallAt Self.entry F.step) f.old (Self.items self) (Self.Mapped.Sequence.items made) f.new) }
         ensures acts { IfOk result (λ made. (h : T → U) → ActsOnEntry Self.entry F.step f.old h → Self.Mapped.Sequence.items made ≡ map h (Self.items self)) }
         ensures err { OnErr result (f.new ≡ f.old) }
@@ -99,6 +101,7 @@ pub trait FunctionalSequence<T>: GenericSequence<T> {
         Mapped<Self, T, U>: FallibleGenericSequence<U>,
         requires fits { Self.Mapped.Fits }
         requires callable { CallableOverUntilError (MayCallAt Self.entry F.pre) (CallAt Self.entry F.step) f (Self.items self) }
+        ensures len { IfOk result (λ built. IfOk built (λ made. length (Self.Mapped.Sequence.items made) ≡ Self.Length.USIZE)) }
         ensures run { (last : F) × IfOk result (λ built. FirstErrorRun (CallAt Self.entry F.step) f (Self.items self) (built_items Self.Mapped.Sequence.items built) last) }
         ensures acts { IfOk result (λ built. (h : T → Result U E) → ActsOnEntry Self.entry F.step f h → built_items Self.Mapped.Sequence.items built ≡ try_map h (Self.items self)) }
         ensures promised { Self.Mapped.IsPromised → IsOk result }
@@ -119,6 +122,7 @@ pub trait FunctionalSequence<T>: GenericSequence<T> {
         Mapped<Self, T, U>: FallibleGenericSequence<U>,
         requires fits { Self.Mapped.Fits }
         requires callable { CallableOverUntilError (MayCallAt Self.entry F.pre) (CallAt Self.entry F.step) f.old (Self.items self) }
+        ensures len { IfOk result (λ built. IfOk built (λ made. length (Self.Mapped.Sequence.items made) ≡ Self.Length.USIZE)) }
         ensures run { IfOk result (λ built. FirstErrorRun (CallAt Self.entry F.step) f.old (Self.items self) (built_items Self.Mapped.Sequence.items built) f.new) }
         ensures acts { IfOk result (λ built. (h : T → Result U E) → ActsOnEntry Self.entry F.step f.old h → built_items Self.Mapped.Sequence.items built ≡ try_map h (Self.items self)) }
         ensures err { OnErr result (f.new ≡ f.old) }
@@ -147,6 +151,7 @@ pub trait FunctionalSequence<T>: GenericSequence<T> {
         requires lengths { Self.Length.USIZE ≡ Rhs.Length.USIZE }
         requires fits { Self.Mapped.Fits }
         requires callable { CallableOver (MayCallAtPair Self.entry Rhs.entry F.pre) (CallAtPair Self.entry Rhs.entry F.step) f (zip (Self.items self) (Rhs.items rhs)) }
+        ensures len { IfOk result (λ made. length (Self.Mapped.Sequence.items made) ≡ Self.Length.USIZE) }
         ensures run { (last : F) × IfOk result (λ made. ClosureRun (CallAtPair Self.entry Rhs.entry F.step) f (zip (Self.items self) (Rhs.items rhs)) (Self.Mapped.Sequence.items made) last) }
         ensures acts { IfOk result (λ made. (h : T × B → U) → ActsOnEntries Self.entry Rhs.entry F.step f h → Self.Mapped.Sequence.items made ≡ map h (zip (Self.items self) (Rhs.items rhs))) }
         ensures promised { Self.Mapped.IsPromised → IsOk result }
@@ -168,6 +173,7 @@ pub trait FunctionalSequence<T>: GenericSequence<T> {
         requires lengths { Self.Length.USIZE ≡ Rhs.Length.USIZE }
         requires fits { Self.Mapped.Fits }
         requires callable { CallableOver (MayCallAtPair Self.entry Rhs.entry F.pre) (CallAtPair Self.entry Rhs.entry F.step) f.old (zip (Self.items self) (Rhs.items rhs)) }
+        ensures len { IfOk result (λ made. length (Self.Mapped.Sequence.items made) ≡ Self.Length.USIZE) }
         ensures run { IfOk result (λ made. ClosureRun (CallAtPair Self.entry Rhs.entry F.step) f.old (zip (Self.items self) (Rhs.items rhs)) (Self.Mapped.Sequence.items made) f.new) }
         ensures acts { IfOk result (λ made. (h : T × B → U) → ActsOnEntries Self.entry Rhs.entry F.step f.old h → Self.Mapped.Sequence.items made ≡ map h (zip (Self.items self) (Rhs.items rhs))) }
         ensures err { OnErr result (f.new ≡ f.old) }

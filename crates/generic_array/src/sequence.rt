@@ -8,7 +8,7 @@ ghost use Rattle.generic_array.specs.Built.{built_items};
 ghost use Rattle.generic_array.specs.GivenEntries.{GivesEntriesOf};
 ghost use Rattle.std.specs.Iterator.{ActsAs, ActsAsOnTwo};
 ghost use Rattle.std.specs.List.{range_with_len};
-ghost use Rattle.std.specs.Prelude.{◌≡◌, ℕ, ◌≤◌, ◌↔◌, IfOk, IsOk, IsTrue, OnErr, Result, fold, map, replicate};
+ghost use Rattle.std.specs.Prelude.{◌≡◌, ℕ, ◌≤◌, ◌↔◌, IfOk, IsOk, IsTrue, OnErr, Result, fold, length, map, replicate};
 
 mod boxed;
 mod flat_iter;
@@ -98,6 +98,7 @@ pub trait GenericSequence<T>: Sized + AsSlice<T> + IntoIterator {
     ) -> Result<Self::Sequence, Self::Error>
         requires fits { Fits }
         requires callable { CallableAlong F.pre F.step f Self.Length.USIZE }
+        ensures len { IfOk result (λ made. length (Self.Sequence.items made) ≡ Self.Length.USIZE) }
         ensures run { (last : F) × IfOk result (λ made. ClosureRun F.step f (range_with_len 0 Self.Length.USIZE) (Self.Sequence.items made) last) }
         ensures acts { IfOk result (λ made. (h : ℕ → T) → ActsAs F.FnMut f h → Self.Sequence.items made ≡ map h (range_with_len 0 Self.Length.USIZE)) }
         ensures promised { IsPromised → IsOk result }
@@ -113,6 +114,7 @@ pub trait GenericSequence<T>: Sized + AsSlice<T> + IntoIterator {
     ) -> Result<Self::Sequence, Self::Error>
         requires fits { Fits }
         requires callable { CallableAlong F.pre F.step f.old Self.Length.USIZE }
+        ensures len { IfOk result (λ made. length (Self.Sequence.items made) ≡ Self.Length.USIZE) }
         ensures run { IfOk result (λ made. ClosureRun F.step f.old (range_with_len 0 Self.Length.USIZE) (Self.Sequence.items made) f.new) }
         ensures acts { IfOk result (λ made. (h : ℕ → T) → ActsAs F.FnMut f.old h → Self.Sequence.items made ≡ map h (range_with_len 0 Self.Length.USIZE)) }
         ensures err { OnErr result (f.new ≡ f.old) }
@@ -149,6 +151,7 @@ pub trait FallibleGenericSequence<T>: GenericSequence<T> {
     ) -> Result<Result<Self::Sequence, E>, Self::Error>
         requires fits { Self.Fits }
         requires callable { CallableUntilError F.pre F.step f Self.Length.USIZE }
+        ensures len { IfOk result (λ built. IfOk built (λ made. length (Self.Sequence.items made) ≡ Self.Length.USIZE)) }
         ensures run { (last : F) × IfOk result (λ built. FirstErrorRun F.step f (range_with_len 0 Self.Length.USIZE) (built_items Self.Sequence.items built) last) }
         ensures acts { IfOk result (λ built. (h : ℕ → Result T E) → ActsAs F.FnMut f h → built_items Self.Sequence.items built ≡ try_map h (range_with_len 0 Self.Length.USIZE)) }
         ensures promised { Self.IsPromised → IsOk result }
@@ -165,6 +168,7 @@ pub trait FallibleGenericSequence<T>: GenericSequence<T> {
     ) -> Result<Result<Self::Sequence, E>, Self::Error>
         requires fits { Self.Fits }
         requires callable { CallableUntilError F.pre F.step f.old Self.Length.USIZE }
+        ensures len { IfOk result (λ built. IfOk built (λ made. length (Self.Sequence.items made) ≡ Self.Length.USIZE)) }
         ensures run { IfOk result (λ built. FirstErrorRun F.step f.old (range_with_len 0 Self.Length.USIZE) (built_items Self.Sequence.items built) f.new) }
         ensures acts { IfOk result (λ built. (h : ℕ → Result T E) → ActsAs F.FnMut f.old h → built_items Self.Sequence.items built ≡ try_map h (range_with_len 0 Self.Length.USIZE)) }
         ensures err { OnErr result (f.new ≡ f.old) }
@@ -201,6 +205,7 @@ pub trait FromFallibleIterator<T>: GenericSequence<T> {
         requires can { I.can_next items.old }
         ensures fill { IfOk (fill_answer (built_items Self.items result)) (λ built. FillsFallibly I.next_gives items.old Self.Length.USIZE built items.new) }
         ensures runs { IfOk (fill_answer (built_items Self.items result)) (λ built. FillFalliblyRuns I.next_gives items.old Self.Length.USIZE built) }
+        ensures can_on { IfOk (fill_answer (built_items Self.items result)) (λ built. IfOk built (λ made. OnErr made (I.can_next items.new))) }
         ensures err { OnErr (fill_answer (built_items Self.items result)) (items.new ≡ items.old) }
         ensures promised { Self.IsPromised → IsOk (fill_answer (built_items Self.items result)) };
 }

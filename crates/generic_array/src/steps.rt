@@ -9,11 +9,13 @@ ghost use Rattle.ga_core.specs.Entries.{CallAt, MayCallAt};
 ghost use Rattle.generic_array.specs.Steps.{MayStep, MaySteps, StepGivesReply, StepsRun};
 ghost use Rattle.std.specs.Borrow.{Array, Lends, sem};
 ghost use Rattle.std.specs.List.{refill};
-ghost use Rattle.std.specs.Prelude.{◌≡◌, IsOk, List, OnErr, OnOk, [], ◌++◌, length};
+ghost use Rattle.std.specs.Prelude.{◌≡◌, ◌+◌, ◌≤◌, IsOk, List, OnErr, OnOk, [], ◌++◌, length};
+ghost use Rattle.std.specs.Vec.{vec_capacity, vec_len};
 
 mod kinds;
 mod step;
 
+use crate::sequence::GenericSequence;
 use ga_core::AllocError;
 use std::mem;
 pub use step::{Reply, Step};
@@ -53,6 +55,18 @@ pub trait TwoEnded<T> {
         ensures value { result.now ≡ items self.old };
 }
 
+/// A sequence that owns its items, and whose iterator by value has two ends: an inline or a boxed array.
+///
+/// A view's iterator gives references, which can't be replaced, so a view is none.
+pub trait TwoEndedSequence<T>: GenericSequence<T> {
+    /// The iterator by value.
+    type TwoEnded: TwoEnded<T> + Drop;
+
+    /// All items, in order, to be taken from both ends: what `into_iter` returns. Constant time.
+    fn into_two_ended(self) -> Self::TwoEnded
+        ensures { Self.TwoEnded.items result ≡ Self.items self };
+}
+
 /// Makes one step.
 fn step_once<T: Drop, R, I: TwoEnded<T>, G: FnMut(&[T]) -> R>(
     iter: &mut I,
@@ -82,8 +96,8 @@ fn step_once<T: Drop, R, I: TwoEnded<T>, G: FnMut(&[T]) -> R>(
 /// Makes the steps in order, and puts one reply for each behind those that `replies` holds. `look` is
 /// called once for each `Look`, with all items that are left then.
 ///
-/// Asks for room for all replies first, at most once, and for none where there are no steps. Where room
-/// is refused, no step is made, iterator, closure and replies are as they were, and the steps are dropped.
+/// Asks for room for all replies first, at most once, and for none where `replies` has it. Where room is
+/// refused, no step is made, iterator, closure and replies are as they were, and the steps are dropped.
 /// A run may be stopped after any step and taken up again by another call: both together are one run.
 pub fn run_steps<T: Drop, R, I: TwoEnded<T>, G: FnMut(&[T]) -> R>(
     iter: &mut I,
@@ -97,6 +111,7 @@ pub fn run_steps<T: Drop, R, I: TwoEnded<T>, G: FnMut(&[T]) -> R>(
         × Account (I.items iter.old) steps.items given (I.items iter.new)) }
     ensures err { OnErr result ((iter.new ≡ iter.old) × (look.new ≡ look.old) × (replies.new.items ≡ replies.old.items)) }
     ensures empty { steps.items ≡ [] → IsOk result }
+    ensures room { vec_len replies.old + length steps.items ≤ vec_capacity replies.old → IsOk result }
 {
     replies.try_reserve(steps.len())?;
     for step in steps {

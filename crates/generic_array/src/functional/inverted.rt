@@ -2,7 +2,7 @@
 ghost use Rattle.ga_core.specs.Runs.{CallableOver, ClosureRun};
 ghost use Rattle.ga_core.specs.Entries.{ActsOnEntries, CallAtPair, MayCallAtPair};
 ghost use Rattle.std.specs.List.{zip};
-ghost use Rattle.std.specs.Prelude.{◌≡◌, IfOk, IsOk, OnErr, map};
+ghost use Rattle.std.specs.Prelude.{◌≡◌, IfOk, IsOk, OnErr, length, map};
 
 use crate::functional::walks::{entries_of, zip_entries};
 use crate::functional::{Mapped, MappedError, MappedGenericSequence, MappedPlace, MappedSequence};
@@ -78,6 +78,7 @@ pub fn inverted_zip2<
     requires lengths { S.Length.USIZE ≡ Lhs.Length.USIZE }
     requires fits { Lhs.Mapped.Fits }
     requires callable { CallableOver (MayCallAtPair Lhs.entry S.entry F.pre) (CallAtPair Lhs.entry S.entry F.step) f (zip (Lhs.items lhs) (S.items s)) }
+    ensures len { IfOk result (λ made. length (Lhs.Mapped.Sequence.items made) ≡ Lhs.Length.USIZE) }
     ensures run { (last : F) × IfOk result (λ made. ClosureRun (CallAtPair Lhs.entry S.entry F.step) f (zip (Lhs.items lhs) (S.items s)) (Lhs.Mapped.Sequence.items made) last) }
     ensures acts { IfOk result (λ made. (h : B × T → U) → ActsOnEntries Lhs.entry S.entry F.step f h → Lhs.Mapped.Sequence.items made ≡ map h (zip (Lhs.items lhs) (S.items s))) }
     ensures promised { Lhs.Mapped.IsPromised → IsOk result }
@@ -104,6 +105,7 @@ pub fn inverted_zip2_by<
     requires lengths { S.Length.USIZE ≡ Lhs.Length.USIZE }
     requires fits { Lhs.Mapped.Fits }
     requires callable { CallableOver (MayCallAtPair Lhs.entry S.entry F.pre) (CallAtPair Lhs.entry S.entry F.step) f.old (zip (Lhs.items lhs) (S.items s)) }
+    ensures len { IfOk result (λ made. length (Lhs.Mapped.Sequence.items made) ≡ Lhs.Length.USIZE) }
     ensures run { IfOk result (λ made. ClosureRun (CallAtPair Lhs.entry S.entry F.step) f.old (zip (Lhs.items lhs) (S.items s)) (Lhs.Mapped.Sequence.items made) f.new) }
     ensures acts { IfOk result (λ made. (h : B × T → U) → ActsOnEntries Lhs.entry S.entry F.step f.old h → Lhs.Mapped.Sequence.items made ≡ map h (zip (Lhs.items lhs) (S.items s))) }
     ensures err { OnErr result (f.new ≡ f.old) }

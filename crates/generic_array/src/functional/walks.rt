@@ -84,6 +84,7 @@ pub(super) fn map_entries<T, I: Iterator + Drop, U, M: GenericSequence<U>, F: Fn
     requires fits { M.Fits }
     requires callable { SomeEntriesOf I.can_next I.next_gives I.remaining M.Length.USIZE entries
         (λ (entry : I.Item → T) values. CallableOver (MayCallAt entry F.pre) (CallAt entry F.step) f.old values) }
+    ensures len { IfOk result (λ made. length (M.Sequence.items made) ≡ M.Length.USIZE) }
     ensures run { (entry : I.Item → T) (values : List T) → GivesEntries I.can_next I.next_gives I.remaining entry entries values → length values ≡ M.Length.USIZE
         → IfOk result (λ made. ClosureRun (CallAt entry F.step) f.old values (M.Sequence.items made) f.new) }
     ensures err { OnErr result (f.new ≡ f.old) }
@@ -124,6 +125,7 @@ fn try_build<U, E, M: FallibleGenericSequence<U>, G: FnMut(usize) -> Result<U, E
 ) -> Result<Result<M::Sequence, E>, M::Error>
     requires fits { M.Fits }
     requires callable { CallableUntilError G.pre G.step g.old M.Length.USIZE }
+    ensures len { IfOk result (λ built. IfOk built (λ made. length (M.Sequence.items made) ≡ M.Length.USIZE)) }
     ensures run { IfOk result (λ built. FirstErrorRan G.step g.old (range_with_len 0 M.Length.USIZE) (built_items M.Sequence.items built) g.new) }
     ensures err { OnErr result (g.new ≡ g.old) }
     ensures promised { M.IsPromised → IsOk result }
@@ -144,6 +146,7 @@ pub(super) fn try_map_entries<
     requires fits { M.Fits }
     requires callable { SomeEntriesOf I.can_next I.next_gives I.remaining M.Length.USIZE entries
         (λ (entry : I.Item → T) values. CallableOverUntilError (MayCallAt entry F.pre) (CallAt entry F.step) f.old values) }
+    ensures len { IfOk result (λ built. IfOk built (λ made. length (M.Sequence.items made) ≡ M.Length.USIZE)) }
     ensures run { (entry : I.Item → T) (values : List T) → GivesEntries I.can_next I.next_gives I.remaining entry entries values → length values ≡ M.Length.USIZE
         → IfOk result (λ built. FirstErrorRun (CallAt entry F.step) f.old values (built_items M.Sequence.items built) f.new) }
     ensures err { OnErr result (f.new ≡ f.old) }
@@ -195,6 +198,7 @@ pub(super) fn zip_entries<
         × GivesEntries J.can_next J.next_gives J.remaining other right others
         × (length values ≡ M.Length.USIZE) × (length others ≡ M.Length.USIZE)
         × CallableOver (MayCallAtPair entry other F.pre) (CallAtPair entry other F.step) f.old (zip values others) }
+    ensures len { IfOk result (λ made. length (M.Sequence.items made) ≡ M.Length.USIZE) }
     ensures run { (entry : I.Item → T) (values : List T) (other : J.Item → B) (others : List B)
         → GivesEntries I.can_next I.next_gives I.remaining entry left values
         → GivesEntries J.can_next J.next_gives J.remaining other right others

@@ -167,9 +167,13 @@ pub trait Row<T: Default>: Sized {
 
 /// A sequence of rows whose items can be joined.
 pub trait Flatten<T, Output>: Sized {
-    ghost rows: { Self → List (List T) };
+    // The items of each row.
+    ghost row_items: { Self → List (List T) };
 
     ghost output_items: { Output → List T };
+
+    // How many items a row has.
+    ghost WIDTH: { ℕ };
 
     // What is made has room for exactly the items of all rows, and its length fits.
     ghost IsArea: { Type 0 };
@@ -178,7 +182,9 @@ pub trait Flatten<T, Output>: Sized {
     /// together, and fits.
     fn flatten(self) -> Output
         requires { IsArea }
-        ensures { output_items result ≡ flat_map (λ row. row) (rows self) };
+        ensures joined { output_items result ≡ flat_map (λ row. row) (row_items self) }
+        ensures widths { All (λ row. length row ≡ WIDTH) (row_items self) }
+        ensures cut { 0 < WIDTH → rows WIDTH (output_items result) ≡ row_items self };
 }
 
 /// A sequence that can be cut into rows of one width.
@@ -197,5 +203,6 @@ pub trait Unflatten<T, Output>: Sized {
     /// items, and that the rows together have as many as the sequence.
     fn unflatten(self) -> Output
         requires { IsArea }
-        ensures { output_rows result ≡ rows WIDTH (items self) };
+        ensures cut { output_rows result ≡ rows WIDTH (items self) }
+        ensures joined { flat_map (λ row. row) (output_rows result) ≡ items self };
 }

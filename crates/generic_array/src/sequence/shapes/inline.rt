@@ -154,9 +154,11 @@ impl<T: Default + Drop, I: Row<T> + Default + Drop, R: ArrayLength<I>, M: ArrayL
     T,
     GenericArray<T, M>,
 > for GenericArray<I, R> {
-    ghost rows = { λ rows. map I.items rows };
+    ghost row_items = { λ rows. map I.items rows };
 
     ghost output_items = { λ array. array };
+
+    ghost WIDTH = { I.WIDTH };
 
     ghost IsArea = { (M.USIZE ≡ R.USIZE * I.WIDTH) × FitsInline M.USIZE };
 

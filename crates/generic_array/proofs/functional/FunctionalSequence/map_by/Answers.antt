@@ -13,3 +13,6 @@ returns-clause-run g c =
 
 pub returns-clause-acts : goal.returns-clause-acts
 returns-clause-acts g c = IfOk-weaker c.map_entries.result _ _ (λ made run h acts. answers_at_entries _ _ _ h acts _ _ _ run) (returns-clause-run g c)
+
+pub returns-clause-len : goal.returns-clause-len
+returns-clause-len g c = IfOk-weaker c.map_entries.result _ _ (λ made long. long ∙ g.met.Self.MappedGenericSequence.same_length) c.map_entries.ensures.len

@@ -13,3 +13,7 @@ returns-clause-run g c =
 
 pub returns-clause-acts : goal.returns-clause-acts
 returns-clause-acts g c = IfOk-weaker c.try_map_entries.result _ _ (λ made run h acts. tries_at_entries _ (goal.F-step g) c.args.f.now h acts _ _ _ run) (returns-clause-run g c)
+
+pub returns-clause-len : goal.returns-clause-len
+returns-clause-len g c =
+    IfOk-weaker c.try_map_entries.result _ _ (λ built. IfOk-weaker built _ _ (λ made long. long ∙ g.met.Self.MappedGenericSequence.same_length)) c.try_map_entries.ensures.len

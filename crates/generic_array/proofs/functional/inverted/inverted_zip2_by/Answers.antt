@@ -19,3 +19,6 @@ returns-clause-run g c =
 
 pub returns-clause-acts : goal.returns-clause-acts
 returns-clause-acts g c = IfOk-weaker c.zip_entries.result _ _ (λ made run h acts. answers_at_pairs _ _ _ _ h acts _ _ _ run) (returns-clause-run g c)
+
+pub returns-clause-len : goal.returns-clause-len
+returns-clause-len g c = IfOk-weaker c.zip_entries.result _ _ (λ made long. long ∙ g.met.Lhs.MappedGenericSequence.same_length) c.zip_entries.ensures.len

@@ -1,9 +1,11 @@
 use Rattle.ga_core.proofs.PlaceLemmas.{refill-whole}
-use Rattle.generic_array.proofs.ShapeLemmas.{area-next, area-room, flat_map-next, flat_map-whole, taken-row}
+use Rattle.generic_array.proofs.ShapeLemmas.{area-next, area-room, flat_map-next, flat_map-whole, rows-of_joined, taken-row}
 use Rattle.generic_array.proofs.sequence.shapes.inline.GenericArrayFlatten.flatten.Goals as goal
-use Rattle.std.proofs.Common.{◌≡◌, ◌∷◌, ◌∙◌, ◌+◌, ◌++◌, ◌*◌, ◌<◌, ◌≤◌, ap, arith, drop, get_or, length, length-append, map, slice_set, sym, take}
-use Rattle.std.proofs.lemmas.List.{drop-set-lt, drop_more}
-use Rattle.std.specs.List.{flat_map}
+use Rattle.generic_array.specs.Rows.{rows}
+use Rattle.std.proofs.Common.{◌≡◌, ◌∷◌, ◌∙◌, ◌+◌, ◌++◌, ◌*◌, ◌<◌, ◌≤◌, ap, arith, drop, get_or, length, length-append, map, slice_set, subst, sym, take}
+use Rattle.std.proofs.lemmas.List.{drop-set-lt, drop_all, drop_more}
+use Rattle.std.proofs.lemmas.List.Elements.{All-cons, All-nil}
+use Rattle.std.specs.List.{All, flat_map}
 
 pub loop-row-preserved : goal.loop-row-preserved
 loop-row-preserved g c =
@@ -22,6 +24,9 @@ loop-row-preserved g c =
     record {
       same = flat_map-next row (drop i rows) left first g.I.Row.items (take c.loop-row.at c.loop-row.places) (take (c.loop-row.at + c.move_over-at.result) (front ++ c.move_over-at.new.places))
           (flat_map (λ r. r) (map g.I.Row.items c.args.self)) grown c.loop-row.invariant.same;
+      wide = λ others. c.loop-row.invariant.wide
+          (subst (λ l. All (λ r. length r ≡ g.I.Row.WIDTH) (map g.I.Row.items l)) (sym first)
+          (All-cons (λ r. length r ≡ g.I.Row.WIDTH) (g.I.Row.items row) (map g.I.Row.items left) c.move_over-at.ensures.width others));
       long = omega (arith, room, length-append front c.move_over-at.new.places);
     }
 
@@ -30,6 +35,7 @@ loop-row-init g c =
     let area = ap (λ n. n * g.I.Row.WIDTH) c.as_mut_slice-row-items.ensures.len ∙ (sym c.requires.0 ∙ sym c.as_mut_slice-places.ensures.len) in
     record {
       same = ap (λ l. flat_map (λ r. r) (map g.I.Row.items l)) c.as_mut_slice-row-items.ensures.items;
+      wide = subst (λ l. All (λ r. length r ≡ g.I.Row.WIDTH) (map g.I.Row.items l)) c.as_mut_slice-row-items.ensures.items;
       long = omega (arith, area);
     }
 
@@ -56,5 +62,13 @@ returns g c =
     let places = c.loop-row.places in
     let long : length c.default-array.result ≡ length places = sym (c.loop-row.auto.places ∙ ap length c.as_mut_slice-places.ensures.items) in
     let past : length c.loop-row.row-items ≤ c.loop-row.row-index = omega (arith, c.loop-row-test.false, c.loop-row.auto.row-items) in
-    refill-whole (length c.default-array.result) c.default-array.result places long
-    ∙ flat_map-whole g.row.I.Denot g.I.Row.items c.loop-row.row-items c.loop-row.row-index c.loop-row.at g.I.Row.WIDTH places (flat_map (λ r. r) (map g.I.Row.items c.args.self)) past c.loop-row.invariant.long c.loop-row.invariant.same
+    let row_items = map g.I.Row.items c.args.self in
+    let joined = refill-whole (length c.default-array.result) c.default-array.result places long
+    ∙ flat_map-whole g.row.I.Denot g.I.Row.items c.loop-row.row-items c.loop-row.row-index c.loop-row.at g.I.Row.WIDTH places (flat_map (λ r. r) row_items) past c.loop-row.invariant.long c.loop-row.invariant.same in
+    let none = drop_all c.loop-row.row-index c.loop-row.row-items past in
+    let widths = c.loop-row.invariant.wide (subst (λ l. All (λ r. length r ≡ g.I.Row.WIDTH) (map g.I.Row.items l)) (sym none) (All-nil (λ r. length r ≡ g.I.Row.WIDTH))) in
+    record {
+      joined = joined;
+      widths = widths;
+      cut = λ some. ap (rows g.I.Row.WIDTH) joined ∙ rows-of_joined g.I.Row.WIDTH some row_items widths;
+    }

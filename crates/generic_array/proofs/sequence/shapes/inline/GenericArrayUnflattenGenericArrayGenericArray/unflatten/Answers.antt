@@ -1,10 +1,10 @@
-use Rattle.generic_array.proofs.ShapeLemmas.{drop-parts, rows-next, rows-whole}
+use Rattle.generic_array.proofs.ShapeLemmas.{drop-parts, joined-of_rows, rows-next, rows-whole}
 use Rattle.generic_array.proofs.sequence.shapes.inline.GenericArrayUnflattenGenericArrayGenericArray.unflatten.Goals as goal
 use Rattle.generic_array.specs.Rows.{row_at}
 use Rattle.std.proofs.Common.{◌≡◌, ◌+◌, ◌*◌, ◌∙◌, ◌++◌, [], ◌∷◌, ap, arith, drop, length, length-append, map, sym, take}
 use Rattle.std.proofs.Math.Nat.{suc-mul}
 use Rattle.std.proofs.lemmas.List.{drop-drop}
-use Rattle.std.specs.List.{range_with_len}
+use Rattle.std.specs.List.{flat_map, range_with_len}
 
 pub loop-place-preserved : goal.loop-place-preserved
 loop-place-preserved g c =
@@ -34,4 +34,5 @@ returns g c =
     let w = g.W.Unsigned.USIZE in
     let all : c.loop-place._place ≡ g.R.Unsigned.USIZE = omega (arith, c.loop-place-test.false, c.loop-place.auto._place-end, c.USIZE-place-end.ensures) in
     let long : length c.args.self ≡ g.R.Unsigned.USIZE * w = omega (arith, ap length c.as_mut_slice-items.ensures.items, c.as_mut_slice-items.ensures.len, c.requires.0) in
-    c.finish.ensures ∙ (c.loop-place.invariant.made ∙ (ap (λ n. map (row_at w c.args.self) (range_with_len 0 n)) all ∙ rows-whole w g.R.Unsigned.USIZE c.args.self c.requires.1 long))
+    let cut = c.finish.ensures ∙ (c.loop-place.invariant.made ∙ (ap (λ n. map (row_at w c.args.self) (range_with_len 0 n)) all ∙ rows-whole w g.R.Unsigned.USIZE c.args.self c.requires.1 long)) in
+    record { cut = cut; joined = ap (flat_map (λ row. row)) cut ∙ joined-of_rows w c.requires.1 g.R.Unsigned.USIZE c.args.self long }
