@@ -39,6 +39,7 @@ pub fn run_listed<I: Iterator<Item = String>, R: Read, W: Write, E: Write>(
         IfSome (R.remaining r.old) (λ input. chunk_rest (bytes_of meaning.1) input ≢ []))) }
     ensures words { process_status result ≡ 2 → ListedAnd I.next_gives listed (λ meant. meant ≡ None) }
     ensures meaningless { ListedEach I.next_gives listed (λ meant. meant ≡ None) → (process_status result ≡ 2) ⊎ (process_status result ≡ 3) }
+    ensures unread { ListedEach I.next_gives listed (λ meant. meant ≡ None) → r.new ≡ r.old }
     ensures untouched { process_status result ≡ 2 → (r.new ≡ r.old) × (w.new ≡ w.old) }
     ensures end { process_status result ≤ 1 → IsAtEnd (R.remaining r.new) }
     ensures memory { process_status result ≡ 3 → w.new ≡ w.old }

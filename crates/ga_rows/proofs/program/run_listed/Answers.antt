@@ -60,3 +60,15 @@ returns-clause-meaningless g c = λ each. elim c.match-listed.branch [
   | in-Ok+in-Err-words_after_name w ↦ inr (search rules)
   | in-Err w ↦ search rules
 ]
+
+pub returns-clause-unread : goal.returns-clause-unread
+returns-clause-unread g c = λ each. elim c.match-listed.branch [
+  | in-Ok+in-Ok-words_after_name w ↦
+      let nothing = ListedEach-kept g.I.Iterator.next_gives (λ meant. meant ≡ None)
+      c.args.listed w.in-Ok.words w.in-Ok-words_after_name.words.items w.in-Ok.is w.in-Ok-words_after_name.ensures.ok each in
+      let unknown : w.run.result ≡ Words = w.run.ensures.words.1 (ap (λ words. meaning_of_words (map string_bytes words)) w.as_slice.ensures.value ∙ nothing) in
+      let kept = w.run.ensures.untouched unknown in
+      search rules
+  | in-Ok+in-Err-words_after_name w ↦ search rules
+  | in-Err w ↦ search rules
+]
