@@ -22,6 +22,23 @@ impl Write for Broken {
     }
 }
 
+/// Takes all at once, and counts its calls.
+#[derive(Drop)]
+struct Counting {
+    calls: usize,
+}
+
+impl Write for Counting {
+    fn write(&mut self, bytes: &[u8]) -> io::Result<usize> {
+        self.calls = self.calls.saturating_add(1);
+        Ok(bytes.len())
+    }
+
+    fn flush(&mut self) -> io::Result<()> {
+        Ok(())
+    }
+}
+
 /// Whether the record at the index has exactly these bytes.
 fn record_is<N: ArrayLength<u8>>(block: &RecordBlock<'_, N>, index: usize, bytes: &[u8]) -> bool {
     block
@@ -64,6 +81,9 @@ fn records_are_walked_and_written(rt: HostRuntime) -> Result<(), Fail> {
     let none: RecordBlock<'_, U2> = RecordBlock::open(&[])?;
     none.write_to(&mut written)?;
     assert!(rt; written.as_slice() == [1, 2, 3, 2].as_slice());
+    let mut counting = Counting { calls: 0 };
+    pairs.write_to(&mut counting)?;
+    assert!(rt; counting.calls == 1);
     let four: RecordBlock<'_, U4> = RecordBlock::open(b"abcd")?;
     let mut broken = Broken { asks: 0 };
     let fault = four.write_to(&mut broken);
