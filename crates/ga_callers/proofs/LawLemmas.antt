@@ -1,15 +1,10 @@
--- Laws of runs over joined lists, and of rows, proved.
+-- Laws of runs over joined lists, proved.
 use Rattle.generic_array.proofs.JoinedRuns.{ClosureRun-join}
+use Rattle.generic_array.specs.EntryRuns.{TryFoldRun}
 use Rattle.generic_array.specs.Runs.{ClosureRun, FirstErrorRun}
-use Rattle.generic_array.proofs.RowLemmas.{rows-few, rows-first}
-use Rattle.generic_array.specs.Rows.{rows}
-use Rattle.ga_callers.specs.Laws.{HaveWidth, RunInParts, RunsJoin, GoodRunsJoin, ErrorRunInParts, ErrorRunsJoin, FoldsJoin}
-use Rattle.std.proofs.Common.{◌≡◌, ◌↔◌, ℕ, zero, suc, ◌+◌, ◌*◌, ◌<◌, ◌≤◌, ◌∙◌, List, [], ◌∷◌, ◌++◌, Result, Ok, Err, inl, inr, refl, sym, subst, ap, arith, append_assoc, drop, take, length, length-append, length-drop, slice_index_or}
-use Rattle.std.proofs.Math.Nat.{suc-mul}
-use Rattle.std.proofs.Math.Seq.{drop-append_seam, take-append_seam}
-use Rattle.std.proofs.lemmas.List.{nil_from_length, take-append-drop}
-use Rattle.std.proofs.lemmas.List.Concat.{flat_map-cons}
-use Rattle.std.specs.List.{FoldsTo, flat_map}
+use Rattle.ga_callers.specs.Laws.{ErrorRunInParts, ErrorRunsJoin, FoldsJoin, FoldsToErrorJoin, GoodFoldsJoin, GoodRunsJoin, RunInParts, RunsJoin}
+use Rattle.std.proofs.Common.{◌≡◌, ◌⊎◌, ◌↔◌, List, [], ◌∷◌, ◌++◌, Result, Ok, Err, inl, inr, refl, sym, subst, ap}
+use Rattle.std.specs.List.{FoldsTo}
 
 module _ {F X Y : Type 0} (step : F → X → Y → F → Type 0) where
   ClosureRun-cut : (f : F) (xs ys : List X) (answers : List Y) (last : F) → ClosureRun step f (xs ++ ys) answers last → RunInParts step f xs ys answers last
@@ -96,37 +91,54 @@ module _ {F A X : Type 0} (step : F → A → X → A → F → Type 0) where
         λ parts. FoldsTo-join R (f, init) xs ys (parts.1, parts.0) (last, answer) parts.2 parts.3,
       )
 
-module _ {X : Type 0} (width : ℕ) (some : 0 < width) where
-  -- rows joined, and cut again
-  pub rows-of_joined : (all : List (List X)) → HaveWidth width all → rows width (flat_map (λ row. row) all) ≡ all
-  rows-of_joined [] wide = rows-few width [] some
-  rows-of_joined (row ∷ others) wide =
-      let rest = flat_map (λ r. r) others in
-      let joined : flat_map (λ r. r) (row ∷ others) ≡ row ++ rest = flat_map-cons (λ r. r) row others in
-      let enough : width ≤ length (row ++ rest) = omega (arith, length-append row rest, wide.0) in
-      let first : take width (row ++ rest) ≡ row = ap (λ n. take n (row ++ rest)) (sym wide.0) ∙ take-append_seam row rest in
-      let after : drop width (row ++ rest) ≡ rest = ap (λ n. drop n (row ++ rest)) (sym wide.0) ∙ drop-append_seam row rest in
-      ap (rows width) joined ∙ (rows-first width (row ++ rest) some enough ∙ (ap (λ r. r ∷ rows width (drop width (row ++ rest))) first
-      ∙ (ap (λ items. row ∷ rows width items) after ∙ ap (λ more. row ∷ more) (rows-of_joined others wide.1))))
+module _ {F A X E : Type 0} (step : F → A → X → Result A E → F → Type 0) where
+  abbrev GoodInParts : F → A → List X → List X → A → F → Type 0
+  GoodInParts f a xs ys answer last = (value : A) × (reached : F) × TryFoldRun step f a xs (Ok value) reached × TryFoldRun step reached value ys (Ok answer) last
 
-  -- items cut into rows, and joined again
-  pub joined-of_rows : (count : ℕ) (items : List X) → length items ≡ count * width → flat_map (λ row. row) (rows width items) ≡ items
-  joined-of_rows zero items whole =
-      let none : items ≡ [] = nil_from_length items (omega (arith, whole)) in
-      ap (λ all. flat_map (λ r. r) (rows width all)) none ∙ (ap (flat_map (λ r. r)) (rows-few width [] some) ∙ sym none)
-  joined-of_rows (suc count) items whole =
-      let more : suc count * width ≡ count * width + width = suc-mul count width in
-      let enough : width ≤ length items = omega (arith, whole, more) in
-      let left : length (drop width items) ≡ count * width = omega (arith, whole, more, length-drop width items) in
-      ap (flat_map (λ r. r)) (rows-first width items some enough)
-      ∙ (flat_map-cons (λ r. r) (take width items) (rows width (drop width items))
-      ∙ (ap (λ rest. take width items ++ rest) (joined-of_rows count (drop width items) left) ∙ take-append-drop width items))
+  abbrev ErrorInParts : F → A → List X → List X → E → F → Type 0
+  ErrorInParts f a xs ys error last =
+      TryFoldRun step f a xs (Err error) last ⊎ ((value : A) × (reached : F) × TryFoldRun step f a xs (Ok value) reached × TryFoldRun step reached value ys (Err error) last)
 
-module _ {X : Type 0} (width : ℕ) where
-  -- two rows of one width
-  pub two_rows : (all : List (List X)) (first second : List X) → length all ≡ 2 → first ≡ slice_index_or all 0 first → second ≡ slice_index_or all 1 second
-      → length first ≡ width → length second ≡ width → HaveWidth width all
-  two_rows [] first second count here there long too = cc
-  two_rows (row ∷ []) first second count here there long too = cc
-  two_rows (row ∷ other ∷ []) first second count here there long too = (ap length (sym here) ∙ long, (ap length (sym there) ∙ too, tt))
-  two_rows (row ∷ other ∷ more ∷ others) first second count here there long too = cc
+  good_fold-cut : (f : F) (a : A) (xs ys : List X) (answer : A) (last : F) → TryFoldRun step f a (xs ++ ys) (Ok answer) last → GoodInParts f a xs ys answer last
+  good_fold-cut f a [] ys answer last run = (a, f, (refl, refl), run)
+  good_fold-cut f a (x ∷ xs) ys answer last run =
+      let others = good_fold-cut run.1 run.0 xs ys answer last run.3 in
+      (others.0, others.1, (run.0, run.1, run.2, others.2), others.3)
+
+  -- what follows a fold with no error, whose end is the start of what follows
+  after-fold : (f reached : F) (a value : A) (ys : List X) (answer : Result A E) (last : F) → (a ≡ value) × (f ≡ reached) → TryFoldRun step reached value ys answer last → TryFoldRun step f a ys answer last
+  after-fold f reached a value ys answer last same then =
+      subst (λ b. TryFoldRun step f b ys answer last) (sym same.0) (subst (λ g. TryFoldRun step g value ys answer last) (sym same.1) then)
+
+  good_fold-join : (f : F) (a : A) (xs ys : List X) (answer : A) (last : F) (value : A) (reached : F) → TryFoldRun step f a xs (Ok value) reached → TryFoldRun step reached value ys (Ok answer) last
+      → TryFoldRun step f a (xs ++ ys) (Ok answer) last
+  good_fold-join f a [] ys answer last value reached run then = after-fold f reached a value ys (Ok answer) last run then
+  good_fold-join f a (x ∷ xs) ys answer last value reached run then = (run.0, run.1, run.2, good_fold-join run.1 run.0 xs ys answer last value reached run.3 then)
+
+  pub TryFoldRun-joined : GoodFoldsJoin step
+  TryFoldRun-joined f init xs ys answer last =
+      (good_fold-cut f init xs ys answer last, λ parts. good_fold-join f init xs ys answer last parts.0 parts.1 parts.2 parts.3)
+
+  error_fold-cut : (f : F) (a : A) (xs ys : List X) (error : E) (last : F) → TryFoldRun step f a (xs ++ ys) (Err error) last → ErrorInParts f a xs ys error last
+  error_fold-cut f a [] ys error last run = inr (a, f, (refl, refl), run)
+  error_fold-cut f a (x ∷ xs) ys error last (inl call) = inl (inl call)
+  error_fold-cut f a (x ∷ xs) ys error last (inr more) =
+      elim (error_fold-cut more.1 more.0 xs ys error last more.3) as (λ _. ErrorInParts f a (x ∷ xs) ys error last)
+      [ inl here ↦ inl (inr (more.0, more.1, more.2, here)) | inr later ↦ inr (later.0, later.1, (more.0, more.1, more.2, later.2), later.3) ]
+
+  error_fold-first : (f : F) (a : A) (xs ys : List X) (error : E) (last : F) → TryFoldRun step f a xs (Err error) last → TryFoldRun step f a (xs ++ ys) (Err error) last
+  error_fold-first f a [] ys error last run = absurd run
+  error_fold-first f a (x ∷ xs) ys error last (inl call) = inl call
+  error_fold-first f a (x ∷ xs) ys error last (inr more) = inr (more.0, more.1, more.2, error_fold-first more.1 more.0 xs ys error last more.3)
+
+  error_fold-second : (f : F) (a : A) (xs ys : List X) (error : E) (last : F) (value : A) (reached : F) → TryFoldRun step f a xs (Ok value) reached → TryFoldRun step reached value ys (Err error) last
+      → TryFoldRun step f a (xs ++ ys) (Err error) last
+  error_fold-second f a [] ys error last value reached run then = after-fold f reached a value ys (Err error) last run then
+  error_fold-second f a (x ∷ xs) ys error last value reached run then = inr (run.0, run.1, run.2, error_fold-second run.1 run.0 xs ys error last value reached run.3 then)
+
+  pub TryFoldRun-joined_error : FoldsToErrorJoin step
+  TryFoldRun-joined_error f init xs ys error last = (
+    error_fold-cut f init xs ys error last,
+    λ parts. elim parts as (λ _. TryFoldRun step f init (xs ++ ys) (Err error) last)
+        [ inl here ↦ error_fold-first f init xs ys error last here | inr later ↦ error_fold-second f init xs ys error last later.0 later.1 later.2 later.3 ],
+  )

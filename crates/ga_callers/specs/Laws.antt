@@ -1,6 +1,7 @@
 -- Laws of runs over joined lists.
+use Rattle.generic_array.specs.EntryRuns.{TryFoldRun}
 use Rattle.generic_array.specs.Runs.{ClosureRun, FirstErrorRun, FoldRun}
-use Rattle.std.specs.Prelude.{◌≡◌, ◌⊎◌, ◌↔◌, ⊤, ℕ, List, [], ◌∷◌, ◌++◌, length, Result, Ok, Err}
+use Rattle.std.specs.Prelude.{◌≡◌, ◌⊎◌, ◌↔◌, List, ◌++◌, Result, Ok, Err}
 
 module _ {F X Y : Type 0} (step : F → X → Y → F → Type 0) where
   -- a run over the first list, and one over the second from the state that it reached, with their answers joined
@@ -37,7 +38,14 @@ module _ {F A X : Type 0} (step : F → A → X → A → F → Type 0) where
   FoldsJoin = (f : F) (init : A) (xs ys : List X) (answer : A) (last : F)
       → FoldRun step f init (xs ++ ys) answer last ↔ ((value : A) × (reached : F) × FoldRun step f init xs value reached × FoldRun step reached value ys answer last)
 
--- each row has so many items
-abbrev pub HaveWidth : {X : Type 0} → ℕ → List (List X) → Type 0
-HaveWidth width [] = ⊤
-HaveWidth width (row ∷ others) = (length row ≡ width) × HaveWidth width others
+module _ {F A X E : Type 0} (step : F → A → X → Result A E → F → Type 0) where
+  -- the folds with no error over joined lists are those over the second list from what those over the first came to
+  abbrev pub GoodFoldsJoin : Type 0
+  GoodFoldsJoin = (f : F) (init : A) (xs ys : List X) (answer : A) (last : F)
+      → TryFoldRun step f init (xs ++ ys) (Ok answer) last ↔ ((value : A) × (reached : F) × TryFoldRun step f init xs (Ok value) reached × TryFoldRun step reached value ys (Ok answer) last)
+
+  -- the first error comes in the first list, with no call at the second, or in the second, from what the first came to
+  abbrev pub FoldsToErrorJoin : Type 0
+  FoldsToErrorJoin = (f : F) (init : A) (xs ys : List X) (error : E) (last : F)
+      → TryFoldRun step f init (xs ++ ys) (Err error) last
+      ↔ (TryFoldRun step f init xs (Err error) last ⊎ ((value : A) × (reached : F) × TryFoldRun step f init xs (Ok value) reached × TryFoldRun step reached value ys (Err error) last))

@@ -6,7 +6,7 @@ ghost use Rattle.generic_array.specs.Entries.{ActsOnEntry, CallAt, MayCallAt};
 ghost use Rattle.generic_array.specs.Runs.{CallableOver};
 ghost use Rattle.std.specs.Int.Bits.{bit_xor};
 ghost use Rattle.std.specs.List.{range_with_len, zip};
-ghost use Rattle.std.specs.Prelude.{◌≡◌, ℕ, ◌+◌, ◌-◌, ◌*◌, ◌%◌, ◌^◌, ◌++◌, ◌<◌, ◌≤◌, IfOk, fold, length, map, replicate, reverse, sum};
+ghost use Rattle.std.specs.Prelude.{◌≡◌, ℕ, ◌+◌, ◌-◌, ◌*◌, ◌%◌, ◌^◌, ◌++◌, ◌<◌, ◌≤◌, IfOk, Ok, fold, length, map, replicate, reverse, sum};
 
 use crate::answers::{gives, has};
 use crate::kinds::{boxed_one_two_three, four_five_six, one_two_three};
@@ -14,9 +14,10 @@ use generic_array::checks::{map_total_by, total_by};
 use generic_array::functional::{
     FunctionalSequence, MappedError, MappedGenericSequence, MappedPlace, MappedSequence,
 };
-use generic_array::sequence::{GenericSequence, SequenceItem};
+use generic_array::sequence::{FromFallibleIterator, GenericSequence, SequenceItem};
 use generic_array::{
-    AllocError, ArrayLength, BoxedArray, GenericArray, GenericArrayRef, U3, U4, Unsigned, always,
+    AllocError, ArrayLength, BoxedArray, FillError, GenericArray, GenericArrayRef, U3, U4, Unsigned,
+    always,
 };
 use std::alloc::Global;
 use std::test::Fail;
@@ -212,6 +213,19 @@ fn digits_of_view<N: ArrayLength<u8>>(
     always(text.try_map((), |byte: &u8| digit_in(base, *byte)))
 }
 
+/// The digits of a text, of any kind that has room for just these.
+fn digits_of_text<S: FromFallibleIterator<u8>>(
+    place: S::Place,
+    text: &[u8],
+    base: u8,
+) -> Result<S, FillError<u8, S::Error>>
+    requires fits { S.Fits }
+    ensures len { IfOk result (λ made. length text.now ≡ S.Length.USIZE) }
+    ensures digits { IfOk result (λ made. try_map (λ digit. digit) (map (digit_of base) text.now) ≡ Ok (S.items made)) }
+{
+    S::from_fallible_iter(place, text.iter().map(|byte: &u8| digit_in(base, *byte)))
+}
+
 // A block that begins with a message, and is zero behind it.
 
 fn padded<N: ArrayLength<u8>>(message: &[u8]) -> GenericArray<u8, N>
@@ -281,5 +295,8 @@ fn callers_of_any_length_get_what_their_contracts_say(rt: HostRuntime) -> Result
     assert!(rt; masks_are_right(rt.alloc())?);
     assert!(rt; numbers_are_right(rt.alloc())?);
     assert!(rt; text_is_right());
+    let read = digits_of_text::<GenericArray<u8, U3>>((), b"190", 10);
+    assert!(rt; read.is_ok_and(|digits| has(digits, &[1, 9, 0])));
+    assert!(rt; digits_of_text::<BoxedArray<u8, U3>>(rt.alloc(), b"19x", 10).is_err());
     Ok(())
 }

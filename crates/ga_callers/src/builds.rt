@@ -51,6 +51,15 @@ fn refused_at_two() -> Result<GenericArray<usize, U4>, usize>
     GenericArray::try_generate(|index| if index < 2 { Ok(index) } else { Err(index) })
 }
 
+fn taken_up_to_an_error() -> (usize, Result<(), u8>)
+    ensures { result ≡ (1, Err 7) }
+{
+    let results: [Result<u8, u8>; 3] = [Ok(1), Err(7), Ok(2)];
+    let mut builder: ArrayBuilder<u8, U3> = ArrayBuilder::new();
+    let answer = builder.try_extend(&mut results.iter().copied());
+    (builder.position(), answer)
+}
+
 fn four_digits(text: &[u8]) -> Result<Result<GenericArray<u8, U4>, u8>, LengthError>
     ensures long { IfOk result (λ built. OnOk built (length text.now ≡ 4)) }
     ensures refused { OnErr result (length text.now ≢ 4) }
@@ -114,6 +123,7 @@ fn builds_and_copies_answer_what_their_contracts_say(rt: HostRuntime) {
 
 #[test]
 fn fallible_fills_answer_what_their_contracts_say(rt: HostRuntime) {
+    assert!(rt; taken_up_to_an_error() == (1, Err(7)));
     match four_digits(b"1804") {
         Ok(Ok(digits)) => assert!(rt; has(digits, &[1, 8, 0, 4])),
         _ => panic!(rt; "four digits are refused"),

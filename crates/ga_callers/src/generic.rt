@@ -92,6 +92,46 @@ fn digits_lent<S: FromFallibleIterator<u8>>(
     S::from_fallible_iter_ref(place, &mut digits)
 }
 
+/// An item of what any kind makes, at any place that there is.
+fn made_at<S: GenericSequence<usize>>(place: S::Place, index: usize) -> Result<usize, S::Error>
+where
+    S::Sequence: Drop,
+    requires fits { S.Fits }
+    requires in_bounds { index < S.Length.USIZE }
+    ensures item { IfOk result (λ item. item ≡ index) }
+    ensures promised { S.IsPromised → IsOk result }
+{
+    match S::generate(place, |index| index) {
+        Ok(made) => Ok(made.as_slice()[index]),
+        Err(refused) => Err(refused),
+    }
+}
+
+/// The item after the first error, where the iterator is asked on.
+fn next_after_an_error<S: FromFallibleIterator<u8> + Drop, I: Iterator<Item = Result<u8, u8>>>(
+    place: S::Place,
+    items: &mut I,
+) -> Option<Result<u8, u8>>
+where
+    S::Error: Drop,
+    requires fits { S.Fits }
+    requires can { I.can_next items.old }
+{
+    match S::from_fallible_iter_ref(place, items) {
+        Err(FillError::Item(_)) => items.next(),
+        _ => None,
+    }
+}
+
+#[test]
+fn items_are_made_and_asked_for_where_the_traits_alone_are_known(rt: HostRuntime) {
+    assert!(rt; made_at::<GenericArray<usize, U3>>((), 2).is_ok_and(|item| item == 2));
+    assert!(rt; made_at::<BoxedArray<usize, U3>>(rt.alloc(), 2).is_ok_and(|item| item == 2));
+    let results: [Result<u8, u8>; 3] = [Ok(1), Err(7), Ok(2)];
+    let next = next_after_an_error::<GenericArray<u8, U3>, _>((), &mut results.iter().copied());
+    assert!(rt; next == Some(Ok(2)));
+}
+
 #[test]
 fn digits_are_read_where_the_traits_alone_are_known(rt: HostRuntime) {
     assert!(rt; digits::<GenericArray<u8, U3>>((), b"180").is_ok());

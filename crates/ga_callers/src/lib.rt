@@ -17,6 +17,7 @@ mod conversions;
 mod digits;
 #[cfg(test)]
 mod generic;
+pub mod headline;
 #[cfg(test)]
 mod hex_text;
 #[cfg(test)]
@@ -25,8 +26,6 @@ mod iterators;
 mod keys;
 #[cfg(test)]
 mod kinds;
-#[cfg(test)]
-mod laws;
 #[cfg(test)]
 mod macros;
 #[cfg(test)]

@@ -183,10 +183,6 @@ fn as_rows_and_joined_again(array: GenericArray<u32, U4>) -> GenericArray<u32, U
 fn joined_and_cut_again(rows: Square) -> Square
     ensures { result ≡ rows }
 {
-    // The slices know how many rows there are, and how many items each has.
-    let all = rows.as_slice();
-    let _ = all[0].as_slice();
-    let _ = all[1].as_slice();
     let array: GenericArray<u32, U4> = rows.flatten();
     array.unflatten()
 }

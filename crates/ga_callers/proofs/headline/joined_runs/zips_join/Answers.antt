@@ -1,5 +1,5 @@
 use Rattle.ga_callers.proofs.LawLemmas.{ClosureRun-joined}
-use Rattle.ga_callers.proofs.laws.runs_join.Goals as goal
+use Rattle.ga_callers.proofs.headline.joined_runs.zips_join.Goals as goal
 
 pub returns : goal.returns
 returns g c = ClosureRun-joined _

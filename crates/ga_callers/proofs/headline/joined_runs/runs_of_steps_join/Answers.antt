@@ -1,0 +1,5 @@
+use Rattle.ga_callers.proofs.LawLemmas.{ClosureRun-joined}
+use Rattle.ga_callers.proofs.headline.joined_runs.runs_of_steps_join.Goals as goal
+
+pub returns : goal.returns
+returns g c = ClosureRun-joined _

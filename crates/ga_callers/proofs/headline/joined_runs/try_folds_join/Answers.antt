@@ -1,0 +1,8 @@
+use Rattle.ga_callers.proofs.LawLemmas.{TryFoldRun-joined, TryFoldRun-joined_error}
+use Rattle.ga_callers.proofs.headline.joined_runs.try_folds_join.Goals as goal
+
+pub returns-clause-good : goal.returns-clause-good
+returns-clause-good g c = TryFoldRun-joined _
+
+pub returns-clause-error : goal.returns-clause-error
+returns-clause-error g c = TryFoldRun-joined_error _

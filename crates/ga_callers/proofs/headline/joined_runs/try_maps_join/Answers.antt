@@ -1,0 +1,8 @@
+use Rattle.ga_callers.proofs.LawLemmas.{FirstErrorRun-joined, FirstErrorRun-joined_error}
+use Rattle.ga_callers.proofs.headline.joined_runs.try_maps_join.Goals as goal
+
+pub returns-clause-good : goal.returns-clause-good
+returns-clause-good g c = FirstErrorRun-joined _
+
+pub returns-clause-error : goal.returns-clause-error
+returns-clause-error g c = FirstErrorRun-joined_error _

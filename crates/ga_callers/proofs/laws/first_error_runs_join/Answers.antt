@@ -1,8 +1,0 @@
-use Rattle.ga_callers.proofs.LawLemmas.{FirstErrorRun-joined, FirstErrorRun-joined_error}
-use Rattle.ga_callers.proofs.laws.first_error_runs_join.Goals as goal
-
-pub returns-clause-good : goal.returns-clause-good
-returns-clause-good g c = FirstErrorRun-joined (goal.F-step g)
-
-pub returns-clause-error : goal.returns-clause-error
-returns-clause-error g c = FirstErrorRun-joined_error (goal.F-step g)

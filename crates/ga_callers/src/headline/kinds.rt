@@ -1,0 +1,266 @@
+//! The headline at each kind of sequence that has it, with exact results.
+ghost use Rattle.generic_array.specs.declared.steps.step.Reply.TheVariants.{Item, Old, Seen};
+ghost use Rattle.generic_array.specs.declared.steps.step.Step.TheVariants.{Look, Next, NextBack, Set};
+ghost use Rattle.std.specs.Prelude.{◌≡◌, ◌≢◌, [], ◌∷◌, ◌++◌, Err, IfOk, IsErr, Ok, OnOk, Some, length};
+
+use super::builds::build;
+use super::calls::{fold, map, try_fold, try_map, zip};
+use super::shapes::{
+    append_then_pop_back, concat_then_split, flatten_then_unflatten, pop_back_then_append,
+    pop_front_then_prepend, prepend_then_pop_front, split_then_concat, unflatten_then_flatten,
+};
+use super::steps::walk;
+use crate::kinds::{boxed_one_two_three, four_five_six, one_two_three};
+use generic_array::steps::{Reply, Step};
+use generic_array::{
+    AllocError, BoxedArray, BoxedArrayIter, FillError, GenericArray, GenericArrayIter,
+    GenericArrayRef, Never, U0, U2, U3, U4, U5, always, arr,
+};
+use std::alloc::Global;
+use std::test::Fail;
+
+// Builds.
+
+fn inline_of(items: Vec<u32>) -> Result<GenericArray<u32, U3>, FillError<Never, Never>>
+    requires { items.items ≡ 1 ∷ 2 ∷ 3 ∷ [] }
+    ensures { result ≡ Ok (1 ∷ 2 ∷ 3 ∷ []) }
+{
+    build((), items)
+}
+
+fn inline_of_others(items: Vec<u32>) -> Result<GenericArray<u32, U3>, FillError<Never, Never>>
+    requires { length items.items ≢ 3 }
+    ensures { IsErr result }
+{
+    build((), items)
+}
+
+fn boxed_of(
+    alloc: Global,
+    items: Vec<u32>,
+) -> Result<BoxedArray<u32, U3>, FillError<Never, AllocError>>
+    requires { items.items ≡ 1 ∷ 2 ∷ 3 ∷ [] }
+    ensures { IfOk result (λ array. array ≡ 1 ∷ 2 ∷ 3 ∷ []) }
+{
+    build(alloc, items)
+}
+
+// Calls: running totals, sums of two kinds, and what stops at the item 2.
+
+fn totals_of_inline(array: GenericArray<u32, U3>) -> GenericArray<u32, U3>
+    requires { array ≡ 1 ∷ 2 ∷ 3 ∷ [] }
+    ensures { result ≡ 1 ∷ 3 ∷ 6 ∷ [] }
+{
+    let mut total = 0u32;
+    always(map(
+        array,
+        (),
+        &mut |item: u32| {
+            total = total.wrapping_add(item);
+            total
+        },
+    ))
+}
+
+fn totals_of_view(view: GenericArrayRef<'_, u32, U3>) -> GenericArray<u32, U3>
+    requires { view.slice.now ≡ 1 ∷ 2 ∷ 3 ∷ [] }
+    ensures { result ≡ 1 ∷ 3 ∷ 6 ∷ [] }
+{
+    let mut total = 0u32;
+    always(map(
+        view,
+        (),
+        &mut |item: &u32| {
+            total = total.wrapping_add(*item);
+            total
+        },
+    ))
+}
+
+fn totals_of_boxed(
+    alloc: Global,
+    array: BoxedArray<u32, U3>,
+) -> Result<BoxedArray<u32, U3>, AllocError>
+    requires { array ≡ 1 ∷ 2 ∷ 3 ∷ [] }
+    ensures { IfOk result (λ totals. totals ≡ 1 ∷ 3 ∷ 6 ∷ []) }
+{
+    let mut total = 0u32;
+    map(
+        array,
+        alloc,
+        &mut |item: u32| {
+            total = total.wrapping_add(item);
+            total
+        },
+    )
+}
+
+fn sums_of_boxed_and_view(
+    alloc: Global,
+    left: BoxedArray<u32, U3>,
+    right: GenericArrayRef<'_, u32, U3>,
+) -> Result<BoxedArray<u32, U3>, AllocError>
+    requires left { left ≡ 1 ∷ 2 ∷ 3 ∷ [] }
+    requires right { right.slice.now ≡ 4 ∷ 5 ∷ 6 ∷ [] }
+    ensures { IfOk result (λ sums. sums ≡ 5 ∷ 7 ∷ 9 ∷ []) }
+{
+    zip(left, alloc, right, &mut |l: u32, r: &u32| {
+        l.wrapping_add(*r)
+    })
+}
+
+fn sum_of_inline(array: GenericArray<u32, U3>) -> u32
+    requires { array ≡ 1 ∷ 2 ∷ 3 ∷ [] }
+    ensures { result ≡ 6 }
+{
+    fold(array, 0, &mut |sum: u32, item: u32| sum.wrapping_add(item))
+}
+
+fn sum_of_boxed(array: BoxedArray<u32, U3>) -> u32
+    requires { array ≡ 1 ∷ 2 ∷ 3 ∷ [] }
+    ensures { result ≡ 6 }
+{
+    fold(array, 0, &mut |sum: u32, item: u32| sum.wrapping_add(item))
+}
+
+fn stopped_at_two(item: u32) -> Result<u32, u32> {
+    if item == 2 { Err(item) } else { Ok(item) }
+}
+
+fn stopped_in_inline(array: GenericArray<u32, U3>) -> Result<GenericArray<u32, U3>, u32>
+    requires { array ≡ 1 ∷ 2 ∷ 3 ∷ [] }
+    ensures { result ≡ Err 2 }
+{
+    always(try_map(array, (), &mut stopped_at_two))
+}
+
+fn stopped_in_boxed(
+    alloc: Global,
+    array: BoxedArray<u32, U3>,
+) -> Result<Result<BoxedArray<u32, U3>, u32>, AllocError>
+    requires { array ≡ 1 ∷ 2 ∷ 3 ∷ [] }
+    ensures { IfOk result (λ built. built ≡ Err 2) }
+{
+    try_map(array, alloc, &mut stopped_at_two)
+}
+
+fn stopped_past_three(view: GenericArrayRef<'_, u32, U3>) -> Result<u32, u32>
+    requires { view.slice.now ≡ 1 ∷ 3 ∷ 9 ∷ [] }
+    ensures { result ≡ Err 4 }
+{
+    try_fold(view, 0, &mut |sum: u32, item: &u32| {
+        let sum = sum.wrapping_add(*item);
+        if sum > 3 { Err(sum) } else { Ok(sum) }
+    })
+}
+
+// Steps.
+
+fn count_of(items: &[u32]) -> usize
+    ensures { result ≡ length items.now }
+{
+    items.len()
+}
+
+fn walked_inline(
+    array: GenericArray<u32, U3>,
+    steps: Vec<Step<u32>>,
+    replies: &mut Vec<Reply<u32, usize>>,
+) -> Result<GenericArrayIter<u32, U3>, AllocError>
+    requires array { array ≡ 1 ∷ 2 ∷ 3 ∷ [] }
+    requires steps { steps.items ≡ Next ∷ Look ∷ Set 1 9 ∷ NextBack ∷ [] }
+    ensures replies { OnOk result (replies.new.items ≡ replies.old.items ++ Item (Some 1) ∷ Seen 2 ∷ Old 3 ∷ Item (Some 9) ∷ []) }
+    ensures left { IfOk result (λ left. left ≡ 2 ∷ []) }
+{
+    walk(array, steps, &mut count_of, replies)
+}
+
+fn walked_boxed(
+    array: BoxedArray<u32, U3>,
+    steps: Vec<Step<u32>>,
+    replies: &mut Vec<Reply<u32, usize>>,
+) -> Result<BoxedArrayIter<u32>, AllocError>
+    requires array { array ≡ 1 ∷ 2 ∷ 3 ∷ [] }
+    requires steps { steps.items ≡ Next ∷ Look ∷ Set 1 9 ∷ NextBack ∷ [] }
+    ensures replies { OnOk result (replies.new.items ≡ replies.old.items ++ Item (Some 1) ∷ Seen 2 ∷ Old 3 ∷ Item (Some 9) ∷ []) }
+    ensures left { IfOk result (λ left. left ≡ 2 ∷ []) }
+{
+    walk(array, steps, &mut count_of, replies)
+}
+
+/// The sum of the items.
+fn sum_of(items: &[u32]) -> u32 {
+    items.iter().fold(0, |sum, item| sum.wrapping_add(*item))
+}
+
+#[test]
+fn builds_want_just_their_number(rt: HostRuntime) -> Result<(), Fail> {
+    let alloc = rt.alloc();
+    let three = [1, 2, 3].as_slice();
+    assert!(rt; inline_of(vec![in alloc; 1, 2, 3]?).is_ok_and(|array| array.as_slice() == three));
+    assert!(rt; inline_of_others(vec![in alloc; 1, 2]?).is_err());
+    assert!(rt; inline_of_others(vec![in alloc; 1, 2, 3, 4]?).is_err());
+    assert!(rt; boxed_of(alloc, vec![in alloc; 1, 2, 3]?).is_ok_and(|array| array.as_slice() == three));
+    Ok(())
+}
+
+#[test]
+fn calls_run_in_order_and_stop_at_the_first_error(rt: HostRuntime) -> Result<(), Fail> {
+    let alloc = rt.alloc();
+    let array = one_two_three();
+    let totals = [1, 3, 6].as_slice();
+    assert!(rt; totals_of_inline(one_two_three()).as_slice() == totals);
+    assert!(rt; totals_of_view(array.view()).as_slice() == totals);
+    assert!(rt; totals_of_boxed(alloc, boxed_one_two_three(alloc)?)?.as_slice() == totals);
+    let right = four_five_six();
+    let sums = sums_of_boxed_and_view(alloc, boxed_one_two_three(alloc)?, right.view())?;
+    assert!(rt; sums.as_slice() == [5, 7, 9].as_slice());
+    assert!(rt; sum_of_inline(one_two_three()) == 6);
+    assert!(rt; sum_of_boxed(boxed_one_two_three(alloc)?) == 6);
+    assert!(rt; stopped_in_inline(one_two_three()).is_err());
+    assert!(rt; stopped_in_boxed(alloc, boxed_one_two_three(alloc)?)?.is_err());
+    assert!(rt; stopped_past_three(arr![1u32, 3, 9].view()).is_err());
+    Ok(())
+}
+
+#[test]
+fn what_is_done_and_undone_is_as_it_was(rt: HostRuntime) {
+    let four = [1, 2, 3, 4].as_slice();
+    let one_to_four: GenericArray<u32, U4> = arr![1, 2, 3, 4];
+    let (array, item, sum) = append_then_pop_back::<u32, U4, U5, _, _>(one_to_four, 9, sum_of);
+    assert!(rt; item == 9 && sum == 19 && array.as_slice() == four);
+    let (item, array, sum) = prepend_then_pop_front::<u32, U4, U5, _, _>(array, 8, sum_of);
+    assert!(rt; item == 8 && sum == 18 && array.as_slice() == four);
+    let (array, sum) = pop_back_then_append::<u32, U4, U3, _, _>(array, sum_of);
+    assert!(rt; sum == 6);
+    let (array, sum) = pop_front_then_prepend::<u32, U4, U3, _, _>(array, sum_of);
+    assert!(rt; sum == 9);
+    let (array, sums) = split_then_concat::<u32, U4, U2, U2, _, _>(array, |first, second| {
+        (sum_of(first), sum_of(second))
+    });
+    assert!(rt; sums == (3, 7) && array.as_slice() == four);
+    let (none, array, sum) = concat_then_split::<u32, U4, U0, U4, _, _>(arr![], array, sum_of);
+    assert!(rt; none.as_slice().is_empty() && sum == 10 && array.as_slice() == four);
+    let (array, count) = unflatten_then_flatten::<u32, U4, U2, _, _>(array, |rows| rows.len());
+    assert!(rt; count == 2 && array.as_slice() == four);
+    let rows = arr![arr![1u32, 2], arr![3, 4]];
+    let (rows, sum) = flatten_then_unflatten::<u32, U4, U2, _, _>(rows, sum_of);
+    assert!(rt; sum == 10 && rows.as_slice()[1].as_slice() == [3, 4].as_slice());
+}
+
+#[test]
+fn steps_cut_a_list_from_both_ends(rt: HostRuntime) -> Result<(), Fail> {
+    let alloc = rt.alloc();
+    let wanted = "[Item(Some(1)), Seen(2), Old(3), Item(Some(9))]";
+    let mut replies = Vec::new(alloc);
+    let steps = vec![in alloc; Step::Next, Step::Look, Step::Set(1, 9), Step::NextBack]?;
+    let left = walked_inline(one_two_three(), steps, &mut replies)?;
+    assert!(rt; left.as_slice() == [2].as_slice());
+    assert!(rt; format!(in alloc; "{replies:?}")?.as_str() == wanted);
+    let mut replies = Vec::new(alloc);
+    let steps = vec![in alloc; Step::Next, Step::Look, Step::Set(1, 9), Step::NextBack]?;
+    let left = walked_boxed(boxed_one_two_three(alloc)?, steps, &mut replies)?;
+    assert!(rt; left.as_slice() == [2].as_slice());
+    assert!(rt; format!(in alloc; "{replies:?}")?.as_str() == wanted);
+    Ok(())
+}

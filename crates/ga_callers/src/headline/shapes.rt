@@ -1,0 +1,178 @@
+//! Shapes undo each other: what is done and undone is as it was, and what stood in between is known.
+//!
+//! Each function makes a shape and undoes it, of any lengths that fit together. `see` is called with what
+//! stands in between.
+ghost use Rattle.generic_array.specs.Length.{FitsInline};
+ghost use Rattle.generic_array.specs.Rows.{rows};
+ghost use Rattle.std.specs.Fn.{FnOnceReturnsAt, FnOnceReturnsAtPair};
+ghost use Rattle.std.specs.List.{flat_map};
+ghost use Rattle.std.specs.Prelude.{◌≡◌, ◌+◌, ◌*◌, [], ◌∷◌, ◌++◌, drop, take};
+
+use generic_array::sequence::{Concat, Flatten, Lengthen, Shorten, Split, Unflatten};
+use generic_array::{ArrayLength, GenericArray, U2};
+
+/// An item appended and popped.
+pub fn append_then_pop_back<
+    T: Default + Drop,
+    N: ArrayLength<T>,
+    M: ArrayLength<T>,
+    R,
+    S: FnOnce(&[T]) -> R,
+>(array: GenericArray<T, N>, item: T, see: S) -> (GenericArray<T, N>, T, R)
+    requires one_longer { (M.USIZE ≡ N.USIZE + 1) × FitsInline M.USIZE }
+    requires callable { S.IsAlwaysCallable see }
+    ensures array { result.0 ≡ array }
+    ensures item { result.1 ≡ item }
+    ensures between { FnOnceReturnsAt S.FnOnce see (array ++ item ∷ []) result.2 }
+{
+    let longer: GenericArray<T, M> = array.append(item);
+    let seen = see(longer.as_slice());
+    let (array, item) = longer.pop_back();
+    (array, item, seen)
+}
+
+/// The last item popped and appended.
+pub fn pop_back_then_append<
+    T: Default + Drop,
+    N: ArrayLength<T>,
+    M: ArrayLength<T>,
+    R,
+    S: FnOnce(&[T]) -> R,
+>(array: GenericArray<T, N>, see: S) -> (GenericArray<T, N>, R)
+    requires one_shorter { N.USIZE ≡ M.USIZE + 1 }
+    requires callable { S.IsAlwaysCallable see }
+    ensures array { result.0 ≡ array }
+    ensures between { FnOnceReturnsAt S.FnOnce see (take M.USIZE array) result.1 }
+{
+    // The slices know the lengths.
+    let _ = array.as_slice();
+    let (others, last): (GenericArray<T, M>, T) = array.pop_back();
+    let seen = see(others.as_slice());
+    (others.append(last), seen)
+}
+
+/// An item prepended and popped.
+pub fn prepend_then_pop_front<
+    T: Default + Drop,
+    N: ArrayLength<T>,
+    M: ArrayLength<T>,
+    R,
+    S: FnOnce(&[T]) -> R,
+>(array: GenericArray<T, N>, item: T, see: S) -> (T, GenericArray<T, N>, R)
+    requires one_longer { (M.USIZE ≡ N.USIZE + 1) × FitsInline M.USIZE }
+    requires callable { S.IsAlwaysCallable see }
+    ensures item { result.0 ≡ item }
+    ensures array { result.1 ≡ array }
+    ensures between { FnOnceReturnsAt S.FnOnce see (item ∷ array) result.2 }
+{
+    let longer: GenericArray<T, M> = array.prepend(item);
+    let seen = see(longer.as_slice());
+    let (item, array) = longer.pop_front();
+    (item, array, seen)
+}
+
+/// The first item popped and prepended.
+pub fn pop_front_then_prepend<
+    T: Default + Drop,
+    N: ArrayLength<T>,
+    M: ArrayLength<T>,
+    R,
+    S: FnOnce(&[T]) -> R,
+>(array: GenericArray<T, N>, see: S) -> (GenericArray<T, N>, R)
+    requires one_shorter { N.USIZE ≡ M.USIZE + 1 }
+    requires callable { S.IsAlwaysCallable see }
+    ensures array { result.0 ≡ array }
+    ensures between { FnOnceReturnsAt S.FnOnce see (drop 1 array) result.1 }
+{
+    let _ = array.as_slice();
+    let (first, others): (T, GenericArray<T, M>) = array.pop_front();
+    let seen = see(others.as_slice());
+    (others.prepend(first), seen)
+}
+
+/// An array cut in two and joined.
+pub fn split_then_concat<
+    T: Default + Drop,
+    N: ArrayLength<T>,
+    K: ArrayLength<T>,
+    M: ArrayLength<T>,
+    R,
+    S: FnOnce(&[T], &[T]) -> R,
+>(array: GenericArray<T, N>, see: S) -> (GenericArray<T, N>, R)
+    requires sum { N.USIZE ≡ K.USIZE + M.USIZE }
+    requires callable { S.IsAlwaysCallable see }
+    ensures array { result.0 ≡ array }
+    ensures between { FnOnceReturnsAtPair S.FnOnce see (take K.USIZE array) (drop K.USIZE array) result.1 }
+{
+    let _ = array.as_slice();
+    let (first, second): (GenericArray<T, K>, GenericArray<T, M>) = array.split();
+    let seen = see(first.as_slice(), second.as_slice());
+    (first.concat(second), seen)
+}
+
+/// Two arrays joined and cut where they were joined.
+pub fn concat_then_split<
+    T: Default + Drop,
+    N: ArrayLength<T>,
+    K: ArrayLength<T>,
+    M: ArrayLength<T>,
+    R,
+    S: FnOnce(&[T]) -> R,
+>(
+    first: GenericArray<T, K>,
+    second: GenericArray<T, M>,
+    see: S,
+) -> (GenericArray<T, K>, GenericArray<T, M>, R)
+    requires sum { (N.USIZE ≡ K.USIZE + M.USIZE) × FitsInline N.USIZE }
+    requires callable { S.IsAlwaysCallable see }
+    ensures first { result.0 ≡ first }
+    ensures second { result.1 ≡ second }
+    ensures between { FnOnceReturnsAt S.FnOnce see (first ++ second) result.2 }
+{
+    // The slice knows how many items the first has.
+    let _ = first.as_slice();
+    let joined: GenericArray<T, N> = first.concat(second);
+    let seen = see(joined.as_slice());
+    let (first, second) = joined.split();
+    (first, second, seen)
+}
+
+/// An array of rows of two.
+pub type Pairs<T, R> = GenericArray<GenericArray<T, U2>, R>;
+
+/// An array cut into rows of two and joined.
+pub fn unflatten_then_flatten<
+    T: Default + Drop,
+    N: ArrayLength<T>,
+    R: ArrayLength<GenericArray<T, U2>>,
+    A,
+    S: FnOnce(&[GenericArray<T, U2>]) -> A,
+>(array: GenericArray<T, N>, see: S) -> (GenericArray<T, N>, A)
+    requires area { N.USIZE ≡ R.USIZE * 2 }
+    requires callable { S.IsAlwaysCallable see }
+    ensures array { result.0 ≡ array }
+    ensures between { FnOnceReturnsAt S.FnOnce see (rows 2 array) result.1 }
+{
+    let _ = array.as_slice();
+    let rows: Pairs<T, R> = array.unflatten();
+    let seen = see(rows.as_slice());
+    (rows.flatten(), seen)
+}
+
+/// Rows of two joined and cut again.
+pub fn flatten_then_unflatten<
+    T: Default + Drop,
+    N: ArrayLength<T>,
+    R: ArrayLength<GenericArray<T, U2>>,
+    A,
+    S: FnOnce(&[T]) -> A,
+>(rows: Pairs<T, R>, see: S) -> (Pairs<T, R>, A)
+    requires area { (N.USIZE ≡ R.USIZE * 2) × FitsInline N.USIZE }
+    requires callable { S.IsAlwaysCallable see }
+    ensures rows { result.0 ≡ rows }
+    ensures between { FnOnceReturnsAt S.FnOnce see (flat_map (λ row. row) rows) result.1 }
+{
+    let array: GenericArray<T, N> = rows.flatten();
+    let seen = see(array.as_slice());
+    (array.unflatten(), seen)
+}

@@ -1,0 +1,28 @@
+//! Every run of two-ended iterator calls gives what a list cut from both ends gives.
+ghost use Rattle.generic_array.specs.Account.{Account};
+ghost use Rattle.generic_array.specs.Entries.{CallAt, MayCallAt};
+ghost use Rattle.generic_array.specs.Steps.{MaySteps, StepGivesReply, StepsRun};
+ghost use Rattle.std.specs.Prelude.{◌≡◌, List, ◌++◌, IfOk};
+
+use generic_array::AllocError;
+use generic_array::steps::{Reply, Step, TwoEndedSequence, run_steps};
+
+/// Runs any steps over the items of a sequence, and returns the iterator over those that are left.
+///
+/// The steps and the replies are those of the list of the sequence's items. No item is lost or doubled
+/// (`Account`).
+pub fn walk<T: Drop, R, S: TwoEndedSequence<T>, G: FnMut(&[T]) -> R>(
+    s: S,
+    steps: Vec<Step<T>>,
+    look: &mut G,
+    replies: &mut Vec<Reply<T, R>>,
+) -> Result<S::TwoEnded, AllocError>
+    requires callable { MaySteps (MayCallAt (λ slice. slice.now) G.pre) (CallAt (λ slice. slice.now) G.step) (S.items s, look.old) steps.items }
+    ensures run { IfOk result (λ left. (given : List (Reply T R)) × (replies.new.items ≡ replies.old.items ++ given)
+        × StepsRun (CallAt (λ slice. slice.now) G.step) (S.items s, look.old) steps.items given (S.TwoEnded.items left, look.new)
+        × Account (S.items s) steps.items given (S.TwoEnded.items left)) }
+{
+    let mut left = s.into_two_ended();
+    run_steps(&mut left, steps, look, replies)?;
+    Ok(left)
+}
