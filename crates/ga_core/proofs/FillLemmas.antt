@@ -1,7 +1,7 @@
 -- A fill, or what is taken of an iterator, as one run of calls, and as so many calls.
 use Rattle.ga_core.specs.Fill.{Asks, FillFalliblyRuns, FillRuns, Fills, FillsFallibly, TakeGoodRuns, TakeRuns, Takes, TakesGood}
 use Rattle.ga_core.specs.Tries.{result_and_then, try_map}
-use Rattle.std.proofs.Common.{◌≡◌, ◌≢◌, ◌∙◌, ◌⊎◌, ℕ, zero, suc, ◌+◌, ◌-◌, ◌<◌, ◌≤◌, List, [], ◌∷◌, ◌++◌, length, length-append, map, ap, arith, refl, subst, sym, true, false, inl, inr, Option, None, Some, Result, Ok, Err, MatchOption}
+use Rattle.std.proofs.Common.{◌≡◌, ◌≢◌, ◌∙◌, ◌⊎◌, ℕ, zero, suc, ◌+◌, ◌-◌, ◌<◌, ◌≤◌, List, [], ◌∷◌, ◌++◌, length, length-append, map, ap, arith, refl, subst, sym, true, false, inl, inr, Option, None, Some, Result, Ok, Err, IsOkAnd, MatchOption}
 use Rattle.std.proofs.lemmas.List.{length-map}
 use Rattle.std.proofs.iter.runs.Made.{run, to_end, to_item}
 use Rattle.std.specs.Iterator.{Yields, YieldsThen}
@@ -85,8 +85,8 @@ module _ {S T E : Type 0} (next_gives : S → Option (Result T E) → S → Type
   pub TakeGoodRuns-from_takes : (P : List T → Type 0) (before : S) (room : ℕ) (good : List T) (result : Result Unit E) (after : S)
       → TakesGood next_gives before room good result after → P good → TakeGoodRuns next_gives before room result P
   TakeGoodRuns-from_takes P before room good (Ok done) after takes holds =
-      TakeRuns-from_takes next_gives (λ items. (values : List T) × P values × (items ≡ map Ok values) × (try_map (λ item. item) items ≡ Ok values)) before room (map Ok good) after takes
-      (good, holds, refl, all_good good)
+      TakeRuns-from_takes next_gives (λ items. IsOkAnd (try_map (λ item. item) items) P) before room (map Ok good) after takes
+      (subst (λ (values : Result (List T) E). IsOkAnd values P) (sym (all_good good)) holds)
   TakeGoodRuns-from_takes P before room good (Err error) after (calls, short) holds =
       (run next_gives before (map Ok good ++ Err error ∷ []) false (to_item next_gives before after (map Ok good) (Err error) calls), refl, (good, holds, refl, short))
 

@@ -2,7 +2,7 @@
 use Rattle.ga_core.specs.Tries.{try_map}
 use Rattle.std.specs.Iterator.{Yields, YieldsThen}
 use Rattle.std.specs.Iterator.Runs.{SomeRun, WholeRun}
-use Rattle.std.specs.Prelude.{◌≡◌, ◌⊎◌, ℕ, zero, suc, ◌+◌, ◌<◌, IsTrue, List, [], ◌∷◌, ◌++◌, length, map, Option, None, Some, Result, Ok, Err, MatchOption, MatchResult}
+use Rattle.std.specs.Prelude.{◌≡◌, ◌⊎◌, ℕ, zero, suc, ◌+◌, ◌<◌, IsTrue, List, [], ◌∷◌, ◌++◌, length, map, Option, None, Some, Result, Ok, Err, IsOkAnd, MatchOption, MatchResult}
 
 module _ {S T : Type 0} (next_gives : S → Option T → S → Type 0) where
   -- Calls of `next` led from before to after and gave the items taken: as many as there is room for, or all up to the end, where that
@@ -56,7 +56,7 @@ module _ {S T E : Type 0} (next_gives : S → Option (Result T E) → S → Type
   -- what `TakesGood` says, as one run of calls that gave good values of which P holds
   abbrev pub TakeGoodRuns : S → ℕ → Result Unit E → (List T → Type 0) → Type 0
   TakeGoodRuns before room result P = MatchResult result
-      (λ _. TakeRuns next_gives before room (λ items. (good : List T) × P good × (items ≡ map Ok good) × (try_map (λ item. item) items ≡ Ok good)))
+      (λ _. TakeRuns next_gives before room (λ items. IsOkAnd (try_map (λ item. item) items) P))
       (λ error. SomeRun next_gives before (λ run. (good : List T) × P good × (run.items ≡ map Ok good ++ Err error ∷ []) × (length good < room)))
 
   -- what `FillsFallibly` says, as one run of calls: the form that proofs follow along a chain of std's iterators

@@ -43,8 +43,10 @@ returns-in-None g c =
     let taken = c.loop-items.invariant.taken in
     let other : length c.loop-items.self ≢ g.N.Unsigned.USIZE = λ full. true≢false (sym (c.loop-items-test.ensures.full.1 full)) in
     let takes : TakesGood next_gives c.args.items.now room taken.0 (Ok tt) c.next.new.self =
-    inr ((c.loop-items.items, taken.2, c.in-None.ensures.steps),
-      omega (arith, length-map {B = Result g.row.T.Denot g.row.E.Denot} taken.0 Ok, ap length taken.1, length-append c.args.self.now taken.0, c.loop-items-test.ensures.bound, other)) in
+    inr (
+      (c.loop-items.items, taken.2, c.in-None.ensures.steps),
+      omega (arith, length-map {B = Result g.row.T.Denot g.row.E.Denot} taken.0 Ok, ap length taken.1, length-append c.args.self.now taken.0, c.loop-items-test.ensures.bound, other),
+    ) in
     record {
       taken = (taken.0, taken.1, takes);
       runs = TakeGoodRuns-from_takes next_gives (λ good. c.loop-items.self ≡ c.args.self.now ++ good) c.args.items.now room taken.0 (Ok tt) c.next.new.self takes taken.1;
