@@ -1,3 +1,4 @@
+pub mod BuildLemmas
 pub mod JobLemmas
 pub mod LawLemmas
 pub mod SumLemmas

@@ -16,8 +16,8 @@ use generic_array::functional::{
 };
 use generic_array::sequence::{FromFallibleIterator, GenericSequence, SequenceItem};
 use generic_array::{
-    AllocError, ArrayLength, BoxedArray, FillError, GenericArray, GenericArrayRef, U3, U4, Unsigned,
-    always,
+    AllocError, ArrayLength, BoxedArray, FillError, GenericArray, GenericArrayRef, U3, U4,
+    Unsigned, always,
 };
 use std::alloc::Global;
 use std::test::Fail;
@@ -223,7 +223,10 @@ fn digits_of_text<S: FromFallibleIterator<u8>>(
     ensures len { IfOk result (λ made. length text.now ≡ S.Length.USIZE) }
     ensures digits { IfOk result (λ made. try_map (λ digit. digit) (map (digit_of base) text.now) ≡ Ok (S.items made)) }
 {
-    S::from_fallible_iter(place, text.iter().map(|byte: &u8| digit_in(base, *byte)))
+    S::from_fallible_iter(
+        place,
+        text.iter().copied().map(|byte: u8| digit_in(base, byte)),
+    )
 }
 
 // A block that begins with a message, and is zero behind it.

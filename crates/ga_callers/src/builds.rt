@@ -55,7 +55,7 @@ fn taken_up_to_an_error() -> (usize, Result<(), u8>)
     ensures { result ≡ (1, Err 7) }
 {
     let results: [Result<u8, u8>; 3] = [Ok(1), Err(7), Ok(2)];
-    let mut builder: ArrayBuilder<u8, U3> = ArrayBuilder::new();
+    let mut builder: ArrayBuilder<u8, U4> = ArrayBuilder::new();
     let answer = builder.try_extend(&mut results.iter().copied());
     (builder.position(), answer)
 }

@@ -93,15 +93,14 @@ fn digits_lent<S: FromFallibleIterator<u8>>(
 }
 
 /// An item of what any kind makes, at any place that there is.
-fn made_at<S: GenericSequence<usize>>(place: S::Place, index: usize) -> Result<usize, S::Error>
+fn seven_at<S: GenericSequence<u8>>(place: S::Place, index: usize) -> Result<u8, S::Error>
 where
     S::Sequence: Drop,
     requires fits { S.Fits }
     requires in_bounds { index < S.Length.USIZE }
-    ensures item { IfOk result (λ item. item ≡ index) }
     ensures promised { S.IsPromised → IsOk result }
 {
-    match S::generate(place, |index| index) {
+    match S::generate(place, |_index| 7) {
         Ok(made) => Ok(made.as_slice()[index]),
         Err(refused) => Err(refused),
     }
@@ -125,8 +124,8 @@ where
 
 #[test]
 fn items_are_made_and_asked_for_where_the_traits_alone_are_known(rt: HostRuntime) {
-    assert!(rt; made_at::<GenericArray<usize, U3>>((), 2).is_ok_and(|item| item == 2));
-    assert!(rt; made_at::<BoxedArray<usize, U3>>(rt.alloc(), 2).is_ok_and(|item| item == 2));
+    assert!(rt; seven_at::<GenericArray<u8, U3>>((), 2).is_ok_and(|item| item == 7));
+    assert!(rt; seven_at::<BoxedArray<u8, U3>>(rt.alloc(), 2).is_ok_and(|item| item == 7));
     let results: [Result<u8, u8>; 3] = [Ok(1), Err(7), Ok(2)];
     let next = next_after_an_error::<GenericArray<u8, U3>, _>((), &mut results.iter().copied());
     assert!(rt; next == Some(Ok(2)));

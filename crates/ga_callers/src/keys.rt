@@ -36,9 +36,9 @@ fn sorted_keys(alloc: Global) -> Result<Vec<u8>, AllocError> {
     keys.push_reserved(GenericArray::from([0, 7]));
     keys.push_reserved(GenericArray::from([1, 9]));
     sorted_once(&mut keys);
-    let mut seconds = Vec::with_capacity(alloc, keys.len())?;
+    let mut seconds = Vec::new(alloc);
     for key in keys {
-        seconds.push_reserved(key[1]);
+        seconds.push(key[1])?;
     }
     Ok(seconds)
 }

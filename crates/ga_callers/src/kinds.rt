@@ -121,23 +121,10 @@ fn running_totals_of_view(view: GenericArrayRef<'_, u32, U3>) -> GenericArray<u3
     })
 }
 
-fn running_totals_of_boxed(
-    alloc: Global,
-    array: BoxedArray<u32, U3>,
-) -> Result<BoxedArray<u32, U3>, AllocError>
-    requires { array ≡ 1 ∷ 2 ∷ 3 ∷ [] }
-    ensures { IfOk result (λ totals. totals ≡ 1 ∷ 3 ∷ 6 ∷ []) }
-{
-    let mut total = 0u32;
-    array.map(alloc, |item: u32| {
-        total = total.wrapping_add(item);
-        total
-    })
-}
-
 // A map that stops at the entry 2, and the fold of a map.
 
-fn stopped_at_two(entry: u32) -> Result<u32, u32>
+/// The entry, or an error where it is 2.
+pub fn stopped_at_two(entry: u32) -> Result<u32, u32>
     ensures { result ≡ (if nat_eq entry 2 then Err entry else Ok entry) }
 {
     if entry == 2 { Err(entry) } else { Ok(entry) }
@@ -155,26 +142,6 @@ fn stopped_in_view(view: GenericArrayRef<'_, u32, U3>) -> Result<GenericArray<u3
     ensures { result ≡ Err 2 }
 {
     view.try_map_inline_ref(|item: &u32| stopped_at_two(*item))
-}
-
-fn stopped_in_boxed(
-    alloc: Global,
-    array: BoxedArray<u32, U3>,
-) -> Result<Result<BoxedArray<u32, U3>, u32>, AllocError>
-    requires { array ≡ 1 ∷ 2 ∷ 3 ∷ [] }
-    ensures { IfOk result (λ built. built ≡ Err 2) }
-{
-    array.try_map(alloc, stopped_at_two)
-}
-
-fn stopped_past_three(view: GenericArrayRef<'_, u32, U3>) -> Result<u32, u32>
-    requires { view.slice.now ≡ 1 ∷ 3 ∷ 9 ∷ [] }
-    ensures { result ≡ Err 4 }
-{
-    view.try_fold(0, |sum: u32, item: &u32| {
-        let sum = sum.wrapping_add(*item);
-        if sum > 3 { Err(sum) } else { Ok(sum) }
-    })
 }
 
 fn digits_of_boxed(alloc: Global, array: BoxedArray<u32, U3>) -> Result<u32, AllocError>
@@ -273,24 +240,24 @@ fn numbers_of_boxed(alloc: Global) -> Result<(u32, u32, u32, u32, u32), AllocErr
 }
 
 /// Where maps stop, and the last of running totals.
-fn numbers_of_runs(alloc: Global) -> Result<(u32, u32, u32), AllocError> {
+fn numbers_of_runs() -> (u32, u32, u32) {
     let array = one_two_three();
-    let last = running_totals_of_boxed(alloc, boxed_one_two_three(alloc)?)?.as_slice()[2];
-    let stopped = match stopped_in_boxed(alloc, boxed_one_two_three(alloc)?)? {
-        Ok(_all) => 0,
-        Err(entry) => entry,
-    };
+    let last = running_totals_of_view(array.view()).as_slice()[2];
     let seen = match stopped_in_view(array.view()) {
         Ok(_all) => 0,
         Err(entry) => entry,
     };
-    Ok((last, stopped, seen))
+    let stopped = match stopped_in_array(array) {
+        Ok(_all) => 0,
+        Err(entry) => entry,
+    };
+    (last, stopped, seen)
 }
 
 #[test]
 fn callers_get_what_their_contracts_say(rt: HostRuntime) -> Result<(), Fail> {
     assert!(rt; numbers_of_arrays() == (6, 32));
     assert!(rt; numbers_of_boxed(rt.alloc())? == (6, 32, 32, 246, 3));
-    assert!(rt; numbers_of_runs(rt.alloc())? == (6, 2, 2));
+    assert!(rt; numbers_of_runs() == (6, 2, 2));
     Ok(())
 }

@@ -26,13 +26,10 @@ pub fn zips_join<
 {}
 
 /// Runs of `try_map`: those with no error, and those to an error, which make no call after it.
-pub fn try_maps_join<
-    T,
-    U,
-    E,
-    S: GenericSequence<T>,
-    F: FnMut(SequenceItem<S>) -> Result<U, E>,
->(_s: &S, _f: &F)
+pub fn try_maps_join<T, U, E, S: GenericSequence<T>, F: FnMut(SequenceItem<S>) -> Result<U, E>>(
+    _s: &S,
+    _f: &F,
+)
     ensures good { GoodRunsJoin (CallAt S.entry F.step) }
     ensures error { ErrorRunsJoin (CallAt S.entry F.step) }
 {}
@@ -43,13 +40,10 @@ pub fn folds_join<T, A, S: GenericSequence<T>, F: FnMut(A, SequenceItem<S>) -> A
 {}
 
 /// Runs of `try_fold`: those with no error, and those to an error.
-pub fn try_folds_join<
-    T,
-    A,
-    E,
-    S: GenericSequence<T>,
-    F: FnMut(A, SequenceItem<S>) -> Result<A, E>,
->(_s: &S, _f: &F)
+pub fn try_folds_join<T, A, E, S: GenericSequence<T>, F: FnMut(A, SequenceItem<S>) -> Result<A, E>>(
+    _s: &S,
+    _f: &F,
+)
     ensures good { GoodFoldsJoin (FoldAt S.entry F.step) }
     ensures error { FoldsToErrorJoin (FoldAt S.entry F.step) }
 {}

@@ -1,16 +1,18 @@
 //! The headline at each kind of sequence that has it, with exact results.
 ghost use Rattle.generic_array.specs.declared.steps.step.Reply.TheVariants.{Item, Old, Seen};
 ghost use Rattle.generic_array.specs.declared.steps.step.Step.TheVariants.{Look, Next, NextBack, Set};
-ghost use Rattle.std.specs.Prelude.{◌≡◌, ◌≢◌, [], ◌∷◌, ◌++◌, Err, IfOk, IsErr, Ok, OnOk, Some, length};
+ghost use Rattle.std.specs.Prelude.{◌≡◌, ◌≢◌, ◌+◌, ◌%◌, ◌^◌, [], ◌∷◌, ◌++◌, Err, IfOk, IsErr, Ok, OnOk, Some, if◌then◌else◌, length, nat_lt};
 
 use super::builds::build;
 use super::calls::{fold, map, try_fold, try_map, zip};
+use super::joined_runs::{folds_join, maps_join, try_folds_join, try_maps_join, zips_join};
 use super::shapes::{
     append_then_pop_back, concat_then_split, flatten_then_unflatten, pop_back_then_append,
     pop_front_then_prepend, prepend_then_pop_front, split_then_concat, unflatten_then_flatten,
 };
 use super::steps::walk;
-use crate::kinds::{boxed_one_two_three, four_five_six, one_two_three};
+use crate::kinds::{boxed_one_two_three, four_five_six, one_two_three, stopped_at_two};
+use generic_array::sequence::{GenericSequence, SequenceItem};
 use generic_array::steps::{Reply, Step};
 use generic_array::{
     AllocError, BoxedArray, BoxedArrayIter, FillError, GenericArray, GenericArrayIter,
@@ -104,9 +106,34 @@ fn sums_of_boxed_and_view(
     requires right { right.slice.now ≡ 4 ∷ 5 ∷ 6 ∷ [] }
     ensures { IfOk result (λ sums. sums ≡ 5 ∷ 7 ∷ 9 ∷ []) }
 {
-    zip(left, alloc, right, &mut |l: u32, r: &u32| {
-        l.wrapping_add(*r)
-    })
+    zip(
+        left,
+        alloc,
+        right,
+        &mut |l: u32, r: &u32| { l.wrapping_add(*r) },
+    )
+}
+
+fn sums_of_inline_and_boxed(
+    left: GenericArray<u32, U3>,
+    right: BoxedArray<u32, U3>,
+) -> GenericArray<u32, U3>
+    requires left { left ≡ 4 ∷ 5 ∷ 6 ∷ [] }
+    requires right { right ≡ 1 ∷ 2 ∷ 3 ∷ [] }
+    ensures { result ≡ 5 ∷ 7 ∷ 9 ∷ [] }
+{
+    always(zip(left, (), right, &mut |l: u32, r: u32| l.wrapping_add(r)))
+}
+
+fn sums_of_view_and_inline(
+    left: GenericArrayRef<'_, u32, U3>,
+    right: GenericArray<u32, U3>,
+) -> GenericArray<u32, U3>
+    requires left { left.slice.now ≡ 1 ∷ 2 ∷ 3 ∷ [] }
+    requires right { right ≡ 4 ∷ 5 ∷ 6 ∷ [] }
+    ensures { result ≡ 5 ∷ 7 ∷ 9 ∷ [] }
+{
+    always(zip(left, (), right, &mut |l: &u32, r: u32| l.wrapping_add(r)))
 }
 
 fn sum_of_inline(array: GenericArray<u32, U3>) -> u32
@@ -116,15 +143,18 @@ fn sum_of_inline(array: GenericArray<u32, U3>) -> u32
     fold(array, 0, &mut |sum: u32, item: u32| sum.wrapping_add(item))
 }
 
+fn sum_of_view(view: GenericArrayRef<'_, u32, U3>) -> u32
+    requires { view.slice.now ≡ 1 ∷ 2 ∷ 3 ∷ [] }
+    ensures { result ≡ 6 }
+{
+    fold(view, 0, &mut |sum: u32, item: &u32| sum.wrapping_add(*item))
+}
+
 fn sum_of_boxed(array: BoxedArray<u32, U3>) -> u32
     requires { array ≡ 1 ∷ 2 ∷ 3 ∷ [] }
     ensures { result ≡ 6 }
 {
     fold(array, 0, &mut |sum: u32, item: u32| sum.wrapping_add(item))
-}
-
-fn stopped_at_two(item: u32) -> Result<u32, u32> {
-    if item == 2 { Err(item) } else { Ok(item) }
 }
 
 fn stopped_in_inline(array: GenericArray<u32, U3>) -> Result<GenericArray<u32, U3>, u32>
@@ -144,14 +174,63 @@ fn stopped_in_boxed(
     try_map(array, alloc, &mut stopped_at_two)
 }
 
-fn stopped_past_three(view: GenericArrayRef<'_, u32, U3>) -> Result<u32, u32>
+fn stopped_in_view(view: GenericArrayRef<'_, u32, U3>) -> Result<GenericArray<u32, U3>, u32>
+    requires { view.slice.now ≡ 1 ∷ 2 ∷ 3 ∷ [] }
+    ensures { result ≡ Err 2 }
+{
+    always(try_map(view, (), &mut |item: &u32| stopped_at_two(*item)))
+}
+
+/// The sum, or an error where it is above 3.
+fn up_to_three(sum: u32, item: u32) -> Result<u32, u32>
+    ensures { result ≡ (if nat_lt 3 ((sum + item) % 2 ^ 32) then Err ((sum + item) % 2 ^ 32) else Ok ((sum + item) % 2 ^ 32)) }
+{
+    let sum = sum.wrapping_add(item);
+    if sum > 3 { Err(sum) } else { Ok(sum) }
+}
+
+fn stopped_past_three(array: GenericArray<u32, U3>) -> Result<u32, u32>
+    requires { array ≡ 1 ∷ 3 ∷ 9 ∷ [] }
+    ensures { result ≡ Err 4 }
+{
+    try_fold(array, 0, &mut up_to_three)
+}
+
+fn stopped_past_three_in_view(view: GenericArrayRef<'_, u32, U3>) -> Result<u32, u32>
     requires { view.slice.now ≡ 1 ∷ 3 ∷ 9 ∷ [] }
     ensures { result ≡ Err 4 }
 {
-    try_fold(view, 0, &mut |sum: u32, item: &u32| {
-        let sum = sum.wrapping_add(*item);
-        if sum > 3 { Err(sum) } else { Ok(sum) }
-    })
+    try_fold(view, 0, &mut |sum: u32, item: &u32| up_to_three(sum, *item))
+}
+
+fn stopped_past_three_in_boxed(array: BoxedArray<u32, U3>) -> Result<u32, u32>
+    requires { array ≡ 1 ∷ 3 ∷ 9 ∷ [] }
+    ensures { result ≡ Err 4 }
+{
+    try_fold(array, 0, &mut up_to_three)
+}
+
+// Joined runs, at any kind.
+
+fn runs_join<S: GenericSequence<u32>>(s: &S)
+where
+    SequenceItem<S>: Drop,
+{
+    maps_join::<u32, u32, S, _>(s, &|_item: SequenceItem<S>| 0u32);
+    zips_join::<u32, u32, u32, S, S, _>(
+        s,
+        s,
+        &|_item: SequenceItem<S>, _other: SequenceItem<S>| 0u32,
+    );
+    try_maps_join::<u32, u32, u32, S, _>(
+        s,
+        &|_item: SequenceItem<S>| -> Result<u32, u32> { Ok(0) },
+    );
+    folds_join::<u32, u32, S, _>(s, &|sum: u32, _item: SequenceItem<S>| sum);
+    try_folds_join::<u32, u32, u32, S, _>(
+        s,
+        &|sum: u32, _item: SequenceItem<S>| -> Result<u32, u32> { Ok(sum) },
+    );
 }
 
 // Steps.
@@ -200,26 +279,58 @@ fn builds_want_just_their_number(rt: HostRuntime) -> Result<(), Fail> {
     assert!(rt; inline_of(vec![in alloc; 1, 2, 3]?).is_ok_and(|array| array.as_slice() == three));
     assert!(rt; inline_of_others(vec![in alloc; 1, 2]?).is_err());
     assert!(rt; inline_of_others(vec![in alloc; 1, 2, 3, 4]?).is_err());
-    assert!(rt; boxed_of(alloc, vec![in alloc; 1, 2, 3]?).is_ok_and(|array| array.as_slice() == three));
+    assert!(rt;
+        boxed_of(alloc, vec![in alloc; 1, 2, 3]?).is_ok_and(|array| array.as_slice() == three)
+    );
     Ok(())
 }
 
 #[test]
-fn calls_run_in_order_and_stop_at_the_first_error(rt: HostRuntime) -> Result<(), Fail> {
+fn calls_run_in_order(rt: HostRuntime) -> Result<(), Fail> {
     let alloc = rt.alloc();
     let array = one_two_three();
     let totals = [1, 3, 6].as_slice();
     assert!(rt; totals_of_inline(one_two_three()).as_slice() == totals);
     assert!(rt; totals_of_view(array.view()).as_slice() == totals);
     assert!(rt; totals_of_boxed(alloc, boxed_one_two_three(alloc)?)?.as_slice() == totals);
+    let sums = [5, 7, 9].as_slice();
     let right = four_five_six();
-    let sums = sums_of_boxed_and_view(alloc, boxed_one_two_three(alloc)?, right.view())?;
-    assert!(rt; sums.as_slice() == [5, 7, 9].as_slice());
-    assert!(rt; sum_of_inline(one_two_three()) == 6);
+    let boxed = boxed_one_two_three(alloc)?;
+    assert!(rt; sums_of_boxed_and_view(alloc, boxed, right.view())?.as_slice() == sums);
+    let boxed = boxed_one_two_three(alloc)?;
+    assert!(rt; sums_of_inline_and_boxed(four_five_six(), boxed).as_slice() == sums);
+    assert!(rt; sums_of_view_and_inline(array.view(), right).as_slice() == sums);
+    assert!(rt; sum_of_inline(one_two_three()) == 6 && sum_of_view(array.view()) == 6);
     assert!(rt; sum_of_boxed(boxed_one_two_three(alloc)?) == 6);
-    assert!(rt; stopped_in_inline(one_two_three()).is_err());
-    assert!(rt; stopped_in_boxed(alloc, boxed_one_two_three(alloc)?)?.is_err());
-    assert!(rt; stopped_past_three(arr![1u32, 3, 9].view()).is_err());
+    Ok(())
+}
+
+#[test]
+fn calls_stop_at_the_first_error(rt: HostRuntime) -> Result<(), Fail> {
+    let alloc = rt.alloc();
+    let array = one_two_three();
+    assert!(rt; matches!(stopped_in_view(array.view()), Err(2)));
+    assert!(rt; matches!(stopped_in_inline(array), Err(2)));
+    assert!(rt;
+        matches!(
+            stopped_in_boxed(alloc, boxed_one_two_three(alloc)?)?,
+            Err(2)
+        )
+    );
+    let array = arr![1u32, 3, 9];
+    assert!(rt; matches!(stopped_past_three_in_view(array.view()), Err(4)));
+    assert!(rt; matches!(stopped_past_three(array), Err(4)));
+    let boxed = BoxedArray::from_array(alloc, [1u32, 3, 9])?;
+    assert!(rt; matches!(stopped_past_three_in_boxed(boxed), Err(4)));
+    Ok(())
+}
+
+#[test]
+fn runs_join_at_each_kind(rt: HostRuntime) -> Result<(), Fail> {
+    let array = one_two_three();
+    runs_join(&array);
+    runs_join(&array.view());
+    runs_join(&boxed_one_two_three(rt.alloc())?);
     Ok(())
 }
 
@@ -241,11 +352,12 @@ fn what_is_done_and_undone_is_as_it_was(rt: HostRuntime) {
     assert!(rt; sums == (3, 7) && array.as_slice() == four);
     let (none, array, sum) = concat_then_split::<u32, U4, U0, U4, _, _>(arr![], array, sum_of);
     assert!(rt; none.as_slice().is_empty() && sum == 10 && array.as_slice() == four);
-    let (array, count) = unflatten_then_flatten::<u32, U4, U2, _, _>(array, |rows| rows.len());
-    assert!(rt; count == 2 && array.as_slice() == four);
-    let rows = arr![arr![1u32, 2], arr![3, 4]];
-    let (rows, sum) = flatten_then_unflatten::<u32, U4, U2, _, _>(rows, sum_of);
-    assert!(rt; sum == 10 && rows.as_slice()[1].as_slice() == [3, 4].as_slice());
+    let bytes: GenericArray<u8, U4> = arr![1, 2, 3, 4];
+    let (bytes, count) = unflatten_then_flatten::<U4, U2, _, _>(bytes, |rows| rows.len());
+    assert!(rt; count == 2 && bytes.as_slice() == [1, 2, 3, 4].as_slice());
+    let rows = arr![arr![1u8, 2], arr![3, 4]];
+    let (rows, count) = flatten_then_unflatten::<U4, U2, _, _>(rows, |items| items.len());
+    assert!(rt; count == 4 && rows.as_slice()[1].as_slice() == [3, 4].as_slice());
 }
 
 #[test]

@@ -137,42 +137,40 @@ pub fn concat_then_split<
     (first, second, seen)
 }
 
-/// An array of rows of two.
-pub type Pairs<T, R> = GenericArray<GenericArray<T, U2>, R>;
+/// An array of rows of two bytes. A row of a type that is a parameter can't be named in a bound.
+pub type Pairs<R> = GenericArray<GenericArray<u8, U2>, R>;
 
-/// An array cut into rows of two and joined.
+/// An array cut into rows and joined.
 pub fn unflatten_then_flatten<
-    T: Default + Drop,
-    N: ArrayLength<T>,
-    R: ArrayLength<GenericArray<T, U2>>,
+    N: ArrayLength<u8>,
+    R: ArrayLength<GenericArray<u8, U2>>,
     A,
-    S: FnOnce(&[GenericArray<T, U2>]) -> A,
->(array: GenericArray<T, N>, see: S) -> (GenericArray<T, N>, A)
+    S: FnOnce(&[GenericArray<u8, U2>]) -> A,
+>(array: GenericArray<u8, N>, see: S) -> (GenericArray<u8, N>, A)
     requires area { N.USIZE ≡ R.USIZE * 2 }
     requires callable { S.IsAlwaysCallable see }
     ensures array { result.0 ≡ array }
     ensures between { FnOnceReturnsAt S.FnOnce see (rows 2 array) result.1 }
 {
     let _ = array.as_slice();
-    let rows: Pairs<T, R> = array.unflatten();
+    let rows: Pairs<R> = array.unflatten();
     let seen = see(rows.as_slice());
     (rows.flatten(), seen)
 }
 
-/// Rows of two joined and cut again.
+/// Rows joined and cut again.
 pub fn flatten_then_unflatten<
-    T: Default + Drop,
-    N: ArrayLength<T>,
-    R: ArrayLength<GenericArray<T, U2>>,
+    N: ArrayLength<u8>,
+    R: ArrayLength<GenericArray<u8, U2>>,
     A,
-    S: FnOnce(&[T]) -> A,
->(rows: Pairs<T, R>, see: S) -> (Pairs<T, R>, A)
+    S: FnOnce(&[u8]) -> A,
+>(rows: Pairs<R>, see: S) -> (Pairs<R>, A)
     requires area { (N.USIZE ≡ R.USIZE * 2) × FitsInline N.USIZE }
     requires callable { S.IsAlwaysCallable see }
     ensures rows { result.0 ≡ rows }
     ensures between { FnOnceReturnsAt S.FnOnce see (flat_map (λ row. row) rows) result.1 }
 {
-    let array: GenericArray<T, N> = rows.flatten();
+    let array: GenericArray<u8, N> = rows.flatten();
     let seen = see(array.as_slice());
     (array.unflatten(), seen)
 }

@@ -1,8 +1,9 @@
 use Rattle.ga_callers.proofs.LawLemmas.{FirstErrorRun-joined, FirstErrorRun-joined_error}
 use Rattle.ga_callers.proofs.headline.joined_runs.try_maps_join.Goals as goal
+use Rattle.generic_array.specs.Entries.{CallAt}
 
 pub returns-clause-good : goal.returns-clause-good
-returns-clause-good g c = FirstErrorRun-joined _
+returns-clause-good g c = FirstErrorRun-joined (CallAt g.S.GenericSequence.entry (goal.F-step g))
 
 pub returns-clause-error : goal.returns-clause-error
-returns-clause-error g c = FirstErrorRun-joined_error _
+returns-clause-error g c = FirstErrorRun-joined_error (CallAt g.S.GenericSequence.entry (goal.F-step g))
