@@ -1,4 +1,4 @@
-//! The boxed array, and what it lends.
+//! The boxed array, and what can be borrowed of it.
 ghost use Rattle.ga_core.specs.Iteration.{IteratesMutOver, IteratesOver};
 ghost use Rattle.std.specs.Borrow.{sem};
 ghost use Rattle.std.specs.Iterator.{YieldsFirst, YieldsLast};
@@ -16,11 +16,11 @@ use ga_core::{GenericArrayRef, Unsigned};
 use std::marker::{Model, PhantomData};
 use std::slice;
 
-/// An array of exactly `N` items of `T`, kept in one block of memory. Contracts see it as the list
-/// of its items.
+/// An array of exactly `N` items of `T`, in one block of memory. Contracts see it as the list of
+/// its items.
 ///
-/// Stands for `Box<GenericArray<T, N>>`. The elements need no `Default`, and the length has no
-/// bound of its own.
+/// The counterpart of `Box<GenericArray<T, N>>`. The items need no `Default`, and the length has
+/// no bound of its own.
 #[derive(Drop)]
 pub struct BoxedArray<T, N: Unsigned> {
     items: LiveBlock<T>,
@@ -51,7 +51,7 @@ impl<T, N: Unsigned> BoxedArray<T, N> {
         }
     }
 
-    /// All items, in order. Constant time.
+    /// All items, in order. O(1).
     #[inline]
     pub fn as_slice(&self) -> &[T]
         ensures items { result.now ≡ self.now }
@@ -60,7 +60,7 @@ impl<T, N: Unsigned> BoxedArray<T, N> {
         self.items.as_slice()
     }
 
-    /// All items, in order, for writing. Constant time.
+    /// All items, in order, for writing. O(1).
     #[inline]
     pub fn as_mut_slice(&mut self) -> &mut [T]
         ensures* writes_back { sem 𝓛 (LendsItems T.row N.row N.Unsigned self.entry result) }

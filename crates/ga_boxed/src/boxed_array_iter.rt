@@ -37,7 +37,7 @@ impl<T> BoxedArrayIter<T> {
         BoxedArrayIter { items }
     }
 
-    /// The number of items that are left. Constant time.
+    /// The number of items that are left. O(1).
     #[inline]
     pub fn len(&self) -> usize
         ensures { result ≡ length self.now }
@@ -45,7 +45,7 @@ impl<T> BoxedArrayIter<T> {
         self.items.len()
     }
 
-    /// The items that are left, in order. Constant time.
+    /// The items that are left, in order. O(1).
     #[inline]
     pub fn as_slice(&self) -> &[T]
         ensures { result.now ≡ self.now }
@@ -53,7 +53,7 @@ impl<T> BoxedArrayIter<T> {
         self.items.as_slice()
     }
 
-    /// The items that are left, in order, for writing. Constant time.
+    /// The items that are left, in order, for writing. O(1).
     #[inline]
     pub fn as_mut_slice(&mut self) -> &mut [T]
         ensures* writes_back { sem 𝓛 (LendsLeft T.row self.entry result) }
@@ -79,7 +79,7 @@ impl<T: Drop> Iterator for BoxedArrayIter<T> {
 
     ghost remaining = { item_count (λ left. left) };
 
-    /// Takes the first item that is left. Constant time.
+    /// Takes the first item that is left. O(1).
     #[inline]
     fn next(&mut self) -> Option<T> {
         self.items.take_front()
@@ -96,7 +96,7 @@ impl<T: Drop> Iterator for BoxedArrayIter<T> {
 impl<T: Drop> DoubleEndedIterator for BoxedArrayIter<T> {
     ghost next_back_gives = { YieldsLast (λ left. left) };
 
-    /// Takes the last item that is left. Constant time.
+    /// Takes the last item that is left. O(1).
     #[inline]
     fn next_back(&mut self) -> Option<T> {
         self.items.take_back()
@@ -104,10 +104,8 @@ impl<T: Drop> DoubleEndedIterator for BoxedArrayIter<T> {
 }
 
 impl<T: Drop> BoxedArrayIter<T> {
-    /// Drops `n` items from the front, or as many as are left, and takes the next.
-    ///
-    /// So all are consumed, and `None` is answered, where `n` is at or beyond their number. Takes time
-    /// in proportion to the items dropped.
+    /// Drops `n` items and returns the next one. If at most `n` items are left, drops them all and
+    /// returns `None`. O(n).
     pub fn nth(&mut self, n: usize) -> Option<T>
         ensures step { StepGives (front n) self.old result self.new }
     {
@@ -127,10 +125,8 @@ impl<T: Drop> BoxedArrayIter<T> {
         let _ = self.items.take_first();
     }
 
-    /// Drops `n` items from the back, or as many as are left, and takes the last of those before.
-    ///
-    /// So all are consumed, and `None` is answered, where `n` is at or beyond their number. Takes time
-    /// in proportion to the items dropped.
+    /// Drops `n` items from the back and returns the one before them. If at most `n` items are
+    /// left, drops them all and returns `None`. O(n).
     pub fn nth_back(&mut self, n: usize) -> Option<T>
         ensures step { StepGives (back n) self.old result self.new }
     {
@@ -165,18 +161,17 @@ impl<T: Drop> BoxedArrayIter<T> {
         items.len()
     }
 
-    /// Calls `f` with what it answered last, at first `init`, and each item that is left, from the
-    /// front, and gives its last answer. One pass.
-    pub fn fold<A, F: FnMut(A, T) -> A>(self, init: A, f: F) -> A
+    /// Folds the items that are left into one value, from the front, starting from `init`. One
+    /// pass.
+    pub fn fold<A, F: FnMut(A, T) -> A>(self, init: A, mut f: F) -> A
         requires callable { CallableInFold F.pre F.step f init self }
         ensures run { (last : F) × FoldRun F.step f init self result last }
         ensures acts { (h : A → T → A) → ActsAsOnTwo F.FnMut f h → result ≡ fold h init self }
     {
-        let mut f = f;
         self.fold_by(init, &mut f)
     }
 
-    /// `fold` with a closure that is lent, and can be used again in the state that it reached. One
+    /// `fold` that borrows the closure, which can be used again in the state that it reached. One
     /// pass.
     pub fn fold_by<A, F: FnMut(A, T) -> A>(self, init: A, f: &mut F) -> A
         requires callable { CallableInFold F.pre F.step f.old init self }
@@ -192,16 +187,15 @@ impl<T: Drop> BoxedArrayIter<T> {
     }
 
     /// `fold` from the back. One pass.
-    pub fn rfold<A, F: FnMut(A, T) -> A>(self, init: A, f: F) -> A
+    pub fn rfold<A, F: FnMut(A, T) -> A>(self, init: A, mut f: F) -> A
         requires callable { CallableInFold F.pre F.step f init (reverse self) }
         ensures run { (last : F) × FoldRun F.step f init (reverse self) result last }
         ensures acts { (h : A → T → A) → ActsAsOnTwo F.FnMut f h → result ≡ fold h init (reverse self) }
     {
-        let mut f = f;
         self.rfold_by(init, &mut f)
     }
 
-    /// `rfold` with a closure that is lent, and can be used again in the state that it reached. One
+    /// `rfold` that borrows the closure, which can be used again in the state that it reached. One
     /// pass.
     pub fn rfold_by<A, F: FnMut(A, T) -> A>(self, init: A, f: &mut F) -> A
         requires callable { CallableInFold F.pre F.step f.old init (reverse self) }
@@ -218,10 +212,11 @@ impl<T: Drop> BoxedArrayIter<T> {
 }
 
 impl<T: Clone> BoxedArrayIter<T> {
-    /// An iterator over clones of the items that are left, made in order, in a block of their number.
+    /// An iterator over clones of the items that are left, made in order, in a block of their
+    /// number.
     ///
-    /// Asks for the block first. Refused where that or a clone is, so never where no item is left;
-    /// the clones made are then dropped.
+    /// Allocates the block first, and none if no item is left. If a clone fails, drops those made
+    /// before it and returns the error.
     pub fn clone(&self) -> Result<Self, AllocError>
         ensures items { IfOk result (λ copy. AllZip T.is_clone self.now copy) }
         ensures empty { length self.now ≡ 0 → IsOk result }

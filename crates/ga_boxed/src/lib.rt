@@ -1,7 +1,8 @@
-//! Arrays whose length is a type, kept in a block of memory of their own.
+//! Arrays whose length is a type, in a block of memory of their own.
 //!
-//! `BoxedArray<T, N>` is seen by contracts as the list of its items, which are exactly `N`. The
-//! length and the element type have no bound of their own.
+//! Contracts see a `BoxedArray<T, N>` as the list of its items, which are exactly `N`. The items need no
+//! `Default`, and the length has no bound of its own. Builds allocate the whole block first, and return
+//! `AllocError` if that fails. `BoxedArrayIter` takes the items from both ends of the block.
 #![tactic(auto)]
 
 mod boxed_array;

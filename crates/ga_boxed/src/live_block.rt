@@ -49,11 +49,11 @@ impl<T> Model for LiveBlock<T> {
 impl<T> LiveBlock<T> {
     ghost use Rattle.ga_boxed.specs.BlockLends.{LendsLive};
 
-    /// A block for `size` items that holds none. Refused where memory is, or where a block can't have
-    /// so many bytes; no memory is asked for where `size` is 0.
+    /// A block for `size` items that holds none. Fails if memory is short, or if a block can't
+    /// have so many bytes. Allocates nothing if `size` is 0.
     pub fn new(alloc: Global, size: usize) -> Result<Self, AllocError>
         ensures block { IfOk result (λ block. block ≡ live [] size) }
-        ensures none { size ≡ 0 → IsOk result }
+        ensures empty { size ≡ 0 → IsOk result }
     {
         if !fits::<T>(size) {
             return Err(AllocError);
@@ -70,7 +70,7 @@ impl<T> LiveBlock<T> {
         })
     }
 
-    /// How many items can still be put. Constant time.
+    /// How many items can still be put. O(1).
     #[inline]
     pub fn room(&self) -> usize
         ensures { result ≡ self.now.room }
@@ -78,7 +78,7 @@ impl<T> LiveBlock<T> {
         self.size - self.end
     }
 
-    /// The number of items. Constant time.
+    /// The number of items. O(1).
     #[inline]
     pub fn len(&self) -> usize
         ensures { result ≡ length self.now.items }
@@ -86,7 +86,7 @@ impl<T> LiveBlock<T> {
         self.end - self.start
     }
 
-    /// The allocator that the block is given back to.
+    /// The allocator that the block came from.
     #[inline]
     pub(crate) fn allocator(&self) -> Global {
         self.alloc
@@ -104,7 +104,7 @@ impl<T> LiveBlock<T> {
         self.cells.put(self.base, end, item);
     }
 
-    /// Takes the first item, of which there is one. Its place gives no room.
+    /// Takes the first item. Requires that there is one. Its slot isn't used again.
     #[inline]
     pub(crate) fn take_first(&mut self) -> T
         requires some { self.old.items ≢ [] }
@@ -116,7 +116,7 @@ impl<T> LiveBlock<T> {
         self.cells.take_first(self.base, first)
     }
 
-    /// Takes the first item. Its place gives no room.
+    /// Takes the first item. Its slot isn't used again.
     #[inline]
     pub fn take_front(&mut self) -> Option<T>
         ensures { MatchOption result
@@ -129,7 +129,7 @@ impl<T> LiveBlock<T> {
         Some(self.take_first())
     }
 
-    /// Takes the last item, of which there is one. Its place gives room for another.
+    /// Takes the last item. Requires that there is one. Its slot is room for another.
     #[inline]
     pub(crate) fn take_last(&mut self) -> T
         requires some { self.old.items ≢ [] }
@@ -141,7 +141,7 @@ impl<T> LiveBlock<T> {
         self.cells.take_last(self.base, last)
     }
 
-    /// Takes the last item. Its place gives room for another.
+    /// Takes the last item. Its slot is room for another.
     #[inline]
     pub fn take_back(&mut self) -> Option<T>
         ensures { MatchOption result
@@ -154,7 +154,7 @@ impl<T> LiveBlock<T> {
         Some(self.take_last())
     }
 
-    /// The items, in order. Constant time.
+    /// The items, in order. O(1).
     #[inline]
     pub fn as_slice(&self) -> &[T]
         ensures { result.now ≡ self.now.items }
@@ -163,7 +163,7 @@ impl<T> LiveBlock<T> {
             .slice(self.base, self.start, self.end - self.start)
     }
 
-    /// The items, in order, for writing. Constant time.
+    /// The items, in order, for writing. O(1).
     #[inline]
     pub fn as_mut_slice(&mut self) -> &mut [T]
         ensures* writes_back { sem 𝓛 (LendsLive T.row self.entry result) }
@@ -173,8 +173,8 @@ impl<T> LiveBlock<T> {
         self.cells.slice_mut(base, start, len)
     }
 
-    /// A block of the items of a native array, which are moved in one piece. Where memory is refused,
-    /// they are dropped.
+    /// A block of the items of a native array, which are moved in one piece. If the allocation
+    /// fails, drops them.
     pub(crate) fn of_native<const U: usize>(
         alloc: Global,
         items: [T; U],
@@ -182,7 +182,7 @@ impl<T> LiveBlock<T> {
     where
         T: Drop,
         ensures items { IfOk result (λ block. block ≡ live items 0) }
-        ensures none { U ≡ 0 → IsOk result }
+        ensures empty { U ≡ 0 → IsOk result }
     {
         if !fits::<T>(U) {
             return Err(AllocError);
@@ -203,7 +203,7 @@ impl<T> LiveBlock<T> {
         })
     }
 
-    /// Gives the block back.
+    /// Deallocates the block.
     fn give_back(self)
         requires empty { self.items ≡ [] }
     {
@@ -220,7 +220,7 @@ impl<T> LiveBlock<T> {
     }
 }
 
-/// Drops the items from the front, and gives the block back.
+/// Drops the items from the front, and deallocates the block.
 impl<T: Drop> Drop for LiveBlock<T> {
     fn drop(mut self) {
         while let Some(_item) = self.take_front() {}

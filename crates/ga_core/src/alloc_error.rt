@@ -1,11 +1,11 @@
-//! The error of refused memory.
+//! The error of a failed allocation.
 ghost use Rattle.std.specs.Prelude.{Some, codes};
 
 use std::alloc::{self, AllocFailed};
 use std::error::Error;
 use std::fmt;
 
-/// Memory was refused, or the clone of an item was.
+/// An allocation failed, or the clone of an item.
 #[derive(Clone, Copy, Debug, PartialEq, Eq)]
 pub struct AllocError;
 
@@ -32,7 +32,7 @@ impl<T: Drop> From<AllocFailed<T>> for AllocError {
     }
 }
 
-/// So that `?` hands it on in a function that answers std's error.
+/// So that `?` converts it in a function that returns std's error.
 impl From<AllocError> for alloc::AllocError {
     fn from(_refused: AllocError) -> alloc::AllocError {
         alloc::AllocError

@@ -1,4 +1,4 @@
-//! The inline array, and what it lends.
+//! The inline array, and what can be borrowed of it.
 ghost use Rattle.ga_views.specs.Iteration.{IteratesMutOver, IteratesOver};
 ghost use Rattle.ga_views.specs.Length.{FitsInline};
 ghost use Rattle.std.specs.Borrow.{sem};
@@ -82,7 +82,7 @@ impl<T, N: ArrayLength<T>> GenericArray<T, N> {
         Self::len() <= MAX_INLINE
     }
 
-    /// All items, in order. Constant time.
+    /// All items, in order. O(1).
     #[inline]
     pub fn as_slice(&self) -> &[T]
         ensures items { result.now ≡ self.now }
@@ -93,7 +93,7 @@ impl<T, N: ArrayLength<T>> GenericArray<T, N> {
         &self.store.as_slice()[..N::USIZE]
     }
 
-    /// All items, in order, for writing. Constant time.
+    /// All items, in order, for writing. O(1).
     #[inline]
     pub fn as_mut_slice(&mut self) -> &mut [T]
         ensures* writes_back { sem 𝓛 (LendsItems T.row N.row N.ArrayType.row N.Unsigned N.ArrayType.Store self.entry result) }

@@ -56,7 +56,7 @@ impl<T, N: ArrayLength<T>> GenericArrayIter<T, N> {
         }
     }
 
-    /// The number of items that are left. Constant time.
+    /// The number of items that are left. O(1).
     #[inline]
     pub fn len(&self) -> usize
         ensures { result ≡ length self.now }
@@ -64,7 +64,7 @@ impl<T, N: ArrayLength<T>> GenericArrayIter<T, N> {
         self.back - self.front
     }
 
-    /// The items that are left, in order. Constant time.
+    /// The items that are left, in order. O(1).
     #[inline]
     pub fn as_slice(&self) -> &[T]
         ensures items { result.now ≡ self.now }
@@ -91,7 +91,7 @@ impl<T: Default + Drop, N: ArrayLength<T>> Iterator for GenericArrayIter<T, N> {
 
     ghost remaining = { item_count (λ left. left) };
 
-    /// Takes the first item that is left. Constant time.
+    /// Takes the first item that is left. O(1).
     #[inline]
     fn next(&mut self) -> Option<T> {
         let first = self.front;
@@ -113,7 +113,7 @@ impl<T: Default + Drop, N: ArrayLength<T>> Iterator for GenericArrayIter<T, N> {
 impl<T: Default + Drop, N: ArrayLength<T>> DoubleEndedIterator for GenericArrayIter<T, N> {
     ghost next_back_gives = { YieldsLast (λ left. left) };
 
-    /// Takes the last item that is left. Constant time.
+    /// Takes the last item that is left. O(1).
     #[inline]
     fn next_back(&mut self) -> Option<T> {
         if self.front == self.back {
@@ -130,8 +130,8 @@ impl<T: Default + Drop, N: ArrayLength<T>> GenericArrayIter<T, N> {
 
     /// The items that are left, in order, for writing.
     ///
-    /// Constant time where no item was taken from the front since the last such call; else the
-    /// places of those that were are first moved behind the items that are left, and given up.
+    /// O(1) if no item was taken from the front since the last such call; else moves the items
+    /// that are left to the front of the store first.
     pub fn as_mut_slice(&mut self) -> &mut [T]
         ensures* writes_back { sem 𝓛 (LendsLeft T.row N.row N.ArrayType.row N.Unsigned N.ArrayType.Store self.entry result) }
         ensures items { result.now ≡ self.old }

@@ -13,10 +13,10 @@ use crate::mapping::{try_write_mapped_ref, write_mapped_ref, write_zipped_refs};
 use crate::store::Store;
 use ga_views::{GenericArrayRef, Unsigned};
 
-/// Items that are borrowed: those of a read-only view, or of an inline array by reference.
+/// Borrowed items: those of a read-only view, or of an inline array by reference.
 ///
-/// Its calls are `map_inline` and its kin of `GenericArray`, with references in place of items. Of a view
-/// they require that the length fits inline; an array's always does.
+/// Its calls are `map_inline` and its kin of `GenericArray`, with references in place of items. Of
+/// a view they require that the length fits inline; an array's always does.
 pub trait BorrowedItems<T, N: Unsigned> {
     // The items, in order.
     ghost items: { Self → List T };
@@ -33,7 +33,10 @@ pub trait BorrowedItems<T, N: Unsigned> {
 
     /// The array of what `f` returns at each item, called in order.
     #[inline(always)]
-    final fn map_inline_ref<U: Default + Drop, F: FnMut(&T) -> U>(&self, f: F) -> GenericArray<U, N>
+    final fn map_inline_ref<U: Default + Drop, F: FnMut(&T) -> U>(
+        &self,
+        mut f: F,
+    ) -> GenericArray<U, N>
     where
         N: ArrayLength<U>,
         requires fits { Fits }
@@ -41,7 +44,6 @@ pub trait BorrowedItems<T, N: Unsigned> {
         ensures run { (last : F) × ClosureRun (CallAt (λ item. item.now) F.step) f (items self.now) result last }
         ensures acts { (h : T → U) → ActsOnEntry (λ item. item.now) F.step f h → result ≡ map h (items self.now) }
     {
-        let mut f = f;
         self.map_inline_ref_by(&mut f)
     }
 
@@ -70,7 +72,7 @@ pub trait BorrowedItems<T, N: Unsigned> {
     #[inline(always)]
     final fn try_map_inline_ref<U: Default + Drop, F: FnMut(&T) -> Result<U, E>, E>(
         &self,
-        f: F,
+        mut f: F,
     ) -> Result<GenericArray<U, N>, E>
     where
         N: ArrayLength<U>,
@@ -79,7 +81,6 @@ pub trait BorrowedItems<T, N: Unsigned> {
         ensures run { (last : F) × FirstErrorRun (CallAt (λ item. item.now) F.step) f (items self.now) result last }
         ensures acts { (h : T → Result U E) → ActsOnEntry (λ item. item.now) F.step f h → result ≡ try_map h (items self.now) }
     {
-        let mut f = f;
         self.try_map_inline_ref_by(&mut f)
     }
 
@@ -111,7 +112,7 @@ pub trait BorrowedItems<T, N: Unsigned> {
     final fn zip_inline_refs<B, U: Default + Drop, F: FnMut(&T, &B) -> U>(
         &self,
         rhs: GenericArrayRef<'_, B, N>,
-        f: F,
+        mut f: F,
     ) -> GenericArray<U, N>
     where
         N: ArrayLength<U>,
@@ -120,7 +121,6 @@ pub trait BorrowedItems<T, N: Unsigned> {
         ensures run { (last : F) × ClosureRun (CallAtPair (λ item. item.now) (λ item. item.now) F.step) f (zip (items self.now) rhs.entry.slice.now) result last }
         ensures acts { (h : T × B → U) → ActsOnEntries (λ item. item.now) (λ item. item.now) F.step f h → result ≡ map h (zip (items self.now) rhs.entry.slice.now) }
     {
-        let mut f = f;
         self.zip_inline_refs_by(rhs, &mut f)
     }
 

@@ -30,7 +30,7 @@ impl<T, N: ArrayLength<T>> Model for ArrayBuilder<T, N> {
 }
 
 impl<T, N: ArrayLength<T>> ArrayBuilder<T, N> {
-    /// A builder without items. The length fits.
+    /// A builder without items. Requires `N <= MAX_INLINE`.
     #[inline]
     pub fn new() -> Self
         requires fits { FitsInline N.USIZE }
@@ -42,7 +42,7 @@ impl<T, N: ArrayLength<T>> ArrayBuilder<T, N> {
         }
     }
 
-    /// How many items there are, which is the place of the next. Constant time.
+    /// How many items there are, which is the index of the next. O(1).
     #[inline]
     pub fn position(&self) -> usize
         ensures len { result ≡ length self.now }
@@ -51,7 +51,7 @@ impl<T, N: ArrayLength<T>> ArrayBuilder<T, N> {
         self.store.as_slice().len()
     }
 
-    /// Whether there are `N` items. Constant time.
+    /// Whether there are `N` items. O(1).
     #[inline]
     pub fn is_full(&self) -> bool
         ensures full { IsTrue result ↔ (length self.now ≡ N.USIZE) }
@@ -60,7 +60,7 @@ impl<T, N: ArrayLength<T>> ArrayBuilder<T, N> {
         self.position() == N::USIZE
     }
 
-    /// Appends an item. The builder isn't full. Constant time.
+    /// Appends an item. Requires that the builder isn't full. O(1).
     #[inline]
     pub fn push(&mut self, item: T)
         requires room { length self.old < N.USIZE }
@@ -69,7 +69,8 @@ impl<T, N: ArrayLength<T>> ArrayBuilder<T, N> {
         self.store.push(item);
     }
 
-    /// The array of the items. The builder is full. Moves the items and takes no memory.
+    /// The array of the items. Requires that the builder is full. Moves the items, and allocates
+    /// nothing.
     #[inline]
     pub fn finish(self) -> GenericArray<T, N>
         requires full { length self ≡ N.USIZE }
@@ -81,10 +82,10 @@ impl<T, N: ArrayLength<T>> ArrayBuilder<T, N> {
 }
 
 impl<T: Drop, N: ArrayLength<T>> ArrayBuilder<T, N> {
-    /// Appends what `items` gives until the builder is full or the iterator ends.
+    /// Appends the items of `items` until the builder is full or the iterator ends.
     ///
-    /// A full builder asks nothing; one that isn't goes on at its position. Size hints aren't
-    /// consulted.
+    /// Goes on at the builder's position. Calls `next` only while the builder isn't full. Size
+    /// hints aren't consulted.
     pub fn extend<I: Iterator<Item = T>>(&mut self, items: &mut I)
         requires can { I.can_next items.old }
         ensures taken { (taken : List T) × (self.new ≡ self.old ++ taken) × Takes I.next_gives items.old (N.USIZE - length self.old) taken items.new }
@@ -100,8 +101,8 @@ impl<T: Drop, N: ArrayLength<T>> ArrayBuilder<T, N> {
         }
     }
 
-    /// `extend` with the good values of `items`, up to the first error, which is taken and
-    /// answered. What came before it stays.
+    /// Appends the `Ok` values of `items`, as `extend` does, up to the first `Err`, which it
+    /// returns. The values before that stay in the builder.
     pub fn try_extend<I: Iterator<Item = Result<T, E>>, E: Drop>(
         &mut self,
         items: &mut I,

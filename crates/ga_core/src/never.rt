@@ -4,7 +4,7 @@ ghost use Rattle.std.specs.Prelude.{◌≡◌, Ok};
 /// The error of a call that can't fail. There is no value of it.
 pub use std::convert::Infallible as Never;
 
-/// The value of an answer that can't be an error.
+/// The value of a result that can't be an error.
 #[inline]
 pub fn always<T>(answer: Result<T, Never>) -> T
     ensures { answer ≡ Ok result }

@@ -18,7 +18,7 @@ pub(crate) fn write_answers<T: Drop, F: FnMut(usize) -> T>(places: &mut [T], f: 
     }
 }
 
-/// `write_answers` of a closure that may fail, up to its first error, which is answered.
+/// `write_answers` of a closure that may fail, up to its first error, which is returned.
 #[inline]
 pub(crate) fn try_write_answers<T: Drop, E, F: FnMut(usize) -> Result<T, E>>(
     places: &mut [T],
@@ -61,7 +61,7 @@ pub fn move_items<T: Default + Drop>(items: &mut [T], places: &mut [T])
     }
 }
 
-/// Writes clones of the items over as many places, made in order, up to the first that is refused.
+/// Writes clones of the items over as many places, in order, up to the first clone that fails.
 #[inline]
 pub(crate) fn write_clones<T: Clone>(places: &mut [T], items: &[T]) -> Result<(), AllocError>
     requires room { length places.old ≡ length items.now }
@@ -77,8 +77,8 @@ pub(crate) fn write_clones<T: Clone>(places: &mut [T], items: &[T]) -> Result<()
     Ok(())
 }
 
-/// Writes clones of `item` over the places, made in order, and `item` itself over the last, up to
-/// the first clone that is refused.
+/// Writes clones of `item` over the places, in order, and `item` itself over the last, up to the
+/// first clone that fails.
 #[inline]
 pub(crate) fn write_copies<T: Clone>(places: &mut [T], item: T) -> Result<(), AllocError>
     ensures items { OnOk result (Repeats T.is_clone item (length places.old) places.new) }

@@ -30,12 +30,12 @@ pub trait Store<T>: Sized + Drop {
         requires fits { FitsInline CAPACITY }
         ensures { length (items result) ≡ CAPACITY };
 
-    /// Appends `item`. The store isn't full. Constant time.
+    /// Appends `item`. Requires that the store isn't full. O(1).
     fn push(&mut self, item: T)
         requires room { length (items self.old) < CAPACITY }
         ensures { items self.new ≡ items self.old ++ item ∷ [] };
 
-    /// Takes the last item, or answers `None` where there is none. Constant time.
+    /// Takes the last item, or returns `None` if there is none. O(1).
     fn pop(&mut self) -> Option<T>
         ensures { YieldsLast items self.old result self.new };
 
@@ -161,8 +161,8 @@ pub(crate) fn store_of_array<T, const N: usize>(items: [T; N]) -> ArrayVec<T, N>
     ArrayVec::from_array_in((), items)
 }
 
-/// A store of clones of the items, made in order. Refused at the first clone that is; those made
-/// before it are then dropped.
+/// A store of clones of the items, made in order. If a clone fails, drops those made before it and
+/// returns the error.
 pub(crate) fn store_of_clones<T: Clone, S: Store<T>>(items: &[T]) -> Result<S, AllocError>
     requires fits { FitsInline S.CAPACITY }
     requires room { length items.now ≤ S.CAPACITY }

@@ -1,11 +1,10 @@
 //! A block of records that lies in a slice of bytes.
 ghost use Rattle.ga_records.specs.Records.{IsLastWith, IsRecordBlock, NoneHas, last_record_with};
+ghost use Rattle.generic_array.specs.RowIteration.{RowsInOrder, RowsInReverse};
 ghost use Rattle.generic_array.specs.Rows.{rows};
 ghost use Rattle.std.specs.Io.KnownBytes.{Appends};
-ghost use Rattle.std.specs.Iterator.{YieldsFirstBy, YieldsLastBy};
-ghost use Rattle.std.specs.Iterator.Runs.{EveryRun, ItemsMapTo, ItemsMapToReversed};
 ghost use Rattle.std.specs.Option.{option_map};
-ghost use Rattle.std.specs.Prelude.{◌≡◌, ◌<◌, ◌↔◌, IfOk, IfSome, IsNone, ℕ, IsOk, List, OnOk, length, slice_get, ⊤};
+ghost use Rattle.std.specs.Prelude.{◌≡◌, ◌<◌, ◌↔◌, IfOk, IfSome, IsNone, ℕ, IsOk, OnOk, length, slice_get, ⊤};
 
 use generic_array::{
     ArrayLength, ChunkIter, ChunksRef, GenericArray, GenericArrayRef, LengthError,
@@ -34,8 +33,8 @@ impl<'a, N: ArrayLength<u8>> Clone for RecordBlock<'a, N> {
 impl<'a, N: ArrayLength<u8>> Copy for RecordBlock<'a, N> {}
 
 impl<'a, N: ArrayLength<u8>> RecordBlock<'a, N> {
-    /// The records that these bytes are, or the error where some bytes are left behind the last whole
-    /// record. No bytes are no records. `N` isn't 0. Constant time.
+    /// The records of these bytes, or `LengthError` if some bytes are left behind the last whole
+    /// record. No bytes are no records. Requires that `N` isn't 0. O(1).
     #[inline]
     pub fn open(bytes: &'a [u8]) -> Result<Self, LengthError>
         requires width { 0 < N.USIZE }
@@ -50,7 +49,7 @@ impl<'a, N: ArrayLength<u8>> RecordBlock<'a, N> {
         }
     }
 
-    /// The number of records. Constant time.
+    /// The number of records. O(1).
     #[inline]
     pub fn len(&self) -> usize
         ensures { result ≡ length (rows N.USIZE self.now.records.slice.now) }
@@ -58,7 +57,7 @@ impl<'a, N: ArrayLength<u8>> RecordBlock<'a, N> {
         self.records.len()
     }
 
-    /// The record at `index`, or `None` where `index` isn't below the number of records. Constant time.
+    /// The record at `index`, or `None` if there are at most `index` records. O(1).
     #[inline]
     pub fn record(&self, index: usize) -> Option<GenericArrayRef<'a, u8, N>>
         ensures { option_map (λ view. view.slice.now) result ≡ slice_get (rows N.USIZE self.now.records.slice.now) index }
@@ -70,8 +69,8 @@ impl<'a, N: ArrayLength<u8>> RecordBlock<'a, N> {
     #[inline]
     pub fn iter(&self) -> ChunkIter<'_, u8, N>
         ensures records { result ≡ rows N.USIZE self.now.records.slice.now }
-        ensures runs { EveryRun (YieldsFirstBy {S = List (List ℕ)} {A = GenericArrayRef ℕ N N.Unsigned} (λ view. view.slice.now) (λ left. left)) (λ run. ItemsMapTo run (λ view. view.slice.now) run.from) }
-        ensures runs_back { EveryRun (YieldsLastBy {S = List (List ℕ)} {A = GenericArrayRef ℕ N N.Unsigned} (λ view. view.slice.now) (λ left. left)) (λ run. ItemsMapToReversed run (λ view. view.slice.now) run.from) }
+        ensures runs { RowsInOrder ℕ N N.Unsigned }
+        ensures runs_back { RowsInReverse ℕ N N.Unsigned }
     {
         self.records.iter()
     }
@@ -94,8 +93,8 @@ impl<'a, N: ArrayLength<u8>> RecordBlock<'a, N> {
         None
     }
 
-    /// Writes the bytes of all records, in order, by one `write_all`. The first fault of the writer is
-    /// answered, and nothing is said of how much went out.
+    /// Writes the bytes of all records, in order, by one `write_all`. Returns the first error of
+    /// the writer, and says nothing of how much was written.
     pub fn write_to<W: Write>(&self, w: &mut W) -> Result<(), io::Error>
         ensures { OnOk result (Appends (W.contents w.old) (W.contents w.new) self.now.records.slice.now) }
     {

@@ -50,8 +50,8 @@ static DIGITS: [u8; 256] = [
     3, 3, 3, 3, 3, 3, 3, 3, 3, 3, 3, 3, 3, 3, 3, 3, 3, 3, 3, 3, 3, 3, 3, 3, 3, 3, 3, 3, 3, 3, 3, 3,
 ];
 
-/// Puts numbers in decimal, joined by one space, into `text` from `start` on, and answers where they
-/// end. What is behind that end may change too, up to four bytes for each number.
+/// Writes numbers in decimal, joined by one space, into `text` from `start` on, and returns where
+/// they end. What is behind that end may change too, up to four bytes for each number.
 #[inline]
 pub fn put_numbers(text: &mut [u8], start: usize, numbers: &[u8]) -> usize
     requires { start + 4 * length numbers.now ≤ length text.old }

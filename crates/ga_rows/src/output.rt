@@ -17,12 +17,12 @@ use std::io::Write;
 /// More bytes than any line has: `rest ` and sixteen numbers of three digits with what follows each.
 const LONGEST_LINE: usize = 5 + 16 * 4 + 1;
 
-/// Writes a line for each whole row of `input`, and one for the bytes that are left, and answers
+/// Writes a line for each whole row of `input`, and one for the bytes that are left. Returns
 /// whether there are any.
 ///
-/// The text is collected in a piece of 8 KiB and the writer is called once for each full piece
-/// and once for the end, or not at all where there is no text. Asks for no memory. At a fault of
-/// the writer nothing is said of how much of the text it got.
+/// Collects the text in a piece of 8 KiB and calls the writer once for each full piece and once
+/// for the end, or not at all if there is no text. Allocates nothing. If the writer fails, nothing
+/// is said of how much of the text it got.
 pub fn rows<W: Write>(input: &[u8], mode: Mode, width: Width, w: &mut W) -> Result<bool, io::Error>
     ensures text { OnOk result (Appends (W.contents w.old) (W.contents w.new) (text_of mode width input.now)) }
     ensures rest { IfOk result (λ has_rest. IsTrue has_rest ↔ (chunk_rest (bytes_of width) input.now ≢ [])) }

@@ -172,7 +172,7 @@ impl Write for Piece {
     fn write_all(&mut self, buf: &[u8]) -> io::Result<()>
         ensures fits { IsOk result ↔ (length self.old + length buf.now ≤ PIECE_SIZE) }
         ensures text { OnOk result (self.new ≡ self.old ++ buf.now) }
-        ensures none { OnErr result (self.new ≡ self.old) }
+        ensures err { OnErr result (self.new ≡ self.old) }
     {
         if buf.len() > PIECE_SIZE - self.len {
             return Err(io::Error::from(ErrorKind::WriteZero));

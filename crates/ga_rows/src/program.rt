@@ -17,11 +17,11 @@ use std::io;
 use std::io::{Read, Write};
 use std::process::ExitCode;
 
-/// The whole program, from what the system lists as its words, the program's name first, to its
-/// exit status.
+/// The whole program, from the words that the system lists, the program's name first, to its exit
+/// status.
 ///
-/// Where that is 2 or more, `e` is told why in one line; no clause says so, and nothing is left to
-/// do where `e` refuses it. Asks for memory for the words and the input.
+/// If that is 2 or more, writes to `e` why, in one line; no clause says so, and a fault of `e` is
+/// ignored. Allocates for the words and the input.
 pub fn run_listed<I: Iterator<Item = String>, R: Read, W: Write, E: Write>(
     alloc: Global,
     listed: io::Result<I>,
@@ -60,14 +60,14 @@ pub fn run_listed<I: Iterator<Item = String>, R: Read, W: Write, E: Write>(
     ExitCode::from(status.code())
 }
 
-/// Reads `r` to its end and writes the rows of what it gave.
+/// Reads `r` to its end and writes the rows of its bytes.
 ///
-/// `Status::Words` stands exactly where the words mean nothing, and then nothing is read or
-/// written. At `Status::Memory` nothing is written. At `Status::Fault` nothing is written, or all
-/// of `r` is read, where its bytes are known; of another reader the clause says nothing. No clause
-/// says that these two come only where memory for the input was refused, or where the reader or
-/// the writer failed. An interrupted read is asked again; a reader that gives no end within
-/// `u64::MAX` reads counts as faulty. Asks for memory for the input alone.
+/// Returns `Status::Words` exactly if the words mean nothing, and then reads and writes nothing.
+/// At `Status::Memory` nothing is written. At `Status::Fault` nothing is written, or all of `r` is
+/// read, where its bytes are known; of another reader the clause says nothing. No clause says that
+/// these two come only if the input can't be allocated, or if the reader or the writer fails. An
+/// interrupted read is made again; a reader that doesn't end within `u64::MAX` reads counts as
+/// faulty. Allocates for the input alone.
 pub fn run<R: Read, W: Write>(alloc: Global, words: &[String], r: &mut R, w: &mut W) -> Status
     ensures words { (result ≡ Status.Words) ↔ (meaning_of_words (map string_bytes words.now) ≡ None) }
     ensures untouched { result ≡ Status.Words → (r.new ≡ r.old) × (w.new ≡ w.old) }

@@ -83,7 +83,7 @@ pub fn parse_words(words: &[String]) -> Option<(Mode, Width)>
     }
 }
 
-/// All but the first of what `listed` gives, which is the program's name.
+/// All items of `listed` but the first, which is the program's name.
 pub fn words_after_name<I: Iterator<Item = String>>(
     alloc: Global,
     listed: I,

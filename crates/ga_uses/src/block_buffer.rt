@@ -1,4 +1,4 @@
-//! Messages of any length, handed on in blocks of one length.
+//! Messages of any length, passed on in blocks of one length.
 ghost use Rattle.ga_uses.specs.BlockBuffer.{HasFed, MayTake, Takes, count_more, padded, padding, zero_count};
 ghost use Rattle.generic_array.specs.Length.{FitsInline};
 ghost use Rattle.generic_array.specs.Rows.{chunk_rest, rows};
@@ -11,7 +11,7 @@ use std::mem;
 
 /// The bytes of a message that fill no block yet, and how long the message is so far.
 ///
-/// Contracts see it as these bytes, `kept`, and the number of bytes fed, `len`. Takes no memory.
+/// Contracts see it as these bytes, `kept`, and the number of bytes fed, `len`. Allocates nothing.
 #[derive(Drop)]
 pub struct BlockBuffer<N: ArrayLength<u8>> {
     kept: ArrayBuilder<u8, N>,
@@ -44,7 +44,7 @@ impl<N: ArrayLength<u8>> BlockBuffer<N> {
         }
     }
 
-    /// How many bytes were fed; `u64::MAX` stands for every number from there on. Constant time.
+    /// How many bytes were fed; `u64::MAX` means that or more. O(1).
     pub fn len(&self) -> u64
         ensures { result ≡ self.now.len }
     {
@@ -136,7 +136,7 @@ impl<N: ArrayLength<u8>> BlockBuffer<N> {
     }
 }
 
-/// Feeds the pieces in turn to a new buffer, which is handed out.
+/// Feeds the pieces in turn to a new buffer, which it returns.
 ///
 /// The blocks are those of the pieces joined: however a message is cut, they are the same.
 pub fn feed_pieces<N: ArrayLength<u8>, F: FnMut(&[u8])>(

@@ -1,6 +1,6 @@
 //! HMAC (RFC 2104): the tag of a message under a key, over any hash function.
 //!
-//! Nothing here takes memory, and nothing is refused.
+//! Nothing here allocates, and nothing fails.
 ghost use Rattle.ga_uses.specs.Hmac.{Holds, hmac_of, key_block, masked};
 ghost use Rattle.generic_array.specs.Length.{FitsInline};
 ghost use Rattle.std.specs.Prelude.{◌≡◌, ℕ, ◌-◌, ◌≤◌, ◌↔◌, ◌++◌, IsTrue, List, [], length, replicate};

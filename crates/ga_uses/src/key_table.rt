@@ -38,7 +38,7 @@ impl<N: ArrayLength<u8>, V> KeyTable<N, V> {
         }
     }
 
-    /// The number of entries. Constant time.
+    /// The number of entries. O(1).
     pub fn len(&self) -> usize
         ensures len { result ≡ length self.now }
         ensures ordered { IsInKeyOrder self.now }
@@ -46,7 +46,7 @@ impl<N: ArrayLength<u8>, V> KeyTable<N, V> {
         self.entries.len()
     }
 
-    /// Whether there is no entry. Constant time.
+    /// Whether there is no entry. O(1).
     pub fn is_empty(&self) -> bool
         ensures { IsTrue result ↔ (length self.now ≡ 0) }
     {
@@ -63,8 +63,8 @@ impl<N: ArrayLength<u8>, V> KeyTable<N, V> {
         }
     }
 
-    /// Puts the value at the key, and answers the value that was there. A new key moves the entries
-    /// behind it by one. Memory is asked for at a new key alone; where it is refused, key and value are dropped.
+    /// Puts the value at the key, and returns the value that was there. A new key moves the
+    /// entries behind it by one. Allocates at a new key alone; if that fails, drops key and value.
     pub fn insert(&mut self, key: GenericArray<u8, N>, value: V) -> Result<Option<V>, AllocError>
     where
         V: Drop,
@@ -73,7 +73,7 @@ impl<N: ArrayLength<u8>, V> KeyTable<N, V> {
         ensures changes { OnOk result (ChangesKey self.old self.new key (Some value)) }
 
         // Only a new key can be refused, and the table is then as it was.
-        ensures refused { OnErr result (self.new ≡ self.old) }
+        ensures err { OnErr result (self.new ≡ self.old) }
         ensures absent { OnErr result (value_at self.old key ≡ None) }
     {
         match self.search(&key) {
@@ -88,7 +88,7 @@ impl<N: ArrayLength<u8>, V> KeyTable<N, V> {
         }
     }
 
-    /// Takes the key's entry out, and answers its value, or `None` where the table doesn't have the
+    /// Takes the key's entry out, and returns its value, or `None` if the table doesn't have the
     /// key. Moves the entries behind it by one.
     pub fn remove(&mut self, key: &GenericArray<u8, N>) -> Option<V>
         ensures old { result ≡ value_at self.old key.now }

@@ -49,7 +49,7 @@ pub struct Datagram<'a> {
     pub payload: &'a [u8],
 }
 
-/// The fields and the payload, or why the bytes are no datagram. Constant time.
+/// The fields and the payload, or why the bytes are no datagram. O(1).
 pub fn parse(datagram: &[u8]) -> Result<Datagram<'_>, HeaderError>
     ensures variant { IsOk result ↔ IsDatagram datagram.now }
     ensures short { (result ≡ Err HeaderError.TooShort) ↔ (length datagram.now < 8) }
@@ -81,7 +81,7 @@ pub fn parse(datagram: &[u8]) -> Result<Datagram<'_>, HeaderError>
     })
 }
 
-/// The number that a field stands for.
+/// The number in a field.
 pub fn number(field: GenericArrayRef<'_, u8, U2>) -> u16
     ensures { result ≡ number_of field.entry.slice.now }
 {

@@ -16,7 +16,7 @@ pub fn put_in_tree<N: ArrayLength<u8>, V: Drop>(
 ) -> Result<Option<V>, AllocError>
     ensures old { IfOk result (λ old. old ≡ value_at map.old.entries key) }
     ensures entries { OnOk result (map.new.entries ≡ with_entry map.old.entries key value) }
-    ensures refused { OnErr result (map.new.entries ≡ map.old.entries) }
+    ensures err { OnErr result (map.new.entries ≡ map.old.entries) }
 {
     Ok(map.insert(key, value)?)
 }
@@ -29,7 +29,7 @@ pub fn put_in_hashes<N: ArrayLength<u8>, V: Drop>(
 ) -> Result<Option<V>, AllocError>
     ensures old { IfOk result (λ old. old ≡ hash.get (pointwise nat_eq) map.old key) }
     ensures updates { OnOk result (hash.Updates (pointwise nat_eq) map.old map.new key (Some value)) }
-    ensures refused { OnErr result (hash.IsUnchanged map.old map.new) }
+    ensures err { OnErr result (hash.IsUnchanged map.old map.new) }
 {
     Ok(map.insert(key, value)?)
 }

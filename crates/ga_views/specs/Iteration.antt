@@ -1,4 +1,4 @@
--- What iterators over lent items give.
+-- What iterators over borrowed items give.
 use Rattle.std.specs.Iterator.Adapters.{IterMutYieldsInOrder, IterMutYieldsInReverse, IterYieldsInOrder, IterYieldsInReverse}
 use Rattle.std.specs.Prelude.{◌≡◌, ℕ, ◌^◌, ◌<◌, List, length}
 use Rattle.std.specs.Slice.Iter.{iter_mut_rest, iter_rest}

@@ -4,6 +4,7 @@ pub mod HexText
 pub mod Iteration
 pub mod Length
 pub mod Parts
+pub mod RowIteration
 pub mod Rows
 pub mod RowsMut
 pub mod Views

@@ -10,19 +10,20 @@ use std::marker::PhantomData;
 use std::ops::{DerefSlice, DerefSliceMut};
 use std::slice;
 
-/// A view of exactly `N` items that lie in a slice, for writing. What is written through it
-/// stands in the slice afterwards, and no other place changes.
+/// A view of exactly `N` items of a slice, for writing. What is written through it is written to
+/// the slice, and to no other item.
 ///
-/// Stands for `&mut GenericArray<T, N>` where that is made of a slice. The length has no bound.
+/// The counterpart of `&mut GenericArray<T, N>` made of a slice. The length has no bound.
 pub type GenericArrayMut<'a, T, N> = ArrayMut<&'a mut [T], T, N>;
 
-/// A view of exactly `N` items for writing, over what lends them: see `GenericArrayMut`.
+/// A view of exactly `N` items for writing, over any reference to them: see `GenericArrayMut`.
 ///
-/// The fields are public so that a view can be made by a literal and taken apart by a pattern: a proof
-/// follows both where it doesn't follow a call. That there are `N` items holds of each literal.
+/// The fields are public so that a view can be made by a literal and taken apart by a pattern: a
+/// proof follows both where it doesn't follow a call. That there are `N` items holds of each
+/// literal.
 #[derive(Drop)]
 pub struct ArrayMut<S: SliceMut<T>, T, N: Unsigned> {
-    /// What lends the items.
+    /// The reference to the items.
     pub slice: S,
     /// The type of the items.
     pub of: PhantomData<T>,
@@ -42,11 +43,12 @@ impl<'a, T, N: Unsigned> ArrayMut<&'a mut [T], T, N> {
         Self::over(slice)
     }
 
-    /// The view of a slice, or `LengthError` where it doesn't have `N` items.
+    /// The view of a slice, or `LengthError` if it doesn't have `N` items. A slice of another
+    /// length stays as it was.
     ///
-    /// The checker doesn't read `writes_back` for callers, since a slice is lent and the answer is a
-    /// `Result`. Where a proof asks for what the slice ends as, compare the slice's length and call
-    /// `from_mut_slice`.
+    /// The checker doesn't read `writes_back` for callers, since a slice is borrowed and a
+    /// `Result` returned. Where a proof needs what the slice ends as, compare the slice's length
+    /// and call `from_mut_slice`.
     #[inline]
     pub fn try_from_mut_slice(slice: &'a mut [T]) -> Result<Self, LengthError>
         ensures* writes_back { sem 𝓛 (RestsIfErr (Array T.row 0) slice.entry (λ view. view.slice.ghost_name) result (λ rest. rest ≡ slice.old)) }
@@ -74,7 +76,7 @@ impl<'a, T, N: Unsigned> ArrayMut<&'a mut [T], T, N> {
 impl<S: SliceMut<T>, T, N: Unsigned> ArrayMut<S, T, N> {
     ghost use Rattle.ga_views.specs.ArrayMut.{LendsItems, LendsIter, LendsPlace, LendsPlaceIf};
 
-    /// The view over `items`, which lends `N` items.
+    /// The view over `items`, a reference to `N` items.
     #[inline]
     pub fn over(items: S) -> Self
         requires len { length (S.items items) ≡ N.USIZE }

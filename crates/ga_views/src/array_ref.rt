@@ -10,9 +10,9 @@ use std::marker::PhantomData;
 use std::ops::DerefSlice;
 use std::slice;
 
-/// A view of exactly `N` items that lie in a slice. It can be copied, and copies no item.
+/// A view of exactly `N` items of a slice. Copying it copies no item.
 ///
-/// Stands for `&GenericArray<T, N>` where that is made of a slice. The length has no bound.
+/// The counterpart of `&GenericArray<T, N>` made of a slice. The length has no bound.
 pub struct GenericArrayRef<'a, T, N: Unsigned> {
     slice: &'a [T],
     of: PhantomData<N>,

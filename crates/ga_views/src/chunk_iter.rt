@@ -1,18 +1,18 @@
 //! The rows that lie in a slice as views, from both ends.
 ghost use Rattle.ga_views.specs.Cut.{StepGives, back, front};
+ghost use Rattle.ga_views.specs.RowIteration.{RowsInOrder, RowsInReverse};
 ghost use Rattle.ga_views.specs.Rows.{chunk_count, rows};
 ghost use Rattle.std.specs.Iterator.{YieldsFirstBy, YieldsLastBy, item_count};
-ghost use Rattle.std.specs.Iterator.Runs.{EveryRun, ItemsMapTo, ItemsMapToReversed};
 ghost use Rattle.std.specs.Option.{option_map};
-ghost use Rattle.std.specs.Prelude.{◌≡◌, ◌-◌, ◌*◌, ◌<◌, ◌≤◌, [], List, drop, false, length, take, true};
+ghost use Rattle.std.specs.Prelude.{◌≡◌, ◌-◌, ◌*◌, ◌<◌, ◌≤◌, [], drop, false, length, take, true};
 
 use crate::{GenericArrayRef, Unsigned};
 use std::marker::{Model, PhantomData};
 
-/// The rows of a `ChunksRef` or a `ChunksMut` as views, from both ends. Contracts see it as the list of
-/// the rows that are left.
+/// The rows of a `ChunksRef` or a `ChunksMut` as views, from both ends. Contracts see it as the
+/// list of the rows that are left.
 ///
-/// Stands for the `slice::Iter` of a slice of arrays. Each call takes constant time.
+/// The counterpart of `slice::Iter` over a slice of arrays. Each call is O(1).
 #[derive(Drop)]
 pub struct ChunkIter<'a, T, N: Unsigned> {
     // The items of the rows that are left.
@@ -38,8 +38,8 @@ impl<'a, T, N: Unsigned> ChunkIter<'a, T, N> {
     pub(crate) fn over(slice: &'a [T]) -> Self
         requires whole { length slice.now ≡ chunk_count N.USIZE slice.now * N.USIZE }
         ensures rows { result ≡ rows N.USIZE slice.now }
-        ensures runs { EveryRun (YieldsFirstBy {S = List (List T)} {A = GenericArrayRef T N N.Unsigned} (λ view. view.slice.now) (λ left. left)) (λ run. ItemsMapTo run (λ view. view.slice.now) run.from) }
-        ensures runs_back { EveryRun (YieldsLastBy {S = List (List T)} {A = GenericArrayRef T N N.Unsigned} (λ view. view.slice.now) (λ left. left)) (λ run. ItemsMapToReversed run (λ view. view.slice.now) run.from) }
+        ensures runs { RowsInOrder T N N.Unsigned }
+        ensures runs_back { RowsInReverse T N N.Unsigned }
     {
         ChunkIter {
             left: slice,
@@ -58,9 +58,8 @@ impl<'a, T, N: Unsigned> ChunkIter<'a, T, N> {
         }
     }
 
-    /// Passes over `n` rows from the front, or as many as are left, and gives the next.
-    ///
-    /// So all are consumed, and `None` is answered, where `n` is at or beyond their number.
+    /// Skips `n` rows and returns the next one. If at most `n` rows are left, consumes them all
+    /// and returns `None`.
     #[inline]
     pub fn nth(&mut self, n: usize) -> Option<GenericArrayRef<'a, T, N>>
         ensures step { StepGives (front n) self.old (option_map (λ view. view.slice.now) result) self.new }
@@ -69,9 +68,8 @@ impl<'a, T, N: Unsigned> ChunkIter<'a, T, N> {
         self.next()
     }
 
-    /// Passes over `n` rows from the back, or as many as are left, and gives the last of those before.
-    ///
-    /// So all are consumed, and `None` is answered, where `n` is at or beyond their number.
+    /// Skips `n` rows from the back and returns the one before them. If at most `n` rows are left,
+    /// consumes them all and returns `None`.
     #[inline]
     pub fn nth_back(&mut self, n: usize) -> Option<GenericArrayRef<'a, T, N>>
         ensures step { StepGives (back n) self.old (option_map (λ view. view.slice.now) result) self.new }

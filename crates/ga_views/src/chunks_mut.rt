@@ -1,29 +1,28 @@
 //! Rows of one width that lie in a slice, for writing.
+ghost use Rattle.ga_views.specs.RowIteration.{RowsInOrder, RowsInReverse};
 ghost use Rattle.ga_views.specs.Parts.{part_set};
 ghost use Rattle.ga_views.specs.Rows.{chunk_count, chunk_rest, row_at, rows};
 ghost use Rattle.std.specs.Borrow.{Array, Lends, LendsBoth, follows_both, sem};
-ghost use Rattle.std.specs.Iterator.Runs.{EveryRun, ItemsMapTo, ItemsMapToReversed};
-ghost use Rattle.std.specs.Iterator.{YieldsFirstBy, YieldsLastBy};
 ghost use Rattle.std.specs.Option.{option_map};
-ghost use Rattle.std.specs.Prelude.{◌≡◌, ◌*◌, ◌<◌, ◌↔◌, ◌⊎◌, ◌++◌, IfSome, IsSome, List, length, slice_get};
+ghost use Rattle.std.specs.Prelude.{◌≡◌, ◌*◌, ◌<◌, ◌↔◌, ◌⊎◌, ◌++◌, IfSome, IsSome, length, slice_get};
 
 use crate::chunks_ref::len_of_rows;
 use crate::slice_mut::{PartMut, SliceMut};
 use crate::{ChunkIter, ChunksRef, GenericArrayMut, GenericArrayRef, Unsigned};
 use std::marker::PhantomData;
 
-/// Rows of `N` items each that lie in a slice, one behind the other, for writing. What is written
-/// through it stands in the slice afterwards, and no other place changes.
+/// Rows of `N` items each of a slice, one after the other, for writing. What is written through it
+/// is written to the slice, and to no other item.
 ///
-/// Stands for `&mut [GenericArray<T, N>]` where that is made of a slice.
+/// The counterpart of `&mut [GenericArray<T, N>]` made of a slice.
 pub type ChunksMut<'a, T, N> = RowsMut<&'a mut [T], T, N>;
 
-/// Rows of `N` items each for writing, over what lends them: see `ChunksMut`.
+/// Rows of `N` items each for writing, over any reference to them: see `ChunksMut`.
 ///
 /// The fields are public for the reason that those of `ArrayMut` are.
 #[derive(Drop)]
 pub struct RowsMut<S: SliceMut<T>, T, N: Unsigned> {
-    /// What lends the items.
+    /// The reference to the items.
     pub slice: S,
     /// The type of the items.
     pub of: PhantomData<T>,
@@ -34,13 +33,13 @@ pub struct RowsMut<S: SliceMut<T>, T, N: Unsigned> {
 }
 
 impl<'a, T, N: Unsigned> RowsMut<&'a mut [T], T, N> {
-    /// The whole rows of a slice, and the items that follow them, both for writing. With `N = 0` the
-    /// slice has to be empty, and there are no rows.
+    /// The whole rows of a slice, and the items that follow them, both for writing. With `N = 0`
+    /// the slice has to be empty, and there are no rows. O(1).
     ///
-    /// The counterpart of `GenericArray::chunks_from_slice_mut`, which panics where `N` is 0 and the
-    /// slice isn't empty. Constant time.
+    /// The counterpart of `GenericArray::chunks_from_slice_mut`, which panics where `N` is 0 and
+    /// the slice isn't empty.
     ///
-    /// The checker doesn't read `writes_back` for callers. Where a proof asks for what the slice ends
+    /// The checker doesn't read `writes_back` for callers. Where a proof needs what the slice ends
     /// as, cut it by `split_at_mut` and make the rows by `over`.
     #[inline]
     pub fn chunks_from_slice_mut(slice: &'a mut [T]) -> (Self, &'a mut [T])
@@ -55,10 +54,11 @@ impl<'a, T, N: Unsigned> RowsMut<&'a mut [T], T, N> {
         (Self::over(whole), rest)
     }
 
-    /// The items of the whole rows of a slice, and the items that follow them, both for writing: the two
-    /// parts of `chunks_from_slice_mut` as slices. With `N = 0` the slice has to be empty.
+    /// The items of the whole rows of a slice, and the items that follow them, both for writing:
+    /// the two parts of `chunks_from_slice_mut` as slices. With `N = 0` the slice has to be empty.
+    /// O(1).
     ///
-    /// A proof follows what is written through both. `over` makes rows of the first. Constant time.
+    /// A proof follows what is written through both. `over` makes rows of the first.
     #[inline]
     pub fn whole_and_rest(slice: &'a mut [T]) -> (&'a mut [T], &'a mut [T])
         requires width { (0 < N.USIZE) ⊎ (length slice.old ≡ 0) }
@@ -92,7 +92,7 @@ impl<'a, T, N: Unsigned> RowsMut<&'a mut [T], T, N> {
 impl<S: SliceMut<T>, T, N: Unsigned> RowsMut<S, T, N> {
     ghost use Rattle.ga_views.specs.RowsMut.{LendsItems};
 
-    /// The rows of what lends as many items as they have.
+    /// The rows over a reference to as many items as they have.
     #[inline]
     pub fn over(items: S) -> Self
         requires whole { length (S.items items) ≡ chunk_count N.USIZE (S.items items) * N.USIZE }
@@ -113,7 +113,7 @@ impl<S: SliceMut<T>, T, N: Unsigned> RowsMut<S, T, N> {
         ChunksRef::over(self.slice.all())
     }
 
-    /// The number of rows. Constant time.
+    /// The number of rows. O(1).
     #[inline]
     pub fn len(&self) -> usize
         ensures count { result ≡ chunk_count N.USIZE (S.items self.now.slice) }
@@ -122,7 +122,7 @@ impl<S: SliceMut<T>, T, N: Unsigned> RowsMut<S, T, N> {
         self.view().len()
     }
 
-    /// The row at `index`, or `None` where `index` isn't below the number of rows. Constant time.
+    /// The row at `index`, or `None` if there are at most `index` rows. O(1).
     #[inline]
     pub fn get(&self, index: usize) -> Option<GenericArrayRef<'_, T, N>>
         ensures variant { IsSome result ↔ (index < chunk_count N.USIZE (S.items self.now.slice)) }
@@ -136,8 +136,8 @@ impl<S: SliceMut<T>, T, N: Unsigned> RowsMut<S, T, N> {
     #[inline]
     pub fn iter(&self) -> ChunkIter<'_, T, N>
         ensures rows { result ≡ rows N.USIZE (S.items self.now.slice) }
-        ensures runs { EveryRun (YieldsFirstBy {S = List (List T)} {A = GenericArrayRef T N N.Unsigned} (λ view. view.slice.now) (λ left. left)) (λ run. ItemsMapTo run (λ view. view.slice.now) run.from) }
-        ensures runs_back { EveryRun (YieldsLastBy {S = List (List T)} {A = GenericArrayRef T N N.Unsigned} (λ view. view.slice.now) (λ left. left)) (λ run. ItemsMapToReversed run (λ view. view.slice.now) run.from) }
+        ensures runs { RowsInOrder T N N.Unsigned }
+        ensures runs_back { RowsInReverse T N N.Unsigned }
     {
         ChunkIter::over(self.slice.all())
     }
@@ -165,7 +165,7 @@ impl<S: SliceMut<T>, T, N: Unsigned> RowsMut<S, T, N> {
 impl<S: PartMut<T>, T, N: Unsigned> RowsMut<S, T, N> {
     ghost use Rattle.ga_views.specs.RowsMut.{LendsRow, LendsRowIf};
 
-    /// The row at `index` for writing. Constant time.
+    /// The row at `index` for writing. O(1).
     #[inline]
     pub fn row_mut(&mut self, index: usize) -> &mut [T]
         requires in_bounds { index < chunk_count N.USIZE (S.items self.old.slice) }

@@ -1,18 +1,16 @@
 //! Rows of one width that lie in a slice.
+ghost use Rattle.ga_views.specs.RowIteration.{RowsInOrder, RowsInReverse};
 ghost use Rattle.ga_views.specs.Rows.{chunk_count, chunk_rest, row_at, rows};
-ghost use Rattle.std.specs.Iterator.{YieldsFirstBy, YieldsLastBy};
-ghost use Rattle.std.specs.Iterator.Runs.{EveryRun, ItemsMapTo, ItemsMapToReversed};
 ghost use Rattle.std.specs.Option.{option_map};
-ghost use Rattle.std.specs.Prelude.{◌≡◌, ◌*◌, ◌/◌, ◌<◌, ◌↔◌, ◌⊎◌, IfSome, IsSome, List, ◌++◌, length, slice_get, ⊤};
+ghost use Rattle.std.specs.Prelude.{◌≡◌, ◌*◌, ◌/◌, ◌<◌, ◌↔◌, ◌⊎◌, IfSome, IsSome, ◌++◌, length, slice_get, ⊤};
 
 use crate::{ChunkIter, GenericArrayRef, Unsigned};
 use std::alloc::AllocError;
 use std::marker::PhantomData;
 
-/// Rows of `N` items each that lie in a slice, one behind the other. It can be copied, and copies
-/// no item.
+/// Rows of `N` items each of a slice, one after the other. Copying it copies no item.
 ///
-/// Stands for `&[GenericArray<T, N>]` where that is made of a slice.
+/// The counterpart of `&[GenericArray<T, N>]` made of a slice.
 pub struct ChunksRef<'a, T, N: Unsigned> {
     slice: &'a [T],
     of: PhantomData<N>,
@@ -46,10 +44,10 @@ impl<'a, T, N: Unsigned> ChunksRef<'a, T, N> {
     }
 
     /// The whole rows of a slice, and the items that follow them. With `N = 0` the slice has to be
-    /// empty, and there are no rows.
+    /// empty, and there are no rows. O(1).
     ///
     /// The counterpart of `GenericArray::chunks_from_slice`, which panics where `N` is 0 and the
-    /// slice isn't empty. Constant time.
+    /// slice isn't empty.
     #[inline]
     pub fn chunks_from_slice(slice: &'a [T]) -> (Self, &'a [T])
         requires width { (0 < N.USIZE) ⊎ (length slice.now ≡ 0) }
@@ -61,7 +59,7 @@ impl<'a, T, N: Unsigned> ChunksRef<'a, T, N> {
         (ChunksRef::over(whole), rest)
     }
 
-    /// The number of rows. Constant time.
+    /// The number of rows. O(1).
     #[inline]
     pub fn len(&self) -> usize
         ensures count { result ≡ chunk_count N.USIZE self.now.slice.now }
@@ -73,7 +71,7 @@ impl<'a, T, N: Unsigned> ChunksRef<'a, T, N> {
         }
     }
 
-    /// The row at `index`, or `None` where `index` isn't below the number of rows. Constant time.
+    /// The row at `index`, or `None` if there are at most `index` rows. O(1).
     #[inline]
     pub fn get(&self, index: usize) -> Option<GenericArrayRef<'a, T, N>>
         ensures variant { IsSome result ↔ (index < chunk_count N.USIZE self.now.slice.now) }
@@ -93,8 +91,8 @@ impl<'a, T, N: Unsigned> ChunksRef<'a, T, N> {
     #[inline]
     pub fn iter(&self) -> ChunkIter<'_, T, N>
         ensures rows { result ≡ rows N.USIZE self.now.slice.now }
-        ensures runs { EveryRun (YieldsFirstBy {S = List (List T)} {A = GenericArrayRef T N N.Unsigned} (λ view. view.slice.now) (λ left. left)) (λ run. ItemsMapTo run (λ view. view.slice.now) run.from) }
-        ensures runs_back { EveryRun (YieldsLastBy {S = List (List T)} {A = GenericArrayRef T N N.Unsigned} (λ view. view.slice.now) (λ left. left)) (λ run. ItemsMapToReversed run (λ view. view.slice.now) run.from) }
+        ensures runs { RowsInOrder T N N.Unsigned }
+        ensures runs_back { RowsInReverse T N N.Unsigned }
     {
         ChunkIter::over(self.slice)
     }

@@ -13,15 +13,13 @@ const LONG_TEXT: usize = 2048;
 /// How many digits a few bytes have, as those of a digest: a buffer for so many is quickly cleared.
 const SHORT_TEXT: usize = 128;
 
-/// Writes two digits for each byte, the high half first, of `0123456789abcdef` or, where `upper` is
-/// set, of `0123456789ABCDEF`; no more than `limit` digits, where that is fewer. An odd limit cuts
-/// inside a byte.
+/// Writes two hex digits for each byte, the high half first, in lower case or, if `upper` is set,
+/// in upper case; at most `limit` digits. An odd limit cuts inside a byte.
 ///
-/// The writer is called once for each piece of 1,024 bytes that gives digits, so not at all where
-/// there are none. Asks for no memory. At a fault of the writer nothing is said of how much of the
-/// text it got.
+/// Calls the writer once for each piece of 1,024 bytes, and not at all if there are no digits.
+/// Allocates nothing. If the writer fails, nothing is said of how much of the text it got.
 ///
-/// Stands for `fmt::LowerHex` and `fmt::UpperHex` of an array, with the limit in place of a
+/// The counterpart of `fmt::LowerHex` and `fmt::UpperHex` of an array, with `limit` for a
 /// formatter's precision.
 #[inline]
 pub fn write_hex<W: Write>(
@@ -91,7 +89,7 @@ fn put_digits(bytes: &[u8], upper: bool, text: &mut [u8])
     requires { length text.old ≡ 2 * length bytes.now }
     ensures { text.new ≡ hex_digits upper bytes.now }
 {
-    // The text has room, so this isn't refused.
+    // The text has room, so this succeeds.
     let _ = encode_to_slice(bytes, text);
     if upper {
         text.make_ascii_uppercase();

@@ -1,14 +1,14 @@
-//! Slices that can be written, and lent on for writing.
+//! Slices that can be written, and borrowed on for writing.
 ghost use Rattle.std.specs.Borrow.{Array, Lends, sem};
 ghost use Rattle.std.specs.List.{refill};
 ghost use Rattle.ga_views.specs.Parts.{part_set};
 ghost use Rattle.std.specs.Prelude.{◌≡◌, ℕ, ◌+◌, ◌<◌, ◌≤◌, List, drop, length, slice_index_or, slice_set, take};
 
-/// What lends a slice for writing: `&mut [T]`, or a reference to an array of `ga_core`. Whatever is
-/// written through it, the slice keeps its length.
+/// A reference through which a slice can be written: `&mut [T]`, or one to an array of `ga_core`.
+/// Writing doesn't change the slice's length.
 ///
-/// The writing view is generic over it, since a contract can say what a view ends as, where it
-/// lends its slice on, only if the slice stands behind a bound.
+/// The writing view is generic over it: a contract can say what a view ends as, where its slice is
+/// borrowed on, only if the slice stands behind a bound.
 pub trait SliceMut<T>: Drop {
     ghost items: { Self → List T };
 
@@ -47,7 +47,7 @@ pub trait SliceMut<T>: Drop {
         ensures value { result.now ≡ slice_index_or (items self.old) index result.now };
 }
 
-/// What lends also a part of its slice for writing: `&mut [T]`.
+/// A reference of which a part of the slice can be borrowed for writing: `&mut [T]`.
 pub trait PartMut<T>: SliceMut<T> {
     /// `len` items from place `from` on, for writing.
     fn part_mut(&mut self, from: usize, len: usize) -> &mut [T]

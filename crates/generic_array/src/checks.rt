@@ -21,10 +21,9 @@ pub fn total_by<T, S: FunctionalSequence<T>, A, F: FnMut(A, SequenceItem<S>) -> 
     s.fold_by(init, f)
 }
 
-/// The fold by `g`, from `init`, over what `f` answers at the entries.
+/// Folds the values of `f` at the entries by `g`, starting from `init`.
 ///
-/// All calls of `f` come first. Memory is asked for before them: where it is refused, neither
-/// closure is called.
+/// All calls of `f` come first. Allocates before them: if that fails, neither closure is called.
 pub fn map_total_by<
     T,
     U,
@@ -53,11 +52,11 @@ pub fn map_total_by<
     }
 }
 
-/// The dot product of two sequences of numbers, which may be of two kinds: the fold by `plus`, from
-/// `zero`, over what `times` answers at the entries in each place.
+/// The dot product of two sequences of numbers, which may be of two kinds: folds the values of
+/// `times` at the entries of each index by `plus`, starting from `zero`.
 ///
-/// The lengths are equal. All calls of `times` come first. Memory is asked for before them: where it
-/// is refused, neither closure is called.
+/// Requires that the lengths are equal. All calls of `times` come first. Allocates before them: if
+/// that fails, neither closure is called.
 pub fn dot_by<
     T: Drop,
     S: FunctionalSequence<T> + MappedGenericSequence<T, T>,

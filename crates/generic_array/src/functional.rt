@@ -1,6 +1,6 @@
 //! Calls of a closure at all entries of a sequence, from the first to the last.
 //!
-//! Each is inlined wherever it stands: a call that isn't copies an array that is handed on by value.
+//! Each is inlined always: a call that isn't copies an array that it passes on by value.
 ghost use Rattle.ga_core.specs.Runs.{CallableInFold, CallableOver, CallableOverUntilError, ClosureRun, FirstErrorRun, FoldRun};
 ghost use Rattle.ga_core.specs.Tries.{try_fold, try_map};
 ghost use Rattle.generic_array.specs.Built.{built_items};
@@ -24,7 +24,7 @@ pub type Mapped<S, T, U> = <S as MappedGenericSequence<T, U>>::Mapped;
 /// The sequence that a map to `U` makes.
 pub type MappedSequence<S, T, U> = <Mapped<S, T, U> as GenericSequence<U>>::Sequence;
 
-/// What gives the memory of the sequence that a map to `U` makes.
+/// The allocator of the sequence that a map to `U` makes, or `()`.
 pub type MappedPlace<S, T, U> = <Mapped<S, T, U> as GenericSequence<U>>::Place;
 
 /// Why a map to `U` made no sequence.
@@ -41,18 +41,17 @@ pub trait MappedGenericSequence<T, U>: GenericSequence<T> {
 
 /// Calls of a closure at all entries. Each has one body, for all kinds.
 ///
-/// What makes a sequence asks for its memory first: where that is refused, no call is made, and the
-/// entries are dropped. `place` is what gives the memory: `()` where the answer is an inline array, whose
-/// error is `Never`, so that `always` opens the answer; an allocator, `Global`, where it is a boxed array.
-/// That what is made fits, an inline array up to `MAX_INLINE` items, is a condition, and so is it that the
-/// closure may be called at each entry.
+/// Calls that build a sequence allocate first: if that fails, `f` is never called and the items
+/// are dropped. `place` is the allocator: `()` for inline arrays, which can't fail (unwrap with
+/// `always`), `Global` for boxed ones. They require that the length fits what is made, and that
+/// the closure may be called at each entry.
 pub trait FunctionalSequence<T>: GenericSequence<T> {
-    /// The sequence of what `f` answers at each entry, called in order.
+    /// The sequence of the values of `f` at the entries, called in order.
     #[inline(always)]
     final fn map<U, F: FnMut(Self::Item) -> U>(
         self,
         place: MappedPlace<Self, T, U>,
-        f: F,
+        mut f: F,
     ) -> Result<MappedSequence<Self, T, U>, MappedError<Self, T, U>>
     where
         Self: MappedGenericSequence<T, U>,
@@ -63,11 +62,10 @@ pub trait FunctionalSequence<T>: GenericSequence<T> {
         ensures acts { IfOk result (λ made. (h : T → U) → ActsOnEntry Self.entry F.step f h → Self.Mapped.Sequence.items made ≡ map h (Self.items self)) }
         ensures promised { Self.Mapped.IsPromised → IsOk result }
     {
-        let mut f = f;
         self.map_by(place, &mut f)
     }
 
-    /// `map` with a closure that is lent, and can be used again in the state that it reached.
+    /// `map` that borrows the closure, which can be used again in the state that it reached.
     #[inline(always)]
     final fn map_by<U, F: FnMut(Self::Item) -> U>(
         self,
@@ -87,14 +85,14 @@ pub trait FunctionalSequence<T>: GenericSequence<T> {
         map_entries::<T, Self::IntoIter, U, Mapped<Self, T, U>, F>(entries_of(self), place, f)
     }
 
-    /// `map` with a closure that may fail: the sequence of its answers, or its first error.
+    /// `map` with a closure that may fail: the sequence of its values, or its first error.
     ///
-    /// No call follows an error. The answers made before it, and the entries left, are dropped.
+    /// No call follows an error. The values made before it, and the entries left, are dropped.
     #[inline(always)]
     final fn try_map<U, F: FnMut(Self::Item) -> Result<U, E>, E>(
         self,
         place: MappedPlace<Self, T, U>,
-        f: F,
+        mut f: F,
     ) -> Result<Result<MappedSequence<Self, T, U>, E>, MappedError<Self, T, U>>
     where
         Self: MappedGenericSequence<T, U>,
@@ -106,11 +104,10 @@ pub trait FunctionalSequence<T>: GenericSequence<T> {
         ensures acts { IfOk result (λ built. (h : T → Result U E) → ActsOnEntry Self.entry F.step f h → built_items Self.Mapped.Sequence.items built ≡ try_map h (Self.items self)) }
         ensures promised { Self.Mapped.IsPromised → IsOk result }
     {
-        let mut f = f;
         self.try_map_by(place, &mut f)
     }
 
-    /// `try_map` with a closure that is lent, and can be used again in the state that it reached.
+    /// `try_map` that borrows the closure, which can be used again in the state that it reached.
     #[inline(always)]
     final fn try_map_by<U, F: FnMut(Self::Item) -> Result<U, E>, E>(
         self,
@@ -135,16 +132,16 @@ pub trait FunctionalSequence<T>: GenericSequence<T> {
         )
     }
 
-    /// The sequence of what `f` answers at each entry and that of `rhs` in its place, called in
-    /// order. It is of the kind of `self`.
+    /// The sequence of the values of `f` at each entry and that of `rhs` at the same index, called
+    /// in order. It is of the kind of `self`.
     ///
-    /// The lengths are equal. `rhs` may be of another kind.
+    /// Requires that the lengths are equal. `rhs` may be of another kind.
     #[inline(always)]
     final fn zip<B, Rhs: GenericSequence<B>, U, F: FnMut(Self::Item, Rhs::Item) -> U>(
         self,
         place: MappedPlace<Self, T, U>,
         rhs: Rhs,
-        f: F,
+        mut f: F,
     ) -> Result<MappedSequence<Self, T, U>, MappedError<Self, T, U>>
     where
         Self: MappedGenericSequence<T, U>,
@@ -156,11 +153,10 @@ pub trait FunctionalSequence<T>: GenericSequence<T> {
         ensures acts { IfOk result (λ made. (h : T × B → U) → ActsOnEntries Self.entry Rhs.entry F.step f h → Self.Mapped.Sequence.items made ≡ map h (zip (Self.items self) (Rhs.items rhs))) }
         ensures promised { Self.Mapped.IsPromised → IsOk result }
     {
-        let mut f = f;
         self.zip_by(place, rhs, &mut f)
     }
 
-    /// `zip` with a closure that is lent, and can be used again in the state that it reached.
+    /// `zip` that borrows the closure, which can be used again in the state that it reached.
     #[inline(always)]
     final fn zip_by<B, Rhs: GenericSequence<B>, U, F: FnMut(Self::Item, Rhs::Item) -> U>(
         self,
@@ -182,19 +178,17 @@ pub trait FunctionalSequence<T>: GenericSequence<T> {
         inverted_zip2_by(rhs, place, self, f)
     }
 
-    /// The last answer of `f`, called with `init` and the first entry, and then with its own answer
-    /// and each other entry in order; `init` where there is none.
+    /// Folds the entries into one value, in order, starting from `init`.
     #[inline(always)]
-    final fn fold<A, F: FnMut(A, Self::Item) -> A>(self, init: A, f: F) -> A
+    final fn fold<A, F: FnMut(A, Self::Item) -> A>(self, init: A, mut f: F) -> A
         requires callable { CallableInFold (MayFoldAt Self.entry F.pre) (FoldAt Self.entry F.step) f init (Self.items self) }
         ensures run { (last : F) × FoldRun (FoldAt Self.entry F.step) f init (Self.items self) result last }
         ensures acts { (h : A → T → A) → ActsInFold Self.entry F.step f h → result ≡ fold h init (Self.items self) }
     {
-        let mut f = f;
         self.fold_by(init, &mut f)
     }
 
-    /// `fold` with a closure that is lent, and can be used again in the state that it reached.
+    /// `fold` that borrows the closure, which can be used again in the state that it reached.
     #[inline(always)]
     final fn fold_by<A, F: FnMut(A, Self::Item) -> A>(self, init: A, f: &mut F) -> A
         requires callable { CallableInFold (MayFoldAt Self.entry F.pre) (FoldAt Self.entry F.step) f.old init (Self.items self) }
@@ -204,24 +198,23 @@ pub trait FunctionalSequence<T>: GenericSequence<T> {
         fold_entries::<T, Self::IntoIter, A, F>(entries_of(self), init, f)
     }
 
-    /// `fold` with a closure that may fail: its last answer, or its first error.
+    /// `fold` with a closure that may fail: the last value, or the first error.
     ///
     /// No call follows an error, and the entries left are dropped.
     #[inline(always)]
     final fn try_fold<A, F: FnMut(A, Self::Item) -> Result<A, E>, E>(
         self,
         init: A,
-        f: F,
+        mut f: F,
     ) -> Result<A, E>
         requires callable { CallableInFold (MayFoldAt Self.entry F.pre) (good_step (FoldAt Self.entry F.step)) f init (Self.items self) }
         ensures run { (last : F) × TryFoldRun (FoldAt Self.entry F.step) f init (Self.items self) result last }
         ensures acts { (h : A → T → Result A E) → ActsInFold Self.entry F.step f h → result ≡ try_fold h init (Self.items self) }
     {
-        let mut f = f;
         self.try_fold_by(init, &mut f)
     }
 
-    /// `try_fold` with a closure that is lent, and can be used again in the state that it reached.
+    /// `try_fold` that borrows the closure, which can be used again in the state that it reached.
     #[inline(always)]
     final fn try_fold_by<A, F: FnMut(A, Self::Item) -> Result<A, E>, E>(
         self,

@@ -1,10 +1,10 @@
 //! `arr!` and `box_arr!`, for arrays whose items are written out.
 
-/// An inline array: `arr![a, b, c]` of these items, with commas at the end allowed, or `arr![x; U6]`
-/// of as many copies of `x`, which is `Copy` and is evaluated once, as the length says.
+/// An inline array: `arr![a, b, c]` of these items, with commas at the end allowed, or `arr![x;
+/// U6]` of as many copies of `x`, which is `Copy` and is evaluated once, as the length says.
 ///
-/// The length fits, which is a condition. The counterpart of `arr!`, which also takes a number after
-/// the semicolon, and constants.
+/// Requires a length of at most `MAX_INLINE`. The counterpart of `arr!`, which also takes a number
+/// after the semicolon, and constants.
 #[macro_export]
 macro_rules! arr {
     ($item:expr; $N:ty) => {

@@ -22,7 +22,7 @@ use ga_core::{AllocError, FillError, GenericArrayRef, Unsigned};
 pub use shapes::{Concat, Flatten, Lengthen, Remove, Row, Shorten, Split, Unflatten};
 use std::convert::AsSlice;
 
-/// An entry of a sequence: what its `into_iter` gives.
+/// An entry of a sequence: an item of its `into_iter`.
 pub type SequenceItem<S> = <S as IntoIterator>::Item;
 
 /// A sequence that owns its items: what `generate`, `map` and their kin make. An inline or a boxed
@@ -31,16 +31,16 @@ pub type SequenceItem<S> = <S as IntoIterator>::Item;
 /// So a function that knows the traits alone can fold what it made.
 pub trait OwnedSequence<T>: Sized + AsSlice<T> + IntoIterator<Item = T> {
     /// The fold by `f`, from `init`, over the items, from the first to the last.
-    final fn fold_items<A, F: FnMut(A, T) -> A>(self, init: A, f: F) -> A
+    final fn fold_items<A, F: FnMut(A, T) -> A>(self, init: A, mut f: F) -> A
         requires callable { CallableInFold F.pre F.step f init (Self.items self) }
         ensures run { (last : F) × FoldRun F.step f init (Self.items self) result last }
         ensures acts { (h : A → T → A) → ActsAsOnTwo F.FnMut f h → result ≡ fold h init (Self.items self) }
     {
-        let mut f = f;
         self.fold_items_by(init, &mut f)
     }
 
-    /// `fold_items` with a closure that is lent, and can be used again in the state that it reached.
+    /// `fold_items` that borrows the closure, which can be used again in the state that it
+    /// reached.
     final fn fold_items_by<A, F: FnMut(A, T) -> A>(self, init: A, f: &mut F) -> A
         requires callable { CallableInFold F.pre F.step f.old init (Self.items self) }
         ensures run { FoldRun F.step f.old init (Self.items self) result f.new }
@@ -53,21 +53,21 @@ pub trait OwnedSequence<T>: Sized + AsSlice<T> + IntoIterator<Item = T> {
     ghost gives_items: { GivesEntriesOf Self.IntoIter.can_next Self.IntoIter.next_gives Self.IntoIter.remaining Self.into_iter_gives Self.items (λ item. item) };
 }
 
-/// A sequence whose length is a type. Contracts see the list of its items, by `items`.
+/// A sequence whose length is a type: an inline array, a read-only view or a boxed array.
+/// Contracts see the list of its items, by `items`.
 ///
-/// An inline array, a read-only view or a boxed array. `into_iter` gives an entry for each item, in
-/// order; of a view it is a reference.
+/// `into_iter` returns an entry for each item, in order: the item, or of a view a reference to it.
 pub trait GenericSequence<T>: Sized + AsSlice<T> + IntoIterator {
     /// How many items there are.
     type Length: Unsigned;
 
-    /// What is made where a sequence of this kind is asked for. It owns its items.
+    /// What calls that build a sequence of this kind return. It owns its items.
     type Sequence: OwnedSequence<T>;
 
-    /// What gives the memory of a sequence that is made: `()` where none is asked for.
+    /// The allocator of a sequence that is built, or `()` if none is needed.
     type Place;
 
-    /// Why a sequence wasn't made: `Never` where none is refused.
+    /// Why a sequence wasn't built: `Never` if that can't happen.
     type Error;
 
     // A sequence of this kind may have this length.
@@ -76,7 +76,7 @@ pub trait GenericSequence<T>: Sized + AsSlice<T> + IntoIterator {
     // The value that an entry stands for.
     ghost entry: { Self.Item → T };
 
-    // Memory for a sequence of this kind and length is never refused.
+    // Allocating a sequence of this kind and length never fails.
     ghost IsPromised: { Type 0 };
 
     /// Whether the length is one that a sequence of this kind may have, as the calls that make one
@@ -84,17 +84,17 @@ pub trait GenericSequence<T>: Sized + AsSlice<T> + IntoIterator {
     fn fits() -> bool
         ensures { IsTrue result ↔ Fits };
 
-    /// All items as a view, which knows that there are `Length` of them. Constant time.
+    /// All items as a view, which knows that there are `Length` of them. O(1).
     fn view(&self) -> GenericArrayRef<'_, T, Self::Length>
         ensures { result.slice.now ≡ Self.items self.now };
 
     /// The sequence of `f(0)` to `f(Length - 1)`, each called once, in this order.
     ///
-    /// `place` is what gives the memory: `()` or an allocator. It is asked for first: where it is
-    /// refused, no call is made. That the length fits is a condition, of which `fits` is the test.
+    /// Requires that the length fits, which `fits` tests. `place` is the allocator, or `()`.
+    /// Allocates first: if that fails, `f` is never called.
     final fn generate<F: FnMut(usize) -> T>(
         place: Self::Place,
-        f: F,
+        mut f: F,
     ) -> Result<Self::Sequence, Self::Error>
         requires fits { Fits }
         requires callable { CallableAlong F.pre F.step f Self.Length.USIZE }
@@ -103,11 +103,10 @@ pub trait GenericSequence<T>: Sized + AsSlice<T> + IntoIterator {
         ensures acts { IfOk result (λ made. (h : ℕ → T) → ActsAs F.FnMut f h → Self.Sequence.items made ≡ map h (range_with_len 0 Self.Length.USIZE)) }
         ensures promised { IsPromised → IsOk result }
     {
-        let mut f = f;
         Self::generate_by(place, &mut f)
     }
 
-    /// `generate` with a closure that is lent, and can be used again in the state that it reached.
+    /// `generate` that borrows the closure, which can be used again in the state that it reached.
     fn generate_by<F: FnMut(usize) -> T>(
         place: Self::Place,
         f: &mut F,
@@ -123,7 +122,7 @@ pub trait GenericSequence<T>: Sized + AsSlice<T> + IntoIterator {
     /// The sequence of `Length` values equal to `item`: clones of it, made in order, and at last
     /// `item` itself.
     ///
-    /// Refused where memory or a clone is; the clones made are then dropped.
+    /// If the allocation or a clone fails, drops the clones made before and returns the error.
     fn repeat(place: Self::Place, item: T) -> Result<Self::Sequence, AllocError>
     where
         T: Clone,
@@ -133,7 +132,7 @@ pub trait GenericSequence<T>: Sized + AsSlice<T> + IntoIterator {
         ensures few { IsPromised → Self.Length.USIZE ≤ 1 → IsOk result }
         ensures succeeds { IsPromised → T.is_infallible item → IsOk result };
 
-    // Memory for no items is never refused.
+    // Allocating no items never fails.
     ghost empty_is_promised: { Self.Length.USIZE ≡ 0 → IsPromised };
 
     // `into_iter` gives an entry for each item, in order, and then ends.
@@ -142,12 +141,12 @@ pub trait GenericSequence<T>: Sized + AsSlice<T> + IntoIterator {
 
 /// A sequence that can be made by a closure that may fail.
 pub trait FallibleGenericSequence<T>: GenericSequence<T> {
-    /// `generate` with a closure that may fail: the sequence of its answers, or its first error.
+    /// `generate` with a closure that may fail: the sequence of its values, or its first error.
     ///
     /// No call follows an error, and the items made before it are dropped.
     final fn try_generate<F: FnMut(usize) -> Result<T, E>, E>(
         place: Self::Place,
-        f: F,
+        mut f: F,
     ) -> Result<Result<Self::Sequence, E>, Self::Error>
         requires fits { Self.Fits }
         requires callable { CallableUntilError F.pre F.step f Self.Length.USIZE }
@@ -156,11 +155,10 @@ pub trait FallibleGenericSequence<T>: GenericSequence<T> {
         ensures acts { IfOk result (λ built. (h : ℕ → Result T E) → ActsAs F.FnMut f h → built_items Self.Sequence.items built ≡ try_map h (range_with_len 0 Self.Length.USIZE)) }
         ensures promised { Self.IsPromised → IsOk result }
     {
-        let mut f = f;
         Self::try_generate_by(place, &mut f)
     }
 
-    /// `try_generate` with a closure that is lent, and can be used again in the state that it
+    /// `try_generate` that borrows the closure, which can be used again in the state that it
     /// reached.
     fn try_generate_by<F: FnMut(usize) -> Result<T, E>, E>(
         place: Self::Place,
@@ -177,12 +175,12 @@ pub trait FallibleGenericSequence<T>: GenericSequence<T> {
 
 /// A sequence that can be filled from an iterator whose items may be errors.
 pub trait FromFallibleIterator<T>: GenericSequence<T> {
-    /// The sequence of the values that `items` gives. Answers the first error among its first
-    /// `Length` items as `Item`, and where there is no such error and it gives another number of
-    /// values, `Length`.
+    /// Returns the first `Err` among the first `Length` items as `FillError::Item`, without asking
+    /// for another; otherwise the sequence of the `Length` values, or `FillError::Length` if there
+    /// are more or fewer.
     ///
-    /// Memory is asked for first: where it is refused, the answer is `Place`, and no item is taken.
-    /// An error that comes after `Length` values is one item too many. Size hints aren't consulted.
+    /// Allocates first: if that fails, returns `FillError::Place` and takes no item. An `Err`
+    /// after `Length` values is one item too many. Size hints aren't consulted.
     fn from_fallible_iter<I: Iterator<Item = Result<T, E>>, E: Drop>(
         place: Self::Place,
         items: I,
@@ -193,10 +191,10 @@ pub trait FromFallibleIterator<T>: GenericSequence<T> {
         ensures runs { IfOk (fill_answer (built_items Self.items result)) (λ built. FillFalliblyRuns I.next_gives items Self.Length.USIZE built) }
         ensures promised { Self.IsPromised → IsOk (fill_answer (built_items Self.items result)) };
 
-    /// `from_fallible_iter` with an iterator that is lent, and can be asked on afterwards.
+    /// `from_fallible_iter` that borrows the iterator, which can be used again afterwards.
     ///
-    /// The error that is answered as `Item` is the last item taken. An iterator isn't asked again
-    /// once it has ended.
+    /// A returned `Item` is the last item taken. Doesn't call `next` again once the iterator has
+    /// ended.
     fn from_fallible_iter_ref<I: Iterator<Item = Result<T, E>>, E: Drop>(
         place: Self::Place,
         items: &mut I,

@@ -55,14 +55,16 @@ pub trait TwoEnded<T> {
         ensures value { result.now ≡ items self.old };
 }
 
-/// A sequence that owns its items, and whose iterator by value has two ends: an inline or a boxed array.
+/// A sequence that owns its items, and whose iterator by value has two ends: an inline or a boxed
+/// array.
 ///
-/// A view's iterator gives references, which can't be replaced, so a view is none.
+/// A view isn't one: its iterator returns references, which can't be replaced.
 pub trait TwoEndedSequence<T>: GenericSequence<T> {
     /// The iterator by value.
     type TwoEnded: TwoEnded<T> + Drop;
 
-    /// All items, in order, to be taken from both ends: what `into_iter` returns. Constant time.
+    /// All items, in order, to be taken from both ends: what `into_iter` returns. O(1) of a boxed
+    /// array; of an inline one it moves the items.
     fn into_two_ended(self) -> Self::TwoEnded
         ensures { Self.TwoEnded.items result ≡ Self.items self };
 }
@@ -93,12 +95,12 @@ fn step_once<T: Drop, R, I: TwoEnded<T>, G: FnMut(&[T]) -> R>(
     }
 }
 
-/// Makes the steps in order, and puts one reply for each behind those that `replies` holds. `look` is
-/// called once for each `Look`, with all items that are left then.
+/// Makes the steps in order, and pushes one reply for each to `replies`. Calls `look` once for
+/// each `Look`, with all items that are left then.
 ///
-/// Asks for room for all replies first, at most once, and for none where `replies` has it. Where room is
-/// refused, no step is made, iterator, closure and replies are as they were, and the steps are dropped.
-/// A run may be stopped after any step and taken up again by another call: both together are one run.
+/// Allocates room for all replies first, if `replies` doesn't have it. If that fails, no step is
+/// made, iterator, closure and replies are as they were, and the steps are dropped. A run may be
+/// stopped after any step and taken up again by another call: both together are one run.
 pub fn run_steps<T: Drop, R, I: TwoEnded<T>, G: FnMut(&[T]) -> R>(
     iter: &mut I,
     steps: Vec<Step<T>>,

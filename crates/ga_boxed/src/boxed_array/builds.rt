@@ -15,19 +15,18 @@ use std::alloc::Global;
 impl<T, N: Unsigned> BoxedArray<T, N> {
     /// The array of `f(0)` to `f(N - 1)`, each called once, in this order.
     ///
-    /// Asks for the whole block first: where that is refused, no call is made. No block is asked for
-    /// where `N` is 0.
-    pub fn generate<F: FnMut(usize) -> T>(alloc: Global, f: F) -> Result<Self, AllocError>
+    /// Allocates the whole block first: if that fails, `f` is never called. Allocates nothing if
+    /// `N` is 0.
+    pub fn generate<F: FnMut(usize) -> T>(alloc: Global, mut f: F) -> Result<Self, AllocError>
         requires callable { CallableAlong F.pre F.step f N.USIZE }
         ensures run { (last : F) × IfOk result (λ array. ClosureRun F.step f (range_with_len 0 N.USIZE) array last) }
         ensures acts { IfOk result (λ array. (h : ℕ → T) → ActsAs F.FnMut f h → array ≡ map h (range_with_len 0 N.USIZE)) }
         ensures empty { N.USIZE ≡ 0 → IsOk result }
     {
-        let mut f = f;
         Self::generate_by(alloc, &mut f)
     }
 
-    /// `generate` with a closure that is lent, and can be used again in the state that it reached.
+    /// `generate` that borrows the closure, which can be used again in the state that it reached.
     pub fn generate_by<F: FnMut(usize) -> T>(alloc: Global, f: &mut F) -> Result<Self, AllocError>
         requires callable { CallableAlong F.pre F.step f.old N.USIZE }
         ensures run { IfOk result (λ array. ClosureRun F.step f.old (range_with_len 0 N.USIZE) array f.new) }
@@ -44,23 +43,23 @@ impl<T, N: Unsigned> BoxedArray<T, N> {
 }
 
 impl<T: Drop, N: Unsigned> BoxedArray<T, N> {
-    /// `generate` with a closure that may fail: the array of its answers, or its first error.
+    /// `generate` with a closure that may fail: the array of its values, or its first error.
     ///
     /// No call follows an error, and the items made before it are dropped.
     pub fn try_generate<F: FnMut(usize) -> Result<T, E>, E>(
         alloc: Global,
-        f: F,
+        mut f: F,
     ) -> Result<Result<Self, E>, AllocError>
         requires callable { CallableUntilError F.pre F.step f N.USIZE }
         ensures run { (last : F) × IfOk result (λ built. FirstErrorRun F.step f (range_with_len 0 N.USIZE) built last) }
         ensures acts { IfOk result (λ built. (h : ℕ → Result T E) → ActsAs F.FnMut f h → built ≡ try_map h (range_with_len 0 N.USIZE)) }
         ensures empty { N.USIZE ≡ 0 → IsOk result }
     {
-        let mut f = f;
         Self::try_generate_by(alloc, &mut f)
     }
 
-    /// `try_generate` with a closure that is lent, and can be used again in the state that it reached.
+    /// `try_generate` that borrows the closure, which can be used again in the state that it
+    /// reached.
     pub fn try_generate_by<F: FnMut(usize) -> Result<T, E>, E>(
         alloc: Global,
         f: &mut F,
@@ -81,26 +80,25 @@ impl<T: Drop, N: Unsigned> BoxedArray<T, N> {
         Ok(Ok(BoxedArray::of_items(good)))
     }
 
-    /// The array of all that `items` gives, or `LengthError` where it doesn't give exactly `N`.
+    /// The array of all items of `items`, or `LengthError` if they aren't exactly `N`.
     ///
-    /// Asks for the whole block first: where that is refused, no item is taken. Size hints aren't
-    /// consulted: `N` items are taken, and one more is asked for.
+    /// Allocates the whole block first: if that fails, takes no item. Takes `N` items and calls
+    /// `next` once more; size hints aren't consulted.
     pub fn try_boxed_from_iter<I: Iterator<Item = T>>(
         alloc: Global,
-        items: I,
+        mut items: I,
     ) -> Result<Result<Self, LengthError>, AllocError>
         requires can { I.can_next items }
         ensures fill { (after : I) × IfOk result (λ built. Fills I.next_gives items N.USIZE built after) }
         ensures runs { IfOk result (λ built. FillRuns I.next_gives items N.USIZE built) }
         ensures empty { N.USIZE ≡ 0 → IsOk result }
     {
-        let mut items = items;
         Self::try_boxed_from_iter_ref(alloc, &mut items)
     }
 
-    /// `try_boxed_from_iter` with an iterator that is lent, and can be asked on afterwards.
+    /// `try_boxed_from_iter` that borrows the iterator, which can be used again afterwards.
     ///
-    /// It isn't asked again once it has ended, so at most `N + 1` items are taken.
+    /// Takes at most `N + 1` items, and doesn't call `next` again once the iterator has ended.
     pub fn try_boxed_from_iter_ref<I: Iterator<Item = T>>(
         alloc: Global,
         items: &mut I,
@@ -138,28 +136,28 @@ impl<T: Drop, N: Unsigned> BoxedArray<T, N> {
         }
     }
 
-    /// The array of the values that `items` gives. Answers the first error among its first `N` items
-    /// as `Item`, and where there is no such error and it gives another number of values than `N`,
-    /// `Length`.
+    /// Returns the first `Err` among the first `N` items as `FillError::Item`, without asking for
+    /// another; otherwise the array of the `N` values, or `FillError::Length` if there are more or
+    /// fewer.
     ///
-    /// Asks for the whole block first: where that is refused, the answer is `Place`, and no item is
-    /// taken. An error that comes after `N` values is one item too many. Size hints aren't consulted.
+    /// Allocates the whole block first: if that fails, returns `FillError::Place` and takes no
+    /// item. An `Err` after `N` values is one item too many. Size hints aren't consulted.
     pub fn try_boxed_from_fallible_iter<I: Iterator<Item = Result<T, E>>, E: Drop>(
         alloc: Global,
-        items: I,
+        mut items: I,
     ) -> Result<Self, FillError<E, AllocError>>
         requires can { I.can_next items }
         ensures fill { (after : I) × IfOk (fill_answer result) (λ built. FillsFallibly I.next_gives items N.USIZE built after) }
         ensures runs { IfOk (fill_answer result) (λ built. FillFalliblyRuns I.next_gives items N.USIZE built) }
         ensures empty { N.USIZE ≡ 0 → IsOk (fill_answer result) }
     {
-        let mut items = items;
         Self::try_boxed_from_fallible_iter_ref(alloc, &mut items)
     }
 
-    /// `try_boxed_from_fallible_iter` with an iterator that is lent, and can be asked on afterwards.
+    /// `try_boxed_from_fallible_iter` that borrows the iterator, which can be used again
+    /// afterwards.
     ///
-    /// The error that is answered is the last item taken. An iterator isn't asked again once it has
+    /// A returned `Item` is the last item taken. Doesn't call `next` again once the iterator has
     /// ended.
     pub fn try_boxed_from_fallible_iter_ref<I: Iterator<Item = Result<T, E>>, E: Drop>(
         alloc: Global,

@@ -10,15 +10,14 @@ use std::boxed::BoxedSlice;
 use std::mem;
 
 impl<T: Default + Drop, N: ArrayLength<T>> BoxedArray<T, N> {
-    /// The items of an inline array in a block. Where that is refused, they are dropped. No block is
-    /// asked for where `N` is 0.
+    /// The items of an inline array in a block. If the allocation fails, drops them. Allocates
+    /// nothing if `N` is 0.
     ///
     /// Moves each item once.
-    pub fn from_inline(alloc: Global, array: GenericArray<T, N>) -> Result<Self, AllocError>
+    pub fn from_inline(alloc: Global, mut array: GenericArray<T, N>) -> Result<Self, AllocError>
         ensures ok { IfOk result (λ boxed. boxed ≡ array) }
         ensures empty { N.USIZE ≡ 0 → IsOk result }
     {
-        let mut array = array;
         let places = array.as_mut_slice();
         let mut block = LiveBlock::new(alloc, N::USIZE)?;
         for place in places.iter_mut() {
@@ -29,8 +28,8 @@ impl<T: Default + Drop, N: ArrayLength<T>> BoxedArray<T, N> {
 }
 
 impl<T: Drop, const U: usize> BoxedArray<T, Const<U>> {
-    /// The items of a native array in a block. Where that is refused, they are dropped. No block is
-    /// asked for where there are none.
+    /// The items of a native array in a block. If the allocation fails, drops them. Allocates
+    /// nothing if there are none.
     ///
     /// Moves each item once. `box_arr!` stands on it.
     pub fn from_array(alloc: Global, items: [T; U]) -> Result<Self, AllocError>
@@ -42,11 +41,12 @@ impl<T: Drop, const U: usize> BoxedArray<T, Const<U>> {
 }
 
 impl<T: Drop, N: Unsigned> BoxedArray<T, N> {
-    /// The array of the items of a vector, or `LengthError` where it hasn't `N` items, before memory
-    /// is asked for; the vector is dropped there, and where the block is refused. Never refused for want
-    /// of memory where `N` is 0.
+    /// The array of the items of a vector, or `LengthError` if it doesn't have `N` items, which is
+    /// looked at before the allocation. Either error drops the vector. Allocates nothing if `N` is
+    /// 0.
     ///
-    /// The counterpart of `GenericArray::try_from_vec`. Moves each item once, to a block of their number.
+    /// The counterpart of `GenericArray::try_from_vec`. Moves each item once, to a block of their
+    /// number.
     pub fn try_from_vec(
         alloc: Global,
         items: Vec<T>,
@@ -79,8 +79,8 @@ impl<T: Drop, N: Unsigned> BoxedArray<T, N> {
         Self::try_from_vec(alloc, items.into_vec())
     }
 
-    /// The items as a vector. Where the memory for them is refused, they are dropped; never refused where
-    /// `N` is 0. The counterpart of `GenericArray::into_vec`.
+    /// The items as a vector. If the allocation fails, drops them. Allocates nothing if `N` is 0.
+    /// The counterpart of `GenericArray::into_vec`.
     ///
     /// Moves each item once, to the vector's memory.
     pub fn into_vec(self) -> Result<Vec<T>, AllocError>

@@ -11,7 +11,7 @@ use std::alloc::Global;
 impl<T: Default, N: Unsigned> BoxedArray<T, N> {
     /// The array of `N` times `T::default()`, called in order.
     ///
-    /// Asks for the whole block first. No block is asked for where `N` is 0.
+    /// Allocates the whole block first, and nothing if `N` is 0.
     pub fn default_boxed(alloc: Global) -> Result<Self, AllocError>
         ensures items { IfOk result (λ array. All T.is_default array) }
         ensures empty { N.USIZE ≡ 0 → IsOk result }
@@ -37,10 +37,11 @@ impl<T: Copy, N: Unsigned> BoxedArray<T, N> {
 }
 
 impl<T: Clone, N: Unsigned> BoxedArray<T, N> {
-    /// The array of `N` values equal to `item`: clones of it, made in order, and at last `item` itself.
+    /// The array of `N` values equal to `item`: clones of it, made in order, and at last `item`
+    /// itself.
     ///
-    /// Asks for the whole block first, and for none where `N` is 0. Refused where the block or a clone
-    /// is; the clones made are then dropped.
+    /// Allocates the whole block first, and nothing if `N` is 0. If a clone fails, drops those
+    /// made before it and returns the error.
     pub fn repeat(alloc: Global, item: T) -> Result<Self, AllocError>
         ensures items { IfOk result (λ array. Repeats T.is_clone item N.USIZE array) }
         ensures same { ((copy : T) → T.is_clone item copy → copy ≡ item) → IfOk result (λ array. array ≡ replicate N.USIZE item) }

@@ -57,8 +57,8 @@ unsafe impl<T: Send> Send for Cells<T> {}
 
 unsafe impl<T: Sync> Sync for Cells<T> {}
 
-/// The right to give the block of `len` places at `at` back to `alloc`: none where `len` is 0, since
-/// there is no block then. It takes no space.
+/// The right to deallocate the block of `len` slots at `at`: none if `len` is 0, since there is no
+/// block then. It takes no space.
 pub struct Deed<T, A: Allocator> {
     mark: PhantomData<*const (T, A)>,
     ghost at: { Ptr },
@@ -88,14 +88,15 @@ pub(crate) fn fits<T>(len: usize) -> bool
     len <= MAX_BYTES / size
 }
 
-/// A block of `len` places, all of them room. For none, nothing is asked for, and the pointer dangles.
+/// A block of `len` slots, all of them room. If `len` is 0, allocates nothing and returns a
+/// dangling pointer.
 pub(crate) fn allocate<T, A: Allocator>(
     alloc: &A,
     len: usize,
 ) -> Result<(Base<T>, Cells<T>, Deed<T, A>), AllocError>
     requires fits { len * type_size T.row < 2 ^ 63 }
     ensures block { IfOk result (λ r. (r.1.at ≡ r.0.ptr) × (r.1.passed ≡ 0) × (r.1.items ≡ []) × (r.1.room ≡ len) × (r.2.at ≡ r.0.ptr) × (r.2.len ≡ len) × (r.2.alloc ≡ alloc.now)) }
-    ensures none { len ≡ 0 → IsOk result }
+    ensures empty { len ≡ 0 → IsOk result }
 {
     if len == 0 {
         let none: [T; 0] = [];
@@ -123,7 +124,7 @@ pub(crate) fn allocate<T, A: Allocator>(
     }
 }
 
-/// Gives the block of `len` places, which holds no item, back, and nothing where `len` is 0.
+/// Deallocates the block of `len` slots, which holds no item. Does nothing if `len` is 0.
 pub(crate) fn deallocate<T, A: Allocator>(
     alloc: &A,
     base: Base<T>,

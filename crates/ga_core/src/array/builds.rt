@@ -18,18 +18,17 @@ use ga_views::LengthError;
 impl<T: Drop, N: ArrayLength<T>> GenericArray<T, N> {
     /// The array of `f(0)` to `f(N - 1)`, each called once, in this order.
     ///
-    /// The length fits. Takes no memory.
-    pub fn generate<F: FnMut(usize) -> T>(f: F) -> Self
+    /// Requires `N <= MAX_INLINE`. Allocates nothing.
+    pub fn generate<F: FnMut(usize) -> T>(mut f: F) -> Self
         requires fits { FitsInline N.USIZE }
         requires callable { MayCallAlong F.pre F.step f N.USIZE }
         ensures run { (last : F) × ClosureRun F.step f (range_with_len 0 N.USIZE) result last }
         ensures acts { (h : ℕ → T) → ActsAs F.FnMut f h → result ≡ map h (range_with_len 0 N.USIZE) }
     {
-        let mut f = f;
         Self::generate_by(&mut f)
     }
 
-    /// `generate` with a closure that is lent, and can be used again in the state that it reached.
+    /// `generate` that borrows the closure, which can be used again in the state that it reached.
     pub fn generate_by<F: FnMut(usize) -> T>(f: &mut F) -> Self
         requires fits { FitsInline N.USIZE }
         requires callable { MayCallAlong F.pre F.step f.old N.USIZE }
@@ -41,20 +40,20 @@ impl<T: Drop, N: ArrayLength<T>> GenericArray<T, N> {
         GenericArray::of_store(store)
     }
 
-    /// `generate` with a closure that may fail: the array of its answers, or its first error.
+    /// `generate` with a closure that may fail: the array of its values, or its first error.
     ///
     /// No call follows an error, and the items made before it are dropped.
-    pub fn try_generate<F: FnMut(usize) -> Result<T, E>, E>(f: F) -> Result<Self, E>
+    pub fn try_generate<F: FnMut(usize) -> Result<T, E>, E>(mut f: F) -> Result<Self, E>
         requires fits { FitsInline N.USIZE }
         requires callable { MayCallAlongUntilError F.pre F.step f N.USIZE }
         ensures run { (last : F) × FirstErrorRun F.step f (range_with_len 0 N.USIZE) result last }
         ensures acts { (h : ℕ → Result T E) → ActsAs F.FnMut f h → result ≡ try_map h (range_with_len 0 N.USIZE) }
     {
-        let mut f = f;
         Self::try_generate_by(&mut f)
     }
 
-    /// `try_generate` with a closure that is lent, and can be used again in the state that it reached.
+    /// `try_generate` that borrows the closure, which can be used again in the state that it
+    /// reached.
     pub fn try_generate_by<F: FnMut(usize) -> Result<T, E>, E>(f: &mut F) -> Result<Self, E>
         requires fits { FitsInline N.USIZE }
         requires callable { MayCallAlongUntilError F.pre F.step f.old N.USIZE }
@@ -68,23 +67,22 @@ impl<T: Drop, N: ArrayLength<T>> GenericArray<T, N> {
         }
     }
 
-    /// The array of all that `items` gives, or `LengthError` where it doesn't give exactly `N`.
+    /// The array of all items of `items`, or `LengthError` if they aren't exactly `N`.
     ///
-    /// The length fits. Size hints aren't consulted: `N` items are taken, and one more is asked
-    /// for. Takes no memory.
-    pub fn try_from_iter<I: Iterator<Item = T>>(items: I) -> Result<Self, LengthError>
+    /// Requires `N <= MAX_INLINE`. Takes `N` items and calls `next` once more; size hints aren't
+    /// consulted. Allocates nothing.
+    pub fn try_from_iter<I: Iterator<Item = T>>(mut items: I) -> Result<Self, LengthError>
         requires fits { FitsInline N.USIZE }
         requires can { I.can_next items }
         ensures fill { (after : I) × Fills I.next_gives items N.USIZE result after }
         ensures runs { FillRuns I.next_gives items N.USIZE result }
     {
-        let mut items = items;
         Self::try_from_iter_ref(&mut items)
     }
 
-    /// `try_from_iter` with an iterator that is lent, and can be asked on afterwards.
+    /// `try_from_iter` that borrows the iterator, which can be used again afterwards.
     ///
-    /// It isn't asked again once it has ended, so at most `N + 1` items are taken.
+    /// Takes at most `N + 1` items, and doesn't call `next` again once the iterator has ended.
     pub fn try_from_iter_ref<I: Iterator<Item = T>>(items: &mut I) -> Result<Self, LengthError>
         requires fits { FitsInline N.USIZE }
         requires can { I.can_next items.old }
@@ -97,26 +95,25 @@ impl<T: Drop, N: ArrayLength<T>> GenericArray<T, N> {
         builder.finish_at_end(items)
     }
 
-    /// The array of the values that `items` gives, the first error among its first `N` items, or
-    /// `LengthError` where it gives another number of values than `N` and no such error.
+    /// Returns the first `Err` among the first `N` items, without asking for another; otherwise
+    /// the array of the `N` values, or `LengthError` if there are more or fewer.
     ///
-    /// The length fits. An error that comes after `N` values is one item too many. Size hints aren't
-    /// consulted. Takes no memory.
+    /// Requires `N <= MAX_INLINE`. An `Err` after `N` values is one item too many. Size hints
+    /// aren't consulted. Allocates nothing.
     pub fn try_from_fallible_iter<I: Iterator<Item = Result<T, E>>, E: Drop>(
-        items: I,
+        mut items: I,
     ) -> Result<Result<Self, E>, LengthError>
         requires fits { FitsInline N.USIZE }
         requires can { I.can_next items }
         ensures fill { (after : I) × FillsFallibly I.next_gives items N.USIZE result after }
         ensures runs { FillFalliblyRuns I.next_gives items N.USIZE result }
     {
-        let mut items = items;
         Self::try_from_fallible_iter_ref(&mut items)
     }
 
-    /// `try_from_fallible_iter` with an iterator that is lent, and can be asked on afterwards.
+    /// `try_from_fallible_iter` that borrows the iterator, which can be used again afterwards.
     ///
-    /// The error that is answered is the last item taken. An iterator isn't asked again once it has
+    /// A returned `Err` is the last item taken. Doesn't call `next` again once the iterator has
     /// ended.
     pub fn try_from_fallible_iter_ref<I: Iterator<Item = Result<T, E>>, E: Drop>(
         items: &mut I,

@@ -14,10 +14,10 @@ use std::boxed::BoxedSlice;
 use std::mem;
 
 impl<T: Default + Drop, const U: usize> GenericArray<T, Const<U>> {
-    /// The array of the items of a native one. The counterpart of `GenericArray::from_array`, and of
-    /// `From<[T; N]>`.
+    /// The array of the items of a native one. The counterpart of `GenericArray::from_array`, and
+    /// of `From<[T; N]>`.
     ///
-    /// The length fits. Moves the items once, and takes no memory.
+    /// Requires `N <= MAX_INLINE`. Moves the items once, and allocates nothing.
     #[inline]
     pub fn from_array(items: [T; U]) -> Self
         requires fits { FitsInline U }
@@ -28,9 +28,10 @@ impl<T: Default + Drop, const U: usize> GenericArray<T, Const<U>> {
 }
 
 impl<T: Copy + Default + Drop, N: ArrayLength<T>> GenericArray<T, N> {
-    /// The array of copies of a view's items. The counterpart of `*view` where `GenericArray` is `Copy`.
+    /// The array of copies of a view's items. The counterpart of `*view` where `GenericArray` is
+    /// `Copy`.
     ///
-    /// The length fits. Copies the items once, and takes no memory.
+    /// Requires `N <= MAX_INLINE`. Copies the items once, and allocates nothing.
     #[inline]
     pub fn from_view(view: GenericArrayRef<'_, T, N>) -> Self
         requires fits { FitsInline N.USIZE }
@@ -56,11 +57,11 @@ impl<T: Copy + Default + Drop, N: ArrayLength<T>> GenericArray<T, N> {
 }
 
 impl<T: Default + Drop, N: ArrayLength<T>> GenericArray<T, N> {
-    /// The array of the items of a vector, or `LengthError` where it hasn't `N` items; the vector is
-    /// then dropped. The counterpart of `TryFrom<Vec<T>>`.
+    /// The array of the items of a vector, or `LengthError` if it doesn't have `N` items; the
+    /// vector is then dropped. The counterpart of `TryFrom<Vec<T>>`.
     ///
-    /// The length fits. Moves each item once, and asks for no memory.
-    pub fn try_from_vec(items: Vec<T>) -> Result<Self, LengthError>
+    /// Requires `N <= MAX_INLINE`. Moves each item once, and allocates nothing.
+    pub fn try_from_vec(mut items: Vec<T>) -> Result<Self, LengthError>
         requires fits { FitsInline N.USIZE }
         ensures variant { IsOk result ↔ (length items.items ≡ N.USIZE) }
         ensures ok { IfOk result (λ array. array ≡ items.items) }
@@ -68,7 +69,6 @@ impl<T: Default + Drop, N: ArrayLength<T>> GenericArray<T, N> {
         if items.len() != N::USIZE {
             return Err(LengthError);
         }
-        let mut items = items;
         let mut store: N::ArrayType = Store::filled();
         move_items(items.as_mut_slice(), store.as_mut_slice());
         Ok(GenericArray::of_store(store))
@@ -83,8 +83,8 @@ impl<T: Default + Drop, N: ArrayLength<T>> GenericArray<T, N> {
         Self::try_from_vec(items.into_vec())
     }
 
-    /// The items as a vector. Where the block for them is refused, they are dropped. No block is asked
-    /// for where `N` is 0. The counterpart of `From<GenericArray<T, N>>` for `Vec<T>`.
+    /// The items as a vector. If its block can't be allocated, drops them and returns the error.
+    /// Allocates nothing if `N` is 0. The counterpart of `From<GenericArray<T, N>>` for `Vec<T>`.
     ///
     /// Moves each item once.
     pub fn into_vec(self, alloc: Global) -> Result<Vec<T>, AllocError>

@@ -12,9 +12,10 @@ use crate::store::Store;
 use std::alloc;
 
 impl<T: Default + Drop, N: ArrayLength<T>> GenericArray<T, N> {
-    /// The array of `N` times `T::default()`, called in order. The length fits.
+    /// The array of `N` times `T::default()`, called in order. Requires `N <= MAX_INLINE`.
     ///
-    /// For every length; the trait `Default`, which items of arrays need, is there for every `InlineLength`.
+    /// For every length; the trait `Default`, which items of arrays need, is there for every
+    /// `InlineLength`.
     pub fn default() -> Self
         requires fits { FitsInline N.USIZE }
         ensures items { All T.is_default result }
@@ -26,7 +27,7 @@ impl<T: Default + Drop, N: ArrayLength<T>> GenericArray<T, N> {
 }
 
 impl<T: Copy + Drop, N: ArrayLength<T>> GenericArray<T, N> {
-    /// The array of `N` times `item`. The length fits. `arr![item; N]` stands on it.
+    /// The array of `N` times `item`. Requires `N <= MAX_INLINE`. `arr![item; N]` stands on it.
     #[inline]
     pub fn of_copies(item: T) -> Self
         requires fits { FitsInline N.USIZE }
@@ -39,10 +40,11 @@ impl<T: Copy + Drop, N: ArrayLength<T>> GenericArray<T, N> {
 }
 
 impl<T: Clone, N: ArrayLength<T>> GenericArray<T, N> {
-    /// The array of `N` values equal to `item`: clones of it, made in order, and at last `item` itself.
+    /// The array of `N` values equal to `item`: clones of it, made in order, and at last `item`
+    /// itself.
     ///
-    /// The length fits. Refused where a clone is, so never for a length of 0 or 1; the clones made
-    /// are then dropped. The counterpart of `GenericSequence::repeat`.
+    /// Requires `N <= MAX_INLINE`. If a clone fails, drops those made before it and returns the
+    /// error; for a length of 0 or 1 none is made. The counterpart of `GenericSequence::repeat`.
     #[inline(always)]
     pub fn repeat(item: T) -> Result<Self, AllocError>
         requires fits { FitsInline N.USIZE }
@@ -60,8 +62,7 @@ impl<T: Clone, N: ArrayLength<T>> GenericArray<T, N> {
 
     /// The array of clones of the items, made in order.
     ///
-    /// Refused at the first clone that is, so never where there is no item; the clones made are then
-    /// dropped.
+    /// If a clone fails, drops those made before it and returns the error.
     pub fn clone(&self) -> Result<Self, AllocError>
         ensures items { IfOk result (λ copy. AllZip T.is_clone self.now copy) }
         ensures succeeds { All T.is_infallible self.now → IsOk result }

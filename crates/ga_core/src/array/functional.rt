@@ -21,14 +21,13 @@ impl<T: Default + Drop, N: ArrayLength<T>> GenericArray<T, N> {
     ///
     /// The counterpart of `map`. Allocates nothing.
     #[inline(always)]
-    pub fn map_inline<U: Default + Drop, F: FnMut(T) -> U>(self, f: F) -> GenericArray<U, N>
+    pub fn map_inline<U: Default + Drop, F: FnMut(T) -> U>(self, mut f: F) -> GenericArray<U, N>
     where
         N: ArrayLength<U>,
         requires callable { MayCallOver F.pre F.step f self }
         ensures run { (last : F) × ClosureRun F.step f self result last }
         ensures acts { (h : T → U) → ActsAs F.FnMut f h → result ≡ map h self }
     {
-        let mut f = f;
         self.map_inline_by(&mut f)
     }
 
@@ -53,7 +52,7 @@ impl<T: Default + Drop, N: ArrayLength<T>> GenericArray<T, N> {
     #[inline(always)]
     pub fn try_map_inline<U: Default + Drop, F: FnMut(T) -> Result<U, E>, E>(
         self,
-        f: F,
+        mut f: F,
     ) -> Result<GenericArray<U, N>, E>
     where
         N: ArrayLength<U>,
@@ -61,7 +60,6 @@ impl<T: Default + Drop, N: ArrayLength<T>> GenericArray<T, N> {
         ensures run { (last : F) × FirstErrorRun F.step f self result last }
         ensures acts { (h : T → Result U E) → ActsAs F.FnMut f h → result ≡ try_map h self }
     {
-        let mut f = f;
         self.try_map_inline_by(&mut f)
     }
 
@@ -93,7 +91,7 @@ impl<T: Default + Drop, N: ArrayLength<T>> GenericArray<T, N> {
     pub fn zip_inline<B: Default + Drop, U: Default + Drop, F: FnMut(T, B) -> U>(
         self,
         rhs: GenericArray<B, N>,
-        f: F,
+        mut f: F,
     ) -> GenericArray<U, N>
     where
         N: ArrayLength<B> + ArrayLength<U>,
@@ -101,7 +99,6 @@ impl<T: Default + Drop, N: ArrayLength<T>> GenericArray<T, N> {
         ensures run { (last : F) × ClosureRun (CallOnPair F.step) f (zip self rhs) result last }
         ensures acts { (h : T × B → U) → ActsOnPair F.step f h → result ≡ map h (zip self rhs) }
     {
-        let mut f = f;
         self.zip_inline_by(rhs, &mut f)
     }
 
@@ -135,7 +132,7 @@ impl<T: Default + Drop, N: ArrayLength<T>> GenericArray<T, N> {
     pub fn zip_inline_ref<B, U: Default + Drop, F: FnMut(T, &B) -> U>(
         self,
         rhs: GenericArrayRef<'_, B, N>,
-        f: F,
+        mut f: F,
     ) -> GenericArray<U, N>
     where
         N: ArrayLength<U>,
@@ -143,7 +140,6 @@ impl<T: Default + Drop, N: ArrayLength<T>> GenericArray<T, N> {
         ensures run { (last : F) × ClosureRun (CallAtPair (λ item. item) (λ item. item.now) F.step) f (zip self rhs.entry.slice.now) result last }
         ensures acts { (h : T × B → U) → ActsOnEntries (λ item. item) (λ item. item.now) F.step f h → result ≡ map h (zip self rhs.entry.slice.now) }
     {
-        let mut f = f;
         self.zip_inline_ref_by(rhs, &mut f)
     }
 

@@ -20,8 +20,8 @@ impl<T, N: ArrayLength<T>> GenericArray<T, N> {
 
     /// The view of the items for writing: a `GenericArrayMut` that stands on the array itself.
     ///
-    /// Made once before a loop in a generic function, it is `let view = &mut array.view_mut();`: the
-    /// checker refuses calls in the loop on a view that isn't lent.
+    /// In a generic function, before a loop, write `let view = &mut array.view_mut();`: the
+    /// checker doesn't accept calls in the loop on a view that isn't borrowed.
     #[inline]
     pub fn view_mut(&mut self) -> ArrayMut<&mut GenericArray<T, N>, T, N>
         ensures { result.slice ≡ self.entry }

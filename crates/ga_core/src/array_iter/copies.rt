@@ -11,8 +11,7 @@ use std::alloc;
 impl<T: Clone, N: ArrayLength<T>> GenericArrayIter<T, N> {
     /// An iterator over clones of the items that are left, made in order.
     ///
-    /// Refused at the first clone that is, so never where no item is left; the clones made are then
-    /// dropped.
+    /// If a clone fails, drops those made before it and returns the error.
     pub fn clone(&self) -> Result<Self, AllocError>
         ensures items { IfOk result (λ copy. AllZip T.is_clone self.now copy) }
         ensures succeeds { All T.is_infallible self.now → IsOk result }

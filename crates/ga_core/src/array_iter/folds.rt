@@ -9,18 +9,17 @@ use crate::store::Store;
 use std::mem;
 
 impl<T: Default + Drop, N: ArrayLength<T>> GenericArrayIter<T, N> {
-    /// Calls `f` with what it answered last, at first `init`, and each item that is left, from the
-    /// front, and gives its last answer. One pass.
-    pub fn fold<A, F: FnMut(A, T) -> A>(self, init: A, f: F) -> A
+    /// Folds the items that are left into one value, from the front, starting from `init`. One
+    /// pass.
+    pub fn fold<A, F: FnMut(A, T) -> A>(self, init: A, mut f: F) -> A
         requires callable { CallableInFold F.pre F.step f init self }
         ensures run { (last : F) × FoldRun F.step f init self result last }
         ensures acts { (h : A → T → A) → ActsAsOnTwo F.FnMut f h → result ≡ fold h init self }
     {
-        let mut f = f;
         self.fold_by(init, &mut f)
     }
 
-    /// `fold` with a closure that is lent, and can be used again in the state that it reached. One
+    /// `fold` that borrows the closure, which can be used again in the state that it reached. One
     /// pass.
     pub fn fold_by<A, F: FnMut(A, T) -> A>(self, init: A, f: &mut F) -> A
         requires callable { CallableInFold F.pre F.step f.old init self }
@@ -38,16 +37,15 @@ impl<T: Default + Drop, N: ArrayLength<T>> GenericArrayIter<T, N> {
     }
 
     /// `fold` from the back. One pass.
-    pub fn rfold<A, F: FnMut(A, T) -> A>(self, init: A, f: F) -> A
+    pub fn rfold<A, F: FnMut(A, T) -> A>(self, init: A, mut f: F) -> A
         requires callable { CallableInFold F.pre F.step f init (reverse self) }
         ensures run { (last : F) × FoldRun F.step f init (reverse self) result last }
         ensures acts { (h : A → T → A) → ActsAsOnTwo F.FnMut f h → result ≡ fold h init (reverse self) }
     {
-        let mut f = f;
         self.rfold_by(init, &mut f)
     }
 
-    /// `rfold` with a closure that is lent, and can be used again in the state that it reached. One
+    /// `rfold` that borrows the closure, which can be used again in the state that it reached. One
     /// pass.
     pub fn rfold_by<A, F: FnMut(A, T) -> A>(self, init: A, f: &mut F) -> A
         requires callable { CallableInFold F.pre F.step f.old init (reverse self) }

@@ -6,10 +6,8 @@ use crate::array_iter::{GenericArrayIter, blank_in};
 use crate::length::ArrayLength;
 
 impl<T: Default + Drop, N: ArrayLength<T>> GenericArrayIter<T, N> {
-    /// Drops `n` items from the front, or as many as are left, and takes the next.
-    ///
-    /// So all are consumed, and `None` is answered, where `n` is at or beyond their number. Takes time
-    /// in proportion to the items dropped.
+    /// Drops `n` items and returns the next one. If at most `n` items are left, drops them all and
+    /// returns `None`. O(n).
     #[inline]
     pub fn nth(&mut self, n: usize) -> Option<T>
         ensures step { StepGives (front n) self.old result self.new }
@@ -24,10 +22,8 @@ impl<T: Default + Drop, N: ArrayLength<T>> GenericArrayIter<T, N> {
         }
     }
 
-    /// Drops `n` items from the back, or as many as are left, and takes the last of those before.
-    ///
-    /// So all are consumed, and `None` is answered, where `n` is at or beyond their number. Takes time
-    /// in proportion to the items dropped.
+    /// Drops `n` items from the back and returns the one before them. If at most `n` items are
+    /// left, drops them all and returns `None`. O(n).
     #[inline]
     pub fn nth_back(&mut self, n: usize) -> Option<T>
         ensures step { StepGives (back n) self.old result self.new }

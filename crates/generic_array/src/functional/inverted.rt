@@ -9,8 +9,8 @@ use crate::functional::{Mapped, MappedError, MappedGenericSequence, MappedPlace,
 use crate::sequence::{GenericSequence, SequenceItem};
 use ga_core::{ArrayLength, GenericArray, GenericArrayIter, always};
 
-/// The array of what `f` answers at each item of `lhs` and the entry of `s` in its place, called in
-/// order.
+/// The array of the values of `f` at each item of `lhs` and the entry of `s` at the same index,
+/// called in order.
 #[inline(always)]
 pub fn inverted_zip<
     T,
@@ -18,18 +18,17 @@ pub fn inverted_zip<
     B: Default + Drop,
     U: Default + Drop,
     F: FnMut(B, SequenceItem<S>) -> U,
->(s: S, lhs: GenericArray<B, S::Length>, f: F) -> GenericArray<U, S::Length>
+>(s: S, lhs: GenericArray<B, S::Length>, mut f: F) -> GenericArray<U, S::Length>
 where
     S::Length: ArrayLength<B> + ArrayLength<U>,
     requires callable { CallableOver (MayCallAtPair (λ item. item) S.entry F.pre) (CallAtPair (λ item. item) S.entry F.step) f (zip lhs (S.items s)) }
     ensures run { (last : F) × ClosureRun (CallAtPair (λ item. item) S.entry F.step) f (zip lhs (S.items s)) result last }
     ensures acts { (h : B × T → U) → ActsOnEntries (λ item. item) S.entry F.step f h → result ≡ map h (zip lhs (S.items s)) }
 {
-    let mut f = f;
     inverted_zip_by(s, lhs, &mut f)
 }
 
-/// `inverted_zip` with a closure that is lent, and can be used again in the state that it reached.
+/// `inverted_zip` that borrows the closure, which can be used again in the state that it reached.
 #[inline(always)]
 pub fn inverted_zip_by<
     T,
@@ -57,10 +56,10 @@ where
     >(lhs.into_iter(), entries_of(s), (), f))
 }
 
-/// `inverted_zip` with a left side of any kind, which is that of the answer too.
+/// `inverted_zip` with a left side of any kind, which is the kind of the result too.
 ///
-/// The lengths are equal. Memory is asked for first: where it is refused, no call is made, and the
-/// entries are dropped.
+/// Requires that the lengths are equal. Allocates first: if that fails, `f` is never called and
+/// the entries are dropped.
 #[inline(always)]
 pub fn inverted_zip2<
     T,
@@ -73,7 +72,7 @@ pub fn inverted_zip2<
     s: S,
     place: MappedPlace<Lhs, B, U>,
     lhs: Lhs,
-    f: F,
+    mut f: F,
 ) -> Result<MappedSequence<Lhs, B, U>, MappedError<Lhs, B, U>>
     requires lengths { S.Length.USIZE ≡ Lhs.Length.USIZE }
     requires fits { Lhs.Mapped.Fits }
@@ -83,11 +82,10 @@ pub fn inverted_zip2<
     ensures acts { IfOk result (λ made. (h : B × T → U) → ActsOnEntries Lhs.entry S.entry F.step f h → Lhs.Mapped.Sequence.items made ≡ map h (zip (Lhs.items lhs) (S.items s))) }
     ensures promised { Lhs.Mapped.IsPromised → IsOk result }
 {
-    let mut f = f;
     inverted_zip2_by(s, place, lhs, &mut f)
 }
 
-/// `inverted_zip2` with a closure that is lent, and can be used again in the state that it reached.
+/// `inverted_zip2` that borrows the closure, which can be used again in the state that it reached.
 #[inline(always)]
 pub fn inverted_zip2_by<
     T,

@@ -1,7 +1,7 @@
-//! The walks over what `into_iter` gives. Each stands once, over any iterator, for all kinds.
+//! The walks over the entries of `into_iter`. Each stands once, over any iterator, for all kinds.
 //!
 //! The iterator is a type parameter of its own: a closure that holds a sequence's associated
-//! iterator has no proof today.
+//! iterator isn't covered by the checker.
 ghost use Rattle.ga_core.specs.Runs.{CallableInFold, CallableOver, CallableOverUntilError, CallableUntilError, ClosureRun, FirstErrorRun, FoldRun};
 ghost use Rattle.generic_array.specs.Built.{built_items};
 ghost use Rattle.generic_array.specs.GivenEntries.{AllEntries, CallAtNext, CallAtNextPair, GivesEntries, MayCallAtNext, MayCallAtNextPair, SomeEntries, SomeEntriesOf};
@@ -23,8 +23,7 @@ pub(super) fn entries_of<T, S: GenericSequence<T>>(s: S) -> S::IntoIter
     s.into_iter()
 }
 
-/// The last answer of `f`, called with `init` and the first entry, and then with its own answer and
-/// each other entry in order.
+/// Folds the entries into one value by `f`, in order, starting from `init`.
 #[inline(always)]
 pub(crate) fn fold_entries<T, I: Iterator + Drop, A, F: FnMut(A, I::Item) -> A>(
     entries: I,
@@ -62,7 +61,7 @@ pub(super) fn try_fold_entries<T, I: Iterator + Drop, A, E, F: FnMut(A, I::Item)
     Ok(answer)
 }
 
-/// The answer of `f` at the next entry, of which there is one.
+/// The value of `f` at the next entry. Requires that there is one.
 #[inline]
 fn answer_at_next<I: Iterator, U, F: FnMut(I::Item) -> U>(entries: &mut I, f: &mut F) -> U
     requires { MayCallAtNext I.can_next I.next_gives F.pre entries.old f.old }
@@ -74,10 +73,10 @@ fn answer_at_next<I: Iterator, U, F: FnMut(I::Item) -> U>(entries: &mut I, f: &m
     }
 }
 
-/// What `f` answers at the entries, as a sequence of the kind `M`.
+/// The values of `f` at the entries, as a sequence of the kind `M`.
 #[inline(always)]
 pub(super) fn map_entries<T, I: Iterator + Drop, U, M: GenericSequence<U>, F: FnMut(I::Item) -> U>(
-    entries: I,
+    mut entries: I,
     place: M::Place,
     f: &mut F,
 ) -> Result<M::Sequence, M::Error>
@@ -90,7 +89,6 @@ pub(super) fn map_entries<T, I: Iterator + Drop, U, M: GenericSequence<U>, F: Fn
     ensures err { OnErr result (f.new ≡ f.old) }
     ensures promised { M.IsPromised → IsOk result }
 {
-    let mut entries = entries;
     M::generate_by(
         place,
         &mut |_index: usize| -> U
@@ -101,8 +99,8 @@ pub(super) fn map_entries<T, I: Iterator + Drop, U, M: GenericSequence<U>, F: Fn
     )
 }
 
-/// `answer_at_next` of a closure that may fail: a function of its own, since a call of the other at
-/// `Result<U, E>` has no proof today.
+/// `answer_at_next` of a closure that may fail: a function of its own, since a call of the other
+/// at `Result<U, E>` isn't covered by the checker.
 #[inline]
 fn result_at_next<I: Iterator, U, E, F: FnMut(I::Item) -> Result<U, E>>(
     entries: &mut I,
@@ -133,7 +131,7 @@ fn try_build<U, E, M: FallibleGenericSequence<U>, G: FnMut(usize) -> Result<U, E
     M::try_generate_by(place, g)
 }
 
-/// What `f` answers at the entries, as a sequence of the kind `M`, or its first error.
+/// The values of `f` at the entries, as a sequence of the kind `M`, or its first error.
 #[inline(always)]
 pub(super) fn try_map_entries<
     T,
@@ -142,7 +140,7 @@ pub(super) fn try_map_entries<
     E,
     M: FallibleGenericSequence<U>,
     F: FnMut(I::Item) -> Result<U, E>,
->(entries: I, place: M::Place, f: &mut F) -> Result<Result<M::Sequence, E>, M::Error>
+>(mut entries: I, place: M::Place, f: &mut F) -> Result<Result<M::Sequence, E>, M::Error>
     requires fits { M.Fits }
     requires callable { SomeEntriesOf I.can_next I.next_gives I.remaining M.Length.USIZE entries
         (λ (entry : I.Item → T) values. CallableOverUntilError (MayCallAt entry F.pre) (CallAt entry F.step) f.old values) }
@@ -152,7 +150,6 @@ pub(super) fn try_map_entries<
     ensures err { OnErr result (f.new ≡ f.old) }
     ensures promised { M.IsPromised → IsOk result }
 {
-    let mut entries = entries;
     try_build::<U, E, M, _>(
         place,
         &mut |_index: usize| -> Result<U, E>
@@ -163,7 +160,7 @@ pub(super) fn try_map_entries<
     )
 }
 
-/// The answer of `f` at the next pair of entries, of which there is one.
+/// The value of `f` at the next pair of entries. Requires that there is one.
 #[inline]
 fn answer_at_next_pair<I: Iterator + Drop, J: Iterator + Drop, U, F: FnMut(I::Item, J::Item) -> U>(
     left: &mut I,
@@ -182,7 +179,7 @@ fn answer_at_next_pair<I: Iterator + Drop, J: Iterator + Drop, U, F: FnMut(I::It
     f(entry, other)
 }
 
-/// What `f` answers at the pairs of entries, as a sequence of the kind `M`.
+/// The values of `f` at the pairs of entries, as a sequence of the kind `M`.
 pub(super) fn zip_entries<
     T,
     B,
@@ -191,7 +188,7 @@ pub(super) fn zip_entries<
     U,
     M: GenericSequence<U>,
     F: FnMut(I::Item, J::Item) -> U,
->(left: I, right: J, place: M::Place, f: &mut F) -> Result<M::Sequence, M::Error>
+>(mut left: I, mut right: J, place: M::Place, f: &mut F) -> Result<M::Sequence, M::Error>
     requires fits { M.Fits }
     requires callable { (entry : I.Item → T) × (values : List T) × (other : J.Item → B) × (others : List B)
         × GivesEntries I.can_next I.next_gives I.remaining entry left values
@@ -207,8 +204,6 @@ pub(super) fn zip_entries<
     ensures err { OnErr result (f.new ≡ f.old) }
     ensures promised { M.IsPromised → IsOk result }
 {
-    let mut left = left;
-    let mut right = right;
     M::generate_by(
         place,
         &mut |_index: usize| -> U

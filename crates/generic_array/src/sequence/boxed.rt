@@ -14,7 +14,7 @@ impl<T: Drop, N: Unsigned> OwnedSequence<T> for BoxedArray<T, N> {
     ghost gives_items = { λ array items gives. (tt, tt, left_given items array gives.0) };
 }
 
-/// Each length fits. Memory may be refused, save where there is no item.
+/// Each length fits. An allocation may fail, unless there is no item.
 impl<T: Drop, N: Unsigned> GenericSequence<T> for BoxedArray<T, N> {
     ghost use Rattle.generic_array.specs.EntryLaws.{left_given};
     ghost use Rattle.std.specs.Prelude.{◌≡◌};

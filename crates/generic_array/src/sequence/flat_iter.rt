@@ -8,9 +8,9 @@ use ga_core::{ArrayLength, GenericArray, GenericArrayRef, Unsigned};
 use std::marker::Model;
 use std::slice;
 
-/// References to the items of all rows, in the order in which `flatten` would join them.
+/// References to the items of all rows, in the order in which `flatten` joins them.
 ///
-/// Own; stands for `flatten` of a reference to an array of arrays.
+/// The counterpart of `flatten` of a reference to an array of arrays.
 #[inline]
 pub fn iter_flat<'a, T, W: ArrayLength<T>, R: Unsigned>(
     view: GenericArrayRef<'a, GenericArray<T, W>, R>,
@@ -51,7 +51,7 @@ impl<'a, T, W: ArrayLength<T>> Iterator for FlatIter<'a, T, W> {
 
     ghost remaining = { item_count (λ left. left) };
 
-    /// The next item. Constant time, where the rows have items.
+    /// The next item. O(1) if the rows have items.
     #[inline]
     fn next(&mut self) -> Option<&'a T> {
         loop {

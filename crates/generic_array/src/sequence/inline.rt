@@ -16,7 +16,7 @@ impl<T: Default + Drop, N: ArrayLength<T>> OwnedSequence<T> for GenericArray<T, 
     ghost gives_items = { λ array items gives. (tt, tt, left_given items array gives.0) };
 }
 
-/// A length fits up to `MAX_INLINE`. No memory is asked for.
+/// A length fits up to `MAX_INLINE`. Allocates nothing.
 impl<T: Default + Drop, N: ArrayLength<T>> GenericSequence<T> for GenericArray<T, N> {
     ghost use Rattle.generic_array.specs.EntryLaws.{left_given};
 
@@ -74,7 +74,7 @@ impl<T: Default + Drop, N: ArrayLength<T>> FallibleGenericSequence<T> for Generi
     }
 }
 
-/// The answer of a fallible fill that needs no place.
+/// The result of a fallible fill that needs no allocator.
 fn with_no_place<A, E>(answer: Result<Result<A, E>, LengthError>) -> Result<A, FillError<E, Never>>
     ensures { fill_answer result ≡ Ok answer }
 {

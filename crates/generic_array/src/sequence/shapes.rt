@@ -1,14 +1,13 @@
-//! Arrays made of the items of others: one longer or shorter, split, joined, without a place, or as
-//! rows.
+//! Arrays made of the items of others: one longer or shorter, split, joined, without an item, or
+//! as rows.
 //!
-//! Each call of an array moves its items into what it makes, in one pass, and asks for no memory.
-//! Defaults stand in the places until then, and in the array that the items came from. A view is
-//! cut in constant time. The types of what is made are parameters, and that their
-//! lengths fit together is a condition. The Rust crate has traits of these names, but `Row`, in its
-//! module `sequence`.
+//! Each call of an array moves its items into the result, in one pass, and allocates nothing.
+//! Defaults stand in the slots until then, and in the array that the items came from. Splitting a
+//! view is O(1). The types of the results are parameters, and that their lengths fit together is a
+//! condition. The Rust crate has traits of these names, but `Row`, in its module `sequence`.
 //!
-//! A function that knows these traits alone can't go from one to the next, since each has its own
-//! view of the items: name the kinds where several are used.
+//! A function over these traits alone can't go from one to the next, since each has its own view
+//! of the items: name the kinds where several are used.
 ghost use Rattle.generic_array.specs.Rows.{rows};
 ghost use Rattle.std.specs.List.{All, flat_map, swap_remove};
 ghost use Rattle.std.specs.Prelude.{◌≡◌, ℕ, ◌+◌, ◌<◌, ◌≤◌, List, [], Some, ◌∷◌, ◌++◌, drop, length, remove, slice_get, take};
@@ -156,7 +155,7 @@ pub trait Row<T: Default>: Sized {
     ghost WIDTH: { ℕ };
 
     /// Moves the items over the first of the places, whose items are dropped, and leaves defaults.
-    /// Answers how many they are.
+    /// Returns how many they are.
     fn move_over(&mut self, places: &mut [T]) -> usize
         requires room { WIDTH ≤ length places.old }
         ensures moved { places.new ≡ items self.old ++ drop WIDTH places.old }

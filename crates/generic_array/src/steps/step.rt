@@ -18,13 +18,13 @@ pub enum Step<T> {
     Set(usize, T),
 }
 
-/// What a step is answered with.
+/// What a step returns.
 #[derive(Debug, Drop)]
 pub enum Reply<T, R> {
     /// To `Next`, `NextBack`, `Nth` and `NthBack`: the item that was taken, or `None` where too few were
     /// left.
     Item(Option<T>),
-    /// To `Look`: what the closure answered.
+    /// Of `Look`: what the closure returned.
     Seen(R),
     /// To `Set`: the item that stood in the place.
     Old(T),

@@ -116,11 +116,12 @@ impl<T: Default + Drop> From<GenericArray<T, U12>> for (T, T, T, T, T, T, T, T, 
 
 /// The items as a native array.
 #[inline]
-fn native<T: Default + Drop, N: ArrayLength<T>, const U: usize>(array: GenericArray<T, N>) -> [T; U]
+fn native<T: Default + Drop, N: ArrayLength<T>, const U: usize>(
+    mut array: GenericArray<T, N>,
+) -> [T; U]
     requires len { N.USIZE ≡ U }
     ensures { result ≡ array }
 {
-    let mut array = array;
     let mut items: [T; U] = Default::default();
     move_items(array.as_mut_slice(), &mut items);
     items

@@ -5,8 +5,8 @@ ghost use Rattle.std.specs.Prelude.{◌≡◌, ◌+◌, ◌++◌, drop, length, 
 use crate::sequence::shapes::Split;
 use ga_core::{ArrayLength, ArrayMut, GenericArray, GenericArrayMut, GenericArrayRef, Unsigned};
 
-/// Two views of the slice's parts, for as long as the slice is lent. A view's length need not fit
-/// inline. Constant time.
+/// Two views of the slice's parts, for the lifetime of the slice. A view's length need not fit
+/// inline. O(1).
 impl<'a, T, N: Unsigned, K: Unsigned, M: Unsigned> Split<
     T,
     GenericArrayRef<'a, T, K>,
@@ -32,12 +32,12 @@ impl<'a, T, N: Unsigned, K: Unsigned, M: Unsigned> Split<
     }
 }
 
-/// Two views of the slice's parts for writing, for as long as the slice is lent. What is written
-/// through either stands in the slice afterwards, at its place, and no other place changes. A view's
-/// length need not fit inline. Constant time.
+/// Two views of the slice's parts for writing, for the lifetime of the slice. What is written
+/// through either is written to the slice, and to no other item. A view's length need not fit
+/// inline. O(1).
 ///
-/// A proof learns the parts, and not what the slice ends as: for that, cut the view's `as_mut_slice`
-/// and make a view of each part.
+/// A proof learns the parts, and not what the slice ends as: for that, cut the view's
+/// `as_mut_slice` and make a view of each part.
 impl<'a, T, N: Unsigned, K: Unsigned, M: Unsigned> Split<
     T,
     GenericArrayMut<'a, T, K>,
@@ -59,8 +59,9 @@ impl<'a, T, N: Unsigned, K: Unsigned, M: Unsigned> Split<
     }
 }
 
-/// Two views of the array's parts for writing, for as long as the array is lent. A contract says which
-/// items each part has, and nothing of what is written: for that, cut `as_mut_slice` of the array.
+/// Two views of the array's parts for writing, for the lifetime of the borrow. A contract says
+/// which items each part has, and nothing of what is written: for that, cut `as_mut_slice` of the
+/// array.
 impl<'a, T, N: ArrayLength<T>, K: Unsigned, M: Unsigned> Split<
     T,
     GenericArrayMut<'a, T, K>,
