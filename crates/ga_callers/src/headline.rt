@@ -9,10 +9,15 @@
 //! - every run of two-ended iterator calls gives what a list cut from both ends gives: `steps`.
 //!
 //! Each function's contract is a part of this. `kinds` calls each at every kind that has it.
+/// A build succeeds exactly where N items come.
 pub mod builds;
+/// Closure calls run in order and stop at the first error.
 pub mod calls;
+/// A run over joined lists is one over each in turn.
 pub mod joined_runs;
 #[cfg(test)]
 mod kinds;
+/// Shapes undo each other.
 pub mod shapes;
+/// Any run of two-ended calls is a list cut from both ends.
 pub mod steps;

@@ -1,4 +1,4 @@
-//! Callers at each kind of sequence, with exact answers.
+//! Callers at each kind of sequence, with exact results.
 ghost use Rattle.generic_array.specs.Length.{FitsInline};
 ghost use Rattle.std.specs.List.{zip};
 ghost use Rattle.std.specs.Prelude.{◌≡◌, ◌∷◌, [], ◌+◌, ◌*◌, ◌%◌, ◌^◌, ◌⊎◌, Err, IfOk, Ok, fold, if◌then◌else◌, map, nat_eq};

@@ -110,7 +110,7 @@ fn no_steps<I: TwoEnded<u32>>(
     run_steps(numbers, steps, &mut total, replies)
 }
 
-/// Two orders in which items are taken from both ends: each end answers as if the other stood still.
+/// Two orders in which items are taken from both ends: each end returns as if the other stood still.
 fn taken_in_two_orders<I: TwoEnded<u32>>(
     alloc: Global,
     numbers: &mut I,

@@ -10,18 +10,22 @@ pub struct Manner {
     pub period: usize,
 }
 
+/// Takes all bytes of each call.
 pub const WHOLE: Manner = Manner {
     step: usize::MAX,
     period: 0,
 };
 
+/// Takes one byte at a call.
 pub const BYTE_BY_BYTE: Manner = Manner { step: 1, period: 0 };
 
+/// Takes all bytes, and is interrupted at every other call.
 pub const INTERRUPTED: Manner = Manner {
     step: usize::MAX,
     period: 2,
 };
 
+/// Takes nothing.
 pub const NOTHING: Manner = Manner { step: 0, period: 0 };
 
 /// Compares what it takes with the text that is to come, counts its calls, and fails at one of them.
