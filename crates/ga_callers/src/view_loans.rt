@@ -3,8 +3,8 @@ ghost use Rattle.std.specs.List.{list_any};
 ghost use Rattle.std.specs.Prelude.{◌≡◌, ◌==◌, ◌∷◌, [], ◌<◌, ◌↔◌, IfOk, IsOk, IsTrue, Some, length, replicate, slice_get, slice_set};
 
 use generic_array::{
-    ArrayLength, ArrayMut, ChunksMut, GenericArray, GenericArrayMut, GenericArrayRef, LengthError,
-    SliceMut, U2, U3, Unsigned, arr,
+    ArrayLength, ViewMut, ChunksMut, GenericArray, GenericArrayMut, GenericArrayRef, LengthError,
+    ReborrowSlice, U2, U3, Unsigned, arr,
 };
 use std::marker::PhantomData;
 
@@ -65,7 +65,7 @@ fn array_filled<N: ArrayLength<u8>>(array: &mut GenericArray<u8, N>)
 
 // A function over any view that writes, called of a slice's and of an array's.
 
-fn first_set<S: SliceMut<u8>>(view: &mut ArrayMut<S, u8, U2>)
+fn first_set<S: ReborrowSlice<u8>>(view: &mut ViewMut<S, u8, U2>)
     ensures items { S.items view.new.slice ≡ slice_set (S.items view.old.slice) 0 6 }
     ensures stays { S.stays view.old.slice view.new.slice }
 {
@@ -93,7 +93,7 @@ fn array_set_through_a_literal(array: &mut GenericArray<u8, U2>)
     ensures { array.new ≡ slice_set array.old 1 6 }
 {
     let items = array.as_mut_slice();
-    let mut view: GenericArrayMut<u8, U2> = ArrayMut {
+    let mut view: GenericArrayMut<u8, U2> = ViewMut {
         slice: items,
         of: PhantomData,
         len: PhantomData,
@@ -106,7 +106,7 @@ fn slice_set_behind_a_pattern(slice: &mut [u8])
     ensures { slice.new ≡ slice_set slice.old 1 6 }
 {
     let view: GenericArrayMut<u8, U2> = GenericArrayMut::from_mut_slice(slice);
-    let ArrayMut {
+    let ViewMut {
         slice: items,
         of: _,
         len: _,

@@ -23,7 +23,7 @@ module _ {T : Type 0} where
       let more : n + 1 ≡ suc n = omega arith in
       made ∙ (ap (λ front. front ++ item ∷ []) same ∙ (replicate-append-replicate n 1 item ∙ ap (λ k. replicate k item) more))
 
-  -- clones over all places but the last, and the item over the last
+  -- clones over all slots but the last, and the item over the last
   pub Repeats-written : (is_clone : T → T → Type 0) (item : T) (n : ℕ) (clones rest : List T) → length clones + 1 ≡ n → length rest ≡ 1 → All (is_clone item) clones
       → Repeats is_clone item n (slice_set (clones ++ rest) (n - 1) item)
   Repeats-written is_clone item n clones [] long one all = absurd (omega (arith, one))

@@ -1,4 +1,4 @@
--- What is left of a list between two places, when something is taken from either end.
+-- What is left of a list between two slots, when something is taken from either end.
 use Rattle.arrayvec.proofs.IterLemmas.{slice_range_first, slice_range_last}
 use Rattle.std.proofs.Common.{◌≡◌, ℕ, ◌+◌, ◌-◌, ◌<◌, ◌≤◌, List, [], ◌∷◌, ◌++◌, length, drop, take, refl, reverse, sym, ap, ◌∙◌, arith, get_or, slice_set, length-drop, length-take}
 use Rattle.std.proofs.lemmas.List.{drop-drop, drop-take, reverse-append, take-take}
@@ -13,13 +13,13 @@ module _ {T : Type 0} where
   pub left-first : (items after : List T) (front back : ℕ) (item : T) → front < back → back ≤ length items → item ≡ get_or items front item → (blank : T) × (after ≡ slice_set items front blank)
       → slice_range items front back ≡ item ∷ slice_range after (front + 1) back
   left-first items after front back item some within here written =
-      slice_range_first items front back item written.0 some within here ∙ ap (λ places. item ∷ slice_range places (front + 1) back) (sym written.1)
+      slice_range_first items front back item written.0 some within here ∙ ap (λ slots. item ∷ slice_range slots (front + 1) back) (sym written.1)
 
   -- the last was taken, and a blank stands in its place
   pub left-last : (items after : List T) (front back : ℕ) (item : T) → front < back → back ≤ length items → item ≡ get_or items (back - 1) item → (blank : T) × (after ≡ slice_set items (back - 1) blank)
       → slice_range items front back ≡ slice_range after front (back - 1) ++ item ∷ []
   left-last items after front back item some within here written =
-      slice_range_last items front back item written.0 some within here ∙ ap (λ places. slice_range places front (back - 1) ++ item ∷ []) (sym written.1)
+      slice_range_last items front back item written.0 some within here ∙ ap (λ slots. slice_range slots front (back - 1) ++ item ∷ []) (sym written.1)
 
   -- the same, of the items from the back
   pub left-last_reversed : (items : List T) (front back : ℕ) (item place blank : T) → front < back → back ≤ length items → item ≡ get_or items (back - 1) place → place ≡ get_or items (back - 1) place
@@ -47,7 +47,7 @@ module _ {T : Type 0} where
       let end = back - passed in
       let whole : end ≡ front + (end - front) = omega arith in
       let kept : end - front ≡ length left - passed = omega arith in
-      let part : (places : List T) → take (end - front) (drop front places) ≡ drop front (take end places) =
-      λ places. sym (drop-take front (end - front) places) ∙ ap (λ k. drop front (take k places)) (sym whole) in
+      let part : (slots : List T) → take (end - front) (drop front slots) ≡ drop front (take end slots) =
+      λ slots. sym (drop-take front (end - front) slots) ∙ ap (λ k. drop front (take k slots)) (sym whole) in
       part after
       ∙ (ap (drop front) same ∙ (sym (part items) ∙ (sym (take-take (end - front) (back - front) (drop front items) (omega arith)) ∙ (ap (take (end - front)) shown ∙ ap (λ k. take k left) kept))))

@@ -35,11 +35,11 @@ module _ {T : Type 0} where
   pub cut-here : (n : ℕ) (items others : List T) (item : T) → drop n items ≡ item ∷ others → items ≡ take n items ++ item ∷ others
   cut-here n items others item here = sym (take-append-drop n items) ∙ ap (λ l. take n items ++ l) here
 
-  -- where an item was taken out, the others stand in their places
+  -- where an item was taken out, the others stand in their slots
   pub behind-next : (n : ℕ) (items left : List T) (item blank : T) → n < length left → drop n items ≡ item ∷ drop (n + 1) left → drop (n + 1) (slice_set left n blank) ≡ drop (n + 1) items
   behind-next n items left item blank some here = drop-set-lt (n + 1) left n blank (omega arith) ∙ drop-next n items (drop (n + 1) left) item here
 
-  -- the first n items were moved, and the others are left in their places
+  -- the first n items were moved, and the others are left in their slots
   abbrev pub MovedSoFar : ℕ → List T → List T → List T → Type 0
   MovedSoFar n items left moved = (moved ≡ take n items) × (drop n left ≡ drop n items)
 
@@ -51,11 +51,11 @@ module _ {T : Type 0} where
       (take-next n [] before after items (drop (n + 1) left) item here moved.0 grows, behind-next n items left item blank some here)
 
   -- the same, to its place in another
-  pub moved-next : (n : ℕ) (items left places : List T) (item blank : T) → n < length left → n < length places → item ≡ slice_index_or left n item
-      → take n places ≡ take n items → drop n left ≡ drop n items
-      → (take (n + 1) (slice_set places n item) ≡ take (n + 1) items) × (drop (n + 1) (slice_set left n blank) ≡ drop (n + 1) items)
-  moved-next n items left places item blank some room this before behind =
-      pushed-next n items left (take n places) (take (n + 1) (slice_set places n item)) item blank some this (before, behind) (take_more_set places n item room)
+  pub moved-next : (n : ℕ) (items left slots : List T) (item blank : T) → n < length left → n < length slots → item ≡ slice_index_or left n item
+      → take n slots ≡ take n items → drop n left ≡ drop n items
+      → (take (n + 1) (slice_set slots n item) ≡ take (n + 1) items) × (drop (n + 1) (slice_set left n blank) ≡ drop (n + 1) items)
+  moved-next n items left slots item blank some room this before behind =
+      pushed-next n items left (take n slots) (take (n + 1) (slice_set slots n item)) item blank some this (before, behind) (take_more_set slots n item room)
 
   -- what was passed, and the next
   pub take-one_more : (n : ℕ) (items others : List T) (item : T) → drop n items ≡ item ∷ others → take (n + 1) items ≡ take n items ++ item ∷ []
@@ -63,7 +63,7 @@ module _ {T : Type 0} where
       let more : n + 1 ≡ suc n = omega arith in
       ap (λ k. take k items) more ∙ take-suc_next n items others item here
 
-  -- a property of what is left in the places before, and of what is left in this one
+  -- a property of what is left in the slots before, and of what is left in this one
   pub left-next : (P : T → Type 0) (n : ℕ) (left : List T) (blank : T) → n < length left → All P (take n left) → P blank → All P (take (n + 1) (slice_set left n blank))
   left-next P n left blank some before here =
       subst (All P) (sym (take_more_set left n blank some)) (All-append P (take n left) (blank ∷ []) before (All-cons P blank [] here (All-nil P)))

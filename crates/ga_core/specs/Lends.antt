@@ -10,16 +10,16 @@ use Rattle.std.specs.declared.slice.IterMut.{IterMut}
 
 module _ (T N A : RattleType) (n : unsigned.Ghosts N.Denot) (s : store.Ghosts A.Denot T.Denot) (array : MutBor (List T.Denot)) where
   -- the array with these items written over its own, as many as it has
-  abbrev pub rewritten : List T.Denot → List T.Denot
-  rewritten written = refill (length array.now) array.now written
+  abbrev pub array_with : List T.Denot → List T.Denot
+  array_with written = refill (length array.now) array.now written
 
   -- once the borrow r ends, the items are those that r shows last
   abbrev pub LendsItems : MutBor (List T.Denot) → Fml
-  LendsItems r = Lends (the_row T N A n s) (Array T 0) array r rewritten
+  LendsItems r = Lends (the_row T N A n s) (Array T 0) array r array_with
 
   -- the same where the items went to an `iter_mut`
   abbrev pub LendsIter : IterMut T.Denot → Fml
-  LendsIter items = follows (the_row T N A n s) (Array T 0) array.ghost_name (iter_mut_name items) rewritten
+  LendsIter items = follows (the_row T N A n s) (Array T 0) array.ghost_name (iter_mut_name items) array_with
 
   -- once the borrow r ends, place i has the last value written through r, and the others are as they were
   abbrev pub LendsPlace : ℕ → MutBor T.Denot → Fml

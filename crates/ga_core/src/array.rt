@@ -16,7 +16,7 @@ mod copies;
 mod defaults;
 mod functional;
 mod hex_text;
-mod slice_mut;
+mod reborrow;
 mod slices;
 mod tuples;
 
@@ -135,7 +135,7 @@ impl<T, N: ArrayLength<T>> Index<usize> for GenericArray<T, N> {
     }
 }
 
-/// `array[index] = item`, with `index` below `N` as the condition. The other places keep their
+/// `array[index] = item`, with `index` below `N` as the condition. The other slots keep their
 /// items.
 impl<T, N: ArrayLength<T>> IndexMut<usize> for GenericArray<T, N> {
     ghost use Rattle.ga_core.specs.Lends.{LendsPlace};

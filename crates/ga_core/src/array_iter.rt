@@ -20,7 +20,7 @@ use std::{fmt, mem};
 /// The counterpart of `GenericArrayIter`.
 #[derive(Drop)]
 pub struct GenericArrayIter<T, N: ArrayLength<T>> {
-    // The items that are left lie from `front` up to `back`; the other places hold the defaults of
+    // The items that are left lie from `front` up to `back`; the other slots hold the defaults of
     // items that were taken. The two numbers stand before the store, which lets the compiler see
     // that a write to a place leaves them.
     front: usize,
@@ -179,7 +179,7 @@ fn take_in<T: Default + Drop, S: Store<T>>(store: &mut S, place: usize) -> T
     mem::take(&mut store.as_mut_slice()[place % MAX_INLINE])
 }
 
-/// Writes defaults over the places of a store from `front` up to `back`, which drops the items there, in
+/// Writes defaults over the slots of a store from `front` up to `back`, which drops the items there, in
 /// order.
 #[inline]
 fn blank_in<T: Default + Drop, S: Store<T>>(store: &mut S, front: usize, back: usize)
@@ -191,15 +191,15 @@ fn blank_in<T: Default + Drop, S: Store<T>>(store: &mut S, front: usize, back: u
     blank(store.as_mut_slice(), front, back);
 }
 
-/// Writes defaults over the places from `front` up to `back`, which drops the items there, in order.
+/// Writes defaults over the slots from `front` up to `back`, which drops the items there, in order.
 #[inline]
-fn blank<T: Default + Drop>(places: &mut [T], front: usize, back: usize)
-    requires in_bounds { back ≤ length places.old }
-    ensures before { take front places.new ≡ take front places.old }
-    ensures behind { front ≤ back → drop back places.new ≡ drop back places.old }
+fn blank<T: Default + Drop>(slots: &mut [T], front: usize, back: usize)
+    requires in_bounds { back ≤ length slots.old }
+    ensures before { take front slots.new ≡ take front slots.old }
+    ensures behind { front ≤ back → drop back slots.new ≡ drop back slots.old }
 {
     if front < back {
-        let (before, _) = places.split_at_mut(back);
+        let (before, _) = slots.split_at_mut(back);
         let (_, passed) = before.split_at_mut(front);
         for place in passed.iter_mut() {
             *place = T::default();

@@ -17,7 +17,7 @@ pub trait Store<T>: Sized + Drop {
 
     /// A store without items. Its capacity is at most `MAX_INLINE`.
     ///
-    /// It may take time in proportion to the capacity, as spare places may be filled with blanks.
+    /// It may take time in proportion to the capacity, as spare slots may be filled with blanks.
     fn empty() -> Self
         requires fits { FitsInline CAPACITY }
         ensures { items result ≡ [] };
@@ -50,31 +50,31 @@ pub trait Store<T>: Sized + Drop {
         ensures { result.now ≡ items self.now };
 
     // The store with these items written over its own, as many as it has.
-    ghost refilled: { (store : Self) (written : List T) → (after : Self) × (items after ≡ refill (length (items store)) (items store) written) };
+    ghost store_with: { (store : Self) (written : List T) → (after : Self) × (items after ≡ refill (length (items store)) (items store) written) };
 
     /// The items, in order, for writing. What is written stands in the store afterwards.
     fn as_mut_slice(&mut self) -> &mut [T]
-        ensures* writes_back { sem 𝓛 (Lends Self.row (Array T.row 0) self.entry result (λ written. (refilled self.old written).0)) }
+        ensures* writes_back { sem 𝓛 (Lends Self.row (Array T.row 0) self.entry result (λ written. (store_with self.old written).0)) }
         ensures value { result.now ≡ items self.old };
 
     /// `as_mut_slice` where the caller knows how many items there are, so that the compiler knows it
     /// too.
     fn as_mut_slice_of(&mut self, len: usize) -> &mut [T]
         requires all { len ≡ length (items self.old) }
-        ensures* writes_back { sem 𝓛 (Lends Self.row (Array T.row 0) self.entry result (λ written. (refilled self.old written).0)) }
+        ensures* writes_back { sem 𝓛 (Lends Self.row (Array T.row 0) self.entry result (λ written. (store_with self.old written).0)) }
         ensures value { result.now ≡ items self.old };
 
     // The store with this item at the index, and the others as they are.
-    ghost replaced: { (store : Self) (index : ℕ) (item : T) → (after : Self) × (items after ≡ slice_set (items store) index item) };
+    ghost store_with_item: { (store : Self) (index : ℕ) (item : T) → (after : Self) × (items after ≡ slice_set (items store) index item) };
 
     /// The item at `index`, for writing.
     fn item_mut(&mut self, index: usize) -> &mut T
         requires in_bounds { index < length (items self.old) }
-        ensures* writes_back { sem 𝓛 (Lends Self.row T.row self.entry result (λ item. (replaced self.old index item).0)) }
+        ensures* writes_back { sem 𝓛 (Lends Self.row T.row self.entry result (λ item. (store_with_item self.old index item).0)) }
         ensures value { result.now ≡ slice_index_or (items self.old) index result.now };
 }
 
-/// The defaults in the spare places of an `ArrayVec` count as no items.
+/// The defaults in the spare slots of an `ArrayVec` count as no items.
 impl<T: Default + Drop, const N: usize> Store<T> for ArrayVec<T, N> {
     ghost use Rattle.arrayvec.specs.ArrayVec.{with_item, with_items};
     ghost use Rattle.std.specs.Prelude.{refl};
@@ -113,7 +113,7 @@ impl<T: Default + Drop, const N: usize> Store<T> for ArrayVec<T, N> {
         ArrayVec::as_slice(self)
     }
 
-    ghost refilled = { λ store written. (with_items store written, refl) };
+    ghost store_with = { λ store written. (with_items store written, refl) };
 
     #[inline]
     fn as_mut_slice(&mut self) -> &mut [T] {
@@ -125,7 +125,7 @@ impl<T: Default + Drop, const N: usize> Store<T> for ArrayVec<T, N> {
         items_of(self, len)
     }
 
-    ghost replaced = { λ store index item. (with_item store index item, refl) };
+    ghost store_with_item = { λ store index item. (with_item store index item, refl) };
 
     #[inline]
     fn item_mut(&mut self, index: usize) -> &mut T {

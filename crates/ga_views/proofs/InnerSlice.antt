@@ -35,7 +35,7 @@ use denote.Slice.{MutSlice, Room, slice_ty, slice_val, mut_slice_vals}
 use denote.Steps.{opens, closes, peeks}
 use denote.Through.{renamed, lends_inner_slice}
 use Rattle.ga_views.proofs.LoanWalk.{Loan, Words}
-use Rattle.ga_views.specs.contracts.slice_mut.RefMutSliceSliceMut.all_mut as all_mut
+use Rattle.ga_views.specs.contracts.reborrow.RefMutSliceReborrowSlice.all_mut as all_mut
 
 -- the type argument of such a function
 abbrev pub args : RattleType → Args

@@ -1,8 +1,8 @@
 -- A slice of items for writing, where the items' type is the type parameter i, and the view of such a slice, where its length is the type parameter j; with their laws.
 use Prim.Native.Nat.{ℕ}
-use Rattle.ga_views.proofs.array_mut.ArrayMut.TheLaws as view_laws
-use Rattle.ga_views.specs.contracts.array_mut.ArrayMut as view
-use Rattle.ga_views.specs.contracts.slice_mut.RefMutSliceSliceMut.TheImpl as impl
+use Rattle.ga_views.proofs.view_mut.ViewMut.TheLaws as view_laws
+use Rattle.ga_views.specs.contracts.view_mut.ViewMut as view
+use Rattle.ga_views.specs.contracts.reborrow.RefMutSliceReborrowSlice.TheImpl as impl
 use Rattle.ga_views.specs.declared.length.Unsigned as unsigned
 use Rattle.std.proofs.Common.{refl}
 use denote.Param.{param}

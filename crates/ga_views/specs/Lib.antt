@@ -1,4 +1,4 @@
-pub mod ArrayMut
+pub mod ViewMut
 pub mod Cut
 pub mod HexText
 pub mod Iteration
@@ -6,5 +6,5 @@ pub mod Length
 pub mod Parts
 pub mod RowIteration
 pub mod Rows
-pub mod RowsMut
+pub mod ChunksViewMut
 pub mod Views

@@ -7,7 +7,7 @@ ghost use Rattle.std.specs.Option.{option_map};
 ghost use Rattle.std.specs.Prelude.{◌≡◌, ◌*◌, ◌<◌, ◌↔◌, ◌⊎◌, ◌++◌, IfSome, IsSome, length, slice_get};
 
 use crate::chunks_ref::len_of_rows;
-use crate::slice_mut::{PartMut, SliceMut};
+use crate::reborrow::{ReborrowPart, ReborrowSlice};
 use crate::{ChunkIter, ChunksRef, GenericArrayMut, GenericArrayRef, Unsigned};
 use std::marker::PhantomData;
 
@@ -15,13 +15,13 @@ use std::marker::PhantomData;
 /// is written to the slice, and to no other item.
 ///
 /// The counterpart of `&mut [GenericArray<T, N>]` made of a slice.
-pub type ChunksMut<'a, T, N> = RowsMut<&'a mut [T], T, N>;
+pub type ChunksMut<'a, T, N> = ChunksViewMut<&'a mut [T], T, N>;
 
 /// Rows of `N` items each for writing, over any reference to them: see `ChunksMut`.
 ///
-/// The fields are public for the reason that those of `ArrayMut` are.
+/// The fields are public for the reason that those of `ViewMut` are.
 #[derive(Drop)]
-pub struct RowsMut<S: SliceMut<T>, T, N: Unsigned> {
+pub struct ChunksViewMut<S: ReborrowSlice<T>, T, N: Unsigned> {
     /// The reference to the items.
     pub slice: S,
     /// The type of the items.
@@ -32,7 +32,7 @@ pub struct RowsMut<S: SliceMut<T>, T, N: Unsigned> {
     ghost whole: { length (S.items slice) ≡ chunk_count N.USIZE (S.items slice) * N.USIZE },
 }
 
-impl<'a, T, N: Unsigned> RowsMut<&'a mut [T], T, N> {
+impl<'a, T, N: Unsigned> ChunksViewMut<&'a mut [T], T, N> {
     /// The whole rows of a slice, and the items that follow them, both for writing. With `N = 0`
     /// the slice has to be empty, and there are no rows. O(1).
     ///
@@ -80,7 +80,7 @@ impl<'a, T, N: Unsigned> RowsMut<&'a mut [T], T, N> {
         ensures items { result ≡ self.entry.slice }
         ensures len { length result.now ≡ chunk_count N.USIZE result.now * N.USIZE }
     {
-        let RowsMut {
+        let ChunksViewMut {
             slice,
             of: _,
             len: _,
@@ -89,8 +89,8 @@ impl<'a, T, N: Unsigned> RowsMut<&'a mut [T], T, N> {
     }
 }
 
-impl<S: SliceMut<T>, T, N: Unsigned> RowsMut<S, T, N> {
-    ghost use Rattle.ga_views.specs.RowsMut.{LendsItems};
+impl<S: ReborrowSlice<T>, T, N: Unsigned> ChunksViewMut<S, T, N> {
+    ghost use Rattle.ga_views.specs.ChunksViewMut.{LendsItems};
 
     /// The rows over a reference to as many items as they have.
     #[inline]
@@ -98,7 +98,7 @@ impl<S: SliceMut<T>, T, N: Unsigned> RowsMut<S, T, N> {
         requires whole { length (S.items items) ≡ chunk_count N.USIZE (S.items items) * N.USIZE }
         ensures { result.slice ≡ items }
     {
-        RowsMut {
+        ChunksViewMut {
             slice: items,
             of: PhantomData,
             len: PhantomData,
@@ -154,7 +154,7 @@ impl<S: SliceMut<T>, T, N: Unsigned> RowsMut<S, T, N> {
     /// The items of all rows, in order, for writing.
     #[inline]
     pub fn as_mut_slice(&mut self) -> &mut [T]
-        ensures* writes_back { sem 𝓛 (LendsItems S.row T.row N.row S.SliceMut N.Unsigned self.entry result) }
+        ensures* writes_back { sem 𝓛 (LendsItems S.row T.row N.row S.ReborrowSlice N.Unsigned self.entry result) }
         ensures items { result.now ≡ S.items self.old.slice }
         ensures len { length result.now ≡ chunk_count N.USIZE (S.items self.old.slice) * N.USIZE }
     {
@@ -162,14 +162,14 @@ impl<S: SliceMut<T>, T, N: Unsigned> RowsMut<S, T, N> {
     }
 }
 
-impl<S: PartMut<T>, T, N: Unsigned> RowsMut<S, T, N> {
-    ghost use Rattle.ga_views.specs.RowsMut.{LendsRow, LendsRowIf};
+impl<S: ReborrowPart<T>, T, N: Unsigned> ChunksViewMut<S, T, N> {
+    ghost use Rattle.ga_views.specs.ChunksViewMut.{LendsRow, LendsRowIf};
 
     /// The row at `index` for writing. O(1).
     #[inline]
     pub fn row_mut(&mut self, index: usize) -> &mut [T]
         requires in_bounds { index < chunk_count N.USIZE (S.items self.old.slice) }
-        ensures* writes_back { sem 𝓛 (LendsRow S.row T.row N.row S.SliceMut N.Unsigned self.entry index result) }
+        ensures* writes_back { sem 𝓛 (LendsRow S.row T.row N.row S.ReborrowSlice N.Unsigned self.entry index result) }
         ensures row { result.now ≡ row_at N.USIZE (S.items self.old.slice) index }
         ensures len { length result.now ≡ N.USIZE }
     {
@@ -183,7 +183,7 @@ impl<S: PartMut<T>, T, N: Unsigned> RowsMut<S, T, N> {
     /// time.
     #[inline]
     pub fn get_mut(&mut self, index: usize) -> Option<GenericArrayMut<'_, T, N>>
-        ensures* writes_back { sem 𝓛 (LendsRowIf S.row T.row N.row S.SliceMut N.Unsigned self.entry index (option_map (λ view. view.slice) result)) }
+        ensures* writes_back { sem 𝓛 (LendsRowIf S.row T.row N.row S.ReborrowSlice N.Unsigned self.entry index (option_map (λ view. view.slice) result)) }
         ensures variant { IsSome result ↔ (index < chunk_count N.USIZE (S.items self.old.slice)) }
         ensures row { IfSome result (λ view. view.slice.now ≡ row_at N.USIZE (S.items self.old.slice) index) }
     {

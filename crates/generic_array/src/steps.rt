@@ -47,11 +47,11 @@ pub trait TwoEnded<T> {
         ensures { result.now ≡ items self.now };
 
     // The iterator once these items were written over those that are left, as many as they are.
-    ghost rewritten: { (left : Self) (written : List T) → (after : Self) × (items after ≡ refill (length (items left)) (items left) written) };
+    ghost left_with: { (left : Self) (written : List T) → (after : Self) × (items after ≡ refill (length (items left)) (items left) written) };
 
     /// All items that are left, in order, for writing.
     fn live_mut(&mut self) -> &mut [T]
-        ensures* writes_back { sem 𝓛 (Lends Self.row (Array T.row 0) self.entry result (λ written. (rewritten self.old written).0)) }
+        ensures* writes_back { sem 𝓛 (Lends Self.row (Array T.row 0) self.entry result (λ written. (left_with self.old written).0)) }
         ensures value { result.now ≡ items self.old };
 }
 

@@ -11,7 +11,7 @@ ghost use Rattle.std.specs.Prelude.{◌≡◌, ℕ, ◌+◌, IfOk, OnErr, Result
 use crate::array::GenericArray;
 use crate::builder::ArrayBuilder;
 use crate::length::ArrayLength;
-use crate::places::{try_write_answers, write_answers};
+use crate::slots::{try_write_answers, write_answers};
 use crate::store::Store;
 use ga_views::LengthError;
 

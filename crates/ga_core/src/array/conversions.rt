@@ -6,7 +6,7 @@ ghost use Rattle.std.specs.Prelude.{◌≡◌, ◌↔◌, IfOk, IsOk, length};
 use crate::alloc_error::AllocError;
 use crate::array::GenericArray;
 use crate::length::ArrayLength;
-use crate::places::move_items;
+use crate::slots::move_items;
 use crate::store::{Store, store_of_array};
 use ga_views::{Const, GenericArrayRef, InlineLength, LengthError};
 use std::alloc::Global;
@@ -92,9 +92,9 @@ impl<T: Default + Drop, N: ArrayLength<T>> GenericArray<T, N> {
         ensures empty { N.USIZE ≡ 0 → IsOk result }
     {
         let mut array = self;
-        let places = array.as_mut_slice();
+        let slots = array.as_mut_slice();
         let mut items = Vec::with_capacity(alloc, N::USIZE)?;
-        for place in places.iter_mut() {
+        for place in slots.iter_mut() {
             items.push_reserved(mem::take(place));
         }
         Ok(items)

@@ -7,7 +7,7 @@ ghost use Rattle.std.specs.Prelude.{◌≡◌, ◌≤◌, IfOk, IsOk, length, re
 use crate::alloc_error::AllocError;
 use crate::array::GenericArray;
 use crate::length::ArrayLength;
-use crate::places::{write_clones, write_copies, write_same};
+use crate::slots::{write_clones, write_copies, write_same};
 use crate::store::Store;
 use std::alloc;
 

@@ -7,7 +7,7 @@ ghost use Rattle.std.specs.Prelude.{◌≡◌, ◌<◌, ◌↔◌, ◌⊎◌, �
 use crate::array::GenericArray;
 use crate::length::ArrayLength;
 use crate::store::Store;
-use ga_views::{ArrayMut, ChunksMut, ChunksRef, GenericArrayMut, GenericArrayRef, LengthError};
+use ga_views::{ViewMut, ChunksMut, ChunksRef, GenericArrayMut, GenericArrayRef, LengthError};
 
 impl<T, N: ArrayLength<T>> GenericArray<T, N> {
     /// The read-only view of the items.
@@ -23,12 +23,12 @@ impl<T, N: ArrayLength<T>> GenericArray<T, N> {
     /// In a generic function, before a loop, write `let view = &mut array.view_mut();`: the
     /// checker doesn't accept calls in the loop on a view that isn't borrowed.
     #[inline]
-    pub fn view_mut(&mut self) -> ArrayMut<&mut GenericArray<T, N>, T, N>
+    pub fn view_mut(&mut self) -> ViewMut<&mut GenericArray<T, N>, T, N>
         ensures { result.slice ≡ self.entry }
     {
         // Where a field is used, the type's invariant is known: there are `N` items.
         let _ = &self.store;
-        ArrayMut::over(self)
+        ViewMut::over(self)
     }
 
     /// The read-only view of a slice of `N` items, which need not fit inline.

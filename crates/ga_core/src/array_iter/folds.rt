@@ -29,8 +29,8 @@ impl<T: Default + Drop, N: ArrayLength<T>> GenericArrayIter<T, N> {
         let mut items = self;
         let mut answer = init;
         let (front, back) = (items.front, items.back);
-        let places = items.store.as_mut_slice();
-        for place in places[front..back].iter_mut() {
+        let slots = items.store.as_mut_slice();
+        for place in slots[front..back].iter_mut() {
             answer = f(answer, mem::take(place));
         }
         answer
@@ -55,9 +55,9 @@ impl<T: Default + Drop, N: ArrayLength<T>> GenericArrayIter<T, N> {
         let mut items = self;
         let mut answer = init;
         let (front, back) = (items.front, items.back);
-        let places = items.store.as_mut_slice();
+        let slots = items.store.as_mut_slice();
         for index in (front..back).rev() {
-            answer = f(answer, mem::take(&mut places[index]));
+            answer = f(answer, mem::take(&mut slots[index]));
         }
         answer
     }

@@ -31,7 +31,7 @@ pub loop-given-init : goal.loop-given-init
 loop-given-init g c =
     let items = g.S.Store.items c.args.store.now in
     let front = c.args.front in
-    refill-over _ _ _ _ c.as_mut_slice.ensures.value c.rotate_left.ensures.len (g.S.Store.refilled c.args.store.now c.rotate_left.new.self).1
+    refill-over _ _ _ _ c.as_mut_slice.ensures.value c.rotate_left.ensures.len (g.S.Store.store_with c.args.store.now c.rotate_left.new.self).1
     ∙ (c.rotate_left.ensures.after ∙ (ap (λ l. drop front l ++ take front l) c.as_mut_slice.ensures.value
     ∙ sym (take_all (length items - 0) (drop front items ++ take front items) (omega (arith, length-append (drop front items) (take front items), length-drop front items, length-take front items)))))
 

@@ -8,7 +8,7 @@ returns-clause-left g c =
     let items = g.S.Store.items c.args.store.now in
     let at = c.args.place % 65536 in
     let here : at ≡ c.args.place = mod-eq_of_lt (omega (arith, c.requires.fits, c.requires.in_bounds)) in
-    let places = c.as_mut_slice.result.now in
+    let slots = c.as_mut_slice.result.now in
     let blank = c.take.new.dest in
-    let after = g.S.Store.refilled c.args.store.now (slice_set places at blank) in
-    (blank, refill-set items places (g.S.Store.items after.0) at blank c.as_mut_slice.ensures.value after.1 ∙ ap (λ k. slice_set items k blank) here)
+    let after = g.S.Store.store_with c.args.store.now (slice_set slots at blank) in
+    (blank, refill-set items slots (g.S.Store.items after.0) at blank c.as_mut_slice.ensures.value after.1 ∙ ap (λ k. slice_set items k blank) here)

@@ -2,7 +2,7 @@ use Rattle.ga_core.proofs.mapping.try_write_mapped.Given as goal
 use Rattle.ga_core.specs.Runs.{ClosureRun}
 use Rattle.std.proofs.Common.{◌≡◌, Ok, drop, map, take}
 
--- the calls so far were good, and gave what is written, and the other items stand in their places
+-- the calls so far were good, and gave what is written, and the other items stand in their slots
 abbrev pub invariant-loop-index : goal.invariant-loop-index
 invariant-loop-index g l = record {
   run : ClosureRun (goal.F-step g) l.initial.f (take l.index l.initial.items) (map Ok (take l.index l.slots)) l.f;

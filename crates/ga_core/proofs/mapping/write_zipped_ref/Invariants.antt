@@ -4,7 +4,7 @@ use Rattle.ga_core.specs.Entries.{CallAtPair}
 use Rattle.std.proofs.Common.{◌≡◌, drop, take}
 use Rattle.std.specs.List.{zip}
 
--- the calls so far gave what is written, and the other items of the left side stand in their places
+-- the calls so far gave what is written, and the other items of the left side stand in their slots
 abbrev pub invariant-loop-index : goal.invariant-loop-index
 invariant-loop-index g l = record {
   run : ClosureRun (CallAtPair (λ item. item) (λ item. item.now) (goal.F-step g)) l.initial.f (take l.index (zip l.initial.left l.right)) (take l.index l.slots) l.f;

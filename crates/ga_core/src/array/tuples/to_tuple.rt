@@ -3,7 +3,7 @@ ghost use Rattle.std.specs.Prelude.{◌≡◌, ◌∷◌, []};
 
 use crate::array::GenericArray;
 use crate::length::ArrayLength;
-use crate::places::move_items;
+use crate::slots::move_items;
 use ga_views::{U1, U2, U3, U4, U5, U6, U7, U8, U9, U10, U11, U12};
 
 impl<T: Default + Drop> From<GenericArray<T, U1>> for (T,) {

@@ -3,7 +3,7 @@ ghost use Rattle.std.specs.Borrow.{Array, follows_both, sem};
 ghost use Rattle.std.specs.Prelude.{◌≡◌, ◌+◌, ◌++◌, drop, length, take};
 
 use crate::sequence::shapes::Split;
-use ga_core::{ArrayLength, ArrayMut, GenericArray, GenericArrayMut, GenericArrayRef, Unsigned};
+use ga_core::{ArrayLength, ViewMut, GenericArray, GenericArrayMut, GenericArrayRef, Unsigned};
 
 /// Two views of the slice's parts, for the lifetime of the slice. A view's length need not fit
 /// inline. O(1).
@@ -66,7 +66,7 @@ impl<'a, T, N: ArrayLength<T>, K: Unsigned, M: Unsigned> Split<
     T,
     GenericArrayMut<'a, T, K>,
     GenericArrayMut<'a, T, M>,
-> for ArrayMut<&'a mut GenericArray<T, N>, T, N> {
+> for ViewMut<&'a mut GenericArray<T, N>, T, N> {
     ghost items = { λ view. view.slice.now };
 
     ghost first_items = { λ view. view.slice.now };

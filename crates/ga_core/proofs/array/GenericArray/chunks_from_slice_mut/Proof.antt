@@ -4,12 +4,12 @@ use Rattle.ga_core.proofs.array.GenericArray.chunks_from_slice_mut.Code as code
 use Rattle.ga_core.proofs.array.GenericArray.chunks_from_slice_mut.Statement.{statement}
 use Rattle.ga_core.specs.contracts.array.GenericArray.chunks_from_slice_mut as F
 use Rattle.ga_views.proofs.SliceLaws.{slice_laws}
-use Rattle.ga_views.proofs.chunks_mut.RowsMut+mut+slice+T+T+N.chunks_from_slice_mut.Met as made
-use Rattle.ga_views.proofs.chunks_mut.RowsMut.TheLaws as rows_laws
+use Rattle.ga_views.proofs.chunks_mut.ChunksViewMut+mut+slice+T+T+N.chunks_from_slice_mut.Met as made
+use Rattle.ga_views.proofs.chunks_mut.ChunksViewMut.TheLaws as rows_laws
 use Rattle.ga_views.specs.Rows.{chunk_rest, rows}
-use Rattle.ga_views.specs.contracts.chunks_mut.RowsMut as rows_of
-use Rattle.ga_views.specs.contracts.chunks_mut.RowsMut+mut+slice+T+T+N.chunks_from_slice_mut as make_contract
-use Rattle.ga_views.specs.contracts.slice_mut.RefMutSliceSliceMut.TheImpl as impl
+use Rattle.ga_views.specs.contracts.chunks_mut.ChunksViewMut as rows_of
+use Rattle.ga_views.specs.contracts.chunks_mut.ChunksViewMut+mut+slice+T+T+N.chunks_from_slice_mut as make_contract
+use Rattle.ga_views.specs.contracts.reborrow.RefMutSliceReborrowSlice.TheImpl as impl
 use Rattle.ga_views.specs.declared.length.Unsigned as unsigned
 use Rattle.std.proofs.Common.{◌≡◌, ◌⊎◌, ◌++◌, ◌<◌, [], ◌∷◌, length, refl}
 use Rattle.std.proofs.raw_atomic.Walks.{leaves, proved}
@@ -98,7 +98,7 @@ chunks_from_slice_mut_spec 𝓤 𝓛 𝓜 𝓡 wired X N A LX LN LA gL dL g d gS
     use0 𝓛 (raw (fact 𝓤 (κT ⊑ X.lives))) (fact_i 𝓤 _ (emp 𝓤) lT) $ join ! $
     move ! (1 ∷ 0 ∷ []) $ join ! $ use1 𝓛 (raw (C.pre z)) (id⊢ 𝓤 _) $
     calls_at ! (framed 𝓤 𝓛.H 𝓜 (tables 𝓤 𝓛.H 𝓜 𝓡 𝓡.env)) C
-    (made.met 𝓤 𝓛 𝓜 𝓡 (code.calls-ga_views::chunks_mut::RowsMut+mut+slice+T+T+N::chunks_from_slice_mut 𝓡.env wired) X N LX LN g d bound) z
+    (made.met 𝓤 𝓛 𝓜 𝓡 (code.calls-ga_views::chunks_mut::ChunksViewMut+mut+slice+T+T+N::chunks_from_slice_mut 𝓡.env wired) X N LX LN g d bound) z
     (and_then ! (get ! refl) (no_more !)) (λ u.
     use1 𝓛 (later (some (λ (w : Pair.Denot). ((‵ (flft κ qs.0) ⊛ ‵ (flft κT qs.1.0) ⊛ ‵ (flft κN qs.1.1.0) ⊛ ‵ ftrue) ⊛ ‵ (Pair.own_val w (u ∷ []))) ⊛
     some (λ (ws : Lasts (make_contract.ended X N g d) z.0.0 z.0.3). ‵ (lasts (make_contract.ended X N g d) z.0.0 z.0.3 ws) ⊛

@@ -19,9 +19,9 @@ write_clones-requires g c = record { room = ap length c.as_mut_slice.ensures.val
 pub of_store-requires-clause-full : goal.of_store-requires-clause-full
 of_store-requires-clause-full g c =
     let blanks = g.N.ArrayType.Store.items c.filled-store.result in
-    let written = c.write_clones.new.places in
-    let long : length blanks ≡ length written = ap length (sym c.as_mut_slice.ensures.value) ∙ sym c.write_clones.auto.places in
-    ap length ((g.N.ArrayType.Store.refilled c.filled-store.result written).1 ∙ refill-whole (length blanks) blanks written long) ∙ (sym long ∙ (c.filled-store.ensures ∙ g.met.N.ArrayLength.capacity_is))
+    let written = c.write_clones.new.slots in
+    let long : length blanks ≡ length written = ap length (sym c.as_mut_slice.ensures.value) ∙ sym c.write_clones.auto.slots in
+    ap length ((g.N.ArrayType.Store.store_with c.filled-store.result written).1 ∙ refill-whole (length blanks) blanks written long) ∙ (sym long ∙ (c.filled-store.ensures ∙ g.met.N.ArrayLength.capacity_is))
 
 pub of_store-requires-clause-fits : goal.of_store-requires-clause-fits
 of_store-requires-clause-fits g c = c.as_slice-items.ensures.fits
@@ -32,9 +32,9 @@ drop-store-requires g c = λ κs outlive. outlive
 pub returns-in-Ok-clause-items : goal.returns-in-Ok-clause-items
 returns-in-Ok-clause-items g c =
     let blanks = g.N.ArrayType.Store.items c.filled-store.result in
-    let written = c.write_clones.new.places in
-    let long : length blanks ≡ length written = ap length (sym c.as_mut_slice.ensures.value) ∙ sym c.write_clones.auto.places in
-    let made : c.of_store.result ≡ written = c.of_store.ensures ∙ ((g.N.ArrayType.Store.refilled c.filled-store.result written).1 ∙ refill-whole (length blanks) blanks written long) in
+    let written = c.write_clones.new.slots in
+    let long : length blanks ≡ length written = ap length (sym c.as_mut_slice.ensures.value) ∙ sym c.write_clones.auto.slots in
+    let made : c.of_store.result ≡ written = c.of_store.ensures ∙ ((g.N.ArrayType.Store.store_with c.filled-store.result written).1 ∙ refill-whole (length blanks) blanks written long) in
     subst (AllZip g.T.Clone.is_clone c.args.self.now) (sym made)
     (subst (λ items. AllZip g.T.Clone.is_clone items written) c.as_slice-items.ensures.items c.in-Ok.ensures.items)
 

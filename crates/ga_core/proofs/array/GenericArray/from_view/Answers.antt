@@ -20,7 +20,7 @@ of_store-requires-clause-full g c =
     let blanks = g.N.ArrayType.Store.items c.filled-store.result in
     let written = c.copy_from_slice.new.self in
     let long : length blanks ≡ length written = ap length (sym c.as_mut_slice.ensures.value) ∙ sym c.copy_from_slice.auto.self in
-    ap length ((g.N.ArrayType.Store.refilled c.filled-store.result written).1 ∙ refill-whole (length blanks) blanks written long) ∙ (sym long ∙ (c.filled-store.ensures ∙ g.met.N.ArrayLength.capacity_is))
+    ap length ((g.N.ArrayType.Store.store_with c.filled-store.result written).1 ∙ refill-whole (length blanks) blanks written long) ∙ (sym long ∙ (c.filled-store.ensures ∙ g.met.N.ArrayLength.capacity_is))
 
 pub of_store-requires-clause-fits : goal.of_store-requires-clause-fits
 of_store-requires-clause-fits g c = c.requires.fits
@@ -30,4 +30,4 @@ returns g c =
     let blanks = g.N.ArrayType.Store.items c.filled-store.result in
     let written = c.copy_from_slice.new.self in
     let long : length blanks ≡ length written = ap length (sym c.as_mut_slice.ensures.value) ∙ sym c.copy_from_slice.auto.self in
-    c.of_store.ensures ∙ ((g.N.ArrayType.Store.refilled c.filled-store.result written).1 ∙ (refill-whole (length blanks) blanks written long ∙ (c.copy_from_slice.ensures.after ∙ c.as_slice.ensures.items)))
+    c.of_store.ensures ∙ ((g.N.ArrayType.Store.store_with c.filled-store.result written).1 ∙ (refill-whole (length blanks) blanks written long ∙ (c.copy_from_slice.ensures.after ∙ c.as_slice.ensures.items)))

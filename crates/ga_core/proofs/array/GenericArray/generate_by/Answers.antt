@@ -14,7 +14,7 @@ write_answers-requires g c =
 pub returns : goal.returns
 returns g c =
     let full : length c.as_mut_slice.result.now ≡ g.N.Unsigned.USIZE = ap length c.as_mut_slice.ensures.value ∙ (c.filled-store.ensures ∙ g.met.N.ArrayLength.capacity_is) in
-    let made : c.write_answers.new.places ≡ c.of_store.result = grind (arith, common_steps) in
-    let called = subst (λ places. ClosureRun (goal.F-step g) c.args.f.now (range_with_len 0 (length c.as_mut_slice.result.now)) places c.write_answers.new.f) made c.write_answers.ensures.run in
+    let made : c.write_answers.new.slots ≡ c.of_store.result = grind (arith, common_steps) in
+    let called = subst (λ slots. ClosureRun (goal.F-step g) c.args.f.now (range_with_len 0 (length c.as_mut_slice.result.now)) slots c.write_answers.new.f) made c.write_answers.ensures.run in
     let run = subst (λ n. ClosureRun (goal.F-step g) c.args.f.now (range_with_len 0 n) c.of_store.result c.write_answers.new.f) full called in
     record { run = run; acts = λ h acts. answers_of_run _ _ h acts _ _ _ run }

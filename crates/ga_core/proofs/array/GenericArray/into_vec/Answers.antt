@@ -3,8 +3,8 @@ use Rattle.ga_core.proofs.array.GenericArray.into_vec.Goals as goal
 use Rattle.std.proofs.Common.{◌<◌, ◌≡◌, ◌≤◌, ◌∙◌, ap, arith, length, refl, slice_index_or, subst, sym}
 use Rattle.std.proofs.lemmas.List.{take_all}
 
-pub as_mut_slice-places-requires : goal.as_mut_slice-places-requires
-as_mut_slice-places-requires g c = λ κs outlive. outlive
+pub as_mut_slice-slots-requires : goal.as_mut_slice-slots-requires
+as_mut_slice-slots-requires g c = λ κs outlive. outlive
 
 pub take-requires : goal.take-requires
 take-requires g c = λ κs outlive. outlive
@@ -15,15 +15,15 @@ loop-place-smaller g c = omega (arith, c.loop-place-test.true)
 pub loop-place-preserved : goal.loop-place-preserved
 loop-place-preserved g c =
     let at = c.loop-place in
-    let some : at.place-index < length at.places = subst (λ n. at.place-index < n) (sym at.auto.places) c.loop-place-test.true in
-    let this : c.take.result ≡ slice_index_or at.places at.place-index c.take.result =
-    c.take.ensures.value ∙ ap (slice_index_or at.places at.place-index) (c.place-item.is ∙ sym c.take.ensures.value) in
-    let moved = pushed-next at.place-index c.args.self at.places at.items.items c.push_reserved.new.self.items c.take.result c.take.new.dest some this at.invariant.moved c.push_reserved.ensures.items in
+    let some : at.place-index < length at.slots = subst (λ n. at.place-index < n) (sym at.auto.slots) c.loop-place-test.true in
+    let this : c.take.result ≡ slice_index_or at.slots at.place-index c.take.result =
+    c.take.ensures.value ∙ ap (slice_index_or at.slots at.place-index) (c.place-item.is ∙ sym c.take.ensures.value) in
+    let moved = pushed-next at.place-index c.args.self at.slots at.items.items c.push_reserved.new.self.items c.take.result c.take.new.dest some this at.invariant.moved c.push_reserved.ensures.items in
     record { moved = moved; room = omega (arith, c.push_reserved.ensures.capacity, at.invariant.room) }
 
 pub returns-clause-ok : goal.returns-clause-ok
 returns-clause-ok g c =
-    let whole : length c.args.self ≤ c.loop-place.place-index = omega (arith, c.loop-place-test.false, ap length c.as_mut_slice-places.ensures.items) in
+    let whole : length c.args.self ≤ c.loop-place.place-index = omega (arith, c.loop-place-test.false, ap length c.as_mut_slice-slots.ensures.items) in
     c.loop-place.invariant.moved.0 ∙ take_all c.loop-place.place-index c.args.self whole
 
 pub returns-clause-empty : goal.returns-clause-empty

@@ -10,14 +10,14 @@ write_mapped-requires-clause-callable g c = λ passed x others ys reached whole 
 
 pub returns : goal.returns
 returns g c =
-    let made : c.write_mapped.new.slots ≡ c.of_store.result = sym (c.of_store.ensures ∙ refill-over _ _ _ _ c.as_mut_slice-2.ensures.value c.write_mapped.auto.slots (g.N.ArrayType.Store-2.refilled c.filled-store.result c.write_mapped.new.slots).1) in
+    let made : c.write_mapped.new.slots ≡ c.of_store.result = sym (c.of_store.ensures ∙ refill-over _ _ _ _ c.as_mut_slice-2.ensures.value c.write_mapped.auto.slots (g.N.ArrayType.Store-2.store_with c.filled-store.result c.write_mapped.new.slots).1) in
     let called = subst (λ slots. ClosureRun (goal.F-step g) c.args.f.now c.as_mut_slice.result.now slots c.write_mapped.new.f) made c.write_mapped.ensures.run in
     let run = subst (λ items. ClosureRun (goal.F-step g) c.args.f.now items c.of_store.result c.write_mapped.new.f) c.as_mut_slice.ensures.items called in
     record { run = run; acts = λ h acts. answers_of_run _ _ h acts _ _ _ run }
 
 pub of_store-requires : goal.of_store-requires
 of_store-requires g c =
-    let stands = refill-over _ _ _ _ c.as_mut_slice-2.ensures.value c.write_mapped.auto.slots (g.N.ArrayType.Store-2.refilled c.filled-store.result c.write_mapped.new.slots).1 in
+    let stands = refill-over _ _ _ _ c.as_mut_slice-2.ensures.value c.write_mapped.auto.slots (g.N.ArrayType.Store-2.store_with c.filled-store.result c.write_mapped.new.slots).1 in
     record { full = ap length stands ∙ (c.write_mapped.auto.slots ∙ (ap length c.as_mut_slice-2.ensures.value ∙ (c.filled-store.ensures ∙ g.met.N.ArrayLength-2.capacity_is))); fits = c.well_formed.0.1.0.1.1.1 }
 
 pub filled-store-requires : goal.filled-store-requires

@@ -14,9 +14,9 @@ as_mut_slice-requires g c = λ κs outlive. outlive
 pub of_store-requires-clause-full : goal.of_store-requires-clause-full
 of_store-requires-clause-full g c =
     let blanks = g.N.ArrayType.Store.items c.filled-store.result in
-    let copies = c.write_copies.new.places in
-    let long : length blanks ≡ length copies = ap length (sym c.as_mut_slice.ensures.value) ∙ sym c.write_copies.auto.places in
-    ap length ((g.N.ArrayType.Store.refilled c.filled-store.result copies).1 ∙ refill-whole (length blanks) blanks copies long) ∙ (sym long ∙ (c.filled-store.ensures ∙ g.met.N.ArrayLength.capacity_is))
+    let copies = c.write_copies.new.slots in
+    let long : length blanks ≡ length copies = ap length (sym c.as_mut_slice.ensures.value) ∙ sym c.write_copies.auto.slots in
+    ap length ((g.N.ArrayType.Store.store_with c.filled-store.result copies).1 ∙ refill-whole (length blanks) blanks copies long) ∙ (sym long ∙ (c.filled-store.ensures ∙ g.met.N.ArrayLength.capacity_is))
 
 pub of_store-requires-clause-fits : goal.of_store-requires-clause-fits
 of_store-requires-clause-fits g c = c.requires.fits
@@ -39,11 +39,11 @@ returns-in-Err-clause-succeeds g c = c.in-Err.ensures.succeeds
 pub returns-in-Ok-clause-items : goal.returns-in-Ok-clause-items
 returns-in-Ok-clause-items g c =
     let blanks = g.N.ArrayType.Store.items c.filled-store.result in
-    let copies = c.write_copies.new.places in
+    let copies = c.write_copies.new.slots in
     let full : length blanks ≡ g.N.Unsigned.USIZE = c.filled-store.ensures ∙ g.met.N.ArrayLength.capacity_is in
     let count : length c.as_mut_slice.result.now ≡ g.N.Unsigned.USIZE = ap length c.as_mut_slice.ensures.value ∙ full in
     let made : c.of_store.result ≡ copies =
-    c.of_store.ensures ∙ ((g.N.ArrayType.Store.refilled c.filled-store.result copies).1 ∙ refill-whole (length blanks) blanks copies (ap length (sym c.as_mut_slice.ensures.value) ∙ sym c.write_copies.auto.places)) in
+    c.of_store.ensures ∙ ((g.N.ArrayType.Store.store_with c.filled-store.result copies).1 ∙ refill-whole (length blanks) blanks copies (ap length (sym c.as_mut_slice.ensures.value) ∙ sym c.write_copies.auto.slots)) in
     subst (Repeats g.T.Clone.is_clone c.args.item g.N.Unsigned.USIZE) (sym made)
     (subst (λ n. Repeats g.T.Clone.is_clone c.args.item n copies) count c.in-Ok.ensures.items)
 

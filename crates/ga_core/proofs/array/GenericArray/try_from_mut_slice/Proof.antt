@@ -4,9 +4,9 @@ use Rattle.ga_core.proofs.array.GenericArray.try_from_mut_slice.Code as code
 use Rattle.ga_core.proofs.array.GenericArray.try_from_mut_slice.Statement.{statement}
 use Rattle.ga_core.specs.contracts.array.GenericArray.try_from_mut_slice as F
 use Rattle.ga_views.proofs.SliceLaws.{array_laws, ArrayView}
-use Rattle.ga_views.proofs.array_mut.ArrayMut+mut+slice+T+T+N.try_from_mut_slice.Met as made
+use Rattle.ga_views.proofs.view_mut.ViewMut+mut+slice+T+T+N.try_from_mut_slice.Met as made
 use Rattle.ga_views.proofs.length_error.LengthError.TheLaws as error_laws
-use Rattle.ga_views.specs.contracts.array_mut.ArrayMut+mut+slice+T+T+N.try_from_mut_slice as make_contract
+use Rattle.ga_views.specs.contracts.view_mut.ViewMut+mut+slice+T+T+N.try_from_mut_slice as make_contract
 use Rattle.ga_views.specs.contracts.length_error.LengthError as error
 use Rattle.ga_views.specs.declared.length.Unsigned as unsigned
 use Rattle.std.proofs.Common.{◌≡◌, [], ◌∷◌, length, refl}
@@ -95,7 +95,7 @@ try_from_mut_slice_spec 𝓤 𝓛 𝓜 𝓡 wired X N A LX LN LA gL dL g d gS dS
     use0 𝓛 (raw (fact 𝓤 (κT ⊑ X.lives))) (fact_i 𝓤 _ (emp 𝓤) lT) $ join ! $
     move ! (1 ∷ 0 ∷ []) $ join ! $ use1 𝓛 (raw (C.pre z)) (id⊢ 𝓤 _) $
     calls_at ! (framed 𝓤 𝓛.H 𝓜 (tables 𝓤 𝓛.H 𝓜 𝓡 𝓡.env)) C
-    (made.met 𝓤 𝓛 𝓜 𝓡 (code.calls-ga_views::array_mut::ArrayMut+mut+slice+T+T+N::try_from_mut_slice 𝓡.env wired) X N LX LN g d bound) z
+    (made.met 𝓤 𝓛 𝓜 𝓡 (code.calls-ga_views::view_mut::ViewMut+mut+slice+T+T+N::try_from_mut_slice 𝓡.env wired) X N LX LN g d bound) z
     (and_then ! (get ! refl) (no_more !)) (λ u.
     use1 𝓛 (later (some (λ (w : R.Denot). ((‵ (flft κ qs.0) ⊛ ‵ (flft κT qs.1.0) ⊛ ‵ (flft κN qs.1.1.0) ⊛ ‵ ftrue) ⊛ ‵ (R.own_val w (u ∷ []))) ⊛
     some (λ (ws : Lasts (make_contract.ended X N g d) z.0.0 z.0.3). ‵ (lasts (make_contract.ended X N g d) z.0.0 z.0.3 ws) ⊛

@@ -15,9 +15,9 @@ move_items-requires g c = record { len = c.as_mut_slice.ensures.len ∙ (sym c.l
 pub of_store-requires-clause-full : goal.of_store-requires-clause-full
 of_store-requires-clause-full g c =
     let blanks = g.N.ArrayType.Store.items c.filled-store.result in
-    let written = c.move_items.new.places in
-    let long : length blanks ≡ length written = ap length (sym c.as_mut_slice-2.ensures.value) ∙ sym c.move_items.auto.places in
-    ap length ((g.N.ArrayType.Store.refilled c.filled-store.result written).1 ∙ refill-whole (length blanks) blanks written long) ∙ (sym long ∙ (c.filled-store.ensures ∙ g.met.N.ArrayLength.capacity_is))
+    let written = c.move_items.new.slots in
+    let long : length blanks ≡ length written = ap length (sym c.as_mut_slice-2.ensures.value) ∙ sym c.move_items.auto.slots in
+    ap length ((g.N.ArrayType.Store.store_with c.filled-store.result written).1 ∙ refill-whole (length blanks) blanks written long) ∙ (sym long ∙ (c.filled-store.ensures ∙ g.met.N.ArrayLength.capacity_is))
 
 pub of_store-requires-clause-fits : goal.of_store-requires-clause-fits
 of_store-requires-clause-fits g c = c.requires.fits
@@ -28,6 +28,6 @@ returns-clause-variant g c = (λ yes. ap length (sym c.as_mut_slice.ensures.valu
 pub returns-clause-ok : goal.returns-clause-ok
 returns-clause-ok g c =
     let blanks = g.N.ArrayType.Store.items c.filled-store.result in
-    let written = c.move_items.new.places in
-    let long : length blanks ≡ length written = ap length (sym c.as_mut_slice-2.ensures.value) ∙ sym c.move_items.auto.places in
-    c.of_store.ensures ∙ ((g.N.ArrayType.Store.refilled c.filled-store.result written).1 ∙ (refill-whole (length blanks) blanks written long ∙ (c.move_items.ensures.moved ∙ c.as_mut_slice.ensures.value)))
+    let written = c.move_items.new.slots in
+    let long : length blanks ≡ length written = ap length (sym c.as_mut_slice-2.ensures.value) ∙ sym c.move_items.auto.slots in
+    c.of_store.ensures ∙ ((g.N.ArrayType.Store.store_with c.filled-store.result written).1 ∙ (refill-whole (length blanks) blanks written long ∙ (c.move_items.ensures.moved ∙ c.as_mut_slice.ensures.value)))

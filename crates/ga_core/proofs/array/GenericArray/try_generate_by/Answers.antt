@@ -14,8 +14,8 @@ try_write_answers-requires g c =
 pub returns-in-Ok : goal.returns-in-Ok
 returns-in-Ok g c =
     let full : length c.as_mut_slice.result.now ≡ g.N.Unsigned.USIZE = ap length c.as_mut_slice.ensures.value ∙ (c.filled-store.ensures ∙ g.met.N.ArrayLength.capacity_is) in
-    let made : c.try_write_answers.new.places ≡ c.of_store.result = sym (c.of_store.ensures ∙ refill-over _ _ _ _ c.as_mut_slice.ensures.value c.try_write_answers.auto.places (g.N.ArrayType.Store.refilled c.filled-store.result c.try_write_answers.new.places).1) in
-    let called = subst (λ places. FirstErrorRun (goal.F-step g) c.args.f.now (range_with_len 0 (length c.as_mut_slice.result.now)) (Ok places) c.try_write_answers.new.f) made c.in-Ok.ensures.run in
+    let made : c.try_write_answers.new.slots ≡ c.of_store.result = sym (c.of_store.ensures ∙ refill-over _ _ _ _ c.as_mut_slice.ensures.value c.try_write_answers.auto.slots (g.N.ArrayType.Store.store_with c.filled-store.result c.try_write_answers.new.slots).1) in
+    let called = subst (λ slots. FirstErrorRun (goal.F-step g) c.args.f.now (range_with_len 0 (length c.as_mut_slice.result.now)) (Ok slots) c.try_write_answers.new.f) made c.in-Ok.ensures.run in
     let run = subst (λ n. FirstErrorRun (goal.F-step g) c.args.f.now (range_with_len 0 n) (Ok c.of_store.result) c.try_write_answers.new.f) full called in
     record { run = run; acts = λ h acts. answers_until_error (goal.F-step g) c.args.f.now h acts _ _ _ run }
 
@@ -27,8 +27,8 @@ returns-in-Err g c =
 
 pub of_store-requires : goal.of_store-requires
 of_store-requires g c =
-    let stands = refill-over _ _ _ _ c.as_mut_slice.ensures.value c.try_write_answers.auto.places (g.N.ArrayType.Store.refilled c.filled-store.result c.try_write_answers.new.places).1 in
-    record { full = ap length stands ∙ (c.try_write_answers.auto.places ∙ (ap length c.as_mut_slice.ensures.value ∙ (c.filled-store.ensures ∙ g.met.N.ArrayLength.capacity_is))); fits = c.requires.fits }
+    let stands = refill-over _ _ _ _ c.as_mut_slice.ensures.value c.try_write_answers.auto.slots (g.N.ArrayType.Store.store_with c.filled-store.result c.try_write_answers.new.slots).1 in
+    record { full = ap length stands ∙ (c.try_write_answers.auto.slots ∙ (ap length c.as_mut_slice.ensures.value ∙ (c.filled-store.ensures ∙ g.met.N.ArrayLength.capacity_is))); fits = c.requires.fits }
 
 pub filled-store-requires : goal.filled-store-requires
 filled-store-requires g c = record { fits = omega (arith, g.met.N.ArrayLength.capacity_is, c.requires.fits) }

@@ -18,7 +18,7 @@ invariant_of-self-lent g c w =
     let items = g.N.ArrayType.Store.items in
     let kept = items c.keep_range.new.store in
     let count : length kept ≡ c.self.inside.back - c.self.inside.front = ap length c.keep_range.ensures ∙ left-count (items c.self.inside.store) c.self.inside.front c.self.inside.back c.self.invariant.0 c.self.invariant.1 in
-    let after = g.N.ArrayType.Store.refilled c.keep_range.new.store w in
+    let after = g.N.ArrayType.Store.store_with c.keep_range.new.store w in
     let long : length (items after.0) ≡ length kept = ap length after.1 ∙ sym (length_refill (length kept) kept w refl) in
     (omega arith, omega (arith, count, long), omega (arith, count, long, c.self.invariant.0, c.self.invariant.1, c.self.invariant.2), c.self.invariant.3)
 
@@ -31,7 +31,7 @@ returns g c =
       (
         refl,
         λ w.
-            let after = g.N.ArrayType.Store.refilled c.keep_range.new.store w in
+            let after = g.N.ArrayType.Store.store_with c.keep_range.new.store w in
             let long : length (items after.0) ≡ length kept = ap length after.1 ∙ sym (length_refill (length kept) kept w refl) in
             take_all (c.self.inside.back - c.self.inside.front - 0) (items after.0) (omega (arith, count, long)) ∙ (after.1 ∙ ap (λ l. refill (length l) l w) shown),
       ),

@@ -7,29 +7,29 @@ use Rattle.std.proofs.lemmas.Fn.{FoldsTo-push}
 use Rattle.std.proofs.lemmas.List.{append-nil, drop-set-lt, drop_all, drop_more}
 
 pub loop-place-init : goal.loop-place-init
-loop-place-init g c = ([], sym c.items.view_is ∙ ap (λ l. take (c.items.inside.back - c.items.inside.front) (drop c.items.inside.front l)) (sym c.as_mut_slice-places.ensures.value), refl)
+loop-place-init g c = ([], sym c.items.view_is ∙ ap (λ l. take (c.items.inside.back - c.items.inside.front) (drop c.items.inside.front l)) (sym c.as_mut_slice-slots.ensures.value), refl)
 
 pub f-answer-requires : goal.f-answer-requires
 f-answer-requires g c =
     let so_far = c.loop-place.invariant in
-    let places = c.loop-place.place-items in
+    let slots = c.loop-place.place-items in
     let i = c.loop-place.place-index in
-    let step : drop i places ≡ c.take.result ∷ drop (i + 1) places =
-    drop_more places i c.place-item.result (omega (arith, c.loop-place-test.true, c.loop-place.auto.place-items)) ∙ ap (λ x. x ∷ drop (i + 1) places) (sym c.take.ensures.value) in
-    c.requires.callable so_far.0 c.take.result (drop (i + 1) places) c.loop-place.f c.loop-place.answer (so_far.1 ∙ ap (λ rest. so_far.0 ++ rest) step) so_far.2
+    let step : drop i slots ≡ c.take.result ∷ drop (i + 1) slots =
+    drop_more slots i c.place-item.result (omega (arith, c.loop-place-test.true, c.loop-place.auto.place-items)) ∙ ap (λ x. x ∷ drop (i + 1) slots) (sym c.take.ensures.value) in
+    c.requires.callable so_far.0 c.take.result (drop (i + 1) slots) c.loop-place.f c.loop-place.answer (so_far.1 ∙ ap (λ rest. so_far.0 ++ rest) step) so_far.2
 
 pub loop-place-preserved : goal.loop-place-preserved
 loop-place-preserved g c =
     let so_far = c.loop-place.invariant in
     let item = c.take.result in
-    let places = c.loop-place.place-items in
+    let slots = c.loop-place.place-items in
     let i = c.loop-place.place-index in
-    let step : drop i places ≡ item ∷ drop (i + 1) (slice_set places i c.take.new.dest) =
-    drop_more places i c.place-item.result (omega (arith, c.loop-place-test.true, c.loop-place.auto.place-items))
-    ∙ (ap (λ x. x ∷ drop (i + 1) places) (sym c.take.ensures.value)
-    ∙ ap (λ rest. item ∷ rest) (sym (drop-set-lt (i + 1) places i c.take.new.dest (omega arith)))) in (
+    let step : drop i slots ≡ item ∷ drop (i + 1) (slice_set slots i c.take.new.dest) =
+    drop_more slots i c.place-item.result (omega (arith, c.loop-place-test.true, c.loop-place.auto.place-items))
+    ∙ (ap (λ x. x ∷ drop (i + 1) slots) (sym c.take.ensures.value)
+    ∙ ap (λ rest. item ∷ rest) (sym (drop-set-lt (i + 1) slots i c.take.new.dest (omega arith)))) in (
       so_far.0 ++ item ∷ [],
-      taken-more c.args.self so_far.0 (drop i places) item (drop (i + 1) (slice_set places i c.take.new.dest)) so_far.1 step,
+      taken-more c.args.self so_far.0 (drop i slots) item (drop (i + 1) (slice_set slots i c.take.new.dest)) so_far.1 step,
       FoldsTo-push _ (c.args.f.now, c.args.init) so_far.0 (c.loop-place.f, c.loop-place.answer) item (c.f-answer.new.self, c.f-answer.result) so_far.2 c.f-answer.ensures,
     )
 

@@ -9,6 +9,6 @@ invariant-loop-items g l = record {
   taken : (taken : List g.row.T.Denot) × (l.self ≡ l.initial.self ++ taken) × Yields g.I.Iterator.next_gives l.initial.items taken l.items;
 }
 
--- the places that are left; an iterator that never ends is asked all the same
+-- the slots that are left; an iterator that never ends is asked all the same
 abbrev pub decreases-loop-items : goal.decreases-loop-items
 decreases-loop-items g l = g.N.Unsigned.USIZE - length l.self

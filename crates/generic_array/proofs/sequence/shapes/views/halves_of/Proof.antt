@@ -1,10 +1,10 @@
 -- `halves_of` cuts the slice of a view and makes a view of each part, so the slice ends as what the two views' slices end as, one after the other.
 -- The borrow checker shows no clause on two parts where they are passed on to a call that makes views of them, so this proof walks the code by hand. Assumes `Logic`.
 use Prim.Native.Nat.{ℕ}
-use Rattle.ga_core.below.ga_views.proofs.array_mut.ArrayMut+mut+slice+T+T+N.into_mut_slice.Met as taken
-use Rattle.ga_core.below.ga_views.specs.contracts.array_mut.ArrayMut+mut+slice+T+T+N.into_mut_slice as take_contract
-use Rattle.ga_core.below.ga_views.specs.contracts.slice_mut.RefMutSliceSliceMut.TheImpl as impl
-use Rattle.ga_core.proofs.ArrayMut.TheLaws as laws
+use Rattle.ga_core.below.ga_views.proofs.view_mut.ViewMut+mut+slice+T+T+N.into_mut_slice.Met as taken
+use Rattle.ga_core.below.ga_views.specs.contracts.view_mut.ViewMut+mut+slice+T+T+N.into_mut_slice as take_contract
+use Rattle.ga_core.below.ga_views.specs.contracts.reborrow.RefMutSliceReborrowSlice.TheImpl as impl
+use Rattle.ga_core.proofs.ViewMut.TheLaws as laws
 use Rattle.ga_core.proofs.LengthCall.{calls_length}
 use Rattle.ga_core.proofs.SliceLaws.{array_laws, ArrayView, Slice, slice_laws}
 use Rattle.ga_core.specs.declared.Unsigned as unsigned
@@ -122,7 +122,7 @@ halves_of_spec 𝓤 𝓛 𝓜 𝓡 wired X N K P LX LN LK LP gN dN gK dK gP dP b
     use0 𝓛 (raw (fact 𝓤 (κT ⊑ X.lives))) (fact_i 𝓤 _ (emp 𝓤) lT) $ join ! $
     move ! (1 ∷ 0 ∷ []) $ join ! $ use1 𝓛 (raw (T.pre zT)) (id⊢ 𝓤 _) $
     calls_at ! (framed 𝓤 𝓛.H 𝓜 𝓣) T
-    (taken.met 𝓤 𝓛 𝓜 𝓡 (code.calls-ga_views::array_mut::ArrayMut+mut+slice+T+T+N::into_mut_slice 𝓡.env wired) X N LX LN gN dN boundN) zT
+    (taken.met 𝓤 𝓛 𝓜 𝓡 (code.calls-ga_views::view_mut::ViewMut+mut+slice+T+T+N::into_mut_slice 𝓡.env wired) X N LX LN gN dN boundN) zT
     (and_then ! (get ! refl) (no_more !)) (λ u.
     use1 𝓛 (later (some (λ (s : Part.Denot). ((‵ (flft κ qs.0) ⊛ ‵ (flft κT qs.1.0) ⊛ ‵ (flft κN qs.1.1.0) ⊛ ‵ ftrue) ⊛ ‵ (Part.own_val s (u ∷ []))) ⊛
     some (λ (ws : Lasts (take_contract.ended X N gN dN) zT.0.0 zT.0.3). ‵ (lasts (take_contract.ended X N gN dN) zT.0.0 zT.0.3 ws) ⊛

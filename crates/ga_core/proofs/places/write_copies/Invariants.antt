@@ -1,7 +1,0 @@
-use Rattle.ga_core.proofs.places.write_copies.Given as goal
-use Rattle.std.proofs.Common.{take}
-use Rattle.std.specs.List.{All}
-
--- what is written so far are clones
-abbrev pub invariant-loop-place : goal.invariant-loop-place
-invariant-loop-place g l = All (g.T.Clone.is_clone l.item) (take l.place-index l.place-items)

@@ -1,6 +1,0 @@
-use Rattle.ga_core.proofs.places.write_same.Given as goal
-use Rattle.std.proofs.Common.{◌≡◌, replicate, take}
-
--- the places so far hold the item
-abbrev pub invariant-loop-place : goal.invariant-loop-place
-invariant-loop-place g l = take l.place-index l.places ≡ replicate l.place-index l.fn.item

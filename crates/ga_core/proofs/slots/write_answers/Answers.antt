@@ -1,0 +1,8 @@
+use Rattle.ga_core.proofs.RunLemmas.{ClosureRun-snoc, below-add_one}
+use Rattle.ga_core.proofs.slots.write_answers.Goals as goal
+use Rattle.std.proofs.Common.{arith}
+use Rattle.std.proofs.lemmas.List.{take_more_set}
+
+pub loop-index-preserved : goal.loop-index-preserved
+loop-index-preserved g c =
+    rw (take_more_set c.loop-index.slots c.loop-index.index c.f.result (omega arith), below-add_one) (ClosureRun-snoc _ _ _ _ _ _ _ _ c.loop-index.invariant c.f.ensures)

@@ -1,0 +1,100 @@
+//! Writing over the slots of a slice, in order.
+ghost use Rattle.ga_core.specs.Copies.{Repeats};
+ghost use Rattle.ga_core.specs.Runs.{CallableAlong, CallableUntilError, ClosureRun, FirstErrorRun};
+ghost use Rattle.std.specs.List.{All, AllZip, range_with_len};
+ghost use Rattle.std.specs.Prelude.{◌≡◌, ◌≤◌, Err, IsOk, MatchResult, Ok, OnOk, length, replicate};
+
+use crate::alloc_error::AllocError;
+use std::mem;
+
+/// Writes `f(0)`, `f(1)` and so on over the slots, each called once, in this order.
+#[inline]
+pub(crate) fn write_answers<T: Drop, F: FnMut(usize) -> T>(slots: &mut [T], f: &mut F)
+    requires callable { CallableAlong F.pre F.step f.old (length slots.old) }
+    ensures run { ClosureRun F.step f.old (range_with_len 0 (length slots.old)) slots.new f.new }
+{
+    for (index, place) in slots.iter_mut().enumerate() {
+        *place = f(index);
+    }
+}
+
+/// `write_answers` of a closure that may fail, up to its first error, which is returned.
+#[inline]
+pub(crate) fn try_write_answers<T: Drop, E, F: FnMut(usize) -> Result<T, E>>(
+    slots: &mut [T],
+    f: &mut F,
+) -> Result<(), E>
+    requires callable { CallableUntilError F.pre F.step f.old (length slots.old) }
+    ensures run { MatchResult result
+        (λ _. FirstErrorRun F.step f.old (range_with_len 0 (length slots.old)) (Ok slots.new) f.new)
+        (λ error. FirstErrorRun F.step f.old (range_with_len 0 (length slots.old)) (Err error) f.new) }
+{
+    for (index, place) in slots.iter_mut().enumerate() {
+        match f(index) {
+            Ok(item) => *place = item,
+            Err(error) => return Err(error),
+        }
+    }
+    Ok(())
+}
+
+/// Writes `item` over the slots.
+#[inline]
+pub(crate) fn write_same<T: Copy + Drop>(slots: &mut [T], item: T)
+    ensures { slots.new ≡ replicate (length slots.old) item }
+{
+    for place in slots.iter_mut() {
+        *place = item;
+    }
+}
+
+/// Moves the items of a slice over those of another of the same length, which are dropped, and leaves
+/// defaults. Compiles to a copy where the length is known.
+#[inline]
+pub fn move_items<T: Default + Drop>(items: &mut [T], slots: &mut [T])
+    requires len { length items.old ≡ length slots.old }
+    ensures moved { slots.new ≡ items.old }
+    ensures left { All T.is_default items.new }
+{
+    for (index, place) in slots.iter_mut().enumerate() {
+        *place = mem::take(&mut items[index]);
+    }
+}
+
+/// Writes clones of the items over as many slots, in order, up to the first clone that fails.
+#[inline]
+pub(crate) fn write_clones<T: Clone>(slots: &mut [T], items: &[T]) -> Result<(), AllocError>
+    requires room { length slots.old ≡ length items.now }
+    ensures items { OnOk result (AllZip T.is_clone items.now slots.new) }
+    ensures succeeds { All T.is_infallible items.now → IsOk result }
+{
+    for (index, place) in slots.iter_mut().enumerate() {
+        match items[index].clone() {
+            Ok(copy) => *place = copy,
+            Err(_) => return Err(AllocError),
+        }
+    }
+    Ok(())
+}
+
+/// Writes clones of `item` over the slots, in order, and `item` itself over the last, up to the
+/// first clone that fails.
+#[inline]
+pub(crate) fn write_copies<T: Clone>(slots: &mut [T], item: T) -> Result<(), AllocError>
+    ensures items { OnOk result (Repeats T.is_clone item (length slots.old) slots.new) }
+    ensures few { length slots.old ≤ 1 → IsOk result }
+    ensures succeeds { T.is_infallible item → IsOk result }
+{
+    let count = slots.len();
+    if count > 0 {
+        let last = count - 1;
+        for place in slots[..last].iter_mut() {
+            match item.clone() {
+                Ok(copy) => *place = copy,
+                Err(_) => return Err(AllocError),
+            }
+        }
+        slots[last] = item;
+    }
+    Ok(())
+}

@@ -1,0 +1,14 @@
+use Rattle.ga_views.proofs.ViewMutLemmas.{same_full}
+use Rattle.ga_views.proofs.view_mut.ViewMut.as_mut_slice.Goals as goal
+use Rattle.std.proofs.Common.{ap, length, ◌∙◌}
+use Rattle.std.specs.Prelude.{refl}
+
+pub returns : goal.returns
+returns g c = (
+  (refl, λ written. same_full _ _),
+  record {
+    writes_back = _;
+    items = c.all_mut_of.ensures.value;
+    len = ap length c.all_mut_of.ensures.value ∙ c.args.self.now.full;
+  },
+)

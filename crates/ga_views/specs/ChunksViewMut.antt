@@ -1,0 +1,40 @@
+-- What rows for writing end as, where their items are lent on.
+use Rattle.ga_views.specs.Parts.{part_set}
+use Rattle.ga_views.specs.contracts.chunks_mut.ChunksViewMut.{the_row}
+use Rattle.ga_views.specs.declared.length.Unsigned as unsigned
+use Rattle.ga_views.specs.declared.reborrow.ReborrowSlice as reborrow
+use Rattle.std.proofs.Common.{ap, sym, ◌∙◌}
+use Rattle.std.specs.Borrow.{Array, Fml, Lends, LendsIf, MutBor, RattleType}
+use Rattle.std.specs.List.{length_refill}
+use Rattle.std.specs.Prelude.{◌≡◌, ℕ, ◌*◌, ◌/◌, List, Option, length, refl}
+
+module _ (S T N : RattleType) (s : reborrow.Ghosts S.Denot T.Denot) (n : unsigned.Ghosts N.Denot) where
+  -- the rows, where their slice has become another of the same length
+  abbrev with_slice : (rows : (the_row S T N s n).Denot) (slice : S.Denot) → length (s.items slice) ≡ length (s.items rows.slice) → (the_row S T N s n).Denot
+  with_slice rows slice same = record rows {
+    slice = slice;
+    whole = same ∙ (rows.whole ∙ ap (λ len. len / n.USIZE * n.USIZE) (sym same));
+  }
+
+  -- the rows with these items written over their own, as many as they have
+  abbrev pub rows_with : (the_row S T N s n).Denot → List T.Denot → (the_row S T N s n).Denot
+  rows_with rows written =
+      let after = s.slice_with rows.slice written in
+      with_slice rows after.0 (ap length after.1 ∙ sym (length_refill (length (s.items rows.slice)) (s.items rows.slice) written refl))
+
+  -- the rows with these items in the row at an index
+  abbrev pub row_set : (the_row S T N s n).Denot → ℕ → List T.Denot → (the_row S T N s n).Denot
+  row_set rows index row = rows_with rows (part_set (index * n.USIZE) n.USIZE (s.items rows.slice) row)
+
+  module _ (rows : MutBor (the_row S T N s n).Denot) where
+    -- once the borrow r ends, the items are those that r shows last
+    abbrev pub LendsItems : MutBor (List T.Denot) → Fml
+    LendsItems r = Lends (the_row S T N s n) (Array T 0) rows r (rows_with rows.now)
+
+    -- once the borrow r ends, the row at this index is what r shows last, and the others are as they were
+    abbrev pub LendsRow : ℕ → MutBor (List T.Denot) → Fml
+    LendsRow index r = Lends (the_row S T N s n) (Array T 0) rows r (row_set rows.now index)
+
+    -- the same where there is such a row; at `None` all items are as they were
+    abbrev pub LendsRowIf : ℕ → Option (MutBor (List T.Denot)) → Fml
+    LendsRowIf index r = LendsIf (the_row S T N s n) (Array T 0) rows r (row_set rows.now index) rows.now
