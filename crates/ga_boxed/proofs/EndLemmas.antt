@@ -1,4 +1,4 @@
--- The place behind the items leaves the room and returns to it, and the last item leaves the items and returns to them. Assumes `Logic`.
+-- The slot behind the items leaves the room and returns to it, and the last item leaves the items and returns to them. Assumes `Logic`.
 --     room_out, room_in      the first place of the room
 --     item_out, item_in      the last item
 --     split_last      what is not empty has a last item
@@ -75,7 +75,7 @@ module _ (E : El) {M : Type 1} {𝓤 : Ura M} (𝓛 : Logic 𝓤) (b : ℕ) wher
       as_raw ! (ty_array (elτ E) (suc n)) b at $ rewrite ! 0 (λ (k : ℕ). ‵ (Room at k)) {x = n + 1} (omega arith) refl $ done !
 
   module _ (o m : ℕ) where
-    -- where the place behind the items begins
+    -- where the slot behind the items begins
     abbrev pub End : List (el_x E) → ℕ
     End xs = (m + length xs) * s + o
 
@@ -83,7 +83,7 @@ module _ (E : El) {M : Type 1} {𝓤 : Ura M} (𝓛 : Logic 𝓤) (b : ℕ) wher
     abbrev pub Held : List (el_x E) → ℕ → Fml
     Held xs n = fsep (Row xs (m * s + o)) (fsep (Room o m) (Room (End xs) n))
 
-    -- the same without the place behind the items
+    -- the same without the slot behind the items
     abbrev pub Around : List (el_x E) → ℕ → Fml
     Around xs n = fsep (Row xs (m * s + o)) (fsep (Room o m) (Room (End xs + s) n))
 

@@ -23,7 +23,7 @@ module _ (E : El) where
   abbrev s : ℕ
   s = sz E
 
-  -- the places behind the first item begin one size further
+  -- the slots behind the first item begin one size further
   pub place_after : (m o : ℕ) → m * s + o + s ≡ (m + 1) * s + o
   place_after m o = omega (arith, next m s)
 
@@ -33,7 +33,7 @@ module _ (E : El) where
   module _ {M : Type 1} {𝓤 : Ura M} (𝓛 : Logic 𝓤) (b : ℕ) where
     open 𝓛 use {H}
 
-    -- the room of m places, with the room of one behind it, is the room of m + 1
+    -- the room of m slots, with the room of one behind it, is the room of m + 1
     pub empty_snoc : (m o : ℕ) → ent 𝓤 (sep 𝓤 (H.room (elτ E) b (m * s + o)) (sem 𝓛 (empty (R E) b o m))) (sem 𝓛 (empty (R E) b o (m + 1)))
     empty_snoc m o = let more : suc m ≡ m + 1 = omega arith in qed 𝓛 (‵ (froom (elτ E) b (m * s + o)) ∷ ‵ (empty (R E) b o m) ∷ []) ∵ move ! (1 ∷ []) $
         use1 𝓛 (‵ (froom (ty_array (elτ E) m) b o)) (𝓛.laws.raw-room (ty_array (elτ E) m) b o) $

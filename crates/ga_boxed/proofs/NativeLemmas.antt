@@ -1,4 +1,4 @@
--- A native array in memory is the items of a `Cells` that has no other place, and one that was passed leaves nothing behind. Assumes `Logic`.
+-- A native array in memory is the items of a `Cells` that has no other slot, and one that was passed leaves nothing behind. Assumes `Logic`.
 use mathlib.Core.Path.{◌≡◌, refl, subst}
 use Prim.Native.Nat.{ℕ, ◌+◌, ◌*◌, ◌<◌, ◌^◌}
 use native.Mathlib.Nat.{zero-mul}

@@ -48,7 +48,7 @@ use prog.RawLaws.{size-raw, align-raw}
 use Rattle.std.proofs.alloc.Calls.{Al}
 
 module _ (E : El) where
-  -- the type that a block of n places is asked for
+  -- the type that a block of n slots is asked for
   abbrev pub block_ty : ℕ → Ty
   block_ty n = bare (ty_array (elτ E) n)
 

@@ -1,4 +1,4 @@
-//! One block of memory, of whose places a range in the middle holds items.
+//! One block of memory, of whose slots a range in the middle holds items.
 ghost use Rattle.ga_boxed.specs.Live.{live};
 ghost use Rattle.std.specs.Borrow.{sem};
 ghost use Rattle.std.specs.Prelude.{◌≡◌, ◌≢◌, ◌+◌, ◌<◌, ◌∷◌, ◌++◌, [], IfOk, IsOk, MatchOption, length};
@@ -15,7 +15,7 @@ use std::marker::Model;
 /// A block for a number of items that is fixed when it is made. Contracts see it as the list of the
 /// items that it holds, and its room: the number of items that can be put behind them.
 ///
-/// The places before `start` were left by items taken from the front, and are not used again.
+/// The slots before `start` were left by items taken from the front, and are not used again.
 pub struct LiveBlock<T> {
     base: Base<T>,
     size: usize,

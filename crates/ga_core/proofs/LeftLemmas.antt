@@ -9,22 +9,22 @@ module _ {T : Type 0} where
   pub left-count : (items : List T) (front back : ℕ) → front ≤ back → back ≤ length items → length (slice_range items front back) ≡ back - front
   left-count items front back ordered within = omega (arith, length-take (back - front) (drop front items), length-drop front items)
 
-  -- the first was taken, and a blank stands in its place
+  -- the first was taken, and a blank stands in its slot
   pub left-first : (items after : List T) (front back : ℕ) (item : T) → front < back → back ≤ length items → item ≡ get_or items front item → (blank : T) × (after ≡ slice_set items front blank)
       → slice_range items front back ≡ item ∷ slice_range after (front + 1) back
   left-first items after front back item some within here written =
       slice_range_first items front back item written.0 some within here ∙ ap (λ slots. item ∷ slice_range slots (front + 1) back) (sym written.1)
 
-  -- the last was taken, and a blank stands in its place
+  -- the last was taken, and a blank stands in its slot
   pub left-last : (items after : List T) (front back : ℕ) (item : T) → front < back → back ≤ length items → item ≡ get_or items (back - 1) item → (blank : T) × (after ≡ slice_set items (back - 1) blank)
       → slice_range items front back ≡ slice_range after front (back - 1) ++ item ∷ []
   left-last items after front back item some within here written =
       slice_range_last items front back item written.0 some within here ∙ ap (λ slots. slice_range slots front (back - 1) ++ item ∷ []) (sym written.1)
 
   -- the same, of the items from the back
-  pub left-last_reversed : (items : List T) (front back : ℕ) (item place blank : T) → front < back → back ≤ length items → item ≡ get_or items (back - 1) place → place ≡ get_or items (back - 1) place
+  pub left-last_reversed : (items : List T) (front back : ℕ) (item slot blank : T) → front < back → back ≤ length items → item ≡ get_or items (back - 1) slot → slot ≡ get_or items (back - 1) slot
       → reverse (slice_range items front back) ≡ item ∷ reverse (slice_range (slice_set items (back - 1) blank) front (back - 1))
-  left-last_reversed items front back item place blank some within here is =
+  left-last_reversed items front back item slot blank some within here is =
       let after = slice_set items (back - 1) blank in
       let this = here ∙ ap (get_or items (back - 1)) (is ∙ sym here) in
       ap reverse (left-last items after front back item some within this (blank, refl)) ∙ reverse-append (slice_range after front (back - 1)) (item ∷ [])

@@ -9,7 +9,7 @@ pub mod JoinedRuns
 pub mod KeyLemmas
 pub mod LeftLemmas
 pub mod MoveLemmas
-pub mod PlaceLemmas
+pub mod SlotLemmas
 pub mod RunLemmas
 pub use Rattle.ga_views.proofs.CutLemmas
 pub use Rattle.ga_views.proofs.HexLemmas

@@ -10,7 +10,7 @@ module _ {T : Type 0} where
   take-suc_next (suc n) [] left item here = cc
   take-suc_next (suc n) (x ∷ items) left item here = ap (λ more. x ∷ more) (take-suc_next n items left item here)
 
-  -- the items up to a place, moved behind others, and the next
+  -- the items up to a slot, moved behind others, and the next
   pub take-next : (n : ℕ) (start before after items left : List T) (item : T) → drop n items ≡ item ∷ left → before ≡ start ++ take n items → after ≡ before ++ item ∷ []
       → after ≡ start ++ take (n + 1) items
   take-next n start before after items left item here moved grows =
@@ -22,7 +22,7 @@ module _ {T : Type 0} where
   pub drop-next : (n : ℕ) (items left : List T) (item : T) → drop n items ≡ item ∷ left → left ≡ drop (n + 1) items
   drop-next n items left item here = ap (drop 1) (sym here) ∙ drop-drop 1 n items
 
-  -- what was taken from a place is what stood there
+  -- what was taken from a slot is what stood there
   pub this-here : (n : ℕ) (left : List T) (there item : T) → there ≡ slice_index_or left n there → item ≡ slice_index_or left n there → item ≡ slice_index_or left n item
   this-here n left there item is value = subst (λ x. x ≡ slice_index_or left n x) (is ∙ sym value) is
 
@@ -50,7 +50,7 @@ module _ {T : Type 0} where
       let here = next-here n items left item some this moved.1 in
       (take-next n [] before after items (drop (n + 1) left) item here moved.0 grows, behind-next n items left item blank some here)
 
-  -- the same, to its place in another
+  -- the same, to its slot in another
   pub moved-next : (n : ℕ) (items left slots : List T) (item blank : T) → n < length left → n < length slots → item ≡ slice_index_or left n item
       → take n slots ≡ take n items → drop n left ≡ drop n items
       → (take (n + 1) (slice_set slots n item) ≡ take (n + 1) items) × (drop (n + 1) (slice_set left n blank) ≡ drop (n + 1) items)

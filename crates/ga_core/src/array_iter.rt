@@ -22,7 +22,7 @@ use std::{fmt, mem};
 pub struct GenericArrayIter<T, N: ArrayLength<T>> {
     // The items that are left lie from `front` up to `back`; the other slots hold the defaults of
     // items that were taken. The two numbers stand before the store, which lets the compiler see
-    // that a write to a place leaves them.
+    // that a write to a slot leaves them.
     front: usize,
     back: usize,
     store: N::ArrayType,
@@ -167,16 +167,16 @@ fn keep_range<T: Drop, S: Store<T>>(store: &mut S, front: usize, back: usize)
 }
 
 /// Takes the item at a place of a store, and leaves a default there.
-// `place % MAX_INLINE` is the place: by it the compiler sees that the write reaches nothing before the
+// `slot % MAX_INLINE` is the slot: by it the compiler sees that the write reaches nothing before the
 // store.
 #[inline]
-fn take_in<T: Default + Drop, S: Store<T>>(store: &mut S, place: usize) -> T
+fn take_in<T: Default + Drop, S: Store<T>>(store: &mut S, slot: usize) -> T
     requires fits { FitsInline (length (S.items store.old)) }
-    requires in_bounds { place < length (S.items store.old) }
-    ensures item { result ≡ slice_index_or (S.items store.old) place result }
-    ensures left { (blank : T) × (S.items store.new ≡ slice_set (S.items store.old) place blank) }
+    requires in_bounds { slot < length (S.items store.old) }
+    ensures item { result ≡ slice_index_or (S.items store.old) slot result }
+    ensures left { (blank : T) × (S.items store.new ≡ slice_set (S.items store.old) slot blank) }
 {
-    mem::take(&mut store.as_mut_slice()[place % MAX_INLINE])
+    mem::take(&mut store.as_mut_slice()[slot % MAX_INLINE])
 }
 
 /// Writes defaults over the slots of a store from `front` up to `back`, which drops the items there, in
@@ -201,8 +201,8 @@ fn blank<T: Default + Drop>(slots: &mut [T], front: usize, back: usize)
     if front < back {
         let (before, _) = slots.split_at_mut(back);
         let (_, passed) = before.split_at_mut(front);
-        for place in passed.iter_mut() {
-            *place = T::default();
+        for slot in passed.iter_mut() {
+            *slot = T::default();
         }
     }
 }

@@ -13,8 +13,8 @@ pub(crate) fn write_answers<T: Drop, F: FnMut(usize) -> T>(slots: &mut [T], f: &
     requires callable { CallableAlong F.pre F.step f.old (length slots.old) }
     ensures run { ClosureRun F.step f.old (range_with_len 0 (length slots.old)) slots.new f.new }
 {
-    for (index, place) in slots.iter_mut().enumerate() {
-        *place = f(index);
+    for (index, slot) in slots.iter_mut().enumerate() {
+        *slot = f(index);
     }
 }
 
@@ -29,9 +29,9 @@ pub(crate) fn try_write_answers<T: Drop, E, F: FnMut(usize) -> Result<T, E>>(
         (λ _. FirstErrorRun F.step f.old (range_with_len 0 (length slots.old)) (Ok slots.new) f.new)
         (λ error. FirstErrorRun F.step f.old (range_with_len 0 (length slots.old)) (Err error) f.new) }
 {
-    for (index, place) in slots.iter_mut().enumerate() {
+    for (index, slot) in slots.iter_mut().enumerate() {
         match f(index) {
-            Ok(item) => *place = item,
+            Ok(item) => *slot = item,
             Err(error) => return Err(error),
         }
     }
@@ -43,8 +43,8 @@ pub(crate) fn try_write_answers<T: Drop, E, F: FnMut(usize) -> Result<T, E>>(
 pub(crate) fn write_same<T: Copy + Drop>(slots: &mut [T], item: T)
     ensures { slots.new ≡ replicate (length slots.old) item }
 {
-    for place in slots.iter_mut() {
-        *place = item;
+    for slot in slots.iter_mut() {
+        *slot = item;
     }
 }
 
@@ -56,8 +56,8 @@ pub fn move_items<T: Default + Drop>(items: &mut [T], slots: &mut [T])
     ensures moved { slots.new ≡ items.old }
     ensures left { All T.is_default items.new }
 {
-    for (index, place) in slots.iter_mut().enumerate() {
-        *place = mem::take(&mut items[index]);
+    for (index, slot) in slots.iter_mut().enumerate() {
+        *slot = mem::take(&mut items[index]);
     }
 }
 
@@ -68,9 +68,9 @@ pub(crate) fn write_clones<T: Clone>(slots: &mut [T], items: &[T]) -> Result<(),
     ensures items { OnOk result (AllZip T.is_clone items.now slots.new) }
     ensures succeeds { All T.is_infallible items.now → IsOk result }
 {
-    for (index, place) in slots.iter_mut().enumerate() {
+    for (index, slot) in slots.iter_mut().enumerate() {
         match items[index].clone() {
-            Ok(copy) => *place = copy,
+            Ok(copy) => *slot = copy,
             Err(_) => return Err(AllocError),
         }
     }
@@ -88,9 +88,9 @@ pub(crate) fn write_copies<T: Clone>(slots: &mut [T], item: T) -> Result<(), All
     let count = slots.len();
     if count > 0 {
         let last = count - 1;
-        for place in slots[..last].iter_mut() {
+        for slot in slots[..last].iter_mut() {
             match item.clone() {
-                Ok(copy) => *place = copy,
+                Ok(copy) => *slot = copy,
                 Err(_) => return Err(AllocError),
             }
         }

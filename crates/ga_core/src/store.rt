@@ -24,7 +24,7 @@ pub trait Store<T>: Sized + Drop {
 
     /// A full store, each of whose items is a blank. Its capacity is at most `MAX_INLINE`.
     ///
-    /// For a store whose items are all written afterwards: writing a place costs less than `push`,
+    /// For a store whose items are all written afterwards: writing a slot costs less than `push`,
     /// which counts the items too.
     fn filled() -> Self
         requires fits { FitsInline CAPACITY }
@@ -39,7 +39,7 @@ pub trait Store<T>: Sized + Drop {
     fn pop(&mut self) -> Option<T>
         ensures { YieldsLast items self.old result self.new };
 
-    /// Takes the item at `index` and moves the later ones down by one place.
+    /// Takes the item at `index` and moves the later ones down by one slot.
     fn remove_at(&mut self, index: usize) -> T
         requires in_bounds { index < length (items self.old) }
         ensures value { result ≡ slice_index_or (items self.old) index result }

@@ -18,10 +18,10 @@ impl<T: Default + Drop, N: ArrayLength<T>> BoxedArray<T, N> {
         ensures ok { IfOk result (λ boxed. boxed ≡ array) }
         ensures empty { N.USIZE ≡ 0 → IsOk result }
     {
-        let places = array.as_mut_slice();
+        let slots = array.as_mut_slice();
         let mut block = LiveBlock::new(alloc, N::USIZE)?;
-        for place in places.iter_mut() {
-            block.put(mem::take(place));
+        for slot in slots.iter_mut() {
+            block.put(mem::take(slot));
         }
         Ok(BoxedArray::of_items(block))
     }

@@ -36,7 +36,7 @@ unsafe impl<T> Send for Base<T> {}
 
 unsafe impl<T> Sync for Base<T> {}
 
-/// The owner of the places: `passed` that are empty, then the items, then room for more. It takes no
+/// The owner of the slots: `passed` that are empty, then the items, then room for more. It takes no
 /// space, since the block holds the pointer and the bounds.
 pub struct Cells<T> {
     mark: PhantomData<*const T>,
@@ -77,7 +77,7 @@ unsafe impl<T, A: Allocator + Send> Send for Deed<T, A> {}
 
 unsafe impl<T, A: Allocator> Sync for Deed<T, A> {}
 
-/// Whether a block may have `len` places: they have fewer than 2^63 bytes.
+/// Whether a block may have `len` slots: they have fewer than 2^63 bytes.
 pub(crate) fn fits<T>(len: usize) -> bool
     ensures { IsTrue result ↔ (len * type_size T.row < 2 ^ 63) }
 {
@@ -163,7 +163,7 @@ impl<T> Cells<T> {
         unsafe { base.ptr.cast::<[T; U]>().write(items) }
     }
 
-    /// Reads the first item, which is at `index`, out of its place.
+    /// Reads the first item, which is at `index`, out of its slot.
     #[inline]
     pub(crate) fn take_first(&mut self, base: Base<T>, index: usize) -> T
         requires { (base.ptr ≡ self.old.at) × (index ≡ self.old.passed) × (self.old.items ≢ []) }
@@ -172,7 +172,7 @@ impl<T> Cells<T> {
         unsafe { base.ptr.add(index).read() }
     }
 
-    /// Reads the last item, which is at `index`, out of its place.
+    /// Reads the last item, which is at `index`, out of its slot.
     #[inline]
     pub(crate) fn take_last(&mut self, base: Base<T>, index: usize) -> T
         requires { (base.ptr ≡ self.old.at) × (index + 1 ≡ self.old.passed + length self.old.items) × (self.old.items ≢ []) }
@@ -181,7 +181,7 @@ impl<T> Cells<T> {
         unsafe { base.ptr.add(index).read() }
     }
 
-    /// The items, of which there are `len`, from the place `index` on.
+    /// The items, of which there are `len`, from the slot `index` on.
     #[inline]
     pub(crate) fn slice(&self, base: Base<T>, index: usize, len: usize) -> &[T]
         requires { (base.ptr ≡ self.now.at) × (index ≡ self.now.passed) × (len ≡ length self.now.items) }
@@ -190,7 +190,7 @@ impl<T> Cells<T> {
         unsafe { slice::from_raw_parts(base.ptr.add(index), len) }
     }
 
-    /// The items for writing, of which there are `len`, from the place `index` on.
+    /// The items for writing, of which there are `len`, from the slot `index` on.
     #[inline]
     pub(crate) fn slice_mut(&mut self, base: Base<T>, index: usize, len: usize) -> &mut [T]
         requires { (base.ptr ≡ self.old.at) × (index ≡ self.old.passed) × (len ≡ length self.old.items) }

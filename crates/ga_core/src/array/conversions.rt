@@ -94,8 +94,8 @@ impl<T: Default + Drop, N: ArrayLength<T>> GenericArray<T, N> {
         let mut array = self;
         let slots = array.as_mut_slice();
         let mut items = Vec::with_capacity(alloc, N::USIZE)?;
-        for place in slots.iter_mut() {
-            items.push_reserved(mem::take(place));
+        for slot in slots.iter_mut() {
+            items.push_reserved(mem::take(slot));
         }
         Ok(items)
     }

@@ -30,8 +30,8 @@ impl<T: Default + Drop, N: ArrayLength<T>> GenericArrayIter<T, N> {
         let mut answer = init;
         let (front, back) = (items.front, items.back);
         let slots = items.store.as_mut_slice();
-        for place in slots[front..back].iter_mut() {
-            answer = f(answer, mem::take(place));
+        for slot in slots[front..back].iter_mut() {
+            answer = f(answer, mem::take(slot));
         }
         answer
     }

@@ -16,9 +16,9 @@ kept-around {T} front back whole left a old new r cut again before until long =
 pub returns-else-front-back : goal.returns-else-front-back
 returns-else-front-back g c = record { before = refl; behind = λ _. refl }
 
-pub returns-after-loop-place : goal.returns-after-loop-place
-returns-after-loop-place g c =
+pub returns-after-loop-slot : goal.returns-after-loop-slot
+returns-after-loop-slot g c =
     let one = c.split_at_mut-before in
     let two = c.split_at_mut-passed in
-    let kept = kept-around c.args.front c.args.back c.args.slots.now one.result.0.now two.result.0.now two.result.1.now c.loop-place.passed one.result.1.now one.ensures.value two.ensures.value two.ensures.front_len one.ensures.front_len c.loop-place.auto.passed in
+    let kept = kept-around c.args.front c.args.back c.args.slots.now one.result.0.now two.result.0.now two.result.1.now c.loop-slot.passed one.result.1.now one.ensures.value two.ensures.value two.ensures.front_len one.ensures.front_len c.loop-slot.auto.passed in
     record { before = kept.0; behind = λ _. kept.1 }

@@ -1,4 +1,4 @@
-use Rattle.ga_core.proofs.PlaceLemmas.{refill-over}
+use Rattle.ga_core.proofs.SlotLemmas.{refill-over}
 use Rattle.ga_core.proofs.array_iter.blank_in.Goals as goal
 use Rattle.std.proofs.Common.{◌∙◌, ap, drop, length, take}
 

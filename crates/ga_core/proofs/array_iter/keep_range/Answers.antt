@@ -1,5 +1,5 @@
 use Rattle.ga_core.proofs.CutLemmas.{front-popped}
-use Rattle.ga_core.proofs.PlaceLemmas.{refill-over}
+use Rattle.ga_core.proofs.SlotLemmas.{refill-over}
 use Rattle.ga_core.proofs.array_iter.keep_range.Goals as goal
 use Rattle.std.proofs.Common.{◌≡◌, ◌<◌, ◌-◌, ◌++◌, ◌∙◌, ap, arith, drop, length, length-append, length-drop, length-take, sym, take}
 use Rattle.std.proofs.lemmas.List.{take-append-le, take_all}

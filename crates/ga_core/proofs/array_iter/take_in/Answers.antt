@@ -1,4 +1,4 @@
-use Rattle.ga_core.proofs.PlaceLemmas.{refill-set}
+use Rattle.ga_core.proofs.SlotLemmas.{refill-set}
 use Rattle.ga_core.proofs.array_iter.take_in.Goals as goal
 use Rattle.std.proofs.Common.{◌≡◌, ◌%◌, ◌∙◌, ap, arith, slice_set}
 use Rattle.std.proofs.Math.Nat.{mod-eq_of_lt}
@@ -6,8 +6,8 @@ use Rattle.std.proofs.Math.Nat.{mod-eq_of_lt}
 pub returns-clause-left : goal.returns-clause-left
 returns-clause-left g c =
     let items = g.S.Store.items c.args.store.now in
-    let at = c.args.place % 65536 in
-    let here : at ≡ c.args.place = mod-eq_of_lt (omega (arith, c.requires.fits, c.requires.in_bounds)) in
+    let at = c.args.slot % 65536 in
+    let here : at ≡ c.args.slot = mod-eq_of_lt (omega (arith, c.requires.fits, c.requires.in_bounds)) in
     let slots = c.as_mut_slice.result.now in
     let blank = c.take.new.dest in
     let after = g.S.Store.store_with c.args.store.now (slice_set slots at blank) in

@@ -5,18 +5,18 @@ use Rattle.std.proofs.lemmas.List.{take_all, take_more_set}
 use Rattle.std.proofs.lemmas.List.Elements.{All-push}
 use Rattle.std.specs.List.{All}
 
-pub returns-after-loop-place-clause-items : goal.returns-after-loop-place-clause-items
-returns-after-loop-place-clause-items g c =
+pub returns-after-loop-slot-clause-items : goal.returns-after-loop-slot-clause-items
+returns-after-loop-slot-clause-items g c =
     let slots = c.args.slots.now in
-    let at = c.loop-place in
-    let whole : take at.place-index at.place-items ≡ at.place-items = take_all at.place-index at.place-items (omega arith) in
-    Repeats-written g.T.Clone.is_clone c.args.item (length slots) at.place-items (drop (length slots - 1) slots) (omega (arith, length-take (length slots - 1) slots))
+    let at = c.loop-slot in
+    let whole : take at.slot-index at.slot-items ≡ at.slot-items = take_all at.slot-index at.slot-items (omega arith) in
+    Repeats-written g.T.Clone.is_clone c.args.item (length slots) at.slot-items (drop (length slots - 1) slots) (omega (arith, length-take (length slots - 1) slots))
     (omega (arith, length-drop (length slots - 1) slots)) (subst (All (g.T.Clone.is_clone c.args.item)) whole at.invariant)
 
-pub loop-place-preserved : goal.loop-place-preserved
-loop-place-preserved g c =
-    let at = c.loop-place in
-    rw (take_more_set at.place-items at.place-index c.in-Ok.copy (omega arith)) (All-push (g.T.Clone.is_clone c.args.item) (take at.place-index at.place-items) c.in-Ok.copy at.invariant c.in-Ok.ensures.cases)
+pub loop-slot-preserved : goal.loop-slot-preserved
+loop-slot-preserved g c =
+    let at = c.loop-slot in
+    rw (take_more_set at.slot-items at.slot-index c.in-Ok.copy (omega arith)) (All-push (g.T.Clone.is_clone c.args.item) (take at.slot-index at.slot-items) c.in-Ok.copy at.invariant c.in-Ok.ensures.cases)
 
 pub returns-in-Err : goal.returns-in-Err
 returns-in-Err g c = record {

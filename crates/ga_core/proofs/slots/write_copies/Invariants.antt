@@ -3,5 +3,5 @@ use Rattle.std.proofs.Common.{take}
 use Rattle.std.specs.List.{All}
 
 -- what is written so far are clones
-abbrev pub invariant-loop-place : goal.invariant-loop-place
-invariant-loop-place g l = All (g.T.Clone.is_clone l.item) (take l.place-index l.place-items)
+abbrev pub invariant-loop-slot : goal.invariant-loop-slot
+invariant-loop-slot g l = All (g.T.Clone.is_clone l.item) (take l.slot-index l.slot-items)

@@ -1,6 +1,6 @@
 -- `item_of` lends one element of the slice that `as_mut_slice` lends, and the store follows the element.
 -- The borrow checker does not follow a loan through a slice to its lender, so this proof walks the code by hand: the slice's
--- pointer gives the element's place, and then the element is lent, by `ItemLoan`'s `lends_item`. Assumes `Logic`.
+-- pointer gives the element's slot, and then the element is lent, by `ItemLoan`'s `lends_item`. Assumes `Logic`.
 use Rattle.arrayvec.proofs.array_vec.ArrayVec.as_mut_slice.Met as theirs
 use Rattle.arrayvec.specs.ArrayVec.{with_items}
 use Rattle.ga_core.proofs.LentSlice.{calls_slice, loan_of, R, S}

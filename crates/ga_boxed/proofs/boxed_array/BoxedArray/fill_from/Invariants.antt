@@ -10,6 +10,6 @@ invariant-loop-items g l = record {
   room : length l.taken.items + l.taken.room ≡ g.N.Unsigned.USIZE;
 }
 
--- the places that are left; an iterator that never ends is asked all the same
+-- the slots that are left; an iterator that never ends is asked all the same
 abbrev pub decreases-loop-items : goal.decreases-loop-items
 decreases-loop-items g l = l.taken.room

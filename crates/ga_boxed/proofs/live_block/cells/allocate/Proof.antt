@@ -1,4 +1,4 @@
--- `allocate` owns the new block as room, or for no places nothing, with the right to free it. Assumes `Logic`.
+-- `allocate` owns the new block as room, or for no slots nothing, with the right to free it. Assumes `Logic`.
 use mathlib.Core.Path.{◌≡◌, refl, sym, ap}
 use mathlib.Core.Bool.{Bool, true, false}
 use Prim.Native.Nat.{ℕ, ◌*◌, ◌<◌, ◌^◌}

@@ -1,4 +1,4 @@
--- `deallocate` makes the block of its empty places, and hands it back with the allocator's token, or for no places lets go of it. Assumes `Logic`.
+-- `deallocate` makes the block of its empty slots, and hands it back with the allocator's token, or for no slots lets go of it. Assumes `Logic`.
 use mathlib.Core.Path.{◌≡◌, refl, sym, ap, subst, ◌∙◌}
 use mathlib.Core.Bool.{Bool}
 use Prim.Native.Nat.{ℕ, ◌*◌, ◌+◌, ◌<◌, ◌^◌}

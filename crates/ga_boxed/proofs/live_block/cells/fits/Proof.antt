@@ -1,4 +1,4 @@
--- `fits` says exactly whether the places take fewer than 2 ^ 63 bytes, for every element type. Assumes `Logic`.
+-- `fits` says exactly whether the slots take fewer than 2 ^ 63 bytes, for every element type. Assumes `Logic`.
 use mathlib.Core.Bool.{Bool, true, not}
 use mathlib.Core.Logic.{◌↔◌}
 use mathlib.Core.Path.{◌≡◌, refl, sym, subst}

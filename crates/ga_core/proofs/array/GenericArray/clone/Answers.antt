@@ -1,4 +1,4 @@
-use Rattle.ga_core.proofs.PlaceLemmas.{refill-whole}
+use Rattle.ga_core.proofs.SlotLemmas.{refill-whole}
 use Rattle.ga_core.proofs.array.GenericArray.clone.Goals as goal
 use Rattle.ga_views.specs.Length.{FitsInline}
 use Rattle.std.proofs.Common.{◌≡◌, ◌∙◌, ap, length, refl, subst, sym}

@@ -1,6 +1,6 @@
 use Rattle.ga_core.proofs.CallLemmas.{callable-over}
 use Rattle.ga_core.proofs.ActsLemmas.{answers_of_run}
-use Rattle.ga_core.proofs.PlaceLemmas.{refill-over}
+use Rattle.ga_core.proofs.SlotLemmas.{refill-over}
 use Rattle.ga_core.proofs.array.GenericArray.map_inline_by.Goals as goal
 use Rattle.ga_core.specs.Runs.{ClosureRun}
 use Rattle.std.proofs.Common.{ap, arith, length, subst, sym, ◌∙◌, ◌≡◌}

@@ -1,5 +1,5 @@
 use Rattle.ga_core.proofs.CopyLemmas.{Repeats-same}
-use Rattle.ga_core.proofs.PlaceLemmas.{refill-whole}
+use Rattle.ga_core.proofs.SlotLemmas.{refill-whole}
 use Rattle.ga_core.proofs.array.GenericArray.repeat.Goals as goal
 use Rattle.ga_core.specs.Copies.{Repeats}
 use Rattle.ga_views.specs.Length.{FitsInline}

@@ -1,6 +1,6 @@
 use Rattle.ga_core.proofs.CallLemmas.{callable-along_until_error}
 use Rattle.ga_core.proofs.ActsLemmas.{answers_until_error}
-use Rattle.ga_core.proofs.PlaceLemmas.{refill-over}
+use Rattle.ga_core.proofs.SlotLemmas.{refill-over}
 use Rattle.ga_core.proofs.array.GenericArray.try_generate_by.Goals as goal
 use Rattle.ga_core.specs.Runs.{FirstErrorRun}
 use Rattle.std.proofs.Common.{Err, Ok, ap, arith, length, subst, sym, ◌∙◌, ◌≡◌}

@@ -1,6 +1,6 @@
 use Rattle.ga_core.proofs.CallLemmas.{callable-entry_pairs}
 use Rattle.ga_core.proofs.EntryActs.{answers_at_pairs}
-use Rattle.ga_core.proofs.PlaceLemmas.{refill-over}
+use Rattle.ga_core.proofs.SlotLemmas.{refill-over}
 use Rattle.ga_core.proofs.array.GenericArray.zip_inline_ref_by.Goals as goal
 use Rattle.ga_core.specs.Entries.{CallAtPair}
 use Rattle.ga_core.specs.Runs.{ClosureRun}

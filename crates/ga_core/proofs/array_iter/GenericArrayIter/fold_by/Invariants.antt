@@ -3,5 +3,5 @@ use Rattle.ga_core.specs.Runs.{FoldRun}
 use Rattle.std.proofs.Common.{◌≡◌, List, ◌++◌, drop}
 
 -- the calls at the items passed led to the answer and the closure of now; the others stand where they stood
-abbrev pub invariant-loop-place : goal.invariant-loop-place
-invariant-loop-place g l = (passed : List g.row.T.Denot) × (l.fn.self ≡ passed ++ drop l.place-index l.place-items) × FoldRun (goal.F-step g) l.initial.f l.initial.answer passed l.answer l.f
+abbrev pub invariant-loop-slot : goal.invariant-loop-slot
+invariant-loop-slot g l = (passed : List g.row.T.Denot) × (l.fn.self ≡ passed ++ drop l.slot-index l.slot-items) × FoldRun (goal.F-step g) l.initial.f l.initial.answer passed l.answer l.f

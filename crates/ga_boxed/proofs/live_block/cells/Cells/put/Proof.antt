@@ -1,4 +1,4 @@
--- `put` fills the place behind the items. Assumes `Logic`.
+-- `put` fills the slot behind the items. Assumes `Logic`.
 use mathlib.Core.Path.{◌≡◌, refl, sym, ap, subst, ◌∙◌}
 use mathlib.Core.Logic.{◌≢◌}
 use Prim.Native.Nat.{ℕ, ◌+◌, ◌-◌, ◌*◌, ◌<◌, ◌^◌}
@@ -105,7 +105,7 @@ module _ (E : El) {M : Type 1} {𝓤 : Ura M} (𝓛 : Logic 𝓤) (C : Calls �
       sets ! (bin ! (get ! refl) (size_lit ! (record { fits = tiny })) (record { fits = far })) refl (tt, record { fits = far }) $
       sets ! (bin ! (get_in ! (fld ! refl (stop !)) (sub ! 0 refl (whole !))) (get ! refl) tt) refl (tt, tt) $
       use1 𝓛 (‵ (froom (elτ E) b ((d.passed + length xs) * s + o)) ⊛ ‵ (Around E 𝓛 b o d.passed xs new.room)) (room_out E 𝓛 b o d.passed xs d.room asked.2) $ split ! $ rewrite ! 0 (λ (k : ℕ). ‵ (froom (elτ E) b k)) here refl $
-      -- [the room; the other places; the mark; its cell; the open borrow; obs; auth; what the item owns]
+      -- [the room; the other slots; the mark; its cell; the open borrow; obs; auth; what the item owns]
       sets ! (of_opd ! (get ! refl)) refl good_item $ assigns_last ! (of_opd ! (get ! refl)) (through ! refl (stop !)) (init ! 0 refl good_item) $
       exec ! C Λ En (after 1 (function E).body) (at_ret En Post) $ sets ! (of_opd ! (unit_lit !)) refl (tt, tt) $
       move ! (0 ∷ 7 ∷ []) $ use2 𝓛 (‵ (part_at (R E) full_share item b (index * s + o))) (value_in 0 E.row E.laws 𝓛 item b (index * s + o) v_item) $ rewrite ! 0 (λ (k : ℕ). ‵ (part_at (R E) full_share item b k)) (sym here) refl $

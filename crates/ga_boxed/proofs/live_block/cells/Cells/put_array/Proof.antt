@@ -1,4 +1,4 @@
--- `put_array` writes an array over the room of as many places. Assumes `Logic`.
+-- `put_array` writes an array over the room of as many slots. Assumes `Logic`.
 use mathlib.Core.Path.{◌≡◌, refl, sym, ◌∙◌}
 use Prim.Native.Nat.{ℕ, ◌*◌, ◌<◌, ◌^◌}
 use native.Mathlib.Omega.{arith}

@@ -90,7 +90,7 @@ module _ (E : El) {M : Type 1} {𝓤 : Ura M} (𝓛 : Logic 𝓤) (C : Calls �
   new = Written E d
 
   module _ (vs : List Val) (b o : ℕ) where
-    -- the places that hold nothing
+    -- the slots that hold nothing
     abbrev Around : Fml
     Around = fsep (empty (R E) b o d.passed) (empty (R E) b ((d.passed + length d.items) * sz E + o) d.room)
 

@@ -1,4 +1,4 @@
--- `take_first` moves the first item out, and its place is one more that is passed. Assumes `Logic`.
+-- `take_first` moves the first item out, and its slot is one more that is passed. Assumes `Logic`.
 use mathlib.Core.Logic.{◌≢◌}
 use mathlib.Core.Path.{◌≡◌, refl, sym, ap, subst, ◌∙◌}
 use Prim.Native.Nat.{ℕ, suc, ◌+◌, ◌*◌, ◌<◌, ◌^◌}
@@ -66,7 +66,7 @@ module _ (E : El) {M : Type 1} {𝓤 : Ura M} (𝓛 : Logic 𝓤) (C : Calls �
       sets ! (bin ! (get ! refl) (size_lit ! (record { fits = tiny })) (record { fits = far })) refl (tt, record { fits = far }) $
       sets ! (bin ! (get_in ! (fld ! refl (stop !)) (sub ! 0 refl (whole !))) (get ! refl) tt) refl (tt, tt) $
       fsplit3 ! $ fsplit ! $
-      -- [the first item; the others; the empty places; the room; the mark; its cell; the open borrow, in three entries]
+      -- [the first item; the others; the empty slots; the room; the mark; its cell; the open borrow, in three entries]
       use1 𝓛 (some (λ (v : Val). given (Good (elτ E) v) (‵ (fat full_share (elτ E) b (index * s + o) v) ⊛ ‵ (E.row.own_val x (v ∷ []))))) (value_out 0 E.row E.laws 𝓛 x b (index * s + o)) $
       pick ! (λ v. learn ! (λ good. split ! $ sets_last ! (of_opd ! (load ! (through ! refl (stop !)) (look ! 0 refl))) refl good $
       exec ! C Λ En (after 1 (function E).body) (at_ret En Post) $ sets ! (of_opd ! (get ! refl)) refl good $

@@ -1,4 +1,4 @@
--- `take_last` moves the last item out, and its place is room. Assumes `Logic`.
+-- `take_last` moves the last item out, and its slot is room. Assumes `Logic`.
 use mathlib.Core.Path.{◌≡◌, refl, sym, ap, subst, ◌∙◌}
 use mathlib.Core.Logic.{◌≢◌}
 use Prim.Native.Nat.{ℕ, ◌+◌, ◌-◌, ◌*◌, ◌<◌, ◌^◌}
