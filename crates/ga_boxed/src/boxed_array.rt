@@ -1,4 +1,5 @@
 //! The boxed array, and what can be borrowed of it.
+ghost use Rattle.ga_core.specs.Views.{items_of_view};
 ghost use Rattle.ga_core.specs.Iteration.{IteratesMutOver, IteratesOver};
 ghost use Rattle.std.specs.Borrow.{sem};
 ghost use Rattle.std.specs.Iterator.{YieldsFirst, YieldsLast};
@@ -40,7 +41,7 @@ impl<T, N: Unsigned> Model for BoxedArray<T, N> {
 impl<T, N: Unsigned> BoxedArray<T, N> {
     ghost use Rattle.ga_boxed.specs.Lends.{LendsItems, LendsIter};
 
-    /// The array of `N` items. Moves none of them.
+    // The array of `N` items. Moves none of them.
     fn of_items(items: LiveBlock<T>) -> Self
         requires full { length items.items ≡ N.USIZE }
         ensures { result ≡ items.items }
@@ -98,7 +99,7 @@ impl<T, N: Unsigned> BoxedArray<T, N> {
     /// The read-only view of the items.
     #[inline]
     pub fn view(&self) -> GenericArrayRef<'_, T, N>
-        ensures { result.slice.now ≡ self.now }
+        ensures { items_of_view result ≡ self.now }
     {
         GenericArrayRef::from_slice(self.as_slice())
     }

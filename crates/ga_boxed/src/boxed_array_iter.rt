@@ -29,7 +29,7 @@ impl<T> Model for BoxedArrayIter<T> {
 impl<T> BoxedArrayIter<T> {
     ghost use Rattle.ga_boxed.specs.IterLends.{LendsLeft};
 
-    /// The iterator over items. Moves none of them.
+    // The iterator over items. Moves none of them.
     #[inline]
     pub(crate) fn of_items(items: LiveBlock<T>) -> Self
         ensures { result ≡ items.items }

@@ -86,7 +86,7 @@ impl<T> LiveBlock<T> {
         self.end - self.start
     }
 
-    /// The allocator that the block came from.
+    // The allocator that the block came from.
     #[inline]
     pub(crate) fn allocator(&self) -> Global {
         self.alloc
@@ -104,7 +104,7 @@ impl<T> LiveBlock<T> {
         self.cells.put(self.base, end, item);
     }
 
-    /// Takes the first item. Requires that there is one. Its slot isn't used again.
+    // Takes the first item. Requires that there is one. Its slot isn't used again.
     #[inline]
     pub(crate) fn take_first(&mut self) -> T
         requires some { self.old.items ≢ [] }
@@ -129,7 +129,7 @@ impl<T> LiveBlock<T> {
         Some(self.take_first())
     }
 
-    /// Takes the last item. Requires that there is one. Its slot is room for another.
+    // Takes the last item. Requires that there is one. Its slot is room for another.
     #[inline]
     pub(crate) fn take_last(&mut self) -> T
         requires some { self.old.items ≢ [] }
@@ -173,8 +173,8 @@ impl<T> LiveBlock<T> {
         self.cells.slice_mut(base, start, len)
     }
 
-    /// A block of the items of a native array, which are moved in one piece. If the allocation
-    /// fails, drops them.
+    // A block of the items of a native array, which are moved in one piece. If the allocation
+    // fails, drops them.
     pub(crate) fn of_native<const U: usize>(
         alloc: Global,
         items: [T; U],
@@ -203,7 +203,7 @@ impl<T> LiveBlock<T> {
         })
     }
 
-    /// Deallocates the block.
+    // Deallocates the block.
     fn give_back(self)
         requires empty { self.items ≡ [] }
     {

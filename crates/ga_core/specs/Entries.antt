@@ -28,17 +28,17 @@ module _ {I J T B F : Type 0} (entry : I → T) (other : J → B) where
   CallAtPair step f p y g = (left : I) × (right : J) × (entry left ≡ p.0) × (other right ≡ p.1) × step f left right y g
 
 module _ {I T F Y : Type 0} (entry : I → T) where
-  -- each call of f answers h of what its entry stands for, and leaves f as it is
+  -- each call of f returns h of what its entry stands for, and leaves f as it is
   abbrev pub ActsOnEntry : (F → I → Y → F → Type 0) → F → (T → Y) → Type 0
   ActsOnEntry step f h = (item : I) (y : Y) (g : F) → step f item y g → (g ≡ f) × (y ≡ h (entry item))
 
 module _ {I T F A B : Type 0} (entry : I → T) where
-  -- each call of f with a at an entry answers h of a and of what the entry stands for, and leaves f as it is
+  -- each call of f with a at an entry returns h of a and of what the entry stands for, and leaves f as it is
   abbrev pub ActsInFold : (F → A → I → B → F → Type 0) → F → (A → T → B) → Type 0
   ActsInFold step f h = (a : A) (item : I) (b : B) (g : F) → step f a item b g → (g ≡ f) × (b ≡ h a (entry item))
 
 module _ {I J T B F Y : Type 0} (entry : I → T) (other : J → B) where
-  -- each call of f at two entries answers h of the pair that they stand for, and leaves f as it is
+  -- each call of f at two entries returns h of the pair that they stand for, and leaves f as it is
   abbrev pub ActsOnEntries : (F → I → J → Y → F → Type 0) → F → (T × B → Y) → Type 0
   ActsOnEntries step f h = (left : I) (right : J) (y : Y) (g : F) → step f left right y g → (g ≡ f) × (y ≡ h (entry left, other right))
 

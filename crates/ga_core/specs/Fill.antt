@@ -37,13 +37,13 @@ module _ {S T E : Type 0} (next_gives : S → Option T → S → Type 0) where
       (λ _. SomeRun next_gives before (λ run. (IsTrue run.whole × (run.len < n)) ⊎ (run.len ≡ n + 1)))
 
 module _ {S T E : Type 0} (next_gives : S → Option (Result T E) → S → Type 0) where
-  -- `Takes` of good values, or of those before the first error, which is taken too and answered
+  -- `Takes` of good values, or of those before the first error, which is taken too and returned
   abbrev pub TakesGood : S → ℕ → List T → Result Unit E → S → Type 0
   TakesGood before room good result after = MatchResult result
       (λ _. Takes next_gives before room (map Ok good) after)
       (λ error. YieldsThen next_gives before (map Ok good) (Some (Err error)) after × (length good < room))
 
-  -- `Fills` of good values. Where one of the first n items is an error, the first such is answered, and is the last item taken. An error
+  -- `Fills` of good values. Where one of the first n items is an error, the first such is returned, and is the last item taken. An error
   -- that comes after n good values is one item more.
   abbrev pub FillsFallibly : {F : Type 0} → S → ℕ → Result (Result (List T) E) F → S → Type 0
   FillsFallibly before n result after = (good : List T) × (last : Option (Result T E)) × YieldsThen next_gives before (map Ok good) last after

@@ -22,5 +22,5 @@ module _ (T N A : RattleType) (n : unsigned.Ghosts N.Denot) (s : store.Ghosts A.
   LendsIter items = follows (the_row T N A n s) (Array T 0) array.ghost_name (iter_mut_name items) array_with
 
   -- once the borrow r ends, place i has the last value written through r, and the others are as they were
-  abbrev pub LendsPlace : ℕ → MutBor T.Denot → Fml
-  LendsPlace i r = Lends (the_row T N A n s) T array r (slice_set array.now i)
+  abbrev pub LendsItem : ℕ → MutBor T.Denot → Fml
+  LendsItem i r = Lends (the_row T N A n s) T array r (slice_set array.now i)

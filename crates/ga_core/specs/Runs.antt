@@ -1,9 +1,9 @@
--- Runs of closures: which calls are made, in which order, and what they answer.
+-- Runs of closures: which calls are made, in which order, and what they return.
 use Rattle.std.specs.List.{FoldsTo, range_with_len}
 use Rattle.std.specs.Prelude.{◌≡◌, ◌⊎◌, ℕ, ◌<◌, List, [], ◌∷◌, ◌++◌, map, Result, Ok, Err}
 
 module _ {F X Y : Type 0} (step : F → X → Y → F → Type 0) where
-  -- calls led from the state f to the state last, one at each input in order, and gave the answers
+  -- calls led from the state f to the state last, one at each input in order, and gave the results
   abbrev pub ClosureRun : F → List X → List Y → F → Type 0
   ClosureRun f [] [] last = f ≡ last
   ClosureRun f [] (y ∷ ys) last = ⊥
@@ -22,7 +22,7 @@ module _ {F Y : Type 0} (pre : F → ℕ → Type 0) (step : F → ℕ → Y →
   CallableAlong f n = (k : ℕ) (ys : List Y) (reached : F) → k < n → ClosureRun step f (range_with_len 0 k) ys reached → pre reached k
 
 module _ {F X Y E : Type 0} (step : F → X → Result Y E → F → Type 0) where
-  -- Calls led from the state f to the state last, one at each input in order: all were good, and gave the answers, or the first error
+  -- Calls led from the state f to the state last, one at each input in order: all were good, and gave the results, or the first error
   -- came, and no call was made after it.
   abbrev pub FirstErrorRun : F → List X → Result (List Y) E → F → Type 0
   FirstErrorRun f [] (Ok []) last = f ≡ last
@@ -44,7 +44,7 @@ module _ {F Y E : Type 0} (pre : F → ℕ → Type 0) (step : F → ℕ → Res
   CallableUntilError f n = (k : ℕ) (good : List Y) (reached : F) → k < n → ClosureRun step f (range_with_len 0 k) (map Ok good) reached → pre reached k
 
 module _ {F A X : Type 0} (step : F → A → X → A → F → Type 0) where
-  -- calls led from the state f to the state last, one at each item in order, each with what the one before answered, from init to answer
+  -- calls led from the state f to the state last, one at each item in order, each with what the one before returned, from init to the result
   abbrev pub FoldRun : F → A → List X → A → F → Type 0
   FoldRun f init items answer last = FoldsTo {P = F × A} (λ before item after. step before.0 before.1 item after.1 after.0) (f, init) items (last, answer)
 

@@ -37,11 +37,13 @@ impl<T, N: ArrayLength<T>> Model for GenericArrayIter<T, N> {
 
     ghost view = { λ items. slice_range (N.ArrayType.items items.store) items.front items.back };
 
-    ghost invariant = { λ items. (items.front ≤ items.back) × (items.back ≤ length (N.ArrayType.items items.store)) × (length (N.ArrayType.items items.store) ≤ N.USIZE) × FitsInline N.USIZE };
+    ghost invariant = { λ items. (items.front ≤ items.back)
+        × (items.back ≤ length (N.ArrayType.items items.store))
+        × (length (N.ArrayType.items items.store) ≤ N.USIZE) × FitsInline N.USIZE };
 }
 
 impl<T, N: ArrayLength<T>> GenericArrayIter<T, N> {
-    /// The iterator over the `count` items of a store.
+    // The iterator over the `count` items of a store.
     #[inline]
     pub(crate) fn of_store(store: N::ArrayType, count: usize) -> Self
         requires count { count ≡ length (N.ArrayType.items store) }
@@ -133,7 +135,8 @@ impl<T: Default + Drop, N: ArrayLength<T>> GenericArrayIter<T, N> {
     /// O(1) if no item was taken from the front since the last such call; else moves the items
     /// that are left to the front of the store first.
     pub fn as_mut_slice(&mut self) -> &mut [T]
-        ensures* writes_back { sem 𝓛 (LendsLeft T.row N.row N.ArrayType.row N.Unsigned N.ArrayType.Store self.entry result) }
+        ensures* writes_back { sem 𝓛 (LendsLeft T.row N.row N.ArrayType.row N.Unsigned N.ArrayType.Store
+            self.entry result) }
         ensures items { result.now ≡ self.old }
     {
         keep_range::<T, N::ArrayType>(&mut self.store, self.front, self.back);
@@ -151,7 +154,7 @@ impl<T: fmt::Debug, N: ArrayLength<T>> fmt::Debug for GenericArrayIter<T, N> {
     }
 }
 
-/// Leaves of a store the items from `front` up to `back`.
+// Leaves of a store the items from `front` up to `back`.
 fn keep_range<T: Drop, S: Store<T>>(store: &mut S, front: usize, back: usize)
     requires ordered { front ≤ back }
     requires in_bounds { back ≤ length (S.items store.old) }
@@ -166,7 +169,7 @@ fn keep_range<T: Drop, S: Store<T>>(store: &mut S, front: usize, back: usize)
     }
 }
 
-/// Takes the item at a place of a store, and leaves a default there.
+// Takes the item at a place of a store, and leaves a default there.
 // `slot % MAX_INLINE` is the slot: by it the compiler sees that the write reaches nothing before the
 // store.
 #[inline]
@@ -179,8 +182,8 @@ fn take_in<T: Default + Drop, S: Store<T>>(store: &mut S, slot: usize) -> T
     mem::take(&mut store.as_mut_slice()[slot % MAX_INLINE])
 }
 
-/// Writes defaults over the slots of a store from `front` up to `back`, which drops the items there, in
-/// order.
+// Writes defaults over the slots of a store from `front` up to `back`, which drops the items there, in
+// order.
 #[inline]
 fn blank_in<T: Default + Drop, S: Store<T>>(store: &mut S, front: usize, back: usize)
     requires in_bounds { back ≤ length (S.items store.old) }
@@ -191,7 +194,7 @@ fn blank_in<T: Default + Drop, S: Store<T>>(store: &mut S, front: usize, back: u
     blank(store.as_mut_slice(), front, back);
 }
 
-/// Writes defaults over the slots from `front` up to `back`, which drops the items there, in order.
+// Writes defaults over the slots from `front` up to `back`, which drops the items there, in order.
 #[inline]
 fn blank<T: Default + Drop>(slots: &mut [T], front: usize, back: usize)
     requires in_bounds { back ≤ length slots.old }

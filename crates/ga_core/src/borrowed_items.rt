@@ -1,11 +1,10 @@
 //! Calls of a closure at borrowed items, in plain types: what is made is an inline array.
+ghost use Rattle.ga_views.specs.Views.{items_of_view};
+ghost use Rattle.ga_core.specs.Maps.{MapRun, MapsAs, TryMapRun, TryMapsAs, ZipRun, ZipsAs};
 ghost use Rattle.ga_core.specs.Calls.{MayCallOverEntries, MayCallOverEntriesUntilError, MayCallOverEntryPairs};
-ghost use Rattle.ga_core.specs.Entries.{ActsOnEntries, ActsOnEntry, CallAt, CallAtPair};
-ghost use Rattle.ga_core.specs.Runs.{ClosureRun, FirstErrorRun};
-ghost use Rattle.ga_core.specs.Tries.{try_map};
 ghost use Rattle.ga_views.specs.Length.{FitsInline};
 ghost use Rattle.std.specs.List.{zip};
-ghost use Rattle.std.specs.Prelude.{◌≡◌, List, Result, length, map, ⊤};
+ghost use Rattle.std.specs.Prelude.{◌≡◌, List, Result, length, ⊤};
 
 use crate::array::GenericArray;
 use crate::length::ArrayLength;
@@ -41,8 +40,8 @@ pub trait BorrowedItems<T, N: Unsigned> {
         N: ArrayLength<U>,
         requires fits { Fits }
         requires callable { MayCallOverEntries (λ item. item.now) F.pre F.step f (items self.now) }
-        ensures run { (last : F) × ClosureRun (CallAt (λ item. item.now) F.step) f (items self.now) result last }
-        ensures acts { (h : T → U) → ActsOnEntry (λ item. item.now) F.step f h → result ≡ map h (items self.now) }
+        ensures run { (last : F) × MapRun (λ item. item.now) F.step f (items self.now) result last }
+        ensures acts { MapsAs (λ item. item.now) F.step f (items self.now) result }
     {
         self.map_inline_ref_by(&mut f)
     }
@@ -57,8 +56,8 @@ pub trait BorrowedItems<T, N: Unsigned> {
         N: ArrayLength<U>,
         requires fits { Fits }
         requires callable { MayCallOverEntries (λ item. item.now) F.pre F.step f.old (items self.now) }
-        ensures run { ClosureRun (CallAt (λ item. item.now) F.step) f.old (items self.now) result f.new }
-        ensures acts { (h : T → U) → ActsOnEntry (λ item. item.now) F.step f.old h → result ≡ map h (items self.now) }
+        ensures run { MapRun (λ item. item.now) F.step f.old (items self.now) result f.new }
+        ensures acts { MapsAs (λ item. item.now) F.step f.old (items self.now) result }
     {
         let items = self.borrowed();
         let mut store: <N as ArrayLength<U>>::ArrayType = Store::filled();
@@ -78,8 +77,8 @@ pub trait BorrowedItems<T, N: Unsigned> {
         N: ArrayLength<U>,
         requires fits { Fits }
         requires callable { MayCallOverEntriesUntilError (λ item. item.now) F.pre F.step f (items self.now) }
-        ensures run { (last : F) × FirstErrorRun (CallAt (λ item. item.now) F.step) f (items self.now) result last }
-        ensures acts { (h : T → Result U E) → ActsOnEntry (λ item. item.now) F.step f h → result ≡ try_map h (items self.now) }
+        ensures run { (last : F) × TryMapRun (λ item. item.now) F.step f (items self.now) result last }
+        ensures acts { TryMapsAs (λ item. item.now) F.step f (items self.now) result }
     {
         self.try_map_inline_ref_by(&mut f)
     }
@@ -93,9 +92,10 @@ pub trait BorrowedItems<T, N: Unsigned> {
     where
         N: ArrayLength<U>,
         requires fits { Fits }
-        requires callable { MayCallOverEntriesUntilError (λ item. item.now) F.pre F.step f.old (items self.now) }
-        ensures run { FirstErrorRun (CallAt (λ item. item.now) F.step) f.old (items self.now) result f.new }
-        ensures acts { (h : T → Result U E) → ActsOnEntry (λ item. item.now) F.step f.old h → result ≡ try_map h (items self.now) }
+        requires callable { MayCallOverEntriesUntilError (λ item. item.now) F.pre F.step f.old
+            (items self.now) }
+        ensures run { TryMapRun (λ item. item.now) F.step f.old (items self.now) result f.new }
+        ensures acts { TryMapsAs (λ item. item.now) F.step f.old (items self.now) result }
     {
         let items = self.borrowed();
         let mut store: <N as ArrayLength<U>>::ArrayType = Store::filled();
@@ -117,9 +117,13 @@ pub trait BorrowedItems<T, N: Unsigned> {
     where
         N: ArrayLength<U>,
         requires fits { Fits }
-        requires callable { MayCallOverEntryPairs (λ item. item.now) (λ item. item.now) F.pre F.step f (zip (items self.now) rhs.slice.now) }
-        ensures run { (last : F) × ClosureRun (CallAtPair (λ item. item.now) (λ item. item.now) F.step) f (zip (items self.now) rhs.entry.slice.now) result last }
-        ensures acts { (h : T × B → U) → ActsOnEntries (λ item. item.now) (λ item. item.now) F.step f h → result ≡ map h (zip (items self.now) rhs.entry.slice.now) }
+        requires callable { MayCallOverEntryPairs (λ item. item.now) (λ item. item.now) F.pre F.step f
+            (zip (items self.now) (items_of_view rhs)) }
+        ensures run { (last : F)
+            × ZipRun (λ item. item.now) (λ item. item.now) F.step f (items self.now)
+            (items_of_view rhs.entry) result last }
+        ensures acts { ZipsAs (λ item. item.now) (λ item. item.now) F.step f (items self.now)
+            (items_of_view rhs.entry) result }
     {
         self.zip_inline_refs_by(rhs, &mut f)
     }
@@ -134,9 +138,12 @@ pub trait BorrowedItems<T, N: Unsigned> {
     where
         N: ArrayLength<U>,
         requires fits { Fits }
-        requires callable { MayCallOverEntryPairs (λ item. item.now) (λ item. item.now) F.pre F.step f.old (zip (items self.now) rhs.slice.now) }
-        ensures run { ClosureRun (CallAtPair (λ item. item.now) (λ item. item.now) F.step) f.old (zip (items self.now) rhs.entry.slice.now) result f.new }
-        ensures acts { (h : T × B → U) → ActsOnEntries (λ item. item.now) (λ item. item.now) F.step f.old h → result ≡ map h (zip (items self.now) rhs.entry.slice.now) }
+        requires callable { MayCallOverEntryPairs (λ item. item.now) (λ item. item.now) F.pre F.step f.old
+            (zip (items self.now) (items_of_view rhs)) }
+        ensures run { ZipRun (λ item. item.now) (λ item. item.now) F.step f.old (items self.now)
+            (items_of_view rhs.entry) result f.new }
+        ensures acts { ZipsAs (λ item. item.now) (λ item. item.now) F.step f.old (items self.now)
+            (items_of_view rhs.entry) result }
     {
         let items = self.borrowed();
         let mut store: <N as ArrayLength<U>>::ArrayType = Store::filled();
@@ -147,7 +154,7 @@ pub trait BorrowedItems<T, N: Unsigned> {
 
 /// The items of a view, whose length may be any: that it fits inline is a condition.
 impl<'a, T, N: Unsigned> BorrowedItems<T, N> for GenericArrayRef<'a, T, N> {
-    ghost items = { λ view. view.slice.now };
+    ghost items = { items_of_view };
 
     ghost Fits = { FitsInline N.USIZE };
 

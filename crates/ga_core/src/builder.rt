@@ -26,7 +26,8 @@ impl<T, N: ArrayLength<T>> Model for ArrayBuilder<T, N> {
 
     ghost view = { λ builder. N.ArrayType.items builder.store };
 
-    ghost invariant = { λ builder. (length (N.ArrayType.items builder.store) ≤ N.USIZE) × (FitsInline N.USIZE) };
+    ghost invariant = { λ builder. (length (N.ArrayType.items builder.store) ≤ N.USIZE)
+        × (FitsInline N.USIZE) };
 }
 
 impl<T, N: ArrayLength<T>> ArrayBuilder<T, N> {
@@ -88,8 +89,10 @@ impl<T: Drop, N: ArrayLength<T>> ArrayBuilder<T, N> {
     /// hints aren't consulted.
     pub fn extend<I: Iterator<Item = T>>(&mut self, items: &mut I)
         requires can { I.can_next items.old }
-        ensures taken { (taken : List T) × (self.new ≡ self.old ++ taken) × Takes I.next_gives items.old (N.USIZE - length self.old) taken items.new }
-        ensures runs { TakeRuns I.next_gives items.old (N.USIZE - length self.old) (λ taken. self.new ≡ self.old ++ taken) }
+        ensures taken { (taken : List T) × (self.new ≡ self.old ++ taken)
+            × Takes I.next_gives items.old (N.USIZE - length self.old) taken items.new }
+        ensures runs { TakeRuns I.next_gives items.old (N.USIZE - length self.old) (λ taken.
+            self.new ≡ self.old ++ taken) }
         ensures asks { Asks I.next_gives items.old (N.USIZE - length self.old) items.new }
         ensures can { length self.new ≡ N.USIZE → I.can_next items.new }
     {
@@ -108,8 +111,10 @@ impl<T: Drop, N: ArrayLength<T>> ArrayBuilder<T, N> {
         items: &mut I,
     ) -> Result<(), E>
         requires can { I.can_next items.old }
-        ensures taken { (taken : List T) × (self.new ≡ self.old ++ taken) × TakesGood I.next_gives items.old (N.USIZE - length self.old) taken result items.new }
-        ensures runs { TakeGoodRuns I.next_gives items.old (N.USIZE - length self.old) result (λ taken. self.new ≡ self.old ++ taken) }
+        ensures taken { (taken : List T) × (self.new ≡ self.old ++ taken)
+            × TakesGood I.next_gives items.old (N.USIZE - length self.old) taken result items.new }
+        ensures runs { TakeGoodRuns I.next_gives items.old (N.USIZE - length self.old) result
+            (λ taken. self.new ≡ self.old ++ taken) }
         ensures can { length self.new ≡ N.USIZE → I.can_next items.new }
         ensures can_on { OnErr result (I.can_next items.new) }
     {
@@ -123,9 +128,9 @@ impl<T: Drop, N: ArrayLength<T>> ArrayBuilder<T, N> {
         Ok(())
     }
 
-    /// The array of the items where the builder is full and `items` has ended, else `LengthError`.
-    ///
-    /// A builder that isn't full asks nothing.
+    // The array of the items where the builder is full and `items` has ended, else `LengthError`.
+    //
+    // A builder that isn't full asks nothing.
     pub(crate) fn finish_at_end<I: Iterator>(
         self,
         items: &mut I,
@@ -133,8 +138,11 @@ impl<T: Drop, N: ArrayLength<T>> ArrayBuilder<T, N> {
     where
         I::Item: Drop,
         requires can { length self ≡ N.USIZE → I.can_next items.old }
-        ensures ok { IfOk result (λ array. (array ≡ self) × (length self ≡ N.USIZE) × I.next_gives items.old None items.new) }
-        ensures err { OnErr result (((length self ≢ N.USIZE) × (items.new ≡ items.old)) ⊎ ((length self ≡ N.USIZE) × ((more : I.Item) × I.next_gives items.old (Some more) items.new))) }
+        ensures ok { IfOk result (λ array. (array ≡ self) × (length self ≡ N.USIZE)
+            × I.next_gives items.old None items.new) }
+        ensures err { OnErr result (((length self ≢ N.USIZE) × (items.new ≡ items.old))
+            ⊎ ((length self ≡ N.USIZE)
+            × ((more : I.Item) × I.next_gives items.old (Some more) items.new))) }
     {
         if !self.is_full() || items.next().is_some() {
             return Err(LengthError);

@@ -1,12 +1,13 @@
 //! What a closure returns at the items of slices, written over the slots of another slice, in order.
-ghost use Rattle.ga_core.specs.Entries.{CallAt, CallAtPair, CallOnPair, MayCallAt, MayCallAtPair, MayCallOnPair};
+ghost use Rattle.ga_core.specs.Maps.{MapRun, MayMap, MayTryMap, MayZip, TryMapRun, ZipRun};
+ghost use Rattle.ga_core.specs.Entries.{CallOnPair, MayCallOnPair};
 ghost use Rattle.ga_core.specs.Runs.{CallableOver, CallableOverUntilError, ClosureRun, FirstErrorRun};
 ghost use Rattle.std.specs.List.{zip};
 ghost use Rattle.std.specs.Prelude.{◌≡◌, Err, MatchResult, Ok, length};
 
 use std::mem;
 
-/// Writes what `f` returns at each item, which is moved to it. Leaves defaults.
+// Writes what `f` returns at each item, which is moved to it. Leaves defaults.
 #[inline]
 pub(crate) fn write_mapped<T: Default + Drop, U: Drop, F: FnMut(T) -> U>(
     items: &mut [T],
@@ -22,7 +23,7 @@ pub(crate) fn write_mapped<T: Default + Drop, U: Drop, F: FnMut(T) -> U>(
     }
 }
 
-/// `write_mapped` of a closure that may fail, up to its first error, which is returned.
+// `write_mapped` of a closure that may fail, up to its first error, which is returned.
 #[inline]
 pub(crate) fn try_write_mapped<T: Default + Drop, U: Drop, E, F: FnMut(T) -> Result<U, E>>(
     items: &mut [T],
@@ -44,7 +45,7 @@ pub(crate) fn try_write_mapped<T: Default + Drop, U: Drop, E, F: FnMut(T) -> Res
     Ok(())
 }
 
-/// Writes what `f` returns at each item, which is borrowed.
+// Writes what `f` returns at each item, which is borrowed.
 #[inline]
 pub(crate) fn write_mapped_ref<T, U: Drop, F: FnMut(&T) -> U>(
     items: &[T],
@@ -52,15 +53,15 @@ pub(crate) fn write_mapped_ref<T, U: Drop, F: FnMut(&T) -> U>(
     f: &mut F,
 )
     requires len { length items.now ≡ length slots.old }
-    requires callable { CallableOver (MayCallAt (λ item. item.now) F.pre) (CallAt (λ item. item.now) F.step) f.old items.now }
-    ensures run { ClosureRun (CallAt (λ item. item.now) F.step) f.old items.now slots.new f.new }
+    requires callable { MayMap (λ item. item.now) F.pre F.step f.old items.now }
+    ensures run { MapRun (λ item. item.now) F.step f.old items.now slots.new f.new }
 {
     for (index, slot) in slots.iter_mut().enumerate() {
         *slot = f(&items[index]);
     }
 }
 
-/// `write_mapped_ref` of a closure that may fail, up to its first error, which is returned.
+// `write_mapped_ref` of a closure that may fail, up to its first error, which is returned.
 #[inline]
 pub(crate) fn try_write_mapped_ref<T, U: Drop, E, F: FnMut(&T) -> Result<U, E>>(
     items: &[T],
@@ -68,10 +69,10 @@ pub(crate) fn try_write_mapped_ref<T, U: Drop, E, F: FnMut(&T) -> Result<U, E>>(
     f: &mut F,
 ) -> Result<(), E>
     requires len { length items.now ≡ length slots.old }
-    requires callable { CallableOverUntilError (MayCallAt (λ item. item.now) F.pre) (CallAt (λ item. item.now) F.step) f.old items.now }
+    requires callable { MayTryMap (λ item. item.now) F.pre F.step f.old items.now }
     ensures run { MatchResult result
-        (λ _. FirstErrorRun (CallAt (λ item. item.now) F.step) f.old items.now (Ok slots.new) f.new)
-        (λ error. FirstErrorRun (CallAt (λ item. item.now) F.step) f.old items.now (Err error) f.new) }
+        (λ _. TryMapRun (λ item. item.now) F.step f.old items.now (Ok slots.new) f.new)
+        (λ error. TryMapRun (λ item. item.now) F.step f.old items.now (Err error) f.new) }
 {
     for (index, slot) in slots.iter_mut().enumerate() {
         match f(&items[index]) {
@@ -82,7 +83,7 @@ pub(crate) fn try_write_mapped_ref<T, U: Drop, E, F: FnMut(&T) -> Result<U, E>>(
     Ok(())
 }
 
-/// Writes what `f` returns at each two items in the same place, which are moved to it. Leaves defaults.
+// Writes what `f` returns at each two items in the same place, which are moved to it. Leaves defaults.
 #[inline]
 pub(crate) fn write_zipped<T: Default + Drop, B: Default + Drop, U: Drop, F: FnMut(T, B) -> U>(
     left: &mut [T],
@@ -92,7 +93,8 @@ pub(crate) fn write_zipped<T: Default + Drop, B: Default + Drop, U: Drop, F: FnM
 )
     requires left { length left.old ≡ length slots.old }
     requires right { length right.old ≡ length slots.old }
-    requires callable { CallableOver (MayCallOnPair F.pre) (CallOnPair F.step) f.old (zip left.old right.old) }
+    requires callable { CallableOver (MayCallOnPair F.pre) (CallOnPair F.step) f.old
+        (zip left.old right.old) }
     ensures run { ClosureRun (CallOnPair F.step) f.old (zip left.old right.old) slots.new f.new }
 {
     for (index, slot) in slots.iter_mut().enumerate() {
@@ -100,7 +102,7 @@ pub(crate) fn write_zipped<T: Default + Drop, B: Default + Drop, U: Drop, F: FnM
     }
 }
 
-/// `write_zipped` where the items of the right side are borrowed.
+// `write_zipped` where the items of the right side are borrowed.
 #[inline]
 pub(crate) fn write_zipped_ref<T: Default + Drop, B, U: Drop, F: FnMut(T, &B) -> U>(
     left: &mut [T],
@@ -110,15 +112,15 @@ pub(crate) fn write_zipped_ref<T: Default + Drop, B, U: Drop, F: FnMut(T, &B) ->
 )
     requires left { length left.old ≡ length slots.old }
     requires right { length right.now ≡ length slots.old }
-    requires callable { CallableOver (MayCallAtPair (λ item. item) (λ item. item.now) F.pre) (CallAtPair (λ item. item) (λ item. item.now) F.step) f.old (zip left.old right.now) }
-    ensures run { ClosureRun (CallAtPair (λ item. item) (λ item. item.now) F.step) f.old (zip left.old right.now) slots.new f.new }
+    requires callable { MayZip (λ item. item) (λ item. item.now) F.pre F.step f.old left.old right.now }
+    ensures run { ZipRun (λ item. item) (λ item. item.now) F.step f.old left.old right.now slots.new f.new }
 {
     for (index, slot) in slots.iter_mut().enumerate() {
         *slot = f(mem::take(&mut left[index]), &right[index]);
     }
 }
 
-/// `write_zipped` where the items of both sides are borrowed.
+// `write_zipped` where the items of both sides are borrowed.
 #[inline]
 pub(crate) fn write_zipped_refs<T, B, U: Drop, F: FnMut(&T, &B) -> U>(
     left: &[T],
@@ -128,8 +130,9 @@ pub(crate) fn write_zipped_refs<T, B, U: Drop, F: FnMut(&T, &B) -> U>(
 )
     requires left { length left.now ≡ length slots.old }
     requires right { length right.now ≡ length slots.old }
-    requires callable { CallableOver (MayCallAtPair (λ item. item.now) (λ item. item.now) F.pre) (CallAtPair (λ item. item.now) (λ item. item.now) F.step) f.old (zip left.now right.now) }
-    ensures run { ClosureRun (CallAtPair (λ item. item.now) (λ item. item.now) F.step) f.old (zip left.now right.now) slots.new f.new }
+    requires callable { MayZip (λ item. item.now) (λ item. item.now) F.pre F.step f.old left.now right.now }
+    ensures run { ZipRun (λ item. item.now) (λ item. item.now) F.step f.old left.now
+        right.now slots.new f.new }
 {
     for (index, slot) in slots.iter_mut().enumerate() {
         *slot = f(&left[index], &right[index]);

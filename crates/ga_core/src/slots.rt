@@ -1,24 +1,25 @@
 //! Writing over the slots of a slice, in order.
+ghost use Rattle.ga_core.specs.Maps.{GenerateRun, TryGenerateRun};
 ghost use Rattle.ga_core.specs.Copies.{Repeats};
-ghost use Rattle.ga_core.specs.Runs.{CallableAlong, CallableUntilError, ClosureRun, FirstErrorRun};
-ghost use Rattle.std.specs.List.{All, AllZip, range_with_len};
+ghost use Rattle.ga_core.specs.Runs.{CallableAlong, CallableUntilError};
+ghost use Rattle.std.specs.List.{All, AllZip};
 ghost use Rattle.std.specs.Prelude.{◌≡◌, ◌≤◌, Err, IsOk, MatchResult, Ok, OnOk, length, replicate};
 
 use crate::alloc_error::AllocError;
 use std::mem;
 
-/// Writes `f(0)`, `f(1)` and so on over the slots, each called once, in this order.
+// Writes `f(0)`, `f(1)` and so on over the slots, each called once, in this order.
 #[inline]
 pub(crate) fn write_answers<T: Drop, F: FnMut(usize) -> T>(slots: &mut [T], f: &mut F)
     requires callable { CallableAlong F.pre F.step f.old (length slots.old) }
-    ensures run { ClosureRun F.step f.old (range_with_len 0 (length slots.old)) slots.new f.new }
+    ensures run { GenerateRun F.step f.old (length slots.old) slots.new f.new }
 {
     for (index, slot) in slots.iter_mut().enumerate() {
         *slot = f(index);
     }
 }
 
-/// `write_answers` of a closure that may fail, up to its first error, which is returned.
+// `write_answers` of a closure that may fail, up to its first error, which is returned.
 #[inline]
 pub(crate) fn try_write_answers<T: Drop, E, F: FnMut(usize) -> Result<T, E>>(
     slots: &mut [T],
@@ -26,8 +27,8 @@ pub(crate) fn try_write_answers<T: Drop, E, F: FnMut(usize) -> Result<T, E>>(
 ) -> Result<(), E>
     requires callable { CallableUntilError F.pre F.step f.old (length slots.old) }
     ensures run { MatchResult result
-        (λ _. FirstErrorRun F.step f.old (range_with_len 0 (length slots.old)) (Ok slots.new) f.new)
-        (λ error. FirstErrorRun F.step f.old (range_with_len 0 (length slots.old)) (Err error) f.new) }
+        (λ _. TryGenerateRun F.step f.old (length slots.old) (Ok slots.new) f.new)
+        (λ error. TryGenerateRun F.step f.old (length slots.old) (Err error) f.new) }
 {
     for (index, slot) in slots.iter_mut().enumerate() {
         match f(index) {
@@ -38,7 +39,7 @@ pub(crate) fn try_write_answers<T: Drop, E, F: FnMut(usize) -> Result<T, E>>(
     Ok(())
 }
 
-/// Writes `item` over the slots.
+// Writes `item` over the slots.
 #[inline]
 pub(crate) fn write_same<T: Copy + Drop>(slots: &mut [T], item: T)
     ensures { slots.new ≡ replicate (length slots.old) item }
@@ -61,7 +62,7 @@ pub fn move_items<T: Default + Drop>(items: &mut [T], slots: &mut [T])
     }
 }
 
-/// Writes clones of the items over as many slots, in order, up to the first clone that fails.
+// Writes clones of the items over as many slots, in order, up to the first clone that fails.
 #[inline]
 pub(crate) fn write_clones<T: Clone>(slots: &mut [T], items: &[T]) -> Result<(), AllocError>
     requires room { length slots.old ≡ length items.now }
@@ -77,8 +78,8 @@ pub(crate) fn write_clones<T: Clone>(slots: &mut [T], items: &[T]) -> Result<(),
     Ok(())
 }
 
-/// Writes clones of `item` over the slots, in order, and `item` itself over the last, up to the
-/// first clone that fails.
+// Writes clones of `item` over the slots, in order, and `item` itself over the last, up to the
+// first clone that fails.
 #[inline]
 pub(crate) fn write_copies<T: Clone>(slots: &mut [T], item: T) -> Result<(), AllocError>
     ensures items { OnOk result (Repeats T.is_clone item (length slots.old) slots.new) }

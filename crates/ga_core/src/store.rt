@@ -50,27 +50,32 @@ pub trait Store<T>: Sized + Drop {
         ensures { result.now ≡ items self.now };
 
     // The store with these items written over its own, as many as it has.
-    ghost store_with: { (store : Self) (written : List T) → (after : Self) × (items after ≡ refill (length (items store)) (items store) written) };
+    ghost store_with: { (store : Self) (written : List T) → (after : Self)
+        × (items after ≡ refill (length (items store)) (items store) written) };
 
     /// The items, in order, for writing. What is written stands in the store afterwards.
     fn as_mut_slice(&mut self) -> &mut [T]
-        ensures* writes_back { sem 𝓛 (Lends Self.row (Array T.row 0) self.entry result (λ written. (store_with self.old written).0)) }
+        ensures* writes_back { sem 𝓛 (Lends Self.row (Array T.row 0)
+            self.entry result (λ written. (store_with self.old written).0)) }
         ensures value { result.now ≡ items self.old };
 
     /// `as_mut_slice` where the caller knows how many items there are, so that the compiler knows it
     /// too.
     fn as_mut_slice_of(&mut self, len: usize) -> &mut [T]
-        requires all { len ≡ length (items self.old) }
-        ensures* writes_back { sem 𝓛 (Lends Self.row (Array T.row 0) self.entry result (λ written. (store_with self.old written).0)) }
+        requires len { len ≡ length (items self.old) }
+        ensures* writes_back { sem 𝓛 (Lends Self.row (Array T.row 0)
+            self.entry result (λ written. (store_with self.old written).0)) }
         ensures value { result.now ≡ items self.old };
 
     // The store with this item at the index, and the others as they are.
-    ghost store_with_item: { (store : Self) (index : ℕ) (item : T) → (after : Self) × (items after ≡ slice_set (items store) index item) };
+    ghost store_with_item: { (store : Self) (index : ℕ) (item : T) → (after : Self)
+        × (items after ≡ slice_set (items store) index item) };
 
     /// The item at `index`, for writing.
     fn item_mut(&mut self, index: usize) -> &mut T
         requires in_bounds { index < length (items self.old) }
-        ensures* writes_back { sem 𝓛 (Lends Self.row T.row self.entry result (λ item. (store_with_item self.old index item).0)) }
+        ensures* writes_back { sem 𝓛 (Lends Self.row T.row
+            self.entry result (λ item. (store_with_item self.old index item).0)) }
         ensures value { result.now ≡ slice_index_or (items self.old) index result.now };
 }
 
@@ -133,17 +138,17 @@ impl<T: Default + Drop, const N: usize> Store<T> for ArrayVec<T, N> {
     }
 }
 
-/// The items of a store, of which there are `len`.
+// The items of a store, of which there are `len`.
 #[inline]
 fn items_of<T, const N: usize, A>(store: &mut ArrayVec<T, N, A>, len: usize) -> &mut [T]
-    requires all { len ≡ length store.old.items }
+    requires len { len ≡ length store.old.items }
     ensures* writes_back { sem 𝓛 (lends_slice T.row N.row A.row store.entry result) }
     ensures value { result.now ≡ store.old.items }
 {
     &mut store.as_mut_slice()[..len]
 }
 
-/// The item of a store at `index`, with no test of the index.
+// The item of a store at `index`, with no test of the index.
 #[inline]
 fn item_of<T, const N: usize, A>(store: &mut ArrayVec<T, N, A>, index: usize) -> &mut T
     requires in_bounds { index < length store.old.items }
@@ -153,7 +158,7 @@ fn item_of<T, const N: usize, A>(store: &mut ArrayVec<T, N, A>, index: usize) ->
     &mut store.as_mut_slice()[index]
 }
 
-/// The full store of the items of a native array.
+// The full store of the items of a native array.
 #[inline]
 pub(crate) fn store_of_array<T, const N: usize>(items: [T; N]) -> ArrayVec<T, N>
     ensures { result.items ≡ items }
@@ -161,8 +166,8 @@ pub(crate) fn store_of_array<T, const N: usize>(items: [T; N]) -> ArrayVec<T, N>
     ArrayVec::from_array_in((), items)
 }
 
-/// A store of clones of the items, made in order. If a clone fails, drops those made before it and
-/// returns the error.
+// A store of clones of the items, made in order. If a clone fails, drops those made before it and
+// returns the error.
 pub(crate) fn store_of_clones<T: Clone, S: Store<T>>(items: &[T]) -> Result<S, AllocError>
     requires fits { FitsInline S.CAPACITY }
     requires room { length items.now ≤ S.CAPACITY }

@@ -37,9 +37,9 @@ module _ (S T N : RattleType) (s : reborrow.Ghosts S.Denot T.Denot) (n : unsigne
     LendsIter items = follows (the_row S T N s n) (Array T 0) view.ghost_name (iter_mut_name items) (view_with view.now)
 
     -- once the borrow r ends, place i has the last value written through r, and the others are as they were
-    abbrev pub LendsPlace : ℕ → MutBor T.Denot → Fml
-    LendsPlace i r = Lends (the_row S T N s n) T view r (view_with_item view.now i)
+    abbrev pub LendsItem : ℕ → MutBor T.Denot → Fml
+    LendsItem i r = Lends (the_row S T N s n) T view r (view_with_item view.now i)
 
     -- the same where there is such a place; at `None` all items are as they were
-    abbrev pub LendsPlaceIf : ℕ → Option (MutBor T.Denot) → Fml
-    LendsPlaceIf i r = LendsIf (the_row S T N s n) T view r (view_with_item view.now i) view.now
+    abbrev pub LendsItemIf : ℕ → Option (MutBor T.Denot) → Fml
+    LendsItemIf i r = LendsIf (the_row S T N s n) T view r (view_with_item view.now i) view.now

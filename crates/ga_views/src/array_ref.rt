@@ -32,12 +32,14 @@ impl<'a, T, N: Unsigned> Clone for GenericArrayRef<'a, T, N> {
 impl<'a, T, N: Unsigned> Copy for GenericArrayRef<'a, T, N> {}
 
 impl<'a, T, N: Unsigned> GenericArrayRef<'a, T, N> {
+    ghost use Rattle.ga_views.specs.Views.{items_of_view};
+
     /// The view of a slice of `N` items. The counterpart of `GenericArray::from_slice`, which
     /// panics where the length is another.
     #[inline]
     pub fn from_slice(slice: &'a [T]) -> Self
         requires len { length slice.now ≡ N.USIZE }
-        ensures { result.slice.now ≡ slice.now }
+        ensures { items_of_view result ≡ slice.now }
     {
         GenericArrayRef {
             slice,
@@ -49,7 +51,7 @@ impl<'a, T, N: Unsigned> GenericArrayRef<'a, T, N> {
     #[inline]
     pub fn try_from_slice(slice: &'a [T]) -> Result<Self, LengthError>
         ensures variant { IsOk result ↔ (length slice.now ≡ N.USIZE) }
-        ensures ok { IfOk result (λ view. view.slice.now ≡ slice.now) }
+        ensures ok { IfOk result (λ view. items_of_view view ≡ slice.now) }
     {
         if slice.len() == N::USIZE {
             Ok(Self::from_slice(slice))
@@ -61,7 +63,7 @@ impl<'a, T, N: Unsigned> GenericArrayRef<'a, T, N> {
     /// All items, in order.
     #[inline]
     pub fn as_slice(&self) -> &[T]
-        ensures items { result.now ≡ self.now.slice.now }
+        ensures items { result.now ≡ items_of_view self.now }
         ensures len { length result.now ≡ N.USIZE }
     {
         // That there are `N` items is known at compile time, and so it is written.
@@ -71,7 +73,7 @@ impl<'a, T, N: Unsigned> GenericArrayRef<'a, T, N> {
     /// All items, in order, for the whole borrow that the view was made of.
     #[inline]
     pub fn into_slice(self) -> &'a [T]
-        ensures items { result.now ≡ self.entry.slice.now }
+        ensures items { result.now ≡ items_of_view self.entry }
         ensures len { length result.now ≡ N.USIZE }
     {
         let GenericArrayRef { slice, of: _ } = self;
@@ -82,7 +84,7 @@ impl<'a, T, N: Unsigned> GenericArrayRef<'a, T, N> {
     #[inline]
     pub fn get(&self, index: usize) -> Option<&T>
         ensures variant { IsSome result ↔ (index < N.USIZE) }
-        ensures item { option_copied result ≡ slice_get self.now.slice.now index }
+        ensures item { option_copied result ≡ slice_get (items_of_view self.now) index }
     {
         self.as_slice().get(index)
     }
@@ -98,7 +100,7 @@ impl<'a, T, N: Unsigned> GenericArrayRef<'a, T, N> {
     /// The items by reference, in order.
     #[inline]
     pub fn iter(&self) -> slice::Iter<'_, T>
-        ensures { IteratesOver self.now.slice.now N.USIZE result }
+        ensures { IteratesOver (items_of_view self.now) N.USIZE result }
     {
         self.as_slice().iter()
     }
@@ -106,9 +108,11 @@ impl<'a, T, N: Unsigned> GenericArrayRef<'a, T, N> {
 
 /// The methods of slices, and `view[index]`.
 impl<'a, T, N: Unsigned> DerefSlice for GenericArrayRef<'a, T, N> {
+    ghost use Rattle.ga_views.specs.Views.{items_of_view};
+
     type Elem = T;
 
-    ghost deref_gives = { λ view items. (items ≡ view.slice.now) × (length items ≡ N.USIZE) };
+    ghost deref_gives = { λ view items. (items ≡ items_of_view view) × (length items ≡ N.USIZE) };
 
     #[inline]
     fn deref(&self) -> &[T] {
@@ -118,9 +122,12 @@ impl<'a, T, N: Unsigned> DerefSlice for GenericArrayRef<'a, T, N> {
 
 /// See `try_from_slice`.
 impl<'a, T, N: Unsigned> TryFrom<&'a [T]> for GenericArrayRef<'a, T, N> {
+    ghost use Rattle.ga_views.specs.Views.{items_of_view};
+
     type Error = LengthError;
 
-    ghost try_from_gives = { λ slice made. (IsOk made ↔ (length slice.now ≡ N.USIZE)) × IfOk made (λ view. view.slice.now ≡ slice.now) };
+    ghost try_from_gives = { λ slice made. (IsOk made ↔ (length slice.now ≡ N.USIZE))
+        × IfOk made (λ view. items_of_view view ≡ slice.now) };
 
     #[inline]
     fn try_from(slice: &'a [T]) -> Result<Self, LengthError> {
@@ -129,7 +136,9 @@ impl<'a, T, N: Unsigned> TryFrom<&'a [T]> for GenericArrayRef<'a, T, N> {
 }
 
 impl<'a, T, N: Unsigned> AsSlice<T> for GenericArrayRef<'a, T, N> {
-    ghost items = { λ view. view.slice.now };
+    ghost use Rattle.ga_views.specs.Views.{items_of_view};
+
+    ghost items = { items_of_view };
 
     #[inline]
     fn as_slice(&self) -> &[T] {
@@ -138,13 +147,14 @@ impl<'a, T, N: Unsigned> AsSlice<T> for GenericArrayRef<'a, T, N> {
 }
 
 impl<'a, T, N: Unsigned> IntoIterator for GenericArrayRef<'a, T, N> {
+    ghost use Rattle.ga_views.specs.Views.{items_of_view};
     ghost use Rattle.ga_views.specs.Iteration.{IteratesOver};
 
     type Item = &'a T;
 
     type IntoIter = slice::Iter<'a, T>;
 
-    ghost into_iter_gives = { λ view iterator. IteratesOver view.slice.now N.USIZE iterator };
+    ghost into_iter_gives = { λ view iterator. IteratesOver (items_of_view view) N.USIZE iterator };
 
     #[inline]
     fn into_iter(self) -> slice::Iter<'a, T> {

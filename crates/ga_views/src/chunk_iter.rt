@@ -1,4 +1,5 @@
 //! The rows that lie in a slice as views, from both ends.
+ghost use Rattle.ga_views.specs.Views.{items_of_view};
 ghost use Rattle.ga_views.specs.Cut.{StepGives, back, front};
 ghost use Rattle.ga_views.specs.RowIteration.{RowsInOrder, RowsInReverse};
 ghost use Rattle.ga_views.specs.Rows.{chunk_count, rows};
@@ -33,7 +34,7 @@ impl<'a, T, N: Unsigned> Model for ChunkIter<'a, T, N> {
 }
 
 impl<'a, T, N: Unsigned> ChunkIter<'a, T, N> {
-    /// The rows of a slice of as many items as they have.
+    // The rows of a slice of as many items as they have.
     #[inline]
     pub(crate) fn over(slice: &'a [T]) -> Self
         requires whole { length slice.now ≡ chunk_count N.USIZE slice.now * N.USIZE }
@@ -62,7 +63,7 @@ impl<'a, T, N: Unsigned> ChunkIter<'a, T, N> {
     /// and returns `None`.
     #[inline]
     pub fn nth(&mut self, n: usize) -> Option<GenericArrayRef<'a, T, N>>
-        ensures step { StepGives (front n) self.old (option_map (λ view. view.slice.now) result) self.new }
+        ensures step { StepGives (front n) self.old (option_map items_of_view result) self.new }
     {
         self.pass_front(n.min(self.len()));
         self.next()
@@ -72,7 +73,7 @@ impl<'a, T, N: Unsigned> ChunkIter<'a, T, N> {
     /// consumes them all and returns `None`.
     #[inline]
     pub fn nth_back(&mut self, n: usize) -> Option<GenericArrayRef<'a, T, N>>
-        ensures step { StepGives (back n) self.old (option_map (λ view. view.slice.now) result) self.new }
+        ensures step { StepGives (back n) self.old (option_map items_of_view result) self.new }
     {
         self.pass_back(n.min(self.len()));
         self.next_back()
@@ -102,7 +103,7 @@ impl<'a, T, N: Unsigned> ChunkIter<'a, T, N> {
 impl<'a, T, N: Unsigned> Iterator for ChunkIter<'a, T, N> {
     type Item = GenericArrayRef<'a, T, N>;
 
-    ghost next_gives = { YieldsFirstBy (λ view. view.slice.now) (λ left. left) };
+    ghost next_gives = { YieldsFirstBy items_of_view (λ left. left) };
 
     ghost remaining = { item_count (λ left. left) };
 
@@ -128,7 +129,7 @@ impl<'a, T, N: Unsigned> Iterator for ChunkIter<'a, T, N> {
 }
 
 impl<'a, T, N: Unsigned> DoubleEndedIterator for ChunkIter<'a, T, N> {
-    ghost next_back_gives = { YieldsLastBy (λ view. view.slice.now) (λ left. left) };
+    ghost next_back_gives = { YieldsLastBy items_of_view (λ left. left) };
 
     /// The last row that is left.
     #[inline]

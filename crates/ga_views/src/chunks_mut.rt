@@ -1,8 +1,8 @@
 //! Rows of one width that lie in a slice, for writing.
+ghost use Rattle.ga_views.specs.Views.{items_of_chunks, items_of_view};
 ghost use Rattle.ga_views.specs.RowIteration.{RowsInOrder, RowsInReverse};
-ghost use Rattle.ga_views.specs.Parts.{part_set};
 ghost use Rattle.ga_views.specs.Rows.{chunk_count, chunk_rest, row_at, rows};
-ghost use Rattle.std.specs.Borrow.{Array, Lends, LendsBoth, follows_both, sem};
+ghost use Rattle.std.specs.Borrow.{Array, LendsBoth, follows_both, sem};
 ghost use Rattle.std.specs.Option.{option_map};
 ghost use Rattle.std.specs.Prelude.{◌≡◌, ◌*◌, ◌<◌, ◌↔◌, ◌⊎◌, ◌++◌, IfSome, IsSome, length, slice_get};
 
@@ -44,7 +44,8 @@ impl<'a, T, N: Unsigned> ChunksViewMut<&'a mut [T], T, N> {
     #[inline]
     pub fn chunks_from_slice_mut(slice: &'a mut [T]) -> (Self, &'a mut [T])
         requires width { (0 < N.USIZE) ⊎ (length slice.old ≡ 0) }
-        ensures* writes_back { sem 𝓛 (follows_both (Array T.row 0) (Array T.row 0) (Array T.row 0) slice.entry.ghost_name result.0.slice.ghost_name result.1.ghost_name ◌++◌) }
+        ensures* writes_back { sem 𝓛 (follows_both (Array T.row 0) (Array T.row 0) (Array T.row 0)
+            slice.entry.ghost_name result.0.slice.ghost_name result.1.ghost_name ◌++◌) }
         ensures rows { rows N.USIZE result.0.slice.now ≡ rows N.USIZE slice.old }
         ensures rest { result.1.now ≡ chunk_rest N.USIZE slice.old }
         ensures parts { result.0.slice.now ++ result.1.now ≡ slice.old }
@@ -62,7 +63,8 @@ impl<'a, T, N: Unsigned> ChunksViewMut<&'a mut [T], T, N> {
     #[inline]
     pub fn whole_and_rest(slice: &'a mut [T]) -> (&'a mut [T], &'a mut [T])
         requires width { (0 < N.USIZE) ⊎ (length slice.old ≡ 0) }
-        ensures* writes_back { sem 𝓛 (LendsBoth (Array T.row 0) (Array T.row 0) (Array T.row 0) slice.entry result ◌++◌) }
+        ensures* writes_back { sem 𝓛 (LendsBoth (Array T.row 0) (Array T.row 0) (Array T.row 0)
+            slice.entry result ◌++◌) }
         ensures whole { length result.0.now ≡ chunk_count N.USIZE slice.old * N.USIZE }
         ensures rest { result.1.now ≡ chunk_rest N.USIZE slice.old }
         ensures parts { result.0.now ++ result.1.now ≡ slice.old }
@@ -108,7 +110,7 @@ impl<S: ReborrowSlice<T>, T, N: Unsigned> ChunksViewMut<S, T, N> {
     /// The same rows, read-only.
     #[inline]
     pub fn view(&self) -> ChunksRef<'_, T, N>
-        ensures { result.slice.now ≡ S.items self.now.slice }
+        ensures { items_of_chunks result ≡ S.items self.now.slice }
     {
         ChunksRef::over(self.slice.all())
     }
@@ -126,8 +128,10 @@ impl<S: ReborrowSlice<T>, T, N: Unsigned> ChunksViewMut<S, T, N> {
     #[inline]
     pub fn get(&self, index: usize) -> Option<GenericArrayRef<'_, T, N>>
         ensures variant { IsSome result ↔ (index < chunk_count N.USIZE (S.items self.now.slice)) }
-        ensures row { IfSome result (λ view. view.slice.now ≡ row_at N.USIZE (S.items self.now.slice) index) }
-        ensures rows { option_map (λ view. view.slice.now) result ≡ slice_get (rows N.USIZE (S.items self.now.slice)) index }
+        ensures row { IfSome result (λ view.
+            items_of_view view ≡ row_at N.USIZE (S.items self.now.slice) index) }
+        ensures rows { option_map items_of_view result
+            ≡ slice_get (rows N.USIZE (S.items self.now.slice)) index }
     {
         self.view().get(index)
     }
@@ -154,7 +158,8 @@ impl<S: ReborrowSlice<T>, T, N: Unsigned> ChunksViewMut<S, T, N> {
     /// The items of all rows, in order, for writing.
     #[inline]
     pub fn as_mut_slice(&mut self) -> &mut [T]
-        ensures* writes_back { sem 𝓛 (LendsItems S.row T.row N.row S.ReborrowSlice N.Unsigned self.entry result) }
+        ensures* writes_back { sem 𝓛 (LendsItems S.row T.row N.row S.ReborrowSlice N.Unsigned
+            self.entry result) }
         ensures items { result.now ≡ S.items self.old.slice }
         ensures len { length result.now ≡ chunk_count N.USIZE (S.items self.old.slice) * N.USIZE }
     {
@@ -169,7 +174,8 @@ impl<S: ReborrowPart<T>, T, N: Unsigned> ChunksViewMut<S, T, N> {
     #[inline]
     pub fn row_mut(&mut self, index: usize) -> &mut [T]
         requires in_bounds { index < chunk_count N.USIZE (S.items self.old.slice) }
-        ensures* writes_back { sem 𝓛 (LendsRow S.row T.row N.row S.ReborrowSlice N.Unsigned self.entry index result) }
+        ensures* writes_back { sem 𝓛 (LendsRow S.row T.row N.row S.ReborrowSlice N.Unsigned
+            self.entry index result) }
         ensures row { result.now ≡ row_at N.USIZE (S.items self.old.slice) index }
         ensures len { length result.now ≡ N.USIZE }
     {
@@ -183,7 +189,8 @@ impl<S: ReborrowPart<T>, T, N: Unsigned> ChunksViewMut<S, T, N> {
     /// time.
     #[inline]
     pub fn get_mut(&mut self, index: usize) -> Option<GenericArrayMut<'_, T, N>>
-        ensures* writes_back { sem 𝓛 (LendsRowIf S.row T.row N.row S.ReborrowSlice N.Unsigned self.entry index (option_map (λ view. view.slice) result)) }
+        ensures* writes_back { sem 𝓛 (LendsRowIf S.row T.row N.row S.ReborrowSlice N.Unsigned
+            self.entry index (option_map (λ view. view.slice) result)) }
         ensures variant { IsSome result ↔ (index < chunk_count N.USIZE (S.items self.old.slice)) }
         ensures row { IfSome result (λ view. view.slice.now ≡ row_at N.USIZE (S.items self.old.slice) index) }
     {

@@ -31,11 +31,13 @@ impl<'a, T, N: Unsigned> Clone for ChunksRef<'a, T, N> {
 impl<'a, T, N: Unsigned> Copy for ChunksRef<'a, T, N> {}
 
 impl<'a, T, N: Unsigned> ChunksRef<'a, T, N> {
-    /// The rows of a slice of as many items as they have.
+    ghost use Rattle.ga_views.specs.Views.{items_of_chunks, items_of_view};
+
+    // The rows of a slice of as many items as they have.
     #[inline]
     pub(crate) fn over(slice: &'a [T]) -> Self
         requires whole { length slice.now ≡ chunk_count N.USIZE slice.now * N.USIZE }
-        ensures { result.slice.now ≡ slice.now }
+        ensures { items_of_chunks result ≡ slice.now }
     {
         ChunksRef {
             slice,
@@ -51,9 +53,9 @@ impl<'a, T, N: Unsigned> ChunksRef<'a, T, N> {
     #[inline]
     pub fn chunks_from_slice(slice: &'a [T]) -> (Self, &'a [T])
         requires width { (0 < N.USIZE) ⊎ (length slice.now ≡ 0) }
-        ensures rows { rows N.USIZE result.0.slice.now ≡ rows N.USIZE slice.now }
+        ensures rows { rows N.USIZE (items_of_chunks result.0) ≡ rows N.USIZE slice.now }
         ensures rest { result.1.now ≡ chunk_rest N.USIZE slice.now }
-        ensures parts { result.0.slice.now ++ result.1.now ≡ slice.now }
+        ensures parts { items_of_chunks result.0 ++ result.1.now ≡ slice.now }
     {
         let (whole, rest) = slice.split_at(len_of_rows(slice.len(), N::USIZE));
         (ChunksRef::over(whole), rest)
@@ -62,8 +64,8 @@ impl<'a, T, N: Unsigned> ChunksRef<'a, T, N> {
     /// The number of rows. O(1).
     #[inline]
     pub fn len(&self) -> usize
-        ensures count { result ≡ chunk_count N.USIZE self.now.slice.now }
-        ensures rows { result ≡ length (rows N.USIZE self.now.slice.now) }
+        ensures count { result ≡ chunk_count N.USIZE (items_of_chunks self.now) }
+        ensures rows { result ≡ length (rows N.USIZE (items_of_chunks self.now)) }
     {
         match N::USIZE {
             0 => 0,
@@ -74,9 +76,11 @@ impl<'a, T, N: Unsigned> ChunksRef<'a, T, N> {
     /// The row at `index`, or `None` if there are at most `index` rows. O(1).
     #[inline]
     pub fn get(&self, index: usize) -> Option<GenericArrayRef<'a, T, N>>
-        ensures variant { IsSome result ↔ (index < chunk_count N.USIZE self.now.slice.now) }
-        ensures row { IfSome result (λ view. view.slice.now ≡ row_at N.USIZE self.now.slice.now index) }
-        ensures rows { option_map (λ view. view.slice.now) result ≡ slice_get (rows N.USIZE self.now.slice.now) index }
+        ensures variant { IsSome result ↔ (index < chunk_count N.USIZE (items_of_chunks self.now)) }
+        ensures row { IfSome result (λ view.
+            items_of_view view ≡ row_at N.USIZE (items_of_chunks self.now) index) }
+        ensures rows { option_map items_of_view result
+            ≡ slice_get (rows N.USIZE (items_of_chunks self.now)) index }
     {
         if index < self.len() {
             let (_, behind) = self.slice.split_at(index * N::USIZE);
@@ -90,7 +94,7 @@ impl<'a, T, N: Unsigned> ChunksRef<'a, T, N> {
     /// The rows as views, in order, from both ends.
     #[inline]
     pub fn iter(&self) -> ChunkIter<'_, T, N>
-        ensures rows { result ≡ rows N.USIZE self.now.slice.now }
+        ensures rows { result ≡ rows N.USIZE (items_of_chunks self.now) }
         ensures runs { RowsInOrder T N N.Unsigned }
         ensures runs_back { RowsInReverse T N N.Unsigned }
     {
@@ -100,8 +104,8 @@ impl<'a, T, N: Unsigned> ChunksRef<'a, T, N> {
     /// The items of all rows, in order.
     #[inline]
     pub fn as_slice(&self) -> &[T]
-        ensures items { result.now ≡ self.now.slice.now }
-        ensures len { length result.now ≡ chunk_count N.USIZE self.now.slice.now * N.USIZE }
+        ensures items { result.now ≡ items_of_chunks self.now }
+        ensures len { length result.now ≡ chunk_count N.USIZE (items_of_chunks self.now) * N.USIZE }
     {
         self.slice
     }
@@ -111,14 +115,14 @@ impl<'a, T, N: Unsigned> ChunksRef<'a, T, N> {
     /// The counterpart of `GenericArray::slice_from_chunks`.
     #[inline]
     pub fn into_slice(self) -> &'a [T]
-        ensures items { result.now ≡ self.entry.slice.now }
-        ensures len { length result.now ≡ chunk_count N.USIZE self.entry.slice.now * N.USIZE }
+        ensures items { result.now ≡ items_of_chunks self.entry }
+        ensures len { length result.now ≡ chunk_count N.USIZE (items_of_chunks self.entry) * N.USIZE }
     {
         self.slice
     }
 }
 
-/// How many of `len` items lie in whole rows of a width.
+// How many of `len` items lie in whole rows of a width.
 #[inline]
 pub(crate) fn len_of_rows(len: usize, width: usize) -> usize
     ensures { result ≡ len / width * width }

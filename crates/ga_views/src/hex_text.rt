@@ -7,10 +7,10 @@ use hex::encode_to_slice;
 use std::io;
 use std::io::Write;
 
-/// How many digits are made at once.
+// How many digits are made at once.
 const LONG_TEXT: usize = 2048;
 
-/// How many digits a few bytes have, as those of a digest: a buffer for so many is quickly cleared.
+// How many digits a few bytes have, as those of a digest: a buffer for so many is quickly cleared.
 const SHORT_TEXT: usize = 128;
 
 /// Writes two hex digits for each byte, the high half first, in lower case or, if `upper` is set,
@@ -28,7 +28,8 @@ pub fn write_hex<W: Write>(
     limit: Option<usize>,
     w: &mut W,
 ) -> Result<(), io::Error>
-    ensures text { OnOk result (Appends (W.contents w.old) (W.contents w.new) (hex_text upper limit bytes.now)) }
+    ensures text { OnOk result (Appends (W.contents w.old) (W.contents w.new)
+        (hex_text upper limit bytes.now)) }
     ensures empty { hex_text upper limit bytes.now ≡ [] → IsOk result }
 {
     if bytes.len() <= SHORT_TEXT / 2 {
@@ -38,8 +39,8 @@ pub fn write_hex<W: Write>(
     }
 }
 
-/// As `write_hex`, in pieces of 1,024 bytes. A caller's frame has no room for such a piece, since
-/// this isn't inlined.
+// As `write_hex`, in pieces of 1,024 bytes. A caller's frame has no room for such a piece, since
+// this isn't inlined.
 #[inline(never)]
 fn write_long<W: Write>(
     bytes: &[u8],
@@ -47,13 +48,14 @@ fn write_long<W: Write>(
     limit: Option<usize>,
     w: &mut W,
 ) -> Result<(), io::Error>
-    ensures text { OnOk result (Appends (W.contents w.old) (W.contents w.new) (hex_text upper limit bytes.now)) }
+    ensures text { OnOk result (Appends (W.contents w.old) (W.contents w.new)
+        (hex_text upper limit bytes.now)) }
     ensures empty { hex_text upper limit bytes.now ≡ [] → IsOk result }
 {
     write_pieces::<LONG_TEXT, W>(bytes, upper, limit, w)
 }
 
-/// As `write_hex`, in pieces of so many digits.
+// As `write_hex`, in pieces of so many digits.
 #[inline(always)]
 fn write_pieces<const SIZE: usize, W: Write>(
     bytes: &[u8],
@@ -63,7 +65,8 @@ fn write_pieces<const SIZE: usize, W: Write>(
 ) -> Result<(), io::Error>
     requires some { 2 ≤ SIZE }
     requires few { SIZE ≤ 2048 }
-    ensures text { OnOk result (Appends (W.contents w.old) (W.contents w.new) (hex_text upper limit bytes.now)) }
+    ensures text { OnOk result (Appends (W.contents w.old) (W.contents w.new)
+        (hex_text upper limit bytes.now)) }
     ensures empty { hex_text upper limit bytes.now ≡ [] → IsOk result }
 {
     let mut digits = [0; SIZE];
@@ -82,7 +85,7 @@ fn write_pieces<const SIZE: usize, W: Write>(
     Ok(())
 }
 
-/// Puts the digits of the bytes over a text of twice their length.
+// Puts the digits of the bytes over a text of twice their length.
 #[inline]
 #[tactic(auto, using(crate::proofs::HexLemmas::uppercase_lower))]
 fn put_digits(bytes: &[u8], upper: bool, text: &mut [u8])

@@ -5,7 +5,6 @@
 //! bound. `hex_text` writes bytes as hex digits.
 #![tactic(auto)]
 
-mod view_mut;
 mod array_ref;
 mod chunk_iter;
 mod chunks_mut;
@@ -16,12 +15,13 @@ mod inline_lengths;
 mod length;
 mod length_error;
 mod numbers;
-mod reborrow;
+/// References to slices that a view can borrow on for writing.
+pub mod reborrow;
+mod view_mut;
 
-pub use view_mut::{ViewMut, GenericArrayMut};
 pub use array_ref::GenericArrayRef;
 pub use chunk_iter::ChunkIter;
-pub use chunks_mut::{ChunksMut, ChunksViewMut};
+pub use chunks_mut::ChunksMut;
 pub use chunks_ref::ChunksRef;
 pub use length::{Const, InlineLength, MAX_INLINE, Unsigned};
 pub use length_error::LengthError;
@@ -31,4 +31,4 @@ pub use numbers::{
     U40, U41, U42, U43, U44, U45, U46, U47, U48, U49, U50, U51, U52, U53, U54, U55, U56, U57, U58,
     U59, U60, U61, U62, U63, U64, U128, U256, U512, U1024, U2048,
 };
-pub use reborrow::{ReborrowPart, ReborrowSlice};
+pub use view_mut::{GenericArrayMut, ViewMut};

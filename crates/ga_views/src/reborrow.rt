@@ -20,30 +20,36 @@ pub trait ReborrowSlice<T>: Drop {
         ensures { result.now ≡ items self.now };
 
     // The slice with these items written over its own, as many as it has.
-    ghost slice_with: { (slice : Self) (written : List T) → (after : Self) × (items after ≡ refill (length (items slice)) (items slice) written) };
+    ghost slice_with: { (slice : Self) (written : List T) → (after : Self)
+        × (items after ≡ refill (length (items slice)) (items slice) written) };
 
     ghost slice_with_stays: { (slice : Self) (written : List T) → stays slice (slice_with slice written).0 };
 
     /// The items, in order, for writing.
     fn all_mut(&mut self) -> &mut [T]
-        ensures* writes_back { sem 𝓛 (Lends Self.row (Array T.row 0) self.entry result (λ written. (slice_with self.old written).0)) }
+        ensures* writes_back { sem 𝓛 (Lends Self.row (Array T.row 0)
+            self.entry result (λ written. (slice_with self.old written).0)) }
         ensures value { result.now ≡ items self.old };
 
     /// The same where the caller knows how many they are, so that the compiler knows it too.
     fn all_mut_of(&mut self, len: usize) -> &mut [T]
-        requires whole { len ≡ length (items self.old) }
-        ensures* writes_back { sem 𝓛 (Lends Self.row (Array T.row 0) self.entry result (λ written. (slice_with self.old written).0)) }
+        requires len { len ≡ length (items self.old) }
+        ensures* writes_back { sem 𝓛 (Lends Self.row (Array T.row 0)
+            self.entry result (λ written. (slice_with self.old written).0)) }
         ensures value { result.now ≡ items self.old };
 
     // The slice with this item at the index, and the others as they are.
-    ghost slice_with_item: { (slice : Self) (index : ℕ) (item : T) → (after : Self) × (items after ≡ slice_set (items slice) index item) };
+    ghost slice_with_item: { (slice : Self) (index : ℕ) (item : T) → (after : Self)
+        × (items after ≡ slice_set (items slice) index item) };
 
-    ghost slice_with_item_stays: { (slice : Self) (index : ℕ) (item : T) → stays slice (slice_with_item slice index item).0 };
+    ghost slice_with_item_stays: { (slice : Self) (index : ℕ) (item : T)
+        → stays slice (slice_with_item slice index item).0 };
 
     /// The item at `index`, for writing.
     fn item_mut(&mut self, index: usize) -> &mut T
         requires in_bounds { index < length (items self.old) }
-        ensures* writes_back { sem 𝓛 (Lends Self.row T.row self.entry result (λ item. (slice_with_item self.old index item).0)) }
+        ensures* writes_back { sem 𝓛 (Lends Self.row T.row
+            self.entry result (λ item. (slice_with_item self.old index item).0)) }
         ensures value { result.now ≡ slice_index_or (items self.old) index result.now };
 }
 
@@ -52,7 +58,9 @@ pub trait ReborrowPart<T>: ReborrowSlice<T> {
     /// `len` items from place `from` on, for writing.
     fn part_mut(&mut self, from: usize, len: usize) -> &mut [T]
         requires in_bounds { from + len ≤ length (Self.items self.old) }
-        ensures* writes_back { sem 𝓛 (Lends Self.row (Array T.row 0) self.entry result (λ part. (Self.slice_with self.old (part_set from len (Self.items self.old) part)).0)) }
+        ensures* writes_back { sem 𝓛 (Lends Self.row (Array T.row 0)
+            self.entry result (λ part.
+            (Self.slice_with self.old (part_set from len (Self.items self.old) part)).0)) }
         ensures value { result.now ≡ take len (drop from (Self.items self.old)) };
 }
 
@@ -69,7 +77,8 @@ impl<'a, T> ReborrowSlice<T> for &'a mut [T] {
         &**self
     }
 
-    ghost slice_with = { λ slice written. (record slice { now = refill (length slice.now) slice.now written }, refl) };
+    ghost slice_with = { λ slice written.
+        (record slice { now = refill (length slice.now) slice.now written }, refl) };
 
     ghost slice_with_stays = { λ slice written. refl };
 
@@ -83,7 +92,8 @@ impl<'a, T> ReborrowSlice<T> for &'a mut [T] {
         &mut self[..len]
     }
 
-    ghost slice_with_item = { λ slice index item. (record slice { now = slice_set slice.now index item }, refl) };
+    ghost slice_with_item = { λ slice index item.
+        (record slice { now = slice_set slice.now index item }, refl) };
 
     ghost slice_with_item_stays = { λ slice index item. refl };
 

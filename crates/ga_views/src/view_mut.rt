@@ -51,7 +51,8 @@ impl<'a, T, N: Unsigned> ViewMut<&'a mut [T], T, N> {
     /// and call `from_mut_slice`.
     #[inline]
     pub fn try_from_mut_slice(slice: &'a mut [T]) -> Result<Self, LengthError>
-        ensures* writes_back { sem 𝓛 (RestsIfErr (Array T.row 0) slice.entry (λ view. view.slice.ghost_name) result (λ rest. rest ≡ slice.old)) }
+        ensures* writes_back { sem 𝓛 (RestsIfErr (Array T.row 0)
+            slice.entry (λ view. view.slice.ghost_name) result (λ rest. rest ≡ slice.old)) }
         ensures variant { IsOk result ↔ (length slice.old ≡ N.USIZE) }
         ensures ok { IfOk result (λ view. view.slice ≡ slice.entry) }
     {
@@ -74,7 +75,7 @@ impl<'a, T, N: Unsigned> ViewMut<&'a mut [T], T, N> {
 }
 
 impl<S: ReborrowSlice<T>, T, N: Unsigned> ViewMut<S, T, N> {
-    ghost use Rattle.ga_views.specs.ViewMut.{LendsItems, LendsIter, LendsPlace, LendsPlaceIf};
+    ghost use Rattle.ga_views.specs.ViewMut.{LendsItems, LendsIter, LendsItem, LendsItemIf};
 
     /// The view over `items`, a reference to `N` items.
     #[inline]
@@ -116,7 +117,8 @@ impl<S: ReborrowSlice<T>, T, N: Unsigned> ViewMut<S, T, N> {
     /// All items, in order, for writing.
     #[inline]
     pub fn as_mut_slice(&mut self) -> &mut [T]
-        ensures* writes_back { sem 𝓛 (LendsItems S.row T.row N.row S.ReborrowSlice N.Unsigned self.entry result) }
+        ensures* writes_back { sem 𝓛 (LendsItems S.row T.row N.row S.ReborrowSlice N.Unsigned
+            self.entry result) }
         ensures items { result.now ≡ S.items self.old.slice }
         ensures len { length result.now ≡ N.USIZE }
     {
@@ -136,7 +138,8 @@ impl<S: ReborrowSlice<T>, T, N: Unsigned> ViewMut<S, T, N> {
     #[inline]
     fn item_mut(&mut self, index: usize) -> &mut T
         requires in_bounds { index < N.USIZE }
-        ensures* writes_back { sem 𝓛 (LendsPlace S.row T.row N.row S.ReborrowSlice N.Unsigned self.entry index result) }
+        ensures* writes_back { sem 𝓛 (LendsItem S.row T.row N.row S.ReborrowSlice N.Unsigned
+            self.entry index result) }
         ensures value { result.now ≡ slice_index_or (S.items self.old.slice) index result.now }
     {
         self.slice.item_mut(index)
@@ -145,7 +148,8 @@ impl<S: ReborrowSlice<T>, T, N: Unsigned> ViewMut<S, T, N> {
     /// The item at `index` for writing, or `None` where `index` isn't below `N`.
     #[inline]
     pub fn get_mut(&mut self, index: usize) -> Option<&mut T>
-        ensures* writes_back { sem 𝓛 (LendsPlaceIf S.row T.row N.row S.ReborrowSlice N.Unsigned self.entry index result) }
+        ensures* writes_back { sem 𝓛 (LendsItemIf S.row T.row N.row S.ReborrowSlice N.Unsigned
+            self.entry index result) }
         ensures variant { IsSome result ↔ (index < N.USIZE) }
         ensures item { option_copied_mut result ≡ slice_get (S.items self.old.slice) index }
     {
@@ -175,7 +179,8 @@ impl<S: ReborrowSlice<T>, T, N: Unsigned> ViewMut<S, T, N> {
     /// The items by reference, in order, for writing.
     #[inline]
     pub fn iter_mut(&mut self) -> slice::IterMut<'_, T>
-        ensures* writes_back { sem 𝓛 (LendsIter S.row T.row N.row S.ReborrowSlice N.Unsigned self.entry result) }
+        ensures* writes_back { sem 𝓛 (LendsIter S.row T.row N.row S.ReborrowSlice N.Unsigned
+            self.entry result) }
         ensures items { IteratesMutOver (S.items self.old.slice) N.USIZE result }
     {
         self.as_mut_slice().iter_mut()
@@ -199,7 +204,8 @@ impl<S: ReborrowSlice<T>, T, N: Unsigned> DerefSliceMut for ViewMut<S, T, N> {
 
     #[inline]
     fn deref_mut(&mut self) -> &mut [T]
-        ensures* writes_back { sem 𝓛 (LendsItems S.row T.row N.row S.ReborrowSlice N.Unsigned self.entry result) }
+        ensures* writes_back { sem 𝓛 (LendsItems S.row T.row N.row S.ReborrowSlice N.Unsigned
+            self.entry result) }
         ensures items { result.now ≡ S.items self.old.slice }
         ensures len { length result.now ≡ N.USIZE }
     {

@@ -1,5 +1,6 @@
 -- Runs over a list that a proof finds its way along, and folds that may fail.
-use Rattle.ga_core.specs.Runs.{FirstErrorRun}
+use Rattle.ga_core.specs.Entries.{FoldAt, MayFoldAt}
+use Rattle.ga_core.specs.Runs.{CallableInFold, FirstErrorRun}
 use Rattle.std.specs.Prelude.{◌≡◌, ◌⊎◌, [], List, ◌∷◌, Result, Ok, Err}
 
 -- `FirstErrorRun` as a record, from which a proof finds the step
@@ -11,10 +12,15 @@ module _ {F A X E : Type 0} (step : F → A → X → Result A E → F → Type 
   abbrev pub good_step : F → A → X → A → F → Type 0
   good_step f a x b g = step f a x (Ok b) g
 
-  -- Calls led from the state f to the state last, one at each item in order, each with what the one before answered: all were good, and
-  -- led from a to the answer, or the first error came, and no call was made after it.
+  -- Calls led from the state f to the state last, one at each item in order, each with what the one before returned: all were good, and
+  -- led from a to the result, or the first error came, and no call was made after it.
   abbrev pub TryFoldRun : F → A → List X → Result A E → F → Type 0
   TryFoldRun f a [] (Ok b) last = (a ≡ b) × (f ≡ last)
   TryFoldRun f a [] (Err error) last = ⊥
   TryFoldRun f a (x ∷ xs) (Ok b) last = (c : A) × (g : F) × step f a x (Ok c) g × TryFoldRun g c xs (Ok b) last
   TryFoldRun f a (x ∷ xs) (Err error) last = step f a x (Err error) last ⊎ ((c : A) × (g : F) × step f a x (Ok c) g × TryFoldRun g c xs (Err error) last)
+
+module _ {I T F A E : Type 0} (entry : I → T) where
+  -- f may be called at the entries of the items, in order, each time with the value reached, up to its first error
+  abbrev pub MayTryFold : (F → A → I → Type 0) → (F → A → I → Result A E → F → Type 0) → F → A → List T → Type 0
+  MayTryFold pre step f init items = CallableInFold (MayFoldAt entry pre) (good_step (FoldAt entry step)) f init items

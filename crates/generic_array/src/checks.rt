@@ -1,6 +1,7 @@
 //! Generic functions that know the traits alone, at work for every kind of sequence.
-ghost use Rattle.ga_core.specs.Runs.{CallableInFold, CallableOver, ClosureRun, FoldRun};
-ghost use Rattle.ga_core.specs.Entries.{ActsInFold, ActsOnEntries, ActsOnEntry, CallAt, CallAtPair, FoldAt, MayCallAt, MayCallAtPair, MayFoldAt};
+ghost use Rattle.ga_core.specs.Maps.{FoldsAs, MapRun, MayFold, MayMap, MayZip, ZipRun};
+ghost use Rattle.ga_core.specs.Runs.{CallableInFold, FoldRun};
+ghost use Rattle.ga_core.specs.Entries.{ActsOnEntries, ActsOnEntry, FoldAt};
 ghost use Rattle.std.specs.Iterator.{ActsAsOnTwo};
 ghost use Rattle.std.specs.List.{zip};
 ghost use Rattle.std.specs.Prelude.{◌≡◌, IfOk, IsOk, List, OnErr, fold, map};
@@ -14,9 +15,9 @@ pub fn total_by<T, S: FunctionalSequence<T>, A, F: FnMut(A, SequenceItem<S>) -> 
     init: A,
     f: &mut F,
 ) -> A
-    requires callable { CallableInFold (MayFoldAt S.entry F.pre) (FoldAt S.entry F.step) f.old init (S.items s) }
+    requires callable { MayFold S.entry F.pre F.step f.old init (S.items s) }
     ensures run { FoldRun (FoldAt S.entry F.step) f.old init (S.items s) result f.new }
-    ensures acts { (h : A → T → A) → ActsInFold S.entry F.step f.old h → result ≡ fold h init (S.items s) }
+    ensures acts { FoldsAs S.entry F.step f.old init (S.items s) result }
 {
     s.fold_by(init, f)
 }
@@ -39,10 +40,15 @@ pub fn map_total_by<
     g: &mut G,
 ) -> Result<A, MappedError<S, T, U>>
     requires fits { S.Mapped.Fits }
-    requires callable { CallableOver (MayCallAt S.entry F.pre) (CallAt S.entry F.step) f.old (S.items s) }
-    requires then_callable { (answers : List U) (reached : F) → ClosureRun (CallAt S.entry F.step) f.old (S.items s) answers reached → CallableInFold G.pre G.step g.old init answers }
-    ensures run { IfOk result (λ total. (answers : List U) × ClosureRun (CallAt S.entry F.step) f.old (S.items s) answers f.new × FoldRun G.step g.old init answers total g.new) }
-    ensures acts { IfOk result (λ total. (h : T → U) (k : A → U → A) → ActsOnEntry S.entry F.step f.old h → ActsAsOnTwo G.FnMut g.old k → total ≡ fold k init (map h (S.items s))) }
+    requires callable { MayMap S.entry F.pre F.step f.old (S.items s) }
+    requires then_callable { (answers : List U) (reached : F)
+        → MapRun S.entry F.step f.old (S.items s) answers reached
+        → CallableInFold G.pre G.step g.old init answers }
+    ensures run { IfOk result (λ total. (answers : List U)
+        × MapRun S.entry F.step f.old (S.items s) answers f.new
+        × FoldRun G.step g.old init answers total g.new) }
+    ensures acts { IfOk result (λ total. (h : T → U) (k : A → U → A) → ActsOnEntry S.entry F.step f.old h
+        → ActsAsOnTwo G.FnMut g.old k → total ≡ fold k init (map h (S.items s))) }
     ensures err { OnErr result ((f.new ≡ f.old) × (g.new ≡ g.old)) }
     ensures promised { S.Mapped.IsPromised → IsOk result }
 {
@@ -73,10 +79,16 @@ pub fn dot_by<
 ) -> Result<T, MappedError<S, T, T>>
     requires lengths { S.Length.USIZE ≡ R.Length.USIZE }
     requires fits { S.Mapped.Fits }
-    requires callable { CallableOver (MayCallAtPair S.entry R.entry F.pre) (CallAtPair S.entry R.entry F.step) times.old (zip (S.items left) (R.items right)) }
-    requires then_callable { (products : List T) (reached : F) → ClosureRun (CallAtPair S.entry R.entry F.step) times.old (zip (S.items left) (R.items right)) products reached → CallableInFold G.pre G.step plus.old zero products }
-    ensures run { IfOk result (λ total. (products : List T) × ClosureRun (CallAtPair S.entry R.entry F.step) times.old (zip (S.items left) (R.items right)) products times.new × FoldRun G.step plus.old zero products total plus.new) }
-    ensures acts { IfOk result (λ total. (h : T × T → T) (k : T → T → T) → ActsOnEntries S.entry R.entry F.step times.old h → ActsAsOnTwo G.FnMut plus.old k → total ≡ fold k zero (map h (zip (S.items left) (R.items right)))) }
+    requires callable { MayZip S.entry R.entry F.pre F.step times.old (S.items left) (R.items right) }
+    requires then_callable { (products : List T) (reached : F)
+        → ZipRun S.entry R.entry F.step times.old (S.items left) (R.items right) products reached
+        → CallableInFold G.pre G.step plus.old zero products }
+    ensures run { IfOk result (λ total. (products : List T)
+        × ZipRun S.entry R.entry F.step times.old (S.items left) (R.items right) products times.new
+        × FoldRun G.step plus.old zero products total plus.new) }
+    ensures acts { IfOk result (λ total. (h : T × T → T) (k : T → T → T)
+        → ActsOnEntries S.entry R.entry F.step times.old h → ActsAsOnTwo G.FnMut plus.old k
+        → total ≡ fold k zero (map h (zip (S.items left) (R.items right)))) }
     ensures err { OnErr result ((times.new ≡ times.old) × (plus.new ≡ plus.old)) }
     ensures promised { S.Mapped.IsPromised → IsOk result }
 {

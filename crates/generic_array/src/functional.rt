@@ -1,11 +1,12 @@
 //! Calls of a closure at all entries of a sequence, from the first to the last.
 //!
 //! Each is inlined always: a call that isn't copies an array that it passes on by value.
-ghost use Rattle.ga_core.specs.Runs.{CallableInFold, CallableOver, CallableOverUntilError, ClosureRun, FirstErrorRun, FoldRun};
+ghost use Rattle.ga_core.specs.Maps.{FoldsAs, MapRun, MapsAs, MayFold, MayMap, MayTryMap, MayZip, TryFoldsAs, TryMapRun, TryMapsAs, ZipRun, ZipsAs};
+ghost use Rattle.ga_core.specs.Runs.{FoldRun};
 ghost use Rattle.ga_core.specs.Tries.{try_fold, try_map};
 ghost use Rattle.generic_array.specs.Built.{built_items};
-ghost use Rattle.ga_core.specs.Entries.{ActsInFold, ActsOnEntries, ActsOnEntry, CallAt, CallAtPair, FoldAt, MayCallAt, MayCallAtPair, MayFoldAt};
-ghost use Rattle.generic_array.specs.EntryRuns.{TryFoldRun, good_step};
+ghost use Rattle.ga_core.specs.Entries.{FoldAt};
+ghost use Rattle.generic_array.specs.EntryRuns.{MayTryFold, TryFoldRun};
 ghost use Rattle.std.specs.List.{zip};
 ghost use Rattle.std.specs.Prelude.{◌≡◌, IfOk, IsOk, OnErr, Result, fold, length, map};
 
@@ -56,10 +57,12 @@ pub trait FunctionalSequence<T>: GenericSequence<T> {
     where
         Self: MappedGenericSequence<T, U>,
         requires fits { Self.Mapped.Fits }
-        requires callable { CallableOver (MayCallAt Self.entry F.pre) (CallAt Self.entry F.step) f (Self.items self) }
+        requires callable { MayMap Self.entry F.pre F.step f (Self.items self) }
         ensures len { IfOk result (λ made. length (Self.Mapped.Sequence.items made) ≡ Self.Length.USIZE) }
-        ensures run { (last : F) × IfOk result (λ made. ClosureRun (CallAt Self.entry F.step) f (Self.items self) (Self.Mapped.Sequence.items made) last) }
-        ensures acts { IfOk result (λ made. (h : T → U) → ActsOnEntry Self.entry F.step f h → Self.Mapped.Sequence.items made ≡ map h (Self.items self)) }
+        ensures run { (last : F) × IfOk result (λ made.
+            MapRun Self.entry F.step f (Self.items self) (Self.Mapped.Sequence.items made) last) }
+        ensures acts { IfOk result (λ made.
+            MapsAs Self.entry F.step f (Self.items self) (Self.Mapped.Sequence.items made)) }
         ensures promised { Self.Mapped.IsPromised → IsOk result }
     {
         self.map_by(place, &mut f)
@@ -75,10 +78,12 @@ pub trait FunctionalSequence<T>: GenericSequence<T> {
     where
         Self: MappedGenericSequence<T, U>,
         requires fits { Self.Mapped.Fits }
-        requires callable { CallableOver (MayCallAt Self.entry F.pre) (CallAt Self.entry F.step) f.old (Self.items self) }
+        requires callable { MayMap Self.entry F.pre F.step f.old (Self.items self) }
         ensures len { IfOk result (λ made. length (Self.Mapped.Sequence.items made) ≡ Self.Length.USIZE) }
-        ensures run { IfOk result (λ made. ClosureRun (CallAt Self.entry F.step) f.old (Self.items self) (Self.Mapped.Sequence.items made) f.new) }
-        ensures acts { IfOk result (λ made. (h : T → U) → ActsOnEntry Self.entry F.step f.old h → Self.Mapped.Sequence.items made ≡ map h (Self.items self)) }
+        ensures run { IfOk result (λ made.
+            MapRun Self.entry F.step f.old (Self.items self) (Self.Mapped.Sequence.items made) f.new) }
+        ensures acts { IfOk result (λ made.
+            MapsAs Self.entry F.step f.old (Self.items self) (Self.Mapped.Sequence.items made)) }
         ensures err { OnErr result (f.new ≡ f.old) }
         ensures promised { Self.Mapped.IsPromised → IsOk result }
     {
@@ -98,10 +103,15 @@ pub trait FunctionalSequence<T>: GenericSequence<T> {
         Self: MappedGenericSequence<T, U>,
         Mapped<Self, T, U>: FallibleGenericSequence<U>,
         requires fits { Self.Mapped.Fits }
-        requires callable { CallableOverUntilError (MayCallAt Self.entry F.pre) (CallAt Self.entry F.step) f (Self.items self) }
-        ensures len { IfOk result (λ built. IfOk built (λ made. length (Self.Mapped.Sequence.items made) ≡ Self.Length.USIZE)) }
-        ensures run { (last : F) × IfOk result (λ built. FirstErrorRun (CallAt Self.entry F.step) f (Self.items self) (built_items Self.Mapped.Sequence.items built) last) }
-        ensures acts { IfOk result (λ built. (h : T → Result U E) → ActsOnEntry Self.entry F.step f h → built_items Self.Mapped.Sequence.items built ≡ try_map h (Self.items self)) }
+        requires callable { MayTryMap Self.entry F.pre F.step f (Self.items self) }
+        ensures len { IfOk result (λ built.
+            IfOk built (λ made. length (Self.Mapped.Sequence.items made) ≡ Self.Length.USIZE)) }
+        ensures run { (last : F) × IfOk result (λ built.
+            TryMapRun Self.entry F.step f (Self.items self)
+            (built_items Self.Mapped.Sequence.items built) last) }
+        ensures acts { IfOk result (λ built.
+            TryMapsAs Self.entry F.step f (Self.items self)
+            (built_items Self.Mapped.Sequence.items built)) }
         ensures promised { Self.Mapped.IsPromised → IsOk result }
     {
         self.try_map_by(place, &mut f)
@@ -118,10 +128,15 @@ pub trait FunctionalSequence<T>: GenericSequence<T> {
         Self: MappedGenericSequence<T, U>,
         Mapped<Self, T, U>: FallibleGenericSequence<U>,
         requires fits { Self.Mapped.Fits }
-        requires callable { CallableOverUntilError (MayCallAt Self.entry F.pre) (CallAt Self.entry F.step) f.old (Self.items self) }
-        ensures len { IfOk result (λ built. IfOk built (λ made. length (Self.Mapped.Sequence.items made) ≡ Self.Length.USIZE)) }
-        ensures run { IfOk result (λ built. FirstErrorRun (CallAt Self.entry F.step) f.old (Self.items self) (built_items Self.Mapped.Sequence.items built) f.new) }
-        ensures acts { IfOk result (λ built. (h : T → Result U E) → ActsOnEntry Self.entry F.step f.old h → built_items Self.Mapped.Sequence.items built ≡ try_map h (Self.items self)) }
+        requires callable { MayTryMap Self.entry F.pre F.step f.old (Self.items self) }
+        ensures len { IfOk result (λ built.
+            IfOk built (λ made. length (Self.Mapped.Sequence.items made) ≡ Self.Length.USIZE)) }
+        ensures run { IfOk result (λ built.
+            TryMapRun Self.entry F.step f.old (Self.items self)
+            (built_items Self.Mapped.Sequence.items built) f.new) }
+        ensures acts { IfOk result (λ built.
+            TryMapsAs Self.entry F.step f.old (Self.items self)
+            (built_items Self.Mapped.Sequence.items built)) }
         ensures err { OnErr result (f.new ≡ f.old) }
         ensures promised { Self.Mapped.IsPromised → IsOk result }
     {
@@ -147,10 +162,14 @@ pub trait FunctionalSequence<T>: GenericSequence<T> {
         Self: MappedGenericSequence<T, U>,
         requires lengths { Self.Length.USIZE ≡ Rhs.Length.USIZE }
         requires fits { Self.Mapped.Fits }
-        requires callable { CallableOver (MayCallAtPair Self.entry Rhs.entry F.pre) (CallAtPair Self.entry Rhs.entry F.step) f (zip (Self.items self) (Rhs.items rhs)) }
+        requires callable { MayZip Self.entry Rhs.entry F.pre F.step f (Self.items self) (Rhs.items rhs) }
         ensures len { IfOk result (λ made. length (Self.Mapped.Sequence.items made) ≡ Self.Length.USIZE) }
-        ensures run { (last : F) × IfOk result (λ made. ClosureRun (CallAtPair Self.entry Rhs.entry F.step) f (zip (Self.items self) (Rhs.items rhs)) (Self.Mapped.Sequence.items made) last) }
-        ensures acts { IfOk result (λ made. (h : T × B → U) → ActsOnEntries Self.entry Rhs.entry F.step f h → Self.Mapped.Sequence.items made ≡ map h (zip (Self.items self) (Rhs.items rhs))) }
+        ensures run { (last : F) × IfOk result (λ made.
+            ZipRun Self.entry Rhs.entry F.step f (Self.items self) (Rhs.items rhs)
+            (Self.Mapped.Sequence.items made) last) }
+        ensures acts { IfOk result (λ made.
+            ZipsAs Self.entry Rhs.entry F.step f (Self.items self) (Rhs.items rhs)
+            (Self.Mapped.Sequence.items made)) }
         ensures promised { Self.Mapped.IsPromised → IsOk result }
     {
         self.zip_by(place, rhs, &mut f)
@@ -168,10 +187,14 @@ pub trait FunctionalSequence<T>: GenericSequence<T> {
         Self: MappedGenericSequence<T, U>,
         requires lengths { Self.Length.USIZE ≡ Rhs.Length.USIZE }
         requires fits { Self.Mapped.Fits }
-        requires callable { CallableOver (MayCallAtPair Self.entry Rhs.entry F.pre) (CallAtPair Self.entry Rhs.entry F.step) f.old (zip (Self.items self) (Rhs.items rhs)) }
+        requires callable { MayZip Self.entry Rhs.entry F.pre F.step f.old (Self.items self) (Rhs.items rhs) }
         ensures len { IfOk result (λ made. length (Self.Mapped.Sequence.items made) ≡ Self.Length.USIZE) }
-        ensures run { IfOk result (λ made. ClosureRun (CallAtPair Self.entry Rhs.entry F.step) f.old (zip (Self.items self) (Rhs.items rhs)) (Self.Mapped.Sequence.items made) f.new) }
-        ensures acts { IfOk result (λ made. (h : T × B → U) → ActsOnEntries Self.entry Rhs.entry F.step f.old h → Self.Mapped.Sequence.items made ≡ map h (zip (Self.items self) (Rhs.items rhs))) }
+        ensures run { IfOk result (λ made.
+            ZipRun Self.entry Rhs.entry F.step f.old (Self.items self) (Rhs.items rhs)
+            (Self.Mapped.Sequence.items made) f.new) }
+        ensures acts { IfOk result (λ made.
+            ZipsAs Self.entry Rhs.entry F.step f.old (Self.items self) (Rhs.items rhs)
+            (Self.Mapped.Sequence.items made)) }
         ensures err { OnErr result (f.new ≡ f.old) }
         ensures promised { Self.Mapped.IsPromised → IsOk result }
     {
@@ -181,9 +204,9 @@ pub trait FunctionalSequence<T>: GenericSequence<T> {
     /// Folds the entries into one value, in order, starting from `init`.
     #[inline(always)]
     final fn fold<A, F: FnMut(A, Self::Item) -> A>(self, init: A, mut f: F) -> A
-        requires callable { CallableInFold (MayFoldAt Self.entry F.pre) (FoldAt Self.entry F.step) f init (Self.items self) }
+        requires callable { MayFold Self.entry F.pre F.step f init (Self.items self) }
         ensures run { (last : F) × FoldRun (FoldAt Self.entry F.step) f init (Self.items self) result last }
-        ensures acts { (h : A → T → A) → ActsInFold Self.entry F.step f h → result ≡ fold h init (Self.items self) }
+        ensures acts { FoldsAs Self.entry F.step f init (Self.items self) result }
     {
         self.fold_by(init, &mut f)
     }
@@ -191,9 +214,9 @@ pub trait FunctionalSequence<T>: GenericSequence<T> {
     /// `fold` that borrows the closure, which can be used again in the state that it reached.
     #[inline(always)]
     final fn fold_by<A, F: FnMut(A, Self::Item) -> A>(self, init: A, f: &mut F) -> A
-        requires callable { CallableInFold (MayFoldAt Self.entry F.pre) (FoldAt Self.entry F.step) f.old init (Self.items self) }
+        requires callable { MayFold Self.entry F.pre F.step f.old init (Self.items self) }
         ensures run { FoldRun (FoldAt Self.entry F.step) f.old init (Self.items self) result f.new }
-        ensures acts { (h : A → T → A) → ActsInFold Self.entry F.step f.old h → result ≡ fold h init (Self.items self) }
+        ensures acts { FoldsAs Self.entry F.step f.old init (Self.items self) result }
     {
         fold_entries::<T, Self::IntoIter, A, F>(entries_of(self), init, f)
     }
@@ -207,9 +230,10 @@ pub trait FunctionalSequence<T>: GenericSequence<T> {
         init: A,
         mut f: F,
     ) -> Result<A, E>
-        requires callable { CallableInFold (MayFoldAt Self.entry F.pre) (good_step (FoldAt Self.entry F.step)) f init (Self.items self) }
-        ensures run { (last : F) × TryFoldRun (FoldAt Self.entry F.step) f init (Self.items self) result last }
-        ensures acts { (h : A → T → Result A E) → ActsInFold Self.entry F.step f h → result ≡ try_fold h init (Self.items self) }
+        requires callable { MayTryFold Self.entry F.pre F.step f init (Self.items self) }
+        ensures run { (last : F)
+            × TryFoldRun (FoldAt Self.entry F.step) f init (Self.items self) result last }
+        ensures acts { TryFoldsAs Self.entry F.step f init (Self.items self) result }
     {
         self.try_fold_by(init, &mut f)
     }
@@ -221,9 +245,9 @@ pub trait FunctionalSequence<T>: GenericSequence<T> {
         init: A,
         f: &mut F,
     ) -> Result<A, E>
-        requires callable { CallableInFold (MayFoldAt Self.entry F.pre) (good_step (FoldAt Self.entry F.step)) f.old init (Self.items self) }
+        requires callable { MayTryFold Self.entry F.pre F.step f.old init (Self.items self) }
         ensures run { TryFoldRun (FoldAt Self.entry F.step) f.old init (Self.items self) result f.new }
-        ensures acts { (h : A → T → Result A E) → ActsInFold Self.entry F.step f.old h → result ≡ try_fold h init (Self.items self) }
+        ensures acts { TryFoldsAs Self.entry F.step f.old init (Self.items self) result }
     {
         try_fold_entries::<T, Self::IntoIter, A, E, F>(entries_of(self), init, f)
     }

@@ -1,13 +1,13 @@
 //! What is common to the kinds of sequences, and how each is made.
+ghost use Rattle.ga_core.specs.Views.{items_of_view};
+ghost use Rattle.ga_core.specs.Maps.{GenerateRun, GeneratesAs, TryGenerateRun, TryGeneratesAs};
 ghost use Rattle.ga_boxed.specs.FillAnswer.{fill_answer};
 ghost use Rattle.ga_core.specs.Copies.{Repeats};
 ghost use Rattle.ga_core.specs.Fill.{FillFalliblyRuns, FillsFallibly};
-ghost use Rattle.ga_core.specs.Runs.{CallableAlong, CallableInFold, CallableUntilError, ClosureRun, FirstErrorRun, FoldRun};
-ghost use Rattle.ga_core.specs.Tries.{try_map};
+ghost use Rattle.ga_core.specs.Runs.{CallableAlong, CallableInFold, CallableUntilError, FoldRun};
 ghost use Rattle.generic_array.specs.Built.{built_items};
 ghost use Rattle.generic_array.specs.GivenEntries.{GivesEntriesOf};
-ghost use Rattle.std.specs.Iterator.{ActsAs, ActsAsOnTwo};
-ghost use Rattle.std.specs.List.{range_with_len};
+ghost use Rattle.std.specs.Iterator.{ActsAsOnTwo};
 ghost use Rattle.std.specs.Prelude.{◌≡◌, ℕ, ◌≤◌, ◌↔◌, IfOk, IsOk, IsTrue, OnErr, Result, fold, length, map, replicate};
 
 mod boxed;
@@ -44,13 +44,15 @@ pub trait OwnedSequence<T>: Sized + AsSlice<T> + IntoIterator<Item = T> {
     final fn fold_items_by<A, F: FnMut(A, T) -> A>(self, init: A, f: &mut F) -> A
         requires callable { CallableInFold F.pre F.step f.old init (Self.items self) }
         ensures run { FoldRun F.step f.old init (Self.items self) result f.new }
-        ensures acts { (h : A → T → A) → ActsAsOnTwo F.FnMut f.old h → result ≡ fold h init (Self.items self) }
+        ensures acts { (h : A → T → A) → ActsAsOnTwo F.FnMut f.old h
+            → result ≡ fold h init (Self.items self) }
     {
         fold_entries::<T, Self::IntoIter, A, F>(self.into_iter(), init, f)
     }
 
     // `into_iter` gives the items, in order, and then ends.
-    ghost gives_items: { GivesEntriesOf Self.IntoIter.can_next Self.IntoIter.next_gives Self.IntoIter.remaining Self.into_iter_gives Self.items (λ item. item) };
+    ghost gives_items: { GivesEntriesOf Self.IntoIter.can_next Self.IntoIter.next_gives
+        Self.IntoIter.remaining Self.into_iter_gives Self.items (λ item. item) };
 }
 
 /// A sequence whose length is a type: an inline array, a read-only view or a boxed array.
@@ -86,7 +88,7 @@ pub trait GenericSequence<T>: Sized + AsSlice<T> + IntoIterator {
 
     /// All items as a view, which knows that there are `Length` of them. O(1).
     fn view(&self) -> GenericArrayRef<'_, T, Self::Length>
-        ensures { result.slice.now ≡ Self.items self.now };
+        ensures { items_of_view result ≡ Self.items self.now };
 
     /// The sequence of `f(0)` to `f(Length - 1)`, each called once, in this order.
     ///
@@ -99,8 +101,10 @@ pub trait GenericSequence<T>: Sized + AsSlice<T> + IntoIterator {
         requires fits { Fits }
         requires callable { CallableAlong F.pre F.step f Self.Length.USIZE }
         ensures len { IfOk result (λ made. length (Self.Sequence.items made) ≡ Self.Length.USIZE) }
-        ensures run { (last : F) × IfOk result (λ made. ClosureRun F.step f (range_with_len 0 Self.Length.USIZE) (Self.Sequence.items made) last) }
-        ensures acts { IfOk result (λ made. (h : ℕ → T) → ActsAs F.FnMut f h → Self.Sequence.items made ≡ map h (range_with_len 0 Self.Length.USIZE)) }
+        ensures run { (last : F)
+            × IfOk result (λ made. GenerateRun F.step f Self.Length.USIZE (Self.Sequence.items made) last) }
+        ensures acts { IfOk result (λ made.
+            GeneratesAs F.FnMut f Self.Length.USIZE (Self.Sequence.items made)) }
         ensures promised { IsPromised → IsOk result }
     {
         Self::generate_by(place, &mut f)
@@ -114,8 +118,10 @@ pub trait GenericSequence<T>: Sized + AsSlice<T> + IntoIterator {
         requires fits { Fits }
         requires callable { CallableAlong F.pre F.step f.old Self.Length.USIZE }
         ensures len { IfOk result (λ made. length (Self.Sequence.items made) ≡ Self.Length.USIZE) }
-        ensures run { IfOk result (λ made. ClosureRun F.step f.old (range_with_len 0 Self.Length.USIZE) (Self.Sequence.items made) f.new) }
-        ensures acts { IfOk result (λ made. (h : ℕ → T) → ActsAs F.FnMut f.old h → Self.Sequence.items made ≡ map h (range_with_len 0 Self.Length.USIZE)) }
+        ensures run { IfOk result (λ made.
+            GenerateRun F.step f.old Self.Length.USIZE (Self.Sequence.items made) f.new) }
+        ensures acts { IfOk result (λ made.
+            GeneratesAs F.FnMut f.old Self.Length.USIZE (Self.Sequence.items made)) }
         ensures err { OnErr result (f.new ≡ f.old) }
         ensures promised { IsPromised → IsOk result };
 
@@ -127,8 +133,10 @@ pub trait GenericSequence<T>: Sized + AsSlice<T> + IntoIterator {
     where
         T: Clone,
         requires fits { Fits }
-        ensures items { IfOk result (λ made. Repeats T.is_clone item Self.Length.USIZE (Self.Sequence.items made)) }
-        ensures same { ((copy : T) → T.is_clone item copy → copy ≡ item) → IfOk result (λ made. Self.Sequence.items made ≡ replicate Self.Length.USIZE item) }
+        ensures items { IfOk result (λ made.
+            Repeats T.is_clone item Self.Length.USIZE (Self.Sequence.items made)) }
+        ensures same { ((copy : T) → T.is_clone item copy → copy ≡ item)
+            → IfOk result (λ made. Self.Sequence.items made ≡ replicate Self.Length.USIZE item) }
         ensures few { IsPromised → Self.Length.USIZE ≤ 1 → IsOk result }
         ensures succeeds { IsPromised → T.is_infallible item → IsOk result };
 
@@ -136,7 +144,8 @@ pub trait GenericSequence<T>: Sized + AsSlice<T> + IntoIterator {
     ghost empty_is_promised: { Self.Length.USIZE ≡ 0 → IsPromised };
 
     // `into_iter` gives an entry for each item, in order, and then ends.
-    ghost gives_entries: { GivesEntriesOf Self.IntoIter.can_next Self.IntoIter.next_gives Self.IntoIter.remaining Self.into_iter_gives Self.items entry };
+    ghost gives_entries: { GivesEntriesOf Self.IntoIter.can_next Self.IntoIter.next_gives
+        Self.IntoIter.remaining Self.into_iter_gives Self.items entry };
 }
 
 /// A sequence that can be made by a closure that may fail.
@@ -150,9 +159,12 @@ pub trait FallibleGenericSequence<T>: GenericSequence<T> {
     ) -> Result<Result<Self::Sequence, E>, Self::Error>
         requires fits { Self.Fits }
         requires callable { CallableUntilError F.pre F.step f Self.Length.USIZE }
-        ensures len { IfOk result (λ built. IfOk built (λ made. length (Self.Sequence.items made) ≡ Self.Length.USIZE)) }
-        ensures run { (last : F) × IfOk result (λ built. FirstErrorRun F.step f (range_with_len 0 Self.Length.USIZE) (built_items Self.Sequence.items built) last) }
-        ensures acts { IfOk result (λ built. (h : ℕ → Result T E) → ActsAs F.FnMut f h → built_items Self.Sequence.items built ≡ try_map h (range_with_len 0 Self.Length.USIZE)) }
+        ensures len { IfOk result (λ built.
+            IfOk built (λ made. length (Self.Sequence.items made) ≡ Self.Length.USIZE)) }
+        ensures run { (last : F) × IfOk result (λ built.
+            TryGenerateRun F.step f Self.Length.USIZE (built_items Self.Sequence.items built) last) }
+        ensures acts { IfOk result (λ built.
+            TryGeneratesAs F.FnMut f Self.Length.USIZE (built_items Self.Sequence.items built)) }
         ensures promised { Self.IsPromised → IsOk result }
     {
         Self::try_generate_by(place, &mut f)
@@ -166,9 +178,12 @@ pub trait FallibleGenericSequence<T>: GenericSequence<T> {
     ) -> Result<Result<Self::Sequence, E>, Self::Error>
         requires fits { Self.Fits }
         requires callable { CallableUntilError F.pre F.step f.old Self.Length.USIZE }
-        ensures len { IfOk result (λ built. IfOk built (λ made. length (Self.Sequence.items made) ≡ Self.Length.USIZE)) }
-        ensures run { IfOk result (λ built. FirstErrorRun F.step f.old (range_with_len 0 Self.Length.USIZE) (built_items Self.Sequence.items built) f.new) }
-        ensures acts { IfOk result (λ built. (h : ℕ → Result T E) → ActsAs F.FnMut f.old h → built_items Self.Sequence.items built ≡ try_map h (range_with_len 0 Self.Length.USIZE)) }
+        ensures len { IfOk result (λ built.
+            IfOk built (λ made. length (Self.Sequence.items made) ≡ Self.Length.USIZE)) }
+        ensures run { IfOk result (λ built.
+            TryGenerateRun F.step f.old Self.Length.USIZE (built_items Self.Sequence.items built) f.new) }
+        ensures acts { IfOk result (λ built.
+            TryGeneratesAs F.FnMut f.old Self.Length.USIZE (built_items Self.Sequence.items built)) }
         ensures err { OnErr result (f.new ≡ f.old) }
         ensures promised { Self.IsPromised → IsOk result };
 }
@@ -187,8 +202,11 @@ pub trait FromFallibleIterator<T>: GenericSequence<T> {
     ) -> Result<Self, FillError<E, Self::Error>>
         requires fits { Self.Fits }
         requires can { I.can_next items }
-        ensures fill { (after : I) × IfOk (fill_answer (built_items Self.items result)) (λ built. FillsFallibly I.next_gives items Self.Length.USIZE built after) }
-        ensures runs { IfOk (fill_answer (built_items Self.items result)) (λ built. FillFalliblyRuns I.next_gives items Self.Length.USIZE built) }
+        ensures fill { (after : I)
+            × IfOk (fill_answer (built_items Self.items result)) (λ built.
+            FillsFallibly I.next_gives items Self.Length.USIZE built after) }
+        ensures runs { IfOk (fill_answer (built_items Self.items result)) (λ built.
+            FillFalliblyRuns I.next_gives items Self.Length.USIZE built) }
         ensures promised { Self.IsPromised → IsOk (fill_answer (built_items Self.items result)) };
 
     /// `from_fallible_iter` that borrows the iterator, which can be used again afterwards.
@@ -201,9 +219,12 @@ pub trait FromFallibleIterator<T>: GenericSequence<T> {
     ) -> Result<Self, FillError<E, Self::Error>>
         requires fits { Self.Fits }
         requires can { I.can_next items.old }
-        ensures fill { IfOk (fill_answer (built_items Self.items result)) (λ built. FillsFallibly I.next_gives items.old Self.Length.USIZE built items.new) }
-        ensures runs { IfOk (fill_answer (built_items Self.items result)) (λ built. FillFalliblyRuns I.next_gives items.old Self.Length.USIZE built) }
-        ensures can_on { IfOk (fill_answer (built_items Self.items result)) (λ built. IfOk built (λ made. OnErr made (I.can_next items.new))) }
+        ensures fill { IfOk (fill_answer (built_items Self.items result)) (λ built.
+            FillsFallibly I.next_gives items.old Self.Length.USIZE built items.new) }
+        ensures runs { IfOk (fill_answer (built_items Self.items result)) (λ built.
+            FillFalliblyRuns I.next_gives items.old Self.Length.USIZE built) }
+        ensures can_on { IfOk (fill_answer (built_items Self.items result)) (λ built.
+            IfOk built (λ made. OnErr made (I.can_next items.new))) }
         ensures err { OnErr (fill_answer (built_items Self.items result)) (items.new ≡ items.old) }
         ensures promised { Self.IsPromised → IsOk (fill_answer (built_items Self.items result)) };
 }

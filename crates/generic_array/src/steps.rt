@@ -47,11 +47,13 @@ pub trait TwoEnded<T> {
         ensures { result.now ≡ items self.now };
 
     // The iterator once these items were written over those that are left, as many as they are.
-    ghost left_with: { (left : Self) (written : List T) → (after : Self) × (items after ≡ refill (length (items left)) (items left) written) };
+    ghost left_with: { (left : Self) (written : List T) → (after : Self)
+        × (items after ≡ refill (length (items left)) (items left) written) };
 
     /// All items that are left, in order, for writing.
     fn live_mut(&mut self) -> &mut [T]
-        ensures* writes_back { sem 𝓛 (Lends Self.row (Array T.row 0) self.entry result (λ written. (left_with self.old written).0)) }
+        ensures* writes_back { sem 𝓛 (Lends Self.row (Array T.row 0)
+            self.entry result (λ written. (left_with self.old written).0)) }
         ensures value { result.now ≡ items self.old };
 }
 
@@ -69,14 +71,15 @@ pub trait TwoEndedSequence<T>: GenericSequence<T> {
         ensures { Self.TwoEnded.items result ≡ Self.items self };
 }
 
-/// Makes one step.
+// Makes one step.
 fn step_once<T: Drop, R, I: TwoEnded<T>, G: FnMut(&[T]) -> R>(
     iter: &mut I,
     step: Step<T>,
     look: &mut G,
 ) -> Reply<T, R>
     requires callable { MayStep (MayCallAt (λ slice. slice.now) G.pre) (I.items iter.old, look.old) step }
-    ensures { StepGivesReply (CallAt (λ slice. slice.now) G.step) (I.items iter.old, look.old) step result (I.items iter.new, look.new) }
+    ensures { StepGivesReply (CallAt (λ slice. slice.now) G.step) (I.items iter.old, look.old) step result
+        (I.items iter.new, look.new) }
 {
     match step {
         Step::Next => Reply::Item(iter.front()),
@@ -107,11 +110,14 @@ pub fn run_steps<T: Drop, R, I: TwoEnded<T>, G: FnMut(&[T]) -> R>(
     look: &mut G,
     replies: &mut Vec<Reply<T, R>>,
 ) -> Result<(), AllocError>
-    requires callable { MaySteps (MayCallAt (λ slice. slice.now) G.pre) (CallAt (λ slice. slice.now) G.step) (I.items iter.old, look.old) steps.items }
+    requires callable { MaySteps (MayCallAt (λ slice. slice.now) G.pre)
+        (CallAt (λ slice. slice.now) G.step) (I.items iter.old, look.old) steps.items }
     ensures run { OnOk result ((given : List (Reply T R)) × (replies.new.items ≡ replies.old.items ++ given)
-        × StepsRun (CallAt (λ slice. slice.now) G.step) (I.items iter.old, look.old) steps.items given (I.items iter.new, look.new)
+        × StepsRun (CallAt (λ slice. slice.now) G.step) (I.items iter.old, look.old) steps.items given
+        (I.items iter.new, look.new)
         × Account (I.items iter.old) steps.items given (I.items iter.new)) }
-    ensures err { OnErr result ((iter.new ≡ iter.old) × (look.new ≡ look.old) × (replies.new.items ≡ replies.old.items)) }
+    ensures err { OnErr result ((iter.new ≡ iter.old) × (look.new ≡ look.old)
+        × (replies.new.items ≡ replies.old.items)) }
     ensures empty { steps.items ≡ [] → IsOk result }
     ensures room { vec_len replies.old + length steps.items ≤ vec_capacity replies.old → IsOk result }
 {

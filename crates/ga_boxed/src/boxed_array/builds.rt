@@ -1,11 +1,9 @@
 //! Boxed arrays built from a closure or an iterator. Memory comes first in each.
+ghost use Rattle.ga_core.specs.Maps.{GenerateRun, GeneratesAs, TryGenerateRun, TryGeneratesAs};
 ghost use Rattle.ga_boxed.specs.FillAnswer.{fill_answer};
 ghost use Rattle.ga_core.specs.Fill.{Asks, FillFalliblyRuns, FillRuns, Fills, FillsFallibly};
-ghost use Rattle.ga_core.specs.Runs.{CallableAlong, CallableUntilError, ClosureRun, FirstErrorRun};
-ghost use Rattle.ga_core.specs.Tries.{try_map};
-ghost use Rattle.std.specs.Iterator.{ActsAs};
-ghost use Rattle.std.specs.List.{range_with_len};
-ghost use Rattle.std.specs.Prelude.{◌≡◌, ℕ, ◌+◌, IfOk, IsOk, OnErr, OnOk, Result, map};
+ghost use Rattle.ga_core.specs.Runs.{CallableAlong, CallableUntilError};
+ghost use Rattle.std.specs.Prelude.{◌≡◌, ℕ, ◌+◌, IfOk, IsOk, OnErr, OnOk, Result};
 
 use crate::boxed_array::BoxedArray;
 use crate::live_block::LiveBlock;
@@ -19,8 +17,8 @@ impl<T, N: Unsigned> BoxedArray<T, N> {
     /// `N` is 0.
     pub fn generate<F: FnMut(usize) -> T>(alloc: Global, mut f: F) -> Result<Self, AllocError>
         requires callable { CallableAlong F.pre F.step f N.USIZE }
-        ensures run { (last : F) × IfOk result (λ array. ClosureRun F.step f (range_with_len 0 N.USIZE) array last) }
-        ensures acts { IfOk result (λ array. (h : ℕ → T) → ActsAs F.FnMut f h → array ≡ map h (range_with_len 0 N.USIZE)) }
+        ensures run { (last : F) × IfOk result (λ array. GenerateRun F.step f N.USIZE array last) }
+        ensures acts { IfOk result (λ array. GeneratesAs F.FnMut f N.USIZE array) }
         ensures empty { N.USIZE ≡ 0 → IsOk result }
     {
         Self::generate_by(alloc, &mut f)
@@ -29,8 +27,8 @@ impl<T, N: Unsigned> BoxedArray<T, N> {
     /// `generate` that borrows the closure, which can be used again in the state that it reached.
     pub fn generate_by<F: FnMut(usize) -> T>(alloc: Global, f: &mut F) -> Result<Self, AllocError>
         requires callable { CallableAlong F.pre F.step f.old N.USIZE }
-        ensures run { IfOk result (λ array. ClosureRun F.step f.old (range_with_len 0 N.USIZE) array f.new) }
-        ensures acts { IfOk result (λ array. (h : ℕ → T) → ActsAs F.FnMut f.old h → array ≡ map h (range_with_len 0 N.USIZE)) }
+        ensures run { IfOk result (λ array. GenerateRun F.step f.old N.USIZE array f.new) }
+        ensures acts { IfOk result (λ array. GeneratesAs F.FnMut f.old N.USIZE array) }
         ensures err { OnErr result (f.new ≡ f.old) }
         ensures empty { N.USIZE ≡ 0 → IsOk result }
     {
@@ -51,8 +49,8 @@ impl<T: Drop, N: Unsigned> BoxedArray<T, N> {
         mut f: F,
     ) -> Result<Result<Self, E>, AllocError>
         requires callable { CallableUntilError F.pre F.step f N.USIZE }
-        ensures run { (last : F) × IfOk result (λ built. FirstErrorRun F.step f (range_with_len 0 N.USIZE) built last) }
-        ensures acts { IfOk result (λ built. (h : ℕ → Result T E) → ActsAs F.FnMut f h → built ≡ try_map h (range_with_len 0 N.USIZE)) }
+        ensures run { (last : F) × IfOk result (λ built. TryGenerateRun F.step f N.USIZE built last) }
+        ensures acts { IfOk result (λ built. TryGeneratesAs F.FnMut f N.USIZE built) }
         ensures empty { N.USIZE ≡ 0 → IsOk result }
     {
         Self::try_generate_by(alloc, &mut f)
@@ -65,8 +63,8 @@ impl<T: Drop, N: Unsigned> BoxedArray<T, N> {
         f: &mut F,
     ) -> Result<Result<Self, E>, AllocError>
         requires callable { CallableUntilError F.pre F.step f.old N.USIZE }
-        ensures run { IfOk result (λ built. FirstErrorRun F.step f.old (range_with_len 0 N.USIZE) built f.new) }
-        ensures acts { IfOk result (λ built. (h : ℕ → Result T E) → ActsAs F.FnMut f.old h → built ≡ try_map h (range_with_len 0 N.USIZE)) }
+        ensures run { IfOk result (λ built. TryGenerateRun F.step f.old N.USIZE built f.new) }
+        ensures acts { IfOk result (λ built. TryGeneratesAs F.FnMut f.old N.USIZE built) }
         ensures err { OnErr result (f.new ≡ f.old) }
         ensures empty { N.USIZE ≡ 0 → IsOk result }
     {
@@ -147,8 +145,10 @@ impl<T: Drop, N: Unsigned> BoxedArray<T, N> {
         mut items: I,
     ) -> Result<Self, FillError<E, AllocError>>
         requires can { I.can_next items }
-        ensures fill { (after : I) × IfOk (fill_answer result) (λ built. FillsFallibly I.next_gives items N.USIZE built after) }
-        ensures runs { IfOk (fill_answer result) (λ built. FillFalliblyRuns I.next_gives items N.USIZE built) }
+        ensures fill { (after : I)
+            × IfOk (fill_answer result) (λ built. FillsFallibly I.next_gives items N.USIZE built after) }
+        ensures runs { IfOk (fill_answer result) (λ built.
+            FillFalliblyRuns I.next_gives items N.USIZE built) }
         ensures empty { N.USIZE ≡ 0 → IsOk (fill_answer result) }
     {
         Self::try_boxed_from_fallible_iter_ref(alloc, &mut items)
@@ -164,9 +164,12 @@ impl<T: Drop, N: Unsigned> BoxedArray<T, N> {
         items: &mut I,
     ) -> Result<Self, FillError<E, AllocError>>
         requires can { I.can_next items.old }
-        ensures fill { IfOk (fill_answer result) (λ built. FillsFallibly I.next_gives items.old N.USIZE built items.new) }
-        ensures runs { IfOk (fill_answer result) (λ built. FillFalliblyRuns I.next_gives items.old N.USIZE built) }
-        ensures can_on { IfOk (fill_answer result) (λ built. IfOk built (λ made. OnErr made (I.can_next items.new))) }
+        ensures fill { IfOk (fill_answer result) (λ built.
+            FillsFallibly I.next_gives items.old N.USIZE built items.new) }
+        ensures runs { IfOk (fill_answer result) (λ built.
+            FillFalliblyRuns I.next_gives items.old N.USIZE built) }
+        ensures can_on { IfOk (fill_answer result) (λ built.
+            IfOk built (λ made. OnErr made (I.can_next items.new))) }
         ensures err { OnErr (fill_answer result) (items.new ≡ items.old) }
         ensures empty { N.USIZE ≡ 0 → IsOk (fill_answer result) }
     {
@@ -179,8 +182,10 @@ impl<T: Drop, N: Unsigned> BoxedArray<T, N> {
         items: &mut I,
     ) -> Result<Self, FillError<E, AllocError>>
         requires can { I.can_next items.old }
-        ensures fill { IfOk (fill_answer result) (λ built. FillsFallibly I.next_gives items.old N.USIZE built items.new) }
-        ensures can_on { IfOk (fill_answer result) (λ built. IfOk built (λ made. OnErr made (I.can_next items.new))) }
+        ensures fill { IfOk (fill_answer result) (λ built.
+            FillsFallibly I.next_gives items.old N.USIZE built items.new) }
+        ensures can_on { IfOk (fill_answer result) (λ built.
+            IfOk built (λ made. OnErr made (I.can_next items.new))) }
         ensures err { OnErr (fill_answer result) (items.new ≡ items.old) }
         ensures empty { N.USIZE ≡ 0 → IsOk (fill_answer result) }
     {

@@ -44,7 +44,8 @@ impl<T: Clone, N: Unsigned> BoxedArray<T, N> {
     /// made before it and returns the error.
     pub fn repeat(alloc: Global, item: T) -> Result<Self, AllocError>
         ensures items { IfOk result (λ array. Repeats T.is_clone item N.USIZE array) }
-        ensures same { ((copy : T) → T.is_clone item copy → copy ≡ item) → IfOk result (λ array. array ≡ replicate N.USIZE item) }
+        ensures same { ((copy : T) → T.is_clone item copy → copy ≡ item)
+            → IfOk result (λ array. array ≡ replicate N.USIZE item) }
         ensures empty { N.USIZE ≡ 0 → IsOk result }
     {
         let mut items = LiveBlock::new(alloc, N::USIZE)?;

@@ -11,7 +11,7 @@ use std::marker::{Model, PhantomData, Send, Sync};
 use std::mem::{align_of, size_of};
 use std::slice;
 
-/// The most bytes that a block may have: `isize::MAX`.
+// The most bytes that a block may have: `isize::MAX`.
 const MAX_BYTES: usize = 0x7fff_ffff_ffff_ffff;
 
 /// Where the block begins. It owns nothing.
@@ -77,7 +77,7 @@ unsafe impl<T, A: Allocator + Send> Send for Deed<T, A> {}
 
 unsafe impl<T, A: Allocator> Sync for Deed<T, A> {}
 
-/// Whether a block may have `len` slots: they have fewer than 2^63 bytes.
+// Whether a block may have `len` slots: they have fewer than 2^63 bytes.
 pub(crate) fn fits<T>(len: usize) -> bool
     ensures { IsTrue result ↔ (len * type_size T.row < 2 ^ 63) }
 {
@@ -88,14 +88,15 @@ pub(crate) fn fits<T>(len: usize) -> bool
     len <= MAX_BYTES / size
 }
 
-/// A block of `len` slots, all of them room. If `len` is 0, allocates nothing and returns a
-/// dangling pointer.
+// A block of `len` slots, all of them room. If `len` is 0, allocates nothing and returns a
+// dangling pointer.
 pub(crate) fn allocate<T, A: Allocator>(
     alloc: &A,
     len: usize,
 ) -> Result<(Base<T>, Cells<T>, Deed<T, A>), AllocError>
     requires fits { len * type_size T.row < 2 ^ 63 }
-    ensures block { IfOk result (λ r. (r.1.at ≡ r.0.ptr) × (r.1.passed ≡ 0) × (r.1.items ≡ []) × (r.1.room ≡ len) × (r.2.at ≡ r.0.ptr) × (r.2.len ≡ len) × (r.2.alloc ≡ alloc.now)) }
+    ensures block { IfOk result (λ r. (r.1.at ≡ r.0.ptr) × (r.1.passed ≡ 0) × (r.1.items ≡ [])
+        × (r.1.room ≡ len) × (r.2.at ≡ r.0.ptr) × (r.2.len ≡ len) × (r.2.alloc ≡ alloc.now)) }
     ensures empty { len ≡ 0 → IsOk result }
 {
     if len == 0 {
@@ -124,7 +125,7 @@ pub(crate) fn allocate<T, A: Allocator>(
     }
 }
 
-/// Deallocates the block of `len` slots, which holds no item. Does nothing if `len` is 0.
+// Deallocates the block of `len` slots, which holds no item. Does nothing if `len` is 0.
 pub(crate) fn deallocate<T, A: Allocator>(
     alloc: &A,
     base: Base<T>,
@@ -132,7 +133,8 @@ pub(crate) fn deallocate<T, A: Allocator>(
     cells: Cells<T>,
     deed: Deed<T, A>,
 )
-    requires { (cells.at ≡ base.ptr) × (cells.items ≡ []) × (cells.passed + cells.room ≡ len) × (deed.at ≡ base.ptr) × (deed.len ≡ len) × (deed.alloc ≡ alloc.now) }
+    requires { (cells.at ≡ base.ptr) × (cells.items ≡ []) × (cells.passed + cells.room ≡ len)
+        × (deed.at ≡ base.ptr) × (deed.len ≡ len) × (deed.alloc ≡ alloc.now) }
 {
     let Cells { mark: _ } = cells;
     let Deed { mark: _ } = deed;
@@ -146,42 +148,49 @@ pub(crate) fn deallocate<T, A: Allocator>(
 impl<T> Cells<T> {
     ghost use Rattle.ga_boxed.specs.CellsLend.{lends_items};
 
-    /// Writes `item` into the first place of the room, which is at `index`.
+    // Writes `item` into the first slot of the room, which is at `index`.
     #[inline]
     pub(crate) fn put(&mut self, base: Base<T>, index: usize, item: T)
-        requires { (base.ptr ≡ self.old.at) × (index ≡ self.old.passed + length self.old.items) × (self.old.room ≢ 0) }
-        ensures { (self.new.at ≡ self.old.at) × (self.new.passed ≡ self.old.passed) × (self.new.items ≡ self.old.items ++ item ∷ []) × (self.new.room ≡ self.old.room - 1) }
+        requires { (base.ptr ≡ self.old.at) × (index ≡ self.old.passed + length self.old.items)
+            × (self.old.room ≢ 0) }
+        ensures { (self.new.at ≡ self.old.at) × (self.new.passed ≡ self.old.passed)
+            × (self.new.items ≡ self.old.items ++ item ∷ []) × (self.new.room ≡ self.old.room - 1) }
     {
         unsafe { base.ptr.add(index).write(item) }
     }
 
-    /// Writes the items of a native array into room for as many, where nothing was put before.
+    // Writes the items of a native array into room for as many, where nothing was put before.
     pub(crate) fn put_array<const U: usize>(&mut self, base: Base<T>, items: [T; U])
-        requires { (base.ptr ≡ self.old.at) × (self.old.passed ≡ 0) × (self.old.items ≡ []) × (self.old.room ≡ U) }
-        ensures { (self.new.at ≡ self.old.at) × (self.new.passed ≡ 0) × (self.new.items ≡ items) × (self.new.room ≡ 0) }
+        requires { (base.ptr ≡ self.old.at) × (self.old.passed ≡ 0) × (self.old.items ≡ [])
+            × (self.old.room ≡ U) }
+        ensures { (self.new.at ≡ self.old.at) × (self.new.passed ≡ 0) × (self.new.items ≡ items)
+            × (self.new.room ≡ 0) }
     {
         unsafe { base.ptr.cast::<[T; U]>().write(items) }
     }
 
-    /// Reads the first item, which is at `index`, out of its slot.
+    // Reads the first item, which is at `index`, out of its slot.
     #[inline]
     pub(crate) fn take_first(&mut self, base: Base<T>, index: usize) -> T
         requires { (base.ptr ≡ self.old.at) × (index ≡ self.old.passed) × (self.old.items ≢ []) }
-        ensures { (self.new.at ≡ self.old.at) × (self.new.passed ≡ self.old.passed + 1) × (self.old.items ≡ result ∷ self.new.items) × (self.new.room ≡ self.old.room) }
+        ensures { (self.new.at ≡ self.old.at) × (self.new.passed ≡ self.old.passed + 1)
+            × (self.old.items ≡ result ∷ self.new.items) × (self.new.room ≡ self.old.room) }
     {
         unsafe { base.ptr.add(index).read() }
     }
 
-    /// Reads the last item, which is at `index`, out of its slot.
+    // Reads the last item, which is at `index`, out of its slot.
     #[inline]
     pub(crate) fn take_last(&mut self, base: Base<T>, index: usize) -> T
-        requires { (base.ptr ≡ self.old.at) × (index + 1 ≡ self.old.passed + length self.old.items) × (self.old.items ≢ []) }
-        ensures { (self.new.at ≡ self.old.at) × (self.new.passed ≡ self.old.passed) × (self.old.items ≡ self.new.items ++ result ∷ []) × (self.new.room ≡ self.old.room + 1) }
+        requires { (base.ptr ≡ self.old.at) × (index + 1 ≡ self.old.passed + length self.old.items)
+            × (self.old.items ≢ []) }
+        ensures { (self.new.at ≡ self.old.at) × (self.new.passed ≡ self.old.passed)
+            × (self.old.items ≡ self.new.items ++ result ∷ []) × (self.new.room ≡ self.old.room + 1) }
     {
         unsafe { base.ptr.add(index).read() }
     }
 
-    /// The items, of which there are `len`, from the slot `index` on.
+    // The items, of which there are `len`, from the slot `index` on.
     #[inline]
     pub(crate) fn slice(&self, base: Base<T>, index: usize, len: usize) -> &[T]
         requires { (base.ptr ≡ self.now.at) × (index ≡ self.now.passed) × (len ≡ length self.now.items) }
@@ -190,7 +199,7 @@ impl<T> Cells<T> {
         unsafe { slice::from_raw_parts(base.ptr.add(index), len) }
     }
 
-    /// The items for writing, of which there are `len`, from the slot `index` on.
+    // The items for writing, of which there are `len`, from the slot `index` on.
     #[inline]
     pub(crate) fn slice_mut(&mut self, base: Base<T>, index: usize, len: usize) -> &mut [T]
         requires { (base.ptr ≡ self.old.at) × (index ≡ self.old.passed) × (len ≡ length self.old.items) }

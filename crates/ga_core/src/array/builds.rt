@@ -1,12 +1,9 @@
 //! Arrays built from a closure or an iterator.
+ghost use Rattle.ga_core.specs.Maps.{GenerateRun, GeneratesAs, TryGenerateRun, TryGeneratesAs};
 ghost use Rattle.ga_core.specs.Calls.{MayCallAlong, MayCallAlongUntilError};
 ghost use Rattle.ga_core.specs.Fill.{Asks, FillFalliblyRuns, FillRuns, Fills, FillsFallibly};
-ghost use Rattle.ga_core.specs.Runs.{ClosureRun, FirstErrorRun};
-ghost use Rattle.ga_core.specs.Tries.{try_map};
 ghost use Rattle.ga_views.specs.Length.{FitsInline};
-ghost use Rattle.std.specs.Iterator.{ActsAs};
-ghost use Rattle.std.specs.List.{range_with_len};
-ghost use Rattle.std.specs.Prelude.{◌≡◌, ℕ, ◌+◌, IfOk, OnErr, Result, map};
+ghost use Rattle.std.specs.Prelude.{◌≡◌, ℕ, ◌+◌, IfOk, OnErr, Result};
 
 use crate::array::GenericArray;
 use crate::builder::ArrayBuilder;
@@ -22,8 +19,8 @@ impl<T: Drop, N: ArrayLength<T>> GenericArray<T, N> {
     pub fn generate<F: FnMut(usize) -> T>(mut f: F) -> Self
         requires fits { FitsInline N.USIZE }
         requires callable { MayCallAlong F.pre F.step f N.USIZE }
-        ensures run { (last : F) × ClosureRun F.step f (range_with_len 0 N.USIZE) result last }
-        ensures acts { (h : ℕ → T) → ActsAs F.FnMut f h → result ≡ map h (range_with_len 0 N.USIZE) }
+        ensures run { (last : F) × GenerateRun F.step f N.USIZE result last }
+        ensures acts { GeneratesAs F.FnMut f N.USIZE result }
     {
         Self::generate_by(&mut f)
     }
@@ -32,8 +29,8 @@ impl<T: Drop, N: ArrayLength<T>> GenericArray<T, N> {
     pub fn generate_by<F: FnMut(usize) -> T>(f: &mut F) -> Self
         requires fits { FitsInline N.USIZE }
         requires callable { MayCallAlong F.pre F.step f.old N.USIZE }
-        ensures run { ClosureRun F.step f.old (range_with_len 0 N.USIZE) result f.new }
-        ensures acts { (h : ℕ → T) → ActsAs F.FnMut f.old h → result ≡ map h (range_with_len 0 N.USIZE) }
+        ensures run { GenerateRun F.step f.old N.USIZE result f.new }
+        ensures acts { GeneratesAs F.FnMut f.old N.USIZE result }
     {
         let mut store: N::ArrayType = Store::filled();
         write_answers(store.as_mut_slice(), f);
@@ -46,8 +43,8 @@ impl<T: Drop, N: ArrayLength<T>> GenericArray<T, N> {
     pub fn try_generate<F: FnMut(usize) -> Result<T, E>, E>(mut f: F) -> Result<Self, E>
         requires fits { FitsInline N.USIZE }
         requires callable { MayCallAlongUntilError F.pre F.step f N.USIZE }
-        ensures run { (last : F) × FirstErrorRun F.step f (range_with_len 0 N.USIZE) result last }
-        ensures acts { (h : ℕ → Result T E) → ActsAs F.FnMut f h → result ≡ try_map h (range_with_len 0 N.USIZE) }
+        ensures run { (last : F) × TryGenerateRun F.step f N.USIZE result last }
+        ensures acts { TryGeneratesAs F.FnMut f N.USIZE result }
     {
         Self::try_generate_by(&mut f)
     }
@@ -57,8 +54,8 @@ impl<T: Drop, N: ArrayLength<T>> GenericArray<T, N> {
     pub fn try_generate_by<F: FnMut(usize) -> Result<T, E>, E>(f: &mut F) -> Result<Self, E>
         requires fits { FitsInline N.USIZE }
         requires callable { MayCallAlongUntilError F.pre F.step f.old N.USIZE }
-        ensures run { FirstErrorRun F.step f.old (range_with_len 0 N.USIZE) result f.new }
-        ensures acts { (h : ℕ → Result T E) → ActsAs F.FnMut f.old h → result ≡ try_map h (range_with_len 0 N.USIZE) }
+        ensures run { TryGenerateRun F.step f.old N.USIZE result f.new }
+        ensures acts { TryGeneratesAs F.FnMut f.old N.USIZE result }
     {
         let mut store: N::ArrayType = Store::filled();
         match try_write_answers(store.as_mut_slice(), f) {

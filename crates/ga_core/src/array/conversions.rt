@@ -1,4 +1,5 @@
 //! Conversions from and to native arrays, vectors and boxed slices, and from views.
+ghost use Rattle.ga_views.specs.Views.{items_of_view};
 ghost use Rattle.ga_views.specs.Length.{FitsInline};
 ghost use Rattle.std.specs.Box.{boxed_slice_items};
 ghost use Rattle.std.specs.Prelude.{◌≡◌, ◌↔◌, IfOk, IsOk, length};
@@ -35,7 +36,7 @@ impl<T: Copy + Default + Drop, N: ArrayLength<T>> GenericArray<T, N> {
     #[inline]
     pub fn from_view(view: GenericArrayRef<'_, T, N>) -> Self
         requires fits { FitsInline N.USIZE }
-        ensures { result ≡ view.entry.slice.now }
+        ensures { result ≡ items_of_view view.entry }
     {
         let mut store: N::ArrayType = Store::filled();
         store.as_mut_slice().copy_from_slice(view.as_slice());
@@ -136,7 +137,8 @@ impl<T: Copy + Default + Drop, const U: usize> From<GenericArray<T, Const<U>>> f
 impl<T: Default + Drop, N: ArrayLength<T> + InlineLength> TryFrom<Vec<T>> for GenericArray<T, N> {
     type Error = LengthError;
 
-    ghost try_from_gives = { λ items made. (IsOk made ↔ (length items.items ≡ N.USIZE)) × IfOk made (λ array. array ≡ items.items) };
+    ghost try_from_gives = { λ items made. (IsOk made ↔ (length items.items ≡ N.USIZE))
+        × IfOk made (λ array. array ≡ items.items) };
 
     fn try_from(items: Vec<T>) -> Result<Self, LengthError> {
         Self::try_from_vec(items)
@@ -148,7 +150,8 @@ impl<T: Default + Drop, N: ArrayLength<T> + InlineLength> TryFrom<BoxedSlice<T, 
     for GenericArray<T, N> {
     type Error = LengthError;
 
-    ghost try_from_gives = { λ items made. (IsOk made ↔ (length (boxed_slice_items items) ≡ N.USIZE)) × IfOk made (λ array. array ≡ boxed_slice_items items) };
+    ghost try_from_gives = { λ items made. (IsOk made ↔ (length (boxed_slice_items items) ≡ N.USIZE))
+        × IfOk made (λ array. array ≡ boxed_slice_items items) };
 
     fn try_from(items: BoxedSlice<T, Global>) -> Result<Self, LengthError> {
         Self::try_from_boxed_slice(items)

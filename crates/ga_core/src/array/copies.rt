@@ -49,7 +49,8 @@ impl<T: Clone, N: ArrayLength<T>> GenericArray<T, N> {
     pub fn repeat(item: T) -> Result<Self, AllocError>
         requires fits { FitsInline N.USIZE }
         ensures items { IfOk result (λ array. Repeats T.is_clone item N.USIZE array) }
-        ensures same { ((copy : T) → T.is_clone item copy → copy ≡ item) → IfOk result (λ array. array ≡ replicate N.USIZE item) }
+        ensures same { ((copy : T) → T.is_clone item copy → copy ≡ item)
+            → IfOk result (λ array. array ≡ replicate N.USIZE item) }
         ensures few { N.USIZE ≤ 1 → IsOk result }
         ensures succeeds { T.is_infallible item → IsOk result }
     {

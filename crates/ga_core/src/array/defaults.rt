@@ -8,7 +8,8 @@ use crate::length::ArrayLength;
 use ga_views::InlineLength;
 
 impl<T: Default + Drop, N: ArrayLength<T> + InlineLength> Default for GenericArray<T, N> {
-    ghost is_default = { λ array. (length array ≡ N.USIZE) × All T.is_default array × ExactlyEach T.is_default N.USIZE array };
+    ghost is_default = { λ array. (length array ≡ N.USIZE) × All T.is_default array
+        × ExactlyEach T.is_default N.USIZE array };
 
     fn default() -> Self {
         GenericArray::default()

@@ -2,8 +2,10 @@
 //!
 //! The traits of `generic_array` have `map`, `try_map` and `zip` for every kind of sequence. These calls
 //! name their types, so that who writes one has less to prove.
+ghost use Rattle.ga_views.specs.Views.{items_of_view};
+ghost use Rattle.ga_core.specs.Maps.{ZipRun, ZipsAs};
 ghost use Rattle.ga_core.specs.Calls.{MayCallOver, MayCallOverEntryPairs, MayCallOverPairs, MayCallOverUntilError};
-ghost use Rattle.ga_core.specs.Entries.{ActsOnEntries, ActsOnPair, CallAtPair, CallOnPair};
+ghost use Rattle.ga_core.specs.Entries.{ActsOnPair, CallOnPair};
 ghost use Rattle.ga_core.specs.Runs.{ClosureRun, FirstErrorRun};
 ghost use Rattle.ga_core.specs.Tries.{try_map};
 ghost use Rattle.std.specs.Iterator.{ActsAs};
@@ -136,9 +138,12 @@ impl<T: Default + Drop, N: ArrayLength<T>> GenericArray<T, N> {
     ) -> GenericArray<U, N>
     where
         N: ArrayLength<U>,
-        requires callable { MayCallOverEntryPairs (λ item. item) (λ item. item.now) F.pre F.step f (zip self rhs.slice.now) }
-        ensures run { (last : F) × ClosureRun (CallAtPair (λ item. item) (λ item. item.now) F.step) f (zip self rhs.entry.slice.now) result last }
-        ensures acts { (h : T × B → U) → ActsOnEntries (λ item. item) (λ item. item.now) F.step f h → result ≡ map h (zip self rhs.entry.slice.now) }
+        requires callable { MayCallOverEntryPairs (λ item. item) (λ item. item.now) F.pre F.step f
+            (zip self (items_of_view rhs)) }
+        ensures run { (last : F)
+            × ZipRun (λ item. item) (λ item. item.now) F.step f self (items_of_view rhs.entry) result last }
+        ensures acts { ZipsAs (λ item. item) (λ item. item.now) F.step f self
+            (items_of_view rhs.entry) result }
     {
         self.zip_inline_ref_by(rhs, &mut f)
     }
@@ -152,9 +157,12 @@ impl<T: Default + Drop, N: ArrayLength<T>> GenericArray<T, N> {
     ) -> GenericArray<U, N>
     where
         N: ArrayLength<U>,
-        requires callable { MayCallOverEntryPairs (λ item. item) (λ item. item.now) F.pre F.step f.old (zip self rhs.slice.now) }
-        ensures run { ClosureRun (CallAtPair (λ item. item) (λ item. item.now) F.step) f.old (zip self rhs.entry.slice.now) result f.new }
-        ensures acts { (h : T × B → U) → ActsOnEntries (λ item. item) (λ item. item.now) F.step f.old h → result ≡ map h (zip self rhs.entry.slice.now) }
+        requires callable { MayCallOverEntryPairs (λ item. item) (λ item. item.now) F.pre F.step f.old
+            (zip self (items_of_view rhs)) }
+        ensures run { ZipRun (λ item. item) (λ item. item.now) F.step f.old self
+            (items_of_view rhs.entry) result f.new }
+        ensures acts { ZipsAs (λ item. item) (λ item. item.now) F.step f.old self
+            (items_of_view rhs.entry) result }
     {
         let mut left = self;
         let mut store: <N as ArrayLength<U>>::ArrayType = Store::filled();

@@ -17,7 +17,8 @@ impl<N: ArrayLength<u8>> GenericArray<u8, N> {
         w: &mut W,
         limit: Option<usize>,
     ) -> Result<(), io::Error>
-        ensures text { OnOk result (Appends (W.contents w.old) (W.contents w.new) (hex_text false limit self.now)) }
+        ensures text { OnOk result (Appends (W.contents w.old) (W.contents w.new)
+            (hex_text false limit self.now)) }
         ensures empty { hex_text false limit self.now ≡ [] → IsOk result }
     {
         write_hex(self.as_slice(), false, limit, w)
@@ -29,7 +30,8 @@ impl<N: ArrayLength<u8>> GenericArray<u8, N> {
         w: &mut W,
         limit: Option<usize>,
     ) -> Result<(), io::Error>
-        ensures text { OnOk result (Appends (W.contents w.old) (W.contents w.new) (hex_text true limit self.now)) }
+        ensures text { OnOk result (Appends (W.contents w.old) (W.contents w.new)
+            (hex_text true limit self.now)) }
         ensures empty { hex_text true limit self.now ≡ [] → IsOk result }
     {
         write_hex(self.as_slice(), true, limit, w)

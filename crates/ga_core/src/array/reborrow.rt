@@ -1,7 +1,7 @@
 //! An array for writing, as what a writing view stands on.
 use crate::array::GenericArray;
 use crate::length::ArrayLength;
-use ga_views::ReborrowSlice;
+use ga_views::reborrow::ReborrowSlice;
 
 impl<'a, T, N: ArrayLength<T>> ReborrowSlice<T> for &'a mut GenericArray<T, N> {
     ghost use Rattle.std.specs.List.{refill};
@@ -16,7 +16,8 @@ impl<'a, T, N: ArrayLength<T>> ReborrowSlice<T> for &'a mut GenericArray<T, N> {
         self.as_slice()
     }
 
-    ghost slice_with = { λ array written. (record array { now = refill (length array.now) array.now written }, refl) };
+    ghost slice_with = { λ array written.
+        (record array { now = refill (length array.now) array.now written }, refl) };
 
     ghost slice_with_stays = { λ array written. refl };
 
@@ -30,7 +31,8 @@ impl<'a, T, N: ArrayLength<T>> ReborrowSlice<T> for &'a mut GenericArray<T, N> {
         GenericArray::as_mut_slice(self)
     }
 
-    ghost slice_with_item = { λ array index item. (record array { now = slice_set array.now index item }, refl) };
+    ghost slice_with_item = { λ array index item.
+        (record array { now = slice_set array.now index item }, refl) };
 
     ghost slice_with_item_stays = { λ array index item. refl };
 

@@ -1,4 +1,5 @@
 //! Views: of the items of an array, and of slices of the array's length.
+ghost use Rattle.ga_views.specs.Views.{items_of_chunks, items_of_view};
 ghost use Rattle.ga_views.specs.Rows.{chunk_rest, rows};
 ghost use Rattle.std.specs.Borrow.{Array, RestsIfErr, follows_both, sem};
 ghost use Rattle.std.specs.Option.{option_copied};
@@ -7,13 +8,13 @@ ghost use Rattle.std.specs.Prelude.{◌≡◌, ◌<◌, ◌↔◌, ◌⊎◌, �
 use crate::array::GenericArray;
 use crate::length::ArrayLength;
 use crate::store::Store;
-use ga_views::{ViewMut, ChunksMut, ChunksRef, GenericArrayMut, GenericArrayRef, LengthError};
+use ga_views::{ChunksMut, ChunksRef, GenericArrayMut, GenericArrayRef, LengthError, ViewMut};
 
 impl<T, N: ArrayLength<T>> GenericArray<T, N> {
     /// The read-only view of the items.
     #[inline]
     pub fn view(&self) -> GenericArrayRef<'_, T, N>
-        ensures { result.slice.now ≡ self.now }
+        ensures { items_of_view result ≡ self.now }
     {
         GenericArrayRef::from_slice(self.as_slice())
     }
@@ -37,7 +38,7 @@ impl<T, N: ArrayLength<T>> GenericArray<T, N> {
     #[inline]
     pub fn from_slice(slice: &[T]) -> GenericArrayRef<'_, T, N>
         requires len { length slice.now ≡ N.USIZE }
-        ensures { result.slice.now ≡ slice.now }
+        ensures { items_of_view result ≡ slice.now }
     {
         GenericArrayRef::from_slice(slice)
     }
@@ -47,7 +48,7 @@ impl<T, N: ArrayLength<T>> GenericArray<T, N> {
     #[inline]
     pub fn try_from_slice(slice: &[T]) -> Result<GenericArrayRef<'_, T, N>, LengthError>
         ensures variant { IsOk result ↔ (length slice.now ≡ N.USIZE) }
-        ensures ok { IfOk result (λ view. view.slice.now ≡ slice.now) }
+        ensures ok { IfOk result (λ view. items_of_view view ≡ slice.now) }
     {
         GenericArrayRef::try_from_slice(slice)
     }
@@ -68,7 +69,8 @@ impl<T, N: ArrayLength<T>> GenericArray<T, N> {
     /// `GenericArrayMut::try_from_mut_slice`. A slice of another length stays as it was.
     #[inline]
     pub fn try_from_mut_slice(slice: &mut [T]) -> Result<GenericArrayMut<'_, T, N>, LengthError>
-        ensures* writes_back { sem 𝓛 (RestsIfErr (Array T.row 0) slice.entry (λ view. view.slice.ghost_name) result (λ rest. rest ≡ slice.old)) }
+        ensures* writes_back { sem 𝓛 (RestsIfErr (Array T.row 0)
+            slice.entry (λ view. view.slice.ghost_name) result (λ rest. rest ≡ slice.old)) }
         ensures variant { IsOk result ↔ (length slice.old ≡ N.USIZE) }
         ensures ok { IfOk result (λ view. view.slice ≡ slice.entry) }
     {
@@ -82,9 +84,9 @@ impl<T, N: ArrayLength<T>> GenericArray<T, N> {
     #[inline]
     pub fn chunks_from_slice(slice: &[T]) -> (ChunksRef<'_, T, N>, &[T])
         requires width { (0 < N.USIZE) ⊎ (length slice.now ≡ 0) }
-        ensures rows { rows N.USIZE result.0.slice.now ≡ rows N.USIZE slice.now }
+        ensures rows { rows N.USIZE (items_of_chunks result.0) ≡ rows N.USIZE slice.now }
         ensures rest { result.1.now ≡ chunk_rest N.USIZE slice.now }
-        ensures parts { result.0.slice.now ++ result.1.now ≡ slice.now }
+        ensures parts { items_of_chunks result.0 ++ result.1.now ≡ slice.now }
     {
         ChunksRef::chunks_from_slice(slice)
     }
@@ -94,7 +96,8 @@ impl<T, N: ArrayLength<T>> GenericArray<T, N> {
     #[inline]
     pub fn chunks_from_slice_mut(slice: &mut [T]) -> (ChunksMut<'_, T, N>, &mut [T])
         requires width { (0 < N.USIZE) ⊎ (length slice.old ≡ 0) }
-        ensures* writes_back { sem 𝓛 (follows_both (Array T.row 0) (Array T.row 0) (Array T.row 0) slice.entry.ghost_name result.0.slice.ghost_name result.1.ghost_name ◌++◌) }
+        ensures* writes_back { sem 𝓛 (follows_both (Array T.row 0) (Array T.row 0) (Array T.row 0)
+            slice.entry.ghost_name result.0.slice.ghost_name result.1.ghost_name ◌++◌) }
         ensures rows { rows N.USIZE result.0.slice.now ≡ rows N.USIZE slice.old }
         ensures rest { result.1.now ≡ chunk_rest N.USIZE slice.old }
         ensures parts { result.0.slice.now ++ result.1.now ≡ slice.old }

@@ -1,8 +1,6 @@
 //! Zips told from the right side. Each is one function over the traits.
-ghost use Rattle.ga_core.specs.Runs.{CallableOver, ClosureRun};
-ghost use Rattle.ga_core.specs.Entries.{ActsOnEntries, CallAtPair, MayCallAtPair};
-ghost use Rattle.std.specs.List.{zip};
-ghost use Rattle.std.specs.Prelude.{◌≡◌, IfOk, IsOk, OnErr, length, map};
+ghost use Rattle.ga_core.specs.Maps.{MayZip, ZipRun, ZipsAs};
+ghost use Rattle.std.specs.Prelude.{◌≡◌, IfOk, IsOk, OnErr, length};
 
 use crate::functional::walks::{entries_of, zip_entries};
 use crate::functional::{Mapped, MappedError, MappedGenericSequence, MappedPlace, MappedSequence};
@@ -21,9 +19,9 @@ pub fn inverted_zip<
 >(s: S, lhs: GenericArray<B, S::Length>, mut f: F) -> GenericArray<U, S::Length>
 where
     S::Length: ArrayLength<B> + ArrayLength<U>,
-    requires callable { CallableOver (MayCallAtPair (λ item. item) S.entry F.pre) (CallAtPair (λ item. item) S.entry F.step) f (zip lhs (S.items s)) }
-    ensures run { (last : F) × ClosureRun (CallAtPair (λ item. item) S.entry F.step) f (zip lhs (S.items s)) result last }
-    ensures acts { (h : B × T → U) → ActsOnEntries (λ item. item) S.entry F.step f h → result ≡ map h (zip lhs (S.items s)) }
+    requires callable { MayZip (λ item. item) S.entry F.pre F.step f lhs (S.items s) }
+    ensures run { (last : F) × ZipRun (λ item. item) S.entry F.step f lhs (S.items s) result last }
+    ensures acts { ZipsAs (λ item. item) S.entry F.step f lhs (S.items s) result }
 {
     inverted_zip_by(s, lhs, &mut f)
 }
@@ -39,9 +37,9 @@ pub fn inverted_zip_by<
 >(s: S, lhs: GenericArray<B, S::Length>, f: &mut F) -> GenericArray<U, S::Length>
 where
     S::Length: ArrayLength<B> + ArrayLength<U>,
-    requires callable { CallableOver (MayCallAtPair (λ item. item) S.entry F.pre) (CallAtPair (λ item. item) S.entry F.step) f.old (zip lhs (S.items s)) }
-    ensures run { ClosureRun (CallAtPair (λ item. item) S.entry F.step) f.old (zip lhs (S.items s)) result f.new }
-    ensures acts { (h : B × T → U) → ActsOnEntries (λ item. item) S.entry F.step f.old h → result ≡ map h (zip lhs (S.items s)) }
+    requires callable { MayZip (λ item. item) S.entry F.pre F.step f.old lhs (S.items s) }
+    ensures run { ZipRun (λ item. item) S.entry F.step f.old lhs (S.items s) result f.new }
+    ensures acts { ZipsAs (λ item. item) S.entry F.step f.old lhs (S.items s) result }
 {
     // The slice knows that the length fits, and how many items there are.
     let _ = lhs.as_slice();
@@ -76,10 +74,13 @@ pub fn inverted_zip2<
 ) -> Result<MappedSequence<Lhs, B, U>, MappedError<Lhs, B, U>>
     requires lengths { S.Length.USIZE ≡ Lhs.Length.USIZE }
     requires fits { Lhs.Mapped.Fits }
-    requires callable { CallableOver (MayCallAtPair Lhs.entry S.entry F.pre) (CallAtPair Lhs.entry S.entry F.step) f (zip (Lhs.items lhs) (S.items s)) }
+    requires callable { MayZip Lhs.entry S.entry F.pre F.step f (Lhs.items lhs) (S.items s) }
     ensures len { IfOk result (λ made. length (Lhs.Mapped.Sequence.items made) ≡ Lhs.Length.USIZE) }
-    ensures run { (last : F) × IfOk result (λ made. ClosureRun (CallAtPair Lhs.entry S.entry F.step) f (zip (Lhs.items lhs) (S.items s)) (Lhs.Mapped.Sequence.items made) last) }
-    ensures acts { IfOk result (λ made. (h : B × T → U) → ActsOnEntries Lhs.entry S.entry F.step f h → Lhs.Mapped.Sequence.items made ≡ map h (zip (Lhs.items lhs) (S.items s))) }
+    ensures run { (last : F) × IfOk result (λ made.
+        ZipRun Lhs.entry S.entry F.step f (Lhs.items lhs) (S.items s)
+        (Lhs.Mapped.Sequence.items made) last) }
+    ensures acts { IfOk result (λ made.
+        ZipsAs Lhs.entry S.entry F.step f (Lhs.items lhs) (S.items s) (Lhs.Mapped.Sequence.items made)) }
     ensures promised { Lhs.Mapped.IsPromised → IsOk result }
 {
     inverted_zip2_by(s, place, lhs, &mut f)
@@ -102,10 +103,14 @@ pub fn inverted_zip2_by<
 ) -> Result<MappedSequence<Lhs, B, U>, MappedError<Lhs, B, U>>
     requires lengths { S.Length.USIZE ≡ Lhs.Length.USIZE }
     requires fits { Lhs.Mapped.Fits }
-    requires callable { CallableOver (MayCallAtPair Lhs.entry S.entry F.pre) (CallAtPair Lhs.entry S.entry F.step) f.old (zip (Lhs.items lhs) (S.items s)) }
+    requires callable { MayZip Lhs.entry S.entry F.pre F.step f.old (Lhs.items lhs) (S.items s) }
     ensures len { IfOk result (λ made. length (Lhs.Mapped.Sequence.items made) ≡ Lhs.Length.USIZE) }
-    ensures run { IfOk result (λ made. ClosureRun (CallAtPair Lhs.entry S.entry F.step) f.old (zip (Lhs.items lhs) (S.items s)) (Lhs.Mapped.Sequence.items made) f.new) }
-    ensures acts { IfOk result (λ made. (h : B × T → U) → ActsOnEntries Lhs.entry S.entry F.step f.old h → Lhs.Mapped.Sequence.items made ≡ map h (zip (Lhs.items lhs) (S.items s))) }
+    ensures run { IfOk result (λ made.
+        ZipRun Lhs.entry S.entry F.step f.old (Lhs.items lhs) (S.items s)
+        (Lhs.Mapped.Sequence.items made) f.new) }
+    ensures acts { IfOk result (λ made.
+        ZipsAs Lhs.entry S.entry F.step f.old (Lhs.items lhs) (S.items s)
+        (Lhs.Mapped.Sequence.items made)) }
     ensures err { OnErr result (f.new ≡ f.old) }
     ensures promised { Lhs.Mapped.IsPromised → IsOk result }
 {

@@ -2,20 +2,22 @@
 //!
 //! The iterator is a type parameter of its own: a closure that holds a sequence's associated
 //! iterator isn't covered by the checker.
-ghost use Rattle.ga_core.specs.Runs.{CallableInFold, CallableOver, CallableOverUntilError, CallableUntilError, ClosureRun, FirstErrorRun, FoldRun};
+ghost use Rattle.ga_core.specs.Maps.{MapRun, MayFold, MayMap, MayTryMap, MayZip, TryMapRun, ZipRun};
+ghost use Rattle.ga_core.specs.Runs.{CallableUntilError, FoldRun};
 ghost use Rattle.generic_array.specs.Built.{built_items};
 ghost use Rattle.generic_array.specs.GivenEntries.{AllEntries, CallAtNext, CallAtNextPair, GivesEntries, MayCallAtNext, MayCallAtNextPair, SomeEntries, SomeEntriesOf};
-ghost use Rattle.ga_core.specs.Entries.{CallAt, CallAtPair, FoldAt, MayCallAt, MayCallAtPair, MayFoldAt};
-ghost use Rattle.generic_array.specs.EntryRuns.{FirstErrorRan, TryFoldRun, good_step};
-ghost use Rattle.std.specs.List.{range_with_len, zip};
+ghost use Rattle.ga_core.specs.Entries.{FoldAt};
+ghost use Rattle.generic_array.specs.EntryRuns.{FirstErrorRan, MayTryFold, TryFoldRun};
+ghost use Rattle.std.specs.List.{range_with_len};
 ghost use Rattle.std.specs.Prelude.{◌≡◌, IfOk, IsOk, List, OnErr, length};
 
 use crate::sequence::{FallibleGenericSequence, GenericSequence};
 
-/// The entries of a sequence. It has as many as its length says.
+// The entries of a sequence. It has as many as its length says.
 #[inline(always)]
 pub(super) fn entries_of<T, S: GenericSequence<T>>(s: S) -> S::IntoIter
-    ensures gives { GivesEntries S.IntoIter.can_next S.IntoIter.next_gives S.IntoIter.remaining S.entry result (S.items s) }
+    ensures gives { GivesEntries S.IntoIter.can_next S.IntoIter.next_gives S.IntoIter.remaining S.entry
+        result (S.items s) }
     ensures long { length (S.items s) ≡ S.Length.USIZE }
 {
     // The view knows the length.
@@ -23,15 +25,17 @@ pub(super) fn entries_of<T, S: GenericSequence<T>>(s: S) -> S::IntoIter
     s.into_iter()
 }
 
-/// Folds the entries into one value by `f`, in order, starting from `init`.
+// Folds the entries into one value by `f`, in order, starting from `init`.
 #[inline(always)]
 pub(crate) fn fold_entries<T, I: Iterator + Drop, A, F: FnMut(A, I::Item) -> A>(
     entries: I,
     init: A,
     f: &mut F,
 ) -> A
-    requires callable { SomeEntries I.can_next I.next_gives I.remaining entries (λ (entry : I.Item → T) values. CallableInFold (MayFoldAt entry F.pre) (FoldAt entry F.step) f.old init values) }
-    ensures run { AllEntries I.can_next I.next_gives I.remaining entries (λ (entry : I.Item → T) values. FoldRun (FoldAt entry F.step) f.old init values result f.new) }
+    requires callable { SomeEntries I.can_next I.next_gives I.remaining entries
+        (λ (entry : I.Item → T) values. MayFold entry F.pre F.step f.old init values) }
+    ensures run { AllEntries I.can_next I.next_gives I.remaining entries (λ (entry : I.Item → T) values.
+        FoldRun (FoldAt entry F.step) f.old init values result f.new) }
 {
     let mut answer = init;
     for entry in entries {
@@ -40,7 +44,7 @@ pub(crate) fn fold_entries<T, I: Iterator + Drop, A, F: FnMut(A, I::Item) -> A>(
     answer
 }
 
-/// `fold_entries` of a closure that may fail: its first error, after which no call is made.
+// `fold_entries` of a closure that may fail: its first error, after which no call is made.
 #[inline(always)]
 pub(super) fn try_fold_entries<T, I: Iterator + Drop, A, E, F: FnMut(A, I::Item) -> Result<A, E>>(
     entries: I,
@@ -48,8 +52,9 @@ pub(super) fn try_fold_entries<T, I: Iterator + Drop, A, E, F: FnMut(A, I::Item)
     f: &mut F,
 ) -> Result<A, E>
     requires callable { SomeEntries I.can_next I.next_gives I.remaining entries
-        (λ (entry : I.Item → T) values. CallableInFold (MayFoldAt entry F.pre) (good_step (FoldAt entry F.step)) f.old init values) }
-    ensures run { AllEntries I.can_next I.next_gives I.remaining entries (λ (entry : I.Item → T) values. TryFoldRun (FoldAt entry F.step) f.old init values result f.new) }
+        (λ (entry : I.Item → T) values. MayTryFold entry F.pre F.step f.old init values) }
+    ensures run { AllEntries I.can_next I.next_gives I.remaining entries (λ (entry : I.Item → T) values.
+        TryFoldRun (FoldAt entry F.step) f.old init values result f.new) }
 {
     let mut answer = init;
     for entry in entries {
@@ -61,7 +66,7 @@ pub(super) fn try_fold_entries<T, I: Iterator + Drop, A, E, F: FnMut(A, I::Item)
     Ok(answer)
 }
 
-/// The value of `f` at the next entry. Requires that there is one.
+// The value of `f` at the next entry. Requires that there is one.
 #[inline]
 fn answer_at_next<I: Iterator, U, F: FnMut(I::Item) -> U>(entries: &mut I, f: &mut F) -> U
     requires { MayCallAtNext I.can_next I.next_gives F.pre entries.old f.old }
@@ -73,7 +78,7 @@ fn answer_at_next<I: Iterator, U, F: FnMut(I::Item) -> U>(entries: &mut I, f: &m
     }
 }
 
-/// The values of `f` at the entries, as a sequence of the kind `M`.
+// The values of `f` at the entries, as a sequence of the kind `M`.
 #[inline(always)]
 pub(super) fn map_entries<T, I: Iterator + Drop, U, M: GenericSequence<U>, F: FnMut(I::Item) -> U>(
     mut entries: I,
@@ -82,10 +87,12 @@ pub(super) fn map_entries<T, I: Iterator + Drop, U, M: GenericSequence<U>, F: Fn
 ) -> Result<M::Sequence, M::Error>
     requires fits { M.Fits }
     requires callable { SomeEntriesOf I.can_next I.next_gives I.remaining M.Length.USIZE entries
-        (λ (entry : I.Item → T) values. CallableOver (MayCallAt entry F.pre) (CallAt entry F.step) f.old values) }
+        (λ (entry : I.Item → T) values. MayMap entry F.pre F.step f.old values) }
     ensures len { IfOk result (λ made. length (M.Sequence.items made) ≡ M.Length.USIZE) }
-    ensures run { (entry : I.Item → T) (values : List T) → GivesEntries I.can_next I.next_gives I.remaining entry entries values → length values ≡ M.Length.USIZE
-        → IfOk result (λ made. ClosureRun (CallAt entry F.step) f.old values (M.Sequence.items made) f.new) }
+    ensures run { (entry : I.Item → T) (values : List T)
+        → GivesEntries I.can_next I.next_gives I.remaining entry entries values
+        → length values ≡ M.Length.USIZE
+        → IfOk result (λ made. MapRun entry F.step f.old values (M.Sequence.items made) f.new) }
     ensures err { OnErr result (f.new ≡ f.old) }
     ensures promised { M.IsPromised → IsOk result }
 {
@@ -93,14 +100,15 @@ pub(super) fn map_entries<T, I: Iterator + Drop, U, M: GenericSequence<U>, F: Fn
         place,
         &mut |_index: usize| -> U
             requires { MayCallAtNext I.can_next I.next_gives F.pre entries f.now }
-            ensures call { CallAtNext I.can_next I.next_gives F.step entries.entry f.entry.now result entries.exit f.exit.now }
+            ensures call { CallAtNext I.can_next I.next_gives F.step entries.entry f.entry.now result
+                entries.exit f.exit.now }
             ensures same { f.exit.ghost_name ≡ f.entry.ghost_name }
         { answer_at_next(&mut entries, f) },
     )
 }
 
-/// `answer_at_next` of a closure that may fail: a function of its own, since a call of the other
-/// at `Result<U, E>` isn't covered by the checker.
+// `answer_at_next` of a closure that may fail: a function of its own, since a call of the other
+// at `Result<U, E>` isn't covered by the checker.
 #[inline]
 fn result_at_next<I: Iterator, U, E, F: FnMut(I::Item) -> Result<U, E>>(
     entries: &mut I,
@@ -115,7 +123,7 @@ fn result_at_next<I: Iterator, U, E, F: FnMut(I::Item) -> Result<U, E>>(
     }
 }
 
-/// `try_generate_by`, whose run is told as a record, since a proof then finds the closure's step.
+// `try_generate_by`, whose run is told as a record, since a proof then finds the closure's step.
 #[inline]
 fn try_build<U, E, M: FallibleGenericSequence<U>, G: FnMut(usize) -> Result<U, E>>(
     place: M::Place,
@@ -123,15 +131,18 @@ fn try_build<U, E, M: FallibleGenericSequence<U>, G: FnMut(usize) -> Result<U, E
 ) -> Result<Result<M::Sequence, E>, M::Error>
     requires fits { M.Fits }
     requires callable { CallableUntilError G.pre G.step g.old M.Length.USIZE }
-    ensures len { IfOk result (λ built. IfOk built (λ made. length (M.Sequence.items made) ≡ M.Length.USIZE)) }
-    ensures run { IfOk result (λ built. FirstErrorRan G.step g.old (range_with_len 0 M.Length.USIZE) (built_items M.Sequence.items built) g.new) }
+    ensures len { IfOk result (λ built.
+        IfOk built (λ made. length (M.Sequence.items made) ≡ M.Length.USIZE)) }
+    ensures run { IfOk result (λ built.
+        FirstErrorRan G.step g.old (range_with_len 0 M.Length.USIZE)
+        (built_items M.Sequence.items built) g.new) }
     ensures err { OnErr result (g.new ≡ g.old) }
     ensures promised { M.IsPromised → IsOk result }
 {
     M::try_generate_by(place, g)
 }
 
-/// The values of `f` at the entries, as a sequence of the kind `M`, or its first error.
+// The values of `f` at the entries, as a sequence of the kind `M`, or its first error.
 #[inline(always)]
 pub(super) fn try_map_entries<
     T,
@@ -143,10 +154,14 @@ pub(super) fn try_map_entries<
 >(mut entries: I, place: M::Place, f: &mut F) -> Result<Result<M::Sequence, E>, M::Error>
     requires fits { M.Fits }
     requires callable { SomeEntriesOf I.can_next I.next_gives I.remaining M.Length.USIZE entries
-        (λ (entry : I.Item → T) values. CallableOverUntilError (MayCallAt entry F.pre) (CallAt entry F.step) f.old values) }
-    ensures len { IfOk result (λ built. IfOk built (λ made. length (M.Sequence.items made) ≡ M.Length.USIZE)) }
-    ensures run { (entry : I.Item → T) (values : List T) → GivesEntries I.can_next I.next_gives I.remaining entry entries values → length values ≡ M.Length.USIZE
-        → IfOk result (λ built. FirstErrorRun (CallAt entry F.step) f.old values (built_items M.Sequence.items built) f.new) }
+        (λ (entry : I.Item → T) values. MayTryMap entry F.pre F.step f.old values) }
+    ensures len { IfOk result (λ built.
+        IfOk built (λ made. length (M.Sequence.items made) ≡ M.Length.USIZE)) }
+    ensures run { (entry : I.Item → T) (values : List T)
+        → GivesEntries I.can_next I.next_gives I.remaining entry entries values
+        → length values ≡ M.Length.USIZE
+        → IfOk result (λ built.
+        TryMapRun entry F.step f.old values (built_items M.Sequence.items built) f.new) }
     ensures err { OnErr result (f.new ≡ f.old) }
     ensures promised { M.IsPromised → IsOk result }
 {
@@ -154,21 +169,24 @@ pub(super) fn try_map_entries<
         place,
         &mut |_index: usize| -> Result<U, E>
             requires { MayCallAtNext I.can_next I.next_gives F.pre entries f.now }
-            ensures call { CallAtNext I.can_next I.next_gives F.step entries.entry f.entry.now result entries.exit f.exit.now }
+            ensures call { CallAtNext I.can_next I.next_gives F.step entries.entry f.entry.now result
+                entries.exit f.exit.now }
             ensures same { f.exit.ghost_name ≡ f.entry.ghost_name }
         { result_at_next(&mut entries, f) },
     )
 }
 
-/// The value of `f` at the next pair of entries. Requires that there is one.
+// The value of `f` at the next pair of entries. Requires that there is one.
 #[inline]
 fn answer_at_next_pair<I: Iterator + Drop, J: Iterator + Drop, U, F: FnMut(I::Item, J::Item) -> U>(
     left: &mut I,
     right: &mut J,
     f: &mut F,
 ) -> U
-    requires { MayCallAtNextPair I.can_next I.next_gives J.can_next J.next_gives F.pre left.old right.old f.old }
-    ensures { CallAtNextPair I.can_next I.next_gives J.can_next J.next_gives F.step left.old right.old f.old result left.new right.new f.new }
+    requires { MayCallAtNextPair I.can_next I.next_gives J.can_next J.next_gives F.pre
+        left.old right.old f.old }
+    ensures { CallAtNextPair I.can_next I.next_gives J.can_next J.next_gives F.step left.old right.old
+        f.old result left.new right.new f.new }
 {
     let Some(entry) = left.next() else {
         unreachable!()
@@ -179,7 +197,7 @@ fn answer_at_next_pair<I: Iterator + Drop, J: Iterator + Drop, U, F: FnMut(I::It
     f(entry, other)
 }
 
-/// The values of `f` at the pairs of entries, as a sequence of the kind `M`.
+// The values of `f` at the pairs of entries, as a sequence of the kind `M`.
 pub(super) fn zip_entries<
     T,
     B,
@@ -194,21 +212,23 @@ pub(super) fn zip_entries<
         × GivesEntries I.can_next I.next_gives I.remaining entry left values
         × GivesEntries J.can_next J.next_gives J.remaining other right others
         × (length values ≡ M.Length.USIZE) × (length others ≡ M.Length.USIZE)
-        × CallableOver (MayCallAtPair entry other F.pre) (CallAtPair entry other F.step) f.old (zip values others) }
+        × MayZip entry other F.pre F.step f.old values others }
     ensures len { IfOk result (λ made. length (M.Sequence.items made) ≡ M.Length.USIZE) }
     ensures run { (entry : I.Item → T) (values : List T) (other : J.Item → B) (others : List B)
         → GivesEntries I.can_next I.next_gives I.remaining entry left values
         → GivesEntries J.can_next J.next_gives J.remaining other right others
         → length values ≡ M.Length.USIZE → length others ≡ M.Length.USIZE
-        → IfOk result (λ made. ClosureRun (CallAtPair entry other F.step) f.old (zip values others) (M.Sequence.items made) f.new) }
+        → IfOk result (λ made. ZipRun entry other F.step f.old values others (M.Sequence.items made) f.new) }
     ensures err { OnErr result (f.new ≡ f.old) }
     ensures promised { M.IsPromised → IsOk result }
 {
     M::generate_by(
         place,
         &mut |_index: usize| -> U
-            requires { MayCallAtNextPair I.can_next I.next_gives J.can_next J.next_gives F.pre left right f.now }
-            ensures call { CallAtNextPair I.can_next I.next_gives J.can_next J.next_gives F.step left.entry right.entry f.entry.now result left.exit right.exit f.exit.now }
+            requires { MayCallAtNextPair I.can_next I.next_gives J.can_next J.next_gives F.pre
+                left right f.now }
+            ensures call { CallAtNextPair I.can_next I.next_gives J.can_next J.next_gives F.step left.entry
+                right.entry f.entry.now result left.exit right.exit f.exit.now }
             ensures same { f.exit.ghost_name ≡ f.entry.ghost_name }
         { answer_at_next_pair(&mut left, &mut right, f) },
     )

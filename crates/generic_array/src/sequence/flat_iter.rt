@@ -1,4 +1,5 @@
 //! The items of rows by reference, row by row.
+ghost use Rattle.ga_core.specs.Views.{items_of_view};
 ghost use Rattle.std.specs.Iterator.{YieldsFirstRef, item_count};
 ghost use Rattle.std.specs.Iterator.Runs.{YieldsRefsInOrder};
 ghost use Rattle.std.specs.List.{flat_map};
@@ -15,7 +16,7 @@ use std::slice;
 pub fn iter_flat<'a, T, W: ArrayLength<T>, R: Unsigned>(
     view: GenericArrayRef<'a, GenericArray<T, W>, R>,
 ) -> FlatIter<'a, T, W>
-    ensures items { result ≡ flat_map (λ row. row) view.entry.slice.now }
+    ensures items { result ≡ flat_map (λ row. row) (items_of_view view.entry) }
     ensures runs { YieldsRefsInOrder {A = T} (YieldsFirstRef (λ left. left)) (λ left. left) }
 {
     let none: &[T] = &[];

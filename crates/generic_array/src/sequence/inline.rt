@@ -74,7 +74,7 @@ impl<T: Default + Drop, N: ArrayLength<T>> FallibleGenericSequence<T> for Generi
     }
 }
 
-/// The result of a fallible fill that needs no allocator.
+// The result of a fallible fill that needs no allocator.
 fn with_no_place<A, E>(answer: Result<Result<A, E>, LengthError>) -> Result<A, FillError<E, Never>>
     ensures { fill_answer result ≡ Ok answer }
 {

@@ -70,7 +70,7 @@ pub trait Concat<T, Rest, Output>: Sized {
     // What is made has room for exactly both, and its length fits.
     ghost IsSum: { Type 0 };
 
-    /// The items, and then those of `rest`. A condition is that `Output` has as many places as both,
+    /// The items, and then those of `rest`. A condition is that `Output` has as many slots as both,
     /// and fits.
     fn concat(self, rest: Rest) -> Output
         requires { IsSum }
@@ -147,18 +147,18 @@ pub trait Remove<T, Output>: Sized {
     }
 }
 
-/// A row: a sequence whose items can be moved over the places of a slice.
+/// A row: a sequence whose items can be moved over the slots of a slice.
 pub trait Row<T: Default>: Sized {
     ghost items: { Self → List T };
 
     // How many items a row has.
     ghost WIDTH: { ℕ };
 
-    /// Moves the items over the first of the places, whose items are dropped, and leaves defaults.
+    /// Moves the items over the first of the slots, whose items are dropped, and leaves defaults.
     /// Returns how many they are.
-    fn move_over(&mut self, places: &mut [T]) -> usize
-        requires room { WIDTH ≤ length places.old }
-        ensures moved { places.new ≡ items self.old ++ drop WIDTH places.old }
+    fn move_over(&mut self, slots: &mut [T]) -> usize
+        requires room { WIDTH ≤ length slots.old }
+        ensures moved { slots.new ≡ items self.old ++ drop WIDTH slots.old }
         ensures left { All T.is_default (items self.new) }
         ensures count { result ≡ WIDTH }
         ensures width { length (items self.old) ≡ WIDTH };
@@ -177,7 +177,7 @@ pub trait Flatten<T, Output>: Sized {
     // What is made has room for exactly the items of all rows, and its length fits.
     ghost IsArea: { Type 0 };
 
-    /// The items of the rows, in order. A condition is that `Output` has as many places as the rows
+    /// The items of the rows, in order. A condition is that `Output` has as many slots as the rows
     /// together, and fits.
     fn flatten(self) -> Output
         requires { IsArea }

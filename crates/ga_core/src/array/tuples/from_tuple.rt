@@ -45,7 +45,8 @@ impl<T: Default + Drop> From<(T, T, T, T, T)> for GenericArray<T, U5> {
 }
 
 impl<T: Default + Drop> From<(T, T, T, T, T, T)> for GenericArray<T, U6> {
-    ghost from_gives = { λ tuple array. array ≡ tuple.0 ∷ tuple.1 ∷ tuple.2 ∷ tuple.3 ∷ tuple.4 ∷ tuple.5 ∷ [] };
+    ghost from_gives = { λ tuple array.
+        array ≡ tuple.0 ∷ tuple.1 ∷ tuple.2 ∷ tuple.3 ∷ tuple.4 ∷ tuple.5 ∷ [] };
 
     fn from(tuple: (T, T, T, T, T, T)) -> Self {
         GenericArray::from_array(tuple.into())
@@ -53,7 +54,8 @@ impl<T: Default + Drop> From<(T, T, T, T, T, T)> for GenericArray<T, U6> {
 }
 
 impl<T: Default + Drop> From<(T, T, T, T, T, T, T)> for GenericArray<T, U7> {
-    ghost from_gives = { λ tuple array. array ≡ tuple.0 ∷ tuple.1 ∷ tuple.2 ∷ tuple.3 ∷ tuple.4 ∷ tuple.5 ∷ tuple.6 ∷ [] };
+    ghost from_gives = { λ tuple array.
+        array ≡ tuple.0 ∷ tuple.1 ∷ tuple.2 ∷ tuple.3 ∷ tuple.4 ∷ tuple.5 ∷ tuple.6 ∷ [] };
 
     fn from(tuple: (T, T, T, T, T, T, T)) -> Self {
         GenericArray::from_array(tuple.into())
@@ -61,7 +63,8 @@ impl<T: Default + Drop> From<(T, T, T, T, T, T, T)> for GenericArray<T, U7> {
 }
 
 impl<T: Default + Drop> From<(T, T, T, T, T, T, T, T)> for GenericArray<T, U8> {
-    ghost from_gives = { λ tuple array. array ≡ tuple.0 ∷ tuple.1 ∷ tuple.2 ∷ tuple.3 ∷ tuple.4 ∷ tuple.5 ∷ tuple.6 ∷ tuple.7 ∷ [] };
+    ghost from_gives = { λ tuple array.
+        array ≡ tuple.0 ∷ tuple.1 ∷ tuple.2 ∷ tuple.3 ∷ tuple.4 ∷ tuple.5 ∷ tuple.6 ∷ tuple.7 ∷ [] };
 
     fn from(tuple: (T, T, T, T, T, T, T, T)) -> Self {
         GenericArray::from_array(tuple.into())
@@ -69,7 +72,9 @@ impl<T: Default + Drop> From<(T, T, T, T, T, T, T, T)> for GenericArray<T, U8> {
 }
 
 impl<T: Default + Drop> From<(T, T, T, T, T, T, T, T, T)> for GenericArray<T, U9> {
-    ghost from_gives = { λ tuple array. array ≡ tuple.0 ∷ tuple.1 ∷ tuple.2 ∷ tuple.3 ∷ tuple.4 ∷ tuple.5 ∷ tuple.6 ∷ tuple.7 ∷ tuple.8 ∷ [] };
+    ghost from_gives = { λ tuple array.
+        array ≡ tuple.0 ∷ tuple.1 ∷ tuple.2 ∷ tuple.3 ∷ tuple.4 ∷ tuple.5 ∷ tuple.6 ∷
+        tuple.7 ∷ tuple.8 ∷ [] };
 
     fn from(tuple: (T, T, T, T, T, T, T, T, T)) -> Self {
         GenericArray::from_array(tuple.into())
@@ -77,7 +82,9 @@ impl<T: Default + Drop> From<(T, T, T, T, T, T, T, T, T)> for GenericArray<T, U9
 }
 
 impl<T: Default + Drop> From<(T, T, T, T, T, T, T, T, T, T)> for GenericArray<T, U10> {
-    ghost from_gives = { λ tuple array. array ≡ tuple.0 ∷ tuple.1 ∷ tuple.2 ∷ tuple.3 ∷ tuple.4 ∷ tuple.5 ∷ tuple.6 ∷ tuple.7 ∷ tuple.8 ∷ tuple.9 ∷ [] };
+    ghost from_gives = { λ tuple array.
+        array ≡ tuple.0 ∷ tuple.1 ∷ tuple.2 ∷ tuple.3 ∷ tuple.4 ∷ tuple.5 ∷ tuple.6 ∷ tuple.7 ∷
+        tuple.8 ∷ tuple.9 ∷ [] };
 
     fn from(tuple: (T, T, T, T, T, T, T, T, T, T)) -> Self {
         GenericArray::from_array(tuple.into())
@@ -85,7 +92,9 @@ impl<T: Default + Drop> From<(T, T, T, T, T, T, T, T, T, T)> for GenericArray<T,
 }
 
 impl<T: Default + Drop> From<(T, T, T, T, T, T, T, T, T, T, T)> for GenericArray<T, U11> {
-    ghost from_gives = { λ tuple array. array ≡ tuple.0 ∷ tuple.1 ∷ tuple.2 ∷ tuple.3 ∷ tuple.4 ∷ tuple.5 ∷ tuple.6 ∷ tuple.7 ∷ tuple.8 ∷ tuple.9 ∷ tuple.10 ∷ [] };
+    ghost from_gives = { λ tuple array.
+        array ≡ tuple.0 ∷ tuple.1 ∷ tuple.2 ∷ tuple.3 ∷ tuple.4 ∷ tuple.5 ∷ tuple.6 ∷ tuple.7 ∷ tuple.8 ∷
+        tuple.9 ∷ tuple.10 ∷ [] };
 
     fn from(tuple: (T, T, T, T, T, T, T, T, T, T, T)) -> Self {
         GenericArray::from_array(tuple.into())
@@ -93,7 +102,9 @@ impl<T: Default + Drop> From<(T, T, T, T, T, T, T, T, T, T, T)> for GenericArray
 }
 
 impl<T: Default + Drop> From<(T, T, T, T, T, T, T, T, T, T, T, T)> for GenericArray<T, U12> {
-    ghost from_gives = { λ tuple array. array ≡ tuple.0 ∷ tuple.1 ∷ tuple.2 ∷ tuple.3 ∷ tuple.4 ∷ tuple.5 ∷ tuple.6 ∷ tuple.7 ∷ tuple.8 ∷ tuple.9 ∷ tuple.10 ∷ tuple.11 ∷ [] };
+    ghost from_gives = { λ tuple array.
+        array ≡ tuple.0 ∷ tuple.1 ∷ tuple.2 ∷ tuple.3 ∷ tuple.4 ∷ tuple.5 ∷ tuple.6 ∷ tuple.7 ∷ tuple.8 ∷
+        tuple.9 ∷ tuple.10 ∷ tuple.11 ∷ [] };
 
     fn from(tuple: (T, T, T, T, T, T, T, T, T, T, T, T)) -> Self {
         GenericArray::from_array(tuple.into())

@@ -52,7 +52,8 @@ impl<T: Default + Drop> From<GenericArray<T, U5>> for (T, T, T, T, T) {
 }
 
 impl<T: Default + Drop> From<GenericArray<T, U6>> for (T, T, T, T, T, T) {
-    ghost from_gives = { λ array tuple. array ≡ tuple.0 ∷ tuple.1 ∷ tuple.2 ∷ tuple.3 ∷ tuple.4 ∷ tuple.5 ∷ [] };
+    ghost from_gives = { λ array tuple.
+        array ≡ tuple.0 ∷ tuple.1 ∷ tuple.2 ∷ tuple.3 ∷ tuple.4 ∷ tuple.5 ∷ [] };
 
     fn from(array: GenericArray<T, U6>) -> Self {
         let [a, b, c, d, e, f]: [T; 6] = native(array);
@@ -61,7 +62,8 @@ impl<T: Default + Drop> From<GenericArray<T, U6>> for (T, T, T, T, T, T) {
 }
 
 impl<T: Default + Drop> From<GenericArray<T, U7>> for (T, T, T, T, T, T, T) {
-    ghost from_gives = { λ array tuple. array ≡ tuple.0 ∷ tuple.1 ∷ tuple.2 ∷ tuple.3 ∷ tuple.4 ∷ tuple.5 ∷ tuple.6 ∷ [] };
+    ghost from_gives = { λ array tuple.
+        array ≡ tuple.0 ∷ tuple.1 ∷ tuple.2 ∷ tuple.3 ∷ tuple.4 ∷ tuple.5 ∷ tuple.6 ∷ [] };
 
     fn from(array: GenericArray<T, U7>) -> Self {
         let [a, b, c, d, e, f, g]: [T; 7] = native(array);
@@ -70,7 +72,8 @@ impl<T: Default + Drop> From<GenericArray<T, U7>> for (T, T, T, T, T, T, T) {
 }
 
 impl<T: Default + Drop> From<GenericArray<T, U8>> for (T, T, T, T, T, T, T, T) {
-    ghost from_gives = { λ array tuple. array ≡ tuple.0 ∷ tuple.1 ∷ tuple.2 ∷ tuple.3 ∷ tuple.4 ∷ tuple.5 ∷ tuple.6 ∷ tuple.7 ∷ [] };
+    ghost from_gives = { λ array tuple.
+        array ≡ tuple.0 ∷ tuple.1 ∷ tuple.2 ∷ tuple.3 ∷ tuple.4 ∷ tuple.5 ∷ tuple.6 ∷ tuple.7 ∷ [] };
 
     fn from(array: GenericArray<T, U8>) -> Self {
         let [a, b, c, d, e, f, g, h]: [T; 8] = native(array);
@@ -79,7 +82,9 @@ impl<T: Default + Drop> From<GenericArray<T, U8>> for (T, T, T, T, T, T, T, T) {
 }
 
 impl<T: Default + Drop> From<GenericArray<T, U9>> for (T, T, T, T, T, T, T, T, T) {
-    ghost from_gives = { λ array tuple. array ≡ tuple.0 ∷ tuple.1 ∷ tuple.2 ∷ tuple.3 ∷ tuple.4 ∷ tuple.5 ∷ tuple.6 ∷ tuple.7 ∷ tuple.8 ∷ [] };
+    ghost from_gives = { λ array tuple.
+        array ≡ tuple.0 ∷ tuple.1 ∷ tuple.2 ∷ tuple.3 ∷ tuple.4 ∷ tuple.5 ∷ tuple.6 ∷
+        tuple.7 ∷ tuple.8 ∷ [] };
 
     fn from(array: GenericArray<T, U9>) -> Self {
         let [a, b, c, d, e, f, g, h, i]: [T; 9] = native(array);
@@ -88,7 +93,9 @@ impl<T: Default + Drop> From<GenericArray<T, U9>> for (T, T, T, T, T, T, T, T, T
 }
 
 impl<T: Default + Drop> From<GenericArray<T, U10>> for (T, T, T, T, T, T, T, T, T, T) {
-    ghost from_gives = { λ array tuple. array ≡ tuple.0 ∷ tuple.1 ∷ tuple.2 ∷ tuple.3 ∷ tuple.4 ∷ tuple.5 ∷ tuple.6 ∷ tuple.7 ∷ tuple.8 ∷ tuple.9 ∷ [] };
+    ghost from_gives = { λ array tuple.
+        array ≡ tuple.0 ∷ tuple.1 ∷ tuple.2 ∷ tuple.3 ∷ tuple.4 ∷ tuple.5 ∷ tuple.6 ∷ tuple.7 ∷
+        tuple.8 ∷ tuple.9 ∷ [] };
 
     fn from(array: GenericArray<T, U10>) -> Self {
         let [a, b, c, d, e, f, g, h, i, j]: [T; 10] = native(array);
@@ -97,7 +104,9 @@ impl<T: Default + Drop> From<GenericArray<T, U10>> for (T, T, T, T, T, T, T, T, 
 }
 
 impl<T: Default + Drop> From<GenericArray<T, U11>> for (T, T, T, T, T, T, T, T, T, T, T) {
-    ghost from_gives = { λ array tuple. array ≡ tuple.0 ∷ tuple.1 ∷ tuple.2 ∷ tuple.3 ∷ tuple.4 ∷ tuple.5 ∷ tuple.6 ∷ tuple.7 ∷ tuple.8 ∷ tuple.9 ∷ tuple.10 ∷ [] };
+    ghost from_gives = { λ array tuple.
+        array ≡ tuple.0 ∷ tuple.1 ∷ tuple.2 ∷ tuple.3 ∷ tuple.4 ∷ tuple.5 ∷ tuple.6 ∷ tuple.7 ∷ tuple.8 ∷
+        tuple.9 ∷ tuple.10 ∷ [] };
 
     fn from(array: GenericArray<T, U11>) -> Self {
         let [a, b, c, d, e, f, g, h, i, j, k]: [T; 11] = native(array);
@@ -106,7 +115,9 @@ impl<T: Default + Drop> From<GenericArray<T, U11>> for (T, T, T, T, T, T, T, T, 
 }
 
 impl<T: Default + Drop> From<GenericArray<T, U12>> for (T, T, T, T, T, T, T, T, T, T, T, T) {
-    ghost from_gives = { λ array tuple. array ≡ tuple.0 ∷ tuple.1 ∷ tuple.2 ∷ tuple.3 ∷ tuple.4 ∷ tuple.5 ∷ tuple.6 ∷ tuple.7 ∷ tuple.8 ∷ tuple.9 ∷ tuple.10 ∷ tuple.11 ∷ [] };
+    ghost from_gives = { λ array tuple.
+        array ≡ tuple.0 ∷ tuple.1 ∷ tuple.2 ∷ tuple.3 ∷ tuple.4 ∷ tuple.5 ∷ tuple.6 ∷ tuple.7 ∷ tuple.8 ∷
+        tuple.9 ∷ tuple.10 ∷ tuple.11 ∷ [] };
 
     fn from(array: GenericArray<T, U12>) -> Self {
         let [a, b, c, d, e, f, g, h, i, j, k, l]: [T; 12] = native(array);
@@ -114,7 +125,7 @@ impl<T: Default + Drop> From<GenericArray<T, U12>> for (T, T, T, T, T, T, T, T, 
     }
 }
 
-/// The items as a native array.
+// The items as a native array.
 #[inline]
 fn native<T: Default + Drop, N: ArrayLength<T>, const U: usize>(
     mut array: GenericArray<T, N>,

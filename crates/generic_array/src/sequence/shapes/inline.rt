@@ -4,7 +4,8 @@ ghost use Rattle.std.specs.Prelude.{◌≡◌, ◌+◌, ◌*◌, ◌<◌, map};
 
 use crate::sequence::shapes::moves::array_of;
 use crate::sequence::shapes::{Concat, Flatten, Lengthen, Remove, Row, Shorten, Split, Unflatten};
-use ga_core::{ArrayBuilder, ArrayLength, GenericArray, move_items};
+use ga_core::slots::move_items;
+use ga_core::{ArrayBuilder, ArrayLength, GenericArray};
 use std::mem;
 
 impl<T: Default + Drop, N: ArrayLength<T>, M: ArrayLength<T>> Lengthen<T, GenericArray<T, M>>
@@ -140,9 +141,9 @@ impl<T: Default + Drop, N: ArrayLength<T>> Row<T> for GenericArray<T, N> {
     ghost WIDTH = { N.USIZE };
 
     #[inline]
-    fn move_over(&mut self, places: &mut [T]) -> usize {
+    fn move_over(&mut self, slots: &mut [T]) -> usize {
         let _ = self.as_slice();
-        let (first, _) = places.split_at_mut(N::USIZE);
+        let (first, _) = slots.split_at_mut(N::USIZE);
         move_items(self.as_mut_slice(), first);
         N::USIZE
     }
@@ -166,10 +167,10 @@ impl<T: Default + Drop, I: Row<T> + Default + Drop, R: ArrayLength<I>, M: ArrayL
     fn flatten(mut self) -> GenericArray<T, M> {
         let _ = self.as_slice();
         let mut array = GenericArray::default();
-        let places = array.as_mut_slice();
+        let slots = array.as_mut_slice();
         let mut at = 0;
         for row in self.as_mut_slice().iter_mut() {
-            let (_, behind) = places.split_at_mut(at);
+            let (_, behind) = slots.split_at_mut(at);
             at += row.move_over(behind);
         }
         array
@@ -199,7 +200,7 @@ where
         let items = self.as_mut_slice();
         let mut rows = ArrayBuilder::new();
         let mut at = 0;
-        for _place in 0..R::USIZE {
+        for _row in 0..R::USIZE {
             let (_, behind) = items.split_at_mut(at);
             let (first, _) = behind.split_at_mut(W::USIZE);
             rows.push(array_of(first));

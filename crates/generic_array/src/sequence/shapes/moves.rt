@@ -2,9 +2,10 @@
 ghost use Rattle.ga_core.specs.Length.{FitsInline};
 ghost use Rattle.std.specs.Prelude.{◌≡◌, length};
 
-use ga_core::{ArrayLength, GenericArray, move_items};
+use ga_core::slots::move_items;
+use ga_core::{ArrayLength, GenericArray};
 
-/// An array of the items of a slice, in which defaults are left.
+// An array of the items of a slice, in which defaults are left.
 #[inline]
 pub(super) fn array_of<T: Default + Drop, M: ArrayLength<T>>(items: &mut [T]) -> GenericArray<T, M>
     requires fits { FitsInline M.USIZE }

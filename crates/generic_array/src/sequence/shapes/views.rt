@@ -1,9 +1,10 @@
 //! The shapes of views.
+ghost use Rattle.ga_core.specs.Views.{items_of_view};
 ghost use Rattle.std.specs.Borrow.{Array, follows_both, sem};
 ghost use Rattle.std.specs.Prelude.{◌≡◌, ◌+◌, ◌++◌, drop, length, take};
 
 use crate::sequence::shapes::Split;
-use ga_core::{ArrayLength, ViewMut, GenericArray, GenericArrayMut, GenericArrayRef, Unsigned};
+use ga_core::{ArrayLength, GenericArray, GenericArrayMut, GenericArrayRef, Unsigned, ViewMut};
 
 /// Two views of the slice's parts, for the lifetime of the slice. A view's length need not fit
 /// inline. O(1).
@@ -12,11 +13,11 @@ impl<'a, T, N: Unsigned, K: Unsigned, M: Unsigned> Split<
     GenericArrayRef<'a, T, K>,
     GenericArrayRef<'a, T, M>,
 > for GenericArrayRef<'a, T, N> {
-    ghost items = { λ view. view.slice.now };
+    ghost items = { items_of_view };
 
-    ghost first_items = { λ view. view.slice.now };
+    ghost first_items = { items_of_view };
 
-    ghost second_items = { λ view. view.slice.now };
+    ghost second_items = { items_of_view };
 
     ghost PLACE = { K.USIZE };
 
@@ -84,14 +85,15 @@ impl<'a, T, N: ArrayLength<T>, K: Unsigned, M: Unsigned> Split<
     }
 }
 
-/// The halves of a writing view: once both borrows end, the slice is the first half's items and
-/// then the second's.
+// The halves of a writing view: once both borrows end, the slice is the first half's items and
+// then the second's.
 #[inline]
 fn halves_of<'a, T, N: Unsigned, K: Unsigned, M: Unsigned>(
     view: GenericArrayMut<'a, T, N>,
 ) -> (GenericArrayMut<'a, T, K>, GenericArrayMut<'a, T, M>)
     requires sum { N.USIZE ≡ K.USIZE + M.USIZE }
-    ensures* writes_back { sem 𝓛 (follows_both (Array T.row 0) (Array T.row 0) (Array T.row 0) view.entry.slice.ghost_name result.0.slice.ghost_name result.1.slice.ghost_name ◌++◌) }
+    ensures* writes_back { sem 𝓛 (follows_both (Array T.row 0) (Array T.row 0) (Array T.row 0)
+        view.entry.slice.ghost_name result.0.slice.ghost_name result.1.slice.ghost_name ◌++◌) }
     ensures first { result.0.slice.now ≡ take K.USIZE view.entry.slice.now }
     ensures second { result.1.slice.now ≡ drop K.USIZE view.entry.slice.now }
 {
@@ -99,7 +101,7 @@ fn halves_of<'a, T, N: Unsigned, K: Unsigned, M: Unsigned>(
     views_of(first, second)
 }
 
-/// The views of two slices for writing.
+// The views of two slices for writing.
 #[inline]
 fn views_of<'a, T, K: Unsigned, M: Unsigned>(
     first: &'a mut [T],
