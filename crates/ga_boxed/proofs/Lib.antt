@@ -5,6 +5,5 @@ pub mod Crosses
 pub mod EndLemmas
 pub mod FrontLemmas
 pub mod NativeLemmas
-pub mod RestLemmas
 pub mod TakeWalk
 pub mod WalkParts

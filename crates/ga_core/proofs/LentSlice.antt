@@ -16,7 +16,7 @@ use contract.Monad.{fact, fact_i, Fun}
 use denote.Array.{Array}
 use denote.Follow.{follows}
 use denote.Memory.{mem}
-use denote.Param.{layout, number, param}
+use denote.Param.{layout, layouts, number, param}
 use denote.RattleType.{RattleType}
 use denote.Ref.{mut_vals, MutRef}
 use denote.Shadow.{pure_l}
@@ -26,7 +26,7 @@ use denote.Steps.{heard, nothing, only}
 use denote.Triple.Call.{calls_at}
 use denote.Triple.Spec.{triple_of}
 use denote.Triple.Statement.{Contract, Triple}
-use mir.Syntax.{Body as Code, call, Callee, named, Opd, Place, seq}
+use mir.Syntax.{a_number, a_type, Args, Body as Code, call, Callee, named, Opd, Place, seq}
 use mir.Val.{Val}
 use prog.Memory.{Memory, size}
 use prog.Routine.{Routine}
@@ -40,6 +40,10 @@ use types.Run.{Opds}
 use types.SemTy.{Arr, Body}
 
 module _ (X : RattleType) (n : ℕ) (Z : RattleType) where
+  -- the arguments that stand for the three parameters
+  abbrev pub args : Args
+  args = layouts (a_type ∷ a_number ∷ a_type ∷ []) (X, (number n, (Z, tt)))
+
   -- the type of an element, and that of the store
   abbrev pub R : RattleType
   R = param 0 X

@@ -1,4 +1,6 @@
 mod LentSlice
+mod MadeLemmas
+mod NextCalls
 mod ZipLemmas
 pub mod ActsLemmas
 pub mod CallLemmas
@@ -11,6 +13,7 @@ pub mod LeftLemmas
 pub mod MoveLemmas
 pub mod SlotLemmas
 pub mod RunLemmas
+pub use Rattle.arrayvec.proofs.IterLemmas
 pub use Rattle.ga_views.proofs.CutLemmas
 pub use Rattle.ga_views.proofs.HexLemmas
 pub use Rattle.ga_views.proofs.ItemLoan
@@ -18,3 +21,5 @@ pub use Rattle.ga_views.proofs.JoinLemmas
 pub use Rattle.ga_views.proofs.LengthCall
 pub use Rattle.ga_views.proofs.RowLemmas
 pub use Rattle.ga_views.proofs.SliceLaws
+pub use Rattle.ga_views.proofs.SliceWalk
+pub use Rattle.ga_views.proofs.SplitWalk

@@ -31,6 +31,11 @@ module _ {T : Type 0} where
       → drop n items ≡ item ∷ drop (n + 1) left
   next-here n items left item some this behind = sym behind ∙ (drop_more left n item some ∙ ap (λ x. x ∷ drop (n + 1) left) (sym this))
 
+  -- the next item of all is the one that was taken from its slot
+  pub taken-here : (n : ℕ) (items left : List T) (there item : T) → n < length left → there ≡ slice_index_or left n there → item ≡ slice_index_or left n there → drop n left ≡ drop n items
+      → drop n items ≡ item ∷ drop (n + 1) left
+  taken-here n items left there item some is value behind = next-here n items left item some (this-here n left there item is value) behind
+
   -- a list is what was passed, the next item, and the others
   pub cut-here : (n : ℕ) (items others : List T) (item : T) → drop n items ≡ item ∷ others → items ≡ take n items ++ item ∷ others
   cut-here n items others item here = sym (take-append-drop n items) ∙ ap (λ l. take n items ++ l) here

@@ -18,3 +18,7 @@ module _ {A B : Type 0} where
       → drop n (zip xs ys) ≡ (x, y) ∷ zip more others
   pairs-here n xs more ys others x y left right =
       drop-zip n xs ys ∙ (ap (λ l. zip l (drop n ys)) left ∙ ap (λ r. zip (x ∷ more) r) right)
+
+  -- pairs of equal lists
+  pub same-pairs : {xs others : List A} {ys more : List B} → xs ≡ others → ys ≡ more → zip xs ys ≡ zip others more
+  same-pairs left right = cc

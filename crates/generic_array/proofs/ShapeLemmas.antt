@@ -1,6 +1,6 @@
 -- Items taken out of a list, and rows of it joined and cut.
 use Rattle.std.proofs.Common.{◌≡◌, ℕ, zero, suc, ◌+◌, ◌-◌, ◌*◌, ◌/◌, ◌<◌, ◌≤◌, List, [], ◌∷◌, ◌++◌, Some, take, drop, refl, subst, ap, ◌∙◌, sym, arith, append_assoc, get_or, length, length-append, length-drop, length-set, length-take, map, slice_get, slice_index_or, slice_set}
-use Rattle.ga_core.proofs.PlaceLemmas.{refill-whole}
+use Rattle.ga_core.proofs.SlotLemmas.{refill-whole}
 use Rattle.ga_core.proofs.RowLemmas.{rows-few, rows-first}
 use Rattle.std.proofs.Math.Seq.{drop-append_seam, take-append_seam}
 use Rattle.generic_array.specs.Rows.{row_at, rows}

@@ -1,14 +1,15 @@
 -- Walks over what a sequence gives, and the calls along them.
-use Rattle.ga_core.proofs.RunLemmas.{FirstErrorRun-good}
+use Rattle.ga_core.proofs.RunLemmas.{FirstErrorRun-good, FirstErrorRun-length}
 use Rattle.ga_core.specs.Runs.{CallableOver, CallableOverUntilError, ClosureRun, FirstErrorRun}
 use Rattle.generic_array.specs.Built.{built_items}
 use Rattle.ga_core.specs.Entries.{CallAt, CallAtPair, MayCallAt, MayCallAtPair}
 use Rattle.generic_array.specs.GivenEntries.{CallAtNext, CallAtNextPair, MayCallAtNext, MayCallAtNextPair}
 use Rattle.generic_array.specs.EntryRuns.{FirstErrorRan}
-use Rattle.std.proofs.Common.{◌≡◌, suc, ◌<◌, List, [], ◌∷◌, ◌++◌, length, length-append, arith, ◌⊎◌, inl, inr, map, Result, Ok, Err, Option, None, Some, append-nil, refl, ap, sym, ◌∙◌, subst}
+use Rattle.std.proofs.Common.{◌≡◌, ℕ, suc, ◌<◌, List, [], ◌∷◌, ◌++◌, length, length-append, arith, ◌⊎◌, inl, inr, map, Result, Ok, Err, Option, None, Some, append-nil, refl, ap, sym, ◌∙◌, subst}
 use Rattle.std.specs.Iterator.{AlwaysYields}
-use Rattle.std.specs.List.{zip}
-use Rattle.std.specs.Prelude.{MatchOption}
+use Rattle.std.proofs.lemmas.List.FromFn.{length-range_with_len}
+use Rattle.std.specs.List.{range_with_len, zip}
+use Rattle.std.specs.Prelude.{IfOk, MatchOption}
 
 module _ {A : Type 0} where
   length_zero : (xs : List A) → length xs ≡ 0 → xs ≡ []
@@ -215,3 +216,8 @@ module _ {C K Y E : Type 0} {calls : C → K → Result Y E → C → Type 0} {c
       → ((f : C) (k : K) (y : Result Y E) (g : C) → calls f k y g → CallAtNext can steps step (it f) (fn f) y (it g) (fn g))
       → (values : List T) → AlwaysYields steps entry (it c) values → can (it c) → length ks ≡ length values → FirstErrorRun (CallAt entry step) (fn c) values answer (fn d)
   walk-ran steps can entry pre step it fn ran reads values gives may all = walk-answer steps can entry step it fn calls reads pre answer values c ks d gives may all ran.run
+
+-- good calls at the numbers below n gave n answers
+pub FirstErrorRun-below_length : {F Y E : Type 0} (step : F → ℕ → Result Y E → F → Type 0) (f : F) (n : ℕ) (answer : Result (List Y) E) (last : F)
+    → FirstErrorRun step f (range_with_len 0 n) answer last → IfOk answer (λ ys. length ys ≡ n)
+FirstErrorRun-below_length step f n answer last run = FirstErrorRun-length step f (range_with_len 0 n) answer last n (length-range_with_len 0 n) run

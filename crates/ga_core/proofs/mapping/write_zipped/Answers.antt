@@ -1,9 +1,12 @@
 use Rattle.ga_core.proofs.MoveLemmas.{behind-next, cut-here, next-here, take-one_more, this-here}
+use Rattle.ga_core.proofs.NextCalls.{run-of_all}
 use Rattle.ga_core.proofs.RunLemmas.{ClosureRun-snoc}
 use Rattle.ga_core.proofs.ZipLemmas.{pairs-here}
 use Rattle.ga_core.proofs.mapping.write_zipped.Goals as goal
-use Rattle.std.proofs.Common.{arith, take}
-use Rattle.std.proofs.lemmas.List.{take_all, take_more_set}
+use Rattle.ga_core.specs.Entries.{CallOnPair}
+use Rattle.ga_core.specs.Runs.{ClosureRun}
+use Rattle.std.proofs.Common.{arith, length, take, ◌≤◌}
+use Rattle.std.proofs.lemmas.List.{take_more_set}
 use Rattle.std.proofs.lemmas.Slice.Zip.{length-zip}
 use Rattle.std.specs.List.{zip}
 
@@ -30,7 +33,5 @@ loop-index-preserved g c =
 
 pub returns : goal.returns
 returns g c =
-    let at = c.loop-index in
-    let pairs = take_all at.index (zip c.args.left.now c.args.right.now) (omega (arith, length-zip c.args.left.now c.args.right.now, c.requires.left, c.requires.right, c.loop-index-test.false)) in
-    let slots = take_all at.index at.slots (omega (arith, c.loop-index-test.false, at.auto.index-end, at.auto.slots)) in
-    record { run = rw pairs at (rw slots at at.invariant.run) }
+    let passed : length (zip c.args.left.now c.args.right.now) ≤ c.loop-index.index = omega (arith, length-zip c.args.left.now c.args.right.now, c.requires.left, c.requires.right, c.loop-index-test.false) in
+    record { run = run-of_all (λ pairs made. ClosureRun (CallOnPair (goal.F-step g)) c.args.f.now pairs made c.loop-index.f) c.loop-index.index (zip c.args.left.now c.args.right.now) c.loop-index.slots passed (omega arith) c.loop-index.invariant.run }

@@ -1,9 +1,12 @@
 use Rattle.ga_core.proofs.MoveLemmas.{cut-here, take-one_more}
+use Rattle.ga_core.proofs.NextCalls.{run-of_all}
 use Rattle.ga_core.proofs.RunLemmas.{ClosureRun-snoc}
 use Rattle.ga_core.proofs.ZipLemmas.{pairs-here}
 use Rattle.ga_core.proofs.mapping.write_zipped_refs.Goals as goal
-use Rattle.std.proofs.Common.{◌+◌, ◌∙◌, ◌∷◌, ap, arith, drop, refl, rules, sym, take}
-use Rattle.std.proofs.lemmas.List.{drop_more, take_all, take_more_set}
+use Rattle.ga_core.specs.Entries.{CallAtPair}
+use Rattle.ga_core.specs.Runs.{ClosureRun}
+use Rattle.std.proofs.Common.{ap, arith, drop, length, refl, rules, sym, take, ◌+◌, ◌∙◌, ◌∷◌, ◌≤◌}
+use Rattle.std.proofs.lemmas.List.{drop_more, take_more_set}
 use Rattle.std.proofs.lemmas.Slice.Zip.{length-zip}
 use Rattle.std.specs.List.{zip}
 
@@ -26,7 +29,5 @@ loop-index-preserved g c =
 
 pub returns : goal.returns
 returns g c =
-    let at = c.loop-index in
-    let pairs = take_all at.index (zip c.args.left.now c.args.right.now) (omega (arith, length-zip c.args.left.now c.args.right.now, c.requires.left, c.requires.right, c.loop-index-test.false)) in
-    let slots = take_all at.index at.slots (search rules) in
-    record { run = rw pairs at (rw slots at at.invariant) }
+    let passed : length (zip c.args.left.now c.args.right.now) ≤ c.loop-index.index = omega (arith, length-zip c.args.left.now c.args.right.now, c.requires.left, c.requires.right, c.loop-index-test.false) in
+    record { run = run-of_all (λ pairs made. ClosureRun (CallAtPair (λ item. item.now) (λ item. item.now) (goal.F-step g)) c.args.f.now pairs made c.loop-index.f) c.loop-index.index (zip c.args.left.now c.args.right.now) c.loop-index.slots passed (omega arith) c.loop-index.invariant }

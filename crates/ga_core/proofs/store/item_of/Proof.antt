@@ -3,7 +3,7 @@
 -- pointer gives the element's slot, and then the element is lent, by `ItemLoan`'s `lends_item`. Assumes `Logic`.
 use Rattle.arrayvec.proofs.array_vec.ArrayVec.as_mut_slice.Met as theirs
 use Rattle.arrayvec.specs.ArrayVec.{with_items}
-use Rattle.ga_core.proofs.LentSlice.{calls_slice, loan_of, R, S}
+use Rattle.ga_core.proofs.LentSlice.{args, calls_slice, loan_of, R, S}
 use Rattle.ga_core.proofs.store.item_of.Code as code
 use Rattle.ga_core.proofs.store.item_of.Statement.{statement}
 use Rattle.ga_core.specs.contracts.store.item_of.Key.{name as #self}
@@ -15,12 +15,12 @@ use Rattle.std.specs.List.{refill}
 use contract.Running.{tables}
 use denote.Builtin.{RefMutOf}
 use denote.Follow.{follows}
-use denote.Param.{layout, layouts, number}
+use denote.Param.{layout, number}
 use denote.RattleType.{RattleType}
 use denote.Signature.{plain}
 use denote.Triple.Table.{framed}
 use mir.MapTy.{inst_fn}
-use mir.Syntax.{a_number, a_type, Args, w64}
+use mir.Syntax.{w64}
 use mir.Val.{vint}
 use prog.Memory.{size}
 use types.ByLocal.{alloc_all, free_all, get, get_in, is, lands_as, look_at, pass_all, sets, through}
@@ -38,9 +38,8 @@ loan X n Z = loan_of X n Z (RefMutOf (0 ∷ []) tt (plain (λ _. R X n Z)) (λ _
 
 pub item_of_spec : {M : Type 1} → statement M
 item_of_spec 𝓤 𝓛 𝓜 𝓡 wired X n Z L fits LZ =
-    let args : Args = layouts (a_type ∷ a_number ∷ a_type ∷ []) (X, (number n, (Z, tt))) in
     let met = theirs.met 𝓤 𝓛 𝓜 𝓡 (code.calls-arrayvec::array_vec::ArrayVec::as_mut_slice 𝓡.env wired) X n Z L fits LZ in
-    lends (loan X n Z) 𝓛 𝓜 𝓡 (#self args) (inst_fn args code.function) (code.unfolded 𝓤 𝓛.H 𝓜 𝓡 wired (X, (number n, (Z, tt))))
+    lends (loan X n Z) 𝓛 𝓜 𝓡 (#self (args X n Z)) (inst_fn (args X n Z) code.function) (code.unfolded 𝓤 𝓛.H 𝓜 𝓡 wired (X, (number n, (Z, tt))))
     (λ κs qs bounds store ns Post lives asked are exits.
     let E : RattleType = R X n Z in
     let Store : RattleType = S X n Z in

@@ -2,7 +2,7 @@
 -- The borrow checker does not follow a part of a slice to its lender, so this proof walks the code by hand. Assumes `Logic`.
 use Rattle.arrayvec.proofs.array_vec.ArrayVec.as_mut_slice.Met as theirs
 use Rattle.arrayvec.specs.ArrayVec.{with_items}
-use Rattle.ga_core.proofs.LentSlice.{calls_slice, loan_of, R}
+use Rattle.ga_core.proofs.LentSlice.{args, calls_slice, loan_of, R}
 use Rattle.ga_core.proofs.store.items_of.Code as code
 use Rattle.ga_core.proofs.store.items_of.Statement.{statement}
 use Rattle.ga_core.specs.contracts.store.items_of.Key.{name as #self}
@@ -11,14 +11,13 @@ use Rattle.std.proofs.Common.{◌≡◌, [], ◌∷◌, ◌∙◌, ap, length, r
 use contract.Running.{tables}
 use denote.Array.{Array}
 use denote.Builtin.{SliceRefMutOf}
-use denote.Param.{layouts, number}
+use denote.Param.{number}
 use denote.RattleType.{RattleType}
 use denote.Shadow.{pure_i}
 use denote.Signature.{plain}
 use denote.Slice.{mut_slice_at, slice_val}
 use denote.Triple.Table.{framed}
 use mir.MapTy.{inst_fn}
-use mir.Syntax.{a_number, a_type, Args}
 use types.ByLocal.{alloc_all, free_all, get, lands_as, look_at, look_in_at, pass_all, sets, through}
 use types.Kit.{◌$◌, ◌∵◌, !, by, fjoin3, keep, qed}
 use types.Part.{agg, sub, whole}
@@ -29,9 +28,8 @@ loan X n Z = loan_of X n Z (SliceRefMutOf (0 ∷ []) tt (plain (λ _. R X n Z)) 
 
 pub items_of_spec : {M : Type 1} → statement M
 items_of_spec 𝓤 𝓛 𝓜 𝓡 wired X n Z L fits LZ =
-    let args : Args = layouts (a_type ∷ a_number ∷ a_type ∷ []) (X, (number n, (Z, tt))) in
     let met = theirs.met 𝓤 𝓛 𝓜 𝓡 (code.calls-arrayvec::array_vec::ArrayVec::as_mut_slice 𝓡.env wired) X n Z L fits LZ in
-    lends (loan X n Z) 𝓛 𝓜 𝓡 (#self args) (inst_fn args code.function) (code.unfolded 𝓤 𝓛.H 𝓜 𝓡 wired (X, (number n, (Z, tt))))
+    lends (loan X n Z) 𝓛 𝓜 𝓡 (#self (args X n Z)) (inst_fn (args X n Z) code.function) (code.unfolded 𝓤 𝓛.H 𝓜 𝓡 wired (X, (number n, (Z, tt))))
     (λ κs qs bounds x ns Post lives asked are exits.
     let len : ℕ = ns.0 in
     qed 𝓛 (Had (loan X n Z) 𝓛 κs qs x ns) ∵ enter ! _ _ _ _ _ $ alloc_all ! (λ l. pass_all ! refl ((tt, tt), ((tt, record { fits = are.0.1 }), tt)) $

@@ -1,33 +1,14 @@
-use Rattle.ga_core.proofs.CallLemmas.{callable-over}
 use Rattle.ga_core.proofs.ActsLemmas.{answers_of_run}
-use Rattle.ga_core.proofs.SlotLemmas.{refill-over}
+use Rattle.ga_core.proofs.CallLemmas.{callable-over}
+use Rattle.ga_core.proofs.MadeLemmas.{ClosureRun-made, made-is_written}
 use Rattle.ga_core.proofs.array.GenericArray.map_inline_by.Goals as goal
-use Rattle.ga_core.specs.Runs.{ClosureRun}
-use Rattle.std.proofs.Common.{ap, arith, length, subst, sym, ◌∙◌, ◌≡◌}
+use Rattle.std.proofs.Common.{sym, ◌∙◌}
 
 pub write_mapped-requires-clause-callable : goal.write_mapped-requires-clause-callable
 write_mapped-requires-clause-callable g c = λ passed x others ys reached whole run. callable-over _ _ _ _ c.requires.callable passed x others ys reached (sym c.as_mut_slice.ensures.items ∙ whole) run
 
 pub returns : goal.returns
 returns g c =
-    let made : c.write_mapped.new.slots ≡ c.of_store.result = sym (c.of_store.ensures ∙ refill-over _ _ _ _ c.as_mut_slice-2.ensures.value c.write_mapped.auto.slots (g.N.ArrayType.Store-2.store_with c.filled-store.result c.write_mapped.new.slots).1) in
-    let called = subst (λ slots. ClosureRun (goal.F-step g) c.args.f.now c.as_mut_slice.result.now slots c.write_mapped.new.f) made c.write_mapped.ensures.run in
-    let run = subst (λ items. ClosureRun (goal.F-step g) c.args.f.now items c.of_store.result c.write_mapped.new.f) c.as_mut_slice.ensures.items called in
+    let made = made-is_written c.as_mut_slice-2.ensures.value c.write_mapped.auto.slots (g.N.ArrayType.Store-2.store_with c.filled-store.result c.write_mapped.new.slots).1 c.of_store.ensures in
+    let run = ClosureRun-made (goal.F-step g) _ _ c.as_mut_slice.ensures.items made c.write_mapped.ensures.run in
     record { run = run; acts = λ h acts. answers_of_run _ _ h acts _ _ _ run }
-
-pub of_store-requires : goal.of_store-requires
-of_store-requires g c =
-    let stands = refill-over _ _ _ _ c.as_mut_slice-2.ensures.value c.write_mapped.auto.slots (g.N.ArrayType.Store-2.store_with c.filled-store.result c.write_mapped.new.slots).1 in
-    record { full = ap length stands ∙ (c.write_mapped.auto.slots ∙ (ap length c.as_mut_slice-2.ensures.value ∙ (c.filled-store.ensures ∙ g.met.N.ArrayLength-2.capacity_is))); fits = c.well_formed.0.1.0.1.1.1 }
-
-pub filled-store-requires : goal.filled-store-requires
-filled-store-requires g c = record { fits = omega (arith, g.met.N.ArrayLength-2.capacity_is, c.well_formed.0.1.0.1.1.1) }
-
-pub write_mapped-requires-clause-len : goal.write_mapped-requires-clause-len
-write_mapped-requires-clause-len g c = c.as_mut_slice.ensures.len ∙ sym (ap length c.as_mut_slice-2.ensures.value ∙ (c.filled-store.ensures ∙ g.met.N.ArrayLength-2.capacity_is))
-
-pub as_mut_slice-requires : goal.as_mut_slice-requires
-as_mut_slice-requires g c = λ κs longer. longer
-
-pub as_mut_slice-requires-2 : goal.as_mut_slice-requires-2
-as_mut_slice-requires-2 g c = λ κs longer. longer

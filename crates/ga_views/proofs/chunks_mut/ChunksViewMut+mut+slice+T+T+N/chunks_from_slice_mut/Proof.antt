@@ -2,7 +2,9 @@
 -- The borrow checker shows no clause on two parts where one of them is passed on to a call that makes rows of it, so this proof walks the code by hand. Assumes `Logic`.
 use Prim.Native.Nat.{ℕ}
 use Rattle.ga_views.proofs.LengthCall.{calls_length}
+use Rattle.ga_views.proofs.SliceWalk.{gives_up}
 use Rattle.ga_views.proofs.SliceLaws.{Slice, slice_laws}
+use Rattle.ga_views.proofs.SplitWalk.{cuts}
 use Rattle.ga_views.proofs.RowLemmas.{count-whole, rows-of_whole}
 use Rattle.ga_views.proofs.chunks_mut.ChunksViewMut.TheLaws as rows_laws
 use Rattle.ga_views.proofs.chunks_mut.ChunksViewMut.over.Met as made
@@ -17,19 +19,16 @@ use Rattle.ga_views.specs.contracts.chunks_mut.ChunksViewMut+mut+slice+T+T+N.chu
 use Rattle.ga_views.specs.contracts.chunks_ref.len_of_rows as count_contract
 use Rattle.ga_views.specs.contracts.reborrow.RefMutSliceReborrowSlice.TheImpl as impl
 use Rattle.ga_views.specs.declared.length.Unsigned as unsigned
-use Rattle.std.below.core.specs.contracts.slice.slice+T.split_at_mut as cut_contract
-use Rattle.std.proofs.Common.{◌≡◌, ◌⊎◌, ◌+◌, ◌*◌, ◌/◌, ◌++◌, ◌≤◌, ◌<◌, [], ◌∷◌, ◌∙◌, ap, arith, drop as drop_l, length, List, refl, sym, take}
+use Rattle.std.proofs.Common.{◌≡◌, ◌⊎◌, ◌*◌, ◌/◌, ◌++◌, ◌≤◌, ◌<◌, [], ◌∷◌, ◌∙◌, ap, arith, drop as drop_l, length, List, refl, sym, take}
 use Rattle.std.proofs.Math.Nat.{div-mul-le_self}
-use Rattle.std.proofs.raw_atomic.Walks.{leaves, proved}
 use Rattle.std.proofs.slice.slice+T.split_at_mut.Met as cut
-use Rattle.std.specs.List.{SameBelow, TailFrom}
 use base.Fml.{flft, fsep, ftrue, GName, Lft}
 use base.Logic.{emp, ent, id⊢, sep}
 use contract.BorrowLft.{◌⊑◌, ⊑_meet, ⊑_refl, ⊑_trans}
 use contract.Monad.{fact, fact_i}
 use contract.Running.{tables}
 use denote.Array.{Array}
-use denote.Builtin.{SliceRefMutOf, usize}
+use denote.Builtin.{usize}
 use denote.Exit.{no, yes}
 use denote.Follow.{follows_both}
 use denote.Laws.{Is, shows}
@@ -39,8 +38,7 @@ use denote.Param.NoDrop.{glues}
 use denote.Plain.{uint_Makes}
 use denote.RattleType.{owns, RattleType, Valss}
 use denote.Ref.{NamedLft}
-use denote.Signature.{plain}
-use denote.Slice.{mut_slice_Tells, mut_slice_vals, MutSlice, slice_val}
+use denote.Slice.{mut_slice_vals, MutSlice, slice_val}
 use denote.Steps.{heard, nothing, only, owned, peeks}
 use denote.Struct.Declared.{shape}
 use denote.Struct.Struct.{within}
@@ -49,13 +47,12 @@ use denote.Triple.Call.{calls_at}
 use denote.Triple.Clauses.{Lasts, lasts}
 use denote.Triple.Spec.{triple_of}
 use denote.Triple.Table.{framed}
-use denote.Triple.Walked.{Goes-spent_slice, stay_dropped, Stays, walk_of}
 use mir.MapTy.{inst_fn}
 use mir.Syntax.{a_type, Args, dcons, Dict, dnil, Fn, impl as impl_of, named, tcons, tnil, ty_int, ty_ptr, ty_struct, w64}
 use mir.Val.{of_list, Val, vint, vstruct}
 use seplogic.Ra.Ura.{Ura}
 use types.ByLocal.{alloc_all, free_all, get, get_in, lands_as, look_at, look_in_at, pass_all, sets}
-use types.Kit.{‵, ◌⊛◌, ◌$◌, ◌∵◌, !, await, by, done, drop, feq_i, feq_l, fjoin, fpack, fpick, fsplit, group, join, later, move, pick, qed, raw, rewrite, some, split, split3, use0, use1, use2}
+use types.Kit.{‵, ◌⊛◌, ◌$◌, ◌∵◌, !, await, by, done, drop, feq_i, fjoin, fpack, fsplit, group, join, later, move, pick, qed, raw, rewrite, some, split, split3, use0, use1, use2}
 use types.Logic.{Logic, sem}
 use types.Part.{agg, sub, whole}
 use types.Run.{addr, and_then, enter, fld, from, hop, no_more, of_opd, returns, stop}
@@ -106,25 +103,16 @@ module _ (X N : RattleType) (g : unsigned.Ghosts N.Denot) (d : Dict) where
 pub chunks_from_slice_mut_spec : {M : Type 1} → statement M
 unfolding Rattle.ga_views.proofs.Destruct++none.drop.Code.code
 chunks_from_slice_mut_spec 𝓤 𝓛 𝓜 𝓡 wired X N LX LN g d bound =
-    let ends = F.ended X N g d in
-    let E : RattleType = param 0 X in
-    let kept : Stays ends.signature.params ends.kept = (stay_dropped (SliceRefMutOf (0 ∷ []) tt (plain (λ _. E)) (λ _. tt)) no, tt) in
-    let c = F.clauses X N g d 𝓛 𝓜.mem 𝓡.returns in
     let 𝓣 = tables 𝓤 𝓛.H 𝓜 𝓡 𝓡.env in
     let key : Args = bounded (a_type ∷ a_type ∷ []) (X, (N, tt)) (dcons d dnil) in
     let fn : Fn = inst_fn key code.function in
-    proved 𝓛 ends kept c 𝓜 𝓡 (Goes-spent_slice 𝓛 3 (0 ∷ []) tt (plain (λ _. E)), tt)
-    (F.Key.name key) fn (code.unfolded 𝓤 𝓛.H 𝓜 𝓡 wired (X, (N, tt)) d)
-    (λ κs. (mut_slice_vals, tt)) (λ κs. (mut_slice_Tells (named 0) κs.0 E, tt))
-    (λ κs qs bounds a gh are.
-    let s = a.0 in let n : ℕ = length s.now in let fits = are.0.0.1.0 in let width : ℕ = g.USIZE in
+    gives_up 2 X 𝓛 (F.clauses X N g d 𝓛 𝓜.mem 𝓡.returns) 𝓜 𝓡 (F.Key.name key) fn (code.unfolded 𝓤 𝓛.H 𝓜 𝓡 wired (X, (N, tt)) d) (λ κs qs bounds s gh fits Post leave.
+    let n : ℕ = length s.now in let width : ℕ = g.USIZE in
     let κ : Lft = κs.0 in let κT : Lft = κs.1.0 in let κN : Lft = κs.1.1.0 in
     let tokens = ‵ (flft κ qs.0) ⊛ ‵ (flft κT qs.1.0) ⊛ ‵ (flft κN qs.1.1.0) ⊛ ‵ ftrue in
-    let S : RattleType = MutSlice (named 0) κ E in
+    let E : RattleType = param 0 X in let S : RattleType = MutSlice (named 0) κ E in
     let Rows : RattleType = View X N g d κ in let Answer : RattleType = Tuple (Rows ∷ S ∷ []) in
-    let W = walk_of 𝓛 ends kept c in
-    let y : W.Ghost = ((κs, qs, bounds, a, (mut_slice_vals s, tt)), tt) in
-    qed 𝓛 ((tokens ⊛ ‵ (owns (S ∷ []) a (mut_slice_vals s, tt)))
+    qed 𝓛 ((tokens ⊛ ‵ (owns (S ∷ []) (s, tt) (mut_slice_vals s, tt)))
     ∷ raw (fact 𝓤 (κT ⊑ X.lives)) ∷ raw (fact 𝓤 (κN ⊑ N.lives)) ∷ raw (fact 𝓤 ((0 < width) ⊎ (n ≡ 0))) ∷ []) ∵
     move ! (1 ∷ []) $ heard ! _ (λ lT. move ! (1 ∷ []) $ heard ! _ (λ lN. move ! (1 ∷ []) $ drop ! $
     split ! $ split3 ! $
@@ -153,37 +141,18 @@ chunks_from_slice_mut_spec 𝓤 𝓛 𝓜 𝓡 wired X N LX LN g d bound =
     -- the slice is cut
     sets ! (addr ! (from ! (fld ! refl (hop ! (look_in_at ! 1 (sub ! 0 refl (whole !))) (stop !))))) refl (tt, tt) $
     sets ! (agg ! (and_then ! (get ! refl) (and_then ! (get_in ! (fld ! refl (stop !)) (sub ! 1 refl (whole !))) (no_more !)))) refl (tt, (tt, (record { fits = fits }, tt))) $
-    let D = triple_of 𝓛 (cut_contract.signature X) (cut_contract.spec X 𝓛 𝓜.mem 𝓡.returns) in
-    let zD : D.Ghost = (((κ, (κT, tt)), (qs.0, (qs.1.0, tt)), bounds, (s, (k, tt)), (mut_slice_vals s, (vint w64 k ∷ [], tt))), tt) in
     let count : k ≡ chunk_count width s.now * width = is_count ∙ ap (λ (w : ℕ). n / w * w) is_width in
     let inside : k ≤ length s.now = omega (arith, is_count, div-mul-le_self n m) in
     move ! (4 ∷ []) $ fsplit ! $ move ! (1 ∷ []) $ drop ! $
-    nothing ! $ move ! (2 ∷ 0 ∷ []) $ fjoin ! $ move ! (1 ∷ 0 ∷ []) $ fjoin ! $
-    nothing ! $ move ! (3 ∷ 4 ∷ 0 ∷ 1 ∷ []) $ group ! 3 $ join ! $
-    use0 𝓛 (raw (fact 𝓤 (k ≤ length s.now))) (fact_i 𝓤 _ (emp 𝓤) inside) $
-    use0 𝓛 (raw (fact 𝓤 (κT ⊑ X.lives))) (fact_i 𝓤 _ (emp 𝓤) lT) $ join ! $
-    move ! (1 ∷ 0 ∷ []) $ join ! $ use1 𝓛 (raw (D.pre zD)) (id⊢ 𝓤 _) $
-    calls_at ! (framed 𝓤 𝓛.H 𝓜 𝓣) D (cut.met 𝓤 𝓛 𝓜 𝓡 (code.calls-core::slice::slice+T::split_at_mut 𝓡.env wired) X LX) zD
-    (and_then ! (get ! refl) (and_then ! (get ! refl) (no_more !))) (λ u.
-    use1 𝓛 (later (some (λ (r : S.Denot × S.Denot). ((‵ (flft κ qs.0) ⊛ ‵ (flft κT qs.1.0) ⊛ ‵ ftrue) ⊛ ‵ ((Tuple (S ∷ S ∷ [])).own_val r (u ∷ []))) ⊛
-    some (λ (ws : Lasts (cut_contract.ended X) zD.0.0 zD.0.3). ‵ (lasts (cut_contract.ended X) zD.0.0 zD.0.3 ws) ⊛
-    raw (fact 𝓤 (s.now ≡ r.0.now ++ r.1.now)) ⊛ raw (fact 𝓤 (length r.0.now ≡ k)) ⊛ raw (fact 𝓤 (length r.1.now + k ≡ length s.now)) ⊛
-    raw (fact 𝓤 (r.0.now ≡ take k s.now)) ⊛ raw (fact 𝓤 (r.1.now ≡ drop_l k s.now)) ⊛ raw (fact 𝓤 (SameBelow s.now r.0.now k × TailFrom s.now r.1.now k)) ⊛
-    ‵ (follows_both (Array E 0) (Array E 0) (Array E 0) s.ghost_name r.0.ghost_name r.1.ghost_name ◌++◌))))) (id⊢ 𝓤 _) $
-    await ! tt $ pick ! (λ r. split ! $ split ! $ move ! (2 ∷ []) $ pick ! (λ ws. split ! $ drop ! $
-    split ! $ heard ! _ (λ parts. split ! $ heard ! _ (λ first_len. split ! $ drop ! $ split ! $ heard ! _ (λ first_is. split ! $ heard ! _ (λ second_is. split ! $ drop ! $
-    -- [what follows; the tokens of κ, T; the pair; the token of N]
-    move ! (2 ∷ []) $ fpick ! (λ vss. fsplit ! $
-    move ! (1 ∷ []) $ fsplit ! $ peeks ! S (Is S) (shows 𝓛 S) r.0 vss.0 (λ is₁. rewrite ! 0 (λ (vs : List Val). ‵ (S.own_val r.0 vs)) is₁.0.0 refl $
-    move ! (1 ∷ []) $ fsplit ! $ peeks ! S (Is S) (shows 𝓛 S) r.1 vss.1.0 (λ is₂. rewrite ! 0 (λ (vs : List Val). ‵ (S.own_val r.1 vs)) is₂.0.0 refl $
-    move ! (3 ∷ []) $ feq_l ! (λ pair.
-    -- [the second part; nothing; the first part; what follows; the tokens of κ, T; the token of N]
-    lands_as ! (ap only (pair ∙ (λ i. vstruct (of_list (is₁.0.0 i ++ (is₂.0.0 i ++ []))) ∷ []))) refl
-    (tt, ((tt, (record { fits = is₁.0.1.0 }, tt)), ((tt, (record { fits = is₂.0.1.0 }, tt)), tt))) $
-    sets ! (of_opd ! (get_in ! (fld ! refl (stop !)) (sub ! 0 refl (whole !)))) refl (tt, (tt, (record { fits = is₁.0.1.0 }, tt))) $
-    sets ! (of_opd ! (get_in ! (fld ! refl (stop !)) (sub ! 1 refl (whole !)))) refl (tt, (tt, (record { fits = is₂.0.1.0 }, tt))) $
+    move ! (0 ∷ 1 ∷ 3 ∷ 4 ∷ []) $
+    cuts X 𝓛 𝓜.mem 𝓡.returns κ κT qs.0 qs.1.0 bounds.0 s k ! (framed 𝓤 𝓛.H 𝓜 𝓣) (cut.met 𝓤 𝓛 𝓜 𝓡 (code.calls-core::slice::slice+T::split_at_mut 𝓡.env wired) X LX) lT inside
+    (and_then ! (get ! refl) (and_then ! (get ! refl) (no_more !))) (λ first second parts.
+    -- [the second part; the first part; what follows; the tokens of κ, T; the token of N]
+    lands_as ! refl refl (tt, ((tt, (record { fits = parts.first_fits }, tt)), ((tt, (record { fits = parts.second_fits }, tt)), tt))) $
+    sets ! (of_opd ! (get_in ! (fld ! refl (stop !)) (sub ! 0 refl (whole !)))) refl (tt, (tt, (record { fits = parts.first_fits }, tt))) $
+    sets ! (of_opd ! (get_in ! (fld ! refl (stop !)) (sub ! 1 refl (whole !)))) refl (tt, (tt, (record { fits = parts.second_fits }, tt))) $
     sets ! (addr ! (from ! (fld ! refl (hop ! (look_in_at ! 3 (sub ! 0 refl (whole !))) (stop !))))) refl (tt, tt) $
-    sets ! (agg ! (and_then ! (get ! refl) (and_then ! (get_in ! (fld ! refl (stop !)) (sub ! 1 refl (whole !))) (no_more !)))) refl (tt, (tt, (record { fits = is₁.0.1.0 }, tt))) $
+    sets ! (agg ! (and_then ! (get ! refl) (and_then ! (get_in ! (fld ! refl (stop !)) (sub ! 1 refl (whole !))) (no_more !)))) refl (tt, (tt, (record { fits = parts.first_fits }, tt))) $
     -- rows are made of the first part
     let lκ : κ ⊑ X.lives = ⊑_trans κ κT X.lives bounds.0 lT in let lS : κ ⊑ κ ++ X.lives = ⊑_meet κ κ X.lives (⊑_refl κ) lκ in
     let P : RattleType = Part X N g d κ in let LP = part_laws X N g d κ LX in let I : RattleType = Item X N g d in let Z : RattleType = Length X N g d in
@@ -197,38 +166,38 @@ chunks_from_slice_mut_spec 𝓤 𝓛 𝓜 𝓡 wired X N LX LN g d bound =
     (record { all = lends.all; all_mut = lends.all_mut; all_mut_of = lends.all_mut_of; item_mut = lends.item_mut }) (record { USIZE = bound.USIZE })
     (glues "ga_views::Destruct++none::drop" 𝓡.env (code.calls-ga_views::Destruct++none::drop 𝓡.env wired) P LP _ 𝓤 𝓛 𝓜 𝓡) in
     let O = triple_of 𝓛 (make_contract.signature P I Z gP dP g d drops) (make_contract.spec P I Z gP dP g d drops 𝓛 𝓜.mem 𝓡.returns) in
-    let zO : O.Ghost = (((κ, (κT, (κN, tt))), (qs.0, (qs.1.0, (qs.1.1.0, tt))), tt, (r.0, tt), (mut_slice_vals r.0, tt)), tt) in
-    let long : length r.0.now ≡ n / width * width = first_len ∙ count in
-    let whole_rows : length r.0.now ≡ chunk_count width r.0.now * width =
+    let zO : O.Ghost = (((κ, (κT, (κN, tt))), (qs.0, (qs.1.0, (qs.1.1.0, tt))), tt, (first, tt), (mut_slice_vals first, tt)), tt) in
+    let long : length first.now ≡ n / width * width = parts.first_len ∙ count in
+    let whole_rows : length first.now ≡ chunk_count width first.now * width =
     long ∙ (sym (ap (λ (i : ℕ). i * width) (count-whole n width)) ∙ sym (ap (λ (i : ℕ). i / width * width) long)) in
-    move ! (2 ∷ 1 ∷ []) $ fjoin ! $ move ! (3 ∷ []) $ split3 ! $ move ! (2 ∷ []) $ drop ! $
+    nothing ! $ move ! (2 ∷ 0 ∷ []) $ fjoin ! $ move ! (3 ∷ []) $ split3 ! $ move ! (2 ∷ []) $ drop ! $
     move ! (0 ∷ 1 ∷ 5 ∷ 2 ∷ []) $ group ! 3 $ join ! $
-    use0 𝓛 (raw (fact 𝓤 (length r.0.now ≡ chunk_count width r.0.now * width))) (fact_i 𝓤 _ (emp 𝓤) whole_rows) $
+    use0 𝓛 (raw (fact 𝓤 (length first.now ≡ chunk_count width first.now * width))) (fact_i 𝓤 _ (emp 𝓤) whole_rows) $
     use0 𝓛 (raw (fact 𝓤 (κN ⊑ N.lives))) (fact_i 𝓤 _ (emp 𝓤) lN) $ join ! $
     use0 𝓛 (raw (fact 𝓤 (κT ⊑ X.lives))) (fact_i 𝓤 _ (emp 𝓤) lT) $ join ! $
     use0 𝓛 (raw (fact 𝓤 (κ ⊑ κ ++ X.lives))) (fact_i 𝓤 _ (emp 𝓤) lS) $ join ! $
     move ! (1 ∷ 0 ∷ []) $ join ! $ use1 𝓛 (raw (O.pre zO)) (id⊢ 𝓤 _) $
     calls_at ! (framed 𝓤 𝓛.H 𝓜 𝓣) O makes zO (and_then ! (get ! refl) (no_more !)) (λ u.
     use1 𝓛 (later (some (λ (w : Rows.Denot). (tokens ⊛ ‵ (Rows.own_val w (u ∷ []))) ⊛
-    some (λ (ws : Unit {0} × Unit {0}). ‵ (fsep ftrue ftrue) ⊛ raw (fact 𝓤 (w.slice ≡ r.0)))))) (id⊢ 𝓤 _) $
+    some (λ (ws : Unit {0} × Unit {0}). ‵ (fsep ftrue ftrue) ⊛ raw (fact 𝓤 (w.slice ≡ first)))))) (id⊢ 𝓤 _) $
     await ! tt $ pick ! (λ w. split ! $ split ! $ move ! (2 ∷ []) $ pick ! (λ ws. split ! $ drop ! $ heard ! _ (λ this.
     -- [the tokens; the rows; the second part; what follows]
     move ! (1 ∷ []) $ peeks ! Rows (Is Rows) (shows 𝓛 Rows) w (u ∷ []) (λ is.
     lands_as ! refl refl (((view_laws X N g d κ LX LN).lawful 𝓛).typed w (u ∷ []) is).0 $
     sets ! (addr ! (from ! (fld ! refl (hop ! (look_in_at ! 4 (sub ! 0 refl (whole !))) (stop !))))) refl (tt, tt) $
-    sets ! (agg ! (and_then ! (get ! refl) (and_then ! (get_in ! (fld ! refl (stop !)) (sub ! 1 refl (whole !))) (no_more !)))) refl (tt, (tt, (record { fits = is₂.0.1.0 }, tt))) $
-    let second_val : Val = slice_val r.1.ref_ptr (length r.1.now) in let out : Val = vstruct (of_list (u ∷ second_val ∷ [])) in
-    move ! (0 ∷ 2 ∷ []) $ use2 𝓛 (‵ (Answer.own_val (w, r.1) (out ∷ []))) (both_of 𝓛 Rows S w r.1 u second_val) $
-    peeks ! Answer (Is Answer) (shows 𝓛 Answer) (w, r.1) (out ∷ []) (λ both.
+    sets ! (agg ! (and_then ! (get ! refl) (and_then ! (get_in ! (fld ! refl (stop !)) (sub ! 1 refl (whole !))) (no_more !)))) refl (tt, (tt, (record { fits = parts.second_fits }, tt))) $
+    let second_val : Val = slice_val second.ref_ptr (length second.now) in let out : Val = vstruct (of_list (u ∷ second_val ∷ [])) in
+    move ! (0 ∷ 2 ∷ []) $ use2 𝓛 (‵ (Answer.own_val (w, second) (out ∷ []))) (both_of 𝓛 Rows S w second u second_val) $
+    peeks ! Answer (Is Answer) (shows 𝓛 Answer) (w, second) (out ∷ []) (λ both.
     sets ! (agg ! (and_then ! (get ! refl) (and_then ! (get ! refl) (no_more !)))) refl
-    (((tuple_laws (Rows ∷ S ∷ []) (view_laws X N g d κ LX LN, (slice_laws (lasting X N g d κ) 0 X LX, tt))).lawful 𝓛).typed (w, r.1) (out ∷ []) both).0 $
+    (((tuple_laws (Rows ∷ S ∷ []) (view_laws X N g d κ LX LN, (slice_laws (lasting X N g d κ) 0 X LX, tt))).lawful 𝓛).typed (w, second) (out ∷ []) both).0 $
     returns ! (look_at ! 0 refl) $ free_all ! refl $
     -- [the rows and the rest; the tokens; what follows]
-    rewrite ! 2 (λ (name : GName). ‵ (follows_both (Array E 0) (Array E 0) (Array E 0) s.ghost_name name r.1.ghost_name ◌++◌)) (ap (λ (x : S.Denot). x.ghost_name) (sym this)) refl $
-    let same : w.slice.now ≡ r.0.now = ap (λ (x : S.Denot). x.now) this in
-    use0 𝓛 (raw (fact 𝓤 (w.slice.now ++ r.1.now ≡ s.now))) (fact_i 𝓤 _ (emp 𝓤) (ap (λ (items : List E.Denot). items ++ r.1.now) same ∙ sym parts)) $
-    use0 𝓛 (raw (fact 𝓤 (r.1.now ≡ chunk_rest width s.now))) (fact_i 𝓤 _ (emp 𝓤) (second_is ∙ ap (λ (i : ℕ). drop_l i s.now) count)) $
+    rewrite ! 2 (λ (name : GName). ‵ (follows_both (Array E 0) (Array E 0) (Array E 0) s.ghost_name name second.ghost_name ◌++◌)) (ap (λ (x : S.Denot). x.ghost_name) (sym this)) refl $
+    let same : w.slice.now ≡ first.now = ap (λ (x : S.Denot). x.now) this in
+    use0 𝓛 (raw (fact 𝓤 (w.slice.now ++ second.now ≡ s.now))) (fact_i 𝓤 _ (emp 𝓤) (ap (λ (items : List E.Denot). items ++ second.now) same ∙ sym parts.whole)) $
+    use0 𝓛 (raw (fact 𝓤 (second.now ≡ chunk_rest width s.now))) (fact_i 𝓤 _ (emp 𝓤) (parts.second_is ∙ ap (λ (i : ℕ). drop_l i s.now) count)) $
     use0 𝓛 (raw (fact 𝓤 (rows width w.slice.now ≡ rows width s.now)))
-    (fact_i 𝓤 _ (emp 𝓤) (ap (rows width) (same ∙ (first_is ∙ ap (λ (i : ℕ). take i s.now) count)) ∙ rows-of_whole width s.now)) $
+    (fact_i 𝓤 _ (emp 𝓤) (ap (rows width) (same ∙ (parts.first_is ∙ ap (λ (i : ℕ). take i s.now) count)) ∙ rows-of_whole width s.now)) $
     nothing ! $ nothing ! $ fjoin ! $ move ! (5 ∷ 0 ∷ 4 ∷ 6 ∷ []) $
-    by ! (leaves 𝓛 ends kept c y out (w, r.1) (tt, tt) (tt, tt)))))))))))))))))))))))))))))
+    by ! (leave out (w, second)))))))))))))))))))

@@ -2,6 +2,7 @@
 -- The borrow checker shows no clause on a loan that the answer holds in a view, so this proof walks the code by hand. Assumes `Logic`.
 use Prim.Native.Nat.{ℕ}
 use Rattle.ga_views.proofs.SharedLoan.{comes_back, lent_shared, lends_shared}
+use Rattle.ga_views.proofs.SliceWalk.{asks_of, passes}
 use Rattle.ga_views.proofs.SliceLaws.{ArrayView, array_laws}
 use Rattle.ga_views.proofs.view_mut.ViewMut+mut+slice+T+T+N.from_mut_slice.Met as view_met
 use Rattle.ga_views.proofs.chunks_mut.ChunksViewMut.TheLaws as rows_laws
@@ -19,31 +20,29 @@ use Rattle.ga_views.specs.contracts.chunks_mut.ChunksViewMut.row_mut as row_of
 use Rattle.ga_views.specs.declared.length.Unsigned as unsigned
 use Rattle.ga_views.specs.declared.reborrow.ReborrowSlice as reborrow
 use Rattle.std.proofs.Common.{◌≡◌, ◌<◌, ◌≤◌, [], ◌∷◌, ◌∙◌, ap, arith, length, List, MutBor, refl, subst, sym, true≢false}
+use Rattle.std.proofs.VecSteps.Element.{none_of, Some-of}
 use Rattle.std.proofs.VecSteps.Shapes.{after}
 use Rattle.std.proofs.raw_atomic.Walks.{leaves, proved}
 use Rattle.std.specs.contracts.option.Option as OS
 use Rattle.std.specs.Option.{option_map}
 use Rattle.std.specs.Prelude.{◌↔◌, IfSome, IsSome, None, Some}
-use base.Fml.{flft, fres, fsep, ftrue, GName, Lft}
+use base.Fml.{flft, fres, ftrue, GName, Lft}
 use base.Logic.{emp, ent, id⊢}
 use contract.BorrowLft.{◌⊑◌, ⊑_trans, meet_⊑_right}
 use contract.Monad.{fact, fact_i}
 use contract.Running.{tables}
 use denote.Array.{Array}
 use denote.Builtin.{RefMutOf, usize}
-use denote.Enum.Declared.{shape}
-use denote.Enum.Enum.{form_of, in_a_row}
-use denote.Enum.Row.{tagged_with}
 use denote.Exit.{no, yes}
 use denote.Follow.{follows, follows_by, follows_if}
 use denote.Laws.{Is, shows}
 use denote.Param.{bounded, param}
 use denote.Param.Laws.{Laws, param_laws}
 use denote.Plain.{uint_Makes, uint_Tells, uint_vals}
-use denote.RattleType.{owns, RattleType, Valss}
+use denote.RattleType.{owns, RattleType}
 use denote.Ref.{Bor, mut_Tells, mut_vals, MutRef, NamedLft, shr_vals}
 use denote.Signature.{plain}
-use denote.Slice.{mut_slice_vals, MutSlice}
+use denote.Slice.{MutSlice}
 use denote.Steps.{heard, nothing, only, owned, peeks}
 use denote.Struct.Struct.{as_fields}
 use denote.Triple.Call.{calls_at}
@@ -58,27 +57,11 @@ use mir.Syntax.{a_type, Args, dcons, dnil, Fn, named, ty_int, w64, w8}
 use mir.Val.{of_list, Val, vint}
 use seplogic.Ra.Ura.{Ura}
 use types.ByLocal.{alloc_all, env, free_all, get, lands_as, look_at, pass_all, sets, sets_last, through}
-use types.Kit.{‵, ◌⊛◌, ◌$◌, ◌∵◌, !, at_ret, await, by, done, drop, feq_i, feq_l, fjoin, flt_l, fpack, fsplit, fsplit3, group, join, keep, later, move, pick, qed, raw, rewrite, some, split, split3, use0, use1, use2}
+use types.Kit.{‵, ◌⊛◌, ◌$◌, ◌∵◌, !, at_ret, await, by, done, drop, feq_l, fjoin, flt_l, fsplit, fsplit3, group, join, keep, later, move, pick, qed, raw, rewrite, some, split, split3, use0, use1, use2}
 use types.Logic.{Logic, sem}
 use types.Match.{live}
 use types.Part.{agg}
 use types.Run.{addr, and_then, bin, branches, enter, exec, first, lit, no_more, of_opd, returns, stop}
-
--- an `Option` as a value
-module _ {M : Type 1} {𝓤 : Ura M} (𝓛 : Logic 𝓤) (R : RattleType) where
-  some_of : (x : R.Denot) (v : Val) → ent 𝓤 (sem 𝓛 (R.own_val x (v ∷ []))) (sem 𝓛 ((OS.the_row R).own_val (Some x) (live 1 (of_list (v ∷ [])) ∷ [])))
-  some_of x v =
-      qed 𝓛 (‵ (R.own_val x (v ∷ [])) ∷ []) ∵ nothing ! $ move ! (1 ∷ 0 ∷ []) $ fjoin ! $ feq_i ! (List Val) (v ∷ []) (v ∷ []) refl $ fjoin ! $
-      fpack ! (Valss (R ∷ [])) (in_a_row (R ∷ []) (owns (R ∷ []) (x, tt)) (v ∷ [])) (v ∷ [], tt) $
-      feq_i ! (List Val) (live 1 (of_list (v ∷ [])) ∷ []) (live 1 (of_list (v ∷ [])) ∷ []) refl $ fjoin ! $
-      fpack ! (List Val) (tagged_with (form_of (shape (OS.the_type R))) (form_of (shape (OS.the_type R))).payload ((OS.the_type R).to (Some x)) (live 1 (of_list (v ∷ [])) ∷ [])) (v ∷ []) $ done !
-
-  none_of : ent 𝓤 (emp 𝓤) (sem 𝓛 ((OS.the_row R).own_val None (live 0 (of_list []) ∷ [])))
-  none_of =
-      qed 𝓛 [] ∵ nothing ! $ feq_i ! (List Val) [] [] refl $ fjoin ! $
-      fpack ! (Valss []) (in_a_row [] (owns [] tt) []) tt $
-      feq_i ! (List Val) (live 0 (of_list []) ∷ []) (live 0 (of_list []) ∷ []) refl $ fjoin ! $
-      fpack ! (List Val) (tagged_with (form_of (shape (OS.the_type R))) (form_of (shape (OS.the_type R))).payload ((OS.the_type R).to None) (live 0 (of_list []) ∷ [])) [] $ done !
 
 -- what the rows end as
 module _ {M : Type 1} {𝓤 : Ura M} (𝓛 : Logic 𝓤) (R U : RattleType) (x : MutBor R.Denot) (F : U.Denot → R.Denot) where
@@ -192,28 +175,19 @@ get_mut_spec 𝓤 𝓛 𝓜 𝓡 wired S T N LS LT LN p pd s sd n nd d metP metS
     move ! (2 ∷ []) $ peeks ! Slice (Is Slice) (shows 𝓛 Slice) r (v' ∷ []) (λ told.
     rewrite ! 0 (λ (us : List Val). ‵ (Slice.own_val r us)) told.0.0 refl $
     lands_as ! (ap only told.0.0) refl (tt, (tt, (record { fits = told.0.1.0 }, tt))) $
-    let C = triple_of 𝓛 (view_of.signature T N n nd) (view_of.spec T N n nd 𝓛 𝓜.mem 𝓡.returns) in
-    let j : C.Ghost = (((κ, (κT, (κN, tt))), (qs.0, (qs.1.1.0, (qs.1.1.1.0, tt))), (bounds.1.0, tt), (r, tt), (mut_slice_vals r, tt)), tt) in
-    nothing ! $ move ! (1 ∷ 0 ∷ []) $ fjoin ! $ move ! (2 ∷ []) $ split3 ! $ move ! (2 ∷ []) $ split3 ! $
-    move ! (3 ∷ 0 ∷ 1 ∷ 2 ∷ 5 ∷ []) $ group ! 4 $ join ! $
-    use0 𝓛 (raw (fact 𝓤 (length r.now ≡ n.USIZE))) (fact_i 𝓤 _ (emp 𝓤) wide) $
-    use0 𝓛 (raw (fact 𝓤 (κN ⊑ N.lives))) (fact_i 𝓤 _ (emp 𝓤) lN) $ join ! $
-    use0 𝓛 (raw (fact 𝓤 (κT ⊑ T.lives))) (fact_i 𝓤 _ (emp 𝓤) lT) $ join ! $
-    move ! (1 ∷ 0 ∷ []) $ join ! $ use1 𝓛 (raw (C.pre j)) (id⊢ 𝓤 _) $
-    calls_at ! (framed 𝓤 𝓛.H 𝓜 𝓣) C (view_met.met 𝓤 𝓛 𝓜 𝓡 (code.calls-ga_views::view_mut::ViewMut+mut+slice+T+T+N::from_mut_slice 𝓡.env wired) T N LT LN n nd metN) j
-    (and_then ! (get ! refl) (no_more !)) (λ u.
-    use1 𝓛 (later (some (λ (w : V.Denot). ((‵ (flft κ qs.0) ⊛ ‵ (flft κT qs.1.1.0) ⊛ ‵ (flft κN qs.1.1.1.0) ⊛ ‵ ftrue) ⊛ ‵ (V.own_val w (u ∷ []))) ⊛
-    some (λ (ws : Unit {0} × Unit {0}). ‵ (fsep ftrue ftrue) ⊛ raw (fact 𝓤 (w.slice ≡ r)))))) (id⊢ 𝓤 _) $
-    await ! tt $ pick ! (λ w. split ! $ split ! $ move ! (2 ∷ []) $ pick ! (λ ws''. split ! $ drop ! $ heard ! _ (λ this.
-    -- [three tokens; the view; the token of S's lifetime; what the rows end as]
-    move ! (1 ∷ []) $ peeks ! V (Is V) (shows 𝓛 V) w (u ∷ []) (λ is.
+    nothing ! $ move ! (1 ∷ 0 ∷ []) $ fjoin ! $ move ! (2 ∷ []) $ split3 ! $ move ! (2 ∷ []) $ split3 ! $ move ! (2 ∷ []) $ drop ! $ move ! (2 ∷ 0 ∷ 1 ∷ 4 ∷ []) $
+    passes T 𝓛 (view_of.clauses T N n nd 𝓛 𝓜.mem 𝓡.returns) (κ, (κT, (κN, tt))) (qs.0, (qs.1.1.0, (qs.1.1.1.0, tt))) (bounds.1.0, tt) r tt ! (framed 𝓤 𝓛.H 𝓜 𝓣)
+    (view_met.met 𝓤 𝓛 𝓜 𝓡 (code.calls-ga_views::view_mut::ViewMut+mut+slice+T+T+N::from_mut_slice 𝓡.env wired) T N LT LN n nd metN)
+    (asks_of 𝓛 lT lN (fact_i 𝓤 _ (emp 𝓤) wide)) (and_then ! (get ! refl) (no_more !)) (λ u w. move ! (1 ∷ []) $ heard ! _ (λ this.
+    -- [the view; three tokens; the token of S's lifetime; what the rows end as]
+    peeks ! V (Is V) (shows 𝓛 V) w (u ∷ []) (λ is.
     let good = ((array_laws lasting 1 T 2 N n LT LN).lawful 𝓛).typed w (u ∷ []) is in
     let typed = as_fields (ty_int w8 ∷ V.mir) (vint w8 1 ∷ u ∷ []) ((tt, record { fits = lit< tt }), good) in
     let out : Val = live 1 (of_list (u ∷ [])) in
     lands_as ! refl refl good.0 $
     sets_last ! (agg ! (and_then ! (lit ! tt) (and_then ! (get ! refl) (no_more !)))) refl typed $
     exec ! 𝓣.C 𝓣.Λ En (after 4 fn.body) (at_ret En (W.post y)) $ sets ! (of_opd ! (get ! refl)) refl typed $
-    use1 𝓛 (‵ ((OS.the_row V).own_val (Some w) (out ∷ []))) (some_of 𝓛 V w u) $ move ! (3 ∷ []) $
+    use1 𝓛 (‵ ((OS.the_row V).own_val (Some w) (out ∷ []))) (Some-of 𝓛 V w u) $ move ! (3 ∷ []) $
     rewrite ! 0 (λ (γ : GName). ‵ (follows R (Array E 0) self.ghost_name γ set)) (ap (λ (x : Slice.Denot). x.ghost_name) (sym this)) refl $
     use1 𝓛 (‵ (LendsRowIf (param 0 S) E (param 2 N) s n self i (option_map (λ (x : V.Denot). x.slice) (Some w)))) (some_lends 𝓛 R (Array E 0) self set w.slice.ghost_name) $
     use0 𝓛 (raw (fact 𝓤 (IfSome (Some w) (λ x. x.slice.now ≡ row_at n.USIZE items i)))) (fact_i 𝓤 _ (emp 𝓤) (ap (λ (x : Slice.Denot). x.now) this ∙ is_row)) $
@@ -222,7 +196,7 @@ get_mut_spec 𝓤 𝓛 𝓜 𝓡 wired S T N LS LT LN p pd s sd n nd d metP metS
     nothing ! $ nothing ! $ fjoin ! $ nothing ! $ fjoin ! $ move ! (5 ∷ []) $ split3 ! $ move ! (2 ∷ []) $ split ! $
     move ! (2 ∷ 9 ∷ 3 ∷ 0 ∷ 1 ∷ 4 ∷ 8 ∷ 7 ∷ []) $ group ! 5 $
     returns ! (look_at ! 0 refl) $ free_all ! refl $
-    by ! (leaves 𝓛 ends kept c y out (Some w) (tt, (tt, tt)) (tt, (tt, tt)))))))))))))))
+    by ! (leaves 𝓛 ends kept c y out (Some w) (tt, (tt, tt)) (tt, (tt, tt)))))))))))))
     (λ beyond.
     let out : Val = live 0 (of_list []) in
     let far : chunk_count n.USIZE items ≤ i = subst (λ (k : ℕ). k ≤ i) is_count (nltb→le i m beyond) in

@@ -2,6 +2,7 @@
 -- The borrow checker shows no clause on a lender that is a slice where the answer is a `Result`, so this proof walks the code by hand. Assumes `Logic`.
 use Prim.Native.Nat.{ℕ}
 use Rattle.ga_views.proofs.LengthCall.{calls_length}
+use Rattle.ga_views.proofs.SliceWalk.{asks_of, gives_up, passes}
 use Rattle.ga_views.proofs.SliceLaws.{ArrayView, array_laws}
 use Rattle.ga_views.proofs.view_mut.ViewMut+mut+slice+T+T+N.from_mut_slice.Met as theirs
 use Rattle.ga_views.proofs.view_mut.ViewMut+mut+slice+T+T+N.try_from_mut_slice.Code as code
@@ -10,67 +11,42 @@ use Rattle.ga_views.specs.contracts.view_mut.ViewMut+mut+slice+T+T+N.from_mut_sl
 use Rattle.ga_views.specs.contracts.view_mut.ViewMut+mut+slice+T+T+N.try_from_mut_slice as F
 use Rattle.ga_views.specs.contracts.length_error.LengthError as error
 use Rattle.std.proofs.Common.{◌≡◌, [], ◌∷◌, ◌∙◌, ap, length, List, MutBor, refl, subst, sym, true≢false}
+use Rattle.std.proofs.ResultValues.{err_of, ok_of}
 use Rattle.std.proofs.VecSteps.Shapes.{after}
-use Rattle.std.proofs.raw_atomic.Walks.{leaves, proved}
 use Rattle.std.specs.Borrow.{name_if_ok, RestsIfErr}
 use Rattle.std.specs.contracts.result.Result as RS
 use Rattle.std.specs.declared.result.Result.{Result}
 use Rattle.std.specs.declared.result.Result.TheVariants.{Err, Ok}
 use Rattle.std.specs.Prelude.{◌↔◌, IfOk, IsOk, OnErr, OnOk}
 use base.Fml.{fauth, feq, fex, flft, Fml, fobs, fres, fsep, ftrue, GName, Lft}
-use base.Logic.{emp, ent, id⊢, wand}
+use base.Logic.{emp, ent, wand}
 use base.Stored.{coded_list, Gv}
 use contract.BorrowLft.{◌⊑◌}
 use contract.Monad.{fact, fact_i}
 use contract.Running.{tables}
 use denote.Array.{Array}
-use denote.Builtin.{SliceRefMutOf}
-use denote.Enum.Declared.{shape}
-use denote.Enum.Enum.{form_of, in_a_row}
-use denote.Enum.Row.{tagged_with}
-use denote.Exit.{no}
 use denote.Follow.{follows, follows_by, follows_if, such_by}
 use denote.FollowSlice.{heres_id}
 use denote.Laws.{Is, shows}
 use denote.Param.{bounded, param}
-use denote.RattleType.{owns, RattleType, Valss}
+use denote.RattleType.{owns, RattleType}
 use denote.Ref.{NamedLft}
 use denote.Shadow.{makes_shadow}
-use denote.Signature.{plain}
-use denote.Slice.{mut_slice_Tells, mut_slice_vals, MutSlice}
+use denote.Slice.{mut_slice_vals, MutSlice}
 use denote.Steps.{heard, nothing, peeks}
 use denote.Struct.Struct.{as_fields}
-use denote.Triple.Call.{calls_at}
-use denote.Triple.Spec.{triple_of}
 use denote.Triple.Table.{framed}
-use denote.Triple.Walked.{Goes-spent_slice, stay_dropped, Stays, walk_of}
 use lib.Dec.{eqb, eqb_refl, eqb→eq, lit<, T, T_not}
 use mir.MapTy.{inst_fn}
 use mir.Syntax.{a_type, Args, dcons, dnil, Fn, Lifetime, named, ty_int, w8}
 use mir.Val.{of_list, Val, vint, vnil, vstruct}
 use seplogic.Ra.Ura.{Ura}
 use types.ByLocal.{alloc_all, env, free_all, get, get_in, lands_as, look_at, look_in_at, pass_all, sets, sets_last}
-use types.Kit.{‵, ◌⊛◌, ◌$◌, ◌∵◌, !, assume, at_ret, await, by, done, drop, each, feq_i, fjoin, fpack, fsplit, fsplit3, group, join, keep, later, move, pick, qed, raw, rewrite, some, split, split3, use0, use1}
+use types.Kit.{‵, ◌⊛◌, ◌$◌, ◌∵◌, !, assume, at_ret, by, done, drop, each, feq_i, fjoin, fpack, fsplit, fsplit3, group, keep, move, qed, raw, rewrite, split, split3, use0, use1}
 use types.Logic.{Logic, sem}
 use types.Match.{live}
 use types.Part.{agg, sub, whole}
 use types.Run.{addr, and_then, bin, branches, enter, exec, first, fld, from, hop, lit, no_more, of_opd, returns, stop}
-
--- a `Result` as a value
-module _ {M : Type 1} {𝓤 : Ura M} (𝓛 : Logic 𝓤) (R R' : RattleType) where
-  ok_of : (x : R.Denot) (v : Val) → ent 𝓤 (sem 𝓛 (R.own_val x (v ∷ []))) (sem 𝓛 ((RS.the_row R R').own_val (Ok x) (live 0 (of_list (v ∷ [])) ∷ [])))
-  ok_of x v =
-      qed 𝓛 (‵ (R.own_val x (v ∷ [])) ∷ []) ∵ nothing ! $ move ! (1 ∷ 0 ∷ []) $ fjoin ! $ feq_i ! (List Val) (v ∷ []) (v ∷ []) refl $ fjoin ! $
-      fpack ! (Valss (R ∷ [])) (in_a_row (R ∷ []) (owns (R ∷ []) (x, tt)) (v ∷ [])) (v ∷ [], tt) $
-      feq_i ! (List Val) (live 0 (of_list (v ∷ [])) ∷ []) (live 0 (of_list (v ∷ [])) ∷ []) refl $ fjoin ! $
-      fpack ! (List Val) (tagged_with (form_of (shape (RS.the_type R R'))) (form_of (shape (RS.the_type R R'))).payload ((RS.the_type R R').to (Ok x)) (live 0 (of_list (v ∷ [])) ∷ [])) (v ∷ []) $ done !
-
-  err_of : (x : R'.Denot) (v : Val) → ent 𝓤 (sem 𝓛 (R'.own_val x (v ∷ []))) (sem 𝓛 ((RS.the_row R R').own_val (Err x) (live 1 (of_list (v ∷ [])) ∷ [])))
-  err_of x v =
-      qed 𝓛 (‵ (R'.own_val x (v ∷ [])) ∷ []) ∵ nothing ! $ move ! (1 ∷ 0 ∷ []) $ fjoin ! $ feq_i ! (List Val) (v ∷ []) (v ∷ []) refl $ fjoin ! $
-      fpack ! (Valss (R' ∷ [])) (in_a_row (R' ∷ []) (owns (R' ∷ []) (x, tt)) (v ∷ [])) (v ∷ [], tt) $
-      feq_i ! (List Val) (live 1 (of_list (v ∷ [])) ∷ []) (live 1 (of_list (v ∷ [])) ∷ []) refl $ fjoin ! $
-      fpack ! (List Val) (tagged_with (form_of (shape (RS.the_type R R'))) (form_of (shape (RS.the_type R R'))).payload ((RS.the_type R R').to (Err x)) (live 1 (of_list (v ∷ [])) ∷ [])) (v ∷ []) $ done !
 
 -- a slice that is given up stays as it was
 module _ {M : Type 1} {𝓤 : Ura M} (𝓛 : Logic 𝓤) (R : RattleType) (s : MutBor (List R.Denot)) where
@@ -118,29 +94,20 @@ module _ {M : Type 1} {𝓤 : Ura M} (𝓛 : Logic 𝓤) (R : RattleType) (s : M
 
 pub try_from_mut_slice_spec : {M : Type 1} → statement M
 try_from_mut_slice_spec 𝓤 𝓛 𝓜 𝓡 wired X N LX LN g d bound =
-    let ends = F.ended X N g d in
-    let E : RattleType = param 0 X in
-    let kept : Stays ends.signature.params ends.kept = (stay_dropped (SliceRefMutOf (0 ∷ []) tt (plain (λ _. E)) (λ _. tt)) no, tt) in
-    let c = F.clauses X N g d 𝓛 𝓜.mem 𝓡.returns in
     let 𝓣 = tables 𝓤 𝓛.H 𝓜 𝓡 𝓡.env in
     let key : Args = bounded (a_type ∷ a_type ∷ []) (X, (N, tt)) (dcons d dnil) in
     let fn : Fn = inst_fn key code.function in
-    proved 𝓛 ends kept c 𝓜 𝓡 (Goes-spent_slice 𝓛 3 (0 ∷ []) tt (plain (λ _. E)), tt)
-    (F.Key.name key) fn (code.unfolded 𝓤 𝓛.H 𝓜 𝓡 wired (X, (N, tt)) d)
-    (λ κs. (mut_slice_vals, tt)) (λ κs. (mut_slice_Tells (named 0) κs.0 E, tt))
-    (λ κs qs bounds a gh are.
-    let s = a.0 in let n : ℕ = length s.now in let fits = are.0.0.1.0 in
+    gives_up 2 X 𝓛 (F.clauses X N g d 𝓛 𝓜.mem 𝓡.returns) 𝓜 𝓡 (F.Key.name key) fn (code.unfolded 𝓤 𝓛.H 𝓜 𝓡 wired (X, (N, tt)) d) (λ κs qs bounds s gh fits Post leave.
+    let n : ℕ = length s.now in
     let κ : Lft = κs.0 in let κT : Lft = κs.1.0 in let κN : Lft = κs.1.1.0 in
     let tokens = ‵ (flft κ qs.0) ⊛ ‵ (flft κT qs.1.0) ⊛ ‵ (flft κN qs.1.1.0) ⊛ ‵ ftrue in
-    let S : RattleType = MutSlice (named 0) κ E in
+    let E : RattleType = param 0 X in let S : RattleType = MutSlice (named 0) κ E in
     let lasting : NamedLft = record { mir = named 0; lft = κ } in
     let V : RattleType = ArrayView lasting 0 X 1 N g in
     let Refusal : RattleType = error.the_row in
     let Answer : RattleType = RS.the_row V Refusal in
     let name : V.Denot → GName = λ answer. answer.slice.ghost_name in
-    let W = walk_of 𝓛 ends kept c in
-    let y : W.Ghost = ((κs, qs, bounds, a, (mut_slice_vals s, tt)), tt) in
-    qed 𝓛 ((tokens ⊛ ‵ (owns (S ∷ []) a (mut_slice_vals s, tt)))
+    qed 𝓛 ((tokens ⊛ ‵ (owns (S ∷ []) (s, tt) (mut_slice_vals s, tt)))
     ∷ raw (fact 𝓤 (κT ⊑ X.lives)) ∷ raw (fact 𝓤 (κN ⊑ N.lives)) ∷ ‵ ftrue ∷ []) ∵
     move ! (1 ∷ []) $ heard ! _ (λ lT. move ! (1 ∷ []) $ heard ! _ (λ lN. move ! (1 ∷ []) $ drop ! $
     split ! $ split3 ! $
@@ -156,26 +123,18 @@ try_from_mut_slice_spec 𝓤 𝓛 𝓜 𝓡 wired X N LX LN g d bound =
     let of_length : n ≡ g.USIZE = eqb→eq n m equal ∙ is_length in
     sets ! (addr ! (from ! (fld ! refl (hop ! (look_in_at ! 1 (sub ! 0 refl (whole !))) (stop !))))) refl (tt, tt) $
     sets ! (agg ! (and_then ! (get ! refl) (and_then ! (get_in ! (fld ! refl (stop !)) (sub ! 1 refl (whole !))) (no_more !)))) refl (tt, (tt, (record { fits = fits }, tt))) $
-    let C = triple_of 𝓛 (callee.signature X N g d) (callee.spec X N g d 𝓛 𝓜.mem 𝓡.returns) in
-    let k : C.Ghost = ((κs, qs, bounds, a, (mut_slice_vals s, tt)), tt) in
-    move ! (1 ∷ 2 ∷ 0 ∷ []) $ group ! 3 $ join ! $
-    use0 𝓛 (raw (fact 𝓤 (n ≡ g.USIZE))) (fact_i 𝓤 _ (emp 𝓤) of_length) $
-    use0 𝓛 (raw (fact 𝓤 (κN ⊑ N.lives))) (fact_i 𝓤 _ (emp 𝓤) lN) $ join ! $
-    use0 𝓛 (raw (fact 𝓤 (κT ⊑ X.lives))) (fact_i 𝓤 _ (emp 𝓤) lT) $ join ! $
-    move ! (1 ∷ 0 ∷ []) $ join ! $ use1 𝓛 (raw (C.pre k)) (id⊢ 𝓤 _) $
-    calls_at ! (framed 𝓤 𝓛.H 𝓜 𝓣) C (theirs.met 𝓤 𝓛 𝓜 𝓡 (code.calls-ga_views::view_mut::ViewMut+mut+slice+T+T+N::from_mut_slice 𝓡.env wired) X N LX LN g d bound) k
-    (and_then ! (get ! refl) (no_more !)) (λ u.
-    use1 𝓛 (later (some (λ (w : V.Denot). (tokens ⊛ ‵ (V.own_val w (u ∷ []))) ⊛
-    some (λ (ws : Unit {0} × Unit {0}). ‵ (fsep ftrue ftrue) ⊛ raw (fact 𝓤 (w.slice ≡ s)))))) (id⊢ 𝓤 _) $
-    await ! tt $ pick ! (λ w. split ! $ split ! $ move ! (2 ∷ []) $ pick ! (λ ws. split ! $ drop ! $ heard ! _ (λ this.
-    -- [the tokens; the view]
-    move ! (1 ∷ []) $ peeks ! V (Is V) (shows 𝓛 V) w (u ∷ []) (λ is.
+    split ! $ move ! (1 ∷ []) $ drop ! $ move ! (1 ∷ 2 ∷ 0 ∷ 3 ∷ []) $
+    passes X 𝓛 (callee.clauses X N g d 𝓛 𝓜.mem 𝓡.returns) κs qs bounds s tt ! (framed 𝓤 𝓛.H 𝓜 𝓣)
+    (theirs.met 𝓤 𝓛 𝓜 𝓡 (code.calls-ga_views::view_mut::ViewMut+mut+slice+T+T+N::from_mut_slice 𝓡.env wired) X N LX LN g d bound)
+    (asks_of 𝓛 lT lN (fact_i 𝓤 _ (emp 𝓤) of_length)) (and_then ! (get ! refl) (no_more !)) (λ u w. move ! (1 ∷ []) $ heard ! _ (λ this.
+    -- [the view; the tokens]
+    peeks ! V (Is V) (shows 𝓛 V) w (u ∷ []) (λ is.
     let good = ((array_laws lasting 0 X 1 N g LX LN).lawful 𝓛).typed w (u ∷ []) is in
     let typed = as_fields (ty_int w8 ∷ V.mir) (vint w8 0 ∷ u ∷ []) ((tt, record { fits = lit< tt }), good) in
     let out : Val = live 0 (of_list (u ∷ [])) in
     lands_as ! refl refl good.0 $
     sets_last ! (agg ! (and_then ! (lit ! tt) (and_then ! (get ! refl) (no_more !)))) refl typed $
-    exec ! 𝓣.C 𝓣.Λ En (after 4 fn.body) (at_ret En (W.post y)) $ sets ! (of_opd ! (get ! refl)) refl typed $
+    exec ! 𝓣.C 𝓣.Λ En (after 4 fn.body) (at_ret En Post) $ sets ! (of_opd ! (get ! refl)) refl typed $
     use1 𝓛 (‵ (Answer.own_val (Ok w) (out ∷ []))) (ok_of 𝓛 V Refusal w u) $
     use0 𝓛 (raw (fact 𝓤 (IfOk {E = Refusal.Denot} (Ok w) (λ answer. answer.slice ≡ s)))) (fact_i 𝓤 _ (emp 𝓤) this) $
     use0 𝓛 (raw (fact 𝓤 (IsOk {E = Refusal.Denot} (Ok w) ↔ (n ≡ g.USIZE)))) (fact_i 𝓤 _ (emp 𝓤) ((λ _. of_length), (λ _. refl))) $
@@ -183,7 +142,7 @@ try_from_mut_slice_spec 𝓤 𝓛 𝓜 𝓡 wired X N LX LN g d bound =
     -- [nothing is left of the parameter; the answer, the clauses and the tokens in the order in which they came]
     nothing ! $ nothing ! $ fjoin ! $
     returns ! (look_at ! 0 refl) $ free_all ! refl $ move ! (5 ∷ 0 ∷ 4 ∷ []) $
-    by ! (leaves 𝓛 ends kept c y out (Ok w) (tt, tt) (tt, tt))))))))
+    by ! (leave out (Ok w))))))
     (λ differ.
     let e : Refusal.Denot = record {} in
     let out : Val = live 1 (of_list (vstruct vnil ∷ [])) in
@@ -191,7 +150,7 @@ try_from_mut_slice_spec 𝓤 𝓛 𝓜 𝓡 wired X N LX LN g d bound =
     -- [the token of N's lifetime; the two others; the slice]
     sets ! (agg ! (no_more !)) refl (tt, tt) $
     sets_last ! (agg ! (and_then ! (lit ! tt) (and_then ! (get ! refl) (no_more !)))) refl (tt, (record { fits = lit< tt }, (tt, tt))) $
-    exec ! 𝓣.C 𝓣.Λ En (after 4 fn.body) (at_ret En (W.post y)) $ sets ! (of_opd ! (get ! refl)) refl (tt, (record { fits = lit< tt }, (tt, tt))) $
+    exec ! 𝓣.C 𝓣.Λ En (after 4 fn.body) (at_ret En Post) $ sets ! (of_opd ! (get ! refl)) refl (tt, (record { fits = lit< tt }, (tt, tt))) $
     move ! (1 ∷ 2 ∷ 0 ∷ []) $ group ! 3 $ move ! (1 ∷ []) $ fsplit ! $
     use1 𝓛 (‵ (fres s.ghost_name ((Array E 0).coded.code s.now))) (given_up 𝓛 E s (named 0) κ (mut_slice_vals s)) $
     use1 𝓛 (‵ (Rests 𝓛 E s V.Denot Refusal.Denot name (Err e))) (Err-rests 𝓛 E s V.Denot Refusal.Denot name e) $
@@ -205,4 +164,4 @@ try_from_mut_slice_spec 𝓤 𝓛 𝓜 𝓡 wired X N LX LN g d bound =
     -- [nothing is left of the parameter; the answer, the clauses and the tokens in the order in which they came]
     nothing ! $ nothing ! $ fjoin ! $
     returns ! (look_at ! 0 refl) $ free_all ! refl $ move ! (5 ∷ 0 ∷ 1 ∷ []) $
-    by ! (leaves 𝓛 ends kept c y out (Err e) (tt, tt) (tt, tt))))))))
+    by ! (leave out (Err e))))))))

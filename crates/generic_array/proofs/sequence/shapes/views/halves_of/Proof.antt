@@ -7,18 +7,17 @@ use Rattle.ga_core.below.ga_views.specs.contracts.reborrow.RefMutSliceReborrowSl
 use Rattle.ga_core.proofs.ViewMut.TheLaws as laws
 use Rattle.ga_core.proofs.LengthCall.{calls_length}
 use Rattle.ga_core.proofs.SliceLaws.{array_laws, ArrayView, Slice, slice_laws}
+use Rattle.ga_core.proofs.SplitWalk.{cuts}
 use Rattle.ga_core.specs.declared.Unsigned as unsigned
 use Rattle.generic_array.proofs.sequence.shapes.views.halves_of.Code as code
 use Rattle.generic_array.proofs.sequence.shapes.views.halves_of.Statement.{statement}
 use Rattle.generic_array.proofs.sequence.shapes.views.views_of.Met as made
 use Rattle.generic_array.specs.contracts.sequence.shapes.views.halves_of as F
 use Rattle.generic_array.specs.contracts.sequence.shapes.views.views_of as make_contract
-use Rattle.std.below.core.specs.contracts.slice.slice+T.split_at_mut as cut_contract
 use Rattle.std.proofs.Common.{◌≡◌, ◌+◌, ◌++◌, ◌≤◌, [], ◌∷◌, ◌∙◌, ap, arith, drop as drop_l, length, List, refl, sym, take}
 use Rattle.std.proofs.alloc.Calls.{Goes-blank}
 use Rattle.std.proofs.raw_atomic.Walks.{leaves, proved}
 use Rattle.std.proofs.slice.slice+T.split_at_mut.Met as cut
-use Rattle.std.specs.List.{SameBelow, TailFrom}
 use base.Fml.{flft, ftrue, GName, Lft}
 use base.Logic.{emp, id⊢}
 use contract.BorrowLft.{◌⊑◌}
@@ -44,10 +43,10 @@ use denote.Triple.Spec.{triple_of}
 use denote.Triple.Table.{framed}
 use denote.Triple.Walked.{stay_dropped, Stays, walk_of}
 use mir.MapTy.{inst_fn}
-use mir.Syntax.{a_type, Args, dcons, Dict, dnil, Fn, named, w64}
-use mir.Val.{of_list, Val, vint, vstruct}
+use mir.Syntax.{a_type, Args, dcons, Dict, dnil, Fn, named}
+use mir.Val.{Val}
 use types.ByLocal.{alloc_all, free_all, get, get_in, lands_as, look_at, look_in_at, pass_all, sets}
-use types.Kit.{‵, ◌⊛◌, ◌$◌, ◌∵◌, !, await, by, drop, feq_l, fjoin, fpick, fsplit, group, join, later, move, pick, qed, raw, rewrite, some, split, split3, use0, use1}
+use types.Kit.{‵, ◌⊛◌, ◌$◌, ◌∵◌, !, await, by, drop, fjoin, group, join, later, move, pick, qed, raw, rewrite, some, split, split3, use0, use1}
 use types.Part.{agg, sub, whole}
 use types.Run.{addr, and_then, enter, fld, from, hop, no_more, of_opd, returns, stop}
 
@@ -138,45 +137,26 @@ halves_of_spec 𝓤 𝓛 𝓜 𝓡 wired X N K P LX LN LK LP gN dN gK dK gP dP b
     -- [the length; the token of K; the slice; the tokens of κ, T, N; the token of P]
     lands_as ! refl refl (tt, record { fits = fits_K }) $
     -- the slice is cut
-    let D = triple_of 𝓛 (cut_contract.signature X) (cut_contract.spec X 𝓛 𝓜.mem 𝓡.returns) in
-    let zD : D.Ghost = (((κ, (κT, tt)), (qs.0, (qs.1.0, tt)), bounds, (s, (m, tt)), (mut_slice_vals s, (vint w64 m ∷ [], tt))), tt) in
     let inside : m ≤ length s.now = omega (arith, is_K, is_N, sum) in
-    nothing ! $ move ! (1 ∷ 0 ∷ []) $ fjoin ! $ move ! (2 ∷ 0 ∷ []) $ fjoin ! $
-    move ! (2 ∷ []) $ split3 ! $ nothing ! $ move ! (1 ∷ 2 ∷ 0 ∷ 4 ∷ []) $ group ! 3 $ join ! $
-    use0 𝓛 (raw (fact 𝓤 (m ≤ length s.now))) (fact_i 𝓤 _ (emp 𝓤) inside) $
-    use0 𝓛 (raw (fact 𝓤 (κT ⊑ X.lives))) (fact_i 𝓤 _ (emp 𝓤) lT) $ join ! $
-    move ! (1 ∷ 0 ∷ []) $ join ! $ use1 𝓛 (raw (D.pre zD)) (id⊢ 𝓤 _) $
-    calls_at ! (framed 𝓤 𝓛.H 𝓜 𝓣) D (cut.met 𝓤 𝓛 𝓜 𝓡 (code.calls-core::slice::slice+T::split_at_mut 𝓡.env wired) X LX) zD
-    (and_then ! (get ! refl) (and_then ! (get ! refl) (no_more !))) (λ u.
-    use1 𝓛 (later (some (λ (r : Part.Denot × Part.Denot). ((‵ (flft κ qs.0) ⊛ ‵ (flft κT qs.1.0) ⊛ ‵ ftrue) ⊛ ‵ ((Tuple (Part ∷ Part ∷ [])).own_val r (u ∷ []))) ⊛
-    some (λ (ws : Lasts (cut_contract.ended X) zD.0.0 zD.0.3). ‵ (lasts (cut_contract.ended X) zD.0.0 zD.0.3 ws) ⊛
-    raw (fact 𝓤 (s.now ≡ r.0.now ++ r.1.now)) ⊛ raw (fact 𝓤 (length r.0.now ≡ m)) ⊛ raw (fact 𝓤 (length r.1.now + m ≡ length s.now)) ⊛
-    raw (fact 𝓤 (r.0.now ≡ take m s.now)) ⊛ raw (fact 𝓤 (r.1.now ≡ drop_l m s.now)) ⊛ raw (fact 𝓤 (SameBelow s.now r.0.now m × TailFrom s.now r.1.now m)) ⊛
-    ‵ (follows_both (Array E 0) (Array E 0) (Array E 0) s.ghost_name r.0.ghost_name r.1.ghost_name ◌++◌))))) (id⊢ 𝓤 _) $
-    await ! tt $ pick ! (λ r. split ! $ split ! $ move ! (2 ∷ []) $ pick ! (λ ws. split3 ! $ drop ! $ drop ! $
-    split ! $ heard ! _ (λ first_len. split ! $ heard ! _ (λ second_len. split ! $ heard ! _ (λ first_is. split ! $ heard ! _ (λ second_is. split ! $ drop ! $
-    -- [what follows; the tokens of κ, T; the pair; the tokens of N, K, P]
-    move ! (2 ∷ []) $ fpick ! (λ vss. fsplit ! $
-    move ! (1 ∷ []) $ fsplit ! $ peeks ! Part (Is Part) (shows 𝓛 Part) r.0 vss.0 (λ is₁. rewrite ! 0 (λ (vs : List Val). ‵ (Part.own_val r.0 vs)) is₁.0.0 refl $
-    move ! (1 ∷ []) $ fsplit ! $ peeks ! Part (Is Part) (shows 𝓛 Part) r.1 vss.1.0 (λ is₂. rewrite ! 0 (λ (vs : List Val). ‵ (Part.own_val r.1 vs)) is₂.0.0 refl $
-    move ! (3 ∷ []) $ feq_l ! (λ pair.
-    -- [the second part; nothing; the first part; what follows; the tokens of κ, T; the tokens of N, K, P]
-    lands_as ! (ap only (pair ∙ (λ i. vstruct (of_list (is₁.0.0 i ++ (is₂.0.0 i ++ []))) ∷ []))) refl
-    (tt, ((tt, (record { fits = is₁.0.1.0 }, tt)), ((tt, (record { fits = is₂.0.1.0 }, tt)), tt))) $
-    sets ! (of_opd ! (get_in ! (fld ! refl (stop !)) (sub ! 0 refl (whole !)))) refl (tt, (tt, (record { fits = is₁.0.1.0 }, tt))) $
-    sets ! (of_opd ! (get_in ! (fld ! refl (stop !)) (sub ! 1 refl (whole !)))) refl (tt, (tt, (record { fits = is₂.0.1.0 }, tt))) $
+    move ! (3 ∷ []) $ split3 ! $ move ! (5 ∷ 3 ∷ 0 ∷ 1 ∷ []) $
+    cuts X 𝓛 𝓜.mem 𝓡.returns κ κT qs.0 qs.1.0 bounds.0 s m ! (framed 𝓤 𝓛.H 𝓜 𝓣) (cut.met 𝓤 𝓛 𝓜 𝓡 (code.calls-core::slice::slice+T::split_at_mut 𝓡.env wired) X LX) lT inside
+    (and_then ! (get ! refl) (and_then ! (get ! refl) (no_more !))) (λ first second parts.
+    -- [the second part; the first part; what follows; the tokens of κ, T; the token of N, with nothing; the tokens of K, P]
+    lands_as ! refl refl (tt, ((tt, (record { fits = parts.first_fits }, tt)), ((tt, (record { fits = parts.second_fits }, tt)), tt))) $
+    sets ! (of_opd ! (get_in ! (fld ! refl (stop !)) (sub ! 0 refl (whole !)))) refl (tt, (tt, (record { fits = parts.first_fits }, tt))) $
+    sets ! (of_opd ! (get_in ! (fld ! refl (stop !)) (sub ! 1 refl (whole !)))) refl (tt, (tt, (record { fits = parts.second_fits }, tt))) $
     sets ! (addr ! (from ! (fld ! refl (hop ! (look_in_at ! 2 (sub ! 0 refl (whole !))) (stop !))))) refl (tt, tt) $
-    sets ! (agg ! (and_then ! (get ! refl) (and_then ! (get_in ! (fld ! refl (stop !)) (sub ! 1 refl (whole !))) (no_more !)))) refl (tt, (tt, (record { fits = is₁.0.1.0 }, tt))) $
+    sets ! (agg ! (and_then ! (get ! refl) (and_then ! (get_in ! (fld ! refl (stop !)) (sub ! 1 refl (whole !))) (no_more !)))) refl (tt, (tt, (record { fits = parts.first_fits }, tt))) $
     sets ! (addr ! (from ! (fld ! refl (hop ! (look_in_at ! 3 (sub ! 0 refl (whole !))) (stop !))))) refl (tt, tt) $
-    sets ! (agg ! (and_then ! (get ! refl) (and_then ! (get_in ! (fld ! refl (stop !)) (sub ! 1 refl (whole !))) (no_more !)))) refl (tt, (tt, (record { fits = is₂.0.1.0 }, tt))) $
+    sets ! (agg ! (and_then ! (get ! refl) (and_then ! (get_in ! (fld ! refl (stop !)) (sub ! 1 refl (whole !))) (no_more !)))) refl (tt, (tt, (record { fits = parts.second_fits }, tt))) $
     -- the views are made
     let B = triple_of 𝓛 (make_contract.signature X K P gK dK gP dP) (make_contract.spec X K P gK dK gP dP 𝓛 𝓜.mem 𝓡.returns) in
     let zB : B.Ghost =
-    (((κ, (κT, (κK, (κP, tt)))), (qs.0, (qs.1.0, (qs.1.1.1.0, (qs.1.1.1.1.0, tt)))), bounds, (r.0, (r.1, tt)), (mut_slice_vals r.0, (mut_slice_vals r.1, tt))), tt) in
-    fjoin ! $ move ! (1 ∷ 0 ∷ []) $ fjoin ! $ move ! (2 ∷ []) $ split3 ! $ move ! (6 ∷ []) $ split ! $
+    (((κ, (κT, (κK, (κP, tt)))), (qs.0, (qs.1.0, (qs.1.1.1.0, (qs.1.1.1.1.0, tt)))), bounds, (first, (second, tt)), (mut_slice_vals first, (mut_slice_vals second, tt))), tt) in
+    nothing ! $ move ! (1 ∷ 0 ∷ []) $ fjoin ! $ move ! (1 ∷ 0 ∷ []) $ fjoin ! $ move ! (2 ∷ []) $ split3 ! $ move ! (6 ∷ []) $ split ! $
     move ! (2 ∷ 3 ∷ 0 ∷ 8 ∷ 1 ∷ 5 ∷ []) $ group ! 5 $ join ! $
-    use0 𝓛 (raw (fact 𝓤 (length r.1.now ≡ gP.USIZE))) (fact_i 𝓤 _ (emp 𝓤) (omega (arith, is_K, is_N, sum, second_len))) $
-    use0 𝓛 (raw (fact 𝓤 (length r.0.now ≡ gK.USIZE))) (fact_i 𝓤 _ (emp 𝓤) (first_len ∙ is_K)) $ join ! $
+    use0 𝓛 (raw (fact 𝓤 (length second.now ≡ gP.USIZE))) (fact_i 𝓤 _ (emp 𝓤) (omega (arith, is_K, is_N, sum, parts.second_len))) $
+    use0 𝓛 (raw (fact 𝓤 (length first.now ≡ gK.USIZE))) (fact_i 𝓤 _ (emp 𝓤) (parts.first_len ∙ is_K)) $ join ! $
     use0 𝓛 (raw (fact 𝓤 (κP ⊑ P.lives))) (fact_i 𝓤 _ (emp 𝓤) lP) $ join ! $
     use0 𝓛 (raw (fact 𝓤 (κK ⊑ K.lives))) (fact_i 𝓤 _ (emp 𝓤) lK) $ join ! $
     use0 𝓛 (raw (fact 𝓤 (κT ⊑ X.lives))) (fact_i 𝓤 _ (emp 𝓤) lT) $ join ! $
@@ -187,7 +167,7 @@ halves_of_spec 𝓤 𝓛 𝓜 𝓡 wired X N K P LX LN LK LP gN dN gK dK gP dP b
     use1 𝓛 (later (some (λ (w : Answer.Denot).
     ((‵ (flft κ qs.0) ⊛ ‵ (flft κT qs.1.0) ⊛ ‵ (flft κK qs.1.1.1.0) ⊛ ‵ (flft κP qs.1.1.1.1.0) ⊛ ‵ ftrue) ⊛ ‵ (Answer.own_val w (u ∷ []))) ⊛
     some (λ (ws : Lasts (make_contract.ended X K P gK dK gP dP) zB.0.0 zB.0.3). ‵ (lasts (make_contract.ended X K P gK dK gP dP) zB.0.0 zB.0.3 ws) ⊛
-    raw (fact 𝓤 (w.0.slice ≡ r.0)) ⊛ raw (fact 𝓤 (w.1.slice ≡ r.1)))))) (id⊢ 𝓤 _) $
+    raw (fact 𝓤 (w.0.slice ≡ first)) ⊛ raw (fact 𝓤 (w.1.slice ≡ second)))))) (id⊢ 𝓤 _) $
     await ! tt $ pick ! (λ w. split ! $ split ! $ move ! (2 ∷ []) $ pick ! (λ ws. split3 ! $ drop ! $ heard ! _ (λ of_first. heard ! _ (λ of_second.
     -- [the tokens of κ, T, K, P; the views; nothing; what follows; the token of N]
     move ! (1 ∷ []) $ peeks ! Answer (Is Answer) (shows 𝓛 Answer) w (u ∷ []) (λ views.
@@ -199,8 +179,8 @@ halves_of_spec 𝓤 𝓛 𝓜 𝓡 wired X N K P LX LN LK LP gN dN gK dK gP dP b
     -- [all tokens; the views; nothing; what follows]
     nothing ! $ move ! (0 ∷ 3 ∷ []) $ fjoin ! $
     use0 𝓛 (raw (fact 𝓤 (w.1.slice.now ≡ drop_l gK.USIZE a.0.slice.now)))
-    (fact_i 𝓤 _ (emp 𝓤) (ap (λ (x : Part.Denot). x.now) of_second ∙ second_is ∙ (λ i. drop_l (is_K i) (same i).now))) $
+    (fact_i 𝓤 _ (emp 𝓤) (ap (λ (x : Part.Denot). x.now) of_second ∙ parts.second_is ∙ (λ i. drop_l (is_K i) (same i).now))) $
     use0 𝓛 (raw (fact 𝓤 (w.0.slice.now ≡ take gK.USIZE a.0.slice.now)))
-    (fact_i 𝓤 _ (emp 𝓤) (ap (λ (x : Part.Denot). x.now) of_first ∙ first_is ∙ (λ i. take (is_K i) (same i).now))) $
+    (fact_i 𝓤 _ (emp 𝓤) (ap (λ (x : Part.Denot). x.now) of_first ∙ parts.first_is ∙ (λ i. take (is_K i) (same i).now))) $
     move ! (3 ∷ 2 ∷ 4 ∷ 5 ∷ []) $
-    by ! (leaves 𝓛 ends kept c y u w ((tt, tt), tt) (tt, tt)))))))))))))))))))))))))))))))))
+    by ! (leaves 𝓛 ends kept c y u w ((tt, tt), tt) (tt, tt)))))))))))))))))))))))

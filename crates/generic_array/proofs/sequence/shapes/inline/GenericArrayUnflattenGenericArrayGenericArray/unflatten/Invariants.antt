@@ -4,11 +4,11 @@ use Rattle.std.proofs.Common.{◌≡◌, ◌+◌, ◌*◌, drop, length, map}
 use Rattle.std.specs.List.{range_with_len}
 
 -- the rows so far, and what follows them
-abbrev pub invariant-loop-place : goal.invariant-loop-place
-invariant-loop-place g l = record {
-  count : length l.rows ≡ l._place;
-  made : l.rows ≡ map (row_at g.W.Unsigned.USIZE l.fn.self) (range_with_len 0 l._place);
-  at : l.at ≡ l._place * g.W.Unsigned.USIZE;
-  left : drop l.at l.items ≡ drop (l._place * g.W.Unsigned.USIZE) l.fn.self;
-  long : l._place * g.W.Unsigned.USIZE + length (drop l.at l.items) ≡ g.R.Unsigned.USIZE * g.W.Unsigned.USIZE;
+abbrev pub invariant-loop-row : goal.invariant-loop-row
+invariant-loop-row g l = record {
+  count : length l.rows ≡ l._row;
+  made : l.rows ≡ map (row_at g.W.Unsigned.USIZE l.fn.self) (range_with_len 0 l._row);
+  at : l.at ≡ l._row * g.W.Unsigned.USIZE;
+  left : drop l.at l.items ≡ drop (l._row * g.W.Unsigned.USIZE) l.fn.self;
+  long : l._row * g.W.Unsigned.USIZE + length (drop l.at l.items) ≡ g.R.Unsigned.USIZE * g.W.Unsigned.USIZE;
 }
