@@ -1,6 +1,6 @@
 -- The greatest index of a record with a byte: along a walk from the back, and that it is the greatest.
 use Rattle.ga_records.specs.Records.{IsLastWith, NoneHas, has, index_behind, last_record_with}
-use Rattle.std.proofs.Common.{◌≡◌, ◌⊎◌, ℕ, suc, Bool, true, false, List, [], ◌∷◌, ◌++◌, Option, None, Some, inl, inr, ap, drop, length, refl, slice_get, subst, sym, ◌∙◌}
+use Rattle.std.proofs.Common.{◌≡◌, ◌⊎◌, ℕ, suc, Bool, true, false, List, [], ◌∷◌, ◌++◌, Option, None, Some, inl, inr, ap, length, refl, subst, sym, ◌∙◌}
 
 module _ (byte : ℕ) where
   -- the last record has the byte

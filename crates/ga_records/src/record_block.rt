@@ -1,7 +1,9 @@
 //! A block of records that lies in a slice of bytes.
+ghost use Rattle.ga_records.specs.Block.{bytes_of};
 ghost use Rattle.ga_records.specs.Records.{IsLastWith, IsRecordBlock, NoneHas, last_record_with};
 ghost use Rattle.generic_array.specs.RowIteration.{RowsInOrder, RowsInReverse};
 ghost use Rattle.generic_array.specs.Rows.{rows};
+ghost use Rattle.generic_array.specs.Views.{items_of_view};
 ghost use Rattle.std.specs.Io.KnownBytes.{Appends};
 ghost use Rattle.std.specs.Option.{option_map};
 ghost use Rattle.std.specs.Prelude.{◌≡◌, ◌<◌, ◌↔◌, IfOk, IfSome, IsNone, ℕ, IsOk, OnOk, length, slice_get, ⊤};
@@ -39,7 +41,7 @@ impl<'a, N: ArrayLength<u8>> RecordBlock<'a, N> {
     pub fn open(bytes: &'a [u8]) -> Result<Self, LengthError>
         requires width { 0 < N.USIZE }
         ensures variant { IsOk result ↔ IsRecordBlock N.USIZE bytes.now }
-        ensures ok { IfOk result (λ block. block.records.slice.now ≡ bytes.now) }
+        ensures ok { IfOk result (λ block. bytes_of block ≡ bytes.now) }
     {
         let (records, rest) = GenericArray::<u8, N>::chunks_from_slice(bytes);
         if rest.is_empty() {
@@ -52,7 +54,7 @@ impl<'a, N: ArrayLength<u8>> RecordBlock<'a, N> {
     /// The number of records. O(1).
     #[inline]
     pub fn len(&self) -> usize
-        ensures { result ≡ length (rows N.USIZE self.now.records.slice.now) }
+        ensures { result ≡ length (rows N.USIZE (bytes_of self.now)) }
     {
         self.records.len()
     }
@@ -60,7 +62,7 @@ impl<'a, N: ArrayLength<u8>> RecordBlock<'a, N> {
     /// The record at `index`, or `None` if there are at most `index` records. O(1).
     #[inline]
     pub fn record(&self, index: usize) -> Option<GenericArrayRef<'a, u8, N>>
-        ensures { option_map (λ view. view.slice.now) result ≡ slice_get (rows N.USIZE self.now.records.slice.now) index }
+        ensures { option_map items_of_view result ≡ slice_get (rows N.USIZE (bytes_of self.now)) index }
     {
         self.records.get(index)
     }
@@ -68,7 +70,7 @@ impl<'a, N: ArrayLength<u8>> RecordBlock<'a, N> {
     /// The records in order, from both ends.
     #[inline]
     pub fn iter(&self) -> ChunkIter<'_, u8, N>
-        ensures records { result ≡ rows N.USIZE self.now.records.slice.now }
+        ensures records { result ≡ rows N.USIZE (bytes_of self.now) }
         ensures runs { RowsInOrder ℕ N N.Unsigned }
         ensures runs_back { RowsInReverse ℕ N N.Unsigned }
     {
@@ -80,9 +82,9 @@ impl<'a, N: ArrayLength<u8>> RecordBlock<'a, N> {
     /// Looks from the back and stops at the first record found: takes time in proportion to the bytes
     /// behind it and in it.
     pub fn last_with(&self, byte: u8) -> Option<usize>
-        ensures index { result ≡ last_record_with byte (rows N.USIZE self.now.records.slice.now) }
-        ensures some { IfSome result (λ index. IsLastWith byte (rows N.USIZE self.now.records.slice.now) index) }
-        ensures none { IsNone result ↔ NoneHas byte (rows N.USIZE self.now.records.slice.now) }
+        ensures index { result ≡ last_record_with byte (rows N.USIZE (bytes_of self.now)) }
+        ensures some { IfSome result (λ index. IsLastWith byte (rows N.USIZE (bytes_of self.now)) index) }
+        ensures none { IsNone result ↔ NoneHas byte (rows N.USIZE (bytes_of self.now)) }
     {
         let mut left = self.iter();
         while let Some(record) = left.next_back() {
@@ -96,7 +98,7 @@ impl<'a, N: ArrayLength<u8>> RecordBlock<'a, N> {
     /// Writes the bytes of all records, in order, by one `write_all`. Returns the first error of
     /// the writer, and says nothing of how much was written.
     pub fn write_to<W: Write>(&self, w: &mut W) -> Result<(), io::Error>
-        ensures { OnOk result (Appends (W.contents w.old) (W.contents w.new) self.now.records.slice.now) }
+        ensures { OnOk result (Appends (W.contents w.old) (W.contents w.new) (bytes_of self.now)) }
     {
         w.write_all(self.records.as_slice())
     }

@@ -6,7 +6,7 @@ use crate::ends::{Status, after_failed_read};
 use std::alloc::Global;
 use std::io::Read;
 
-/// How many bytes are asked of the reader at a time.
+// How many bytes are asked of the reader at a time.
 const READ_SIZE: usize = 65_536;
 
 /// All bytes of `r`, or the status of what kept it from being read.
@@ -21,7 +21,7 @@ pub fn read_all<R: Read>(alloc: Global, r: &mut R) -> Result<Vec<u8>, Status>
     read_within(alloc, r, u64::MAX)
 }
 
-/// `read_all`, where a reader that doesn't end within `most` reads counts as faulty.
+// `read_all`, where a reader that doesn't end within `most` reads counts as faulty.
 fn read_within<R: Read>(alloc: Global, r: &mut R, most: u64) -> Result<Vec<u8>, Status>
     ensures bytes { IfOk result (λ input. IfSome (R.remaining r.old) (λ bytes. input.items ≡ bytes)) }
     ensures end { OnOk result (IsAtEnd (R.remaining r.new)) }
@@ -39,7 +39,7 @@ fn read_within<R: Read>(alloc: Global, r: &mut R, most: u64) -> Result<Vec<u8>, 
     Err(Status::Fault)
 }
 
-/// Appends `bytes`. Fails only if there is neither room nor memory for more.
+// Appends `bytes`. Fails only if there is neither room nor memory for more.
 fn append(input: &mut Vec<u8>, bytes: &[u8]) -> Result<(), Status>
     ensures ok { OnOk result (input.new.items ≡ input.old.items ++ bytes.now) }
     ensures full { OnErr result (vec_capacity input.old < vec_len input.old + length bytes.now) }

@@ -2,7 +2,7 @@
 ghost use Rattle.ga_rows.specs.Text.{numbers_text};
 ghost use Rattle.std.specs.Prelude.{◌≡◌, ◌+◌, ◌*◌, ◌≤◌, ◌++◌, decimal, length, reverse, take};
 
-/// How many bytes a text of the table has, and so how many are put for each number.
+// How many bytes a text of the table has, and so how many are put for each number.
 const TEXT_SIZE: usize = 4;
 
 /// Each byte in decimal, with spaces behind it.
@@ -87,7 +87,7 @@ pub fn put_numbers_back(text: &mut [u8], start: usize, numbers: &[u8]) -> usize
     end
 }
 
-/// Puts one number in decimal.
+// Puts one number in decimal.
 #[inline]
 fn put_number(text: &mut [u8], start: usize, number: u8) -> usize
     requires { start + 4 ≤ length text.old }
@@ -99,7 +99,7 @@ fn put_number(text: &mut [u8], start: usize, number: u8) -> usize
     start + count
 }
 
-/// The table's text of a number, and how many digits that has.
+// The table's text of a number, and how many digits that has.
 #[inline]
 fn digits_of(number: u8) -> (&'static [u8; TEXT_SIZE], usize)
     ensures digits { take result.1 result.0.now ≡ decimal number }

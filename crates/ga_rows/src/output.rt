@@ -1,10 +1,10 @@
 //! Writing the rows of an input.
+ghost use Rattle.generic_array.specs.Views.{items_of_chunks, items_of_view};
 ghost use Rattle.generic_array.specs.Rows.{chunk_rest, rows};
-ghost use Rattle.generic_array.specs.Views.{items_of_chunks};
 ghost use Rattle.ga_rows.specs.Text.{line, lines_of, rest_line, row_lines, row_text, text_of};
 ghost use Rattle.ga_rows.specs.Words.{bytes_of};
 ghost use Rattle.std.specs.Io.KnownBytes.{Appends, Keeps, append_known};
-ghost use Rattle.std.specs.Prelude.{◌≡◌, ◌≢◌, ◌+◌, ◌<◌, ◌≤◌, ◌↔◌, [], IfOk, IsOk, IsTrue, OnOk, length, sum, take};
+ghost use Rattle.std.specs.Prelude.{◌≡◌, ◌≢◌, ◌+◌, ◌<◌, ◌≤◌, ◌↔◌, [], IfOk, IsOk, IsTrue, OnOk, length, sum};
 
 use crate::piece::{PIECE_SIZE, Piece};
 use crate::words::{Mode, Width};
@@ -14,7 +14,7 @@ use generic_array::{ArrayLength, ChunksRef, GenericArrayRef, U1, U2, U4, U8, U16
 use std::io;
 use std::io::Write;
 
-/// More bytes than any line has: `rest ` and sixteen numbers of three digits with what follows each.
+// More bytes than any line has: `rest ` and sixteen numbers of three digits with what follows each.
 const LONGEST_LINE: usize = 5 + 16 * 4 + 1;
 
 /// Writes a line for each whole row of `input`, and one for the bytes that are left. Returns
@@ -24,7 +24,8 @@ const LONGEST_LINE: usize = 5 + 16 * 4 + 1;
 /// for the end, or not at all if there is no text. Allocates nothing. If the writer fails, nothing
 /// is said of how much of the text it got.
 pub fn rows<W: Write>(input: &[u8], mode: Mode, width: Width, w: &mut W) -> Result<bool, io::Error>
-    ensures text { OnOk result (Appends (W.contents w.old) (W.contents w.new) (text_of mode width input.now)) }
+    ensures text { OnOk result (Appends (W.contents w.old) (W.contents w.new)
+        (text_of mode width input.now)) }
     ensures rest { IfOk result (λ has_rest. IsTrue has_rest ↔ (chunk_rest (bytes_of width) input.now ≢ [])) }
     ensures empty { input.now ≡ [] → IsOk result }
 {
@@ -37,7 +38,7 @@ pub fn rows<W: Write>(input: &[u8], mode: Mode, width: Width, w: &mut W) -> Resu
     }
 }
 
-/// The rows of `N` bytes.
+// The rows of `N` bytes.
 fn rows_of<N: ArrayLength<u8>, W: Write>(
     input: &[u8],
     mode: Mode,
@@ -45,7 +46,8 @@ fn rows_of<N: ArrayLength<u8>, W: Write>(
 ) -> Result<bool, io::Error>
     requires some { 0 < N.USIZE }
     requires few { N.USIZE ≤ 16 }
-    ensures text { OnOk result (Appends (W.contents w.old) (W.contents w.new) (lines_of mode N.USIZE input.now)) }
+    ensures text { OnOk result (Appends (W.contents w.old) (W.contents w.new)
+        (lines_of mode N.USIZE input.now)) }
     ensures rest { IfOk result (λ has_rest. IsTrue has_rest ↔ (chunk_rest N.USIZE input.now ≢ [])) }
     ensures empty { input.now ≡ [] → IsOk result }
 {
@@ -57,7 +59,7 @@ fn rows_of<N: ArrayLength<u8>, W: Write>(
     Ok(!rest.is_empty())
 }
 
-/// Puts the lines of all rows behind the piece, from the last on in mode `last`.
+// Puts the lines of all rows behind the piece, from the last on in mode `last`.
 #[inline]
 fn put_rows<N: ArrayLength<u8>, W: Write>(
     piece: &mut Piece,
@@ -66,7 +68,9 @@ fn put_rows<N: ArrayLength<u8>, W: Write>(
     chunks: &ChunksRef<'_, u8, N>,
 ) -> Result<(), io::Error>
     requires { N.USIZE ≤ 16 }
-    ensures text { OnOk result (Appends (append_known (W.contents w.old) piece.old) (append_known (W.contents w.new) piece.new) (row_lines mode (rows N.USIZE (items_of_chunks chunks.now)))) }
+    ensures text { OnOk result (Appends (append_known (W.contents w.old) piece.old)
+        (append_known (W.contents w.new) piece.new)
+        (row_lines mode (rows N.USIZE (items_of_chunks chunks.now)))) }
     ensures empty { rows N.USIZE (items_of_chunks chunks.now) ≡ [] → IsOk result × (piece.new ≡ piece.old) }
 {
     if mode == Mode::Last {
@@ -81,7 +85,7 @@ fn put_rows<N: ArrayLength<u8>, W: Write>(
     Ok(())
 }
 
-/// Puts the line of one row behind the piece.
+// Puts the line of one row behind the piece.
 // Two loops call it, and each is the faster for a copy of its own.
 #[inline(always)]
 fn put_row<N: ArrayLength<u8>, W: Write>(
@@ -91,7 +95,8 @@ fn put_row<N: ArrayLength<u8>, W: Write>(
     row: GenericArrayRef<'_, u8, N>,
 ) -> Result<(), io::Error>
     requires { N.USIZE ≤ 16 }
-    ensures text { OnOk result (Appends (append_known (W.contents w.old) piece.old) (append_known (W.contents w.new) piece.new) (line (row_text mode row.entry.slice.now))) }
+    ensures text { OnOk result (Appends (append_known (W.contents w.old) piece.old)
+        (append_known (W.contents w.new) piece.new) (line (row_text mode (items_of_view row.entry)))) }
 {
     make_room(piece, w)?;
     match mode {
@@ -104,20 +109,21 @@ fn put_row<N: ArrayLength<u8>, W: Write>(
     Ok(())
 }
 
-/// The sum of a row's bytes.
+// The sum of a row's bytes.
 #[inline]
 fn sum_of<N: ArrayLength<u8>>(row: GenericArrayRef<'_, u8, N>) -> u16
     requires { N.USIZE ≤ 16 }
-    ensures value { result ≡ sum row.entry.slice.now }
-    ensures small { sum row.entry.slice.now < 10000 }
+    ensures value { result ≡ sum (items_of_view row.entry) }
+    ensures small { sum (items_of_view row.entry) < 10000 }
 {
     total_by(row, 0, &mut |sum: u16, byte: &u8| sum + u16::from(*byte))
 }
 
-/// Puts the line of the bytes that fill no row behind the piece, if there are any.
+// Puts the line of the bytes that fill no row behind the piece, if there are any.
 fn put_rest<W: Write>(piece: &mut Piece, w: &mut W, rest: &[u8]) -> Result<(), io::Error>
     requires { length rest.now ≤ 16 }
-    ensures text { OnOk result (Appends (append_known (W.contents w.old) piece.old) (append_known (W.contents w.new) piece.new) (rest_line rest.now)) }
+    ensures text { OnOk result (Appends (append_known (W.contents w.old) piece.old)
+        (append_known (W.contents w.new) piece.new) (rest_line rest.now)) }
     ensures empty { rest.now ≡ [] → IsOk result × (piece.new ≡ piece.old) }
 {
     if rest.is_empty() {
@@ -130,10 +136,11 @@ fn put_rest<W: Write>(piece: &mut Piece, w: &mut W, rest: &[u8]) -> Result<(), i
     Ok(())
 }
 
-/// Hands the piece over where it has no room for one more line.
+// Hands the piece over where it has no room for one more line.
 #[inline]
 fn make_room<W: Write>(piece: &mut Piece, w: &mut W) -> Result<(), io::Error>
-    ensures text { OnOk result (Keeps (append_known (W.contents w.old) piece.old) (append_known (W.contents w.new) piece.new)) }
+    ensures text { OnOk result (Keeps (append_known (W.contents w.old) piece.old)
+        (append_known (W.contents w.new) piece.new)) }
     ensures room { OnOk result (length piece.new + LONGEST_LINE ≤ PIECE_SIZE) }
 {
     if piece.has_room(LONGEST_LINE) {
@@ -142,7 +149,7 @@ fn make_room<W: Write>(piece: &mut Piece, w: &mut W) -> Result<(), io::Error>
     hand_over(piece, w)
 }
 
-/// Writes the piece, if it has text, and clears it.
+// Writes the piece, if it has text, and clears it.
 fn hand_over<W: Write>(piece: &mut Piece, w: &mut W) -> Result<(), io::Error>
     ensures text { OnOk result (Appends (W.contents w.old) (W.contents w.new) piece.old) }
     ensures cleared { OnOk result (piece.new ≡ []) }

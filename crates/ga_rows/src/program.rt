@@ -31,14 +31,19 @@ pub fn run_listed<I: Iterator<Item = String>, R: Read, W: Write, E: Write>(
 ) -> ExitCode
     requires can { IfOk listed I.can_next }
     requires finite { IfOk listed (λ words. IsFinite (I.remaining words)) }
-    ensures text { process_status result ≤ 1 → ListedAnd I.next_gives listed (λ meant. IsSomeAnd meant (λ meaning.
-        IfSome (R.remaining r.old) (λ input. Appends (W.contents w.old) (W.contents w.new) (text_of meaning.0 meaning.1 input)))) }
-    ensures whole { process_status result ≡ 0 → ListedAnd I.next_gives listed (λ meant. IfSome meant (λ meaning.
+    ensures text { process_status result ≤ 1
+        → ListedAnd I.next_gives listed (λ meant. IsSomeAnd meant (λ meaning.
+        IfSome (R.remaining r.old) (λ input.
+        Appends (W.contents w.old) (W.contents w.new) (text_of meaning.0 meaning.1 input)))) }
+    ensures whole { process_status result ≡ 0
+        → ListedAnd I.next_gives listed (λ meant. IfSome meant (λ meaning.
         IfSome (R.remaining r.old) (λ input. chunk_rest (bytes_of meaning.1) input ≡ []))) }
-    ensures rest { process_status result ≡ 1 → ListedAnd I.next_gives listed (λ meant. IfSome meant (λ meaning.
+    ensures rest { process_status result ≡ 1
+        → ListedAnd I.next_gives listed (λ meant. IfSome meant (λ meaning.
         IfSome (R.remaining r.old) (λ input. chunk_rest (bytes_of meaning.1) input ≢ []))) }
     ensures words { process_status result ≡ 2 → ListedAnd I.next_gives listed (λ meant. meant ≡ None) }
-    ensures meaningless { ListedEach I.next_gives listed (λ meant. meant ≡ None) → (process_status result ≡ 2) ⊎ (process_status result ≡ 3) }
+    ensures meaningless { ListedEach I.next_gives listed (λ meant. meant ≡ None)
+        → (process_status result ≡ 2) ⊎ (process_status result ≡ 3) }
     ensures unread { ListedEach I.next_gives listed (λ meant. meant ≡ None) → r.new ≡ r.old }
     ensures untouched { process_status result ≡ 2 → (r.new ≡ r.old) × (w.new ≡ w.old) }
     ensures end { process_status result ≤ 1 → IsAtEnd (R.remaining r.new) }
@@ -71,11 +76,14 @@ pub fn run_listed<I: Iterator<Item = String>, R: Read, W: Write, E: Write>(
 pub fn run<R: Read, W: Write>(alloc: Global, words: &[String], r: &mut R, w: &mut W) -> Status
     ensures words { (result ≡ Status.Words) ↔ (meaning_of_words (map string_bytes words.now) ≡ None) }
     ensures untouched { result ≡ Status.Words → (r.new ≡ r.old) × (w.new ≡ w.old) }
-    ensures text { (result ≡ Status.Whole) ⊎ (result ≡ Status.Rest) → IfSome (meaning_of_words (map string_bytes words.now)) (λ meaning.
-        IfSome (R.remaining r.old) (λ input. Appends (W.contents w.old) (W.contents w.new) (text_of meaning.0 meaning.1 input))) }
+    ensures text { (result ≡ Status.Whole) ⊎ (result ≡ Status.Rest)
+        → IfSome (meaning_of_words (map string_bytes words.now)) (λ meaning.
+        IfSome (R.remaining r.old) (λ input.
+        Appends (W.contents w.old) (W.contents w.new) (text_of meaning.0 meaning.1 input))) }
     ensures rest { (result ≡ Status.Rest) → IfSome (meaning_of_words (map string_bytes words.now)) (λ meaning.
         IfSome (R.remaining r.old) (λ input. chunk_rest (bytes_of meaning.1) input ≢ [])) }
-    ensures whole { (result ≡ Status.Whole) → IfSome (meaning_of_words (map string_bytes words.now)) (λ meaning.
+    ensures whole { (result ≡ Status.Whole)
+        → IfSome (meaning_of_words (map string_bytes words.now)) (λ meaning.
         IfSome (R.remaining r.old) (λ input. chunk_rest (bytes_of meaning.1) input ≡ [])) }
     ensures end { (result ≡ Status.Whole) ⊎ (result ≡ Status.Rest) → IsAtEnd (R.remaining r.new) }
     ensures memory { result ≡ Status.Memory → w.new ≡ w.old }

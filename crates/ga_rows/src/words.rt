@@ -23,7 +23,7 @@ pub enum Mode {
 }
 
 impl Mode {
-    /// The mode of a name.
+    // The mode of a name.
     fn named(name: &str) -> Option<Mode>
         ensures { result ≡ mode_named name.now }
     {
@@ -54,7 +54,7 @@ pub enum Width {
 }
 
 impl Width {
-    /// The width of a number of bytes.
+    // The width of a number of bytes.
     fn named(name: &str) -> Option<Width>
         ensures { result ≡ width_named name.now }
     {

@@ -1,5 +1,5 @@
 -- Padding: what is kept of a message tells how many zeros it takes.
-use Rattle.ga_uses.specs.BlockBuffer.{padded, padding, zero_count}
+use Rattle.ga_uses.specs.BlockBuffer.{with_padding, padding, zero_count}
 use Rattle.generic_array.specs.Rows.{chunk_rest}
 use Rattle.std.proofs.Common.{◌≡◌, ℕ, ◌+◌, ◌-◌, ◌*◌, ◌/◌, ◌%◌, ◌<◌, ◌∷◌, [], List, ◌++◌, length, replicate, ap, refl, sym, ◌∙◌, append_assoc, arith, inl, inr, length-append, length-drop}
 use Rattle.std.proofs.Math.Nat.{add-mul-mod_self_right, div-mul-le_self, mod-eq_of_lt, mod-lt, mod_self}
@@ -49,19 +49,19 @@ module _ (width : ℕ) (some : 0 < width) where
             ap (λ k. k % width) whole ∙ even
       ]
 
-  length-padded : (message : List ℕ) → length (padded width message) ≡ length message + 9 + zero_count width (length message)
-  length-padded message =
+  length-with_padding : (message : List ℕ) → length (with_padding width message) ≡ length message + 9 + zero_count width (length message)
+  length-with_padding message =
       let zeros : List ℕ = replicate (zero_count width (length message)) 0 in
       let bits : List ℕ = to_be_bytes w64 (8 * length message) in
       let count : length zeros ≡ zero_count width (length message) = length-replicate (zero_count width (length message)) 0 in
       let eight : length bits ≡ 8 = refl in
-      let parts : length (padded width message) ≡ length message + length (128 ∷ (zeros ++ bits)) = length-append message (128 ∷ (zeros ++ bits)) in
+      let parts : length (with_padding width message) ≡ length message + length (128 ∷ (zeros ++ bits)) = length-append message (128 ∷ (zeros ++ bits)) in
       let behind : length (zeros ++ bits) ≡ length zeros + length bits = length-append zeros bits in
       omega arith
 
   -- behind the blocks of a padded message nothing is left
-  pub padded-whole : (message : List ℕ) → chunk_rest width (padded width message) ≡ []
-  padded-whole message =
-      let all = padded width message in
-      let even : length all % width ≡ 0 = ap (λ n. n % width) (length-padded message) ∙ filled (length message + 9) in
+  pub with_padding-whole : (message : List ℕ) → chunk_rest width (with_padding width message) ≡ []
+  with_padding-whole message =
+      let all = with_padding width message in
+      let even : length all % width ≡ 0 = ap (λ n. n % width) (length-with_padding message) ∙ filled (length message + 9) in
       nil_from_length (chunk_rest width all) (omega (arith, length-drop (length all / width * width) all, div-add-mod' (length all) width, even))

@@ -37,5 +37,5 @@ abbrev pub padding : ℕ → ℕ → ℕ → List ℕ
 padding width place len = 128 ∷ replicate (zero_count width place) 0 ++ to_be_bytes w64 (8 * len)
 
 -- a message and its padding
-abbrev pub padded : ℕ → List ℕ → List ℕ
-padded width message = message ++ padding width (length message) (length message)
+abbrev pub with_padding : ℕ → List ℕ → List ℕ
+with_padding width message = message ++ padding width (length message) (length message)

@@ -1,5 +1,5 @@
 //! Messages of any length, passed on in blocks of one length.
-ghost use Rattle.ga_uses.specs.BlockBuffer.{HasFed, MayTake, Takes, count_more, padded, padding, zero_count};
+ghost use Rattle.ga_uses.specs.BlockBuffer.{HasFed, MayTake, Takes, count_more, padding, with_padding, zero_count};
 ghost use Rattle.generic_array.specs.Length.{FitsInline};
 ghost use Rattle.generic_array.specs.Rows.{chunk_rest, rows};
 ghost use Rattle.std.specs.List.{flat_map};
@@ -57,11 +57,14 @@ impl<N: ArrayLength<u8>> BlockBuffer<N> {
     /// A block that lies whole in `bytes` isn't copied: `f` sees it where it lies. Any number of bytes
     /// may be fed; `len` stops at `u64::MAX`.
     pub fn feed<F: FnMut(&[u8])>(&mut self, bytes: &[u8], f: &mut F)
-        requires callable { MayTake (λ slice. slice.now) F.step F.pre N.USIZE f.old (rows N.USIZE (self.old.kept ++ bytes.now)) }
-        ensures blocks { Takes (λ slice. slice.now) F.step f.old (rows N.USIZE (self.old.kept ++ bytes.now)) f.new }
+        requires callable { MayTake (λ slice. slice.now) F.step F.pre N.USIZE f.old
+            (rows N.USIZE (self.old.kept ++ bytes.now)) }
+        ensures blocks { Takes (λ slice. slice.now) F.step f.old
+            (rows N.USIZE (self.old.kept ++ bytes.now)) f.new }
         ensures kept { self.new.kept ≡ chunk_rest N.USIZE (self.old.kept ++ bytes.now) }
         ensures len { self.new.len ≡ count_more self.old.len bytes.now }
-        ensures whole { (first : F) (message : List ℕ) → HasFed (λ slice. slice.now) F.step N.USIZE first message self.old.kept f.old
+        ensures whole { (first : F) (message : List ℕ)
+            → HasFed (λ slice. slice.now) F.step N.USIZE first message self.old.kept f.old
             → HasFed (λ slice. slice.now) F.step N.USIZE first (message ++ bytes.now) self.new.kept f.new }
     {
         // Where a field is used, the type's invariant is known: blocks aren't empty.
@@ -71,8 +74,10 @@ impl<N: ArrayLength<u8>> BlockBuffer<N> {
 
     // The feed itself, of which `feed` says one thing more that follows.
     fn feed_blocks<F: FnMut(&[u8])>(&mut self, bytes: &[u8], f: &mut F)
-        requires callable { MayTake (λ slice. slice.now) F.step F.pre N.USIZE f.old (rows N.USIZE (self.old.kept ++ bytes.now)) }
-        ensures blocks { Takes (λ slice. slice.now) F.step f.old (rows N.USIZE (self.old.kept ++ bytes.now)) f.new }
+        requires callable { MayTake (λ slice. slice.now) F.step F.pre N.USIZE f.old
+            (rows N.USIZE (self.old.kept ++ bytes.now)) }
+        ensures blocks { Takes (λ slice. slice.now) F.step f.old
+            (rows N.USIZE (self.old.kept ++ bytes.now)) f.new }
         ensures kept { self.new.kept ≡ chunk_rest N.USIZE (self.old.kept ++ bytes.now) }
         ensures len { self.new.len ≡ count_more self.old.len bytes.now }
     {
@@ -99,10 +104,14 @@ impl<N: ArrayLength<u8>> BlockBuffer<N> {
     /// asks `len`.
     pub fn finish<F: FnMut(&[u8])>(self, f: &mut F)
         requires len { self.len < 2 ^ 61 }
-        requires callable { MayTake (λ slice. slice.now) F.step F.pre N.USIZE f.old (rows N.USIZE (self.kept ++ padding N.USIZE (length self.kept) self.len)) }
-        ensures blocks { Takes (λ slice. slice.now) F.step f.old (rows N.USIZE (self.kept ++ padding N.USIZE (length self.kept) self.len)) f.new }
-        ensures whole { (first : F) (message : List ℕ) → HasFed (λ slice. slice.now) F.step N.USIZE first message self.kept f.old → self.len ≡ length message
-            → Takes (λ slice. slice.now) F.step first (rows N.USIZE (padded N.USIZE message)) f.new }
+        requires callable { MayTake (λ slice. slice.now) F.step F.pre N.USIZE f.old
+            (rows N.USIZE (self.kept ++ padding N.USIZE (length self.kept) self.len)) }
+        ensures blocks { Takes (λ slice. slice.now) F.step f.old
+            (rows N.USIZE (self.kept ++ padding N.USIZE (length self.kept) self.len)) f.new }
+        ensures whole { (first : F) (message : List ℕ)
+            → HasFed (λ slice. slice.now) F.step N.USIZE first message self.kept f.old
+            → self.len ≡ length message
+            → Takes (λ slice. slice.now) F.step first (rows N.USIZE (with_padding N.USIZE message)) f.new }
     {
         let mut buffer = self;
         let bits = (8 * buffer.len).to_be_bytes();
@@ -112,7 +121,7 @@ impl<N: ArrayLength<u8>> BlockBuffer<N> {
         buffer.feed(&bits, f);
     }
 
-    /// How many zeros the padding has.
+    // How many zeros the padding has.
     fn zero_count(&self) -> usize
         ensures count { result ≡ zero_count N.USIZE (length self.now.kept) }
         ensures few { result < N.USIZE }
@@ -121,12 +130,15 @@ impl<N: ArrayLength<u8>> BlockBuffer<N> {
         (width - (self.kept.position() + 9) % width) % width
     }
 
-    /// Feeds fewer zeros than a block has bytes.
+    // Feeds fewer zeros than a block has bytes.
     fn feed_zeros<F: FnMut(&[u8])>(&mut self, count: usize, f: &mut F)
         requires few { count < N.USIZE }
-        requires callable { MayTake (λ slice. slice.now) F.step F.pre N.USIZE f.old (rows N.USIZE (self.old.kept ++ replicate count 0)) }
-        ensures { (first : F) (message : List ℕ) → HasFed (λ slice. slice.now) F.step N.USIZE first message self.old.kept f.old
-            → HasFed (λ slice. slice.now) F.step N.USIZE first (message ++ replicate count 0) self.new.kept f.new }
+        requires callable { MayTake (λ slice. slice.now) F.step F.pre N.USIZE f.old
+            (rows N.USIZE (self.old.kept ++ replicate count 0)) }
+        ensures { (first : F) (message : List ℕ)
+            → HasFed (λ slice. slice.now) F.step N.USIZE first message self.old.kept f.old
+            → HasFed (λ slice. slice.now) F.step N.USIZE first (message ++ replicate count 0)
+            self.new.kept f.new }
     {
         // Where a field is used, the type's invariant is known: the length fits.
         let _ = &self.kept;
@@ -145,8 +157,10 @@ pub fn feed_pieces<N: ArrayLength<u8>, F: FnMut(&[u8])>(
 ) -> BlockBuffer<N>
     requires some { 0 < N.USIZE }
     requires fits { FitsInline N.USIZE }
-    requires callable { MayTake (λ slice. slice.now) F.step F.pre N.USIZE f.old (rows N.USIZE (flat_map (λ piece. piece.now) pieces.now)) }
-    ensures blocks { Takes (λ slice. slice.now) F.step f.old (rows N.USIZE (flat_map (λ piece. piece.now) pieces.now)) f.new }
+    requires callable { MayTake (λ slice. slice.now) F.step F.pre N.USIZE f.old
+        (rows N.USIZE (flat_map (λ piece. piece.now) pieces.now)) }
+    ensures blocks { Takes (λ slice. slice.now) F.step f.old
+        (rows N.USIZE (flat_map (λ piece. piece.now) pieces.now)) f.new }
     ensures kept { result.kept ≡ chunk_rest N.USIZE (flat_map (λ piece. piece.now) pieces.now) }
     ensures len { result.len ≡ count_more 0 (flat_map (λ piece. piece.now) pieces.now) }
 {
@@ -157,26 +171,24 @@ pub fn feed_pieces<N: ArrayLength<u8>, F: FnMut(&[u8])>(
     buffer
 }
 
-/// Calls `f` at the blocks of a message that comes in pieces, and of its padding.
+/// Calls `f` at the blocks of a message that comes in pieces, and of its padding. Together they are
+/// whole blocks.
 pub fn padded_blocks<N: ArrayLength<u8>, F: FnMut(&[u8])>(pieces: &[&[u8]], f: &mut F)
     requires some { 0 < N.USIZE }
     requires fits { FitsInline N.USIZE }
     requires len { length (flat_map (λ piece. piece.now) pieces.now) < 2 ^ 61 }
-    requires callable { MayTake (λ slice. slice.now) F.step F.pre N.USIZE f.old (rows N.USIZE (padded N.USIZE (flat_map (λ piece. piece.now) pieces.now))) }
-    ensures { Takes (λ slice. slice.now) F.step f.old (rows N.USIZE (padded N.USIZE (flat_map (λ piece. piece.now) pieces.now))) f.new }
+    requires callable { MayTake (λ slice. slice.now) F.step F.pre N.USIZE f.old
+        (rows N.USIZE (with_padding N.USIZE (flat_map (λ piece. piece.now) pieces.now))) }
+    ensures blocks { Takes (λ slice. slice.now) F.step f.old
+        (rows N.USIZE (with_padding N.USIZE (flat_map (λ piece. piece.now) pieces.now))) f.new }
+    ensures whole { chunk_rest N.USIZE
+        (with_padding N.USIZE (flat_map (λ piece. piece.now) pieces.now)) ≡ [] }
 {
     let buffer: BlockBuffer<N> = feed_pieces(pieces, f);
     buffer.finish(f);
 }
 
-/// A padded message is whole blocks: nothing is left behind them, and the zeros are fewer than a
-/// block has bytes.
-pub fn padding_fills_blocks<N: Unsigned>()
-    ensures whole { 0 < N.USIZE → (message : List ℕ) → chunk_rest N.USIZE (padded N.USIZE message) ≡ [] }
-    ensures fewest { 0 < N.USIZE → (len : ℕ) → zero_count N.USIZE len < N.USIZE }
-{}
-
-/// A block of zeros.
+// A block of zeros.
 fn zeros<N: ArrayLength<u8>>() -> GenericArray<u8, N>
     requires { FitsInline N.USIZE }
     ensures { result ≡ replicate N.USIZE 0 }
@@ -184,7 +196,7 @@ fn zeros<N: ArrayLength<u8>>() -> GenericArray<u8, N>
     GenericArray::default()
 }
 
-/// Appends bytes for which there is room.
+// Appends bytes for which there is room.
 fn append<N: ArrayLength<u8>>(builder: &mut ArrayBuilder<u8, N>, bytes: &[u8])
     requires room { length builder.old + length bytes.now ≤ N.USIZE }
     ensures { builder.new ≡ builder.old ++ bytes.now }
@@ -192,7 +204,7 @@ fn append<N: ArrayLength<u8>>(builder: &mut ArrayBuilder<u8, N>, bytes: &[u8])
     builder.extend(&mut bytes.iter().copied());
 }
 
-/// The block that is full with the first of these bytes, and those that follow it.
+// The block that is full with the first of these bytes, and those that follow it.
 fn complete<'a, N: ArrayLength<u8>>(
     builder: &mut ArrayBuilder<u8, N>,
     bytes: &'a [u8],
@@ -208,7 +220,7 @@ fn complete<'a, N: ArrayLength<u8>>(
     (mem::replace(builder, ArrayBuilder::new()).finish(), behind)
 }
 
-/// Calls `f` at each whole block that lies in `bytes`, where it lies, and keeps the rest.
+// Calls `f` at each whole block that lies in `bytes`, where it lies, and keeps the rest.
 fn hand_on_rows<N: ArrayLength<u8>, F: FnMut(&[u8])>(
     kept: &mut ArrayBuilder<u8, N>,
     bytes: &[u8],

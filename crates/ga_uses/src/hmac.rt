@@ -1,17 +1,17 @@
 //! HMAC (RFC 2104): the tag of a message under a key, over any hash function.
 //!
 //! Nothing here allocates, and nothing fails.
-ghost use Rattle.ga_uses.specs.Hmac.{Holds, hmac_of, key_block, masked};
+ghost use Rattle.ga_uses.specs.Hmac.{Holds, hmac_of, key_block, with_mask};
 ghost use Rattle.generic_array.specs.Length.{FitsInline};
 ghost use Rattle.std.specs.Prelude.{◌≡◌, ℕ, ◌-◌, ◌≤◌, ◌↔◌, ◌++◌, IsTrue, List, [], length, replicate};
 
 use crate::hash_function::HashFunction;
 use generic_array::{ArrayLength, BorrowedItems, GenericArray};
 
-/// The mask of the key before the message.
+// The mask of the key before the message.
 const INNER: u8 = 0x36;
 
-/// The mask of the key before the inner digest.
+// The mask of the key before the inner digest.
 const OUTER: u8 = 0x5c;
 
 /// The tag of a message that is fed by pieces: `new` with the key, a `feed` for each piece, and `finish`
@@ -81,7 +81,7 @@ pub fn verify<H: HashFunction>(key: &[u8], message: &[u8], tag: &[u8]) -> bool
     expected.verify(tag)
 }
 
-/// The bytes, followed by zeros up to the length.
+// The bytes, followed by zeros up to the length.
 fn padded<N: ArrayLength<u8>>(bytes: &[u8]) -> GenericArray<u8, N>
     requires fits { FitsInline N.USIZE }
     requires room { length bytes.now ≤ N.USIZE }
@@ -93,7 +93,7 @@ fn padded<N: ArrayLength<u8>>(bytes: &[u8]) -> GenericArray<u8, N>
     block
 }
 
-/// The key as a block: its digest where it is longer, with zeros behind.
+// The key as a block: its digest where it is longer, with zeros behind.
 fn block_of_key<H: HashFunction>(key: &[u8]) -> GenericArray<u8, H::BlockSize>
     ensures { result ≡ key_block H.digest H.BlockSize.USIZE key.now }
 {
@@ -104,16 +104,16 @@ fn block_of_key<H: HashFunction>(key: &[u8]) -> GenericArray<u8, H::BlockSize>
     }
 }
 
-/// A hash function that was fed the key under a mask.
+// A hash function that was fed the key under a mask.
 fn keyed<H: HashFunction>(block: &GenericArray<u8, H::BlockSize>, mask: u8) -> H
-    ensures { H.holds result (masked mask block.now) }
+    ensures { H.holds result (with_mask mask block.now) }
 {
     let mut hasher = H::start();
     hasher.feed(block.map_inline_ref(|b: &u8| *b ^ mask).as_slice());
     hasher
 }
 
-/// Whether the two are the same bytes. Looks at every byte, also behind one that differs.
+// Whether the two are the same bytes. Looks at every byte, also behind one that differs.
 fn same_bytes<N: ArrayLength<u8>>(left: GenericArray<u8, N>, right: &[u8]) -> bool
     ensures { IsTrue result ↔ (right.now ≡ left) }
 {

@@ -120,7 +120,8 @@ impl<N: ArrayLength<u8>, V> KeyTable<N, V> {
     // How many keys are below this one.
     fn place_of(&self, key: &GenericArray<u8, N>) -> usize
         ensures in_range { result ≤ length self.now }
-        ensures parts { IsPartitionPoint (λ e. is_lt (key_order e.0 key.now) ≡ true) (λ e. is_lt (key_order e.0 key.now) ≡ false) self.now result }
+        ensures parts { IsPartitionPoint (λ e. is_lt (key_order e.0 key.now) ≡ true) (λ e.
+            is_lt (key_order e.0 key.now) ≡ false) self.now result }
         ensures ordered { IsInKeyOrder self.now }
     {
         self.entries

@@ -1,5 +1,6 @@
 //! UDP datagrams, as RFC 768 has them: read, summed and written through views.
-ghost use Rattle.ga_uses.specs.Udp.{IsDatagram, checksum_of, complement_of, datagram_of, header_of, number_of, summed_bytes, sum_with_carry, words};
+ghost use Rattle.generic_array.specs.Views.{items_of_chunks, items_of_view};
+ghost use Rattle.ga_uses.specs.Udp.{IsDatagram, checksum_of, complement_of, datagram_of, header_of, number_of, sum_with_carry, summed_bytes, words};
 ghost use Rattle.generic_array.specs.Rows.{rows};
 ghost use Rattle.std.specs.Prelude.{◌≡◌, ◌+◌, ◌-◌, ◌^◌, ◌<◌, ◌≤◌, ◌↔◌, Err, IfOk, IsOk, Ok, drop, fold, length, map, slice_range};
 
@@ -53,12 +54,14 @@ pub struct Datagram<'a> {
 pub fn parse(datagram: &[u8]) -> Result<Datagram<'_>, HeaderError>
     ensures variant { IsOk result ↔ IsDatagram datagram.now }
     ensures short { (result ≡ Err HeaderError.TooShort) ↔ (length datagram.now < 8) }
-    ensures other_length { (result ≡ Err HeaderError.OtherLength) ↔ ((8 ≤ length datagram.now) × ¬ IsDatagram datagram.now) }
+    ensures other_length { (result ≡ Err HeaderError.OtherLength)
+        ↔ ((8 ≤ length datagram.now) × ¬ IsDatagram datagram.now) }
 
-    ensures source { IfOk result (λ read. read.source.slice.now ≡ slice_range datagram.now 0 2) }
-    ensures destination { IfOk result (λ read. read.destination.slice.now ≡ slice_range datagram.now 2 4) }
-    ensures len { IfOk result (λ read. read.length.slice.now ≡ slice_range datagram.now 4 6) }
-    ensures checksum { IfOk result (λ read. read.checksum.slice.now ≡ slice_range datagram.now 6 8) }
+    ensures source { IfOk result (λ read. items_of_view read.source ≡ slice_range datagram.now 0 2) }
+    ensures destination { IfOk result (λ read.
+        items_of_view read.destination ≡ slice_range datagram.now 2 4) }
+    ensures len { IfOk result (λ read. items_of_view read.length ≡ slice_range datagram.now 4 6) }
+    ensures checksum { IfOk result (λ read. items_of_view read.checksum ≡ slice_range datagram.now 6 8) }
     ensures payload { IfOk result (λ read. read.payload.now ≡ drop 8 datagram.now) }
 {
     if datagram.len() < 8 {
@@ -83,7 +86,7 @@ pub fn parse(datagram: &[u8]) -> Result<Datagram<'_>, HeaderError>
 
 /// The number in a field.
 pub fn number(field: GenericArrayRef<'_, u8, U2>) -> u16
-    ensures { result ≡ number_of field.entry.slice.now }
+    ensures { result ≡ number_of (items_of_view field.entry) }
 {
     let bytes = field.into_slice();
     bytes[0] as u16 * 0x100 + bytes[1] as u16
@@ -98,7 +101,9 @@ pub fn checksum(
     payload: &[u8],
 ) -> u16
     requires fits { 8 + length payload.now < 2 ^ 16 }
-    ensures { result ≡ checksum_of (summed_bytes source_address.entry.slice.now destination_address.entry.slice.now source destination payload.now) }
+    ensures { result
+        ≡ checksum_of (summed_bytes (items_of_view source_address.entry)
+        (items_of_view destination_address.entry) source destination payload.now) }
 {
     // The sum of the addresses, the protocol, the length, the header, whose checksum counts as 0, and
     // the payload.
@@ -134,7 +139,7 @@ fn with_words(sum: u16, bytes: &[u8]) -> u16
 
 // The same over whole words, each a row of two bytes.
 fn with_rows(sum: u16, words: ChunksRef<'_, u8, U2>) -> u16
-    ensures { result ≡ fold sum_with_carry sum (map number_of (rows 2 words.entry.slice.now)) }
+    ensures { result ≡ fold sum_with_carry sum (map number_of (rows 2 (items_of_chunks words.entry))) }
 {
     words.iter().map(number).fold(sum, with_carry)
 }
@@ -158,7 +163,9 @@ pub fn write_header(
 )
     requires room { 8 ≤ length datagram.old }
     requires fits { length datagram.old < 2 ^ 16 }
-    ensures { datagram.new ≡ datagram_of source_address.entry.slice.now destination_address.entry.slice.now source destination (drop 8 datagram.old) }
+    ensures { datagram.new
+        ≡ datagram_of (items_of_view source_address.entry) (items_of_view destination_address.entry) source
+        destination (drop 8 datagram.old) }
 {
     let len = datagram.len() as u16;
     let (header, payload) = datagram.split_at_mut(8);
@@ -184,32 +191,4 @@ fn write_fields(header: &mut [u8], source: u16, destination: u16, len: u16, chec
         .copy_from_slice(&destination.to_be_bytes());
     fields.row_mut(2).copy_from_slice(&len.to_be_bytes());
     fields.row_mut(3).copy_from_slice(&checksum.to_be_bytes());
-}
-
-/// The ports and the length of the payload, as `parse` reads back what `write_header` wrote.
-pub fn read_back(
-    datagram: &mut [u8],
-    source_address: GenericArrayRef<'_, u8, U4>,
-    destination_address: GenericArrayRef<'_, u8, U4>,
-    source: u16,
-    destination: u16,
-) -> Result<(u16, u16, usize), HeaderError>
-    requires room { 8 ≤ length datagram.old }
-    requires fits { length datagram.old < 2 ^ 16 }
-    ensures written { datagram.new ≡ datagram_of source_address.entry.slice.now destination_address.entry.slice.now source destination (drop 8 datagram.old) }
-    ensures read { result ≡ Ok (source, destination, length datagram.old - 8) }
-{
-    write_header(
-        datagram,
-        source_address,
-        destination_address,
-        source,
-        destination,
-    );
-    let read = parse(datagram)?;
-    Ok((
-        number(read.source),
-        number(read.destination),
-        read.payload.len(),
-    ))
 }

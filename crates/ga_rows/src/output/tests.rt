@@ -116,7 +116,7 @@ const SHORT: [(&[u8], Mode, Width, &str); 14] = [
     (&[], Mode::Last, Width::W1, ""),
 ];
 
-/// Whether these lines are written, and the answer says whether a rest is among them.
+/// Whether these lines are written, and the result says whether a rest is among them.
 fn gives(
     alloc: Global,
     input: &[u8],

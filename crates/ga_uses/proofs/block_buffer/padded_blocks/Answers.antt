@@ -1,7 +1,7 @@
 use Rattle.ga_uses.proofs.BlockLemmas.{MayTake-along, MayTake-front, MayTake-more}
-use Rattle.ga_uses.proofs.PaddingLemmas.{padding-kept}
+use Rattle.ga_uses.proofs.PaddingLemmas.{padding-kept, with_padding-whole}
 use Rattle.ga_uses.proofs.block_buffer.padded_blocks.Goals as goal
-use Rattle.ga_uses.specs.BlockBuffer.{padded, padding}
+use Rattle.ga_uses.specs.BlockBuffer.{with_padding, padding}
 use Rattle.generic_array.proofs.JoinLemmas.{rows-joined}
 use Rattle.generic_array.specs.Rows.{chunk_rest, rows}
 use Rattle.std.proofs.Common.{◌≡◌, [], ◌++◌, ap, append-nil, arith, length, sym, ◌∙◌}
@@ -23,13 +23,16 @@ finish-requires-clause-callable g c =
     let kept = c.feed_pieces-buffer.result.kept in
     let len : c.feed_pieces-buffer.result.len ≡ length message = omega (arith, c.feed_pieces-buffer.ensures.len, c.requires.len) in
     let last = padding width (length kept) c.feed_pieces-buffer.result.len in
-    let whole : padded width message ≡ message ++ (last ++ []) =
+    let whole : with_padding width message ≡ message ++ (last ++ []) =
     ap (λ p. message ++ p) (sym (padding-kept width message kept c.feed_pieces-buffer.ensures.kept c.feed_pieces-buffer.result.len len) ∙ sym (append-nil last)) in
-    MayTake-more (λ slice. slice.now) (goal.F-step g) width c.requires.some (goal.F-pre g) c.args.f.now c.feed_pieces-buffer.new.f (padded width message) message kept last [] whole
+    MayTake-more (λ slice. slice.now) (goal.F-step g) width c.requires.some (goal.F-pre g) c.args.f.now c.feed_pieces-buffer.new.f (with_padding width message) message kept last [] whole
     c.requires.callable (record { blocks = c.feed_pieces-buffer.ensures.blocks; rest = c.feed_pieces-buffer.ensures.kept })
 
-pub returns : goal.returns
-returns g c =
+pub returns-clause-blocks : goal.returns-clause-blocks
+returns-clause-blocks g c =
     let message = flat_map (λ piece. piece.now) c.args.pieces.now in
     let len : c.feed_pieces-buffer.result.len ≡ length message = omega (arith, c.feed_pieces-buffer.ensures.len, c.requires.len) in
     c.finish.ensures.whole c.args.f.now message (record { blocks = c.feed_pieces-buffer.ensures.blocks; rest = c.feed_pieces-buffer.ensures.kept }) len
+
+pub returns-clause-whole : goal.returns-clause-whole
+returns-clause-whole g c = with_padding-whole g.N.Unsigned.USIZE c.requires.some (flat_map (λ piece. piece.now) c.args.pieces.now)

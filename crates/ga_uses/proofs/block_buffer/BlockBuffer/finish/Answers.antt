@@ -3,7 +3,7 @@ use Rattle.ga_uses.proofs.PaddingLemmas.{padding-after_mark, padding-in_turn, pa
 use Rattle.ga_uses.proofs.block_buffer.BlockBuffer.finish.Given as given
 use Rattle.ga_uses.proofs.block_buffer.BlockBuffer.finish.Goals as goal
 use Rattle.ga_uses.proofs.block_buffer.BlockBuffer.finish.Goals.{After-feed_zeros, After-zero_count-zeros}
-use Rattle.ga_uses.specs.BlockBuffer.{HasFed, padded, padding, zero_count}
+use Rattle.ga_uses.specs.BlockBuffer.{HasFed, with_padding, padding, zero_count}
 use Rattle.generic_array.specs.Rows.{chunk_rest, rows}
 use Rattle.std.proofs.Common.{◌≡◌, ◌<◌, ◌*◌, ◌∷◌, [], ◌++◌, ap, append-nil, arith, length, refl, replicate, sym, ◌∙◌}
 use Rattle.std.specs.Int.{to_be_bytes, w64}
@@ -85,5 +85,5 @@ returns-clause-whole g c first message fed len =
     let last = padding width (length kept) c.args.self.len in
     let more = HasFed-more (λ slice. slice.now) (goal.F-step g) width (omega (arith, few g (goal.at.returns-clause-whole g c).After-zero_count-zeros)) first c.args.f.now c.feed-2.new.f message kept last
     (chunk_rest width (kept ++ last)) fed (returns-clause-blocks g c) refl in
-    Takes-along (λ slice. slice.now) (goal.F-step g) first (rows width (message ++ last)) (rows width (padded width message)) c.feed-2.new.f
+    Takes-along (λ slice. slice.now) (goal.F-step g) first (rows width (message ++ last)) (rows width (with_padding width message)) c.feed-2.new.f
     (ap (λ p. rows width (message ++ p)) (sym (padding-kept width message kept fed.rest c.args.self.len len))) more.blocks
