@@ -4,7 +4,7 @@ use Rattle.generic_array.specs.Runs.{ClosureRun, FirstErrorRun, FoldRun}
 use Rattle.std.specs.Prelude.{◌≡◌, ◌⊎◌, ◌↔◌, List, ◌++◌, Result, Ok, Err}
 
 module _ {F X Y : Type 0} (step : F → X → Y → F → Type 0) where
-  -- a run over the first list, and one over the second from the state that it reached, with their answers joined
+  -- a run over the first list, and one over the second from the state that it reached, with their results joined
   abbrev pub RunInParts : F → List X → List X → List Y → F → Type 0
   RunInParts f xs ys answers last = (first : List Y) × (second : List Y) × (reached : F)
       × (answers ≡ first ++ second) × ClosureRun step f xs first reached × ClosureRun step reached ys second last
@@ -14,7 +14,7 @@ module _ {F X Y : Type 0} (step : F → X → Y → F → Type 0) where
   RunsJoin = (f : F) (xs ys : List X) (answers : List Y) (last : F) → ClosureRun step f (xs ++ ys) answers last ↔ RunInParts f xs ys answers last
 
 module _ {F X Y E : Type 0} (step : F → X → Result Y E → F → Type 0) where
-  -- good calls over the first list, and over the second from the state that they reached, with their answers joined
+  -- good calls over the first list, and over the second from the state that they reached, with their results joined
   abbrev pub GoodRunInParts : F → List X → List X → List Y → F → Type 0
   GoodRunInParts f xs ys answers last = (first : List Y) × (second : List Y) × (reached : F)
       × (answers ≡ first ++ second) × FirstErrorRun step f xs (Ok first) reached × FirstErrorRun step reached ys (Ok second) last

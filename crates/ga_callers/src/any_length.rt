@@ -1,9 +1,10 @@
-//! Callers of any length, each with its exact answer.
+//! Callers of any length, each with its exact result.
 ghost use Rattle.generic_array.specs.Length.{FitsInline};
 ghost use Rattle.generic_array.specs.Tries.{try_map};
 ghost use Rattle.ga_callers.specs.AnyLength.{digit_of};
 ghost use Rattle.generic_array.specs.Entries.{ActsOnEntry, CallAt, MayCallAt};
 ghost use Rattle.generic_array.specs.Runs.{CallableOver};
+ghost use Rattle.generic_array.specs.Views.{items_of_view};
 ghost use Rattle.std.specs.Int.Bits.{bit_xor};
 ghost use Rattle.std.specs.List.{range_with_len, zip};
 ghost use Rattle.std.specs.Prelude.{◌≡◌, ℕ, ◌+◌, ◌-◌, ◌*◌, ◌%◌, ◌^◌, ◌++◌, ◌<◌, ◌≤◌, IfOk, Ok, fold, length, map, replicate, reverse, sum};
@@ -32,7 +33,7 @@ fn masked<N: ArrayLength<u8>>(key: GenericArray<u8, N>) -> GenericArray<u8, N>
 
 fn masked_view<N: ArrayLength<u8>>(key: GenericArrayRef<'_, u8, N>, mask: u8) -> GenericArray<u8, N>
     requires { FitsInline N.USIZE }
-    ensures { result ≡ map (λ b. bit_xor b mask) key.entry.slice.now }
+    ensures { result ≡ map (λ b. bit_xor b mask) (items_of_view key.entry) }
 {
     always(key.map((), |b: &u8| *b ^ mask))
 }
@@ -104,7 +105,7 @@ fn place_sums<N: ArrayLength<u32>>(
     left: GenericArray<u32, N>,
     right: GenericArrayRef<'_, u32, N>,
 ) -> GenericArray<u32, N>
-    ensures { result ≡ map (λ p. (p.0 + p.1) % 2 ^ 32) (zip left right.entry.slice.now) }
+    ensures { result ≡ map (λ p. (p.0 + p.1) % 2 ^ 32) (zip left (items_of_view right.entry)) }
 {
     left.zip_inline_ref(right, |l: u32, r: &u32| l.wrapping_add(*r))
 }
@@ -125,7 +126,7 @@ fn scaled_sums<N: ArrayLength<u32>>(
 }
 
 fn dot<N: ArrayLength<u32>>(left: GenericArray<u32, N>, right: GenericArrayRef<'_, u32, N>) -> u32
-    ensures { result ≡ fold (λ total x. (total + x) % 2 ^ 32) 0 (map (λ p. p.0 * p.1 % 2 ^ 32) (zip left right.entry.slice.now)) }
+    ensures { result ≡ fold (λ total x. (total + x) % 2 ^ 32) 0 (map (λ p. p.0 * p.1 % 2 ^ 32) (zip left (items_of_view right.entry))) }
 {
     let products = left.zip_inline_ref(right, |l: u32, r: &u32| l.wrapping_mul(*r));
     products
@@ -156,8 +157,8 @@ fn value_from_lowest<N: Unsigned>(coefficients: BoxedArray<u32, N>, x: u32) -> u
 // The sum, where it fits its type. Its condition is one line of proof.
 
 fn sum_of<N: ArrayLength<u32>>(view: GenericArrayRef<'_, u32, N>) -> u32
-    requires fits { sum view.slice.now < 2 ^ 32 }
-    ensures { result ≡ sum view.entry.slice.now }
+    requires fits { sum (items_of_view view) < 2 ^ 32 }
+    ensures { result ≡ sum (items_of_view view.entry) }
 {
     total_by(view, 0, &mut |total: u32, item: &u32| total + *item)
 }
@@ -208,7 +209,7 @@ fn digits_of_view<N: ArrayLength<u8>>(
     base: u8,
 ) -> Result<GenericArray<u8, N>, u8>
     requires { FitsInline N.USIZE }
-    ensures { result ≡ try_map (digit_of base) text.entry.slice.now }
+    ensures { result ≡ try_map (digit_of base) (items_of_view text.entry) }
 {
     always(text.try_map((), |byte: &u8| digit_in(base, *byte)))
 }

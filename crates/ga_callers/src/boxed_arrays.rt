@@ -28,14 +28,13 @@ fn calls_made(alloc: Global) -> u32
     ensures { (result ≡ 0) ⊎ (result ≡ 3) }
 {
     let mut calls = 0u32;
-    let built: Result<BoxedArray<usize, U3>, AllocError> = BoxedArray::generate_by(
+    match BoxedArray::<usize, U3>::generate_by(
         alloc,
         &mut |index: usize| {
             calls = calls.wrapping_add(1);
             index
         },
-    );
-    match built {
+    ) {
         Ok(_array) => calls,
         Err(_refused) => calls,
     }
@@ -79,7 +78,7 @@ fn four_digits(alloc: Global, text: &[u8]) -> Result<BoxedArray<u8, U4>, FillErr
     BoxedArray::try_boxed_from_fallible_iter(alloc, text.iter().map(decimal_digit))
 }
 
-/// The digits that four bytes stand for, or why there are none. The iterator is lent.
+/// The digits that four bytes stand for, or why there are none. The iterator is borrowed.
 fn four_digits_lent(
     alloc: Global,
     text: &[u8],

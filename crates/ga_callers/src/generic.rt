@@ -79,7 +79,7 @@ fn digits<S: FromFallibleIterator<u8>>(
     S::from_fallible_iter(place, text.iter().map(decimal_digit))
 }
 
-/// The digits that the bytes stand for, or why there are none. The iterator is lent.
+/// The digits that the bytes stand for, or why there are none. The iterator is borrowed.
 fn digits_lent<S: FromFallibleIterator<u8>>(
     place: S::Place,
     text: &[u8],

@@ -1,5 +1,6 @@
 //! Callers at each kind of sequence, with exact results.
 ghost use Rattle.generic_array.specs.Length.{FitsInline};
+ghost use Rattle.generic_array.specs.Views.{items_of_view};
 ghost use Rattle.std.specs.List.{zip};
 ghost use Rattle.std.specs.Prelude.{◌≡◌, ◌∷◌, [], ◌+◌, ◌*◌, ◌%◌, ◌^◌, ◌⊎◌, Err, IfOk, Ok, fold, if◌then◌else◌, map, nat_eq};
 
@@ -12,28 +13,27 @@ use generic_array::{
 use std::alloc::Global;
 use std::test::Fail;
 
+/// The sum of a total and an item, modulo 2^32.
+fn plus(total: u32, item: u32) -> u32
+    ensures { result ≡ (total + item) % 2 ^ 32 }
+{
+    total.wrapping_add(item)
+}
+
 // A sum at each kind; that of a view is `sum_of` of `any_length`.
 
 fn total_of_array(array: GenericArray<u32, U3>) -> u32
     requires { array ≡ 1 ∷ 2 ∷ 3 ∷ [] }
     ensures { result ≡ 6 }
 {
-    total_by(
-        array,
-        0,
-        &mut |total: u32, item: u32| total.wrapping_add(item),
-    )
+    total_by(array, 0, &mut plus)
 }
 
 fn total_of_boxed(array: BoxedArray<u32, U3>) -> u32
     requires { array ≡ 1 ∷ 2 ∷ 3 ∷ [] }
     ensures { result ≡ 6 }
 {
-    total_by(
-        array,
-        0,
-        &mut |total: u32, item: u32| total.wrapping_add(item),
-    )
+    total_by(array, 0, &mut plus)
 }
 
 // The dot product of two kinds of any length.
@@ -42,7 +42,7 @@ fn dot_of_array_and_view<N: ArrayLength<u32>>(
     left: GenericArray<u32, N>,
     right: GenericArrayRef<'_, u32, N>,
 ) -> u32
-    ensures { result ≡ fold (λ total x. (total + x) % 2 ^ 32) 0 (map (λ p. p.0 * p.1 % 2 ^ 32) (zip left right.entry.slice.now)) }
+    ensures { result ≡ fold (λ total x. (total + x) % 2 ^ 32) 0 (map (λ p. p.0 * p.1 % 2 ^ 32) (zip left (items_of_view right.entry))) }
 {
     // The slice knows that the length fits.
     let _ = left.as_slice();
@@ -52,7 +52,7 @@ fn dot_of_array_and_view<N: ArrayLength<u32>>(
         right,
         &mut |l: u32, r: &u32| l.wrapping_mul(*r),
         0,
-        &mut |total: u32, item: u32| total.wrapping_add(item),
+        &mut plus,
     ))
 }
 
@@ -61,7 +61,7 @@ fn dot_of_view_and_boxed<N: ArrayLength<u32>>(
     right: BoxedArray<u32, N>,
 ) -> u32
     requires { FitsInline N.USIZE }
-    ensures { result ≡ fold (λ total x. (total + x) % 2 ^ 32) 0 (map (λ p. p.0 * p.1 % 2 ^ 32) (zip left.entry.slice.now right)) }
+    ensures { result ≡ fold (λ total x. (total + x) % 2 ^ 32) 0 (map (λ p. p.0 * p.1 % 2 ^ 32) (zip (items_of_view left.entry) right)) }
 {
     always(dot_by(
         left,
@@ -69,7 +69,7 @@ fn dot_of_view_and_boxed<N: ArrayLength<u32>>(
         right,
         &mut |l: &u32, r: u32| l.wrapping_mul(r),
         0,
-        &mut |total: u32, item: u32| total.wrapping_add(item),
+        &mut plus,
     ))
 }
 
@@ -86,11 +86,11 @@ fn dot_of_boxed_and_array<N: ArrayLength<u32>>(
         right,
         &mut |l: u32, r: u32| l.wrapping_mul(r),
         0,
-        &mut |total: u32, item: u32| total.wrapping_add(item),
+        &mut plus,
     )
 }
 
-// A map with a running total, by a closure that is lent to one map and then to the next.
+// A map with a running total, by a closure that one map borrows and then the next.
 
 fn running_totals_of_arrays(
     left: GenericArray<u32, U2>,
@@ -111,7 +111,7 @@ fn running_totals_of_arrays(
 }
 
 fn running_totals_of_view(view: GenericArrayRef<'_, u32, U3>) -> GenericArray<u32, U3>
-    requires { view.slice.now ≡ 1 ∷ 2 ∷ 3 ∷ [] }
+    requires { items_of_view view ≡ 1 ∷ 2 ∷ 3 ∷ [] }
     ensures { result ≡ 1 ∷ 3 ∷ 6 ∷ [] }
 {
     let mut total = 0u32;
@@ -138,7 +138,7 @@ fn stopped_in_array(array: GenericArray<u32, U3>) -> Result<GenericArray<u32, U3
 }
 
 fn stopped_in_view(view: GenericArrayRef<'_, u32, U3>) -> Result<GenericArray<u32, U3>, u32>
-    requires { view.slice.now ≡ 1 ∷ 2 ∷ 3 ∷ [] }
+    requires { items_of_view view ≡ 1 ∷ 2 ∷ 3 ∷ [] }
     ensures { result ≡ Err 2 }
 {
     view.try_map_inline_ref(|item: &u32| stopped_at_two(*item))
@@ -172,7 +172,7 @@ fn boxed_less_by_view(
     s: GenericArrayRef<'_, u32, U2>,
     lhs: BoxedArray<u32, U2>,
 ) -> Result<BoxedArray<u32, U2>, AllocError>
-    requires s { s.slice.now ≡ 1 ∷ 2 ∷ [] }
+    requires s { items_of_view s ≡ 1 ∷ 2 ∷ [] }
     requires lhs { lhs ≡ 10 ∷ 20 ∷ [] }
     ensures { IfOk result (λ made. made ≡ 9 ∷ 18 ∷ []) }
 {

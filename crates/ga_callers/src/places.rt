@@ -1,10 +1,12 @@
 //! Places, slices and views of arrays, read and written.
+ghost use Rattle.generic_array.specs.Views.{items_of_view};
 ghost use Rattle.std.specs.List.{All};
 ghost use Rattle.std.specs.Option.{option_copied};
 ghost use Rattle.std.specs.Prelude.{◌≡◌, ◌∷◌, [], EachIndex, slice_get, slice_index, slice_set, sum};
 
 use crate::builds::blank;
-use generic_array::{GenericArray, GenericArrayMut, GenericArrayRef, U2, U3, U4, arr, move_items};
+use ga_core::slots::move_items;
+use generic_array::{GenericArray, GenericArrayMut, GenericArrayRef, U2, U3, U4, arr};
 
 fn second_of(array: &GenericArray<u8, U3>) -> u8
     ensures { slice_get array.now 1 ≡ Some result }
@@ -105,7 +107,7 @@ fn sum_of(array: &GenericArray<u8, U3>) -> u32
 }
 
 fn third_of<'a>(view: GenericArrayRef<'a, u8, U3>) -> Option<&'a u8>
-    ensures { option_copied result ≡ slice_get view.entry.slice.now 2 }
+    ensures { option_copied result ≡ slice_get (items_of_view view.entry) 2 }
 {
     view.into_slice().get(2)
 }
@@ -151,7 +153,7 @@ fn what_is_written_is_what_is_read(rt: HostRuntime) {
     assert!(rt; third_of(array.view()) == Some(&3));
 }
 
-/// What a slice of 4, 5 is after `from_mut_slice`, after a `try_from_mut_slice` that is refused,
+/// What a slice of 4, 5 is after `from_mut_slice`, after a `try_from_mut_slice` that fails,
 /// and after one that isn't.
 fn slice_after_views() -> [[u8; 2]; 3] {
     let mut items = [4u8, 5];

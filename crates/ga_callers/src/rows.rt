@@ -1,5 +1,6 @@
 //! Rows of slices, read and written.
 ghost use Rattle.generic_array.specs.Rows.{rows};
+ghost use Rattle.generic_array.specs.Views.{items_of_chunks, items_of_view};
 ghost use Rattle.std.specs.Prelude.{◌≡◌, ◌==◌, ◌∷◌, [], IfSome, IsSome, count_by, length, slice_index, slice_set};
 
 use generic_array::{ChunksMut, ChunksRef, GenericArray, GenericArrayRef, U0, U2, U3};
@@ -7,7 +8,7 @@ use generic_array::{ChunksMut, ChunksRef, GenericArray, GenericArrayRef, U0, U2,
 fn second_row_and_rest(slice: &[u8]) -> (Option<GenericArrayRef<'_, u8, U3>>, &[u8])
     requires { slice.now ≡ 1 ∷ 2 ∷ 3 ∷ 4 ∷ 5 ∷ 6 ∷ 7 ∷ [] }
     ensures has_row { IsSome result.0 }
-    ensures row { IfSome result.0 (λ row. row.slice.now ≡ 4 ∷ 5 ∷ 6 ∷ []) }
+    ensures row { IfSome result.0 (λ row. items_of_view row ≡ 4 ∷ 5 ∷ 6 ∷ []) }
     ensures rest { result.1.now ≡ 7 ∷ [] }
 {
     let (chunks, rest) = ChunksRef::<u8, U3>::chunks_from_slice(slice);
@@ -15,7 +16,7 @@ fn second_row_and_rest(slice: &[u8]) -> (Option<GenericArrayRef<'_, u8, U3>>, &[
 }
 
 fn rows_from_zero(chunks: &ChunksRef<u8, U3>) -> usize
-    ensures { result ≡ count_by (λ row. slice_index row 0 == 0) (rows 3 chunks.now.slice.now) }
+    ensures { result ≡ count_by (λ row. slice_index row 0 == 0) (rows 3 (items_of_chunks chunks.now)) }
 {
     let mut count = 0;
     for row in chunks.iter() {

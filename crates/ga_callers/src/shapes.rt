@@ -1,4 +1,5 @@
 //! Callers of the shapes, with the items that they get.
+ghost use Rattle.generic_array.specs.Views.{items_of_view};
 ghost use Rattle.std.specs.List.{flat_map, fold};
 ghost use Rattle.std.specs.Prelude.{◌≡◌, ◌+◌, ◌*◌, ◌%◌, ◌^◌, ◌∷◌, [], IfOk, Ok, map};
 
@@ -94,9 +95,9 @@ fn cut_before_the_first(
 fn view_cut_after_the_first<'a>(
     view: GenericArrayRef<'a, u32, U3>,
 ) -> (GenericArrayRef<'a, u32, U1>, GenericArrayRef<'a, u32, U2>)
-    requires { view.slice.now ≡ 1 ∷ 2 ∷ 3 ∷ [] }
-    ensures first { result.0.slice.now ≡ 1 ∷ [] }
-    ensures second { result.1.slice.now ≡ 2 ∷ 3 ∷ [] }
+    requires { items_of_view view ≡ 1 ∷ 2 ∷ 3 ∷ [] }
+    ensures first { items_of_view result.0 ≡ 1 ∷ [] }
+    ensures second { items_of_view result.1 ≡ 2 ∷ 3 ∷ [] }
 {
     view.split()
 }
@@ -121,7 +122,7 @@ fn writing_view_of_an_array_cut<'a>(
     array.view_mut().split()
 }
 
-/// A proof learns what both halves write where the slice is lent to it, and each half made a view.
+/// A proof learns what both halves write where it follows the slice, and each half is made a view.
 fn both_halves_written(slice: &mut [u32])
     requires { slice.old ≡ 1 ∷ 2 ∷ 3 ∷ 4 ∷ 5 ∷ [] }
     ensures { slice.new ≡ 9 ∷ 2 ∷ 3 ∷ 4 ∷ 8 ∷ [] }

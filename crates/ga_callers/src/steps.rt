@@ -44,41 +44,34 @@ fn taken_and_replaced<I: TwoEnded<u32>>(
     run_steps(numbers, steps, &mut total, replies)
 }
 
-/// Items taken from both ends of five, past the last of them too, and the sum of what is left.
+/// Items taken from both ends of five, past the last of them too, and the sum of what is left: in one run
+/// where `at_once`, else in two.
 fn taken_and_looked_at<I: TwoEnded<u32>>(
     alloc: Global,
     numbers: &mut I,
+    at_once: bool,
     replies: &mut Vec<Reply<u32, u32>>,
 ) -> Result<(), AllocError>
     requires five { I.items numbers.old ≡ 1 ∷ 2 ∷ 3 ∷ 4 ∷ 5 ∷ [] }
     ensures replies { OnOk result (replies.new.items ≡ replies.old.items ++ Item (Some 2) ∷ Seen 12 ∷ Item None ∷ Item None ∷ Seen 0 ∷ []) }
     ensures left { OnOk result (I.items numbers.new ≡ []) }
 {
-    let steps = vec![in alloc;
-        Step::Nth(1),
-        Step::Look,
-        Step::NthBack(5),
-        Step::Next,
-        Step::Look,
-    ]?;
-    run_steps(numbers, steps, &mut total, replies)
-}
-
-/// The same steps in two runs.
-fn taken_up_again<I: TwoEnded<u32>>(
-    alloc: Global,
-    numbers: &mut I,
-    replies: &mut Vec<Reply<u32, u32>>,
-) -> Result<(), AllocError>
-    requires five { I.items numbers.old ≡ 1 ∷ 2 ∷ 3 ∷ 4 ∷ 5 ∷ [] }
-    ensures replies { OnOk result (replies.new.items ≡ replies.old.items ++ Item (Some 2) ∷ Seen 12 ∷ Item None ∷ Item None ∷ Seen 0 ∷ []) }
-    ensures left { OnOk result (I.items numbers.new ≡ []) }
-{
-    let first = vec![in alloc; Step::Nth(1), Step::Look]?;
-    let second = vec![in alloc; Step::NthBack(5), Step::Next, Step::Look]?;
     let mut look = total;
-    run_steps(numbers, first, &mut look, replies)?;
-    run_steps(numbers, second, &mut look, replies)
+    if at_once {
+        let steps = vec![in alloc;
+            Step::Nth(1),
+            Step::Look,
+            Step::NthBack(5),
+            Step::Next,
+            Step::Look,
+        ]?;
+        run_steps(numbers, steps, &mut look, replies)
+    } else {
+        let first = vec![in alloc; Step::Nth(1), Step::Look]?;
+        let second = vec![in alloc; Step::NthBack(5), Step::Next, Step::Look]?;
+        run_steps(numbers, first, &mut look, replies)?;
+        run_steps(numbers, second, &mut look, replies)
+    }
 }
 
 /// A reply behind an earlier one.
@@ -93,20 +86,6 @@ fn taken_behind<I: TwoEnded<u32>>(
     ensures left { OnOk result (I.items numbers.new ≡ 1 ∷ []) }
 {
     let steps = vec![in alloc; Step::NextBack]?;
-    run_steps(numbers, steps, &mut total, replies)
-}
-
-/// No steps, which are never refused, over any numbers.
-fn no_steps<I: TwoEnded<u32>>(
-    alloc: Global,
-    numbers: &mut I,
-    replies: &mut Vec<Reply<u32, u32>>,
-) -> Result<(), AllocError>
-    ensures ok { IsOk result }
-    ensures replies { replies.new.items ≡ replies.old.items }
-    ensures left { I.items numbers.new ≡ I.items numbers.old }
-{
-    let steps = Vec::new(alloc);
     run_steps(numbers, steps, &mut total, replies)
 }
 
@@ -154,4 +133,18 @@ fn looks_counted<I: TwoEnded<u32>>(
         replies,
     )?;
     Ok(looks)
+}
+
+/// No steps, which never fail, over any numbers.
+fn no_steps<I: TwoEnded<u32>>(
+    alloc: Global,
+    numbers: &mut I,
+    replies: &mut Vec<Reply<u32, u32>>,
+) -> Result<(), AllocError>
+    ensures ok { IsOk result }
+    ensures replies { replies.new.items ≡ replies.old.items }
+    ensures left { I.items numbers.new ≡ I.items numbers.old }
+{
+    let steps = Vec::new(alloc);
+    run_steps(numbers, steps, &mut total, replies)
 }

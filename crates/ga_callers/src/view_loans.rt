@@ -1,16 +1,18 @@
 //! Views as slices, and what a proof follows through the views that write.
+ghost use Rattle.generic_array.specs.Views.{items_of_view};
 ghost use Rattle.std.specs.List.{list_any};
 ghost use Rattle.std.specs.Prelude.{◌≡◌, ◌==◌, ◌∷◌, [], ◌<◌, ◌↔◌, IfOk, IsOk, IsTrue, Some, length, replicate, slice_get, slice_set};
 
+use generic_array::reborrow::ReborrowSlice;
 use generic_array::{
-    ArrayLength, ViewMut, ChunksMut, GenericArray, GenericArrayMut, GenericArrayRef, LengthError,
-    ReborrowSlice, U2, U3, Unsigned, arr,
+    ArrayLength, ChunksMut, GenericArray, GenericArrayMut, GenericArrayRef, LengthError, U2, U3,
+    Unsigned, ViewMut, arr,
 };
 use std::marker::PhantomData;
 
 fn item_at<N: Unsigned>(view: GenericArrayRef<'_, u8, N>, index: usize) -> u8
     requires { index < N.USIZE }
-    ensures { slice_get view.entry.slice.now index ≡ Some result }
+    ensures { slice_get (items_of_view view.entry) index ≡ Some result }
 {
     view[index]
 }
@@ -28,14 +30,14 @@ fn length_of<N: Unsigned>(view: &GenericArrayRef<'_, u8, N>) -> usize
 }
 
 fn has_zero<N: Unsigned>(view: &GenericArrayRef<'_, u8, N>) -> bool
-    ensures { result ≡ list_any (λ byte. byte == 0) view.now.slice.now }
+    ensures { result ≡ list_any (λ byte. byte == 0) (items_of_view view.now) }
 {
     view.contains(&0)
 }
 
 fn viewed(slice: &[u8]) -> Result<GenericArrayRef<'_, u8, U3>, LengthError>
     ensures variant { IsOk result ↔ (length slice.now ≡ 3) }
-    ensures ok { IfOk result (λ view. view.slice.now ≡ slice.now) }
+    ensures ok { IfOk result (λ view. items_of_view view ≡ slice.now) }
 {
     slice.try_into()
 }

@@ -1,4 +1,5 @@
 //! Views of slices, read and written.
+ghost use Rattle.generic_array.specs.Views.{items_of_view};
 ghost use Rattle.std.specs.Prelude.{◌≡◌, ◌≢◌, ◌==◌, IfOk, IsOk, length, position, reverse, slice_set, sum};
 
 use generic_array::{Const, GenericArrayMut, GenericArrayRef, U2, U3};
@@ -44,20 +45,20 @@ fn count_for_writing(slice: &mut [u8]) -> usize
 
 /// The sum of two bytes that a view shows.
 pub fn sum_of(view: &GenericArrayRef<u8, U2>) -> u32
-    ensures { result ≡ sum view.now.slice.now }
+    ensures { result ≡ sum (items_of_view view.now) }
 {
     view.iter().map(|item| *item as u32).sum()
 }
 
 fn six_from_the_back(view: GenericArrayRef<u8, U2>) -> Option<usize>
-    ensures { result ≡ position (λ item. item == 6) (reverse view.entry.slice.now) }
+    ensures { result ≡ position (λ item. item == 6) (reverse (items_of_view view.entry)) }
 {
     view.into_iter().rev().position(|item| *item == 6)
 }
 
 fn shown_by_a_clone<'a>(view: &GenericArrayRef<'a, u8, U2>) -> Result<&'a [u8], AllocError>
     ensures succeeds { IsOk result }
-    ensures items { IfOk result (λ items. items.now ≡ view.now.slice.now) }
+    ensures items { IfOk result (λ items. items.now ≡ items_of_view view.now) }
 {
     let copy = view.clone()?;
     Ok(copy.into_slice())

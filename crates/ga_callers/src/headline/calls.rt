@@ -13,16 +13,14 @@ use generic_array::sequence::{FallibleGenericSequence, GenericSequence, Sequence
 
 /// One call at each item, in order, each with the state that the one before left. What is made has an
 /// item for each.
-pub fn map<
-    T,
-    U,
-    S: FunctionalSequence<T> + MappedGenericSequence<T, U>,
-    F: FnMut(SequenceItem<S>) -> U,
->(
+pub fn map<T, U, S, F>(
     s: S,
     place: MappedPlace<S, T, U>,
     f: &mut F,
 ) -> Result<MappedSequence<S, T, U>, MappedError<S, T, U>>
+where
+    S: FunctionalSequence<T> + MappedGenericSequence<T, U>,
+    F: FnMut(SequenceItem<S>) -> U,
     requires fits { S.Mapped.Fits }
     requires callable { CallableOver (MayCallAt S.entry F.pre) (CallAt S.entry F.step) f.old (S.items s) }
     ensures len { IfOk result (λ made. length (S.Mapped.Sequence.items made) ≡ S.Length.USIZE) }
@@ -33,19 +31,16 @@ pub fn map<
 }
 
 /// One call at each pair of items, in order. The two sequences may be of different kinds.
-pub fn zip<
-    T,
-    B,
-    U,
-    S: FunctionalSequence<T> + MappedGenericSequence<T, U>,
-    Rhs: GenericSequence<B>,
-    F: FnMut(SequenceItem<S>, SequenceItem<Rhs>) -> U,
->(
+pub fn zip<T, B, U, S, Rhs, F>(
     s: S,
     place: MappedPlace<S, T, U>,
     rhs: Rhs,
     f: &mut F,
 ) -> Result<MappedSequence<S, T, U>, MappedError<S, T, U>>
+where
+    S: FunctionalSequence<T> + MappedGenericSequence<T, U>,
+    Rhs: GenericSequence<B>,
+    F: FnMut(SequenceItem<S>, SequenceItem<Rhs>) -> U,
     requires lengths { S.Length.USIZE ≡ Rhs.Length.USIZE }
     requires fits { S.Mapped.Fits }
     requires callable { CallableOver (MayCallAtPair S.entry Rhs.entry F.pre) (CallAtPair S.entry Rhs.entry F.step) f.old (zip (S.items s) (Rhs.items rhs)) }
@@ -69,18 +64,14 @@ pub fn fold<T, A, S: FunctionalSequence<T>, F: FnMut(A, SequenceItem<S>) -> A>(
 }
 
 /// One call at each item, in order, up to the first error, after which none is made.
-pub fn try_map<
-    T,
-    U,
-    E,
-    S: FunctionalSequence<T> + MappedGenericSequence<T, U>,
-    F: FnMut(SequenceItem<S>) -> Result<U, E>,
->(
+pub fn try_map<T, U, E, S, F>(
     s: S,
     place: MappedPlace<S, T, U>,
     f: &mut F,
 ) -> Result<Result<MappedSequence<S, T, U>, E>, MappedError<S, T, U>>
 where
+    S: FunctionalSequence<T> + MappedGenericSequence<T, U>,
+    F: FnMut(SequenceItem<S>) -> Result<U, E>,
     Mapped<S, T, U>: FallibleGenericSequence<U>,
     requires fits { S.Mapped.Fits }
     requires callable { CallableOverUntilError (MayCallAt S.entry F.pre) (CallAt S.entry F.step) f.old (S.items s) }

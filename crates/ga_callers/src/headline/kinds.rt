@@ -1,4 +1,5 @@
 //! The headline at each kind of sequence that has it, with exact results.
+ghost use Rattle.generic_array.specs.Views.{items_of_view};
 ghost use Rattle.generic_array.specs.declared.steps.step.Reply.TheVariants.{Item, Old, Seen};
 ghost use Rattle.generic_array.specs.declared.steps.step.Step.TheVariants.{Look, Next, NextBack, Set};
 ghost use Rattle.std.specs.Prelude.{◌≡◌, ◌≢◌, ◌+◌, ◌%◌, ◌^◌, [], ◌∷◌, ◌++◌, Err, IfOk, IsErr, Ok, OnOk, Some, if◌then◌else◌, length, nat_lt};
@@ -65,7 +66,7 @@ fn totals_of_inline(array: GenericArray<u32, U3>) -> GenericArray<u32, U3>
 }
 
 fn totals_of_view(view: GenericArrayRef<'_, u32, U3>) -> GenericArray<u32, U3>
-    requires { view.slice.now ≡ 1 ∷ 2 ∷ 3 ∷ [] }
+    requires { items_of_view view ≡ 1 ∷ 2 ∷ 3 ∷ [] }
     ensures { result ≡ 1 ∷ 3 ∷ 6 ∷ [] }
 {
     let mut total = 0u32;
@@ -103,7 +104,7 @@ fn sums_of_boxed_and_view(
     right: GenericArrayRef<'_, u32, U3>,
 ) -> Result<BoxedArray<u32, U3>, AllocError>
     requires left { left ≡ 1 ∷ 2 ∷ 3 ∷ [] }
-    requires right { right.slice.now ≡ 4 ∷ 5 ∷ 6 ∷ [] }
+    requires right { items_of_view right ≡ 4 ∷ 5 ∷ 6 ∷ [] }
     ensures { IfOk result (λ sums. sums ≡ 5 ∷ 7 ∷ 9 ∷ []) }
 {
     zip(
@@ -129,7 +130,7 @@ fn sums_of_view_and_inline(
     left: GenericArrayRef<'_, u32, U3>,
     right: GenericArray<u32, U3>,
 ) -> GenericArray<u32, U3>
-    requires left { left.slice.now ≡ 1 ∷ 2 ∷ 3 ∷ [] }
+    requires left { items_of_view left ≡ 1 ∷ 2 ∷ 3 ∷ [] }
     requires right { right ≡ 4 ∷ 5 ∷ 6 ∷ [] }
     ensures { result ≡ 5 ∷ 7 ∷ 9 ∷ [] }
 {
@@ -144,7 +145,7 @@ fn sum_of_inline(array: GenericArray<u32, U3>) -> u32
 }
 
 fn sum_of_view(view: GenericArrayRef<'_, u32, U3>) -> u32
-    requires { view.slice.now ≡ 1 ∷ 2 ∷ 3 ∷ [] }
+    requires { items_of_view view ≡ 1 ∷ 2 ∷ 3 ∷ [] }
     ensures { result ≡ 6 }
 {
     fold(view, 0, &mut |sum: u32, item: &u32| sum.wrapping_add(*item))
@@ -175,7 +176,7 @@ fn stopped_in_boxed(
 }
 
 fn stopped_in_view(view: GenericArrayRef<'_, u32, U3>) -> Result<GenericArray<u32, U3>, u32>
-    requires { view.slice.now ≡ 1 ∷ 2 ∷ 3 ∷ [] }
+    requires { items_of_view view ≡ 1 ∷ 2 ∷ 3 ∷ [] }
     ensures { result ≡ Err 2 }
 {
     always(try_map(view, (), &mut |item: &u32| stopped_at_two(*item)))
@@ -197,7 +198,7 @@ fn stopped_past_three(array: GenericArray<u32, U3>) -> Result<u32, u32>
 }
 
 fn stopped_past_three_in_view(view: GenericArrayRef<'_, u32, U3>) -> Result<u32, u32>
-    requires { view.slice.now ≡ 1 ∷ 3 ∷ 9 ∷ [] }
+    requires { items_of_view view ≡ 1 ∷ 3 ∷ 9 ∷ [] }
     ensures { result ≡ Err 4 }
 {
     try_fold(view, 0, &mut |sum: u32, item: &u32| up_to_three(sum, *item))

@@ -1,5 +1,5 @@
 //! Callers that know neither the steps nor the items: what the account of a run gives them.
-ghost use Rattle.generic_array.specs.Account.{HasNoSet, back_count, brought, front_count, gone_back, gone_front, handed_out};
+ghost use Rattle.generic_array.specs.Account.{HasNoSet, back_count, items_put, front_count, gone_back, gone_front, items_returned};
 ghost use Rattle.generic_array.specs.declared.steps.step.Reply.TheVariants.{Item};
 ghost use Rattle.generic_array.specs.declared.steps.step.Step.TheVariants.{Next};
 ghost use Rattle.std.specs.List.{count_by, flat_map, sum_by};
@@ -10,15 +10,15 @@ use generic_array::AllocError;
 use generic_array::steps::{Reply, Step, TwoEnded, run_steps};
 
 /// Any steps: a value is as often among what there was and what was put in as among what went, what was
-/// handed out and what is left.
+/// returned and what is left.
 fn counted<T: Drop, I: TwoEnded<T>>(
     items: &mut I,
     steps: Vec<Step<T>>,
     replies: &mut Vec<Reply<T, usize>>,
 ) -> Result<(), AllocError>
     requires fresh { replies.old.items ≡ [] }
-    ensures counts { OnOk result ((test : T → Bool) → count_by test (I.items items.old) + count_by test (flat_map brought steps.items)
-        ≡ count_by test (gone_front (I.items items.old) steps.items) + (count_by test (gone_back (I.items items.old) steps.items) + (count_by test (flat_map handed_out replies.new.items) + count_by test (I.items items.new)))) }
+    ensures counts { OnOk result ((test : T → Bool) → count_by test (I.items items.old) + count_by test (flat_map items_put steps.items)
+        ≡ count_by test (gone_front (I.items items.old) steps.items) + (count_by test (gone_back (I.items items.old) steps.items) + (count_by test (flat_map items_returned replies.new.items) + count_by test (I.items items.new)))) }
 {
     run_steps(items, steps, &mut count_of::<T>, replies)?;
     Ok(())
@@ -43,8 +43,8 @@ fn first_replied<T: Drop, I: TwoEnded<T>>(
     steps: Vec<Step<T>>,
     replies: &mut Vec<Reply<T, usize>>,
 ) -> Result<(), AllocError>
-    requires no_set { HasNoSet steps.items }
     requires enough { sum_by front_count steps.items + sum_by back_count steps.items ≤ length (I.items items.old) }
+    requires no_set { HasNoSet steps.items }
     ensures first { OnOk result ((given : List (Reply T ℕ)) × (replies.new.items ≡ replies.old.items ++ given)
         × ((k : ℕ) → slice_get steps.items k ≡ Some Next → sum_by front_count (take (k + 1) steps.items) ≡ 1 → slice_get given k ≡ Some (Item (slice_get (I.items items.old) 0)))) }
 {

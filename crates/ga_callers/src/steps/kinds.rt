@@ -2,11 +2,8 @@
 ghost use Rattle.generic_array.specs.declared.steps.step.Reply.TheVariants.{Item, Old, Outside, Seen};
 ghost use Rattle.std.specs.Prelude.{◌≡◌, [], ◌∷◌, ◌++◌, IfOk, None, OnOk, Some};
 
-use super::{
-    no_steps, taken_and_looked_at, taken_and_replaced, taken_behind, taken_in_two_orders,
-    taken_up_again,
-};
-use generic_array::steps::{Reply, Step};
+use super::{no_steps, taken_and_looked_at, taken_and_replaced, taken_behind, taken_in_two_orders};
+use generic_array::steps::{Reply, Step, TwoEnded};
 use generic_array::{
     AllocError, BoxedArray, BoxedArrayIter, GenericArray, GenericArrayIter, U2, U3, U5,
 };
@@ -37,21 +34,54 @@ fn replaced_boxed(
     Ok(numbers)
 }
 
-fn five_inline() -> GenericArrayIter<u32, U5>
-    ensures { result ≡ 1 ∷ 2 ∷ 3 ∷ 4 ∷ 5 ∷ [] }
-{
-    GenericArray::<u32, U5>::from_array([1, 2, 3, 4, 5]).into_iter()
+/// Iterators of one kind over known numbers.
+trait Kind {
+    type Two: TwoEnded<u32> + Drop;
+
+    type Five: TwoEnded<u32> + Drop;
+
+    fn two(alloc: Global) -> Result<Self::Two, AllocError>
+        ensures { IfOk result (λ two. Self.Two.items two ≡ 1 ∷ 2 ∷ []) };
+
+    fn five(alloc: Global) -> Result<Self::Five, AllocError>
+        ensures { IfOk result (λ five. Self.Five.items five ≡ 1 ∷ 2 ∷ 3 ∷ 4 ∷ 5 ∷ []) };
 }
 
-fn five_boxed(alloc: Global) -> Result<BoxedArrayIter<u32>, AllocError>
-    ensures { IfOk result (λ five. five ≡ 1 ∷ 2 ∷ 3 ∷ 4 ∷ 5 ∷ []) }
-{
-    Ok(BoxedArray::<u32, U5>::from_array(alloc, [1, 2, 3, 4, 5])?.into_iter())
+struct Inline;
+
+struct Boxed;
+
+impl Kind for Inline {
+    type Two = GenericArrayIter<u32, U2>;
+
+    type Five = GenericArrayIter<u32, U5>;
+
+    fn two(_alloc: Global) -> Result<GenericArrayIter<u32, U2>, AllocError> {
+        Ok(GenericArray::from_array([1, 2]).into_iter())
+    }
+
+    fn five(_alloc: Global) -> Result<GenericArrayIter<u32, U5>, AllocError> {
+        Ok(GenericArray::from_array([1, 2, 3, 4, 5]).into_iter())
+    }
 }
 
-/// Behind an earlier reply: one from the back of two, no steps, five in one run and in two, and five in
+impl Kind for Boxed {
+    type Two = BoxedArrayIter<u32>;
+
+    type Five = BoxedArrayIter<u32>;
+
+    fn two(alloc: Global) -> Result<BoxedArrayIter<u32>, AllocError> {
+        Ok(BoxedArray::<u32, U2>::from_array(alloc, [1, 2])?.into_iter())
+    }
+
+    fn five(alloc: Global) -> Result<BoxedArrayIter<u32>, AllocError> {
+        Ok(BoxedArray::<u32, U5>::from_array(alloc, [1, 2, 3, 4, 5])?.into_iter())
+    }
+}
+
+/// Behind an earlier reply: one from the back of two, no steps, five at once and in two runs, and five in
 /// two orders.
-fn taken_inline(
+fn taken<K: Kind>(
     alloc: Global,
     replies: &mut Vec<Reply<u32, u32>>,
     other_replies: &mut Vec<Reply<u32, u32>>,
@@ -63,34 +93,12 @@ fn taken_inline(
         ∷ Item (Some 2) ∷ Item (Some 5) ∷ Item (Some 3) ∷ []) }
     ensures others { OnOk result (other_replies.new.items ≡ other_replies.old.items ++ Item (Some 5) ∷ Item (Some 2) ∷ Item (Some 3) ∷ []) }
 {
-    let mut two = GenericArray::<u32, U2>::from_array([1, 2]).into_iter();
+    let mut two = K::two(alloc)?;
     taken_behind(alloc, &mut two, replies)?;
     no_steps(alloc, &mut two, replies)?;
-    taken_and_looked_at(alloc, &mut five_inline(), replies)?;
-    taken_up_again(alloc, &mut five_inline(), replies)?;
-    let (mut five, mut same) = (five_inline(), five_inline());
-    taken_in_two_orders(alloc, &mut five, &mut same, replies, other_replies)
-}
-
-/// The same over boxed iterators.
-fn taken_boxed(
-    alloc: Global,
-    replies: &mut Vec<Reply<u32, u32>>,
-    other_replies: &mut Vec<Reply<u32, u32>>,
-) -> Result<(), AllocError>
-    requires earlier { replies.old.items ≡ Old 7 ∷ [] }
-    ensures replies { OnOk result (replies.new.items ≡ Old 7 ∷ Item (Some 2)
-        ∷ Item (Some 2) ∷ Seen 12 ∷ Item None ∷ Item None ∷ Seen 0
-        ∷ Item (Some 2) ∷ Seen 12 ∷ Item None ∷ Item None ∷ Seen 0
-        ∷ Item (Some 2) ∷ Item (Some 5) ∷ Item (Some 3) ∷ []) }
-    ensures others { OnOk result (other_replies.new.items ≡ other_replies.old.items ++ Item (Some 5) ∷ Item (Some 2) ∷ Item (Some 3) ∷ []) }
-{
-    let mut two = BoxedArray::<u32, U2>::from_array(alloc, [1, 2])?.into_iter();
-    taken_behind(alloc, &mut two, replies)?;
-    no_steps(alloc, &mut two, replies)?;
-    taken_and_looked_at(alloc, &mut five_boxed(alloc)?, replies)?;
-    taken_up_again(alloc, &mut five_boxed(alloc)?, replies)?;
-    let (mut five, mut same) = (five_boxed(alloc)?, five_boxed(alloc)?);
+    taken_and_looked_at(alloc, &mut K::five(alloc)?, true, replies)?;
+    taken_and_looked_at(alloc, &mut K::five(alloc)?, false, replies)?;
+    let (mut five, mut same) = (K::five(alloc)?, K::five(alloc)?);
     taken_in_two_orders(alloc, &mut five, &mut same, replies, other_replies)
 }
 
@@ -99,11 +107,11 @@ fn known_steps_reply_alike_over_both_iterators(rt: HostRuntime) -> Result<(), Fa
     let alloc = rt.alloc();
     let mut replies = vec![in alloc; Reply::Old(7)]?;
     let mut others = Vec::new(alloc);
-    taken_inline(alloc, &mut replies, &mut others)?;
+    taken::<Inline>(alloc, &mut replies, &mut others)?;
     let _ = replaced_inline(alloc, &mut others)?;
     let mut same = vec![in alloc; Reply::Old(7)]?;
     let mut same_others = Vec::new(alloc);
-    taken_boxed(alloc, &mut same, &mut same_others)?;
+    taken::<Boxed>(alloc, &mut same, &mut same_others)?;
     let _ = replaced_boxed(alloc, &mut same_others)?;
     let text = format!(in alloc; "{replies:?} {others:?}")?;
     assert!(rt; text == format!(in alloc; "{same:?} {same_others:?}")?);
