@@ -1,5 +1,5 @@
 //! A caller that feeds by hand, proved.
-ghost use Rattle.ga_uses.specs.BlockBuffer.{Takes, padded};
+ghost use Rattle.ga_uses.specs.BlockBuffer.{Takes, with_padding};
 ghost use Rattle.generic_array.specs.Rows.{rows};
 ghost use Rattle.std.specs.Prelude.{◌≡◌, ◌^◌, ◌+◌, ◌<◌, ◌++◌, length};
 
@@ -10,7 +10,7 @@ use generic_array::U64;
 pub(crate) fn blocks_of_two<F: FnMut(&[u8])>(first: &[u8], second: &[u8], f: &mut F)
     requires len { length first.now + length second.now < 2 ^ 61 }
     requires callable { (g : F) (block : _) → F.pre g block }
-    ensures { Takes (λ slice. slice.now) F.step f.old (rows 64 (padded 64 (first.now ++ second.now))) f.new }
+    ensures { Takes (λ slice. slice.now) F.step f.old (rows 64 (with_padding 64 (first.now ++ second.now))) f.new }
 {
     let mut buffer = BlockBuffer::<U64>::new();
     buffer.feed(first, f);

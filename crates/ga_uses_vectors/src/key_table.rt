@@ -44,7 +44,7 @@ fn next_number(state: u64) -> u64 {
         .wrapping_add(1_442_695_040_888_963_407)
 }
 
-/// Whether table and map answer the same to one edit or look-up, which the number tells.
+/// Whether table and map return the same for one edit or look-up, which the number tells.
 fn answers_alike(
     table: &mut KeyTable<U2, u64>,
     map: &mut BTreeMap<GenericArray<u8, U2>, u64>,
@@ -82,7 +82,7 @@ fn ranges_alike(
     entries.next().is_none()
 }
 
-/// Whether so many random steps, each with a random range after it, answer as std's map does.
+/// Whether so many random steps, each with a random range after it, return what std's map does.
 fn all_steps_alike(alloc: Global, steps: u64) -> Result<bool, AllocError> {
     let mut table = KeyTable::new(alloc);
     let mut map = BTreeMap::new(alloc);

@@ -5,33 +5,30 @@ use std::io;
 use std::io::{ErrorKind, Write};
 use std::test::Fail;
 
-/// Fails at once, and counts how often it was asked.
-#[derive(Drop)]
-struct Broken {
-    asks: usize,
-}
-
-impl Write for Broken {
-    fn write(&mut self, _bytes: &[u8]) -> io::Result<usize> {
-        self.asks = self.asks.saturating_add(1);
-        Err(io::Error::from(ErrorKind::BrokenPipe))
-    }
-
-    fn flush(&mut self) -> io::Result<()> {
-        Ok(())
-    }
-}
-
-/// Takes all at once, and counts its calls.
+/// Takes all at once, or fails where it is broken, and counts its calls.
 #[derive(Drop)]
 struct Counting {
     calls: usize,
+    is_broken: bool,
+}
+
+impl Counting {
+    fn new(is_broken: bool) -> Self {
+        Counting {
+            calls: 0,
+            is_broken,
+        }
+    }
 }
 
 impl Write for Counting {
     fn write(&mut self, bytes: &[u8]) -> io::Result<usize> {
         self.calls = self.calls.saturating_add(1);
-        Ok(bytes.len())
+        if self.is_broken {
+            Err(io::Error::from(ErrorKind::BrokenPipe))
+        } else {
+            Ok(bytes.len())
+        }
     }
 
     fn flush(&mut self) -> io::Result<()> {
@@ -81,13 +78,13 @@ fn records_are_walked_and_written(rt: HostRuntime) -> Result<(), Fail> {
     let none: RecordBlock<'_, U2> = RecordBlock::open(&[])?;
     none.write_to(&mut written)?;
     assert!(rt; written.as_slice() == [1, 2, 3, 2].as_slice());
-    let mut counting = Counting { calls: 0 };
+    let mut counting = Counting::new(false);
     pairs.write_to(&mut counting)?;
     assert!(rt; counting.calls == 1);
     let four: RecordBlock<'_, U4> = RecordBlock::open(b"abcd")?;
-    let mut broken = Broken { asks: 0 };
+    let mut broken = Counting::new(true);
     let fault = four.write_to(&mut broken);
     assert!(rt; fault.is_err_and(|fault| fault.kind() == ErrorKind::BrokenPipe));
-    assert!(rt; broken.asks == 1 && record_is(&four, 0, b"abcd"));
+    assert!(rt; broken.calls == 1 && record_is(&four, 0, b"abcd"));
     Ok(())
 }

@@ -1,4 +1,5 @@
 //! Callers of blocks of records, each proved.
+ghost use Rattle.generic_array.specs.Views.{items_of_view};
 ghost use Rattle.ga_records.specs.Records.{has};
 ghost use Rattle.std.specs.Prelude.{◌≡◌, ◌∷◌, [], IfSome, IsErr, None, Ok, Some, true};
 
@@ -27,7 +28,7 @@ fn last_record_with<'a, N: ArrayLength<u8>>(
     block: RecordBlock<'a, N>,
     byte: u8,
 ) -> Option<GenericArrayRef<'a, u8, N>>
-    ensures { IfSome result (λ found. has byte found.slice.now ≡ true) }
+    ensures { IfSome result (λ found. has byte (items_of_view found) ≡ true) }
 {
     block.record(block.last_with(byte)?)
 }

@@ -1,7 +1,9 @@
-ghost use Rattle.std.specs.Prelude.{◌^◌, ◌<◌, ◌≤◌, length};
+ghost use Rattle.ga_uses.specs.Udp.{datagram_of};
+ghost use Rattle.generic_array.specs.Views.{items_of_view};
+ghost use Rattle.std.specs.Prelude.{◌≡◌, ◌-◌, ◌^◌, ◌<◌, ◌≤◌, Ok, drop, length};
 
-use ga_uses::udp::{HeaderError, number, parse, read_back, write_header};
-use generic_array::{GenericArray, U4};
+use ga_uses::udp::{HeaderError, number, parse, write_header};
+use generic_array::{GenericArray, GenericArrayRef, U4};
 
 /// The datagram with the payload from 192.0.2.1, port 4660, to 198.51.100.2, port 53.
 fn write_example(datagram: &mut [u8])
@@ -46,6 +48,36 @@ fn read_as_worked_out() -> bool {
     fields
         && parse(&ODD[..7]).is_err_and(|error| error == HeaderError::TooShort)
         && parse(&ODD[..10]).is_err_and(|error| error == HeaderError::OtherLength)
+}
+
+/// The ports and the length of the payload, as `parse` reads back what `write_header` wrote.
+fn read_back(
+    datagram: &mut [u8],
+    source_address: GenericArrayRef<'_, u8, U4>,
+    destination_address: GenericArrayRef<'_, u8, U4>,
+    source: u16,
+    destination: u16,
+) -> Result<(u16, u16, usize), HeaderError>
+    requires room { 8 ≤ length datagram.old }
+    requires fits { length datagram.old < 2 ^ 16 }
+    ensures written { datagram.new
+        ≡ datagram_of (items_of_view source_address.entry) (items_of_view destination_address.entry) source
+        destination (drop 8 datagram.old) }
+    ensures read { result ≡ Ok (source, destination, length datagram.old - 8) }
+{
+    write_header(
+        datagram,
+        source_address,
+        destination_address,
+        source,
+        destination,
+    );
+    let read = parse(datagram)?;
+    Ok((
+        number(read.source),
+        number(read.destination),
+        read.payload.len(),
+    ))
 }
 
 /// Whether a header without a payload is read back.

@@ -3,9 +3,9 @@ ghost use Rattle.generic_array.specs.Length.{FitsInline};
 
 use crate::counted::{Counted, Counts};
 use crate::items::counted_from;
+use ga_core::slots::move_items;
 use generic_array::{
     AllocError, ArrayLength, BoxedArray, GenericArray, U0, U1, U2, U3, U12, arr, box_arr,
-    move_items,
 };
 use std::alloc::{AllocFailed, Global};
 use std::test::Fail;

@@ -1,5 +1,5 @@
-//! How often entries, answers and items are dropped where a call by value stops. The calls to which a
-//! closure is lent are in `first_errors`.
+//! How often entries, results and items are dropped where a call by value stops. The calls that borrow a
+//! closure are in `first_errors`.
 use crate::calls::{boxed, inline, views};
 use crate::counted::{Counted, Counts};
 use crate::items::{boxed_counted_from, counted_from, error_of, from_one};

@@ -3,7 +3,7 @@ use generic_array::{AllocError, BoxedArray, Const, GenericArray, U3};
 use std::alloc::Global;
 use std::test::Fail;
 
-/// Which of four takes answer an item, of three that take no space.
+/// Which of four takes return an item, of three that take no space.
 fn taken_of_three_units(alloc: Global) -> Result<[bool; 4], AllocError> {
     let units: BoxedArray<(), U3> = BoxedArray::generate(alloc, |_index| ())?;
     let mut left = units.into_iter();

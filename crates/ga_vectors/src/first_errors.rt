@@ -30,7 +30,7 @@ impl<'a> Failing<'a> {
         }
     }
 
-    /// A counted answer, or the number as an error.
+    /// A counted result, or the number as an error.
     fn answer(&self, number: u32) -> Result<Counted<'a>, u32> {
         self.called
             .set(self.called.get().wrapping_mul(10).wrapping_add(number));
@@ -49,15 +49,15 @@ struct End {
     error: u32,
     /// The numbers that the closure was called with, as digits.
     called: u32,
-    /// How many answers were dropped when the call had ended.
+    /// How many results were dropped when the call had ended.
     answers: u32,
-    /// How many were once what it answered was dropped too.
+    /// How many were once what it returned was dropped too.
     all_answers: u32,
     /// How many entries were dropped.
     entries: u32,
 }
 
-/// The end of a call that answered this.
+/// The end of a call that returned this.
 fn end_of<S: Drop>(built: Result<S, u32>, failing: &Failing, entries: &Counts) -> End {
     let error = match &built {
         Ok(_made) => 0,
@@ -218,7 +218,7 @@ fn no_call_follows_an_error_and_what_was_made_is_dropped(rt: HostRuntime) -> Res
         let made = End { entries: 5, ..made };
         assert!(rt; inline_map(refused) == made && boxed_map(alloc, refused)? == made);
         assert!(rt; plain_map(refused) == made);
-        // A fold drops each answer at the next call, and first what it began with.
+        // A fold drops each result at the next call, and first what it began with.
         let folded = End {
             error,
             called,

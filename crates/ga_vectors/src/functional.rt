@@ -1,4 +1,4 @@
-//! Maps and zips of the traits: what they answer, and of what kind. Where they stop is told in
+//! Maps and zips of the traits: what they return, and of what kind. Where they stop is told in
 //! `first_errors`, and what is made boxed of inline items and the reverse in `refused_memory::zips`.
 use crate::calls::{boxed, inline, views};
 use crate::items::from_one;
@@ -50,7 +50,8 @@ fn inverted_zips_take_the_left_side_second(rt: HostRuntime) {
     let array = two(1, 2);
     let made = views::inverted_zip(array.view(), two(10, 20), less_seen);
     assert!(rt; made == two(9, 18));
-    assert!(rt; inline::inverted_zip(array, two(10, 20), u32::wrapping_sub) == two(9, 18));
-    let made = inline::inverted_zip2(two(1, 2), two(10, 20), u32::wrapping_sub);
-    assert!(rt; made == two(9, 18));
+    for is_second in [false, true] {
+        let made = inline::inverted_zip(two(1, 2), two(10, 20), u32::wrapping_sub, is_second);
+        assert!(rt; made == two(9, 18), "second: {is_second}");
+    }
 }

@@ -76,7 +76,7 @@ fn few_bytes_are_cut_at_each_limit(rt: HostRuntime) -> Result<(), Fail> {
     Ok(())
 }
 
-/// How many digits of 1,025 bytes a writer gets that fails at one of its calls, if its fault is answered at
+/// How many digits of 1,025 bytes a writer gets that fails at one of its calls, if its fault is returned at
 /// once.
 fn digits_before(alloc: Global, fails_at: usize) -> Result<Option<usize>, AllocError> {
     let bytes = rising(alloc, 1025)?;

@@ -26,7 +26,7 @@ impl Call<'_> {
 }
 
 /// In how many runs a write fails, at call 1 and then each `stride` calls further, before a run is
-/// undisturbed; `None` where a run doesn't answer its writer's fault, calls on after it, or doesn't
+/// undisturbed; `None` where a run doesn't return its writer's fault, calls on after it, or doesn't
 /// write the text and nothing else.
 fn faults(
     call: Call<'_>,

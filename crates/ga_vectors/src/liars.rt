@@ -89,29 +89,26 @@ where
     run_of(outcome, items)
 }
 
-/// Whether each fill of `N` items from this script runs as is wanted, and that of a builder, which asks
-/// for no item beyond the last.
-fn each_fill_runs<const N: usize>(
-    alloc: Global,
-    script: Script,
-    wanted: Run,
+/// The run that is wanted of a fill of an array, and that of a builder, which asks for no item beyond the
+/// last.
+#[derive(Clone, Copy)]
+struct Wanted {
+    of_array: Run,
     of_builder: Run,
-) -> bool
+}
+
+/// Whether each fill of `N` items from this script runs as is wanted.
+fn each_fill_runs<const N: usize>(alloc: Global, script: Script, wanted: Wanted) -> bool
     requires { FitsInline N }
 {
     let counts = Counts::new();
-    fill::<Counted, Const<N>>(alloc, script, &counts, Filled::Inline) == wanted
-        && fill::<Counted, Const<N>>(alloc, script, &counts, Filled::Boxed) == wanted
-        && fill::<Counted, Const<N>>(alloc, script, &counts, Filled::Builder) == of_builder
+    fill::<Counted, Const<N>>(alloc, script, &counts, Filled::Inline) == wanted.of_array
+        && fill::<Counted, Const<N>>(alloc, script, &counts, Filled::Boxed) == wanted.of_array
+        && fill::<Counted, Const<N>>(alloc, script, &counts, Filled::Builder) == wanted.of_builder
 }
 
 /// The same of each fill from results.
-fn each_fallible_fill_runs<const N: usize>(
-    alloc: Global,
-    script: Script,
-    wanted: Run,
-    of_builder: Run,
-) -> bool
+fn each_fallible_fill_runs<const N: usize>(alloc: Global, script: Script, wanted: Wanted) -> bool
     requires { FitsInline N }
 {
     let counts = Counts::new();
@@ -121,19 +118,24 @@ fn each_fallible_fill_runs<const N: usize>(
         Filled::InlineKind,
         Filled::BoxedKind,
     ] {
-        if fallible_fill::<Counted, Const<N>>(alloc, script, &counts, filled) != wanted {
+        if fallible_fill::<Counted, Const<N>>(alloc, script, &counts, filled) != wanted.of_array {
             return false;
         }
     }
-    fallible_fill::<Counted, Const<N>>(alloc, script, &counts, Filled::Builder) == of_builder
+    let of_builder = fallible_fill::<Counted, Const<N>>(alloc, script, &counts, Filled::Builder);
+    of_builder == wanted.of_builder
 }
 
 /// The same of all fills.
-fn all_run<const N: usize>(alloc: Global, script: Script, wanted: Run, of_builder: Run) -> bool
+fn all_run<const N: usize>(alloc: Global, script: Script, of_array: Run, of_builder: Run) -> bool
     requires { FitsInline N }
 {
-    each_fill_runs::<N>(alloc, script, wanted, of_builder)
-        && each_fallible_fill_runs::<N>(alloc, script, wanted, of_builder)
+    let wanted = Wanted {
+        of_array,
+        of_builder,
+    };
+    each_fill_runs::<N>(alloc, script, wanted)
+        && each_fallible_fill_runs::<N>(alloc, script, wanted)
 }
 
 /// The run of these numbers.
@@ -175,13 +177,13 @@ fn a_fill_believes_no_hint_and_asks_nothing_after_the_end(rt: HostRuntime) {
     assert!(rt; all_run::<0>(alloc, LIES, too_long, builder));
 }
 
-/// How fills of four items run on six answers, of which that at this place is an error, and how a
+/// How fills of four items run on six results, of which that at this place is an error, and how a
 /// builder does.
-fn with_an_error_at(place: u32) -> (Run, Run)
+fn with_an_error_at(place: u32) -> Wanted
     requires { place < 6 }
 {
     let full = Outcome::Made(1234);
-    match place {
+    let (of_array, of_builder) = match place {
         4 => (
             run_with(Outcome::WrongLength, 5, 4, 6),
             run_with(full, 4, 4, 9),
@@ -194,6 +196,10 @@ fn with_an_error_at(place: u32) -> (Run, Run)
             let stopped = run_with(Outcome::Error(9), place as usize + 1, place, place + 2);
             (stopped, stopped)
         }
+    };
+    Wanted {
+        of_array,
+        of_builder,
     }
 }
 
@@ -214,13 +220,16 @@ fn the_first_error_among_the_first_items_is_answered(rt: HostRuntime) {
             answers: &answers,
             hinted: 6,
         };
-        let (wanted, builder) = with_an_error_at(place);
-        assert!(rt; each_fallible_fill_runs::<4>(alloc, script, wanted, builder));
+        assert!(rt; each_fallible_fill_runs::<4>(alloc, script, with_an_error_at(place)));
     }
     let early = Script {
         answers: &[Some(Err(7)), Some(Ok(1))],
         hinted: 5,
     };
-    let wanted = run_with(Outcome::Error(7), 1, 0, 1);
-    assert!(rt; each_fallible_fill_runs::<3>(alloc, early, wanted, wanted));
+    let stopped = run_with(Outcome::Error(7), 1, 0, 1);
+    let wanted = Wanted {
+        of_array: stopped,
+        of_builder: stopped,
+    };
+    assert!(rt; each_fallible_fill_runs::<3>(alloc, early, wanted));
 }

@@ -153,7 +153,7 @@ fn items_may_own_memory(rt: HostRuntime) {
     assert!(rt; keeps_texts(rt.alloc()).expect(&rt, "no memory"));
 }
 
-/// Whether this many random calls answer as those of a list that is kept in a vector.
+/// Whether this many random calls return what those of a list that is kept in a vector.
 fn answers_as_a_list(alloc: Global, calls: u32) -> Result<bool, AllocError> {
     let mut numbers = Numbers::from_seed(2_463_534_242);
     let mut block = LiveBlock::new(alloc, 0)?;

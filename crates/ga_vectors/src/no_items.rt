@@ -113,7 +113,7 @@ fn are_zipped_and_folded() -> bool {
     let zipped = inline::zip_by(none(), none(), &mut count);
     let total = inline::fold_by(none(), 5, &mut count);
     let right_total = none().into_iter().rfold_by(6, &mut count);
-    let inverted = inline::inverted_zip(none(), none(), count);
+    let inverted = inline::inverted_zip(none(), none(), count, false);
     is_none(zipped) && is_none(inverted) && total == 5 && right_total == 6 && calls == 0
 }
 

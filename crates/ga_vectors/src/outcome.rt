@@ -9,7 +9,7 @@ use std::process::Abort;
 /// What came of a case.
 #[derive(Drop)]
 pub enum Outcome {
-    /// The exact answer.
+    /// The exact result.
     Exact,
     /// A request for memory was refused, and all was then as it has to be.
     Refused,
@@ -18,7 +18,7 @@ pub enum Outcome {
 }
 
 impl Outcome {
-    /// The exact answer, where it is that.
+    /// The exact result, where it is that.
     pub fn exact_if(is_exact: bool) -> Self {
         if is_exact {
             Outcome::Exact
@@ -82,7 +82,7 @@ impl Outcome {
     }
 }
 
-/// Plays the cases of the numbers below `count`, each once more where memory was refused in it. The answer
+/// Plays the cases of the numbers below `count`, each once more where memory was refused in it. The result
 /// must be exact then: `rt try --test --fail-alloc K` refuses one request of a test, the K-th, and the
 /// gate none. So a call that always finds no memory is seen, at the gate too.
 ///

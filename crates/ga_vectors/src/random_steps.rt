@@ -70,7 +70,7 @@ fn random_step(numbers: &mut Numbers) -> Step {
     }
 }
 
-/// Whether a few steps over eight items answer alike out of an array and a block, as the numbers say. What
+/// Whether a few steps over eight items return the same out of an array and a block, as the numbers say. What
 /// is left is dropped.
 fn walks_alike(
     alloc: Global,

@@ -106,18 +106,24 @@ fn repeated<'a, T: Item<'a>, S: AsSlice<T> + Drop, E: Drop>(
     outcome_of(counts, due, is_made, T::width()).and(begins_with(wanted, counts.cloned()))
 }
 
-/// Of what has `due` counted items: the digits of its clone, 0 where that was refused, and its own then.
-fn cloned(
+/// Of a source that has `left` of three items: the digits of its clone, 0 where that was refused, and its
+/// own then. It is dropped at last.
+fn cloned<'a, T: Item<'a>, S: Drop>(
+    left: u32,
     of_clone: u32,
     of_source: u32,
+    source: S,
     wanted: u32,
-    due: u32,
-    others: u32,
     counts: &Counts,
 ) -> Outcome {
+    let due = T::width().wrapping_mul(left);
+    let others = T::width().wrapping_mul(3).wrapping_sub(due);
     let is_known = of_source == wanted && (of_clone == wanted || of_clone == 0);
     let is_in_order = begins_with(wanted, counts.cloned());
-    outcome_of(counts, due, of_clone == wanted, others).and(is_known && is_in_order)
+    let outcome = outcome_of(counts, due, of_clone == wanted, others);
+    let dropped = counts.drops().wrapping_add(due);
+    drop(source);
+    outcome.and(is_known && is_in_order && counts.drops() == dropped)
 }
 
 /// Three items, numbered from 1.
@@ -128,20 +134,28 @@ fn three<'a, T: Item<'a>>(counts: &'a Counts) -> GenericArray<T, U3> {
     GenericArray::from_array([numbered(0), numbered(1), numbered(2)])
 }
 
+/// The digits of an array that was made, which is dropped, 0 where that was refused.
+fn written_once<'a, T: Item<'a>, S: AsSlice<T> + Drop, E: Drop>(made: Result<S, E>) -> u32 {
+    match made {
+        Ok(made) => written(made.as_slice()),
+        Err(_refused) => 0,
+    }
+}
+
 fn array_clone<'a, T: Item<'a>, N: ArrayLength<T>>(
     array: GenericArray<T, N>,
     wanted: u32,
     counts: &Counts,
 ) -> Outcome {
-    let of_clone = match array.clone() {
-        Ok(copy) => written(copy.as_slice()),
-        Err(_refused) => 0,
-    };
-    let due = T::width().wrapping_mul(3);
-    let outcome = cloned(of_clone, written(array.as_slice()), wanted, due, 0, counts);
-    let dropped = counts.drops().wrapping_add(due);
-    drop(array);
-    outcome.and(counts.drops() == dropped)
+    let of_clone = written_once(array.clone());
+    cloned::<T, _>(
+        3,
+        of_clone,
+        written(array.as_slice()),
+        array,
+        wanted,
+        counts,
+    )
 }
 
 /// Clones the two items that are left of three.
@@ -154,11 +168,7 @@ fn iterator_clone<'a, T: Item<'a>, I: TwoEnded<T> + Clone + Drop>(
         Ok(copy) => written(copy.live()),
         Err(_refused) => 0,
     };
-    let (due, others) = (T::width().wrapping_mul(2), T::width());
-    let outcome = cloned(of_clone, written(items.live()), wanted, due, others, counts);
-    let dropped = counts.drops().wrapping_add(due);
-    drop(items);
-    outcome.and(counts.drops() == dropped)
+    cloned::<T, _>(2, of_clone, written(items.live()), items, wanted, counts)
 }
 
 fn inline_iterator<'a, T: Item<'a>, N: ArrayLength<T>>(

@@ -21,8 +21,8 @@ use std::alloc::Global;
 /// A boxed array of three counted items.
 type Three<'a> = BoxedArray<Counted<'a>, U3>;
 
-/// Which call makes an array: that of the type or of a trait, to which a closure or an iterator is lent
-/// or handed over.
+/// Which call makes an array: that of the type or of a trait, which borrows a closure or an iterator
+/// or takes it by value.
 #[derive(Clone, Copy)]
 enum Call {
     Lent,
@@ -63,7 +63,7 @@ fn unless_error(item: Counted<'_>, error: u32) -> Result<Counted<'_>, u32> {
     }
 }
 
-/// Of three items that such a closure answered, but for an error.
+/// Of three items that such a closure returned, but for an error.
 fn stopped(
     made: Result<Result<Three<'_>, u32>, AllocError>,
     error: u32,

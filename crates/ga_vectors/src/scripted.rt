@@ -37,7 +37,7 @@ pub fn digits<T: Numbered>(items: &[T]) -> u32 {
     all
 }
 
-/// What an iterator gives for an answer that is written down.
+/// What an iterator gives for a result that is written down.
 pub trait Given<'a>: Drop {
     fn given(answer: Result<u32, u32>, counts: &'a Counts) -> Self;
 
@@ -75,7 +75,7 @@ impl<'a> Given<'a> for Result<Counted<'a>, u32> {
     }
 }
 
-/// What is written down: answers with ends among them, and a number of items to hint at, which is at
+/// What is written down: results with ends among them, and a number of items to hint at, which is at
 /// least theirs.
 #[derive(Clone, Copy)]
 pub struct Script<'a> {
@@ -83,7 +83,7 @@ pub struct Script<'a> {
     pub hinted: usize,
 }
 
-/// Gives the answers in order, and then ends for good. Hints at the number in the script at first, and
+/// Gives the results in order, and then ends for good. Hints at the number in the script at first, and
 /// at one less after each call.
 #[derive(Drop)]
 pub struct Scripted<'a, T> {
@@ -95,7 +95,7 @@ pub struct Scripted<'a, T> {
 }
 
 impl<'a, T: Given<'a>> Scripted<'a, T> {
-    /// The iterator before its first answer. The drops of `counts` are told from here on.
+    /// The iterator before its first result. The drops of `counts` are told from here on.
     pub fn new(script: Script<'a>, counts: &'a Counts) -> Self {
         Scripted {
             script,

@@ -3,7 +3,7 @@ ghost use Rattle.std.specs.Prelude.{◌≡◌};
 
 use generic_array::{ArrayLength, Store, U2};
 
-/// What each call of a store of two numbers answers, known by its bound alone.
+/// What each call of a store of two numbers returns, known by its bound alone.
 fn put_and_taken<S: Store<u32>>() -> [u32; 3]
     requires two { S.CAPACITY ≡ 2 }
 {

@@ -74,7 +74,7 @@ pub fn zip<T: Drop, B: Default + Drop, U: Drop, N: ArrayLength<B>, F: FnMut(T, B
     left.zip(alloc, right, f)
 }
 
-/// The same with a closure that is lent.
+/// The same with a borrowed closure.
 pub fn zip_by<T: Drop, B: Default + Drop, U: Drop, N: ArrayLength<B>, F: FnMut(T, B) -> U>(
     alloc: Global,
     left: BoxedArray<T, N>,
@@ -123,7 +123,7 @@ pub fn inverted_zip2<T: Default + Drop, B: Drop, U: Drop, N: ArrayLength<T>, F: 
     inverted_zip2_of_any(array, alloc, left, f)
 }
 
-/// The same with a closure that is lent.
+/// The same with a borrowed closure.
 pub fn inverted_zip2_by<
     T: Default + Drop,
     B: Drop,

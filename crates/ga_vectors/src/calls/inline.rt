@@ -95,31 +95,22 @@ pub fn zip<
     always(left.zip((), right, f))
 }
 
-/// `inverted_zip` of an inline array, with an inline left side.
+/// `inverted_zip` of an inline array, with an inline left side, or `inverted_zip2` where `is_second`.
 pub fn inverted_zip<
     T: Default + Drop,
     B: Default + Drop,
     U: Default + Drop,
     N: ArrayLength<T> + ArrayLength<B> + ArrayLength<U>,
     F: FnMut(B, T) -> U,
->(array: GenericArray<T, N>, left: GenericArray<B, N>, f: F) -> GenericArray<U, N>
-    requires { (f : _) (x : _) (y : _) → F.pre f x y }
-{
-    inverted_zip_of_any(array, left, f)
-}
-
-/// `inverted_zip2` of an inline array, with an inline left side.
-pub fn inverted_zip2<
-    T: Default + Drop,
-    B: Default + Drop,
-    U: Default + Drop,
-    N: ArrayLength<T> + ArrayLength<B> + ArrayLength<U>,
-    F: FnMut(B, T) -> U,
->(array: GenericArray<T, N>, left: GenericArray<B, N>, f: F) -> GenericArray<U, N>
+>(array: GenericArray<T, N>, left: GenericArray<B, N>, f: F, is_second: bool) -> GenericArray<U, N>
     requires { (f : _) (x : _) (y : _) → F.pre f x y }
 {
     let _ = left.as_slice();
-    always(inverted_zip2_of_any(array, (), left, f))
+    if is_second {
+        always(inverted_zip2_of_any(array, (), left, f))
+    } else {
+        inverted_zip_of_any(array, left, f)
+    }
 }
 
 /// `map_total_by` of an inline array.

@@ -1,23 +1,9 @@
 //! Calls at views of arrays.
 ghost use Rattle.generic_array.specs.Length.{FitsInline};
 
-use generic_array::checks::{map_total_by as map_total_of_any, total_by as total_of_any};
+use generic_array::checks::map_total_by as map_total_of_any;
 use generic_array::functional::{FunctionalSequence, inverted_zip as inverted_zip_of_any};
 use generic_array::{ArrayLength, GenericArray, GenericArrayRef, always};
-
-/// `map` of a view.
-pub fn map<
-    'a,
-    T: Default + Drop,
-    U: Default + Drop,
-    N: ArrayLength<T> + ArrayLength<U>,
-    F: FnMut(&'a T) -> U,
->(view: GenericArrayRef<'a, T, N>, f: F) -> GenericArray<U, N>
-    requires fits { FitsInline N.USIZE }
-    requires pre { (f : _) (x : _) → F.pre f x }
-{
-    always(view.map((), f))
-}
 
 /// `map_by` of a view.
 pub fn map_by<
@@ -46,17 +32,6 @@ pub fn try_map<
     requires pre { (f : _) (x : _) → F.pre f x }
 {
     always(view.try_map((), f))
-}
-
-/// `total_by` of a view.
-pub fn total_by<'a, T: Default + Drop, A, N: ArrayLength<T>, F: FnMut(A, &'a T) -> A>(
-    view: GenericArrayRef<'a, T, N>,
-    init: A,
-    f: &mut F,
-) -> A
-    requires { (f : _) (total : _) (x : _) → F.pre f total x }
-{
-    total_of_any(view, init, f)
 }
 
 /// `inverted_zip` of a view, with an inline left side.

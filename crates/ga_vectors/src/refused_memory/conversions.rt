@@ -58,7 +58,7 @@ fn block_to_slice(alloc: Global) -> Outcome {
     }
 }
 
-// Into a block. Another length is answered before memory is asked for.
+// Into a block. Another length is an error before memory is asked for.
 
 /// Of three counted items that were handed over to be a block of `N`.
 fn taken<N: Unsigned>(
@@ -76,26 +76,18 @@ fn taken<N: Unsigned>(
     outcome.and(counts.drops() == 3)
 }
 
-fn vector_to_block<N: Unsigned>(alloc: Global) -> Outcome {
+/// From a vector, or from the boxed slice that it becomes.
+fn to_block<N: Unsigned>(alloc: Global, is_slice: bool) -> Outcome {
     let counts = Counts::new();
-    match three_in_a_vector(alloc, &counts) {
-        Ok(items) => taken(
-            BoxedArray::<Counted, N>::try_from_vec(alloc, items),
-            &counts,
-        ),
-        Err(AllocError) => Outcome::Refused,
-    }
-}
-
-fn slice_to_block<N: Unsigned>(alloc: Global) -> Outcome {
-    let counts = Counts::new();
-    match three_in_a_slice(alloc, &counts) {
-        Ok(items) => taken(
-            BoxedArray::<Counted, N>::try_from_boxed_slice(alloc, items),
-            &counts,
-        ),
-        Err(AllocError) => Outcome::Refused,
-    }
+    let Ok(items) = three_in_a_vector(alloc, &counts) else {
+        return Outcome::Refused;
+    };
+    let made = if is_slice {
+        BoxedArray::<Counted, N>::try_from_boxed_slice(alloc, items.into_boxed_slice())
+    } else {
+        BoxedArray::<Counted, N>::try_from_vec(alloc, items)
+    };
+    taken(made, &counts)
 }
 
 // Into an inline array, which asks for no memory.
@@ -150,10 +142,10 @@ fn case(alloc: Global, number: u32) -> Outcome {
         1 => inline_to_slice(alloc),
         2 => block_to_vector(alloc),
         3 => block_to_slice(alloc),
-        4 => vector_to_block::<U3>(alloc),
-        5 => vector_to_block::<U4>(alloc),
-        6 => slice_to_block::<U3>(alloc),
-        7 => slice_to_block::<U4>(alloc),
+        4 => to_block::<U3>(alloc, false),
+        5 => to_block::<U4>(alloc, false),
+        6 => to_block::<U3>(alloc, true),
+        7 => to_block::<U4>(alloc, true),
         8 => vector_to_inline(alloc, false),
         9 => vector_to_inline(alloc, true),
         10 => slice_to_inline(alloc, false),

@@ -1,4 +1,4 @@
-//! What needs no room of its own: it answers the same whatever memory there is.
+//! What needs no room of its own: it returns the same whatever memory there is.
 use crate::counted::{Counted, Counts};
 use crate::items::from_one;
 use crate::outcome::{Outcome, play};
@@ -89,7 +89,7 @@ fn with_place(total: u32, item: &Counted) -> u32 {
     total.wrapping_add(item.place())
 }
 
-/// What is lent, summed, mapped inline, and taken from both ends of a block.
+/// What is borrowed, summed, mapped inline, and taken from both ends of a block.
 fn of_a_block(alloc: Global) -> Outcome {
     let counts = Counts::new();
     let Ok(array) = three_in_a_block(alloc, &counts) else {
