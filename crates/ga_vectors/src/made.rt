@@ -83,19 +83,22 @@ fn a_fill_that_finds_no_place_takes_no_item(rt: HostRuntime) {
     assert!(rt; items.next() == Some(Ok(4)));
 }
 
-#[test]
-fn a_block_that_cannot_be_had_is_refused_before_any_call(rt: HostRuntime) {
+/// Whether builds of a block that can't be had make no call and fail. Its length is a parameter, for the
+/// same reason.
+fn no_block_is_made<N: Unsigned>(alloc: Global) -> bool {
     let mut calls = 0u32;
     let mut count = |index: usize| {
         calls = calls.wrapping_add(1);
         index
     };
-    let made = <BoxedArray<usize, TooMany> as GenericSequence<usize>>::generate_by(
-        rt.alloc(),
-        &mut count,
-    );
-    assert!(rt; made.is_err());
-    assert_eq!(rt; calls, 0);
-    assert!(rt; sevens::<BoxedArray<usize, TooMany>>(rt.alloc()).is_err());
-    assert!(rt; places::<BoxedArray<usize, TooMany>>(rt.alloc()).is_err());
+    let made = <BoxedArray<usize, N> as GenericSequence<usize>>::generate_by(alloc, &mut count);
+    made.is_err()
+        && calls == 0
+        && sevens::<BoxedArray<usize, N>>(alloc).is_err()
+        && places::<BoxedArray<usize, N>>(alloc).is_err()
+}
+
+#[test]
+fn a_block_that_cannot_be_had_is_refused_before_any_call(rt: HostRuntime) {
+    assert!(rt; no_block_is_made::<TooMany>(rt.alloc()));
 }
