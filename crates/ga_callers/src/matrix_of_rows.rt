@@ -79,7 +79,9 @@ where
     where
         C: ArrayLength<Row<R>> + InlineLength,
         R: ArrayLength<u64> + InlineLength,
-        ensures { result.rows ≡ map (λ column. record { items = map (λ row. slice_index row.items column) self.now.rows }) (range_with_len 0 C.USIZE) }
+        ensures { result.rows ≡ map
+            (λ column. record { items = map (λ row. slice_index row.items column) self.now.rows })
+            (range_with_len 0 C.USIZE) }
     {
         // The closure captures a column, since the checker wants the result's type in what is captured.
         let blank: Row<R> = Row::default();
@@ -119,7 +121,9 @@ fn row_times<K, C>(row: &Row<K>, matrix: &Matrix<K, C>) -> Row<C>
 where
     C: ArrayLength<u64> + InlineLength,
     K: ArrayLength<u64> + ArrayLength<Row<C>>,
-    ensures { result.items ≡ map (λ column. dot_wrapping row.now.items (map (λ other. slice_index other.items column) matrix.now.rows)) (range_with_len 0 C.USIZE) }
+    ensures { result.items ≡ map
+        (λ column. dot_wrapping row.now.items (map (λ other. slice_index other.items column) matrix.now.rows))
+        (range_with_len 0 C.USIZE) }
 {
     let items = GenericArray::generate(
         |column: usize| -> u64

@@ -1,8 +1,9 @@
 //! Closure calls run in order and stop at the first error.
+ghost use Rattle.generic_array.specs.Maps.{MapRun, MayFold, MayMap, MayTryMap, MayZip, TryMapRun, ZipRun};
 ghost use Rattle.generic_array.specs.Built.{built_items};
-ghost use Rattle.generic_array.specs.Entries.{CallAt, CallAtPair, FoldAt, MayCallAt, MayCallAtPair, MayFoldAt};
-ghost use Rattle.generic_array.specs.EntryRuns.{TryFoldRun, good_step};
-ghost use Rattle.generic_array.specs.Runs.{CallableInFold, CallableOver, CallableOverUntilError, ClosureRun, FirstErrorRun, FoldRun};
+ghost use Rattle.generic_array.specs.Entries.{FoldAt};
+ghost use Rattle.generic_array.specs.EntryRuns.{MayTryFold, TryFoldRun};
+ghost use Rattle.generic_array.specs.Runs.{FoldRun};
 ghost use Rattle.std.specs.List.{zip};
 ghost use Rattle.std.specs.Prelude.{◌≡◌, IfOk, IsOk, length};
 
@@ -22,9 +23,10 @@ where
     S: FunctionalSequence<T> + MappedGenericSequence<T, U>,
     F: FnMut(SequenceItem<S>) -> U,
     requires fits { S.Mapped.Fits }
-    requires callable { CallableOver (MayCallAt S.entry F.pre) (CallAt S.entry F.step) f.old (S.items s) }
+    requires callable { MayMap S.entry F.pre F.step f.old (S.items s) }
     ensures len { IfOk result (λ made. length (S.Mapped.Sequence.items made) ≡ S.Length.USIZE) }
-    ensures run { IfOk result (λ made. ClosureRun (CallAt S.entry F.step) f.old (S.items s) (S.Mapped.Sequence.items made) f.new) }
+    ensures run { IfOk result (λ made.
+        MapRun S.entry F.step f.old (S.items s) (S.Mapped.Sequence.items made) f.new) }
     ensures promised { S.Mapped.IsPromised → IsOk result }
 {
     s.map_by(place, f)
@@ -43,9 +45,11 @@ where
     F: FnMut(SequenceItem<S>, SequenceItem<Rhs>) -> U,
     requires lengths { S.Length.USIZE ≡ Rhs.Length.USIZE }
     requires fits { S.Mapped.Fits }
-    requires callable { CallableOver (MayCallAtPair S.entry Rhs.entry F.pre) (CallAtPair S.entry Rhs.entry F.step) f.old (zip (S.items s) (Rhs.items rhs)) }
+    requires callable { MayZip S.entry Rhs.entry F.pre F.step f.old (S.items s) (Rhs.items rhs) }
     ensures len { IfOk result (λ made. length (S.Mapped.Sequence.items made) ≡ S.Length.USIZE) }
-    ensures run { IfOk result (λ made. ClosureRun (CallAtPair S.entry Rhs.entry F.step) f.old (zip (S.items s) (Rhs.items rhs)) (S.Mapped.Sequence.items made) f.new) }
+    ensures run { IfOk result (λ made.
+        ZipRun S.entry Rhs.entry F.step f.old (S.items s) (Rhs.items rhs)
+        (S.Mapped.Sequence.items made) f.new) }
     ensures promised { S.Mapped.IsPromised → IsOk result }
 {
     s.zip_by(place, rhs, f)
@@ -57,7 +61,7 @@ pub fn fold<T, A, S: FunctionalSequence<T>, F: FnMut(A, SequenceItem<S>) -> A>(
     init: A,
     f: &mut F,
 ) -> A
-    requires callable { CallableInFold (MayFoldAt S.entry F.pre) (FoldAt S.entry F.step) f.old init (S.items s) }
+    requires callable { MayFold S.entry F.pre F.step f.old init (S.items s) }
     ensures run { FoldRun (FoldAt S.entry F.step) f.old init (S.items s) result f.new }
 {
     s.fold_by(init, f)
@@ -74,9 +78,11 @@ where
     F: FnMut(SequenceItem<S>) -> Result<U, E>,
     Mapped<S, T, U>: FallibleGenericSequence<U>,
     requires fits { S.Mapped.Fits }
-    requires callable { CallableOverUntilError (MayCallAt S.entry F.pre) (CallAt S.entry F.step) f.old (S.items s) }
-    ensures len { IfOk result (λ built. IfOk built (λ made. length (S.Mapped.Sequence.items made) ≡ S.Length.USIZE)) }
-    ensures run { IfOk result (λ built. FirstErrorRun (CallAt S.entry F.step) f.old (S.items s) (built_items S.Mapped.Sequence.items built) f.new) }
+    requires callable { MayTryMap S.entry F.pre F.step f.old (S.items s) }
+    ensures len { IfOk result (λ built.
+        IfOk built (λ made. length (S.Mapped.Sequence.items made) ≡ S.Length.USIZE)) }
+    ensures run { IfOk result (λ built.
+        TryMapRun S.entry F.step f.old (S.items s) (built_items S.Mapped.Sequence.items built) f.new) }
     ensures promised { S.Mapped.IsPromised → IsOk result }
 {
     s.try_map_by(place, f)
@@ -88,7 +94,7 @@ pub fn try_fold<T, A, E, S: FunctionalSequence<T>, F: FnMut(A, SequenceItem<S>) 
     init: A,
     f: &mut F,
 ) -> Result<A, E>
-    requires callable { CallableInFold (MayFoldAt S.entry F.pre) (good_step (FoldAt S.entry F.step)) f.old init (S.items s) }
+    requires callable { MayTryFold S.entry F.pre F.step f.old init (S.items s) }
     ensures run { TryFoldRun (FoldAt S.entry F.step) f.old init (S.items s) result f.new }
 {
     s.try_fold_by(init, f)
