@@ -11,6 +11,7 @@ pub use Rattle.ga_views.specs.Cut
 pub use Rattle.ga_views.specs.HexText
 pub use Rattle.ga_views.specs.Iteration
 pub use Rattle.ga_views.specs.Length
+pub use Rattle.ga_views.specs.Parts
 pub use Rattle.ga_views.specs.RowIteration
 pub use Rattle.ga_views.specs.Rows
 pub use Rattle.ga_views.specs.Views

@@ -1,8 +1,9 @@
 //! Rows of one width that lie in a slice, for writing.
 ghost use Rattle.ga_views.specs.Views.{items_of_chunks, items_of_view};
+ghost use Rattle.ga_views.specs.Parts.{LendsHalves};
 ghost use Rattle.ga_views.specs.RowIteration.{RowsInOrder, RowsInReverse};
 ghost use Rattle.ga_views.specs.Rows.{chunk_count, chunk_rest, row_at, rows};
-ghost use Rattle.std.specs.Borrow.{Array, LendsBoth, follows_both, sem};
+ghost use Rattle.std.specs.Borrow.{Array, LendsBoth, sem};
 ghost use Rattle.std.specs.Option.{option_map};
 ghost use Rattle.std.specs.Prelude.{◌≡◌, ◌*◌, ◌<◌, ◌↔◌, ◌⊎◌, ◌++◌, IfSome, IsSome, length, slice_get};
 
@@ -44,8 +45,7 @@ impl<'a, T, N: Unsigned> ChunksViewMut<&'a mut [T], T, N> {
     #[inline]
     pub fn chunks_from_slice_mut(slice: &'a mut [T]) -> (Self, &'a mut [T])
         requires width { (0 < N.USIZE) ⊎ (length slice.old ≡ 0) }
-        ensures* writes_back { sem 𝓛 (follows_both (Array T.row 0) (Array T.row 0) (Array T.row 0)
-            slice.entry.ghost_name result.0.slice.ghost_name result.1.ghost_name ◌++◌) }
+        ensures* writes_back { sem 𝓛 (LendsHalves T.row slice.entry result.0.slice result.1) }
         ensures rows { rows N.USIZE result.0.slice.now ≡ rows N.USIZE slice.old }
         ensures rest { result.1.now ≡ chunk_rest N.USIZE slice.old }
         ensures parts { result.0.slice.now ++ result.1.now ≡ slice.old }
@@ -163,7 +163,8 @@ impl<S: ReborrowSlice<T>, T, N: Unsigned> ChunksViewMut<S, T, N> {
         ensures items { result.now ≡ S.items self.old.slice }
         ensures len { length result.now ≡ chunk_count N.USIZE (S.items self.old.slice) * N.USIZE }
     {
-        self.slice.all_mut()
+        let len = self.slice.all().len();
+        self.slice.all_mut(len)
     }
 }
 

@@ -2,7 +2,7 @@
 ghost use Rattle.std.specs.Borrow.{Array, Lends, sem};
 ghost use Rattle.std.specs.List.{refill};
 ghost use Rattle.ga_views.specs.Parts.{part_set};
-ghost use Rattle.std.specs.Prelude.{◌≡◌, ℕ, ◌+◌, ◌<◌, ◌≤◌, List, drop, length, slice_index_or, slice_set, take};
+ghost use Rattle.std.specs.Prelude.{◌≡◌, ℕ, ◌+◌, ◌<◌, ◌≤◌, List, drop, length, refl, slice_index_or, slice_set, take};
 
 /// A reference through which a slice can be written: `&mut [T]`, or one to an array of `ga_core`.
 /// Writing doesn't change the slice's length.
@@ -25,14 +25,9 @@ pub trait ReborrowSlice<T>: Drop {
 
     ghost slice_with_stays: { (slice : Self) (written : List T) → stays slice (slice_with slice written).0 };
 
-    /// The items, in order, for writing.
-    fn all_mut(&mut self) -> &mut [T]
-        ensures* writes_back { sem 𝓛 (Lends Self.row (Array T.row 0)
-            self.entry result (λ written. (slice_with self.old written).0)) }
-        ensures value { result.now ≡ items self.old };
-
-    /// The same where the caller knows how many they are, so that the compiler knows it too.
-    fn all_mut_of(&mut self, len: usize) -> &mut [T]
+    /// The items, in order, for writing. The caller says how many they are, so that the compiler knows
+    /// it too.
+    fn all_mut(&mut self, len: usize) -> &mut [T]
         requires len { len ≡ length (items self.old) }
         ensures* writes_back { sem 𝓛 (Lends Self.row (Array T.row 0)
             self.entry result (λ written. (slice_with self.old written).0)) }
@@ -65,9 +60,6 @@ pub trait ReborrowPart<T>: ReborrowSlice<T> {
 }
 
 impl<'a, T> ReborrowSlice<T> for &'a mut [T] {
-    ghost use Rattle.std.specs.List.{refill};
-    ghost use Rattle.std.specs.Prelude.{◌≡◌, length, refl, slice_set};
-
     ghost items = { λ slice. slice.now };
 
     ghost stays = { λ slice after. after.ghost_name ≡ slice.ghost_name };
@@ -83,12 +75,7 @@ impl<'a, T> ReborrowSlice<T> for &'a mut [T] {
     ghost slice_with_stays = { λ slice written. refl };
 
     #[inline]
-    fn all_mut(&mut self) -> &mut [T] {
-        &mut **self
-    }
-
-    #[inline]
-    fn all_mut_of(&mut self, len: usize) -> &mut [T] {
+    fn all_mut(&mut self, len: usize) -> &mut [T] {
         &mut self[..len]
     }
 

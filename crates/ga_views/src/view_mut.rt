@@ -6,6 +6,7 @@ ghost use Rattle.std.specs.Prelude.{◌≡◌, ◌<◌, ◌↔◌, IfOk, IsOk, I
 
 use crate::reborrow::ReborrowSlice;
 use crate::{LengthError, Unsigned};
+use std::convert::AsSlice;
 use std::marker::PhantomData;
 use std::ops::{DerefSlice, DerefSliceMut};
 use std::slice;
@@ -122,7 +123,7 @@ impl<S: ReborrowSlice<T>, T, N: Unsigned> ViewMut<S, T, N> {
         ensures items { result.now ≡ S.items self.old.slice }
         ensures len { length result.now ≡ N.USIZE }
     {
-        self.slice.all_mut_of(N::USIZE)
+        self.slice.all_mut(N::USIZE)
     }
 
     /// The item at `index`, or `None` where `index` isn't below `N`.
@@ -161,7 +162,6 @@ impl<S: ReborrowSlice<T>, T, N: Unsigned> ViewMut<S, T, N> {
     }
 
     /// The number of items, which is `N`.
-    #[inline]
     pub fn len(&self) -> usize
         ensures { result ≡ N.USIZE }
     {
@@ -184,6 +184,15 @@ impl<S: ReborrowSlice<T>, T, N: Unsigned> ViewMut<S, T, N> {
         ensures items { IteratesMutOver (S.items self.old.slice) N.USIZE result }
     {
         self.as_mut_slice().iter_mut()
+    }
+}
+
+impl<S: ReborrowSlice<T>, T, N: Unsigned> AsSlice<T> for ViewMut<S, T, N> {
+    ghost items = { λ view. S.items view.slice };
+
+    #[inline]
+    fn as_slice(&self) -> &[T] {
+        ViewMut::as_slice(self)
     }
 }
 

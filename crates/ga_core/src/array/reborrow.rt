@@ -22,12 +22,7 @@ impl<'a, T, N: ArrayLength<T>> ReborrowSlice<T> for &'a mut GenericArray<T, N> {
     ghost slice_with_stays = { λ array written. refl };
 
     #[inline]
-    fn all_mut(&mut self) -> &mut [T] {
-        self.as_mut_slice()
-    }
-
-    #[inline]
-    fn all_mut_of(&mut self, _len: usize) -> &mut [T] {
+    fn all_mut(&mut self, _len: usize) -> &mut [T] {
         GenericArray::as_mut_slice(self)
     }
 

@@ -1,7 +1,8 @@
 //! Views: of the items of an array, and of slices of the array's length.
+ghost use Rattle.ga_views.specs.Parts.{LendsHalves};
 ghost use Rattle.ga_views.specs.Views.{items_of_chunks, items_of_view};
 ghost use Rattle.ga_views.specs.Rows.{chunk_rest, rows};
-ghost use Rattle.std.specs.Borrow.{Array, RestsIfErr, follows_both, sem};
+ghost use Rattle.std.specs.Borrow.{Array, RestsIfErr, sem};
 ghost use Rattle.std.specs.Option.{option_copied};
 ghost use Rattle.std.specs.Prelude.{◌≡◌, ◌<◌, ◌↔◌, ◌⊎◌, ◌++◌, IfOk, IsOk, Some, length, map};
 
@@ -96,8 +97,7 @@ impl<T, N: ArrayLength<T>> GenericArray<T, N> {
     #[inline]
     pub fn chunks_from_slice_mut(slice: &mut [T]) -> (ChunksMut<'_, T, N>, &mut [T])
         requires width { (0 < N.USIZE) ⊎ (length slice.old ≡ 0) }
-        ensures* writes_back { sem 𝓛 (follows_both (Array T.row 0) (Array T.row 0) (Array T.row 0)
-            slice.entry.ghost_name result.0.slice.ghost_name result.1.ghost_name ◌++◌) }
+        ensures* writes_back { sem 𝓛 (LendsHalves T.row slice.entry result.0.slice result.1) }
         ensures rows { rows N.USIZE result.0.slice.now ≡ rows N.USIZE slice.old }
         ensures rest { result.1.now ≡ chunk_rest N.USIZE slice.old }
         ensures parts { result.0.slice.now ++ result.1.now ≡ slice.old }

@@ -1,7 +1,8 @@
 //! The shapes of views.
+ghost use Rattle.ga_core.specs.Parts.{LendsHalves};
 ghost use Rattle.ga_core.specs.Views.{items_of_view};
-ghost use Rattle.std.specs.Borrow.{Array, follows_both, sem};
-ghost use Rattle.std.specs.Prelude.{◌≡◌, ◌+◌, ◌++◌, drop, length, take};
+ghost use Rattle.std.specs.Borrow.{sem};
+ghost use Rattle.std.specs.Prelude.{◌≡◌, ◌+◌, drop, length, take};
 
 use crate::sequence::shapes::Split;
 use ga_core::{ArrayLength, GenericArray, GenericArrayMut, GenericArrayRef, Unsigned, ViewMut};
@@ -13,12 +14,6 @@ impl<'a, T, N: Unsigned, K: Unsigned, M: Unsigned> Split<
     GenericArrayRef<'a, T, K>,
     GenericArrayRef<'a, T, M>,
 > for GenericArrayRef<'a, T, N> {
-    ghost items = { items_of_view };
-
-    ghost first_items = { items_of_view };
-
-    ghost second_items = { items_of_view };
-
     ghost PLACE = { K.USIZE };
 
     ghost IsSum = { N.USIZE ≡ K.USIZE + M.USIZE };
@@ -44,12 +39,6 @@ impl<'a, T, N: Unsigned, K: Unsigned, M: Unsigned> Split<
     GenericArrayMut<'a, T, K>,
     GenericArrayMut<'a, T, M>,
 > for GenericArrayMut<'a, T, N> {
-    ghost items = { λ view. view.slice.now };
-
-    ghost first_items = { λ view. view.slice.now };
-
-    ghost second_items = { λ view. view.slice.now };
-
     ghost PLACE = { K.USIZE };
 
     ghost IsSum = { N.USIZE ≡ K.USIZE + M.USIZE };
@@ -68,12 +57,6 @@ impl<'a, T, N: ArrayLength<T>, K: Unsigned, M: Unsigned> Split<
     GenericArrayMut<'a, T, K>,
     GenericArrayMut<'a, T, M>,
 > for ViewMut<&'a mut GenericArray<T, N>, T, N> {
-    ghost items = { λ view. view.slice.now };
-
-    ghost first_items = { λ view. view.slice.now };
-
-    ghost second_items = { λ view. view.slice.now };
-
     ghost PLACE = { K.USIZE };
 
     ghost IsSum = { N.USIZE ≡ K.USIZE + M.USIZE };
@@ -92,8 +75,7 @@ fn halves_of<'a, T, N: Unsigned, K: Unsigned, M: Unsigned>(
     view: GenericArrayMut<'a, T, N>,
 ) -> (GenericArrayMut<'a, T, K>, GenericArrayMut<'a, T, M>)
     requires sum { N.USIZE ≡ K.USIZE + M.USIZE }
-    ensures* writes_back { sem 𝓛 (follows_both (Array T.row 0) (Array T.row 0) (Array T.row 0)
-        view.entry.slice.ghost_name result.0.slice.ghost_name result.1.slice.ghost_name ◌++◌) }
+    ensures* writes_back { sem 𝓛 (LendsHalves T.row view.entry.slice result.0.slice result.1.slice) }
     ensures first { result.0.slice.now ≡ take K.USIZE view.entry.slice.now }
     ensures second { result.1.slice.now ≡ drop K.USIZE view.entry.slice.now }
 {

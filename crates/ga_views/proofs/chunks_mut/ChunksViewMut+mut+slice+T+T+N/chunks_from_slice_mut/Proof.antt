@@ -159,11 +159,11 @@ chunks_from_slice_mut_spec 𝓤 𝓛 𝓜 𝓡 wired X N LX LN g d bound =
     let J : RattleType = Lent X N g d in let gP = impl.ghosts J in let dP : Dict = impl.dict J in
     let drops : Dict = impl_of ("ga_views::Destruct++none::drop" ∷ []) (tcons (layout P) tnil) dnil in
     let lends = lent.bound 𝓡.env (code.calls-ga_views::reborrow::RefMutSliceReborrowSlice::all 𝓡.env wired)
-    (code.calls-ga_views::reborrow::RefMutSliceReborrowSlice::all_mut 𝓡.env wired) (code.calls-ga_views::reborrow::RefMutSliceReborrowSlice::all_mut_of 𝓡.env wired)
+    (code.calls-ga_views::reborrow::RefMutSliceReborrowSlice::all_mut 𝓡.env wired)
     (code.calls-ga_views::reborrow::RefMutSliceReborrowSlice::item_mut 𝓡.env wired) κ J (arg_laws (layout X) no E (param_laws 0 X LX) refl) lκ _ 𝓤 𝓛 𝓜 𝓡 in
     let makes = made.met 𝓤 𝓛 𝓜 𝓡 (code.calls-ga_views::chunks_mut::ChunksViewMut::over 𝓡.env wired) P I Z
     LP (arg_laws (layout X) yes E (param_laws 0 X LX) refl) (arg_laws (layout N) yes (param 1 N) (param_laws 1 N LN) refl) gP dP g d drops
-    (record { all = lends.all; all_mut = lends.all_mut; all_mut_of = lends.all_mut_of; item_mut = lends.item_mut }) (record { USIZE = bound.USIZE })
+    (record { all = lends.all; all_mut = lends.all_mut; item_mut = lends.item_mut }) (record { USIZE = bound.USIZE })
     (glues "ga_views::Destruct++none::drop" 𝓡.env (code.calls-ga_views::Destruct++none::drop 𝓡.env wired) P LP _ 𝓤 𝓛 𝓜 𝓡) in
     let O = triple_of 𝓛 (make_contract.signature P I Z gP dP g d drops) (make_contract.spec P I Z gP dP g d drops 𝓛 𝓜.mem 𝓡.returns) in
     let zO : O.Ghost = (((κ, (κT, (κN, tt))), (qs.0, (qs.1.0, (qs.1.1.0, tt))), tt, (first, tt), (mut_slice_vals first, tt)), tt) in

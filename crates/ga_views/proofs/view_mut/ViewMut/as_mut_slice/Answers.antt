@@ -8,7 +8,7 @@ returns g c = (
   (refl, λ written. same_full _ _),
   record {
     writes_back = _;
-    items = c.all_mut_of.ensures.value;
-    len = ap length c.all_mut_of.ensures.value ∙ c.args.self.now.full;
+    items = c.all_mut.ensures.value;
+    len = ap length c.all_mut.ensures.value ∙ c.args.self.now.full;
   },
 )
