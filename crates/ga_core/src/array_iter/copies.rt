@@ -17,10 +17,8 @@ impl<T: Clone, N: ArrayLength<T>> GenericArrayIter<T, N> {
         ensures succeeds { All T.is_infallible self.now → IsOk result }
     {
         let items = self.as_slice();
-        match store_of_clones::<T, N::ArrayType>(items) {
-            Ok(store) => Ok(GenericArrayIter::of_store(store, items.len())),
-            Err(_) => Err(AllocError),
-        }
+        let store = store_of_clones::<T, N::ArrayType>(items)?;
+        Ok(GenericArrayIter::of_store(store, items.len()))
     }
 }
 
@@ -30,9 +28,6 @@ impl<T: Clone, N: ArrayLength<T>> Clone for GenericArrayIter<T, N> {
     ghost is_infallible = { λ items. All T.is_infallible items };
 
     fn clone(&self) -> Result<Self, alloc::AllocError> {
-        match GenericArrayIter::clone(self) {
-            Ok(copy) => Ok(copy),
-            Err(_) => Err(alloc::AllocError),
-        }
+        Ok(GenericArrayIter::clone(self)?)
     }
 }
