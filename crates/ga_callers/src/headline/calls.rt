@@ -24,10 +24,8 @@ where
     F: FnMut(SequenceItem<S>) -> U,
     requires fits { S.Mapped.Fits }
     requires callable { MayMap S.entry F.pre F.step f.old (S.items s) }
-    ensures len { IfOk result (λ made. length (S.Mapped.Sequence.items made) ≡ S.Length.USIZE) }
     ensures run { IfOk result (λ made.
         MapRun S.entry F.step f.old (S.items s) (S.Mapped.Sequence.items made) f.new) }
-    ensures promised { S.Mapped.IsPromised → IsOk result }
 {
     s.map_by(place, f)
 }
@@ -46,21 +44,18 @@ where
     requires lengths { S.Length.USIZE ≡ Rhs.Length.USIZE }
     requires fits { S.Mapped.Fits }
     requires callable { MayZip S.entry Rhs.entry F.pre F.step f.old (S.items s) (Rhs.items rhs) }
-    ensures len { IfOk result (λ made. length (S.Mapped.Sequence.items made) ≡ S.Length.USIZE) }
     ensures run { IfOk result (λ made.
         ZipRun S.entry Rhs.entry F.step f.old (S.items s) (Rhs.items rhs)
         (S.Mapped.Sequence.items made) f.new) }
-    ensures promised { S.Mapped.IsPromised → IsOk result }
 {
     s.zip_by(place, rhs, f)
 }
 
 /// One call at each item, in order, each with what the one before returned.
-pub fn fold<T, A, S: FunctionalSequence<T>, F: FnMut(A, SequenceItem<S>) -> A>(
-    s: S,
-    init: A,
-    f: &mut F,
-) -> A
+pub fn fold<T, A, S, F>(s: S, init: A, f: &mut F) -> A
+where
+    S: FunctionalSequence<T>,
+    F: FnMut(A, SequenceItem<S>) -> A,
     requires callable { MayFold S.entry F.pre F.step f.old init (S.items s) }
     ensures run { FoldRun (FoldAt S.entry F.step) f.old init (S.items s) result f.new }
 {
@@ -79,21 +74,17 @@ where
     Mapped<S, T, U>: FallibleGenericSequence<U>,
     requires fits { S.Mapped.Fits }
     requires callable { MayTryMap S.entry F.pre F.step f.old (S.items s) }
-    ensures len { IfOk result (λ built.
-        IfOk built (λ made. length (S.Mapped.Sequence.items made) ≡ S.Length.USIZE)) }
     ensures run { IfOk result (λ built.
         TryMapRun S.entry F.step f.old (S.items s) (built_items S.Mapped.Sequence.items built) f.new) }
-    ensures promised { S.Mapped.IsPromised → IsOk result }
 {
     s.try_map_by(place, f)
 }
 
 /// A fold up to the first error, after which no call is made.
-pub fn try_fold<T, A, E, S: FunctionalSequence<T>, F: FnMut(A, SequenceItem<S>) -> Result<A, E>>(
-    s: S,
-    init: A,
-    f: &mut F,
-) -> Result<A, E>
+pub fn try_fold<T, A, E, S, F>(s: S, init: A, f: &mut F) -> Result<A, E>
+where
+    S: FunctionalSequence<T>,
+    F: FnMut(A, SequenceItem<S>) -> Result<A, E>,
     requires callable { MayTryFold S.entry F.pre F.step f.old init (S.items s) }
     ensures run { TryFoldRun (FoldAt S.entry F.step) f.old init (S.items s) result f.new }
 {
