@@ -72,7 +72,6 @@ impl<T, N: Unsigned> BoxedArray<T, N> {
     }
 
     /// The number of items, which is `N`.
-    #[inline]
     pub fn len(&self) -> usize
         ensures { result ≡ N.USIZE }
     {
