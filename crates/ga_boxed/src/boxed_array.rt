@@ -79,7 +79,6 @@ impl<T, N: Unsigned> BoxedArray<T, N> {
     }
 
     /// The items by reference, in order.
-    #[inline]
     pub fn iter(&self) -> slice::Iter<'_, T>
         ensures { IteratesOver self.now N.USIZE result }
     {

@@ -27,7 +27,7 @@ pub fn write_hex<W: Write>(
     upper: bool,
     limit: Option<usize>,
     w: &mut W,
-) -> Result<(), io::Error>
+) -> io::Result<()>
     ensures text { OnOk result (Appends (W.contents w.old) (W.contents w.new)
         (hex_text upper limit bytes.now)) }
     ensures empty { hex_text upper limit bytes.now ≡ [] → IsOk result }
@@ -35,34 +35,19 @@ pub fn write_hex<W: Write>(
     if bytes.len() <= SHORT_TEXT / 2 {
         write_pieces::<SHORT_TEXT, W>(bytes, upper, limit, w)
     } else {
-        write_long(bytes, upper, limit, w)
+        write_pieces::<LONG_TEXT, W>(bytes, upper, limit, w)
     }
 }
 
-// As `write_hex`, in pieces of 1,024 bytes. A caller's frame has no room for such a piece, since
-// this isn't inlined.
+// As `write_hex`, in pieces of so many digits. A caller's frame has no room for a piece, since this
+// isn't inlined.
 #[inline(never)]
-fn write_long<W: Write>(
-    bytes: &[u8],
-    upper: bool,
-    limit: Option<usize>,
-    w: &mut W,
-) -> Result<(), io::Error>
-    ensures text { OnOk result (Appends (W.contents w.old) (W.contents w.new)
-        (hex_text upper limit bytes.now)) }
-    ensures empty { hex_text upper limit bytes.now ≡ [] → IsOk result }
-{
-    write_pieces::<LONG_TEXT, W>(bytes, upper, limit, w)
-}
-
-// As `write_hex`, in pieces of so many digits.
-#[inline(always)]
 fn write_pieces<const SIZE: usize, W: Write>(
     bytes: &[u8],
     upper: bool,
     limit: Option<usize>,
     w: &mut W,
-) -> Result<(), io::Error>
+) -> io::Result<()>
     requires some { 2 ≤ SIZE }
     requires few { SIZE ≤ 2048 }
     ensures text { OnOk result (Appends (W.contents w.old) (W.contents w.new)

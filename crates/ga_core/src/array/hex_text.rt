@@ -12,11 +12,7 @@ use std::io::Write;
 impl<N: ArrayLength<u8>> GenericArray<u8, N> {
     /// Writes the bytes as hex text with `0123456789abcdef`, no more than `limit` digits where that is
     /// fewer: see `hex_text::write_hex`. The counterpart of `fmt::LowerHex`.
-    pub fn write_lower_hex<W: Write>(
-        &self,
-        w: &mut W,
-        limit: Option<usize>,
-    ) -> Result<(), io::Error>
+    pub fn write_lower_hex<W: Write>(&self, w: &mut W, limit: Option<usize>) -> io::Result<()>
         ensures text { OnOk result (Appends (W.contents w.old) (W.contents w.new)
             (hex_text false limit self.now)) }
         ensures empty { hex_text false limit self.now ≡ [] → IsOk result }
@@ -25,11 +21,7 @@ impl<N: ArrayLength<u8>> GenericArray<u8, N> {
     }
 
     /// The same with `0123456789ABCDEF`. The counterpart of `fmt::UpperHex`.
-    pub fn write_upper_hex<W: Write>(
-        &self,
-        w: &mut W,
-        limit: Option<usize>,
-    ) -> Result<(), io::Error>
+    pub fn write_upper_hex<W: Write>(&self, w: &mut W, limit: Option<usize>) -> io::Result<()>
         ensures text { OnOk result (Appends (W.contents w.old) (W.contents w.new)
             (hex_text true limit self.now)) }
         ensures empty { hex_text true limit self.now ≡ [] → IsOk result }

@@ -12,14 +12,8 @@ impl<T: Default + Drop, N: ArrayLength<T>> GenericArrayIter<T, N> {
     pub fn nth(&mut self, n: usize) -> Option<T>
         ensures step { StepGives (front n) self.old result self.new }
     {
-        let len = self.len();
-        if n < len {
-            self.pass_front(n);
-            self.next()
-        } else {
-            self.pass_front(len);
-            None
-        }
+        self.pass_front(n.min(self.len()));
+        self.next()
     }
 
     /// Drops `n` items from the back and returns the one before them. If at most `n` items are
@@ -28,14 +22,8 @@ impl<T: Default + Drop, N: ArrayLength<T>> GenericArrayIter<T, N> {
     pub fn nth_back(&mut self, n: usize) -> Option<T>
         ensures step { StepGives (back n) self.old result self.new }
     {
-        let len = self.len();
-        if n < len {
-            self.pass_back(n);
-            self.next_back()
-        } else {
-            self.pass_back(len);
-            None
-        }
+        self.pass_back(n.min(self.len()));
+        self.next_back()
     }
 
     // Drops the first `passed` items, in order.
