@@ -1,8 +1,4 @@
-pub mod BlockLemmas
 mod EntryLemmas
 pub mod KeyTableLemmas
-pub mod PaddingLemmas
-pub mod PieceLemmas
-pub mod SameBytes
 pub mod SearchLemmas
 pub mod UdpLemmas

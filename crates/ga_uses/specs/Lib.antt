@@ -1,10 +1,4 @@
-pub mod BlockBuffer
 pub mod HeaderError
-pub mod Hmac
 pub mod KeyTable
 pub mod Udp
-pub use Rattle.generic_array.specs.Entries
-pub use Rattle.generic_array.specs.EntryRuns
 pub use Rattle.generic_array.specs.Length
-pub use Rattle.generic_array.specs.Rows
-pub use Rattle.generic_array.specs.Runs

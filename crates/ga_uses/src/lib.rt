@@ -2,12 +2,6 @@
 //! names and contracts alone.
 #![tactic(auto)]
 
-/// Messages of any length, in blocks of one length.
-pub mod block_buffer;
-/// Hash functions whose sizes are lengths.
-pub mod hash_function;
-/// Tags of messages under a key.
-pub mod hmac;
 /// A table of keys of one width.
 pub mod key_table;
 /// UDP datagrams through views.

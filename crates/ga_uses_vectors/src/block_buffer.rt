@@ -1,7 +1,7 @@
 ghost use Rattle.std.specs.Prelude.{◌≡◌, ◌+◌, ◌^◌, ◌<◌, length};
 
 use crate::blocks::blocks_of_two;
-use ga_uses::block_buffer::{BlockBuffer, padded_blocks};
+use ga_hashes::block_buffer::{BlockBuffer, padded_blocks};
 use generic_array::{GenericArrayRef, U16, U64};
 
 /// Bytes in order, and whether each block had `width` of them.

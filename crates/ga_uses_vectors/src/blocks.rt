@@ -1,9 +1,9 @@
 //! A caller that feeds by hand, proved.
-ghost use Rattle.ga_uses.specs.BlockBuffer.{Takes, with_padding};
+ghost use Rattle.ga_hashes.specs.BlockBuffer.{Takes, with_padding};
 ghost use Rattle.generic_array.specs.Rows.{rows};
 ghost use Rattle.std.specs.Prelude.{◌≡◌, ◌^◌, ◌+◌, ◌<◌, ◌++◌, length};
 
-use ga_uses::block_buffer::BlockBuffer;
+use ga_hashes::block_buffer::BlockBuffer;
 use generic_array::U64;
 
 /// Calls `f` at the blocks of a message in two pieces, and of its padding.

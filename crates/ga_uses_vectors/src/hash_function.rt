@@ -1,7 +1,7 @@
 //! A caller, and digests of the standards' own example, by each hash function and however it is cut.
 ghost use Rattle.std.specs.Prelude.{◌≡◌, ◌++◌};
 
-use ga_uses::hash_function::HashFunction;
+use ga_hashes::hash_function::HashFunction;
 use generic_array::GenericArray;
 use md5::Md5;
 use sha1::Sha1;

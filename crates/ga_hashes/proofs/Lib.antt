@@ -1,0 +1,4 @@
+pub mod BlockLemmas
+pub mod PaddingLemmas
+pub mod PieceLemmas
+pub mod SameBytes

@@ -1,0 +1,128 @@
+//! HMAC (RFC 2104): the tag of a message under a key, over any hash function.
+//!
+//! Nothing here allocates, and nothing fails.
+ghost use Rattle.ga_hashes.specs.Hmac.{Holds, hmac_of, key_block, with_mask};
+ghost use Rattle.generic_array.specs.Length.{FitsInline};
+ghost use Rattle.std.specs.Prelude.{◌≡◌, ℕ, ◌-◌, ◌≤◌, ◌↔◌, ◌++◌, IsTrue, List, [], length, replicate};
+
+use crate::hash_function::HashFunction;
+use generic_array::{ArrayLength, BorrowedItems, GenericArray};
+
+// The mask of the key before the message.
+const INNER: u8 = 0x36;
+
+// The mask of the key before the inner digest.
+const OUTER: u8 = 0x5c;
+
+/// The tag of a message that is fed by pieces: `new` with the key, a `feed` for each piece, and `finish`
+/// or `verify`.
+#[derive(Drop)]
+pub struct Hmac<H: HashFunction> {
+    inner: H,
+    outer: H,
+}
+
+impl<H: HashFunction> Hmac<H> {
+    /// Under a key of any length, with nothing fed yet. Hashes two blocks, and the key where it is longer
+    /// than a block.
+    pub fn new(key: &[u8]) -> Self
+        ensures { Holds H.holds H.digest H.BlockSize.USIZE result key.now [] }
+    {
+        let block = block_of_key::<H>(key);
+        Hmac {
+            inner: keyed(&block, INNER),
+            outer: keyed(&block, OUTER),
+        }
+    }
+
+    /// Adds `bytes` to the message.
+    pub fn feed(&mut self, bytes: &[u8])
+        ensures { (key m : List ℕ) → Holds H.holds H.digest H.BlockSize.USIZE self.old key m
+            → Holds H.holds H.digest H.BlockSize.USIZE self.new key (m ++ bytes.now) }
+    {
+        self.inner.feed(bytes);
+    }
+
+    /// The tag.
+    pub fn finish(self) -> GenericArray<u8, H::OutputSize>
+        ensures { (key m : List ℕ) → Holds H.holds H.digest H.BlockSize.USIZE self key m
+            → result ≡ hmac_of H.digest H.BlockSize.USIZE key m }
+    {
+        let Hmac { inner, mut outer } = self;
+        outer.feed(inner.finish().as_slice());
+        outer.finish()
+    }
+
+    /// Whether this is the tag. Looks at every byte of a tag of the right length, also behind one that
+    /// differs; how long it takes isn't claimed.
+    pub fn verify(self, tag: &[u8]) -> bool
+        ensures { (key m : List ℕ) → Holds H.holds H.digest H.BlockSize.USIZE self key m
+            → (IsTrue result ↔ (tag.now ≡ hmac_of H.digest H.BlockSize.USIZE key m)) }
+    {
+        same_bytes(self.finish(), tag)
+    }
+}
+
+/// The tag of a message under a key of any length.
+pub fn tag_of<H: HashFunction>(key: &[u8], message: &[u8]) -> GenericArray<u8, H::OutputSize>
+    ensures { result ≡ hmac_of H.digest H.BlockSize.USIZE key.now message.now }
+{
+    let mut tag = Hmac::<H>::new(key);
+    tag.feed(message);
+    tag.finish()
+}
+
+/// Whether this is the tag of a message under a key: see `Hmac::verify`.
+pub fn verify<H: HashFunction>(key: &[u8], message: &[u8], tag: &[u8]) -> bool
+    ensures { IsTrue result ↔ (tag.now ≡ hmac_of H.digest H.BlockSize.USIZE key.now message.now) }
+{
+    let mut expected = Hmac::<H>::new(key);
+    expected.feed(message);
+    expected.verify(tag)
+}
+
+// The bytes, followed by zeros up to the length.
+fn padded<N: ArrayLength<u8>>(bytes: &[u8]) -> GenericArray<u8, N>
+    requires fits { FitsInline N.USIZE }
+    requires room { length bytes.now ≤ N.USIZE }
+    ensures { result ≡ bytes.now ++ replicate (N.USIZE - length bytes.now) 0 }
+{
+    let mut block = GenericArray::default();
+    let (front, _zeros) = block.as_mut_slice().split_at_mut(bytes.len());
+    front.copy_from_slice(bytes);
+    block
+}
+
+// The key as a block: its digest where it is longer, with zeros behind.
+fn block_of_key<H: HashFunction>(key: &[u8]) -> GenericArray<u8, H::BlockSize>
+    ensures { result ≡ key_block H.digest H.BlockSize.USIZE key.now }
+{
+    if key.len() > GenericArray::<u8, H::BlockSize>::len() {
+        padded(H::digest_of(&[key]).as_slice())
+    } else {
+        padded(key)
+    }
+}
+
+// A hash function that was fed the key under a mask.
+fn keyed<H: HashFunction>(block: &GenericArray<u8, H::BlockSize>, mask: u8) -> H
+    ensures { H.holds result (with_mask mask block.now) }
+{
+    let mut hasher = H::start();
+    hasher.feed(block.map_inline_ref(|b: &u8| *b ^ mask).as_slice());
+    hasher
+}
+
+// Whether the two are the same bytes. Looks at every byte, also behind one that differs.
+fn same_bytes<N: ArrayLength<u8>>(left: GenericArray<u8, N>, right: &[u8]) -> bool
+    ensures { IsTrue result ↔ (right.now ≡ left) }
+{
+    let Ok(right) = GenericArray::<u8, N>::try_from_slice(right) else {
+        return false;
+    };
+    let differences = left.zip_inline_ref(right, |l: u8, r: &u8| l ^ *r);
+    differences
+        .into_iter()
+        .fold(0, |all: u8, difference: u8| all | difference)
+        == 0
+}

@@ -1,0 +1,18 @@
+//! Hash functions whose sizes are lengths, and what is made of them: tags, keys and one-time
+//! passwords.
+//!
+//! All of it is over any hash function, allocates nothing, and is proved from the public contracts
+//! of `generic_array`.
+#![tactic(auto)]
+
+/// Messages of any length, in blocks of one length.
+pub mod block_buffer;
+/// Hash functions whose sizes are lengths.
+pub mod hash_function;
+/// Tags of messages under a key: HMAC.
+pub mod hmac;
+
+pub use hash_function::HashFunction;
+pub use md5::Md5;
+pub use sha1::Sha1;
+pub use sha2::{Sha256, Sha512};
