@@ -1,6 +1,6 @@
 -- Matrices of whole numbers modulo 2 ^ 64, as lists of rows.
 use Rattle.std.specs.List.{range_with_len, sum_by, zip}
-use Rattle.std.specs.Prelude.{ℕ, ◌+◌, ◌*◌, ◌%◌, ◌^◌, List, fold, map, slice_index}
+use Rattle.std.specs.Prelude.{ℕ, ◌*◌, ◌%◌, ◌^◌, List, map, slice_index}
 
 -- a row times the column of a matrix at j: the sum of the products of their numbers, place by place
 abbrev pub row_times_column : List ℕ → List (List ℕ) → ℕ → ℕ
@@ -9,7 +9,3 @@ row_times_column row matrix j = sum_by (λ p. p.0 * slice_index p.1 j) (zip row 
 -- the matrix whose number in row i and column j is row i of left times column j of right, for the columns below width
 abbrev pub matrix_product : ℕ → List (List ℕ) → List (List ℕ) → List (List ℕ)
 matrix_product width left right = map (λ row. map (row_times_column row right) (range_with_len 0 width)) left
-
--- the sum of the products, place by place, by operations that wrap
-abbrev pub dot_wrapping : List ℕ → List ℕ → ℕ
-dot_wrapping left right = fold (λ total x. (total + x) % 2 ^ 64) 0 (map (λ p. p.0 * p.1 % 2 ^ 64) (zip left right))

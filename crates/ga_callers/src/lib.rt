@@ -31,8 +31,6 @@ mod macros;
 #[cfg(test)]
 mod matrix;
 #[cfg(test)]
-mod matrix_of_rows;
-#[cfg(test)]
 mod places;
 #[cfg(test)]
 mod plain_calls;

@@ -1,4 +1,5 @@
 mod EntryLemmas
 pub mod KeyTableLemmas
+pub mod MatrixLemmas
 pub mod SearchLemmas
 pub mod UdpLemmas

@@ -7,11 +7,15 @@ mod block_buffer;
 #[cfg(test)]
 mod blocks;
 #[cfg(test)]
+mod ethernet;
+#[cfg(test)]
 mod hash_function;
 #[cfg(test)]
 mod hmac;
 #[cfg(test)]
 mod key_table;
+#[cfg(test)]
+mod matrix;
 #[cfg(test)]
 mod record_block;
 #[cfg(test)]

@@ -1,0 +1,30 @@
+//! Matrices, read, turned and multiplied by hand.
+use ga_uses::matrix::{Matrix, Row, product};
+use generic_array::{U2, U3, arr};
+
+/// The rows 1 2 3 and 4 5 6.
+fn counted() -> Matrix<U2, U3> {
+    Matrix::new(arr![Row::new(arr![1, 2, 3]), Row::new(arr![4, 5, 6])])
+}
+
+#[test]
+fn a_matrix_is_read_and_turned(rt: HostRuntime) {
+    let matrix = counted();
+    assert!(rt; matrix.at(1, 2) == 6);
+    let turned = matrix.transposed();
+    assert!(rt; turned.at(2, 1) == 6 && turned.at(0, 1) == 4);
+    let zeros: Matrix<U2, U3> = Matrix::zeros();
+    assert!(rt; zeros.at(1, 1) == 0);
+}
+
+#[test]
+fn matrices_are_multiplied(rt: HostRuntime) {
+    let right: Matrix<U3, U2> = Matrix::new(arr![
+        Row::new(arr![7, 8]),
+        Row::new(arr![9, 10]),
+        Row::new(arr![11, 12])
+    ]);
+    let made = product(&counted(), &right);
+    assert!(rt; made.at(0, 0) == 58 && made.at(0, 1) == 64);
+    assert!(rt; made.at(1, 0) == 139 && made.at(1, 1) == 154);
+}
