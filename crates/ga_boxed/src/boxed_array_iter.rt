@@ -146,19 +146,17 @@ impl<T: Drop> BoxedArrayIter<T> {
     }
 
     /// The last item that is left. The others are dropped; nothing else takes time.
-    pub fn last(self) -> Option<T>
+    pub fn last(mut self) -> Option<T>
         ensures { result ≡ slice_get self (length self - 1) }
     {
-        let mut items = self;
-        items.next_back()
+        self.next_back()
     }
 
     /// The number of items that are left, which are dropped; nothing else takes time.
     pub fn count(self) -> usize
         ensures { result ≡ length self }
     {
-        let items = self;
-        items.len()
+        self.len()
     }
 
     /// Folds the items that are left into one value, from the front, starting from `init`. One
@@ -173,14 +171,13 @@ impl<T: Drop> BoxedArrayIter<T> {
 
     /// `fold` that borrows the closure, which can be used again in the state that it reached. One
     /// pass.
-    pub fn fold_by<A, F: FnMut(A, T) -> A>(self, init: A, f: &mut F) -> A
+    pub fn fold_by<A, F: FnMut(A, T) -> A>(mut self, init: A, f: &mut F) -> A
         requires callable { CallableInFold F.pre F.step f.old init self }
         ensures run { FoldRun F.step f.old init self result f.new }
         ensures acts { (h : A → T → A) → ActsAsOnTwo F.FnMut f.old h → result ≡ fold h init self }
     {
-        let mut items = self;
         let mut answer = init;
-        while let Some(item) = items.next() {
+        while let Some(item) = self.next() {
             answer = f(answer, item);
         }
         answer
@@ -197,14 +194,13 @@ impl<T: Drop> BoxedArrayIter<T> {
 
     /// `rfold` that borrows the closure, which can be used again in the state that it reached. One
     /// pass.
-    pub fn rfold_by<A, F: FnMut(A, T) -> A>(self, init: A, f: &mut F) -> A
+    pub fn rfold_by<A, F: FnMut(A, T) -> A>(mut self, init: A, f: &mut F) -> A
         requires callable { CallableInFold F.pre F.step f.old init (reverse self) }
         ensures run { FoldRun F.step f.old init (reverse self) result f.new }
         ensures acts { (h : A → T → A) → ActsAsOnTwo F.FnMut f.old h → result ≡ fold h init (reverse self) }
     {
-        let mut items = self;
         let mut answer = init;
-        while let Some(item) = items.next_back() {
+        while let Some(item) = self.next_back() {
             answer = f(answer, item);
         }
         answer

@@ -88,12 +88,11 @@ impl<T: Default + Drop, N: ArrayLength<T>> GenericArray<T, N> {
     /// Allocates nothing if `N` is 0. The counterpart of `From<GenericArray<T, N>>` for `Vec<T>`.
     ///
     /// Moves each item once.
-    pub fn into_vec(self, alloc: Global) -> Result<Vec<T>, AllocError>
+    pub fn into_vec(mut self, alloc: Global) -> Result<Vec<T>, AllocError>
         ensures ok { IfOk result (λ items. items.items ≡ self) }
         ensures empty { N.USIZE ≡ 0 → IsOk result }
     {
-        let mut array = self;
-        let slots = array.as_mut_slice();
+        let slots = self.as_mut_slice();
         let mut items = Vec::with_capacity(alloc, N::USIZE)?;
         for slot in slots.iter_mut() {
             items.push_reserved(mem::take(slot));

@@ -35,16 +35,18 @@ impl<T: Default + Drop, N: ArrayLength<T>> GenericArray<T, N> {
 
     /// `map_inline` with a borrowed closure, which can be used again in the state that it reached.
     #[inline(always)]
-    pub fn map_inline_by<U: Default + Drop, F: FnMut(T) -> U>(self, f: &mut F) -> GenericArray<U, N>
+    pub fn map_inline_by<U: Default + Drop, F: FnMut(T) -> U>(
+        mut self,
+        f: &mut F,
+    ) -> GenericArray<U, N>
     where
         N: ArrayLength<U>,
         requires callable { MayCallOver F.pre F.step f.old self }
         ensures run { ClosureRun F.step f.old self result f.new }
         ensures acts { (h : T → U) → ActsAs F.FnMut f.old h → result ≡ map h self }
     {
-        let mut items = self;
         let mut store: <N as ArrayLength<U>>::ArrayType = Store::filled();
-        write_mapped(items.as_mut_slice(), store.as_mut_slice(), f);
+        write_mapped(self.as_mut_slice(), store.as_mut_slice(), f);
         GenericArray::of_store(store)
     }
 
@@ -68,7 +70,7 @@ impl<T: Default + Drop, N: ArrayLength<T>> GenericArray<T, N> {
     /// `try_map_inline` with a borrowed closure, which can be used again in the state that it reached.
     #[inline(always)]
     pub fn try_map_inline_by<U: Default + Drop, F: FnMut(T) -> Result<U, E>, E>(
-        self,
+        mut self,
         f: &mut F,
     ) -> Result<GenericArray<U, N>, E>
     where
@@ -77,9 +79,8 @@ impl<T: Default + Drop, N: ArrayLength<T>> GenericArray<T, N> {
         ensures run { FirstErrorRun F.step f.old self result f.new }
         ensures acts { (h : T → Result U E) → ActsAs F.FnMut f.old h → result ≡ try_map h self }
     {
-        let mut items = self;
         let mut store: <N as ArrayLength<U>>::ArrayType = Store::filled();
-        match try_write_mapped(items.as_mut_slice(), store.as_mut_slice(), f) {
+        match try_write_mapped(self.as_mut_slice(), store.as_mut_slice(), f) {
             Ok(()) => Ok(GenericArray::of_store(store)),
             Err(error) => Err(error),
         }
@@ -107,8 +108,8 @@ impl<T: Default + Drop, N: ArrayLength<T>> GenericArray<T, N> {
     /// `zip_inline` with a borrowed closure, which can be used again in the state that it reached.
     #[inline(always)]
     pub fn zip_inline_by<B: Default + Drop, U: Default + Drop, F: FnMut(T, B) -> U>(
-        self,
-        rhs: GenericArray<B, N>,
+        mut self,
+        mut rhs: GenericArray<B, N>,
         f: &mut F,
     ) -> GenericArray<U, N>
     where
@@ -117,12 +118,10 @@ impl<T: Default + Drop, N: ArrayLength<T>> GenericArray<T, N> {
         ensures run { ClosureRun (CallOnPair F.step) f.old (zip self rhs) result f.new }
         ensures acts { (h : T × B → U) → ActsOnPair F.step f.old h → result ≡ map h (zip self rhs) }
     {
-        let mut left = self;
-        let mut right = rhs;
         let mut store: <N as ArrayLength<U>>::ArrayType = Store::filled();
         write_zipped(
-            left.as_mut_slice(),
-            right.as_mut_slice(),
+            self.as_mut_slice(),
+            rhs.as_mut_slice(),
             store.as_mut_slice(),
             f,
         );
@@ -151,7 +150,7 @@ impl<T: Default + Drop, N: ArrayLength<T>> GenericArray<T, N> {
     /// `zip_inline_ref` with a borrowed closure, which can be used again in the state that it reached.
     #[inline(always)]
     pub fn zip_inline_ref_by<B, U: Default + Drop, F: FnMut(T, &B) -> U>(
-        self,
+        mut self,
         rhs: GenericArrayRef<'_, B, N>,
         f: &mut F,
     ) -> GenericArray<U, N>
@@ -164,10 +163,9 @@ impl<T: Default + Drop, N: ArrayLength<T>> GenericArray<T, N> {
         ensures acts { ZipsAs (λ item. item) (λ item. item.now) F.step f.old self
             (items_of_view rhs.entry) result }
     {
-        let mut left = self;
         let mut store: <N as ArrayLength<U>>::ArrayType = Store::filled();
         write_zipped_ref(
-            left.as_mut_slice(),
+            self.as_mut_slice(),
             rhs.into_slice(),
             store.as_mut_slice(),
             f,

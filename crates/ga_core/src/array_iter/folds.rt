@@ -21,15 +21,14 @@ impl<T: Default + Drop, N: ArrayLength<T>> GenericArrayIter<T, N> {
 
     /// `fold` that borrows the closure, which can be used again in the state that it reached. One
     /// pass.
-    pub fn fold_by<A, F: FnMut(A, T) -> A>(self, init: A, f: &mut F) -> A
+    pub fn fold_by<A, F: FnMut(A, T) -> A>(mut self, init: A, f: &mut F) -> A
         requires callable { CallableInFold F.pre F.step f.old init self }
         ensures run { FoldRun F.step f.old init self result f.new }
         ensures acts { (h : A → T → A) → ActsAsOnTwo F.FnMut f.old h → result ≡ fold h init self }
     {
-        let mut items = self;
         let mut answer = init;
-        let (front, back) = (items.front, items.back);
-        let slots = items.store.as_mut_slice();
+        let (front, back) = (self.front, self.back);
+        let slots = self.store.as_mut_slice();
         for slot in slots[front..back].iter_mut() {
             answer = f(answer, mem::take(slot));
         }
@@ -47,15 +46,14 @@ impl<T: Default + Drop, N: ArrayLength<T>> GenericArrayIter<T, N> {
 
     /// `rfold` that borrows the closure, which can be used again in the state that it reached. One
     /// pass.
-    pub fn rfold_by<A, F: FnMut(A, T) -> A>(self, init: A, f: &mut F) -> A
+    pub fn rfold_by<A, F: FnMut(A, T) -> A>(mut self, init: A, f: &mut F) -> A
         requires callable { CallableInFold F.pre F.step f.old init (reverse self) }
         ensures run { FoldRun F.step f.old init (reverse self) result f.new }
         ensures acts { (h : A → T → A) → ActsAsOnTwo F.FnMut f.old h → result ≡ fold h init (reverse self) }
     {
-        let mut items = self;
         let mut answer = init;
-        let (front, back) = (items.front, items.back);
-        let slots = items.store.as_mut_slice();
+        let (front, back) = (self.front, self.back);
+        let slots = self.store.as_mut_slice();
         for index in (front..back).rev() {
             answer = f(answer, mem::take(&mut slots[index]));
         }

@@ -26,6 +26,20 @@ impl<T: Default + Drop, N: ArrayLength<T>> GenericArrayIter<T, N> {
         self.next_back()
     }
 
+    /// The number of items that are left, which are dropped; nothing else takes time.
+    pub fn count(self) -> usize
+        ensures { result ≡ length self }
+    {
+        self.len()
+    }
+
+    /// The last item that is left. The others are dropped; nothing else takes time.
+    pub fn last(mut self) -> Option<T>
+        ensures { result ≡ slice_get self (length self - 1) }
+    {
+        self.next_back()
+    }
+
     // Drops the first `passed` items, in order.
     #[inline]
     fn pass_front(&mut self, passed: usize)
@@ -46,21 +60,5 @@ impl<T: Default + Drop, N: ArrayLength<T>> GenericArrayIter<T, N> {
         let back = self.back - passed;
         blank_in(&mut self.store, back, self.back);
         self.back = back;
-    }
-
-    /// The last item that is left. The others are dropped; nothing else takes time.
-    pub fn last(self) -> Option<T>
-        ensures { result ≡ slice_get self (length self - 1) }
-    {
-        let mut items = self;
-        items.next_back()
-    }
-
-    /// The number of items that are left, which are dropped; nothing else takes time.
-    pub fn count(self) -> usize
-        ensures { result ≡ length self }
-    {
-        let items = self;
-        items.len()
     }
 }

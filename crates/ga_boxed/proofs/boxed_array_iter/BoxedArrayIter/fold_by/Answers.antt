@@ -11,7 +11,7 @@ loop-item-preserved g c =
     let so_far = c.loop-item.invariant in
     let item = c.in-Some.item in (
       so_far.0 ++ item ∷ [],
-      taken-more c.args.self so_far.0 c.loop-item.items item c.next.new.self so_far.1 c.in-Some.ensures.steps,
+      taken-more c.args.self so_far.0 c.loop-item.self item c.next.new.self so_far.1 c.in-Some.ensures.steps,
       FoldsTo-push _ (c.args.f.now, c.args.init) so_far.0 (c.loop-item.f, c.loop-item.answer) item (c.f-answer.new.self, c.f-answer.result) so_far.2 c.f-answer.ensures,
     )
 

@@ -10,7 +10,7 @@ pub loop-item-preserved : goal.loop-item-preserved
 loop-item-preserved g c =
     let so_far = c.loop-item.invariant in
     let item = c.in-Some.item in
-    let left = c.loop-item.items in
+    let left = c.loop-item.self in
     let others = c.next_back.new.self in (
       so_far.0 ++ item ∷ [],
       taken-more (reverse c.args.self) so_far.0 (reverse left) item (reverse others) so_far.1 (next_back-reversed left (Some item) others c.in-Some.ensures.steps),

@@ -7,7 +7,7 @@ use Rattle.std.proofs.lemmas.Fn.{FoldsTo-push}
 use Rattle.std.proofs.lemmas.List.{append-nil, drop-set-lt, drop_all, drop_more}
 
 pub loop-slot-init : goal.loop-slot-init
-loop-slot-init g c = ([], sym c.items.view_is ∙ ap (λ l. take (c.items.inside.back - c.items.inside.front) (drop c.items.inside.front l)) (sym c.as_mut_slice-slots.ensures.value), refl)
+loop-slot-init g c = ([], sym c.self.view_is ∙ ap (λ l. take (c.self.inside.back - c.self.inside.front) (drop c.self.inside.front l)) (sym c.as_mut_slice-slots.ensures.value), refl)
 
 pub f-answer-requires : goal.f-answer-requires
 f-answer-requires g c =

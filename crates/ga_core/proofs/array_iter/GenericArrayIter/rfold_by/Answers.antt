@@ -11,7 +11,7 @@ pub f-answer-requires : goal.f-answer-requires
 f-answer-requires g c =
     let so_far = c.loop-index.invariant in
     let slots = c.loop-index.slots in
-    let front = c.items.inside.front in
+    let front = c.self.inside.front in
     let back = c.loop-index.index in
     let blank = c.take.new.dest in
     let count = ap length c.as_mut_slice-slots.ensures.value in
@@ -24,7 +24,7 @@ loop-index-preserved g c =
     let so_far = c.loop-index.invariant in
     let item = c.take.result in
     let slots = c.loop-index.slots in
-    let front = c.items.inside.front in
+    let front = c.self.inside.front in
     let back = c.loop-index.index in
     let blank = c.take.new.dest in
     let count = ap length c.as_mut_slice-slots.ensures.value in
