@@ -10,7 +10,9 @@ use crate::digits::decimal_digit;
 use generic_array::functional::{
     FunctionalSequence, MappedError, MappedGenericSequence, MappedPlace, MappedSequence,
 };
-use generic_array::sequence::{FromFallibleIterator, GenericSequence, SequenceItem};
+use generic_array::sequence::{
+    FromFallibleIterator, GenericSequence, Lengthen, SequenceItem, Shorten,
+};
 use generic_array::{AllocError, BoxedArray, FillError, GenericArray, U0, U3};
 use std::convert::AsSlice;
 
@@ -35,6 +37,16 @@ fn places<S: GenericSequence<usize>>(place: S::Place) -> Result<S::Sequence, S::
     ensures given { S.IsPromised → IsOk result }
 {
     S::generate(place, |index| index)
+}
+
+// The last item popped and appended again, of whatever sequences these are.
+fn popped_and_appended<T, S: Shorten<T, L>, L: Lengthen<T, S>>(sequence: S) -> S
+    requires shorter { S.IsOneShorter }
+    requires longer { L.IsOneLonger }
+    ensures { S.items result ≡ S.items sequence }
+{
+    let (others, last) = sequence.pop_back();
+    others.append(last)
 }
 
 fn no_places<S: GenericSequence<usize>>(place: S::Place) -> Result<S::Sequence, S::Error>
