@@ -49,8 +49,8 @@ pub fn try_fold_by<T: Drop, A, E, N: Unsigned, F: FnMut(A, T) -> Result<A, E>>(
     array.try_fold_by(init, f)
 }
 
-/// Which call zips the two sides: the left one's, or `inverted_zip2` of the right one, with a closure that
-/// it takes or borrows.
+/// Which call zips the two sides: `zip` of the left one, or `inverted_zip2` of the right one, with a closure
+/// that it takes by value or borrows.
 #[derive(Clone, Copy)]
 pub enum ZipCall {
     Left,
