@@ -230,17 +230,18 @@ fn digits_of_text<S: FromFallibleIterator<u8>>(
     )
 }
 
-// A block that begins with a message, and is zero behind it.
+// A number's bytes behind zeros, as a field of fixed width has them.
 
-fn padded<N: ArrayLength<u8>>(message: &[u8]) -> GenericArray<u8, N>
+fn right_aligned<N: ArrayLength<u8>>(number: &[u8]) -> GenericArray<u8, N>
     requires fits { FitsInline N.USIZE }
-    requires room { length message.now ≤ N.USIZE }
-    ensures { result ≡ message.now ++ replicate (N.USIZE - length message.now) 0 }
+    requires room { length number.now ≤ N.USIZE }
+    ensures { result ≡ replicate (N.USIZE - length number.now) 0 ++ number.now }
 {
-    let mut block = GenericArray::default();
-    let (front, _zeros) = block.as_mut_slice().split_at_mut(message.len());
-    front.copy_from_slice(message);
-    block
+    let mut field = GenericArray::default();
+    let zeros = N::USIZE - number.len();
+    let (_zeros, back) = field.as_mut_slice().split_at_mut(zeros);
+    back.copy_from_slice(number);
+    field
 }
 
 /// Whether a key of three bytes is masked as each caller says.
@@ -280,7 +281,7 @@ fn numbers_are_right(alloc: Global) -> Result<bool, AllocError> {
     )
 }
 
-/// Whether text is read and padded as the callers say.
+/// Whether text is read and aligned as the callers say.
 fn text_is_right() -> bool {
     let digits = match digits_of(GenericArray::<u8, U3>::from_array(*b"190"), 10) {
         Ok(digits) => has(digits, &[1, 9, 0]),
@@ -291,7 +292,10 @@ fn text_is_right() -> bool {
         Err(byte) => byte == b'8',
     };
     let viewed = digits_of_view(GenericArrayRef::<u8, U3>::from_slice(b"190"), 10);
-    digits && refused && gives(viewed, &[1, 9, 0]) && has(padded::<U4>(b"ab"), &[97, 98, 0, 0])
+    digits
+        && refused
+        && gives(viewed, &[1, 9, 0])
+        && has(right_aligned::<U4>(b"ab"), &[0, 0, 97, 98])
 }
 
 #[test]

@@ -1,6 +1,6 @@
 //! Boxed arrays: builds, writes and walks, and threads.
 ghost use Rattle.generic_array.specs.FillAnswer.{fill_answer};
-ghost use Rattle.std.specs.Prelude.{◌≡◌, ◌∷◌, [], ◌^◌, ◌<◌, ◌↔◌, ◌⊎◌, IfErr, IfOk, IsOk, Ok, OnOk, length, reverse, slice_set, sum};
+ghost use Rattle.std.specs.Prelude.{◌≡◌, ◌%◌, ◌∷◌, [], ◌^◌, ◌<◌, ◌↔◌, ◌⊎◌, IfErr, IfOk, IsOk, Ok, OnOk, length, reverse, slice_set, sum};
 
 use crate::answers::gives;
 use crate::digits::decimal_digit;
@@ -118,13 +118,12 @@ fn four_and_six(alloc: Global) -> Result<BoxedArray<u8, U2>, AllocError>
     Ok(array)
 }
 
-fn total<N: Unsigned>(array: BoxedArray<u32, N>) -> u32
-    requires fits { sum array < 2 ^ 32 }
-    ensures { result ≡ sum array }
+fn total_that_wraps<N: Unsigned>(array: BoxedArray<u32, N>) -> u32
+    ensures { result ≡ sum array % 2 ^ 32 }
 {
-    let mut total = 0;
+    let mut total = 0u32;
     for item in array {
-        total += item;
+        total = total.wrapping_add(item);
     }
     total
 }
@@ -220,7 +219,7 @@ fn callers_that_write_and_walk_get_what_their_contracts_say(rt: HostRuntime) {
     second_place_set(&mut pair);
     assert_eq!(rt; pair.as_slice(), [4, 6].as_slice());
     let array = boxed_one_two_three(alloc).expect(&rt, "no memory");
-    assert_eq!(rt; total(array), 6);
+    assert_eq!(rt; total_that_wraps(array), 6);
     let array: BoxedArray<u8, U3> = box_arr!(alloc, [1, 2, 3]).expect(&rt, "no memory");
     let turned = reversed(alloc, array);
     assert!(rt; turned.is_ok_and(|built| gives(built, &[3, 2, 1])));

@@ -110,14 +110,13 @@ pub fn boxed_fill_by_value<T: Numbered + Drop, N: Unsigned, I: Iterator<Item = T
     boxed_outcome(BoxedArray::<T, N>::try_boxed_from_iter(alloc, items))
 }
 
-/// `extend` of a new builder.
+/// `extend` of a builder.
 pub fn builder_fill<T: Numbered + Drop, N: ArrayLength<T>, I: Iterator<Item = T>>(
+    mut builder: ArrayBuilder<T, N>,
     items: &mut I,
 ) -> Outcome
-    requires fits { FitsInline N.USIZE }
     requires can { I.can_next items.old }
 {
-    let mut builder: ArrayBuilder<T, N> = ArrayBuilder::new();
     builder.extend(items);
     builder_outcome(builder)
 }
@@ -195,16 +194,14 @@ where
     kind_outcome(S::from_fallible_iter(place, items))
 }
 
-/// `try_extend` of a new builder.
+/// `try_extend` of a builder.
 pub fn builder_fallible_fill<
     T: Numbered + Drop,
     N: ArrayLength<T>,
     I: Iterator<Item = Result<T, u32>>,
->(items: &mut I) -> Outcome
-    requires fits { FitsInline N.USIZE }
+>(mut builder: ArrayBuilder<T, N>, items: &mut I) -> Outcome
     requires can { I.can_next items.old }
 {
-    let mut builder: ArrayBuilder<T, N> = ArrayBuilder::new();
     match builder.try_extend(items) {
         Ok(()) => builder_outcome(builder),
         Err(error) => Outcome::Error(error),

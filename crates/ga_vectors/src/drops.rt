@@ -18,7 +18,7 @@ fn until_the_third<'a>(calls: &Cell<u32>, item: Counted<'a>) -> Result<Counted<'
 fn of_an_inline_map() -> (u32, u32) {
     let (counts, calls) = (Counts::new(), Cell::new(0));
     let four = counted_from::<U4>(&counts, 1);
-    let error = error_of(inline::try_map(four, |item| until_the_third(&calls, item)));
+    let error = error_of(inline::try_map(four, |item| until_the_third(&calls, item), false));
     (error, counts.drops())
 }
 
@@ -27,7 +27,7 @@ fn of_a_boxed_map(alloc: Global) -> Result<(u32, u32), AllocError> {
     let (counts, calls) = (Counts::new(), Cell::new(0));
     let four = boxed_counted_from::<U4>(alloc, &counts, 1)?;
     let answer = |item| until_the_third(&calls, item);
-    let error = error_of(boxed::try_map(alloc, four, answer)?);
+    let error = error_of(boxed::try_map(alloc, four, answer, false)?);
     Ok((error, counts.drops()))
 }
 
@@ -45,7 +45,7 @@ fn of_a_fold() -> (u32, u32) {
     let (counts, calls) = (Counts::new(), Cell::new(0));
     let four = counted_from::<U4>(&counts, 1);
     let answer = |_before, item| until_the_third(&calls, item);
-    let error = error_of(inline::try_fold(four, Counted::new(&counts, 0), answer));
+    let error = error_of(inline::try_fold(four, Counted::new(&counts, 0), answer, false));
     (error, counts.drops())
 }
 

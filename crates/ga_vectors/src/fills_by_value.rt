@@ -10,7 +10,7 @@ use crate::counted::{Counted, Counts};
 use crate::left_over::{boxed_four, inline_four};
 use crate::scripted::{Given, Numbered, Script, Scripted, Strict};
 use generic_array::{
-    AllocError, ArrayLength, BoxedArray, BoxedArrayIter, Const, GenericArray, U2, U4,
+    AllocError, ArrayBuilder, ArrayLength, BoxedArray, BoxedArrayIter, Const, GenericArray, U2, U4,
 };
 use std::alloc::Global;
 use std::process::Abort;
@@ -48,11 +48,14 @@ where
         alloc,
         Strict::new(rt, Scripted::new(script, counts)),
     );
-    let extended = builder_fill::<T, N, _>(&mut Strict::new(rt, Scripted::new(script, counts)));
-    let extended_up = builder_fallible_fill::<T, N, _>(&mut Strict::new(
-        rt,
-        Scripted::new(script, counts),
-    ));
+    let extended = builder_fill::<T, N, _>(
+        ArrayBuilder::new(),
+        &mut Strict::new(rt, Scripted::new(script, counts)),
+    );
+    let extended_up = builder_fallible_fill::<T, N, _>(
+        ArrayBuilder::new(),
+        &mut Strict::new(rt, Scripted::new(script, counts)),
+    );
     (
         [inline, boxed, tried, tried_boxed, kind, boxed_kind],
         [extended, extended_up],

@@ -113,7 +113,7 @@ fn inline_map(refused: u32) -> End {
     let (answers, entries) = (Counts::new(), Counts::new());
     let failing = Failing::at(refused, &answers);
     let five = counted_from::<U5>(&entries, 1);
-    let built = inline::try_map_by(five, &mut |item: Counted| failing.answer(item.place()));
+    let built = inline::try_map(five, |item: Counted| failing.answer(item.place()), true);
     end_of(built, &failing, &entries)
 }
 
@@ -140,8 +140,8 @@ fn boxed_map(alloc: Global, refused: u32) -> Result<End, AllocError> {
     let (answers, entries) = (Counts::new(), Counts::new());
     let failing = Failing::at(refused, &answers);
     let five = boxed_counted_from::<U5>(alloc, &entries, 1)?;
-    let mut answer = |item: Counted| failing.answer(item.place());
-    let built = boxed::try_map_by(alloc, five, &mut answer)?;
+    let answer = |item: Counted| failing.answer(item.place());
+    let built = boxed::try_map(alloc, five, answer, true)?;
     Ok(end_of(built, &failing, &entries))
 }
 
@@ -162,8 +162,8 @@ fn inline_fold(refused: u32) -> End {
     let (answers, entries) = (Counts::new(), Counts::new());
     let failing = Failing::at(refused, &answers);
     let five = counted_from::<U5>(&entries, 1);
-    let mut answer = |_before: Counted, item: Counted| failing.answer(item.place());
-    let built = inline::try_fold_by(five, Counted::new(&answers, 0), &mut answer);
+    let answer = |_before: Counted, item: Counted| failing.answer(item.place());
+    let built = inline::try_fold(five, Counted::new(&answers, 0), answer, true);
     end_of(built, &failing, &entries)
 }
 

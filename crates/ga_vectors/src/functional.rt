@@ -1,5 +1,6 @@
 //! Maps and zips of the traits: what they return, and of what kind. Where they stop is told in
 //! `first_errors`, and what is made boxed of inline items and the reverse in `refused_memory::zips`.
+use crate::calls::boxed::ZipCall;
 use crate::calls::{boxed, inline, views};
 use crate::items::from_one;
 use crate::scripted::next_digit;
@@ -32,7 +33,7 @@ fn two(first: u32, second: u32) -> GenericArray<u32, U2> {
 /// 3 and 5 in a block, less 1 and 2.
 fn boxed_zip(alloc: Global) -> Result<BoxedArray<u32, U2>, AllocError> {
     let left = BoxedArray::from_inline(alloc, two(3, 5))?;
-    boxed::zip(alloc, left, two(1, 2), u32::wrapping_sub)
+    boxed::zip(alloc, left, two(1, 2), u32::wrapping_sub, ZipCall::Left)
 }
 
 #[test]

@@ -1,6 +1,6 @@
 //! Hex text: its digits, how far the limit lets them come, and how often the writer is called.
 use crate::hex_writers::{digits_of, rising};
-use crate::sinks::{Sink, WHOLE};
+use crate::sinks::{Manner, Sink};
 use generic_array::AllocError;
 use generic_array::hex_text::write_hex;
 use std::alloc::Global;
@@ -8,7 +8,7 @@ use std::test::Fail;
 
 /// Whether the bytes are written as this text, in so many calls of the writer.
 fn is_written(bytes: &[u8], upper: bool, limit: Option<usize>, text: &[u8], calls: usize) -> bool {
-    let mut sink = Sink::new(text, WHOLE, usize::MAX);
+    let mut sink = Sink::new(text, Manner::Whole, usize::MAX);
     let answer = write_hex(bytes, upper, limit, &mut sink);
     answer.is_ok() && sink.is_exact && sink.to_come.is_empty() && sink.calls == calls
 }
@@ -81,7 +81,7 @@ fn few_bytes_are_cut_at_each_limit(rt: HostRuntime) -> Result<(), Fail> {
 fn digits_before(alloc: Global, fails_at: usize) -> Result<Option<usize>, AllocError> {
     let bytes = rising(alloc, 1025)?;
     let text = digits_of(alloc, bytes.as_slice(), false)?;
-    let mut sink = Sink::new(text.as_slice(), WHOLE, fails_at);
+    let mut sink = Sink::new(text.as_slice(), Manner::Whole, fails_at);
     let is_answered = write_hex(bytes.as_slice(), false, None, &mut sink).is_err();
     if is_answered && sink.is_exact && sink.calls == fails_at {
         Ok(Some(text.len().saturating_sub(sink.to_come.len())))

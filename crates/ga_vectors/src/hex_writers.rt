@@ -1,5 +1,5 @@
 //! Hex text through writers that take it in parts, are interrupted, or fail at one of their calls.
-use crate::sinks::{BYTE_BY_BYTE, INTERRUPTED, Manner, NOTHING, Sink, WHOLE};
+use crate::sinks::{Manner, Sink};
 use generic_array::hex_text::write_hex;
 use generic_array::{AllocError, arr};
 use std::alloc::Global;
@@ -46,7 +46,7 @@ fn faults(
                 fault.kind() == ErrorKind::BrokenPipe && sink.calls == fails_at
             }
             Err(fault) => {
-                fault.kind() == ErrorKind::WriteZero && manner.step == 0 && sink.calls == 1
+                fault.kind() == ErrorKind::WriteZero && manner == Manner::Nothing && sink.calls == 1
             }
         };
         if !is_right || !sink.is_exact {
@@ -64,10 +64,11 @@ fn faults(
 /// Of a long text that is taken byte by byte not each write fails, for the time that it takes.
 fn each_fails(call: Call<'_>, limit: Option<usize>, text: &[u8], writes: usize) -> bool {
     let stride = if text.len() > 200 { 61 } else { 1 };
-    faults(call, limit, text, WHOLE, 1) == Some(writes)
-        && faults(call, limit, text, BYTE_BY_BYTE, stride) == Some(text.len().div_ceil(stride))
-        && faults(call, limit, text, INTERRUPTED, 1) == Some(writes.wrapping_mul(2))
-        && faults(call, limit, text, NOTHING, 1) == Some(writes.min(1))
+    faults(call, limit, text, Manner::Whole, 1) == Some(writes)
+        && faults(call, limit, text, Manner::ByteByByte, stride)
+            == Some(text.len().div_ceil(stride))
+        && faults(call, limit, text, Manner::Interrupted, 1) == Some(writes.wrapping_mul(2))
+        && faults(call, limit, text, Manner::Nothing, 1) == Some(writes.min(1))
 }
 
 /// So many bytes, of which each is one more than the one before it, until they begin anew.

@@ -8,7 +8,7 @@ use crate::builds::{
 };
 use crate::counted::{Counted, Counts};
 use crate::scripted::{Given, Numbered, Script, Scripted};
-use generic_array::{ArrayLength, BoxedArray, Const, GenericArray};
+use generic_array::{ArrayBuilder, ArrayLength, BoxedArray, Const, GenericArray};
 use std::alloc::Global;
 
 /// What a build came to, how often it asked, how many items were dropped, and the number that its
@@ -62,7 +62,7 @@ fn fill<'a, T: Given<'a> + Numbered + Default, N: ArrayLength<T>>(
     let outcome = match filled {
         Filled::Inline => inline_fill::<T, N, _>(&mut items),
         Filled::Boxed => boxed_fill::<T, N, _>(alloc, &mut items),
-        _ => builder_fill::<T, N, _>(&mut items),
+        _ => builder_fill::<T, N, _>(ArrayBuilder::new(), &mut items),
     };
     run_of(outcome, items)
 }
@@ -84,7 +84,7 @@ where
         Filled::Boxed => boxed_fallible_fill::<T, N, _>(alloc, &mut items),
         Filled::InlineKind => kind_fill::<T, GenericArray<T, N>, _>((), &mut items),
         Filled::BoxedKind => kind_fill::<T, BoxedArray<T, N>, _>(alloc, &mut items),
-        Filled::Builder => builder_fallible_fill::<T, N, _>(&mut items),
+        Filled::Builder => builder_fallible_fill::<T, N, _>(ArrayBuilder::new(), &mut items),
     };
     run_of(outcome, items)
 }

@@ -117,16 +117,23 @@ fn are_zipped_and_folded() -> bool {
     is_none(zipped) && is_none(inverted) && total == 5 && right_total == 6 && calls == 0
 }
 
-/// Whether a map of a view makes no call.
+/// Whether a map of a view, and the fold of what it makes, make no call.
 fn is_view_mapped() -> bool {
-    let mut calls = 0u32;
-    let mut count = |item: &u32| {
-        calls = calls.wrapping_add(1);
-        *item
-    };
+    let (mut maps, mut folds) = (0u32, 0u32);
     let none = NoItems::default();
-    let mapped = views::map_by(none.view(), &mut count);
-    is_none(mapped) && calls == 0
+    let total = views::map_total_by(
+        none.view(),
+        &mut |item: &u32| {
+            maps = maps.wrapping_add(1);
+            *item
+        },
+        5,
+        &mut |total: u32, item: u32| {
+            folds = folds.wrapping_add(1);
+            total.wrapping_add(item)
+        },
+    );
+    total == 5 && maps == 0 && folds == 0
 }
 
 fn always_fails(item: u32) -> Result<u32, u32> {
@@ -139,8 +146,8 @@ fn always_stops(_total: u32, item: u32) -> Result<u32, u32> {
 
 /// Whether maps, zips and folds of arrays and views make no call.
 fn are_mapped() -> bool {
-    let tried = inline::try_map(NoItems::default(), always_fails);
-    let stopped = inline::try_fold(NoItems::default(), 7, always_stops);
+    let tried = inline::try_map(NoItems::default(), always_fails, false);
+    let stopped = inline::try_fold(NoItems::default(), 7, always_stops, false);
     tried.is_ok_and(is_none) && stopped == Ok(7) && are_zipped_and_folded() && is_view_mapped()
 }
 

@@ -112,24 +112,25 @@ fn random_walks_answer_alike_and_drop_each_item_once(rt: HostRuntime) -> Result<
 }
 
 /// Whether a random number of puts and takes, in a block of eight places, leaves the items between those
-/// that went. What is left is dropped.
+/// that went, and each is dropped once in the end. Counts what was put.
 fn block_is_right(
     alloc: Global,
     numbers: &mut Numbers,
-    counts: &Counts,
     made: &mut u32,
 ) -> Result<bool, AllocError> {
+    let counts = Counts::new();
     let mut block: LiveBlock<Counted> = LiveBlock::new(alloc, 8)?;
     let mut left = Left { first: 1, end: 1 };
+    let mut puts = 0u32;
     for _step in 0..numbers.below(20) {
         let (wanted, taken) = match numbers.below(4) {
             0 => (left.taken(Step::Next), number_of(block.take_front())),
             1 => (left.taken(Step::NextBack), number_of(block.take_back())),
             _ => {
                 if block.room() > 0 {
-                    block.put(Counted::new(counts, left.end));
+                    block.put(Counted::new(&counts, left.end));
                     left.end = left.end.wrapping_add(1);
-                    *made = made.wrapping_add(1);
+                    puts = puts.wrapping_add(1);
                 }
                 (0, 0)
             }
@@ -138,17 +139,19 @@ fn block_is_right(
             return Ok(false);
         }
     }
-    Ok(block.as_slice().len() == left.end.wrapping_sub(left.first) as usize)
+    let is_left = block.as_slice().len() == left.end.wrapping_sub(left.first) as usize;
+    drop(block);
+    *made = made.wrapping_add(puts);
+    Ok(is_left && counts.drops() == puts)
 }
 
 #[test]
 fn random_puts_and_takes_of_a_block_drop_each_item_once(rt: HostRuntime) -> Result<(), Fail> {
     let mut numbers = Numbers::from_seed(8);
-    let counts = Counts::new();
     let mut made = 0u32;
     for round in 0..12_000u32 {
-        let is_right = block_is_right(rt.alloc(), &mut numbers, &counts, &mut made)?;
-        assert!(rt; is_right && counts.drops() == made, "round {round}");
+        let is_right = block_is_right(rt.alloc(), &mut numbers, &mut made)?;
+        assert!(rt; is_right, "round {round}");
     }
     assert!(rt; made > 30_000);
     Ok(())

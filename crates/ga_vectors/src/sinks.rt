@@ -2,31 +2,28 @@
 use std::io;
 use std::io::{ErrorKind, Write};
 
-/// At most `step` bytes are taken at a call. The first of each `period` calls is interrupted, none where
-/// that is 0.
-#[derive(Clone, Copy)]
-pub struct Manner {
-    pub step: usize,
-    pub period: usize,
+/// How a writer takes what it is given.
+#[derive(Clone, Copy, PartialEq, Eq)]
+pub enum Manner {
+    /// All bytes of each call.
+    Whole,
+    ByteByByte,
+    /// All bytes, and it is interrupted at every other call.
+    Interrupted,
+    Nothing,
 }
 
-/// Takes all bytes of each call.
-pub const WHOLE: Manner = Manner {
-    step: usize::MAX,
-    period: 0,
-};
-
-/// Takes one byte at a call.
-pub const BYTE_BY_BYTE: Manner = Manner { step: 1, period: 0 };
-
-/// Takes all bytes, and is interrupted at every other call.
-pub const INTERRUPTED: Manner = Manner {
-    step: usize::MAX,
-    period: 2,
-};
-
-/// Takes nothing.
-pub const NOTHING: Manner = Manner { step: 0, period: 0 };
+impl Manner {
+    /// How many bytes are taken at the most at the call of this number, or that it is interrupted.
+    fn limit(self, call: usize) -> io::Result<usize> {
+        match self {
+            Manner::Interrupted if call % 2 == 1 => Err(io::Error::from(ErrorKind::Interrupted)),
+            Manner::Interrupted | Manner::Whole => Ok(usize::MAX),
+            Manner::ByteByByte => Ok(1),
+            Manner::Nothing => Ok(0),
+        }
+    }
+}
 
 /// Compares what it takes with the text that is to come, counts its calls, and fails at one of them.
 #[derive(Drop)]
@@ -57,15 +54,13 @@ impl Write for Sink<'_> {
         if self.calls == self.fails_at {
             return Err(io::Error::from(ErrorKind::BrokenPipe));
         }
-        if self.calls.checked_rem(self.manner.period) == Some(1) {
-            return Err(io::Error::from(ErrorKind::Interrupted));
+        let count = buf.len().min(self.manner.limit(self.calls)?);
+        if self.to_come.starts_with(&buf[..count]) {
+            self.to_come = &self.to_come[count..];
+        } else {
+            self.is_exact = false;
         }
-        let taken = &buf[..buf.len().min(self.manner.step)];
-        match self.to_come.strip_prefix(taken) {
-            Some(to_come) => self.to_come = to_come,
-            None => self.is_exact = false,
-        }
-        Ok(taken.len())
+        Ok(count)
     }
 
     fn flush(&mut self) -> io::Result<()> {

@@ -8,8 +8,8 @@ use super::builds::build;
 use super::calls::{fold, map, try_fold, try_map, zip};
 use super::joined_runs::{folds_join, maps_join, try_folds_join, try_maps_join, zips_join};
 use super::shapes::{
-    append_then_pop_back, concat_then_split, flatten_then_unflatten, pop_back_then_append,
-    pop_front_then_prepend, prepend_then_pop_front, split_then_concat, unflatten_then_flatten,
+    concat_then_split, flatten_then_unflatten, pop_then_put, put_then_pop, split_then_concat,
+    unflatten_then_flatten,
 };
 use super::steps::walk;
 use crate::kinds::{boxed_one_two_three, four_five_six, one_two_three, stopped_at_two};
@@ -339,13 +339,13 @@ fn runs_join_at_each_kind(rt: HostRuntime) -> Result<(), Fail> {
 fn what_is_done_and_undone_is_as_it_was(rt: HostRuntime) {
     let four = [1, 2, 3, 4].as_slice();
     let one_to_four: GenericArray<u32, U4> = arr![1, 2, 3, 4];
-    let (array, item, sum) = append_then_pop_back::<u32, U4, U5, _, _>(one_to_four, 9, sum_of);
+    let (array, item, sum) = put_then_pop::<u32, U4, U5, _, _>(one_to_four, 9, false, sum_of);
     assert!(rt; item == 9 && sum == 19 && array.as_slice() == four);
-    let (item, array, sum) = prepend_then_pop_front::<u32, U4, U5, _, _>(array, 8, sum_of);
+    let (array, item, sum) = put_then_pop::<u32, U4, U5, _, _>(array, 8, true, sum_of);
     assert!(rt; item == 8 && sum == 18 && array.as_slice() == four);
-    let (array, sum) = pop_back_then_append::<u32, U4, U3, _, _>(array, sum_of);
+    let (array, sum) = pop_then_put::<u32, U4, U3, _, _>(array, false, sum_of);
     assert!(rt; sum == 6);
-    let (array, sum) = pop_front_then_prepend::<u32, U4, U3, _, _>(array, sum_of);
+    let (array, sum) = pop_then_put::<u32, U4, U3, _, _>(array, true, sum_of);
     assert!(rt; sum == 9);
     let (array, sums) = split_then_concat::<u32, U4, U2, U2, _, _>(array, |first, second| {
         (sum_of(first), sum_of(second))

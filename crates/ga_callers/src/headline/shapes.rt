@@ -6,88 +6,68 @@ ghost use Rattle.generic_array.specs.Length.{FitsInline};
 ghost use Rattle.generic_array.specs.Rows.{rows};
 ghost use Rattle.std.specs.Fn.{FnOnceReturnsAt, FnOnceReturnsAtPair};
 ghost use Rattle.std.specs.List.{flat_map};
-ghost use Rattle.std.specs.Prelude.{◌≡◌, ◌+◌, ◌*◌, [], ◌∷◌, ◌++◌, drop, take};
+ghost use Rattle.std.specs.Prelude.{◌≡◌, ◌+◌, ◌*◌, [], ◌∷◌, ◌++◌, drop, if◌then◌else◌, take};
 
 use generic_array::sequence::{Concat, Flatten, Lengthen, Shorten, Split, Unflatten};
 use generic_array::{ArrayLength, GenericArray, U2};
 
-/// An item appended and popped.
-pub fn append_then_pop_back<
+/// An item put at the back and popped there, or at the front where `at_front`.
+pub fn put_then_pop<
     T: Default + Drop,
     N: ArrayLength<T>,
     M: ArrayLength<T>,
     R,
     S: FnOnce(&[T]) -> R,
->(array: GenericArray<T, N>, item: T, see: S) -> (GenericArray<T, N>, T, R)
+>(array: GenericArray<T, N>, item: T, at_front: bool, see: S) -> (GenericArray<T, N>, T, R)
     requires one_longer { (M.USIZE ≡ N.USIZE + 1) × FitsInline M.USIZE }
     requires callable { S.IsAlwaysCallable see }
     ensures array { result.0 ≡ array }
     ensures item { result.1 ≡ item }
-    ensures between { FnOnceReturnsAt S.FnOnce see (array ++ item ∷ []) result.2 }
+    ensures between { FnOnceReturnsAt S.FnOnce see (if at_front then item ∷ array else (array ++ item ∷ [])) result.2 }
 {
-    let longer: GenericArray<T, M> = array.append(item);
+    let longer: GenericArray<T, M> = if at_front {
+        array.prepend(item)
+    } else {
+        array.append(item)
+    };
     let seen = see(longer.as_slice());
-    let (array, item) = longer.pop_back();
-    (array, item, seen)
+    if at_front {
+        let (item, array) = longer.pop_front();
+        (array, item, seen)
+    } else {
+        let (array, item) = longer.pop_back();
+        (array, item, seen)
+    }
 }
 
-/// The last item popped and appended.
-pub fn pop_back_then_append<
+/// The last item popped and appended, or the first popped and prepended where `at_front`.
+pub fn pop_then_put<
     T: Default + Drop,
     N: ArrayLength<T>,
     M: ArrayLength<T>,
     R,
     S: FnOnce(&[T]) -> R,
->(array: GenericArray<T, N>, see: S) -> (GenericArray<T, N>, R)
+>(array: GenericArray<T, N>, at_front: bool, see: S) -> (GenericArray<T, N>, R)
     requires one_shorter { N.USIZE ≡ M.USIZE + 1 }
     requires callable { S.IsAlwaysCallable see }
     ensures array { result.0 ≡ array }
-    ensures between { FnOnceReturnsAt S.FnOnce see (take M.USIZE array) result.1 }
+    ensures between { FnOnceReturnsAt S.FnOnce see (if at_front then drop 1 array else take M.USIZE array) result.1 }
 {
     // The slices know the lengths.
     let _ = array.as_slice();
-    let (others, last): (GenericArray<T, M>, T) = array.pop_back();
+    let (others, item): (GenericArray<T, M>, T) = if at_front {
+        let (first, others) = array.pop_front();
+        (others, first)
+    } else {
+        array.pop_back()
+    };
     let seen = see(others.as_slice());
-    (others.append(last), seen)
-}
-
-/// An item prepended and popped.
-pub fn prepend_then_pop_front<
-    T: Default + Drop,
-    N: ArrayLength<T>,
-    M: ArrayLength<T>,
-    R,
-    S: FnOnce(&[T]) -> R,
->(array: GenericArray<T, N>, item: T, see: S) -> (T, GenericArray<T, N>, R)
-    requires one_longer { (M.USIZE ≡ N.USIZE + 1) × FitsInline M.USIZE }
-    requires callable { S.IsAlwaysCallable see }
-    ensures item { result.0 ≡ item }
-    ensures array { result.1 ≡ array }
-    ensures between { FnOnceReturnsAt S.FnOnce see (item ∷ array) result.2 }
-{
-    let longer: GenericArray<T, M> = array.prepend(item);
-    let seen = see(longer.as_slice());
-    let (item, array) = longer.pop_front();
-    (item, array, seen)
-}
-
-/// The first item popped and prepended.
-pub fn pop_front_then_prepend<
-    T: Default + Drop,
-    N: ArrayLength<T>,
-    M: ArrayLength<T>,
-    R,
-    S: FnOnce(&[T]) -> R,
->(array: GenericArray<T, N>, see: S) -> (GenericArray<T, N>, R)
-    requires one_shorter { N.USIZE ≡ M.USIZE + 1 }
-    requires callable { S.IsAlwaysCallable see }
-    ensures array { result.0 ≡ array }
-    ensures between { FnOnceReturnsAt S.FnOnce see (drop 1 array) result.1 }
-{
-    let _ = array.as_slice();
-    let (first, others): (T, GenericArray<T, M>) = array.pop_front();
-    let seen = see(others.as_slice());
-    (others.prepend(first), seen)
+    let array = if at_front {
+        others.prepend(item)
+    } else {
+        others.append(item)
+    };
+    (array, seen)
 }
 
 /// An array cut in two and joined.

@@ -1,54 +1,41 @@
 //! Calls at boxed arrays, and those that make a boxed array.
 use generic_array::checks::{dot_by as dot_of_any, map_total_by as map_total_of_any};
 use generic_array::functional::{
-    FunctionalSequence, inverted_zip as inverted_zip_of_any, inverted_zip2 as inverted_zip2_of_any,
-    inverted_zip2_by as inverted_zip2_by_of_any,
+    FunctionalSequence, inverted_zip as inverted_zip_of_any, inverted_zip2, inverted_zip2_by,
 };
 use generic_array::{AllocError, ArrayLength, BoxedArray, GenericArray, Unsigned};
 use std::alloc::Global;
 
-/// `map` of a boxed array.
+/// `map` of a boxed array, or `map_by` where the closure `is_lent`.
 pub fn map<T: Drop, U: Drop, N: Unsigned, F: FnMut(T) -> U>(
     alloc: Global,
     array: BoxedArray<T, N>,
-    f: F,
+    mut f: F,
+    is_lent: bool,
 ) -> Result<BoxedArray<U, N>, AllocError>
     requires { (f : _) (x : _) → F.pre f x }
 {
-    array.map(alloc, f)
+    if is_lent {
+        array.map_by(alloc, &mut f)
+    } else {
+        array.map(alloc, f)
+    }
 }
 
-/// `map_by` of a boxed array.
-pub fn map_by<T: Drop, U: Drop, N: Unsigned, F: FnMut(T) -> U>(
-    alloc: Global,
-    array: BoxedArray<T, N>,
-    f: &mut F,
-) -> Result<BoxedArray<U, N>, AllocError>
-    requires { (f : _) (x : _) → F.pre f x }
-{
-    array.map_by(alloc, f)
-}
-
-/// `try_map` of a boxed array.
+/// `try_map` of a boxed array, or `try_map_by` where the closure `is_lent`.
 pub fn try_map<T: Drop, U: Drop, E, N: Unsigned, F: FnMut(T) -> Result<U, E>>(
     alloc: Global,
     array: BoxedArray<T, N>,
-    f: F,
+    mut f: F,
+    is_lent: bool,
 ) -> Result<Result<BoxedArray<U, N>, E>, AllocError>
     requires { (f : _) (x : _) → F.pre f x }
 {
-    array.try_map(alloc, f)
-}
-
-/// `try_map_by` of a boxed array.
-pub fn try_map_by<T: Drop, U: Drop, E, N: Unsigned, F: FnMut(T) -> Result<U, E>>(
-    alloc: Global,
-    array: BoxedArray<T, N>,
-    f: &mut F,
-) -> Result<Result<BoxedArray<U, N>, E>, AllocError>
-    requires { (f : _) (x : _) → F.pre f x }
-{
-    array.try_map_by(alloc, f)
+    if is_lent {
+        array.try_map_by(alloc, &mut f)
+    } else {
+        array.try_map(alloc, f)
+    }
 }
 
 /// `try_fold_by` of a boxed array.
@@ -62,40 +49,32 @@ pub fn try_fold_by<T: Drop, A, E, N: Unsigned, F: FnMut(A, T) -> Result<A, E>>(
     array.try_fold_by(init, f)
 }
 
+/// Which call zips the two sides: `zip` of the left one, or `inverted_zip2` of the right one, with a closure
+/// that it takes by value or borrows.
+#[derive(Clone, Copy)]
+pub enum ZipCall {
+    Left,
+    LeftLent,
+    Inverted,
+    InvertedLent,
+}
+
 /// The zip with an inline array.
 pub fn zip<T: Drop, B: Default + Drop, U: Drop, N: ArrayLength<B>, F: FnMut(T, B) -> U>(
     alloc: Global,
     left: BoxedArray<T, N>,
     right: GenericArray<B, N>,
-    f: F,
+    mut f: F,
+    call: ZipCall,
 ) -> Result<BoxedArray<U, N>, AllocError>
     requires { (f : _) (x : _) (y : _) → F.pre f x y }
 {
-    left.zip(alloc, right, f)
-}
-
-/// The same with a borrowed closure.
-pub fn zip_by<T: Drop, B: Default + Drop, U: Drop, N: ArrayLength<B>, F: FnMut(T, B) -> U>(
-    alloc: Global,
-    left: BoxedArray<T, N>,
-    right: GenericArray<B, N>,
-    f: &mut F,
-) -> Result<BoxedArray<U, N>, AllocError>
-    requires { (f : _) (x : _) (y : _) → F.pre f x y }
-{
-    left.zip_by(alloc, right, f)
-}
-
-/// The zip with a boxed array.
-pub fn zip_boxed<T: Drop, B: Drop, U: Drop, N: Unsigned, F: FnMut(T, B) -> U>(
-    alloc: Global,
-    left: BoxedArray<T, N>,
-    right: BoxedArray<B, N>,
-    f: F,
-) -> Result<BoxedArray<U, N>, AllocError>
-    requires { (f : _) (x : _) (y : _) → F.pre f x y }
-{
-    left.zip(alloc, right, f)
+    match call {
+        ZipCall::Left => left.zip(alloc, right, f),
+        ZipCall::LeftLent => left.zip_by(alloc, right, &mut f),
+        ZipCall::Inverted => inverted_zip2(right, alloc, left, f),
+        ZipCall::InvertedLent => inverted_zip2_by(right, alloc, left, &mut f),
+    }
 }
 
 /// The inverted zip of a boxed array, with an inline left side, of which an inline array is made.
@@ -109,48 +88,6 @@ pub fn inverted_zip<
     requires { (f : _) (x : _) (y : _) → F.pre f x y }
 {
     inverted_zip_of_any(array, left, f)
-}
-
-/// The inverted zip of an inline array, with a boxed left side.
-pub fn inverted_zip2<T: Default + Drop, B: Drop, U: Drop, N: ArrayLength<T>, F: FnMut(B, T) -> U>(
-    alloc: Global,
-    array: GenericArray<T, N>,
-    left: BoxedArray<B, N>,
-    f: F,
-) -> Result<BoxedArray<U, N>, AllocError>
-    requires { (f : _) (x : _) (y : _) → F.pre f x y }
-{
-    inverted_zip2_of_any(array, alloc, left, f)
-}
-
-/// The same with a borrowed closure.
-pub fn inverted_zip2_by<
-    T: Default + Drop,
-    B: Drop,
-    U: Drop,
-    N: ArrayLength<T>,
-    F: FnMut(B, T) -> U,
->(
-    alloc: Global,
-    array: GenericArray<T, N>,
-    left: BoxedArray<B, N>,
-    f: &mut F,
-) -> Result<BoxedArray<U, N>, AllocError>
-    requires { (f : _) (x : _) (y : _) → F.pre f x y }
-{
-    inverted_zip2_by_of_any(array, alloc, left, f)
-}
-
-/// The inverted zip of a boxed array, with a boxed left side.
-pub fn inverted_zip2_boxed<T: Drop, B: Drop, U: Drop, N: Unsigned, F: FnMut(B, T) -> U>(
-    alloc: Global,
-    array: BoxedArray<T, N>,
-    left: BoxedArray<B, N>,
-    f: F,
-) -> Result<BoxedArray<U, N>, AllocError>
-    requires { (f : _) (x : _) (y : _) → F.pre f x y }
-{
-    inverted_zip2_of_any(array, alloc, left, f)
 }
 
 /// `map_total_by` of a boxed array.

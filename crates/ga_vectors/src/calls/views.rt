@@ -5,20 +5,6 @@ use generic_array::checks::map_total_by as map_total_of_any;
 use generic_array::functional::{FunctionalSequence, inverted_zip as inverted_zip_of_any};
 use generic_array::{ArrayLength, GenericArray, GenericArrayRef, always};
 
-/// `map_by` of a view.
-pub fn map_by<
-    'a,
-    T: Default + Drop,
-    U: Default + Drop,
-    N: ArrayLength<T> + ArrayLength<U>,
-    F: FnMut(&'a T) -> U,
->(view: GenericArrayRef<'a, T, N>, f: &mut F) -> GenericArray<U, N>
-    requires fits { FitsInline N.USIZE }
-    requires pre { (f : _) (x : _) → F.pre f x }
-{
-    always(view.map_by((), f))
-}
-
 /// `try_map` of a view.
 pub fn try_map<
     'a,

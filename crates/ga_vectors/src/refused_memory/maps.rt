@@ -8,30 +8,22 @@ use std::alloc::Global;
 
 fn mapped(alloc: Global, entries: Three, is_lent: bool) -> Outcome {
     let mut calls = 0u32;
-    let mut answer = |entry: Counted| {
+    let answer = |entry: Counted| {
         calls = calls.wrapping_add(1);
         entry.place()
     };
-    let made = if is_lent {
-        boxed::map_by(alloc, entries, &mut answer)
-    } else {
-        boxed::map(alloc, entries, answer)
-    };
+    let made = boxed::map(alloc, entries, answer, is_lent);
     Outcome::of_calls(made, [1, 2, 3].as_slice(), calls)
 }
 
 /// Hands each item on, but for an error at one that it drops.
 fn tried(alloc: Global, entries: Three, counts: &Counts, error: u32, is_lent: bool) -> Outcome {
     let mut calls = 0u32;
-    let mut answer = |entry| {
+    let answer = |entry| {
         calls = calls.wrapping_add(1);
         unless_error(entry, error)
     };
-    let made = if is_lent {
-        boxed::try_map_by(alloc, entries, &mut answer)
-    } else {
-        boxed::try_map(alloc, entries, answer)
-    };
+    let made = boxed::try_map(alloc, entries, answer, is_lent);
     stopped(made, error, calls, counts)
 }
 

@@ -1,7 +1,9 @@
 //! What is made of no items, which is never refused for memory.
 use crate::calls::boxed;
+use crate::calls::boxed::ZipCall;
 use crate::counted::{Counted, Counts};
 use crate::items::number;
+use generic_array::functional::inverted_zip2;
 use generic_array::sequence::{FromFallibleIterator, GenericSequence};
 use generic_array::{
     AllocError, BoxedArray, FillError, GenericArray, LengthError, LiveBlock, Never, U0, U3, box_arr,
@@ -101,12 +103,23 @@ fn are_mapped(alloc: Global) -> Result<bool, AllocError> {
         calls = calls.wrapping_add(1);
         item
     };
-    let mapped = boxed::map(alloc, none_in_a_block(alloc)?, count)?;
-    let tried = boxed::try_map(alloc, none_in_a_block(alloc)?, less_than_9)?;
+    let mapped = boxed::map(alloc, none_in_a_block(alloc)?, count, false)?;
+    let tried = boxed::try_map(alloc, none_in_a_block(alloc)?, less_than_9, false)?;
     let right = GenericArray::<u32, U0>::from_array([]);
-    let zipped = boxed::zip(alloc, none_in_a_block(alloc)?, right, u32::wrapping_sub);
+    let zipped = boxed::zip(
+        alloc,
+        none_in_a_block(alloc)?,
+        right,
+        u32::wrapping_sub,
+        ZipCall::Left,
+    );
     let are_made = is_none::<_, Never>(Ok(mapped)) && is_none(tried) && is_none(zipped);
     Ok(are_made && calls == 0)
+}
+
+/// The zip of two blocks, told from the right side.
+fn inverted(right: NoItems, alloc: Global, left: NoItems) -> Result<NoItems, AllocError> {
+    inverted_zip2(right, alloc, left, u32::wrapping_sub)
 }
 
 /// Whether zips told from the right side and totals of no items are made, with no call.
@@ -116,8 +129,7 @@ fn are_totalled(alloc: Global) -> Result<bool, AllocError> {
         calls = calls.wrapping_add(1);
         left.wrapping_add(right)
     };
-    let (left, right) = (none_in_a_block(alloc)?, none_in_a_block(alloc)?);
-    let inverted = boxed::inverted_zip2_boxed(alloc, left, right, u32::wrapping_sub);
+    let inverted = inverted(none_in_a_block(alloc)?, alloc, none_in_a_block(alloc)?);
     let left = none_in_a_block(alloc)?;
     let total = boxed::map_total_by(alloc, left, &mut u32::count_ones, 5, &mut count)?;
     let (left, right) = (none_in_a_block(alloc)?, GenericArray::from_array([]));

@@ -1,9 +1,11 @@
 //! Zips of two kinds, where what is made is boxed, and where it is not.
+use crate::calls::boxed::ZipCall;
 use crate::calls::{boxed, inline};
 use crate::counted::{Counted, Counts};
 use crate::items::{boxed_counted_from, boxed_from_one, counted_from};
 use crate::outcome::{Outcome, play};
 use crate::refused_memory::{three_counted, three_in_a_block};
+use generic_array::functional::FunctionalSequence;
 use generic_array::{AllocError, GenericArray, U3};
 use std::alloc::Global;
 use std::cell::Cell;
@@ -15,11 +17,6 @@ fn both(calls: &Cell<u32>, left: Counted, right: Counted) -> u32 {
     left.place().wrapping_mul(10).wrapping_add(right.place())
 }
 
-/// The right side: counted items of the numbers 4 to 6.
-fn right_side(counts: &Counts) -> GenericArray<Counted<'_>, U3> {
-    counted_from(counts, 4)
-}
-
 /// Of a zip of 1 to 3 with 4 to 6, which are dropped once each, in the calls or at the refusal.
 fn zipped<S: AsSlice<u32> + Drop>(
     made: Result<S, AllocError>,
@@ -29,33 +26,27 @@ fn zipped<S: AsSlice<u32> + Drop>(
     Outcome::of_calls(made, [14, 25, 36].as_slice(), calls.get()).and(counts.drops() == 6)
 }
 
-/// Which call zips a block with an inline array, or with a block.
-#[derive(Clone, Copy)]
-enum Zip {
-    Lent,
-    WithBlock,
-    InvertedLent,
-    Inverted,
-}
-
-fn boxed_zip(alloc: Global, zip: Zip) -> Outcome {
+fn with_inline(alloc: Global, call: ZipCall) -> Outcome {
     let (counts, calls) = (Counts::new(), Cell::new(0));
     let Ok(left) = three_in_a_block(alloc, &counts) else {
         return Outcome::Refused;
     };
-    let mut both = |left: Counted, right: Counted| both(&calls, left, right);
-    let made = match zip {
-        Zip::Lent => boxed::zip_by(alloc, left, right_side(&counts), &mut both),
-        Zip::WithBlock => match boxed_counted_from(alloc, &counts, 4) {
-            Ok(right) => boxed::zip_boxed(alloc, left, right, both),
-            Err(AllocError) => return Outcome::Refused,
-        },
-        Zip::InvertedLent => {
-            boxed::inverted_zip2_by(alloc, right_side(&counts), left, &mut both)
-        }
-        Zip::Inverted => boxed::inverted_zip2(alloc, right_side(&counts), left, both),
-    };
+    let both = |left: Counted, right: Counted| both(&calls, left, right);
+    let made = boxed::zip(alloc, left, counted_from(&counts, 4), both, call);
     zipped(made, &calls, &counts)
+}
+
+/// Of two blocks, by the call itself, which no other test makes.
+fn with_block(alloc: Global) -> Outcome {
+    let (counts, calls) = (Counts::new(), Cell::new(0));
+    let Ok(left) = three_in_a_block(alloc, &counts) else {
+        return Outcome::Refused;
+    };
+    let Ok(right) = boxed_counted_from::<U3>(alloc, &counts, 4) else {
+        return Outcome::Refused;
+    };
+    let both = |left: Counted, right: Counted| both(&calls, left, right);
+    zipped(left.zip(alloc, right, both), &calls, &counts)
 }
 
 fn dot(alloc: Global) -> Outcome {
@@ -101,20 +92,24 @@ fn inline_zip(alloc: Global, is_inverted: bool) -> Outcome {
     zipped(Ok(made), &calls, &counts)
 }
 
+const CALLS: [ZipCall; 4] = [
+    ZipCall::Left,
+    ZipCall::LeftLent,
+    ZipCall::Inverted,
+    ZipCall::InvertedLent,
+];
+
 /// A case, by its number.
 fn case(alloc: Global, number: u32) -> Outcome {
     match number {
-        0 => boxed_zip(alloc, Zip::Lent),
-        1 => boxed_zip(alloc, Zip::WithBlock),
-        2 => boxed_zip(alloc, Zip::InvertedLent),
-        3 => boxed_zip(alloc, Zip::Inverted),
-        4 => dot(alloc),
-        5 => inline_zip(alloc, false),
-        _ => inline_zip(alloc, true),
+        0..=3 => with_inline(alloc, CALLS[number as usize]),
+        4 => with_block(alloc),
+        5 => dot(alloc),
+        _ => inline_zip(alloc, number == 7),
     }
 }
 
 #[test]
 fn a_zip_is_exact_or_refused_before_any_call(rt: HostRuntime) {
-    play(&rt, 7, case);
+    play(&rt, 8, case);
 }
