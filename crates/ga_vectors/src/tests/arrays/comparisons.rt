@@ -1,0 +1,33 @@
+//! Comparisons, hashes and texts of inline arrays.
+use crate::tests::compared::prints;
+use generic_array::{GenericArray, U3};
+use std::cmp::Ordering;
+use std::hash::{DefaultHasher, Hash, Hasher};
+
+fn three_from(first: u8) -> GenericArray<u8, U3> {
+    GenericArray::from_array([first, first.wrapping_add(1), first.wrapping_add(2)])
+}
+
+fn hash_of<T: Hash + Drop>(value: T) -> u64 {
+    let mut hasher = DefaultHasher::new();
+    value.hash(&mut hasher);
+    hasher.finish()
+}
+
+fn compared<T: Ord>(left: &T, right: &T) -> (bool, Option<Ordering>, Ordering) {
+    (left == right, left.partial_cmp(right), left.cmp(right))
+}
+
+#[test]
+fn arrays_compare_and_hash_as_their_slices_do(rt: HostRuntime) {
+    let less = (false, Some(Ordering::Less), Ordering::Less);
+    let array = three_from(1);
+    assert!(rt; compared(&array, &three_from(2)) == less);
+    assert!(rt; array == three_from(1));
+    assert!(rt; hash_of(array) == hash_of([1u8, 2, 3].as_slice()));
+}
+
+#[test]
+fn arrays_are_printed(rt: HostRuntime) {
+    assert!(rt; prints(&three_from(1), "[1, 2, 3]", rt.alloc()));
+}

@@ -1,0 +1,92 @@
+//! Walks of both iterators by value from both ends.
+use crate::tests::compared::prints;
+use crate::tests::items::{boxed_from_one, from_one};
+use crate::tests::scripted::next_digit;
+use generic_array::{AllocError, U3, U4, U5, U8};
+use std::alloc::Global;
+use std::test::Fail;
+
+/// What each step takes, how many items are left, and these as digits, the first of them set to 9.
+fn steps() -> [u32; 6] {
+    let mut items = from_one::<U8>().into_iter();
+    let next = items.next().unwrap_or(0);
+    let nth = items.nth(1).unwrap_or(0);
+    let next_back = items.next_back().unwrap_or(0);
+    let nth_back = items.nth_back(1).unwrap_or(0);
+    if let Some(first) = items.as_mut_slice().first_mut() {
+        *first = 9;
+    }
+    let len = items.len() as u32;
+    let digits = items.rfold(0, next_digit);
+    [next, nth, next_back, nth_back, len, digits]
+}
+
+#[test]
+fn steps_from_both_ends_meet_inline(rt: HostRuntime) {
+    assert!(rt; steps() == [1, 3, 8, 6, 2, 59]);
+    assert!(rt; from_one::<U3>().into_iter().fold(0, next_digit) == 123);
+}
+
+/// Whether only what is left is printed.
+fn is_left_printed(alloc: Global) -> bool {
+    let mut items = from_one::<U3>().into_iter();
+    let _ = items.next();
+    prints(&items, "GenericArrayIter([2, 3])", alloc)
+}
+
+#[test]
+fn what_is_left_is_printed(rt: HostRuntime) {
+    assert!(rt; is_left_printed(rt.alloc()));
+}
+
+/// The items of a block as digits, from the front and from the back.
+fn folded(alloc: Global) -> Result<[u32; 2], AllocError> {
+    Ok([
+        boxed_from_one::<U3>(alloc)?.into_iter().fold(0, next_digit),
+        boxed_from_one::<U3>(alloc)?
+            .into_iter()
+            .rfold(0, next_digit),
+    ])
+}
+
+/// Whether what is left in a block is known when the first item was taken.
+fn is_left_known(alloc: Global) -> Result<bool, AllocError> {
+    let mut items = boxed_from_one::<U3>(alloc)?.into_iter();
+    let first = items.next();
+    let is_counted = items.size_hint() == (2, Some(2)) && items.len() == 2;
+    let is_seen = items.as_slice() == [2, 3].as_slice();
+    let is_cloned = items.clone()?.as_slice() == [2, 3].as_slice();
+    Ok(first == Some(1) && is_counted && is_seen && is_cloned && items.last() == Some(3))
+}
+
+/// Whether steps from both ends of a block meet, and give nothing from then on.
+fn meet_boxed(alloc: Global) -> Result<bool, AllocError> {
+    let mut items = boxed_from_one::<U5>(alloc)?.into_iter();
+    let ends = (items.next_back(), items.nth(1));
+    let is_between = items.as_slice() == [3, 4].as_slice();
+    let last = items.nth_back(0);
+    let beyond = (items.nth(7), items.next_back());
+    let is_taken = ends == (Some(5), Some(2)) && last == Some(4);
+    Ok(is_taken && is_between && beyond == (None, None) && items.last().is_none())
+}
+
+/// Whether what is written over an item of a block is what comes next.
+fn is_written(alloc: Global) -> Result<bool, AllocError> {
+    let mut items = boxed_from_one::<U4>(alloc)?.into_iter();
+    let first = items.next();
+    if let Some(second) = items.as_mut_slice().first_mut() {
+        *second = 9;
+    }
+    let ends = (items.next(), items.next_back());
+    let is_left = items.as_slice() == [3].as_slice();
+    Ok(first == Some(1) && ends == (Some(9), Some(4)) && is_left)
+}
+
+#[test]
+fn steps_from_both_ends_meet_in_a_block(rt: HostRuntime) -> Result<(), Fail> {
+    assert!(rt; folded(rt.alloc())? == [123, 321]);
+    assert!(rt; is_left_known(rt.alloc())?);
+    assert!(rt; meet_boxed(rt.alloc())?);
+    assert!(rt; is_written(rt.alloc())?);
+    Ok(())
+}

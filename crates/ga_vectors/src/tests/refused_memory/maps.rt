@@ -1,0 +1,72 @@
+//! Maps of three counted items in a block, which are dropped once each, in the calls or at the refusal.
+use crate::tests::calls::boxed;
+use crate::tests::counted::{Counted, Counts};
+use crate::tests::outcome::{Outcome, play};
+use crate::tests::refused_memory::{Three, stopped, three_in_a_block, unless_error};
+use generic_array::AllocError;
+use std::alloc::Global;
+
+fn mapped(alloc: Global, entries: Three, is_lent: bool) -> Outcome {
+    let mut calls = 0u32;
+    let answer = |entry: Counted| {
+        calls = calls.wrapping_add(1);
+        entry.place()
+    };
+    let made = boxed::map(alloc, entries, answer, is_lent);
+    Outcome::of_calls(made, [1, 2, 3].as_slice(), calls)
+}
+
+/// Hands each item on, but for an error at one that it drops.
+fn tried(alloc: Global, entries: Three, counts: &Counts, error: u32, is_lent: bool) -> Outcome {
+    let mut calls = 0u32;
+    let answer = |entry| {
+        calls = calls.wrapping_add(1);
+        unless_error(entry, error)
+    };
+    let made = boxed::try_map(alloc, entries, answer, is_lent);
+    stopped(made, error, calls, counts)
+}
+
+fn totalled(alloc: Global, entries: Three) -> Outcome {
+    let (mut maps, mut folds) = (0u32, 0u32);
+    let total = boxed::map_total_by(
+        alloc,
+        entries,
+        &mut |entry: Counted| {
+            maps = maps.wrapping_add(1);
+            entry.place().wrapping_mul(2)
+        },
+        0,
+        &mut |total: u32, item: u32| {
+            folds = folds.wrapping_add(1);
+            total.wrapping_mul(10).wrapping_add(item)
+        },
+    );
+    match total {
+        Ok(total) => Outcome::exact_if(total == 246 && maps == 3 && folds == 3),
+        Err(AllocError) => Outcome::refused_if(maps == 0 && folds == 0),
+    }
+}
+
+/// A case, by its number.
+fn case(alloc: Global, number: u32) -> Outcome {
+    let counts = Counts::new();
+    let Ok(entries) = three_in_a_block(alloc, &counts) else {
+        return Outcome::Refused;
+    };
+    let outcome = match number {
+        0 => mapped(alloc, entries, true),
+        1 => mapped(alloc, entries, false),
+        2 => tried(alloc, entries, &counts, 9, true),
+        3 => tried(alloc, entries, &counts, 2, true),
+        4 => tried(alloc, entries, &counts, 9, false),
+        5 => tried(alloc, entries, &counts, 2, false),
+        _ => totalled(alloc, entries),
+    };
+    outcome.and(counts.drops() == 3)
+}
+
+#[test]
+fn a_map_is_exact_or_refused_before_any_call(rt: HostRuntime) {
+    play(&rt, 7, case);
+}

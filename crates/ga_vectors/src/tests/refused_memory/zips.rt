@@ -1,0 +1,115 @@
+//! Zips of two kinds, where what is made is boxed, and where it is not.
+use crate::tests::calls::boxed::ZipCall;
+use crate::tests::calls::{boxed, inline};
+use crate::tests::counted::{Counted, Counts};
+use crate::tests::items::{boxed_counted_from, boxed_from_one, counted_from};
+use crate::tests::outcome::{Outcome, play};
+use crate::tests::refused_memory::{three_counted, three_in_a_block};
+use generic_array::functional::FunctionalSequence;
+use generic_array::{AllocError, GenericArray, U3};
+use std::alloc::Global;
+use std::cell::Cell;
+use std::convert::AsSlice;
+
+/// Both numbers as digits, of which it is counted that they were asked for.
+fn both(calls: &Cell<u32>, left: Counted, right: Counted) -> u32 {
+    calls.set(calls.get().wrapping_add(1));
+    left.place().wrapping_mul(10).wrapping_add(right.place())
+}
+
+/// Of a zip of 1 to 3 with 4 to 6, which are dropped once each, in the calls or at the refusal.
+fn zipped<S: AsSlice<u32> + Drop>(
+    made: Result<S, AllocError>,
+    calls: &Cell<u32>,
+    counts: &Counts,
+) -> Outcome {
+    Outcome::of_calls(made, [14, 25, 36].as_slice(), calls.get()).and(counts.drops() == 6)
+}
+
+fn with_inline(alloc: Global, call: ZipCall) -> Outcome {
+    let (counts, calls) = (Counts::new(), Cell::new(0));
+    let Ok(left) = three_in_a_block(alloc, &counts) else {
+        return Outcome::Refused;
+    };
+    let both = |left: Counted, right: Counted| both(&calls, left, right);
+    let made = boxed::zip(alloc, left, counted_from(&counts, 4), both, call);
+    zipped(made, &calls, &counts)
+}
+
+/// Of two blocks, by the call itself, which no other test makes.
+fn with_block(alloc: Global) -> Outcome {
+    let (counts, calls) = (Counts::new(), Cell::new(0));
+    let Ok(left) = three_in_a_block(alloc, &counts) else {
+        return Outcome::Refused;
+    };
+    let Ok(right) = boxed_counted_from::<U3>(alloc, &counts, 4) else {
+        return Outcome::Refused;
+    };
+    let both = |left: Counted, right: Counted| both(&calls, left, right);
+    zipped(left.zip(alloc, right, both), &calls, &counts)
+}
+
+fn dot(alloc: Global) -> Outcome {
+    let Ok(left) = boxed_from_one::<U3>(alloc) else {
+        return Outcome::Refused;
+    };
+    let right = GenericArray::<u32, U3>::from_array([4, 5, 6]);
+    let (mut products, mut sums) = (0u32, 0u32);
+    let total = boxed::dot_by(
+        alloc,
+        left,
+        right,
+        &mut |left: u32, right: u32| {
+            products = products.wrapping_add(1);
+            left.wrapping_mul(right)
+        },
+        0,
+        &mut |total: u32, product: u32| {
+            sums = sums.wrapping_add(1);
+            total.wrapping_add(product)
+        },
+    );
+    match total {
+        Ok(total) => Outcome::exact_if(total == 32 && products == 3 && sums == 3),
+        Err(AllocError) => Outcome::refused_if(products == 0 && sums == 0),
+    }
+}
+
+// What is made is inline, so that only the boxed side asks for memory.
+
+fn inline_zip(alloc: Global, is_inverted: bool) -> Outcome {
+    let (counts, calls) = (Counts::new(), Cell::new(0));
+    let Ok(right) = boxed_counted_from::<U3>(alloc, &counts, 4) else {
+        return Outcome::Refused;
+    };
+    let left = three_counted(&counts);
+    let both = |left: Counted, right: Counted| both(&calls, left, right);
+    let made = if is_inverted {
+        boxed::inverted_zip(right, left, both)
+    } else {
+        inline::zip(left, right, both)
+    };
+    zipped(Ok(made), &calls, &counts)
+}
+
+const CALLS: [ZipCall; 4] = [
+    ZipCall::Left,
+    ZipCall::LeftLent,
+    ZipCall::Inverted,
+    ZipCall::InvertedLent,
+];
+
+/// A case, by its number.
+fn case(alloc: Global, number: u32) -> Outcome {
+    match number {
+        0..=3 => with_inline(alloc, CALLS[number as usize]),
+        4 => with_block(alloc),
+        5 => dot(alloc),
+        _ => inline_zip(alloc, number == 7),
+    }
+}
+
+#[test]
+fn a_zip_is_exact_or_refused_before_any_call(rt: HostRuntime) {
+    play(&rt, 8, case);
+}
