@@ -115,16 +115,6 @@ impl<T: Drop> BoxedArrayIter<T> {
         self.next()
     }
 
-    // Drops the first item, of which there is one. As it doesn't test for one, the compiler removes a
-    // loop of such calls over items whose drop does nothing.
-    #[inline]
-    fn drop_first(&mut self)
-        requires some { 0 < length self.old }
-        ensures step { (item : T) × (self.old ≡ item ∷ self.new) }
-    {
-        let _ = self.items.take_first();
-    }
-
     /// Drops `n` items from the back and returns the one before them. If at most `n` items are
     /// left, drops them all and returns `None`. O(n).
     pub fn nth_back(&mut self, n: usize) -> Option<T>
@@ -134,15 +124,6 @@ impl<T: Drop> BoxedArrayIter<T> {
             self.drop_last();
         }
         self.next_back()
-    }
-
-    // Drops the last item, of which there is one.
-    #[inline]
-    fn drop_last(&mut self)
-        requires some { 0 < length self.old }
-        ensures step { (item : T) × (self.old ≡ self.new ++ item ∷ []) }
-    {
-        let _ = self.items.take_last();
     }
 
     /// The last item that is left. The others are dropped; nothing else takes time.
@@ -204,6 +185,25 @@ impl<T: Drop> BoxedArrayIter<T> {
             answer = f(answer, item);
         }
         answer
+    }
+
+    // Drops the first item, of which there is one. As it doesn't test for one, the compiler removes a
+    // loop of such calls over items whose drop does nothing.
+    #[inline]
+    fn drop_first(&mut self)
+        requires some { 0 < length self.old }
+        ensures step { (item : T) × (self.old ≡ item ∷ self.new) }
+    {
+        let _ = self.items.take_first();
+    }
+
+    // Drops the last item, of which there is one.
+    #[inline]
+    fn drop_last(&mut self)
+        requires some { 0 < length self.old }
+        ensures step { (item : T) × (self.old ≡ self.new ++ item ∷ []) }
+    {
+        let _ = self.items.take_last();
     }
 }
 
