@@ -1,0 +1,3 @@
+pub mod ChaCha20
+pub mod CounterMode
+pub mod Keystream
