@@ -53,6 +53,22 @@ under_twice [] (k ∷ key) long = absurd (omega (arith, long))
 under_twice (t ∷ text) [] long = absurd (omega (arith, long))
 under_twice (t ∷ text) (k ∷ key) long = ap₂ ◌∷◌ (xor_twice t k) (under_twice text key (omega (arith, long)))
 
+-- What callers use: texts under the key stream, by pieces and twice.
+module _ (block : ℕ → List ℕ) (width from : ℕ) where
+  -- two pieces in turn are the whole
+  pub under_in_pieces : (first second : List ℕ) → under first (key_bytes block width from (length first)) ++ under second (key_bytes block width (from + length first) (length second))
+      ≡ under (first ++ second) (key_bytes block width from (length first + length second))
+  under_in_pieces first second =
+      sym (ap (under (first ++ second)) (key_bytes-append block width from (length first) (length second))
+      ∙ under-append first (key_bytes block width from (length first)) second (key_bytes block width (from + length first) (length second)) (sym (length-key_bytes block width from (length first))))
+
+  -- the key twice leaves the text
+  pub under_taken_off : (text now : List ℕ) → now ≡ under text (key_bytes block width from (length text)) → under now (key_bytes block width from (length now)) ≡ text
+  under_taken_off text now is =
+      let same : length text ≡ length (key_bytes block width from (length text)) = sym (length-key_bytes block width from (length text)) in
+      let long : length now ≡ length text = ap length is ∙ length-under text (key_bytes block width from (length text)) same in
+      ap₂ under is (ap (key_bytes block width from) long) ∙ under_twice text (key_bytes block width from (length text)) same
+
 -- what is written at each place is the text under the key
 pub under-from_places : (text key new : List ℕ) → length text ≡ length key → length new ≡ length text
     → ((k : ℕ) → k < length text → get_or new k 0 ≡ bit_xor (get_or text k 0) (get_or key k 0)) → new ≡ under text key

@@ -7,6 +7,10 @@ mod block_buffer;
 #[cfg(test)]
 mod blocks;
 #[cfg(test)]
+mod chacha20;
+#[cfg(test)]
+mod counter_mode;
+#[cfg(test)]
 mod hash_function;
 #[cfg(test)]
 mod hmac;
