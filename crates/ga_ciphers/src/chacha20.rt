@@ -9,8 +9,8 @@ ghost use Rattle.std.specs.List.{zip};
 ghost use Rattle.std.specs.Prelude.{◌≡◌, ℕ, ◌+◌, ◌*◌, ◌%◌, ◌^◌, ◌<◌, ◌≤◌, length, map};
 
 use crate::counter_mode::BlockStream;
-use generic_array::sequence::{Flatten, Unflatten};
-use generic_array::{ArrayLength, GenericArray, U3, U4, U8, U12, U16, U32, U64};
+use generic_array::sequence::{Concat, Flatten, Lengthen, Unflatten};
+use generic_array::{ArrayLength, GenericArray, U3, U4, U8, U12, U13, U16, U32, U64};
 use std::marker::Model;
 
 /// ChaCha20 under a key and a nonce: 2^32 blocks of 64 bytes.
@@ -36,29 +36,16 @@ impl ChaCha20 {
     pub fn new(key: &GenericArray<u8, U32>, nonce: &GenericArray<u8, U12>) -> Self
         ensures { result ≡ initial_state key.now nonce.now }
     {
-        let key_words: [u32; 8] = words_of::<U32, U8>(key).into_array();
-        let nonce_words: [u32; 3] = words_of::<U12, U3>(nonce).into_array();
-        let [k0, k1, k2, k3, k4, k5, k6, k7] = key_words;
-        let [n0, n1, n2] = nonce_words;
+        let constants: GenericArray<u32, U4> = GenericArray::from_array([
+            0x6170_7865,
+            0x3320_646e,
+            0x7962_2d32,
+            0x6b20_6574,
+        ]);
+        let with_key: GenericArray<u32, U12> = constants.concat(words_of::<U32, U8>(key));
+        let with_counter: GenericArray<u32, U13> = with_key.append(0);
         ChaCha20 {
-            state: GenericArray::from_array([
-                0x6170_7865,
-                0x3320_646e,
-                0x7962_2d32,
-                0x6b20_6574,
-                k0,
-                k1,
-                k2,
-                k3,
-                k4,
-                k5,
-                k6,
-                k7,
-                0,
-                n0,
-                n1,
-                n2,
-            ]),
+            state: with_counter.concat(words_of::<U12, U3>(nonce)),
         }
     }
 }
@@ -145,65 +132,29 @@ fn quarter_round(a: u32, b: u32, c: u32, d: u32) -> (u32, u32, u32, u32)
 
 // The quarter round on each column of the state, read as four rows of four words.
 #[inline(always)]
-fn column_round(state: [u32; 16]) -> [u32; 16]
-    ensures { result ≡ column_round state }
+fn column_round(x: [u32; 16]) -> [u32; 16]
+    ensures { result ≡ column_round x }
 {
-    let [
-        x0,
-        x1,
-        x2,
-        x3,
-        x4,
-        x5,
-        x6,
-        x7,
-        x8,
-        x9,
-        x10,
-        x11,
-        x12,
-        x13,
-        x14,
-        x15,
-    ] = state;
-    let (x0, x4, x8, x12) = quarter_round(x0, x4, x8, x12);
-    let (x1, x5, x9, x13) = quarter_round(x1, x5, x9, x13);
-    let (x2, x6, x10, x14) = quarter_round(x2, x6, x10, x14);
-    let (x3, x7, x11, x15) = quarter_round(x3, x7, x11, x15);
+    let (a0, b0, c0, d0) = quarter_round(x[0], x[4], x[8], x[12]);
+    let (a1, b1, c1, d1) = quarter_round(x[1], x[5], x[9], x[13]);
+    let (a2, b2, c2, d2) = quarter_round(x[2], x[6], x[10], x[14]);
+    let (a3, b3, c3, d3) = quarter_round(x[3], x[7], x[11], x[15]);
     [
-        x0, x1, x2, x3, x4, x5, x6, x7, x8, x9, x10, x11, x12, x13, x14, x15,
+        a0, a1, a2, a3, b0, b1, b2, b3, c0, c1, c2, c3, d0, d1, d2, d3,
     ]
 }
 
 // The quarter round on each diagonal.
 #[inline(always)]
-fn diagonal_round(state: [u32; 16]) -> [u32; 16]
-    ensures { result ≡ diagonal_round state }
+fn diagonal_round(x: [u32; 16]) -> [u32; 16]
+    ensures { result ≡ diagonal_round x }
 {
-    let [
-        x0,
-        x1,
-        x2,
-        x3,
-        x4,
-        x5,
-        x6,
-        x7,
-        x8,
-        x9,
-        x10,
-        x11,
-        x12,
-        x13,
-        x14,
-        x15,
-    ] = state;
-    let (x0, x5, x10, x15) = quarter_round(x0, x5, x10, x15);
-    let (x1, x6, x11, x12) = quarter_round(x1, x6, x11, x12);
-    let (x2, x7, x8, x13) = quarter_round(x2, x7, x8, x13);
-    let (x3, x4, x9, x14) = quarter_round(x3, x4, x9, x14);
+    let (a0, b1, c2, d3) = quarter_round(x[0], x[5], x[10], x[15]);
+    let (a1, b2, c3, d0) = quarter_round(x[1], x[6], x[11], x[12]);
+    let (a2, b3, c0, d1) = quarter_round(x[2], x[7], x[8], x[13]);
+    let (a3, b0, c1, d2) = quarter_round(x[3], x[4], x[9], x[14]);
     [
-        x0, x1, x2, x3, x4, x5, x6, x7, x8, x9, x10, x11, x12, x13, x14, x15,
+        a0, a1, a2, a3, b0, b1, b2, b3, c0, c1, c2, c3, d0, d1, d2, d3,
     ]
 }
 
