@@ -1,4 +1,4 @@
-//! A key stream that comes in blocks, under texts in pieces of any size.
+//! A key stream that comes in blocks, for texts in pieces of any size.
 ghost use Rattle.ga_ciphers.specs.Keystream.{IsCurrent, key_bytes, under};
 ghost use Rattle.generic_array.specs.Length.{FitsInline};
 ghost use Rattle.std.specs.Prelude.{◌≡◌, ℕ, ◌+◌, ◌*◌, ◌/◌, ◌%◌, ◌^◌, ◌<◌, ◌≤◌, ◌↔◌, ◌++◌, IsOk, List, OnErr, OnOk, drop, length, slice_range, take};
@@ -82,8 +82,8 @@ impl<C: BlockStream> CounterMode<C> {
         self.position
     }
 
-    /// Goes to a place of the key stream, told in bytes from its start. Fails if it lies behind the end
-    /// of the key stream, and then changes nothing.
+    /// Goes to a place of the key stream, in bytes from its start. Returns an error if the key stream
+    /// ends before the place, and then changes nothing. Makes at most one block.
     pub fn seek(&mut self, position: u64) -> Result<(), StreamEnd>
         ensures variant { IsOk result ↔ (position ≤ C.BLOCKS * C.BlockSize.USIZE) }
         ensures cipher { self.new.cipher ≡ self.old.cipher }
@@ -100,10 +100,12 @@ impl<C: BlockStream> CounterMode<C> {
         Ok(())
     }
 
-    /// Puts the text under the key stream: each byte becomes its xor with the key's, and the place goes on
-    /// behind the last. Fails if the key stream would end before the text does, and then changes nothing.
+    /// Replaces each byte of the text by its xor with the byte of the key stream at its place, and goes on
+    /// to the place behind the last. Returns an error if the key stream would end before the text does, and
+    /// then changes nothing.
     ///
-    /// The same call at the same place takes the key off again.
+    /// The same call at the same place gives the text back. Works on the text where it lies, and makes each
+    /// block once.
     pub fn apply(&mut self, bytes: &mut [u8]) -> Result<(), StreamEnd>
         ensures variant { IsOk result
             ↔ (self.old.position + length bytes.old ≤ C.BLOCKS * C.BlockSize.USIZE) }
@@ -162,7 +164,7 @@ fn stream_len<C: BlockStream>() -> u64
     C::blocks() * C::BlockSize::USIZE as u64
 }
 
-// Puts the bytes from a place on under the key, as many as it has.
+// Replaces bytes from a place on, as many as the key has, by their xor with it.
 #[inline]
 fn xor_piece(bytes: &mut [u8], from: usize, key: &[u8])
     requires { from + length key.now ≤ length bytes.old }
@@ -173,7 +175,7 @@ fn xor_piece(bytes: &mut [u8], from: usize, key: &[u8])
     xor(&mut bytes[from..from + key.len()], key);
 }
 
-// Puts the bytes under a key of as many bytes.
+// Replaces the bytes by their xor with a key of as many bytes.
 #[inline]
 fn xor(bytes: &mut [u8], key: &[u8])
     requires { length bytes.old ≡ length key.now }

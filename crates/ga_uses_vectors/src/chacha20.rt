@@ -57,7 +57,7 @@ fn next(random: u64) -> u64 {
         .wrapping_add(1442695040888963407)
 }
 
-/// Puts the bytes under the key stream in pieces of random sizes, some of them empty.
+/// Applies the key stream to the bytes in pieces of random sizes.
 fn apply_in_pieces(mode: &mut CounterMode<ChaCha20>, bytes: &mut [u8]) -> Result<(), StreamEnd> {
     let mut random = 1;
     for part in bytes.chunks_mut(997) {

@@ -5,7 +5,7 @@ ghost use Rattle.std.specs.Prelude.{◌≡◌, ◌+◌, ◌*◌, ◌≤◌, ◌�
 use ga_ciphers::counter_mode::{BlockStream, CounterMode};
 use ga_ciphers::stream_end::StreamEnd;
 
-/// Puts two pieces under the key stream in turn: they are the whole under it.
+/// Applies the key stream to two pieces in turn: the pieces joined are what it makes of the whole text.
 #[tactic(auto, using(ga_ciphers::proofs::KeystreamLemmas::under_in_pieces))]
 pub(crate) fn in_two_pieces<C: BlockStream>(
     mode: &mut CounterMode<C>,
@@ -19,7 +19,7 @@ pub(crate) fn in_two_pieces<C: BlockStream>(
     mode.apply(second)
 }
 
-/// Puts a text under the key stream, and takes it off again.
+/// Applies the key stream to a text twice from its start: the text is what it was.
 #[tactic(auto, using(ga_ciphers::proofs::KeystreamLemmas::under_taken_off))]
 pub(crate) fn there_and_back<C: BlockStream>(cipher: C, bytes: &mut [u8]) -> Result<(), StreamEnd>
     ensures variant { IsOk result ↔ (length bytes.old ≤ C.BLOCKS * C.BlockSize.USIZE) }
