@@ -2,11 +2,10 @@
 //!
 //! It hides a text, and doesn't tell whether one was changed. No key and nonce may serve two texts.
 ghost use Rattle.ga_ciphers.specs.ChaCha20.{bytes_of, chacha20_block, initial_state, words_of};
-ghost use Rattle.rand_chacha.specs.Block.{add32, column_round, diagonal_round, double_rounds, quarter_round, xor_rotate};
+ghost use Rattle.rand_chacha.specs.Block.{column_round, diagonal_round, double_rounds, quarter_round, xor_rotate};
 ghost use Rattle.std.proofs.Common.{lit≤};
 ghost use Rattle.std.specs.Int.{from_le_bytes, to_le_bytes, w32};
-ghost use Rattle.std.specs.List.{zip};
-ghost use Rattle.std.specs.Prelude.{◌≡◌, ℕ, ◌+◌, ◌*◌, ◌%◌, ◌^◌, ◌<◌, ◌≤◌, length, map};
+ghost use Rattle.std.specs.Prelude.{◌≡◌, ◌*◌, ◌^◌};
 
 use crate::counter_mode::BlockStream;
 use generic_array::sequence::{Concat, Flatten, Lengthen, Unflatten};

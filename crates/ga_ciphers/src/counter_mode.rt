@@ -1,7 +1,7 @@
 //! A key stream that comes in blocks, for texts in pieces of any size.
 ghost use Rattle.ga_ciphers.specs.Keystream.{IsCurrent, key_bytes, under};
 ghost use Rattle.generic_array.specs.Length.{FitsInline};
-ghost use Rattle.std.specs.Prelude.{◌≡◌, ℕ, ◌+◌, ◌*◌, ◌/◌, ◌%◌, ◌^◌, ◌<◌, ◌≤◌, ◌↔◌, ◌++◌, IsOk, List, OnErr, OnOk, drop, length, slice_range, take};
+ghost use Rattle.std.specs.Prelude.{◌≡◌, ℕ, ◌+◌, ◌*◌, ◌/◌, ◌^◌, ◌<◌, ◌≤◌, ◌↔◌, ◌++◌, IsOk, List, OnErr, OnOk, drop, length, slice_range, take};
 
 use crate::stream_end::StreamEnd;
 use generic_array::{ArrayLength, GenericArray, Unsigned};
