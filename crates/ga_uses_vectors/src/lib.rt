@@ -1,11 +1,15 @@
-//! Tests and callers of `ga_uses` and `ga_records`, over their public names alone: the vectors of the standards, and
-//! what each contract gives to those who call.
+//! Tests and callers of `ga_uses`, `ga_records` and `ga_ciphers`, over their public names alone: the vectors of the
+//! standards, and what each contract gives to those who call.
 #![tactic(auto)]
 
 #[cfg(test)]
 mod block_buffer;
 #[cfg(test)]
 mod blocks;
+#[cfg(test)]
+mod chacha20;
+#[cfg(test)]
+mod counter_mode;
 #[cfg(test)]
 mod ethernet;
 #[cfg(test)]

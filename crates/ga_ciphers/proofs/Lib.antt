@@ -1,0 +1,2 @@
+mod ChaCha20Lemmas
+pub mod KeystreamLemmas

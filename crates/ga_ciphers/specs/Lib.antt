@@ -1,0 +1,6 @@
+pub mod ChaCha20
+pub mod CounterMode
+pub mod Keystream
+pub use Rattle.generic_array.specs.Length
+pub use Rattle.generic_array.specs.Rows
+pub use Rattle.rand_chacha.specs.Block

@@ -1,0 +1,10 @@
+//! Stream ciphers with lengths that are types, as a user of `generic_array` builds them: by the
+//! library's public names and contracts alone.
+#![tactic(auto)]
+
+/// ChaCha20 (RFC 8439).
+pub mod chacha20;
+/// A key stream in blocks, over texts in pieces of any size.
+pub mod counter_mode;
+/// The error of a key stream that ends.
+pub mod stream_end;
