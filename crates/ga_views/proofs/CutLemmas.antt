@@ -71,6 +71,16 @@ module _ {T : Type 0} where
             )
       ]
 
+  -- where there are no more than n items, the step consumes them
+  pub nth-past : (n : ℕ) (items left : List T) → length items ≤ n → left ≡ [] → StepGives (front n) items None left
+  nth-past n items left beyond none = (sym (slice_get_past items n (omega arith)), none ∙ sym (drop_of_length-le items (omega arith)))
+
+  -- the same from the back
+  pub nth_back-past : (n : ℕ) (items left : List T) → length items ≤ n → left ≡ [] → StepGives (back n) items None left
+  nth_back-past n items left beyond none =
+      let gone = nth-past n (reverse items) [] (omega (arith, length-reverse items)) refl in
+      (gone.0, none ∙ ap reverse gone.1)
+
   -- behind n items from the back, or before all where there are no more, `next_back` does the step
   pub nth_back-step : (n passed : ℕ) (items left : List T) (reply : Option T) (after : List T)
       → passed ≡ min n (length items) → reverse left ≡ drop passed (reverse items) → YieldsLast (λ all. all) left reply after → StepGives (back n) items reply after

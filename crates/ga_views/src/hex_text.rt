@@ -35,13 +35,23 @@ pub fn write_hex<W: Write>(
     if bytes.len() <= SHORT_TEXT / 2 {
         write_pieces::<SHORT_TEXT, W>(bytes, upper, limit, w)
     } else {
-        write_pieces::<LONG_TEXT, W>(bytes, upper, limit, w)
+        put_long(bytes, upper, limit, w)
     }
 }
 
-// As `write_hex`, in pieces of so many digits. A caller's frame has no room for a piece, since this
-// isn't inlined.
+// As `write_hex`, in pieces of 1,024 bytes. A caller's frame has no room for such a piece, since
+// this isn't inlined.
 #[inline(never)]
+fn put_long<W: Write>(bytes: &[u8], upper: bool, limit: Option<usize>, w: &mut W) -> io::Result<()>
+    ensures text { OnOk result (Appends (W.contents w.old) (W.contents w.new)
+        (hex_text upper limit bytes.now)) }
+    ensures empty { hex_text upper limit bytes.now ≡ [] → IsOk result }
+{
+    write_pieces::<LONG_TEXT, W>(bytes, upper, limit, w)
+}
+
+// As `write_hex`, in pieces of so many digits.
+#[inline(always)]
 fn write_pieces<const SIZE: usize, W: Write>(
     bytes: &[u8],
     upper: bool,

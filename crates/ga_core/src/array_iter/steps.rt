@@ -12,8 +12,14 @@ impl<T: Default + Drop, N: ArrayLength<T>> GenericArrayIter<T, N> {
     pub fn nth(&mut self, n: usize) -> Option<T>
         ensures step { StepGives (front n) self.old result self.new }
     {
-        self.pass_front(n.min(self.len()));
-        self.next()
+        let len = self.len();
+        if n < len {
+            self.pass_front(n);
+            self.next()
+        } else {
+            self.pass_front(len);
+            None
+        }
     }
 
     /// Drops `n` items from the back and returns the one before them. If at most `n` items are
@@ -22,8 +28,14 @@ impl<T: Default + Drop, N: ArrayLength<T>> GenericArrayIter<T, N> {
     pub fn nth_back(&mut self, n: usize) -> Option<T>
         ensures step { StepGives (back n) self.old result self.new }
     {
-        self.pass_back(n.min(self.len()));
-        self.next_back()
+        let len = self.len();
+        if n < len {
+            self.pass_back(n);
+            self.next_back()
+        } else {
+            self.pass_back(len);
+            None
+        }
     }
 
     /// The number of items that are left, which are dropped; nothing else takes time.
