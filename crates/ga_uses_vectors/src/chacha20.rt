@@ -72,80 +72,60 @@ fn apply_in_pieces(mode: &mut CounterMode<ChaCha20>, bytes: &mut [u8]) -> Result
 
 #[test]
 fn blocks_of_the_standard(rt: HostRuntime) -> Result<(), Fail> {
-    assert!(rt;
-        turns_into(
-            rt.alloc(),
+    let cases = [
+        (
             KEY_OF_NUMBERS,
             "000000090000004a00000000",
             1,
-            &[0; 64],
             "10f1e7e4d13b5915500fdd1fa32071c4c7d1f4c733c068030422aa9ac3d46c4e\
-             d2826446079faa0914c2d705d98b02a2b5129cd1de164eb9cbd083e8a2503c4e"
-        )?
-    );
-    assert!(rt;
-        turns_into(
-            rt.alloc(),
+             d2826446079faa0914c2d705d98b02a2b5129cd1de164eb9cbd083e8a2503c4e",
+        ),
+        (
             KEY_OF_ZEROS,
             NONCE_OF_ZEROS,
             0,
-            &[0; 64],
             "76b8e0ada0f13d90405d6ae55386bd28bdd219b8a08ded1aa836efcc8b770dc7\
-             da41597c5157488d7724e03fb8d84a376a43b8f41518a11cc387b669b2ee6586"
-        )?
-    );
-    assert!(rt;
-        turns_into(
-            rt.alloc(),
+             da41597c5157488d7724e03fb8d84a376a43b8f41518a11cc387b669b2ee6586",
+        ),
+        (
             KEY_OF_ZEROS,
             NONCE_OF_ZEROS,
             1,
-            &[0; 64],
             "9f07e7be5551387a98ba977c732d080dcb0f29a048e3656912c6533e32ee7aed\
-             29b721769ce64e43d57133b074d839d531ed1f28510afb45ace10a1f4b794d6f"
-        )?
-    );
-    assert!(rt;
-        turns_into(
-            rt.alloc(),
+             29b721769ce64e43d57133b074d839d531ed1f28510afb45ace10a1f4b794d6f",
+        ),
+        (
             KEY_OF_ONE,
             NONCE_OF_ZEROS,
             1,
-            &[0; 64],
             "3aeb5224ecf849929b9d828db1ced4dd832025e8018b8160b82284f3c949aa5a\
-             8eca00bbb4a73bdad192b5c42f73f2fd4e273644c8b36125a64addeb006c13a0"
-        )?
-    );
-    assert!(rt;
-        turns_into(
-            rt.alloc(),
+             8eca00bbb4a73bdad192b5c42f73f2fd4e273644c8b36125a64addeb006c13a0",
+        ),
+        (
             KEY_WITH_FF,
             NONCE_OF_ZEROS,
             2,
-            &[0; 64],
             "72d54dfbf12ec44b362692df94137f328fea8da73990265ec1bbbea1ae9af0ca\
-             13b25aa26cb4a648cb9b9d1be65b2c0924a66c54d545ec1b7374f4872e99f096"
-        )?
-    );
-    assert!(rt;
-        turns_into(
-            rt.alloc(),
+             13b25aa26cb4a648cb9b9d1be65b2c0924a66c54d545ec1b7374f4872e99f096",
+        ),
+        (
             KEY_OF_ZEROS,
             NONCE_OF_TWO,
             0,
-            &[0; 64],
             "c2c64d378cd536374ae204b9ef933fcd1a8b2288b3dfa49672ab765b54ee27c7\
-             8a970e0e955c14f3a88e741b97c286f75f8fc299e8148362fa198a39531bed6d"
-        )?
-    );
+             8a970e0e955c14f3a88e741b97c286f75f8fc299e8148362fa198a39531bed6d",
+        ),
+    ];
+    for (key, nonce, counter, digits) in cases {
+        assert!(rt; turns_into(rt.alloc(), key, nonce, counter, &[0; 64], digits)?);
+    }
     Ok(())
 }
 
 #[test]
 fn texts_of_the_standard(rt: HostRuntime) -> Result<(), Fail> {
-    assert!(rt;
-        turns_into(
-            rt.alloc(),
+    let cases: [(&str, &str, u32, &[u8], &str); 3] = [
+        (
             KEY_OF_NUMBERS,
             "000000000000004a00000000",
             1,
@@ -154,12 +134,9 @@ fn texts_of_the_standard(rt: HostRuntime) -> Result<(), Fail> {
             "6e2e359a2568f98041ba0728dd0d6981e97e7aec1d4360c20a27afccfd9fae0b\
              f91b65c5524733ab8f593dabcd62b3571639d624e65152ab8f530c359f0861d8\
              07ca0dbf500d6a6156a38e088a22b65e52bc514d16ccf806818ce91ab7793736\
-             5af90bbf74a35be6b40b8eedf2785e42874d"
-        )?
-    );
-    assert!(rt;
-        turns_into(
-            rt.alloc(),
+             5af90bbf74a35be6b40b8eedf2785e42874d",
+        ),
+        (
             KEY_OF_ONE,
             NONCE_OF_TWO,
             1,
@@ -179,12 +156,9 @@ fn texts_of_the_standard(rt: HostRuntime) -> Result<(), Fail> {
              c39c1e876b193bfe5569753f88128cc08aaa9b63d1a16f80ef2554d7189c411f\
              5869ca52c5b83fa36ff216b9c1d30062bebcfd2dc5bce0911934fda79a86f6e6\
              98ced759c3ff9b6477338f3da4f9cd8514ea9982ccafb341b2384dd902f3d1ab\
-             7ac61dd29c6f21ba5b862f3730e37cfdc4fd806c22f221"
-        )?
-    );
-    assert!(rt;
-        turns_into(
-            rt.alloc(),
+             7ac61dd29c6f21ba5b862f3730e37cfdc4fd806c22f221",
+        ),
+        (
             KEY_OF_A_POEM,
             NONCE_OF_TWO,
             42,
@@ -193,9 +167,12 @@ fn texts_of_the_standard(rt: HostRuntime) -> Result<(), Fail> {
             "62e6347f95ed87a45ffae7426f27a1df5fb69110044c0d73118effa95b01e5cf\
              166d3df2d721caf9b21e5fb14c616871fd84c54f9d65b283196c7fe4f60553eb\
              f39c6402c42234e32a356b3e764312a61a5532055716ead6962568f87d3f3f77\
-             04c6a8d1bcd1bf4d50d6154b6da731b187b58dfd728afa36757a797ac188d1"
-        )?
-    );
+             04c6a8d1bcd1bf4d50d6154b6da731b187b58dfd728afa36757a797ac188d1",
+        ),
+    ];
+    for (key, nonce, counter, text, digits) in cases {
+        assert!(rt; turns_into(rt.alloc(), key, nonce, counter, text, digits)?);
+    }
     Ok(())
 }
 

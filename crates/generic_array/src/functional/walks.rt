@@ -131,12 +131,12 @@ fn try_build<U, E, M: FallibleGenericSequence<U>, G: FnMut(usize) -> Result<U, E
 ) -> Result<Result<M::Sequence, E>, M::Error>
     requires fits { M.Fits }
     requires callable { CallableUntilError G.pre G.step g.old M.Length.USIZE }
+    ensures err { OnErr result (g.new ≡ g.old) }
     ensures run { IfOk result (λ built.
         FirstErrorRan G.step g.old (range_with_len 0 M.Length.USIZE)
         (built_items M.Sequence.items built) g.new) }
     ensures len { IfOk result (λ built.
         IfOk built (λ made. length (M.Sequence.items made) ≡ M.Length.USIZE)) }
-    ensures err { OnErr result (g.new ≡ g.old) }
     ensures promised { M.IsPromised → IsOk result }
 {
     M::try_generate_by(place, g)
