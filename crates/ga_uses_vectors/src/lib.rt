@@ -9,9 +9,13 @@ mod blocks;
 #[cfg(test)]
 mod hash_function;
 #[cfg(test)]
+mod hkdf;
+#[cfg(test)]
 mod hmac;
 #[cfg(test)]
 mod key_table;
+#[cfg(test)]
+mod one_time_password;
 #[cfg(test)]
 mod record_block;
 #[cfg(test)]
