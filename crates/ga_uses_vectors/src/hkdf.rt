@@ -55,11 +55,12 @@ fn counted_from(first: u8) -> GenericArray<u8, Const<80>> {
 #[test]
 fn sha256_makes_the_keys_of_rfc_5869(rt: HostRuntime) -> Result<(), Fail> {
     let salt = [0, 1, 2, 3, 4, 5, 6, 7, 8, 9, 10, 11, 12];
-    let info = [
-        0xf0, 0xf1, 0xf2, 0xf3, 0xf4, 0xf5, 0xf6, 0xf7, 0xf8, 0xf9,
-    ];
-    let (material, long_salt, long_info) =
-        (counted_from(0), counted_from(0x60), counted_from(0xb0));
+    let info = [0xf0, 0xf1, 0xf2, 0xf3, 0xf4, 0xf5, 0xf6, 0xf7, 0xf8, 0xf9];
+    let (material, long_salt, long_info) = (
+        counted_from(0),
+        counted_from(0x60),
+        counted_from(0xb0),
+    );
     assert!(rt;
         makes::<Sha256>(
             rt.alloc(),
@@ -71,7 +72,11 @@ fn sha256_makes_the_keys_of_rfc_5869(rt: HostRuntime) -> Result<(), Fail> {
     assert!(rt;
         makes::<Sha256>(
             rt.alloc(),
-            (material.as_slice(), long_salt.as_slice(), long_info.as_slice()),
+            (
+                material.as_slice(),
+                long_salt.as_slice(),
+                long_info.as_slice()
+            ),
             "06a6b88c5853361a06104c9ceb35b45cef760014904671014a193f40c15fc244",
             "b11e398dc80327a1c8e7f78c596a49344f012eda2d4efad8a050cc4c19afa97c59045a99cac7827271cb41c65e590e09da32\
              75600c2f09b8367793a9aca3db71cc30c58179ec3e87c14c01d5c1f3434f1d87"
@@ -91,11 +96,12 @@ fn sha256_makes_the_keys_of_rfc_5869(rt: HostRuntime) -> Result<(), Fail> {
 #[test]
 fn sha1_makes_the_keys_of_rfc_5869(rt: HostRuntime) -> Result<(), Fail> {
     let salt = [0, 1, 2, 3, 4, 5, 6, 7, 8, 9, 10, 11, 12];
-    let info = [
-        0xf0, 0xf1, 0xf2, 0xf3, 0xf4, 0xf5, 0xf6, 0xf7, 0xf8, 0xf9,
-    ];
-    let (material, long_salt, long_info) =
-        (counted_from(0), counted_from(0x60), counted_from(0xb0));
+    let info = [0xf0, 0xf1, 0xf2, 0xf3, 0xf4, 0xf5, 0xf6, 0xf7, 0xf8, 0xf9];
+    let (material, long_salt, long_info) = (
+        counted_from(0),
+        counted_from(0x60),
+        counted_from(0xb0),
+    );
     assert!(rt;
         makes::<Sha1>(
             rt.alloc(),
@@ -107,7 +113,11 @@ fn sha1_makes_the_keys_of_rfc_5869(rt: HostRuntime) -> Result<(), Fail> {
     assert!(rt;
         makes::<Sha1>(
             rt.alloc(),
-            (material.as_slice(), long_salt.as_slice(), long_info.as_slice()),
+            (
+                material.as_slice(),
+                long_salt.as_slice(),
+                long_info.as_slice()
+            ),
             "8adae09a2a307059478d309b26c4115a224cfaf6",
             "0bd770a74d1160f7c9f12cd5912a06ebff6adcae899d92191fe4305673ba2ffe8fa3f1a4e5ad79f3f334b3b202b2173c486e\
              a37ce3d397ed034c7f9dfeb15c5e927336d0441f4c4300e2cff0d0900b52d3b4"

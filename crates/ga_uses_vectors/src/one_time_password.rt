@@ -40,7 +40,7 @@ fn codes_of_counters_are_those_of_rfc_4226(rt: HostRuntime) {
     ];
     // The numbers that the tags are cut to are published too; these are their last digits.
     let seven = [
-        4755224, 4287082, 7359152, 6969429, 0338314, 8254676, 8287922, 2162583, 3399871, 5520489,
+        4755224, 4287082, 7359152, 6969429, 338314, 8254676, 8287922, 2162583, 3399871, 5520489,
     ];
     let eight = [
         84755224, 94287082, 37359152, 26969429, 40338314, 68254676, 18287922, 82162583, 73399871,
@@ -73,7 +73,7 @@ fn times_have_codes<H: LongDigest>(key: &[u8], step: NonZeroU64, codes: [u32; 6]
 fn codes_of_times_are_those_of_rfc_6238(rt: HostRuntime) -> Result<(), Fail> {
     let step = NonZeroU64::new(30).expect(&rt, "30 isn't 0");
     let key = b"1234567890123456789012345678901234567890123456789012345678901234";
-    let codes = [94287082, 07081804, 14050471, 89005924, 69279037, 65353130];
+    let codes = [94287082, 7081804, 14050471, 89005924, 69279037, 65353130];
     assert!(rt; times_have_codes::<Sha1>(&key[..20], step, codes));
     let codes = [46119246, 68084774, 67062674, 91819424, 90698825, 77737706];
     assert!(rt; times_have_codes::<Sha256>(&key[..32], step, codes));
