@@ -1,4 +1,5 @@
 pub mod BlockLemmas
+pub mod HkdfLemmas
 pub mod PaddingLemmas
 pub mod PieceLemmas
 pub mod SameBytes

@@ -1,5 +1,7 @@
 pub mod BlockBuffer
+pub mod Hkdf
 pub mod Hmac
+pub mod OneTimePassword
 pub use Rattle.generic_array.specs.Entries
 pub use Rattle.generic_array.specs.EntryRuns
 pub use Rattle.generic_array.specs.Length

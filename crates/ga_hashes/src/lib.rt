@@ -9,8 +9,12 @@
 pub mod block_buffer;
 /// Hash functions whose sizes are lengths.
 pub mod hash_function;
+/// Key material of any length, made of a secret: HKDF.
+pub mod hkdf;
 /// Tags of messages under a key: HMAC.
 pub mod hmac;
+/// Codes of a counter or of the time under a key: HOTP and TOTP.
+pub mod one_time_password;
 
 pub use hash_function::HashFunction;
 pub use md5::Md5;

@@ -1,6 +1,18 @@
 //! Matrices, read, turned and multiplied by hand.
+ghost use Rattle.ga_uses.specs.Matrix.{transpose};
+ghost use Rattle.std.specs.Prelude.{◌≡◌};
+
 use ga_uses::matrix::{Matrix, Row, product};
-use generic_array::{U2, U3, arr};
+use generic_array::{ArrayLength, InlineLength, U2, U3, arr};
+
+fn turned_twice<R, C>(matrix: &Matrix<R, C>) -> Matrix<R, C>
+where
+    C: ArrayLength<u64> + ArrayLength<Row<R>> + InlineLength,
+    R: ArrayLength<u64> + ArrayLength<Row<C>> + InlineLength,
+    ensures { result ≡ transpose R.USIZE (transpose C.USIZE matrix.now) }
+{
+    matrix.transposed().transposed()
+}
 
 /// The rows 1 2 3 and 4 5 6.
 fn counted() -> Matrix<U2, U3> {
@@ -13,6 +25,7 @@ fn a_matrix_is_read_and_turned(rt: HostRuntime) {
     assert!(rt; matrix.at(1, 2) == 6);
     let turned = matrix.transposed();
     assert!(rt; turned.at(2, 1) == 6 && turned.at(0, 1) == 4);
+    assert!(rt; turned_twice(&matrix).at(1, 2) == 6);
     let zeros: Matrix<U2, U3> = Matrix::zeros();
     assert!(rt; zeros.at(1, 1) == 0);
 }
