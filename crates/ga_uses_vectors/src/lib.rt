@@ -3,32 +3,4 @@
 #![tactic(auto)]
 
 #[cfg(test)]
-mod block_buffer;
-#[cfg(test)]
-mod blocks;
-#[cfg(test)]
-mod chacha20;
-#[cfg(test)]
-mod counter_mode;
-#[cfg(test)]
-mod ethernet;
-#[cfg(test)]
-mod hash_function;
-#[cfg(test)]
-mod hkdf;
-#[cfg(test)]
-mod hmac;
-#[cfg(test)]
-mod key_table;
-#[cfg(test)]
-mod matrix;
-#[cfg(test)]
-mod one_time_password;
-#[cfg(test)]
-mod record_block;
-#[cfg(test)]
-mod records;
-#[cfg(test)]
-mod std_maps;
-#[cfg(test)]
-mod udp;
+mod tests;

@@ -1,7 +1,7 @@
 ghost use Rattle.ga_uses.specs.KeyTable.{value_at};
 ghost use Rattle.std.specs.Prelude.{◌≡◌, ◌≢◌, IsTrue};
 
-use crate::std_maps::{put_in_hashes, put_in_tree};
+use crate::tests::std_maps::{put_in_hashes, put_in_tree};
 use ga_uses::key_table::KeyTable;
 use generic_array::{AllocError, ArrayLength, GenericArray, U2};
 use std::alloc::Global;

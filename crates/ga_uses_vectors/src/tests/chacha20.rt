@@ -1,5 +1,5 @@
 //! The vectors of RFC 8439 for ChaCha20, texts in pieces, and the end of the key stream.
-use crate::counter_mode::{in_two_pieces, there_and_back};
+use crate::tests::counter_mode::{in_two_pieces, there_and_back};
 use ga_ciphers::chacha20::ChaCha20;
 use ga_ciphers::counter_mode::CounterMode;
 use ga_ciphers::stream_end::StreamEnd;

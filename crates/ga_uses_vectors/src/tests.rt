@@ -1,0 +1,16 @@
+//! The tests, a module for each subject.
+mod block_buffer;
+mod blocks;
+mod chacha20;
+mod counter_mode;
+mod ethernet;
+mod hash_function;
+mod hkdf;
+mod hmac;
+mod key_table;
+mod matrix;
+mod one_time_password;
+mod record_block;
+mod records;
+mod std_maps;
+mod udp;
