@@ -2,6 +2,7 @@
 use Rattle.generic_array.specs.Entries.{CallAt, MayCallAt}
 use Rattle.generic_array.specs.Runs.{CallableOver, ClosureRun}
 use Rattle.generic_array.specs.Rows.{chunk_rest, rows}
+use Rattle.std.specs.Borrow.{Bor}
 use Rattle.std.specs.Int.{to_be_bytes, w64}
 use Rattle.std.specs.Prelude.{◌≡◌, ℕ, ◌+◌, ◌-◌, ◌*◌, ◌%◌, ◌^◌, List, ◌∷◌, ◌++◌, length, min, replicate}
 
@@ -27,6 +28,15 @@ module _ {V F : Type 0} (bytes_of : V → List ℕ) (step : F → V → Unit {0}
   pub record HasFed (width : ℕ) (first : F) (message kept : List ℕ) (f : F) : Type 0 where
     pub blocks : Takes first (rows width message) f
     pub rest : kept ≡ chunk_rest width message
+
+module _ {F : Type 0} (step : F → Bor (List ℕ) → Unit {0} → F → Type 0) where
+  -- calls led from the state f to the state last, one at each whole block of a message, which lies in a slice
+  abbrev pub TakesBlocks : ℕ → F → List ℕ → F → Type 0
+  TakesBlocks width f message last = Takes (λ slice. slice.now) step f (rows width message) last
+
+  -- f may be called at each of these blocks in turn
+  abbrev pub MayTakeBlocks : (F → Bor (List ℕ) → Type 0) → ℕ → F → List ℕ → Type 0
+  MayTakeBlocks pre width f message = MayTake (λ slice. slice.now) step pre width f (rows width message)
 
 -- how many zeros stand between the mark and the length behind `len` bytes: the fewest with which whole blocks are filled
 abbrev pub zero_count : ℕ → ℕ → ℕ

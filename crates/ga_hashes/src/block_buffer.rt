@@ -1,5 +1,5 @@
 //! Messages of any length, passed on in blocks of one length.
-ghost use Rattle.ga_hashes.specs.BlockBuffer.{HasFed, MayTake, Takes, count_more, padding, with_padding, zero_count};
+ghost use Rattle.ga_hashes.specs.BlockBuffer.{HasFed, MayTakeBlocks, TakesBlocks, count_more, padding, with_padding, zero_count};
 ghost use Rattle.generic_array.specs.Length.{FitsInline};
 ghost use Rattle.generic_array.specs.Rows.{chunk_rest, rows};
 ghost use Rattle.std.specs.List.{flat_map};
@@ -57,10 +57,8 @@ impl<N: ArrayLength<u8>> BlockBuffer<N> {
     /// A block that lies whole in `bytes` isn't copied: `f` sees it where it lies. Any number of bytes
     /// may be fed; `len` stops at `u64::MAX`.
     pub fn feed<F: FnMut(&[u8])>(&mut self, bytes: &[u8], f: &mut F)
-        requires callable { MayTake (λ slice. slice.now) F.step F.pre N.USIZE f.old
-            (rows N.USIZE (self.old.kept ++ bytes.now)) }
-        ensures blocks { Takes (λ slice. slice.now) F.step f.old
-            (rows N.USIZE (self.old.kept ++ bytes.now)) f.new }
+        requires callable { MayTakeBlocks F.step F.pre N.USIZE f.old (self.old.kept ++ bytes.now) }
+        ensures blocks { TakesBlocks F.step N.USIZE f.old (self.old.kept ++ bytes.now) f.new }
         ensures kept { self.new.kept ≡ chunk_rest N.USIZE (self.old.kept ++ bytes.now) }
         ensures len { self.new.len ≡ count_more self.old.len bytes.now }
         ensures whole { (first : F) (message : List ℕ)
@@ -74,10 +72,8 @@ impl<N: ArrayLength<u8>> BlockBuffer<N> {
 
     // The feed itself, of which `feed` says one thing more that follows.
     fn feed_blocks<F: FnMut(&[u8])>(&mut self, bytes: &[u8], f: &mut F)
-        requires callable { MayTake (λ slice. slice.now) F.step F.pre N.USIZE f.old
-            (rows N.USIZE (self.old.kept ++ bytes.now)) }
-        ensures blocks { Takes (λ slice. slice.now) F.step f.old
-            (rows N.USIZE (self.old.kept ++ bytes.now)) f.new }
+        requires callable { MayTakeBlocks F.step F.pre N.USIZE f.old (self.old.kept ++ bytes.now) }
+        ensures blocks { TakesBlocks F.step N.USIZE f.old (self.old.kept ++ bytes.now) f.new }
         ensures kept { self.new.kept ≡ chunk_rest N.USIZE (self.old.kept ++ bytes.now) }
         ensures len { self.new.len ≡ count_more self.old.len bytes.now }
     {
@@ -104,14 +100,14 @@ impl<N: ArrayLength<u8>> BlockBuffer<N> {
     /// asks `len`.
     pub fn finish<F: FnMut(&[u8])>(self, f: &mut F)
         requires len { self.len < 2 ^ 61 }
-        requires callable { MayTake (λ slice. slice.now) F.step F.pre N.USIZE f.old
-            (rows N.USIZE (self.kept ++ padding N.USIZE (length self.kept) self.len)) }
-        ensures blocks { Takes (λ slice. slice.now) F.step f.old
-            (rows N.USIZE (self.kept ++ padding N.USIZE (length self.kept) self.len)) f.new }
+        requires callable { MayTakeBlocks F.step F.pre N.USIZE f.old
+            (self.kept ++ padding N.USIZE (length self.kept) self.len) }
+        ensures blocks { TakesBlocks F.step N.USIZE f.old
+            (self.kept ++ padding N.USIZE (length self.kept) self.len) f.new }
         ensures whole { (first : F) (message : List ℕ)
             → HasFed (λ slice. slice.now) F.step N.USIZE first message self.kept f.old
             → self.len ≡ length message
-            → Takes (λ slice. slice.now) F.step first (rows N.USIZE (with_padding N.USIZE message)) f.new }
+            → TakesBlocks F.step N.USIZE first (with_padding N.USIZE message) f.new }
     {
         let mut buffer = self;
         let bits = (8 * buffer.len).to_be_bytes();
@@ -133,8 +129,7 @@ impl<N: ArrayLength<u8>> BlockBuffer<N> {
     // Feeds fewer zeros than a block has bytes.
     fn feed_zeros<F: FnMut(&[u8])>(&mut self, count: usize, f: &mut F)
         requires few { count < N.USIZE }
-        requires callable { MayTake (λ slice. slice.now) F.step F.pre N.USIZE f.old
-            (rows N.USIZE (self.old.kept ++ replicate count 0)) }
+        requires callable { MayTakeBlocks F.step F.pre N.USIZE f.old (self.old.kept ++ replicate count 0) }
         ensures { (first : F) (message : List ℕ)
             → HasFed (λ slice. slice.now) F.step N.USIZE first message self.old.kept f.old
             → HasFed (λ slice. slice.now) F.step N.USIZE first (message ++ replicate count 0)
@@ -157,10 +152,9 @@ pub fn feed_pieces<N: ArrayLength<u8>, F: FnMut(&[u8])>(
 ) -> BlockBuffer<N>
     requires some { 0 < N.USIZE }
     requires fits { FitsInline N.USIZE }
-    requires callable { MayTake (λ slice. slice.now) F.step F.pre N.USIZE f.old
-        (rows N.USIZE (flat_map (λ piece. piece.now) pieces.now)) }
-    ensures blocks { Takes (λ slice. slice.now) F.step f.old
-        (rows N.USIZE (flat_map (λ piece. piece.now) pieces.now)) f.new }
+    requires callable { MayTakeBlocks F.step F.pre N.USIZE f.old
+        (flat_map (λ piece. piece.now) pieces.now) }
+    ensures blocks { TakesBlocks F.step N.USIZE f.old (flat_map (λ piece. piece.now) pieces.now) f.new }
     ensures kept { result.kept ≡ chunk_rest N.USIZE (flat_map (λ piece. piece.now) pieces.now) }
     ensures len { result.len ≡ count_more 0 (flat_map (λ piece. piece.now) pieces.now) }
 {
@@ -177,10 +171,10 @@ pub fn padded_blocks<N: ArrayLength<u8>, F: FnMut(&[u8])>(pieces: &[&[u8]], f: &
     requires some { 0 < N.USIZE }
     requires fits { FitsInline N.USIZE }
     requires len { length (flat_map (λ piece. piece.now) pieces.now) < 2 ^ 61 }
-    requires callable { MayTake (λ slice. slice.now) F.step F.pre N.USIZE f.old
-        (rows N.USIZE (with_padding N.USIZE (flat_map (λ piece. piece.now) pieces.now))) }
-    ensures blocks { Takes (λ slice. slice.now) F.step f.old
-        (rows N.USIZE (with_padding N.USIZE (flat_map (λ piece. piece.now) pieces.now))) f.new }
+    requires callable { MayTakeBlocks F.step F.pre N.USIZE f.old
+        (with_padding N.USIZE (flat_map (λ piece. piece.now) pieces.now)) }
+    ensures blocks { TakesBlocks F.step N.USIZE f.old
+        (with_padding N.USIZE (flat_map (λ piece. piece.now) pieces.now)) f.new }
     ensures whole { chunk_rest N.USIZE
         (with_padding N.USIZE (flat_map (λ piece. piece.now) pieces.now)) ≡ [] }
 {
@@ -228,8 +222,8 @@ fn hand_on_rows<N: ArrayLength<u8>, F: FnMut(&[u8])>(
 )
     requires some { 0 < N.USIZE }
     requires none_kept { kept.old ≡ [] }
-    requires callable { MayTake (λ slice. slice.now) F.step F.pre N.USIZE f.old (rows N.USIZE bytes.now) }
-    ensures blocks { Takes (λ slice. slice.now) F.step f.old (rows N.USIZE bytes.now) f.new }
+    requires callable { MayTakeBlocks F.step F.pre N.USIZE f.old bytes.now }
+    ensures blocks { TakesBlocks F.step N.USIZE f.old bytes.now f.new }
     ensures kept { kept.new ≡ chunk_rest N.USIZE bytes.now }
 {
     let (blocks, rest) = ChunksRef::<u8, N>::chunks_from_slice(bytes);

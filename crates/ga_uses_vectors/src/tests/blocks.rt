@@ -1,6 +1,5 @@
 //! A caller that feeds by hand, proved.
-ghost use Rattle.ga_hashes.specs.BlockBuffer.{Takes, with_padding};
-ghost use Rattle.generic_array.specs.Rows.{rows};
+ghost use Rattle.ga_hashes.specs.BlockBuffer.{TakesBlocks, with_padding};
 ghost use Rattle.std.specs.Prelude.{◌≡◌, ◌^◌, ◌+◌, ◌<◌, ◌++◌, length};
 
 use ga_hashes::block_buffer::BlockBuffer;
@@ -10,7 +9,7 @@ use generic_array::U64;
 pub(crate) fn blocks_of_two<F: FnMut(&[u8])>(first: &[u8], second: &[u8], f: &mut F)
     requires len { length first.now + length second.now < 2 ^ 61 }
     requires callable { (g : F) (block : _) → F.pre g block }
-    ensures { Takes (λ slice. slice.now) F.step f.old (rows 64 (with_padding 64 (first.now ++ second.now))) f.new }
+    ensures { TakesBlocks F.step 64 f.old (with_padding 64 (first.now ++ second.now)) f.new }
 {
     let mut buffer = BlockBuffer::<U64>::new();
     buffer.feed(first, f);
