@@ -24,6 +24,8 @@ pub fn extract<H: HashFunction>(salt: &[u8], material: &[u8]) -> GenericArray<u8
 /// Fills `output` with key material made of a pseudorandom key and a context: HKDF-Expand. Costs one
 /// tag for each digest's length of output.
 ///
+/// The RFC asks for a key of at least a digest's length, as `extract` returns; any is taken here.
+///
 /// Returns LengthError, and leaves `output` as it was, if it is longer than 255 digests.
 pub fn expand<H: HashFunction>(
     key: &[u8],
@@ -46,7 +48,7 @@ pub fn expand<H: HashFunction>(
 }
 
 /// Fills `output` with key material made of a salt, key material and a context: `expand` under the key
-/// that `extract` returns.
+/// that `extract` returns. Costs one tag more than `expand`.
 ///
 /// Returns LengthError, and leaves `output` as it was, if it is longer than 255 digests.
 pub fn derive<H: HashFunction>(
@@ -92,7 +94,7 @@ fn put_block<H: HashFunction>(key: &[u8], info: &[u8], output: &mut [u8], number
     put(output, at, block.as_slice());
 }
 
-// The block of a number, of the one before it.
+// The block of this number, made of the one before it.
 fn block_behind<H: HashFunction>(
     key: &[u8],
     before: &[u8],

@@ -24,6 +24,7 @@ pub enum Digits {
 /// A hash function whose digests have at least 20 bytes, as a code takes four bytes from one of 16
 /// places. MD5 is none: its digests are too short.
 pub trait LongDigest: HashFunction {
+    // Four bytes stand at each place, of which the last is 15.
     ghost long: { 20 ≤ Self.OutputSize.USIZE };
 }
 
@@ -83,5 +84,6 @@ fn truncated(tag: &[u8]) -> u32
         tag[offset + 2],
         tag[offset + 3],
     ];
+    // Without the highest bit it is one number, whether it is read with a sign or without.
     u32::from_be_bytes(bytes) % (1 << 31)
 }
