@@ -52,85 +52,79 @@ fn counted_from(first: u8) -> GenericArray<u8, Const<80>> {
     GenericArray::generate(|index| first.wrapping_add(index as u8))
 }
 
-#[test]
-fn sha256_makes_the_keys_of_rfc_5869(rt: HostRuntime) -> Result<(), Fail> {
+/// A pseudorandom key and an output, both as hex text.
+type Made<'a> = (&'a str, &'a str);
+
+/// Whether the three cases that the standard has for each hash function make these: one with a short
+/// salt and context, one with long ones, and one with none.
+fn all_make<H: HashFunction>(
+    alloc: Global,
+    short_material: &[u8],
+    made: [Made<'_>; 3],
+) -> Result<bool, Fail> {
     let salt = [0, 1, 2, 3, 4, 5, 6, 7, 8, 9, 10, 11, 12];
     let info = [0xf0, 0xf1, 0xf2, 0xf3, 0xf4, 0xf5, 0xf6, 0xf7, 0xf8, 0xf9];
-    let (material, long_salt, long_info) = (
+    let (long_material, long_salt, long_info) = (
         counted_from(0),
         counted_from(0x60),
         counted_from(0xb0),
     );
-    assert!(rt;
-        makes::<Sha256>(
-            rt.alloc(),
-            (&[0x0b; 22], &salt, &info),
-            "077709362c2e32df0ddc3f0dc47bba6390b6c73bb50f9c3122ec844ad7c2b3e5",
-            "3cb25f25faacd57a90434f64d0362f2a2d2d0a90cf1a5a4c5db02d56ecc4c5bf34007208d5b887185865"
-        )?
+    let long = (
+        long_material.as_slice(),
+        long_salt.as_slice(),
+        long_info.as_slice(),
     );
-    assert!(rt;
-        makes::<Sha256>(
-            rt.alloc(),
-            (
-                material.as_slice(),
-                long_salt.as_slice(),
-                long_info.as_slice()
-            ),
+    let [of_short, of_long, of_none] = made;
+    Ok(
+        makes::<H>(
+            alloc,
+            (short_material, &salt, &info),
+            of_short.0,
+            of_short.1,
+        )? && makes::<H>(alloc, long, of_long.0, of_long.1)?
+            && makes::<H>(alloc, (&[0x0b; 22], &[], &[]), of_none.0, of_none.1)?,
+    )
+}
+
+#[test]
+fn sha256_makes_the_keys_of_rfc_5869(rt: HostRuntime) -> Result<(), Fail> {
+    let made = [
+        (
+            "077709362c2e32df0ddc3f0dc47bba6390b6c73bb50f9c3122ec844ad7c2b3e5",
+            "3cb25f25faacd57a90434f64d0362f2a2d2d0a90cf1a5a4c5db02d56ecc4c5bf34007208d5b887185865",
+        ),
+        (
             "06a6b88c5853361a06104c9ceb35b45cef760014904671014a193f40c15fc244",
             "b11e398dc80327a1c8e7f78c596a49344f012eda2d4efad8a050cc4c19afa97c59045a99cac7827271cb41c65e590e09da32\
-             75600c2f09b8367793a9aca3db71cc30c58179ec3e87c14c01d5c1f3434f1d87"
-        )?
-    );
-    assert!(rt;
-        makes::<Sha256>(
-            rt.alloc(),
-            (&[0x0b; 22], &[], &[]),
+             75600c2f09b8367793a9aca3db71cc30c58179ec3e87c14c01d5c1f3434f1d87",
+        ),
+        (
             "19ef24a32c717b167f33a91d6f648bdf96596776afdb6377ac434c1c293ccb04",
-            "8da4e775a563c18f715f802a063c5a31b8a11f5c5ee1879ec3454e5f3c738d2d9d201395faa4b61a96c8"
-        )?
-    );
+            "8da4e775a563c18f715f802a063c5a31b8a11f5c5ee1879ec3454e5f3c738d2d9d201395faa4b61a96c8",
+        ),
+    ];
+    assert!(rt; all_make::<Sha256>(rt.alloc(), &[0x0b; 22], made)?);
     Ok(())
 }
 
 #[test]
 fn sha1_makes_the_keys_of_rfc_5869(rt: HostRuntime) -> Result<(), Fail> {
-    let salt = [0, 1, 2, 3, 4, 5, 6, 7, 8, 9, 10, 11, 12];
-    let info = [0xf0, 0xf1, 0xf2, 0xf3, 0xf4, 0xf5, 0xf6, 0xf7, 0xf8, 0xf9];
-    let (material, long_salt, long_info) = (
-        counted_from(0),
-        counted_from(0x60),
-        counted_from(0xb0),
-    );
-    assert!(rt;
-        makes::<Sha1>(
-            rt.alloc(),
-            (&[0x0b; 11], &salt, &info),
+    let made = [
+        (
             "9b6c18c432a7bf8f0e71c8eb88f4b30baa2ba243",
-            "085a01ea1b10f36933068b56efa5ad81a4f14b822f5b091568a9cdd4f155fda2c22e422478d305f3f896"
-        )?
-    );
-    assert!(rt;
-        makes::<Sha1>(
-            rt.alloc(),
-            (
-                material.as_slice(),
-                long_salt.as_slice(),
-                long_info.as_slice()
-            ),
+            "085a01ea1b10f36933068b56efa5ad81a4f14b822f5b091568a9cdd4f155fda2c22e422478d305f3f896",
+        ),
+        (
             "8adae09a2a307059478d309b26c4115a224cfaf6",
             "0bd770a74d1160f7c9f12cd5912a06ebff6adcae899d92191fe4305673ba2ffe8fa3f1a4e5ad79f3f334b3b202b2173c486e\
-             a37ce3d397ed034c7f9dfeb15c5e927336d0441f4c4300e2cff0d0900b52d3b4"
-        )?
-    );
-    assert!(rt;
-        makes::<Sha1>(
-            rt.alloc(),
-            (&[0x0b; 22], &[], &[]),
+             a37ce3d397ed034c7f9dfeb15c5e927336d0441f4c4300e2cff0d0900b52d3b4",
+        ),
+        (
             "da8c8a73c7fa77288ec6f5e7c297786aa0d32d01",
-            "0ac1af7002b3d761d1e55298da9d0506b9ae52057220a306e07b6b87e8df21d0ea00033de03984d34918"
-        )?
-    );
+            "0ac1af7002b3d761d1e55298da9d0506b9ae52057220a306e07b6b87e8df21d0ea00033de03984d34918",
+        ),
+    ];
+    assert!(rt; all_make::<Sha1>(rt.alloc(), &[0x0b; 11], made)?);
     // Where no salt is given, it is as many zeros as a digest has bytes.
     let given: [&[u8]; 2] = [&[], &[0; 20]];
     for salt in given {
