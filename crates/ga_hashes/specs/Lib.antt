@@ -7,3 +7,7 @@ pub use Rattle.generic_array.specs.EntryRuns
 pub use Rattle.generic_array.specs.Length
 pub use Rattle.generic_array.specs.Rows
 pub use Rattle.generic_array.specs.Runs
+pub use Rattle.md5.specs.Md5
+pub use Rattle.sha1.specs.Sha1
+pub use Rattle.sha2.specs.Sha256
+pub use Rattle.sha2.specs.Sha512

@@ -2,10 +2,8 @@
 ghost use Rattle.std.specs.Prelude.{◌≡◌, ◌++◌};
 
 use ga_hashes::hash_function::HashFunction;
+use ga_hashes::{Md5, Sha1, Sha256, Sha512};
 use generic_array::GenericArray;
-use md5::Md5;
-use sha1::Sha1;
-use sha2::{Sha256, Sha512};
 
 fn digest_of_entry<H: HashFunction>(name: &[u8], body: &[u8]) -> GenericArray<u8, H::OutputSize>
     ensures { result ≡ H.digest (name.now ++ body.now) }

@@ -5,9 +5,8 @@ ghost use Rattle.std.specs.Prelude.{◌≡◌, ◌*◌, ◌≤◌, ◌↔◌, If
 
 use ga_hashes::hash_function::HashFunction;
 use ga_hashes::hkdf::{derive, expand, extract};
+use ga_hashes::{Sha1, Sha256};
 use generic_array::{AllocError, ArrayLength, Const, GenericArray, InlineLength, LengthError, U64};
-use sha1::Sha1;
-use sha2::Sha256;
 use std::alloc::Global;
 use std::test::Fail;
 

@@ -1,15 +1,13 @@
 //! Callers, each proved, and the published vectors: RFC 4231 for SHA-256 and SHA-512, RFC 2202 for
 //! MD5 and SHA-1, and one of FIPS 198.
 ghost use Rattle.ga_hashes.specs.Hmac.{hmac_of};
-ghost use Rattle.sha2.specs.Sha256.{sha256};
+ghost use Rattle.ga_hashes.specs.Sha256.{sha256};
 ghost use Rattle.std.specs.Prelude.{◌≡◌, ◌↔◌, ◌++◌, IsTrue};
 
 use ga_hashes::hash_function::HashFunction;
 use ga_hashes::hmac::{Hmac, tag_of, verify};
+use ga_hashes::{Md5, Sha1, Sha256, Sha512};
 use generic_array::{AllocError, ArrayLength, GenericArray, U64};
-use md5::Md5;
-use sha1::Sha1;
-use sha2::{Sha256, Sha512};
 use std::alloc::Global;
 use std::test::Fail;
 

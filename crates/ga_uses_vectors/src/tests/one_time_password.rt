@@ -4,8 +4,7 @@ ghost use Rattle.std.specs.Int.NonZero.{non_zero_u64_get};
 ghost use Rattle.std.specs.Prelude.{◌≡◌, ◌/◌, ◌↔◌, IsTrue};
 
 use ga_hashes::one_time_password::{Digits, LongDigest, counter_code, time_code};
-use sha1::Sha1;
-use sha2::{Sha256, Sha512};
+use ga_hashes::{Sha1, Sha256, Sha512};
 use std::num::NonZeroU64;
 use std::test::Fail;
 
