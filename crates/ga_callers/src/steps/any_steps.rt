@@ -31,7 +31,8 @@ fn taken<T: Drop, I: TwoEnded<T>>(
     replies: &mut Vec<Reply<T, usize>>,
 ) -> Result<(), AllocError>
     requires no_set { HasNoSet steps.items }
-    ensures in_order { OnOk result (gone_front (I.items items.old) steps.items ++ (I.items items.new ++ reverse (gone_back (I.items items.old) steps.items)) ≡ I.items items.old) }
+    ensures in_order { OnOk result (gone_front (I.items items.old) steps.items
+        ++ (I.items items.new ++ reverse (gone_back (I.items items.old) steps.items)) ≡ I.items items.old) }
 {
     run_steps(items, steps, &mut count_of::<T>, replies)
 }

@@ -17,7 +17,8 @@ fn shared_out<J: Drop, N: Unsigned>(
 ) -> Result<BoxedArrayIter<J>, AllocError>
     requires turns { AreTurns turns.items }
     requires fresh { replies.old.items ≡ [] }
-    ensures once { IfOk result (λ left. jobs_by own_job turns.items replies.new.items ++ (left ++ reverse (jobs_by stolen_job turns.items replies.new.items)) ≡ jobs) }
+    ensures once { IfOk result (λ left. jobs_by own_job turns.items replies.new.items
+        ++ (left ++ reverse (jobs_by stolen_job turns.items replies.new.items)) ≡ jobs) }
 {
     let mut deque = jobs.into_iter();
     run_steps(&mut deque, turns, &mut count_of::<J>, replies)?;
