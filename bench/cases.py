@@ -21,8 +21,10 @@ SMALL = [Kind(item, length) for item in ("u8", "u64") for length in (4, 64, 1024
 BOXED = [Kind(item, length) for length in (64, 1024, 1_000_000) for item in ("u8", "u64")]
 TEXTS = [Kind("u8", length) for length in (16, 64, 1024, 2000)]
 TUPLES = [Kind(item, length) for item in ("u8", "u64") for length in (2, 4, 12)]
+CIPHERED = [Kind("u8", length) for length in (64, 1024, 1 << 20)]
+LONG = [Kind("u8", length) for length in (1_000_000, 100_000_000)]
 # A case at fewer types and lengths than the others of its part.
-ONLY = {"nested": SMALL[:1]}
+ONLY = {"nested": SMALL[:1], "cipher_pieces": CIPHERED[-1:]}
 # How an array of each length is cut into rows: their width, and how many there are.
 ROWS = {4: (2, 2), 64: (8, 8), 1024: (8, 128)}
 
@@ -40,6 +42,9 @@ ORIGINAL_BOX = "original::boxed::{kind}::{case}_of"
 ORIGINAL_TEXT = "original::hex::{kind}::{case}_of"
 ORIGINAL_TUPLE = "original::tuples::{kind}::{case}_of"
 NATIVE = "native::{kind}::{case}_of"
+PLAIN_CIPHER = "ciphers::{case}_of::<{length}>"
+PLAIN_VEC = "scale::vec::{case}_of::<{length}>"
+PLAIN_BOX = "scale::boxes::{case}_of::<{length}>"
 TABLE_OF_DIGITS = "original::hex::{kind}::{case}_by_table"
 
 
@@ -149,6 +154,30 @@ PARTS = [
     ),
 ]
 
+# Beside plain Rust, not the original crate: they have lines of their own, and are in no group.
+APART = [
+    Part(
+        "ciphers",
+        "ciphers",
+        "Const<{length}>",
+        "cipher, cipher_pieces",
+        CIPHERED,
+        True,
+        PLAIN_CIPHER,
+        None,
+    ),
+    Part(
+        "scale",
+        "scale",
+        "Const<{length}>",
+        "scale_build, scale_map, scale_build_fold, scale_hex",
+        LONG,
+        True,
+        PLAIN_VEC,
+        PLAIN_BOX,
+    ),
+]
+
 
 def cases_of(part):
     for entry in part.cases.split(","):
@@ -157,4 +186,5 @@ def cases_of(part):
 
 
 CASES = [case for part in PARTS for case in cases_of(part)]
+APART_CASES = [case for part in APART for case in cases_of(part)]
 GROUPS = list(dict.fromkeys(part.group for part in PARTS))

@@ -1,7 +1,7 @@
 """The texts of both sides, laid out from calls/ and driver/ and written from the list of cases."""
 import pathlib
 
-from cases import CASES, ROWS, SMALL, TUPLES
+from cases import APART_CASES, CASES, ROWS, SMALL, TUPLES
 
 HERE = pathlib.Path(__file__).resolve().parent
 
@@ -12,6 +12,7 @@ FOR_EACH, WORDS = "concrete", ("ITEM", "LENGTH", "WIDTH", "ROWS")
 FOR_TUPLES = "tuples"
 # A function that has no types left open.
 NO_TYPES = {"nested"}
+ALL = CASES + APART_CASES
 
 EXPORT = """
 #[unsafe(no_mangle)]
@@ -23,7 +24,7 @@ pub extern "C" fn ours_{case}({alloc}kind: u32, seed: u64, reps: u64) -> u64 {{
 """
 
 CASE_TABLE = """//! The cases, written by bench/run from its list.
-use super::{{native, original, Case}};
+use super::{{ciphers, native, original, scale, Case}};
 
 pub type Ours = unsafe extern "C" fn(u32, u64, u64) -> u64;
 
@@ -42,7 +43,8 @@ ENTRY = """    Case {{
         ours: (ours_{case}, {number}),
         original: {original},
         third: {third},
-        is_large: {large},
+        length: {length},
+        is_apart: {is_apart},
     }},"""
 
 
@@ -87,7 +89,7 @@ def export(case):
 
 def exports():
     """The module of all exports, and with it those that are laid out for each kind."""
-    modules = sorted({module_of(case.part, kind) for case in CASES for kind in case.kinds})
+    modules = sorted({module_of(case.part, kind) for case in ALL for kind in case.kinds})
     head = [
         "//! What the driver calls, written by bench/run from its list of cases.",
         "use crate::{",
@@ -96,7 +98,7 @@ def exports():
         "use generic_array::Const;",
         "use std::alloc::Global;",
     ]
-    return "\n".join(head) + "\n" + "".join(map(export, CASES))
+    return "\n".join(head) + "\n" + "".join(map(export, ALL))
 
 
 def our_modules():
@@ -110,18 +112,18 @@ def our_modules():
 
 
 def entry(case, kind, number):
-    part, names = case.part, {"kind": kind.name, "case": case.name}
+    part, names = case.part, {"kind": kind.name, "case": case.name, "length": kind.length}
     third = f"Some({part.third.format(**names)})" if part.third else "None"
     original = part.original.format(**names)
-    large = "true" if kind.length >= 1_000_000 else "false"
-    return ENTRY.format(**names, number=number, original=original, third=third, large=large)
+    is_apart = "true" if case in APART_CASES else "false"
+    return ENTRY.format(**names, number=number, original=original, third=third, is_apart=is_apart)
 
 
 def table():
     """The driver's list of cases."""
-    names = [case.name for case in CASES]
+    names = [case.name for case in ALL]
     declared = [f"    fn ours_{it}(kind: u32, seed: u64, reps: u64) -> u64;" for it in names]
-    entries = [entry(case, *it[::-1]) for case in CASES for it in enumerate(case.kinds)]
+    entries = [entry(case, *it[::-1]) for case in ALL for it in enumerate(case.kinds)]
     return CASE_TABLE.format(declared="\n".join(declared), entries="\n".join(entries))
 
 

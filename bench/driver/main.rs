@@ -3,12 +3,14 @@
 //! `check` compares their checksums, `count` calls them between requests to callgrind, and
 //! `time ROUNDS` prints the medians of interleaved rounds, in nanoseconds for one operation.
 mod cases;
+mod ciphers;
 mod items;
 // An array of arrays is a case of one kind alone.
 #[allow(dead_code)]
 mod native;
 #[allow(dead_code)]
 mod original;
+mod scale;
 
 use cases::{Ours, CASES};
 use std::ffi::CString;
@@ -25,7 +27,9 @@ pub struct Case {
     ours: (Ours, u32),
     original: Call,
     third: Option<Call>,
-    is_large: bool,
+    length: usize,
+    /// Beside plain Rust: it has little stack, and what it makes before its repeats isn't timed.
+    is_apart: bool,
 }
 
 #[derive(Clone, Copy)]
@@ -46,6 +50,15 @@ impl Side {
 }
 
 impl Case {
+    fn is_large(&self) -> bool {
+        self.length >= 1_000_000
+    }
+
+    /// Too long for callgrind, and for more than a few rounds.
+    fn is_huge(&self) -> bool {
+        self.length > 10_000_000
+    }
+
     fn sides(&self) -> Vec<(&'static str, Side)> {
         let mut sides = vec![
             ("ours", Side::Ours(self.ours.0, self.ours.1)),
@@ -57,7 +70,11 @@ impl Case {
 
     /// Prints how many of some seeds have checksums that differ.
     fn check(&self) {
-        let seeds = if self.is_large { 8 } else { 2000u64 };
+        let seeds = match (self.is_huge(), self.is_large()) {
+            (true, _) => 2,
+            (_, true) => 8,
+            _ => 2000u64,
+        };
         let sides = self.sides();
         let differs = |number: &u64| {
             let seed = number.wrapping_mul(0x2545_F491_4F6C_DD1D) ^ number;
@@ -72,7 +89,7 @@ impl Case {
     /// Has callgrind dump what few and what many repeats cost, so that the rest can be taken off.
     fn count(&self) {
         for (side, call) in self.sides() {
-            for repeats in if self.is_large { [1, 3] } else { [4, 20] } {
+            for repeats in if self.is_large() { [1, 3] } else { [4, 20] } {
                 // Made before the count begins: what it allocates depends on the name's length.
                 let name = format!("{}/{}/{side}/{repeats}", self.name, self.kind);
                 let name = CString::new(name).expect("a name without a zero byte");
@@ -86,10 +103,15 @@ impl Case {
     fn time(&self, rounds: u64) {
         let sides = self.sides();
         let repeats = self.repeats_of_a_millisecond();
+        let rounds = if self.is_huge() {
+            rounds.min(5)
+        } else {
+            rounds
+        };
         let mut times = vec![vec![]; sides.len()];
         for round in 0..rounds {
             for ((_, side), times) in sides.iter().zip(&mut times) {
-                times.push(nanoseconds(*side, round, repeats) / repeats as f64);
+                times.push(self.nanoseconds_of_one(*side, round, repeats));
             }
         }
         let medians = times.iter_mut().map(|times| {
@@ -100,8 +122,21 @@ impl Case {
         println!("{},{},{}", self.name, self.kind, medians.join(","));
     }
 
+    fn nanoseconds_of_one(&self, side: Side, seed: u64, repeats: u64) -> f64 {
+        let before = if self.is_apart {
+            nanoseconds(side, seed, 0)
+        } else {
+            0.0
+        };
+        (nanoseconds(side, seed, repeats) - before) / repeats as f64
+    }
+
     fn repeats_of_a_millisecond(&self) -> u64 {
-        let mut repeats = if self.is_large { 1 } else { 64 };
+        let mut repeats = match (self.is_large(), self.is_apart) {
+            (false, _) => 64,
+            (true, true) => 4,
+            (true, false) => 1,
+        };
         while repeats <= 1 << 24 && nanoseconds(Side::Rust(self.original), 1, repeats) < 7e5 {
             repeats *= 2;
         }
@@ -133,15 +168,36 @@ fn request(code: u64, argument: u64) -> u64 {
     result
 }
 
+/// Far less than the long arrays take.
+const LITTLE_STACK: usize = 64 << 10;
+
+/// Runs something in a thread that has little stack.
+fn with_little_stack(work: impl FnOnce() + Send) {
+    std::thread::scope(|scope| {
+        let thread = std::thread::Builder::new().stack_size(LITTLE_STACK);
+        thread.spawn_scoped(scope, work).expect("a thread");
+    });
+}
+
+fn run(case: &Case, words: &[&str]) {
+    match words {
+        ["check"] => case.check(),
+        ["count"] if case.is_huge() => (),
+        ["count"] => case.count(),
+        ["time", rounds] => case.time(rounds.parse().expect("a number of rounds")),
+        _ => panic!("check, count or time ROUNDS"),
+    }
+}
+
 fn main() {
     let words: Vec<String> = std::env::args().skip(1).collect();
     let words: Vec<&str> = words.iter().map(String::as_str).collect();
     for case in CASES {
-        match words[..] {
-            ["check"] => case.check(),
-            ["count"] => case.count(),
-            ["time", rounds] => case.time(rounds.parse().expect("a number of rounds")),
-            _ => panic!("check, count or time ROUNDS"),
+        // In the main thread, callgrind counts nothing of another.
+        if case.is_apart && words != ["count"] {
+            with_little_stack(|| run(case, &words));
+        } else {
+            run(case, &words);
         }
     }
 }
