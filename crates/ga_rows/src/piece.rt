@@ -82,20 +82,30 @@ impl Piece {
         ensures text { self.new ≡ self.old ++ decimal number }
         ensures digits { length self.new ≤ length self.old + 4 }
     {
-        let front = number / 10;
+        if number < 1000 {
+            self.push_below_1000(number);
+        } else {
+            self.push_below_1000(number / 10);
+            self.push_digit(number % 10);
+        }
+    }
+
+    #[inline]
+    #[tactic(auto, using(std::proofs::lemmas::Fmt::decimal_digit))]
+    fn push_below_1000(&mut self, number: u16)
+        requires small { number < 1000 }
+        requires room { length self.old + 3 ≤ PIECE_SIZE }
+        ensures text { self.new ≡ self.old ++ decimal number }
+        ensures digits { length self.new ≤ length self.old + 3 }
+    {
         if number < 10 {
             self.push_digit(number);
         } else if number < 100 {
-            self.push_digit(front);
-            self.push_digit(number % 10);
-        } else if number < 1000 {
-            self.push_digit(front / 10);
-            self.push_digit(front % 10);
+            self.push_digit(number / 10);
             self.push_digit(number % 10);
         } else {
-            self.push_digit(front / 100);
-            self.push_digit(front / 10 % 10);
-            self.push_digit(front % 10);
+            self.push_digit(number / 100);
+            self.push_digit(number / 10 % 10);
             self.push_digit(number % 10);
         }
     }

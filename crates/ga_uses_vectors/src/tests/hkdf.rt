@@ -86,8 +86,8 @@ fn all_make<H: HashFunction>(
 }
 
 #[test]
-fn sha256_makes_the_keys_of_rfc_5869(rt: HostRuntime) -> Result<(), Fail> {
-    let made = [
+fn keys_are_those_of_rfc_5869(rt: HostRuntime) -> Result<(), Fail> {
+    let of_sha256 = [
         (
             "077709362c2e32df0ddc3f0dc47bba6390b6c73bb50f9c3122ec844ad7c2b3e5",
             "3cb25f25faacd57a90434f64d0362f2a2d2d0a90cf1a5a4c5db02d56ecc4c5bf34007208d5b887185865",
@@ -102,13 +102,7 @@ fn sha256_makes_the_keys_of_rfc_5869(rt: HostRuntime) -> Result<(), Fail> {
             "8da4e775a563c18f715f802a063c5a31b8a11f5c5ee1879ec3454e5f3c738d2d9d201395faa4b61a96c8",
         ),
     ];
-    assert!(rt; all_make::<Sha256>(rt.alloc(), &[0x0b; 22], made)?);
-    Ok(())
-}
-
-#[test]
-fn sha1_makes_the_keys_of_rfc_5869(rt: HostRuntime) -> Result<(), Fail> {
-    let made = [
+    let of_sha1 = [
         (
             "9b6c18c432a7bf8f0e71c8eb88f4b30baa2ba243",
             "085a01ea1b10f36933068b56efa5ad81a4f14b822f5b091568a9cdd4f155fda2c22e422478d305f3f896",
@@ -123,8 +117,13 @@ fn sha1_makes_the_keys_of_rfc_5869(rt: HostRuntime) -> Result<(), Fail> {
             "0ac1af7002b3d761d1e55298da9d0506b9ae52057220a306e07b6b87e8df21d0ea00033de03984d34918",
         ),
     ];
-    assert!(rt; all_make::<Sha1>(rt.alloc(), &[0x0b; 11], made)?);
-    // Where no salt is given, it is as many zeros as a digest has bytes.
+    assert!(rt; all_make::<Sha256>(rt.alloc(), &[0x0b; 22], of_sha256)?);
+    assert!(rt; all_make::<Sha1>(rt.alloc(), &[0x0b; 11], of_sha1)?);
+    Ok(())
+}
+
+#[test]
+fn no_salt_is_as_many_zeros_as_a_digest_has_bytes(rt: HostRuntime) -> Result<(), Fail> {
     let given: [&[u8]; 2] = [&[], &[0; 20]];
     for salt in given {
         assert!(rt;

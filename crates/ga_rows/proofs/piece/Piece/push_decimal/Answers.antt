@@ -1,16 +1,12 @@
-use Rattle.ga_rows.proofs.DecimalLemmas.{decimal-three_digits, decimal-two_digits}
 use Rattle.ga_rows.proofs.piece.Piece.push_decimal.Goals as goal
-use Rattle.std.proofs.Common.{◌/◌, append_assoc, arith}
+use Rattle.std.proofs.Common.{◌∷◌, [], ◌++◌, ◌+◌, ◌/◌, ◌%◌, ap, append_assoc, arith, decimal, sym, ◌∙◌}
 use Rattle.std.proofs.lemmas.Fmt.{decimal_step}
-
-pub returns-then-number-lt100-clause-text : goal.returns-then-number-lt100-clause-text
-returns-then-number-lt100-clause-text c =
-    rw (decimal-two_digits c.args.number (omega arith) (omega arith), c.push_digit-then-number-lt100-2.ensures, c.push_digit-then-number-lt100.ensures) (simp append_assoc)
-
-pub returns-then-number-lt1000-clause-text : goal.returns-then-number-lt1000-clause-text
-returns-then-number-lt1000-clause-text c =
-    rw (decimal_step c.args.number (omega arith) (omega arith), decimal-two_digits (c.args.number / 10) (omega arith) (omega arith), c.push_digit-then-number-lt1000-3.ensures, c.push_digit-then-number-lt1000-2.ensures, c.push_digit-then-number-lt1000.ensures) (simp append_assoc)
 
 pub returns-else-number-lt1000-clause-text : goal.returns-else-number-lt1000-clause-text
 returns-else-number-lt1000-clause-text c =
-    rw (decimal_step c.args.number (omega arith) (omega arith), decimal-three_digits (c.args.number / 10) (omega arith) (omega arith), c.push_digit-else-number-lt1000-4.ensures, c.push_digit-else-number-lt1000-3.ensures, c.push_digit-else-number-lt1000-2.ensures, c.push_digit-else-number-lt1000.ensures) (simp append_assoc)
+    let before = c.args.self.now in
+    let number = c.args.number in
+    let last = (48 + number % 10) ∷ [] in
+    c.push_digit.ensures
+    ∙ (ap (λ text. text ++ last) c.push_below_1000-else-number-lt1000.ensures.text
+    ∙ (append_assoc before (decimal (number / 10)) last ∙ ap (λ text. before ++ text) (sym (decimal_step number (omega arith) (omega arith)))))
