@@ -1,6 +1,7 @@
 //! Matrices of whole numbers, of any size: columns, the transpose and the product.
 //!
-//! Contracts see a row as the list of its numbers, and a matrix as the list of its rows.
+//! Contracts see a row as the list of its numbers, and a matrix as the list of its rows. Both are made
+//! by a literal: the checker covers no call that takes an array of rows by value.
 ghost use Rattle.ga_uses.specs.Matrix.{column_of, dot_product, matrix_product, row_product, transpose};
 ghost use Rattle.std.specs.Prelude.{◌≡◌, ◌<◌, Some, replicate, slice_get, slice_index};
 
@@ -12,7 +13,8 @@ use std::marker::Model;
 /// A type of its own, since the checker doesn't cover a struct whose bound names an array of arrays.
 #[derive(Drop)]
 pub struct Row<C: ArrayLength<u64>> {
-    items: GenericArray<u64, C>,
+    /// The numbers, from the first column to the last.
+    pub items: GenericArray<u64, C>,
 }
 
 impl<C: ArrayLength<u64>> Model for Row<C> {
@@ -33,19 +35,11 @@ impl<C: ArrayLength<u64> + InlineLength> Default for Row<C> {
     }
 }
 
-impl<C: ArrayLength<u64>> Row<C> {
-    /// The row of these numbers.
-    pub fn new(items: GenericArray<u64, C>) -> Self
-        ensures { result ≡ items }
-    {
-        Row { items }
-    }
-}
-
 /// `R` rows of `C` numbers each.
 #[derive(Drop)]
 pub struct Matrix<R: ArrayLength<Row<C>>, C: ArrayLength<u64>> {
-    rows: GenericArray<Row<C>, R>,
+    /// The rows, from the first to the last.
+    pub rows: GenericArray<Row<C>, R>,
 }
 
 impl<R: ArrayLength<Row<C>>, C: ArrayLength<u64>> Model for Matrix<R, C> {
@@ -76,13 +70,6 @@ where
     C: ArrayLength<u64>,
     R: ArrayLength<Row<C>>,
 {
-    /// The matrix of these rows.
-    pub fn new(rows: GenericArray<Row<C>, R>) -> Self
-        ensures { result ≡ rows }
-    {
-        Matrix { rows }
-    }
-
     /// The number in a row and a column. O(1).
     pub fn at(&self, row: usize, column: usize) -> u64
         requires row { row < R.USIZE }

@@ -16,7 +16,16 @@ where
 
 /// The rows 1 2 3 and 4 5 6.
 fn counted() -> Matrix<U2, U3> {
-    Matrix::new(arr![Row::new(arr![1, 2, 3]), Row::new(arr![4, 5, 6])])
+    Matrix {
+        rows: arr![
+            Row {
+                items: arr![1, 2, 3]
+            },
+            Row {
+                items: arr![4, 5, 6]
+            }
+        ],
+    }
 }
 
 #[test]
@@ -32,11 +41,15 @@ fn a_matrix_is_read_and_turned(rt: HostRuntime) {
 
 #[test]
 fn matrices_are_multiplied(rt: HostRuntime) {
-    let right: Matrix<U3, U2> = Matrix::new(arr![
-        Row::new(arr![7, 8]),
-        Row::new(arr![9, 10]),
-        Row::new(arr![11, 12])
-    ]);
+    let right: Matrix<U3, U2> = Matrix {
+        rows: arr![
+            Row { items: arr![7, 8] },
+            Row { items: arr![9, 10] },
+            Row {
+                items: arr![11, 12]
+            }
+        ],
+    };
     let made = product(&counted(), &right);
     assert!(rt; made.at(0, 0) == 58 && made.at(0, 1) == 64);
     assert!(rt; made.at(1, 0) == 139 && made.at(1, 1) == 154);
