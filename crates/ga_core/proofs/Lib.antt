@@ -1,6 +1,6 @@
-mod LentSlice
 mod MadeLemmas
 mod NextCalls
+mod SlotMemory
 mod ZipLemmas
 pub mod ActsLemmas
 pub mod CallLemmas

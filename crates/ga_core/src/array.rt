@@ -22,7 +22,7 @@ mod tuples;
 
 use crate::array_iter::GenericArrayIter;
 use crate::length::ArrayLength;
-use crate::store::Store;
+use crate::store::{Slots, Store};
 pub use as_slice::Len;
 use ga_views::{Const, MAX_INLINE};
 use std::marker::{Model, PhantomData};
@@ -35,7 +35,7 @@ use std::slice;
 /// `MAX_INLINE`.
 #[derive(Drop)]
 pub struct GenericArray<T, N: ArrayLength<T>> {
-    store: N::ArrayType,
+    slots: <N::ArrayType as Store<T>>::Slots,
     of: PhantomData<T>,
 }
 
@@ -45,25 +45,34 @@ pub type ConstGenericArray<T, const N: usize> = GenericArray<T, Const<N>>;
 impl<T, N: ArrayLength<T>> Model for GenericArray<T, N> {
     ghost Value = { List T };
 
-    ghost view = { λ array. N.ArrayType.items array.store };
+    ghost view = { λ array. N.ArrayType.Slots.items array.slots };
 
-    ghost invariant = { λ array. (length (N.ArrayType.items array.store) ≡ N.USIZE) × (FitsInline N.USIZE) };
+    ghost invariant = { λ array. (length (N.ArrayType.Slots.items array.slots) ≡ N.USIZE) × (FitsInline N.USIZE) };
 }
 
 impl<T, N: ArrayLength<T>> GenericArray<T, N> {
     ghost use Rattle.ga_core.specs.Lends.{LendsItems, LendsIter};
 
-    // The array of the items of a full store.
+    // The array of the items in slots.
     #[inline(always)]
-    pub(crate) fn of_store(store: N::ArrayType) -> Self
-        requires full { length (N.ArrayType.items store) ≡ N.USIZE }
+    pub(crate) fn of_slots(slots: <N::ArrayType as Store<T>>::Slots) -> Self
+        requires full { length (N.ArrayType.Slots.items slots) ≡ N.USIZE }
         requires fits { FitsInline N.USIZE }
-        ensures { result ≡ N.ArrayType.items store }
+        ensures { result ≡ N.ArrayType.Slots.items slots }
     {
         GenericArray {
-            store,
+            slots,
             of: PhantomData,
         }
+    }
+
+    // An array of blanks, all of which are written over afterwards.
+    #[inline(always)]
+    pub(crate) fn filled() -> Self
+        requires fits { FitsInline N.USIZE }
+        ensures { length result ≡ N.USIZE }
+    {
+        GenericArray::of_slots(Slots::filled())
     }
 
     /// The number of items, which is that of the type.
@@ -88,19 +97,18 @@ impl<T, N: ArrayLength<T>> GenericArray<T, N> {
         ensures len { length result.now ≡ N.USIZE }
         ensures fits { FitsInline N.USIZE }
     {
-        // Cut to the length that the type tells, so that the compiler knows it.
-        &self.store.as_slice()[..N::USIZE]
+        self.slots.as_slice()
     }
 
     /// All items, in order, for writing. O(1).
     #[inline]
     pub fn as_mut_slice(&mut self) -> &mut [T]
-        ensures* writes_back { sem 𝓛 (LendsItems T.row N.row N.ArrayType.row N.Unsigned N.ArrayType.Store
-            self.entry result) }
+        ensures* writes_back { sem 𝓛 (LendsItems T.row N.row N.ArrayType.row N.ArrayType.Slots.row
+            N.Unsigned N.ArrayType.Store N.ArrayType.Slots.Slots self.entry result) }
         ensures items { result.now ≡ self.old }
         ensures len { length result.now ≡ N.USIZE }
     {
-        self.store.as_mut_slice_of(N::USIZE)
+        self.slots.as_mut_slice()
     }
 
     /// The items by reference, in order.
@@ -113,8 +121,8 @@ impl<T, N: ArrayLength<T>> GenericArray<T, N> {
     /// The items by reference, in order, for writing.
     #[inline]
     pub fn iter_mut(&mut self) -> slice::IterMut<'_, T>
-        ensures* writes_back { sem 𝓛 (LendsIter T.row N.row N.ArrayType.row N.Unsigned N.ArrayType.Store
-            self.entry result) }
+        ensures* writes_back { sem 𝓛 (LendsIter T.row N.row N.ArrayType.row N.ArrayType.Slots.row
+            N.Unsigned N.ArrayType.Store N.ArrayType.Slots.Slots self.entry result) }
         ensures items { IteratesMutOver self.old N.USIZE result }
     {
         self.as_mut_slice().iter_mut()
@@ -143,11 +151,11 @@ impl<T, N: ArrayLength<T>> IndexMut<usize> for GenericArray<T, N> {
     #[inline]
     fn index_mut(&mut self, index: usize) -> &mut T
         requires { index < N.USIZE }
-        ensures* writes_back { sem 𝓛 (LendsItem T.row N.row N.ArrayType.row N.Unsigned N.ArrayType.Store
-            self.entry index result) }
+        ensures* writes_back { sem 𝓛 (LendsItem T.row N.row N.ArrayType.row N.ArrayType.Slots.row
+            N.Unsigned N.ArrayType.Store N.ArrayType.Slots.Slots self.entry index result) }
         ensures value { slice_get self.old index ≡ Some result.now }
     {
-        self.store.item_mut(index)
+        self.slots.item_mut(index)
     }
 }
 
@@ -163,7 +171,7 @@ impl<T: Default + Drop, N: ArrayLength<T>> IntoIterator for GenericArray<T, N> {
 
     #[inline]
     fn into_iter(self) -> GenericArrayIter<T, N> {
-        let GenericArray { store, of: _ } = self;
-        GenericArrayIter::of_store(store, N::USIZE)
+        let GenericArray { slots, of: _ } = self;
+        GenericArrayIter::of_store(Store::of_slots(slots), N::USIZE)
     }
 }

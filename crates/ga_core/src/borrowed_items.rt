@@ -9,7 +9,6 @@ ghost use Rattle.std.specs.Prelude.{◌≡◌, List, Result, length, ⊤};
 use crate::array::GenericArray;
 use crate::length::ArrayLength;
 use crate::mapping::{try_write_mapped_ref, write_mapped_ref, write_zipped_refs};
-use crate::store::Store;
 use ga_views::{GenericArrayRef, Unsigned};
 
 /// Borrowed items: those of a read-only view, or of an inline array by reference.
@@ -60,9 +59,9 @@ pub trait BorrowedItems<T, N: Unsigned> {
         ensures acts { MapsAs (λ item. item.now) F.step f.old (items self.now) result }
     {
         let items = self.borrowed();
-        let mut store: <N as ArrayLength<U>>::ArrayType = Store::filled();
-        write_mapped_ref(items, store.as_mut_slice(), f);
-        GenericArray::of_store(store)
+        let mut made = GenericArray::<U, N>::filled();
+        write_mapped_ref(items, made.as_mut_slice(), f);
+        made
     }
 
     /// `map_inline_ref` with a closure that may fail: the array of what it returns, or its first error.
@@ -98,9 +97,9 @@ pub trait BorrowedItems<T, N: Unsigned> {
         ensures acts { TryMapsAs (λ item. item.now) F.step f.old (items self.now) result }
     {
         let items = self.borrowed();
-        let mut store: <N as ArrayLength<U>>::ArrayType = Store::filled();
-        match try_write_mapped_ref(items, store.as_mut_slice(), f) {
-            Ok(()) => Ok(GenericArray::of_store(store)),
+        let mut made = GenericArray::<U, N>::filled();
+        match try_write_mapped_ref(items, made.as_mut_slice(), f) {
+            Ok(()) => Ok(made),
             Err(error) => Err(error),
         }
     }
@@ -146,9 +145,9 @@ pub trait BorrowedItems<T, N: Unsigned> {
             (items_of_view rhs.entry) result }
     {
         let items = self.borrowed();
-        let mut store: <N as ArrayLength<U>>::ArrayType = Store::filled();
-        write_zipped_refs(items, rhs.as_slice(), store.as_mut_slice(), f);
-        GenericArray::of_store(store)
+        let mut made = GenericArray::<U, N>::filled();
+        write_zipped_refs(items, rhs.as_slice(), made.as_mut_slice(), f);
+        made
     }
 }
 

@@ -1,5 +1,5 @@
 //! Where an inline array keeps its items: `Store`, and `ArrayVec` as one.
-ghost use Rattle.arrayvec.specs.Lends.{lends_item, lends_slice};
+ghost use Rattle.ga_core.specs.SlotLends.{LendsSlot, LendsSlots};
 ghost use Rattle.ga_views.specs.Length.{FitsInline};
 ghost use Rattle.std.specs.Borrow.{Array, Lends, sem};
 ghost use Rattle.std.specs.Iterator.{YieldsLast};
@@ -21,14 +21,6 @@ pub trait Store<T>: Sized + Drop {
     fn empty() -> Self
         requires fits { FitsInline CAPACITY }
         ensures { items result ≡ [] };
-
-    /// A full store, each of whose items is a blank. Its capacity is at most `MAX_INLINE`.
-    ///
-    /// For a store whose items are all written afterwards: writing a slot costs less than `push`,
-    /// which counts the items too.
-    fn filled() -> Self
-        requires fits { FitsInline CAPACITY }
-        ensures { length (items result) ≡ CAPACITY };
 
     /// Appends `item`. Requires that the store isn't full. O(1).
     fn push(&mut self, item: T)
@@ -59,23 +51,54 @@ pub trait Store<T>: Sized + Drop {
             self.entry result (λ written. (store_with self.old written).0)) }
         ensures value { result.now ≡ items self.old };
 
-    /// `as_mut_slice` where the caller knows how many items there are, so that the compiler knows it
-    /// too.
-    fn as_mut_slice_of(&mut self, len: usize) -> &mut [T]
-        requires len { len ≡ length (items self.old) }
+    /// The slots of a full store.
+    type Slots: Slots<T>;
+
+    /// The full store of these items.
+    fn of_slots(slots: Self::Slots) -> Self
+        ensures { items result ≡ Self.Slots.items slots };
+
+    /// The items of a full store, without the count.
+    fn into_slots(self) -> Self::Slots
+        requires full { length (items self) ≡ CAPACITY }
+        ensures { Self.Slots.items result ≡ items self };
+
+    ghost as_many_slots: { Self.Slots.LEN ≡ Self.CAPACITY };
+}
+
+/// A list of a fixed length, kept in the value itself, with nothing beside its items.
+pub trait Slots<T>: Sized + Drop {
+    ghost items: { Self → List T };
+
+    ghost LEN: { ℕ };
+
+    /// Slots that each hold a blank.
+    fn filled() -> Self
+        ensures { length (items result) ≡ LEN };
+
+    /// The items, in order.
+    fn as_slice(&self) -> &[T]
+        ensures { result.now ≡ items self.now };
+
+    // The slots with these items written over their own, as many as there are.
+    ghost slots_with: { (slots : Self) (written : List T) → (after : Self)
+        × (items after ≡ refill (length (items slots)) (items slots) written) };
+
+    /// The items, in order, for writing. What is written stands in the slots afterwards.
+    fn as_mut_slice(&mut self) -> &mut [T]
         ensures* writes_back { sem 𝓛 (Lends Self.row (Array T.row 0)
-            self.entry result (λ written. (store_with self.old written).0)) }
+            self.entry result (λ written. (slots_with self.old written).0)) }
         ensures value { result.now ≡ items self.old };
 
-    // The store with this item at the index, and the others as they are.
-    ghost store_with_item: { (store : Self) (index : ℕ) (item : T) → (after : Self)
-        × (items after ≡ slice_set (items store) index item) };
+    // The slots with this item at the index, and the others as they are.
+    ghost slots_with_item: { (slots : Self) (index : ℕ) (item : T) → (after : Self)
+        × (items after ≡ slice_set (items slots) index item) };
 
     /// The item at `index`, for writing.
     fn item_mut(&mut self, index: usize) -> &mut T
         requires in_bounds { index < length (items self.old) }
         ensures* writes_back { sem 𝓛 (Lends Self.row T.row
-            self.entry result (λ item. (store_with_item self.old index item).0)) }
+            self.entry result (λ item. (slots_with_item self.old index item).0)) }
         ensures value { result.now ≡ slice_index_or (items self.old) index result.now };
 }
 
@@ -91,11 +114,6 @@ impl<T: Default + Drop, const N: usize> Store<T> for ArrayVec<T, N> {
     #[inline]
     fn empty() -> Self {
         ArrayVec::new()
-    }
-
-    #[inline]
-    fn filled() -> Self {
-        ArrayVec::from_array_in((), Default::default())
     }
 
     #[inline]
@@ -125,45 +143,74 @@ impl<T: Default + Drop, const N: usize> Store<T> for ArrayVec<T, N> {
         ArrayVec::as_mut_slice(self)
     }
 
+    type Slots = [T; N];
+
     #[inline]
-    fn as_mut_slice_of(&mut self, len: usize) -> &mut [T] {
-        items_of(self, len)
+    fn of_slots(slots: [T; N]) -> Self {
+        ArrayVec::from_array_in((), slots)
     }
 
-    ghost store_with_item = { λ store index item. (with_item store index item, refl) };
+    #[inline]
+    fn into_slots(self) -> [T; N] {
+        match self.into_inner() {
+            Ok(slots) => slots,
+            Err(_) => unreachable!(),
+        }
+    }
+
+    ghost as_many_slots = { refl };
+}
+
+impl<T: Default + Drop, const N: usize> Slots<T> for [T; N] {
+    ghost use Rattle.std.specs.Prelude.{refl};
+
+    ghost items = { λ slots. slots };
+
+    ghost LEN = { N };
+
+    #[inline]
+    fn filled() -> Self {
+        Default::default()
+    }
+
+    #[inline]
+    fn as_slice(&self) -> &[T] {
+        &self[..]
+    }
+
+    ghost slots_with = { λ slots written. (refill (length slots) slots written, refl) };
+
+    #[inline]
+    fn as_mut_slice(&mut self) -> &mut [T] {
+        slots_of(self, N)
+    }
+
+    ghost slots_with_item = { λ slots index item. (slice_set slots index item, refl) };
 
     #[inline]
     fn item_mut(&mut self, index: usize) -> &mut T {
-        item_of(self, index)
+        slot_of(self, index)
     }
 }
 
-// The items of a store, of which there are `len`.
+// The slots of a native array, of which there are `len`.
 #[inline]
-fn items_of<T, const N: usize, A>(store: &mut ArrayVec<T, N, A>, len: usize) -> &mut [T]
-    requires len { len ≡ length store.old.items }
-    ensures* writes_back { sem 𝓛 (lends_slice T.row N.row A.row store.entry result) }
-    ensures value { result.now ≡ store.old.items }
+fn slots_of<T, const N: usize>(slots: &mut [T; N], len: usize) -> &mut [T]
+    requires len { len ≡ N }
+    ensures* writes_back { sem 𝓛 (LendsSlots T.row N.row slots.entry result) }
+    ensures value { result.now ≡ slots.old }
 {
-    &mut store.as_mut_slice()[..len]
+    &mut slots[..len]
 }
 
-// The item of a store at `index`, with no test of the index.
+// The slot of a native array at `index`.
 #[inline]
-fn item_of<T, const N: usize, A>(store: &mut ArrayVec<T, N, A>, index: usize) -> &mut T
-    requires in_bounds { index < length store.old.items }
-    ensures* writes_back { sem 𝓛 (lends_item T.row N.row A.row store.entry index result) }
-    ensures value { result.now ≡ slice_index_or store.old.items index result.now }
+fn slot_of<T, const N: usize>(slots: &mut [T; N], index: usize) -> &mut T
+    requires in_bounds { index < N }
+    ensures* writes_back { sem 𝓛 (LendsSlot T.row N.row slots.entry index result) }
+    ensures value { result.now ≡ slice_index_or slots.old index result.now }
 {
-    &mut store.as_mut_slice()[index]
-}
-
-// The full store of the items of a native array.
-#[inline]
-pub(crate) fn store_of_array<T, const N: usize>(items: [T; N]) -> ArrayVec<T, N>
-    ensures { result.items ≡ items }
-{
-    ArrayVec::from_array_in((), items)
+    &mut slots[index]
 }
 
 // A store of clones of the items, made in order. If a clone fails, drops those made before it and

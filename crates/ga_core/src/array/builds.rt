@@ -9,7 +9,6 @@ use crate::array::GenericArray;
 use crate::builder::ArrayBuilder;
 use crate::length::ArrayLength;
 use crate::slots::{try_write_answers, write_answers};
-use crate::store::Store;
 use ga_views::LengthError;
 
 impl<T: Drop, N: ArrayLength<T>> GenericArray<T, N> {
@@ -32,9 +31,9 @@ impl<T: Drop, N: ArrayLength<T>> GenericArray<T, N> {
         ensures run { GenerateRun F.step f.old N.USIZE result f.new }
         ensures acts { GeneratesAs F.FnMut f.old N.USIZE result }
     {
-        let mut store: N::ArrayType = Store::filled();
-        write_answers(store.as_mut_slice(), f);
-        GenericArray::of_store(store)
+        let mut array = Self::filled();
+        write_answers(array.as_mut_slice(), f);
+        array
     }
 
     /// `generate` with a closure that may fail: the array of its values, or its first error.
@@ -57,9 +56,9 @@ impl<T: Drop, N: ArrayLength<T>> GenericArray<T, N> {
         ensures run { TryGenerateRun F.step f.old N.USIZE result f.new }
         ensures acts { TryGeneratesAs F.FnMut f.old N.USIZE result }
     {
-        let mut store: N::ArrayType = Store::filled();
-        match try_write_answers(store.as_mut_slice(), f) {
-            Ok(()) => Ok(GenericArray::of_store(store)),
+        let mut array = Self::filled();
+        match try_write_answers(array.as_mut_slice(), f) {
+            Ok(()) => Ok(array),
             Err(error) => Err(error),
         }
     }

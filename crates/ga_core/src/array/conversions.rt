@@ -8,7 +8,6 @@ use crate::alloc_error::AllocError;
 use crate::array::GenericArray;
 use crate::length::ArrayLength;
 use crate::slots::move_items;
-use crate::store::{Store, store_of_array};
 use ga_views::{Const, GenericArrayRef, InlineLength, LengthError};
 use std::alloc::Global;
 use std::boxed::BoxedSlice;
@@ -24,7 +23,7 @@ impl<T: Default + Drop, const U: usize> GenericArray<T, Const<U>> {
         requires fits { FitsInline U }
         ensures { result ≡ items }
     {
-        GenericArray::of_store(store_of_array(items))
+        GenericArray::of_slots(items)
     }
 }
 
@@ -38,9 +37,9 @@ impl<T: Copy + Default + Drop, N: ArrayLength<T>> GenericArray<T, N> {
         requires fits { FitsInline N.USIZE }
         ensures { result ≡ items_of_view view.entry }
     {
-        let mut store: N::ArrayType = Store::filled();
-        store.as_mut_slice().copy_from_slice(view.as_slice());
-        GenericArray::of_store(store)
+        let mut array = Self::filled();
+        array.as_mut_slice().copy_from_slice(view.as_slice());
+        array
     }
 
     /// The native array of the items, of as many. The counterpart of `GenericArray::into_array`.
@@ -70,9 +69,9 @@ impl<T: Default + Drop, N: ArrayLength<T>> GenericArray<T, N> {
         if items.len() != N::USIZE {
             return Err(LengthError);
         }
-        let mut store: N::ArrayType = Store::filled();
-        move_items(items.as_mut_slice(), store.as_mut_slice());
-        Ok(GenericArray::of_store(store))
+        let mut array = Self::filled();
+        move_items(items.as_mut_slice(), array.as_mut_slice());
+        Ok(array)
     }
 
     /// The same of a boxed slice. The counterpart of `TryFrom<Box<[T]>>`.

@@ -8,7 +8,6 @@ use crate::alloc_error::AllocError;
 use crate::array::GenericArray;
 use crate::length::ArrayLength;
 use crate::slots::{write_clones, write_copies, write_same};
-use crate::store::Store;
 use std::alloc;
 
 impl<T: Default + Drop, N: ArrayLength<T>> GenericArray<T, N> {
@@ -33,7 +32,7 @@ impl<T: Copy + Drop, N: ArrayLength<T>> GenericArray<T, N> {
         requires fits { FitsInline N.USIZE }
         ensures { result ≡ replicate N.USIZE item }
     {
-        let mut array = GenericArray::of_store(Store::filled());
+        let mut array = Self::filled();
         write_same(array.as_mut_slice(), item);
         array
     }
@@ -54,9 +53,9 @@ impl<T: Clone, N: ArrayLength<T>> GenericArray<T, N> {
         ensures few { N.USIZE ≤ 1 → IsOk result }
         ensures succeeds { T.is_infallible item → IsOk result }
     {
-        let mut store: N::ArrayType = Store::filled();
-        match write_copies(store.as_mut_slice(), item) {
-            Ok(()) => Ok(GenericArray::of_store(store)),
+        let mut array = Self::filled();
+        match write_copies(array.as_mut_slice(), item) {
+            Ok(()) => Ok(array),
             Err(refused) => Err(refused),
         }
     }
@@ -70,9 +69,9 @@ impl<T: Clone, N: ArrayLength<T>> GenericArray<T, N> {
         ensures empty { N.USIZE ≡ 0 → IsOk result }
     {
         let items = self.as_slice();
-        let mut store: N::ArrayType = Store::filled();
-        match write_clones(store.as_mut_slice(), items) {
-            Ok(()) => Ok(GenericArray::of_store(store)),
+        let mut copy = Self::filled();
+        match write_clones(copy.as_mut_slice(), items) {
+            Ok(()) => Ok(copy),
             Err(refused) => Err(refused),
         }
     }

@@ -15,7 +15,6 @@ ghost use Rattle.std.specs.Prelude.{◌≡◌, Result, map};
 use crate::array::GenericArray;
 use crate::length::ArrayLength;
 use crate::mapping::{try_write_mapped, write_mapped, write_zipped, write_zipped_ref};
-use crate::store::Store;
 use ga_views::GenericArrayRef;
 
 impl<T: Default + Drop, N: ArrayLength<T>> GenericArray<T, N> {
@@ -45,9 +44,9 @@ impl<T: Default + Drop, N: ArrayLength<T>> GenericArray<T, N> {
         ensures run { ClosureRun F.step f.old self result f.new }
         ensures acts { (h : T → U) → ActsAs F.FnMut f.old h → result ≡ map h self }
     {
-        let mut store: <N as ArrayLength<U>>::ArrayType = Store::filled();
-        write_mapped(self.as_mut_slice(), store.as_mut_slice(), f);
-        GenericArray::of_store(store)
+        let mut made = GenericArray::<U, N>::filled();
+        write_mapped(self.as_mut_slice(), made.as_mut_slice(), f);
+        made
     }
 
     /// `map_inline` with a closure that may fail: the array of what it returns, or its first error.
@@ -79,9 +78,9 @@ impl<T: Default + Drop, N: ArrayLength<T>> GenericArray<T, N> {
         ensures run { FirstErrorRun F.step f.old self result f.new }
         ensures acts { (h : T → Result U E) → ActsAs F.FnMut f.old h → result ≡ try_map h self }
     {
-        let mut store: <N as ArrayLength<U>>::ArrayType = Store::filled();
-        match try_write_mapped(self.as_mut_slice(), store.as_mut_slice(), f) {
-            Ok(()) => Ok(GenericArray::of_store(store)),
+        let mut made = GenericArray::<U, N>::filled();
+        match try_write_mapped(self.as_mut_slice(), made.as_mut_slice(), f) {
+            Ok(()) => Ok(made),
             Err(error) => Err(error),
         }
     }
@@ -118,14 +117,14 @@ impl<T: Default + Drop, N: ArrayLength<T>> GenericArray<T, N> {
         ensures run { ClosureRun (CallOnPair F.step) f.old (zip self rhs) result f.new }
         ensures acts { (h : T × B → U) → ActsOnPair F.step f.old h → result ≡ map h (zip self rhs) }
     {
-        let mut store: <N as ArrayLength<U>>::ArrayType = Store::filled();
+        let mut made = GenericArray::<U, N>::filled();
         write_zipped(
             self.as_mut_slice(),
             rhs.as_mut_slice(),
-            store.as_mut_slice(),
+            made.as_mut_slice(),
             f,
         );
-        GenericArray::of_store(store)
+        made
     }
 
     /// `zip_inline` with a view as the right-hand side, whose items are borrowed.
@@ -163,13 +162,13 @@ impl<T: Default + Drop, N: ArrayLength<T>> GenericArray<T, N> {
         ensures acts { ZipsAs (λ item. item) (λ item. item.now) F.step f.old self
             (items_of_view rhs.entry) result }
     {
-        let mut store: <N as ArrayLength<U>>::ArrayType = Store::filled();
+        let mut made = GenericArray::<U, N>::filled();
         write_zipped_ref(
             self.as_mut_slice(),
             rhs.into_slice(),
-            store.as_mut_slice(),
+            made.as_mut_slice(),
             f,
         );
-        GenericArray::of_store(store)
+        made
     }
 }

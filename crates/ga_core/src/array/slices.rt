@@ -29,7 +29,7 @@ impl<T, N: ArrayLength<T>> GenericArray<T, N> {
         ensures { result.slice ≡ self.entry }
     {
         // Where a field is used, the type's invariant is known: there are `N` items.
-        let _ = &self.store;
+        let _ = &self.slots;
         ViewMut::over(self)
     }
 
@@ -117,6 +117,6 @@ impl<T, N: ArrayLength<T>> GenericArray<T, N> {
         for item in items {
             store.push(Some(item));
         }
-        GenericArray::of_store(store)
+        GenericArray::of_slots(store.into_slots())
     }
 }
