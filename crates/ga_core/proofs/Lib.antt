@@ -1,6 +1,7 @@
 mod MadeLemmas
 mod NextCalls
 mod SlotMemory
+mod TupleLemmas
 mod ZipLemmas
 pub mod ActsLemmas
 pub mod CallLemmas

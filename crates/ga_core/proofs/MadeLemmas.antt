@@ -1,16 +1,12 @@
--- An array that is made of a full store, all of whose slots were written over, and the run of calls that wrote them.
+-- An array all of whose slots were written over, and the run of calls that wrote them.
 use Rattle.ga_core.proofs.SlotLemmas.{refill-over}
 use Rattle.ga_core.specs.Runs.{ClosureRun, FirstErrorRun}
-use Rattle.std.proofs.Common.{◌≡◌, ℕ, List, Result, ap, length, subst, sym, ◌∙◌}
+use Rattle.std.proofs.Common.{◌≡◌, List, Result, length, refl, subst, sym}
 use Rattle.std.specs.List.{refill}
 
--- as many slots are lent as a full store has
-pub all_slots : {X : Type 0} {blanks lent : List X} {capacity n : ℕ} → lent ≡ blanks → length blanks ≡ capacity → capacity ≡ n → length lent ≡ n
-all_slots lends full is = ap length lends ∙ (full ∙ is)
-
--- the array has what was written, where the slots were lent as the store had them, and all of them were written
-pub made-is_written : {X : Type 0} {blanks lent written after array : List X} → lent ≡ blanks → length written ≡ length lent → after ≡ refill (length blanks) blanks written → array ≡ after → array ≡ written
-made-is_written lends long stands made = made ∙ refill-over _ _ _ _ lends long stands
+-- the array has what was written, where its slots were lent as they were, and all of them were written
+pub made-is_written : {X : Type 0} {blanks lent written : List X} → lent ≡ blanks → length written ≡ length lent → refill (length blanks) blanks written ≡ written
+made-is_written lends long = refill-over _ _ _ _ lends long refl
 
 -- a run over lent items gave what was written, so the run over the items gives the array
 pub ClosureRun-made : {F X Y : Type 0} (step : F → X → Y → F → Type 0) (f last : F) {lent items : List X} {written array : List Y} → lent ≡ items → array ≡ written

@@ -7,8 +7,8 @@ ghost use Rattle.std.specs.Option.{option_copied};
 ghost use Rattle.std.specs.Prelude.{◌≡◌, ◌<◌, ◌↔◌, ◌⊎◌, ◌++◌, IfOk, IsOk, Some, length, map};
 
 use crate::array::GenericArray;
+use crate::builder::ArrayBuilder;
 use crate::length::ArrayLength;
-use crate::store::Store;
 use ga_views::{ChunksMut, ChunksRef, GenericArrayMut, GenericArrayRef, LengthError, ViewMut};
 
 impl<T, N: ArrayLength<T>> GenericArray<T, N> {
@@ -113,10 +113,10 @@ impl<T, N: ArrayLength<T>> GenericArray<T, N> {
         ensures { map option_copied result ≡ map Some self.now }
     {
         let items = self.as_slice();
-        let mut store: <N as ArrayLength<Option<&'a T>>>::ArrayType = Store::empty();
+        let mut references = ArrayBuilder::new();
         for item in items {
-            store.push(Some(item));
+            references.push(Some(item));
         }
-        GenericArray::of_slots(store.into_slots())
+        references.finish()
     }
 }

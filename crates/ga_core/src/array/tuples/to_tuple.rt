@@ -1,4 +1,4 @@
-//! Tuples of the items of arrays, taken one by one from the front.
+//! Tuples of the items of arrays, each by the native array of them.
 ghost use Rattle.std.specs.Prelude.{◌≡◌, ◌∷◌, []};
 
 use crate::array::GenericArray;

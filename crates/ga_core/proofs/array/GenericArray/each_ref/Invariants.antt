@@ -5,6 +5,6 @@ use Rattle.std.specs.Option.{option_copied}
 -- the references so far are those to the items so far
 abbrev pub invariant-loop-item : goal.invariant-loop-item
 invariant-loop-item g l = record {
-  same : map option_copied (g.N.ArrayType.Store-2.items l.store) ≡ map Some (take l.item-index l.items);
-  long : length (g.N.ArrayType.Store-2.items l.store) ≡ l.item-index;
+  same : map option_copied l.references ≡ map Some (take l.item-index l.items);
+  long : length l.references ≡ l.item-index;
 }

@@ -1,18 +1,18 @@
 use Rattle.ga_core.proofs.ActsLemmas.{answers_of_run}
 use Rattle.ga_core.proofs.CallLemmas.{callable-along}
-use Rattle.ga_core.proofs.MadeLemmas.{ClosureRun-made, all_slots, made-is_written}
+use Rattle.ga_core.proofs.MadeLemmas.{ClosureRun-made, made-is_written}
 use Rattle.ga_core.proofs.array.GenericArray.generate_by.Goals as goal
 use Rattle.std.proofs.Common.{ap, arith}
 use Rattle.std.specs.List.{range_with_len}
 
 pub write_answers-requires : goal.write_answers-requires
 write_answers-requires g c =
-    let full = all_slots c.as_mut_slice.ensures.value c.filled-store.ensures g.met.N.ArrayLength.capacity_is in
+    let full = c.as_mut_slice.ensures.len in
     record { callable = λ k ys reached below run. callable-along _ _ _ _ c.requires.callable k ys reached (omega (arith, below, full)) run }
 
 pub returns : goal.returns
 returns g c =
-    let full = all_slots c.as_mut_slice.ensures.value c.filled-store.ensures g.met.N.ArrayLength.capacity_is in
-    let made = made-is_written c.as_mut_slice.ensures.value c.write_answers.auto.slots (g.N.ArrayType.Store.store_with c.filled-store.result c.write_answers.new.slots).1 c.of_store.ensures in
+    let full = c.as_mut_slice.ensures.len in
+    let made = made-is_written c.as_mut_slice.ensures.items c.write_answers.auto.slots in
     let run = ClosureRun-made (goal.F-step g) _ _ (ap (range_with_len 0) full) made c.write_answers.ensures.run in
     record { run = run; acts = λ h acts. answers_of_run _ _ h acts _ _ _ run }

@@ -1,24 +1,24 @@
 use Rattle.ga_core.proofs.ActsLemmas.{answers_until_error}
 use Rattle.ga_core.proofs.CallLemmas.{callable-along_until_error}
-use Rattle.ga_core.proofs.MadeLemmas.{FirstErrorRun-made, all_slots, made-is_written}
+use Rattle.ga_core.proofs.MadeLemmas.{FirstErrorRun-made, made-is_written}
 use Rattle.ga_core.proofs.array.GenericArray.try_generate_by.Goals as goal
 use Rattle.std.proofs.Common.{Ok, ap, arith, refl}
 use Rattle.std.specs.List.{range_with_len}
 
 pub try_write_answers-requires : goal.try_write_answers-requires
 try_write_answers-requires g c =
-    let full = all_slots c.as_mut_slice.ensures.value c.filled-store.ensures g.met.N.ArrayLength.capacity_is in
+    let full = c.as_mut_slice.ensures.len in
     record { callable = λ k ys reached below run. callable-along_until_error _ _ _ _ c.requires.callable k ys reached (omega (arith, below, full)) run }
 
 pub returns-in-Ok : goal.returns-in-Ok
 returns-in-Ok g c =
-    let full = all_slots c.as_mut_slice.ensures.value c.filled-store.ensures g.met.N.ArrayLength.capacity_is in
-    let made = made-is_written c.as_mut_slice.ensures.value c.try_write_answers.auto.slots (g.N.ArrayType.Store.store_with c.filled-store.result c.try_write_answers.new.slots).1 c.of_store.ensures in
+    let full = c.as_mut_slice.ensures.len in
+    let made = made-is_written c.as_mut_slice.ensures.items c.try_write_answers.auto.slots in
     let run = FirstErrorRun-made (goal.F-step g) _ _ (ap (range_with_len 0) full) (ap Ok made) c.in-Ok.ensures.run in
     record { run = run; acts = λ h acts. answers_until_error (goal.F-step g) c.args.f.now h acts _ _ _ run }
 
 pub returns-in-Err : goal.returns-in-Err
 returns-in-Err g c =
-    let full = all_slots c.as_mut_slice.ensures.value c.filled-store.ensures g.met.N.ArrayLength.capacity_is in
+    let full = c.as_mut_slice.ensures.len in
     let run = FirstErrorRun-made (goal.F-step g) _ _ (ap (range_with_len 0) full) refl c.in-Err.ensures.run in
     record { run = run; acts = λ h acts. answers_until_error (goal.F-step g) c.args.f.now h acts _ _ _ run }

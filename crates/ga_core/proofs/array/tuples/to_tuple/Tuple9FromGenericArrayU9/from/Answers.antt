@@ -1,0 +1,6 @@
+use Rattle.ga_core.proofs.TupleLemmas.{all_stand}
+use Rattle.ga_core.proofs.array.tuples.to_tuple.Tuple9FromGenericArrayU9.from.Goals as goal
+use Rattle.std.proofs.Common.{◌∙◌, rules, sym}
+
+pub returns : goal.returns
+returns g c = sym c.native.ensures ∙ all_stand c.native.result _ (search rules) (search rules)
