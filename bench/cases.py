@@ -73,15 +73,16 @@ PARTS = [
         "arrays",
         "walks",
         ARRAY,
-        "iter_sum, walk_front - generate, walk_sum - generate, walk_back - generate,"
-        " walk_both - generate, nth3 - generate, fold - generate, rfold - generate",
+        "iter_sum, walk_front - generate, walk_sum - generate, loop_sum - generate,"
+        " walk_back - generate, walk_both - generate, nth3 - generate, fold - generate,"
+        " rfold - generate",
         third=NATIVE,
     ),
     small(
         "arrays",
         "places",
         ARRAY,
-        "view_get, view_get_mut, iter_mut, index, index_mut",
+        "view_get, view_get_mut, iter_mut, loop_write, index, index_mut",
         third=NATIVE,
     ),
     small("arrays", "comparisons", ARRAY, "eq, cmp", third=NATIVE),

@@ -124,6 +124,15 @@ fn front_sum(array: Array) -> u64 {
 }
 
 #[inline(never)]
+fn looped_sum(array: Array) -> u64 {
+    let mut sum = 0u64;
+    for item in &array {
+        sum = sum.wrapping_add(item.word());
+    }
+    sum
+}
+
+#[inline(never)]
 fn back(array: Array) -> u64 {
     let mut sum = 0u64;
     for item in array.into_iter().rev() {
@@ -187,6 +196,15 @@ pub fn walk_sum_of(seed: u64, reps: u64) -> u64 {
     for _rep in 0..reps {
         let array: Array = build(sum);
         sum = mixed(sum, front_sum(array));
+    }
+    sum
+}
+
+pub fn loop_sum_of(seed: u64, reps: u64) -> u64 {
+    let mut sum = seed;
+    for _rep in 0..reps {
+        let array: Array = build(sum);
+        sum = mixed(sum, looped_sum(array));
     }
     sum
 }
@@ -288,6 +306,23 @@ pub fn iter_mut_of(seed: u64, reps: u64) -> u64 {
     let mut array: Array = build(sum);
     for _rep in 0..reps {
         set_by_iter(&mut array, sum);
+        sum = touch(sum, &array);
+    }
+    sum
+}
+
+#[inline(never)]
+fn set_by_loop(array: &mut Array, seed: u64) {
+    for item in array {
+        *item = Item::make(seed ^ item.word(), 1);
+    }
+}
+
+pub fn loop_write_of(seed: u64, reps: u64) -> u64 {
+    let mut sum = seed;
+    let mut array: Array = build(sum);
+    for _rep in 0..reps {
+        set_by_loop(&mut array, sum);
         sum = touch(sum, &array);
     }
     sum

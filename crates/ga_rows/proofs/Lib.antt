@@ -1,4 +1,5 @@
 pub mod DecimalLemmas
+pub mod DigitLemmas
 pub mod EndLemmas
 pub mod SumLemmas
 pub mod TableLemmas

@@ -1,11 +1,11 @@
 -- The lines of rows, put down one after the other, and the front of what was put behind a text.
 use Rattle.ga_rows.specs.Text.{line, row_text}
 use Rattle.ga_rows.specs.declared.words.Mode.{Mode}
-use Rattle.std.proofs.Common.{◌≡◌, ℕ, ◌+◌, ◌≤◌, List, ◌∷◌, ◌++◌, Option, append_assoc, ap, arith, length, length-take, sym, take, ◌∙◌}
+use Rattle.std.proofs.Common.{◌≡◌, ℕ, ◌+◌, ◌≤◌, List, ◌∷◌, ◌++◌, None, Option, Some, append_assoc, ap, arith, length, length-take, sym, take, ◌∙◌}
 use Rattle.std.proofs.KnownBytes.{Appends-trans}
 use Rattle.std.proofs.Math.Seq.{take-append-add}
 use Rattle.std.proofs.lemmas.List.{take-append-le}
-use Rattle.std.specs.Io.KnownBytes.{Appends}
+use Rattle.std.specs.Io.KnownBytes.{Appends, Keeps, append_known}
 use Rattle.std.specs.List.{flat_map}
 
 module _ (mode : Mode) where
@@ -28,6 +28,13 @@ module _ (mode : Mode) where
         appended = Appends-trans before now later so_far.done first so_far.appended put;
         whole = so_far.whole ∙ (ap (λ rows. so_far.done ++ lines rows) step ∙ sym (append_assoc so_far.done first (lines after)));
       }
+
+-- known bytes that a text behind others kept grow by what is put behind the text
+pub Appends-behind : (before kept : Option (List ℕ)) (text after put : List ℕ) → Keeps before (append_known kept text) → after ≡ text ++ put → Appends before (append_known kept after) put
+Appends-behind None kept text after put keeps is = tt
+Appends-behind (Some bytes) None text after put keeps is = absurd keeps
+Appends-behind (Some bytes) (Some front) text after put keeps is =
+    ap (λ all. front ++ all) is ∙ (sym (append_assoc front text put) ∙ ap (λ all. all ++ put) keeps)
 
 -- a text up to a place within what was put there
 pub take-put : (start count : ℕ) (text put behind : List ℕ) → start ≤ length text → count ≤ length put

@@ -3,13 +3,13 @@ ghost use Rattle.generic_array.specs.Views.{items_of_chunks, items_of_view};
 ghost use Rattle.generic_array.specs.Rows.{chunk_rest, rows};
 ghost use Rattle.ga_rows.specs.Text.{line, lines_of, rest_line, row_lines, row_text, text_of};
 ghost use Rattle.ga_rows.specs.Words.{bytes_of};
-ghost use Rattle.std.specs.Io.KnownBytes.{Appends, Keeps, append_known};
-ghost use Rattle.std.specs.Prelude.{◌≡◌, ◌≢◌, ◌+◌, ◌<◌, ◌≤◌, ◌↔◌, [], IfOk, IsOk, IsTrue, OnOk, length, sum};
+ghost use Rattle.std.specs.Io.KnownBytes.{Appends, append_known};
+ghost use Rattle.std.specs.Prelude.{◌≡◌, ◌≢◌, ◌+◌, ◌<◌, ◌≤◌, ◌↔◌, [], ◌++◌, IfOk, IsOk, IsTrue, OnOk, length, sum};
 
+use crate::digits::HexTable;
 use crate::piece::{PIECE_SIZE, Piece};
 use crate::words::{Mode, Width};
 use generic_array::checks::total_by;
-use generic_array::hex_text::write_hex;
 use generic_array::{ArrayLength, ChunksRef, GenericArrayRef, U1, U2, U4, U8, U16};
 use std::io;
 use std::io::Write;
@@ -53,17 +53,20 @@ fn rows_of<N: ArrayLength<u8>, W: Write>(
 {
     let (chunks, rest) = ChunksRef::<u8, N>::chunks_from_slice(input);
     let mut piece = Piece::new();
-    put_rows(&mut piece, w, mode, &chunks)?;
+    put_rows(&mut piece, w, &HexTable::new(), mode, &chunks)?;
     put_rest(&mut piece, w, rest)?;
     hand_over(&mut piece, w)?;
     Ok(!rest.is_empty())
 }
 
 // Puts the lines of all rows behind the piece, from the last on in mode `last`.
+// Each loop hands a full piece over by itself: a function for it that is inlined, as `put_row` is,
+// would clear the room of its results at each row.
 #[inline]
 fn put_rows<N: ArrayLength<u8>, W: Write>(
     piece: &mut Piece,
     w: &mut W,
+    table: &HexTable,
     mode: Mode,
     chunks: &ChunksRef<'_, u8, N>,
 ) -> Result<(), io::Error>
@@ -75,11 +78,17 @@ fn put_rows<N: ArrayLength<u8>, W: Write>(
 {
     if mode == Mode::Last {
         for last in chunks.iter().rev() {
-            put_row(piece, w, mode, last)?;
+            if !piece.has_room(LONGEST_LINE) {
+                hand_over(piece, w)?;
+            }
+            put_row(piece, table, mode, last);
         }
     } else {
         for row in chunks.iter() {
-            put_row(piece, w, mode, row)?;
+            if !piece.has_room(LONGEST_LINE) {
+                hand_over(piece, w)?;
+            }
+            put_row(piece, table, mode, row);
         }
     }
     Ok(())
@@ -88,25 +97,23 @@ fn put_rows<N: ArrayLength<u8>, W: Write>(
 // Puts the line of one row behind the piece.
 // Two loops call it, and each is the faster for a copy of its own.
 #[inline(always)]
-fn put_row<N: ArrayLength<u8>, W: Write>(
+fn put_row<N: ArrayLength<u8>>(
     piece: &mut Piece,
-    w: &mut W,
+    table: &HexTable,
     mode: Mode,
     row: GenericArrayRef<'_, u8, N>,
-) -> Result<(), io::Error>
-    requires { N.USIZE ≤ 16 }
-    ensures text { OnOk result (Appends (append_known (W.contents w.old) piece.old)
-        (append_known (W.contents w.new) piece.new) (line (row_text mode (items_of_view row.entry)))) }
+)
+    requires few { N.USIZE ≤ 16 }
+    requires room { length piece.old + LONGEST_LINE ≤ PIECE_SIZE }
+    ensures { piece.new ≡ piece.old ++ line (row_text mode (items_of_view row.entry)) }
 {
-    make_room(piece, w)?;
     match mode {
         Mode::Dec | Mode::Last => piece.push_numbers(row.as_slice()),
-        Mode::Hex => write_hex(row.as_slice(), false, None, piece)?,
+        Mode::Hex => piece.push_hex(table, row.as_slice()),
         Mode::Back => piece.push_numbers_back(row.as_slice()),
         Mode::Sum => piece.push_decimal(sum_of(row)),
     }
     piece.push(b'\n');
-    Ok(())
 }
 
 // The sum of a row's bytes.
@@ -129,24 +136,13 @@ fn put_rest<W: Write>(piece: &mut Piece, w: &mut W, rest: &[u8]) -> Result<(), i
     if rest.is_empty() {
         return Ok(());
     }
-    make_room(piece, w)?;
+    if !piece.has_room(LONGEST_LINE) {
+        hand_over(piece, w)?;
+    }
     piece.push_text("rest ");
     piece.push_numbers(rest);
     piece.push(b'\n');
     Ok(())
-}
-
-// Hands the piece over where it has no room for one more line.
-#[inline]
-fn make_room<W: Write>(piece: &mut Piece, w: &mut W) -> Result<(), io::Error>
-    ensures text { OnOk result (Keeps (append_known (W.contents w.old) piece.old)
-        (append_known (W.contents w.new) piece.new)) }
-    ensures room { OnOk result (length piece.new + LONGEST_LINE ≤ PIECE_SIZE) }
-{
-    if piece.has_room(LONGEST_LINE) {
-        return Ok(());
-    }
-    hand_over(piece, w)
 }
 
 // Writes the piece, if it has text, and clears it.
