@@ -71,7 +71,7 @@ module _ {T : Type 0} (E : T → T → Bool) where
   pub block-differs : (n m : ℕ) (xs ys : List T) → length xs ≡ length ys → false ≡ pointwise E (take m (drop n xs)) (take m (drop n ys)) → pointwise E xs ys ≡ false
   block-differs n m xs ys long here =
       let behind : pointwise E (drop n xs) (drop n ys) ≡ false =
-          pointwise-cut m (drop n xs) (drop n ys) (drop-long n xs ys long) ∙ ap (λ b. b && pointwise E (drop m (drop n xs)) (drop m (drop n ys))) (sym here) in
+      pointwise-cut m (drop n xs) (drop n ys) (drop-long n xs ys long) ∙ ap (λ b. b && pointwise E (drop m (drop n xs)) (drop m (drop n ys))) (sym here) in
       pointwise-cut n xs ys long ∙ (ap (λ b. pointwise E (take n xs) (take n ys) && b) behind ∙ and-false (pointwise E (take n xs) (take n ys)))
 
   -- behind equal pairs the order is that of the others

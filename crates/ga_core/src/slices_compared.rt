@@ -5,10 +5,10 @@ ghost use Rattle.std.specs.Prelude.{◌≡◌, ◌<◌, ◌≤◌, false, length
 use std::cmp::Ordering;
 use std::mem;
 
-// As much as the compiler unrolls into vectors without a test: measured.
+// The bytes between two tests: shorter blocks take more instructions, and the loop over longer ones isn't unrolled for words.
 const BLOCK_BYTES: usize = 512;
 
-// Larger items are left to std's comparison: their `eq` may be costly, and a block goes on past a difference.
+// Items of more bytes are left to std's comparison: their `eq` may be costly, and a block goes on past a difference.
 const MOST_BYTES: usize = 8;
 
 // `==` of the slices.
@@ -51,7 +51,7 @@ pub(crate) fn partial_order<T: PartialOrd>(left: &[T], right: &[T]) -> Option<Or
     left[start..].partial_cmp(&right[start..])
 }
 
-// Where the first pair that is not equal is looked for: the items before are equal.
+// A place with only equal items before it, from which std's comparison is to go on.
 #[inline]
 fn order_start<T: PartialEq>(left: &[T], right: &[T]) -> usize
     requires len { length left.now ≡ length right.now }
@@ -70,7 +70,8 @@ fn order_start<T: PartialEq>(left: &[T], right: &[T]) -> usize
     }
 }
 
-// A number of first items that are equal: all of them, or those before the first block that is not.
+// How many items at the start are equal: all, or those before the first block that is not. Never inlined, since at a
+// known length the loop over the blocks would be unrolled too, into kilobytes.
 #[inline(never)]
 fn equal_start<T: PartialEq>(left: &[T], right: &[T]) -> usize
     requires len { length left.now ≡ length right.now }
@@ -113,7 +114,7 @@ fn block_of<T>(item: &T) -> usize
     }
 }
 
-// `==` of the slices, with no exit on the way, so that the compiler makes vectors of it.
+// `==` of the slices, with no exit on the way, so that the compiler makes vector code of it.
 #[inline]
 fn all_match<T: PartialEq>(left: &[T], right: &[T]) -> bool
     requires len { length left.now ≡ length right.now }
