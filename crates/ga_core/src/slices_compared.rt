@@ -33,7 +33,7 @@ pub(crate) fn are_equal<T: PartialEq>(left: &[T], right: &[T]) -> bool
 
 // `cmp` of the slices.
 #[inline]
-pub(crate) fn order<T: Ord>(left: &[T], right: &[T]) -> Ordering
+pub(crate) fn total_order<T: Ord>(left: &[T], right: &[T]) -> Ordering
     requires len { length left.now ≡ length right.now }
     ensures order { result ≡ slice_cmp T.cmp left.now right.now }
 {

@@ -6,7 +6,7 @@ ghost use Rattle.std.specs.Hash.{items_Alike, on_Alike};
 
 use crate::array::GenericArray;
 use crate::length::ArrayLength;
-use crate::slices_compared::{are_equal, order, partial_order};
+use crate::slices_compared::{are_equal, partial_order, total_order};
 use std::cmp::Ordering;
 use std::fmt;
 use std::hash::{Hash, Hasher};
@@ -48,7 +48,7 @@ impl<T: Ord, N: ArrayLength<T>> Ord for GenericArray<T, N> {
 
     #[inline]
     fn cmp(&self, other: &Self) -> Ordering {
-        order(self.as_slice(), other.as_slice())
+        total_order(self.as_slice(), other.as_slice())
     }
 }
 

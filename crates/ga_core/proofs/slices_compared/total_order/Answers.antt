@@ -1,5 +1,5 @@
 use Rattle.ga_core.proofs.PairLemmas.{cmp-behind}
-use Rattle.ga_core.proofs.slices_compared.order.Goals as goal
+use Rattle.ga_core.proofs.slices_compared.total_order.Goals as goal
 use Rattle.std.proofs.Common.{sym, ◌∙◌}
 use Rattle.std.proofs.lemmas.List.{take_rest}
 use Rattle.std.specs.Cmp.Lexicographic.{slice_cmp}
