@@ -12,6 +12,7 @@ pub mod JoinedRuns
 pub mod KeyLemmas
 pub mod LeftLemmas
 pub mod MoveLemmas
+pub mod PairLemmas
 pub mod SlotLemmas
 pub mod RunLemmas
 pub use Rattle.arrayvec.proofs.IterLemmas

@@ -18,6 +18,7 @@ mod fill_error;
 mod length;
 mod mapping;
 mod never;
+mod slices_compared;
 /// Writing over the slots of a slice.
 pub mod slots;
 mod store;

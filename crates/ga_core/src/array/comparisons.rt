@@ -6,6 +6,7 @@ ghost use Rattle.std.specs.Hash.{items_Alike, on_Alike};
 
 use crate::array::GenericArray;
 use crate::length::ArrayLength;
+use crate::slices_compared::{are_equal, partial_order, total_order};
 use std::cmp::Ordering;
 use std::fmt;
 use std::hash::{Hash, Hasher};
@@ -17,7 +18,7 @@ impl<T: PartialEq, N: ArrayLength<T>> PartialEq for GenericArray<T, N> {
 
     #[inline]
     fn eq(&self, other: &Self) -> bool {
-        self.as_slice() == other.as_slice()
+        are_equal(self.as_slice(), other.as_slice())
     }
 }
 
@@ -32,7 +33,7 @@ impl<T: PartialOrd, N: ArrayLength<T>> PartialOrd for GenericArray<T, N> {
 
     #[inline]
     fn partial_cmp(&self, other: &Self) -> Option<Ordering> {
-        self.as_slice().partial_cmp(&other.as_slice())
+        partial_order(self.as_slice(), other.as_slice())
     }
 }
 
@@ -47,7 +48,7 @@ impl<T: Ord, N: ArrayLength<T>> Ord for GenericArray<T, N> {
 
     #[inline]
     fn cmp(&self, other: &Self) -> Ordering {
-        self.as_slice().cmp(&other.as_slice())
+        total_order(self.as_slice(), other.as_slice())
     }
 }
 
