@@ -7,7 +7,7 @@ use Rattle.std.specs.Borrow.{Array, Fml, Lends, MutBor, RattleType}
 use Rattle.std.specs.List.{refill}
 use Rattle.std.specs.Prelude.{List, length}
 
-module _ (T N A B : RattleType) (n : unsigned.Ghosts N.Denot) (a : store.Ghosts A.Denot T.Denot B.Denot) (b : slots.Ghosts B.Denot T.Denot) (items : MutBor (List T.Denot)) where
+module _ (T N A S : RattleType) (n : unsigned.Ghosts N.Denot) (s : slots.Ghosts S.Denot T.Denot) (a : store.Ghosts A.Denot T.Denot) (items : MutBor (List T.Denot)) where
   -- once the borrow r ends, the items that are left are those that r shows last
   abbrev pub LendsLeft : MutBor (List T.Denot) → Fml
-  LendsLeft r = Lends (the_row T N A B n a b) (Array T 0) items r (refill (length items.now) items.now)
+  LendsLeft r = Lends (the_row T N A S n s a) (Array T 0) items r (refill (length items.now) items.now)

@@ -21,8 +21,8 @@ mod slices;
 mod tuples;
 
 use crate::array_iter::GenericArrayIter;
-use crate::length::ArrayLength;
-use crate::store::{Slots, Store};
+use crate::length::{ArrayLength, ArraySlots};
+use crate::store::Slots;
 pub use as_slice::Len;
 use ga_views::{Const, MAX_INLINE};
 use std::marker::{Model, PhantomData};
@@ -34,31 +34,31 @@ use std::slice;
 /// The counterpart of `GenericArray`. The elements have a `Default`, and the length is at most
 /// `MAX_INLINE`.
 #[derive(Drop)]
-pub struct GenericArray<T, N: ArrayLength<T>> {
-    slots: <N::ArrayType as Store<T>>::Slots,
+pub struct GenericArray<T, N: ArraySlots<T>> {
+    slots: N::Slots,
     of: PhantomData<T>,
 }
 
 /// An array of `N` items, where the length is a number.
 pub type ConstGenericArray<T, const N: usize> = GenericArray<T, Const<N>>;
 
-impl<T, N: ArrayLength<T>> Model for GenericArray<T, N> {
+impl<T, N: ArraySlots<T>> Model for GenericArray<T, N> {
     ghost Value = { List T };
 
-    ghost view = { λ array. N.ArrayType.Slots.items array.slots };
+    ghost view = { λ array. N.Slots.items array.slots };
 
-    ghost invariant = { λ array. (length (N.ArrayType.Slots.items array.slots) ≡ N.USIZE) × (FitsInline N.USIZE) };
+    ghost invariant = { λ array. (length (N.Slots.items array.slots) ≡ N.USIZE) × (FitsInline N.USIZE) };
 }
 
-impl<T, N: ArrayLength<T>> GenericArray<T, N> {
+impl<T, N: ArraySlots<T>> GenericArray<T, N> {
     ghost use Rattle.ga_core.specs.Lends.{LendsItems, LendsIter};
 
     // The array of the items in slots.
     #[inline(always)]
-    pub(crate) fn of_slots(slots: <N::ArrayType as Store<T>>::Slots) -> Self
-        requires full { length (N.ArrayType.Slots.items slots) ≡ N.USIZE }
+    pub(crate) fn of_slots(slots: N::Slots) -> Self
+        requires full { length (N.Slots.items slots) ≡ N.USIZE }
         requires fits { FitsInline N.USIZE }
-        ensures { result ≡ N.ArrayType.Slots.items slots }
+        ensures { result ≡ N.Slots.items slots }
     {
         GenericArray {
             slots,
@@ -103,8 +103,8 @@ impl<T, N: ArrayLength<T>> GenericArray<T, N> {
     /// All items, in order, for writing. O(1).
     #[inline]
     pub fn as_mut_slice(&mut self) -> &mut [T]
-        ensures* writes_back { sem 𝓛 (LendsItems T.row N.row N.ArrayType.row N.ArrayType.Slots.row
-            N.Unsigned N.ArrayType.Store N.ArrayType.Slots.Slots self.entry result) }
+        ensures* writes_back { sem 𝓛 (LendsItems T.row N.row N.Slots.row N.Unsigned N.Slots.Slots
+            self.entry result) }
         ensures items { result.now ≡ self.old }
         ensures len { length result.now ≡ N.USIZE }
     {
@@ -121,8 +121,8 @@ impl<T, N: ArrayLength<T>> GenericArray<T, N> {
     /// The items by reference, in order, for writing.
     #[inline]
     pub fn iter_mut(&mut self) -> slice::IterMut<'_, T>
-        ensures* writes_back { sem 𝓛 (LendsIter T.row N.row N.ArrayType.row N.ArrayType.Slots.row
-            N.Unsigned N.ArrayType.Store N.ArrayType.Slots.Slots self.entry result) }
+        ensures* writes_back { sem 𝓛 (LendsIter T.row N.row N.Slots.row N.Unsigned N.Slots.Slots
+            self.entry result) }
         ensures items { IteratesMutOver self.old N.USIZE result }
     {
         self.as_mut_slice().iter_mut()
@@ -130,7 +130,7 @@ impl<T, N: ArrayLength<T>> GenericArray<T, N> {
 }
 
 /// `array[index]`, with `index` below `N` as the condition.
-impl<T, N: ArrayLength<T>> Index<usize> for GenericArray<T, N> {
+impl<T, N: ArraySlots<T>> Index<usize> for GenericArray<T, N> {
     type Output = T;
 
     ghost can_index = { λ array index. index < N.USIZE };
@@ -145,14 +145,14 @@ impl<T, N: ArrayLength<T>> Index<usize> for GenericArray<T, N> {
 
 /// `array[index] = item`, with `index` below `N` as the condition. The other slots keep their
 /// items.
-impl<T, N: ArrayLength<T>> IndexMut<usize> for GenericArray<T, N> {
+impl<T, N: ArraySlots<T>> IndexMut<usize> for GenericArray<T, N> {
     ghost use Rattle.ga_core.specs.Lends.{LendsItem};
 
     #[inline]
     fn index_mut(&mut self, index: usize) -> &mut T
         requires { index < N.USIZE }
-        ensures* writes_back { sem 𝓛 (LendsItem T.row N.row N.ArrayType.row N.ArrayType.Slots.row
-            N.Unsigned N.ArrayType.Store N.ArrayType.Slots.Slots self.entry index result) }
+        ensures* writes_back { sem 𝓛 (LendsItem T.row N.row N.Slots.row N.Unsigned N.Slots.Slots
+            self.entry index result) }
         ensures value { slice_get self.old index ≡ Some result.now }
     {
         self.slots.item_mut(index)
@@ -172,6 +172,6 @@ impl<T: Default + Drop, N: ArrayLength<T>> IntoIterator for GenericArray<T, N> {
     #[inline]
     fn into_iter(self) -> GenericArrayIter<T, N> {
         let GenericArray { slots, of: _ } = self;
-        GenericArrayIter::of_store(Store::of_slots(slots), N::USIZE)
+        GenericArrayIter::of_store(N::store_of(slots), N::USIZE)
     }
 }

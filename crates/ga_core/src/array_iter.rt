@@ -135,8 +135,8 @@ impl<T: Default + Drop, N: ArrayLength<T>> GenericArrayIter<T, N> {
     /// O(1) if no item was taken from the front since the last such call; else moves the items
     /// that are left to the front of the store first.
     pub fn as_mut_slice(&mut self) -> &mut [T]
-        ensures* writes_back { sem 𝓛 (LendsLeft T.row N.row N.ArrayType.row N.ArrayType.Slots.row
-            N.Unsigned N.ArrayType.Store N.ArrayType.Slots.Slots self.entry result) }
+        ensures* writes_back { sem 𝓛 (LendsLeft T.row N.row N.ArrayType.row N.Slots.row
+            N.Unsigned N.Slots.Slots N.ArrayType.Store self.entry result) }
         ensures items { result.now ≡ self.old }
     {
         keep_range::<T, N::ArrayType>(&mut self.store, self.front, self.back);

@@ -7,7 +7,7 @@ ghost use Rattle.std.specs.List.{zip};
 ghost use Rattle.std.specs.Prelude.{◌≡◌, List, Result, length, ⊤};
 
 use crate::array::GenericArray;
-use crate::length::ArrayLength;
+use crate::length::ArraySlots;
 use crate::mapping::{try_write_mapped_ref, write_mapped_ref, write_zipped_refs};
 use ga_views::{GenericArrayRef, Unsigned};
 
@@ -36,7 +36,7 @@ pub trait BorrowedItems<T, N: Unsigned> {
         mut f: F,
     ) -> GenericArray<U, N>
     where
-        N: ArrayLength<U>,
+        N: ArraySlots<U>,
         requires fits { Fits }
         requires callable { MayCallOverEntries (λ item. item.now) F.pre F.step f (items self.now) }
         ensures run { (last : F) × MapRun (λ item. item.now) F.step f (items self.now) result last }
@@ -52,7 +52,7 @@ pub trait BorrowedItems<T, N: Unsigned> {
         f: &mut F,
     ) -> GenericArray<U, N>
     where
-        N: ArrayLength<U>,
+        N: ArraySlots<U>,
         requires fits { Fits }
         requires callable { MayCallOverEntries (λ item. item.now) F.pre F.step f.old (items self.now) }
         ensures run { MapRun (λ item. item.now) F.step f.old (items self.now) result f.new }
@@ -73,7 +73,7 @@ pub trait BorrowedItems<T, N: Unsigned> {
         mut f: F,
     ) -> Result<GenericArray<U, N>, E>
     where
-        N: ArrayLength<U>,
+        N: ArraySlots<U>,
         requires fits { Fits }
         requires callable { MayCallOverEntriesUntilError (λ item. item.now) F.pre F.step f (items self.now) }
         ensures run { (last : F) × TryMapRun (λ item. item.now) F.step f (items self.now) result last }
@@ -89,7 +89,7 @@ pub trait BorrowedItems<T, N: Unsigned> {
         f: &mut F,
     ) -> Result<GenericArray<U, N>, E>
     where
-        N: ArrayLength<U>,
+        N: ArraySlots<U>,
         requires fits { Fits }
         requires callable { MayCallOverEntriesUntilError (λ item. item.now) F.pre F.step f.old
             (items self.now) }
@@ -114,7 +114,7 @@ pub trait BorrowedItems<T, N: Unsigned> {
         mut f: F,
     ) -> GenericArray<U, N>
     where
-        N: ArrayLength<U>,
+        N: ArraySlots<U>,
         requires fits { Fits }
         requires callable { MayCallOverEntryPairs (λ item. item.now) (λ item. item.now) F.pre F.step f
             (zip (items self.now) (items_of_view rhs)) }
@@ -135,7 +135,7 @@ pub trait BorrowedItems<T, N: Unsigned> {
         f: &mut F,
     ) -> GenericArray<U, N>
     where
-        N: ArrayLength<U>,
+        N: ArraySlots<U>,
         requires fits { Fits }
         requires callable { MayCallOverEntryPairs (λ item. item.now) (λ item. item.now) F.pre F.step f.old
             (zip (items self.now) (items_of_view rhs)) }
@@ -163,7 +163,7 @@ impl<'a, T, N: Unsigned> BorrowedItems<T, N> for GenericArrayRef<'a, T, N> {
     }
 }
 
-impl<T, N: ArrayLength<T>> BorrowedItems<T, N> for GenericArray<T, N> {
+impl<T, N: ArraySlots<T>> BorrowedItems<T, N> for GenericArray<T, N> {
     ghost items = { λ array. array };
 
     ghost Fits = { ⊤ };

@@ -78,7 +78,7 @@ impl<T, N: ArrayLength<T>> ArrayBuilder<T, N> {
         ensures { result ≡ self }
     {
         let ArrayBuilder { store, of: _ } = self;
-        GenericArray::of_slots(store.into_slots())
+        GenericArray::of_slots(N::slots_of(store))
     }
 }
 

@@ -50,20 +50,6 @@ pub trait Store<T>: Sized + Drop {
         ensures* writes_back { sem 𝓛 (Lends Self.row (Array T.row 0)
             self.entry result (λ written. (store_with self.old written).0)) }
         ensures value { result.now ≡ items self.old };
-
-    /// The slots of a full store.
-    type Slots: Slots<T>;
-
-    /// The full store of these items.
-    fn of_slots(slots: Self::Slots) -> Self
-        ensures { items result ≡ Self.Slots.items slots };
-
-    /// The items of a full store, without the count.
-    fn into_slots(self) -> Self::Slots
-        requires full { length (items self) ≡ CAPACITY }
-        ensures { Self.Slots.items result ≡ items self };
-
-    ghost as_many_slots: { Self.Slots.LEN ≡ Self.CAPACITY };
 }
 
 /// A list of a fixed length, kept in the value itself, with nothing beside its items.
@@ -142,23 +128,6 @@ impl<T: Default + Drop, const N: usize> Store<T> for ArrayVec<T, N> {
     fn as_mut_slice(&mut self) -> &mut [T] {
         ArrayVec::as_mut_slice(self)
     }
-
-    type Slots = [T; N];
-
-    #[inline]
-    fn of_slots(slots: [T; N]) -> Self {
-        ArrayVec::from_array_in((), slots)
-    }
-
-    #[inline]
-    fn into_slots(self) -> [T; N] {
-        match self.into_inner() {
-            Ok(slots) => slots,
-            Err(_) => unreachable!(),
-        }
-    }
-
-    ghost as_many_slots = { refl };
 }
 
 impl<T: Default + Drop, const N: usize> Slots<T> for [T; N] {

@@ -7,11 +7,11 @@ ghost use Rattle.std.specs.Prelude.{◌≡◌, ℕ, ◌+◌, IfOk, OnErr, Result
 
 use crate::array::GenericArray;
 use crate::builder::ArrayBuilder;
-use crate::length::ArrayLength;
+use crate::length::{ArrayLength, ArraySlots};
 use crate::slots::{try_write_answers, write_answers};
 use ga_views::LengthError;
 
-impl<T: Drop, N: ArrayLength<T>> GenericArray<T, N> {
+impl<T: Drop, N: ArraySlots<T>> GenericArray<T, N> {
     /// The array of `f(0)` to `f(N - 1)`, each called once, in this order.
     ///
     /// Requires `N <= MAX_INLINE`. Allocates nothing.
@@ -62,7 +62,9 @@ impl<T: Drop, N: ArrayLength<T>> GenericArray<T, N> {
             Err(error) => Err(error),
         }
     }
+}
 
+impl<T: Drop, N: ArrayLength<T>> GenericArray<T, N> {
     /// The array of all items of `items`, or `LengthError` if they aren't exactly `N`.
     ///
     /// Requires `N <= MAX_INLINE`. Takes `N` items and calls `next` once more; size hints aren't

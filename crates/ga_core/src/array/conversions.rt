@@ -6,7 +6,7 @@ ghost use Rattle.std.specs.Prelude.{◌≡◌, ◌↔◌, IfOk, IsOk, length};
 
 use crate::alloc_error::AllocError;
 use crate::array::GenericArray;
-use crate::length::ArrayLength;
+use crate::length::ArraySlots;
 use crate::slots::move_items;
 use ga_views::{Const, GenericArrayRef, InlineLength, LengthError};
 use std::alloc::Global;
@@ -27,7 +27,7 @@ impl<T: Default + Drop, const U: usize> GenericArray<T, Const<U>> {
     }
 }
 
-impl<T: Copy + Default + Drop, N: ArrayLength<T>> GenericArray<T, N> {
+impl<T: Copy + Default + Drop, N: ArraySlots<T>> GenericArray<T, N> {
     /// The array of copies of a view's items. The counterpart of `*view` where `GenericArray` is
     /// `Copy`.
     ///
@@ -56,7 +56,7 @@ impl<T: Copy + Default + Drop, N: ArrayLength<T>> GenericArray<T, N> {
     }
 }
 
-impl<T: Default + Drop, N: ArrayLength<T>> GenericArray<T, N> {
+impl<T: Default + Drop, N: ArraySlots<T>> GenericArray<T, N> {
     /// The array of the items of a vector, or `LengthError` if it doesn't have `N` items; the
     /// vector is then dropped. The counterpart of `TryFrom<Vec<T>>`.
     ///
@@ -132,7 +132,7 @@ impl<T: Copy + Default + Drop, const U: usize> From<GenericArray<T, Const<U>>> f
 }
 
 /// See `try_from_vec`.
-impl<T: Default + Drop, N: ArrayLength<T> + InlineLength> TryFrom<Vec<T>> for GenericArray<T, N> {
+impl<T: Default + Drop, N: ArraySlots<T> + InlineLength> TryFrom<Vec<T>> for GenericArray<T, N> {
     type Error = LengthError;
 
     ghost try_from_gives = { λ items made. (IsOk made ↔ (length items.items ≡ N.USIZE))
@@ -144,7 +144,7 @@ impl<T: Default + Drop, N: ArrayLength<T> + InlineLength> TryFrom<Vec<T>> for Ge
 }
 
 /// See `try_from_boxed_slice`.
-impl<T: Default + Drop, N: ArrayLength<T> + InlineLength> TryFrom<BoxedSlice<T, Global>>
+impl<T: Default + Drop, N: ArraySlots<T> + InlineLength> TryFrom<BoxedSlice<T, Global>>
     for GenericArray<T, N> {
     type Error = LengthError;
 

@@ -6,11 +6,11 @@ ghost use Rattle.std.specs.Prelude.{◌≡◌, ◌≤◌, IfOk, IsOk, length, re
 
 use crate::alloc_error::AllocError;
 use crate::array::GenericArray;
-use crate::length::ArrayLength;
+use crate::length::ArraySlots;
 use crate::slots::{write_clones, write_copies, write_same};
 use std::alloc;
 
-impl<T: Default + Drop, N: ArrayLength<T>> GenericArray<T, N> {
+impl<T: Default + Drop, N: ArraySlots<T>> GenericArray<T, N> {
     /// The array of `N` times `T::default()`, called in order. Requires `N <= MAX_INLINE`.
     ///
     /// For every length; the trait `Default`, which items of arrays need, is there for every
@@ -25,7 +25,7 @@ impl<T: Default + Drop, N: ArrayLength<T>> GenericArray<T, N> {
     }
 }
 
-impl<T: Copy + Drop, N: ArrayLength<T>> GenericArray<T, N> {
+impl<T: Copy + Drop, N: ArraySlots<T>> GenericArray<T, N> {
     /// The array of `N` times `item`. Requires `N <= MAX_INLINE`. `arr![item; N]` stands on it.
     #[inline]
     pub fn of_copies(item: T) -> Self
@@ -38,7 +38,7 @@ impl<T: Copy + Drop, N: ArrayLength<T>> GenericArray<T, N> {
     }
 }
 
-impl<T: Clone, N: ArrayLength<T>> GenericArray<T, N> {
+impl<T: Clone, N: ArraySlots<T>> GenericArray<T, N> {
     /// The array of `N` values equal to `item`: clones of it, made in order, and at last `item`
     /// itself.
     ///
@@ -77,7 +77,7 @@ impl<T: Clone, N: ArrayLength<T>> GenericArray<T, N> {
     }
 }
 
-impl<T: Clone, N: ArrayLength<T>> Clone for GenericArray<T, N> {
+impl<T: Clone, N: ArraySlots<T>> Clone for GenericArray<T, N> {
     ghost is_clone = { λ array copy. AllZip T.is_clone array copy };
 
     ghost is_infallible = { λ array. All T.is_infallible array };

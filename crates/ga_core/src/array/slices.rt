@@ -8,10 +8,10 @@ ghost use Rattle.std.specs.Prelude.{◌≡◌, ◌<◌, ◌↔◌, ◌⊎◌, �
 
 use crate::array::GenericArray;
 use crate::builder::ArrayBuilder;
-use crate::length::ArrayLength;
+use crate::length::{ArrayLength, ArraySlots};
 use ga_views::{ChunksMut, ChunksRef, GenericArrayMut, GenericArrayRef, LengthError, ViewMut};
 
-impl<T, N: ArrayLength<T>> GenericArray<T, N> {
+impl<T, N: ArraySlots<T>> GenericArray<T, N> {
     /// The read-only view of the items.
     #[inline]
     pub fn view(&self) -> GenericArrayRef<'_, T, N>
