@@ -92,12 +92,7 @@ impl<T: Drop, N: Unsigned> BoxedArray<T, N> {
         ensures empty { N.USIZE ≡ 0 → IsOk result }
     {
         let BoxedArray { items, of: _ } = self;
-        let mut items = items.into_live(N::USIZE);
-        let mut vector = Vec::with_capacity(items.allocator(), N::USIZE)?;
-        while let Some(item) = items.take_front() {
-            vector.push_reserved(item);
-        }
-        Ok(vector)
+        items.into_vec(N::USIZE)
     }
 
     /// The items as a boxed slice: see `into_vec`. The counterpart of `GenericArray::into_boxed_slice`.

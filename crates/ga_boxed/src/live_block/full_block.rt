@@ -202,6 +202,54 @@ impl<T> FullBlock<T> {
         }
     }
 
+    // The items, of which there are `len`, as a vector. If the allocation fails, drops them.
+    //
+    // Where the compiler knows that there are few items, it copies them one by one. For those of less
+    // than 8 bytes, of which 2^60 fit, that is slow, so their number is hidden from it.
+    #[inline]
+    pub(crate) fn into_vec(self, len: usize) -> Result<Vec<T>, AllocError>
+    where
+        T: Drop,
+        requires len { len ≡ length self }
+        ensures ok { IfOk result (λ items. items.items ≡ self) }
+        ensures empty { len ≡ 0 → IsOk result }
+    {
+        if len <= 128 && fits::<T>(1 << 60) {
+            self.moved_apart(len)
+        } else {
+            self.moved(len)
+        }
+    }
+
+    // `moved` as a function that is compiled without knowing `len`.
+    #[inline(never)]
+    fn moved_apart(self, len: usize) -> Result<Vec<T>, AllocError>
+    where
+        T: Drop,
+        requires len { len ≡ length self }
+        ensures ok { IfOk result (λ items. items.items ≡ self) }
+        ensures empty { len ≡ 0 → IsOk result }
+    {
+        self.moved(len)
+    }
+
+    // The items, of which there are `len`, moved to a vector one after the other.
+    #[inline]
+    fn moved(self, len: usize) -> Result<Vec<T>, AllocError>
+    where
+        T: Drop,
+        requires len { len ≡ length self }
+        ensures ok { IfOk result (λ items. items.items ≡ self) }
+        ensures empty { len ≡ 0 → IsOk result }
+    {
+        let mut items = self.into_live(len);
+        let mut vector = Vec::with_capacity(items.allocator(), len)?;
+        while let Some(item) = items.take_front() {
+            vector.push_reserved(item);
+        }
+        Ok(vector)
+    }
+
     // A block of the items of a native array, which are moved in one piece. If the allocation
     // fails, drops them.
     pub(crate) fn of_native<const U: usize>(
