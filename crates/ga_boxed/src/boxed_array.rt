@@ -12,7 +12,7 @@ mod conversions;
 mod copies;
 
 use crate::boxed_array_iter::BoxedArrayIter;
-use crate::live_block::LiveBlock;
+use crate::live_block::{Filling, FullBlock};
 use ga_core::{GenericArrayRef, Unsigned};
 use std::marker::{Model, PhantomData};
 use std::slice;
@@ -22,9 +22,8 @@ use std::slice;
 ///
 /// The counterpart of `Box<GenericArray<T, N>>`. The items need no `Default`, and the length has
 /// no bound of its own.
-#[derive(Drop)]
 pub struct BoxedArray<T, N: Unsigned> {
-    items: LiveBlock<T>,
+    items: FullBlock<T>,
     of: PhantomData<N>,
 }
 
@@ -33,21 +32,21 @@ impl<T, N: Unsigned> Model for BoxedArray<T, N> {
 
     ghost Value = { List T };
 
-    ghost view = { λ array. array.items.items };
+    ghost view = { λ array. array.items };
 
-    ghost invariant = { λ array. length array.items.items ≡ N.USIZE };
+    ghost invariant = { λ array. length array.items ≡ N.USIZE };
 }
 
 impl<T, N: Unsigned> BoxedArray<T, N> {
     ghost use Rattle.ga_boxed.specs.Lends.{LendsItems, LendsIter};
 
     // The array of `N` items. Moves none of them.
-    fn of_items(items: LiveBlock<T>) -> Self
-        requires full { length items.items ≡ N.USIZE }
+    fn of_items(items: Filling<T>) -> Self
+        requires full { (length items.items ≡ N.USIZE) × (items.room ≡ 0) }
         ensures { result ≡ items.items }
     {
         BoxedArray {
-            items,
+            items: items.full(),
             of: PhantomData,
         }
     }
@@ -58,7 +57,7 @@ impl<T, N: Unsigned> BoxedArray<T, N> {
         ensures items { result.now ≡ self.now }
         ensures len { length result.now ≡ N.USIZE }
     {
-        self.items.as_slice()
+        self.items.as_slice(N::USIZE)
     }
 
     /// All items, in order, for writing. O(1).
@@ -68,7 +67,7 @@ impl<T, N: Unsigned> BoxedArray<T, N> {
         ensures items { result.now ≡ self.old }
         ensures len { length result.now ≡ N.USIZE }
     {
-        self.items.as_mut_slice()
+        self.items.as_mut_slice(N::USIZE)
     }
 
     /// The number of items, which is `N`.
@@ -103,6 +102,14 @@ impl<T, N: Unsigned> BoxedArray<T, N> {
     }
 }
 
+impl<T: Drop, N: Unsigned> Drop for BoxedArray<T, N> {
+    #[inline]
+    fn drop(self) {
+        let BoxedArray { items, of: _ } = self;
+        let _block = items.into_live(N::USIZE);
+    }
+}
+
 /// The items by value, from either end. Moves the block and no single item, and asks for no memory.
 impl<T: Drop, N: Unsigned> IntoIterator for BoxedArray<T, N> {
     type Item = T;
@@ -116,6 +123,6 @@ impl<T: Drop, N: Unsigned> IntoIterator for BoxedArray<T, N> {
     #[inline]
     fn into_iter(self) -> BoxedArrayIter<T> {
         let BoxedArray { items, of: _ } = self;
-        BoxedArrayIter::of_items(items)
+        BoxedArrayIter::of_items(items.into_live(N::USIZE))
     }
 }

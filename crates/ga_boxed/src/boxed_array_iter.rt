@@ -109,10 +109,14 @@ impl<T: Drop> BoxedArrayIter<T> {
     pub fn nth(&mut self, n: usize) -> Option<T>
         ensures step { StepGives (front n) self.old result self.new }
     {
-        for _passed in 0..n.min(self.len()) {
+        if n >= self.len() {
+            while let Some(_item) = self.next() {}
+            return None;
+        }
+        for _passed in 0..n {
             self.drop_first();
         }
-        self.next()
+        Some(self.items.take_first())
     }
 
     /// Drops `n` items from the back and returns the one before them. If at most `n` items are
@@ -120,10 +124,14 @@ impl<T: Drop> BoxedArrayIter<T> {
     pub fn nth_back(&mut self, n: usize) -> Option<T>
         ensures step { StepGives (back n) self.old result self.new }
     {
-        for _passed_back in 0..n.min(self.len()) {
+        if n >= self.len() {
+            while let Some(_item) = self.next_back() {}
+            return None;
+        }
+        for _passed_back in 0..n {
             self.drop_last();
         }
-        self.next_back()
+        Some(self.items.take_last())
     }
 
     /// The last item that is left. The others are dropped; nothing else takes time.

@@ -4,10 +4,12 @@ ghost use Rattle.std.specs.Borrow.{sem};
 ghost use Rattle.std.specs.Prelude.{◌≡◌, ◌≢◌, ◌+◌, ◌<◌, ◌∷◌, ◌++◌, [], IfOk, IsOk, MatchOption, length};
 
 mod cells;
+mod full_block;
 
+use cells::deallocate;
 #[doc(hidden)]
 pub use cells::{Base, Cells, Deed};
-use cells::{allocate, deallocate, fits};
+pub use full_block::{Filling, FullBlock};
 use ga_core::AllocError;
 use std::alloc::Global;
 use std::marker::Model;
@@ -55,19 +57,7 @@ impl<T> LiveBlock<T> {
         ensures block { IfOk result (λ block. block ≡ live [] size) }
         ensures empty { size ≡ 0 → IsOk result }
     {
-        if !fits::<T>(size) {
-            return Err(AllocError);
-        }
-        let (base, cells, deed) = allocate(&alloc, size)?;
-        Ok(LiveBlock {
-            base,
-            size,
-            start: 0,
-            end: 0,
-            cells,
-            deed,
-            alloc,
-        })
+        Ok(Filling::new(alloc, size)?.into_live())
     }
 
     /// How many items can still be put. O(1).
@@ -171,36 +161,6 @@ impl<T> LiveBlock<T> {
     {
         let (base, start, len) = (self.base, self.start, self.end - self.start);
         self.cells.slice_mut(base, start, len)
-    }
-
-    // A block of the items of a native array, which are moved in one piece. If the allocation
-    // fails, drops them.
-    pub(crate) fn of_native<const U: usize>(
-        alloc: Global,
-        items: [T; U],
-    ) -> Result<Self, AllocError>
-    where
-        T: Drop,
-        ensures items { IfOk result (λ block. block ≡ live items 0) }
-        ensures empty { U ≡ 0 → IsOk result }
-    {
-        if !fits::<T>(U) {
-            return Err(AllocError);
-        }
-        let (base, mut cells, deed) = match allocate(&alloc, U) {
-            Ok(parts) => parts,
-            Err(refused) => return Err(refused.into()),
-        };
-        cells.put_array(base, items);
-        Ok(LiveBlock {
-            base,
-            size: U,
-            start: 0,
-            end: U,
-            cells,
-            deed,
-            alloc,
-        })
     }
 
     // Deallocates the block.

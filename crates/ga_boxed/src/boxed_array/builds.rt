@@ -6,7 +6,7 @@ ghost use Rattle.ga_core.specs.Runs.{CallableAlong, CallableUntilError};
 ghost use Rattle.std.specs.Prelude.{◌≡◌, ℕ, ◌+◌, IfOk, IsOk, OnErr, OnOk, Result};
 
 use crate::boxed_array::BoxedArray;
-use crate::live_block::LiveBlock;
+use crate::live_block::Filling;
 use ga_core::{AllocError, FillError, LengthError, Unsigned};
 use std::alloc::Global;
 
@@ -32,7 +32,7 @@ impl<T, N: Unsigned> BoxedArray<T, N> {
         ensures err { OnErr result (f.new ≡ f.old) }
         ensures empty { N.USIZE ≡ 0 → IsOk result }
     {
-        let mut items = LiveBlock::new(alloc, N::USIZE)?;
+        let mut items = Filling::new(alloc, N::USIZE)?;
         for index in 0..N::USIZE {
             items.put(f(index));
         }
@@ -68,7 +68,7 @@ impl<T: Drop, N: Unsigned> BoxedArray<T, N> {
         ensures err { OnErr result (f.new ≡ f.old) }
         ensures empty { N.USIZE ≡ 0 → IsOk result }
     {
-        let mut good = LiveBlock::new(alloc, N::USIZE)?;
+        let mut good = Filling::new(alloc, N::USIZE)?;
         for index in 0..N::USIZE {
             match f(index) {
                 Ok(item) => good.put(item),
@@ -121,7 +121,7 @@ impl<T: Drop, N: Unsigned> BoxedArray<T, N> {
         ensures err { OnErr result (items.new ≡ items.old) }
         ensures empty { N.USIZE ≡ 0 → IsOk result }
     {
-        let mut taken = LiveBlock::new(alloc, N::USIZE)?;
+        let mut taken = Filling::new(alloc, N::USIZE)?;
         while taken.room() > 0 {
             match items.next() {
                 Some(item) => taken.put(item),
@@ -189,7 +189,7 @@ impl<T: Drop, N: Unsigned> BoxedArray<T, N> {
         ensures err { OnErr (fill_answer result) (items.new ≡ items.old) }
         ensures empty { N.USIZE ≡ 0 → IsOk (fill_answer result) }
     {
-        let mut good = match LiveBlock::new(alloc, N::USIZE) {
+        let mut good = match Filling::new(alloc, N::USIZE) {
             Ok(block) => block,
             Err(refused) => return Err(FillError::Place(refused)),
         };

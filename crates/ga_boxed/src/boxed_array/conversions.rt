@@ -3,10 +3,11 @@ ghost use Rattle.std.specs.Box.{boxed_slice_items};
 ghost use Rattle.std.specs.Prelude.{◌≡◌, ◌≢◌, ◌↔◌, IfOk, IsOk, length};
 
 use crate::boxed_array::BoxedArray;
-use crate::live_block::LiveBlock;
+use crate::live_block::{Filling, FullBlock};
 use ga_core::{AllocError, ArrayLength, Const, GenericArray, LengthError, Unsigned};
 use std::alloc::Global;
 use std::boxed::BoxedSlice;
+use std::marker::PhantomData;
 use std::mem;
 
 impl<T: Default + Drop, N: ArrayLength<T>> BoxedArray<T, N> {
@@ -19,7 +20,7 @@ impl<T: Default + Drop, N: ArrayLength<T>> BoxedArray<T, N> {
         ensures empty { N.USIZE ≡ 0 → IsOk result }
     {
         let slots = array.as_mut_slice();
-        let mut block = LiveBlock::new(alloc, N::USIZE)?;
+        let mut block = Filling::new(alloc, N::USIZE)?;
         for slot in slots.iter_mut() {
             block.put(mem::take(slot));
         }
@@ -36,7 +37,10 @@ impl<T: Drop, const U: usize> BoxedArray<T, Const<U>> {
         ensures ok { IfOk result (λ boxed. boxed ≡ items) }
         ensures empty { U ≡ 0 → IsOk result }
     {
-        Ok(BoxedArray::of_items(LiveBlock::of_native(alloc, items)?))
+        Ok(BoxedArray {
+            items: FullBlock::of_native(alloc, items)?,
+            of: PhantomData,
+        })
     }
 }
 
@@ -59,7 +63,7 @@ impl<T: Drop, N: Unsigned> BoxedArray<T, N> {
         if items.len() != N::USIZE {
             return Ok(Err(LengthError));
         }
-        let mut block = LiveBlock::new(alloc, N::USIZE)?;
+        let mut block = Filling::new(alloc, N::USIZE)?;
         for item in items {
             block.put(item);
         }
@@ -88,12 +92,7 @@ impl<T: Drop, N: Unsigned> BoxedArray<T, N> {
         ensures empty { N.USIZE ≡ 0 → IsOk result }
     {
         let BoxedArray { items, of: _ } = self;
-        let mut vector = Vec::with_capacity(items.allocator(), N::USIZE)?;
-        let mut items = items;
-        while let Some(item) = items.take_front() {
-            vector.push_reserved(item);
-        }
-        Ok(vector)
+        items.into_vec(N::USIZE)
     }
 
     /// The items as a boxed slice: see `into_vec`. The counterpart of `GenericArray::into_boxed_slice`.

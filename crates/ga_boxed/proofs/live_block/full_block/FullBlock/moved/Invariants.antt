@@ -1,4 +1,4 @@
-use Rattle.ga_boxed.proofs.boxed_array.BoxedArray.into_vec.Given as goal
+use Rattle.ga_boxed.proofs.live_block.full_block.FullBlock.moved.Given as goal
 use Rattle.std.proofs.Common.{◌≡◌, ◌+◌, ◌++◌, ◌≤◌, length}
 use Rattle.std.specs.Vec.{vec_capacity, vec_len}
 
