@@ -1,8 +1,8 @@
 -- The lines of rows, put down one after the other, and the front of what was put behind a text.
 use Rattle.ga_rows.specs.Text.{line, row_text}
 use Rattle.ga_rows.specs.declared.words.Mode.{Mode}
-use Rattle.std.proofs.Common.{◌≡◌, ℕ, ◌+◌, ◌≤◌, List, ◌∷◌, ◌++◌, None, Option, Some, append_assoc, ap, arith, length, length-take, sym, take, ◌∙◌}
-use Rattle.std.proofs.KnownBytes.{Appends-trans}
+use Rattle.std.proofs.Common.{[], ◌≡◌, ℕ, ◌+◌, ◌≤◌, List, ◌∷◌, ◌++◌, None, Option, Some, append_assoc, ap, arith, length, length-take, sym, take, ◌∙◌}
+use Rattle.std.proofs.KnownBytes.{Appends-nil, Appends-trans}
 use Rattle.std.proofs.Math.Seq.{take-append-add}
 use Rattle.std.proofs.lemmas.List.{take-append-le}
 use Rattle.std.specs.Io.KnownBytes.{Appends, Keeps, append_known}
@@ -17,6 +17,10 @@ module _ (mode : Mode) where
     pub done : List ℕ
     pub appended : Appends before now done
     pub whole : lines all ≡ done ++ lines left
+
+  -- before the first line
+  pub lines-none : (all left : List (List ℕ)) (now : Option (List ℕ)) → left ≡ all → LinesSoFar all left now now
+  lines-none all left now same = record { done = []; appended = Appends-nil now; whole = ap lines (sym same) }
 
   -- also after one more line
   pub lines-more : (all left after : List (List ℕ)) (row : List ℕ) (before now later : Option (List ℕ))

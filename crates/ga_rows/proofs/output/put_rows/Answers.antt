@@ -1,9 +1,20 @@
-use Rattle.ga_rows.proofs.TextLemmas.{Appends-behind, lines-more}
+use Rattle.ga_rows.proofs.TextLemmas.{Appends-behind, lines-more, lines-none}
 use Rattle.ga_rows.proofs.output.put_rows.Goals as goal
 use Rattle.ga_rows.proofs.output.put_rows.Goals.{else-not-has_room, else-not-has_room-2, then-not-has_room+in_ok-hand_over, then-not-has_room-2+in_ok-hand_over-2}
-use Rattle.std.proofs.Common.{[], ◌∷◌, ◌∙◌, ap, arith, length, length-append, reverse, rules}
+use Rattle.std.proofs.Common.{[], ◌∷◌, ◌∙◌, ap, arith, length, length-append, refl, reverse, rules}
 use Rattle.std.proofs.KnownBytes.{Keeps-refl}
 use Rattle.std.proofs.lemmas.List.{reverse-append}
+use Rattle.std.specs.Iterator.Adapters.{rev_source}
+
+pub loop-last-init : goal.loop-last-init
+loop-last-init g c =
+    let same = ap rev_source c.into_iter-last-iterator.ensures.into_iter_gives ∙ (c.rev-last-items.ensures.source ∙ c.iter.ensures.rows) in
+    record { text = lines-none c.args.mode _ _ _ (ap reverse same); empty = λ none. (same ∙ none, refl) }
+
+pub loop-row-init : goal.loop-row-init
+loop-row-init g c =
+    let same = c.into_iter-row-iterator.ensures.into_iter_gives ∙ c.iter-row-items.ensures.rows in
+    record { text = lines-none c.args.mode _ _ _ same; empty = λ none. (same ∙ none, refl) }
 
 pub loop-last-preserved : goal.loop-last-preserved
 loop-last-preserved g c =
