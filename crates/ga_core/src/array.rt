@@ -75,6 +75,16 @@ impl<T, N: ArraySlots<T>> GenericArray<T, N> {
         GenericArray::of_slots(Slots::filled())
     }
 
+    // The array itself, where a function ends that wrote it. Taken apart and put together again, it is
+    // copied once on its way through inlined functions; a variable that is returned is copied in each.
+    #[inline(always)]
+    pub(crate) fn finished(self) -> Self
+        ensures { result ≡ self }
+    {
+        let GenericArray { slots, of: _ } = self;
+        GenericArray::of_slots(slots)
+    }
+
     /// The number of items, which is that of the type.
     pub const fn len() -> usize
         ensures { result ≡ N.USIZE }

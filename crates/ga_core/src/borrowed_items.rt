@@ -61,7 +61,7 @@ pub trait BorrowedItems<T, N: Unsigned> {
         let items = self.borrowed();
         let mut made = GenericArray::<U, N>::filled();
         write_mapped_ref(items, made.as_mut_slice(), f);
-        made
+        made.finished()
     }
 
     /// `map_inline_ref` with a closure that may fail: the array of what it returns, or its first error.
@@ -99,7 +99,7 @@ pub trait BorrowedItems<T, N: Unsigned> {
         let items = self.borrowed();
         let mut made = GenericArray::<U, N>::filled();
         match try_write_mapped_ref(items, made.as_mut_slice(), f) {
-            Ok(()) => Ok(made),
+            Ok(()) => Ok(made.finished()),
             Err(error) => Err(error),
         }
     }
@@ -147,7 +147,7 @@ pub trait BorrowedItems<T, N: Unsigned> {
         let items = self.borrowed();
         let mut made = GenericArray::<U, N>::filled();
         write_zipped_refs(items, rhs.as_slice(), made.as_mut_slice(), f);
-        made
+        made.finished()
     }
 }
 

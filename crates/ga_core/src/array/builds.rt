@@ -33,7 +33,7 @@ impl<T: Drop, N: ArraySlots<T>> GenericArray<T, N> {
     {
         let mut array = Self::filled();
         write_answers(array.as_mut_slice(), f);
-        array
+        array.finished()
     }
 
     /// `generate` with a closure that may fail: the array of its values, or its first error.
@@ -58,7 +58,7 @@ impl<T: Drop, N: ArraySlots<T>> GenericArray<T, N> {
     {
         let mut array = Self::filled();
         match try_write_answers(array.as_mut_slice(), f) {
-            Ok(()) => Ok(array),
+            Ok(()) => Ok(array.finished()),
             Err(error) => Err(error),
         }
     }

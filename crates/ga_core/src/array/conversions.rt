@@ -39,7 +39,7 @@ impl<T: Copy + Default + Drop, N: ArraySlots<T>> GenericArray<T, N> {
     {
         let mut array = Self::filled();
         array.as_mut_slice().copy_from_slice(view.as_slice());
-        array
+        array.finished()
     }
 
     /// The native array of the items, of as many. The counterpart of `GenericArray::into_array`.
@@ -71,7 +71,7 @@ impl<T: Default + Drop, N: ArraySlots<T>> GenericArray<T, N> {
         }
         let mut array = Self::filled();
         move_items(items.as_mut_slice(), array.as_mut_slice());
-        Ok(array)
+        Ok(array.finished())
     }
 
     /// The same of a boxed slice. The counterpart of `TryFrom<Box<[T]>>`.

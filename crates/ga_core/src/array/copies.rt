@@ -34,7 +34,7 @@ impl<T: Copy + Drop, N: ArraySlots<T>> GenericArray<T, N> {
     {
         let mut array = Self::filled();
         write_same(array.as_mut_slice(), item);
-        array
+        array.finished()
     }
 }
 
@@ -55,7 +55,7 @@ impl<T: Clone, N: ArraySlots<T>> GenericArray<T, N> {
     {
         let mut array = Self::filled();
         match write_copies(array.as_mut_slice(), item) {
-            Ok(()) => Ok(array),
+            Ok(()) => Ok(array.finished()),
             Err(refused) => Err(refused),
         }
     }
@@ -71,7 +71,7 @@ impl<T: Clone, N: ArraySlots<T>> GenericArray<T, N> {
         let items = self.as_slice();
         let mut copy = Self::filled();
         match write_clones(copy.as_mut_slice(), items) {
-            Ok(()) => Ok(copy),
+            Ok(()) => Ok(copy.finished()),
             Err(refused) => Err(refused),
         }
     }

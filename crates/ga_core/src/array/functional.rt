@@ -46,7 +46,7 @@ impl<T: Default + Drop, N: ArraySlots<T>> GenericArray<T, N> {
     {
         let mut made = GenericArray::<U, N>::filled();
         write_mapped(self.as_mut_slice(), made.as_mut_slice(), f);
-        made
+        made.finished()
     }
 
     /// `map_inline` with a closure that may fail: the array of what it returns, or its first error.
@@ -80,7 +80,7 @@ impl<T: Default + Drop, N: ArraySlots<T>> GenericArray<T, N> {
     {
         let mut made = GenericArray::<U, N>::filled();
         match try_write_mapped(self.as_mut_slice(), made.as_mut_slice(), f) {
-            Ok(()) => Ok(made),
+            Ok(()) => Ok(made.finished()),
             Err(error) => Err(error),
         }
     }
@@ -124,7 +124,7 @@ impl<T: Default + Drop, N: ArraySlots<T>> GenericArray<T, N> {
             made.as_mut_slice(),
             f,
         );
-        made
+        made.finished()
     }
 
     /// `zip_inline` with a view as the right-hand side, whose items are borrowed.
@@ -169,6 +169,6 @@ impl<T: Default + Drop, N: ArraySlots<T>> GenericArray<T, N> {
             made.as_mut_slice(),
             f,
         );
-        made
+        made.finished()
     }
 }

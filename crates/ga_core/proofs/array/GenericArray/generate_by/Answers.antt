@@ -2,7 +2,7 @@ use Rattle.ga_core.proofs.ActsLemmas.{answers_of_run}
 use Rattle.ga_core.proofs.CallLemmas.{callable-along}
 use Rattle.ga_core.proofs.MadeLemmas.{ClosureRun-made, made-is_written}
 use Rattle.ga_core.proofs.array.GenericArray.generate_by.Goals as goal
-use Rattle.std.proofs.Common.{ap, arith}
+use Rattle.std.proofs.Common.{◌∙◌, ap, arith}
 use Rattle.std.specs.List.{range_with_len}
 
 pub write_answers-requires : goal.write_answers-requires
@@ -13,6 +13,6 @@ write_answers-requires g c =
 pub returns : goal.returns
 returns g c =
     let full = c.as_mut_slice.ensures.len in
-    let made = made-is_written c.as_mut_slice.ensures.items c.write_answers.auto.slots in
+    let made = c.finished.ensures ∙ made-is_written c.as_mut_slice.ensures.items c.write_answers.auto.slots in
     let run = ClosureRun-made (goal.F-step g) _ _ (ap (range_with_len 0) full) made c.write_answers.ensures.run in
     record { run = run; acts = λ h acts. answers_of_run _ _ h acts _ _ _ run }

@@ -11,6 +11,6 @@ write_zipped_ref-requires-clause-callable g c = λ passed x others ys reached wh
 
 pub returns : goal.returns
 returns g c =
-    let made = made-is_written c.as_mut_slice-2.ensures.items c.write_zipped_ref.auto.slots in
+    let made = c.finished.ensures ∙ made-is_written c.as_mut_slice-2.ensures.items c.write_zipped_ref.auto.slots in
     let run = ClosureRun-made (CallAtPair (λ item. item) (λ item. item.now) (goal.F-step g)) _ _ (same-pairs c.as_mut_slice.ensures.items c.into_slice.ensures.items) made c.write_zipped_ref.ensures.run in
     record { run = run; acts = λ h acts. answers_at_pairs (λ item. item) (λ item. item.now) _ _ h acts _ _ _ run }
