@@ -1,4 +1,4 @@
-//! What an array keeps its items in, known by its bound.
+//! What a builder and an iterator keep their items in, known by its bound.
 ghost use Rattle.std.specs.Prelude.{◌≡◌};
 
 use generic_array::{ArrayLength, Store, U2};
@@ -19,7 +19,9 @@ fn put_and_taken<S: Store<u32>>() -> [u32; 3]
     let mut first = 0;
     let left = store.as_slice().len();
     if left > 0 {
-        *store.item_mut(0) = 71;
+        if let Some(item) = store.as_mut_slice().first_mut() {
+            *item = 71;
+        }
         first = store.remove_at(0);
     }
     [left as u32, first, store.pop().unwrap_or(0)]
