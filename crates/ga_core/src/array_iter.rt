@@ -26,7 +26,8 @@ pub struct GenericArrayIter<T, N: ArrayLength<T>> {
     front: usize,
     back: usize,
     store: N::ArrayType,
-    of: PhantomData<T>,
+    // The checker wants each type of the length in a field.
+    of: PhantomData<(T, N::Slots)>,
 }
 
 impl<T, N: ArrayLength<T>> Model for GenericArrayIter<T, N> {

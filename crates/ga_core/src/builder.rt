@@ -15,7 +15,8 @@ use std::marker::{Model, PhantomData};
 #[derive(Drop)]
 pub struct ArrayBuilder<T, N: ArrayLength<T>> {
     store: N::ArrayType,
-    of: PhantomData<T>,
+    // The checker wants each type of the length in a field.
+    of: PhantomData<(T, N::Slots)>,
 }
 
 impl<T, N: ArrayLength<T>> Model for ArrayBuilder<T, N> {
