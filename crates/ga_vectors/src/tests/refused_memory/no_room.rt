@@ -61,16 +61,33 @@ fn are_shaped() -> bool {
         && flat == 123456
 }
 
+fn none_are_repeated(counts: &Counts) -> bool {
+    GenericArray::<Counted, U0>::repeat(Counted::new(counts, 1)).is_ok()
+}
+
+fn one_is_repeated(counts: &Counts) -> bool {
+    GenericArray::<Counted, U1>::repeat(Counted::new(counts, 2)).is_ok()
+}
+
+fn none_are_cloned() -> bool {
+    GenericArray::<Counted, U0>::default().clone().is_ok()
+}
+
+fn an_ended_walk_is_cloned(counts: &Counts) -> bool {
+    let mut items = three_counted(counts).into_iter();
+    let _ = items.nth(5);
+    items.clone().is_ok()
+}
+
 /// Whether no items and one are repeated, and no items cloned, with no clone of an item.
 fn are_copied() -> bool {
     let counts = Counts::refusing_clone(1);
-    let none = GenericArray::<Counted, U0>::repeat(Counted::new(&counts, 1)).is_ok();
-    let one = GenericArray::<Counted, U1>::repeat(Counted::new(&counts, 2)).is_ok();
-    let copy = GenericArray::<Counted, U0>::default().clone().is_ok();
-    let mut items = three_counted(&counts).into_iter();
-    let _ = items.nth(5);
-    let finished = items.clone().is_ok();
-    none && one && copy && finished && counts.clones() == 0 && counts.drops() == 5
+    none_are_repeated(&counts)
+        && one_is_repeated(&counts)
+        && none_are_cloned()
+        && an_ended_walk_is_cloned(&counts)
+        && counts.clones() == 0
+        && counts.drops() == 5
 }
 
 fn length(live: &[u32]) -> usize {
