@@ -28,9 +28,9 @@ impl Model for HexTable {
 
 impl HexTable {
     /// The table, made by one call of `hex`.
-    // It is made once in a run: one copy serves all widths.
     #[inline(never)]
     pub fn new() -> Self {
+        // Not inlined: it is made once in a run, and one copy of the code serves all widths.
         let mut digits = [0; 512];
         // There is room, so this succeeds.
         let _ = encode_to_slice(bytes_in_order::<U256>().as_slice(), &mut digits);
