@@ -1,11 +1,9 @@
 -- All the items of a slice that lies behind another `&mut` are lent for as long as that one, and the
 -- inner reference ends at what is then written over its items. It is `InnerSlice`'s `lends_slice`.
-use mathlib.Core.Path.{◌≡◌, refl, sym, ap, ◌∙◌}
-use mathlib.Core.List.{List, [], ◌∷◌, ◌++◌, append-nil}
+use mathlib.Core.Path.{refl}
+use mathlib.Core.List.{List, [], ◌∷◌}
 use Prim.Native.Nat.{ℕ}
-use native.Mathlib.Omega.{arith}
-use lib.ListN.{length, take, drop_of_length-le}
-use lib.Seq.{take_all}
+use lib.ListN.{length}
 use seplogic.Ra.Ura.{Ura}
 use base.Fml.{Lft, Incl, GName, Share}
 use base.Logic.{ent, sep, ex, emp}
@@ -16,13 +14,8 @@ use denote.Ref.{MutBor}
 use denote.Slice.{Room}
 use denote.Steps.{nothing}
 use Rattle.std.specs.List.{refill}
+use Rattle.ga_views.proofs.PartLemmas.{refilled}
 use Rattle.ga_views.proofs.InnerSlice.{LentSlice, Open, items_at, lends_slice, lent_slice}
-
--- as many items as there were are the refilled list
-pub refilled : {T : Type 0} (len : ℕ) (xs ws : List T) → length xs ≡ len → length ws ≡ len → ws ≡ refill len xs ws
-refilled len xs ws long e =
-    sym (ap (λ l. take len (ws ++ l)) (drop_of_length-le xs (omega arith))
-    ∙ ap (take len) (append-nil ws) ∙ take_all len ws (omega arith))
 
 -- all the items are lent: no rest is left
 module _ {M : Type 1} {𝓤 : Ura M} (𝓛 : Logic 𝓤) (R : RattleType) (κ κ' : Lft) (q : Share) (x : MutBor (MutBor (List R.Denot))) where

@@ -5,8 +5,8 @@ use mathlib.Core.List.{List, [], ◌∷◌, ◌++◌}
 use Prim.Native.Nat.{ℕ, ◌+◌, ◌*◌, ◌≤◌}
 use native.Mathlib.Nat.{lt_of_le_of_lt, mul-le-mul_right}
 use native.Mathlib.Omega.{arith}
-use lib.ListN.{length, take, drop as drop_list, length-drop, take-append-drop}
-use lib.Seq.{drop-drop, length-take-le}
+use lib.ListN.{length, take, drop as drop_list, take-append-drop}
+use lib.Seq.{length-take-le}
 use seplogic.Ra.Ura.{Ura}
 use base.Fml.{Fml, Lft, Incl, GName, Share}
 use base.Logic.{SProp, ent, sep, ex}
@@ -20,27 +20,10 @@ use denote.RattleType.{RattleType}
 use denote.Ref.{MutBor}
 use denote.Slice.{Room}
 use Rattle.std.specs.List.{refill}
-use Rattle.ga_views.proofs.InnerItems.{refilled}
 use Rattle.ga_views.proofs.InnerSlice.{LentSlice, Open, items_at, lends_slice, lent_slice}
 use Rattle.ga_views.proofs.ItemLoan.{spot}
+use Rattle.ga_views.proofs.PartLemmas.{part_filled, part_long}
 use Rattle.ga_views.specs.Parts.{part_set}
-
--- the part has as many items as it was asked for
-pub part_long : {T : Type 0} (from len : ℕ) (xs : List T) → from + len ≤ length xs → length (mid_of from len xs) ≡ len
-part_long from len xs within =
-    let left = length-drop from xs in
-    length-take-le len (drop_list from xs) (omega arith)
-
--- as many items as the part has stand in its place
-part_filled : {T : Type 0} (from len : ℕ) (xs ws : List T) → from + len ≤ length xs → length ws ≡ length (mid_of from len xs)
-    → put_mid from len xs ws ≡ refill (length xs) xs (part_set from len xs ws)
-part_filled from len xs ws within e =
-    let part = mid_of from len xs in
-    let long = part_long from len xs within in
-    let same : put_mid from len xs ws ≡ part_set from len xs ws =
-    ap (λ l. take from xs ++ (l ++ post_of from len xs)) (refilled len part ws long (e ∙ long))
-    ∙ ap (λ l. take from xs ++ (refill len part ws ++ l)) (drop-drop len from xs) in
-    refilled (length xs) xs (put_mid from len xs ws) refl (same_len_mid from len xs ws e) ∙ ap (refill (length xs) xs) same
 
 -- `len` items from place `from` on are lent
 module _ {M : Type 1} {𝓤 : Ura M} (𝓛 : Logic 𝓤) (R : RattleType) (κ κ' : Lft) (q : Share) (x : MutBor (MutBor (List R.Denot))) (from len : ℕ) where

@@ -3,7 +3,8 @@
 -- the inner reference is opened and read, which gives the part's place, and then the part is lent by `InnerPart`'s `lends_range`. Assumes `Logic`.
 use Rattle.std.proofs.Common.{◌≡◌, ℕ, ◌+◌, ◌-◌, ◌*◌, ◌^◌, ◌<◌, ◌≤◌, List, [], ◌∷◌, length, refl, ap, arith}
 use Rattle.std.specs.List.{refill}
-use Rattle.ga_views.proofs.InnerPart.{lent, lends_range, part_long}
+use Rattle.ga_views.proofs.InnerPart.{lent, lends_range}
+use Rattle.ga_views.proofs.PartLemmas.{part_long}
 use Rattle.ga_views.proofs.InnerSlice.{args, closes_inner, opens_inner, slice_lent}
 use Rattle.ga_views.proofs.ItemLoan.{uncapped_fits, offset_fits, spot, uncapped}
 use Rattle.ga_views.proofs.LoanWalk.{Had, Loan, Walk, Words, lends}
