@@ -2,7 +2,7 @@
 --     args, R, S     the arguments that stand for a function's two parameters, the type of an item, and that of the array
 --     loan_of        what such a function asks and gives, as `LoanWalk` has it
 --     apart, whole   the array in memory
-use Rattle.ga_views.proofs.LoanWalk.{Loan}
+use Rattle.ga_views.proofs.LoanWalk.{Loan, Words}
 use Rattle.std.proofs.Common.{◌≡◌, ◌^◌, ◌<◌, [], ◌∷◌, length, List, ℕ}
 use base.Fml.{feq, fsep, GName}
 use base.Fraction.{full_share}
@@ -34,19 +34,19 @@ module _ (X : RattleType) (n : ℕ) where
   abbrev pub S : RattleType
   S = ArrayAt R (param 1 (number n))
 
-  -- a U is lent, and the array ends as `after` of its last value
-  abbrev pub loan_of : (outlives : List (Outlives 3)) (result : Slot 3) (U : RattleType) → ((κs : Lfts 3) → (result.row κs).Denot → GName)
-      → (ℕ → Type 0) → (List X.Denot → ℕ → U.Denot → List X.Denot) → ((κs : Lfts 3) → List X.Denot → ℕ → (result.row κs).Denot → Type 0) → Loan
-  loan_of outlives result U name asks after shown = record {
+  -- a U is lent by such a function, which takes k numbers, and the array ends as `after` of its last value
+  abbrev pub loan_of : (k : ℕ) (outlives : List (Outlives 3)) (result : Slot 3) (U : RattleType) → ((κs : Lfts 3) → (result.row κs).Denot → GName)
+      → ((κs : Lfts 3) → Words 3 κs k → Type 0) → ((κs : Lfts 3) → List X.Denot → Words 3 κs k → U.Denot → List X.Denot) → ((κs : Lfts 3) → List X.Denot → Words 3 κs k → (result.row κs).Denot → Type 0) → Loan
+  loan_of k outlives result U name asks after shown = record {
     more = 2;
     outlives = outlives;
     lent = plain (λ _. S);
     result = result;
-    numbers = 1;
+    numbers = k;
     lives = λ κs. (κs.1.0 ⊑ X.lives) ∷ (κs.1.1.0 ⊑ []) ∷ [];
-    asks = λ κs slots ns. (size (layout S) < 2 ^ 63) ∷ asks ns.0 ∷ [];
-    ties = λ κs x ns r. follows S U x.ghost_name (name κs r) (after x.now ns.0);
-    gives = λ κs slots ns r. shown κs slots ns.0 r;
+    asks = λ κs slots ns. (size (layout S) < 2 ^ 63) ∷ asks κs ns ∷ [];
+    ties = λ κs x ns r. follows S U x.ghost_name (name κs r) (after κs x.now ns);
+    gives = λ κs slots ns r. shown κs slots ns r;
   }
 
   module _ {M : Type 1} {𝓤 : Ura M} (𝓛 : Logic 𝓤) (b o : ℕ) where

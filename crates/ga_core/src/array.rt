@@ -21,7 +21,7 @@ mod slices;
 mod tuples;
 
 use crate::array_iter::GenericArrayIter;
-use crate::length::{ArrayLength, ArraySlots};
+use crate::length::ArraySlots;
 use crate::store::Slots;
 pub use as_slice::Len;
 use ga_views::{Const, MAX_INLINE};
@@ -75,10 +75,12 @@ impl<T, N: ArraySlots<T>> GenericArray<T, N> {
         GenericArray::of_slots(Slots::filled())
     }
 
-    // The array itself, where a function ends that wrote it. Taken apart and put together again, it is
-    // copied once on its way through inlined functions; a variable that is returned is copied in each.
+    /// The array itself, for the end of a function that wrote it.
+    ///
+    /// Taken apart and put together again, it is copied once on its way through inlined functions; a
+    /// variable that is returned is copied in each.
     #[inline(always)]
-    pub(crate) fn finished(self) -> Self
+    pub fn finished(self) -> Self
         ensures { result ≡ self }
     {
         let GenericArray { slots, of: _ } = self;
@@ -118,7 +120,7 @@ impl<T, N: ArraySlots<T>> GenericArray<T, N> {
         ensures items { result.now ≡ self.old }
         ensures len { length result.now ≡ N.USIZE }
     {
-        self.slots.as_mut_slice()
+        self.slots.part_mut(0, N::USIZE)
     }
 
     /// The items by reference, in order.
@@ -170,7 +172,7 @@ impl<T, N: ArraySlots<T>> IndexMut<usize> for GenericArray<T, N> {
 }
 
 /// The items by value, from either end. Moves the array and no single item.
-impl<T: Default + Drop, N: ArrayLength<T>> IntoIterator for GenericArray<T, N> {
+impl<T: Default + Drop, N: ArraySlots<T>> IntoIterator for GenericArray<T, N> {
     type Item = T;
 
     type IntoIter = GenericArrayIter<T, N>;
@@ -182,6 +184,6 @@ impl<T: Default + Drop, N: ArrayLength<T>> IntoIterator for GenericArray<T, N> {
     #[inline]
     fn into_iter(self) -> GenericArrayIter<T, N> {
         let GenericArray { slots, of: _ } = self;
-        GenericArrayIter::of_store(N::store_of(slots), N::USIZE)
+        GenericArrayIter::of_slots(slots, N::USIZE)
     }
 }

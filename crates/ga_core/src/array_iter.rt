@@ -2,14 +2,14 @@
 ghost use Rattle.ga_views.specs.Length.{FitsInline};
 ghost use Rattle.std.specs.Borrow.{sem};
 ghost use Rattle.std.specs.Iterator.{YieldsFirst, YieldsLast, item_count};
-ghost use Rattle.std.specs.Prelude.{◌≡◌, ◌+◌, ◌-◌, ◌<◌, ◌≤◌, drop, length, slice_index_or, slice_range, slice_set, take};
+ghost use Rattle.std.specs.Prelude.{◌≡◌, ◌<◌, ◌≤◌, [], ◌∷◌, ◌++◌, length, slice_index_or, slice_range, slice_set, take};
 
 mod copies;
 mod folds;
 mod steps;
 
-use crate::length::ArrayLength;
-use crate::store::Store;
+use crate::length::ArraySlots;
+use crate::store::Slots;
 use ga_views::MAX_INLINE;
 use std::marker::{Model, PhantomData};
 use std::{fmt, mem};
@@ -19,42 +19,42 @@ use std::{fmt, mem};
 ///
 /// The counterpart of `GenericArrayIter`.
 #[derive(Drop)]
-pub struct GenericArrayIter<T, N: ArrayLength<T>> {
+pub struct GenericArrayIter<T, N: ArraySlots<T>> {
     // The items that are left lie from `front` up to `back`; the other slots hold the defaults of
-    // items that were taken. The two numbers stand before the store, which lets the compiler see
+    // items that were taken. The two numbers stand before the slots, which lets the compiler see
     // that a write to a slot leaves them.
     front: usize,
     back: usize,
-    store: N::ArrayType,
-    // The checker wants each type of the length in a field.
-    of: PhantomData<(T, N::Slots)>,
+    slots: N::Slots,
+    of: PhantomData<T>,
 }
 
-impl<T, N: ArrayLength<T>> Model for GenericArrayIter<T, N> {
-    ghost use Rattle.std.specs.Prelude.{◌≤◌, List, length, slice_range};
+impl<T, N: ArraySlots<T>> Model for GenericArrayIter<T, N> {
+    ghost use Rattle.std.specs.Prelude.{◌≡◌, ◌≤◌, List, length, slice_range};
     ghost use Rattle.ga_views.specs.Length.{FitsInline};
 
     ghost Value = { List T };
 
-    ghost view = { λ items. slice_range (N.ArrayType.items items.store) items.front items.back };
+    ghost view = { λ items. slice_range (N.Slots.items items.slots) items.front items.back };
 
     ghost invariant = { λ items. (items.front ≤ items.back)
-        × (items.back ≤ length (N.ArrayType.items items.store))
-        × (length (N.ArrayType.items items.store) ≤ N.USIZE) × FitsInline N.USIZE };
+        × (items.back ≤ length (N.Slots.items items.slots))
+        × (length (N.Slots.items items.slots) ≡ N.USIZE) × FitsInline N.USIZE };
 }
 
-impl<T, N: ArrayLength<T>> GenericArrayIter<T, N> {
-    // The iterator over the `count` items of a store.
+impl<T, N: ArraySlots<T>> GenericArrayIter<T, N> {
+    // The iterator over the first `count` items of slots.
     #[inline]
-    pub(crate) fn of_store(store: N::ArrayType, count: usize) -> Self
-        requires count { count ≡ length (N.ArrayType.items store) }
-        requires fits { (count ≤ N.USIZE) × FitsInline N.USIZE }
-        ensures { result ≡ N.ArrayType.items store }
+    pub(crate) fn of_slots(slots: N::Slots, count: usize) -> Self
+        requires count { count ≤ N.USIZE }
+        requires full { length (N.Slots.items slots) ≡ N.USIZE }
+        requires fits { FitsInline N.USIZE }
+        ensures { result ≡ take count (N.Slots.items slots) }
     {
         GenericArrayIter {
             front: 0,
             back: count,
-            store,
+            slots,
             of: PhantomData,
         }
     }
@@ -74,7 +74,7 @@ impl<T, N: ArrayLength<T>> GenericArrayIter<T, N> {
         ensures bound { length result.now ≤ N.USIZE }
         ensures fits { FitsInline N.USIZE }
     {
-        &self.store.as_slice()[self.front..self.back]
+        &self.slots.as_slice()[self.front..self.back]
     }
 
     /// The number of items that are left, twice: they are no fewer and no more.
@@ -87,7 +87,7 @@ impl<T, N: ArrayLength<T>> GenericArrayIter<T, N> {
     }
 }
 
-impl<T: Default + Drop, N: ArrayLength<T>> Iterator for GenericArrayIter<T, N> {
+impl<T: Default + Drop, N: ArraySlots<T>> Iterator for GenericArrayIter<T, N> {
     type Item = T;
 
     ghost next_gives = { YieldsFirst (λ left. left) };
@@ -97,12 +97,10 @@ impl<T: Default + Drop, N: ArrayLength<T>> Iterator for GenericArrayIter<T, N> {
     /// Takes the first item that is left. O(1).
     #[inline]
     fn next(&mut self) -> Option<T> {
-        let first = self.front;
-        if first == self.back {
+        if self.front >= self.back {
             return None;
         }
-        self.front = first + 1;
-        Some(take_in(&mut self.store, first))
+        Some(self.take_first())
     }
 
     #[inline]
@@ -113,41 +111,59 @@ impl<T: Default + Drop, N: ArrayLength<T>> Iterator for GenericArrayIter<T, N> {
     }
 }
 
-impl<T: Default + Drop, N: ArrayLength<T>> DoubleEndedIterator for GenericArrayIter<T, N> {
+impl<T: Default + Drop, N: ArraySlots<T>> DoubleEndedIterator for GenericArrayIter<T, N> {
     ghost next_back_gives = { YieldsLast (λ left. left) };
 
     /// Takes the last item that is left. O(1).
     #[inline]
     fn next_back(&mut self) -> Option<T> {
-        if self.front == self.back {
+        if self.front >= self.back {
             return None;
         }
+        Some(self.take_last())
+    }
+}
+
+impl<T: Default + Drop, N: ArraySlots<T>> GenericArrayIter<T, N> {
+    // Takes the first item that is left. There is one.
+    #[inline]
+    fn take_first(&mut self) -> T
+        requires some { 0 < length self.old }
+        ensures { self.old ≡ result ∷ self.new }
+    {
+        let first = self.front;
+        self.front = first + 1;
+        take_at(&mut self.slots, first)
+    }
+
+    // Takes the last item that is left. There is one.
+    #[inline]
+    fn take_last(&mut self) -> T
+        requires some { 0 < length self.old }
+        ensures { self.old ≡ self.new ++ result ∷ [] }
+    {
         let last = self.back - 1;
         self.back = last;
-        Some(take_in(&mut self.store, last))
+        take_at(&mut self.slots, last)
     }
 }
 
-impl<T: Default + Drop, N: ArrayLength<T>> GenericArrayIter<T, N> {
+impl<T, N: ArraySlots<T>> GenericArrayIter<T, N> {
     ghost use Rattle.ga_core.specs.IterLends.{LendsLeft};
 
-    /// The items that are left, in order, for writing.
-    ///
-    /// O(1) if no item was taken from the front since the last such call; else moves the items
-    /// that are left to the front of the store first.
+    /// The items that are left, in order, for writing. O(1).
+    #[inline]
     pub fn as_mut_slice(&mut self) -> &mut [T]
-        ensures* writes_back { sem 𝓛 (LendsLeft T.row N.row N.ArrayType.row N.Slots.row
-            N.Unsigned N.Slots.Slots N.ArrayType.Store self.entry result) }
+        ensures* writes_back { sem 𝓛 (LendsLeft T.row N.row N.Slots.row N.Unsigned N.Slots.Slots
+            self.entry result) }
         ensures items { result.now ≡ self.old }
     {
-        keep_range::<T, N::ArrayType>(&mut self.store, self.front, self.back);
-        self.back -= self.front;
-        self.front = 0;
-        self.store.as_mut_slice()
+        let (front, len) = (self.front, self.back - self.front);
+        self.slots.part_mut(front, len)
     }
 }
 
-impl<T: fmt::Debug, N: ArrayLength<T>> fmt::Debug for GenericArrayIter<T, N> {
+impl<T: fmt::Debug, N: ArraySlots<T>> fmt::Debug for GenericArrayIter<T, N> {
     fn fmt<W: fmt::Write>(&self, f: &mut fmt::Formatter<W>) -> fmt::Result {
         f.debug_tuple("GenericArrayIter")
             .field(&self.as_slice())
@@ -155,58 +171,25 @@ impl<T: fmt::Debug, N: ArrayLength<T>> fmt::Debug for GenericArrayIter<T, N> {
     }
 }
 
-// Leaves of a store the items from `front` up to `back`.
-fn keep_range<T: Drop, S: Store<T>>(store: &mut S, front: usize, back: usize)
-    requires ordered { front ≤ back }
-    requires in_bounds { back ≤ length (S.items store.old) }
-    ensures { S.items store.new ≡ slice_range (S.items store.old) front back }
-{
-    let count = store.as_slice().len();
-    if back - front < count {
-        store.as_mut_slice().rotate_left(front);
-        for _given in 0..count - (back - front) {
-            let _ = store.pop();
-        }
-    }
-}
-
-// Takes the item at a place of a store, and leaves a default there.
+// Takes the item of a slot, and leaves a default there.
 // `slot % MAX_INLINE` is the slot: by it the compiler sees that the write reaches nothing before the
-// store.
+// slots.
 #[inline]
-fn take_in<T: Default + Drop, S: Store<T>>(store: &mut S, slot: usize) -> T
-    requires fits { FitsInline (length (S.items store.old)) }
-    requires in_bounds { slot < length (S.items store.old) }
-    ensures item { result ≡ slice_index_or (S.items store.old) slot result }
-    ensures left { (blank : T) × (S.items store.new ≡ slice_set (S.items store.old) slot blank) }
+fn take_at<T: Default + Drop, S: Slots<T>>(slots: &mut S, slot: usize) -> T
+    requires fits { FitsInline (length (S.items slots.old)) }
+    requires in_bounds { slot < length (S.items slots.old) }
+    ensures item { result ≡ slice_index_or (S.items slots.old) slot result }
+    ensures left { (blank : T) × (S.items slots.new ≡ slice_set (S.items slots.old) slot blank) }
 {
-    mem::take(&mut store.as_mut_slice()[slot % MAX_INLINE])
+    mem::take(slots.item_mut(slot % MAX_INLINE))
 }
 
-// Writes defaults over the slots of a store from `front` up to `back`, which drops the items there, in
-// order.
+// Writes defaults over the items, which drops them, in order.
 #[inline]
-fn blank_in<T: Default + Drop, S: Store<T>>(store: &mut S, front: usize, back: usize)
-    requires in_bounds { back ≤ length (S.items store.old) }
-    ensures len { length (S.items store.new) ≡ length (S.items store.old) }
-    ensures before { take front (S.items store.new) ≡ take front (S.items store.old) }
-    ensures behind { front ≤ back → drop back (S.items store.new) ≡ drop back (S.items store.old) }
+fn blank<T: Default + Drop>(items: &mut [T])
+    ensures len { length items.new ≡ length items.old }
 {
-    blank(store.as_mut_slice(), front, back);
-}
-
-// Writes defaults over the slots from `front` up to `back`, which drops the items there, in order.
-#[inline]
-fn blank<T: Default + Drop>(slots: &mut [T], front: usize, back: usize)
-    requires in_bounds { back ≤ length slots.old }
-    ensures before { take front slots.new ≡ take front slots.old }
-    ensures behind { front ≤ back → drop back slots.new ≡ drop back slots.old }
-{
-    if front < back {
-        let (before, _) = slots.split_at_mut(back);
-        let (_, passed) = before.split_at_mut(front);
-        for slot in passed.iter_mut() {
-            *slot = T::default();
-        }
+    for item in items.iter_mut() {
+        *item = T::default();
     }
 }

@@ -19,12 +19,8 @@ pub trait ArraySlots<T>: Unsigned {
 /// A length whose arrays of `T` are kept inline. The counterpart of `ArrayLength`, which has no
 /// parameter there and can't be implemented outside the crate.
 pub trait ArrayLength<T>: ArraySlots<T> {
-    /// Where a builder and an iterator keep items: a store with room for exactly `USIZE` of them.
+    /// Where a builder keeps items: a store with room for exactly `USIZE` of them.
     type ArrayType: Store<T>;
-
-    /// The full store of an array's items.
-    fn store_of(slots: Self::Slots) -> Self::ArrayType
-        ensures { Self.ArrayType.items result ≡ Self.Slots.items slots };
 
     /// The items of a full store, as an array keeps them.
     fn slots_of(store: Self::ArrayType) -> Self::Slots
@@ -46,11 +42,6 @@ impl<T: Default + Drop, const N: usize> ArrayLength<T> for Const<N> {
     ghost use Rattle.std.specs.Prelude.{refl};
 
     type ArrayType = ArrayVec<T, N>;
-
-    #[inline]
-    fn store_of(slots: [T; N]) -> ArrayVec<T, N> {
-        ArrayVec::from_array_in((), slots)
-    }
 
     #[inline]
     fn slots_of(store: ArrayVec<T, N>) -> [T; N] {

@@ -11,6 +11,7 @@ pub fn always<T>(answer: Result<T, Never>) -> T
 {
     match answer {
         Ok(value) => value,
-        Err(never) => match never {},
+        // `match never {}` reads a byte, and an array of bytes isn't copied in one piece then.
+        Err(_) => unreachable!(),
     }
 }

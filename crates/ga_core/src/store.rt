@@ -1,13 +1,13 @@
 //! Where an inline array keeps its items: `Store`, and `ArrayVec` as one.
-ghost use Rattle.ga_core.specs.SlotLends.{LendsSlot, LendsSlots};
+ghost use Rattle.ga_core.specs.SlotLends.{LendsPart, LendsSlot};
 ghost use Rattle.ga_views.specs.Length.{FitsInline};
+ghost use Rattle.ga_views.specs.Parts.{part_set};
 ghost use Rattle.std.specs.Borrow.{Array, Lends, sem};
 ghost use Rattle.std.specs.Iterator.{YieldsLast};
-ghost use Rattle.std.specs.List.{All, AllZip, refill};
-ghost use Rattle.std.specs.Prelude.{◌≡◌, ℕ, ◌<◌, ◌≤◌, IfOk, IsOk, List, [], ◌∷◌, ◌++◌, length, remove, slice_index_or, slice_set};
+ghost use Rattle.std.specs.List.{refill};
+ghost use Rattle.std.specs.Prelude.{◌≡◌, ℕ, ◌+◌, ◌<◌, ◌≤◌, List, [], ◌∷◌, ◌++◌, drop, length, remove, slice_index_or, slice_set, take};
 
 use arrayvec::ArrayVec;
-use std::alloc::AllocError;
 
 /// A list with a capacity, kept in the value itself. It never asks for memory.
 pub trait Store<T>: Sized + Drop {
@@ -70,11 +70,12 @@ pub trait Slots<T>: Sized + Drop {
     ghost slots_with: { (slots : Self) (written : List T) → (after : Self)
         × (items after ≡ refill (length (items slots)) (items slots) written) };
 
-    /// The items, in order, for writing. What is written stands in the slots afterwards.
-    fn as_mut_slice(&mut self) -> &mut [T]
-        ensures* writes_back { sem 𝓛 (Lends Self.row (Array T.row 0)
-            self.entry result (λ written. (slots_with self.old written).0)) }
-        ensures value { result.now ≡ items self.old };
+    /// `len` items from place `from` on, for writing. What is written stands in the slots afterwards.
+    fn part_mut(&mut self, from: usize, len: usize) -> &mut [T]
+        requires in_bounds { from + len ≤ length (items self.old) }
+        ensures* writes_back { sem 𝓛 (Lends Self.row (Array T.row 0) self.entry result
+            (λ part. (slots_with self.old (part_set from len (items self.old) part)).0)) }
+        ensures value { result.now ≡ take len (drop from (items self.old)) };
 
     // The slots with this item at the index, and the others as they are.
     ghost slots_with_item: { (slots : Self) (index : ℕ) (item : T) → (after : Self)
@@ -150,8 +151,8 @@ impl<T: Default + Drop, const N: usize> Slots<T> for [T; N] {
     ghost slots_with = { λ slots written. (refill (length slots) slots written, refl) };
 
     #[inline]
-    fn as_mut_slice(&mut self) -> &mut [T] {
-        slots_of(self, N)
+    fn part_mut(&mut self, from: usize, len: usize) -> &mut [T] {
+        part_of(self, from, len)
     }
 
     ghost slots_with_item = { λ slots index item. (slice_set slots index item, refl) };
@@ -162,14 +163,14 @@ impl<T: Default + Drop, const N: usize> Slots<T> for [T; N] {
     }
 }
 
-// The slots of a native array, of which there are `len`.
+// The `len` slots of a native array from place `from` on.
 #[inline]
-fn slots_of<T, const N: usize>(slots: &mut [T; N], len: usize) -> &mut [T]
-    requires len { len ≡ N }
-    ensures* writes_back { sem 𝓛 (LendsSlots T.row N.row slots.entry result) }
-    ensures value { result.now ≡ slots.old }
+fn part_of<T, const N: usize>(slots: &mut [T; N], from: usize, len: usize) -> &mut [T]
+    requires in_bounds { from + len ≤ N }
+    ensures* writes_back { sem 𝓛 (LendsPart T.row N.row slots.entry from len result) }
+    ensures value { result.now ≡ take len (drop from slots.old) }
 {
-    &mut slots[..len]
+    &mut slots[from..from + len]
 }
 
 // The slot of a native array at `index`.
@@ -180,20 +181,4 @@ fn slot_of<T, const N: usize>(slots: &mut [T; N], index: usize) -> &mut T
     ensures value { result.now ≡ slice_index_or slots.old index result.now }
 {
     &mut slots[index]
-}
-
-// A store of clones of the items, made in order. If a clone fails, drops those made before it and
-// returns the error.
-pub(crate) fn store_of_clones<T: Clone, S: Store<T>>(items: &[T]) -> Result<S, AllocError>
-    requires fits { FitsInline S.CAPACITY }
-    requires room { length items.now ≤ S.CAPACITY }
-    ensures items { IfOk result (λ store. AllZip T.is_clone items.now (S.items store)) }
-    ensures len { IfOk result (λ store. length (S.items store) ≡ length items.now) }
-    ensures succeeds { All T.is_infallible items.now → IsOk result }
-{
-    let mut store = S::empty();
-    for item in items {
-        store.push(item.clone()?);
-    }
-    Ok(store)
 }

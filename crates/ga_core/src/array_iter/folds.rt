@@ -4,11 +4,11 @@ ghost use Rattle.std.specs.Iterator.{ActsAsOnTwo};
 ghost use Rattle.std.specs.Prelude.{◌≡◌, fold, reverse};
 
 use crate::array_iter::GenericArrayIter;
-use crate::length::ArrayLength;
-use crate::store::Store;
+use crate::length::ArraySlots;
+use crate::store::Slots;
 use std::mem;
 
-impl<T: Default + Drop, N: ArrayLength<T>> GenericArrayIter<T, N> {
+impl<T: Default + Drop, N: ArraySlots<T>> GenericArrayIter<T, N> {
     /// Folds the items that are left into one value, from the front, starting from `init`. One
     /// pass.
     pub fn fold<A, F: FnMut(A, T) -> A>(self, init: A, mut f: F) -> A
@@ -27,9 +27,7 @@ impl<T: Default + Drop, N: ArrayLength<T>> GenericArrayIter<T, N> {
         ensures acts { (h : A → T → A) → ActsAsOnTwo F.FnMut f.old h → result ≡ fold h init self }
     {
         let mut answer = init;
-        let (front, back) = (self.front, self.back);
-        let slots = self.store.as_mut_slice();
-        for slot in slots[front..back].iter_mut() {
+        for slot in self.as_mut_slice().iter_mut() {
             answer = f(answer, mem::take(slot));
         }
         answer
@@ -52,10 +50,9 @@ impl<T: Default + Drop, N: ArrayLength<T>> GenericArrayIter<T, N> {
         ensures acts { (h : A → T → A) → ActsAsOnTwo F.FnMut f.old h → result ≡ fold h init (reverse self) }
     {
         let mut answer = init;
-        let (front, back) = (self.front, self.back);
-        let slots = self.store.as_mut_slice();
-        for index in (front..back).rev() {
-            answer = f(answer, mem::take(&mut slots[index]));
+        let items = self.as_mut_slice();
+        for index in (0..items.len()).rev() {
+            answer = f(answer, mem::take(&mut items[index]));
         }
         answer
     }

@@ -2,10 +2,12 @@
 ghost use Rattle.ga_core.specs.Cut.{StepGives, back, front};
 ghost use Rattle.std.specs.Prelude.{◌≡◌, ◌-◌, ◌≤◌, drop, length, slice_get, take};
 
-use crate::array_iter::{GenericArrayIter, blank_in};
-use crate::length::ArrayLength;
+use crate::array_iter::{GenericArrayIter, blank};
+use crate::length::ArraySlots;
+use crate::store::Slots;
+use ga_views::MAX_INLINE;
 
-impl<T: Default + Drop, N: ArrayLength<T>> GenericArrayIter<T, N> {
+impl<T: Default + Drop, N: ArraySlots<T>> GenericArrayIter<T, N> {
     /// Drops `n` items and returns the next one. If at most `n` items are left, drops them all and
     /// returns `None`. O(n).
     #[inline]
@@ -15,9 +17,11 @@ impl<T: Default + Drop, N: ArrayLength<T>> GenericArrayIter<T, N> {
         let len = self.len();
         if n < len {
             self.pass_front(n);
-            self.next()
+            Some(self.take_first())
         } else {
-            self.pass_front(len);
+            for _item in 0..len {
+                let _ = self.take_first();
+            }
             None
         }
     }
@@ -31,9 +35,11 @@ impl<T: Default + Drop, N: ArrayLength<T>> GenericArrayIter<T, N> {
         let len = self.len();
         if n < len {
             self.pass_back(n);
-            self.next_back()
+            Some(self.take_last())
         } else {
-            self.pass_back(len);
+            for _item in 0..len {
+                let _ = self.take_last();
+            }
             None
         }
     }
@@ -58,9 +64,12 @@ impl<T: Default + Drop, N: ArrayLength<T>> GenericArrayIter<T, N> {
         requires in_bounds { passed ≤ length self.old }
         ensures { self.new ≡ drop passed self.old }
     {
-        let front = self.front + passed;
-        blank_in(&mut self.store, self.front, front);
-        self.front = front;
+        if passed > 0 {
+            // The remainder is the slot itself: see `take_at`.
+            let first = self.front % MAX_INLINE;
+            self.front += passed;
+            blank(self.slots.part_mut(first, passed));
+        }
     }
 
     // Drops the last `passed` items, in order.
@@ -69,8 +78,9 @@ impl<T: Default + Drop, N: ArrayLength<T>> GenericArrayIter<T, N> {
         requires in_bounds { passed ≤ length self.old }
         ensures { self.new ≡ take (length self.old - passed) self.old }
     {
-        let back = self.back - passed;
-        blank_in(&mut self.store, back, self.back);
-        self.back = back;
+        if passed > 0 {
+            self.back -= passed;
+            blank(self.slots.part_mut(self.back % MAX_INLINE, passed));
+        }
     }
 }

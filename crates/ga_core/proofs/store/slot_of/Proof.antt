@@ -35,7 +35,7 @@ use types.Run.{addr, bin, enter, returns, size_word, stop}
 use types.SemTy.{Body, cells}
 
 abbrev loan : RattleType → ℕ → Loan
-loan X n = loan_of X n (F.signature X (number n)).outlives (RefMutOf (0 ∷ []) tt (plain (λ _. R X n)) (λ _. tt)) (R X n) (λ κs r. r.ghost_name) (λ i. i < n) (λ items i. set items i) (λ κs items i r. r.now ≡ get_or items i r.now)
+loan X n = loan_of X n 1 (F.signature X (number n)).outlives (RefMutOf (0 ∷ []) tt (plain (λ _. R X n)) (λ _. tt)) (R X n) (λ κs r. r.ghost_name) (λ κs ns. ns.0 < n) (λ κs items ns. set items ns.0) (λ κs items ns r. r.now ≡ get_or items ns.0 r.now)
 
 module _ (X : RattleType) (n : ℕ) {M : Type 1} {𝓤 : Ura M} (𝓛 : Logic 𝓤) (κ : Lft) (q : Share) (b o : ℕ) (γ : GName) (items : List X.Denot) (i : ℕ) where
   open 𝓛 use {H, A}

@@ -1,6 +1,10 @@
 use Rattle.arrayvec.proofs.IterLemmas.{rest_runs, rest_runs_back}
 use Rattle.ga_core.proofs.array.GenericArrayIntoIterator.into_iter.Goals as goal
-use Rattle.std.proofs.Common.{◌∙◌}
+use Rattle.std.proofs.Common.{◌≡◌, ◌∙◌, ap, length, sym, take}
+use Rattle.std.proofs.Math.Seq.{take-length}
 
 pub returns : goal.returns
-returns g c = record { into_iter_gives = (c.of_store.ensures ∙ (c.store_of.ensures ∙ c.self.view_is), rest_runs, rest_runs_back) }
+returns g c =
+    let items = g.N.Slots.Slots.items c.self.inside.slots in
+    let long : c.USIZE.result ≡ length items = c.USIZE.ensures ∙ sym c.self.invariant.0 in
+    record { into_iter_gives = (c.of_slots.ensures ∙ (ap (λ k. take k items) long ∙ (take-length items ∙ c.self.view_is)), rest_runs, rest_runs_back) }

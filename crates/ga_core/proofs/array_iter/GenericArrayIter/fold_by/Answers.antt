@@ -2,12 +2,12 @@ use Rattle.ga_core.proofs.ActsLemmas.{answer_of_fold}
 use Rattle.ga_core.proofs.CutLemmas.{taken-more}
 use Rattle.ga_core.proofs.array_iter.GenericArrayIter.fold_by.Goals as goal
 use Rattle.ga_core.specs.Runs.{FoldRun}
-use Rattle.std.proofs.Common.{◌≡◌, ◌∷◌, [], ◌++◌, ◌+◌, drop, ◌-◌, sym, ap, ◌∙◌, arith, refl, slice_set, subst, take}
+use Rattle.std.proofs.Common.{◌≡◌, ◌∷◌, [], ◌++◌, ◌+◌, drop, sym, ap, ◌∙◌, arith, refl, slice_set, subst}
 use Rattle.std.proofs.lemmas.Fn.{FoldsTo-push}
 use Rattle.std.proofs.lemmas.List.{append-nil, drop-set-lt, drop_all, drop_more}
 
 pub loop-slot-init : goal.loop-slot-init
-loop-slot-init g c = ([], sym c.self.view_is ∙ ap (λ l. take (c.self.inside.back - c.self.inside.front) (drop c.self.inside.front l)) (sym c.as_mut_slice-slots.ensures.value), refl)
+loop-slot-init g c = ([], sym c.as_mut_slice-slot-items.ensures.items, refl)
 
 pub f-answer-requires : goal.f-answer-requires
 f-answer-requires g c =

@@ -10,27 +10,25 @@ use Rattle.std.specs.List.{slice_range}
 pub f-answer-requires : goal.f-answer-requires
 f-answer-requires g c =
     let so_far = c.loop-index.invariant in
-    let slots = c.loop-index.slots in
-    let front = c.self.inside.front in
+    let slots = c.loop-index.items in
     let back = c.loop-index.index in
     let blank = c.take.new.dest in
-    let count = ap length c.as_mut_slice-slots.ensures.value in
-    let step = left-last_reversed slots front back c.take.result c.index-slots-index.result blank c.loop-index-test.true (omega (arith, count)) c.take.ensures.value c.index-slots-index.is in
-    c.requires.callable so_far.0 c.take.result (reverse (slice_range (slice_set slots (back - 1) blank) front (back - 1))) c.loop-index.f c.loop-index.answer
+    let count = ap length c.as_mut_slice-items.ensures.items in
+    let step = left-last_reversed slots 0 back c.take.result c.index-items-index.result blank c.loop-index-test.true (omega (arith, count)) c.take.ensures.value c.index-items-index.is in
+    c.requires.callable so_far.0 c.take.result (reverse (slice_range (slice_set slots (back - 1) blank) 0 (back - 1))) c.loop-index.f c.loop-index.answer
     (so_far.1 ∙ ap (λ rest. so_far.0 ++ rest) step) so_far.2
 
 pub loop-index-preserved : goal.loop-index-preserved
 loop-index-preserved g c =
     let so_far = c.loop-index.invariant in
     let item = c.take.result in
-    let slots = c.loop-index.slots in
-    let front = c.self.inside.front in
+    let slots = c.loop-index.items in
     let back = c.loop-index.index in
     let blank = c.take.new.dest in
-    let count = ap length c.as_mut_slice-slots.ensures.value in
-    let step = left-last_reversed slots front back item c.index-slots-index.result blank c.loop-index-test.true (omega (arith, count)) c.take.ensures.value c.index-slots-index.is in (
+    let count = ap length c.as_mut_slice-items.ensures.items in
+    let step = left-last_reversed slots 0 back item c.index-items-index.result blank c.loop-index-test.true (omega (arith, count)) c.take.ensures.value c.index-items-index.is in (
       so_far.0 ++ item ∷ [],
-      taken-more (reverse c.args.self) so_far.0 (reverse (slice_range slots front back)) item (reverse (slice_range (slice_set slots (back - 1) blank) front (back - 1))) so_far.1 step,
+      taken-more (reverse c.args.self) so_far.0 (reverse (slice_range slots 0 back)) item (reverse (slice_range (slice_set slots (back - 1) blank) 0 (back - 1))) so_far.1 step,
       FoldsTo-push _ (c.args.f.now, c.args.init) so_far.0 (c.loop-index.f, c.loop-index.answer) item (c.f-answer.new.self, c.f-answer.result) so_far.2 c.f-answer.ensures,
     )
 
