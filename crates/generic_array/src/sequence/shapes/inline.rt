@@ -5,29 +5,29 @@ ghost use Rattle.std.specs.Prelude.{◌≡◌, ◌+◌, ◌*◌, ◌<◌, map};
 use crate::sequence::shapes::moves::array_of;
 use crate::sequence::shapes::{Concat, Flatten, Lengthen, Remove, Row, Shorten, Split, Unflatten};
 use ga_core::slots::move_items;
-use ga_core::{ArrayBuilder, ArrayLength, GenericArray};
+use ga_core::{ArrayLength, GenericArray};
 use std::mem;
 
 impl<T: Default + Drop, N: ArrayLength<T>, M: ArrayLength<T>> Lengthen<T, GenericArray<T, M>>
     for GenericArray<T, N> {
     ghost IsOneLonger = { (M.USIZE ≡ N.USIZE + 1) × FitsInline M.USIZE };
 
-    #[inline]
+    #[inline(always)]
     fn append(mut self, item: T) -> GenericArray<T, M> {
         let mut longer = GenericArray::default();
         let (first, last) = longer.as_mut_slice().split_at_mut(N::USIZE);
         move_items(self.as_mut_slice(), first);
         last[0] = item;
-        longer
+        longer.finished()
     }
 
-    #[inline]
+    #[inline(always)]
     fn prepend(mut self, item: T) -> GenericArray<T, M> {
         let mut longer = GenericArray::default();
         let (first, others) = longer.as_mut_slice().split_at_mut(1);
         first[0] = item;
         move_items(self.as_mut_slice(), others);
-        longer
+        longer.finished()
     }
 }
 
@@ -60,13 +60,13 @@ impl<T: Default + Drop, N: ArrayLength<T>, R: ArrayLength<T>, M: ArrayLength<T>>
 
     ghost IsSum = { (M.USIZE ≡ N.USIZE + R.USIZE) × FitsInline M.USIZE };
 
-    #[inline]
+    #[inline(always)]
     fn concat(mut self, mut rest: GenericArray<T, R>) -> GenericArray<T, M> {
         let mut both = GenericArray::default();
         let (left, right) = both.as_mut_slice().split_at_mut(N::USIZE);
         move_items(self.as_mut_slice(), left);
         move_items(rest.as_mut_slice(), right);
-        both
+        both.finished()
     }
 }
 
@@ -135,7 +135,7 @@ impl<T: Default + Drop, I: Row<T> + Default + Drop, R: ArrayLength<I>, M: ArrayL
 
     ghost IsArea = { (M.USIZE ≡ R.USIZE * I.WIDTH) × FitsInline M.USIZE };
 
-    #[inline]
+    #[inline(always)]
     fn flatten(mut self) -> GenericArray<T, M> {
         let _ = self.as_slice();
         let mut array = GenericArray::default();
@@ -145,7 +145,7 @@ impl<T: Default + Drop, I: Row<T> + Default + Drop, R: ArrayLength<I>, M: ArrayL
             let (_, behind) = slots.split_at_mut(at);
             at += row.move_over(behind);
         }
-        array
+        array.finished()
     }
 }
 
@@ -164,18 +164,18 @@ where
 
     ghost IsArea = { (N.USIZE ≡ R.USIZE * W.USIZE) × (0 < W.USIZE) };
 
-    #[inline]
+    #[inline(always)]
     fn unflatten(mut self) -> GenericArray<GenericArray<T, W>, R> {
         let _ = self.as_slice();
         let items = self.as_mut_slice();
-        let mut rows = ArrayBuilder::new();
+        let mut rows = GenericArray::<GenericArray<T, W>, R>::default();
         let mut at = 0;
-        for _row in 0..R::USIZE {
+        for row in rows.as_mut_slice().iter_mut() {
             let (_, behind) = items.split_at_mut(at);
             let (first, _) = behind.split_at_mut(W::USIZE);
-            rows.push(array_of(first));
+            move_items(first, row.as_mut_slice());
             at += W::USIZE;
         }
-        rows.finish()
+        rows.finished()
     }
 }
