@@ -1,6 +1,6 @@
 //! Steps over several items, and the last item and the number of those that are left.
 ghost use Rattle.ga_core.specs.Cut.{StepGives, back, front};
-ghost use Rattle.std.specs.Prelude.{◌≡◌, ◌-◌, ◌≤◌, drop, length, slice_get, take};
+ghost use Rattle.std.specs.Prelude.{◌≡◌, ◌-◌, ◌≤◌, [], drop, length, slice_get, take};
 
 use crate::array_iter::{GenericArrayIter, blank};
 use crate::length::ArraySlots;
@@ -14,14 +14,11 @@ impl<T: Default + Drop, N: ArraySlots<T>> GenericArrayIter<T, N> {
     pub fn nth(&mut self, n: usize) -> Option<T>
         ensures step { StepGives (front n) self.old result self.new }
     {
-        let len = self.len();
-        if n < len {
+        if n < self.len() {
             self.pass_front(n);
             Some(self.take_first())
         } else {
-            for _item in 0..len {
-                let _ = self.take_first();
-            }
+            self.drop_left();
             None
         }
     }
@@ -32,14 +29,11 @@ impl<T: Default + Drop, N: ArraySlots<T>> GenericArrayIter<T, N> {
     pub fn nth_back(&mut self, n: usize) -> Option<T>
         ensures step { StepGives (back n) self.old result self.new }
     {
-        let len = self.len();
-        if n < len {
+        if n < self.len() {
             self.pass_back(n);
             Some(self.take_last())
         } else {
-            for _item in 0..len {
-                let _ = self.take_last();
-            }
+            self.drop_left();
             None
         }
     }
@@ -56,6 +50,16 @@ impl<T: Default + Drop, N: ArraySlots<T>> GenericArrayIter<T, N> {
         ensures { result ≡ slice_get self (length self - 1) }
     {
         self.next_back()
+    }
+
+    // Drops all items that are left, in order.
+    #[inline]
+    fn drop_left(&mut self)
+        ensures { self.new ≡ [] }
+    {
+        for _item in 0..self.len() {
+            let _ = self.take_first();
+        }
     }
 
     // Drops the first `passed` items, in order.
