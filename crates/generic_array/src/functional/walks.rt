@@ -124,7 +124,7 @@ fn result_at_next<I: Iterator, U, E, F: FnMut(I::Item) -> Result<U, E>>(
 }
 
 // `try_generate_by`, whose run is told as a record, since a proof then finds the closure's step.
-#[inline]
+#[inline(always)]
 fn try_build<U, E, M: FallibleGenericSequence<U>, G: FnMut(usize) -> Result<U, E>>(
     place: M::Place,
     g: &mut G,
