@@ -1,6 +1,6 @@
+mod LentStore
 mod MadeLemmas
 mod NextCalls
-mod SlotMemory
 mod TupleLemmas
 mod ZipLemmas
 pub mod ActsLemmas

@@ -1,6 +1,6 @@
 -- What an array ends as, where a `&mut` to its items is returned.
 use Rattle.ga_core.specs.contracts.array.GenericArray.{the_row}
-use Rattle.ga_core.specs.declared.store.Slots as slots
+use Rattle.ga_core.specs.declared.store.Store as store
 use Rattle.ga_views.specs.declared.length.Unsigned as unsigned
 use Rattle.std.specs.Borrow.{Array, Fml, Lends, MutBor, RattleType, follows}
 use Rattle.std.specs.List.{refill}
@@ -8,7 +8,7 @@ use Rattle.std.specs.Prelude.{ℕ, List, length, slice_set}
 use Rattle.std.specs.Slice.Iter.{iter_mut_name}
 use Rattle.std.specs.declared.slice.IterMut.{IterMut}
 
-module _ (T N S : RattleType) (n : unsigned.Ghosts N.Denot) (s : slots.Ghosts S.Denot T.Denot) (array : MutBor (List T.Denot)) where
+module _ (T N S : RattleType) (n : unsigned.Ghosts N.Denot) (s : store.Ghosts S.Denot T.Denot) (array : MutBor (List T.Denot)) where
   -- the array with these items written over its own, as many as it has
   abbrev pub array_with : List T.Denot → List T.Denot
   array_with written = refill (length array.now) array.now written

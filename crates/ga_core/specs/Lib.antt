@@ -6,7 +6,6 @@ pub mod IterLends
 pub mod Lends
 pub mod Maps
 pub mod Runs
-pub mod SlotLends
 pub mod Tries
 pub use Rattle.ga_views.specs.Cut
 pub use Rattle.ga_views.specs.HexText

@@ -21,8 +21,8 @@ mod slices;
 mod tuples;
 
 use crate::array_iter::GenericArrayIter;
-use crate::length::ArraySlots;
-use crate::store::Slots;
+use crate::length::ArrayLength;
+use crate::store::Store;
 pub use as_slice::Len;
 use ga_views::{Const, MAX_INLINE};
 use std::marker::{Model, PhantomData};
@@ -34,57 +34,48 @@ use std::slice;
 /// The counterpart of `GenericArray`. The elements have a `Default`, and the length is at most
 /// `MAX_INLINE`.
 #[derive(Drop)]
-pub struct GenericArray<T, N: ArraySlots<T>> {
-    slots: N::Slots,
+pub struct GenericArray<T, N: ArrayLength<T>> {
+    store: N::ArrayType,
     of: PhantomData<T>,
 }
 
 /// An array of `N` items, where the length is a number.
 pub type ConstGenericArray<T, const N: usize> = GenericArray<T, Const<N>>;
 
-impl<T, N: ArraySlots<T>> Model for GenericArray<T, N> {
+impl<T, N: ArrayLength<T>> Model for GenericArray<T, N> {
     ghost Value = { List T };
 
-    ghost view = { λ array. N.Slots.items array.slots };
+    ghost view = { λ array. N.ArrayType.items array.store };
 
-    ghost invariant = { λ array. (length (N.Slots.items array.slots) ≡ N.USIZE) × (FitsInline N.USIZE) };
+    ghost invariant = { λ array. (length (N.ArrayType.items array.store) ≡ N.USIZE) × (FitsInline N.USIZE) };
 }
 
-impl<T, N: ArraySlots<T>> GenericArray<T, N> {
+impl<T, N: ArrayLength<T>> GenericArray<T, N> {
     ghost use Rattle.ga_core.specs.Lends.{LendsItems, LendsIter};
 
-    // The array of the items in slots.
+    // The array of the items of a full store.
     #[inline(always)]
-    pub(crate) fn of_slots(slots: N::Slots) -> Self
-        requires full { length (N.Slots.items slots) ≡ N.USIZE }
+    pub(crate) fn of_store(store: N::ArrayType) -> Self
+        requires full { length (N.ArrayType.items store) ≡ N.USIZE }
         requires fits { FitsInline N.USIZE }
-        ensures { result ≡ N.Slots.items slots }
+        ensures { result ≡ N.ArrayType.items store }
     {
         GenericArray {
-            slots,
+            store,
             of: PhantomData,
         }
     }
 
-    // An array of blanks, all of which are written over afterwards.
+    // The array itself, for the end of a function that wrote it.
+    //
+    // Taken apart and put together again, it is copied once on its way through inlined functions; a
+    // variable that is returned is copied in each.
     #[inline(always)]
-    pub(crate) fn filled() -> Self
-        requires fits { FitsInline N.USIZE }
-        ensures { length result ≡ N.USIZE }
-    {
-        GenericArray::of_slots(Slots::filled())
-    }
-
-    /// The array itself, for the end of a function that wrote it.
-    ///
-    /// Taken apart and put together again, it is copied once on its way through inlined functions; a
-    /// variable that is returned is copied in each.
-    #[inline(always)]
-    pub fn finished(self) -> Self
+    pub(crate) fn finished(self) -> Self
         ensures { result ≡ self }
     {
-        let GenericArray { slots, of: _ } = self;
-        GenericArray::of_slots(slots)
+        let GenericArray { store, of: _ } = self;
+        GenericArray::of_store(store)
     }
 
     /// The number of items, which is that of the type.
@@ -109,18 +100,20 @@ impl<T, N: ArraySlots<T>> GenericArray<T, N> {
         ensures len { length result.now ≡ N.USIZE }
         ensures fits { FitsInline N.USIZE }
     {
-        self.slots.as_slice()
+        // Cut to the length that the type tells, so that the compiler knows it.
+        &self.store.as_slice()[..N::USIZE]
     }
 
     /// All items, in order, for writing. O(1).
     #[inline]
     pub fn as_mut_slice(&mut self) -> &mut [T]
-        ensures* writes_back { sem 𝓛 (LendsItems T.row N.row N.Slots.row N.Unsigned N.Slots.Slots
+        ensures* writes_back { sem 𝓛 (LendsItems T.row N.row N.ArrayType.row N.Unsigned N.ArrayType.Store
             self.entry result) }
         ensures items { result.now ≡ self.old }
         ensures len { length result.now ≡ N.USIZE }
+        ensures fits { FitsInline N.USIZE }
     {
-        self.slots.part_mut(0, N::USIZE)
+        self.store.part_mut(0, N::USIZE)
     }
 
     /// The items by reference, in order.
@@ -133,7 +126,7 @@ impl<T, N: ArraySlots<T>> GenericArray<T, N> {
     /// The items by reference, in order, for writing.
     #[inline]
     pub fn iter_mut(&mut self) -> slice::IterMut<'_, T>
-        ensures* writes_back { sem 𝓛 (LendsIter T.row N.row N.Slots.row N.Unsigned N.Slots.Slots
+        ensures* writes_back { sem 𝓛 (LendsIter T.row N.row N.ArrayType.row N.Unsigned N.ArrayType.Store
             self.entry result) }
         ensures items { IteratesMutOver self.old N.USIZE result }
     {
@@ -142,7 +135,7 @@ impl<T, N: ArraySlots<T>> GenericArray<T, N> {
 }
 
 /// `array[index]`, with `index` below `N` as the condition.
-impl<T, N: ArraySlots<T>> Index<usize> for GenericArray<T, N> {
+impl<T, N: ArrayLength<T>> Index<usize> for GenericArray<T, N> {
     type Output = T;
 
     ghost can_index = { λ array index. index < N.USIZE };
@@ -157,33 +150,34 @@ impl<T, N: ArraySlots<T>> Index<usize> for GenericArray<T, N> {
 
 /// `array[index] = item`, with `index` below `N` as the condition. The other slots keep their
 /// items.
-impl<T, N: ArraySlots<T>> IndexMut<usize> for GenericArray<T, N> {
+impl<T, N: ArrayLength<T>> IndexMut<usize> for GenericArray<T, N> {
     ghost use Rattle.ga_core.specs.Lends.{LendsItem};
 
     #[inline]
     fn index_mut(&mut self, index: usize) -> &mut T
         requires { index < N.USIZE }
-        ensures* writes_back { sem 𝓛 (LendsItem T.row N.row N.Slots.row N.Unsigned N.Slots.Slots
+        ensures* writes_back { sem 𝓛 (LendsItem T.row N.row N.ArrayType.row N.Unsigned N.ArrayType.Store
             self.entry index result) }
         ensures value { slice_get self.old index ≡ Some result.now }
     {
-        self.slots.item_mut(index)
+        self.store.item_mut(index)
     }
 }
 
 /// The items by value, from either end. Moves the array and no single item.
-impl<T: Default + Drop, N: ArraySlots<T>> IntoIterator for GenericArray<T, N> {
+impl<T: Default + Drop, N: ArrayLength<T>> IntoIterator for GenericArray<T, N> {
     type Item = T;
 
     type IntoIter = GenericArrayIter<T, N>;
 
     ghost into_iter_gives = { λ array items. (items ≡ array)
         × YieldsInOrder (YieldsFirst {A = T} (λ left. left)) (λ left. left)
-        × YieldsInReverse (YieldsLast {A = T} (λ left. left)) (λ left. left) };
+        × YieldsInReverse (YieldsLast {A = T} (λ left. left)) (λ left. left)
+        × (length array ≡ N.USIZE) × FitsInline N.USIZE };
 
     #[inline]
     fn into_iter(self) -> GenericArrayIter<T, N> {
-        let GenericArray { slots, of: _ } = self;
-        GenericArrayIter::of_slots(slots, N::USIZE)
+        let GenericArray { store, of: _ } = self;
+        GenericArrayIter::of_store(store, N::USIZE)
     }
 }

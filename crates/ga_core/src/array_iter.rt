@@ -8,8 +8,8 @@ mod copies;
 mod folds;
 mod steps;
 
-use crate::length::ArraySlots;
-use crate::store::Slots;
+use crate::length::ArrayLength;
+use crate::store::Store;
 use ga_views::MAX_INLINE;
 use std::marker::{Model, PhantomData};
 use std::{fmt, mem};
@@ -19,42 +19,42 @@ use std::{fmt, mem};
 ///
 /// The counterpart of `GenericArrayIter`.
 #[derive(Drop)]
-pub struct GenericArrayIter<T, N: ArraySlots<T>> {
+pub struct GenericArrayIter<T, N: ArrayLength<T>> {
     // The items that are left lie from `front` up to `back`; the other slots hold the defaults of
-    // items that were taken. The two numbers stand before the slots, which lets the compiler see
+    // items that were taken. The two numbers stand before the store, which lets the compiler see
     // that a write to a slot leaves them.
     front: usize,
     back: usize,
-    slots: N::Slots,
+    store: N::ArrayType,
     of: PhantomData<T>,
 }
 
-impl<T, N: ArraySlots<T>> Model for GenericArrayIter<T, N> {
+impl<T, N: ArrayLength<T>> Model for GenericArrayIter<T, N> {
     ghost use Rattle.std.specs.Prelude.{◌≡◌, ◌≤◌, List, length, slice_range};
     ghost use Rattle.ga_views.specs.Length.{FitsInline};
 
     ghost Value = { List T };
 
-    ghost view = { λ items. slice_range (N.Slots.items items.slots) items.front items.back };
+    ghost view = { λ items. slice_range (N.ArrayType.items items.store) items.front items.back };
 
     ghost invariant = { λ items. (items.front ≤ items.back)
-        × (items.back ≤ length (N.Slots.items items.slots))
-        × (length (N.Slots.items items.slots) ≡ N.USIZE) × FitsInline N.USIZE };
+        × (items.back ≤ length (N.ArrayType.items items.store))
+        × (length (N.ArrayType.items items.store) ≡ N.USIZE) × FitsInline N.USIZE };
 }
 
-impl<T, N: ArraySlots<T>> GenericArrayIter<T, N> {
-    // The iterator over the first `count` items of slots.
+impl<T, N: ArrayLength<T>> GenericArrayIter<T, N> {
+    // The iterator over the first `count` items of a full store.
     #[inline]
-    pub(crate) fn of_slots(slots: N::Slots, count: usize) -> Self
+    pub(crate) fn of_store(store: N::ArrayType, count: usize) -> Self
         requires count { count ≤ N.USIZE }
-        requires full { length (N.Slots.items slots) ≡ N.USIZE }
+        requires full { length (N.ArrayType.items store) ≡ N.USIZE }
         requires fits { FitsInline N.USIZE }
-        ensures { result ≡ take count (N.Slots.items slots) }
+        ensures { result ≡ take count (N.ArrayType.items store) }
     {
         GenericArrayIter {
             front: 0,
             back: count,
-            slots,
+            store,
             of: PhantomData,
         }
     }
@@ -74,7 +74,7 @@ impl<T, N: ArraySlots<T>> GenericArrayIter<T, N> {
         ensures bound { length result.now ≤ N.USIZE }
         ensures fits { FitsInline N.USIZE }
     {
-        &self.slots.as_slice()[self.front..self.back]
+        &self.store.as_slice()[self.front..self.back]
     }
 
     /// The number of items that are left, twice: they are no fewer and no more.
@@ -87,7 +87,7 @@ impl<T, N: ArraySlots<T>> GenericArrayIter<T, N> {
     }
 }
 
-impl<T: Default + Drop, N: ArraySlots<T>> Iterator for GenericArrayIter<T, N> {
+impl<T: Default + Drop, N: ArrayLength<T>> Iterator for GenericArrayIter<T, N> {
     type Item = T;
 
     ghost next_gives = { YieldsFirst (λ left. left) };
@@ -111,7 +111,7 @@ impl<T: Default + Drop, N: ArraySlots<T>> Iterator for GenericArrayIter<T, N> {
     }
 }
 
-impl<T: Default + Drop, N: ArraySlots<T>> DoubleEndedIterator for GenericArrayIter<T, N> {
+impl<T: Default + Drop, N: ArrayLength<T>> DoubleEndedIterator for GenericArrayIter<T, N> {
     ghost next_back_gives = { YieldsLast (λ left. left) };
 
     /// Takes the last item that is left. O(1).
@@ -124,7 +124,7 @@ impl<T: Default + Drop, N: ArraySlots<T>> DoubleEndedIterator for GenericArrayIt
     }
 }
 
-impl<T: Default + Drop, N: ArraySlots<T>> GenericArrayIter<T, N> {
+impl<T: Default + Drop, N: ArrayLength<T>> GenericArrayIter<T, N> {
     // Takes the first item that is left. There is one.
     #[inline]
     fn take_first(&mut self) -> T
@@ -133,7 +133,7 @@ impl<T: Default + Drop, N: ArraySlots<T>> GenericArrayIter<T, N> {
     {
         let first = self.front;
         self.front = first + 1;
-        take_at(&mut self.slots, first)
+        take_at(&mut self.store, first)
     }
 
     // Takes the last item that is left. There is one.
@@ -144,26 +144,26 @@ impl<T: Default + Drop, N: ArraySlots<T>> GenericArrayIter<T, N> {
     {
         let last = self.back - 1;
         self.back = last;
-        take_at(&mut self.slots, last)
+        take_at(&mut self.store, last)
     }
 }
 
-impl<T, N: ArraySlots<T>> GenericArrayIter<T, N> {
+impl<T, N: ArrayLength<T>> GenericArrayIter<T, N> {
     ghost use Rattle.ga_core.specs.IterLends.{LendsLeft};
 
     /// The items that are left, in order, for writing. O(1).
     #[inline]
     pub fn as_mut_slice(&mut self) -> &mut [T]
-        ensures* writes_back { sem 𝓛 (LendsLeft T.row N.row N.Slots.row N.Unsigned N.Slots.Slots
+        ensures* writes_back { sem 𝓛 (LendsLeft T.row N.row N.ArrayType.row N.Unsigned N.ArrayType.Store
             self.entry result) }
         ensures items { result.now ≡ self.old }
     {
         let (front, len) = (self.front, self.back - self.front);
-        self.slots.part_mut(front, len)
+        self.store.part_mut(front, len)
     }
 }
 
-impl<T: fmt::Debug, N: ArraySlots<T>> fmt::Debug for GenericArrayIter<T, N> {
+impl<T: fmt::Debug, N: ArrayLength<T>> fmt::Debug for GenericArrayIter<T, N> {
     fn fmt<W: fmt::Write>(&self, f: &mut fmt::Formatter<W>) -> fmt::Result {
         f.debug_tuple("GenericArrayIter")
             .field(&self.as_slice())
@@ -173,15 +173,15 @@ impl<T: fmt::Debug, N: ArraySlots<T>> fmt::Debug for GenericArrayIter<T, N> {
 
 // Takes the item of a slot, and leaves a default there.
 // `slot % MAX_INLINE` is the slot: by it the compiler sees that the write reaches nothing before the
-// slots.
+// store.
 #[inline]
-fn take_at<T: Default + Drop, S: Slots<T>>(slots: &mut S, slot: usize) -> T
-    requires fits { FitsInline (length (S.items slots.old)) }
-    requires in_bounds { slot < length (S.items slots.old) }
-    ensures item { result ≡ slice_index_or (S.items slots.old) slot result }
-    ensures left { (blank : T) × (S.items slots.new ≡ slice_set (S.items slots.old) slot blank) }
+fn take_at<T: Default + Drop, S: Store<T>>(store: &mut S, slot: usize) -> T
+    requires fits { FitsInline (length (S.items store.old)) }
+    requires in_bounds { slot < length (S.items store.old) }
+    ensures item { result ≡ slice_index_or (S.items store.old) slot result }
+    ensures left { (blank : T) × (S.items store.new ≡ slice_set (S.items store.old) slot blank) }
 {
-    mem::take(slots.item_mut(slot % MAX_INLINE))
+    mem::take(store.item_mut(slot % MAX_INLINE))
 }
 
 // Writes defaults over the items, which drops them, in order.

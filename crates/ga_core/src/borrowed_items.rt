@@ -7,7 +7,7 @@ ghost use Rattle.std.specs.List.{zip};
 ghost use Rattle.std.specs.Prelude.{◌≡◌, List, Result, length, ⊤};
 
 use crate::array::GenericArray;
-use crate::length::ArraySlots;
+use crate::length::ArrayLength;
 use crate::mapping::{try_write_mapped_ref, write_mapped_ref, write_zipped_refs};
 use ga_views::{GenericArrayRef, Unsigned};
 
@@ -36,7 +36,7 @@ pub trait BorrowedItems<T, N: Unsigned> {
         mut f: F,
     ) -> GenericArray<U, N>
     where
-        N: ArraySlots<U>,
+        N: ArrayLength<U>,
         requires fits { Fits }
         requires callable { MayCallOverEntries (λ item. item.now) F.pre F.step f (items self.now) }
         ensures run { (last : F) × MapRun (λ item. item.now) F.step f (items self.now) result last }
@@ -52,14 +52,14 @@ pub trait BorrowedItems<T, N: Unsigned> {
         f: &mut F,
     ) -> GenericArray<U, N>
     where
-        N: ArraySlots<U>,
+        N: ArrayLength<U>,
         requires fits { Fits }
         requires callable { MayCallOverEntries (λ item. item.now) F.pre F.step f.old (items self.now) }
         ensures run { MapRun (λ item. item.now) F.step f.old (items self.now) result f.new }
         ensures acts { MapsAs (λ item. item.now) F.step f.old (items self.now) result }
     {
         let items = self.borrowed();
-        let mut made = GenericArray::<U, N>::filled();
+        let mut made = GenericArray::<U, N>::default();
         write_mapped_ref(items, made.as_mut_slice(), f);
         made.finished()
     }
@@ -73,7 +73,7 @@ pub trait BorrowedItems<T, N: Unsigned> {
         mut f: F,
     ) -> Result<GenericArray<U, N>, E>
     where
-        N: ArraySlots<U>,
+        N: ArrayLength<U>,
         requires fits { Fits }
         requires callable { MayCallOverEntriesUntilError (λ item. item.now) F.pre F.step f (items self.now) }
         ensures run { (last : F) × TryMapRun (λ item. item.now) F.step f (items self.now) result last }
@@ -89,7 +89,7 @@ pub trait BorrowedItems<T, N: Unsigned> {
         f: &mut F,
     ) -> Result<GenericArray<U, N>, E>
     where
-        N: ArraySlots<U>,
+        N: ArrayLength<U>,
         requires fits { Fits }
         requires callable { MayCallOverEntriesUntilError (λ item. item.now) F.pre F.step f.old
             (items self.now) }
@@ -97,7 +97,7 @@ pub trait BorrowedItems<T, N: Unsigned> {
         ensures acts { TryMapsAs (λ item. item.now) F.step f.old (items self.now) result }
     {
         let items = self.borrowed();
-        let mut made = GenericArray::<U, N>::filled();
+        let mut made = GenericArray::<U, N>::default();
         match try_write_mapped_ref(items, made.as_mut_slice(), f) {
             Ok(()) => Ok(made.finished()),
             Err(error) => Err(error),
@@ -114,7 +114,7 @@ pub trait BorrowedItems<T, N: Unsigned> {
         mut f: F,
     ) -> GenericArray<U, N>
     where
-        N: ArraySlots<U>,
+        N: ArrayLength<U>,
         requires fits { Fits }
         requires callable { MayCallOverEntryPairs (λ item. item.now) (λ item. item.now) F.pre F.step f
             (zip (items self.now) (items_of_view rhs)) }
@@ -135,7 +135,7 @@ pub trait BorrowedItems<T, N: Unsigned> {
         f: &mut F,
     ) -> GenericArray<U, N>
     where
-        N: ArraySlots<U>,
+        N: ArrayLength<U>,
         requires fits { Fits }
         requires callable { MayCallOverEntryPairs (λ item. item.now) (λ item. item.now) F.pre F.step f.old
             (zip (items self.now) (items_of_view rhs)) }
@@ -145,7 +145,7 @@ pub trait BorrowedItems<T, N: Unsigned> {
             (items_of_view rhs.entry) result }
     {
         let items = self.borrowed();
-        let mut made = GenericArray::<U, N>::filled();
+        let mut made = GenericArray::<U, N>::default();
         write_zipped_refs(items, rhs.as_slice(), made.as_mut_slice(), f);
         made.finished()
     }
@@ -163,7 +163,7 @@ impl<'a, T, N: Unsigned> BorrowedItems<T, N> for GenericArrayRef<'a, T, N> {
     }
 }
 
-impl<T, N: ArraySlots<T>> BorrowedItems<T, N> for GenericArray<T, N> {
+impl<T, N: ArrayLength<T>> BorrowedItems<T, N> for GenericArray<T, N> {
     ghost items = { λ array. array };
 
     ghost Fits = { ⊤ };

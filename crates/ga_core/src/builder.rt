@@ -15,8 +15,7 @@ use std::marker::{Model, PhantomData};
 #[derive(Drop)]
 pub struct ArrayBuilder<T, N: ArrayLength<T>> {
     store: N::ArrayType,
-    // The checker wants each type of the length in a field.
-    of: PhantomData<(T, N::Slots)>,
+    of: PhantomData<T>,
 }
 
 impl<T, N: ArrayLength<T>> Model for ArrayBuilder<T, N> {
@@ -79,7 +78,7 @@ impl<T, N: ArrayLength<T>> ArrayBuilder<T, N> {
         ensures { result ≡ self }
     {
         let ArrayBuilder { store, of: _ } = self;
-        GenericArray::of_slots(N::slots_of(store))
+        GenericArray::of_store(store)
     }
 }
 

@@ -37,6 +37,6 @@ pub use ga_views::{
     U54, U55, U56, U57, U58, U59, U60, U61, U62, U63, U64, U128, U256, U512, U1024, U2048,
     Unsigned, ViewMut, hex_text, reborrow,
 };
-pub use length::{ArrayLength, ArraySlots, ConstArrayLength, IntoArrayLength};
+pub use length::{ArrayLength, ConstArrayLength, IntoArrayLength};
 pub use never::{Never, always};
 pub use store::Store;

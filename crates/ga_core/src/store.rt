@@ -1,15 +1,17 @@
 //! Where an inline array keeps its items: `Store`, and `ArrayVec` as one.
-ghost use Rattle.ga_core.specs.SlotLends.{LendsPart, LendsSlot};
 ghost use Rattle.ga_views.specs.Length.{FitsInline};
 ghost use Rattle.ga_views.specs.Parts.{part_set};
 ghost use Rattle.std.specs.Borrow.{Array, Lends, sem};
 ghost use Rattle.std.specs.Iterator.{YieldsLast};
-ghost use Rattle.std.specs.List.{refill};
+ghost use Rattle.std.specs.List.{All, refill};
 ghost use Rattle.std.specs.Prelude.{◌≡◌, ℕ, ◌+◌, ◌<◌, ◌≤◌, List, [], ◌∷◌, ◌++◌, drop, length, remove, slice_index_or, slice_set, take};
 
 use arrayvec::ArrayVec;
+use std::default::MadeWith;
 
 /// A list with a capacity, kept in the value itself. It never asks for memory.
+///
+/// Who writes one gives the six calls without a body. The other three stand on them.
 pub trait Store<T>: Sized + Drop {
     ghost items: { Self → List T };
 
@@ -17,7 +19,7 @@ pub trait Store<T>: Sized + Drop {
 
     /// A store without items. Its capacity is at most `MAX_INLINE`.
     ///
-    /// It may take time in proportion to the capacity, as spare slots may be filled with blanks.
+    /// It may take time in proportion to the capacity, as spare slots may be filled with defaults.
     fn empty() -> Self
         requires fits { FitsInline CAPACITY }
         ensures { items result ≡ [] };
@@ -50,48 +52,57 @@ pub trait Store<T>: Sized + Drop {
         ensures* writes_back { sem 𝓛 (Lends Self.row (Array T.row 0)
             self.entry result (λ written. (store_with self.old written).0)) }
         ensures value { result.now ≡ items self.old };
-}
 
-/// A list of a fixed length, kept in the value itself, with nothing beside its items.
-pub trait Slots<T>: Sized + Drop {
-    ghost items: { Self → List T };
+    /// A full store of defaults, each made once, in order. `capacity` is the store's own, which is at
+    /// most `MAX_INLINE`.
+    ///
+    /// The body here appends each to an empty store. A store that fills its spare slots with defaults
+    /// can do without the second pass.
+    fn filled(capacity: usize) -> Self
+    where
+        T: Default,
+        requires fits { FitsInline CAPACITY }
+        requires capacity { capacity ≡ CAPACITY }
+        ensures items { All T.is_default (items result) }
+        ensures len { length (items result) ≡ CAPACITY }
+    {
+        let mut store = Self::empty();
+        for _slot in 0..capacity {
+            store.push(T::default());
+        }
+        store
+    }
 
-    ghost LEN: { ℕ };
-
-    /// Slots that each hold a blank.
-    fn filled() -> Self
-        ensures { length (items result) ≡ LEN };
-
-    /// The items, in order.
-    fn as_slice(&self) -> &[T]
-        ensures { result.now ≡ items self.now };
-
-    // The slots with these items written over their own, as many as there are.
-    ghost slots_with: { (slots : Self) (written : List T) → (after : Self)
-        × (items after ≡ refill (length (items slots)) (items slots) written) };
-
-    /// `len` items from place `from` on, for writing. What is written stands in the slots afterwards.
+    /// `len` items from place `from` on, for writing. What is written stands in the store afterwards.
+    ///
+    /// The caller says how many they are, so that the compiler knows it too.
+    #[inline]
     fn part_mut(&mut self, from: usize, len: usize) -> &mut [T]
         requires in_bounds { from + len ≤ length (items self.old) }
         ensures* writes_back { sem 𝓛 (Lends Self.row (Array T.row 0) self.entry result
-            (λ part. (slots_with self.old (part_set from len (items self.old) part)).0)) }
-        ensures value { result.now ≡ take len (drop from (items self.old)) };
-
-    // The slots with this item at the index, and the others as they are.
-    ghost slots_with_item: { (slots : Self) (index : ℕ) (item : T) → (after : Self)
-        × (items after ≡ slice_set (items slots) index item) };
+            (λ part. (store_with self.old (part_set from len (items self.old) part)).0)) }
+        ensures value { result.now ≡ take len (drop from (items self.old)) }
+    {
+        &mut self.as_mut_slice()[from..from + len]
+    }
 
     /// The item at `index`, for writing.
+    #[inline]
     fn item_mut(&mut self, index: usize) -> &mut T
         requires in_bounds { index < length (items self.old) }
-        ensures* writes_back { sem 𝓛 (Lends Self.row T.row
-            self.entry result (λ item. (slots_with_item self.old index item).0)) }
-        ensures value { result.now ≡ slice_index_or (items self.old) index result.now };
+        ensures* writes_back { sem 𝓛 (Lends Self.row T.row self.entry result
+            (λ item. (store_with self.old (slice_set (items self.old) index item)).0)) }
+        ensures value { result.now ≡ slice_index_or (items self.old) index result.now }
+    {
+        &mut self.as_mut_slice()[index]
+    }
 }
 
 /// The defaults in the spare slots of an `ArrayVec` count as no items.
-impl<T: Default + Drop, const N: usize> Store<T> for ArrayVec<T, N> {
-    ghost use Rattle.arrayvec.specs.ArrayVec.{with_item, with_items};
+// `MadeWith<()>` is what each type with a `Default` has. With that bound in its place there would be
+// two defaults in `filled`, of which no proof shows that they agree.
+impl<T: MadeWith<()> + Drop, const N: usize> Store<T> for ArrayVec<T, N> {
+    ghost use Rattle.arrayvec.specs.ArrayVec.{with_items};
     ghost use Rattle.std.specs.Prelude.{refl};
 
     ghost items = { λ store. store.items };
@@ -100,7 +111,7 @@ impl<T: Default + Drop, const N: usize> Store<T> for ArrayVec<T, N> {
 
     #[inline]
     fn empty() -> Self {
-        ArrayVec::new()
+        ArrayVec::new_in(())
     }
 
     #[inline]
@@ -129,56 +140,20 @@ impl<T: Default + Drop, const N: usize> Store<T> for ArrayVec<T, N> {
     fn as_mut_slice(&mut self) -> &mut [T] {
         ArrayVec::as_mut_slice(self)
     }
-}
-
-impl<T: Default + Drop, const N: usize> Slots<T> for [T; N] {
-    ghost use Rattle.std.specs.Prelude.{refl};
-
-    ghost items = { λ slots. slots };
-
-    ghost LEN = { N };
 
     #[inline]
-    fn filled() -> Self {
-        Default::default()
-    }
-
-    #[inline]
-    fn as_slice(&self) -> &[T] {
-        &self[..]
-    }
-
-    ghost slots_with = { λ slots written. (refill (length slots) slots written, refl) };
-
-    #[inline]
-    fn part_mut(&mut self, from: usize, len: usize) -> &mut [T] {
-        part_of(self, from, len)
-    }
-
-    ghost slots_with_item = { λ slots index item. (slice_set slots index item, refl) };
-
-    #[inline]
-    fn item_mut(&mut self, index: usize) -> &mut T {
-        slot_of(self, index)
+    fn filled(_capacity: usize) -> Self
+    where
+        T: Default,
+    {
+        ArrayVec::from_array_in((), Default::default())
     }
 }
 
-// The `len` slots of a native array from place `from` on.
+// The full store of the items of a native array.
 #[inline]
-fn part_of<T, const N: usize>(slots: &mut [T; N], from: usize, len: usize) -> &mut [T]
-    requires in_bounds { from + len ≤ N }
-    ensures* writes_back { sem 𝓛 (LendsPart T.row N.row slots.entry from len result) }
-    ensures value { result.now ≡ take len (drop from slots.old) }
+pub(crate) fn store_of_array<T, const N: usize>(items: [T; N]) -> ArrayVec<T, N>
+    ensures { result.items ≡ items }
 {
-    &mut slots[from..from + len]
-}
-
-// The slot of a native array at `index`.
-#[inline]
-fn slot_of<T, const N: usize>(slots: &mut [T; N], index: usize) -> &mut T
-    requires in_bounds { index < N }
-    ensures* writes_back { sem 𝓛 (LendsSlot T.row N.row slots.entry index result) }
-    ensures value { result.now ≡ slice_index_or slots.old index result.now }
-{
-    &mut slots[index]
+    ArrayVec::from_array_in((), items)
 }

@@ -2,6 +2,7 @@
 --     refilled                               as many items as there were are the refilled list
 --     part_long                              the part has as many items as it was asked for
 --     part_filled                            as many items as the part has stand in its place
+--     part_fills                             the list with a part written over has as many items as it had
 --     part-before, part-within, part-behind  what stands before the part, in it and behind it
 --     part-all                               all items are the part
 use borrow.Rule.Slice.PartMut.{mid_of, post_of, put_mid, same_len_mid}
@@ -36,6 +37,15 @@ part_filled from len xs ws within e =
     ap (λ l. take from xs ++ (l ++ post_of from len xs)) (refilled len part ws long (e ∙ long)) ∙ part-is from len xs ws in
     refilled (length xs) xs (put_mid from len xs ws) refl (same_len_mid from len xs ws e) ∙ ap (refill (length xs) xs) same
 
+pub part_fills : {T : Type 0} (from len : ℕ) (xs ws : List T) → from + len ≤ length xs
+    → refill (length xs) xs (part_set from len xs ws) ≡ part_set from len xs ws
+part_fills from len xs ws within =
+    let part = take len (drop from xs) in
+    let filled = refill len part ws in
+    let long = part_long from len xs within in
+    let whole = same_len_mid from len xs filled (sym (length_refill len part ws (sym long)) ∙ sym long) in
+    sym (refilled (length xs) xs (part_set from len xs ws) refl (ap length (sym (part-is from len xs ws)) ∙ whole))
+
 -- `after` is what stands once the part was written
 module _ {T : Type 0} (from len : ℕ) (xs ws after : List T) (within : from + len ≤ length xs) (written : after ≡ refill (length xs) xs (part_set from len xs ws)) where
   abbrev filled : List T
@@ -51,9 +61,7 @@ module _ {T : Type 0} (from len : ℕ) (xs ws after : List T) (within : from + l
   before_long = length-take-le from xs (omega (arith, within))
 
   stands : after ≡ take from xs ++ (filled ++ behind)
-  stands =
-      let whole = same_len_mid from len xs filled (filled_long ∙ sym (part_long from len xs within)) in
-      written ∙ sym (refilled (length xs) xs (part_set from len xs ws) refl (ap length (sym (part-is from len xs ws)) ∙ whole))
+  stands = written ∙ part_fills from len xs ws within
 
   past : drop from after ≡ filled ++ behind
   past = ap (drop from) stands ∙ (ap (λ k. drop k (take from xs ++ (filled ++ behind))) (sym before_long) ∙ drop-append_seam (take from xs) (filled ++ behind))

@@ -4,7 +4,7 @@ ghost use Rattle.std.specs.Borrow.{sem};
 ghost use Rattle.std.specs.Prelude.{◌≡◌, ℕ, length};
 
 use crate::array::GenericArray;
-use crate::length::ArraySlots;
+use crate::length::ArrayLength;
 use std::convert::AsSlice;
 use std::ops::{DerefSlice, DerefSliceMut};
 use std::slice;
@@ -18,7 +18,7 @@ pub trait Len {
         ensures { result ≡ LEN };
 }
 
-impl<T, N: ArraySlots<T>> Len for GenericArray<T, N> {
+impl<T, N: ArrayLength<T>> Len for GenericArray<T, N> {
     ghost LEN = { N.USIZE };
 
     #[inline]
@@ -27,7 +27,7 @@ impl<T, N: ArraySlots<T>> Len for GenericArray<T, N> {
     }
 }
 
-impl<T, N: ArraySlots<T>> AsSlice<T> for GenericArray<T, N> {
+impl<T, N: ArrayLength<T>> AsSlice<T> for GenericArray<T, N> {
     ghost items = { λ array. array };
 
     #[inline]
@@ -37,7 +37,7 @@ impl<T, N: ArraySlots<T>> AsSlice<T> for GenericArray<T, N> {
 }
 
 /// The methods of slices, `&array[1..]`, and `&array` where a slice is wanted.
-impl<T, N: ArraySlots<T>> DerefSlice for GenericArray<T, N> {
+impl<T, N: ArrayLength<T>> DerefSlice for GenericArray<T, N> {
     type Elem = T;
 
     ghost deref_gives = { λ array items. (items ≡ array) × (length items ≡ N.USIZE) };
@@ -48,12 +48,12 @@ impl<T, N: ArraySlots<T>> DerefSlice for GenericArray<T, N> {
     }
 }
 
-impl<T, N: ArraySlots<T>> DerefSliceMut for GenericArray<T, N> {
+impl<T, N: ArrayLength<T>> DerefSliceMut for GenericArray<T, N> {
     ghost use Rattle.ga_core.specs.Lends.{LendsItems};
 
     #[inline]
     fn deref_mut(&mut self) -> &mut [T]
-        ensures* writes_back { sem 𝓛 (LendsItems T.row N.row N.Slots.row N.Unsigned N.Slots.Slots
+        ensures* writes_back { sem 𝓛 (LendsItems T.row N.row N.ArrayType.row N.Unsigned N.ArrayType.Store
             self.entry result) }
         ensures items { result.now ≡ self.old }
         ensures len { length result.now ≡ N.USIZE }
@@ -63,7 +63,7 @@ impl<T, N: ArraySlots<T>> DerefSliceMut for GenericArray<T, N> {
 }
 
 /// The items by reference, in order.
-impl<'a, T, N: ArraySlots<T>> IntoIterator for &'a GenericArray<T, N> {
+impl<'a, T, N: ArrayLength<T>> IntoIterator for &'a GenericArray<T, N> {
     type Item = &'a T;
 
     type IntoIter = slice::Iter<'a, T>;
@@ -77,7 +77,7 @@ impl<'a, T, N: ArraySlots<T>> IntoIterator for &'a GenericArray<T, N> {
 }
 
 /// The items by reference, in order, for writing.
-impl<'a, T, N: ArraySlots<T>> IntoIterator for &'a mut GenericArray<T, N> {
+impl<'a, T, N: ArrayLength<T>> IntoIterator for &'a mut GenericArray<T, N> {
     ghost use Rattle.ga_core.specs.Lends.{LendsIter};
 
     type Item = &'a mut T;
@@ -88,7 +88,7 @@ impl<'a, T, N: ArraySlots<T>> IntoIterator for &'a mut GenericArray<T, N> {
 
     #[inline]
     fn into_iter(self) -> slice::IterMut<'a, T>
-        ensures* writes_back { sem 𝓛 (LendsIter T.row N.row N.Slots.row N.Unsigned N.Slots.Slots
+        ensures* writes_back { sem 𝓛 (LendsIter T.row N.row N.ArrayType.row N.Unsigned N.ArrayType.Store
             self.entry result) }
         ensures into_iter_gives { IteratesMutOver self.old N.USIZE result }
     {

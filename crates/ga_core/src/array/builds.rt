@@ -7,11 +7,11 @@ ghost use Rattle.std.specs.Prelude.{◌≡◌, ℕ, ◌+◌, IfOk, OnErr, Result
 
 use crate::array::GenericArray;
 use crate::builder::ArrayBuilder;
-use crate::length::{ArrayLength, ArraySlots};
+use crate::length::ArrayLength;
 use crate::slots::{try_write_answers, write_answers};
 use ga_views::LengthError;
 
-impl<T: Drop, N: ArraySlots<T>> GenericArray<T, N> {
+impl<T: Default + Drop, N: ArrayLength<T>> GenericArray<T, N> {
     /// The array of `f(0)` to `f(N - 1)`, each called once, in this order.
     ///
     /// Requires `N <= MAX_INLINE`. Allocates nothing.
@@ -31,7 +31,7 @@ impl<T: Drop, N: ArraySlots<T>> GenericArray<T, N> {
         ensures run { GenerateRun F.step f.old N.USIZE result f.new }
         ensures acts { GeneratesAs F.FnMut f.old N.USIZE result }
     {
-        let mut array = Self::filled();
+        let mut array = Self::default();
         write_answers(array.as_mut_slice(), f);
         array.finished()
     }
@@ -56,7 +56,7 @@ impl<T: Drop, N: ArraySlots<T>> GenericArray<T, N> {
         ensures run { TryGenerateRun F.step f.old N.USIZE result f.new }
         ensures acts { TryGeneratesAs F.FnMut f.old N.USIZE result }
     {
-        let mut array = Self::filled();
+        let mut array = Self::default();
         match try_write_answers(array.as_mut_slice(), f) {
             Ok(()) => Ok(array.finished()),
             Err(error) => Err(error),

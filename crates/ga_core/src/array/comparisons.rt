@@ -5,13 +5,13 @@ ghost use Rattle.std.specs.Hash as fed;
 ghost use Rattle.std.specs.Hash.{items_Alike, on_Alike};
 
 use crate::array::GenericArray;
-use crate::length::ArraySlots;
+use crate::length::ArrayLength;
 use crate::slices_compared::{are_equal, partial_order, total_order};
 use std::cmp::Ordering;
 use std::fmt;
 use std::hash::{Hash, Hasher};
 
-impl<T: PartialEq, N: ArraySlots<T>> PartialEq for GenericArray<T, N> {
+impl<T: PartialEq, N: ArrayLength<T>> PartialEq for GenericArray<T, N> {
     ghost eq = { λ left right. pointwise T.eq left right };
 
     ghost laws = { on_per (λ array. array) (lists_per T.laws) };
@@ -22,11 +22,11 @@ impl<T: PartialEq, N: ArraySlots<T>> PartialEq for GenericArray<T, N> {
     }
 }
 
-impl<T: Eq, N: ArraySlots<T>> Eq for GenericArray<T, N> {
+impl<T: Eq, N: ArrayLength<T>> Eq for GenericArray<T, N> {
     ghost laws = { on_equiv (λ array. array) (lists_equiv T.Eq.laws) };
 }
 
-impl<T: PartialOrd, N: ArraySlots<T>> PartialOrd for GenericArray<T, N> {
+impl<T: PartialOrd, N: ArrayLength<T>> PartialOrd for GenericArray<T, N> {
     ghost partial_cmp = { λ left right. slice_partial_cmp T.partial_cmp left right };
 
     ghost laws = { on_po (λ array. array) (lists_po T.PartialOrd.laws) };
@@ -37,7 +37,7 @@ impl<T: PartialOrd, N: ArraySlots<T>> PartialOrd for GenericArray<T, N> {
     }
 }
 
-impl<T: Ord, N: ArraySlots<T>> Ord for GenericArray<T, N> {
+impl<T: Ord, N: ArrayLength<T>> Ord for GenericArray<T, N> {
     ghost cmp = { λ left right. slice_cmp T.cmp left right };
 
     ghost total = { on_total (λ array. array) (lists_total T.total) };
@@ -52,7 +52,7 @@ impl<T: Ord, N: ArraySlots<T>> Ord for GenericArray<T, N> {
     }
 }
 
-impl<T: Hash, N: ArraySlots<T>> Hash for GenericArray<T, N> {
+impl<T: Hash, N: ArrayLength<T>> Hash for GenericArray<T, N> {
     ghost hash_input = { λ array. fed.slice T.hash_input array };
 
     ghost respects_eq = { (on_Alike (λ array. array) (items_Alike (record { fed = T.respects_eq }))).fed };
@@ -63,7 +63,7 @@ impl<T: Hash, N: ArraySlots<T>> Hash for GenericArray<T, N> {
     }
 }
 
-impl<T: fmt::Debug, N: ArraySlots<T>> fmt::Debug for GenericArray<T, N> {
+impl<T: fmt::Debug, N: ArrayLength<T>> fmt::Debug for GenericArray<T, N> {
     fn fmt<W: fmt::Write>(&self, f: &mut fmt::Formatter<W>) -> fmt::Result {
         fmt::Debug::fmt(self.as_slice(), f)
     }

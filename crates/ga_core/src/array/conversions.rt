@@ -6,8 +6,9 @@ ghost use Rattle.std.specs.Prelude.{◌≡◌, ◌↔◌, IfOk, IsOk, length};
 
 use crate::alloc_error::AllocError;
 use crate::array::GenericArray;
-use crate::length::ArraySlots;
+use crate::length::ArrayLength;
 use crate::slots::move_items;
+use crate::store::store_of_array;
 use ga_views::{Const, GenericArrayRef, InlineLength, LengthError};
 use std::alloc::Global;
 use std::boxed::BoxedSlice;
@@ -23,11 +24,11 @@ impl<T: Default + Drop, const U: usize> GenericArray<T, Const<U>> {
         requires fits { FitsInline U }
         ensures { result ≡ items }
     {
-        GenericArray::of_slots(items)
+        GenericArray::of_store(store_of_array(items))
     }
 }
 
-impl<T: Copy + Default + Drop, N: ArraySlots<T>> GenericArray<T, N> {
+impl<T: Copy + Default + Drop, N: ArrayLength<T>> GenericArray<T, N> {
     /// The array of copies of a view's items. The counterpart of `*view` where `GenericArray` is
     /// `Copy`.
     ///
@@ -37,7 +38,7 @@ impl<T: Copy + Default + Drop, N: ArraySlots<T>> GenericArray<T, N> {
         requires fits { FitsInline N.USIZE }
         ensures { result ≡ items_of_view view.entry }
     {
-        let mut array = Self::filled();
+        let mut array = Self::default();
         array.as_mut_slice().copy_from_slice(view.as_slice());
         array.finished()
     }
@@ -56,7 +57,7 @@ impl<T: Copy + Default + Drop, N: ArraySlots<T>> GenericArray<T, N> {
     }
 }
 
-impl<T: Default + Drop, N: ArraySlots<T>> GenericArray<T, N> {
+impl<T: Default + Drop, N: ArrayLength<T>> GenericArray<T, N> {
     /// The array of the items of a vector, or `LengthError` if it doesn't have `N` items; the
     /// vector is then dropped. The counterpart of `TryFrom<Vec<T>>`.
     ///
@@ -69,7 +70,7 @@ impl<T: Default + Drop, N: ArraySlots<T>> GenericArray<T, N> {
         if items.len() != N::USIZE {
             return Err(LengthError);
         }
-        let mut array = Self::filled();
+        let mut array = Self::default();
         move_items(items.as_mut_slice(), array.as_mut_slice());
         Ok(array.finished())
     }
@@ -132,7 +133,7 @@ impl<T: Copy + Default + Drop, const U: usize> From<GenericArray<T, Const<U>>> f
 }
 
 /// See `try_from_vec`.
-impl<T: Default + Drop, N: ArraySlots<T> + InlineLength> TryFrom<Vec<T>> for GenericArray<T, N> {
+impl<T: Default + Drop, N: ArrayLength<T> + InlineLength> TryFrom<Vec<T>> for GenericArray<T, N> {
     type Error = LengthError;
 
     ghost try_from_gives = { λ items made. (IsOk made ↔ (length items.items ≡ N.USIZE))
@@ -144,7 +145,7 @@ impl<T: Default + Drop, N: ArraySlots<T> + InlineLength> TryFrom<Vec<T>> for Gen
 }
 
 /// See `try_from_boxed_slice`.
-impl<T: Default + Drop, N: ArraySlots<T> + InlineLength> TryFrom<BoxedSlice<T, Global>>
+impl<T: Default + Drop, N: ArrayLength<T> + InlineLength> TryFrom<BoxedSlice<T, Global>>
     for GenericArray<T, N> {
     type Error = LengthError;
 

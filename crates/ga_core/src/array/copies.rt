@@ -6,11 +6,12 @@ ghost use Rattle.std.specs.Prelude.{◌≡◌, ◌≤◌, IfOk, IsOk, length, re
 
 use crate::alloc_error::AllocError;
 use crate::array::GenericArray;
-use crate::length::ArraySlots;
+use crate::length::ArrayLength;
 use crate::slots::{write_clones, write_copies, write_same};
+use crate::store::Store;
 use std::alloc;
 
-impl<T: Default + Drop, N: ArraySlots<T>> GenericArray<T, N> {
+impl<T: Default + Drop, N: ArrayLength<T>> GenericArray<T, N> {
     /// The array of `N` times `T::default()`, called in order. Requires `N <= MAX_INLINE`.
     ///
     /// For every length; the trait `Default`, which items of arrays need, is there for every
@@ -21,24 +22,24 @@ impl<T: Default + Drop, N: ArraySlots<T>> GenericArray<T, N> {
         ensures len { length result ≡ N.USIZE }
         ensures each { ExactlyEach T.is_default N.USIZE result }
     {
-        Self::generate(|_| T::default())
+        GenericArray::of_store(Store::filled(N::USIZE))
     }
 }
 
-impl<T: Copy + Drop, N: ArraySlots<T>> GenericArray<T, N> {
+impl<T: Copy + Default + Drop, N: ArrayLength<T>> GenericArray<T, N> {
     /// The array of `N` times `item`. Requires `N <= MAX_INLINE`. `arr![item; N]` stands on it.
     #[inline]
     pub fn of_copies(item: T) -> Self
         requires fits { FitsInline N.USIZE }
         ensures { result ≡ replicate N.USIZE item }
     {
-        let mut array = Self::filled();
+        let mut array = Self::default();
         write_same(array.as_mut_slice(), item);
         array.finished()
     }
 }
 
-impl<T: Clone, N: ArraySlots<T>> GenericArray<T, N> {
+impl<T: Clone + Default, N: ArrayLength<T>> GenericArray<T, N> {
     /// The array of `N` values equal to `item`: clones of it, made in order, and at last `item`
     /// itself.
     ///
@@ -53,7 +54,7 @@ impl<T: Clone, N: ArraySlots<T>> GenericArray<T, N> {
         ensures few { N.USIZE ≤ 1 → IsOk result }
         ensures succeeds { T.is_infallible item → IsOk result }
     {
-        let mut array = Self::filled();
+        let mut array = Self::default();
         match write_copies(array.as_mut_slice(), item) {
             Ok(()) => Ok(array.finished()),
             Err(refused) => Err(refused),
@@ -69,7 +70,7 @@ impl<T: Clone, N: ArraySlots<T>> GenericArray<T, N> {
         ensures empty { N.USIZE ≡ 0 → IsOk result }
     {
         let items = self.as_slice();
-        let mut copy = Self::filled();
+        let mut copy = Self::default();
         match write_clones(copy.as_mut_slice(), items) {
             Ok(()) => Ok(copy.finished()),
             Err(refused) => Err(refused),
@@ -77,7 +78,7 @@ impl<T: Clone, N: ArraySlots<T>> GenericArray<T, N> {
     }
 }
 
-impl<T: Clone, N: ArraySlots<T>> Clone for GenericArray<T, N> {
+impl<T: Clone + Default, N: ArrayLength<T>> Clone for GenericArray<T, N> {
     ghost is_clone = { λ array copy. AllZip T.is_clone array copy };
 
     ghost is_infallible = { λ array. All T.is_infallible array };

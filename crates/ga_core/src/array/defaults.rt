@@ -4,10 +4,10 @@ ghost use Rattle.std.specs.List.{All};
 ghost use Rattle.std.specs.Prelude.{◌≡◌, length};
 
 use crate::array::GenericArray;
-use crate::length::ArraySlots;
+use crate::length::ArrayLength;
 use ga_views::InlineLength;
 
-impl<T: Default + Drop, N: ArraySlots<T> + InlineLength> Default for GenericArray<T, N> {
+impl<T: Default + Drop, N: ArrayLength<T> + InlineLength> Default for GenericArray<T, N> {
     ghost is_default = { λ array. (length array ≡ N.USIZE) × All T.is_default array
         × ExactlyEach T.is_default N.USIZE array };
 

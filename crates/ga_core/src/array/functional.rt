@@ -13,18 +13,18 @@ ghost use Rattle.std.specs.List.{zip};
 ghost use Rattle.std.specs.Prelude.{◌≡◌, Result, map};
 
 use crate::array::GenericArray;
-use crate::length::ArraySlots;
+use crate::length::ArrayLength;
 use crate::mapping::{try_write_mapped, write_mapped, write_zipped, write_zipped_ref};
 use ga_views::GenericArrayRef;
 
-impl<T: Default + Drop, N: ArraySlots<T>> GenericArray<T, N> {
+impl<T: Default + Drop, N: ArrayLength<T>> GenericArray<T, N> {
     /// The array of what `f` returns at each item, called in order. Takes the items by value.
     ///
     /// The counterpart of `map`. Allocates nothing.
     #[inline(always)]
     pub fn map_inline<U: Default + Drop, F: FnMut(T) -> U>(self, mut f: F) -> GenericArray<U, N>
     where
-        N: ArraySlots<U>,
+        N: ArrayLength<U>,
         requires callable { MayCallOver F.pre F.step f self }
         ensures run { (last : F) × ClosureRun F.step f self result last }
         ensures acts { (h : T → U) → ActsAs F.FnMut f h → result ≡ map h self }
@@ -39,12 +39,12 @@ impl<T: Default + Drop, N: ArraySlots<T>> GenericArray<T, N> {
         f: &mut F,
     ) -> GenericArray<U, N>
     where
-        N: ArraySlots<U>,
+        N: ArrayLength<U>,
         requires callable { MayCallOver F.pre F.step f.old self }
         ensures run { ClosureRun F.step f.old self result f.new }
         ensures acts { (h : T → U) → ActsAs F.FnMut f.old h → result ≡ map h self }
     {
-        let mut made = GenericArray::<U, N>::filled();
+        let mut made = GenericArray::<U, N>::default();
         write_mapped(self.as_mut_slice(), made.as_mut_slice(), f);
         made.finished()
     }
@@ -58,7 +58,7 @@ impl<T: Default + Drop, N: ArraySlots<T>> GenericArray<T, N> {
         mut f: F,
     ) -> Result<GenericArray<U, N>, E>
     where
-        N: ArraySlots<U>,
+        N: ArrayLength<U>,
         requires callable { MayCallOverUntilError F.pre F.step f self }
         ensures run { (last : F) × FirstErrorRun F.step f self result last }
         ensures acts { (h : T → Result U E) → ActsAs F.FnMut f h → result ≡ try_map h self }
@@ -73,12 +73,12 @@ impl<T: Default + Drop, N: ArraySlots<T>> GenericArray<T, N> {
         f: &mut F,
     ) -> Result<GenericArray<U, N>, E>
     where
-        N: ArraySlots<U>,
+        N: ArrayLength<U>,
         requires callable { MayCallOverUntilError F.pre F.step f.old self }
         ensures run { FirstErrorRun F.step f.old self result f.new }
         ensures acts { (h : T → Result U E) → ActsAs F.FnMut f.old h → result ≡ try_map h self }
     {
-        let mut made = GenericArray::<U, N>::filled();
+        let mut made = GenericArray::<U, N>::default();
         match try_write_mapped(self.as_mut_slice(), made.as_mut_slice(), f) {
             Ok(()) => Ok(made.finished()),
             Err(error) => Err(error),
@@ -96,7 +96,7 @@ impl<T: Default + Drop, N: ArraySlots<T>> GenericArray<T, N> {
         mut f: F,
     ) -> GenericArray<U, N>
     where
-        N: ArraySlots<B> + ArraySlots<U>,
+        N: ArrayLength<B> + ArrayLength<U>,
         requires callable { MayCallOverPairs F.pre F.step f (zip self rhs) }
         ensures run { (last : F) × ClosureRun (CallOnPair F.step) f (zip self rhs) result last }
         ensures acts { (h : T × B → U) → ActsOnPair F.step f h → result ≡ map h (zip self rhs) }
@@ -112,12 +112,12 @@ impl<T: Default + Drop, N: ArraySlots<T>> GenericArray<T, N> {
         f: &mut F,
     ) -> GenericArray<U, N>
     where
-        N: ArraySlots<B> + ArraySlots<U>,
+        N: ArrayLength<B> + ArrayLength<U>,
         requires callable { MayCallOverPairs F.pre F.step f.old (zip self rhs) }
         ensures run { ClosureRun (CallOnPair F.step) f.old (zip self rhs) result f.new }
         ensures acts { (h : T × B → U) → ActsOnPair F.step f.old h → result ≡ map h (zip self rhs) }
     {
-        let mut made = GenericArray::<U, N>::filled();
+        let mut made = GenericArray::<U, N>::default();
         write_zipped(
             self.as_mut_slice(),
             rhs.as_mut_slice(),
@@ -135,7 +135,7 @@ impl<T: Default + Drop, N: ArraySlots<T>> GenericArray<T, N> {
         mut f: F,
     ) -> GenericArray<U, N>
     where
-        N: ArraySlots<U>,
+        N: ArrayLength<U>,
         requires callable { MayCallOverEntryPairs (λ item. item) (λ item. item.now) F.pre F.step f
             (zip self (items_of_view rhs)) }
         ensures run { (last : F)
@@ -154,7 +154,7 @@ impl<T: Default + Drop, N: ArraySlots<T>> GenericArray<T, N> {
         f: &mut F,
     ) -> GenericArray<U, N>
     where
-        N: ArraySlots<U>,
+        N: ArrayLength<U>,
         requires callable { MayCallOverEntryPairs (λ item. item) (λ item. item.now) F.pre F.step f.old
             (zip self (items_of_view rhs)) }
         ensures run { ZipRun (λ item. item) (λ item. item.now) F.step f.old self
@@ -162,7 +162,7 @@ impl<T: Default + Drop, N: ArraySlots<T>> GenericArray<T, N> {
         ensures acts { ZipsAs (λ item. item) (λ item. item.now) F.step f.old self
             (items_of_view rhs.entry) result }
     {
-        let mut made = GenericArray::<U, N>::filled();
+        let mut made = GenericArray::<U, N>::default();
         write_zipped_ref(
             self.as_mut_slice(),
             rhs.into_slice(),

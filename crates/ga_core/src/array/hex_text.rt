@@ -4,12 +4,12 @@ ghost use Rattle.std.specs.Io.KnownBytes.{Appends};
 ghost use Rattle.std.specs.Prelude.{◌≡◌, [], false, IsOk, OnOk, true};
 
 use crate::array::GenericArray;
-use crate::length::ArraySlots;
+use crate::length::ArrayLength;
 use ga_views::hex_text::write_hex;
 use std::io;
 use std::io::Write;
 
-impl<N: ArraySlots<u8>> GenericArray<u8, N> {
+impl<N: ArrayLength<u8>> GenericArray<u8, N> {
     /// Writes the bytes as hex text with `0123456789abcdef`, no more than `limit` digits where that is
     /// fewer: see `hex_text::write_hex`. The counterpart of `fmt::LowerHex`.
     pub fn write_lower_hex<W: Write>(&self, w: &mut W, limit: Option<usize>) -> io::Result<()>

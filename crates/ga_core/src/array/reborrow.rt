@@ -1,9 +1,9 @@
 //! An array for writing, as what a writing view stands on.
 use crate::array::GenericArray;
-use crate::length::ArraySlots;
+use crate::length::ArrayLength;
 use ga_views::reborrow::ReborrowSlice;
 
-impl<'a, T, N: ArraySlots<T>> ReborrowSlice<T> for &'a mut GenericArray<T, N> {
+impl<'a, T, N: ArrayLength<T>> ReborrowSlice<T> for &'a mut GenericArray<T, N> {
     ghost use Rattle.std.specs.List.{refill};
     ghost use Rattle.std.specs.Prelude.{◌≡◌, length, refl, slice_set};
 

@@ -1,4 +1,5 @@
 //! Views: of the items of an array, and of slices of the array's length.
+ghost use Rattle.ga_views.specs.Length.{FitsInline};
 ghost use Rattle.ga_views.specs.Parts.{LendsHalves};
 ghost use Rattle.ga_views.specs.Views.{items_of_chunks, items_of_view};
 ghost use Rattle.ga_views.specs.Rows.{chunk_rest, rows};
@@ -8,14 +9,15 @@ ghost use Rattle.std.specs.Prelude.{◌≡◌, ◌<◌, ◌↔◌, ◌⊎◌, �
 
 use crate::array::GenericArray;
 use crate::builder::ArrayBuilder;
-use crate::length::{ArrayLength, ArraySlots};
+use crate::length::ArrayLength;
 use ga_views::{ChunksMut, ChunksRef, GenericArrayMut, GenericArrayRef, LengthError, ViewMut};
 
-impl<T, N: ArraySlots<T>> GenericArray<T, N> {
+impl<T, N: ArrayLength<T>> GenericArray<T, N> {
     /// The read-only view of the items.
     #[inline]
     pub fn view(&self) -> GenericArrayRef<'_, T, N>
-        ensures { items_of_view result ≡ self.now }
+        ensures items { items_of_view result ≡ self.now }
+        ensures fits { FitsInline N.USIZE }
     {
         GenericArrayRef::from_slice(self.as_slice())
     }
@@ -26,10 +28,11 @@ impl<T, N: ArraySlots<T>> GenericArray<T, N> {
     /// checker doesn't accept calls in the loop on a view that isn't borrowed.
     #[inline]
     pub fn view_mut(&mut self) -> ViewMut<&mut GenericArray<T, N>, T, N>
-        ensures { result.slice ≡ self.entry }
+        ensures slice { result.slice ≡ self.entry }
+        ensures fits { FitsInline N.USIZE }
     {
         // Where a field is used, the type's invariant is known: there are `N` items.
-        let _ = &self.slots;
+        let _ = &self.store;
         ViewMut::over(self)
     }
 

@@ -4,12 +4,12 @@ ghost use Rattle.std.specs.Prelude.{IfOk, IsOk};
 
 use crate::alloc_error::AllocError;
 use crate::array_iter::GenericArrayIter;
-use crate::length::ArraySlots;
+use crate::length::ArrayLength;
 use crate::slots::write_clones;
-use crate::store::Slots;
+use crate::store::Store;
 use std::alloc;
 
-impl<T: Clone, N: ArraySlots<T>> GenericArrayIter<T, N> {
+impl<T: Clone + Default, N: ArrayLength<T>> GenericArrayIter<T, N> {
     /// An iterator over clones of the items that are left, made in order.
     ///
     /// If a clone fails, drops those made before it and returns the error.
@@ -18,13 +18,13 @@ impl<T: Clone, N: ArraySlots<T>> GenericArrayIter<T, N> {
         ensures succeeds { All T.is_infallible self.now → IsOk result }
     {
         let items = self.as_slice();
-        let mut slots = N::Slots::filled();
-        write_clones(slots.part_mut(0, items.len()), items)?;
-        Ok(GenericArrayIter::of_slots(slots, items.len()))
+        let mut store = N::ArrayType::filled(N::USIZE);
+        write_clones(store.part_mut(0, items.len()), items)?;
+        Ok(GenericArrayIter::of_store(store, items.len()))
     }
 }
 
-impl<T: Clone, N: ArraySlots<T>> Clone for GenericArrayIter<T, N> {
+impl<T: Clone + Default, N: ArrayLength<T>> Clone for GenericArrayIter<T, N> {
     ghost is_clone = { λ items copy. AllZip T.is_clone items copy };
 
     ghost is_infallible = { λ items. All T.is_infallible items };

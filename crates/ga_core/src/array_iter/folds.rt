@@ -4,11 +4,11 @@ ghost use Rattle.std.specs.Iterator.{ActsAsOnTwo};
 ghost use Rattle.std.specs.Prelude.{◌≡◌, fold, reverse};
 
 use crate::array_iter::GenericArrayIter;
-use crate::length::ArraySlots;
-use crate::store::Slots;
+use crate::length::ArrayLength;
+use crate::store::Store;
 use std::mem;
 
-impl<T: Default + Drop, N: ArraySlots<T>> GenericArrayIter<T, N> {
+impl<T: Default + Drop, N: ArrayLength<T>> GenericArrayIter<T, N> {
     /// Folds the items that are left into one value, from the front, starting from `init`. One
     /// pass.
     pub fn fold<A, F: FnMut(A, T) -> A>(self, init: A, mut f: F) -> A

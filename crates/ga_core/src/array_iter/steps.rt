@@ -3,11 +3,11 @@ ghost use Rattle.ga_core.specs.Cut.{StepGives, back, front};
 ghost use Rattle.std.specs.Prelude.{◌≡◌, ◌-◌, ◌≤◌, [], drop, length, slice_get, take};
 
 use crate::array_iter::{GenericArrayIter, blank};
-use crate::length::ArraySlots;
-use crate::store::Slots;
+use crate::length::ArrayLength;
+use crate::store::Store;
 use ga_views::MAX_INLINE;
 
-impl<T: Default + Drop, N: ArraySlots<T>> GenericArrayIter<T, N> {
+impl<T: Default + Drop, N: ArrayLength<T>> GenericArrayIter<T, N> {
     /// Drops `n` items and returns the next one. If at most `n` items are left, drops them all and
     /// returns `None`. O(n).
     #[inline]
@@ -72,7 +72,7 @@ impl<T: Default + Drop, N: ArraySlots<T>> GenericArrayIter<T, N> {
             // The remainder is the slot itself: see `take_at`.
             let first = self.front % MAX_INLINE;
             self.front += passed;
-            blank(self.slots.part_mut(first, passed));
+            blank(self.store.part_mut(first, passed));
         }
     }
 
@@ -84,7 +84,7 @@ impl<T: Default + Drop, N: ArraySlots<T>> GenericArrayIter<T, N> {
     {
         if passed > 0 {
             self.back -= passed;
-            blank(self.slots.part_mut(self.back % MAX_INLINE, passed));
+            blank(self.store.part_mut(self.back % MAX_INLINE, passed));
         }
     }
 }

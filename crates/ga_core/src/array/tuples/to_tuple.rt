@@ -2,7 +2,7 @@
 ghost use Rattle.std.specs.Prelude.{◌≡◌, ◌∷◌, []};
 
 use crate::array::GenericArray;
-use crate::length::ArraySlots;
+use crate::length::ArrayLength;
 use crate::slots::move_items;
 use ga_views::{U1, U2, U3, U4, U5, U6, U7, U8, U9, U10, U11, U12};
 
@@ -127,7 +127,7 @@ impl<T: Default + Drop> From<GenericArray<T, U12>> for (T, T, T, T, T, T, T, T, 
 
 // The items as a native array.
 #[inline]
-fn native<T: Default + Drop, N: ArraySlots<T>, const U: usize>(
+fn native<T: Default + Drop, N: ArrayLength<T>, const U: usize>(
     mut array: GenericArray<T, N>,
 ) -> [T; U]
     requires len { N.USIZE ≡ U }

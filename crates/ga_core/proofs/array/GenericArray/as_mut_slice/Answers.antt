@@ -7,7 +7,7 @@ use Rattle.std.specs.List.{refill}
 
 pub returns : goal.returns
 returns g c =
-    let items = g.N.Slots.Slots.items c.self.inside.slots in
+    let items = g.N.ArrayType.Store.items c.self.inside.store in
     let count = c.USIZE.result in
     let long : count ≡ length items = c.USIZE.ensures ∙ sym c.self.invariant.0 in
     let shown : c.part_mut.result.now ≡ c.args.self.now =
@@ -15,8 +15,8 @@ returns g c =
       (
         refl,
         λ w.
-            (g.N.Slots.Slots.slots_with c.self.inside.slots (part_set 0 count items w)).1
+            (g.N.ArrayType.Store.store_with c.self.inside.store (part_set 0 count items w)).1
             ∙ (ap (λ k. refill (length items) items (part_set 0 k items w)) long ∙ (part-all items w ∙ ap (λ l. refill (length l) l w) c.self.view_is)),
       ),
-      record { writes_back = tt; items = shown; len = ap length (shown ∙ sym c.self.view_is) ∙ c.self.invariant.0 },
+      record { writes_back = tt; items = shown; len = ap length (shown ∙ sym c.self.view_is) ∙ c.self.invariant.0; fits = c.self.invariant.1 },
     )

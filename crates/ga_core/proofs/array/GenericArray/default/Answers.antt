@@ -1,16 +1,14 @@
-use Rattle.ga_core.proofs.CopyLemmas.{ClosureRun-all, ExactlyEach-all}
-use Rattle.ga_core.proofs.RunLemmas.{ClosureRun-length}
+use Rattle.ga_core.proofs.CopyLemmas.{ExactlyEach-all}
 use Rattle.ga_core.proofs.array.GenericArray.default.Goals as goal
-use Rattle.std.proofs.Common.{rules, ◌∙◌}
-use Rattle.std.proofs.lemmas.List.FromFn.{length-range_with_len}
+use Rattle.std.proofs.Common.{◌∙◌, ap, length, rules, subst, sym}
+use Rattle.std.specs.List.{All}
 
 pub returns : goal.returns
 returns g c =
-    let run = c.generate.ensures.run in
-    let items = ClosureRun-all _ g.T.Default.is_default (λ f x y next call. search rules) _ _ _ _ run.1 in
-    let len = ClosureRun-length _ _ _ _ _ run.1 ∙ length-range_with_len 0 g.N.Unsigned.USIZE in
+    let items = subst (All g.T.Default.is_default) (sym c.of_store.ensures) c.filled.ensures.items in
+    let len = ap length c.of_store.ensures ∙ (c.filled.ensures.len ∙ search rules) in
     record {
       items = items;
       len = len;
-      each = ExactlyEach-all g.T.Default.is_default g.N.Unsigned.USIZE c.generate.result len items;
+      each = ExactlyEach-all g.T.Default.is_default g.N.Unsigned.USIZE c.of_store.result len items;
     }

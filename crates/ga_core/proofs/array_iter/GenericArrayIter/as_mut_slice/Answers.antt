@@ -8,24 +8,24 @@ use Rattle.std.specs.List.{length_refill, refill}
 pub invariant_of-self-lent : goal.invariant_of-self-lent
 invariant_of-self-lent g c w =
     let inv = c.self.invariant in
-    let items = g.N.Slots.Slots.items c.self.inside.slots in
+    let items = g.N.ArrayType.Store.items c.self.inside.store in
     let part = part_set c.self.inside.front (c.self.inside.back - c.self.inside.front) items w in
-    let after = g.N.Slots.Slots.slots_with c.self.inside.slots part in
+    let after = g.N.ArrayType.Store.store_with c.self.inside.store part in
     let long = ap length after.1 ∙ sym (length_refill (length items) items part refl) in
     (inv.0, omega (arith, long, inv.1), long ∙ inv.2, inv.3)
 
 pub returns : goal.returns
 returns g c =
     let inv = c.self.invariant in
-    let items = g.N.Slots.Slots.items c.self.inside.slots in
+    let items = g.N.ArrayType.Store.items c.self.inside.store in
     let front = c.self.inside.front in
     let len = c.self.inside.back - front in
     let count : len ≡ length c.args.self.now = sym (left-count items front c.self.inside.back inv.0 inv.1) ∙ ap length c.self.view_is in (
       (
         refl,
         λ w.
-            let after = g.N.Slots.Slots.slots_with c.self.inside.slots (part_set front len items w) in
-            part-within front len items w (g.N.Slots.Slots.items after.0) (omega (arith, inv.0, inv.1)) after.1
+            let after = g.N.ArrayType.Store.store_with c.self.inside.store (part_set front len items w) in
+            part-within front len items w (g.N.ArrayType.Store.items after.0) (omega (arith, inv.0, inv.1)) after.1
             ∙ (ap (λ l. refill len l w) c.self.view_is ∙ ap (λ k. refill k c.args.self.now w) count),
       ),
       record { writes_back = tt; items = c.part_mut.ensures.value ∙ c.self.view_is },
