@@ -122,18 +122,6 @@ impl<T: Drop, N: ArrayLength<T>> GenericArray<T, N> {
         ensures runs { FillFalliblyRuns I.next_gives items.old N.USIZE result }
         ensures can_on { IfOk result (λ made. OnErr made (I.can_next items.new)) }
     {
-        Self::fill_fallibly_from(items)
-    }
-
-    // The fill itself, of which `try_from_fallible_iter_ref` says one thing more that follows.
-    fn fill_fallibly_from<I: Iterator<Item = Result<T, E>>, E: Drop>(
-        items: &mut I,
-    ) -> Result<Result<Self, E>, LengthError>
-        requires fits { FitsInline N.USIZE }
-        requires can { I.can_next items.old }
-        ensures fill { FillsFallibly I.next_gives items.old N.USIZE result items.new }
-        ensures can_on { IfOk result (λ made. OnErr made (I.can_next items.new)) }
-    {
         let mut builder = ArrayBuilder::new();
         if let Err(error) = builder.try_extend(items) {
             return Ok(Err(error));

@@ -41,8 +41,6 @@ where
     ensures run { ZipRun (λ item. item) S.entry F.step f.old lhs (S.items s) result f.new }
     ensures acts { ZipsAs (λ item. item) S.entry F.step f.old lhs (S.items s) result }
 {
-    // The slice knows that the length fits, and how many items there are.
-    let _ = lhs.as_slice();
     always(zip_entries::<
         B,
         T,

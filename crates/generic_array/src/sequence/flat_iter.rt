@@ -5,7 +5,7 @@ ghost use Rattle.std.specs.Iterator.Runs.{YieldsRefsInOrder};
 ghost use Rattle.std.specs.List.{flat_map};
 ghost use Rattle.std.specs.Prelude.{◌≡◌};
 
-use ga_core::{ArraySlots, GenericArray, GenericArrayRef, Unsigned};
+use ga_core::{ArrayLength, GenericArray, GenericArrayRef, Unsigned};
 use std::marker::Model;
 use std::slice;
 
@@ -13,7 +13,7 @@ use std::slice;
 ///
 /// The counterpart of `flatten` of a reference to an array of arrays.
 #[inline]
-pub fn iter_flat<'a, T, W: ArraySlots<T>, R: Unsigned>(
+pub fn iter_flat<'a, T, W: ArrayLength<T>, R: Unsigned>(
     view: GenericArrayRef<'a, GenericArray<T, W>, R>,
 ) -> FlatIter<'a, T, W>
     ensures items { result ≡ flat_map (λ row. row) (items_of_view view.entry) }
@@ -29,13 +29,13 @@ pub fn iter_flat<'a, T, W: ArraySlots<T>, R: Unsigned>(
 /// The items of rows by reference, from the front: see `iter_flat`. Contracts see it as the list
 /// of the items that are left.
 #[derive(Drop)]
-pub struct FlatIter<'a, T, W: ArraySlots<T>> {
+pub struct FlatIter<'a, T, W: ArrayLength<T>> {
     // What is left of the row that was begun, and the rows behind it.
     row: slice::Iter<'a, T>,
     rows: slice::Iter<'a, GenericArray<T, W>>,
 }
 
-impl<'a, T, W: ArraySlots<T>> Model for FlatIter<'a, T, W> {
+impl<'a, T, W: ArrayLength<T>> Model for FlatIter<'a, T, W> {
     ghost use Rattle.std.specs.List.{flat_map};
     ghost use Rattle.std.specs.Prelude.{◌++◌, List};
     ghost use Rattle.std.specs.Slice.Iter.{iter_rest};
@@ -45,7 +45,7 @@ impl<'a, T, W: ArraySlots<T>> Model for FlatIter<'a, T, W> {
     ghost view = { λ items. iter_rest items.row ++ flat_map (λ row. row) (iter_rest items.rows) };
 }
 
-impl<'a, T, W: ArraySlots<T>> Iterator for FlatIter<'a, T, W> {
+impl<'a, T, W: ArrayLength<T>> Iterator for FlatIter<'a, T, W> {
     type Item = &'a T;
 
     ghost next_gives = { YieldsFirstRef (λ left. left) };

@@ -18,7 +18,7 @@ impl<T: Default + Drop, N: ArrayLength<T>, M: ArrayLength<T>> Lengthen<T, Generi
         let (first, last) = longer.as_mut_slice().split_at_mut(N::USIZE);
         move_items(self.as_mut_slice(), first);
         last[0] = item;
-        longer.finished()
+        longer
     }
 
     #[inline(always)]
@@ -27,7 +27,7 @@ impl<T: Default + Drop, N: ArrayLength<T>, M: ArrayLength<T>> Lengthen<T, Generi
         let (first, others) = longer.as_mut_slice().split_at_mut(1);
         first[0] = item;
         move_items(self.as_mut_slice(), others);
-        longer.finished()
+        longer
     }
 }
 
@@ -37,15 +37,12 @@ impl<T: Default + Drop, N: ArrayLength<T>, M: ArrayLength<T>> Shorten<T, Generic
 
     #[inline]
     fn pop_back(mut self) -> (GenericArray<T, M>, T) {
-        // The slice knows how many items there are, and that they fit.
-        let _ = self.as_slice();
         let (others, last) = self.as_mut_slice().split_at_mut(M::USIZE);
         (array_of(others), mem::take(&mut last[0]))
     }
 
     #[inline]
     fn pop_front(mut self) -> (T, GenericArray<T, M>) {
-        let _ = self.as_slice();
         let (first, others) = self.as_mut_slice().split_at_mut(1);
         (mem::take(&mut first[0]), array_of(others))
     }
@@ -66,7 +63,7 @@ impl<T: Default + Drop, N: ArrayLength<T>, R: ArrayLength<T>, M: ArrayLength<T>>
         let (left, right) = both.as_mut_slice().split_at_mut(N::USIZE);
         move_items(self.as_mut_slice(), left);
         move_items(rest.as_mut_slice(), right);
-        both.finished()
+        both
     }
 }
 
@@ -81,7 +78,6 @@ impl<T: Default + Drop, N: ArrayLength<T>, K: ArrayLength<T>, M: ArrayLength<T>>
 
     #[inline]
     fn split(mut self) -> (GenericArray<T, K>, GenericArray<T, M>) {
-        let _ = self.as_slice();
         let (first, second) = self.as_mut_slice().split_at_mut(K::USIZE);
         (array_of(first), array_of(second))
     }
@@ -93,7 +89,6 @@ impl<T: Default + Drop, N: ArrayLength<T>, M: ArrayLength<T>> Remove<T, GenericA
 
     #[inline]
     fn remove(mut self, index: usize) -> (T, GenericArray<T, M>) {
-        let _ = self.as_slice();
         let items = self.as_mut_slice();
         let (_, behind) = items.split_at_mut(index);
         behind.rotate_left(1);
@@ -103,7 +98,6 @@ impl<T: Default + Drop, N: ArrayLength<T>, M: ArrayLength<T>> Remove<T, GenericA
 
     #[inline]
     fn swap_remove(mut self, index: usize) -> (T, GenericArray<T, M>) {
-        let _ = self.as_slice();
         let items = self.as_mut_slice();
         items.swap(index, M::USIZE);
         let (others, last) = items.split_at_mut(M::USIZE);
@@ -116,7 +110,6 @@ impl<T: Default + Drop, N: ArrayLength<T>> Row<T> for GenericArray<T, N> {
 
     #[inline]
     fn move_over(&mut self, slots: &mut [T]) -> usize {
-        let _ = self.as_slice();
         let (first, _) = slots.split_at_mut(N::USIZE);
         move_items(self.as_mut_slice(), first);
         N::USIZE
@@ -137,7 +130,6 @@ impl<T: Default + Drop, I: Row<T> + Default + Drop, R: ArrayLength<I>, M: ArrayL
 
     #[inline(always)]
     fn flatten(mut self) -> GenericArray<T, M> {
-        let _ = self.as_slice();
         let mut array = GenericArray::default();
         let slots = array.as_mut_slice();
         let mut at = 0;
@@ -145,7 +137,7 @@ impl<T: Default + Drop, I: Row<T> + Default + Drop, R: ArrayLength<I>, M: ArrayL
             let (_, behind) = slots.split_at_mut(at);
             at += row.move_over(behind);
         }
-        array.finished()
+        array
     }
 }
 
@@ -166,7 +158,6 @@ where
 
     #[inline(always)]
     fn unflatten(mut self) -> GenericArray<GenericArray<T, W>, R> {
-        let _ = self.as_slice();
         let items = self.as_mut_slice();
         let mut rows = GenericArray::<GenericArray<T, W>, R>::default();
         let mut at = 0;
@@ -176,6 +167,6 @@ where
             move_items(first, row.as_mut_slice());
             at += W::USIZE;
         }
-        rows.finished()
+        rows
     }
 }

@@ -14,5 +14,5 @@ pub(super) fn array_of<T: Default + Drop, M: ArrayLength<T>>(items: &mut [T]) ->
 {
     let mut array = GenericArray::default();
     move_items(items, array.as_mut_slice());
-    array.finished()
+    array
 }

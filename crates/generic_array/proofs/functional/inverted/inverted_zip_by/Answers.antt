@@ -1,18 +1,17 @@
 use Rattle.ga_core.proofs.EntryActs.{answers_at_pairs}
 use Rattle.generic_array.proofs.functional.inverted.inverted_zip_by.Goals as goal
 use Rattle.generic_array.specs.EntryLaws.{left_given}
-use Rattle.std.proofs.Common.{ap, length, sym, ◌∙◌}
 
 pub zip_entries-requires-clause-callable : goal.zip_entries-requires-clause-callable
 zip_entries-requires-clause-callable g c =
     let gives = left_given c.into_iter.result c.args.lhs c.into_iter.ensures.into_iter_gives.0 in
-    let len = ap length (sym c.as_slice.ensures.items) ∙ c.as_slice.ensures.len in
+    let len = c.into_iter.ensures.into_iter_gives.3 in
     ((λ item. item), c.args.lhs, g.S.GenericSequence.entry, g.S.AsSlice.items c.args.s, (tt, tt, gives), c.entries_of.ensures.gives, len, c.entries_of.ensures.long, c.requires.callable)
 
 pub returns-clause-run : goal.returns-clause-run
 returns-clause-run g c =
     let gives = left_given c.into_iter.result c.args.lhs c.into_iter.ensures.into_iter_gives.0 in
-    let len = ap length (sym c.as_slice.ensures.items) ∙ c.as_slice.ensures.len in
+    let len = c.into_iter.ensures.into_iter_gives.3 in
     rw c.always.ensures at c.zip_entries.ensures.run (λ item. item) c.args.lhs g.S.GenericSequence.entry (g.S.AsSlice.items c.args.s) (tt, tt, gives) c.entries_of.ensures.gives len c.entries_of.ensures.long
 
 pub returns-clause-acts : goal.returns-clause-acts

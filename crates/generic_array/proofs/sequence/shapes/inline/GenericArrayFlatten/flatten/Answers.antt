@@ -63,8 +63,7 @@ returns g c =
     let long : length c.default-array.result ≡ length slots = sym (c.loop-row.auto.slots ∙ ap length c.as_mut_slice-slots.ensures.items) in
     let past : length c.loop-row.row-items ≤ c.loop-row.row-index = omega (arith, c.loop-row-test.false, c.loop-row.auto.row-items) in
     let row_items = map g.I.AsSlice.items c.args.self in
-    let joined = c.finished.ensures
-    ∙ refill-whole (length c.default-array.result) c.default-array.result slots long
+    let joined = refill-whole (length c.default-array.result) c.default-array.result slots long
     ∙ flat_map-whole g.row.I.Denot g.I.AsSlice.items c.loop-row.row-items c.loop-row.row-index c.loop-row.at g.I.Row.WIDTH slots (flat_map (λ r. r) row_items) past c.loop-row.invariant.long c.loop-row.invariant.same in
     let none = drop_all c.loop-row.row-index c.loop-row.row-items past in
     let widths = c.loop-row.invariant.wide (subst (λ l. All (λ r. length r ≡ g.I.Row.WIDTH) (map g.I.AsSlice.items l)) (sym none) (All-nil (λ r. length r ≡ g.I.Row.WIDTH))) in

@@ -43,6 +43,6 @@ returns g c =
     let all : place ≡ g.R.Unsigned.USIZE = omega (arith, past, count, c.loop-row.auto.row-index-end) in
     let long : length c.args.self ≡ g.R.Unsigned.USIZE * w = omega (arith, ap length c.as_mut_slice-items.ensures.items, c.as_mut_slice-items.ensures.len, c.requires.0) in
     let written = refill-whole (length c.default-rows.result) c.default-rows.result rows (sym (c.loop-row.auto.row-items ∙ ap length c.as_mut_slice-row-items.ensures.items)) in
-    let cut = c.finished.ensures ∙ (written ∙ (sym (take_all place rows past) ∙ (c.loop-row.invariant.made
+    let cut = (written ∙ (sym (take_all place rows past) ∙ (c.loop-row.invariant.made
     ∙ (ap (λ n. map (row_at w c.args.self) (range_with_len 0 n)) all ∙ rows-whole w g.R.Unsigned.USIZE c.args.self c.requires.1 long)))) in
     record { cut = cut; joined = ap (flat_map (λ row. row)) cut ∙ joined-of_rows w c.requires.1 g.R.Unsigned.USIZE c.args.self long }
