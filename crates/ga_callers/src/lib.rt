@@ -31,6 +31,8 @@ mod macros;
 #[cfg(test)]
 mod matrix;
 #[cfg(test)]
+mod own_lengths;
+#[cfg(test)]
 mod places;
 #[cfg(test)]
 mod plain_calls;

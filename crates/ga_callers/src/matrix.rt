@@ -4,7 +4,7 @@ ghost use Rattle.ga_callers.specs.Matrix.{matrix_product, row_times_column};
 ghost use Rattle.std.specs.List.{range_with_len};
 ghost use Rattle.std.specs.Prelude.{◌≡◌, ◌*◌, ◌%◌, ◌^◌, ◌<◌, map, slice_index};
 
-use generic_array::{ArraySlots, BorrowedItems, GenericArray, U2, U3, arr};
+use generic_array::{ArrayLength, BorrowedItems, GenericArray, U2, U3, arr};
 
 /// `R` rows of `C` numbers each.
 type Matrix<R, C> = GenericArray<GenericArray<u64, C>, R>;
@@ -12,8 +12,8 @@ type Matrix<R, C> = GenericArray<GenericArray<u64, C>, R>;
 /// A row times the column of a matrix, modulo 2^64.
 fn row_times_column<K, C>(row: &GenericArray<u64, K>, matrix: &Matrix<K, C>, column: usize) -> u64
 where
-    C: ArraySlots<u64>,
-    K: ArraySlots<u64> + ArraySlots<GenericArray<u64, C>>,
+    C: ArrayLength<u64>,
+    K: ArrayLength<u64> + ArrayLength<GenericArray<u64, C>>,
     GenericArray<u64, C>: Default,
     requires inside { column < C.USIZE }
     ensures { result ≡ row_times_column row.now matrix.now column }
@@ -34,8 +34,8 @@ where
 /// A row times each column of a matrix in turn.
 fn row_times<K, C>(row: &GenericArray<u64, K>, matrix: &Matrix<K, C>) -> GenericArray<u64, C>
 where
-    C: ArraySlots<u64>,
-    K: ArraySlots<u64> + ArraySlots<GenericArray<u64, C>>,
+    C: ArrayLength<u64>,
+    K: ArrayLength<u64> + ArrayLength<GenericArray<u64, C>>,
     GenericArray<u64, C>: Default,
     requires fits { FitsInline C.USIZE }
     ensures { result ≡ map (row_times_column row.now matrix.now) (range_with_len 0 C.USIZE) }
@@ -51,9 +51,9 @@ where
 /// The product of two matrices, modulo 2^64.
 fn product<R, K, C>(left: &Matrix<R, K>, right: &Matrix<K, C>) -> Matrix<R, C>
 where
-    C: ArraySlots<u64>,
-    K: ArraySlots<u64> + ArraySlots<GenericArray<u64, C>>,
-    R: ArraySlots<GenericArray<u64, K>> + ArraySlots<GenericArray<u64, C>>,
+    C: ArrayLength<u64>,
+    K: ArrayLength<u64> + ArrayLength<GenericArray<u64, C>>,
+    R: ArrayLength<GenericArray<u64, K>> + ArrayLength<GenericArray<u64, C>>,
     GenericArray<u64, C>: Default,
     GenericArray<u64, K>: Default,
     requires fits { FitsInline C.USIZE }
