@@ -14,4 +14,4 @@ pub use boxed_array_iter::BoxedArrayIter;
 pub use live_block::LiveBlock;
 // A crate can name a block in a contract only if the types of its fields are exported.
 #[doc(hidden)]
-pub use live_block::{Base, Cells, Deed, FullBlock};
+pub use live_block::{Base, Cells, Deed};
