@@ -5,9 +5,7 @@ ghost use Rattle.std.specs.Prelude.{◌≡◌, ◌≢◌, ◌+◌, ◌<◌, ◌�
 
 mod cells;
 
-#[doc(hidden)]
-pub use cells::{Base, Cells, Deed};
-use cells::{allocate, deallocate, fits};
+use cells::{Base, Cells, Deed, allocate, deallocate, fits};
 use ga_core::AllocError;
 use std::alloc::Global;
 use std::marker::Model;
@@ -38,13 +36,14 @@ impl<T> Model for LiveBlock<T> {
 
     // The bounds are those of the cells, and the deed is that of the whole block.
     ghost invariant = { λ block. record {
-        at : block.cells.at ≡ block.base.ptr;
-        passed : block.cells.passed ≡ block.start;
-        items : block.start + length block.cells.items ≡ block.end;
-        room : block.end + block.cells.room ≡ block.size;
-        deed_at : block.deed.at ≡ block.base.ptr;
-        deed_len : block.deed.len ≡ block.size;
-        deed_alloc : block.deed.alloc ≡ block.alloc } };
+      at : block.cells.at ≡ block.base.ptr;
+      passed : block.cells.passed ≡ block.start;
+      items : block.start + length block.cells.items ≡ block.end;
+      room : block.end + block.cells.room ≡ block.size;
+      deed_at : block.deed.at ≡ block.base.ptr;
+      deed_len : block.deed.len ≡ block.size;
+      deed_alloc : block.deed.alloc ≡ block.alloc;
+    } };
 }
 
 impl<T> LiveBlock<T> {
@@ -183,7 +182,8 @@ impl<T> LiveBlock<T> {
         self.cells.slice(self.base, self.start, len)
     }
 
-    // The same for writing. A call, since a range of a `&mut` slice isn't followed back to the block.
+    // The same for writing, which can't be a range of `as_mut_slice`: the check doesn't follow that back
+    // to the block.
     #[inline]
     pub(crate) fn all_mut(&mut self, len: usize) -> &mut [T]
         requires len { len ≡ length self.old.items }

@@ -14,8 +14,8 @@ use std::slice;
 // The most bytes that a block may have: `isize::MAX`.
 const MAX_BYTES: usize = 0x7fff_ffff_ffff_ffff;
 
-/// Where the block begins. It owns nothing.
-pub struct Base<T> {
+// Where the block begins. It owns nothing.
+pub(crate) struct Base<T> {
     ptr: *mut T,
 }
 
@@ -36,9 +36,9 @@ unsafe impl<T> Send for Base<T> {}
 
 unsafe impl<T> Sync for Base<T> {}
 
-/// The owner of the slots: `passed` that are empty, then the items, then room for more. It takes no
-/// space, since the block holds the pointer and the bounds.
-pub struct Cells<T> {
+// The owner of the slots: `passed` that are empty, then the items, then room for more. It takes no
+// space, since the block holds the pointer and the bounds.
+pub(crate) struct Cells<T> {
     mark: PhantomData<*const T>,
     ghost at: { Ptr },
     ghost passed: { ℕ },
@@ -57,9 +57,9 @@ unsafe impl<T: Send> Send for Cells<T> {}
 
 unsafe impl<T: Sync> Sync for Cells<T> {}
 
-/// The right to deallocate the block of `len` slots at `at`: none if `len` is 0, since there is no
-/// block then. It takes no space.
-pub struct Deed<T, A: Allocator> {
+// The right to deallocate the block of `len` slots at `at`: none if `len` is 0, since there is no
+// block then. It takes no space.
+pub(crate) struct Deed<T, A: Allocator> {
     mark: PhantomData<*const (T, A)>,
     ghost at: { Ptr },
     ghost len: { ℕ },
