@@ -1,4 +1,4 @@
--- The facts of a contract that states each in a clause of its own, as one tuple. Assumes nothing.
+-- The facts of a contract that states each in a clause of its own, as one tuple. `says_every` takes `Logic`; the rest assumes nothing.
 --     Every          the tuple of the facts
 --     facts          the facts as a contract has them
 --     learns         P ∗ facts as a hypothesis: they are learned

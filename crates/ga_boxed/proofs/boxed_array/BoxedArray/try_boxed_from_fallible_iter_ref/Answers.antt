@@ -35,7 +35,7 @@ returns-in-None-next-clause-fill g c = search rules
 
 pub returns-in-None-next-clause-runs : goal.returns-in-None-next-clause-runs
 returns-in-None-next-clause-runs g c =
-    FillFalliblyRuns-from_fill {F = LengthError} g.I.Iterator.next_gives c.args.items.now g.N.Unsigned.USIZE (Ok (Ok c.of_items.result)) _ (returns-in-None-next-clause-fill g c)
+    FillFalliblyRuns-from_fill {F = LengthError} g.I.Iterator.next_gives c.args.items.now g.N.Unsigned.USIZE (Ok (Ok _)) _ (returns-in-None-next-clause-fill g c)
 
 pub returns-in-Some-clause-fill : goal.returns-in-Some-clause-fill
 returns-in-Some-clause-fill g c = search rules

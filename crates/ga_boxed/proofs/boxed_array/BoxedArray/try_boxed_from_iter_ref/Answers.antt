@@ -30,11 +30,11 @@ returns-in-None-next-clause-fill g c = search rules
 
 pub returns-in-None-next-clause-runs : goal.returns-in-None-next-clause-runs
 returns-in-None-next-clause-runs g c =
-    FillRuns-from_fill {E = LengthError} g.I.Iterator.next_gives c.args.items.now g.N.Unsigned.USIZE (Ok c.of_items.result) _ (returns-in-None-next-clause-fill g c)
+    FillRuns-from_fill {E = LengthError} g.I.Iterator.next_gives c.args.items.now g.N.Unsigned.USIZE (Ok _) _ (returns-in-None-next-clause-fill g c)
 
 pub returns-in-None-next-clause-asks : goal.returns-in-None-next-clause-asks
 returns-in-None-next-clause-asks g c =
-    Asks-from_fill g.I.Iterator.next_gives {E = LengthError} c.args.items.now g.N.Unsigned.USIZE (Ok c.of_items.result) _ (returns-in-None-next-clause-fill g c)
+    Asks-from_fill g.I.Iterator.next_gives {E = LengthError} c.args.items.now g.N.Unsigned.USIZE (Ok _) _ (returns-in-None-next-clause-fill g c)
 
 pub returns-in-Some-next-clause-fill : goal.returns-in-Some-next-clause-fill
 returns-in-Some-next-clause-fill g c = search rules
