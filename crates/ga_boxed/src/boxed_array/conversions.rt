@@ -87,9 +87,12 @@ impl<T: Drop, N: Unsigned> BoxedArray<T, N> {
         ensures ok { IfOk result (λ items. items.items ≡ self) }
         ensures empty { N.USIZE ≡ 0 → IsOk result }
     {
-        let BoxedArray { items, of: _ } = self;
-        let mut block = items;
+        let BoxedArray {
+            items: mut block,
+            of: _,
+        } = self;
         let mut vector = Vec::with_capacity(block.allocator(), N::USIZE)?;
+        // The count is a constant, so the compiler moves several small items at once.
         for _moved in 0..N::USIZE {
             vector.push_reserved(block.take_first());
         }
