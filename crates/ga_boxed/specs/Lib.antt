@@ -2,7 +2,6 @@ pub mod BlockLends
 pub mod CellsLend
 pub mod CellsOwn
 pub mod FillAnswer
-pub mod FullLends
 pub mod IterLends
 pub mod Lends
 pub mod Live

@@ -12,7 +12,7 @@ mod conversions;
 mod copies;
 
 use crate::boxed_array_iter::BoxedArrayIter;
-use crate::live_block::{Filling, FullBlock};
+use crate::live_block::LiveBlock;
 use ga_core::{GenericArrayRef, Unsigned};
 use std::marker::{Model, PhantomData};
 use std::slice;
@@ -22,8 +22,9 @@ use std::slice;
 ///
 /// The counterpart of `Box<GenericArray<T, N>>`. The items need no `Default`, and the length has
 /// no bound of its own.
+#[derive(Drop)]
 pub struct BoxedArray<T, N: Unsigned> {
-    items: FullBlock<T>,
+    items: LiveBlock<T>,
     of: PhantomData<N>,
 }
 
@@ -32,21 +33,22 @@ impl<T, N: Unsigned> Model for BoxedArray<T, N> {
 
     ghost Value = { List T };
 
-    ghost view = { λ array. array.items };
+    ghost view = { λ array. array.items.items };
 
-    ghost invariant = { λ array. length array.items ≡ N.USIZE };
+    ghost invariant = { λ array. length array.items.items ≡ N.USIZE };
 }
 
 impl<T, N: Unsigned> BoxedArray<T, N> {
     ghost use Rattle.ga_boxed.specs.Lends.{LendsItems, LendsIter};
 
     // The array of `N` items. Moves none of them.
-    fn of_items(items: Filling<T>) -> Self
-        requires full { (length items.items ≡ N.USIZE) × (items.room ≡ 0) }
+    #[inline]
+    fn of_items(items: LiveBlock<T>) -> Self
+        requires full { length items.items ≡ N.USIZE }
         ensures { result ≡ items.items }
     {
         BoxedArray {
-            items: items.full(),
+            items,
             of: PhantomData,
         }
     }
@@ -57,7 +59,7 @@ impl<T, N: Unsigned> BoxedArray<T, N> {
         ensures items { result.now ≡ self.now }
         ensures len { length result.now ≡ N.USIZE }
     {
-        self.items.as_slice(N::USIZE)
+        self.items.all(N::USIZE)
     }
 
     /// All items, in order, for writing. O(1).
@@ -67,7 +69,7 @@ impl<T, N: Unsigned> BoxedArray<T, N> {
         ensures items { result.now ≡ self.old }
         ensures len { length result.now ≡ N.USIZE }
     {
-        self.items.as_mut_slice(N::USIZE)
+        self.items.all_mut(N::USIZE)
     }
 
     /// The number of items, which is `N`.
@@ -102,14 +104,6 @@ impl<T, N: Unsigned> BoxedArray<T, N> {
     }
 }
 
-impl<T: Drop, N: Unsigned> Drop for BoxedArray<T, N> {
-    #[inline]
-    fn drop(self) {
-        let BoxedArray { items, of: _ } = self;
-        let _block = items.into_live(N::USIZE);
-    }
-}
-
 /// The items by value, from either end. Moves the block and no single item, and asks for no memory.
 impl<T: Drop, N: Unsigned> IntoIterator for BoxedArray<T, N> {
     type Item = T;
@@ -123,6 +117,6 @@ impl<T: Drop, N: Unsigned> IntoIterator for BoxedArray<T, N> {
     #[inline]
     fn into_iter(self) -> BoxedArrayIter<T> {
         let BoxedArray { items, of: _ } = self;
-        BoxedArrayIter::of_items(items.into_live(N::USIZE))
+        BoxedArrayIter::of_items(items)
     }
 }

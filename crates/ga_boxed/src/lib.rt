@@ -12,6 +12,3 @@ mod live_block;
 pub use boxed_array::BoxedArray;
 pub use boxed_array_iter::BoxedArrayIter;
 pub use live_block::LiveBlock;
-// A crate can name a block in a contract only if the types of its fields are exported.
-#[doc(hidden)]
-pub use live_block::{Base, Cells, Deed, FullBlock};

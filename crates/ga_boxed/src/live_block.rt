@@ -4,12 +4,8 @@ ghost use Rattle.std.specs.Borrow.{sem};
 ghost use Rattle.std.specs.Prelude.{◌≡◌, ◌≢◌, ◌+◌, ◌<◌, ◌∷◌, ◌++◌, [], IfOk, IsOk, MatchOption, length};
 
 mod cells;
-mod full_block;
 
-use cells::deallocate;
-#[doc(hidden)]
-pub use cells::{Base, Cells, Deed};
-pub use full_block::{Filling, FullBlock};
+use cells::{Base, Cells, Deed, allocate, deallocate, fits};
 use ga_core::AllocError;
 use std::alloc::Global;
 use std::marker::Model;
@@ -39,13 +35,15 @@ impl<T> Model for LiveBlock<T> {
     ghost view = { λ block. live block.cells.items block.cells.room };
 
     // The bounds are those of the cells, and the deed is that of the whole block.
-    ghost invariant = { λ block. (block.cells.at ≡ block.base.ptr)
-        × (block.cells.passed ≡ block.start)
-        × (block.start + length block.cells.items ≡ block.end)
-        × (block.end + block.cells.room ≡ block.size)
-        × (block.deed.at ≡ block.base.ptr)
-        × (block.deed.len ≡ block.size)
-        × (block.deed.alloc ≡ block.alloc) };
+    ghost invariant = { λ block. record {
+      at : block.cells.at ≡ block.base.ptr;
+      passed : block.cells.passed ≡ block.start;
+      items : block.start + length block.cells.items ≡ block.end;
+      room : block.end + block.cells.room ≡ block.size;
+      deed_at : block.deed.at ≡ block.base.ptr;
+      deed_len : block.deed.len ≡ block.size;
+      deed_alloc : block.deed.alloc ≡ block.alloc;
+    } };
 }
 
 impl<T> LiveBlock<T> {
@@ -57,7 +55,19 @@ impl<T> LiveBlock<T> {
         ensures block { IfOk result (λ block. block ≡ live [] size) }
         ensures empty { size ≡ 0 → IsOk result }
     {
-        Ok(Filling::new(alloc, size)?.into_live())
+        if !fits::<T>(size) {
+            return Err(AllocError);
+        }
+        let (base, cells, deed) = allocate(&alloc, size)?;
+        Ok(LiveBlock {
+            base,
+            size,
+            start: 0,
+            end: 0,
+            cells,
+            deed,
+            alloc,
+        })
     }
 
     /// How many items can still be put. O(1).
@@ -149,8 +159,7 @@ impl<T> LiveBlock<T> {
     pub fn as_slice(&self) -> &[T]
         ensures { result.now ≡ self.now.items }
     {
-        self.cells
-            .slice(self.base, self.start, self.end - self.start)
+        self.all(self.len())
     }
 
     /// The items, in order, for writing. O(1).
@@ -159,8 +168,60 @@ impl<T> LiveBlock<T> {
         ensures* writes_back { sem 𝓛 (LendsLive T.row self.entry result) }
         ensures items { result.now ≡ self.old.items }
     {
-        let (base, start, len) = (self.base, self.start, self.end - self.start);
+        let len = self.len();
+        self.all_mut(len)
+    }
+
+    // The items, of which there are `len`. Where a caller passes a constant, the compiler knows the
+    // slice's length.
+    #[inline]
+    pub(crate) fn all(&self, len: usize) -> &[T]
+        requires len { len ≡ length self.now.items }
+        ensures { result.now ≡ self.now.items }
+    {
+        self.cells.slice(self.base, self.start, len)
+    }
+
+    // The same for writing, which can't be a range of `as_mut_slice`: the check doesn't follow that back
+    // to the block.
+    #[inline]
+    pub(crate) fn all_mut(&mut self, len: usize) -> &mut [T]
+        requires len { len ≡ length self.old.items }
+        ensures* writes_back { sem 𝓛 (LendsLive T.row self.entry result) }
+        ensures items { result.now ≡ self.old.items }
+    {
+        let (base, start) = (self.base, self.start);
         self.cells.slice_mut(base, start, len)
+    }
+
+    // A block of the items of a native array, which are moved in one piece. If the allocation
+    // fails, drops them.
+    pub(crate) fn of_native<const U: usize>(
+        alloc: Global,
+        items: [T; U],
+    ) -> Result<Self, AllocError>
+    where
+        T: Drop,
+        ensures items { IfOk result (λ block. block ≡ live items 0) }
+        ensures empty { U ≡ 0 → IsOk result }
+    {
+        if !fits::<T>(U) {
+            return Err(AllocError);
+        }
+        let (base, mut cells, deed) = match allocate(&alloc, U) {
+            Ok(parts) => parts,
+            Err(refused) => return Err(refused.into()),
+        };
+        cells.put_array(base, items);
+        Ok(LiveBlock {
+            base,
+            size: U,
+            start: 0,
+            end: U,
+            cells,
+            deed,
+            alloc,
+        })
     }
 
     // Deallocates the block.

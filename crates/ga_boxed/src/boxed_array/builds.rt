@@ -6,7 +6,7 @@ ghost use Rattle.ga_core.specs.Runs.{CallableAlong, CallableUntilError};
 ghost use Rattle.std.specs.Prelude.{◌≡◌, ℕ, ◌+◌, IfOk, IsOk, OnErr, OnOk, Result};
 
 use crate::boxed_array::BoxedArray;
-use crate::live_block::Filling;
+use crate::live_block::LiveBlock;
 use ga_core::{AllocError, FillError, LengthError, Unsigned};
 use std::alloc::Global;
 
@@ -32,7 +32,7 @@ impl<T, N: Unsigned> BoxedArray<T, N> {
         ensures err { OnErr result (f.new ≡ f.old) }
         ensures empty { N.USIZE ≡ 0 → IsOk result }
     {
-        let mut items = Filling::new(alloc, N::USIZE)?;
+        let mut items = LiveBlock::new(alloc, N::USIZE)?;
         for index in 0..N::USIZE {
             items.put(f(index));
         }
@@ -68,7 +68,7 @@ impl<T: Drop, N: Unsigned> BoxedArray<T, N> {
         ensures err { OnErr result (f.new ≡ f.old) }
         ensures empty { N.USIZE ≡ 0 → IsOk result }
     {
-        let mut good = Filling::new(alloc, N::USIZE)?;
+        let mut good = LiveBlock::new(alloc, N::USIZE)?;
         for index in 0..N::USIZE {
             match f(index) {
                 Ok(item) => good.put(item),
@@ -108,20 +108,7 @@ impl<T: Drop, N: Unsigned> BoxedArray<T, N> {
         ensures err { OnErr result (items.new ≡ items.old) }
         ensures empty { N.USIZE ≡ 0 → IsOk result }
     {
-        Self::fill_from(alloc, items)
-    }
-
-    // The fill itself, of which `try_boxed_from_iter_ref` says two things more that follow.
-    fn fill_from<I: Iterator<Item = T>>(
-        alloc: Global,
-        items: &mut I,
-    ) -> Result<Result<Self, LengthError>, AllocError>
-        requires can { I.can_next items.old }
-        ensures fill { IfOk result (λ built. Fills I.next_gives items.old N.USIZE built items.new) }
-        ensures err { OnErr result (items.new ≡ items.old) }
-        ensures empty { N.USIZE ≡ 0 → IsOk result }
-    {
-        let mut taken = Filling::new(alloc, N::USIZE)?;
+        let mut taken = LiveBlock::new(alloc, N::USIZE)?;
         while taken.room() > 0 {
             match items.next() {
                 Some(item) => taken.put(item),
@@ -173,23 +160,7 @@ impl<T: Drop, N: Unsigned> BoxedArray<T, N> {
         ensures err { OnErr (fill_answer result) (items.new ≡ items.old) }
         ensures empty { N.USIZE ≡ 0 → IsOk (fill_answer result) }
     {
-        Self::fill_fallibly_from(alloc, items)
-    }
-
-    // The fill itself, of which `try_boxed_from_fallible_iter_ref` says one thing more that follows.
-    fn fill_fallibly_from<I: Iterator<Item = Result<T, E>>, E: Drop>(
-        alloc: Global,
-        items: &mut I,
-    ) -> Result<Self, FillError<E, AllocError>>
-        requires can { I.can_next items.old }
-        ensures fill { IfOk (fill_answer result) (λ built.
-            FillsFallibly I.next_gives items.old N.USIZE built items.new) }
-        ensures can_on { IfOk (fill_answer result) (λ built.
-            IfOk built (λ made. OnErr made (I.can_next items.new))) }
-        ensures err { OnErr (fill_answer result) (items.new ≡ items.old) }
-        ensures empty { N.USIZE ≡ 0 → IsOk (fill_answer result) }
-    {
-        let mut good = match Filling::new(alloc, N::USIZE) {
+        let mut good = match LiveBlock::new(alloc, N::USIZE) {
             Ok(block) => block,
             Err(refused) => return Err(FillError::Place(refused)),
         };

@@ -3,11 +3,10 @@ ghost use Rattle.std.specs.Box.{boxed_slice_items};
 ghost use Rattle.std.specs.Prelude.{◌≡◌, ◌≢◌, ◌↔◌, IfOk, IsOk, length};
 
 use crate::boxed_array::BoxedArray;
-use crate::live_block::{Filling, FullBlock};
+use crate::live_block::LiveBlock;
 use ga_core::{AllocError, ArrayLength, Const, GenericArray, LengthError, Unsigned};
 use std::alloc::Global;
 use std::boxed::BoxedSlice;
-use std::marker::PhantomData;
 use std::mem;
 
 impl<T: Default + Drop, N: ArrayLength<T>> BoxedArray<T, N> {
@@ -20,7 +19,7 @@ impl<T: Default + Drop, N: ArrayLength<T>> BoxedArray<T, N> {
         ensures empty { N.USIZE ≡ 0 → IsOk result }
     {
         let slots = array.as_mut_slice();
-        let mut block = Filling::new(alloc, N::USIZE)?;
+        let mut block = LiveBlock::new(alloc, N::USIZE)?;
         for slot in slots.iter_mut() {
             block.put(mem::take(slot));
         }
@@ -37,10 +36,7 @@ impl<T: Drop, const U: usize> BoxedArray<T, Const<U>> {
         ensures ok { IfOk result (λ boxed. boxed ≡ items) }
         ensures empty { U ≡ 0 → IsOk result }
     {
-        Ok(BoxedArray {
-            items: FullBlock::of_native(alloc, items)?,
-            of: PhantomData,
-        })
+        Ok(BoxedArray::of_items(LiveBlock::of_native(alloc, items)?))
     }
 }
 
@@ -63,7 +59,7 @@ impl<T: Drop, N: Unsigned> BoxedArray<T, N> {
         if items.len() != N::USIZE {
             return Ok(Err(LengthError));
         }
-        let mut block = Filling::new(alloc, N::USIZE)?;
+        let mut block = LiveBlock::new(alloc, N::USIZE)?;
         for item in items {
             block.put(item);
         }
@@ -91,8 +87,16 @@ impl<T: Drop, N: Unsigned> BoxedArray<T, N> {
         ensures ok { IfOk result (λ items. items.items ≡ self) }
         ensures empty { N.USIZE ≡ 0 → IsOk result }
     {
-        let BoxedArray { items, of: _ } = self;
-        items.into_vec(N::USIZE)
+        let BoxedArray {
+            items: mut block,
+            of: _,
+        } = self;
+        let mut vector = Vec::with_capacity(block.allocator(), N::USIZE)?;
+        // The count is a constant, so the compiler moves several small items at once.
+        for _moved in 0..N::USIZE {
+            vector.push_reserved(block.take_first());
+        }
+        Ok(vector)
     }
 
     /// The items as a boxed slice: see `into_vec`. The counterpart of `GenericArray::into_boxed_slice`.

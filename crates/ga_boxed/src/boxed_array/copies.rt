@@ -4,7 +4,7 @@ ghost use Rattle.std.specs.List.{All};
 ghost use Rattle.std.specs.Prelude.{◌≡◌, IfOk, IsOk, replicate};
 
 use crate::boxed_array::BoxedArray;
-use crate::live_block::Filling;
+use crate::live_block::LiveBlock;
 use ga_core::{AllocError, Unsigned};
 use std::alloc::Global;
 
@@ -28,7 +28,7 @@ impl<T: Copy, N: Unsigned> BoxedArray<T, N> {
         ensures items { IfOk result (λ array. array ≡ replicate N.USIZE item) }
         ensures empty { N.USIZE ≡ 0 → IsOk result }
     {
-        let mut copies = Filling::new(alloc, N::USIZE)?;
+        let mut copies = LiveBlock::new(alloc, N::USIZE)?;
         for _copy in 0..N::USIZE {
             copies.put(item);
         }
@@ -48,7 +48,7 @@ impl<T: Clone, N: Unsigned> BoxedArray<T, N> {
             → IfOk result (λ array. array ≡ replicate N.USIZE item) }
         ensures empty { N.USIZE ≡ 0 → IsOk result }
     {
-        let mut items = Filling::new(alloc, N::USIZE)?;
+        let mut items = LiveBlock::new(alloc, N::USIZE)?;
         if N::USIZE > 0 {
             for _clone in 1..N::USIZE {
                 items.put(item.clone()?);

@@ -14,8 +14,8 @@ use std::slice;
 // The most bytes that a block may have: `isize::MAX`.
 const MAX_BYTES: usize = 0x7fff_ffff_ffff_ffff;
 
-/// Where the block begins. It owns nothing.
-pub struct Base<T> {
+// Where the block begins. It owns nothing.
+pub(crate) struct Base<T> {
     ptr: *mut T,
 }
 
@@ -36,9 +36,9 @@ unsafe impl<T> Send for Base<T> {}
 
 unsafe impl<T> Sync for Base<T> {}
 
-/// The owner of the slots: `passed` that are empty, then the items, then room for more. It takes no
-/// space, since the block holds the pointer and the bounds.
-pub struct Cells<T> {
+// The owner of the slots: `passed` that are empty, then the items, then room for more. It takes no
+// space, since the block holds the pointer and the bounds.
+pub(crate) struct Cells<T> {
     mark: PhantomData<*const T>,
     ghost at: { Ptr },
     ghost passed: { ℕ },
@@ -57,9 +57,9 @@ unsafe impl<T: Send> Send for Cells<T> {}
 
 unsafe impl<T: Sync> Sync for Cells<T> {}
 
-/// The right to deallocate the block of `len` slots at `at`: none if `len` is 0, since there is no
-/// block then. It takes no space.
-pub struct Deed<T, A: Allocator> {
+// The right to deallocate the block of `len` slots at `at`: none if `len` is 0, since there is no
+// block then. It takes no space.
+pub(crate) struct Deed<T, A: Allocator> {
     mark: PhantomData<*const (T, A)>,
     ghost at: { Ptr },
     ghost len: { ℕ },
@@ -95,8 +95,13 @@ pub(crate) fn allocate<T, A: Allocator>(
     len: usize,
 ) -> Result<(Base<T>, Cells<T>, Deed<T, A>), AllocError>
     requires fits { len * type_size T.row < 2 ^ 63 }
-    ensures block { IfOk result (λ r. (r.1.at ≡ r.0.ptr) × (r.1.passed ≡ 0) × (r.1.items ≡ [])
-        × (r.1.room ≡ len) × (r.2.at ≡ r.0.ptr) × (r.2.len ≡ len) × (r.2.alloc ≡ alloc.now)) }
+    ensures at { IfOk result (λ r. r.1.at ≡ r.0.ptr) }
+    ensures passed { IfOk result (λ r. r.1.passed ≡ 0) }
+    ensures items { IfOk result (λ r. r.1.items ≡ []) }
+    ensures room { IfOk result (λ r. r.1.room ≡ len) }
+    ensures deed_at { IfOk result (λ r. r.2.at ≡ r.0.ptr) }
+    ensures deed_len { IfOk result (λ r. r.2.len ≡ len) }
+    ensures deed_alloc { IfOk result (λ r. r.2.alloc ≡ alloc.now) }
     ensures empty { len ≡ 0 → IsOk result }
 {
     if len == 0 {
@@ -133,8 +138,12 @@ pub(crate) fn deallocate<T, A: Allocator>(
     cells: Cells<T>,
     deed: Deed<T, A>,
 )
-    requires { (cells.at ≡ base.ptr) × (cells.items ≡ []) × (cells.passed + cells.room ≡ len)
-        × (deed.at ≡ base.ptr) × (deed.len ≡ len) × (deed.alloc ≡ alloc.now) }
+    requires at { cells.at ≡ base.ptr }
+    requires items { cells.items ≡ [] }
+    requires room { cells.passed + cells.room ≡ len }
+    requires deed_at { deed.at ≡ base.ptr }
+    requires deed_len { deed.len ≡ len }
+    requires deed_alloc { deed.alloc ≡ alloc.now }
 {
     let Cells { mark: _ } = cells;
     let Deed { mark: _ } = deed;
@@ -151,20 +160,27 @@ impl<T> Cells<T> {
     // Writes `item` into the first slot of the room, which is at `index`.
     #[inline]
     pub(crate) fn put(&mut self, base: Base<T>, index: usize, item: T)
-        requires { (base.ptr ≡ self.old.at) × (index ≡ self.old.passed + length self.old.items)
-            × (self.old.room ≢ 0) }
-        ensures { (self.new.at ≡ self.old.at) × (self.new.passed ≡ self.old.passed)
-            × (self.new.items ≡ self.old.items ++ item ∷ []) × (self.new.room ≡ self.old.room - 1) }
+        requires at { base.ptr ≡ self.old.at }
+        requires index { index ≡ self.old.passed + length self.old.items }
+        requires some { self.old.room ≢ 0 }
+        ensures at { self.new.at ≡ self.old.at }
+        ensures passed { self.new.passed ≡ self.old.passed }
+        ensures items { self.new.items ≡ self.old.items ++ item ∷ [] }
+        ensures room { self.new.room ≡ self.old.room - 1 }
     {
         unsafe { base.ptr.add(index).write(item) }
     }
 
     // Writes the items of a native array into room for as many, where nothing was put before.
     pub(crate) fn put_array<const U: usize>(&mut self, base: Base<T>, items: [T; U])
-        requires { (base.ptr ≡ self.old.at) × (self.old.passed ≡ 0) × (self.old.items ≡ [])
-            × (self.old.room ≡ U) }
-        ensures { (self.new.at ≡ self.old.at) × (self.new.passed ≡ 0) × (self.new.items ≡ items)
-            × (self.new.room ≡ 0) }
+        requires at { base.ptr ≡ self.old.at }
+        requires passed { self.old.passed ≡ 0 }
+        requires items { self.old.items ≡ [] }
+        requires room { self.old.room ≡ U }
+        ensures at { self.new.at ≡ self.old.at }
+        ensures passed { self.new.passed ≡ 0 }
+        ensures items { self.new.items ≡ items }
+        ensures room { self.new.room ≡ 0 }
     {
         unsafe { base.ptr.cast::<[T; U]>().write(items) }
     }
@@ -172,9 +188,13 @@ impl<T> Cells<T> {
     // Reads the first item, which is at `index`, out of its slot.
     #[inline]
     pub(crate) fn take_first(&mut self, base: Base<T>, index: usize) -> T
-        requires { (base.ptr ≡ self.old.at) × (index ≡ self.old.passed) × (self.old.items ≢ []) }
-        ensures { (self.new.at ≡ self.old.at) × (self.new.passed ≡ self.old.passed + 1)
-            × (self.old.items ≡ result ∷ self.new.items) × (self.new.room ≡ self.old.room) }
+        requires at { base.ptr ≡ self.old.at }
+        requires index { index ≡ self.old.passed }
+        requires some { self.old.items ≢ [] }
+        ensures at { self.new.at ≡ self.old.at }
+        ensures passed { self.new.passed ≡ self.old.passed + 1 }
+        ensures items { self.old.items ≡ result ∷ self.new.items }
+        ensures room { self.new.room ≡ self.old.room }
     {
         unsafe { base.ptr.add(index).read() }
     }
@@ -182,10 +202,13 @@ impl<T> Cells<T> {
     // Reads the last item, which is at `index`, out of its slot.
     #[inline]
     pub(crate) fn take_last(&mut self, base: Base<T>, index: usize) -> T
-        requires { (base.ptr ≡ self.old.at) × (index + 1 ≡ self.old.passed + length self.old.items)
-            × (self.old.items ≢ []) }
-        ensures { (self.new.at ≡ self.old.at) × (self.new.passed ≡ self.old.passed)
-            × (self.old.items ≡ self.new.items ++ result ∷ []) × (self.new.room ≡ self.old.room + 1) }
+        requires at { base.ptr ≡ self.old.at }
+        requires index { index + 1 ≡ self.old.passed + length self.old.items }
+        requires some { self.old.items ≢ [] }
+        ensures at { self.new.at ≡ self.old.at }
+        ensures passed { self.new.passed ≡ self.old.passed }
+        ensures items { self.old.items ≡ self.new.items ++ result ∷ [] }
+        ensures room { self.new.room ≡ self.old.room + 1 }
     {
         unsafe { base.ptr.add(index).read() }
     }
@@ -193,7 +216,9 @@ impl<T> Cells<T> {
     // The items, of which there are `len`, from the slot `index` on.
     #[inline]
     pub(crate) fn slice(&self, base: Base<T>, index: usize, len: usize) -> &[T]
-        requires { (base.ptr ≡ self.now.at) × (index ≡ self.now.passed) × (len ≡ length self.now.items) }
+        requires at { base.ptr ≡ self.now.at }
+        requires index { index ≡ self.now.passed }
+        requires len { len ≡ length self.now.items }
         ensures { result.now ≡ self.now.items }
     {
         unsafe { slice::from_raw_parts(base.ptr.add(index), len) }
@@ -202,7 +227,9 @@ impl<T> Cells<T> {
     // The items for writing, of which there are `len`, from the slot `index` on.
     #[inline]
     pub(crate) fn slice_mut(&mut self, base: Base<T>, index: usize, len: usize) -> &mut [T]
-        requires { (base.ptr ≡ self.old.at) × (index ≡ self.old.passed) × (len ≡ length self.old.items) }
+        requires at { base.ptr ≡ self.old.at }
+        requires index { index ≡ self.old.passed }
+        requires len { len ≡ length self.old.items }
         ensures* writes_back { sem 𝓛 (lends_items T.row self.entry result) }
         ensures value { result.now ≡ self.old.items }
     {

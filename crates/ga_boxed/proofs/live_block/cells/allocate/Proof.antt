@@ -3,7 +3,7 @@ use mathlib.Core.Path.{◌≡◌, refl, sym, ap}
 use mathlib.Core.Bool.{Bool, true, false}
 use Prim.Native.Nat.{ℕ, ◌*◌, ◌<◌, ◌^◌}
 use native.Mathlib.Omega.{arith}
-use mathlib.Core.List.{[], ◌∷◌}
+use mathlib.Core.List.{List, [], ◌∷◌}
 use lib.Dec.{eqb→eq, lit<}
 use seplogic.Ra.Ura.{Ura}
 use mir.Syntax.{Fn, Body, named, w64}
@@ -51,7 +51,6 @@ use Rattle.std.specs.Vec.Ownership.{has_block, owns_if}
 use Rattle.std.specs.contracts.result.Result as RS
 use Rattle.std.specs.contracts.alloc.AllocError as AE
 use Rattle.std.proofs.alloc.Calls.{Al, second, token, Answer-typed, takes_key, Takes, at_takes, Answered, Takes-goes, Takes-gives, answers}
-use Rattle.std.proofs.mem.Facts.{says_two}
 use Rattle.std.proofs.mem.Param.{El, R, elτ}
 use Rattle.ga_boxed.proofs.WalkParts.{block_ty, block_size, block_align, args, P}
 use Rattle.ga_core.proofs.ItemLoan.{uncapped, uncapped_fits}
@@ -62,6 +61,7 @@ use Rattle.std.proofs.VecSteps.Shapes.{after, arm_body, head}
 use Rattle.ga_boxed.specs.CellsOwn.{cells_own}
 use Rattle.ga_boxed.specs.contracts.live_block.cells.allocate as F
 use Rattle.ga_boxed.specs.contracts.live_block.cells.allocate.Key.{name as #self}
+use Rattle.ga_boxed.proofs.ClauseFacts.{Every, says_every}
 use Rattle.ga_boxed.proofs.BlockRoom.{all_empty, none_empty}
 use Rattle.ga_boxed.proofs.WalkParts.{Bs, Cr, Dd, Mark, others, mark, mark_made, sz, three_of, three_val, word_made}
 use Rattle.ga_boxed.proofs.live_block.cells.allocate.Statement as stated
@@ -86,6 +86,11 @@ module _ (E : El) (Z : Al) where
   abbrev Out : RattleType
   Out = RS.the_row Three AE.the_row
 
+  abbrev Gives : Z.row.Denot → ℕ → Out.Denot → List (Type 0)
+  Gives a len r =
+      IfOk r (λ t. t.1.at ≡ t.0.ptr) ∷ IfOk r (λ t. t.1.passed ≡ 0) ∷ IfOk r (λ t. t.1.items ≡ []) ∷ IfOk r (λ t. t.1.room ≡ len)
+      ∷ IfOk r (λ t. t.2.at ≡ t.0.ptr) ∷ IfOk r (λ t. t.2.len ≡ len) ∷ IfOk r (λ t. t.2.alloc ≡ a) ∷ (len ≡ 0 → IsOk r) ∷ []
+
 module _ (E : El) (Z : Al) {M : Type 1} {𝓤 : Ura M} (𝓛 : Logic 𝓤) (at_mem : Memory → SProp 𝓤) (run : Routine → Fun 𝓤) (C : Calls 𝓤 𝓛.H) (Λ : Loops 𝓤 𝓛.H) (fm : FmC 𝓤 𝓛.H 𝓛.laws C)
     (callee : Triple 𝓤 (C (takes_key Z)) (Takes Z 𝓛 at_mem run)) (κs : Lfts 3) (qs : Shares 3) (short : κs.0 ⊑ κs.1.1.0) (within : κs.1.1.0 ⊑ Z.row.lives) (rb ro : ℕ) (a : Z.row.Denot) (len : ℕ) where
   open 𝓛 use {H, A}
@@ -96,12 +101,11 @@ module _ (E : El) (Z : Al) {M : Type 1} {𝓤 : Ura M} (𝓛 : Logic 𝓤) (at_m
   abbrev Post : Val → SProp 𝓤
   Post = (walk_of 𝓛 (ended E Z) (stayed E Z) (clauses E Z 𝓛 at_mem run)).post bound
 
-  exits : (r : (Out E Z).Denot) (v : Val)
-      → IfOk r (λ t. (t.1.at ≡ t.0.ptr) × (t.1.passed ≡ 0) × (t.1.items ≡ []) × (t.1.room ≡ len) × (t.2.at ≡ t.0.ptr) × (t.2.len ≡ len) × (t.2.alloc ≡ a)) × (len ≡ 0 → IsOk r)
+  exits : (r : (Out E Z).Denot) (v : Val) → Every (Gives E Z a len r)
       → ent 𝓤 (⋆ 𝓛 (‵ ((Out E Z).own_val r (v ∷ [])) ∷ ‵ (flft κs.0 qs.0) ∷ others κs qs ∷ [])) (Post v)
   exits r v g =
       qed 𝓛 (‵ ((Out E Z).own_val r (v ∷ [])) ∷ ‵ (flft κs.0 qs.0) ∷ others κs qs ∷ []) ∵
-      suffices ! _ (ends_at 𝓛 (ended E Z) (stayed E Z) (clauses E Z 𝓛 at_mem run) bound v r (tt, (tt, tt)) (tt, (tt, tt))) $ says_two ! g $
+      suffices ! _ (ends_at 𝓛 (ended E Z) (stayed E Z) (clauses E Z 𝓛 at_mem run) bound v r (tt, (tt, tt)) (tt, (tt, tt))) $ says_every ! (Gives E Z a len r) g $
       move ! (1 ∷ 2 ∷ []) $ join ! $ frame ! $ nothing ! $ nothing ! $ fjoin ! $ nothing ! $ fjoin ! $ done !
 
   walk : len * sz E < 2 ^ 63 → len < 2 ^ 64 → ent 𝓤 (on_entry 𝓛 (ended E Z).signature κs qs bound.0.3 bound.0.4) (WpFn 𝓤 H C Λ (function E Z) (vptr rb ro ∷ vint w64 len ∷ []) Post)
@@ -131,7 +135,7 @@ module _ (E : El) (Z : Al) {M : Type 1} {𝓤 : Ura M} (𝓛 : Logic 𝓤) (at_m
       use3 𝓛 (‵ ((Three E Z).own_val (base, cells, deed) (made ∷ []))) (three_of 𝓛 (Bs E) (Cr E) (Dd E Z) base cells deed (word p) mark mark) $
       use1 𝓛 (‵ ((Out E Z).own_val (Ok (base, cells, deed)) (live 0 (vcons made vnil) ∷ []))) (ok_of 𝓛 (Three E Z) AE.the_row (base, cells, deed) made) $
       returns_within ! Post refl (look_at ! 0 refl) $ free_all ! refl $ keep ! (0 ∷ 2 ∷ 3 ∷ []) $
-      by ! (exits (Ok (base, cells, deed)) (live 0 (vcons made vnil)) ((refl, refl, refl, sym zero, refl, sym zero, refl), λ _. refl)))
+      by ! (exits (Ok (base, cells, deed)) (live 0 (vcons made vnil)) (refl, (refl, (refl, (sym zero, (refl, (sym zero, (refl, λ _. refl)))))))))
       (λ t. skips ! $ exec ! C Λ En (after 2 (function E Z).body) (at_ret En Post) $
       let both : Body = head (after 4 (function E Z).body) in
       let Then : After 𝓤 H = any_q (after_seq 𝓤 H (Wp 𝓤 H C Λ En (after 5 (function E Z).body) (at_return 𝓤 H En Post)) (at_return 𝓤 H En Post)) in
@@ -164,7 +168,7 @@ module _ (E : El) (Z : Al) {M : Type 1} {𝓤 : Ura M} (𝓛 : Logic 𝓤) (at_m
       use0 𝓛 (‵ ((Mark E).own_val (tt, tt) (mark ∷ []))) (mark_made E 𝓛) $ fjoin ! $ word_made ! p $
       use3 𝓛 (‵ ((Three E Z).own_val (base, cells, deed) (made ∷ []))) (three_of 𝓛 (Bs E) (Cr E) (Dd E Z) base cells deed (word p) mark mark) $
       use1 𝓛 (‵ ((Out E Z).own_val (Ok (base, cells, deed)) (live 0 (vcons made vnil) ∷ []))) (ok_of 𝓛 (Three E Z) AE.the_row (base, cells, deed) made) $
-      returns ! (look_at ! 0 refl) $ free_all ! refl $ keep ! (0 ∷ 1 ∷ 2 ∷ []) $ by ! (exits (Ok (base, cells, deed)) (live 0 (vcons made vnil)) ((refl, refl, refl, refl, refl, refl, refl), λ _. refl)))
+      returns ! (look_at ! 0 refl) $ free_all ! refl $ keep ! (0 ∷ 1 ∷ 2 ∷ []) $ by ! (exits (Ok (base, cells, deed)) (live 0 (vcons made vnil)) (refl, (refl, (refl, (refl, (refl, (refl, (refl, λ _. refl)))))))))
       (λ e.
       let Refusal : RattleType = Struct (Declared.shape AE.the_type) in
       let none : Val = live 1 (vcons (vstruct vnil) vnil) in
@@ -174,7 +178,7 @@ module _ (E : El) (Z : Al) {M : Type 1} {𝓤 : Ura M} (𝓛 : Logic 𝓤) (at_m
       exec ! C Λ En (after 5 (function E Z).body) (at_ret En Post) $ sets ! (of_opd ! (get ! refl)) refl (tt, (record { fits = lit< tt }, (tt, tt))) $
       owned ! Refusal (Is Refusal) (Struct-Makes 𝓛 (Declared.shape AE.the_type) tt) tt (vstruct vnil ∷ []) (tt, (refl, tt)) $
       use1 𝓛 (‵ ((Out E Z).own_val (Err (record {})) (none ∷ []))) (err_of 𝓛 (Three E Z) AE.the_row (record {}) (vstruct vnil)) $
-      returns ! (look_at ! 0 refl) $ free_all ! refl $ keep ! (0 ∷ 1 ∷ 2 ∷ []) $ by ! (exits (Err (record {})) none (tt, λ z. absurd (is_not len 0 t z)))))))
+      returns ! (look_at ! 0 refl) $ free_all ! refl $ keep ! (0 ∷ 1 ∷ 2 ∷ []) $ by ! (exits (Err (record {})) none (tt, (tt, (tt, (tt, (tt, (tt, (tt, λ z. absurd (is_not len 0 t z)))))))))))))
 
 pub allocate_spec : {M : Type 1} → stated.statement M
 allocate_spec 𝓤 𝓛 𝓜 𝓡 wired X W LX LW g d dd met md =

@@ -36,7 +36,7 @@ use denote.Signature.{plain, mut_ref_to}
 use denote.Steps.{nothing, opens}
 use denote.Triple.Clauses.{Clauses, Ended}
 use denote.Triple.Entry.{on_entry}
-use denote.Triple.Walked.{says, needs, Stays, stay_dropped, walk_of, ends_at, Goes-dropped, Goes-spent_ref}
+use denote.Triple.Walked.{says, Stays, stay_dropped, walk_of, ends_at, Goes-dropped, Goes-spent_ref}
 use lib.ListN.{length, drop as drop_l}
 use lib.Seq.{take_at as take_front}
 use Rattle.std.specs.List.{refill}
@@ -48,6 +48,7 @@ use Rattle.ga_core.proofs.ItemLoan.{uncapped_fits, uncapped}
 use Rattle.ga_boxed.specs.CellsLend.{with_items}
 use Rattle.ga_boxed.specs.CellsOwn.{cells_own, empty}
 use Rattle.ga_boxed.specs.contracts.live_block.cells.Cells.slice_mut.Key.{name as #self}
+use Rattle.ga_boxed.proofs.ClauseFacts.{Every, facts, learns}
 use Rattle.ga_boxed.proofs.WalkParts.{Cr, Bs, Mark, sz, base_vals, base_Tells, grows}
 use Rattle.ga_boxed.proofs.live_block.cells.Cells.slice_mut.Statement as stated
 use Rattle.ga_boxed.proofs.live_block.cells.Cells.slice_mut.Code as code
@@ -62,8 +63,8 @@ module _ (E : El) where
   abbrev stayed : Stays ended.signature.params ended.kept
   stayed = (stay_dropped (mut_ref_to (0 ∷ []) tt (plain (λ _. Cr E))) no, (stay_dropped (plain (λ _. Bs E)) no, (stay_dropped (plain (λ _. usize)) no, (stay_dropped (plain (λ _. usize)) no, tt))))
 
-  abbrev Asks : (Cr E).Denot → (Bs E).Denot → (usize).Denot → (usize).Denot → Type 0
-  Asks d base index len = (base.ptr ≡ d.at) × (index ≡ d.passed) × (len ≡ length d.items)
+  abbrev Asks : (Cr E).Denot → (Bs E).Denot → (usize).Denot → (usize).Denot → List (Type 0)
+  Asks d base index len = (base.ptr ≡ d.at) ∷ (index ≡ d.passed) ∷ (len ≡ length d.items) ∷ []
 
   abbrev Gives : (Cr E).Denot → MutBor (List (el_x E)) → Type 0
   Gives d r = r.now ≡ d.items
@@ -72,7 +73,7 @@ module _ (E : El) where
   Written d ws = with_items d (refill (length d.items) d.items ws)
 
   abbrev spec : {M : Type 1} {𝓤 : Ura M} (𝓛 : Logic 𝓤) → Clauses 𝓤 ended
-  spec {𝓤 = 𝓤} 𝓛 κs a = record { ghost = Unit {0}; requires = λ _. fact 𝓤 (Asks a.0.now a.1.0 a.1.1.0 a.1.1.1.0); ensures = λ _ r w. sep 𝓤 (sem 𝓛 (follows (Cr E) (Array (R E) 0) a.0.ghost_name r.ghost_name (Written a.0.now))) (fact 𝓤 (Gives a.0.now r)) }
+  spec {𝓤 = 𝓤} 𝓛 κs a = record { ghost = Unit {0}; requires = λ _. facts 𝓤 (Asks a.0.now a.1.0 a.1.1.0 a.1.1.1.0); ensures = λ _ r w. sep 𝓤 (sem 𝓛 (follows (Cr E) (Array (R E) 0) a.0.ghost_name r.ghost_name (Written a.0.now))) (fact 𝓤 (Gives a.0.now r)) }
 
 module _ (E : El) {M : Type 1} {𝓤 : Ura M} (𝓛 : Logic 𝓤) (C : Calls 𝓤 𝓛.H) (Λ : Loops 𝓤 𝓛.H) (κ : Lft) (q : Share) (rb ro : ℕ) (γ : GName) (d : (Cr E).Denot) (base : (Bs E).Denot) (index : (usize).Denot) (len : (usize).Denot) where
   open 𝓛 use {H, A}
@@ -121,16 +122,17 @@ module _ (E : El) {M : Type 1} {𝓤 : Ura M} (𝓛 : Logic 𝓤) (C : Calls �
       suffices ! _ (ends_at 𝓛 (ended E) (stayed E) (spec E 𝓛) bound v r (tt, (tt, (tt, (tt, tt)))) (tt, (tt, (tt, (tt, tt))))) $
       nothing ! $ nothing ! $ fjoin ! $ nothing ! $ fjoin ! $ nothing ! $ fjoin ! $ nothing ! $ fjoin ! $ join ! $ nothing ! $ move ! (2 ∷ 0 ∷ []) $ join ! $ join ! $ frame ! $ says ! e $ done !
 
-  walk : Asks E d base index len → index < 2 ^ 64 → len < 2 ^ 64 → ent 𝓤 (on_entry 𝓛 (ended E).signature (κ, tt) (q, tt) bound.0.3 bound.0.4) (WpFn 𝓤 H C Λ (function E) (vptr rb ro ∷ word base.ptr ∷ vint w64 index ∷ vint w64 len ∷ []) Post)
+  walk : Every (Asks E d base index len) → index < 2 ^ 64 → len < 2 ^ 64 → ent 𝓤 (on_entry 𝓛 (ended E).signature (κ, tt) (q, tt) bound.0.3 bound.0.4) (WpFn 𝓤 H C Λ (function E) (vptr rb ro ∷ word base.ptr ∷ vint w64 index ∷ vint w64 len ∷ []) Post)
   walk asked fits_index fits_len =
-      let xs = d.items in let s = sz E in let all = d.passed + length xs + d.room in let first_place : index ≡ d.passed = asked.1 in let long : length xs ≡ len = sym asked.2 in let code = (Cr E).coded.code d in
+      let base_is = asked.0 in let index_is = asked.1.0 in let len_is = asked.1.1 in
+      let xs = d.items in let s = sz E in let all = d.passed + length xs + d.room in let first_place : index ≡ d.passed = index_is in let long : length xs ≡ len = sym len_is in let code = (Cr E).coded.code d in
       qed 𝓛 ((‵ (flft κ q) ⊛ ‵ ftrue) ∷ ‵ (owns (MutRef (named 0) κ (Cr E) ∷ Bs E ∷ usize ∷ usize ∷ []) bound.0.3 bound.0.4) ∷ []) ∵ split ! $ move ! (2 ∷ []) $ fsplit ! $ fsplit3 ! $ keep ! (1 ∷ 2 ∷ 4 ∷ []) $
       enter ! C Λ (function E) (vptr rb ro ∷ word base.ptr ∷ vint w64 index ∷ vint w64 len ∷ []) _ $ alloc_all ! (λ l. pass_all ! refl ((tt, tt), (word-Good [] base.ptr, ((tt, record { fits = fits_index }), ((tt, record { fits = fits_len }), tt)))) $
       let En : Env 𝓤 H = env (function E).locals l in
       opens ! tt (Cr E) {h = d} rb ro (λ vs. move ! (1 ∷ []) $ fsplit ! $ move ! (1 ∷ []) $
       in_a_block ! d.at (λ p. cells_own (R E) p d.passed xs d.room) (id⊢ 𝓤 (never 𝓤)) (λ b o e. fsplit ! $ flt_l ! (λ small.
       let far : index * s < 2 ^ 64 = omega (arith, times_below index all s (2 ^ 63) (omega arith) small) in
-      take_at ! 2 $ rewrite ! 0 (λ (p : Ptr). ‵ (fat full_share (layout (Bs E)) (l 2) 0 (word p))) (asked.0 ∙ e) refl $ give_at ! 2 $ first ! $ blocks ! $
+      take_at ! 2 $ rewrite ! 0 (λ (p : Ptr). ‵ (fat full_share (layout (Bs E)) (l 2) 0 (word p))) (base_is ∙ e) refl $ give_at ! 2 $ first ! $ blocks ! $
       sets ! (is ! (bin ! (get ! refl) (size_word !) (record { fits = uncapped_fits index s far })) (ap (vint w64) (uncapped index s far))) refl (tt, record { fits = far }) $
       sets ! (bin ! (get_in ! (fld ! refl (stop !)) (sub ! 0 refl (whole !))) (get ! refl) tt) refl (tt, tt) $
       let at = index * s + o in let way = back vs b o e small first_place in
@@ -152,5 +154,5 @@ slice_mut_spec 𝓤 𝓛 𝓜 𝓡 wired X LX y =
     grows 𝓛 𝓜 𝓡 (ended E) (spec E 𝓛) 1 (X.lives, tt) (#self (args E))
     (proved 𝓛 (ended E) (stayed E) (spec E 𝓛) 𝓜 𝓡 (Goes-spent_ref 𝓛 1 (0 ∷ []) tt (plain (λ _. Cr E)), (Goes-dropped 𝓛 1 (plain (λ _. Bs E)) no (λ κs x f. refl), (Goes-dropped 𝓛 1 (plain (λ _. usize)) no (λ κs x f. refl), (Goes-dropped 𝓛 1 (plain (λ _. usize)) no (λ κs x f. refl), tt))))
     (#self (args E)) (function E) (code.unfolded 𝓤 𝓛.H 𝓜 𝓡 wired (X, tt)) (λ κs. (mut_vals, (base_vals E, (uint_vals w64, (uint_vals w64, tt))))) (λ κs. (mut_Tells (named 0) κs.0 (Cr E), (base_Tells E, (uint_Tells w64, (uint_Tells w64, tt)))))
-    (λ κs qs bounds a g are. needs 𝓤 (Asks E a.0.now a.1.0 a.1.1.0 a.1.1.1.0) _ (λ asked. walk E 𝓛 𝓣.C 𝓣.Λ κs.0 qs.0 a.0.ref_ptr.0 a.0.ref_ptr.1 a.0.ghost_name a.0.now a.1.0 a.1.1.0 a.1.1.1.0 asked are.1.1.0.1 are.1.1.1.0.1)))
+    (λ κs qs bounds a g are. learns 𝓤 (Asks E a.0.now a.1.0 a.1.1.0 a.1.1.1.0) _ (λ asked. walk E 𝓛 𝓣.C 𝓣.Λ κs.0 qs.0 a.0.ref_ptr.0 a.0.ref_ptr.1 a.0.ghost_name a.0.now a.1.0 a.1.1.0 a.1.1.1.0 asked are.1.1.0.1 are.1.1.1.0.1)))
     ((y.0.0, y.0.1, tt, y.0.3, y.0.4), y.1)

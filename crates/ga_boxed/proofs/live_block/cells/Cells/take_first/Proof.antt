@@ -41,28 +41,29 @@ module _ (E : El) where
   function = inst_fn (args E) code.function
 
   abbrev Asks : Asking E
-  Asks d base index = (base.ptr ≡ d.at) × (index ≡ d.passed) × (d.items ≢ [])
+  Asks d base index = (base.ptr ≡ d.at) ∷ (index ≡ d.passed) ∷ (d.items ≢ []) ∷ []
 
   abbrev Gives : Giving E
-  Gives d r new = (new.at ≡ d.at) × (new.passed ≡ d.passed + 1) × (d.items ≡ r ∷ new.items) × (new.room ≡ d.room)
+  Gives d r new = (new.at ≡ d.at) ∷ (new.passed ≡ d.passed + 1) ∷ (d.items ≡ r ∷ new.items) ∷ (new.room ≡ d.room) ∷ []
 
 module _ (E : El) {M : Type 1} {𝓤 : Ura M} (𝓛 : Logic 𝓤) (C : Calls 𝓤 𝓛.H) (Λ : Loops 𝓤 𝓛.H) where
   open 𝓛 use {H}
 
   walk : Walk E (Asks E) (Gives E) 𝓛 C Λ (function E)
   walk κ q rb ro γ d base index Post asked fits_index exits =
+      let base_is = asked.0 in let index_is = asked.1.0 in let not_none = asked.1.1 in
       let s = sz E in let n = d.room in
-      let cut = uncons d.items asked.2 in let x = cut.0 in let xs = cut.1.0 in
+      let cut = uncons d.items not_none in let x = cut.0 in let xs = cut.1.0 in
       let new : (Cr E).Denot = record { mark = d.mark; at = d.at; passed = index + 1; items = xs; room = n } in
       qed 𝓛 (Had E κ q rb ro γ d) ∵ enter ! C Λ (function E) (vptr rb ro ∷ word base.ptr ∷ vint w64 index ∷ []) _ $ alloc_all ! (λ l. pass_all ! refl ((tt, tt), (word-Good [] base.ptr, ((tt, record { fits = fits_index }), tt))) $
       let En : Env 𝓤 H = env (function E).locals l in
       opens ! tt (Cr E) {h = d} rb ro (λ vs. move ! (1 ∷ []) $ fsplit ! $ move ! (1 ∷ []) $
-      rewrite ! 0 (λ (k : ℕ). ‵ (cells_own (R E) d.at k d.items n)) (sym asked.1) refl $ rewrite ! 0 (λ (l : List (el_x E)). ‵ (cells_own (R E) d.at index l n)) cut.1.1 refl $
+      rewrite ! 0 (λ (k : ℕ). ‵ (cells_own (R E) d.at k d.items n)) (sym index_is) refl $ rewrite ! 0 (λ (l : List (el_x E)). ‵ (cells_own (R E) d.at index l n)) cut.1.1 refl $
       in_a_block ! d.at (λ p. cells_own (R E) p index (x ∷ xs) n) (id⊢ 𝓤 (never 𝓤)) (λ b o e. fsplit ! $ flt_l ! (λ small.
       let all : ℕ = index + suc (length xs) + n in
       let tiny : s < 2 ^ 64 = omega (arith, one_below all s (2 ^ 63) (omega arith) small) in
       let far : index * s < 2 ^ 64 = omega (arith, times_below index all s (2 ^ 63) (omega arith) small) in
-      take_at ! 2 $ rewrite ! 0 (λ (p : Ptr). ‵ (fat full_share (layout (Bs E)) (l 2) 0 (word p))) (asked.0 ∙ e) refl $ give_at ! 2 $ first ! $ blocks ! $
+      take_at ! 2 $ rewrite ! 0 (λ (p : Ptr). ‵ (fat full_share (layout (Bs E)) (l 2) 0 (word p))) (base_is ∙ e) refl $ give_at ! 2 $ first ! $ blocks ! $
       sets ! (bin ! (get ! refl) (size_lit ! (record { fits = tiny })) (record { fits = far })) refl (tt, record { fits = far }) $
       sets ! (bin ! (get_in ! (fld ! refl (stop !)) (sub ! 0 refl (whole !))) (get ! refl) tt) refl (tt, tt) $
       fsplit3 ! $ fsplit ! $
@@ -76,7 +77,7 @@ module _ (E : El) {M : Type 1} {𝓤 : Ura M} (𝓛 : Logic 𝓤) (C : Calls �
       rewrite ! 0 (λ (k : ℕ). ‵ (cells (mem (R E)) xs b k)) (place_after E index o) refl $ fjoin ! $
       flt_i ! ((index + 1 + length xs + n) * s) (2 ^ 63) (subst (λ k. k * s < 2 ^ 63) (passed_one E index (length xs) n) small) $ fjoin ! $
       rewrite ! 0 (λ (p : Ptr). ‵ (cells_own (R E) p (index + 1) xs n)) (sym e) refl $ move ! (1 ∷ 0 ∷ []) $ fjoin ! $ move ! (1 ∷ 0 ∷ []) $ closes ! tt (Cr E) new vs rb ro $
-      returns ! (look_at ! 0 refl) $ free_all ! refl $ keep ! (0 ∷ 1 ∷ 2 ∷ 3 ∷ []) $ by ! (exits x v new (refl, ap (λ k. k + 1) asked.1, cut.1.1, refl))))))))
+      returns ! (look_at ! 0 refl) $ free_all ! refl $ keep ! (0 ∷ 1 ∷ 2 ∷ 3 ∷ []) $ by ! (exits x v new (refl, (ap (λ k. k + 1) index_is, (cut.1.1, refl))))))))))
 
 pub take_first_spec : {M : Type 1} → stated.statement M
 take_first_spec 𝓤 𝓛 𝓜 𝓡 wired X LX y =

@@ -43,18 +43,19 @@ module _ (E : El) where
   function = inst_fn (args E) code.function
 
   abbrev Asks : Asking E
-  Asks d base index = (base.ptr ≡ d.at) × (index + 1 ≡ d.passed + length d.items) × (d.items ≢ [])
+  Asks d base index = (base.ptr ≡ d.at) ∷ (index + 1 ≡ d.passed + length d.items) ∷ (d.items ≢ []) ∷ []
 
   abbrev Gives : Giving E
-  Gives d r new = (new.at ≡ d.at) × (new.passed ≡ d.passed) × (d.items ≡ new.items ++ r ∷ []) × (new.room ≡ d.room + 1)
+  Gives d r new = (new.at ≡ d.at) ∷ (new.passed ≡ d.passed) ∷ (d.items ≡ new.items ++ r ∷ []) ∷ (new.room ≡ d.room + 1) ∷ []
 
 module _ (E : El) {M : Type 1} {𝓤 : Ura M} (𝓛 : Logic 𝓤) (C : Calls 𝓤 𝓛.H) (Λ : Loops 𝓤 𝓛.H) where
   open 𝓛 use {H}
 
   walk : Walk E (Asks E) (Gives E) 𝓛 C Λ (function E)
   walk κ q rb ro γ d base index Post asked fits_index exits =
-      let xs = d.items in let all = d.passed + length xs + d.room in let long : index + 1 ≡ d.passed + length xs = asked.1 in
-      let last = split_last xs asked.2 in let x = last.0 in let ys = take (length xs - 1) xs in
+      let base_is = asked.0 in let index_is = asked.1.0 in let not_none = asked.1.1 in
+      let xs = d.items in let all = d.passed + length xs + d.room in let long : index + 1 ≡ d.passed + length xs = index_is in
+      let last = split_last xs not_none in let x = last.0 in let ys = take (length xs - 1) xs in
       let new : (Cr E).Denot = record { mark = d.mark; at = d.at; passed = d.passed; items = ys; room = d.room + 1 } in
       let less : length ys + 1 ≡ length xs = last.2 in let behind : index ≡ d.passed + length ys = omega arith in
       let same : all ≡ d.passed + length ys + new.room = omega arith in
@@ -65,7 +66,7 @@ module _ (E : El) {M : Type 1} {𝓤 : Ura M} (𝓛 : Logic 𝓤) (C : Calls �
       let s = sz E in let tiny : s < 2 ^ 64 = omega (arith, one_below all s (2 ^ 63) (omega arith) small) in
       let far : index * s < 2 ^ 64 = omega (arith, times_below index all s (2 ^ 63) (omega arith) small) in
       let here : (d.passed + length ys) * s + o ≡ index * s + o = ap (λ k. k * s + o) (sym behind) in
-      take_at ! 2 $ rewrite ! 0 (λ (p : Ptr). ‵ (fat full_share (layout (Bs E)) (l 2) 0 (word p))) (asked.0 ∙ e) refl $ give_at ! 2 $ first ! $ blocks ! $
+      take_at ! 2 $ rewrite ! 0 (λ (p : Ptr). ‵ (fat full_share (layout (Bs E)) (l 2) 0 (word p))) (base_is ∙ e) refl $ give_at ! 2 $ first ! $ blocks ! $
       sets ! (bin ! (get ! refl) (size_lit ! (record { fits = tiny })) (record { fits = far })) refl (tt, record { fits = far }) $
       sets ! (bin ! (get_in ! (fld ! refl (stop !)) (sub ! 0 refl (whole !))) (get ! refl) tt) refl (tt, tt) $
       rewrite ! 0 (λ (l : List (R E).Denot). ‵ (Held E 𝓛 b o d.passed l d.room)) last.1 refl $
@@ -77,7 +78,7 @@ module _ (E : El) {M : Type 1} {𝓤 : Ura M} (𝓛 : Logic 𝓤) (C : Calls �
       use2 𝓛 (‵ (Held E 𝓛 b o d.passed ys new.room)) (room_in E 𝓛 b o d.passed ys d.room) $
       flt_i ! ((d.passed + length ys + new.room) * s) (2 ^ 63) (subst (λ k. k * s < 2 ^ 63) same small) $ fjoin ! $
       rewrite ! 0 (λ (p : Ptr). ‵ (cells_own (R E) p d.passed ys new.room)) (sym e) refl $ move ! (1 ∷ 0 ∷ []) $ fjoin ! $ move ! (1 ∷ 0 ∷ []) $ closes ! tt (Cr E) new vs rb ro $
-      returns ! (look_at ! 0 refl) $ free_all ! refl $ keep ! (0 ∷ 1 ∷ 2 ∷ 3 ∷ []) $ by ! (exits x v new (refl, refl, last.1, refl))))))))
+      returns ! (look_at ! 0 refl) $ free_all ! refl $ keep ! (0 ∷ 1 ∷ 2 ∷ 3 ∷ []) $ by ! (exits x v new (refl, (refl, (last.1, refl))))))))))
 
 pub take_last_spec : {M : Type 1} → stated.statement M
 take_last_spec 𝓤 𝓛 𝓜 𝓡 wired X LX y =

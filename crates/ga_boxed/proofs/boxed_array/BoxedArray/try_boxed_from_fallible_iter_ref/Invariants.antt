@@ -1,4 +1,4 @@
-use Rattle.ga_boxed.proofs.boxed_array.BoxedArray.fill_fallibly_from.Given as goal
+use Rattle.ga_boxed.proofs.boxed_array.BoxedArray.try_boxed_from_fallible_iter_ref.Given as goal
 use Rattle.std.proofs.Common.{◌≡◌, ◌+◌, Ok, length, map}
 use Rattle.std.specs.Iterator.{Yields}
 

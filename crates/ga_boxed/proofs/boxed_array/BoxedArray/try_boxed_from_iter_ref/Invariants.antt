@@ -1,4 +1,4 @@
-use Rattle.ga_boxed.proofs.boxed_array.BoxedArray.fill_from.Given as goal
+use Rattle.ga_boxed.proofs.boxed_array.BoxedArray.try_boxed_from_iter_ref.Given as goal
 use Rattle.std.proofs.Common.{◌≡◌, ◌+◌, length}
 use Rattle.std.specs.Iterator.{Yields}
 

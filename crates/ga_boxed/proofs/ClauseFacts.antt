@@ -1,0 +1,46 @@
+-- The facts of a contract that states each in a clause of its own, as one tuple. `says_every` takes `Logic`; the rest assumes nothing.
+--     Every          the tuple of the facts
+--     facts          the facts as a contract has them
+--     learns         P ∗ facts as a hypothesis: they are learned
+--     says_every     a goal P ∗ facts: they are shown, and P is left
+use mathlib.Core.List.{List, [], ◌∷◌}
+use seplogic.Ra.Ura.{Ura}
+use base.Logic.{SProp, ent, sep, emp, id⊢, via, comm∗, mono_l, fst∗, snd∗, emp∗}
+use types.Logic.{Logic}
+use types.Kit.{Item, prop, Step, step}
+use contract.Monad.{fact, fact_i, fact_use}
+
+abbrev pub Every : List (Type 0) → Type 0
+Every [] = Unit {0}
+Every (φ ∷ []) = φ
+Every (φ ∷ ψ ∷ φs) = φ × Every (ψ ∷ φs)
+
+module _ {M : Type 1} (𝓤 : Ura M) where
+  abbrev pub facts : List (Type 0) → SProp 𝓤
+  facts [] = emp 𝓤
+  facts (φ ∷ []) = fact 𝓤 φ
+  facts (φ ∷ ψ ∷ φs) = sep 𝓤 (fact 𝓤 φ) (facts (ψ ∷ φs))
+
+  shown : (φs : List (Type 0)) → Every φs → ent 𝓤 (emp 𝓤) (facts φs)
+  shown [] x = id⊢ 𝓤 (emp 𝓤)
+  shown (φ ∷ []) x = fact_i 𝓤 φ (emp 𝓤) x
+  shown (φ ∷ ψ ∷ φs) x =
+      let F : SProp 𝓤 = fact 𝓤 φ in let G : SProp 𝓤 = facts (ψ ∷ φs) in
+      via 𝓤 G (shown (ψ ∷ φs) x.1) (via 𝓤 (sep 𝓤 (emp 𝓤) G) (emp∗ 𝓤 G) (mono_l 𝓤 G (fact_i 𝓤 φ (emp 𝓤) x.0)))
+
+  learned : (φs : List (Type 0)) {P Q : SProp 𝓤} → ent 𝓤 P (facts φs) → (Every φs → ent 𝓤 P Q) → ent 𝓤 P Q
+  learned [] h k = k tt
+  learned (φ ∷ []) h k = fact_use 𝓤 φ h k
+  learned (φ ∷ ψ ∷ φs) h k =
+      let F : SProp 𝓤 = fact 𝓤 φ in let G : SProp 𝓤 = facts (ψ ∷ φs) in
+      fact_use 𝓤 φ (via 𝓤 (sep 𝓤 F G) h (fst∗ 𝓤 F G)) (λ x. learned (ψ ∷ φs) (via 𝓤 (sep 𝓤 F G) h (snd∗ 𝓤 F G)) (λ xs. k (x, xs)))
+
+  pub learns : (φs : List (Type 0)) (P : SProp 𝓤) {Q : SProp 𝓤} → (Every φs → ent 𝓤 P Q) → ent 𝓤 (sep 𝓤 P (facts φs)) Q
+  learns φs P h =
+      let F : SProp 𝓤 = sep 𝓤 P (facts φs) in learned φs {P = F} (snd∗ 𝓤 P (facts φs)) (λ x. via 𝓤 P (fst∗ 𝓤 P (facts φs)) (h x))
+
+pub says_every : {M : Type 1} {𝓤 : Ura M} {𝓛 : Logic 𝓤} {K : Type 0} {Γ : List (Item 𝓤)} → K → (φs : List (Type 0)) → {P : SProp 𝓤} → Every φs
+    → Step K 𝓛 Γ (prop P) Γ (prop (sep 𝓤 P (facts 𝓤 φs)))
+says_every {𝓤 = 𝓤} t φs {P} x = step (λ s. record {
+  prf = via 𝓤 P s.prf (via 𝓤 (sep 𝓤 (emp 𝓤) P) (emp∗ 𝓤 P) (via 𝓤 (sep 𝓤 (facts 𝓤 φs) P) (mono_l 𝓤 P (shown 𝓤 φs x)) (comm∗ 𝓤 (facts 𝓤 φs) P)));
+})
