@@ -4,7 +4,7 @@ use Rattle.generic_array.specs.Views.{items_of_chunks}
 use Rattle.generic_array.specs.declared.Unsigned as unsigned
 use Rattle.std.specs.Prelude.{ℕ, List}
 
-module _ {N A B : Type 0} {u : unsigned.Ghosts N} where
+module _ {N A : Type 0} {u : unsigned.Ghosts N} where
   -- the bytes of all records
-  abbrev pub bytes_of : RecordBlock N A B u → List ℕ
+  abbrev pub bytes_of : RecordBlock N A u → List ℕ
   bytes_of block = items_of_chunks block.records
