@@ -1,4 +1,3 @@
 pub mod BuildLemmas
 pub mod JobLemmas
-pub mod LawLemmas
 pub mod SumLemmas

@@ -1,4 +1,3 @@
 pub mod AnyLength
 pub mod Jobs
-pub mod Laws
 pub mod Matrix

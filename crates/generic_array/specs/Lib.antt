@@ -3,6 +3,7 @@ pub mod Built
 pub mod EntryLaws
 pub mod EntryRuns
 pub mod GivenEntries
+pub mod Laws
 pub mod Steps
 pub use Rattle.ga_boxed.specs.FillAnswer
 pub use Rattle.ga_boxed.specs.Live

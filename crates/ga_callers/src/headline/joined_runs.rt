@@ -2,7 +2,7 @@
 //! any sequence.
 //!
 //! Each function's contract is a law, which holds of each closure, whatever it returns.
-ghost use Rattle.ga_callers.specs.Laws.{ErrorRunsJoin, FoldsJoin, FoldsToErrorJoin, GoodFoldsJoin, GoodRunsJoin, RunsJoin};
+ghost use Rattle.generic_array.specs.Laws.{ErrorRunsJoin, FoldsJoin, FoldsToErrorJoin, GoodFoldsJoin, GoodRunsJoin, RunsJoin};
 ghost use Rattle.generic_array.specs.Entries.{CallAt, CallAtPair, FoldAt};
 ghost use Rattle.generic_array.specs.Steps.{StepGivesReply};
 

@@ -1,4 +1,4 @@
-use Rattle.ga_callers.proofs.LawLemmas.{FoldRun-joined}
+use Rattle.generic_array.proofs.LawLemmas.{FoldRun-joined}
 use Rattle.ga_callers.proofs.headline.joined_runs.folds_join.Goals as goal
 
 pub returns : goal.returns

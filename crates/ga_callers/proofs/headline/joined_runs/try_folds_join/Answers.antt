@@ -1,4 +1,4 @@
-use Rattle.ga_callers.proofs.LawLemmas.{TryFoldRun-joined, TryFoldRun-joined_error}
+use Rattle.generic_array.proofs.LawLemmas.{TryFoldRun-joined, TryFoldRun-joined_error}
 use Rattle.ga_callers.proofs.headline.joined_runs.try_folds_join.Goals as goal
 use Rattle.generic_array.specs.Entries.{FoldAt}
 

@@ -1,4 +1,4 @@
-use Rattle.ga_callers.proofs.LawLemmas.{FirstErrorRun-joined, FirstErrorRun-joined_error}
+use Rattle.generic_array.proofs.LawLemmas.{FirstErrorRun-joined, FirstErrorRun-joined_error}
 use Rattle.ga_callers.proofs.headline.joined_runs.try_maps_join.Goals as goal
 use Rattle.generic_array.specs.Entries.{CallAt}
 

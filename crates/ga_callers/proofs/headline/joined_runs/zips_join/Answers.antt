@@ -1,4 +1,4 @@
-use Rattle.ga_callers.proofs.LawLemmas.{ClosureRun-joined}
+use Rattle.generic_array.proofs.LawLemmas.{ClosureRun-joined}
 use Rattle.ga_callers.proofs.headline.joined_runs.zips_join.Goals as goal
 
 pub returns : goal.returns

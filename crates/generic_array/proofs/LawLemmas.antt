@@ -1,8 +1,8 @@
 -- Laws of runs over joined lists, proved.
-use Rattle.generic_array.proofs.JoinedRuns.{ClosureRun-join}
+use Rattle.ga_core.proofs.JoinedRuns.{ClosureRun-join}
 use Rattle.generic_array.specs.EntryRuns.{TryFoldRun}
-use Rattle.generic_array.specs.Runs.{ClosureRun, FirstErrorRun}
-use Rattle.ga_callers.specs.Laws.{ErrorRunInParts, ErrorRunsJoin, FoldsJoin, FoldsToErrorJoin, GoodFoldsJoin, GoodRunsJoin, RunInParts, RunsJoin}
+use Rattle.ga_core.specs.Runs.{ClosureRun, FirstErrorRun}
+use Rattle.generic_array.specs.Laws.{ErrorRunInParts, ErrorRunsJoin, FoldsJoin, FoldsToErrorJoin, GoodFoldsJoin, GoodRunsJoin, RunInParts, RunsJoin}
 use Rattle.std.proofs.Common.{◌≡◌, ◌⊎◌, ◌↔◌, List, [], ◌∷◌, ◌++◌, Result, Ok, Err, inl, inr, refl, sym, subst, ap}
 use Rattle.std.specs.List.{FoldsTo}
 
