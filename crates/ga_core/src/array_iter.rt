@@ -193,3 +193,13 @@ fn blank<T: Default + Drop>(items: &mut [T])
         *item = T::default();
     }
 }
+
+// `blank` from the last item to the first.
+#[inline]
+fn blank_back<T: Default + Drop>(items: &mut [T])
+    ensures len { length items.new ≡ length items.old }
+{
+    for item in items.iter_mut().rev() {
+        *item = T::default();
+    }
+}

@@ -2,7 +2,7 @@
 ghost use Rattle.ga_core.specs.Cut.{StepGives, back, front};
 ghost use Rattle.std.specs.Prelude.{◌≡◌, ◌-◌, ◌≤◌, [], drop, length, slice_get, take};
 
-use crate::array_iter::{GenericArrayIter, blank};
+use crate::array_iter::{GenericArrayIter, blank, blank_back};
 use crate::length::ArrayLength;
 use crate::store::Store;
 use ga_views::MAX_INLINE;
@@ -23,8 +23,8 @@ impl<T: Default + Drop, N: ArrayLength<T>> GenericArrayIter<T, N> {
         }
     }
 
-    /// Drops `n` items from the back and returns the one before them. If at most `n` items are
-    /// left, drops them all and returns `None`. O(n).
+    /// Drops `n` items from the back, the last first, and returns the one before them. If at most `n`
+    /// items are left, drops them all and returns `None`. O(n).
     #[inline]
     pub fn nth_back(&mut self, n: usize) -> Option<T>
         ensures step { StepGives (back n) self.old result self.new }
@@ -33,7 +33,8 @@ impl<T: Default + Drop, N: ArrayLength<T>> GenericArrayIter<T, N> {
             self.pass_back(n);
             Some(self.take_last())
         } else {
-            self.drop_left();
+            let left = self.len();
+            self.pass_back(left);
             None
         }
     }
@@ -76,7 +77,7 @@ impl<T: Default + Drop, N: ArrayLength<T>> GenericArrayIter<T, N> {
         }
     }
 
-    // Drops the last `passed` items, in order.
+    // Drops the last `passed` items, the last first.
     #[inline]
     fn pass_back(&mut self, passed: usize)
         requires in_bounds { passed ≤ length self.old }
@@ -84,7 +85,7 @@ impl<T: Default + Drop, N: ArrayLength<T>> GenericArrayIter<T, N> {
     {
         if passed > 0 {
             self.back -= passed;
-            blank(self.store.part_mut(self.back % MAX_INLINE, passed));
+            blank_back(self.store.part_mut(self.back % MAX_INLINE, passed));
         }
     }
 }

@@ -10,7 +10,7 @@ pub returns-then-passed-gt0 : goal.returns-then-passed-gt0
 returns-then-passed-gt0 g c =
     let inv = c.self.invariant in
     let passed = c.args.passed in
-    let blanks = c.blank.new.items in
+    let blanks = c.blank_back.new.items in
     let items = g.N.ArrayType.Store.items c.self.inside.store in
     let front = c.self.inside.front in
     let back = c.self.inside.back in
