@@ -1,33 +1,10 @@
 //! Drops of boxed arrays.
 use crate::noted::{id_of, item_of, noted_box_of, Log, Noted, NotedArray};
+use crate::nth_back::{nth_back, NthBack};
 use crate::random::{mixed, Random};
 use generic_array::functional::FunctionalSequence;
 use generic_array::sequence::FallibleGenericSequence;
 use generic_array::ArrayLength;
-use std::vec;
-
-/// How `nth_back` drops what it passes over.
-#[derive(Clone, Copy)]
-pub enum NthBack {
-    /// In the array's order, as the original does.
-    FromTheFront,
-    /// Item by item, as ours does.
-    FromTheBack,
-}
-
-fn nth_back<'a>(
-    items: &mut vec::IntoIter<Noted<'a>>,
-    count: usize,
-    how: NthBack,
-) -> Option<Noted<'a>> {
-    if let NthBack::FromTheFront = how {
-        return items.nth_back(count);
-    }
-    for _passed in 0..count.min(items.len()) {
-        drop(items.next_back());
-    }
-    items.next_back()
-}
 
 fn walk<N: ArrayLength>(ordered: u64, seed: u64, how: NthBack) -> u64 {
     let log = &Log::default();

@@ -69,7 +69,10 @@ pub const DROPS: &[Case] = &[
         share: 1,
         ours: |n, seed| ours_walk_drops(1, n, seed),
         original: |n, seed| at_length!(n, walk_drops::walk_drops_run, 1, seed),
-        wanted: None,
+        wanted: Some(Wanted {
+            name: "nth_back of an iterator drops from the back",
+            run: |n, seed| at_length!(n, walk_drops::stepwise_run, 1, seed),
+        }),
     },
     Case {
         name: "drops of builds, by order",

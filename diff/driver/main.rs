@@ -15,6 +15,7 @@ mod flat;
 mod hex;
 mod lengths;
 mod noted;
+mod nth_back;
 mod ours;
 mod random;
 mod rows;

@@ -92,6 +92,16 @@ impl<T> LiveBlock<T> {
         self.alloc
     }
 
+    // The same block. The caller says how many items it has, so that the compiler knows it too.
+    #[inline]
+    pub(crate) fn counted(mut self, len: usize) -> Self
+        requires len { len ≡ length self.items }
+        ensures { result ≡ self }
+    {
+        self.end = self.start + len;
+        self
+    }
+
     /// Puts an item behind the others, into room that is there.
     #[inline]
     pub fn put(&mut self, item: T)

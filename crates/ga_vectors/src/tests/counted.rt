@@ -2,10 +2,11 @@
 use std::alloc::AllocError;
 use std::cell::Cell;
 
-/// How many items were dropped, which clones were asked for, and which of these is refused.
+/// Which items were dropped, which clones were asked for, and which of these is refused.
 #[derive(Default, Drop)]
 pub struct Counts {
     drops: Cell<u32>,
+    dropped: Cell<u32>,
     clones: Cell<u32>,
     cloned: Cell<u32>,
     refused_clone: u32,
@@ -21,6 +22,7 @@ impl Counts {
     pub fn refusing_clone(number: u32) -> Self {
         Counts {
             drops: Cell::new(0),
+            dropped: Cell::new(0),
             clones: Cell::new(0),
             cloned: Cell::new(0),
             refused_clone: number,
@@ -30,6 +32,11 @@ impl Counts {
     /// How many items were dropped.
     pub fn drops(&self) -> u32 {
         self.drops.get()
+    }
+
+    /// The numbers of the items that were dropped, as digits, in this order.
+    pub fn dropped(&self) -> u32 {
+        self.dropped.get()
     }
 
     /// How many clones were asked for, the refused one among them.
@@ -50,6 +57,10 @@ impl Counts {
 
 fn count(number: &Cell<u32>) {
     number.set(number.get().wrapping_add(1));
+}
+
+fn add_digit(digits: &Cell<u32>, digit: u32) {
+    digits.set(digits.get().wrapping_mul(10).wrapping_add(digit));
 }
 
 /// Counts its drop, and those of its clones. One made by `default` counts nothing.
@@ -76,9 +87,10 @@ impl<'a> Counted<'a> {
 
 impl Drop for Counted<'_> {
     fn drop(self) {
-        let Counted { counts, place: _ } = self;
+        let Counted { counts, place } = self;
         if let Some(counts) = counts {
             count(&counts.drops);
+            add_digit(&counts.dropped, place);
         }
     }
 }
@@ -87,9 +99,7 @@ impl Clone for Counted<'_> {
     fn clone(&self) -> Result<Self, AllocError> {
         if let Some(counts) = self.counts {
             count(&counts.clones);
-            counts
-                .cloned
-                .set(counts.cloned().wrapping_mul(10).wrapping_add(self.place));
+            add_digit(&counts.cloned, self.place);
             if counts.clones() == counts.refused_clone {
                 return Err(AllocError);
             }

@@ -3,7 +3,7 @@
 use crate::tests::calls::{boxed, inline, views};
 use crate::tests::counted::{Counted, Counts};
 use crate::tests::items::{boxed_counted_from, counted_from, error_of, from_one};
-use generic_array::{AllocError, U4};
+use generic_array::{AllocError, U4, U5};
 use std::alloc::Global;
 use std::cell::Cell;
 use std::test::Fail;
@@ -61,6 +61,32 @@ fn of_a_plain_zip() -> (u32, u32) {
     let returned = counts.drops();
     drop(made);
     (returned, counts.drops())
+}
+
+/// The numbers of five items in the order in which they are dropped: by `nth_back`, by who got the item that
+/// it returned, and by `nth_back` past the end.
+fn by_inline_nth_back() -> u32 {
+    let counts = Counts::new();
+    let mut items = counted_from::<U5>(&counts, 1).into_iter();
+    let _ = items.nth_back(2);
+    let _ = items.nth_back(2);
+    counts.dropped()
+}
+
+/// The same of a boxed array.
+fn by_boxed_nth_back(alloc: Global) -> Result<u32, AllocError> {
+    let counts = Counts::new();
+    let mut items = boxed_counted_from::<U5>(alloc, &counts, 1)?.into_iter();
+    let _ = items.nth_back(2);
+    let _ = items.nth_back(2);
+    Ok(counts.dropped())
+}
+
+#[test]
+fn nth_back_drops_from_the_back(rt: HostRuntime) -> Result<(), Fail> {
+    assert!(rt; by_inline_nth_back() == 54321);
+    assert!(rt; by_boxed_nth_back(rt.alloc())? == 54321);
+    Ok(())
 }
 
 #[test]
