@@ -10,7 +10,6 @@ mod hmac;
 mod key_table;
 mod matrix;
 mod one_time_password;
-mod record_block;
 mod records;
 mod std_maps;
 mod udp;

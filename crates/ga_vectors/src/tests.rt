@@ -29,6 +29,7 @@ mod outcome;
 mod random;
 mod random_steps;
 mod readme;
+mod record_block;
 mod refused_clones;
 mod refused_memory;
 mod scripted;

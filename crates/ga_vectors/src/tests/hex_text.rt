@@ -65,6 +65,22 @@ fn many_bytes_are_cut_at_each_limit(rt: HostRuntime) -> Result<(), Fail> {
     Ok(())
 }
 
+/// Whether 1,025 bytes 171 give 2,049 digits, in two calls of the writer.
+fn is_cut_inside_a_byte(alloc: Global) -> Result<bool, AllocError> {
+    let mut text = Vec::new(alloc);
+    for _byte in 0..1024 {
+        text.extend_from_slice(b"ab")?;
+    }
+    text.push(b'a')?;
+    Ok(is_written(&[171; 1025], false, Some(2049), text.as_slice(), 2))
+}
+
+#[test]
+fn an_odd_limit_cuts_inside_a_byte(rt: HostRuntime) -> Result<(), Fail> {
+    assert!(rt; is_cut_inside_a_byte(rt.alloc())?);
+    Ok(())
+}
+
 #[test]
 fn few_bytes_are_cut_at_each_limit(rt: HostRuntime) -> Result<(), Fail> {
     for len in [0, 1, 16, 63, 64, 65] {

@@ -43,7 +43,7 @@ fn faults(
         let is_right = match answer {
             Ok(()) => !is_disturbed && sink.to_come.is_empty(),
             Err(fault) if is_disturbed => {
-                fault.kind() == ErrorKind::BrokenPipe && sink.calls == fails_at
+                fault.kind() == ErrorKind::StorageFull && sink.calls == fails_at
             }
             Err(fault) => {
                 fault.kind() == ErrorKind::WriteZero && manner == Manner::Nothing && sink.calls == 1

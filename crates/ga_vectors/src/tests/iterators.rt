@@ -1,30 +1,36 @@
 //! Walks of both iterators by value from both ends.
 use crate::tests::compared::prints;
 use crate::tests::items::{boxed_from_one, from_one};
-use crate::tests::scripted::next_digit;
-use generic_array::{AllocError, U3, U4, U5, U8};
+use crate::tests::scripted::{digits, next_digit};
+use generic_array::{AllocError, U3, U4, U5};
 use std::alloc::Global;
 use std::test::Fail;
 
-/// What each step takes, how many items are left, and these as digits, the first of them set to 9.
-fn steps() -> [u32; 6] {
-    let mut items = from_one::<U8>().into_iter();
-    let next = items.next().unwrap_or(0);
-    let nth = items.nth(1).unwrap_or(0);
-    let next_back = items.next_back().unwrap_or(0);
-    let nth_back = items.nth_back(1).unwrap_or(0);
+/// What steps from both ends give, two of them past the end, and what was left in between as digits.
+fn steps() -> ([Option<u32>; 5], u32) {
+    let mut items = from_one::<U5>().into_iter();
+    let (next_back, nth) = (items.next_back(), items.nth(1));
+    let between = digits(items.as_slice());
+    let nth_back = items.nth_back(0);
+    let beyond = (items.nth(7), items.next_back());
+    ([next_back, nth, nth_back, beyond.0, beyond.1], between)
+}
+
+/// What is next where the first of three is set to 9, and how many are left then.
+fn written() -> (Option<u32>, usize) {
+    let mut items = from_one::<U3>().into_iter();
     if let Some(first) = items.as_mut_slice().first_mut() {
         *first = 9;
     }
-    let len = items.len() as u32;
-    let digits = items.rfold(0, next_digit);
-    [next, nth, next_back, nth_back, len, digits]
+    (items.next(), items.len())
 }
 
 #[test]
 fn steps_from_both_ends_meet_inline(rt: HostRuntime) {
-    assert!(rt; steps() == [1, 3, 8, 6, 2, 59]);
+    assert!(rt; steps() == ([Some(5), Some(2), Some(4), None, None], 34));
+    assert!(rt; written() == (Some(9), 2));
     assert!(rt; from_one::<U3>().into_iter().fold(0, next_digit) == 123);
+    assert!(rt; from_one::<U3>().into_iter().rfold(0, next_digit) == 321);
 }
 
 /// Whether only what is left is printed.

@@ -25,7 +25,8 @@ impl Manner {
     }
 }
 
-/// Compares what it takes with the text that is to come, counts its calls, and fails at one of them.
+/// Compares what it takes with the text that is to come, counts its calls, and fails at one of them, with an
+/// error of a kind that nothing else here has.
 #[derive(Drop)]
 pub struct Sink<'a> {
     pub to_come: &'a [u8],
@@ -52,7 +53,7 @@ impl Write for Sink<'_> {
     fn write(&mut self, buf: &[u8]) -> io::Result<usize> {
         self.calls = self.calls.saturating_add(1);
         if self.calls == self.fails_at {
-            return Err(io::Error::from(ErrorKind::BrokenPipe));
+            return Err(io::Error::from(ErrorKind::StorageFull));
         }
         let count = buf.len().min(self.manner.limit(self.calls)?);
         if self.to_come.starts_with(&buf[..count]) {

@@ -4,13 +4,14 @@ use generic_array::{GenericArray, U0, U2, U3, U4, U12};
 
 #[test]
 fn generate_by_calls_once_for_each_place_in_order(rt: HostRuntime) {
-    let mut sum = 0usize;
+    let (mut calls, mut order) = (0u32, 0usize);
     let array: GenericArray<usize, U4> = GenericArray::generate_by(&mut |index: usize| {
-        sum = sum.wrapping_mul(10).wrapping_add(index);
-        sum
+        calls = calls.wrapping_add(1);
+        order = order.wrapping_mul(10).wrapping_add(index);
+        index.wrapping_mul(2)
     });
-    assert!(rt; holds(array, &[0, 1, 12, 123]));
-    assert!(rt; sum == 123);
+    assert!(rt; holds(array, &[0, 2, 4, 6]));
+    assert!(rt; calls == 4 && order == 123);
 }
 
 /// Whether there is an array of four of the numbers 1 to 7, and which of them comes next.

@@ -22,7 +22,7 @@ fn compared<T: Ord>(left: &T, right: &T) -> (bool, Option<Ordering>, Ordering) {
 fn arrays_compare_and_hash_as_their_slices_do(rt: HostRuntime) {
     let less = (false, Some(Ordering::Less), Ordering::Less);
     let array = three_from(1);
-    assert!(rt; compared(&array, &three_from(2)) == less);
+    assert!(rt; compared(&array, &GenericArray::from_array([1, 3, 0])) == less);
     assert!(rt; array == three_from(1));
     assert!(rt; hash_of(array) == hash_of([1u8, 2, 3].as_slice()));
 }

@@ -25,7 +25,7 @@ impl Write for Counting {
     fn write(&mut self, bytes: &[u8]) -> io::Result<usize> {
         self.calls = self.calls.saturating_add(1);
         if self.is_broken {
-            Err(io::Error::from(ErrorKind::BrokenPipe))
+            Err(io::Error::from(ErrorKind::StorageFull))
         } else {
             Ok(bytes.len())
         }
@@ -84,7 +84,7 @@ fn records_are_walked_and_written(rt: HostRuntime) -> Result<(), Fail> {
     let four: RecordBlock<'_, U4> = RecordBlock::open(b"abcd")?;
     let mut broken = Counting::new(true);
     let fault = four.write_to(&mut broken);
-    assert!(rt; fault.is_err_and(|fault| fault.kind() == ErrorKind::BrokenPipe));
+    assert!(rt; fault.is_err_and(|fault| fault.kind() == ErrorKind::StorageFull));
     assert!(rt; broken.calls == 1 && record_is(&four, 0, b"abcd"));
     Ok(())
 }
