@@ -54,8 +54,7 @@ impl<N: ArrayLength<u8>> BlockBuffer<N> {
     /// Feeds the next bytes of the message: calls `f` at each block that is full now, in order, and
     /// keeps what follows.
     ///
-    /// A block that lies whole in `bytes` isn't copied: `f` sees it where it lies. Any number of bytes
-    /// may be fed; `len` stops at `u64::MAX`.
+    /// Any number of bytes may be fed; `len` stops at `u64::MAX`.
     pub fn feed<F: FnMut(&[u8])>(&mut self, bytes: &[u8], f: &mut F)
         requires callable { MayTakeBlocks F.step F.pre N.USIZE f.old (self.old.kept ++ bytes.now) }
         ensures blocks { TakesBlocks F.step N.USIZE f.old (self.old.kept ++ bytes.now) f.new }

@@ -29,7 +29,7 @@ impl<N: ArrayLength<u8>, V> Model for KeyTable<N, V> {
 }
 
 impl<N: ArrayLength<u8>, V> KeyTable<N, V> {
-    /// The table with no entry. Asks for no memory.
+    /// The table with no entry.
     pub fn new(alloc: Global) -> Self
         ensures { result ≡ [] }
     {

@@ -1,9 +1,11 @@
 //! Callers of the key stream, of any cipher and any length, proved.
 ghost use Rattle.ga_ciphers.specs.Keystream.{key_bytes, under};
-ghost use Rattle.std.specs.Prelude.{◌≡◌, ◌+◌, ◌*◌, ◌≤◌, ◌↔◌, ◌++◌, IsOk, OnOk, length};
+ghost use Rattle.std.specs.Prelude.{◌≡◌, ◌+◌, ◌*◌, ◌≤◌, ◌↔◌, ◌++◌, IsOk, OnOk, length, replicate};
 
 use ga_ciphers::counter_mode::{BlockStream, CounterMode};
 use ga_ciphers::stream_end::StreamEnd;
+use generic_array::{GenericArray, U4};
+use std::cell::Cell;
 
 /// Applies the key stream to two pieces in turn: the pieces joined are what it makes of the whole text.
 #[tactic(auto, using(ga_ciphers::proofs::KeystreamLemmas::under_in_pieces))]
@@ -29,4 +31,54 @@ pub(crate) fn there_and_back<C: BlockStream>(cipher: C, bytes: &mut [u8]) -> Res
     mode.apply(bytes)?;
     mode.seek(0)?;
     mode.apply(bytes)
+}
+
+/// Blocks of four bytes, each the block's number. Counts the blocks that it makes.
+#[derive(Drop)]
+struct Numbered<'a> {
+    made: &'a Cell<u32>,
+}
+
+impl BlockStream for Numbered<'_> {
+    ghost use Rattle.std.proofs.Common.{rules};
+
+    type BlockSize = U4;
+
+    ghost block = { λ _ number. replicate 4 number };
+
+    ghost BLOCKS = { 100 };
+
+    fn blocks() -> u64
+        ensures { result ≡ 100 }
+    {
+        100
+    }
+
+    fn block_at(&self, number: u64) -> GenericArray<u8, U4> {
+        self.made.set(self.made.get().wrapping_add(1));
+        GenericArray::of_copies(number as u8)
+    }
+
+    ghost some = { Prim.search rules };
+
+    ghost block_fits = { Prim.search rules };
+
+    ghost places_fit = { Prim.search rules };
+}
+
+/// How many blocks are made for twelve bytes, one after the other.
+fn blocks_for_single_bytes(bytes: &mut [u8; 12]) -> Result<u32, StreamEnd> {
+    let made = Cell::new(0);
+    let mut mode = CounterMode::new(Numbered { made: &made });
+    for byte in bytes.chunks_mut(1) {
+        mode.apply(byte)?;
+    }
+    Ok(made.get())
+}
+
+#[test]
+fn each_block_is_made_once(rt: HostRuntime) {
+    let mut bytes = [0; 12];
+    assert!(rt; blocks_for_single_bytes(&mut bytes) == Ok(3));
+    assert!(rt; bytes == [0, 0, 0, 0, 1, 1, 1, 1, 2, 2, 2, 2]);
 }
