@@ -16,7 +16,6 @@ impl<T: Default + Drop, N: ArrayLength<T>> GenericArray<T, N> {
     ///
     /// For every length; the trait `Default`, which items of arrays need, is there for every
     /// `InlineLength`.
-    #[inline(always)]
     pub fn default() -> Self
         requires fits { FitsInline N.USIZE }
         ensures items { All T.is_default result }
