@@ -4,7 +4,7 @@ ghost use Rattle.generic_array.specs.Built.{built_items};
 ghost use Rattle.generic_array.specs.Entries.{CallAt, MayCallAt};
 ghost use Rattle.generic_array.specs.Runs.{CallableOver};
 ghost use Rattle.std.specs.List.{range_with_len};
-ghost use Rattle.std.specs.Prelude.{◌≡◌, ◌<◌, ◌⊎◌, [], Err, IfErr, IfOk, IsOk, Ok, OnOk, length, map, replicate};
+ghost use Rattle.std.specs.Prelude.{◌≡◌, ◌+◌, ◌<◌, ◌⊎◌, [], Err, IfErr, IfOk, IsOk, Ok, OnOk, length, map, refl, replicate};
 
 use crate::digits::decimal_digit;
 use generic_array::functional::{
@@ -13,7 +13,7 @@ use generic_array::functional::{
 use generic_array::sequence::{
     FromFallibleIterator, GenericSequence, Lengthen, SequenceItem, Shorten,
 };
-use generic_array::{AllocError, BoxedArray, FillError, GenericArray, U0, U3};
+use generic_array::{AllocError, ArrayLength, BoxedArray, FillError, GenericArray, U0, U3};
 use std::convert::AsSlice;
 
 fn length_of<T, S: GenericSequence<T>>(s: &S) -> usize
@@ -39,14 +39,39 @@ fn places<S: GenericSequence<usize>>(place: S::Place) -> Result<S::Sequence, S::
     S::generate(place, |index| index)
 }
 
+/// A sequence to shorten and lengthen again: both traits name the same items, of it and of the shorter.
+trait ShortenAndLengthen<T, Shorter: Lengthen<T, Self>>: Shorten<T, Shorter> {
+    ghost shorter_agrees: { (shorter : Shorter) → Self.shorter_items shorter ≡ Shorter.items shorter };
+
+    ghost longer_agrees: { (longer : Self) → Shorter.longer_items longer ≡ Self.items longer };
+}
+
+impl<T: Default + Drop, N: ArrayLength<T>, M: ArrayLength<T>> ShortenAndLengthen<
+    T,
+    GenericArray<T, M>,
+> for GenericArray<T, N> {
+    ghost shorter_agrees = { λ shorter. refl };
+
+    ghost longer_agrees = { λ longer. refl };
+}
+
 // The last item popped and appended again, of whatever sequences these are.
-fn popped_and_appended<T, S: Shorten<T, L>, L: Lengthen<T, S>>(sequence: S) -> S
+fn popped_and_appended<T, S: ShortenAndLengthen<T, L>, L: Lengthen<T, S>>(sequence: S) -> S
     requires shorter { S.IsOneShorter }
     requires longer { L.IsOneLonger }
     ensures { S.items result ≡ S.items sequence }
 {
     let (others, last) = sequence.pop_back();
     others.append(last)
+}
+
+fn popped_and_appended_at_any_length<T: Default + Drop, N: ArrayLength<T>, M: ArrayLength<T>>(
+    array: GenericArray<T, N>,
+) -> GenericArray<T, N>
+    requires { N.USIZE ≡ M.USIZE + 1 }
+    ensures { result ≡ array }
+{
+    popped_and_appended::<T, GenericArray<T, N>, GenericArray<T, M>>(array)
 }
 
 fn no_places<S: GenericSequence<usize>>(place: S::Place) -> Result<S::Sequence, S::Error>

@@ -6,8 +6,9 @@
 //! view is O(1). The types of the results are parameters, and that their lengths fit together is a
 //! condition. The Rust crate has traits of these names, but `Row`, in its module `sequence`.
 //!
-//! All of them say what is made by the items of `AsSlice`, so a function over these traits alone can
-//! go from one to the next.
+//! Each trait but `Row` has its own words for the items of its parts. A function over these traits
+//! alone that goes from one to the next asks by a bound, or by a condition, that the words agree: at
+//! arrays they do by `refl`.
 ghost use Rattle.generic_array.specs.Rows.{rows};
 ghost use Rattle.std.specs.List.{All, flat_map, swap_remove};
 ghost use Rattle.std.specs.Prelude.{◌≡◌, ℕ, ◌+◌, ◌<◌, ◌≤◌, List, [], Some, ◌∷◌, ◌++◌, drop, length, remove, slice_get, take};
@@ -19,39 +20,53 @@ mod moves;
 mod views;
 
 /// A sequence to which an item can be added.
-pub trait Lengthen<T, Longer: AsSlice<T>>: Sized + AsSlice<T> {
+pub trait Lengthen<T, Longer>: Sized {
+    ghost items: { Self → List T };
+
+    ghost longer_items: { Longer → List T };
+
     // A longer sequence has one item more, and its length fits.
     ghost IsOneLonger: { Type 0 };
 
     /// The items, and then `item`. A condition is that `Longer` has a place more, and fits.
     fn append(self, item: T) -> Longer
         requires { IsOneLonger }
-        ensures { Longer.items result ≡ Self.items self ++ item ∷ [] };
+        ensures { longer_items result ≡ items self ++ item ∷ [] };
 
     /// `item`, and then the items. A condition is that `Longer` has a place more, and fits.
     fn prepend(self, item: T) -> Longer
         requires { IsOneLonger }
-        ensures { Longer.items result ≡ item ∷ Self.items self };
+        ensures { longer_items result ≡ item ∷ items self };
 }
 
 /// A sequence from which an end can be taken.
-pub trait Shorten<T, Shorter: AsSlice<T>>: Sized + AsSlice<T> {
+pub trait Shorten<T, Shorter>: Sized {
+    ghost items: { Self → List T };
+
+    ghost shorter_items: { Shorter → List T };
+
     // A shorter sequence has one item less.
     ghost IsOneShorter: { Type 0 };
 
     /// All items but the last, and the last. A condition is that `Shorter` has a place less.
     fn pop_back(self) -> (Shorter, T)
         requires { IsOneShorter }
-        ensures { Self.items self ≡ Shorter.items result.0 ++ result.1 ∷ [] };
+        ensures { items self ≡ shorter_items result.0 ++ result.1 ∷ [] };
 
     /// The first item, and all others. A condition is that `Shorter` has a place less.
     fn pop_front(self) -> (T, Shorter)
         requires { IsOneShorter }
-        ensures { Self.items self ≡ result.0 ∷ Shorter.items result.1 };
+        ensures { items self ≡ result.0 ∷ shorter_items result.1 };
 }
 
 /// A sequence that can be joined with one that follows it.
-pub trait Concat<T, Rest: AsSlice<T>, Output: AsSlice<T>>: Sized + AsSlice<T> {
+pub trait Concat<T, Rest, Output>: Sized {
+    ghost items: { Self → List T };
+
+    ghost rest_items: { Rest → List T };
+
+    ghost output_items: { Output → List T };
+
     // How many items the sequence has.
     ghost LEN: { ℕ };
 
@@ -62,13 +77,19 @@ pub trait Concat<T, Rest: AsSlice<T>, Output: AsSlice<T>>: Sized + AsSlice<T> {
     /// and fits.
     fn concat(self, rest: Rest) -> Output
         requires { IsSum }
-        ensures joined { Output.items result ≡ Self.items self ++ Rest.items rest }
-        ensures first { take LEN (Output.items result) ≡ Self.items self }
-        ensures rest { drop LEN (Output.items result) ≡ Rest.items rest };
+        ensures joined { output_items result ≡ items self ++ rest_items rest }
+        ensures first { take LEN (output_items result) ≡ items self }
+        ensures rest { drop LEN (output_items result) ≡ rest_items rest };
 }
 
 /// A sequence that can be cut in two.
-pub trait Split<T, First: AsSlice<T>, Second: AsSlice<T>>: Sized + AsSlice<T> {
+pub trait Split<T, First, Second>: Sized {
+    ghost items: { Self → List T };
+
+    ghost first_items: { First → List T };
+
+    ghost second_items: { Second → List T };
+
     // How many items the first part has.
     ghost PLACE: { ℕ };
 
@@ -79,12 +100,16 @@ pub trait Split<T, First: AsSlice<T>, Second: AsSlice<T>>: Sized + AsSlice<T> {
     /// that the lengths of the parts add up to that of the sequence.
     fn split(self) -> (First, Second)
         requires { IsSum }
-        ensures first { First.items result.0 ≡ take PLACE (Self.items self) }
-        ensures second { Second.items result.1 ≡ drop PLACE (Self.items self) };
+        ensures first { first_items result.0 ≡ take PLACE (items self) }
+        ensures second { second_items result.1 ≡ drop PLACE (items self) };
 }
 
 /// A sequence from which the item at a place can be taken.
-pub trait Remove<T, Output: AsSlice<T>>: Sized + AsSlice<T> {
+pub trait Remove<T, Output>: Sized {
+    ghost items: { Self → List T };
+
+    ghost output_items: { Output → List T };
+
     // What is left has one item less.
     ghost IsOneShorter: { Type 0 };
 
@@ -92,24 +117,24 @@ pub trait Remove<T, Output: AsSlice<T>>: Sized + AsSlice<T> {
     /// and that `index` is below the length, where the Rust crate panics.
     fn remove(self, index: usize) -> (T, Output)
         requires shorter { IsOneShorter }
-        requires in_bounds { index < length (Self.items self) }
-        ensures item { slice_get (Self.items self) index ≡ Some result.0 }
-        ensures others { Output.items result.1 ≡ remove (Self.items self) index };
+        requires in_bounds { index < length (items self) }
+        ensures item { slice_get (items self) index ≡ Some result.0 }
+        ensures others { output_items result.1 ≡ remove (items self) index };
 
     /// The item at `index`, and all others in order but the last, which takes the place of the item
     /// that was taken. The conditions are those of `remove`.
     fn swap_remove(self, index: usize) -> (T, Output)
         requires shorter { IsOneShorter }
-        requires in_bounds { index < length (Self.items self) }
-        ensures item { slice_get (Self.items self) index ≡ Some result.0 }
-        ensures others { Output.items result.1 ≡ swap_remove (Self.items self) index result.0 };
+        requires in_bounds { index < length (items self) }
+        ensures item { slice_get (items self) index ≡ Some result.0 }
+        ensures others { output_items result.1 ≡ swap_remove (items self) index result.0 };
 
     /// `remove`, whose condition is proved where it is called.
     final fn remove_unchecked(self, index: usize) -> (T, Output)
         requires shorter { IsOneShorter }
-        requires in_bounds { index < length (Self.items self) }
-        ensures item { slice_get (Self.items self) index ≡ Some result.0 }
-        ensures others { Output.items result.1 ≡ remove (Self.items self) index }
+        requires in_bounds { index < length (items self) }
+        ensures item { slice_get (items self) index ≡ Some result.0 }
+        ensures others { output_items result.1 ≡ remove (items self) index }
     {
         self.remove(index)
     }
@@ -117,9 +142,9 @@ pub trait Remove<T, Output: AsSlice<T>>: Sized + AsSlice<T> {
     /// `swap_remove`, whose condition is proved where it is called.
     final fn swap_remove_unchecked(self, index: usize) -> (T, Output)
         requires shorter { IsOneShorter }
-        requires in_bounds { index < length (Self.items self) }
-        ensures item { slice_get (Self.items self) index ≡ Some result.0 }
-        ensures others { Output.items result.1 ≡ swap_remove (Self.items self) index result.0 }
+        requires in_bounds { index < length (items self) }
+        ensures item { slice_get (items self) index ≡ Some result.0 }
+        ensures others { output_items result.1 ≡ swap_remove (items self) index result.0 }
     {
         self.swap_remove(index)
     }
@@ -141,9 +166,11 @@ pub trait Row<T: Default>: Sized + AsSlice<T> {
 }
 
 /// A sequence of rows whose items can be joined.
-pub trait Flatten<T, Output: AsSlice<T>>: Sized {
+pub trait Flatten<T, Output>: Sized {
     // The items of each row.
     ghost row_items: { Self → List (List T) };
+
+    ghost output_items: { Output → List T };
 
     // How many items a row has.
     ghost WIDTH: { ℕ };
@@ -155,13 +182,15 @@ pub trait Flatten<T, Output: AsSlice<T>>: Sized {
     /// together, and fits.
     fn flatten(self) -> Output
         requires { IsArea }
-        ensures joined { Output.items result ≡ flat_map (λ row. row) (row_items self) }
+        ensures joined { output_items result ≡ flat_map (λ row. row) (row_items self) }
         ensures widths { All (λ row. length row ≡ WIDTH) (row_items self) }
-        ensures cut { 0 < WIDTH → rows WIDTH (Output.items result) ≡ row_items self };
+        ensures cut { 0 < WIDTH → rows WIDTH (output_items result) ≡ row_items self };
 }
 
 /// A sequence that can be cut into rows of one width.
-pub trait Unflatten<T, Output>: Sized + AsSlice<T> {
+pub trait Unflatten<T, Output>: Sized {
+    ghost items: { Self → List T };
+
     ghost output_rows: { Output → List (List T) };
 
     // How many items a row has.
@@ -174,6 +203,6 @@ pub trait Unflatten<T, Output>: Sized + AsSlice<T> {
     /// items, and that the rows together have as many as the sequence.
     fn unflatten(self) -> Output
         requires { IsArea }
-        ensures cut { output_rows result ≡ rows WIDTH (Self.items self) }
-        ensures joined { flat_map (λ row. row) (output_rows result) ≡ Self.items self };
+        ensures cut { output_rows result ≡ rows WIDTH (items self) }
+        ensures joined { flat_map (λ row. row) (output_rows result) ≡ items self };
 }

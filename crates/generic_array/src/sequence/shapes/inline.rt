@@ -10,6 +10,10 @@ use std::mem;
 
 impl<T: Default + Drop, N: ArrayLength<T>, M: ArrayLength<T>> Lengthen<T, GenericArray<T, M>>
     for GenericArray<T, N> {
+    ghost items = { λ array. array };
+
+    ghost longer_items = { λ array. array };
+
     ghost IsOneLonger = { (M.USIZE ≡ N.USIZE + 1) × FitsInline M.USIZE };
 
     #[inline(always)]
@@ -33,6 +37,10 @@ impl<T: Default + Drop, N: ArrayLength<T>, M: ArrayLength<T>> Lengthen<T, Generi
 
 impl<T: Default + Drop, N: ArrayLength<T>, M: ArrayLength<T>> Shorten<T, GenericArray<T, M>>
     for GenericArray<T, N> {
+    ghost items = { λ array. array };
+
+    ghost shorter_items = { λ array. array };
+
     ghost IsOneShorter = { N.USIZE ≡ M.USIZE + 1 };
 
     #[inline]
@@ -53,6 +61,12 @@ impl<T: Default + Drop, N: ArrayLength<T>, R: ArrayLength<T>, M: ArrayLength<T>>
     GenericArray<T, R>,
     GenericArray<T, M>,
 > for GenericArray<T, N> {
+    ghost items = { λ array. array };
+
+    ghost rest_items = { λ array. array };
+
+    ghost output_items = { λ array. array };
+
     ghost LEN = { N.USIZE };
 
     ghost IsSum = { (M.USIZE ≡ N.USIZE + R.USIZE) × FitsInline M.USIZE };
@@ -72,6 +86,12 @@ impl<T: Default + Drop, N: ArrayLength<T>, K: ArrayLength<T>, M: ArrayLength<T>>
     GenericArray<T, K>,
     GenericArray<T, M>,
 > for GenericArray<T, N> {
+    ghost items = { λ array. array };
+
+    ghost first_items = { λ array. array };
+
+    ghost second_items = { λ array. array };
+
     ghost PLACE = { K.USIZE };
 
     ghost IsSum = { N.USIZE ≡ K.USIZE + M.USIZE };
@@ -85,6 +105,10 @@ impl<T: Default + Drop, N: ArrayLength<T>, K: ArrayLength<T>, M: ArrayLength<T>>
 
 impl<T: Default + Drop, N: ArrayLength<T>, M: ArrayLength<T>> Remove<T, GenericArray<T, M>>
     for GenericArray<T, N> {
+    ghost items = { λ array. array };
+
+    ghost output_items = { λ array. array };
+
     ghost IsOneShorter = { N.USIZE ≡ M.USIZE + 1 };
 
     #[inline]
@@ -124,6 +148,8 @@ impl<T: Default + Drop, I: Row<T> + Default + Drop, R: ArrayLength<I>, M: ArrayL
 > for GenericArray<I, R> {
     ghost row_items = { λ rows. map I.items rows };
 
+    ghost output_items = { λ array. array };
+
     ghost WIDTH = { I.WIDTH };
 
     ghost IsArea = { (M.USIZE ≡ R.USIZE * I.WIDTH) × FitsInline M.USIZE };
@@ -150,6 +176,8 @@ impl<
 where
     GenericArray<T, W>: Default,
 {
+    ghost items = { λ array. array };
+
     ghost output_rows = { λ rows. rows };
 
     ghost WIDTH = { W.USIZE };

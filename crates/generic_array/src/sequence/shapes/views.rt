@@ -14,6 +14,12 @@ impl<'a, T, N: Unsigned, K: Unsigned, M: Unsigned> Split<
     GenericArrayRef<'a, T, K>,
     GenericArrayRef<'a, T, M>,
 > for GenericArrayRef<'a, T, N> {
+    ghost items = { items_of_view };
+
+    ghost first_items = { items_of_view };
+
+    ghost second_items = { items_of_view };
+
     ghost PLACE = { K.USIZE };
 
     ghost IsSum = { N.USIZE ≡ K.USIZE + M.USIZE };
@@ -39,6 +45,12 @@ impl<'a, T, N: Unsigned, K: Unsigned, M: Unsigned> Split<
     GenericArrayMut<'a, T, K>,
     GenericArrayMut<'a, T, M>,
 > for GenericArrayMut<'a, T, N> {
+    ghost items = { λ view. view.slice.now };
+
+    ghost first_items = { λ view. view.slice.now };
+
+    ghost second_items = { λ view. view.slice.now };
+
     ghost PLACE = { K.USIZE };
 
     ghost IsSum = { N.USIZE ≡ K.USIZE + M.USIZE };
@@ -57,6 +69,12 @@ impl<'a, T, N: ArrayLength<T>, K: Unsigned, M: Unsigned> Split<
     GenericArrayMut<'a, T, K>,
     GenericArrayMut<'a, T, M>,
 > for ViewMut<&'a mut GenericArray<T, N>, T, N> {
+    ghost items = { λ view. view.slice.now };
+
+    ghost first_items = { λ view. view.slice.now };
+
+    ghost second_items = { λ view. view.slice.now };
+
     ghost PLACE = { K.USIZE };
 
     ghost IsSum = { N.USIZE ≡ K.USIZE + M.USIZE };
