@@ -6,7 +6,7 @@
 use Rattle.ga_core.specs.contracts.store.Store.as_mut_slice as callee
 use Rattle.ga_core.specs.declared.store.Store as store
 use Rattle.ga_views.proofs.LoanWalk.{Every, Loan, Words}
-use Rattle.std.proofs.Common.{◌≡◌, ◌^◌, ◌<◌, ◌≤◌, [], ◌∷◌, ap, length, List, MutBor, ℕ}
+use Rattle.std.proofs.Common.{◌≡◌, [], ◌∷◌, ap, length, List, MutBor, ℕ}
 use base.Fml.{fbor, flft, Fml, fobs, fsep, ftrue, GName}
 use base.Logic.{emp, id⊢, SProp}
 use base.Stored.{coded_list}

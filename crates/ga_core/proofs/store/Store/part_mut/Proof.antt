@@ -19,7 +19,6 @@ use denote.Follow.{follows}
 use denote.Param.{layout}
 use denote.RattleType.{RattleType}
 use denote.Signature.{plain}
-use denote.Slice.{slice_val}
 use denote.Triple.Table.{framed}
 use mir.MapTy.{inst_fn}
 use mir.Syntax.{Dict, w64}
