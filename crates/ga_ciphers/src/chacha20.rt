@@ -84,7 +84,6 @@ fn words_of<N: ArrayLength<u8>, R: ArrayLength<GenericArray<u8, U4>> + ArrayLeng
     requires { N.USIZE ≡ R.USIZE * 4 }
     ensures { result ≡ words_of bytes.now }
 {
-    let _ = bytes.as_slice();
     let rows: Fours<R> = GenericArray::from_view(bytes.view()).unflatten();
     rows.map_inline(
         |row: GenericArray<u8, U4>| -> u32
