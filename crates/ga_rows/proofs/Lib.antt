@@ -1,5 +1,4 @@
 pub mod DecimalLemmas
-pub mod DigitLemmas
 pub mod EndLemmas
 pub mod SumLemmas
 pub mod TableLemmas

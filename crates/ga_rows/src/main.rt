@@ -7,7 +7,6 @@
 //! last line that begins with `rest`. No words mean `dec 4`.
 #![tactic(auto)]
 
-mod digits;
 mod ends;
 mod input;
 mod numbers;

@@ -1,10 +1,10 @@
 //! Text that a writer has not been given yet.
-ghost use Rattle.generic_array.specs.HexText.{hex_digits};
 ghost use Rattle.ga_rows.specs.Text.{numbers_text};
-ghost use Rattle.std.specs.Prelude.{◌≡◌, ◌+◌, ◌*◌, ◌<◌, ◌≤◌, ◌↔◌, IsTrue, [], ◌∷◌, ◌++◌, decimal, false, length, reverse};
+ghost use Rattle.std.specs.Prelude.{◌≡◌, ◌+◌, ◌-◌, ◌*◌, ◌<◌, ◌≤◌, ◌↔◌, IsTrue, IsOk, OnErr, OnOk, [], ◌∷◌, ◌++◌, decimal, length, min, reverse, take};
 
-use crate::digits::HexTable;
 use crate::numbers::{put_numbers, put_numbers_back};
+use std::io;
+use std::io::{ErrorKind, Write};
 use std::marker::Model;
 
 /// How many bytes a piece of text may have.
@@ -142,15 +142,6 @@ impl Piece {
         self.len = put_numbers_back(&mut self.bytes, self.len, numbers);
     }
 
-    /// Appends two lower hex digits for each byte. There is room.
-    #[inline]
-    pub fn push_hex(&mut self, table: &HexTable, bytes: &[u8])
-        requires { length self.old + 2 * length bytes.now ≤ PIECE_SIZE }
-        ensures { self.new ≡ self.old ++ hex_digits false bytes.now }
-    {
-        self.len = table.put(&mut self.bytes, self.len, bytes);
-    }
-
     /// Appends a text. There is room.
     pub fn push_text(&mut self, text: &str)
         requires { length self.old + length text.now ≤ PIECE_SIZE }
@@ -159,5 +150,44 @@ impl Piece {
         for byte in text.as_bytes() {
             self.push(*byte);
         }
+    }
+}
+
+/// Takes what fits behind the text, `write_all` all or none, and fails nowhere else.
+impl Write for Piece {
+    ghost use Rattle.std.specs.Prelude.{Some};
+
+    ghost contents = { λ piece. Some piece };
+
+    #[inline]
+    fn write(&mut self, buf: &[u8]) -> io::Result<usize>
+        ensures count { result ≡ Ok (min (length buf.now) (PIECE_SIZE - length self.old)) }
+        ensures text { self.new ≡ self.old ++ take (PIECE_SIZE - length self.old) buf.now }
+    {
+        let count = buf.len().min(PIECE_SIZE - self.len);
+        self.bytes[self.len..self.len + count].copy_from_slice(&buf[..count]);
+        self.len += count;
+        Ok(count)
+    }
+
+    #[inline]
+    fn write_all(&mut self, buf: &[u8]) -> io::Result<()>
+        ensures fits { IsOk result ↔ (length self.old + length buf.now ≤ PIECE_SIZE) }
+        ensures text { OnOk result (self.new ≡ self.old ++ buf.now) }
+        ensures err { OnErr result (self.new ≡ self.old) }
+    {
+        if buf.len() > PIECE_SIZE - self.len {
+            return Err(io::Error::from(ErrorKind::WriteZero));
+        }
+        self.bytes[self.len..self.len + buf.len()].copy_from_slice(buf);
+        self.len += buf.len();
+        Ok(())
+    }
+
+    fn flush(&mut self) -> io::Result<()>
+        ensures ok { IsOk result }
+        ensures same { self.new ≡ self.old }
+    {
+        Ok(())
     }
 }

@@ -1,5 +1,6 @@
 use Rattle.ga_rows.proofs.TextLemmas.{LinesSoFar}
-use Rattle.ga_rows.proofs.output.put_rows.Given as goal
+use Rattle.ga_rows.proofs.output.put_from_last.Given as goal
+use Rattle.ga_rows.specs.declared.words.Mode.TheVariants.{Last}
 use Rattle.generic_array.specs.Rows.{rows}
 use Rattle.generic_array.specs.Views.{items_of_chunks}
 use Rattle.std.proofs.Common.{◌≡◌, [], reverse}
@@ -7,23 +8,12 @@ use Rattle.std.specs.Io.KnownBytes.{append_known}
 use Rattle.std.specs.Iterator.Adapters.{rev_source}
 
 -- the lines so far, written or in the piece, and those of the rows that are left from the back are the lines of all rows from there
-abbrev pub invariant-loop-last : goal.invariant-loop-last
-invariant-loop-last g l =
-    let contents = g.W.Write.contents in
-    let all = rows g.N.Unsigned.USIZE (items_of_chunks l.fn.chunks) in
-    let left = rev_source l.last-iterator in
-    record {
-      text : LinesSoFar l.fn.mode (reverse all) (reverse left) (append_known (contents l.fn.w) l.fn.piece) (append_known (contents l.w) l.piece);
-      empty : all ≡ [] → left ≡ [] × l.piece ≡ l.fn.piece;
-    }
-
--- the same from the front
 abbrev pub invariant-loop-row : goal.invariant-loop-row
 invariant-loop-row g l =
     let contents = g.W.Write.contents in
     let all = rows g.N.Unsigned.USIZE (items_of_chunks l.fn.chunks) in
-    let left = l.row-iterator in
+    let left = rev_source l.row-iterator in
     record {
-      text : LinesSoFar l.fn.mode all left (append_known (contents l.fn.w) l.fn.piece) (append_known (contents l.w) l.piece);
+      text : LinesSoFar Last (reverse all) (reverse left) (append_known (contents l.fn.w) l.fn.piece) (append_known (contents l.w) l.piece);
       empty : all ≡ [] → left ≡ [] × l.piece ≡ l.fn.piece;
     }
