@@ -1,6 +1,6 @@
 -- The lines of rows, put down one after the other, and the front of what was put behind a text.
 use Rattle.ga_rows.specs.Text.{line, lines, row_text}
-use Rattle.ga_rows.specs.declared.words.Mode.{Mode}
+use Rattle.ga_rows.specs.declared.arguments.Mode.{Mode}
 use Rattle.std.proofs.Common.{[], ◌≡◌, ℕ, ◌+◌, ◌≤◌, List, ◌∷◌, ◌++◌, None, Option, Some, append_assoc, ap, arith, length, length-take, sym, take, ◌∙◌}
 use Rattle.std.proofs.KnownBytes.{Appends-nil, Appends-trans}
 use Rattle.std.proofs.Math.Seq.{take-append-add}

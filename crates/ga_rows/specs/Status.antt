@@ -1,6 +1,6 @@
 -- What the program's ends are as exit statuses and as texts on standard error.
-use Rattle.ga_rows.specs.declared.ends.Status.{Status}
-use Rattle.ga_rows.specs.declared.ends.Status.TheVariants.{Fault, Memory, Rest, Whole, Words}
+use Rattle.ga_rows.specs.declared.status.Status.{Status}
+use Rattle.ga_rows.specs.declared.status.Status.TheVariants.{Fault, Memory, Rest, Whole, Words}
 use Rattle.std.specs.Prelude.{ℕ, List, Option, None, Some, codes}
 
 abbrev pub exit_status : Status → ℕ

@@ -1,10 +1,10 @@
 -- The text of an input: a line for each whole row, and a line for the rest.
 use Rattle.generic_array.specs.HexText.{hex_digits}
 use Rattle.generic_array.specs.Rows.{chunk_rest, rows}
-use Rattle.ga_rows.specs.Words.{bytes_of}
-use Rattle.ga_rows.specs.declared.words.Mode.{Mode}
-use Rattle.ga_rows.specs.declared.words.Mode.TheVariants.{Back, Dec, Hex, Last, Sum}
-use Rattle.ga_rows.specs.declared.words.Width.{Width}
+use Rattle.ga_rows.specs.Arguments.{bytes_of}
+use Rattle.ga_rows.specs.declared.arguments.Mode.{Mode}
+use Rattle.ga_rows.specs.declared.arguments.Mode.TheVariants.{Back, Dec, Hex, Last, Sum}
+use Rattle.ga_rows.specs.declared.arguments.Width.{Width}
 use Rattle.std.specs.List.{flat_map, join_by}
 use Rattle.std.specs.Prelude.{ℕ, List, [], ◌∷◌, ◌++◌, codes, decimal, false, reverse, sum}
 

@@ -2,12 +2,12 @@
 ghost use Rattle.generic_array.specs.Views.{items_of_chunks, items_of_view};
 ghost use Rattle.generic_array.specs.Rows.{chunk_rest, rows};
 ghost use Rattle.ga_rows.specs.Text.{line, lines, lines_of, rest_line, row_lines, row_text, text_of};
-ghost use Rattle.ga_rows.specs.Words.{bytes_of};
+ghost use Rattle.ga_rows.specs.Arguments.{bytes_of};
 ghost use Rattle.std.specs.Io.KnownBytes.{Appends, append_known};
 ghost use Rattle.std.specs.Prelude.{◌≡◌, ◌≢◌, ◌+◌, ◌<◌, ◌≤◌, ◌↔◌, [], ◌++◌, IfOk, IsOk, IsTrue, OnOk, length, reverse, sum};
 
-use crate::piece::{PIECE_SIZE, Piece};
-use crate::words::{Mode, Width};
+use crate::arguments::{Mode, Width};
+use crate::buffer::{PIECE_SIZE, Piece};
 use generic_array::checks::total_by;
 use generic_array::hex_text::write_hex;
 use generic_array::{ArrayLength, ChunksRef, GenericArrayRef, U1, U2, U4, U8, U16};

@@ -2,17 +2,17 @@
 ghost use Rattle.generic_array.specs.Rows.{chunk_rest};
 ghost use Rattle.ga_rows.specs.Listed.{ListedAnd, ListedEach};
 ghost use Rattle.ga_rows.specs.Text.{text_of};
-ghost use Rattle.ga_rows.specs.Words.{bytes_of, meaning_of_words};
+ghost use Rattle.ga_rows.specs.Arguments.{bytes_of, meaning_of_words};
 ghost use Rattle.std.specs.Io.KnownBytes.{Appends, IsAtEnd};
 ghost use Rattle.std.specs.IoError.{error_kind};
 ghost use Rattle.std.specs.Iterator.{IsFinite};
 ghost use Rattle.std.specs.Prelude.{◌≡◌, ◌≢◌, ◌⊎◌, ◌↔◌, ◌≤◌, [], IfErr, IfOk, IfSome, IsSomeAnd, map, string_bytes};
 ghost use Rattle.std.specs.Process.{exit_status as process_status};
 
-use crate::ends::Status;
+use crate::arguments::{parse_words, words_after_name};
 use crate::input::read_all;
 use crate::output::rows;
-use crate::words::{parse_words, words_after_name};
+use crate::status::Status;
 use std::alloc::Global;
 use std::io;
 use std::io::{ErrorKind, Read, Write};

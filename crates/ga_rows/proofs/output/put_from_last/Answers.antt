@@ -1,7 +1,7 @@
 use Rattle.ga_rows.proofs.TextLemmas.{Appends-behind, lines-more, lines-none}
 use Rattle.ga_rows.proofs.output.put_from_last.Goals as goal
 use Rattle.ga_rows.proofs.output.put_from_last.Goals.{else-not-has_room, then-not-has_room+in_ok-hand_over}
-use Rattle.ga_rows.specs.declared.words.Mode.TheVariants.{Last}
+use Rattle.ga_rows.specs.declared.arguments.Mode.TheVariants.{Last}
 use Rattle.std.proofs.Common.{[], ◌∷◌, ◌∙◌, ap, arith, length, length-append, refl, reverse, rules}
 use Rattle.std.proofs.KnownBytes.{Keeps-refl}
 use Rattle.std.proofs.lemmas.List.{reverse-append}

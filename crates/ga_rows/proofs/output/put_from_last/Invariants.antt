@@ -1,6 +1,6 @@
 use Rattle.ga_rows.proofs.TextLemmas.{LinesSoFar}
 use Rattle.ga_rows.proofs.output.put_from_last.Given as goal
-use Rattle.ga_rows.specs.declared.words.Mode.TheVariants.{Last}
+use Rattle.ga_rows.specs.declared.arguments.Mode.TheVariants.{Last}
 use Rattle.generic_array.specs.Rows.{rows}
 use Rattle.generic_array.specs.Views.{items_of_chunks}
 use Rattle.std.proofs.Common.{◌≡◌, [], reverse}

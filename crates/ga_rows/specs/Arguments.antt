@@ -1,8 +1,8 @@
 -- What the words after the program's name mean: a mode and a width, or nothing. A word is the list of its bytes.
-use Rattle.ga_rows.specs.declared.words.Mode.{Mode}
-use Rattle.ga_rows.specs.declared.words.Mode.TheVariants.{Back, Dec, Hex, Last, Sum}
-use Rattle.ga_rows.specs.declared.words.Width.{Width}
-use Rattle.ga_rows.specs.declared.words.Width.TheVariants.{W1, W16, W2, W4, W8}
+use Rattle.ga_rows.specs.declared.arguments.Mode.{Mode}
+use Rattle.ga_rows.specs.declared.arguments.Mode.TheVariants.{Back, Dec, Hex, Last, Sum}
+use Rattle.ga_rows.specs.declared.arguments.Width.{Width}
+use Rattle.ga_rows.specs.declared.arguments.Width.TheVariants.{W1, W16, W2, W4, W8}
 use Rattle.std.specs.Prelude.{ℕ, List, [], ◌∷◌, Option, None, Some, codes, if◌then◌else◌}
 use Rattle.std.specs.Str.{bytes_eq}
 

@@ -1,4 +1,4 @@
-use Rattle.ga_rows.proofs.words.words_after_name.Goals as goal
+use Rattle.ga_rows.proofs.arguments.words_after_name.Goals as goal
 use Rattle.std.proofs.Common.{◌∙◌}
 
 pub returns-in-Ok-clause-ok : goal.returns-in-Ok-clause-ok

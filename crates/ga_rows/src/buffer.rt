@@ -2,7 +2,7 @@
 ghost use Rattle.ga_rows.specs.Text.{numbers_text};
 ghost use Rattle.std.specs.Prelude.{◌≡◌, ◌+◌, ◌-◌, ◌*◌, ◌<◌, ◌≤◌, ◌↔◌, IsTrue, IsOk, OnErr, OnOk, [], ◌∷◌, ◌++◌, decimal, length, min, reverse, take};
 
-use crate::numbers::{put_numbers, put_numbers_back};
+use crate::decimal::{put_numbers, put_numbers_back};
 use std::io;
 use std::io::{ErrorKind, Write};
 use std::marker::Model;
@@ -19,7 +19,7 @@ pub struct Piece {
 }
 
 impl Model for Piece {
-    ghost use Rattle.ga_rows.specs.declared.piece.TheConstants.{PIECE_SIZE};
+    ghost use Rattle.ga_rows.specs.declared.buffer.TheConstants.{PIECE_SIZE};
     ghost use Rattle.std.specs.Prelude.{ℕ, ◌≤◌, List, take};
 
     ghost Value = { List ℕ };

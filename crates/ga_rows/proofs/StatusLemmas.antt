@@ -1,11 +1,11 @@
 -- What an exit status says of how the program ended, and what the words that were kept say of those that were listed.
 use Rattle.ga_rows.specs.Listed.{ListedAnd, ListedEach}
 use Rattle.ga_rows.specs.Status.{exit_status}
-use Rattle.ga_rows.specs.Words.{meaning_of_words}
-use Rattle.ga_rows.specs.declared.ends.Status.{Status}
-use Rattle.ga_rows.specs.declared.ends.Status.TheVariants.{Fault, Memory, Rest, Whole, Words}
-use Rattle.ga_rows.specs.declared.words.Mode.{Mode}
-use Rattle.ga_rows.specs.declared.words.Width.{Width}
+use Rattle.ga_rows.specs.Arguments.{meaning_of_words}
+use Rattle.ga_rows.specs.declared.status.Status.{Status}
+use Rattle.ga_rows.specs.declared.status.Status.TheVariants.{Fault, Memory, Rest, Whole, Words}
+use Rattle.ga_rows.specs.declared.arguments.Mode.{Mode}
+use Rattle.ga_rows.specs.declared.arguments.Width.{Width}
 use Rattle.std.proofs.Common.{◌≡◌, ◌⊎◌, ◌≤◌, List, Option, None, Some, Result, Ok, String, IfSome, IsSomeAnd, drop, map, string_bytes, arith, inl, inr, refl, subst, sym}
 use Rattle.std.specs.Iterator.Runs.{WholeRun}
 use Rattle.std.specs.declared.alloc.Global.{Global}

@@ -1,4 +1,4 @@
-use Rattle.ga_rows.proofs.piece.Piece.push_decimal.Goals as goal
+use Rattle.ga_rows.proofs.buffer.Piece.push_decimal.Goals as goal
 use Rattle.std.proofs.Common.{◌∷◌, [], ◌++◌, ◌+◌, ◌/◌, ◌%◌, ap, append_assoc, arith, decimal, sym, ◌∙◌}
 use Rattle.std.proofs.lemmas.Fmt.{decimal_step}
 

@@ -1,4 +1,4 @@
-use Rattle.ga_rows.proofs.numbers.put_numbers.Given as goal
+use Rattle.ga_rows.proofs.decimal.put_numbers.Given as goal
 use Rattle.std.proofs.Common.{◌≡◌, ◌+◌, ◌*◌, ◌≤◌, ◌++◌, codes, decimal, take}
 use Rattle.std.specs.List.{flat_map}
 

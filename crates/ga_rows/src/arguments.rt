@@ -1,10 +1,10 @@
 //! What the program's words mean.
-ghost use Rattle.ga_rows.specs.Words.{meaning_of_words, mode_named, width_named};
+ghost use Rattle.ga_rows.specs.Arguments.{meaning_of_words, mode_named, width_named};
 ghost use Rattle.std.specs.Iterator.{IsFinite};
 ghost use Rattle.std.specs.Iterator.Runs.{WholeRun};
 ghost use Rattle.std.specs.Prelude.{◌≡◌, IfErr, IfOk, drop, map, string_bytes};
 
-use crate::ends::Status;
+use crate::status::Status;
 use std::alloc::Global;
 
 /// How a row is written, and in which order the rows are.

@@ -1,4 +1,4 @@
-use Rattle.ga_rows.proofs.numbers.put_numbers_back.Given as goal
+use Rattle.ga_rows.proofs.decimal.put_numbers_back.Given as goal
 use Rattle.std.proofs.Common.{◌≡◌, ◌+◌, ◌*◌, ◌≤◌, ◌++◌, codes, decimal, length, map, take}
 use Rattle.std.specs.List.{flat_map}
 

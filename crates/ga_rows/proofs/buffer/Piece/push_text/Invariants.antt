@@ -1,4 +1,4 @@
-use Rattle.ga_rows.proofs.piece.Piece.push_text.Given as goal
+use Rattle.ga_rows.proofs.buffer.Piece.push_text.Given as goal
 use Rattle.std.proofs.Common.{◌≡◌, ◌++◌, take}
 
 -- the bytes so far stand behind the text

@@ -1,5 +1,5 @@
 use Rattle.ga_rows.proofs.DecimalLemmas.{decimal-three_digits, decimal-two_digits}
-use Rattle.ga_rows.proofs.piece.Piece.push_below_1000.Goals as goal
+use Rattle.ga_rows.proofs.buffer.Piece.push_below_1000.Goals as goal
 use Rattle.std.proofs.Common.{append_assoc, arith}
 
 pub returns-then-number-lt100-clause-text : goal.returns-then-number-lt100-clause-text
