@@ -7,6 +7,9 @@ ghost use Rattle.std.specs.Prelude.{◌≡◌, IfErr, IfOk, drop, map, string_by
 use crate::status::Status;
 use std::alloc::Global;
 
+/// The text that tells which words mean something, without the end of its line.
+pub const USAGE: &str = "usage: ga_rows [dec|hex|back|sum|last] [1|2|4|8|16]";
+
 /// How a row is written, and in which order the rows are.
 #[derive(Clone, Copy, Debug, PartialEq, Eq)]
 pub enum Mode {

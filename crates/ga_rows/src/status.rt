@@ -3,6 +3,7 @@ ghost use Rattle.ga_rows.specs.Status.{exit_status, message_of};
 ghost use Rattle.std.specs.Option.{option_map};
 ghost use Rattle.std.specs.Prelude.{◌≡◌, ◌≢◌, ◌↔◌, IfErr, IsOk};
 
+use crate::arguments::USAGE;
 use std::io::ErrorKind;
 
 /// How the program ends.
@@ -40,7 +41,7 @@ impl Status {
     {
         match self {
             Status::Whole | Status::Rest => None,
-            Status::Words => Some("usage: ga_rows [dec|hex|back|sum|last] [1|2|4|8|16]"),
+            Status::Words => Some(USAGE),
             Status::Memory => Some("ga_rows: out of memory"),
             Status::Fault => Some("ga_rows: read or write fault"),
         }
