@@ -176,11 +176,13 @@ impl Write for Piece {
         ensures text { OnOk result (self.new ≡ self.old ++ buf.now) }
         ensures err { OnErr result (self.new ≡ self.old) }
     {
-        if buf.len() > PIECE_SIZE - self.len {
+        // Read once, as in `push`.
+        let len = self.len;
+        if buf.len() > PIECE_SIZE - len {
             return Err(io::Error::from(ErrorKind::WriteZero));
         }
-        self.bytes[self.len..self.len + buf.len()].copy_from_slice(buf);
-        self.len += buf.len();
+        self.bytes[len..len + buf.len()].copy_from_slice(buf);
+        self.len = len + buf.len();
         Ok(())
     }
 
