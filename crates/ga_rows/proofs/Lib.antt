@@ -1,6 +1,5 @@
 pub mod DecimalLemmas
-pub mod DigitLemmas
-pub mod EndLemmas
+pub mod StatusLemmas
 pub mod SumLemmas
 pub mod TableLemmas
 pub mod TextLemmas

@@ -1,26 +1,22 @@
 -- The lines of rows, put down one after the other, and the front of what was put behind a text.
-use Rattle.ga_rows.specs.Text.{line, row_text}
-use Rattle.ga_rows.specs.declared.words.Mode.{Mode}
+use Rattle.ga_rows.specs.Text.{line, lines, row_text}
+use Rattle.ga_rows.specs.declared.arguments.Mode.{Mode}
 use Rattle.std.proofs.Common.{[], ◌≡◌, ℕ, ◌+◌, ◌≤◌, List, ◌∷◌, ◌++◌, None, Option, Some, append_assoc, ap, arith, length, length-take, sym, take, ◌∙◌}
 use Rattle.std.proofs.KnownBytes.{Appends-nil, Appends-trans}
 use Rattle.std.proofs.Math.Seq.{take-append-add}
 use Rattle.std.proofs.lemmas.List.{take-append-le}
 use Rattle.std.specs.Io.KnownBytes.{Appends, Keeps, append_known}
-use Rattle.std.specs.List.{flat_map}
 
 module _ (mode : Mode) where
-  abbrev pub lines : List (List ℕ) → List ℕ
-  lines = flat_map (λ row. line (row_text mode row))
-
   -- known bytes grew by what is, with the lines of the rows that are left, the lines of all
   pub record LinesSoFar (all left : List (List ℕ)) (before now : Option (List ℕ)) : Type 0 where
     pub done : List ℕ
     pub appended : Appends before now done
-    pub whole : lines all ≡ done ++ lines left
+    pub whole : lines mode all ≡ done ++ lines mode left
 
   -- before the first line
   pub lines-none : (all left : List (List ℕ)) (now : Option (List ℕ)) → left ≡ all → LinesSoFar all left now now
-  lines-none all left now same = record { done = []; appended = Appends-nil now; whole = ap lines (sym same) }
+  lines-none all left now same = record { done = []; appended = Appends-nil now; whole = ap (lines mode) (sym same) }
 
   -- also after one more line
   pub lines-more : (all left after : List (List ℕ)) (row : List ℕ) (before now later : Option (List ℕ))
@@ -30,7 +26,7 @@ module _ (mode : Mode) where
       record {
         done = so_far.done ++ first;
         appended = Appends-trans before now later so_far.done first so_far.appended put;
-        whole = so_far.whole ∙ (ap (λ rows. so_far.done ++ lines rows) step ∙ sym (append_assoc so_far.done first (lines after)));
+        whole = so_far.whole ∙ (ap (λ rows. so_far.done ++ lines mode rows) step ∙ sym (append_assoc so_far.done first (lines mode after)));
       }
 
 -- known bytes that a text behind others kept grow by what is put behind the text

@@ -1,4 +1,4 @@
+pub mod Arguments
 pub mod Listed
 pub mod Status
 pub mod Text
-pub mod Words

@@ -1,7 +1,7 @@
 -- The words as the system lists them, with the program's name first.
-use Rattle.ga_rows.specs.Words.{meaning_of_words}
-use Rattle.ga_rows.specs.declared.words.Mode.{Mode}
-use Rattle.ga_rows.specs.declared.words.Width.{Width}
+use Rattle.ga_rows.specs.Arguments.{meaning_of_words}
+use Rattle.ga_rows.specs.declared.arguments.Mode.{Mode}
+use Rattle.ga_rows.specs.declared.arguments.Width.{Width}
 use Rattle.std.specs.Iterator.Runs.{EachRunFrom, WholeRun}
 use Rattle.std.specs.Prelude.{◌≡◌, true, Option, Result, IsOkAnd, String, drop, map, string_bytes}
 use Rattle.std.specs.declared.alloc.Global.{Global}

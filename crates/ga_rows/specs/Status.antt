@@ -1,6 +1,7 @@
 -- What the program's ends are as exit statuses and as texts on standard error.
-use Rattle.ga_rows.specs.declared.ends.Status.{Status}
-use Rattle.ga_rows.specs.declared.ends.Status.TheVariants.{Fault, Memory, Rest, Whole, Words}
+use Rattle.ga_rows.specs.declared.arguments.TheConstants.{USAGE}
+use Rattle.ga_rows.specs.declared.status.Status.{Status}
+use Rattle.ga_rows.specs.declared.status.Status.TheVariants.{Fault, Memory, Rest, Whole, Words}
 use Rattle.std.specs.Prelude.{ℕ, List, Option, None, Some, codes}
 
 abbrev pub exit_status : Status → ℕ
@@ -14,6 +15,6 @@ exit_status Fault = 4
 abbrev pub message_of : Status → Option (List ℕ)
 message_of Whole = None
 message_of Rest = None
-message_of Words = Some (codes "usage: ga_rows [dec|hex|back|sum|last] [1|2|4|8|16]")
+message_of Words = Some USAGE.now
 message_of Memory = Some (codes "ga_rows: out of memory")
 message_of Fault = Some (codes "ga_rows: read or write fault")

@@ -1,10 +1,10 @@
 -- The text of an input: a line for each whole row, and a line for the rest.
 use Rattle.generic_array.specs.HexText.{hex_digits}
 use Rattle.generic_array.specs.Rows.{chunk_rest, rows}
-use Rattle.ga_rows.specs.Words.{bytes_of}
-use Rattle.ga_rows.specs.declared.words.Mode.{Mode}
-use Rattle.ga_rows.specs.declared.words.Mode.TheVariants.{Back, Dec, Hex, Last, Sum}
-use Rattle.ga_rows.specs.declared.words.Width.{Width}
+use Rattle.ga_rows.specs.Arguments.{bytes_of}
+use Rattle.ga_rows.specs.declared.arguments.Mode.{Mode}
+use Rattle.ga_rows.specs.declared.arguments.Mode.TheVariants.{Back, Dec, Hex, Last, Sum}
+use Rattle.ga_rows.specs.declared.arguments.Width.{Width}
 use Rattle.std.specs.List.{flat_map, join_by}
 use Rattle.std.specs.Prelude.{ℕ, List, [], ◌∷◌, ◌++◌, codes, decimal, false, reverse, sum}
 
@@ -24,6 +24,10 @@ row_text Back row = numbers_text (reverse row)
 row_text Sum row = decimal (sum row)
 row_text Last row = numbers_text row
 
+-- the lines of rows, one after the other
+abbrev pub lines : Mode → List (List ℕ) → List ℕ
+lines mode rows = flat_map (λ row. line (row_text mode row)) rows
+
 -- the rows in the order in which they are written
 abbrev pub in_order : Mode → List (List ℕ) → List (List ℕ)
 in_order Last rows = reverse rows
@@ -31,7 +35,7 @@ in_order _ rows = rows
 
 -- their lines
 abbrev pub row_lines : Mode → List (List ℕ) → List ℕ
-row_lines mode rows = flat_map (λ row. line (row_text mode row)) (in_order mode rows)
+row_lines mode rows = lines mode (in_order mode rows)
 
 -- the line of the bytes that fill no row, if there are any
 abbrev pub rest_line : List ℕ → List ℕ

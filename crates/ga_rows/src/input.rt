@@ -2,7 +2,7 @@
 ghost use Rattle.std.specs.Io.KnownBytes.{IsAtEnd};
 ghost use Rattle.std.specs.Prelude.{◌≡◌, ◌⊎◌, ◌+◌, ◌<◌, ◌++◌, IfErr, IfOk, IfSome, OnErr, OnOk, length, vec_capacity, vec_len};
 
-use crate::ends::{Status, after_failed_read};
+use crate::status::{Status, after_failed_read};
 use std::alloc::Global;
 use std::io::Read;
 

@@ -7,23 +7,22 @@
 //! last line that begins with `rest`. No words mean `dec 4`.
 #![tactic(auto)]
 
-mod digits;
-mod ends;
+mod arguments;
+mod buffer;
+mod decimal;
 mod input;
-mod numbers;
 mod output;
-mod piece;
 mod program;
+mod status;
 #[cfg(test)]
 mod tests;
-mod words;
 
-pub use ends::Status;
+pub use arguments::{Mode, Width, parse_words};
 pub use output::rows;
 pub use program::{run, run_listed};
+pub use status::Status;
 use std::process::ExitCode;
 use std::{env, io};
-pub use words::{Mode, Width, parse_words};
 
 fn main(rt: HostRuntime) -> ExitCode {
     run_listed(

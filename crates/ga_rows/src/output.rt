@@ -1,15 +1,15 @@
 //! Writing the rows of an input.
 ghost use Rattle.generic_array.specs.Views.{items_of_chunks, items_of_view};
 ghost use Rattle.generic_array.specs.Rows.{chunk_rest, rows};
-ghost use Rattle.ga_rows.specs.Text.{line, lines_of, rest_line, row_lines, row_text, text_of};
-ghost use Rattle.ga_rows.specs.Words.{bytes_of};
+ghost use Rattle.ga_rows.specs.Text.{line, lines, lines_of, rest_line, row_lines, row_text, text_of};
+ghost use Rattle.ga_rows.specs.Arguments.{bytes_of};
 ghost use Rattle.std.specs.Io.KnownBytes.{Appends, append_known};
-ghost use Rattle.std.specs.Prelude.{◌≡◌, ◌≢◌, ◌+◌, ◌<◌, ◌≤◌, ◌↔◌, [], ◌++◌, IfOk, IsOk, IsTrue, OnOk, length, sum};
+ghost use Rattle.std.specs.Prelude.{◌≡◌, ◌≢◌, ◌+◌, ◌<◌, ◌≤◌, ◌↔◌, [], ◌++◌, IfOk, IsOk, IsTrue, OnOk, length, reverse, sum};
 
-use crate::digits::HexTable;
-use crate::piece::{PIECE_SIZE, Piece};
-use crate::words::{Mode, Width};
+use crate::arguments::{Mode, Width};
+use crate::buffer::{PIECE_SIZE, Piece};
 use generic_array::checks::total_by;
+use generic_array::hex_text::write_hex;
 use generic_array::{ArrayLength, ChunksRef, GenericArrayRef, U1, U2, U4, U8, U16};
 use std::io;
 use std::io::Write;
@@ -53,20 +53,18 @@ fn rows_of<N: ArrayLength<u8>, W: Write>(
 {
     let (chunks, rest) = ChunksRef::<u8, N>::chunks_from_slice(input);
     let mut piece = Piece::new();
-    put_rows(&mut piece, w, &HexTable::new(), mode, &chunks)?;
+    put_rows(&mut piece, w, mode, &chunks)?;
     put_rest(&mut piece, w, rest)?;
     hand_over(&mut piece, w)?;
     Ok(!rest.is_empty())
 }
 
-// Puts the lines of all rows behind the piece, from the last on in mode `last`.
-// Each loop hands a full piece over by itself: a function for it that is inlined, as `put_row` is,
-// would clear the room of its results at each row.
+// Puts the lines of all rows behind the piece, in the order of the mode.
+// Each mode has a copy of the loop and of `put_row` that knows it, so that no row asks for it.
 #[inline]
 fn put_rows<N: ArrayLength<u8>, W: Write>(
     piece: &mut Piece,
     w: &mut W,
-    table: &HexTable,
     mode: Mode,
     chunks: &ChunksRef<'_, u8, N>,
 ) -> Result<(), io::Error>
@@ -76,44 +74,79 @@ fn put_rows<N: ArrayLength<u8>, W: Write>(
         (row_lines mode (rows N.USIZE (items_of_chunks chunks.now)))) }
     ensures empty { rows N.USIZE (items_of_chunks chunks.now) ≡ [] → IsOk result × (piece.new ≡ piece.old) }
 {
-    if mode == Mode::Last {
-        for last in chunks.iter().rev() {
-            if !piece.has_room(LONGEST_LINE) {
-                hand_over(piece, w)?;
-            }
-            put_row(piece, table, mode, last);
+    match mode {
+        Mode::Dec => put_from_first(piece, w, Mode::Dec, chunks),
+        Mode::Hex => put_from_first(piece, w, Mode::Hex, chunks),
+        Mode::Back => put_from_first(piece, w, Mode::Back, chunks),
+        Mode::Sum => put_from_first(piece, w, Mode::Sum, chunks),
+        Mode::Last => put_from_last(piece, w, chunks),
+    }
+}
+
+// Puts the lines of all rows behind the piece, from the first on.
+#[inline(always)]
+fn put_from_first<N: ArrayLength<u8>, W: Write>(
+    piece: &mut Piece,
+    w: &mut W,
+    mode: Mode,
+    chunks: &ChunksRef<'_, u8, N>,
+) -> Result<(), io::Error>
+    requires { N.USIZE ≤ 16 }
+    ensures text { OnOk result (Appends (append_known (W.contents w.old) piece.old)
+        (append_known (W.contents w.new) piece.new)
+        (lines mode (rows N.USIZE (items_of_chunks chunks.now)))) }
+    ensures empty { rows N.USIZE (items_of_chunks chunks.now) ≡ [] → IsOk result × (piece.new ≡ piece.old) }
+{
+    for row in chunks.iter() {
+        if !piece.has_room(LONGEST_LINE) {
+            hand_over(piece, w)?;
         }
-    } else {
-        for row in chunks.iter() {
-            if !piece.has_room(LONGEST_LINE) {
-                hand_over(piece, w)?;
-            }
-            put_row(piece, table, mode, row);
+        put_row(piece, mode, row)?;
+    }
+    Ok(())
+}
+
+// Puts the lines of all rows behind the piece, from the last on.
+#[inline(always)]
+fn put_from_last<N: ArrayLength<u8>, W: Write>(
+    piece: &mut Piece,
+    w: &mut W,
+    chunks: &ChunksRef<'_, u8, N>,
+) -> Result<(), io::Error>
+    requires { N.USIZE ≤ 16 }
+    ensures text { OnOk result (Appends (append_known (W.contents w.old) piece.old)
+        (append_known (W.contents w.new) piece.new)
+        (lines Mode.Last (reverse (rows N.USIZE (items_of_chunks chunks.now))))) }
+    ensures empty { rows N.USIZE (items_of_chunks chunks.now) ≡ [] → IsOk result × (piece.new ≡ piece.old) }
+{
+    for row in chunks.iter().rev() {
+        if !piece.has_room(LONGEST_LINE) {
+            hand_over(piece, w)?;
         }
+        put_row(piece, Mode::Last, row)?;
     }
     Ok(())
 }
 
 // Puts the line of one row behind the piece.
-// Two loops call it, and each is the faster for a copy of its own.
 #[inline(always)]
 fn put_row<N: ArrayLength<u8>>(
     piece: &mut Piece,
-    table: &HexTable,
     mode: Mode,
     row: GenericArrayRef<'_, u8, N>,
-)
+) -> Result<(), io::Error>
     requires few { N.USIZE ≤ 16 }
     requires room { length piece.old + LONGEST_LINE ≤ PIECE_SIZE }
-    ensures { piece.new ≡ piece.old ++ line (row_text mode (items_of_view row.entry)) }
+    ensures { OnOk result (piece.new ≡ piece.old ++ line (row_text mode (items_of_view row.entry))) }
 {
     match mode {
         Mode::Dec | Mode::Last => piece.push_numbers(row.as_slice()),
-        Mode::Hex => piece.push_hex(table, row.as_slice()),
+        Mode::Hex => write_hex(row.as_slice(), false, None, piece)?,
         Mode::Back => piece.push_numbers_back(row.as_slice()),
         Mode::Sum => piece.push_decimal(sum_of(row)),
     }
     piece.push(b'\n');
+    Ok(())
 }
 
 // The sum of a row's bytes.

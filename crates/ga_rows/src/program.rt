@@ -2,19 +2,20 @@
 ghost use Rattle.generic_array.specs.Rows.{chunk_rest};
 ghost use Rattle.ga_rows.specs.Listed.{ListedAnd, ListedEach};
 ghost use Rattle.ga_rows.specs.Text.{text_of};
-ghost use Rattle.ga_rows.specs.Words.{bytes_of, meaning_of_words};
+ghost use Rattle.ga_rows.specs.Arguments.{bytes_of, meaning_of_words};
 ghost use Rattle.std.specs.Io.KnownBytes.{Appends, IsAtEnd};
+ghost use Rattle.std.specs.IoError.{error_kind};
 ghost use Rattle.std.specs.Iterator.{IsFinite};
-ghost use Rattle.std.specs.Prelude.{◌≡◌, ◌≢◌, ◌⊎◌, ◌↔◌, ◌≤◌, [], IfOk, IfSome, IsSomeAnd, map, string_bytes};
+ghost use Rattle.std.specs.Prelude.{◌≡◌, ◌≢◌, ◌⊎◌, ◌↔◌, ◌≤◌, [], IfErr, IfOk, IfSome, IsSomeAnd, map, string_bytes};
 ghost use Rattle.std.specs.Process.{exit_status as process_status};
 
-use crate::ends::Status;
+use crate::arguments::{parse_words, words_after_name};
 use crate::input::read_all;
 use crate::output::rows;
-use crate::words::{parse_words, words_after_name};
+use crate::status::Status;
 use std::alloc::Global;
 use std::io;
-use std::io::{Read, Write};
+use std::io::{ErrorKind, Read, Write};
 use std::process::ExitCode;
 
 /// The whole program, from the words that the system lists, the program's name first, to its exit
@@ -46,6 +47,9 @@ pub fn run_listed<I: Iterator<Item = String>, R: Read, W: Write, E: Write>(
         → (process_status result ≡ 2) ⊎ (process_status result ≡ 3) }
     ensures unread { ListedEach I.next_gives listed (λ meant. meant ≡ None) → r.new ≡ r.old }
     ensures untouched { process_status result ≡ 2 → (r.new ≡ r.old) × (w.new ≡ w.old) }
+    ensures unlisted { IfErr listed (λ fault.
+        (process_status result ≡ 3) ↔ (error_kind fault ≡ ErrorKind.OutOfMemory)) }
+    ensures unlisted_else { IfErr listed (λ _. (process_status result ≡ 3) ⊎ (process_status result ≡ 4)) }
     ensures end { process_status result ≤ 1 → IsAtEnd (R.remaining r.new) }
     ensures memory { process_status result ≡ 3 → w.new ≡ w.old }
     ensures fault { process_status result ≡ 4 → (w.new ≡ w.old) ⊎ IsAtEnd (R.remaining r.new) }

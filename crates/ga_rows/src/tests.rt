@@ -3,6 +3,7 @@ mod doubles;
 mod faults;
 mod refused_memory;
 
+use crate::arguments::USAGE;
 use crate::{Mode, Status, Width, parse_words, run, run_listed};
 use doubles::{Manner, Sink, Source, WHOLE, repeated};
 use std::env::Args;
@@ -57,9 +58,16 @@ const CASES: [(&str, &str, &str, u8); 18] = [
     ("ga_rows last 3", "abcd", "", 2),
 ];
 
+/// Whether a text is this line with its end, or empty where there is none.
+fn has_line(text: &[u8], line: Option<&str>) -> bool {
+    match line {
+        Some(line) => text.strip_suffix(b"\n") == Some(line.as_bytes()),
+        None => text.is_empty(),
+    }
+}
+
 #[test]
 fn words_and_input_give_texts_and_an_exit_status(rt: HostRuntime) -> Result<(), Fail> {
-    let usage = "usage: ga_rows [dec|hex|back|sum|last] [1|2|4|8|16]\n";
     for (words, input, printed, code) in CASES {
         let mut listed = Vec::new(rt.alloc());
         for word in words.split(' ') {
@@ -70,9 +78,9 @@ fn words_and_input_give_texts_and_an_exit_status(rt: HostRuntime) -> Result<(), 
         let mut out = Vec::new(rt.alloc());
         let mut err = Vec::new(rt.alloc());
         let end = run_listed(rt.alloc(), listed, &mut input, &mut out, &mut err);
-        let told = if code == 2 { usage } else { "" };
+        let told = if code == 2 { Some(USAGE) } else { None };
         let is_printed = out.as_slice() == printed.as_bytes();
-        let is_told = err.as_slice() == told.as_bytes();
+        let is_told = has_line(err.as_slice(), told);
         let is_ended = end == ExitCode::from(code);
         assert!(rt; is_printed && is_told && is_ended, "{words}");
     }

@@ -1,6 +1,6 @@
 //! A reader's end, on both sides of the bound on reads.
 use super::{read_all, read_within};
-use crate::ends::Status;
+use crate::status::Status;
 use std::io;
 use std::io::{ErrorKind, Read};
 

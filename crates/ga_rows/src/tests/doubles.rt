@@ -78,7 +78,8 @@ pub struct Sink<'a> {
 }
 
 impl<'a> Sink<'a> {
-    /// A writer that expects this text, and fails at the call of this number, from 1.
+    /// A writer that expects this text, and fails at the call of this number, from 1, with the kind
+    /// `StorageFull`, which nothing else has here.
     pub fn new(text: &'a [u8], manner: Manner, fails_at: usize) -> Self {
         Sink {
             to_come: text,
@@ -114,7 +115,7 @@ impl Write for Sink<'_> {
     fn write(&mut self, buf: &[u8]) -> io::Result<usize> {
         self.writes = self.writes.saturating_add(1);
         if self.writes == self.fails_at {
-            return Err(io::Error::from(ErrorKind::BrokenPipe));
+            return Err(io::Error::from(ErrorKind::StorageFull));
         }
         if self.writes.checked_rem(self.manner.period) == Some(1) {
             return Err(io::Error::from(ErrorKind::Interrupted));

@@ -36,15 +36,23 @@ enum Call {
     Listed,
 }
 
-/// How `rows` ended, or `None` where its fault isn't the writer's.
+/// How `rows` ended, or `None` where its fault isn't that of the write that failed or took nothing.
 fn rows_end(case: &Case<'_>, sink: &mut Sink<'_>) -> Option<Status> {
     match rows(case.input, case.mode, Width::W4, sink) {
         Ok(false) => Some(Status::Whole),
         Ok(true) => Some(Status::Rest),
-        Err(fault) => match fault.kind() {
-            ErrorKind::BrokenPipe | ErrorKind::WriteZero => Some(Status::Fault),
-            _ => None,
-        },
+        Err(fault) => {
+            let kind = if sink.has_failed() {
+                ErrorKind::StorageFull
+            } else {
+                ErrorKind::WriteZero
+            };
+            if fault.kind() == kind {
+                Some(Status::Fault)
+            } else {
+                None
+            }
+        }
     }
 }
 
@@ -195,6 +203,16 @@ fn each_fails_in_rows(
         status,
     };
     Ok(each_fails(alloc, &case, writes))
+}
+
+#[test]
+fn a_fault_of_the_writer_keeps_its_kind(rt: HostRuntime) {
+    for (word, mode, _, _) in MODES {
+        let mut sink = Sink::new(b"", WHOLE, 1);
+        let end = rows(&ROW, mode, Width::W4, &mut sink);
+        let is_kept = end.is_err_and(|fault| fault.kind() == ErrorKind::StorageFull);
+        assert!(rt; is_kept, "{word}");
+    }
 }
 
 #[test]

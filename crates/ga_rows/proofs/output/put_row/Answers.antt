@@ -1,5 +1,5 @@
 use Rattle.ga_rows.proofs.output.put_row.Goals as goal
-use Rattle.ga_rows.proofs.output.put_row.Goals.{in-Dec, in-Hex, in-Back, in-Sum}
+use Rattle.ga_rows.proofs.output.put_row.Goals.{in-Dec, in-Hex+in_ok-write_hex-in-Hex, in-Back, in-Sum}
 use Rattle.generic_array.proofs.HexLemmas.{length-hex_digits}
 use Rattle.generic_array.specs.HexText.{hex_digits}
 use Rattle.std.proofs.Common.{false, ap, arith, length, length-append, rules}
@@ -8,11 +8,11 @@ use Rattle.std.proofs.Common.{false, ap, arith, length, length-append, rules}
 pub push-requires : goal.push-requires
 push-requires g c = elim c.match-mode.branch [
   | in-Dec w ↦ search rules
-  | in-Hex w ↦
+  | in-Hex+in_ok-write_hex-in-Hex w ↦
       let written = w.as_slice-in-Hex.result.now in
       omega (
         arith,
-        ap length w.push_hex.ensures,
+        ap length w.in_ok-write_hex-in-Hex.ensures.text,
         length-append c.args.piece.now (hex_digits false written),
         length-hex_digits false written,
         w.as_slice-in-Hex.ensures.len,

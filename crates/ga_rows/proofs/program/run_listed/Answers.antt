@@ -1,11 +1,11 @@
 use Rattle.generic_array.specs.Rows.{chunk_rest}
-use Rattle.ga_rows.proofs.EndLemmas.{IsSomeAnd-there, ListedAnd-kept, ListedEach-kept, ended_rest, ended_well, ended_whole, ended_words}
+use Rattle.ga_rows.proofs.StatusLemmas.{IsSomeAnd-there, ListedAnd-kept, ListedEach-kept, ended_rest, ended_well, ended_whole, ended_words}
 use Rattle.ga_rows.proofs.program.run_listed.Goals as goal
 use Rattle.ga_rows.proofs.program.run_listed.Goals.{in-Ok+in-Ok-words_after_name, in-Ok+in-Err-words_after_name, in-Err}
 use Rattle.ga_rows.specs.Text.{text_of}
-use Rattle.ga_rows.specs.Words.{bytes_of, meaning_of_words}
+use Rattle.ga_rows.specs.Arguments.{bytes_of, meaning_of_words}
 use Rattle.std.proofs.Common.{◌≡◌, ◌≢◌, ◌⊎◌, None, [], IfSome, IsSomeAnd, ap, inl, inr, map, rules, string_bytes, ◌∙◌}
-use Rattle.ga_rows.specs.declared.ends.Status.TheVariants.{Rest, Whole, Words}
+use Rattle.ga_rows.specs.declared.status.Status.TheVariants.{Rest, Whole, Words}
 use Rattle.std.specs.Io.KnownBytes.{Appends}
 
 pub returns-clause-text : goal.returns-clause-text
