@@ -64,13 +64,6 @@ fn masked_sequence<
     key.map(place, |b: u8| b ^ mask)
 }
 
-fn checksum<S: FunctionalSequence<u8> + IntoIterator<Item = u8>>(bytes: S) -> u8
-    requires by_value { (b : ℕ) → S.entry b ≡ b }
-    ensures { result ≡ fold (λ total b. (total + b) % 2 ^ 8) 0 (S.items bytes) }
-{
-    bytes.fold(0, |total: u8, b: u8| total.wrapping_add(b))
-}
-
 fn masked_and_totalled<
     S: FunctionalSequence<u8> + MappedGenericSequence<u8, u8>,
     F: FnMut(SequenceItem<S>) -> u8,
@@ -259,7 +252,7 @@ fn masks_are_right(alloc: Global) -> Result<bool, AllocError> {
     Ok(
         seen && has(boxed, &[0x37, 1, 0xfe])
             && sum == 0x36
-            && checksum(again) == 5
+            && checksum_of_any(&again) == 5
             && total == 0xff
             && has(masked(key), &[0, 0x36, 0xc9]),
     )

@@ -1,9 +1,14 @@
 //! Conversions by the traits of std, arrays of zeros, and types with a length.
-ghost use Rattle.std.specs.Prelude.{◌≡◌, ◌∷◌, [], ◌↔◌, IfOk, IsOk, drop, length, replicate, take};
+ghost use Rattle.std.specs.Prelude.{◌≡◌, ◌∷◌, [], ◌↔◌, IfOk, IsOk, Ok, drop, length, replicate, take};
 
-use crate::answers::has;
+use crate::answers::{gives, has};
+use crate::kinds::one_two_three;
 use generic_array::sequence::{Concat, Split};
-use generic_array::{ArrayLength, GenericArray, InlineLength, LengthError, U2, U3, U4, U6, U16};
+use generic_array::{
+    AllocError, ArrayLength, BoxedArray, GenericArray, InlineLength, LengthError, U2, U3, U4, U6,
+    U16,
+};
+use std::alloc::Global;
 
 fn from_native() -> GenericArray<u8, U3>
     ensures { result ≡ 1 ∷ 2 ∷ 3 ∷ [] }
@@ -30,6 +35,44 @@ fn from_vector<N: ArrayLength<u8> + InlineLength>(
     ensures ok { IfOk result (λ array. array ≡ items.items) }
 {
     items.try_into()
+}
+
+// To a vector, and from what that gave to a boxed slice.
+
+fn through_a_vector<N: ArrayLength<u32>>(
+    alloc: Global,
+    array: GenericArray<u32, N>,
+) -> Result<Result<GenericArray<u32, N>, LengthError>, AllocError>
+    ensures { IfOk result (λ again. again ≡ Ok array) }
+{
+    let _ = array.as_slice();
+    let Ok(array) = GenericArray::<_, N>::try_from_vec(array.into_vec(alloc)?) else {
+        return Ok(Err(LengthError));
+    };
+    Ok(GenericArray::try_from_boxed_slice(array.into_boxed_slice(alloc)?))
+}
+
+fn boxed_through_a_vector<N: ArrayLength<u32>>(
+    alloc: Global,
+    array: GenericArray<u32, N>,
+) -> Result<Result<BoxedArray<u32, N>, LengthError>, AllocError>
+    ensures { IfOk result (λ again. again ≡ Ok array) }
+{
+    let boxed = BoxedArray::from_inline(alloc, array)?;
+    let Ok(boxed) = BoxedArray::<_, N>::try_from_vec(alloc, boxed.into_vec()?)? else {
+        return Ok(Err(LengthError));
+    };
+    BoxedArray::try_from_boxed_slice(alloc, boxed.into_boxed_slice()?)
+}
+
+// `?` makes std's error of the library's.
+fn vector_as_in_std<N: ArrayLength<u32>>(
+    alloc: Global,
+    array: GenericArray<u32, N>,
+) -> Result<Vec<u32>, std::alloc::AllocError>
+    ensures { IfOk result (λ items. items.items ≡ array) }
+{
+    Ok(array.into_vec(alloc)?)
 }
 
 fn zeros() -> GenericArray<u8, U16>
@@ -94,6 +137,12 @@ fn conversions_keep_the_items(rt: HostRuntime) {
     assert!(rt; into_native(from_native()) == [1, 2, 3]);
     let none: Vec<u8> = Vec::new(rt.alloc());
     assert!(rt; from_vector::<U3>(none).is_err());
+    let three = [1, 2, 3].as_slice();
+    let again = through_a_vector(rt.alloc(), one_two_three());
+    assert!(rt; again.is_ok_and(|again| gives(again, three)));
+    let again = boxed_through_a_vector(rt.alloc(), one_two_three());
+    assert!(rt; again.is_ok_and(|again| gives(again, three)));
+    assert!(rt; gives(vector_as_in_std(rt.alloc(), one_two_three()), three));
 }
 
 #[test]

@@ -43,14 +43,6 @@ fn without_the_first(array: GenericArray<u32, U3>) -> (u32, GenericArray<u32, U2
     array.pop_front()
 }
 
-fn without_the_six(array: GenericArray<u32, U3>) -> GenericArray<u32, U2>
-    requires { array ≡ 4 ∷ 5 ∷ 6 ∷ [] }
-    ensures { result ≡ 4 ∷ 5 ∷ [] }
-{
-    let (others, _six) = array.pop_back();
-    others
-}
-
 fn of_both(left: GenericArray<u32, U3>, right: GenericArray<u32, U2>) -> GenericArray<u32, U5>
     requires left { left ≡ 1 ∷ 2 ∷ 3 ∷ [] }
     requires right { right ≡ 4 ∷ 5 ∷ [] }
@@ -80,15 +72,6 @@ fn cut_after_the_first(
 ) -> (GenericArray<u32, U1>, GenericArray<u32, U2>)
     requires { array ≡ 1 ∷ 2 ∷ 3 ∷ [] }
     ensures { result ≡ (1 ∷ [], 2 ∷ 3 ∷ []) }
-{
-    array.split()
-}
-
-fn cut_before_the_first(
-    array: GenericArray<u32, U3>,
-) -> (GenericArray<u32, U0>, GenericArray<u32, U3>)
-    requires { array ≡ 1 ∷ 2 ∷ 3 ∷ [] }
-    ensures { result ≡ ([], 1 ∷ 2 ∷ 3 ∷ []) }
 {
     array.split()
 }
@@ -161,13 +144,6 @@ fn with_the_last_second(array: GenericArray<u32, U4>) -> (u32, GenericArray<u32,
     array.swap_remove_unchecked(1)
 }
 
-fn all_of(rows: Square) -> GenericArray<u32, U4>
-    requires { rows ≡ (1 ∷ 2 ∷ []) ∷ (3 ∷ 4 ∷ []) ∷ [] }
-    ensures { result ≡ 1 ∷ 2 ∷ 3 ∷ 4 ∷ [] }
-{
-    rows.flatten()
-}
-
 fn as_rows(array: GenericArray<u32, U4>) -> Square
     requires { array ≡ 1 ∷ 2 ∷ 3 ∷ 4 ∷ [] }
     ensures { result ≡ (1 ∷ 2 ∷ []) ∷ (3 ∷ 4 ∷ []) ∷ [] }
@@ -175,30 +151,10 @@ fn as_rows(array: GenericArray<u32, U4>) -> Square
     array.unflatten()
 }
 
-fn as_rows_and_joined_again(array: GenericArray<u32, U4>) -> GenericArray<u32, U4>
-    ensures { result ≡ array }
-{
-    let rows: Square = array.unflatten();
-    rows.flatten()
-}
-
-fn joined_and_cut_again(rows: Square) -> Square
-    ensures { result ≡ rows }
-{
-    let array: GenericArray<u32, U4> = rows.flatten();
-    array.unflatten()
-}
-
 fn copy_of_rows(rows: &Square) -> Result<GenericArray<u32, U4>, LengthError>
     ensures ok { IfOk result (λ all. all ≡ flat_map (λ row. row) rows.now) }
 {
     GenericArray::try_from_iter(iter_flat(rows.view()).copied())
-}
-
-fn doubled_rows(rows: &Square) -> Result<GenericArray<u32, U4>, LengthError>
-    ensures ok { IfOk result (λ all. all ≡ map (λ item. item * 2 % 2 ^ 32) (flat_map (λ row. row) rows.now)) }
-{
-    GenericArray::try_from_iter(iter_flat(rows.view()).map(|item| item.wrapping_mul(2)))
 }
 
 fn sum_of_rows(rows: &Square) -> u32
@@ -211,17 +167,9 @@ fn sum_of_rows(rows: &Square) -> u32
     sum
 }
 
-fn copy_of_four_rows(rows: &Square) -> Result<GenericArray<u32, U4>, LengthError>
-    requires { rows.now ≡ (1 ∷ 2 ∷ []) ∷ (3 ∷ 4 ∷ []) ∷ [] }
-    ensures { result ≡ Ok (1 ∷ 2 ∷ 3 ∷ 4 ∷ []) }
-{
-    GenericArray::try_from_iter(iter_flat(rows.view()).copied())
-}
-
 #[test]
 fn rows_give_their_items_and_those_of_their_copies(rt: HostRuntime) {
     let rows = as_rows(with_four_last(one_two_three()));
     assert!(rt; copy_of_rows(&rows).is_ok_and(|all| all.as_slice() == [1, 2, 3, 4].as_slice()));
-    assert!(rt; doubled_rows(&rows).is_ok_and(|all| all.as_slice() == [2, 4, 6, 8].as_slice()));
     assert!(rt; sum_of_rows(&rows) == 10);
 }

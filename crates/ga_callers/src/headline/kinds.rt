@@ -2,7 +2,7 @@
 ghost use Rattle.generic_array.specs.Views.{items_of_view};
 ghost use Rattle.generic_array.specs.declared.steps.step.Reply.TheVariants.{Item, Old, Seen};
 ghost use Rattle.generic_array.specs.declared.steps.step.Step.TheVariants.{Look, Next, NextBack, Set};
-ghost use Rattle.std.specs.Prelude.{◌≡◌, ◌≢◌, ◌+◌, ◌%◌, ◌^◌, [], ◌∷◌, ◌++◌, Err, IfOk, IsErr, Ok, OnOk, Some, if◌then◌else◌, length, nat_lt};
+ghost use Rattle.std.specs.Prelude.{◌≡◌, ◌≢◌, ◌+◌, ◌%◌, ◌^◌, [], ◌∷◌, ◌++◌, Err, IfOk, IsErr, Ok, OnOk, Some, if◌then◌else◌, length, nat_eq, nat_lt};
 
 use super::builds::build;
 use super::calls::{fold, map, try_fold, try_map, zip};
@@ -12,7 +12,7 @@ use super::shapes::{
     unflatten_then_flatten,
 };
 use super::steps::walk;
-use crate::kinds::{boxed_one_two_three, four_five_six, one_two_three, stopped_at_two};
+use crate::kinds::{boxed_one_two_three, four_five_six, one_two_three};
 use generic_array::sequence::{GenericSequence, SequenceItem};
 use generic_array::steps::{Reply, Step};
 use generic_array::{
@@ -156,6 +156,13 @@ fn sum_of_boxed(array: BoxedArray<u32, U3>) -> u32
     ensures { result ≡ 6 }
 {
     fold(array, 0, &mut |sum: u32, item: u32| sum.wrapping_add(item))
+}
+
+/// The entry, or an error where it is 2.
+fn stopped_at_two(entry: u32) -> Result<u32, u32>
+    ensures { result ≡ (if nat_eq entry 2 then Err entry else Ok entry) }
+{
+    if entry == 2 { Err(entry) } else { Ok(entry) }
 }
 
 fn stopped_in_inline(array: GenericArray<u32, U3>) -> Result<GenericArray<u32, U3>, u32>

@@ -1,4 +1,3 @@
-//! Inline arrays at concrete types.
+//! Each call of inline arrays at concrete types.
 mod builds;
 mod comparisons;
-mod conversions;

@@ -80,16 +80,6 @@ pub fn inline_fill<T: Numbered + Drop, N: ArrayLength<T>, I: Iterator<Item = T>>
     fill_outcome(GenericArray::<T, N>::try_from_iter_ref(items))
 }
 
-/// `try_from_iter`.
-pub fn inline_fill_by_value<T: Numbered + Drop, N: ArrayLength<T>, I: Iterator<Item = T>>(
-    items: I,
-) -> Outcome
-    requires fits { FitsInline N.USIZE }
-    requires can { I.can_next items }
-{
-    fill_outcome(GenericArray::<T, N>::try_from_iter(items))
-}
-
 /// `try_boxed_from_iter_ref`.
 pub fn boxed_fill<T: Numbered + Drop, N: Unsigned, I: Iterator<Item = T>>(
     alloc: Global,
@@ -98,16 +88,6 @@ pub fn boxed_fill<T: Numbered + Drop, N: Unsigned, I: Iterator<Item = T>>(
     requires can { I.can_next items.old }
 {
     boxed_outcome(BoxedArray::<T, N>::try_boxed_from_iter_ref(alloc, items))
-}
-
-/// `try_boxed_from_iter`.
-pub fn boxed_fill_by_value<T: Numbered + Drop, N: Unsigned, I: Iterator<Item = T>>(
-    alloc: Global,
-    items: I,
-) -> Outcome
-    requires can { I.can_next items }
-{
-    boxed_outcome(BoxedArray::<T, N>::try_boxed_from_iter(alloc, items))
 }
 
 /// `extend` of a builder.
@@ -133,18 +113,6 @@ pub fn inline_fallible_fill<
     inline_outcome(GenericArray::<T, N>::try_from_fallible_iter_ref(items))
 }
 
-/// `try_from_fallible_iter`.
-pub fn inline_fallible_fill_by_value<
-    T: Numbered + Drop,
-    N: ArrayLength<T>,
-    I: Iterator<Item = Result<T, u32>>,
->(items: I) -> Outcome
-    requires fits { FitsInline N.USIZE }
-    requires can { I.can_next items }
-{
-    inline_outcome(GenericArray::<T, N>::try_from_fallible_iter(items))
-}
-
 /// `try_boxed_from_fallible_iter_ref`.
 pub fn boxed_fallible_fill<T: Numbered + Drop, N: Unsigned, I: Iterator<Item = Result<T, u32>>>(
     alloc: Global,
@@ -153,17 +121,6 @@ pub fn boxed_fallible_fill<T: Numbered + Drop, N: Unsigned, I: Iterator<Item = R
     requires can { I.can_next items.old }
 {
     kind_outcome(BoxedArray::<T, N>::try_boxed_from_fallible_iter_ref(alloc, items))
-}
-
-/// `try_boxed_from_fallible_iter`.
-pub fn boxed_fallible_fill_by_value<
-    T: Numbered + Drop,
-    N: Unsigned,
-    I: Iterator<Item = Result<T, u32>>,
->(alloc: Global, items: I) -> Outcome
-    requires can { I.can_next items }
-{
-    kind_outcome(BoxedArray::<T, N>::try_boxed_from_fallible_iter(alloc, items))
 }
 
 /// `from_fallible_iter_ref` of a kind.
@@ -178,20 +135,6 @@ where
     requires can { I.can_next items.old }
 {
     kind_outcome(S::from_fallible_iter_ref(place, items))
-}
-
-/// `from_fallible_iter` of a kind.
-pub fn kind_fill_by_value<
-    T: Numbered,
-    S: FromFallibleIterator<T> + Drop,
-    I: Iterator<Item = Result<T, u32>>,
->(place: S::Place, items: I) -> Outcome
-where
-    S::Error: Drop,
-    requires fits { S.Fits }
-    requires can { I.can_next items }
-{
-    kind_outcome(S::from_fallible_iter(place, items))
 }
 
 /// `try_extend` of a builder.

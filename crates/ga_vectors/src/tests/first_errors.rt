@@ -1,14 +1,8 @@
 //! Closures that fail at each place: which calls are made, and what is dropped.
-ghost use Rattle.generic_array.specs.Length.{FitsInline};
-
 use crate::tests::calls::{boxed, inline};
 use crate::tests::counted::{Counted, Counts};
 use crate::tests::items::{boxed_counted_from, counted_from};
-use generic_array::functional::FunctionalSequence;
-use generic_array::sequence::FallibleGenericSequence;
-use generic_array::{
-    AllocError, BorrowedItems, BoxedArray, GenericArray, GenericArrayRef, U5, always,
-};
+use generic_array::{AllocError, BoxedArray, GenericArray, U5};
 use std::alloc::Global;
 use std::cell::Cell;
 use std::test::Fail;
@@ -94,66 +88,12 @@ fn boxed_generate(alloc: Global, refused: u32) -> Result<End, AllocError> {
     Ok(end_of(built, &failing, &none))
 }
 
-/// The same by the call of the trait, of the kind of views.
-fn view_generate(refused: u32) -> End {
-    let (answers, none) = (Counts::new(), Counts::new());
-    let failing = Failing::at(refused, &answers);
-    let built: Result<GenericArray<Counted, U5>, u32> = always(<GenericArrayRef<
-        Counted,
-        U5,
-    > as FallibleGenericSequence<Counted>>::try_generate_by(
-        (),
-        &mut |index: usize| failing.answer(index as u32 + 1),
-    ));
-    end_of(built, &failing, &none)
-}
-
 /// The end of `try_map_by` of five items, inline.
 fn inline_map(refused: u32) -> End {
     let (answers, entries) = (Counts::new(), Counts::new());
     let failing = Failing::at(refused, &answers);
     let five = counted_from::<U5>(&entries, 1);
-    let built = inline::try_map(five, |item: Counted| failing.answer(item.place()), true);
-    end_of(built, &failing, &entries)
-}
-
-/// The same of the plain call.
-fn plain_map(refused: u32) -> End {
-    let (answers, entries) = (Counts::new(), Counts::new());
-    let failing = Failing::at(refused, &answers);
-    let five = counted_from::<U5>(&entries, 1);
-    let built = five.try_map_inline_by(&mut |item: Counted| failing.answer(item.place()));
-    end_of(built, &failing, &entries)
-}
-
-/// The same of the plain call by reference.
-fn plain_map_ref(refused: u32) -> End {
-    let (answers, entries) = (Counts::new(), Counts::new());
-    let failing = Failing::at(refused, &answers);
-    let five = counted_from::<U5>(&entries, 1);
-    let mut answer = |item: &Counted| failing.answer(item.place());
-    let built = five.try_map_inline_ref_by(&mut answer);
-    end_of(built, &failing, &entries)
-}
-
-fn boxed_map(alloc: Global, refused: u32) -> Result<End, AllocError> {
-    let (answers, entries) = (Counts::new(), Counts::new());
-    let failing = Failing::at(refused, &answers);
-    let five = boxed_counted_from::<U5>(alloc, &entries, 1)?;
-    let answer = |item: Counted| failing.answer(item.place());
-    let built = boxed::try_map(alloc, five, answer, true)?;
-    Ok(end_of(built, &failing, &entries))
-}
-
-fn view_map(refused: u32) -> End {
-    let (answers, entries) = (Counts::new(), Counts::new());
-    let failing = Failing::at(refused, &answers);
-    let five = counted_from::<U5>(&entries, 1);
-    // Not by the function of `calls`, which isn't followed where items and results hold a lifetime.
-    let built: Result<GenericArray<Counted, U5>, u32> = always(
-        five.view()
-            .try_map_by((), &mut |item: &Counted| failing.answer(item.place())),
-    );
+    let built = inline::try_map_by(five, &mut |item: Counted| failing.answer(item.place()));
     end_of(built, &failing, &entries)
 }
 
@@ -162,8 +102,8 @@ fn inline_fold(refused: u32) -> End {
     let (answers, entries) = (Counts::new(), Counts::new());
     let failing = Failing::at(refused, &answers);
     let five = counted_from::<U5>(&entries, 1);
-    let answer = |_before: Counted, item: Counted| failing.answer(item.place());
-    let built = inline::try_fold(five, Counted::new(&answers, 0), answer, true);
+    let mut answer = |_before: Counted, item: Counted| failing.answer(item.place());
+    let built = inline::try_fold_by(five, Counted::new(&answers, 0), &mut answer);
     end_of(built, &failing, &entries)
 }
 
@@ -174,18 +114,6 @@ fn boxed_fold(alloc: Global, refused: u32) -> Result<End, AllocError> {
     let mut answer = |_before: Counted, item: Counted| failing.answer(item.place());
     let built = boxed::try_fold_by(five, Counted::new(&answers, 0), &mut answer);
     Ok(end_of(built, &failing, &entries))
-}
-
-fn view_fold(refused: u32) -> End {
-    let (answers, entries) = (Counts::new(), Counts::new());
-    let failing = Failing::at(refused, &answers);
-    let five = counted_from::<U5>(&entries, 1);
-    let first = Counted::new(&answers, 0);
-    let built = five.view().try_fold_by(
-        first,
-        &mut |_before: Counted, item: &Counted| failing.answer(item.place()),
-    );
-    end_of(built, &failing, &entries)
 }
 
 /// The numbers that a closure is called with that fails at this one of five, or at none, as digits.
@@ -212,12 +140,8 @@ fn no_call_follows_an_error_and_what_was_made_is_dropped(rt: HostRuntime) -> Res
             all_answers: refused - 1,
             entries: 0,
         };
-        assert!(rt; inline_generate(refused) == made && view_generate(refused) == made);
-        assert!(rt; boxed_generate(alloc, refused)? == made && view_map(refused) == made);
-        assert!(rt; plain_map_ref(refused) == made);
-        let made = End { entries: 5, ..made };
-        assert!(rt; inline_map(refused) == made && boxed_map(alloc, refused)? == made);
-        assert!(rt; plain_map(refused) == made);
+        assert!(rt; inline_generate(refused) == made && boxed_generate(alloc, refused)? == made);
+        assert!(rt; inline_map(refused) == End { entries: 5, ..made });
         // A fold drops each result at the next call, and first what it began with.
         let folded = End {
             error,
@@ -227,11 +151,6 @@ fn no_call_follows_an_error_and_what_was_made_is_dropped(rt: HostRuntime) -> Res
             entries: 5,
         };
         assert!(rt; inline_fold(refused) == folded && boxed_fold(alloc, refused)? == folded);
-        let folded = End {
-            entries: 0,
-            ..folded
-        };
-        assert!(rt; view_fold(refused) == folded);
     }
     Ok(())
 }

@@ -1,5 +1,4 @@
 //! Hex text: its digits, how far the limit lets them come, and how often the writer is called.
-use crate::tests::hex_writers::{digits_of, rising};
 use crate::tests::sinks::{Manner, Sink};
 use generic_array::AllocError;
 use generic_array::hex_text::write_hex;
@@ -30,41 +29,6 @@ fn few_bytes_give_their_digits_as_far_as_the_limit_lets_them(rt: HostRuntime) {
     }
 }
 
-#[test]
-fn every_byte_has_its_two_digits(rt: HostRuntime) -> Result<(), Fail> {
-    let mut bytes = [0u8; 256];
-    for (byte, place) in bytes.iter_mut().enumerate() {
-        *place = byte as u8;
-    }
-    for upper in [false, true] {
-        let text = digits_of(rt.alloc(), &bytes, upper)?;
-        assert!(rt; is_written(&bytes, upper, None, text.as_slice(), 1));
-    }
-    Ok(())
-}
-
-/// Whether so many bytes give their digits as far as the limit, in as few calls as may be.
-fn is_cut(alloc: Global, len: usize, limit: Option<usize>) -> Result<bool, AllocError> {
-    let bytes = rising(alloc, len)?;
-    let mut text = digits_of(alloc, bytes.as_slice(), false)?;
-    text.truncate(limit.unwrap_or(usize::MAX));
-    let calls = text.len().div_ceil(2048);
-    Ok(is_written(bytes.as_slice(), false, limit, text.as_slice(), calls))
-}
-
-#[test]
-fn many_bytes_are_cut_at_each_limit(rt: HostRuntime) -> Result<(), Fail> {
-    for len in [1023, 1024, 1025, 2047, 2048, 2049] {
-        for limit in [
-            0, 1, 1023, 2046, 2047, 2048, 2049, 2050, 4096, 4097, 4098, 4099,
-        ] {
-            let is_cut = is_cut(rt.alloc(), len, Some(limit))?;
-            assert!(rt; is_cut, "{len} bytes at {limit}");
-        }
-    }
-    Ok(())
-}
-
 /// Whether 1,025 bytes 171 give 2,049 digits, in two calls of the writer.
 fn is_cut_inside_a_byte(alloc: Global) -> Result<bool, AllocError> {
     let mut text = Vec::new(alloc);
@@ -78,38 +42,5 @@ fn is_cut_inside_a_byte(alloc: Global) -> Result<bool, AllocError> {
 #[test]
 fn an_odd_limit_cuts_inside_a_byte(rt: HostRuntime) -> Result<(), Fail> {
     assert!(rt; is_cut_inside_a_byte(rt.alloc())?);
-    Ok(())
-}
-
-#[test]
-fn few_bytes_are_cut_at_each_limit(rt: HostRuntime) -> Result<(), Fail> {
-    for len in [0, 1, 16, 63, 64, 65] {
-        for limit in [0, 1, 2, 31, 32, 126, 127, 128, 129, 130, 131] {
-            let is_cut = is_cut(rt.alloc(), len, Some(limit))?;
-            assert!(rt; is_cut, "{len} bytes at {limit}");
-        }
-    }
-    Ok(())
-}
-
-/// How many digits of 1,025 bytes a writer gets that fails at one of its calls, if its fault is returned at
-/// once.
-fn digits_before(alloc: Global, fails_at: usize) -> Result<Option<usize>, AllocError> {
-    let bytes = rising(alloc, 1025)?;
-    let text = digits_of(alloc, bytes.as_slice(), false)?;
-    let mut sink = Sink::new(text.as_slice(), Manner::Whole, fails_at);
-    let is_answered = write_hex(bytes.as_slice(), false, None, &mut sink).is_err();
-    if is_answered && sink.is_exact && sink.calls == fails_at {
-        Ok(Some(text.len().saturating_sub(sink.to_come.len())))
-    } else {
-        Ok(None)
-    }
-}
-
-#[test]
-fn the_writer_gets_each_piece_at_once(rt: HostRuntime) -> Result<(), Fail> {
-    assert!(rt; is_cut(rt.alloc(), 1025, None)?);
-    assert!(rt; digits_before(rt.alloc(), 1)? == Some(0));
-    assert!(rt; digits_before(rt.alloc(), 2)? == Some(2048));
     Ok(())
 }

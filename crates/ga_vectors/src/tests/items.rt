@@ -55,11 +55,3 @@ pub fn has<T: PartialEq, S: AsSlice<T> + Drop, E: Drop>(made: Result<S, E>, item
         Err(_refused) => false,
     }
 }
-
-/// An error, or 0.
-pub fn error_of<T: Drop>(answer: Result<T, u32>) -> u32 {
-    match answer {
-        Ok(_all) => 0,
-        Err(error) => error,
-    }
-}

@@ -232,4 +232,9 @@ fn the_first_error_among_the_first_items_is_answered(rt: HostRuntime) {
         of_builder: stopped,
     };
     assert!(rt; each_fallible_fill_runs::<3>(alloc, early, wanted));
+    let wanted = Wanted {
+        of_array: run_with(Outcome::WrongLength, 1, 0, 1),
+        of_builder: run_with(Outcome::Made(0), 0, 0, 7),
+    };
+    assert!(rt; each_fallible_fill_runs::<0>(alloc, early, wanted));
 }

@@ -153,44 +153,6 @@ fn items_may_own_memory(rt: HostRuntime) {
     assert!(rt; keeps_texts(rt.alloc()).expect(&rt, "no memory"));
 }
 
-/// Whether this many random calls return what those of a list that is kept in a vector.
-fn answers_as_a_list(alloc: Global, calls: u32) -> Result<bool, AllocError> {
-    let mut numbers = Numbers::from_seed(2_463_534_242);
-    let mut block = LiveBlock::new(alloc, 0)?;
-    let mut list: Vec<u32> = Vec::new(alloc);
-    for call in 0..calls {
-        let room = block.room();
-        let is_same = match numbers.below(5) {
-            0 if list.is_empty() => {
-                block = LiveBlock::new(alloc, numbers.below(9) as usize)?;
-                true
-            }
-            0 | 1 if list.is_empty() => block.take_front().is_none() && block.room() == room,
-            0 | 1 => block.take_front() == Some(list.remove(0)) && block.room() == room,
-            2 => {
-                let last = list.pop();
-                let more = if last.is_some() { 1 } else { 0 };
-                block.take_back() == last && block.room() == room.wrapping_add(more)
-            }
-            _ if room > 0 => {
-                block.put(call);
-                list.push(call)?;
-                block.room() == room - 1
-            }
-            _ => true,
-        };
-        if !is_same || block.as_slice() != list.as_slice() {
-            return Ok(false);
-        }
-    }
-    Ok(true)
-}
-
-#[test]
-fn random_calls_answer_as_those_of_a_list(rt: HostRuntime) {
-    assert!(rt; answers_as_a_list(rt.alloc(), 10_000).expect(&rt, "no memory"));
-}
-
 #[test]
 fn a_block_is_given_back(rt: HostRuntime) {
     // As many blocks as this at once would take more addresses than there are.

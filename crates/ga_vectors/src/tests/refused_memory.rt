@@ -6,8 +6,6 @@ mod clones;
 mod conversions;
 mod fills;
 mod maps;
-mod no_items;
-mod no_room;
 mod steps;
 mod zips;
 

@@ -4,7 +4,6 @@ ghost use Rattle.std.specs.Prelude.{◌-◌};
 
 use crate::tests::counted::{Counted, Counts};
 use std::marker::PhantomData;
-use std::process::Abort;
 
 /// An item with a number to know it by.
 pub trait Numbered {
@@ -136,39 +135,5 @@ impl<'a, T: Given<'a>> Iterator for Scripted<'a, T> {
     fn size_hint(&self) -> (usize, Option<usize>) {
         let left = self.script.hinted.saturating_sub(self.asked);
         (left, Some(left))
-    }
-}
-
-/// Gives what another iterator does, and ends the test where it is asked after its end.
-#[derive(Drop)]
-pub struct Strict<'a, I, R: Abort> {
-    items: I,
-    has_ended: bool,
-    rt: &'a R,
-}
-
-impl<'a, I: Iterator, R: Abort> Strict<'a, I, R> {
-    /// The same items, asked through this; `rt` ends the test.
-    pub fn new(rt: &'a R, items: I) -> Self {
-        Strict {
-            items,
-            has_ended: false,
-            rt,
-        }
-    }
-}
-
-impl<I: Iterator, R: Abort> Iterator for Strict<'_, I, R> {
-    type Item = I::Item;
-
-    ghost can_next = { λ strict. I.can_next strict.items };
-
-    ghost remaining = { λ strict. I.remaining strict.items };
-
-    fn next(&mut self) -> Option<I::Item> {
-        assert!(self.rt; !self.has_ended, "asked after its end");
-        let answer = self.items.next();
-        self.has_ended = answer.is_none();
-        answer
     }
 }

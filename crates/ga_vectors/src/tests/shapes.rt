@@ -96,35 +96,3 @@ fn there_may_be_no_rows_or_rows_without_items(rt: HostRuntime) {
     let none: GenericArray<u32, U0> = empty_rows.flatten();
     assert!(rt; none.as_slice().is_empty());
 }
-
-/// The sum of the items that stand between what is done and what is undone.
-fn sum_of(items: &[u32]) -> u32 {
-    items.iter().fold(0, |sum, item| sum.wrapping_add(*item))
-}
-
-#[test]
-fn what_is_done_and_undone_is_as_it_was(rt: HostRuntime) {
-    let four = [1, 2, 3, 4].as_slice();
-    let longer: GenericArray<u32, U5> = from_one::<U4>().append(9);
-    assert!(rt; sum_of(longer.as_slice()) == 19);
-    let (array, item): (GenericArray<u32, U4>, u32) = longer.pop_back();
-    assert!(rt; item == 9 && array.as_slice() == four);
-    let longer: GenericArray<u32, U5> = array.prepend(8);
-    assert!(rt; sum_of(longer.as_slice()) == 18);
-    let (item, array): (u32, GenericArray<u32, U4>) = longer.pop_front();
-    assert!(rt; item == 8 && array.as_slice() == four);
-    let (others, last): (GenericArray<u32, U3>, u32) = array.pop_back();
-    assert!(rt; sum_of(others.as_slice()) == 6);
-    let array: GenericArray<u32, U4> = others.append(last);
-    let (first, others): (u32, GenericArray<u32, U3>) = array.pop_front();
-    assert!(rt; sum_of(others.as_slice()) == 9);
-    let array: GenericArray<u32, U4> = others.prepend(first);
-    let (start, end): (GenericArray<u32, U2>, GenericArray<u32, U2>) = array.split();
-    assert!(rt; sum_of(start.as_slice()) == 3 && sum_of(end.as_slice()) == 7);
-    let array: GenericArray<u32, U4> = start.concat(end);
-    assert!(rt; array.as_slice() == four);
-    let all: GenericArray<u32, U4> = from_one::<U0>().concat(array);
-    assert!(rt; sum_of(all.as_slice()) == 10);
-    let (none, array): (GenericArray<u32, U0>, GenericArray<u32, U4>) = all.split();
-    assert!(rt; none.as_slice().is_empty() && array.as_slice() == four);
-}

@@ -1,48 +1,59 @@
-//! Inline builds at concrete types, and what no clause says of them.
-use crate::tests::compared::holds;
-use generic_array::{GenericArray, U0, U2, U3, U4, U12};
+//! Inline builds at concrete types: how often they call, take and clone.
+ghost use Rattle.generic_array.specs.Length.{FitsInline};
 
-#[test]
-fn generate_by_calls_once_for_each_place_in_order(rt: HostRuntime) {
-    let (mut calls, mut order) = (0u32, 0usize);
-    let array: GenericArray<usize, U4> = GenericArray::generate_by(&mut |index: usize| {
+use crate::tests::compared::holds;
+use crate::tests::counted::{Counted, Counts};
+use generic_array::{ArrayLength, GenericArray, U0, U1, U3, U4};
+
+/// The array of doubled places, and how often the closure was called.
+fn doubled<N: ArrayLength<usize>>() -> (GenericArray<usize, N>, u32)
+    requires { FitsInline N.USIZE }
+{
+    let mut calls = 0u32;
+    let array = GenericArray::generate_by(&mut |index: usize| {
         calls = calls.wrapping_add(1);
-        order = order.wrapping_mul(10).wrapping_add(index);
         index.wrapping_mul(2)
     });
-    assert!(rt; holds(array, &[0, 2, 4, 6]));
-    assert!(rt; calls == 4 && order == 123);
+    (array, calls)
 }
 
-/// Whether there is an array of four of the numbers 1 to 7, and which of them comes next.
-fn four_of_seven() -> (bool, Option<u32>) {
-    let mut items = 1..8u32;
-    let is_made = GenericArray::<u32, U4>::try_from_iter_ref(&mut items).is_ok();
-    (is_made, items.next())
+#[test]
+fn a_closure_is_called_once_for_each_place(rt: HostRuntime) {
+    let (four, calls) = doubled::<U4>();
+    assert!(rt; holds(four, &[0, 2, 4, 6]) && calls == 4);
+    let (none, calls) = doubled::<U0>();
+    assert!(rt; holds(none, &[]) && calls == 0);
+}
+
+/// Whether these items are taken as an array, and which comes next.
+fn filled<N: ArrayLength<u32>>(items: &[u32]) -> (bool, Option<u32>)
+    requires { FitsInline N.USIZE }
+{
+    let mut left = items.iter().copied();
+    let is_made = GenericArray::<u32, N>::try_from_iter_ref(&mut left).is_ok();
+    (is_made, left.next())
 }
 
 #[test]
 fn a_fill_takes_one_item_more_than_fits(rt: HostRuntime) {
-    assert!(rt; four_of_seven() == (false, Some(6)));
+    assert!(rt; filled::<U4>(&[1, 2, 3, 4, 5, 6, 7]) == (false, Some(6)));
+    assert!(rt; filled::<U4>(&[1, 2, 3]) == (false, None));
+    assert!(rt; filled::<U0>(&[]) == (true, None));
+    assert!(rt; filled::<U0>(&[9, 8]) == (false, Some(8)));
 }
 
-/// What a type makes by its bound alone.
-fn made<T: Default>() -> T {
-    T::default()
-}
-
-/// Whether each item of a default array is a default.
-fn are_defaults() -> bool {
-    holds(made::<GenericArray<u8, U0>>(), &[]) && holds(made::<GenericArray<u8, U12>>(), &[0; 12])
-}
-
-/// The same of an array of arrays.
-fn are_nested_defaults() -> bool {
-    let nested: GenericArray<GenericArray<u8, U3>, U2> = made();
-    nested[1].as_slice() == [0, 0, 0].as_slice()
+/// Whether an item that is counted here is repeated. What is made is dropped.
+fn is_repeated<'a, N: ArrayLength<Counted<'a>>>(counts: &'a Counts) -> bool
+    requires { FitsInline N.USIZE }
+{
+    GenericArray::<_, N>::repeat(Counted::new(counts, 1)).is_ok()
 }
 
 #[test]
-fn every_item_is_a_default(rt: HostRuntime) {
-    assert!(rt; are_defaults() && are_nested_defaults());
+fn the_last_place_takes_the_repeated_item_itself(rt: HostRuntime) {
+    let counts = Counts::new();
+    assert!(rt; is_repeated::<U3>(&counts) && counts.clones() == 2 && counts.drops() == 3);
+    let counts = Counts::new();
+    assert!(rt; is_repeated::<U1>(&counts) && is_repeated::<U0>(&counts));
+    assert!(rt; counts.clones() == 0 && counts.drops() == 2);
 }

@@ -1,5 +1,5 @@
 //! Calls at boxed arrays, and those that make a boxed array.
-use generic_array::checks::{dot_by as dot_of_any, map_total_by as map_total_of_any};
+use generic_array::checks::map_total_by as map_total_of_any;
 use generic_array::functional::{
     FunctionalSequence, inverted_zip as inverted_zip_of_any, inverted_zip2, inverted_zip2_by,
 };
@@ -102,19 +102,4 @@ pub fn map_total_by<T: Drop, U: Drop, A: Drop, N: Unsigned, F: FnMut(T) -> U, G:
     requires second { (g : _) (total : _) (x : _) → G.pre g total x }
 {
     map_total_of_any(array, alloc, f, init, g)
-}
-
-/// The dot product with an inline array.
-pub fn dot_by<T: Default + Drop, N: ArrayLength<T>, F: FnMut(T, T) -> T, G: FnMut(T, T) -> T>(
-    alloc: Global,
-    left: BoxedArray<T, N>,
-    right: GenericArray<T, N>,
-    times: &mut F,
-    zero: T,
-    plus: &mut G,
-) -> Result<T, AllocError>
-    requires first { (f : _) (x : _) (y : _) → F.pre f x y }
-    requires second { (g : _) (total : _) (x : _) → G.pre g total x }
-{
-    dot_of_any(left, alloc, right, times, zero, plus)
 }

@@ -5,64 +5,30 @@ use generic_array::functional::{
 };
 use generic_array::{ArrayLength, BoxedArray, GenericArray, always};
 
-/// `try_map` of an inline array, or `try_map_by` where the closure `is_lent`.
-pub fn try_map<
+/// `try_map_by` of an inline array.
+pub fn try_map_by<
     T: Default + Drop,
     U: Default + Drop,
     E,
     N: ArrayLength<T> + ArrayLength<U>,
     F: FnMut(T) -> Result<U, E>,
->(array: GenericArray<T, N>, mut f: F, is_lent: bool) -> Result<GenericArray<U, N>, E>
+>(array: GenericArray<T, N>, f: &mut F) -> Result<GenericArray<U, N>, E>
     requires { (f : _) (x : _) → F.pre f x }
 {
     // The slice knows that the length fits.
     let _ = array.as_slice();
-    always(if is_lent {
-        array.try_map_by((), &mut f)
-    } else {
-        array.try_map((), f)
-    })
+    always(array.try_map_by((), f))
 }
 
-/// `fold_by` of an inline array.
-pub fn fold_by<T: Default + Drop, A, N: ArrayLength<T>, F: FnMut(A, T) -> A>(
+/// `try_fold_by` of an inline array.
+pub fn try_fold_by<T: Default + Drop, A, E, N: ArrayLength<T>, F: FnMut(A, T) -> Result<A, E>>(
     array: GenericArray<T, N>,
     init: A,
     f: &mut F,
-) -> A
-    requires { (f : _) (total : _) (x : _) → F.pre f total x }
-{
-    array.fold_by(init, f)
-}
-
-/// `try_fold` of an inline array, or `try_fold_by` where the closure `is_lent`.
-pub fn try_fold<T: Default + Drop, A, E, N: ArrayLength<T>, F: FnMut(A, T) -> Result<A, E>>(
-    array: GenericArray<T, N>,
-    init: A,
-    mut f: F,
-    is_lent: bool,
 ) -> Result<A, E>
     requires { (f : _) (total : _) (x : _) → F.pre f total x }
 {
-    if is_lent {
-        array.try_fold_by(init, &mut f)
-    } else {
-        array.try_fold(init, f)
-    }
-}
-
-/// The zip with an inline array.
-pub fn zip_by<
-    T: Default + Drop,
-    B: Default + Drop,
-    U: Default + Drop,
-    N: ArrayLength<T> + ArrayLength<B> + ArrayLength<U>,
-    F: FnMut(T, B) -> U,
->(left: GenericArray<T, N>, right: GenericArray<B, N>, f: &mut F) -> GenericArray<U, N>
-    requires { (f : _) (x : _) (y : _) → F.pre f x y }
-{
-    let _ = left.as_slice();
-    always(left.zip_by((), right, f))
+    array.try_fold_by(init, f)
 }
 
 /// The zip with a boxed array.

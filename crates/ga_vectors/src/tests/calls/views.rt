@@ -5,21 +5,6 @@ use generic_array::checks::map_total_by as map_total_of_any;
 use generic_array::functional::{FunctionalSequence, inverted_zip as inverted_zip_of_any};
 use generic_array::{ArrayLength, GenericArray, GenericArrayRef, always};
 
-/// `try_map` of a view.
-pub fn try_map<
-    'a,
-    T: Default + Drop,
-    U: Default + Drop,
-    E,
-    N: ArrayLength<T> + ArrayLength<U>,
-    F: FnMut(&'a T) -> Result<U, E>,
->(view: GenericArrayRef<'a, T, N>, f: F) -> Result<GenericArray<U, N>, E>
-    requires fits { FitsInline N.USIZE }
-    requires pre { (f : _) (x : _) → F.pre f x }
-{
-    always(view.try_map((), f))
-}
-
 /// `inverted_zip` of a view, with an inline left side.
 pub fn inverted_zip<
     'a,

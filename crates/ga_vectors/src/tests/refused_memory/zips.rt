@@ -2,11 +2,11 @@
 use crate::tests::calls::boxed::ZipCall;
 use crate::tests::calls::{boxed, inline};
 use crate::tests::counted::{Counted, Counts};
-use crate::tests::items::{boxed_counted_from, boxed_from_one, counted_from};
+use crate::tests::items::{boxed_counted_from, counted_from};
 use crate::tests::outcome::{Outcome, play};
 use crate::tests::refused_memory::{three_counted, three_in_a_block};
 use generic_array::functional::FunctionalSequence;
-use generic_array::{AllocError, GenericArray, U3};
+use generic_array::{AllocError, U3};
 use std::alloc::Global;
 use std::cell::Cell;
 use std::convert::AsSlice;
@@ -49,32 +49,6 @@ fn with_block(alloc: Global) -> Outcome {
     zipped(left.zip(alloc, right, both), &calls, &counts)
 }
 
-fn dot(alloc: Global) -> Outcome {
-    let Ok(left) = boxed_from_one::<U3>(alloc) else {
-        return Outcome::Refused;
-    };
-    let right = GenericArray::<u32, U3>::from_array([4, 5, 6]);
-    let (mut products, mut sums) = (0u32, 0u32);
-    let total = boxed::dot_by(
-        alloc,
-        left,
-        right,
-        &mut |left: u32, right: u32| {
-            products = products.wrapping_add(1);
-            left.wrapping_mul(right)
-        },
-        0,
-        &mut |total: u32, product: u32| {
-            sums = sums.wrapping_add(1);
-            total.wrapping_add(product)
-        },
-    );
-    match total {
-        Ok(total) => Outcome::exact_if(total == 32 && products == 3 && sums == 3),
-        Err(AllocError) => Outcome::refused_if(products == 0 && sums == 0),
-    }
-}
-
 // What is made is inline, so that only the boxed side asks for memory.
 
 fn inline_zip(alloc: Global, is_inverted: bool) -> Outcome {
@@ -104,12 +78,11 @@ fn case(alloc: Global, number: u32) -> Outcome {
     match number {
         0..=3 => with_inline(alloc, CALLS[number as usize]),
         4 => with_block(alloc),
-        5 => dot(alloc),
-        _ => inline_zip(alloc, number == 7),
+        _ => inline_zip(alloc, number == 6),
     }
 }
 
 #[test]
 fn a_zip_is_exact_or_refused_before_any_call(rt: HostRuntime) {
-    play(&rt, 8, case);
+    play(&rt, 7, case);
 }

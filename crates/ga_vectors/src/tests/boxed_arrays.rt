@@ -1,3 +1,0 @@
-//! Boxed arrays at concrete types.
-mod builds;
-mod conversions;
