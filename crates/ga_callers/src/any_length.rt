@@ -186,17 +186,6 @@ pub(super) fn digit_in(base: u8, byte: u8) -> Result<u8, u8>
     }
 }
 
-fn digits_of<N: ArrayLength<u8>>(
-    text: GenericArray<u8, N>,
-    base: u8,
-) -> Result<GenericArray<u8, N>, u8>
-    ensures { result ≡ try_map (digit_of base) text }
-{
-    // The slice knows that the length fits.
-    let _ = text.as_slice();
-    always(text.try_map((), |byte: u8| digit_in(base, byte)))
-}
-
 fn digits_of_view<N: ArrayLength<u8>>(
     text: GenericArrayRef<'_, u8, N>,
     base: u8,
@@ -276,19 +265,12 @@ fn numbers_are_right(alloc: Global) -> Result<bool, AllocError> {
 
 /// Whether text is read and aligned as the callers say.
 fn text_is_right() -> bool {
-    let digits = match digits_of(GenericArray::<u8, U3>::from_array(*b"190"), 10) {
-        Ok(digits) => has(digits, &[1, 9, 0]),
-        Err(_byte) => false,
-    };
-    let refused = match digits_of(GenericArray::<u8, U3>::from_array(*b"182"), 8) {
+    let read = digits_of_view(GenericArrayRef::<u8, U3>::from_slice(b"190"), 10);
+    let refused = match digits_of_view(GenericArrayRef::<u8, U3>::from_slice(b"182"), 8) {
         Ok(_digits) => false,
         Err(byte) => byte == b'8',
     };
-    let viewed = digits_of_view(GenericArrayRef::<u8, U3>::from_slice(b"190"), 10);
-    digits
-        && refused
-        && gives(viewed, &[1, 9, 0])
-        && has(right_aligned::<U4>(b"ab"), &[0, 0, 97, 98])
+    refused && gives(read, &[1, 9, 0]) && has(right_aligned::<U4>(b"ab"), &[0, 0, 97, 98])
 }
 
 #[test]

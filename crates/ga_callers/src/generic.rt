@@ -4,7 +4,7 @@ ghost use Rattle.generic_array.specs.Built.{built_items};
 ghost use Rattle.generic_array.specs.Entries.{CallAt, MayCallAt};
 ghost use Rattle.generic_array.specs.Runs.{CallableOver};
 ghost use Rattle.std.specs.List.{range_with_len};
-ghost use Rattle.std.specs.Prelude.{◌≡◌, ◌+◌, ◌<◌, ◌⊎◌, [], Err, IfErr, IfOk, IsOk, Ok, OnOk, length, map, refl, replicate};
+ghost use Rattle.std.specs.Prelude.{◌≡◌, ◌+◌, ◌<◌, ◌⊎◌, Err, IfErr, IfOk, IsOk, Ok, OnOk, length, map, refl, replicate};
 
 use crate::digits::decimal_digit;
 use generic_array::functional::{
@@ -13,8 +13,7 @@ use generic_array::functional::{
 use generic_array::sequence::{
     FromFallibleIterator, GenericSequence, Lengthen, SequenceItem, Shorten,
 };
-use generic_array::{AllocError, ArrayLength, BoxedArray, FillError, GenericArray, U0, U3};
-use std::convert::AsSlice;
+use generic_array::{AllocError, ArrayLength, BoxedArray, FillError, GenericArray, U3};
 
 fn length_of<T, S: GenericSequence<T>>(s: &S) -> usize
     ensures value { result ≡ S.Length.USIZE }
@@ -100,12 +99,6 @@ fn nothing_mapped<
     s.map_by(place, f)
 }
 
-fn sevens_of_none() -> Result<GenericArray<u8, U0>, AllocError>
-    ensures { result ≡ Ok [] }
-{
-    sevens::<GenericArray<u8, U0>>(())
-}
-
 fn digits<S: FromFallibleIterator<u8>>(
     place: S::Place,
     text: &[u8],
@@ -161,16 +154,9 @@ where
 
 #[test]
 fn items_are_made_and_asked_for_where_the_traits_alone_are_known(rt: HostRuntime) {
-    assert!(rt; seven_at::<GenericArray<u8, U3>>((), 2).is_ok_and(|item| item == 7));
     assert!(rt; seven_at::<BoxedArray<u8, U3>>(rt.alloc(), 2).is_ok_and(|item| item == 7));
     let results: [Result<u8, u8>; 3] = [Ok(1), Err(7), Ok(2)];
     let next = next_after_an_error::<GenericArray<u8, U3>, _>((), &mut results.iter().copied());
     assert!(rt; next == Some(Ok(2)));
-}
-
-#[test]
-fn digits_are_read_where_the_traits_alone_are_known(rt: HostRuntime) {
-    assert!(rt; digits::<GenericArray<u8, U3>>((), b"180").is_ok());
-    assert!(rt; digits_lent::<GenericArray<u8, U3>>((), b"180").is_ok());
     assert!(rt; digits_lent::<BoxedArray<u8, U3>>(rt.alloc(), b"18").is_err());
 }

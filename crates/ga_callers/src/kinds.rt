@@ -5,9 +5,7 @@ ghost use Rattle.std.specs.Prelude.{◌≡◌, ◌∷◌, [], ◌+◌, ◌*◌, 
 
 use generic_array::checks::{dot_by, map_total_by};
 use generic_array::functional::{FunctionalSequence, inverted_zip_by, inverted_zip2_by};
-use generic_array::{
-    AllocError, ArrayLength, BoxedArray, GenericArray, GenericArrayRef, U2, U3, always,
-};
+use generic_array::{AllocError, ArrayLength, BoxedArray, GenericArray, GenericArrayRef, U2, U3};
 use std::alloc::Global;
 use std::test::Fail;
 
@@ -18,25 +16,7 @@ fn plus(total: u32, item: u32) -> u32
     total.wrapping_add(item)
 }
 
-// The dot product of two kinds of any length.
-
-fn dot_of_array_and_view<N: ArrayLength<u32>>(
-    left: GenericArray<u32, N>,
-    right: GenericArrayRef<'_, u32, N>,
-) -> u32
-    ensures { result ≡ fold (λ total x. (total + x) % 2 ^ 32) 0 (map (λ p. p.0 * p.1 % 2 ^ 32) (zip left (items_of_view right.entry))) }
-{
-    // The slice knows that the length fits.
-    let _ = left.as_slice();
-    always(dot_by(
-        left,
-        (),
-        right,
-        &mut |l: u32, r: &u32| l.wrapping_mul(*r),
-        0,
-        &mut plus,
-    ))
-}
+// The dot product of two kinds.
 
 fn dot_of_boxed_and_array<N: ArrayLength<u32>>(
     alloc: Global,
@@ -163,7 +143,6 @@ fn numbers_of_boxed(alloc: Global) -> Result<(u32, u32, u32), AllocError> {
 
 #[test]
 fn callers_get_what_their_contracts_say(rt: HostRuntime) -> Result<(), Fail> {
-    assert!(rt; dot_of_array_and_view(one_two_three(), four_five_six().view()) == 32);
     assert!(rt; numbers_of_boxed(rt.alloc())? == (32, 246, 3));
     Ok(())
 }

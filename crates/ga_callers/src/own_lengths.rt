@@ -82,7 +82,7 @@ impl<T: Default + Drop, const N: usize> Store<T> for Counted<T, N> {
 
     fn push(&mut self, item: T) {
         let count = self.count;
-        self.slots.as_mut_slice()[count] = item;
+        *self.slots.item_mut(count) = item;
         self.count = count + 1;
     }
 
@@ -92,7 +92,7 @@ impl<T: Default + Drop, const N: usize> Store<T> for Counted<T, N> {
         }
         let last = self.count - 1;
         self.count = last;
-        Some(mem::take(&mut self.slots.as_mut_slice()[last]))
+        Some(mem::take(self.slots.item_mut(last)))
     }
 
     fn remove_at(&mut self, index: usize) -> T {
@@ -183,25 +183,36 @@ fn sides_of(bytes: &[u8]) -> Result<GenericArray<u8, Sides>, LengthError>
     of_bytes(bytes)
 }
 
+fn week_of(bytes: &[u8]) -> Result<GenericArray<u8, Week>, LengthError> {
+    of_bytes(bytes)
+}
+
+/// Whether arrays of either length are built, masked, compared and walked as their contracts say.
+fn are_as_all_arrays() -> bool {
+    let ends_of = |row: GenericArray<u8, Sides>| are_same(&row, &row) && ends(row) == (Some(b'h'), Some(b'j'));
+    has(halves_of_week(), &[0, 0, 1, 1, 2, 2, 3])
+        && has(halves_of_sides(), &[0, 0, 1])
+        && has(masked(GenericArray::<u8, Week>::default()), &[54; 7])
+        && sides_of(b"hij").is_ok_and(ends_of)
+        && sides_of(b"hi").is_err()
+}
+
+/// What is written of the two, and the array that they make.
+fn written_and_joined<W: Write>(w: &mut W) -> Option<GenericArray<u8, U10>> {
+    let (Ok(week), Ok(sides)) = (week_of(b"abcdefg"), sides_of(b"hij")) else {
+        return None;
+    };
+    if digits_written(&sides, w).is_err() || digits_written(&week, w).is_err() {
+        return None;
+    }
+    Some(joined(week, sides))
+}
+
 #[test]
 fn arrays_of_lengths_of_ones_own_are_as_all_arrays(rt: HostRuntime) {
-    assert!(rt;
-        has(halves_of_week(), &[0, 0, 1, 1, 2, 2, 3]) && has(halves_of_sides(), &[0, 0, 1])
-    );
-    let week: GenericArray<u8, Week> = of_bytes(b"abcdefg").expect(&rt, "seven");
-    let three = sides_of(b"hij").expect(&rt, "three");
-    assert!(rt; sides_of(b"hi").is_err());
-    assert!(rt; are_same(&three, &three) && are_same(&week, &week));
+    assert!(rt; are_as_all_arrays());
     let mut text = Vec::new(rt.alloc());
-    assert!(rt;
-        digits_written(&three, &mut text).is_ok() && digits_written(&week, &mut text).is_ok()
-    );
+    let both = written_and_joined(&mut text);
+    assert!(rt; both.is_some_and(|both| has(both, b"abcdefghij")));
     assert!(rt; text.as_slice() == b"68696a61626364656667".as_slice());
-    assert!(rt; has(joined(week, three), b"abcdefghij"));
-    let three: GenericArray<u8, Sides> = GenericArray::generate(|_| 5);
-    assert!(rt; has(masked(three), &[51, 51, 51]));
-    let week: GenericArray<u8, Week> = GenericArray::default();
-    assert!(rt; has(masked(week), &[54; 7]));
-    let three = sides_of(b"hij").expect(&rt, "three");
-    assert!(rt; ends(three) == (Some(b'h'), Some(b'j')));
 }

@@ -1,14 +1,14 @@
 //! Callers of the shapes, with the items that they get.
 ghost use Rattle.generic_array.specs.Views.{items_of_view};
 ghost use Rattle.std.specs.List.{flat_map, fold};
-ghost use Rattle.std.specs.Prelude.{◌≡◌, ◌+◌, ◌*◌, ◌%◌, ◌^◌, ◌∷◌, [], IfOk, Ok, map};
+ghost use Rattle.std.specs.Prelude.{◌≡◌, ◌+◌, ◌*◌, ◌%◌, ◌^◌, ◌∷◌, [], IfOk};
 
-use crate::kinds::{four_five_six, one_two_three};
+use crate::kinds::one_two_three;
 use generic_array::sequence::{
     Concat, Flatten, Lengthen, Remove, Shorten, Split, Unflatten, iter_flat,
 };
 use generic_array::{
-    GenericArray, GenericArrayMut, GenericArrayRef, LengthError, U0, U1, U2, U3, U4, U5,
+    GenericArray, GenericArrayMut, GenericArrayRef, LengthError, U1, U2, U3, U4, U5,
 };
 
 /// Two rows of two.

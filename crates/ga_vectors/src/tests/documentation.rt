@@ -2,7 +2,7 @@
 use generic_array::functional::FunctionalSequence;
 use generic_array::sequence::{Flatten, Lengthen, Remove, Shorten, Unflatten};
 use generic_array::{
-    AllocError, Const, GenericArray, GenericArrayRef, U1, U2, U3, U4, U5, U6, always, arr, box_arr,
+    AllocError, Const, GenericArray, U2, U3, U4, U5, U6, always, arr, box_arr,
 };
 use std::alloc::Global;
 

@@ -6,7 +6,6 @@ use crate::tests::items::from_one;
 use crate::tests::scripted::next_digit;
 use generic_array::{AllocError, BoxedArray, GenericArray, U2, U3};
 use std::alloc::Global;
-use std::convert::AsSlice;
 use std::test::Fail;
 
 fn doubled(item: u32) -> u32 {

@@ -1,9 +1,6 @@
 //! Iterators by value, and their clones, of which items are left over: how often each is dropped.
-ghost use Rattle.std.specs.Prelude.{◌<◌};
-
 use crate::tests::counted::{Counted, Counts};
 use crate::tests::items::{boxed_counted_from, counted_from};
-use crate::tests::scripted::Numbered;
 use generic_array::steps::TwoEnded;
 use generic_array::{AllocError, BoxedArrayIter, GenericArrayIter, U4};
 use std::alloc::Global;

@@ -1,9 +1,8 @@
-//! Callers of a block, each proved, and what no clause says of it: that memory is found, what is
-//! dropped and when, and a long run of calls beside a list.
+//! Callers of a block, each proved, and what no clause says of it: that memory is found, and what is
+//! dropped and when.
 ghost use Rattle.generic_array.specs.Live.{live};
 ghost use Rattle.std.specs.Prelude.{◌≡◌, ◌∷◌, [], IfOk, IsOk, None, Some};
 
-use crate::tests::random::Numbers;
 use generic_array::{AllocError, LiveBlock};
 use std::alloc::Global;
 use std::cell::Cell;

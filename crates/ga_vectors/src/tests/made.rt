@@ -1,12 +1,10 @@
-//! What the builds of the traits make of each kind, and when they are refused.
+//! What the builds of the traits make of each kind.
 
-use crate::tests::builds::{Outcome, kind_fill};
 use crate::tests::items::{TooMany, has};
 use generic_array::sequence::{FallibleGenericSequence, GenericSequence};
 use generic_array::{
-    AllocError, BoxedArray, Const, GenericArray, GenericArrayRef, U2, U3, Unsigned, always,
+    AllocError, BoxedArray, Const, GenericArray, GenericArrayRef, U0, U2, U3, always,
 };
-use std::alloc::Global;
 use std::test::Fail;
 
 #[test]
@@ -60,5 +58,9 @@ fn each_kind_is_made_by_the_calls_of_the_traits(rt: HostRuntime) -> Result<(), F
     assert!(rt; has(always(places::<GenericArray<usize, U2>>(())), two));
     assert!(rt; has(always(places::<GenericArrayRef<usize, U2>>(())), two));
     assert!(rt; has(places::<BoxedArray<usize, U2>>(alloc)?, two));
+    assert!(rt; has(squares::<GenericArray<usize, U0>>(()), &[]));
+    assert!(rt; has(squares::<BoxedArray<usize, U0>>(alloc), &[]));
+    assert!(rt; has(sevens::<BoxedArray<usize, U0>>(alloc), &[]));
+    assert!(rt; has(places::<BoxedArray<usize, U0>>(alloc)?, &[]));
     Ok(())
 }

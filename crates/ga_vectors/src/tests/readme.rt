@@ -1,5 +1,4 @@
 //! A type and a trait with a length that is a type, as the README of the Rust crate has them.
-ghost use Rattle.generic_array.specs.Length.{FitsInline};
 ghost use Rattle.std.specs.Prelude.{◌≡◌, length};
 
 use generic_array::{ArrayLength, GenericArray, U5};
