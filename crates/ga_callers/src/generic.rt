@@ -14,6 +14,7 @@ use generic_array::sequence::{
     FromFallibleIterator, GenericSequence, Lengthen, SequenceItem, Shorten,
 };
 use generic_array::{AllocError, ArrayLength, BoxedArray, FillError, GenericArray, U3};
+use std::convert::AsSlice;
 
 fn length_of<T, S: GenericSequence<T>>(s: &S) -> usize
     ensures value { result ≡ S.Length.USIZE }

@@ -19,23 +19,6 @@ use std::alloc::Global;
 /// A boxed array of three counted items.
 type Three<'a> = BoxedArray<Counted<'a>, U3>;
 
-/// Which call makes an array: that of the type or of a trait, which borrows a closure or an iterator
-/// or takes it by value.
-#[derive(Clone, Copy)]
-enum Call {
-    Lent,
-    HandedOver,
-    LentToTrait,
-    HandedToTrait,
-}
-
-const CALLS: [Call; 4] = [
-    Call::Lent,
-    Call::HandedOver,
-    Call::LentToTrait,
-    Call::HandedToTrait,
-];
-
 /// Counted items of the numbers 1 to 3.
 fn three_counted(counts: &Counts) -> GenericArray<Counted<'_>, U3> {
     counted_from(counts, 1)

@@ -1,48 +1,49 @@
 //! Items that go through each shape.
 ghost use Rattle.std.specs.Prelude.{◌≡◌, length};
 
-use crate::tests::counted::{Counted, Counts};
-use crate::tests::items::{counted_from, from_one};
-use crate::tests::scripted::digits;
+use crate::tests::items::from_one;
 use generic_array::sequence::{
     Concat, Flatten, Lengthen, Remove, Shorten, Split, Unflatten, iter_flat,
 };
 use generic_array::{GenericArray, GenericArrayMut, U0, U1, U2, U3, U4, U5, U6};
+use std::rc::Rc;
 
-/// Six counted items, four of which are handed over.
-fn six_counted(counts: &Counts) -> GenericArray<Counted<'_>, U6> {
-    let five: GenericArray<Counted, U5> = counted_from::<U4>(counts, 2).append(Counted::new(
-        counts, 6,
-    ));
-    five.prepend(Counted::new(counts, 1))
+/// An item that counts how many of its kind there are.
+type Held = Option<Rc<()>>;
+
+/// Six items beside the one that they are of.
+fn six_of(one: &Rc<()>) -> GenericArray<Held, U6> {
+    let four: GenericArray<Held, U4> = GenericArray::generate(|_| one.clone().ok());
+    let five: GenericArray<Held, U5> = four.append(one.clone().ok());
+    five.prepend(one.clone().ok())
 }
 
-fn split_and_joined(six: GenericArray<Counted<'_>, U6>) -> GenericArray<Counted<'_>, U6> {
-    let (none, six): (GenericArray<Counted, U0>, GenericArray<Counted, U6>) = six.split();
+fn split_and_joined(six: GenericArray<Held, U6>) -> GenericArray<Held, U6> {
+    let (none, six): (GenericArray<Held, U0>, GenericArray<Held, U6>) = six.split();
     six.concat(none)
 }
 
-fn cut_into_rows_and_joined(six: GenericArray<Counted<'_>, U6>) -> GenericArray<Counted<'_>, U6> {
-    let rows: GenericArray<GenericArray<Counted, U3>, U2> = six.unflatten();
+fn cut_into_rows_and_joined(six: GenericArray<Held, U6>) -> GenericArray<Held, U6> {
+    let rows: GenericArray<GenericArray<Held, U3>, U2> = six.unflatten();
     rows.flatten()
 }
 
-/// How many of these six items were dropped before the end.
-fn taken_apart(six: GenericArray<Counted<'_>, U6>, counts: &Counts) -> u32 {
-    let (five, _last): (GenericArray<Counted, U5>, Counted) = six.pop_back();
-    let (_first, four): (Counted, GenericArray<Counted, U4>) = five.pop_front();
-    let (_second, three): (Counted, GenericArray<Counted, U3>) = four.remove(1);
-    let (_third, _two): (Counted, GenericArray<Counted, U2>) = three.swap_remove(0);
-    counts.drops()
+/// How many there are of the one once six were taken apart, and before these are dropped.
+fn taken_apart(six: GenericArray<Held, U6>, one: &Rc<()>) -> usize {
+    let (five, _last): (GenericArray<Held, U5>, Held) = six.pop_back();
+    let (_first, four): (Held, GenericArray<Held, U4>) = five.pop_front();
+    let (_second, three): (Held, GenericArray<Held, U3>) = four.remove(1);
+    let (_third, _two): (Held, GenericArray<Held, U2>) = three.swap_remove(0);
+    Rc::strong_count(one)
 }
 
 #[test]
 fn an_item_is_dropped_once_whatever_shapes_it_went_through(rt: HostRuntime) {
-    let counts = Counts::new();
-    let six = cut_into_rows_and_joined(split_and_joined(six_counted(&counts)));
-    assert!(rt; digits(six.as_slice()) == 123456);
-    assert!(rt; taken_apart(six, &counts) == 0);
-    assert!(rt; counts.drops() == 6);
+    let one = Rc::new(rt.alloc(), ()).expect(&rt, "no memory");
+    let six = cut_into_rows_and_joined(split_and_joined(six_of(&one)));
+    assert!(rt; Rc::strong_count(&one) == 7);
+    assert!(rt; taken_apart(six, &one) == 7);
+    assert!(rt; Rc::strong_count(&one) == 1);
 }
 
 // 9 at the first place of the first half, and 8 at the third of the second.

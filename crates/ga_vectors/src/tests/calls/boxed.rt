@@ -1,41 +1,31 @@
 //! Calls at boxed arrays, and those that make a boxed array.
 use generic_array::checks::map_total_by as map_total_of_any;
 use generic_array::functional::{
-    FunctionalSequence, inverted_zip as inverted_zip_of_any, inverted_zip2, inverted_zip2_by,
+    FunctionalSequence, inverted_zip as inverted_zip_of_any, inverted_zip2,
 };
 use generic_array::{AllocError, ArrayLength, BoxedArray, GenericArray, Unsigned};
 use std::alloc::Global;
 
-/// `map` of a boxed array, or `map_by` where the closure `is_lent`.
+/// `map` of a boxed array.
 pub fn map<T: Drop, U: Drop, N: Unsigned, F: FnMut(T) -> U>(
     alloc: Global,
     array: BoxedArray<T, N>,
-    mut f: F,
-    is_lent: bool,
+    f: F,
 ) -> Result<BoxedArray<U, N>, AllocError>
     requires { (f : _) (x : _) → F.pre f x }
 {
-    if is_lent {
-        array.map_by(alloc, &mut f)
-    } else {
-        array.map(alloc, f)
-    }
+    array.map(alloc, f)
 }
 
-/// `try_map` of a boxed array, or `try_map_by` where the closure `is_lent`.
+/// `try_map` of a boxed array.
 pub fn try_map<T: Drop, U: Drop, E, N: Unsigned, F: FnMut(T) -> Result<U, E>>(
     alloc: Global,
     array: BoxedArray<T, N>,
-    mut f: F,
-    is_lent: bool,
+    f: F,
 ) -> Result<Result<BoxedArray<U, N>, E>, AllocError>
     requires { (f : _) (x : _) → F.pre f x }
 {
-    if is_lent {
-        array.try_map_by(alloc, &mut f)
-    } else {
-        array.try_map(alloc, f)
-    }
+    array.try_map(alloc, f)
 }
 
 /// `try_fold_by` of a boxed array.
@@ -49,31 +39,20 @@ pub fn try_fold_by<T: Drop, A, E, N: Unsigned, F: FnMut(A, T) -> Result<A, E>>(
     array.try_fold_by(init, f)
 }
 
-/// Which call zips the two sides: `zip` of the left one, or `inverted_zip2` of the right one, with a closure
-/// that it takes by value or borrows.
-#[derive(Clone, Copy)]
-pub enum ZipCall {
-    Left,
-    LeftLent,
-    Inverted,
-    InvertedLent,
-}
-
-/// The zip with an inline array.
+/// The zip with an inline array, or `inverted_zip2` of that array where `is_inverted`.
 pub fn zip<T: Drop, B: Default + Drop, U: Drop, N: ArrayLength<B>, F: FnMut(T, B) -> U>(
     alloc: Global,
     left: BoxedArray<T, N>,
     right: GenericArray<B, N>,
-    mut f: F,
-    call: ZipCall,
+    f: F,
+    is_inverted: bool,
 ) -> Result<BoxedArray<U, N>, AllocError>
     requires { (f : _) (x : _) (y : _) → F.pre f x y }
 {
-    match call {
-        ZipCall::Left => left.zip(alloc, right, f),
-        ZipCall::LeftLent => left.zip_by(alloc, right, &mut f),
-        ZipCall::Inverted => inverted_zip2(right, alloc, left, f),
-        ZipCall::InvertedLent => inverted_zip2_by(right, alloc, left, &mut f),
+    if is_inverted {
+        inverted_zip2(right, alloc, left, f)
+    } else {
+        left.zip(alloc, right, f)
     }
 }
 

@@ -2,7 +2,7 @@
 use crate::tests::counted::{Counted, Counts};
 use crate::tests::items::{TooMany, number};
 use crate::tests::outcome::{Outcome, play};
-use crate::tests::refused_memory::{CALLS, Call, Three, stopped, three_counted, unless_error};
+use crate::tests::refused_memory::{Three, stopped, three_counted, unless_error};
 use generic_array::sequence::{FallibleGenericSequence, GenericSequence};
 use generic_array::{AllocError, BoxedArray, LiveBlock, U1, U3, Unsigned, box_arr};
 use std::alloc::Global;
@@ -10,38 +10,32 @@ use std::alloc::Global;
 /// A boxed array of three squares.
 type Squares = BoxedArray<usize, U3>;
 
-fn generated(alloc: Global, call: Call) -> Outcome {
+fn generated(alloc: Global, by_trait: bool) -> Outcome {
     let mut calls = 0u32;
-    let mut square = |index: usize| {
+    let square = |index: usize| {
         calls = calls.wrapping_add(1);
         index.wrapping_mul(index)
     };
-    let built = match call {
-        Call::Lent => Squares::generate_by(alloc, &mut square),
-        Call::HandedOver => Squares::generate(alloc, square),
-        Call::LentToTrait => <Squares as GenericSequence<usize>>::generate_by(alloc, &mut square),
-        Call::HandedToTrait => <Squares as GenericSequence<usize>>::generate(alloc, square),
+    let built = if by_trait {
+        <Squares as GenericSequence<usize>>::generate(alloc, square)
+    } else {
+        Squares::generate(alloc, square)
     };
     Outcome::of_calls(built, [0, 1, 4].as_slice(), calls)
 }
 
 /// Three counted items by a closure that fails at the number `error`.
-fn tried(alloc: Global, error: u32, call: Call) -> Outcome {
+fn tried(alloc: Global, error: u32, by_trait: bool) -> Outcome {
     let counts = Counts::new();
     let mut calls = 0u32;
-    let mut answer = |index: usize| {
+    let answer = |index: usize| {
         calls = calls.wrapping_add(1);
         unless_error(Counted::new(&counts, number(index)), error)
     };
-    let built = match call {
-        Call::Lent => Three::try_generate_by(alloc, &mut answer),
-        Call::HandedOver => Three::try_generate(alloc, answer),
-        Call::LentToTrait => {
-            <Three as FallibleGenericSequence<Counted>>::try_generate_by(alloc, &mut answer)
-        }
-        Call::HandedToTrait => {
-            <Three as FallibleGenericSequence<Counted>>::try_generate(alloc, answer)
-        }
+    let built = if by_trait {
+        <Three as FallibleGenericSequence<Counted>>::try_generate(alloc, answer)
+    } else {
+        Three::try_generate(alloc, answer)
     };
     stopped(built, error, calls, &counts).and(counts.drops() == calls)
 }
@@ -123,24 +117,24 @@ fn of_too_many<N: Unsigned>(alloc: Global) -> Outcome {
 
 /// A case, by its number.
 fn case(alloc: Global, number: u32) -> Outcome {
-    let call = CALLS[number as usize % 4];
+    let by_trait = number % 2 == 1;
     match number {
-        0..=3 => generated(alloc, call),
-        4..=7 => tried(alloc, 9, call),
-        8..=11 => tried(alloc, 2, call),
-        12 => repeated(alloc),
-        13 => repeated_once(alloc),
-        14 => repeated_by_trait(alloc),
-        15 => of_defaults(alloc),
-        16 => of_copies(alloc),
-        17 => written_out(alloc),
-        18 => from_inline(alloc),
-        19 => block(alloc),
+        0 | 1 => generated(alloc, by_trait),
+        2 | 3 => tried(alloc, 9, by_trait),
+        4 | 5 => tried(alloc, 2, by_trait),
+        6 => repeated(alloc),
+        7 => repeated_once(alloc),
+        8 => repeated_by_trait(alloc),
+        9 => of_defaults(alloc),
+        10 => of_copies(alloc),
+        11 => written_out(alloc),
+        12 => from_inline(alloc),
+        13 => block(alloc),
         _ => of_too_many::<TooMany>(alloc),
     }
 }
 
 #[test]
 fn a_build_is_whole_or_refused_before_any_call(rt: HostRuntime) {
-    play(&rt, 21, case);
+    play(&rt, 15, case);
 }

@@ -1,7 +1,7 @@
 //! Fills from iterators, whose items may be errors.
 use crate::tests::counted::{Counted, Counts};
 use crate::tests::outcome::{Outcome, play};
-use crate::tests::refused_memory::{CALLS, Call, Three, are_whole, three_counted};
+use crate::tests::refused_memory::{Three, are_whole, three_counted};
 use crate::tests::scripted::{Numbered, digits};
 use generic_array::sequence::FromFallibleIterator;
 use generic_array::{AllocError, ArrayLength, BoxedArray, FillError, GenericArray, LengthError};
@@ -106,21 +106,16 @@ fn from_iter(alloc: Global, given: u32, is_lent: bool) -> Outcome {
     filled_by_items(made, given, takes.get(), &counts)
 }
 
-fn from_fallible_iter(alloc: Global, given: u32, error: u32, call: Call) -> Outcome {
+fn from_fallible_iter(alloc: Global, given: u32, error: u32, by_trait: bool) -> Outcome {
     let (counts, takes) = (Counts::new(), Cell::new(0));
-    let mut items = Tried {
+    let items = Tried {
         items: given_items(&counts, &takes, given),
         error,
     };
-    let made = match call {
-        Call::Lent => Three::try_boxed_from_fallible_iter_ref(alloc, &mut items),
-        Call::HandedOver => Three::try_boxed_from_fallible_iter(alloc, items),
-        Call::LentToTrait => {
-            <Three as FromFallibleIterator<Counted>>::from_fallible_iter_ref(alloc, &mut items)
-        }
-        Call::HandedToTrait => {
-            <Three as FromFallibleIterator<Counted>>::from_fallible_iter(alloc, items)
-        }
+    let made = if by_trait {
+        <Three as FromFallibleIterator<Counted>>::from_fallible_iter(alloc, items)
+    } else {
+        Three::try_boxed_from_fallible_iter(alloc, items)
     };
     filled(made, given, error, takes.get(), &counts)
 }
@@ -156,7 +151,7 @@ fn from_lent_items(alloc: Global) -> Outcome {
 
 /// A case, by its number.
 fn case(alloc: Global, number: u32) -> Outcome {
-    let call = CALLS[number as usize % 4];
+    let by_trait = number % 2 == 1;
     match number {
         0 => from_iter(alloc, 3, true),
         1 => from_iter(alloc, 2, true),
@@ -165,14 +160,14 @@ fn case(alloc: Global, number: u32) -> Outcome {
         4 => from_iter(alloc, 5, false),
         5 => from_items(alloc),
         6 => from_lent_items(alloc),
-        7..=10 => from_fallible_iter(alloc, 3, 9, call),
-        11..=14 => from_fallible_iter(alloc, 3, 2, call),
-        15 => from_fallible_iter(alloc, 4, 4, Call::Lent),
-        _ => from_fallible_iter(alloc, 2, 9, Call::HandedToTrait),
+        7 | 8 => from_fallible_iter(alloc, 3, 9, by_trait),
+        9 | 10 => from_fallible_iter(alloc, 3, 2, by_trait),
+        11 => from_fallible_iter(alloc, 4, 4, by_trait),
+        _ => from_fallible_iter(alloc, 2, 9, by_trait),
     }
 }
 
 #[test]
 fn a_fill_is_exact_or_refused_before_any_item(rt: HostRuntime) {
-    play(&rt, 17, case);
+    play(&rt, 13, case);
 }

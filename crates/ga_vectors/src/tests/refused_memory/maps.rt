@@ -6,24 +6,24 @@ use crate::tests::refused_memory::{Three, stopped, three_in_a_block, unless_erro
 use generic_array::AllocError;
 use std::alloc::Global;
 
-fn mapped(alloc: Global, entries: Three, is_lent: bool) -> Outcome {
+fn mapped(alloc: Global, entries: Three) -> Outcome {
     let mut calls = 0u32;
     let answer = |entry: Counted| {
         calls = calls.wrapping_add(1);
         entry.place()
     };
-    let made = boxed::map(alloc, entries, answer, is_lent);
+    let made = boxed::map(alloc, entries, answer);
     Outcome::of_calls(made, [1, 2, 3].as_slice(), calls)
 }
 
 /// Hands each item on, but for an error at one that it drops.
-fn tried(alloc: Global, entries: Three, counts: &Counts, error: u32, is_lent: bool) -> Outcome {
+fn tried(alloc: Global, entries: Three, counts: &Counts, error: u32) -> Outcome {
     let mut calls = 0u32;
     let answer = |entry| {
         calls = calls.wrapping_add(1);
         unless_error(entry, error)
     };
-    let made = boxed::try_map(alloc, entries, answer, is_lent);
+    let made = boxed::try_map(alloc, entries, answer);
     stopped(made, error, calls, counts)
 }
 
@@ -55,12 +55,9 @@ fn case(alloc: Global, number: u32) -> Outcome {
         return Outcome::Refused;
     };
     let outcome = match number {
-        0 => mapped(alloc, entries, true),
-        1 => mapped(alloc, entries, false),
-        2 => tried(alloc, entries, &counts, 9, true),
-        3 => tried(alloc, entries, &counts, 2, true),
-        4 => tried(alloc, entries, &counts, 9, false),
-        5 => tried(alloc, entries, &counts, 2, false),
+        0 => mapped(alloc, entries),
+        1 => tried(alloc, entries, &counts, 9),
+        2 => tried(alloc, entries, &counts, 2),
         _ => totalled(alloc, entries),
     };
     outcome.and(counts.drops() == 3)
@@ -68,5 +65,5 @@ fn case(alloc: Global, number: u32) -> Outcome {
 
 #[test]
 fn a_map_is_exact_or_refused_before_any_call(rt: HostRuntime) {
-    play(&rt, 7, case);
+    play(&rt, 4, case);
 }

@@ -1,5 +1,4 @@
 //! Zips of two kinds, where what is made is boxed, and where it is not.
-use crate::tests::calls::boxed::ZipCall;
 use crate::tests::calls::{boxed, inline};
 use crate::tests::counted::{Counted, Counts};
 use crate::tests::items::{boxed_counted_from, counted_from};
@@ -26,13 +25,13 @@ fn zipped<S: AsSlice<u32> + Drop>(
     Outcome::of_calls(made, [14, 25, 36].as_slice(), calls.get()).and(counts.drops() == 6)
 }
 
-fn with_inline(alloc: Global, call: ZipCall) -> Outcome {
+fn with_inline(alloc: Global, is_inverted: bool) -> Outcome {
     let (counts, calls) = (Counts::new(), Cell::new(0));
     let Ok(left) = three_in_a_block(alloc, &counts) else {
         return Outcome::Refused;
     };
     let both = |left: Counted, right: Counted| both(&calls, left, right);
-    let made = boxed::zip(alloc, left, counted_from(&counts, 4), both, call);
+    let made = boxed::zip(alloc, left, counted_from(&counts, 4), both, is_inverted);
     zipped(made, &calls, &counts)
 }
 
@@ -66,23 +65,16 @@ fn inline_zip(alloc: Global, is_inverted: bool) -> Outcome {
     zipped(Ok(made), &calls, &counts)
 }
 
-const CALLS: [ZipCall; 4] = [
-    ZipCall::Left,
-    ZipCall::LeftLent,
-    ZipCall::Inverted,
-    ZipCall::InvertedLent,
-];
-
 /// A case, by its number.
 fn case(alloc: Global, number: u32) -> Outcome {
     match number {
-        0..=3 => with_inline(alloc, CALLS[number as usize]),
-        4 => with_block(alloc),
-        _ => inline_zip(alloc, number == 6),
+        0 | 1 => with_inline(alloc, number == 1),
+        2 => with_block(alloc),
+        _ => inline_zip(alloc, number == 4),
     }
 }
 
 #[test]
 fn a_zip_is_exact_or_refused_before_any_call(rt: HostRuntime) {
-    play(&rt, 7, case);
+    play(&rt, 5, case);
 }
