@@ -39,13 +39,12 @@ fn from_vector<N: ArrayLength<u8> + InlineLength>(
 
 // To a vector, and from what that gave to a boxed slice.
 
-fn through_a_vector<N: ArrayLength<u32>>(
+fn through_a_vector<N: ArrayLength<u32> + InlineLength>(
     alloc: Global,
     array: GenericArray<u32, N>,
 ) -> Result<Result<GenericArray<u32, N>, LengthError>, AllocError>
     ensures { IfOk result (λ again. again ≡ Ok array) }
 {
-    let _ = array.as_slice();
     let Ok(array) = GenericArray::<_, N>::try_from_vec(array.into_vec(alloc)?) else {
         return Ok(Err(LengthError));
     };

@@ -97,37 +97,6 @@ fn seen_of_bytes(message: &[u8]) -> Seen {
     seen
 }
 
-/// Pieces of a message that are cut at random places, from one seed.
-fn cuts_make_no_difference() -> bool {
-    let mut bytes = [0; 200];
-    let mut random = 1u64;
-    for byte in bytes.iter_mut() {
-        random = random
-            .wrapping_mul(6364136223846793005)
-            .wrapping_add(1442695040888963407);
-        *byte = (random / 2u64.pow(56)) as u8;
-    }
-    let mut same = true;
-    for _ in 0..100 {
-        random = random
-            .wrapping_mul(6364136223846793005)
-            .wrapping_add(1442695040888963407);
-        let (message, _) = bytes.split_at((random / 2u64.pow(32) % 201) as usize);
-        let (first, behind) = cut(message, (random / 2u64.pow(40) % 201) as usize);
-        let (second, third) = cut(behind, (random / 2u64.pow(48) % 201) as usize);
-        same = same && seen_of_three(first, second, third).is(&by_rule(64, message));
-        same = same && seen_of_bytes(message).is(&by_rule(16, message));
-    }
-    same
-}
-
-/// The first bytes, as many as there are, and the others.
-fn cut(bytes: &[u8], at: usize) -> (&[u8], &[u8])
-    ensures { length result.0.now + length result.1.now ≡ length bytes.now }
-{
-    bytes.split_at(at.min(bytes.len()))
-}
-
 /// A message, 0x80, so many zeros, and the last two bytes.
 fn by_hand(message: &[u8], zeros: usize, last: [u8; 2]) -> Seen {
     let mut seen = Seen::none(64);
@@ -166,5 +135,4 @@ fn blocks_of_a_message_are_those_of_the_standard(rt: HostRuntime) {
         assert!(rt; seen_of_three(b"", message, b"").is(&by_rule(64, message)));
         assert!(rt; seen_of_bytes(message).is(&by_rule(16, message)));
     }
-    assert!(rt; cuts_make_no_difference());
 }

@@ -50,26 +50,6 @@ fn turns_into(
     Ok(bytes.as_slice() == expected.as_slice())
 }
 
-/// The next of a row of numbers that look random.
-fn next(random: u64) -> u64 {
-    random
-        .wrapping_mul(6364136223846793005)
-        .wrapping_add(1442695040888963407)
-}
-
-/// Applies the key stream to the bytes in pieces of random sizes.
-fn apply_in_pieces(mode: &mut CounterMode<ChaCha20>, bytes: &mut [u8]) -> Result<(), StreamEnd> {
-    let mut random = 1;
-    for part in bytes.chunks_mut(997) {
-        random = next(random);
-        let at = (random / 2u64.pow(40) % 998) as usize;
-        let (first, second) = part.split_at_mut(at.min(part.len()));
-        mode.apply(first)?;
-        mode.apply(second)?;
-    }
-    Ok(())
-}
-
 #[test]
 fn blocks_of_the_standard(rt: HostRuntime) -> Result<(), Fail> {
     let cases = [
@@ -173,20 +153,6 @@ fn texts_of_the_standard(rt: HostRuntime) -> Result<(), Fail> {
     for (key, nonce, counter, text, digits) in cases {
         assert!(rt; turns_into(rt.alloc(), key, nonce, counter, text, digits)?);
     }
-    Ok(())
-}
-
-#[test]
-fn pieces_are_the_whole(rt: HostRuntime) -> Result<(), Fail> {
-    let mut whole = vec![in rt.alloc(); 0u8; 1_000_000]?;
-    let mut pieces = vec![in rt.alloc(); 0u8; 1_000_000]?;
-    let key = [7; 32];
-    let nonce = [9; 12];
-    CounterMode::new(cipher_of(&key, &nonce)?).apply(whole.as_mut_slice())?;
-    let mut mode = CounterMode::new(cipher_of(&key, &nonce)?);
-    apply_in_pieces(&mut mode, pieces.as_mut_slice())?;
-    assert!(rt; mode.position() == 1_000_000);
-    assert!(rt; whole.as_slice() == pieces.as_slice());
     Ok(())
 }
 

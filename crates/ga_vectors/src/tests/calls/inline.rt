@@ -1,4 +1,6 @@
 //! Calls at inline arrays.
+ghost use Rattle.generic_array.specs.Length.{FitsInline};
+
 use generic_array::checks::map_total_by as map_total_of_any;
 use generic_array::functional::{
     FunctionalSequence, inverted_zip as inverted_zip_of_any, inverted_zip2 as inverted_zip2_of_any,
@@ -13,10 +15,9 @@ pub fn try_map_by<
     N: ArrayLength<T> + ArrayLength<U>,
     F: FnMut(T) -> Result<U, E>,
 >(array: GenericArray<T, N>, f: &mut F) -> Result<GenericArray<U, N>, E>
-    requires { (f : _) (x : _) → F.pre f x }
+    requires fits { FitsInline N.USIZE }
+    requires pre { (f : _) (x : _) → F.pre f x }
 {
-    // The slice knows that the length fits.
-    let _ = array.as_slice();
     always(array.try_map_by((), f))
 }
 
@@ -39,9 +40,9 @@ pub fn zip<
     N: ArrayLength<T> + ArrayLength<U>,
     F: FnMut(T, B) -> U,
 >(left: GenericArray<T, N>, right: BoxedArray<B, N>, f: F) -> GenericArray<U, N>
-    requires { (f : _) (x : _) (y : _) → F.pre f x y }
+    requires fits { FitsInline N.USIZE }
+    requires pre { (f : _) (x : _) (y : _) → F.pre f x y }
 {
-    let _ = left.as_slice();
     always(left.zip((), right, f))
 }
 
@@ -53,9 +54,9 @@ pub fn inverted_zip<
     N: ArrayLength<T> + ArrayLength<B> + ArrayLength<U>,
     F: FnMut(B, T) -> U,
 >(array: GenericArray<T, N>, left: GenericArray<B, N>, f: F, is_second: bool) -> GenericArray<U, N>
-    requires { (f : _) (x : _) (y : _) → F.pre f x y }
+    requires fits { FitsInline N.USIZE }
+    requires pre { (f : _) (x : _) (y : _) → F.pre f x y }
 {
-    let _ = left.as_slice();
     if is_second {
         always(inverted_zip2_of_any(array, (), left, f))
     } else {
@@ -72,9 +73,9 @@ pub fn map_total_by<
     F: FnMut(T) -> U,
     G: FnMut(A, U) -> A,
 >(array: GenericArray<T, N>, f: &mut F, init: A, g: &mut G) -> A
+    requires fits { FitsInline N.USIZE }
     requires first { (f : _) (x : _) → F.pre f x }
     requires second { (g : _) (total : _) (x : _) → G.pre g total x }
 {
-    let _ = array.as_slice();
     always(map_total_of_any(array, (), f, init, g))
 }
