@@ -2,10 +2,7 @@
 
 use crate::tests::items::{TooMany, has};
 use generic_array::sequence::{FallibleGenericSequence, GenericSequence};
-use generic_array::{
-    AllocError, BoxedArray, Const, GenericArray, GenericArrayRef, U0, U2, U3, always,
-};
-use std::test::Fail;
+use generic_array::{BoxedArray, Const, GenericArray, GenericArrayRef, U2, U3};
 
 #[test]
 fn a_length_fits_inline_up_to_a_bound_and_boxed_always(rt: HostRuntime) {
@@ -19,48 +16,38 @@ fn square(index: usize) -> usize {
     index.wrapping_mul(index)
 }
 
-fn squares<S: GenericSequence<usize>>(place: S::Place) -> Result<S::Sequence, S::Error>
+/// Whether a kind makes the squares, and copies of 7, of three places.
+fn are_three_made<S: GenericSequence<usize>>(place: S::Place, again: S::Place) -> bool
+where
+    S::Sequence: Drop,
+    S::Error: Drop,
     requires { S.Fits }
 {
-    S::generate(place, square)
+    let (squares, sevens) = (S::generate(place, square), S::repeat(again, 7));
+    has(squares, &[0, 1, 4]) && has(sevens, &[7, 7, 7])
 }
 
 fn same(index: usize) -> Result<usize, u8> {
     Ok(index)
 }
 
-fn places<S: FallibleGenericSequence<usize>>(
-    place: S::Place,
-) -> Result<Result<S::Sequence, u8>, S::Error>
+/// Whether a kind makes the numbers of two places by a closure that may fail.
+fn are_two_made<S: FallibleGenericSequence<usize>>(place: S::Place) -> bool
+where
+    S::Sequence: Drop,
+    S::Error: Drop,
     requires { S.Fits }
 {
-    S::try_generate(place, same)
-}
-
-fn sevens<S: GenericSequence<usize>>(place: S::Place) -> Result<S::Sequence, AllocError>
-    requires { S.Fits }
-{
-    S::repeat(place, 7)
+    S::try_generate(place, same).is_ok_and(|made| has(made, &[0, 1]))
 }
 
 #[test]
-fn each_kind_is_made_by_the_calls_of_the_traits(rt: HostRuntime) -> Result<(), Fail> {
+fn each_kind_is_made_by_the_calls_of_the_traits(rt: HostRuntime) {
     let alloc = rt.alloc();
-    let nine = [0, 1, 4].as_slice();
-    assert!(rt; has(squares::<GenericArray<usize, U3>>(()), nine));
-    assert!(rt; has(squares::<GenericArrayRef<usize, U3>>(()), nine));
-    assert!(rt; has(squares::<BoxedArray<usize, U3>>(alloc), nine));
-    let same = [7, 7, 7].as_slice();
-    assert!(rt; has(sevens::<GenericArray<usize, U3>>(()), same));
-    assert!(rt; has(sevens::<GenericArrayRef<usize, U3>>(()), same));
-    assert!(rt; has(sevens::<BoxedArray<usize, U3>>(alloc), same));
-    let two = [0, 1].as_slice();
-    assert!(rt; has(always(places::<GenericArray<usize, U2>>(())), two));
-    assert!(rt; has(always(places::<GenericArrayRef<usize, U2>>(())), two));
-    assert!(rt; has(places::<BoxedArray<usize, U2>>(alloc)?, two));
-    assert!(rt; has(squares::<GenericArray<usize, U0>>(()), &[]));
-    assert!(rt; has(squares::<BoxedArray<usize, U0>>(alloc), &[]));
-    assert!(rt; has(sevens::<BoxedArray<usize, U0>>(alloc), &[]));
-    assert!(rt; has(places::<BoxedArray<usize, U0>>(alloc)?, &[]));
-    Ok(())
+    assert!(rt; are_three_made::<GenericArray<usize, U3>>((), ()));
+    assert!(rt; are_three_made::<GenericArrayRef<usize, U3>>((), ()));
+    assert!(rt; are_three_made::<BoxedArray<usize, U3>>(alloc, alloc));
+    assert!(rt; are_two_made::<GenericArray<usize, U2>>(()));
+    assert!(rt; are_two_made::<GenericArrayRef<usize, U2>>(()));
+    assert!(rt; are_two_made::<BoxedArray<usize, U2>>(alloc));
 }
