@@ -1,5 +1,5 @@
 //! Builders at concrete types.
-use crate::tests::scripted::digits;
+use crate::tests::items::digits;
 use generic_array::{ArrayBuilder, U3, U4};
 
 /// The position of a builder after two bytes.

@@ -1,7 +1,6 @@
-//! The arrays that tests share: numbers and counted items.
+//! The arrays that tests share, and comparisons of what comes of them.
 ghost use Rattle.generic_array.specs.Length.{FitsInline};
 
-use crate::tests::counted::{Counted, Counts};
 use generic_array::{AllocError, ArrayLength, BoxedArray, Const, GenericArray, Unsigned};
 use std::alloc::Global;
 use std::convert::AsSlice;
@@ -10,7 +9,7 @@ use std::convert::AsSlice;
 pub type TooMany = Const<18446744073709551615>;
 
 /// The number of an item, from 1. It is a digit.
-pub fn number(index: usize) -> u32 {
+fn number(index: usize) -> u32 {
     (index % 9) as u32 + 1
 }
 
@@ -26,26 +25,18 @@ pub fn boxed_from_one<N: Unsigned>(alloc: Global) -> Result<BoxedArray<u32, N>, 
     BoxedArray::generate(alloc, number)
 }
 
-/// The array of N items that are counted here, numbered from this one.
-pub fn counted_from<'a, N: ArrayLength<Counted<'a>>>(
-    counts: &'a Counts,
-    first: u32,
-) -> GenericArray<Counted<'a>, N>
-    requires { FitsInline N.USIZE }
-{
-    GenericArray::generate(|index| Counted::new(counts, first.wrapping_add(index as u32)))
+/// The digits so far and one more.
+pub fn next_digit(digits: u32, digit: u32) -> u32 {
+    digits.wrapping_mul(10).wrapping_add(digit)
 }
 
-/// The same in a block, of up to 256 items. None is made where that is refused.
-pub fn boxed_counted_from<N: Unsigned>(
-    alloc: Global,
-    counts: &Counts,
-    first: u32,
-) -> Result<BoxedArray<Counted<'_>, N>, AllocError> {
-    BoxedArray::generate(
-        alloc,
-        |index| Counted::new(counts, first.wrapping_add((index % 256) as u32)),
-    )
+/// The numbers as the digits of one.
+pub fn digits(numbers: &[u32]) -> u32 {
+    let mut all = 0u32;
+    for number in numbers {
+        all = next_digit(all, *number);
+    }
+    all
 }
 
 /// Whether there is a sequence of exactly these items.

@@ -1,7 +1,6 @@
 //! Walks of both iterators by value from both ends.
 use crate::tests::compared::prints;
-use crate::tests::items::{boxed_from_one, from_one};
-use crate::tests::scripted::{digits, next_digit};
+use crate::tests::items::{boxed_from_one, digits, from_one, next_digit};
 use generic_array::{AllocError, U3, U4, U5};
 use std::alloc::Global;
 use std::test::Fail;

@@ -1,9 +1,8 @@
-//! Inline builds at concrete types: how often they call, take and clone.
+//! Inline builds at concrete types: how often they call and take.
 ghost use Rattle.generic_array.specs.Length.{FitsInline};
 
 use crate::tests::compared::holds;
-use crate::tests::counted::{Counted, Counts};
-use generic_array::{ArrayLength, GenericArray, U0, U1, U3, U4};
+use generic_array::{ArrayLength, GenericArray, U0, U4};
 
 /// The array of doubled places, and how often the closure was called.
 fn doubled<N: ArrayLength<usize>>() -> (GenericArray<usize, N>, u32)
@@ -40,20 +39,4 @@ fn a_fill_takes_one_item_more_than_fits(rt: HostRuntime) {
     assert!(rt; filled::<U4>(&[1, 2, 3]) == (false, None));
     assert!(rt; filled::<U0>(&[]) == (true, None));
     assert!(rt; filled::<U0>(&[9, 8]) == (false, Some(8)));
-}
-
-/// Whether an item that is counted here is repeated. What is made is dropped.
-fn is_repeated<'a, N: ArrayLength<Counted<'a>>>(counts: &'a Counts) -> bool
-    requires { FitsInline N.USIZE }
-{
-    GenericArray::<_, N>::repeat(Counted::new(counts, 1)).is_ok()
-}
-
-#[test]
-fn the_last_place_takes_the_repeated_item_itself(rt: HostRuntime) {
-    let counts = Counts::new();
-    assert!(rt; is_repeated::<U3>(&counts) && counts.clones() == 2 && counts.drops() == 3);
-    let counts = Counts::new();
-    assert!(rt; is_repeated::<U1>(&counts) && is_repeated::<U0>(&counts));
-    assert!(rt; counts.clones() == 0 && counts.drops() == 2);
 }

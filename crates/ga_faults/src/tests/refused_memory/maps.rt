@@ -1,10 +1,47 @@
 //! Maps of three counted items in a block, which are dropped once each, in the calls or at the refusal.
-use crate::tests::calls::boxed;
 use crate::tests::counted::{Counted, Counts};
 use crate::tests::outcome::{Outcome, play};
 use crate::tests::refused_memory::{Three, stopped, three_in_a_block, unless_error};
-use generic_array::AllocError;
+use generic_array::checks::map_total_by;
+use generic_array::functional::FunctionalSequence;
+use generic_array::{AllocError, BoxedArray, Unsigned};
 use std::alloc::Global;
+
+/// `map` of a boxed array.
+fn map<T: Drop, U: Drop, N: Unsigned, F: FnMut(T) -> U>(
+    alloc: Global,
+    array: BoxedArray<T, N>,
+    f: F,
+) -> Result<BoxedArray<U, N>, AllocError>
+    requires { (f : _) (x : _) → F.pre f x }
+{
+    array.map(alloc, f)
+}
+
+/// `try_map` of a boxed array.
+fn try_map<T: Drop, U: Drop, E, N: Unsigned, F: FnMut(T) -> Result<U, E>>(
+    alloc: Global,
+    array: BoxedArray<T, N>,
+    f: F,
+) -> Result<Result<BoxedArray<U, N>, E>, AllocError>
+    requires { (f : _) (x : _) → F.pre f x }
+{
+    array.try_map(alloc, f)
+}
+
+/// `map_total_by` of a boxed array.
+fn map_total<T: Drop, U: Drop, A: Drop, N: Unsigned, F: FnMut(T) -> U, G: FnMut(A, U) -> A>(
+    alloc: Global,
+    array: BoxedArray<T, N>,
+    f: &mut F,
+    init: A,
+    g: &mut G,
+) -> Result<A, AllocError>
+    requires first { (f : _) (x : _) → F.pre f x }
+    requires second { (g : _) (total : _) (x : _) → G.pre g total x }
+{
+    map_total_by(array, alloc, f, init, g)
+}
 
 fn mapped(alloc: Global, entries: Three) -> Outcome {
     let mut calls = 0u32;
@@ -12,7 +49,7 @@ fn mapped(alloc: Global, entries: Three) -> Outcome {
         calls = calls.wrapping_add(1);
         entry.place()
     };
-    let made = boxed::map(alloc, entries, answer);
+    let made = map(alloc, entries, answer);
     Outcome::of_calls(made, [1, 2, 3].as_slice(), calls)
 }
 
@@ -23,13 +60,13 @@ fn tried(alloc: Global, entries: Three, counts: &Counts, error: u32) -> Outcome 
         calls = calls.wrapping_add(1);
         unless_error(entry, error)
     };
-    let made = boxed::try_map(alloc, entries, answer);
+    let made = try_map(alloc, entries, answer);
     stopped(made, error, calls, counts)
 }
 
 fn totalled(alloc: Global, entries: Three) -> Outcome {
     let (mut maps, mut folds) = (0u32, 0u32);
-    let total = boxed::map_total_by(
+    let total = map_total(
         alloc,
         entries,
         &mut |entry: Counted| {

@@ -3,12 +3,14 @@
 //!
 //! What is repeated or cloned asks for `due` clones of counted items. Where the one that the counts refuse
 //! is beyond them, none is refused.
+ghost use Rattle.generic_array.specs.Length.{FitsInline};
+
 use crate::tests::counted::{Counted, Counts};
 use crate::tests::items::counted_from;
 use crate::tests::outcome::{Outcome, play};
 use crate::tests::scripted::digits;
 use generic_array::steps::TwoEnded;
-use generic_array::{BoxedArray, GenericArray, U3, U4};
+use generic_array::{ArrayLength, BoxedArray, GenericArray, U0, U1, U3, U4};
 use std::alloc::Global;
 use std::convert::AsSlice;
 
@@ -120,4 +122,20 @@ fn case(alloc: Global, number: u32) -> Outcome {
 fn a_refused_clone_drops_those_before_it(rt: HostRuntime) {
     // The first to the fourth clone, each in five cases.
     play(&rt, 20, case);
+}
+
+/// Whether an item that is counted here is repeated. What is made is dropped.
+fn is_repeated<'a, N: ArrayLength<Counted<'a>>>(counts: &'a Counts) -> bool
+    requires { FitsInline N.USIZE }
+{
+    GenericArray::<_, N>::repeat(Counted::new(counts, 1)).is_ok()
+}
+
+#[test]
+fn the_last_place_takes_the_repeated_item_itself(rt: HostRuntime) {
+    let counts = Counts::new();
+    assert!(rt; is_repeated::<U3>(&counts) && counts.clones() == 2 && counts.drops() == 3);
+    let counts = Counts::new();
+    assert!(rt; is_repeated::<U1>(&counts) && is_repeated::<U0>(&counts));
+    assert!(rt; counts.clones() == 0 && counts.drops() == 2);
 }

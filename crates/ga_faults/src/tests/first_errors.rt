@@ -1,8 +1,10 @@
 //! Closures that fail at each place: which calls are made, and what is dropped.
-use crate::tests::calls::{boxed, inline};
+ghost use Rattle.generic_array.specs.Length.{FitsInline};
+
 use crate::tests::counted::{Counted, Counts};
 use crate::tests::items::{boxed_counted_from, counted_from};
-use generic_array::{AllocError, BoxedArray, GenericArray, U5};
+use generic_array::functional::FunctionalSequence;
+use generic_array::{AllocError, ArrayLength, BoxedArray, GenericArray, U5, Unsigned, always};
 use std::alloc::Global;
 use std::cell::Cell;
 use std::test::Fail;
@@ -68,6 +70,42 @@ fn end_of<S: Drop>(built: Result<S, u32>, failing: &Failing, entries: &Counts) -
     }
 }
 
+/// `try_map_by` of an inline array.
+fn map_up_to_an_error<
+    T: Default + Drop,
+    U: Default + Drop,
+    E,
+    N: ArrayLength<T> + ArrayLength<U>,
+    F: FnMut(T) -> Result<U, E>,
+>(array: GenericArray<T, N>, f: &mut F) -> Result<GenericArray<U, N>, E>
+    requires fits { FitsInline N.USIZE }
+    requires pre { (f : _) (x : _) → F.pre f x }
+{
+    always(array.try_map_by((), f))
+}
+
+/// `try_fold_by` of an inline array.
+fn fold_up_to_an_error<T: Default + Drop, A, E, N: ArrayLength<T>, F: FnMut(A, T) -> Result<A, E>>(
+    array: GenericArray<T, N>,
+    init: A,
+    f: &mut F,
+) -> Result<A, E>
+    requires { (f : _) (total : _) (x : _) → F.pre f total x }
+{
+    array.try_fold_by(init, f)
+}
+
+/// `try_fold_by` of a boxed array.
+fn boxed_fold_up_to_an_error<T: Drop, A, E, N: Unsigned, F: FnMut(A, T) -> Result<A, E>>(
+    array: BoxedArray<T, N>,
+    init: A,
+    f: &mut F,
+) -> Result<A, E>
+    requires { (f : _) (total : _) (x : _) → F.pre f total x }
+{
+    array.try_fold_by(init, f)
+}
+
 /// The end of `try_generate_by` of five items, inline.
 fn inline_generate(refused: u32) -> End {
     let (answers, none) = (Counts::new(), Counts::new());
@@ -93,7 +131,7 @@ fn inline_map(refused: u32) -> End {
     let (answers, entries) = (Counts::new(), Counts::new());
     let failing = Failing::at(refused, &answers);
     let five = counted_from::<U5>(&entries, 1);
-    let built = inline::try_map_by(five, &mut |item: Counted| failing.answer(item.place()));
+    let built = map_up_to_an_error(five, &mut |item: Counted| failing.answer(item.place()));
     end_of(built, &failing, &entries)
 }
 
@@ -103,7 +141,7 @@ fn inline_fold(refused: u32) -> End {
     let failing = Failing::at(refused, &answers);
     let five = counted_from::<U5>(&entries, 1);
     let mut answer = |_before: Counted, item: Counted| failing.answer(item.place());
-    let built = inline::try_fold_by(five, Counted::new(&answers, 0), &mut answer);
+    let built = fold_up_to_an_error(five, Counted::new(&answers, 0), &mut answer);
     end_of(built, &failing, &entries)
 }
 
@@ -112,7 +150,7 @@ fn boxed_fold(alloc: Global, refused: u32) -> Result<End, AllocError> {
     let failing = Failing::at(refused, &answers);
     let five = boxed_counted_from::<U5>(alloc, &entries, 1)?;
     let mut answer = |_before: Counted, item: Counted| failing.answer(item.place());
-    let built = boxed::try_fold_by(five, Counted::new(&answers, 0), &mut answer);
+    let built = boxed_fold_up_to_an_error(five, Counted::new(&answers, 0), &mut answer);
     Ok(end_of(built, &failing, &entries))
 }
 
