@@ -38,6 +38,18 @@ fn masked_view<N: ArrayLength<u8>>(key: GenericArrayRef<'_, u8, N>, mask: u8) ->
     always(key.map((), |b: &u8| *b ^ mask))
 }
 
+// The key stays where it is.
+fn masked_by_reference<N: ArrayLength<u8>>(
+    key: &GenericArray<u8, N>,
+    mask: u8,
+) -> GenericArray<u8, N>
+    ensures { result ≡ map (λ b. bit_xor b mask) key.now }
+{
+    // The slice knows that the length fits.
+    let _ = key.as_slice();
+    always(key.map((), |b: &u8| *b ^ mask))
+}
+
 fn masked_boxed<N: Unsigned>(
     alloc: Global,
     key: BoxedArray<u8, N>,
@@ -101,6 +113,23 @@ fn place_sums<N: ArrayLength<u32>>(
     ensures { result ≡ map (λ p. (p.0 + p.1) % 2 ^ 32) (zip left (items_of_view right.entry)) }
 {
     left.zip_inline_ref(right, |l: u32, r: &u32| l.wrapping_add(*r))
+}
+
+// Both sides are there afterwards.
+fn sums_and_sides<N: ArrayLength<u32>>(
+    left: GenericArray<u32, N>,
+    right: GenericArray<u32, N>,
+) -> (
+    GenericArray<u32, N>,
+    GenericArray<u32, N>,
+    GenericArray<u32, N>,
+)
+    ensures { result ≡ (map (λ p. (p.0 + p.1) % 2 ^ 32) (zip left right), left, right) }
+{
+    // The slice knows that the length fits.
+    let _ = left.as_slice();
+    let sums = always((&left).zip((), &right, |l: &u32, r: &u32| l.wrapping_add(*r)));
+    (sums, left, right)
 }
 
 fn scaled_sums<N: ArrayLength<u32>>(
@@ -243,6 +272,7 @@ fn masks_are_right(alloc: Global) -> Result<bool, AllocError> {
             && sum == 0x36
             && checksum_of_any(&again) == 5
             && total == 0xff
+            && has(masked_by_reference(&key, 1), &[0x37, 1, 0xfe])
             && has(masked(key), &[0, 0x36, 0xc9]),
     )
 }
@@ -252,8 +282,11 @@ fn numbers_are_right(alloc: Global) -> Result<bool, AllocError> {
     let right = four_five_six();
     let boxed = boxed_one_two_three(alloc)?;
     let scaled = scaled_sums(alloc, boxed, one_two_three(), 10)?;
+    let (sums, left, _right) = sums_and_sides(one_two_three(), four_five_six());
     Ok(
         has(place_sums(one_two_three(), right.view()), &[5, 7, 9])
+            && has(sums, &[5, 7, 9])
+            && has(left, &[1, 2, 3])
             && dot(one_two_three(), right.view()) == 32
             && value_from_highest(one_two_three(), 10) == 123
             && value_from_lowest(scaled, 10) == 3531

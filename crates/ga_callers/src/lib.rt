@@ -16,6 +16,8 @@ mod conversions;
 #[cfg(test)]
 mod digits;
 #[cfg(test)]
+mod fixed_list;
+#[cfg(test)]
 mod generic;
 pub mod headline;
 #[cfg(test)]

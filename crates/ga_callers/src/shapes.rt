@@ -86,6 +86,16 @@ fn view_cut_after_the_first<'a>(
     view.split()
 }
 
+fn reference_cut_after_the_first<'a>(
+    array: &'a GenericArray<u32, U3>,
+) -> (GenericArrayRef<'a, u32, U1>, GenericArrayRef<'a, u32, U2>)
+    requires { array.now ≡ 1 ∷ 2 ∷ 3 ∷ [] }
+    ensures first { items_of_view result.0 ≡ 1 ∷ [] }
+    ensures second { items_of_view result.1 ≡ 2 ∷ 3 ∷ [] }
+{
+    array.split()
+}
+
 fn writing_view_cut_after_the_first<'a>(
     view: GenericArrayMut<'a, u32, U3>,
 ) -> (GenericArrayMut<'a, u32, U1>, GenericArrayMut<'a, u32, U2>)

@@ -1,7 +1,7 @@
 //! An array that is being built, item by item.
 ghost use Rattle.ga_core.specs.Fill.{Asks, TakeGoodRuns, TakeRuns, Takes, TakesGood};
 ghost use Rattle.ga_views.specs.Length.{FitsInline};
-ghost use Rattle.std.specs.Prelude.{◌≡◌, ◌≢◌, ◌⊎◌, ◌-◌, ◌<◌, ◌≤◌, ◌↔◌, IfOk, IsTrue, None, OnErr, Some, List, [], ◌∷◌, ◌++◌, length};
+ghost use Rattle.std.specs.Prelude.{◌≡◌, ◌≢◌, ◌⊎◌, ◌-◌, ◌<◌, ◌≤◌, ◌↔◌, IfNone, IfOk, IfSome, IsSome, IsTrue, None, OnErr, Some, List, [], ◌∷◌, ◌++◌, length};
 
 use crate::array::GenericArray;
 use crate::length::ArrayLength;
@@ -68,6 +68,25 @@ impl<T, N: ArrayLength<T>> ArrayBuilder<T, N> {
         ensures { self.new ≡ self.old ++ item ∷ [] }
     {
         self.store.push(item);
+    }
+
+    /// Takes the last item, or returns `None` if there is none. O(1).
+    #[inline]
+    pub fn pop(&mut self) -> Option<T>
+        ensures variant { IsSome result ↔ (0 < length self.old) }
+        ensures some { IfSome result (λ item. self.old ≡ self.new ++ item ∷ []) }
+        ensures none { IfNone result (self.new ≡ self.old) }
+    {
+        self.store.pop()
+    }
+
+    /// The items so far, in order. O(1).
+    #[inline]
+    pub fn as_slice(&self) -> &[T]
+        ensures items { result.now ≡ self.now }
+        ensures bound { length self.now ≤ N.USIZE }
+    {
+        self.store.as_slice()
     }
 
     /// The array of the items. Requires that the builder is full. Moves the items, and allocates

@@ -1,4 +1,5 @@
 pub mod BlockBuffer
+pub mod DigestLengths
 pub mod Hkdf
 pub mod Hmac
 pub mod OneTimePassword

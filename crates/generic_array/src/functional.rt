@@ -33,7 +33,7 @@ pub type MappedError<S, T, U> = <Mapped<S, T, U> as GenericSequence<U>>::Error;
 
 /// A sequence of which a sequence of as many `U` can be made.
 pub trait MappedGenericSequence<T, U>: GenericSequence<T> {
-    /// The kind of what is made: inline for inline arrays and views, boxed for boxed arrays.
+    /// The kind of what is made: boxed for boxed arrays, inline for all others.
     type Mapped: GenericSequence<U>;
 
     // What is made has as many items.

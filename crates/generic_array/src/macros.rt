@@ -1,37 +1,45 @@
 //! `arr!` and `box_arr!`, for arrays whose items are written out.
 
 /// An inline array: `arr![a, b, c]` of these items, with commas at the end allowed, or `arr![x;
-/// U6]` of as many copies of `x`, which is `Copy` and is evaluated once, as the length says.
+/// U6]` or `arr![x; 6]` of as many copies of `x`, which is `Copy` and is evaluated once, as the length
+/// or the number says.
 ///
-/// Requires a length of at most `MAX_INLINE`. The counterpart of `arr!`, which also takes a number
-/// after the semicolon, and constants.
+/// Requires a length of at most `MAX_INLINE`. The counterpart of `arr!`, which can also be used in
+/// constants.
 #[macro_export]
 macro_rules! arr {
     ($item:expr; $N:ty) => {
         $crate::GenericArray::<_, $N>::of_copies($item)
     };
+    ($item:expr; $count:literal) => {
+        $crate::GenericArray::<_, $crate::Const<$count>>::of_copies($item)
+    };
     ($($item:expr),* $(,)*) => {
         $crate::GenericArray::from_array([$($item),*])
     };
     ($($other:tt)*) => {
-        compile_error!("write arr![a, b, ..], or arr![x; N] with N a length type")
+        compile_error!("write arr![a, b, ..], or arr![x; N] with N a length type or a number")
     };
 }
 
 /// A boxed array, or `AllocError`: `box_arr!(alloc, [a, b, c])` of these items, with commas at the end
-/// allowed, or `box_arr!(alloc, [x; U6])` of copies of `x`, which is `Copy` and is evaluated once.
+/// allowed, or `box_arr!(alloc, [x; U6])` or `box_arr!(alloc, [x; 6])` of copies of `x`, which is `Copy`
+/// and is evaluated once.
 ///
-/// The first form has the items on the stack, and moves them to the block in one piece; the second
-/// writes them in the block. The counterpart of `box_arr!`.
+/// The first form has the items on the stack, and moves them to the block in one piece; the others
+/// write them in the block. The counterpart of `box_arr!`.
 #[macro_export]
 macro_rules! box_arr {
     ($alloc:expr, [$item:expr; $N:ty]) => {
         $crate::BoxedArray::<_, $N>::of_copies($alloc, $item)
     };
+    ($alloc:expr, [$item:expr; $count:literal]) => {
+        $crate::BoxedArray::<_, $crate::Const<$count>>::of_copies($alloc, $item)
+    };
     ($alloc:expr, [$($item:expr),* $(,)*]) => {
         $crate::BoxedArray::from_array($alloc, [$($item),*])
     };
     ($($other:tt)*) => {
-        compile_error!("write box_arr!(alloc, [a, b, ..]), or box_arr!(alloc, [x; N]) with N a length type")
+        compile_error!("write box_arr!(alloc, [a, b, ..]), or box_arr!(alloc, [x; N]) with N a length type or a number")
     };
 }

@@ -13,6 +13,7 @@ ghost use Rattle.std.specs.Prelude.{◌≡◌, ℕ, ◌≤◌, ◌↔◌, IfOk, 
 mod boxed;
 mod flat_iter;
 mod inline;
+mod references;
 mod shapes;
 mod views;
 
@@ -55,10 +56,11 @@ pub trait OwnedSequence<T>: Sized + AsSlice<T> + IntoIterator<Item = T> {
         Self.IntoIter.remaining Self.into_iter_gives Self.items (λ item. item) };
 }
 
-/// A sequence whose length is a type: an inline array, a read-only view or a boxed array.
-/// Contracts see the list of its items, by `items`.
+/// A sequence whose length is a type: an inline array, a reference to one, a read-only view or a
+/// boxed array. Contracts see the list of its items, by `items`.
 ///
-/// `into_iter` returns an entry for each item, in order: the item, or of a view a reference to it.
+/// `into_iter` returns an entry for each item, in order: the item, or of a view or a reference to an
+/// array a reference to it.
 pub trait GenericSequence<T>: Sized + AsSlice<T> + IntoIterator {
     /// How many items there are.
     type Length: Unsigned;

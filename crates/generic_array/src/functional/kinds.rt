@@ -8,6 +8,8 @@ impl<T: Default + Drop, N: ArrayLength<T>> FunctionalSequence<T> for GenericArra
 impl<'a, T: Default + Drop, N: ArrayLength<T>> FunctionalSequence<T>
     for GenericArrayRef<'a, T, N> {}
 
+impl<'a, T: Default + Drop, N: ArrayLength<T>> FunctionalSequence<T> for &'a GenericArray<T, N> {}
+
 impl<T: Drop, N: Unsigned> FunctionalSequence<T> for BoxedArray<T, N> {}
 
 impl<
@@ -28,6 +30,19 @@ impl<
     U: Default + Drop,
     N: ArrayLength<T> + ArrayLength<U>,
 > MappedGenericSequence<T, U> for GenericArrayRef<'a, T, N> {
+    ghost use Rattle.std.specs.Prelude.{refl};
+
+    type Mapped = GenericArray<U, N>;
+
+    ghost same_length = { refl };
+}
+
+impl<
+    'a,
+    T: Default + Drop,
+    U: Default + Drop,
+    N: ArrayLength<T> + ArrayLength<U>,
+> MappedGenericSequence<T, U> for &'a GenericArray<T, N> {
     ghost use Rattle.std.specs.Prelude.{refl};
 
     type Mapped = GenericArray<U, N>;

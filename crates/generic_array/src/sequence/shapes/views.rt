@@ -1,4 +1,4 @@
-//! The shapes of views.
+//! The shapes of views and of references to arrays.
 ghost use Rattle.ga_core.specs.Parts.{LendsHalves};
 ghost use Rattle.ga_core.specs.Views.{items_of_view};
 ghost use Rattle.std.specs.Borrow.{sem};
@@ -31,6 +31,28 @@ impl<'a, T, N: Unsigned, K: Unsigned, M: Unsigned> Split<
             GenericArrayRef::from_slice(first),
             GenericArrayRef::from_slice(second),
         )
+    }
+}
+
+/// Two views of the array's parts, for the lifetime of the borrow. O(1).
+impl<'a, T, N: ArrayLength<T>, K: Unsigned, M: Unsigned> Split<
+    T,
+    GenericArrayRef<'a, T, K>,
+    GenericArrayRef<'a, T, M>,
+> for &'a GenericArray<T, N> {
+    ghost items = { λ array. array.now };
+
+    ghost first_items = { items_of_view };
+
+    ghost second_items = { items_of_view };
+
+    ghost PLACE = { K.USIZE };
+
+    ghost IsSum = { N.USIZE ≡ K.USIZE + M.USIZE };
+
+    #[inline]
+    fn split(self) -> (GenericArrayRef<'a, T, K>, GenericArrayRef<'a, T, M>) {
+        self.view().split()
     }
 }
 

@@ -1,0 +1,65 @@
+//! An inline array by reference as a sequence.
+ghost use Rattle.ga_core.specs.Length.{FitsInline};
+ghost use Rattle.std.specs.Prelude.{⊤};
+
+use crate::sequence::{FallibleGenericSequence, GenericSequence};
+use ga_core::{AllocError, ArrayLength, GenericArray, GenericArrayRef, Never};
+
+/// Its entries are references, and the array stays as it is. What is made of it is an inline array.
+impl<'a, T: Default + Drop, N: ArrayLength<T>> GenericSequence<T> for &'a GenericArray<T, N> {
+    ghost use Rattle.generic_array.specs.EntryLaws.{references_given};
+
+    type Length = N;
+
+    type Sequence = GenericArray<T, N>;
+
+    type Place = ();
+
+    type Error = Never;
+
+    ghost Fits = { FitsInline N.USIZE };
+
+    ghost entry = { λ item. item.now };
+
+    ghost IsPromised = { ⊤ };
+
+    fn fits() -> bool {
+        GenericArray::<T, N>::fits()
+    }
+
+    #[inline]
+    fn view(&self) -> GenericArrayRef<'_, T, N> {
+        GenericArray::view(*self)
+    }
+
+    #[inline]
+    fn generate_by<F: FnMut(usize) -> T>(
+        place: (),
+        f: &mut F,
+    ) -> Result<GenericArray<T, N>, Never> {
+        Ok(GenericArray::generate_by(f))
+    }
+
+    #[inline]
+    fn repeat(place: (), item: T) -> Result<GenericArray<T, N>, AllocError>
+    where
+        T: Clone,
+    {
+        GenericArray::repeat(item)
+    }
+
+    ghost empty_is_promised = { λ _. tt };
+
+    ghost gives_entries = { λ array items gives. (tt, tt, references_given items array.now gives.0) };
+}
+
+impl<'a, T: Default + Drop, N: ArrayLength<T>> FallibleGenericSequence<T>
+    for &'a GenericArray<T, N> {
+    #[inline]
+    fn try_generate_by<F: FnMut(usize) -> Result<T, E>, E>(
+        place: (),
+        f: &mut F,
+    ) -> Result<Result<GenericArray<T, N>, E>, Never> {
+        Ok(GenericArray::try_generate_by(f))
+    }
+}
