@@ -1,13 +1,18 @@
 -- Digits of bytes: in upper case, and cut between two parts of the bytes.
 use Rattle.ga_views.specs.HexText.{hex_digits, hex_text}
-use Rattle.hex.proofs.HexLemmas.{length-encode_with}
-use Rattle.hex.specs.Hex.{encode_lower, encode_with, lower_digits}
-use Rattle.std.proofs.Common.{◌≡◌, ℕ, ◌+◌, ◌-◌, ◌*◌, ◌/◌, ◌%◌, ◌≤◌, inl, inr, Bool, true, List, [], ◌∷◌, ◌++◌, Option, None, Some, MatchOption, refl, sym, ap, ◌∙◌, arith, length, map, min, take}
+use Rattle.hex.proofs.HexLemmas.{IsAscii-encode_with, length-encode_with}
+use Rattle.hex.specs.Hex.{encode_lower, encode_with, lower_digits, upper_digits}
+use Rattle.std.proofs.Common.{◌≡◌, ℕ, ◌+◌, ◌-◌, ◌*◌, ◌/◌, ◌%◌, ◌≤◌, inl, inr, Bool, true, false, if◌then◌else◌, List, [], ◌∷◌, ◌++◌, Option, None, Some, MatchOption, refl, sym, ap, ◌∙◌, arith, length, map, nat_lt, min, take}
 use Rattle.std.proofs.Math.ListN.{get_or-map}
 use Rattle.std.proofs.Math.Seq.{take-append-add}
-use Rattle.std.proofs.lemmas.Bool.{cases_lt}
+use Rattle.std.proofs.lemmas.Bool.{cases_lt, ltb-true}
 use Rattle.std.proofs.lemmas.List.{append-nil, take_all, take-append-le}
+use Rattle.std.proofs.lemmas.List.Sums.{AllPass-from_list_all}
+use Rattle.std.proofs.lemmas.Str.{IsAscii-take, IsUtf8-from_ascii}
+use Rattle.std.proofs.lemmas.Str.Ascii.{IsAscii-from_all}
 use Rattle.std.specs.Char.{to_ascii_uppercase}
+use Rattle.std.specs.List.{list_all}
+use Rattle.std.specs.Str.{IsAscii, IsUtf8}
 
 -- digits of a table in upper case are those of the table in upper case
 uppercase-encode_with : (t bytes : List ℕ) → map to_ascii_uppercase (encode_with t bytes) ≡ encode_with (map to_ascii_uppercase t) bytes
@@ -40,10 +45,23 @@ take-append_min count n xs ys is =
           ∙ (take-append-add xs ys (count - n) ∙ ap (λ l. l ++ take (count - n) ys) (sym (take_all n xs (omega arith))))
     ]
 
+-- a text whose bytes pass the test is ASCII
+IsAscii-from_test : (text : List ℕ) → list_all (λ b. nat_lt b 128) text ≡ true → IsAscii text
+IsAscii-from_test text pass = IsAscii-from_all text (λ k d lt. ltb-true _ 128 (AllPass-from_list_all (λ b. nat_lt b 128) text pass k d lt))
+
+-- each digit of a table is ASCII
+IsAscii-table : (upper : Bool) → IsAscii (if upper then upper_digits else lower_digits)
+IsAscii-table true = IsAscii-from_test upper_digits refl
+IsAscii-table false = IsAscii-from_test lower_digits refl
+
 module _ (upper : Bool) where
   -- two digits for each byte
   pub length-hex_digits : (bytes : List ℕ) → length (hex_digits upper bytes) ≡ 2 * length bytes
   length-hex_digits bytes = length-encode_with _ bytes
+
+  -- digits are text, wherever they are cut
+  pub IsUtf8-hex_digits : (n : ℕ) (bytes : List ℕ) → IsUtf8 (take n (hex_digits upper bytes))
+  IsUtf8-hex_digits n bytes = IsUtf8-from_ascii _ (IsAscii-take _ n (IsAscii-encode_with _ bytes (IsAscii-table upper)))
 
   -- the digits that are to be written of two parts of the bytes: of the first as many as it has, and the others of the second
   pub take-hex_digits : (count n : ℕ) (bytes piece behind text : List ℕ) → bytes ≡ piece ++ behind → text ≡ hex_digits upper piece → n ≡ min count (length text)

@@ -1,11 +1,12 @@
-//! Bytes as hex text, through a writer.
+//! Bytes as hex text, through a writer or in a format.
 ghost use Rattle.ga_views.specs.HexText.{hex_digits, hex_text};
+ghost use Rattle.std.specs.Fmt.{WritesStyledOnOk, spec_precision};
 ghost use Rattle.std.specs.Io.KnownBytes.{Appends};
-ghost use Rattle.std.specs.Prelude.{◌≡◌, ◌*◌, ◌≤◌, [], IsOk, OnOk, length};
+ghost use Rattle.std.specs.Prelude.{◌≡◌, ◌*◌, ◌≤◌, [], IsOk, OnOk, Some, length};
 
 use hex::encode_to_slice;
-use std::io;
 use std::io::Write;
+use std::{fmt, io, str};
 
 // How many digits are made at once.
 const LONG_TEXT: usize = 2048;
@@ -36,6 +37,33 @@ pub fn write_hex<W: Write>(
         write_pieces::<SHORT_TEXT, W>(bytes, upper, limit, w)
     } else {
         put_long(bytes, upper, limit, w)
+    }
+}
+
+/// Bytes that print as hex text: two digits for each byte, the high half first.
+///
+/// A precision is how many digits there are at most: `{:.3}` prints three. A width and flags change
+/// nothing. Writes once for each piece of 64 bytes, and not at all if there are no digits. Allocates
+/// nothing.
+///
+/// The counterpart of `fmt::LowerHex` and `fmt::UpperHex` of an array: `{}` of it is their `{:x}` or
+/// `{:X}`.
+#[derive(Clone, Copy)]
+pub struct HexText<'a> {
+    /// The bytes.
+    pub bytes: &'a [u8],
+    /// Whether the digits are in upper case.
+    pub upper: bool,
+}
+
+impl fmt::Display for HexText<'_> {
+    ghost output = { λ text. Some (hex_digits text.upper text.bytes.now) };
+
+    ghost styled_output = { λ text options.
+        Some (hex_text text.upper (spec_precision options) text.bytes.now) };
+
+    fn fmt<W: fmt::Write>(&self, f: &mut fmt::Formatter<W>) -> fmt::Result {
+        show_pieces(self.bytes, self.upper, f.precision(), f)
     }
 }
 
@@ -75,6 +103,35 @@ fn write_pieces<const SIZE: usize, W: Write>(
         let written = count.min(text.len());
         w.write_all(&text[..written])?;
         count -= written;
+        left = behind;
+    }
+    Ok(())
+}
+
+// As `write_hex`, into a formatter.
+fn show_pieces<W: fmt::Write>(
+    bytes: &[u8],
+    upper: bool,
+    limit: Option<usize>,
+    f: &mut fmt::Formatter<W>,
+) -> fmt::Result
+    ensures { WritesStyledOnOk W.write_str_gives f.old result
+        (hex_text upper limit bytes.now) f.new }
+{
+    let mut digits = [0; SHORT_TEXT];
+    let all = 2 * bytes.len();
+    let mut count = limit.map_or(all, |limit: usize| limit.min(all));
+    let mut left = bytes;
+    while count > 0 {
+        let (piece, behind) = left.split_at(left.len().min(SHORT_TEXT / 2));
+        let text = &mut digits[..2 * piece.len()];
+        put_digits(piece, upper, text);
+        let shown = count.min(text.len());
+        let Ok(text) = str::from_utf8(&text[..shown]) else {
+            unreachable!();
+        };
+        f.write_str(text)?;
+        count -= shown;
         left = behind;
     }
     Ok(())

@@ -5,7 +5,7 @@ ghost use Rattle.std.specs.Prelude.{◌≡◌, [], false, IsOk, OnOk, true};
 
 use crate::array::GenericArray;
 use crate::length::ArrayLength;
-use ga_views::hex_text::write_hex;
+use ga_views::hex_text::{HexText, write_hex};
 use std::io;
 use std::io::Write;
 
@@ -27,5 +27,28 @@ impl<N: ArrayLength<u8>> GenericArray<u8, N> {
         ensures empty { hex_text true limit self.now ≡ [] → IsOk result }
     {
         write_hex(self.as_slice(), true, limit, w)
+    }
+
+    /// The bytes, to be printed with `0123456789abcdef`: `format!(in alloc; "{:.3}", array.lower_hex())?`
+    /// is their first three digits. Copies and allocates nothing. The counterpart of `fmt::LowerHex`.
+    pub fn lower_hex(&self) -> HexText<'_>
+        ensures bytes { result.bytes.now ≡ self.now }
+        ensures lower { result.upper ≡ false }
+    {
+        HexText {
+            bytes: self.as_slice(),
+            upper: false,
+        }
+    }
+
+    /// The same with `0123456789ABCDEF`. The counterpart of `fmt::UpperHex`.
+    pub fn upper_hex(&self) -> HexText<'_>
+        ensures bytes { result.bytes.now ≡ self.now }
+        ensures upper { result.upper ≡ true }
+    {
+        HexText {
+            bytes: self.as_slice(),
+            upper: true,
+        }
     }
 }
