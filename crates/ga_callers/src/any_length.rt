@@ -17,8 +17,8 @@ use generic_array::functional::{
 };
 use generic_array::sequence::{FromFallibleIterator, GenericSequence, SequenceItem};
 use generic_array::{
-    AllocError, ArrayLength, BoxedArray, FillError, GenericArray, GenericArrayRef, U3, U4,
-    Unsigned, always,
+    AllocError, ArrayLength, BoxedArray, FillError, GenericArray, GenericArrayRef, InlineLength, U3,
+    U4, Unsigned, always,
 };
 use std::alloc::Global;
 use std::test::Fail;
@@ -39,14 +39,12 @@ fn masked_view<N: ArrayLength<u8>>(key: GenericArrayRef<'_, u8, N>, mask: u8) ->
 }
 
 // The key stays where it is.
-fn masked_by_reference<N: ArrayLength<u8>>(
+fn masked_by_reference<N: ArrayLength<u8> + InlineLength>(
     key: &GenericArray<u8, N>,
     mask: u8,
 ) -> GenericArray<u8, N>
     ensures { result ≡ map (λ b. bit_xor b mask) key.now }
 {
-    // The slice knows that the length fits.
-    let _ = key.as_slice();
     always(key.map((), |b: &u8| *b ^ mask))
 }
 
@@ -116,7 +114,7 @@ fn place_sums<N: ArrayLength<u32>>(
 }
 
 // Both sides are there afterwards.
-fn sums_and_sides<N: ArrayLength<u32>>(
+fn sums_and_sides<N: ArrayLength<u32> + InlineLength>(
     left: GenericArray<u32, N>,
     right: GenericArray<u32, N>,
 ) -> (
@@ -126,8 +124,6 @@ fn sums_and_sides<N: ArrayLength<u32>>(
 )
     ensures { result ≡ (map (λ p. (p.0 + p.1) % 2 ^ 32) (zip left right), left, right) }
 {
-    // The slice knows that the length fits.
-    let _ = left.as_slice();
     let sums = always((&left).zip((), &right, |l: &u32, r: &u32| l.wrapping_add(*r)));
     (sums, left, right)
 }
