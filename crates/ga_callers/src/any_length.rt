@@ -13,7 +13,7 @@ use crate::answers::{gives, has};
 use crate::kinds::{boxed_one_two_three, four_five_six, one_two_three};
 use generic_array::checks::{map_total_by, total_by};
 use generic_array::functional::{
-    FunctionalSequence, MappedError, MappedGenericSequence, MappedPlace, MappedSequence,
+    FunctionalSequence, MappedError, MappedGenericSequence, MappedPlace, MappedSequence, MapsInline,
 };
 use generic_array::sequence::{FromFallibleIterator, GenericSequence, SequenceItem};
 use generic_array::{
@@ -90,6 +90,26 @@ fn masked_and_totalled<
         0,
         &mut |total: u8, b: u8| total.wrapping_add(b),
     )
+}
+
+// One more than each sum: a chain over any kind of which inline arrays are made.
+fn one_more_than_sums<A, B>(
+    left: A,
+    right: B,
+) -> MappedSequence<MappedSequence<A, u32, u32>, u32, u32>
+where
+    A: MapsInline<u32, u32> + IntoIterator<Item = u32>,
+    B: GenericSequence<u32> + IntoIterator<Item = u32>,
+    MappedSequence<A, u32, u32>: MapsInline<u32, u32>,
+    requires lengths { A.Length.USIZE ≡ B.Length.USIZE }
+    requires fits { A.Mapped.Fits × A.Mapped.Sequence.Mapped.Fits }
+    requires by_value { ((x : ℕ) → A.entry x ≡ x) × ((x : ℕ) → B.entry x ≡ x)
+        × ((x : ℕ) → A.Mapped.Sequence.entry x ≡ x) }
+    ensures { A.Mapped.Sequence.Mapped.Sequence.items result ≡ map (λ sum. (sum + 1) % 2 ^ 32)
+        (map (λ p. (p.0 + p.1) % 2 ^ 32) (zip (A.items left) (B.items right))) }
+{
+    let sums = always(left.zip((), right, |l: u32, r: u32| l.wrapping_add(r)));
+    always(sums.map((), |sum: u32| sum.wrapping_add(1)))
 }
 
 fn checksum_of_any<S: GenericSequence<u8>>(bytes: &S) -> u8
@@ -246,8 +266,7 @@ fn right_aligned<N: ArrayLength<u8>>(number: &[u8]) -> GenericArray<u8, N>
 {
     let mut field = GenericArray::default();
     let zeros = N::USIZE - number.len();
-    let (_zeros, back) = field.as_mut_slice().split_at_mut(zeros);
-    back.copy_from_slice(number);
+    field[zeros..].copy_from_slice(number);
     field
 }
 
@@ -278,9 +297,11 @@ fn numbers_are_right(alloc: Global) -> Result<bool, AllocError> {
     let right = four_five_six();
     let boxed = boxed_one_two_three(alloc)?;
     let scaled = scaled_sums(alloc, boxed, one_two_three(), 10)?;
+    let boxed_again = boxed_one_two_three(alloc)?;
     let (sums, left, _right) = sums_and_sides(one_two_three(), four_five_six());
     Ok(
         has(place_sums(one_two_three(), right.view()), &[5, 7, 9])
+            && has(one_more_than_sums(one_two_three(), boxed_again), &[3, 5, 7])
             && has(sums, &[5, 7, 9])
             && has(left, &[1, 2, 3])
             && dot(one_two_three(), right.view()) == 32

@@ -19,6 +19,8 @@ mod digits;
 mod fixed_list;
 #[cfg(test)]
 mod generic;
+#[cfg(test)]
+mod headers;
 pub mod headline;
 #[cfg(test)]
 mod hex_text;
@@ -34,6 +36,8 @@ mod macros;
 mod matrix;
 #[cfg(test)]
 mod own_lengths;
+#[cfg(test)]
+mod parts;
 #[cfg(test)]
 mod places;
 #[cfg(test)]

@@ -15,6 +15,7 @@ mod kinds;
 mod walks;
 
 use crate::sequence::{FallibleGenericSequence, GenericSequence};
+use ga_core::Never;
 pub use inverted::{inverted_zip, inverted_zip_by, inverted_zip2, inverted_zip2_by};
 pub(crate) use walks::fold_entries;
 use walks::{entries_of, map_entries, try_fold_entries, try_map_entries};
@@ -39,6 +40,16 @@ pub trait MappedGenericSequence<T, U>: GenericSequence<T> {
     // What is made has as many items.
     ghost same_length: { Self.Mapped.Length.USIZE ≡ Self.Length.USIZE };
 }
+
+/// A sequence whose map to `U` makes an inline array, so that `place` is `()` and nothing fails: an
+/// inline array, a view or a reference to an array. A bound for chains of calls over any of them.
+pub trait MapsInline<T, U>:
+    FunctionalSequence<T>
+    + MappedGenericSequence<
+        T,
+        U,
+        Mapped: GenericSequence<U, Place = (), Error = Never, Sequence: Drop>,
+    > {}
 
 /// Calls of a closure at all entries. Each has one body, for all kinds.
 ///

@@ -108,11 +108,11 @@ fn sums_of_boxed_and_view(
     )
 }
 
-fn sum_of_view(view: GenericArrayRef<'_, u32, U3>) -> u32
-    requires { items_of_view view ≡ 1 ∷ 2 ∷ 3 ∷ [] }
+fn sum_of_reference(array: &GenericArray<u32, U3>) -> u32
+    requires { array.now ≡ 1 ∷ 2 ∷ 3 ∷ [] }
     ensures { result ≡ 6 }
 {
-    fold(view, 0, &mut |sum: u32, item: &u32| sum.wrapping_add(*item))
+    fold(array, 0, &mut |sum: u32, item: &u32| sum.wrapping_add(*item))
 }
 
 /// The entry, or an error where it is 2.
@@ -230,7 +230,7 @@ fn calls_run_in_order_up_to_an_error(rt: HostRuntime) -> Result<(), Fail> {
     assert!(rt; totals_of_boxed(alloc, boxed_one_two_three(alloc)?)?.as_slice() == totals);
     let (boxed, right) = (boxed_one_two_three(alloc)?, four_five_six());
     let sums = sums_of_boxed_and_view(alloc, boxed, right.view())?;
-    assert!(rt; sums.as_slice() == [5, 7, 9].as_slice() && sum_of_view(array.view()) == 6);
+    assert!(rt; sums.as_slice() == [5, 7, 9].as_slice() && sum_of_reference(&array) == 6);
     let stopped = stopped_in_boxed(alloc, boxed_one_two_three(alloc)?)?;
     assert!(rt; matches!(stopped, Err(2)));
     let array = arr![1u32, 3, 9];

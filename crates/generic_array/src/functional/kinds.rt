@@ -1,5 +1,5 @@
 //! The kinds of sequences whose entries a closure can be called at, and what a map of each makes.
-use crate::functional::{FunctionalSequence, MappedGenericSequence};
+use crate::functional::{FunctionalSequence, MappedGenericSequence, MapsInline};
 use ga_boxed::BoxedArray;
 use ga_core::{ArrayLength, GenericArray, GenericArrayRef, Unsigned};
 
@@ -57,3 +57,12 @@ impl<T: Drop, U: Drop, N: Unsigned> MappedGenericSequence<T, U> for BoxedArray<T
 
     ghost same_length = { refl };
 }
+
+impl<T: Default + Drop, U: Default + Drop, N: ArrayLength<T> + ArrayLength<U>> MapsInline<T, U>
+    for GenericArray<T, N> {}
+
+impl<'a, T: Default + Drop, U: Default + Drop, N: ArrayLength<T> + ArrayLength<U>> MapsInline<T, U>
+    for GenericArrayRef<'a, T, N> {}
+
+impl<'a, T: Default + Drop, U: Default + Drop, N: ArrayLength<T> + ArrayLength<U>> MapsInline<T, U>
+    for &'a GenericArray<T, N> {}
