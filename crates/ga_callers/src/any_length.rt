@@ -17,8 +17,8 @@ use generic_array::functional::{
 };
 use generic_array::sequence::{FromFallibleIterator, GenericSequence, SequenceItem};
 use generic_array::{
-    AllocError, ArrayLength, BoxedArray, FillError, GenericArray, GenericArrayRef, InlineLength, U3,
-    U4, Unsigned, always,
+    AllocError, ArrayLength, BoxedArray, FillError, GenericArray, GenericArrayRef, InlineLength,
+    U3, U4, Unsigned, always,
 };
 use std::alloc::Global;
 use std::test::Fail;

@@ -189,7 +189,8 @@ fn week_of(bytes: &[u8]) -> Result<GenericArray<u8, Week>, LengthError> {
 
 /// Whether arrays of either length are built, masked, compared and walked as their contracts say.
 fn are_as_all_arrays() -> bool {
-    let ends_of = |row: GenericArray<u8, Sides>| are_same(&row, &row) && ends(row) == (Some(b'h'), Some(b'j'));
+    let ends_of = |row: GenericArray<u8, Sides>| are_same(&row, &row)
+        && ends(row) == (Some(b'h'), Some(b'j'));
     has(halves_of_week(), &[0, 0, 1, 1, 2, 2, 3])
         && has(halves_of_sides(), &[0, 0, 1])
         && has(masked(GenericArray::<u8, Week>::default()), &[54; 7])

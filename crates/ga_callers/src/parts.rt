@@ -82,22 +82,22 @@ fn boxed_with_front(alloc: Global) -> Result<BoxedArray<u8, U4>, AllocError> {
 fn parts_are_written_and_the_others_stay(rt: HostRuntime) -> Result<(), Fail> {
     let mut array: GenericArray<u8, U4> = GenericArray::from_array(*b"abcd");
     front_set(&mut array, b"xy");
-    assert!(rt; array[..] == *b"xycd");
+    assert!(rt; array[..] == [b'x', b'y', b'c', b'd']);
     back_set(&mut array, 3, b"z");
-    assert!(rt; array[..] == *b"xycz");
-    assert!(rt; boxed_with_front(rt.alloc())?[..] == *b"xycd");
+    assert!(rt; array.as_slice() == b"xycz".as_slice());
+    assert!(rt; boxed_with_front(rt.alloc())?.as_slice() == b"xycd".as_slice());
     let mut packet = Packet {
         kind: 1,
         key: array,
     };
     key_part_set(&mut packet, 1, b"01");
-    assert!(rt; packet.key[..] == *b"x01z" && packet.kind == 1);
+    assert!(rt; packet.key.as_slice() == b"x01z".as_slice() && packet.kind == 1);
     let mut text = Text::<U4> {
         bytes: GenericArray::default(),
         len: 0,
     };
     text.push(b"ab");
     text.push(b"c");
-    assert!(rt; text.bytes[..] == *b"abc\0" && text.len == 3);
+    assert!(rt; text.bytes.as_slice() == b"abc\0".as_slice() && text.len == 3);
     Ok(())
 }

@@ -43,8 +43,7 @@ pub trait MappedGenericSequence<T, U>: GenericSequence<T> {
 
 /// A sequence whose map to `U` makes an inline array, so that `place` is `()` and nothing fails: an
 /// inline array, a view or a reference to an array. A bound for chains of calls over any of them.
-pub trait MapsInline<T, U>:
-    FunctionalSequence<T>
+pub trait MapsInline<T, U>: FunctionalSequence<T>
     + MappedGenericSequence<
         T,
         U,

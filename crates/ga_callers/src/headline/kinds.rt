@@ -112,7 +112,11 @@ fn sum_of_reference(array: &GenericArray<u32, U3>) -> u32
     requires { array.now ≡ 1 ∷ 2 ∷ 3 ∷ [] }
     ensures { result ≡ 6 }
 {
-    fold(array, 0, &mut |sum: u32, item: &u32| sum.wrapping_add(*item))
+    fold(
+        array,
+        0,
+        &mut |sum: u32, item: &u32| sum.wrapping_add(*item),
+    )
 }
 
 /// The entry, or an error where it is 2.

@@ -58,7 +58,13 @@ fn repeated<'a, S: AsSlice<Counted<'a>> + Drop, E: Drop>(
 
 /// Of a source with these numbers, as digits of its clone, 0 where that was refused, and its own then. It
 /// has `left` of three items, and is dropped at last.
-fn cloned<S: Drop>(source: S, of_both: [u32; 2], wanted: u32, left: u32, counts: &Counts) -> Outcome {
+fn cloned<S: Drop>(
+    source: S,
+    of_both: [u32; 2],
+    wanted: u32,
+    left: u32,
+    counts: &Counts,
+) -> Outcome {
     let [of_clone, of_source] = of_both;
     let is_known = of_source == wanted && (of_clone == wanted || of_clone == 0);
     let is_in_order = begins_with(wanted, counts.cloned());
@@ -107,7 +113,10 @@ fn boxed_iterator(alloc: Global, counts: &Counts) -> Outcome {
 fn case(alloc: Global, number: u32) -> Outcome {
     let counts = &Counts::refusing_clone(number / 5 + 1);
     match number % 5 {
-        0 => repeated(GenericArray::<_, U4>::repeat(Counted::new(counts, 4)), counts),
+        0 => repeated(
+            GenericArray::<_, U4>::repeat(Counted::new(counts, 4)),
+            counts,
+        ),
         1 => repeated(
             BoxedArray::<_, U4>::repeat(alloc, Counted::new(counts, 4)),
             counts,

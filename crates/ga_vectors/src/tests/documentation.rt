@@ -1,9 +1,7 @@
 //! Each example, by the call that it shows.
 use generic_array::functional::FunctionalSequence;
 use generic_array::sequence::{Flatten, Lengthen, Remove, Shorten, Unflatten};
-use generic_array::{
-    AllocError, Const, GenericArray, U2, U3, U4, U5, U6, always, arr, box_arr,
-};
+use generic_array::{AllocError, Const, GenericArray, U2, U3, U4, U5, U6, always, arr, box_arr};
 use std::alloc::Global;
 
 #[test]
