@@ -99,9 +99,9 @@ PARTS = [
         "plain",
         ARRAY,
         "map_inline - generate, map_inline_ref, try_map_inline - generate,"
-        " zip_inline - generate - generate, zip_inline_ref - generate",
+        " zip_inline - generate - generate",
     ),
-    small("closures, plain", None, None, "zip_inline_refs"),
+    small("closures, plain", None, None, "zip_inline_ref"),
     boxed(
         "closures, boxed",
         "closures",

@@ -1,6 +1,7 @@
 //! The iterator that moves the items out of a boxed array, from both ends.
 ghost use Rattle.ga_core.specs.Cut.{StepGives, back, front};
-ghost use Rattle.ga_core.specs.Runs.{CallableInFold, FoldRun};
+ghost use Rattle.ga_core.specs.Calls.{MayFold};
+ghost use Rattle.ga_core.specs.Runs.{FoldRun};
 ghost use Rattle.std.specs.Borrow.{sem};
 ghost use Rattle.std.specs.Iterator.{ActsAsOnTwo, YieldsFirst, YieldsLast, item_count};
 ghost use Rattle.std.specs.List.{AllZip};
@@ -151,7 +152,7 @@ impl<T: Drop> BoxedArrayIter<T> {
     /// Folds the items that are left into one value, from the front, starting from `init`. One
     /// pass.
     pub fn fold<A, F: FnMut(A, T) -> A>(self, init: A, mut f: F) -> A
-        requires callable { CallableInFold F.pre F.step f init self }
+        requires callable { MayFold (λ item. item) F.pre F.step f init self }
         ensures run { (last : F) × FoldRun F.step f init self result last }
         ensures acts { (h : A → T → A) → ActsAsOnTwo F.FnMut f h → result ≡ fold h init self }
     {
@@ -161,7 +162,7 @@ impl<T: Drop> BoxedArrayIter<T> {
     /// `fold` that borrows the closure, which can be used again in the state that it reached. One
     /// pass.
     pub fn fold_by<A, F: FnMut(A, T) -> A>(mut self, init: A, f: &mut F) -> A
-        requires callable { CallableInFold F.pre F.step f.old init self }
+        requires callable { MayFold (λ item. item) F.pre F.step f.old init self }
         ensures run { FoldRun F.step f.old init self result f.new }
         ensures acts { (h : A → T → A) → ActsAsOnTwo F.FnMut f.old h → result ≡ fold h init self }
     {
@@ -174,7 +175,7 @@ impl<T: Drop> BoxedArrayIter<T> {
 
     /// `fold` from the back. One pass.
     pub fn rfold<A, F: FnMut(A, T) -> A>(self, init: A, mut f: F) -> A
-        requires callable { CallableInFold F.pre F.step f init (reverse self) }
+        requires callable { MayFold (λ item. item) F.pre F.step f init (reverse self) }
         ensures run { (last : F) × FoldRun F.step f init (reverse self) result last }
         ensures acts { (h : A → T → A) → ActsAsOnTwo F.FnMut f h → result ≡ fold h init (reverse self) }
     {
@@ -184,7 +185,7 @@ impl<T: Drop> BoxedArrayIter<T> {
     /// `rfold` that borrows the closure, which can be used again in the state that it reached. One
     /// pass.
     pub fn rfold_by<A, F: FnMut(A, T) -> A>(mut self, init: A, f: &mut F) -> A
-        requires callable { CallableInFold F.pre F.step f.old init (reverse self) }
+        requires callable { MayFold (λ item. item) F.pre F.step f.old init (reverse self) }
         ensures run { FoldRun F.step f.old init (reverse self) result f.new }
         ensures acts { (h : A → T → A) → ActsAsOnTwo F.FnMut f.old h → result ≡ fold h init (reverse self) }
     {

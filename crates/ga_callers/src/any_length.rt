@@ -2,8 +2,8 @@
 ghost use Rattle.generic_array.specs.Length.{FitsInline};
 ghost use Rattle.generic_array.specs.Tries.{try_map};
 ghost use Rattle.ga_callers.specs.AnyLength.{digit_of};
-ghost use Rattle.generic_array.specs.Entries.{ActsOnEntry, CallAt, MayCallAt};
-ghost use Rattle.generic_array.specs.Runs.{CallableOver};
+ghost use Rattle.generic_array.specs.Calls.{MayMap};
+ghost use Rattle.generic_array.specs.Entries.{ActsOnEntry};
 ghost use Rattle.generic_array.specs.Views.{items_of_view};
 ghost use Rattle.std.specs.Int.Bits.{bit_xor};
 ghost use Rattle.std.specs.List.{range_with_len, zip};
@@ -79,7 +79,7 @@ fn masked_and_totalled<
     F: FnMut(SequenceItem<S>) -> u8,
 >(key: S, place: MappedPlace<S, u8, u8>, mask: &mut F) -> Result<u8, MappedError<S, u8, u8>>
     requires fits { S.Mapped.Fits }
-    requires callable { CallableOver (MayCallAt S.entry F.pre) (CallAt S.entry F.step) mask.old (S.items key) }
+    requires callable { MayMap S.entry F.pre F.step mask.old (S.items key) }
     requires acts { ActsOnEntry S.entry F.step mask.old (λ b. bit_xor b 54) }
     ensures { IfOk result (λ total. total ≡ fold (λ total b. (total + b) % 2 ^ 8) 0 (map (λ b. bit_xor b 54) (S.items key))) }
 {
@@ -130,7 +130,7 @@ fn place_sums<N: ArrayLength<u32>>(
 ) -> GenericArray<u32, N>
     ensures { result ≡ map (λ p. (p.0 + p.1) % 2 ^ 32) (zip left (items_of_view right.entry)) }
 {
-    left.zip_inline_ref(right, |l: u32, r: &u32| l.wrapping_add(*r))
+    left.zip_inline_ref(right, |l: &u32, r: &u32| l.wrapping_add(*r))
 }
 
 // Both sides are there afterwards.
@@ -166,7 +166,7 @@ fn scaled_sums<N: ArrayLength<u32>>(
 fn dot<N: ArrayLength<u32>>(left: GenericArray<u32, N>, right: GenericArrayRef<'_, u32, N>) -> u32
     ensures { result ≡ fold (λ total x. (total + x) % 2 ^ 32) 0 (map (λ p. p.0 * p.1 % 2 ^ 32) (zip left (items_of_view right.entry))) }
 {
-    let products = left.zip_inline_ref(right, |l: u32, r: &u32| l.wrapping_mul(*r));
+    let products = left.zip_inline_ref(right, |l: &u32, r: &u32| l.wrapping_mul(*r));
     products
         .into_iter()
         .fold(0, |total: u32, x: u32| total.wrapping_add(x))

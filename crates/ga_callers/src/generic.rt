@@ -1,8 +1,7 @@
 //! Functions that know the traits alone.
 ghost use Rattle.generic_array.specs.FillAnswer.{fill_answer};
 ghost use Rattle.generic_array.specs.Built.{built_items};
-ghost use Rattle.generic_array.specs.Entries.{CallAt, MayCallAt};
-ghost use Rattle.generic_array.specs.Runs.{CallableOver};
+ghost use Rattle.generic_array.specs.Calls.{MayMap};
 ghost use Rattle.std.specs.List.{range_with_len};
 ghost use Rattle.std.specs.Prelude.{◌≡◌, ◌+◌, ◌<◌, ◌⊎◌, Err, IfErr, IfOk, IsOk, Ok, OnOk, length, map, refl, replicate};
 
@@ -94,7 +93,7 @@ fn nothing_mapped<
 ) -> Result<MappedSequence<S, T, U>, MappedError<S, T, U>>
     requires none { S.Length.USIZE ≡ 0 }
     requires fits { S.Mapped.Fits }
-    requires callable { CallableOver (MayCallAt S.entry F.pre) (CallAt S.entry F.step) f.old (S.items s) }
+    requires callable { MayMap S.entry F.pre F.step f.old (S.items s) }
     ensures { IsOk result }
 {
     s.map_by(place, f)

@@ -61,7 +61,7 @@ fn sums_of_borrowed<N: ArrayLength<u32>>(
 ) -> GenericArray<u32, N>
     ensures { result ≡ map (λ p. (p.0 + p.1) % 2 ^ 32) (zip left.now right.now) }
 {
-    left.zip_inline_refs(right.view(), |l: &u32, r: &u32| l.wrapping_add(*r))
+    left.zip_inline_ref(right.view(), |l: &u32, r: &u32| l.wrapping_add(*r))
 }
 
 // A closure that reads what it captures under a condition.
@@ -90,21 +90,19 @@ fn masked_zeros<N: ArrayLength<u8> + InlineLength>(mask: u8) -> GenericArray<u8,
 
 // A closure with a state, lent to each call in turn: the numbers of the calls.
 
-fn calls_in_order(left: GenericArray<u32, U2>, right: GenericArray<u32, U2>) -> [u32; 6]
+fn calls_in_order(left: GenericArray<u32, U2>, right: GenericArray<u32, U2>) -> [u32; 4]
     requires left { left ≡ 10 ∷ 20 ∷ [] }
     requires right { right ≡ 1 ∷ 2 ∷ [] }
-    ensures { result ≡ 12 ∷ 24 ∷ 14 ∷ 26 ∷ 16 ∷ 28 ∷ [] }
+    ensures { result ≡ 12 ∷ 24 ∷ 14 ∷ 26 ∷ [] }
 {
     let mut calls = 0u32;
     let mut numbered = |l: u32, r: u32| {
         calls = calls.wrapping_add(1);
         l.wrapping_add(r).wrapping_add(calls)
     };
-    let seen = left.zip_inline_refs_by(right.view(), &mut |l: &u32, r: &u32| numbered(*l, *r));
-    let halves = GenericArray::<u32, U2>::from_array([left[0], left[1]]);
-    let mixed = halves.zip_inline_ref_by(right.view(), &mut |l: u32, r: &u32| numbered(l, *r));
+    let seen = left.zip_inline_ref_by(right.view(), &mut |l: &u32, r: &u32| numbered(*l, *r));
     let moved = left.zip_inline_by(right, &mut numbered);
-    [seen[0], seen[1], mixed[0], mixed[1], moved[0], moved[1]]
+    [seen[0], seen[1], moved[0], moved[1]]
 }
 
 /// Whether maps are right, of items by value and by reference.

@@ -1,5 +1,7 @@
 -- What runs of a closure come to, where it acts as a function: each call answers h, and leaves the closure as it is.
-use Rattle.ga_core.specs.Runs.{CallableInFold, ClosureRun, FirstErrorRun, FoldRun}
+use Rattle.ga_core.specs.Calls.{MayFold}
+use Rattle.ga_core.specs.Entries.{FoldAt}
+use Rattle.ga_core.specs.Runs.{ClosureRun, FirstErrorRun, FoldRun}
 use Rattle.ga_core.specs.Tries.{result_and_then, try_map}
 use Rattle.std.proofs.Common.{◌≡◌, ℕ, ◌+◌, ◌<◌, List, [], ◌∷◌, Result, Ok, Err, inl, inr, ap, arith, fold, map, refl, subst, sym, ◌∙◌}
 use Rattle.std.proofs.lemmas.List.Sums.{sum_by-append, sum_by-cons}
@@ -45,7 +47,7 @@ module _ {F A X : Type 0} (step : F → A → X → A → F → Type 0) (f : F) 
       let others = answer_of_fold run.0.1 xs b last (subst (λ k. FoldRun step k run.0.1 xs b last) call.0 run.2) in
       others ∙ ap (λ c. fold h c xs) call.1
 
-module _ {F X : Type 0} (value : X → ℕ) (step : F → ℕ → X → ℕ → F → Type 0) (pre : F → ℕ → X → Type 0) where
+module _ {F X : Type 0} (value : X → ℕ) (step : F → ℕ → X → ℕ → F → Type 0) where
   -- each call adds a value, so a fold adds their sum
   fold-sum : ((f : F) (a : ℕ) (x : X) (b : ℕ) (next : F) → step f a x b next → b ≡ a + value x)
       → (f : F) (a : ℕ) (xs : List X) (b : ℕ) (last : F) → FoldRun step f a xs b last → b ≡ a + sum_by value xs
@@ -53,11 +55,14 @@ module _ {F X : Type 0} (value : X → ℕ) (step : F → ℕ → X → ℕ → 
   fold-sum adds f a (x ∷ xs) b last run =
       omega (arith, fold-sum adds run.0.0 run.0.1 xs b last run.2, adds f a x run.0.1 run.0.0 run.1, sum_by-cons value x xs)
 
+module _ {F I X : Type 0} (entry : I → X) (value : X → ℕ) (step : F → ℕ → I → ℕ → F → Type 0) (pre : F → ℕ → I → Type 0) where
   -- A fold that adds values may be made where their sum is below a bound, below which each call may be made. With `search rules` for
   -- the facts on one call this is the whole of a caller's condition.
   pub sum_is_callable : (f : F) (xs : List X) (bound : ℕ)
-      → ((f : F) (a : ℕ) (x : X) (b : ℕ) (next : F) → step f a x b next → b ≡ a + value x)
-      → ((f : F) (a : ℕ) (x : X) → a + value x < bound → pre f a x)
-      → sum_by value xs < bound → CallableInFold pre step f 0 xs
-  sum_is_callable f xs bound adds may within passed x others reached so_far whole run =
-      may reached so_far x (omega (arith, fold-sum adds f 0 passed so_far reached run, sum_by-append value passed (x ∷ others), sum_by-cons value x others, ap (sum_by value) whole, within))
+      → ((f : F) (a : ℕ) (item : I) (b : ℕ) (next : F) → step f a item b next → b ≡ a + value (entry item))
+      → ((f : F) (a : ℕ) (item : I) → a + value (entry item) < bound → pre f a item)
+      → sum_by value xs < bound → MayFold entry pre step f 0 xs
+  sum_is_callable f xs bound adds may within passed x others reached so_far whole run item is stays =
+      let at_entry : (f : F) (a : ℕ) (x : X) (b : ℕ) (next : F) → FoldAt entry step f a x b next → b ≡ a + value x =
+      λ f a x b next call. adds f a call.0 b next call.2 ∙ ap (λ y. a + value y) call.1 in
+      may reached so_far item (omega (arith, fold-sum value (FoldAt entry step) at_entry f 0 passed so_far reached run, sum_by-append value passed (x ∷ others), sum_by-cons value x others, ap (sum_by value) whole, ap value is, within))

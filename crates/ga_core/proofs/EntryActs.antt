@@ -1,6 +1,6 @@
 -- What runs over entries come to, where the closure acts as a function: each call returns h of what the entry stands for, and leaves the closure as it is.
 use Rattle.ga_core.proofs.ActsLemmas.{answers_of_run, answers_until_error}
-use Rattle.ga_core.specs.Entries.{ActsOnEntries, ActsOnEntry, ActsOnPair, CallAt, CallAtPair, CallOnPair}
+use Rattle.ga_core.specs.Entries.{ActsOnEntries, ActsOnEntry, CallAt, CallAtPair}
 use Rattle.ga_core.specs.Runs.{ClosureRun, FirstErrorRun}
 use Rattle.ga_core.specs.Tries.{try_map}
 use Rattle.std.proofs.Common.{◌≡◌, List, Result, ap, map, ◌∙◌}
@@ -27,8 +27,3 @@ module _ {I T F Y E : Type 0} (entry : I → T) (step : F → I → Result Y E �
   -- a run up to the first error answers all good answers of h, or its first error
   pub tries_at_entries : (xs : List T) (answer : Result (List Y) E) (last : F) → FirstErrorRun (CallAt entry step) f xs answer last → answer ≡ try_map h xs
   tries_at_entries = answers_until_error (CallAt entry step) f h (call_at entry step f h acts)
-
-module _ {X Y F R : Type 0} (step : F → X → Y → R → F → Type 0) (f : F) (h : X × Y → R) (acts : ActsOnPair step f h) where
-  -- a run at pairs of values answers h of each
-  pub answers_on_pairs : (xs : List (X × Y)) (ys : List R) (last : F) → ClosureRun (CallOnPair step) f xs ys last → ys ≡ map h xs
-  answers_on_pairs = answers_of_run (CallOnPair step) f h (λ p r next call. acts p.0 p.1 r next call)

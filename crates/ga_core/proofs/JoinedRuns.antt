@@ -1,5 +1,8 @@
 -- Runs of a closure over joined lists, and when it may be called along them.
-use Rattle.ga_core.specs.Runs.{CallableOver, ClosureRun}
+use Rattle.ga_core.proofs.CallLemmas.{may_map-at}
+use Rattle.ga_core.specs.Calls.{MayMap}
+use Rattle.ga_core.specs.Entries.{CallAt}
+use Rattle.ga_core.specs.Runs.{ClosureRun}
 use Rattle.std.proofs.Common.{◌≡◌, List, [], ◌∷◌, ◌++◌, ap, append_assoc, subst, sym, ◌∙◌}
 
 module _ {F X Y : Type 0} (step : F → X → Y → F → Type 0) where
@@ -17,15 +20,15 @@ module _ {F X Y : Type 0} (step : F → X → Y → F → Type 0) where
   ClosureRun-in_turn f xs ys first second all between last joined run then =
       subst (λ answers. ClosureRun step f (xs ++ ys) answers last) (sym joined) (ClosureRun-join f xs ys first second between last run then)
 
-module _ {F X Y : Type 0} (pre : F → X → Type 0) (step : F → X → Y → F → Type 0) where
+module _ {F I T Y : Type 0} (entry : I → T) (pre : F → I → Type 0) (step : F → I → Y → F → Type 0) where
   -- what may be called over joined lists may be called over the first
-  pub CallableOver-first : (f : F) (xs ys : List X) → CallableOver pre step f (xs ++ ys) → CallableOver pre step f xs
-  CallableOver-first f xs ys callable passed x others answers reached whole run =
-      callable passed x (others ++ ys) answers reached (ap (λ all. all ++ ys) whole ∙ append_assoc passed (x ∷ others) ys) run
+  pub MayMap-first : (f : F) (xs ys : List T) → MayMap entry pre step f (xs ++ ys) → MayMap entry pre step f xs
+  MayMap-first f xs ys may passed x others answers reached whole =
+      may passed x (others ++ ys) answers reached (ap (λ all. all ++ ys) whole ∙ append_assoc passed (x ∷ others) ys)
 
   -- and then over the second
-  pub CallableOver-second : (f : F) (xs ys : List X) (first : List Y) (between : F) → CallableOver pre step f (xs ++ ys) → ClosureRun step f xs first between
-      → CallableOver pre step between ys
-  CallableOver-second f xs ys first between callable ran passed x others answers reached whole run =
-      callable (xs ++ passed) x others (first ++ answers) reached (ap (λ all. xs ++ all) whole ∙ sym (append_assoc xs passed (x ∷ others)))
-      (ClosureRun-join step f xs passed first answers between reached ran run)
+  pub MayMap-second : (f : F) (xs ys : List T) (first : List Y) (between : F) → MayMap entry pre step f (xs ++ ys) → ClosureRun (CallAt entry step) f xs first between
+      → MayMap entry pre step between ys
+  MayMap-second f xs ys first between may ran passed x others answers reached whole run item is stays =
+      may_map-at entry pre step f (xs ++ ys) may (xs ++ passed) x others (first ++ answers) reached (ap (λ all. xs ++ all) whole ∙ sym (append_assoc xs passed (x ∷ others)))
+      (ClosureRun-join (CallAt entry step) f xs passed first answers between reached ran run) item is

@@ -10,19 +10,11 @@ module _ {I T F : Type 0} (entry : I → T) where
   abbrev pub CallAt : {Y : Type 0} → (F → I → Y → F → Type 0) → F → T → Y → F → Type 0
   CallAt step f x y g = (item : I) × (entry item ≡ x) × step f item y g
 
-  -- f may be called with a at each entry that stands for x
-  abbrev pub MayFoldAt : {A : Type 0} → (F → A → I → Type 0) → F → A → T → Type 0
-  MayFoldAt pre f a x = (item : I) → entry item ≡ x → pre f a item
-
   -- a call of f with a at an entry that stands for x
   abbrev pub FoldAt : {A B : Type 0} → (F → A → I → B → F → Type 0) → F → A → T → B → F → Type 0
   FoldAt step f a x b g = (item : I) × (entry item ≡ x) × step f a item b g
 
 module _ {I J T B F : Type 0} (entry : I → T) (other : J → B) where
-  -- f may be called at each two entries that stand for the pair
-  abbrev pub MayCallAtPair : (F → I → J → Type 0) → F → T × B → Type 0
-  MayCallAtPair pre f p = (left : I) (right : J) → entry left ≡ p.0 → other right ≡ p.1 → pre f left right
-
   -- a call of f at two entries that stand for the pair
   abbrev pub CallAtPair : {Y : Type 0} → (F → I → J → Y → F → Type 0) → F → T × B → Y → F → Type 0
   CallAtPair step f p y g = (left : I) × (right : J) × (entry left ≡ p.0) × (other right ≡ p.1) × step f left right y g
@@ -41,16 +33,3 @@ module _ {I J T B F Y : Type 0} (entry : I → T) (other : J → B) where
   -- each call of f at two entries returns h of the pair that they stand for, and leaves f as it is
   abbrev pub ActsOnEntries : (F → I → J → Y → F → Type 0) → F → (T × B → Y) → Type 0
   ActsOnEntries step f h = (left : I) (right : J) (y : Y) (g : F) → step f left right y g → (g ≡ f) × (y ≡ h (entry left, other right))
-
-module _ {X Y F : Type 0} where
-  -- f may be called at the two values of a pair
-  abbrev pub MayCallOnPair : (F → X → Y → Type 0) → F → X × Y → Type 0
-  MayCallOnPair pre f p = pre f p.0 p.1
-
-  -- a call of f at the two values of a pair
-  abbrev pub CallOnPair : {R : Type 0} → (F → X → Y → R → F → Type 0) → F → X × Y → R → F → Type 0
-  CallOnPair step f p r g = step f p.0 p.1 r g
-
-  -- each call of f at two values returns h of the pair, and leaves f as it is
-  abbrev pub ActsOnPair : {R : Type 0} → (F → X → Y → R → F → Type 0) → F → (X × Y → R) → Type 0
-  ActsOnPair {R} step f h = (x : X) (y : Y) (r : R) (g : F) → step f x y r g → (g ≡ f) × (r ≡ h (x, y))

@@ -4,7 +4,6 @@ pub mod Entries
 pub mod Fill
 pub mod IterLends
 pub mod Lends
-pub mod Maps
 pub mod Runs
 pub mod Tries
 pub use Rattle.ga_views.specs.Cut

@@ -1,14 +1,16 @@
 //! Calls of a closure at borrowed items, in plain types: what is made is an inline array.
 ghost use Rattle.ga_views.specs.Views.{items_of_view};
-ghost use Rattle.ga_core.specs.Maps.{MapRun, MapsAs, TryMapRun, TryMapsAs, ZipRun, ZipsAs};
-ghost use Rattle.ga_core.specs.Calls.{MayCallOverEntries, MayCallOverEntriesUntilError, MayCallOverEntryPairs};
+ghost use Rattle.ga_core.specs.Calls.{MayMap, MayTryMap, MayZip};
+ghost use Rattle.ga_core.specs.Entries.{ActsOnEntries, ActsOnEntry, CallAt, CallAtPair};
+ghost use Rattle.ga_core.specs.Runs.{ClosureRun, FirstErrorRun};
+ghost use Rattle.ga_core.specs.Tries.{try_map};
 ghost use Rattle.ga_views.specs.Length.{FitsInline};
 ghost use Rattle.std.specs.List.{zip};
-ghost use Rattle.std.specs.Prelude.{◌≡◌, List, Result, length, ⊤};
+ghost use Rattle.std.specs.Prelude.{◌≡◌, List, Result, length, map, ⊤};
 
 use crate::array::GenericArray;
 use crate::length::ArrayLength;
-use crate::mapping::{try_write_mapped_ref, write_mapped_ref, write_zipped_refs};
+use crate::mapping::{try_write_mapped_ref, write_mapped_ref, write_zipped_ref};
 use ga_views::{GenericArrayRef, Unsigned};
 
 /// Borrowed items: those of a read-only view, or of an inline array by reference.
@@ -38,9 +40,10 @@ pub trait BorrowedItems<T, N: Unsigned> {
     where
         N: ArrayLength<U>,
         requires fits { Fits }
-        requires callable { MayCallOverEntries (λ item. item.now) F.pre F.step f (items self.now) }
-        ensures run { (last : F) × MapRun (λ item. item.now) F.step f (items self.now) result last }
-        ensures acts { MapsAs (λ item. item.now) F.step f (items self.now) result }
+        requires callable { MayMap (λ item. item.now) F.pre F.step f (items self.now) }
+        ensures run { (last : F) × ClosureRun (CallAt (λ item. item.now) F.step) f (items self.now) result last }
+        ensures acts { (h : T → U) → ActsOnEntry (λ item. item.now) F.step f h
+            → result ≡ map h (items self.now) }
     {
         self.map_inline_ref_by(&mut f)
     }
@@ -54,9 +57,10 @@ pub trait BorrowedItems<T, N: Unsigned> {
     where
         N: ArrayLength<U>,
         requires fits { Fits }
-        requires callable { MayCallOverEntries (λ item. item.now) F.pre F.step f.old (items self.now) }
-        ensures run { MapRun (λ item. item.now) F.step f.old (items self.now) result f.new }
-        ensures acts { MapsAs (λ item. item.now) F.step f.old (items self.now) result }
+        requires callable { MayMap (λ item. item.now) F.pre F.step f.old (items self.now) }
+        ensures run { ClosureRun (CallAt (λ item. item.now) F.step) f.old (items self.now) result f.new }
+        ensures acts { (h : T → U) → ActsOnEntry (λ item. item.now) F.step f.old h
+            → result ≡ map h (items self.now) }
     {
         let items = self.borrowed();
         let mut made = GenericArray::<U, N>::default();
@@ -75,9 +79,10 @@ pub trait BorrowedItems<T, N: Unsigned> {
     where
         N: ArrayLength<U>,
         requires fits { Fits }
-        requires callable { MayCallOverEntriesUntilError (λ item. item.now) F.pre F.step f (items self.now) }
-        ensures run { (last : F) × TryMapRun (λ item. item.now) F.step f (items self.now) result last }
-        ensures acts { TryMapsAs (λ item. item.now) F.step f (items self.now) result }
+        requires callable { MayTryMap (λ item. item.now) F.pre F.step f (items self.now) }
+        ensures run { (last : F) × FirstErrorRun (CallAt (λ item. item.now) F.step) f (items self.now) result last }
+        ensures acts { (h : T → Result U E) → ActsOnEntry (λ item. item.now) F.step f h
+            → result ≡ try_map h (items self.now) }
     {
         self.try_map_inline_ref_by(&mut f)
     }
@@ -91,10 +96,11 @@ pub trait BorrowedItems<T, N: Unsigned> {
     where
         N: ArrayLength<U>,
         requires fits { Fits }
-        requires callable { MayCallOverEntriesUntilError (λ item. item.now) F.pre F.step f.old
+        requires callable { MayTryMap (λ item. item.now) F.pre F.step f.old
             (items self.now) }
-        ensures run { TryMapRun (λ item. item.now) F.step f.old (items self.now) result f.new }
-        ensures acts { TryMapsAs (λ item. item.now) F.step f.old (items self.now) result }
+        ensures run { FirstErrorRun (CallAt (λ item. item.now) F.step) f.old (items self.now) result f.new }
+        ensures acts { (h : T → Result U E) → ActsOnEntry (λ item. item.now) F.step f.old h
+            → result ≡ try_map h (items self.now) }
     {
         let items = self.borrowed();
         let mut made = GenericArray::<U, N>::default();
@@ -106,9 +112,9 @@ pub trait BorrowedItems<T, N: Unsigned> {
 
     /// The array of what `f` returns at each item and that of `rhs` in its place, called in order.
     ///
-    /// With an array by value on one side, call `zip_inline_ref` of that array.
+    /// With an array on the right, pass its view.
     #[inline(always)]
-    final fn zip_inline_refs<B, U: Default + Drop, F: FnMut(&T, &B) -> U>(
+    final fn zip_inline_ref<B, U: Default + Drop, F: FnMut(&T, &B) -> U>(
         &self,
         rhs: GenericArrayRef<'_, B, N>,
         mut f: F,
@@ -116,20 +122,20 @@ pub trait BorrowedItems<T, N: Unsigned> {
     where
         N: ArrayLength<U>,
         requires fits { Fits }
-        requires callable { MayCallOverEntryPairs (λ item. item.now) (λ item. item.now) F.pre F.step f
-            (zip (items self.now) (items_of_view rhs)) }
+        requires callable { MayZip (λ item. item.now) (λ item. item.now) F.pre F.step f
+            (items self.now) (items_of_view rhs) }
         ensures run { (last : F)
-            × ZipRun (λ item. item.now) (λ item. item.now) F.step f (items self.now)
-            (items_of_view rhs.entry) result last }
-        ensures acts { ZipsAs (λ item. item.now) (λ item. item.now) F.step f (items self.now)
-            (items_of_view rhs.entry) result }
+            × ClosureRun (CallAtPair (λ item. item.now) (λ item. item.now) F.step) f
+            (zip (items self.now) (items_of_view rhs.entry)) result last }
+        ensures acts { (h : T × B → U) → ActsOnEntries (λ item. item.now) (λ item. item.now) F.step f h
+            → result ≡ map h (zip (items self.now) (items_of_view rhs.entry)) }
     {
-        self.zip_inline_refs_by(rhs, &mut f)
+        self.zip_inline_ref_by(rhs, &mut f)
     }
 
-    /// `zip_inline_refs` with a borrowed closure, which can be used again in the state that it reached.
+    /// `zip_inline_ref` with a borrowed closure, which can be used again in the state that it reached.
     #[inline(always)]
-    final fn zip_inline_refs_by<B, U: Default + Drop, F: FnMut(&T, &B) -> U>(
+    final fn zip_inline_ref_by<B, U: Default + Drop, F: FnMut(&T, &B) -> U>(
         &self,
         rhs: GenericArrayRef<'_, B, N>,
         f: &mut F,
@@ -137,16 +143,16 @@ pub trait BorrowedItems<T, N: Unsigned> {
     where
         N: ArrayLength<U>,
         requires fits { Fits }
-        requires callable { MayCallOverEntryPairs (λ item. item.now) (λ item. item.now) F.pre F.step f.old
-            (zip (items self.now) (items_of_view rhs)) }
-        ensures run { ZipRun (λ item. item.now) (λ item. item.now) F.step f.old (items self.now)
-            (items_of_view rhs.entry) result f.new }
-        ensures acts { ZipsAs (λ item. item.now) (λ item. item.now) F.step f.old (items self.now)
-            (items_of_view rhs.entry) result }
+        requires callable { MayZip (λ item. item.now) (λ item. item.now) F.pre F.step f.old
+            (items self.now) (items_of_view rhs) }
+        ensures run { ClosureRun (CallAtPair (λ item. item.now) (λ item. item.now) F.step) f.old
+            (zip (items self.now) (items_of_view rhs.entry)) result f.new }
+        ensures acts { (h : T × B → U) → ActsOnEntries (λ item. item.now) (λ item. item.now) F.step f.old h
+            → result ≡ map h (zip (items self.now) (items_of_view rhs.entry)) }
     {
         let items = self.borrowed();
         let mut made = GenericArray::<U, N>::default();
-        write_zipped_refs(items, rhs.as_slice(), made.as_mut_slice(), f);
+        write_zipped_ref(items, rhs.as_slice(), made.as_mut_slice(), f);
         made.finished()
     }
 }

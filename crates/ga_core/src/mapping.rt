@@ -1,7 +1,7 @@
 //! What a closure returns at the items of slices, written over the slots of another slice, in order.
-ghost use Rattle.ga_core.specs.Maps.{MapRun, MayMap, MayTryMap, MayZip, TryMapRun, ZipRun};
-ghost use Rattle.ga_core.specs.Entries.{CallOnPair, MayCallOnPair};
-ghost use Rattle.ga_core.specs.Runs.{CallableOver, CallableOverUntilError, ClosureRun, FirstErrorRun};
+ghost use Rattle.ga_core.specs.Calls.{MayMap, MayTryMap, MayZip};
+ghost use Rattle.ga_core.specs.Entries.{CallAt, CallAtPair};
+ghost use Rattle.ga_core.specs.Runs.{ClosureRun, FirstErrorRun};
 ghost use Rattle.std.specs.List.{zip};
 ghost use Rattle.std.specs.Prelude.{◌≡◌, Err, MatchResult, Ok, length};
 
@@ -15,7 +15,7 @@ pub(crate) fn write_mapped<T: Default + Drop, U: Drop, F: FnMut(T) -> U>(
     f: &mut F,
 )
     requires len { length items.old ≡ length slots.old }
-    requires callable { CallableOver F.pre F.step f.old items.old }
+    requires callable { MayMap (λ item. item) F.pre F.step f.old items.old }
     ensures run { ClosureRun F.step f.old items.old slots.new f.new }
 {
     for (index, slot) in slots.iter_mut().enumerate() {
@@ -31,7 +31,7 @@ pub(crate) fn try_write_mapped<T: Default + Drop, U: Drop, E, F: FnMut(T) -> Res
     f: &mut F,
 ) -> Result<(), E>
     requires len { length items.old ≡ length slots.old }
-    requires callable { CallableOverUntilError F.pre F.step f.old items.old }
+    requires callable { MayTryMap (λ item. item) F.pre F.step f.old items.old }
     ensures run { MatchResult result
         (λ _. FirstErrorRun F.step f.old items.old (Ok slots.new) f.new)
         (λ error. FirstErrorRun F.step f.old items.old (Err error) f.new) }
@@ -54,7 +54,7 @@ pub(crate) fn write_mapped_ref<T, U: Drop, F: FnMut(&T) -> U>(
 )
     requires len { length items.now ≡ length slots.old }
     requires callable { MayMap (λ item. item.now) F.pre F.step f.old items.now }
-    ensures run { MapRun (λ item. item.now) F.step f.old items.now slots.new f.new }
+    ensures run { ClosureRun (CallAt (λ item. item.now) F.step) f.old items.now slots.new f.new }
 {
     for (index, slot) in slots.iter_mut().enumerate() {
         *slot = f(&items[index]);
@@ -71,8 +71,8 @@ pub(crate) fn try_write_mapped_ref<T, U: Drop, E, F: FnMut(&T) -> Result<U, E>>(
     requires len { length items.now ≡ length slots.old }
     requires callable { MayTryMap (λ item. item.now) F.pre F.step f.old items.now }
     ensures run { MatchResult result
-        (λ _. TryMapRun (λ item. item.now) F.step f.old items.now (Ok slots.new) f.new)
-        (λ error. TryMapRun (λ item. item.now) F.step f.old items.now (Err error) f.new) }
+        (λ _. FirstErrorRun (CallAt (λ item. item.now) F.step) f.old items.now (Ok slots.new) f.new)
+        (λ error. FirstErrorRun (CallAt (λ item. item.now) F.step) f.old items.now (Err error) f.new) }
 {
     for (index, slot) in slots.iter_mut().enumerate() {
         match f(&items[index]) {
@@ -93,36 +93,18 @@ pub(crate) fn write_zipped<T: Default + Drop, B: Default + Drop, U: Drop, F: FnM
 )
     requires left { length left.old ≡ length slots.old }
     requires right { length right.old ≡ length slots.old }
-    requires callable { CallableOver (MayCallOnPair F.pre) (CallOnPair F.step) f.old
-        (zip left.old right.old) }
-    ensures run { ClosureRun (CallOnPair F.step) f.old (zip left.old right.old) slots.new f.new }
+    requires callable { MayZip (λ item. item) (λ item. item) F.pre F.step f.old left.old right.old }
+    ensures run { ClosureRun (CallAtPair (λ item. item) (λ item. item) F.step) f.old
+        (zip left.old right.old) slots.new f.new }
 {
     for (index, slot) in slots.iter_mut().enumerate() {
         *slot = f(mem::take(&mut left[index]), mem::take(&mut right[index]));
     }
 }
 
-// `write_zipped` where the items of the right side are borrowed.
-#[inline]
-pub(crate) fn write_zipped_ref<T: Default + Drop, B, U: Drop, F: FnMut(T, &B) -> U>(
-    left: &mut [T],
-    right: &[B],
-    slots: &mut [U],
-    f: &mut F,
-)
-    requires left { length left.old ≡ length slots.old }
-    requires right { length right.now ≡ length slots.old }
-    requires callable { MayZip (λ item. item) (λ item. item.now) F.pre F.step f.old left.old right.now }
-    ensures run { ZipRun (λ item. item) (λ item. item.now) F.step f.old left.old right.now slots.new f.new }
-{
-    for (index, slot) in slots.iter_mut().enumerate() {
-        *slot = f(mem::take(&mut left[index]), &right[index]);
-    }
-}
-
 // `write_zipped` where the items of both sides are borrowed.
 #[inline]
-pub(crate) fn write_zipped_refs<T, B, U: Drop, F: FnMut(&T, &B) -> U>(
+pub(crate) fn write_zipped_ref<T, B, U: Drop, F: FnMut(&T, &B) -> U>(
     left: &[T],
     right: &[B],
     slots: &mut [U],
@@ -131,8 +113,8 @@ pub(crate) fn write_zipped_refs<T, B, U: Drop, F: FnMut(&T, &B) -> U>(
     requires left { length left.now ≡ length slots.old }
     requires right { length right.now ≡ length slots.old }
     requires callable { MayZip (λ item. item.now) (λ item. item.now) F.pre F.step f.old left.now right.now }
-    ensures run { ZipRun (λ item. item.now) (λ item. item.now) F.step f.old left.now
-        right.now slots.new f.new }
+    ensures run { ClosureRun (CallAtPair (λ item. item.now) (λ item. item.now) F.step) f.old
+        (zip left.now right.now) slots.new f.new }
 {
     for (index, slot) in slots.iter_mut().enumerate() {
         *slot = f(&left[index], &right[index]);

@@ -1,8 +1,8 @@
 //! Writing over the slots of a slice, in order.
-ghost use Rattle.ga_core.specs.Maps.{GenerateRun, TryGenerateRun};
+ghost use Rattle.ga_core.specs.Calls.{MayGenerate, MayTryGenerate};
 ghost use Rattle.ga_core.specs.Copies.{Repeats};
-ghost use Rattle.ga_core.specs.Runs.{CallableAlong, CallableUntilError};
-ghost use Rattle.std.specs.List.{All, AllZip};
+ghost use Rattle.ga_core.specs.Runs.{ClosureRun, FirstErrorRun};
+ghost use Rattle.std.specs.List.{All, AllZip, range_with_len};
 ghost use Rattle.std.specs.Prelude.{◌≡◌, ◌≤◌, Err, IsOk, MatchResult, Ok, OnOk, length, replicate};
 
 use crate::alloc_error::AllocError;
@@ -11,8 +11,8 @@ use std::mem;
 // Writes `f(0)`, `f(1)` and so on over the slots, each called once, in this order.
 #[inline]
 pub(crate) fn write_answers<T: Drop, F: FnMut(usize) -> T>(slots: &mut [T], f: &mut F)
-    requires callable { CallableAlong F.pre F.step f.old (length slots.old) }
-    ensures run { GenerateRun F.step f.old (length slots.old) slots.new f.new }
+    requires callable { MayGenerate F.pre F.step f.old (length slots.old) }
+    ensures run { ClosureRun F.step f.old (range_with_len 0 (length slots.old)) slots.new f.new }
 {
     for (index, slot) in slots.iter_mut().enumerate() {
         *slot = f(index);
@@ -25,10 +25,10 @@ pub(crate) fn try_write_answers<T: Drop, E, F: FnMut(usize) -> Result<T, E>>(
     slots: &mut [T],
     f: &mut F,
 ) -> Result<(), E>
-    requires callable { CallableUntilError F.pre F.step f.old (length slots.old) }
+    requires callable { MayTryGenerate F.pre F.step f.old (length slots.old) }
     ensures run { MatchResult result
-        (λ _. TryGenerateRun F.step f.old (length slots.old) (Ok slots.new) f.new)
-        (λ error. TryGenerateRun F.step f.old (length slots.old) (Err error) f.new) }
+        (λ _. FirstErrorRun F.step f.old (range_with_len 0 (length slots.old)) (Ok slots.new) f.new)
+        (λ error. FirstErrorRun F.step f.old (range_with_len 0 (length slots.old)) (Err error) f.new) }
 {
     for (index, slot) in slots.iter_mut().enumerate() {
         match f(index) {

@@ -1,9 +1,10 @@
 -- Calls at blocks in turn, and messages that are fed.
 use Rattle.ga_hashes.specs.BlockBuffer.{HasFed, MayTake, Takes}
 use Rattle.generic_array.proofs.JoinLemmas.{chunk_rest-joined, rows-behind, rows-joined}
-use Rattle.generic_array.proofs.JoinedRuns.{CallableOver-first, CallableOver-second, ClosureRun-in_turn}
+use Rattle.generic_array.proofs.CallLemmas.{may_map-at}
+use Rattle.generic_array.proofs.JoinedRuns.{ClosureRun-in_turn, MayMap-first, MayMap-second}
 use Rattle.generic_array.proofs.RowLemmas.{chunk_rest-few, rows-few}
-use Rattle.generic_array.specs.Entries.{CallAt, MayCallAt}
+use Rattle.generic_array.specs.Entries.{CallAt}
 use Rattle.generic_array.specs.Rows.{chunk_rest, rows}
 use Rattle.std.proofs.Common.{◌≡◌, ℕ, ◌<◌, List, [], ◌∷◌, ◌++◌, length, refl, sym, ap, ◌∙◌, append_assoc, subst}
 
@@ -33,17 +34,17 @@ module _ {V F : Type 0} (bytes_of : V → List ℕ) (step : F → V → Unit {0}
 
     -- what may be called at joined blocks may be called at the first of them
     pub MayTake-front : (f : F) (xs ys : List (List ℕ)) → MayTake bytes_of step pre width f (xs ++ ys) → MayTake bytes_of step pre width f xs
-    MayTake-front f xs ys may = CallableOver-first (λ g block. length block ≡ width → MayCallAt bytes_of pre g block) (CallAt bytes_of step) f xs ys may
+    MayTake-front f xs ys may = MayMap-first bytes_of (λ g view. length (bytes_of view) ≡ width → pre g view) step f xs ys may
 
     -- and then at the others
     pub MayTake-behind : (f : F) (xs ys : List (List ℕ)) (between : F) → MayTake bytes_of step pre width f (xs ++ ys) → Takes bytes_of step f xs between
         → MayTake bytes_of step pre width between ys
     MayTake-behind f xs ys between may taken =
-        CallableOver-second (λ g block. length block ≡ width → MayCallAt bytes_of pre g block) (CallAt bytes_of step) f xs ys taken.0 between may taken.1
+        MayMap-second bytes_of (λ g view. length (bytes_of view) ≡ width → pre g view) step f xs ys taken.0 between may taken.1
 
     -- a call at the first block may be made
     pub MayTake-first : (f : F) (v : V) (others : List (List ℕ)) → length (bytes_of v) ≡ width → MayTake bytes_of step pre width f (bytes_of v ∷ others) → pre f v
-    MayTake-first f v others full may = may [] (bytes_of v) others [] f refl refl full v refl
+    MayTake-first f v others full may = may_map-at bytes_of (λ g view. length (bytes_of view) ≡ width → pre g view) step f (bytes_of v ∷ others) may [] (bytes_of v) others [] f refl refl v refl full
 
     -- and then those at the others
     pub MayTake-others : (f : F) (v : V) (others : List (List ℕ)) (between : F) → step f v tt between → MayTake bytes_of step pre width f (bytes_of v ∷ others)

@@ -1,6 +1,7 @@
 -- Messages in blocks: what a buffer keeps of them, the calls at their blocks, and the padded message.
-use Rattle.generic_array.specs.Entries.{CallAt, MayCallAt}
-use Rattle.generic_array.specs.Runs.{CallableOver, ClosureRun}
+use Rattle.generic_array.specs.Calls.{MayMap}
+use Rattle.generic_array.specs.Entries.{CallAt}
+use Rattle.generic_array.specs.Runs.{ClosureRun}
 use Rattle.generic_array.specs.Rows.{chunk_rest, rows}
 use Rattle.std.specs.Borrow.{Bor}
 use Rattle.std.specs.Int.{to_be_bytes, w64}
@@ -22,7 +23,7 @@ module _ {V F : Type 0} (bytes_of : V → List ℕ) (step : F → V → Unit {0}
 
   -- f may be called at each of these blocks in turn, which have this width, in each state that the calls before it lead to
   abbrev pub MayTake : (F → V → Type 0) → ℕ → F → List (List ℕ) → Type 0
-  MayTake pre width f blocks = CallableOver (λ g block. length block ≡ width → MayCallAt bytes_of pre g block) (CallAt bytes_of step) f blocks
+  MayTake pre width f blocks = MayMap bytes_of (λ g view. length (bytes_of view) ≡ width → pre g view) step f blocks
 
   -- a message was fed: calls at its whole blocks led from the state first to the state f, and what fills none is kept
   pub record HasFed (width : ℕ) (first : F) (message kept : List ℕ) (f : F) : Type 0 where

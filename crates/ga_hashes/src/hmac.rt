@@ -120,7 +120,7 @@ fn same_bytes<N: ArrayLength<u8>>(left: GenericArray<u8, N>, right: &[u8]) -> bo
     let Ok(right) = GenericArray::<u8, N>::try_from_slice(right) else {
         return false;
     };
-    let differences = left.zip_inline_ref(right, |l: u8, r: &u8| l ^ *r);
+    let differences = left.zip_inline_ref(right, |l: &u8, r: &u8| *l ^ *r);
     differences
         .into_iter()
         .fold(0, |all: u8, difference: u8| all | difference)

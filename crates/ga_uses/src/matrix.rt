@@ -158,7 +158,7 @@ where
     ensures { result ≡ dot_product row.now (column_of matrix.now column) }
 {
     let other = matrix.column(column);
-    let products = row.items.zip_inline_refs(
+    let products = row.items.zip_inline_ref(
         other.items.view(),
         |number: &u64, factor: &u64| number.wrapping_mul(*factor),
     );

@@ -1,12 +1,12 @@
 -- The loop of a fold over what a sequence gives, and what its calls come to.
-use Rattle.ga_core.specs.Runs.{CallableInFold, FoldRun}
-use Rattle.ga_core.specs.Entries.{FoldAt, MayFoldAt}
+use Rattle.ga_core.proofs.CallLemmas.{stays-fold}
+use Rattle.ga_core.specs.Entries.{FoldAt}
+use Rattle.ga_core.specs.Runs.{FoldRun}
 use Rattle.generic_array.specs.GivenEntries.{GivesEntries, SomeEntries}
-use Rattle.generic_array.specs.EntryRuns.{TryFoldRun, good_step}
+use Rattle.generic_array.specs.EntryRuns.{MayTryFold, TryFoldRun, good_step}
 use Rattle.std.proofs.Common.{◌≡◌, List, [], ◌∷◌, ◌++◌, inl, inr, Result, Ok, Err, Option, None, Some, append_assoc, append-nil, refl, ap, sym, ◌∙◌, subst}
 use Rattle.std.proofs.lemmas.Fn.{FoldsTo-push}
 use Rattle.std.specs.Iterator.{AlwaysYields, Count, IsFinite}
-use Rattle.std.specs.List.{FoldsTo}
 use Rattle.generic_array.proofs.WalkLemmas.{end_given, next_given}
 
 -- Calls of f at the entries passed led from f₀ and a₀ to f and a, and the iterator gives what is left, in order.
@@ -41,7 +41,9 @@ module _ {S I T F A : Type 0} {can : S → Type 0} {steps : S → Option I → S
   module _ {s : S} {f : F} {a : A} (loop : FoldLoop T can steps remaining step entries f₀ a₀ s f a) where
     -- the call at the item that comes may be made
     pub FoldLoop-callable : (pre : F → A → I → Type 0) (item : I) (t : S)
-        → SomeEntries can steps remaining entries (λ (entry : I → T) values. CallableInFold (MayFoldAt entry pre) (FoldAt entry step) f₀ a₀ values) → steps s (Some item) t → pre f a item
+        → SomeEntries can steps remaining entries (λ (entry : I → T) values. (passed : List T) (x : T) (others : List T) (reached : F) (value : A)
+        → values ≡ passed ++ x ∷ others → FoldRun (FoldAt entry step) f₀ a₀ passed value reached → (at : I) → entry at ≡ x → pre reached value at)
+        → steps s (Some item) t → pre f a item
     FoldLoop-callable pre item t asked next =
         let so_far = loop.so_far asked.0 asked.1 asked.2 in
         let given = next_given steps asked.0 s so_far.left item t so_far.gives next in
@@ -72,21 +74,12 @@ module _ {S I T F A : Type 0} {can : S → Type 0} {steps : S → Option I → S
         let whole : values ≡ so_far.passed = so_far.whole ∙ (ap (λ left. so_far.passed ++ left) (end_given steps entry s so_far.left t so_far.gives next) ∙ append-nil so_far.passed) in
         subst (λ passed. FoldRun (FoldAt entry step) f₀ a₀ passed a f) (sym whole) so_far.ran
 
-module _ {P X : Type 0} (R Q : P → X → P → Type 0) (each : (p : P) (x : X) (q : P) → R p x q → Q p x q) where
-  -- a fold by steps that each are also another kind of step
-  pub FoldsTo-each : (p : P) (xs : List X) (q : P) → FoldsTo R p xs q → FoldsTo Q p xs q
-  FoldsTo-each p [] q run = run
-  FoldsTo-each p (x ∷ xs) q run = (run.0, each p x run.0 run.1, FoldsTo-each run.0 xs q run.2)
-
 -- items that stand for themselves
-module _ {F A X : Type 0} (pre : F → A → X → Type 0) (step : F → A → X → A → F → Type 0) where
-  pub FoldRun-of_items : (f : F) (a : A) (xs : List X) (b : A) (g : F) → FoldRun (FoldAt (λ x. x) step) f a xs b g → FoldRun step f a xs b g
-  FoldRun-of_items f a xs b g run =
-      FoldsTo-each _ _ (λ p x q call. subst (λ y. step p.0 p.1 y q.1 q.0) call.1 call.2) (f, a) xs (g, b) run
-
-  pub CallableInFold-of_items : (f : F) (a : A) (xs : List X) → CallableInFold pre step f a xs → CallableInFold (MayFoldAt (λ x. x) pre) (FoldAt (λ x. x) step) f a xs
-  CallableInFold-of_items f a xs callable = λ passed item others reached value whole run x same.
-      subst (λ y. pre reached value y) (sym same) (callable passed item others reached value whole (FoldRun-of_items f a passed value reached run))
+module _ {F A X : Type 0} (step : F → A → X → A → F → Type 0) where
+  pub FoldRun-by_items : (f : F) (a : A) (xs : List X) (b : A) (g : F) → FoldRun (FoldAt (λ x. x) step) f a xs b g → FoldRun step f a xs b g
+  FoldRun-by_items f a [] b g run = run
+  FoldRun-by_items f a (x ∷ xs) b g run =
+      (run.0, subst (λ y. step f a y run.0.1 run.0.0) run.1.1 run.1.2, FoldRun-by_items run.0.0 run.0.1 xs b g run.2)
 
 module _ {F A X E : Type 0} (step : F → A → X → Result A E → F → Type 0) where
   -- all calls were good
@@ -111,3 +104,12 @@ module _ {S I T F A E : Type 0} {can : S → Type 0} {steps : S → Option I →
       let given = next_given steps entry s so_far.left item t so_far.gives next in
       subst (λ xs. TryFoldRun (FoldAt entry step) f₀ a₀ xs (Err error) last) (sym (so_far.whole ∙ ap (λ left. so_far.passed ++ left) given.1))
       (TryFoldRun-error (FoldAt entry step) f₀ a₀ so_far.passed a f (entry item) given.0 error last so_far.ran (item, refl, call))
+
+-- where f may be called in a fold up to its first error, it may be called in each state that good calls lead to
+module _ {F A I T E : Type 0} (entry : I → T) (pre : F → A → I → Type 0) (step : F → A → I → Result A E → F → Type 0) where
+  pub may_try_fold-at : (f : F) (a : A) (xs : List T) → MayTryFold entry pre step f a xs
+      → (passed : List T) (x : T) (others : List T) (reached : F) (value : A) → xs ≡ passed ++ x ∷ others
+      → FoldRun (good_step (FoldAt entry step)) f a passed value reached → (item : I) → entry item ≡ x → pre reached value item
+  may_try_fold-at f a xs may = λ passed x others reached value whole run item is.
+      may passed x others reached value whole run item is
+      (λ here stays. subst (λ s. pre s value item) (sym (stays-fold (good_step (FoldAt entry step)) f (λ b v c g call. stays b call.0 (Ok c) g call.2) a passed value reached run)) here)

@@ -1,8 +1,10 @@
 -- Walks over what a sequence gives, and the calls along them.
 use Rattle.ga_core.proofs.RunLemmas.{FirstErrorRun-good, FirstErrorRun-length}
-use Rattle.ga_core.specs.Runs.{CallableOver, CallableOverUntilError, ClosureRun, FirstErrorRun}
+use Rattle.ga_core.proofs.CallLemmas.{may_map-at, may_try_map-at, may_zip-at}
+use Rattle.ga_core.specs.Calls.{MayMap, MayTryMap, MayZip}
+use Rattle.ga_core.specs.Entries.{CallAt, CallAtPair, MayCallAt}
+use Rattle.ga_core.specs.Runs.{ClosureRun, FirstErrorRun}
 use Rattle.generic_array.specs.Built.{built_items}
-use Rattle.ga_core.specs.Entries.{CallAt, CallAtPair, MayCallAt, MayCallAtPair}
 use Rattle.generic_array.specs.GivenEntries.{CallAtNext, CallAtNextPair, MayCallAtNext, MayCallAtNextPair}
 use Rattle.generic_array.specs.EntryRuns.{FirstErrorRan}
 use Rattle.std.proofs.Common.{◌≡◌, ℕ, suc, ◌<◌, List, [], ◌∷◌, ◌++◌, length, length-append, arith, ◌⊎◌, inl, inr, map, Result, Ok, Err, Option, None, Some, append-nil, refl, ap, sym, ◌∙◌, subst}
@@ -70,10 +72,10 @@ module _ {S I T C F K Y : Type 0} (steps : S → Option I → S → Type 0) (can
   )
 
   pub walk-callable : (values : List T) (c : C) (ks : List K) (ys : List Y) (d : C) → AlwaysYields steps entry (it c) values → can (it c) → ClosureRun calls c ks ys d
-      → length ks < length values → CallableOver (MayCallAt entry pre) (CallAt entry step) (fn c) values → MayCallAtNext can steps pre (it d) (fn d)
+      → length ks < length values → MayMap entry pre step (fn c) values → MayCallAtNext can steps pre (it d) (fn d)
   walk-callable values c ks ys d gives may run more callable =
       let walked = walk values c ks ys d gives may run in
-      walked-callable values c ks ys d walked more (λ x others whole. callable walked.0 x others ys (fn d) whole walked.6)
+      walked-callable values c ks ys d walked more (λ x others whole. may_map-at entry pre step (fn c) values callable walked.0 x others ys (fn d) whole walked.6)
 
   -- after as many calls as there are entries, all are passed
   pub walk-whole : (values : List T) (c : C) (ks : List K) (ys : List Y) (d : C) → AlwaysYields steps entry (it c) values → can (it c) → ClosureRun calls c ks ys d
@@ -147,9 +149,9 @@ module _ {S R I J T B : Type 0} (steps : S → Option I → S → Type 0) (other
     pub pair-call : (f : F) (q : T × B) (y : Y) (g : F) → CallAt pair_entry pair_step f q y g → CallAtPair entry other step f q y g
     pair-call f q y g call = (call.0.0, call.0.1, ap (λ p. p.0) call.1, ap (λ p. p.1) call.1, call.2)
 
-    pub pair-callable : (f : F) (qs : List (T × B)) → CallableOver (MayCallAtPair entry other pre) (CallAtPair entry other step) f qs → CallableOver (MayCallAt pair_entry pair_pre) (CallAt pair_entry pair_step) f qs
-    pair-callable f qs callable = λ passed q rest ys reached whole run item same.
-        callable passed q rest ys reached whole (ClosureRun-map _ _ pair-call f passed ys reached run) item.0 item.1 (ap (λ p. p.0) same) (ap (λ p. p.1) same)
+    pub pair-callable : (f : F) (xs : List T) (bs : List B) → MayZip entry other pre step f xs bs → MayMap pair_entry pair_pre pair_step f (zip xs bs)
+    pair-callable f xs bs callable = λ passed q rest ys reached whole run item same stays.
+        may_zip-at entry other pre step f xs bs callable passed q rest ys reached whole (ClosureRun-map _ _ pair-call f passed ys reached run) item.0 item.1 (ap (λ p. p.0) same) (ap (λ p. p.1) same)
 
 -- what was made is a list itself
 pub built_items-list : {T E : Type 0} (built : Result (List T) E) → built_items (λ items. items) built ≡ built
@@ -191,12 +193,12 @@ module _ {S I T C F K Y E : Type 0} (steps : S → Option I → S → Type 0) (c
 
   -- the same after good calls
   pub walk-callable_good : (pre : F → I → Type 0) (values : List T) (c : C) (ks : List K) (good : List Y) (d : C) → AlwaysYields steps entry (it c) values → can (it c)
-      → ClosureRun calls c ks (map Ok good) d → length ks < length values → CallableOverUntilError (MayCallAt entry pre) (CallAt entry step) (fn c) values
+      → ClosureRun calls c ks (map Ok good) d → length ks < length values → MayTryMap entry pre step (fn c) values
       → MayCallAtNext can steps pre (it d) (fn d)
   walk-callable_good pre values c ks good d gives may run more callable =
       let walked = walk steps can entry pre step it fn calls reads values c ks (map Ok good) d gives may run in
       walked-callable steps can entry pre step it fn calls reads values c ks (map Ok good) d walked more
-      (λ x others whole. callable walked.0 x others good (fn d) whole walked.6)
+      (λ x others whole. may_try_map-at entry pre step (fn c) values callable walked.0 x others good (fn d) whole walked.6)
 
   -- the run that came to the answer is the run over all entries
   pub walk-answer : (pre : F → I → Type 0) (answer : Result (List Y) E) (values : List T) (c : C) (ks : List K) (d : C) → AlwaysYields steps entry (it c) values → can (it c)

@@ -1,7 +1,8 @@
 -- Runs over a list that a proof finds its way along, and folds that may fail.
-use Rattle.ga_core.specs.Entries.{FoldAt, MayFoldAt}
-use Rattle.ga_core.specs.Runs.{CallableInFold, FirstErrorRun}
-use Rattle.std.specs.Prelude.{◌≡◌, ◌⊎◌, [], List, ◌∷◌, Result, Ok, Err}
+use Rattle.ga_core.specs.Calls.{StaysOnTwo}
+use Rattle.ga_core.specs.Entries.{FoldAt}
+use Rattle.ga_core.specs.Runs.{FirstErrorRun, FoldRun}
+use Rattle.std.specs.Prelude.{◌≡◌, ◌⊎◌, [], List, ◌∷◌, ◌++◌, Result, Ok, Err}
 
 -- `FirstErrorRun` as a record, from which a proof finds the step
 pub record FirstErrorRan {F X Y E : Type 0} (step : F → X → Result Y E → F → Type 0) (f : F) (xs : List X) (answer : Result (List Y) E) (last : F) : Type 0 where
@@ -20,7 +21,9 @@ module _ {F A X E : Type 0} (step : F → A → X → Result A E → F → Type 
   TryFoldRun f a (x ∷ xs) (Ok b) last = (c : A) × (g : F) × step f a x (Ok c) g × TryFoldRun g c xs (Ok b) last
   TryFoldRun f a (x ∷ xs) (Err error) last = step f a x (Err error) last ⊎ ((c : A) × (g : F) × step f a x (Ok c) g × TryFoldRun g c xs (Err error) last)
 
-module _ {I T F A E : Type 0} (entry : I → T) where
-  -- f may be called at the entries of the items, in order, each time with the value reached, up to its first error
-  abbrev pub MayTryFold : (F → A → I → Type 0) → (F → A → I → Result A E → F → Type 0) → F → A → List T → Type 0
-  MayTryFold pre step f init items = CallableInFold (MayFoldAt entry pre) (good_step (FoldAt entry step)) f init items
+module _ {F A I T E : Type 0} (entry : I → T) (pre : F → A → I → Type 0) (step : F → A → I → Result A E → F → Type 0) where
+  -- f may be called at an entry of each item in turn, each time with the value reached, as long as its calls are good
+  abbrev pub MayTryFold : F → A → List T → Type 0
+  MayTryFold f init items = (passed : List T) (item : T) (others : List T) (reached : F) (value : A)
+      → items ≡ passed ++ item ∷ others → FoldRun (good_step (FoldAt entry step)) f init passed value reached
+      → (at : I) → entry at ≡ item → (pre f value at → StaysOnTwo step f → pre reached value at) → pre reached value at

@@ -15,7 +15,6 @@ pub use Rattle.ga_core.specs.Fill
 pub use Rattle.ga_core.specs.HexText
 pub use Rattle.ga_core.specs.Iteration
 pub use Rattle.ga_core.specs.Length
-pub use Rattle.ga_core.specs.Maps
 pub use Rattle.ga_core.specs.Parts
 pub use Rattle.ga_core.specs.RowIteration
 pub use Rattle.ga_core.specs.Rows

@@ -1,7 +1,7 @@
 //! Generic functions that know the traits alone, at work for every kind of sequence.
-ghost use Rattle.ga_core.specs.Maps.{FoldsAs, MapRun, MayFold, MayMap, MayZip, ZipRun};
-ghost use Rattle.ga_core.specs.Runs.{CallableInFold, FoldRun};
-ghost use Rattle.ga_core.specs.Entries.{ActsOnEntries, ActsOnEntry, FoldAt};
+ghost use Rattle.ga_core.specs.Calls.{MayFold, MayMap, MayZip};
+ghost use Rattle.ga_core.specs.Entries.{ActsInFold, ActsOnEntries, ActsOnEntry, CallAt, CallAtPair, FoldAt};
+ghost use Rattle.ga_core.specs.Runs.{ClosureRun, FoldRun};
 ghost use Rattle.std.specs.Iterator.{ActsAsOnTwo};
 ghost use Rattle.std.specs.List.{zip};
 ghost use Rattle.std.specs.Prelude.{◌≡◌, IfOk, IsOk, List, OnErr, fold, map};
@@ -9,7 +9,7 @@ ghost use Rattle.std.specs.Prelude.{◌≡◌, IfOk, IsOk, List, OnErr, fold, ma
 use crate::functional::{FunctionalSequence, MappedError, MappedGenericSequence, MappedPlace};
 use crate::sequence::{GenericSequence, OwnedSequence, SequenceItem};
 
-/// The fold by `f` over the entries, from `init`.
+/// The fold by `f` over the entries, from `init`: a caller of `fold_by` that knows the traits alone.
 pub fn total_by<T, S: FunctionalSequence<T>, A, F: FnMut(A, SequenceItem<S>) -> A>(
     s: S,
     init: A,
@@ -17,7 +17,7 @@ pub fn total_by<T, S: FunctionalSequence<T>, A, F: FnMut(A, SequenceItem<S>) -> 
 ) -> A
     requires callable { MayFold S.entry F.pre F.step f.old init (S.items s) }
     ensures run { FoldRun (FoldAt S.entry F.step) f.old init (S.items s) result f.new }
-    ensures acts { FoldsAs S.entry F.step f.old init (S.items s) result }
+    ensures acts { (h : A → T → A) → ActsInFold S.entry F.step f.old h → result ≡ fold h init (S.items s) }
 {
     s.fold_by(init, f)
 }
@@ -42,10 +42,10 @@ pub fn map_total_by<
     requires fits { S.Mapped.Fits }
     requires callable { MayMap S.entry F.pre F.step f.old (S.items s) }
     requires then_callable { (answers : List U) (reached : F)
-        → MapRun S.entry F.step f.old (S.items s) answers reached
-        → CallableInFold G.pre G.step g.old init answers }
+        → ClosureRun (CallAt S.entry F.step) f.old (S.items s) answers reached
+        → MayFold (λ item. item) G.pre G.step g.old init answers }
     ensures run { IfOk result (λ total. (answers : List U)
-        × MapRun S.entry F.step f.old (S.items s) answers f.new
+        × ClosureRun (CallAt S.entry F.step) f.old (S.items s) answers f.new
         × FoldRun G.step g.old init answers total g.new) }
     ensures acts { IfOk result (λ total. (h : T → U) (k : A → U → A) → ActsOnEntry S.entry F.step f.old h
         → ActsAsOnTwo G.FnMut g.old k → total ≡ fold k init (map h (S.items s))) }
@@ -81,10 +81,12 @@ pub fn dot_by<
     requires fits { S.Mapped.Fits }
     requires callable { MayZip S.entry R.entry F.pre F.step times.old (S.items left) (R.items right) }
     requires then_callable { (products : List T) (reached : F)
-        → ZipRun S.entry R.entry F.step times.old (S.items left) (R.items right) products reached
-        → CallableInFold G.pre G.step plus.old zero products }
+        → ClosureRun (CallAtPair S.entry R.entry F.step) times.old
+        (zip (S.items left) (R.items right)) products reached
+        → MayFold (λ item. item) G.pre G.step plus.old zero products }
     ensures run { IfOk result (λ total. (products : List T)
-        × ZipRun S.entry R.entry F.step times.old (S.items left) (R.items right) products times.new
+        × ClosureRun (CallAtPair S.entry R.entry F.step) times.old
+        (zip (S.items left) (R.items right)) products times.new
         × FoldRun G.step plus.old zero products total plus.new) }
     ensures acts { IfOk result (λ total. (h : T × T → T) (k : T → T → T)
         → ActsOnEntries S.entry R.entry F.step times.old h → ActsAsOnTwo G.FnMut plus.old k

@@ -1,11 +1,11 @@
 //! Calls of a closure at all entries of a sequence, from the first to the last.
 //!
 //! Each is inlined always: a call that isn't copies an array that it passes on by value.
-ghost use Rattle.ga_core.specs.Maps.{FoldsAs, MapRun, MapsAs, MayFold, MayMap, MayTryMap, MayZip, TryFoldsAs, TryMapRun, TryMapsAs, ZipRun, ZipsAs};
-ghost use Rattle.ga_core.specs.Runs.{FoldRun};
+ghost use Rattle.ga_core.specs.Calls.{MayFold, MayMap, MayTryMap, MayZip};
+ghost use Rattle.ga_core.specs.Entries.{ActsInFold, ActsOnEntries, ActsOnEntry, CallAt, CallAtPair, FoldAt};
+ghost use Rattle.ga_core.specs.Runs.{ClosureRun, FirstErrorRun, FoldRun};
 ghost use Rattle.ga_core.specs.Tries.{try_fold, try_map};
 ghost use Rattle.generic_array.specs.Built.{built_items};
-ghost use Rattle.ga_core.specs.Entries.{FoldAt};
 ghost use Rattle.generic_array.specs.EntryRuns.{MayTryFold, TryFoldRun};
 ghost use Rattle.std.specs.List.{zip};
 ghost use Rattle.std.specs.Prelude.{◌≡◌, IfOk, IsOk, OnErr, Result, fold, length, map};
@@ -70,9 +70,10 @@ pub trait FunctionalSequence<T>: GenericSequence<T> {
         requires callable { MayMap Self.entry F.pre F.step f (Self.items self) }
         ensures len { IfOk result (λ made. length (Self.Mapped.Sequence.items made) ≡ Self.Length.USIZE) }
         ensures run { (last : F) × IfOk result (λ made.
-            MapRun Self.entry F.step f (Self.items self) (Self.Mapped.Sequence.items made) last) }
-        ensures acts { IfOk result (λ made.
-            MapsAs Self.entry F.step f (Self.items self) (Self.Mapped.Sequence.items made)) }
+            ClosureRun (CallAt Self.entry F.step) f (Self.items self)
+            (Self.Mapped.Sequence.items made) last) }
+        ensures acts { IfOk result (λ made. (h : T → U) → ActsOnEntry Self.entry F.step f h
+            → Self.Mapped.Sequence.items made ≡ map h (Self.items self)) }
         ensures promised { Self.Mapped.IsPromised → IsOk result }
     {
         self.map_by(place, &mut f)
@@ -91,9 +92,10 @@ pub trait FunctionalSequence<T>: GenericSequence<T> {
         requires callable { MayMap Self.entry F.pre F.step f.old (Self.items self) }
         ensures len { IfOk result (λ made. length (Self.Mapped.Sequence.items made) ≡ Self.Length.USIZE) }
         ensures run { IfOk result (λ made.
-            MapRun Self.entry F.step f.old (Self.items self) (Self.Mapped.Sequence.items made) f.new) }
-        ensures acts { IfOk result (λ made.
-            MapsAs Self.entry F.step f.old (Self.items self) (Self.Mapped.Sequence.items made)) }
+            ClosureRun (CallAt Self.entry F.step) f.old (Self.items self)
+            (Self.Mapped.Sequence.items made) f.new) }
+        ensures acts { IfOk result (λ made. (h : T → U) → ActsOnEntry Self.entry F.step f.old h
+            → Self.Mapped.Sequence.items made ≡ map h (Self.items self)) }
         ensures err { OnErr result (f.new ≡ f.old) }
         ensures promised { Self.Mapped.IsPromised → IsOk result }
     {
@@ -117,11 +119,10 @@ pub trait FunctionalSequence<T>: GenericSequence<T> {
         ensures len { IfOk result (λ built.
             IfOk built (λ made. length (Self.Mapped.Sequence.items made) ≡ Self.Length.USIZE)) }
         ensures run { (last : F) × IfOk result (λ built.
-            TryMapRun Self.entry F.step f (Self.items self)
+            FirstErrorRun (CallAt Self.entry F.step) f (Self.items self)
             (built_items Self.Mapped.Sequence.items built) last) }
-        ensures acts { IfOk result (λ built.
-            TryMapsAs Self.entry F.step f (Self.items self)
-            (built_items Self.Mapped.Sequence.items built)) }
+        ensures acts { IfOk result (λ built. (h : T → Result U E) → ActsOnEntry Self.entry F.step f h
+            → built_items Self.Mapped.Sequence.items built ≡ try_map h (Self.items self)) }
         ensures promised { Self.Mapped.IsPromised → IsOk result }
     {
         self.try_map_by(place, &mut f)
@@ -142,11 +143,10 @@ pub trait FunctionalSequence<T>: GenericSequence<T> {
         ensures len { IfOk result (λ built.
             IfOk built (λ made. length (Self.Mapped.Sequence.items made) ≡ Self.Length.USIZE)) }
         ensures run { IfOk result (λ built.
-            TryMapRun Self.entry F.step f.old (Self.items self)
+            FirstErrorRun (CallAt Self.entry F.step) f.old (Self.items self)
             (built_items Self.Mapped.Sequence.items built) f.new) }
-        ensures acts { IfOk result (λ built.
-            TryMapsAs Self.entry F.step f.old (Self.items self)
-            (built_items Self.Mapped.Sequence.items built)) }
+        ensures acts { IfOk result (λ built. (h : T → Result U E) → ActsOnEntry Self.entry F.step f.old h
+            → built_items Self.Mapped.Sequence.items built ≡ try_map h (Self.items self)) }
         ensures err { OnErr result (f.new ≡ f.old) }
         ensures promised { Self.Mapped.IsPromised → IsOk result }
     {
@@ -175,11 +175,11 @@ pub trait FunctionalSequence<T>: GenericSequence<T> {
         requires callable { MayZip Self.entry Rhs.entry F.pre F.step f (Self.items self) (Rhs.items rhs) }
         ensures len { IfOk result (λ made. length (Self.Mapped.Sequence.items made) ≡ Self.Length.USIZE) }
         ensures run { (last : F) × IfOk result (λ made.
-            ZipRun Self.entry Rhs.entry F.step f (Self.items self) (Rhs.items rhs)
-            (Self.Mapped.Sequence.items made) last) }
-        ensures acts { IfOk result (λ made.
-            ZipsAs Self.entry Rhs.entry F.step f (Self.items self) (Rhs.items rhs)
-            (Self.Mapped.Sequence.items made)) }
+            ClosureRun (CallAtPair Self.entry Rhs.entry F.step) f
+            (zip (Self.items self) (Rhs.items rhs)) (Self.Mapped.Sequence.items made) last) }
+        ensures acts { IfOk result (λ made. (h : T × B → U)
+            → ActsOnEntries Self.entry Rhs.entry F.step f h
+            → Self.Mapped.Sequence.items made ≡ map h (zip (Self.items self) (Rhs.items rhs))) }
         ensures promised { Self.Mapped.IsPromised → IsOk result }
     {
         self.zip_by(place, rhs, &mut f)
@@ -200,11 +200,11 @@ pub trait FunctionalSequence<T>: GenericSequence<T> {
         requires callable { MayZip Self.entry Rhs.entry F.pre F.step f.old (Self.items self) (Rhs.items rhs) }
         ensures len { IfOk result (λ made. length (Self.Mapped.Sequence.items made) ≡ Self.Length.USIZE) }
         ensures run { IfOk result (λ made.
-            ZipRun Self.entry Rhs.entry F.step f.old (Self.items self) (Rhs.items rhs)
-            (Self.Mapped.Sequence.items made) f.new) }
-        ensures acts { IfOk result (λ made.
-            ZipsAs Self.entry Rhs.entry F.step f.old (Self.items self) (Rhs.items rhs)
-            (Self.Mapped.Sequence.items made)) }
+            ClosureRun (CallAtPair Self.entry Rhs.entry F.step) f.old
+            (zip (Self.items self) (Rhs.items rhs)) (Self.Mapped.Sequence.items made) f.new) }
+        ensures acts { IfOk result (λ made. (h : T × B → U)
+            → ActsOnEntries Self.entry Rhs.entry F.step f.old h
+            → Self.Mapped.Sequence.items made ≡ map h (zip (Self.items self) (Rhs.items rhs))) }
         ensures err { OnErr result (f.new ≡ f.old) }
         ensures promised { Self.Mapped.IsPromised → IsOk result }
     {
@@ -216,7 +216,8 @@ pub trait FunctionalSequence<T>: GenericSequence<T> {
     final fn fold<A, F: FnMut(A, Self::Item) -> A>(self, init: A, mut f: F) -> A
         requires callable { MayFold Self.entry F.pre F.step f init (Self.items self) }
         ensures run { (last : F) × FoldRun (FoldAt Self.entry F.step) f init (Self.items self) result last }
-        ensures acts { FoldsAs Self.entry F.step f init (Self.items self) result }
+        ensures acts { (h : A → T → A) → ActsInFold Self.entry F.step f h
+            → result ≡ fold h init (Self.items self) }
     {
         self.fold_by(init, &mut f)
     }
@@ -226,7 +227,8 @@ pub trait FunctionalSequence<T>: GenericSequence<T> {
     final fn fold_by<A, F: FnMut(A, Self::Item) -> A>(self, init: A, f: &mut F) -> A
         requires callable { MayFold Self.entry F.pre F.step f.old init (Self.items self) }
         ensures run { FoldRun (FoldAt Self.entry F.step) f.old init (Self.items self) result f.new }
-        ensures acts { FoldsAs Self.entry F.step f.old init (Self.items self) result }
+        ensures acts { (h : A → T → A) → ActsInFold Self.entry F.step f.old h
+            → result ≡ fold h init (Self.items self) }
     {
         fold_entries::<T, Self::IntoIter, A, F>(entries_of(self), init, f)
     }
@@ -243,7 +245,8 @@ pub trait FunctionalSequence<T>: GenericSequence<T> {
         requires callable { MayTryFold Self.entry F.pre F.step f init (Self.items self) }
         ensures run { (last : F)
             × TryFoldRun (FoldAt Self.entry F.step) f init (Self.items self) result last }
-        ensures acts { TryFoldsAs Self.entry F.step f init (Self.items self) result }
+        ensures acts { (h : A → T → Result A E) → ActsInFold Self.entry F.step f h
+            → result ≡ try_fold h init (Self.items self) }
     {
         self.try_fold_by(init, &mut f)
     }
@@ -257,7 +260,8 @@ pub trait FunctionalSequence<T>: GenericSequence<T> {
     ) -> Result<A, E>
         requires callable { MayTryFold Self.entry F.pre F.step f.old init (Self.items self) }
         ensures run { TryFoldRun (FoldAt Self.entry F.step) f.old init (Self.items self) result f.new }
-        ensures acts { TryFoldsAs Self.entry F.step f.old init (Self.items self) result }
+        ensures acts { (h : A → T → Result A E) → ActsInFold Self.entry F.step f.old h
+            → result ≡ try_fold h init (Self.items self) }
     {
         try_fold_entries::<T, Self::IntoIter, A, E, F>(entries_of(self), init, f)
     }

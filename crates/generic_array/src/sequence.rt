@@ -1,13 +1,15 @@
 //! What is common to the kinds of sequences, and how each is made.
 ghost use Rattle.ga_core.specs.Views.{items_of_view};
-ghost use Rattle.ga_core.specs.Maps.{GenerateRun, GeneratesAs, TryGenerateRun, TryGeneratesAs};
 ghost use Rattle.ga_boxed.specs.FillAnswer.{fill_answer};
+ghost use Rattle.ga_core.specs.Calls.{MayFold, MayGenerate, MayTryGenerate};
 ghost use Rattle.ga_core.specs.Copies.{Repeats};
 ghost use Rattle.ga_core.specs.Fill.{FillFalliblyRuns, FillsFallibly};
-ghost use Rattle.ga_core.specs.Runs.{CallableAlong, CallableInFold, CallableUntilError, FoldRun};
+ghost use Rattle.ga_core.specs.Runs.{ClosureRun, FirstErrorRun, FoldRun};
+ghost use Rattle.ga_core.specs.Tries.{try_map};
 ghost use Rattle.generic_array.specs.Built.{built_items};
 ghost use Rattle.generic_array.specs.GivenEntries.{GivesEntriesOf};
-ghost use Rattle.std.specs.Iterator.{ActsAsOnTwo};
+ghost use Rattle.std.specs.Iterator.{ActsAs, ActsAsOnTwo};
+ghost use Rattle.std.specs.List.{range_with_len};
 ghost use Rattle.std.specs.Prelude.{◌≡◌, ℕ, ◌≤◌, ◌↔◌, IfOk, IsOk, IsTrue, OnErr, Result, fold, length, map, replicate};
 
 mod boxed;
@@ -33,7 +35,7 @@ pub type SequenceItem<S> = <S as IntoIterator>::Item;
 pub trait OwnedSequence<T>: Sized + AsSlice<T> + IntoIterator<Item = T> {
     /// The fold by `f`, from `init`, over the items, from the first to the last.
     final fn fold_items<A, F: FnMut(A, T) -> A>(self, init: A, mut f: F) -> A
-        requires callable { CallableInFold F.pre F.step f init (Self.items self) }
+        requires callable { MayFold (λ item. item) F.pre F.step f init (Self.items self) }
         ensures run { (last : F) × FoldRun F.step f init (Self.items self) result last }
         ensures acts { (h : A → T → A) → ActsAsOnTwo F.FnMut f h → result ≡ fold h init (Self.items self) }
     {
@@ -43,7 +45,7 @@ pub trait OwnedSequence<T>: Sized + AsSlice<T> + IntoIterator<Item = T> {
     /// `fold_items` that borrows the closure, which can be used again in the state that it
     /// reached.
     final fn fold_items_by<A, F: FnMut(A, T) -> A>(self, init: A, f: &mut F) -> A
-        requires callable { CallableInFold F.pre F.step f.old init (Self.items self) }
+        requires callable { MayFold (λ item. item) F.pre F.step f.old init (Self.items self) }
         ensures run { FoldRun F.step f.old init (Self.items self) result f.new }
         ensures acts { (h : A → T → A) → ActsAsOnTwo F.FnMut f.old h
             → result ≡ fold h init (Self.items self) }
@@ -101,12 +103,12 @@ pub trait GenericSequence<T>: Sized + AsSlice<T> + IntoIterator {
         mut f: F,
     ) -> Result<Self::Sequence, Self::Error>
         requires fits { Fits }
-        requires callable { CallableAlong F.pre F.step f Self.Length.USIZE }
+        requires callable { MayGenerate F.pre F.step f Self.Length.USIZE }
         ensures len { IfOk result (λ made. length (Self.Sequence.items made) ≡ Self.Length.USIZE) }
-        ensures run { (last : F)
-            × IfOk result (λ made. GenerateRun F.step f Self.Length.USIZE (Self.Sequence.items made) last) }
-        ensures acts { IfOk result (λ made.
-            GeneratesAs F.FnMut f Self.Length.USIZE (Self.Sequence.items made)) }
+        ensures run { (last : F) × IfOk result (λ made.
+            ClosureRun F.step f (range_with_len 0 Self.Length.USIZE) (Self.Sequence.items made) last) }
+        ensures acts { IfOk result (λ made. (h : ℕ → T) → ActsAs F.FnMut f h
+            → Self.Sequence.items made ≡ map h (range_with_len 0 Self.Length.USIZE)) }
         ensures promised { IsPromised → IsOk result }
     {
         Self::generate_by(place, &mut f)
@@ -118,12 +120,12 @@ pub trait GenericSequence<T>: Sized + AsSlice<T> + IntoIterator {
         f: &mut F,
     ) -> Result<Self::Sequence, Self::Error>
         requires fits { Fits }
-        requires callable { CallableAlong F.pre F.step f.old Self.Length.USIZE }
+        requires callable { MayGenerate F.pre F.step f.old Self.Length.USIZE }
         ensures len { IfOk result (λ made. length (Self.Sequence.items made) ≡ Self.Length.USIZE) }
         ensures run { IfOk result (λ made.
-            GenerateRun F.step f.old Self.Length.USIZE (Self.Sequence.items made) f.new) }
-        ensures acts { IfOk result (λ made.
-            GeneratesAs F.FnMut f.old Self.Length.USIZE (Self.Sequence.items made)) }
+            ClosureRun F.step f.old (range_with_len 0 Self.Length.USIZE) (Self.Sequence.items made) f.new) }
+        ensures acts { IfOk result (λ made. (h : ℕ → T) → ActsAs F.FnMut f.old h
+            → Self.Sequence.items made ≡ map h (range_with_len 0 Self.Length.USIZE)) }
         ensures err { OnErr result (f.new ≡ f.old) }
         ensures promised { IsPromised → IsOk result };
 
@@ -160,13 +162,14 @@ pub trait FallibleGenericSequence<T>: GenericSequence<T> {
         mut f: F,
     ) -> Result<Result<Self::Sequence, E>, Self::Error>
         requires fits { Self.Fits }
-        requires callable { CallableUntilError F.pre F.step f Self.Length.USIZE }
+        requires callable { MayTryGenerate F.pre F.step f Self.Length.USIZE }
         ensures len { IfOk result (λ built.
             IfOk built (λ made. length (Self.Sequence.items made) ≡ Self.Length.USIZE)) }
         ensures run { (last : F) × IfOk result (λ built.
-            TryGenerateRun F.step f Self.Length.USIZE (built_items Self.Sequence.items built) last) }
-        ensures acts { IfOk result (λ built.
-            TryGeneratesAs F.FnMut f Self.Length.USIZE (built_items Self.Sequence.items built)) }
+            FirstErrorRun F.step f (range_with_len 0 Self.Length.USIZE)
+            (built_items Self.Sequence.items built) last) }
+        ensures acts { IfOk result (λ built. (h : ℕ → Result T E) → ActsAs F.FnMut f h
+            → built_items Self.Sequence.items built ≡ try_map h (range_with_len 0 Self.Length.USIZE)) }
         ensures promised { Self.IsPromised → IsOk result }
     {
         Self::try_generate_by(place, &mut f)
@@ -179,13 +182,14 @@ pub trait FallibleGenericSequence<T>: GenericSequence<T> {
         f: &mut F,
     ) -> Result<Result<Self::Sequence, E>, Self::Error>
         requires fits { Self.Fits }
-        requires callable { CallableUntilError F.pre F.step f.old Self.Length.USIZE }
+        requires callable { MayTryGenerate F.pre F.step f.old Self.Length.USIZE }
         ensures len { IfOk result (λ built.
             IfOk built (λ made. length (Self.Sequence.items made) ≡ Self.Length.USIZE)) }
         ensures run { IfOk result (λ built.
-            TryGenerateRun F.step f.old Self.Length.USIZE (built_items Self.Sequence.items built) f.new) }
-        ensures acts { IfOk result (λ built.
-            TryGeneratesAs F.FnMut f.old Self.Length.USIZE (built_items Self.Sequence.items built)) }
+            FirstErrorRun F.step f.old (range_with_len 0 Self.Length.USIZE)
+            (built_items Self.Sequence.items built) f.new) }
+        ensures acts { IfOk result (λ built. (h : ℕ → Result T E) → ActsAs F.FnMut f.old h
+            → built_items Self.Sequence.items built ≡ try_map h (range_with_len 0 Self.Length.USIZE)) }
         ensures err { OnErr result (f.new ≡ f.old) }
         ensures promised { Self.IsPromised → IsOk result };
 }

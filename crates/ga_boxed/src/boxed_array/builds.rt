@@ -1,9 +1,12 @@
 //! Boxed arrays built from a closure or an iterator. Memory comes first in each.
-ghost use Rattle.ga_core.specs.Maps.{GenerateRun, GeneratesAs, TryGenerateRun, TryGeneratesAs};
 ghost use Rattle.ga_boxed.specs.FillAnswer.{fill_answer};
+ghost use Rattle.ga_core.specs.Calls.{MayGenerate, MayTryGenerate};
 ghost use Rattle.ga_core.specs.Fill.{Asks, FillFalliblyRuns, FillRuns, Fills, FillsFallibly};
-ghost use Rattle.ga_core.specs.Runs.{CallableAlong, CallableUntilError};
-ghost use Rattle.std.specs.Prelude.{◌≡◌, ℕ, ◌+◌, IfOk, IsOk, OnErr, OnOk, Result};
+ghost use Rattle.ga_core.specs.Runs.{ClosureRun, FirstErrorRun};
+ghost use Rattle.ga_core.specs.Tries.{try_map};
+ghost use Rattle.std.specs.Iterator.{ActsAs};
+ghost use Rattle.std.specs.List.{range_with_len};
+ghost use Rattle.std.specs.Prelude.{◌≡◌, ℕ, ◌+◌, IfOk, IsOk, OnErr, OnOk, Result, map};
 
 use crate::boxed_array::BoxedArray;
 use crate::live_block::LiveBlock;
@@ -16,9 +19,11 @@ impl<T, N: Unsigned> BoxedArray<T, N> {
     /// Allocates the whole block first: if that fails, `f` is never called. Allocates nothing if
     /// `N` is 0.
     pub fn generate<F: FnMut(usize) -> T>(alloc: Global, mut f: F) -> Result<Self, AllocError>
-        requires callable { CallableAlong F.pre F.step f N.USIZE }
-        ensures run { (last : F) × IfOk result (λ array. GenerateRun F.step f N.USIZE array last) }
-        ensures acts { IfOk result (λ array. GeneratesAs F.FnMut f N.USIZE array) }
+        requires callable { MayGenerate F.pre F.step f N.USIZE }
+        ensures run { (last : F) × IfOk result (λ array.
+            ClosureRun F.step f (range_with_len 0 N.USIZE) array last) }
+        ensures acts { IfOk result (λ array. (h : ℕ → T) → ActsAs F.FnMut f h
+            → array ≡ map h (range_with_len 0 N.USIZE)) }
         ensures empty { N.USIZE ≡ 0 → IsOk result }
     {
         Self::generate_by(alloc, &mut f)
@@ -26,9 +31,11 @@ impl<T, N: Unsigned> BoxedArray<T, N> {
 
     /// `generate` that borrows the closure, which can be used again in the state that it reached.
     pub fn generate_by<F: FnMut(usize) -> T>(alloc: Global, f: &mut F) -> Result<Self, AllocError>
-        requires callable { CallableAlong F.pre F.step f.old N.USIZE }
-        ensures run { IfOk result (λ array. GenerateRun F.step f.old N.USIZE array f.new) }
-        ensures acts { IfOk result (λ array. GeneratesAs F.FnMut f.old N.USIZE array) }
+        requires callable { MayGenerate F.pre F.step f.old N.USIZE }
+        ensures run { IfOk result (λ array.
+            ClosureRun F.step f.old (range_with_len 0 N.USIZE) array f.new) }
+        ensures acts { IfOk result (λ array. (h : ℕ → T) → ActsAs F.FnMut f.old h
+            → array ≡ map h (range_with_len 0 N.USIZE)) }
         ensures err { OnErr result (f.new ≡ f.old) }
         ensures empty { N.USIZE ≡ 0 → IsOk result }
     {
@@ -48,9 +55,11 @@ impl<T: Drop, N: Unsigned> BoxedArray<T, N> {
         alloc: Global,
         mut f: F,
     ) -> Result<Result<Self, E>, AllocError>
-        requires callable { CallableUntilError F.pre F.step f N.USIZE }
-        ensures run { (last : F) × IfOk result (λ built. TryGenerateRun F.step f N.USIZE built last) }
-        ensures acts { IfOk result (λ built. TryGeneratesAs F.FnMut f N.USIZE built) }
+        requires callable { MayTryGenerate F.pre F.step f N.USIZE }
+        ensures run { (last : F) × IfOk result (λ built.
+            FirstErrorRun F.step f (range_with_len 0 N.USIZE) built last) }
+        ensures acts { IfOk result (λ built. (h : ℕ → Result T E) → ActsAs F.FnMut f h
+            → built ≡ try_map h (range_with_len 0 N.USIZE)) }
         ensures empty { N.USIZE ≡ 0 → IsOk result }
     {
         Self::try_generate_by(alloc, &mut f)
@@ -62,9 +71,11 @@ impl<T: Drop, N: Unsigned> BoxedArray<T, N> {
         alloc: Global,
         f: &mut F,
     ) -> Result<Result<Self, E>, AllocError>
-        requires callable { CallableUntilError F.pre F.step f.old N.USIZE }
-        ensures run { IfOk result (λ built. TryGenerateRun F.step f.old N.USIZE built f.new) }
-        ensures acts { IfOk result (λ built. TryGeneratesAs F.FnMut f.old N.USIZE built) }
+        requires callable { MayTryGenerate F.pre F.step f.old N.USIZE }
+        ensures run { IfOk result (λ built.
+            FirstErrorRun F.step f.old (range_with_len 0 N.USIZE) built f.new) }
+        ensures acts { IfOk result (λ built. (h : ℕ → Result T E) → ActsAs F.FnMut f.old h
+            → built ≡ try_map h (range_with_len 0 N.USIZE)) }
         ensures err { OnErr result (f.new ≡ f.old) }
         ensures empty { N.USIZE ≡ 0 → IsOk result }
     {

@@ -1,9 +1,9 @@
 //! Closure calls run in order and stop at the first error.
-ghost use Rattle.generic_array.specs.Maps.{MapRun, MayFold, MayMap, MayTryMap, MayZip, TryMapRun, ZipRun};
 ghost use Rattle.generic_array.specs.Built.{built_items};
-ghost use Rattle.generic_array.specs.Entries.{FoldAt};
+ghost use Rattle.generic_array.specs.Calls.{MayFold, MayMap, MayTryMap, MayZip};
+ghost use Rattle.generic_array.specs.Entries.{CallAt, CallAtPair, FoldAt};
 ghost use Rattle.generic_array.specs.EntryRuns.{MayTryFold, TryFoldRun};
-ghost use Rattle.generic_array.specs.Runs.{FoldRun};
+ghost use Rattle.generic_array.specs.Runs.{ClosureRun, FirstErrorRun, FoldRun};
 ghost use Rattle.std.specs.List.{zip};
 ghost use Rattle.std.specs.Prelude.{◌≡◌, IfOk, IsOk, length};
 
@@ -25,7 +25,7 @@ where
     requires fits { S.Mapped.Fits }
     requires callable { MayMap S.entry F.pre F.step f.old (S.items s) }
     ensures run { IfOk result (λ made.
-        MapRun S.entry F.step f.old (S.items s) (S.Mapped.Sequence.items made) f.new) }
+        ClosureRun (CallAt S.entry F.step) f.old (S.items s) (S.Mapped.Sequence.items made) f.new) }
 {
     s.map_by(place, f)
 }
@@ -45,7 +45,7 @@ where
     requires fits { S.Mapped.Fits }
     requires callable { MayZip S.entry Rhs.entry F.pre F.step f.old (S.items s) (Rhs.items rhs) }
     ensures run { IfOk result (λ made.
-        ZipRun S.entry Rhs.entry F.step f.old (S.items s) (Rhs.items rhs)
+        ClosureRun (CallAtPair S.entry Rhs.entry F.step) f.old (zip (S.items s) (Rhs.items rhs))
         (S.Mapped.Sequence.items made) f.new) }
 {
     s.zip_by(place, rhs, f)
@@ -75,7 +75,8 @@ where
     requires fits { S.Mapped.Fits }
     requires callable { MayTryMap S.entry F.pre F.step f.old (S.items s) }
     ensures run { IfOk result (λ built.
-        TryMapRun S.entry F.step f.old (S.items s) (built_items S.Mapped.Sequence.items built) f.new) }
+        FirstErrorRun (CallAt S.entry F.step) f.old (S.items s)
+        (built_items S.Mapped.Sequence.items built) f.new) }
 {
     s.try_map_by(place, f)
 }

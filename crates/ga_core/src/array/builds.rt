@@ -1,9 +1,12 @@
 //! Arrays built from a closure or an iterator.
-ghost use Rattle.ga_core.specs.Maps.{GenerateRun, GeneratesAs, TryGenerateRun, TryGeneratesAs};
-ghost use Rattle.ga_core.specs.Calls.{MayCallAlong, MayCallAlongUntilError};
+ghost use Rattle.ga_core.specs.Calls.{MayGenerate, MayTryGenerate};
 ghost use Rattle.ga_core.specs.Fill.{Asks, FillFalliblyRuns, FillRuns, Fills, FillsFallibly};
+ghost use Rattle.ga_core.specs.Runs.{ClosureRun, FirstErrorRun};
+ghost use Rattle.ga_core.specs.Tries.{try_map};
 ghost use Rattle.ga_views.specs.Length.{FitsInline};
-ghost use Rattle.std.specs.Prelude.{◌≡◌, ℕ, ◌+◌, IfOk, OnErr, Result};
+ghost use Rattle.std.specs.Iterator.{ActsAs};
+ghost use Rattle.std.specs.List.{range_with_len};
+ghost use Rattle.std.specs.Prelude.{◌≡◌, ℕ, ◌+◌, IfOk, OnErr, Result, map};
 
 use crate::array::GenericArray;
 use crate::builder::ArrayBuilder;
@@ -17,9 +20,9 @@ impl<T: Default + Drop, N: ArrayLength<T>> GenericArray<T, N> {
     /// Requires `N <= MAX_INLINE`. Allocates nothing.
     pub fn generate<F: FnMut(usize) -> T>(mut f: F) -> Self
         requires fits { FitsInline N.USIZE }
-        requires callable { MayCallAlong F.pre F.step f N.USIZE }
-        ensures run { (last : F) × GenerateRun F.step f N.USIZE result last }
-        ensures acts { GeneratesAs F.FnMut f N.USIZE result }
+        requires callable { MayGenerate F.pre F.step f N.USIZE }
+        ensures run { (last : F) × ClosureRun F.step f (range_with_len 0 N.USIZE) result last }
+        ensures acts { (h : ℕ → T) → ActsAs F.FnMut f h → result ≡ map h (range_with_len 0 N.USIZE) }
     {
         Self::generate_by(&mut f)
     }
@@ -27,9 +30,9 @@ impl<T: Default + Drop, N: ArrayLength<T>> GenericArray<T, N> {
     /// `generate` that borrows the closure, which can be used again in the state that it reached.
     pub fn generate_by<F: FnMut(usize) -> T>(f: &mut F) -> Self
         requires fits { FitsInline N.USIZE }
-        requires callable { MayCallAlong F.pre F.step f.old N.USIZE }
-        ensures run { GenerateRun F.step f.old N.USIZE result f.new }
-        ensures acts { GeneratesAs F.FnMut f.old N.USIZE result }
+        requires callable { MayGenerate F.pre F.step f.old N.USIZE }
+        ensures run { ClosureRun F.step f.old (range_with_len 0 N.USIZE) result f.new }
+        ensures acts { (h : ℕ → T) → ActsAs F.FnMut f.old h → result ≡ map h (range_with_len 0 N.USIZE) }
     {
         let mut array = Self::default();
         write_answers(array.as_mut_slice(), f);
@@ -41,9 +44,10 @@ impl<T: Default + Drop, N: ArrayLength<T>> GenericArray<T, N> {
     /// No call follows an error, and the items made before it are dropped.
     pub fn try_generate<F: FnMut(usize) -> Result<T, E>, E>(mut f: F) -> Result<Self, E>
         requires fits { FitsInline N.USIZE }
-        requires callable { MayCallAlongUntilError F.pre F.step f N.USIZE }
-        ensures run { (last : F) × TryGenerateRun F.step f N.USIZE result last }
-        ensures acts { TryGeneratesAs F.FnMut f N.USIZE result }
+        requires callable { MayTryGenerate F.pre F.step f N.USIZE }
+        ensures run { (last : F) × FirstErrorRun F.step f (range_with_len 0 N.USIZE) result last }
+        ensures acts { (h : ℕ → Result T E) → ActsAs F.FnMut f h
+            → result ≡ try_map h (range_with_len 0 N.USIZE) }
     {
         Self::try_generate_by(&mut f)
     }
@@ -52,9 +56,10 @@ impl<T: Default + Drop, N: ArrayLength<T>> GenericArray<T, N> {
     /// reached.
     pub fn try_generate_by<F: FnMut(usize) -> Result<T, E>, E>(f: &mut F) -> Result<Self, E>
         requires fits { FitsInline N.USIZE }
-        requires callable { MayCallAlongUntilError F.pre F.step f.old N.USIZE }
-        ensures run { TryGenerateRun F.step f.old N.USIZE result f.new }
-        ensures acts { TryGeneratesAs F.FnMut f.old N.USIZE result }
+        requires callable { MayTryGenerate F.pre F.step f.old N.USIZE }
+        ensures run { FirstErrorRun F.step f.old (range_with_len 0 N.USIZE) result f.new }
+        ensures acts { (h : ℕ → Result T E) → ActsAs F.FnMut f.old h
+            → result ≡ try_map h (range_with_len 0 N.USIZE) }
     {
         let mut array = Self::default();
         match try_write_answers(array.as_mut_slice(), f) {

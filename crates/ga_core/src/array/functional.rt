@@ -2,10 +2,8 @@
 //!
 //! The traits of `generic_array` have `map`, `try_map` and `zip` for every kind of sequence. These calls
 //! name their types, so that who writes one has less to prove.
-ghost use Rattle.ga_views.specs.Views.{items_of_view};
-ghost use Rattle.ga_core.specs.Maps.{ZipRun, ZipsAs};
-ghost use Rattle.ga_core.specs.Calls.{MayCallOver, MayCallOverEntryPairs, MayCallOverPairs, MayCallOverUntilError};
-ghost use Rattle.ga_core.specs.Entries.{ActsOnPair, CallOnPair};
+ghost use Rattle.ga_core.specs.Calls.{MayMap, MayTryMap, MayZip};
+ghost use Rattle.ga_core.specs.Entries.{ActsOnEntries, CallAtPair};
 ghost use Rattle.ga_core.specs.Runs.{ClosureRun, FirstErrorRun};
 ghost use Rattle.ga_core.specs.Tries.{try_map};
 ghost use Rattle.std.specs.Iterator.{ActsAs};
@@ -14,8 +12,7 @@ ghost use Rattle.std.specs.Prelude.{◌≡◌, Result, map};
 
 use crate::array::GenericArray;
 use crate::length::ArrayLength;
-use crate::mapping::{try_write_mapped, write_mapped, write_zipped, write_zipped_ref};
-use ga_views::GenericArrayRef;
+use crate::mapping::{try_write_mapped, write_mapped, write_zipped};
 
 impl<T: Default + Drop, N: ArrayLength<T>> GenericArray<T, N> {
     /// The array of what `f` returns at each item, called in order. Takes the items by value.
@@ -25,7 +22,7 @@ impl<T: Default + Drop, N: ArrayLength<T>> GenericArray<T, N> {
     pub fn map_inline<U: Default + Drop, F: FnMut(T) -> U>(self, mut f: F) -> GenericArray<U, N>
     where
         N: ArrayLength<U>,
-        requires callable { MayCallOver F.pre F.step f self }
+        requires callable { MayMap (λ item. item) F.pre F.step f self }
         ensures run { (last : F) × ClosureRun F.step f self result last }
         ensures acts { (h : T → U) → ActsAs F.FnMut f h → result ≡ map h self }
     {
@@ -40,7 +37,7 @@ impl<T: Default + Drop, N: ArrayLength<T>> GenericArray<T, N> {
     ) -> GenericArray<U, N>
     where
         N: ArrayLength<U>,
-        requires callable { MayCallOver F.pre F.step f.old self }
+        requires callable { MayMap (λ item. item) F.pre F.step f.old self }
         ensures run { ClosureRun F.step f.old self result f.new }
         ensures acts { (h : T → U) → ActsAs F.FnMut f.old h → result ≡ map h self }
     {
@@ -59,7 +56,7 @@ impl<T: Default + Drop, N: ArrayLength<T>> GenericArray<T, N> {
     ) -> Result<GenericArray<U, N>, E>
     where
         N: ArrayLength<U>,
-        requires callable { MayCallOverUntilError F.pre F.step f self }
+        requires callable { MayTryMap (λ item. item) F.pre F.step f self }
         ensures run { (last : F) × FirstErrorRun F.step f self result last }
         ensures acts { (h : T → Result U E) → ActsAs F.FnMut f h → result ≡ try_map h self }
     {
@@ -74,7 +71,7 @@ impl<T: Default + Drop, N: ArrayLength<T>> GenericArray<T, N> {
     ) -> Result<GenericArray<U, N>, E>
     where
         N: ArrayLength<U>,
-        requires callable { MayCallOverUntilError F.pre F.step f.old self }
+        requires callable { MayTryMap (λ item. item) F.pre F.step f.old self }
         ensures run { FirstErrorRun F.step f.old self result f.new }
         ensures acts { (h : T → Result U E) → ActsAs F.FnMut f.old h → result ≡ try_map h self }
     {
@@ -97,9 +94,11 @@ impl<T: Default + Drop, N: ArrayLength<T>> GenericArray<T, N> {
     ) -> GenericArray<U, N>
     where
         N: ArrayLength<B> + ArrayLength<U>,
-        requires callable { MayCallOverPairs F.pre F.step f (zip self rhs) }
-        ensures run { (last : F) × ClosureRun (CallOnPair F.step) f (zip self rhs) result last }
-        ensures acts { (h : T × B → U) → ActsOnPair F.step f h → result ≡ map h (zip self rhs) }
+        requires callable { MayZip (λ item. item) (λ item. item) F.pre F.step f self rhs }
+        ensures run { (last : F)
+            × ClosureRun (CallAtPair (λ item. item) (λ item. item) F.step) f (zip self rhs) result last }
+        ensures acts { (h : T × B → U) → ActsOnEntries (λ item. item) (λ item. item) F.step f h
+            → result ≡ map h (zip self rhs) }
     {
         self.zip_inline_by(rhs, &mut f)
     }
@@ -113,59 +112,16 @@ impl<T: Default + Drop, N: ArrayLength<T>> GenericArray<T, N> {
     ) -> GenericArray<U, N>
     where
         N: ArrayLength<B> + ArrayLength<U>,
-        requires callable { MayCallOverPairs F.pre F.step f.old (zip self rhs) }
-        ensures run { ClosureRun (CallOnPair F.step) f.old (zip self rhs) result f.new }
-        ensures acts { (h : T × B → U) → ActsOnPair F.step f.old h → result ≡ map h (zip self rhs) }
+        requires callable { MayZip (λ item. item) (λ item. item) F.pre F.step f.old self rhs }
+        ensures run { ClosureRun (CallAtPair (λ item. item) (λ item. item) F.step) f.old (zip self rhs)
+            result f.new }
+        ensures acts { (h : T × B → U) → ActsOnEntries (λ item. item) (λ item. item) F.step f.old h
+            → result ≡ map h (zip self rhs) }
     {
         let mut made = GenericArray::<U, N>::default();
         write_zipped(
             self.as_mut_slice(),
             rhs.as_mut_slice(),
-            made.as_mut_slice(),
-            f,
-        );
-        made.finished()
-    }
-
-    /// `zip_inline` with a view as the right-hand side, whose items are borrowed.
-    #[inline(always)]
-    pub fn zip_inline_ref<B, U: Default + Drop, F: FnMut(T, &B) -> U>(
-        self,
-        rhs: GenericArrayRef<'_, B, N>,
-        mut f: F,
-    ) -> GenericArray<U, N>
-    where
-        N: ArrayLength<U>,
-        requires callable { MayCallOverEntryPairs (λ item. item) (λ item. item.now) F.pre F.step f
-            (zip self (items_of_view rhs)) }
-        ensures run { (last : F)
-            × ZipRun (λ item. item) (λ item. item.now) F.step f self (items_of_view rhs.entry) result last }
-        ensures acts { ZipsAs (λ item. item) (λ item. item.now) F.step f self
-            (items_of_view rhs.entry) result }
-    {
-        self.zip_inline_ref_by(rhs, &mut f)
-    }
-
-    /// `zip_inline_ref` with a borrowed closure, which can be used again in the state that it reached.
-    #[inline(always)]
-    pub fn zip_inline_ref_by<B, U: Default + Drop, F: FnMut(T, &B) -> U>(
-        mut self,
-        rhs: GenericArrayRef<'_, B, N>,
-        f: &mut F,
-    ) -> GenericArray<U, N>
-    where
-        N: ArrayLength<U>,
-        requires callable { MayCallOverEntryPairs (λ item. item) (λ item. item.now) F.pre F.step f.old
-            (zip self (items_of_view rhs)) }
-        ensures run { ZipRun (λ item. item) (λ item. item.now) F.step f.old self
-            (items_of_view rhs.entry) result f.new }
-        ensures acts { ZipsAs (λ item. item) (λ item. item.now) F.step f.old self
-            (items_of_view rhs.entry) result }
-    {
-        let mut made = GenericArray::<U, N>::default();
-        write_zipped_ref(
-            self.as_mut_slice(),
-            rhs.into_slice(),
             made.as_mut_slice(),
             f,
         );

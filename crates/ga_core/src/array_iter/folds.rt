@@ -1,5 +1,6 @@
 //! Folds over the items that are left, from either end.
-ghost use Rattle.ga_core.specs.Runs.{CallableInFold, FoldRun};
+ghost use Rattle.ga_core.specs.Calls.{MayFold};
+ghost use Rattle.ga_core.specs.Runs.{FoldRun};
 ghost use Rattle.std.specs.Iterator.{ActsAsOnTwo};
 ghost use Rattle.std.specs.Prelude.{◌≡◌, fold, reverse};
 
@@ -12,7 +13,7 @@ impl<T: Default + Drop, N: ArrayLength<T>> GenericArrayIter<T, N> {
     /// Folds the items that are left into one value, from the front, starting from `init`. One
     /// pass.
     pub fn fold<A, F: FnMut(A, T) -> A>(self, init: A, mut f: F) -> A
-        requires callable { CallableInFold F.pre F.step f init self }
+        requires callable { MayFold (λ item. item) F.pre F.step f init self }
         ensures run { (last : F) × FoldRun F.step f init self result last }
         ensures acts { (h : A → T → A) → ActsAsOnTwo F.FnMut f h → result ≡ fold h init self }
     {
@@ -22,7 +23,7 @@ impl<T: Default + Drop, N: ArrayLength<T>> GenericArrayIter<T, N> {
     /// `fold` that borrows the closure, which can be used again in the state that it reached. One
     /// pass.
     pub fn fold_by<A, F: FnMut(A, T) -> A>(mut self, init: A, f: &mut F) -> A
-        requires callable { CallableInFold F.pre F.step f.old init self }
+        requires callable { MayFold (λ item. item) F.pre F.step f.old init self }
         ensures run { FoldRun F.step f.old init self result f.new }
         ensures acts { (h : A → T → A) → ActsAsOnTwo F.FnMut f.old h → result ≡ fold h init self }
     {
@@ -35,7 +36,7 @@ impl<T: Default + Drop, N: ArrayLength<T>> GenericArrayIter<T, N> {
 
     /// `fold` from the back. One pass.
     pub fn rfold<A, F: FnMut(A, T) -> A>(self, init: A, mut f: F) -> A
-        requires callable { CallableInFold F.pre F.step f init (reverse self) }
+        requires callable { MayFold (λ item. item) F.pre F.step f init (reverse self) }
         ensures run { (last : F) × FoldRun F.step f init (reverse self) result last }
         ensures acts { (h : A → T → A) → ActsAsOnTwo F.FnMut f h → result ≡ fold h init (reverse self) }
     {
@@ -45,7 +46,7 @@ impl<T: Default + Drop, N: ArrayLength<T>> GenericArrayIter<T, N> {
     /// `rfold` that borrows the closure, which can be used again in the state that it reached. One
     /// pass.
     pub fn rfold_by<A, F: FnMut(A, T) -> A>(mut self, init: A, f: &mut F) -> A
-        requires callable { CallableInFold F.pre F.step f.old init (reverse self) }
+        requires callable { MayFold (λ item. item) F.pre F.step f.old init (reverse self) }
         ensures run { FoldRun F.step f.old init (reverse self) result f.new }
         ensures acts { (h : A → T → A) → ActsAsOnTwo F.FnMut f.old h → result ≡ fold h init (reverse self) }
     {

@@ -1,6 +1,9 @@
 //! Zips told from the right side. Each is one function over the traits.
-ghost use Rattle.ga_core.specs.Maps.{MayZip, ZipRun, ZipsAs};
-ghost use Rattle.std.specs.Prelude.{◌≡◌, IfOk, IsOk, OnErr, length};
+ghost use Rattle.ga_core.specs.Calls.{MayZip};
+ghost use Rattle.ga_core.specs.Entries.{ActsOnEntries, CallAtPair};
+ghost use Rattle.ga_core.specs.Runs.{ClosureRun};
+ghost use Rattle.std.specs.List.{zip};
+ghost use Rattle.std.specs.Prelude.{◌≡◌, IfOk, IsOk, OnErr, length, map};
 
 use crate::functional::walks::{entries_of, zip_entries};
 use crate::functional::{Mapped, MappedError, MappedGenericSequence, MappedPlace, MappedSequence};
@@ -20,8 +23,11 @@ pub fn inverted_zip<
 where
     S::Length: ArrayLength<B> + ArrayLength<U>,
     requires callable { MayZip (λ item. item) S.entry F.pre F.step f lhs (S.items s) }
-    ensures run { (last : F) × ZipRun (λ item. item) S.entry F.step f lhs (S.items s) result last }
-    ensures acts { ZipsAs (λ item. item) S.entry F.step f lhs (S.items s) result }
+    ensures run { (last : F)
+        × ClosureRun (CallAtPair (λ item. item) S.entry F.step) f
+        (zip lhs (S.items s)) result last }
+    ensures acts { (h : B × T → U) → ActsOnEntries (λ item. item) S.entry F.step f h
+        → result ≡ map h (zip lhs (S.items s)) }
 {
     inverted_zip_by(s, lhs, &mut f)
 }
@@ -38,8 +44,10 @@ pub fn inverted_zip_by<
 where
     S::Length: ArrayLength<B> + ArrayLength<U>,
     requires callable { MayZip (λ item. item) S.entry F.pre F.step f.old lhs (S.items s) }
-    ensures run { ZipRun (λ item. item) S.entry F.step f.old lhs (S.items s) result f.new }
-    ensures acts { ZipsAs (λ item. item) S.entry F.step f.old lhs (S.items s) result }
+    ensures run { ClosureRun (CallAtPair (λ item. item) S.entry F.step) f.old
+        (zip lhs (S.items s)) result f.new }
+    ensures acts { (h : B × T → U) → ActsOnEntries (λ item. item) S.entry F.step f.old h
+        → result ≡ map h (zip lhs (S.items s)) }
 {
     always(zip_entries::<
         B,
@@ -75,10 +83,10 @@ pub fn inverted_zip2<
     requires callable { MayZip Lhs.entry S.entry F.pre F.step f (Lhs.items lhs) (S.items s) }
     ensures len { IfOk result (λ made. length (Lhs.Mapped.Sequence.items made) ≡ Lhs.Length.USIZE) }
     ensures run { (last : F) × IfOk result (λ made.
-        ZipRun Lhs.entry S.entry F.step f (Lhs.items lhs) (S.items s)
-        (Lhs.Mapped.Sequence.items made) last) }
-    ensures acts { IfOk result (λ made.
-        ZipsAs Lhs.entry S.entry F.step f (Lhs.items lhs) (S.items s) (Lhs.Mapped.Sequence.items made)) }
+        ClosureRun (CallAtPair Lhs.entry S.entry F.step) f
+        (zip (Lhs.items lhs) (S.items s)) (Lhs.Mapped.Sequence.items made) last) }
+    ensures acts { IfOk result (λ made. (h : B × T → U) → ActsOnEntries Lhs.entry S.entry F.step f h
+        → Lhs.Mapped.Sequence.items made ≡ map h (zip (Lhs.items lhs) (S.items s))) }
     ensures promised { Lhs.Mapped.IsPromised → IsOk result }
 {
     inverted_zip2_by(s, place, lhs, &mut f)
@@ -104,11 +112,10 @@ pub fn inverted_zip2_by<
     requires callable { MayZip Lhs.entry S.entry F.pre F.step f.old (Lhs.items lhs) (S.items s) }
     ensures len { IfOk result (λ made. length (Lhs.Mapped.Sequence.items made) ≡ Lhs.Length.USIZE) }
     ensures run { IfOk result (λ made.
-        ZipRun Lhs.entry S.entry F.step f.old (Lhs.items lhs) (S.items s)
-        (Lhs.Mapped.Sequence.items made) f.new) }
-    ensures acts { IfOk result (λ made.
-        ZipsAs Lhs.entry S.entry F.step f.old (Lhs.items lhs) (S.items s)
-        (Lhs.Mapped.Sequence.items made)) }
+        ClosureRun (CallAtPair Lhs.entry S.entry F.step) f.old
+        (zip (Lhs.items lhs) (S.items s)) (Lhs.Mapped.Sequence.items made) f.new) }
+    ensures acts { IfOk result (λ made. (h : B × T → U) → ActsOnEntries Lhs.entry S.entry F.step f.old h
+        → Lhs.Mapped.Sequence.items made ≡ map h (zip (Lhs.items lhs) (S.items s))) }
     ensures err { OnErr result (f.new ≡ f.old) }
     ensures promised { Lhs.Mapped.IsPromised → IsOk result }
 {

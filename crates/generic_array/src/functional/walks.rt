@@ -2,13 +2,13 @@
 //!
 //! The iterator is a type parameter of its own: a closure that holds a sequence's associated
 //! iterator isn't covered by the checker.
-ghost use Rattle.ga_core.specs.Maps.{MapRun, MayFold, MayMap, MayTryMap, MayZip, TryMapRun, ZipRun};
-ghost use Rattle.ga_core.specs.Runs.{CallableUntilError, FoldRun};
+ghost use Rattle.ga_core.specs.Calls.{MayFold, MayMap, MayTryGenerate, MayTryMap, MayZip};
+ghost use Rattle.ga_core.specs.Entries.{CallAt, CallAtPair, FoldAt};
+ghost use Rattle.ga_core.specs.Runs.{ClosureRun, FirstErrorRun, FoldRun};
 ghost use Rattle.generic_array.specs.Built.{built_items};
 ghost use Rattle.generic_array.specs.GivenEntries.{AllEntries, CallAtNext, CallAtNextPair, GivesEntries, MayCallAtNext, MayCallAtNextPair, SomeEntries, SomeEntriesOf};
-ghost use Rattle.ga_core.specs.Entries.{FoldAt};
 ghost use Rattle.generic_array.specs.EntryRuns.{FirstErrorRan, MayTryFold, TryFoldRun};
-ghost use Rattle.std.specs.List.{range_with_len};
+ghost use Rattle.std.specs.List.{range_with_len, zip};
 ghost use Rattle.std.specs.Prelude.{◌≡◌, IfOk, IsOk, List, OnErr, length};
 
 use crate::sequence::{FallibleGenericSequence, GenericSequence};
@@ -92,7 +92,7 @@ pub(super) fn map_entries<T, I: Iterator + Drop, U, M: GenericSequence<U>, F: Fn
     ensures run { (entry : I.Item → T) (values : List T)
         → GivesEntries I.can_next I.next_gives I.remaining entry entries values
         → length values ≡ M.Length.USIZE
-        → IfOk result (λ made. MapRun entry F.step f.old values (M.Sequence.items made) f.new) }
+        → IfOk result (λ made. ClosureRun (CallAt entry F.step) f.old values (M.Sequence.items made) f.new) }
     ensures err { OnErr result (f.new ≡ f.old) }
     ensures promised { M.IsPromised → IsOk result }
 {
@@ -130,7 +130,7 @@ fn try_build<U, E, M: FallibleGenericSequence<U>, G: FnMut(usize) -> Result<U, E
     g: &mut G,
 ) -> Result<Result<M::Sequence, E>, M::Error>
     requires fits { M.Fits }
-    requires callable { CallableUntilError G.pre G.step g.old M.Length.USIZE }
+    requires callable { MayTryGenerate G.pre G.step g.old M.Length.USIZE }
     ensures err { OnErr result (g.new ≡ g.old) }
     ensures run { IfOk result (λ built.
         FirstErrorRan G.step g.old (range_with_len 0 M.Length.USIZE)
@@ -161,7 +161,7 @@ pub(super) fn try_map_entries<
         → GivesEntries I.can_next I.next_gives I.remaining entry entries values
         → length values ≡ M.Length.USIZE
         → IfOk result (λ built.
-        TryMapRun entry F.step f.old values (built_items M.Sequence.items built) f.new) }
+        FirstErrorRun (CallAt entry F.step) f.old values (built_items M.Sequence.items built) f.new) }
     ensures err { OnErr result (f.new ≡ f.old) }
     ensures promised { M.IsPromised → IsOk result }
 {
@@ -218,7 +218,8 @@ pub(super) fn zip_entries<
         → GivesEntries I.can_next I.next_gives I.remaining entry left values
         → GivesEntries J.can_next J.next_gives J.remaining other right others
         → length values ≡ M.Length.USIZE → length others ≡ M.Length.USIZE
-        → IfOk result (λ made. ZipRun entry other F.step f.old values others (M.Sequence.items made) f.new) }
+        → IfOk result (λ made. ClosureRun (CallAtPair entry other F.step) f.old (zip values others)
+        (M.Sequence.items made) f.new) }
     ensures err { OnErr result (f.new ≡ f.old) }
     ensures promised { M.IsPromised → IsOk result }
 {

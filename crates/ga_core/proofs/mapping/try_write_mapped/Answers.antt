@@ -1,11 +1,14 @@
+use Rattle.ga_core.proofs.CallLemmas.{ClosureRun-of_items, may_try_map-at}
 use Rattle.ga_core.proofs.NextCalls.{cut-next, run-of_all, taken-next}
 use Rattle.ga_core.proofs.RunLemmas.{ClosureRun-good, FirstErrorRun-error, FirstErrorRun-good}
 use Rattle.ga_core.proofs.mapping.try_write_mapped.Goals as goal
 use Rattle.ga_core.specs.Runs.{ClosureRun, FirstErrorRun}
-use Rattle.std.proofs.Common.{Err, Ok, arith, map, subst, sym, take}
+use Rattle.std.proofs.Common.{Err, Ok, arith, map, refl, subst, sym, take}
 
 pub f-requires : goal.f-requires
-f-requires g c = c.requires.callable _ c.take.result _ (take c.loop-index.index c.loop-index.slots) _ (cut-next c.loop-index.invariant (omega arith) c.index-items-index.is c.take.ensures.value) c.loop-index.invariant.run
+f-requires g c =
+    let run = ClosureRun-of_items _ _ _ _ _ c.loop-index.invariant.run in
+    may_try_map-at (λ item. item) _ _ _ _ c.requires.callable _ c.take.result _ (take c.loop-index.index c.loop-index.slots) _ (cut-next c.loop-index.invariant (omega arith) c.index-items-index.is c.take.ensures.value) run _ refl
 
 pub loop-index-preserved : goal.loop-index-preserved
 loop-index-preserved g c =

@@ -1,3 +1,4 @@
+use Rattle.ga_core.proofs.CallLemmas.{may_try_map-at}
 use Rattle.ga_core.proofs.NextCalls.{cut-next, read-next, run-of_all}
 use Rattle.ga_core.proofs.RunLemmas.{ClosureRun-good, FirstErrorRun-error, FirstErrorRun-good}
 use Rattle.ga_core.proofs.mapping.try_write_mapped_ref.Goals as goal
@@ -6,7 +7,7 @@ use Rattle.ga_core.specs.Runs.{ClosureRun, FirstErrorRun}
 use Rattle.std.proofs.Common.{Err, Ok, arith, map, refl, subst, sym, take}
 
 pub f-requires : goal.f-requires
-f-requires g c = c.requires.callable _ c.index-items-index.result _ (take c.loop-index.index c.loop-index.slots) _ (cut-next c.loop-index.invariant (omega arith) c.index-items-index.is c.index-items-index.is) c.loop-index.invariant.run _ refl
+f-requires g c = may_try_map-at (λ item. item.now) _ _ _ _ c.requires.callable _ c.index-items-index.result _ (take c.loop-index.index c.loop-index.slots) _ (cut-next c.loop-index.invariant (omega arith) c.index-items-index.is c.index-items-index.is) c.loop-index.invariant.run _ refl
 
 pub loop-index-preserved : goal.loop-index-preserved
 loop-index-preserved g c =

@@ -1,10 +1,13 @@
+use Rattle.ga_core.proofs.CallLemmas.{ClosureRun-of_items, may_map-at}
 use Rattle.ga_core.proofs.NextCalls.{cut-next, taken-next}
 use Rattle.ga_core.proofs.RunLemmas.{ClosureRun-snoc}
 use Rattle.ga_core.proofs.mapping.write_mapped.Goals as goal
-use Rattle.std.proofs.Common.{arith}
+use Rattle.std.proofs.Common.{arith, refl}
 
 pub f-requires : goal.f-requires
-f-requires g c = c.requires.callable _ c.take.result _ _ _ (cut-next c.loop-index.invariant (omega arith) c.index-items-index.is c.take.ensures.value) c.loop-index.invariant.run
+f-requires g c =
+    let run = ClosureRun-of_items _ _ _ _ _ c.loop-index.invariant.run in
+    may_map-at (λ item. item) _ _ _ _ c.requires.callable _ c.take.result _ _ _ (cut-next c.loop-index.invariant (omega arith) c.index-items-index.is c.take.ensures.value) run _ refl
 
 pub loop-index-preserved : goal.loop-index-preserved
 loop-index-preserved g c =

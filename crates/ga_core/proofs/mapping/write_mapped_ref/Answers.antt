@@ -1,3 +1,4 @@
+use Rattle.ga_core.proofs.CallLemmas.{may_map-at}
 use Rattle.ga_core.proofs.NextCalls.{cut-next, read-next}
 use Rattle.ga_core.proofs.RunLemmas.{ClosureRun-snoc}
 use Rattle.ga_core.proofs.mapping.write_mapped_ref.Goals as goal
@@ -6,7 +7,7 @@ use Rattle.ga_core.specs.Runs.{ClosureRun}
 use Rattle.std.proofs.Common.{arith, refl}
 
 pub f-requires : goal.f-requires
-f-requires g c = c.requires.callable _ c.index-items-index.result _ _ _ (cut-next c.loop-index.invariant (omega arith) c.index-items-index.is c.index-items-index.is) c.loop-index.invariant.run _ refl
+f-requires g c = may_map-at (λ item. item.now) _ _ _ _ c.requires.callable _ c.index-items-index.result _ _ _ (cut-next c.loop-index.invariant (omega arith) c.index-items-index.is c.index-items-index.is) c.loop-index.invariant.run _ refl
 
 pub loop-index-preserved : goal.loop-index-preserved
 loop-index-preserved g c =

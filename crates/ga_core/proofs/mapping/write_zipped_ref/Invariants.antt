@@ -1,12 +1,9 @@
 use Rattle.ga_core.proofs.mapping.write_zipped_ref.Given as goal
 use Rattle.ga_core.specs.Runs.{ClosureRun}
 use Rattle.ga_core.specs.Entries.{CallAtPair}
-use Rattle.std.proofs.Common.{◌≡◌, drop, take}
+use Rattle.std.proofs.Common.{take}
 use Rattle.std.specs.List.{zip}
 
--- the calls so far gave what is written, and the other items of the left side stand in their slots
+-- the calls so far gave what is written
 abbrev pub invariant-loop-index : goal.invariant-loop-index
-invariant-loop-index g l = record {
-  run : ClosureRun (CallAtPair (λ item. item) (λ item. item.now) (goal.F-step g)) l.initial.f (take l.index (zip l.initial.left l.right)) (take l.index l.slots) l.f;
-  behind : drop l.index l.left ≡ drop l.index l.initial.left;
-}
+invariant-loop-index g l = ClosureRun (CallAtPair (λ item. item.now) (λ item. item.now) (goal.F-step g)) l.initial.f (take l.index (zip l.left l.right)) (take l.index l.slots) l.f

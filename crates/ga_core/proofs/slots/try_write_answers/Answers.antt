@@ -1,9 +1,13 @@
+use Rattle.ga_core.proofs.CallLemmas.{may_try_generate-at}
 use Rattle.ga_core.proofs.RunLemmas.{ClosureRun-good, FirstErrorRun-at, FirstErrorRun-good, below-add_one}
 use Rattle.ga_core.proofs.slots.try_write_answers.Goals as goal
 use Rattle.ga_core.specs.Runs.{FirstErrorRun}
 use Rattle.std.proofs.Common.{◌≡◌, ◌<◌, Ok, arith, length, subst, take}
 use Rattle.std.proofs.lemmas.List.{take_all, take_more_set}
 use Rattle.std.specs.List.{range_with_len}
+
+pub f-requires : goal.f-requires
+f-requires g c = may_try_generate-at _ _ _ _ c.requires.callable c.loop-index.index (take c.loop-index.index c.loop-index.slots) _ (omega arith) c.loop-index.invariant
 
 pub loop-index-preserved : goal.loop-index-preserved
 loop-index-preserved g c =

@@ -1,7 +1,11 @@
+use Rattle.ga_core.proofs.CallLemmas.{may_generate-at}
 use Rattle.ga_core.proofs.RunLemmas.{ClosureRun-snoc, below-add_one}
 use Rattle.ga_core.proofs.slots.write_answers.Goals as goal
 use Rattle.std.proofs.Common.{arith}
 use Rattle.std.proofs.lemmas.List.{take_more_set}
+
+pub f-requires : goal.f-requires
+f-requires g c = may_generate-at _ _ _ _ c.requires.callable c.loop-index.index _ _ (omega arith) c.loop-index.invariant
 
 pub loop-index-preserved : goal.loop-index-preserved
 loop-index-preserved g c =

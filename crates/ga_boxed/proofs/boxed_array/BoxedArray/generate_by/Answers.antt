@@ -1,4 +1,5 @@
 use Rattle.ga_core.proofs.ActsLemmas.{answers_of_run}
+use Rattle.ga_core.proofs.CallLemmas.{may_generate-at}
 use Rattle.ga_core.proofs.RunLemmas.{ClosureRun-snoc, below-add_one}
 use Rattle.ga_boxed.proofs.boxed_array.BoxedArray.generate_by.Goals as goal
 use Rattle.ga_core.specs.Runs.{ClosureRun}
@@ -9,7 +10,7 @@ use Rattle.std.proofs.Common.{◌∷◌, [], ◌<◌, arith, length-append}
 pub f-requires : goal.f-requires
 f-requires g c =
     let below : c.loop-index.index < g.N.Unsigned.USIZE = omega (arith, c.loop-index-test.true, c.USIZE-index-end.ensures) in
-    c.requires.callable c.loop-index.index _ _ below c.loop-index.invariant.ran
+    may_generate-at _ _ _ _ c.requires.callable c.loop-index.index _ _ below c.loop-index.invariant.ran
 
 pub loop-index-preserved : goal.loop-index-preserved
 loop-index-preserved g c = record {

@@ -1,9 +1,15 @@
 use Rattle.ga_core.proofs.ActsLemmas.{answers_until_error}
 use Rattle.ga_boxed.proofs.boxed_array.BoxedArray.try_generate_by.Goals as goal
+use Rattle.ga_core.proofs.CallLemmas.{may_try_generate-at}
 use Rattle.ga_core.proofs.RunLemmas.{ClosureRun-good, FirstErrorRun-at, FirstErrorRun-good, below-add_one}
 use Rattle.ga_core.specs.Runs.{FirstErrorRun}
 use Rattle.std.proofs.Common.{◌≡◌, ◌∷◌, [], ◌<◌, Ok, arith, length-append, subst}
 use Rattle.std.specs.List.{range_with_len}
+
+pub f-requires : goal.f-requires
+f-requires g c =
+    let below : c.loop-index.index < g.N.Unsigned.USIZE = omega (arith, c.loop-index-test.true, c.USIZE-index-end.ensures) in
+    may_try_generate-at _ _ _ _ c.requires.callable c.loop-index.index c.loop-index.good.items _ below c.loop-index.invariant.ran
 
 pub loop-index-preserved : goal.loop-index-preserved
 loop-index-preserved g c = record {

@@ -1,5 +1,4 @@
 use Rattle.ga_core.proofs.ActsLemmas.{answers_of_run}
-use Rattle.ga_core.proofs.CallLemmas.{callable-along}
 use Rattle.ga_core.proofs.MadeLemmas.{ClosureRun-made, made-is_written}
 use Rattle.ga_core.proofs.array.GenericArray.generate_by.Goals as goal
 use Rattle.std.proofs.Common.{◌∙◌, ap, arith}
@@ -8,7 +7,7 @@ use Rattle.std.specs.List.{range_with_len}
 pub write_answers-requires : goal.write_answers-requires
 write_answers-requires g c =
     let full = c.as_mut_slice.ensures.len in
-    record { callable = λ k ys reached below run. callable-along _ _ _ _ c.requires.callable k ys reached (omega (arith, below, full)) run }
+    record { callable = λ k ys reached below. c.requires.callable k ys reached (omega (arith, below, full)) }
 
 pub returns : goal.returns
 returns g c =

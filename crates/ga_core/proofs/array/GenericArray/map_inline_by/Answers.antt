@@ -1,11 +1,10 @@
 use Rattle.ga_core.proofs.ActsLemmas.{answers_of_run}
-use Rattle.ga_core.proofs.CallLemmas.{callable-over}
 use Rattle.ga_core.proofs.MadeLemmas.{ClosureRun-made, made-is_written}
 use Rattle.ga_core.proofs.array.GenericArray.map_inline_by.Goals as goal
 use Rattle.std.proofs.Common.{sym, ◌∙◌}
 
 pub write_mapped-requires-clause-callable : goal.write_mapped-requires-clause-callable
-write_mapped-requires-clause-callable g c = λ passed x others ys reached whole run. callable-over _ _ _ _ c.requires.callable passed x others ys reached (sym c.as_mut_slice.ensures.items ∙ whole) run
+write_mapped-requires-clause-callable g c = λ passed x others ys reached whole. c.requires.callable passed x others ys reached (sym c.as_mut_slice.ensures.items ∙ whole)
 
 pub returns : goal.returns
 returns g c =

@@ -1,5 +1,4 @@
 use Rattle.ga_core.proofs.ActsLemmas.{answers_until_error}
-use Rattle.ga_core.proofs.CallLemmas.{callable-along_until_error}
 use Rattle.ga_core.proofs.MadeLemmas.{FirstErrorRun-made, made-is_written}
 use Rattle.ga_core.proofs.array.GenericArray.try_generate_by.Goals as goal
 use Rattle.std.proofs.Common.{◌∙◌, Ok, ap, arith, refl}
@@ -8,7 +7,7 @@ use Rattle.std.specs.List.{range_with_len}
 pub try_write_answers-requires : goal.try_write_answers-requires
 try_write_answers-requires g c =
     let full = c.as_mut_slice.ensures.len in
-    record { callable = λ k ys reached below run. callable-along_until_error _ _ _ _ c.requires.callable k ys reached (omega (arith, below, full)) run }
+    record { callable = λ k good reached below. c.requires.callable k good reached (omega (arith, below, full)) }
 
 pub returns-in-Ok : goal.returns-in-Ok
 returns-in-Ok g c =

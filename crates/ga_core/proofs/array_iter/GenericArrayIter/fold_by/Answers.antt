@@ -1,4 +1,5 @@
 use Rattle.ga_core.proofs.ActsLemmas.{answer_of_fold}
+use Rattle.ga_core.proofs.CallLemmas.{FoldRun-of_items, may_fold-at}
 use Rattle.ga_core.proofs.CutLemmas.{taken-more}
 use Rattle.ga_core.proofs.array_iter.GenericArrayIter.fold_by.Goals as goal
 use Rattle.ga_core.specs.Runs.{FoldRun}
@@ -16,7 +17,7 @@ f-answer-requires g c =
     let i = c.loop-slot.slot-index in
     let step : drop i slots ≡ c.take.result ∷ drop (i + 1) slots =
     drop_more slots i c.slot-item.result (omega (arith, c.loop-slot-test.true, c.loop-slot.auto.slot-items)) ∙ ap (λ x. x ∷ drop (i + 1) slots) (sym c.take.ensures.value) in
-    c.requires.callable so_far.0 c.take.result (drop (i + 1) slots) c.loop-slot.f c.loop-slot.answer (so_far.1 ∙ ap (λ rest. so_far.0 ++ rest) step) so_far.2
+    may_fold-at (λ item. item) _ _ _ _ _ c.requires.callable so_far.0 c.take.result (drop (i + 1) slots) c.loop-slot.f c.loop-slot.answer (so_far.1 ∙ ap (λ rest. so_far.0 ++ rest) step) (FoldRun-of_items _ _ _ _ _ _ so_far.2) _ refl
 
 pub loop-slot-preserved : goal.loop-slot-preserved
 loop-slot-preserved g c =

@@ -1,9 +1,10 @@
 use Rattle.ga_core.proofs.ActsLemmas.{answer_of_fold}
+use Rattle.ga_core.proofs.CallLemmas.{FoldRun-of_items, may_fold-at}
 use Rattle.ga_core.proofs.CutLemmas.{taken-more}
 use Rattle.ga_core.proofs.LeftLemmas.{left-last_reversed}
 use Rattle.ga_core.proofs.array_iter.GenericArrayIter.rfold_by.Goals as goal
 use Rattle.ga_core.specs.Runs.{FoldRun}
-use Rattle.std.proofs.Common.{◌∷◌, [], ◌++◌, ◌-◌, ◌∙◌, ap, arith, length, reverse, rules, slice_set}
+use Rattle.std.proofs.Common.{◌∷◌, [], ◌++◌, ◌-◌, ◌∙◌, ap, arith, length, refl, reverse, rules, slice_set}
 use Rattle.std.proofs.lemmas.Fn.{FoldsTo-push}
 use Rattle.std.specs.List.{slice_range}
 
@@ -15,8 +16,8 @@ f-answer-requires g c =
     let blank = c.take.new.dest in
     let count = ap length c.as_mut_slice-items.ensures.items in
     let step = left-last_reversed slots 0 back c.take.result c.index-items-index.result blank c.loop-index-test.true (omega (arith, count)) c.take.ensures.value c.index-items-index.is in
-    c.requires.callable so_far.0 c.take.result (reverse (slice_range (slice_set slots (back - 1) blank) 0 (back - 1))) c.loop-index.f c.loop-index.answer
-    (so_far.1 ∙ ap (λ rest. so_far.0 ++ rest) step) so_far.2
+    may_fold-at (λ item. item) _ _ _ _ _ c.requires.callable so_far.0 c.take.result (reverse (slice_range (slice_set slots (back - 1) blank) 0 (back - 1))) c.loop-index.f c.loop-index.answer
+    (so_far.1 ∙ ap (λ rest. so_far.0 ++ rest) step) (FoldRun-of_items _ _ _ _ _ _ so_far.2) _ refl
 
 pub loop-index-preserved : goal.loop-index-preserved
 loop-index-preserved g c =

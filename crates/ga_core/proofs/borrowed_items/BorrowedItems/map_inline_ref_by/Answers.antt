@@ -1,4 +1,3 @@
-use Rattle.ga_core.proofs.CallLemmas.{callable-entries}
 use Rattle.ga_core.proofs.EntryActs.{answers_at_entries}
 use Rattle.ga_core.proofs.MadeLemmas.{ClosureRun-made, made-is_written}
 use Rattle.ga_core.proofs.borrowed_items.BorrowedItems.map_inline_ref_by.Goals as goal
@@ -6,7 +5,7 @@ use Rattle.ga_core.specs.Entries.{CallAt}
 use Rattle.std.proofs.Common.{◌∙◌, sym}
 
 pub write_mapped_ref-requires-clause-callable : goal.write_mapped_ref-requires-clause-callable
-write_mapped_ref-requires-clause-callable g c = λ passed x others ys reached whole run. callable-entries _ _ _ _ _ c.requires.callable passed x others ys reached (sym c.borrowed-items.ensures.items ∙ whole) run
+write_mapped_ref-requires-clause-callable g c = λ passed x others ys reached whole. c.requires.callable passed x others ys reached (sym c.borrowed-items.ensures.items ∙ whole)
 
 pub returns : goal.returns
 returns g c =

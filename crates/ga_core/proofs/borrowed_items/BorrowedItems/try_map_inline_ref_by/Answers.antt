@@ -1,4 +1,3 @@
-use Rattle.ga_core.proofs.CallLemmas.{callable-entries_until_error}
 use Rattle.ga_core.proofs.EntryActs.{tries_at_entries}
 use Rattle.ga_core.proofs.MadeLemmas.{FirstErrorRun-made, made-is_written}
 use Rattle.ga_core.proofs.borrowed_items.BorrowedItems.try_map_inline_ref_by.Goals as goal
@@ -6,7 +5,7 @@ use Rattle.ga_core.specs.Entries.{CallAt}
 use Rattle.std.proofs.Common.{◌∙◌, Ok, ap, refl, sym}
 
 pub try_write_mapped_ref-requires-clause-callable : goal.try_write_mapped_ref-requires-clause-callable
-try_write_mapped_ref-requires-clause-callable g c = λ passed x others good reached whole run. callable-entries_until_error _ _ _ _ _ c.requires.callable passed x others good reached (sym c.borrowed-items.ensures.items ∙ whole) run
+try_write_mapped_ref-requires-clause-callable g c = λ passed x others good reached whole. c.requires.callable passed x others good reached (sym c.borrowed-items.ensures.items ∙ whole)
 
 pub returns-in-Ok : goal.returns-in-Ok
 returns-in-Ok g c =

@@ -7,7 +7,7 @@ use Rattle.std.proofs.lemmas.List.FromFn.{length-range_with_len}
 pub generate_by-requires-clause-callable : goal.generate_by-requires-clause-callable
 generate_by-requires-clause-callable g c =
     let asked = c.requires.callable in
-    λ k ys reached below run. walk-callable g.I.Iterator.next_gives g.I.Iterator.can_next asked.0 (goal.F-pre g) (goal.F-step g)
+    λ k ys reached below run stays. walk-callable g.I.Iterator.next_gives g.I.Iterator.can_next asked.0 (goal.F-pre g) (goal.F-step g)
     (λ d. d.0.now) (λ d. d.1.now) _ (λ d j y e call. call.met.1.0) asked.1 _ _ ys reached asked.2.2 asked.2.0 run (omega (arith, length-range_with_len 0 k, asked.3, below)) asked.4
 
 pub returns-clause-run : goal.returns-clause-run

@@ -1,4 +1,4 @@
-use Rattle.generic_array.proofs.FoldLemmas.{FoldLoop-callable, FoldLoop-end, FoldLoop-entry, FoldLoop-error, FoldLoop-more, TryFoldRun-good}
+use Rattle.generic_array.proofs.FoldLemmas.{FoldLoop-callable, FoldLoop-end, FoldLoop-entry, FoldLoop-error, FoldLoop-more, TryFoldRun-good, may_try_fold-at}
 use Rattle.generic_array.proofs.functional.walks.try_fold_entries.Goals as goal
 use Rattle.ga_core.specs.Entries.{FoldAt}
 use Rattle.std.proofs.Common.{◌≡◌, rules}
@@ -9,7 +9,9 @@ loop-entry-init g c =
     FoldLoop-entry _ same c.requires.callable.2.0 c.requires.callable.2.1
 
 pub f-requires : goal.f-requires
-f-requires g c = FoldLoop-callable c.loop-entry.invariant (goal.F-pre g) c.in-Some.entry c.next.new.self c.requires.callable c.in-Some.ensures.steps
+f-requires g c =
+    let asked = c.requires.callable in
+    FoldLoop-callable c.loop-entry.invariant (goal.F-pre g) c.in-Some.entry c.next.new.self (asked.0, asked.1, asked.2, may_try_fold-at asked.0 (goal.F-pre g) (goal.F-step g) c.args.f.now c.args.init asked.1 asked.3) c.in-Some.ensures.steps
 
 pub loop-entry-preserved : goal.loop-entry-preserved
 loop-entry-preserved g c = FoldLoop-more c.loop-entry.invariant c.in-Some.entry c.next.new.self c.f.new.self c.in-Ok.next c.in-Some.ensures.steps c.in-Ok.ensures (search rules) (search rules)

@@ -14,14 +14,14 @@ generate_by-requires-clause-callable g c =
     let may = g.I.Iterator.can_next in
     let other_may = g.J.Iterator.can_next in
     let both = pairs_given steps others asked.0 asked.2 c.args.left c.args.right asked.1 asked.3 (asked.6 ∙ sym asked.7) asked.4.2 asked.5.2 in
-    λ k ys reached below run. pair-may_call steps others asked.0 asked.2 (goal.F-pre g) (goal.F-step g) may other_may reached.0.now reached.1.now reached.2.now
+    λ k ys reached below run stays. pair-may_call steps others asked.0 asked.2 (goal.F-pre g) (goal.F-step g) may other_may reached.0.now reached.1.now reached.2.now
     (walk-callable (PairSteps steps others asked.0 asked.2) (both_can steps others asked.0 asked.2 (goal.F-pre g) (goal.F-step g) may other_may) (pair_entry steps others asked.0 asked.2)
     (pair_pre steps others asked.0 asked.2 (goal.F-pre g) (goal.F-step g)) (pair_step steps others asked.0 asked.2 (goal.F-pre g) (goal.F-step g))
     (λ d. (d.0.now, d.1.now)) (λ d. d.2.now) _
     (λ d j y e call. pair-called steps others asked.0 asked.2 (goal.F-pre g) (goal.F-step g) may other_may d.0.now d.1.now d.2.now y e.0.now e.1.now e.2.now call.met.1.0)
     (zip asked.1 asked.3) _ _ ys reached both (asked.4.0, asked.5.0) run
     (omega (arith, length-range_with_len 0 k, length-zip asked.1 asked.3, asked.6, asked.7, below))
-    (pair-callable steps others asked.0 asked.2 (goal.F-pre g) (goal.F-step g) c.args.f.now (zip asked.1 asked.3) asked.8))
+    (pair-callable steps others asked.0 asked.2 (goal.F-pre g) (goal.F-step g) c.args.f.now asked.1 asked.3 asked.8))
 
 pub returns-clause-run : goal.returns-clause-run
 returns-clause-run g c = λ entry values other more gives also long same.

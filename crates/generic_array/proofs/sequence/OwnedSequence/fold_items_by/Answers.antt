@@ -1,18 +1,18 @@
 use Rattle.ga_core.proofs.ActsLemmas.{answer_of_fold}
-use Rattle.generic_array.proofs.FoldLemmas.{CallableInFold-of_items, FoldRun-of_items}
+use Rattle.generic_array.proofs.FoldLemmas.{FoldRun-by_items}
 use Rattle.generic_array.proofs.sequence.OwnedSequence.fold_items_by.Goals as goal
 
 pub fold_entries-requires : goal.fold_entries-requires
 fold_entries-requires g c =
     let items = g.Self.AsSlice.items c.args.self in
     let gives = g.met.Self.OwnedSequence.gives_items c.args.self c.into_iter.result c.into_iter.ensures.into_iter_gives in
-    record { callable = ((λ item. item), items, gives, CallableInFold-of_items (goal.F-pre g) (goal.F-step g) c.args.f.now c.args.init items c.requires.callable) }
+    record { callable = ((λ item. item), items, gives, c.requires.callable) }
 
 pub returns-clause-run : goal.returns-clause-run
 returns-clause-run g c =
     let items = g.Self.AsSlice.items c.args.self in
     let gives = g.met.Self.OwnedSequence.gives_items c.args.self c.into_iter.result c.into_iter.ensures.into_iter_gives in
-    FoldRun-of_items (goal.F-pre g) (goal.F-step g) _ _ items _ _ (c.fold_entries.ensures.run (λ item. item) items gives)
+    FoldRun-by_items (goal.F-step g) _ _ items _ _ (c.fold_entries.ensures.run (λ item. item) items gives)
 
 pub returns-clause-acts : goal.returns-clause-acts
 returns-clause-acts g c h acts = answer_of_fold _ _ h acts _ _ _ _ (returns-clause-run g c)

@@ -3,8 +3,5 @@ use Rattle.generic_array.proofs.sequence.inline.GenericArrayGenericSequence.gene
 use Rattle.std.proofs.Common.{◌∙◌}
 use Rattle.std.proofs.lemmas.List.FromFn.{length-range_with_len}
 
-pub generate_by-requires-clause-callable : goal.generate_by-requires-clause-callable
-generate_by-requires-clause-callable g c = λ k ys reached below run stays. c.requires.callable k ys reached below run
-
 pub returns-clause-len : goal.returns-clause-len
 returns-clause-len g c = ClosureRun-length _ _ _ _ _ c.generate_by.ensures.run ∙ length-range_with_len 0 g.N.Unsigned.USIZE
