@@ -1,3 +1,2 @@
 pub mod BuildLemmas
 pub mod JobLemmas
-pub mod SumLemmas

@@ -1,3 +1,2 @@
 pub mod AnyLength
 pub mod Jobs
-pub mod Matrix

@@ -17,8 +17,8 @@ use generic_array::functional::{
 };
 use generic_array::sequence::{FromFallibleIterator, GenericSequence, SequenceItem};
 use generic_array::{
-    AllocError, ArrayLength, BoxedArray, FillError, GenericArray, GenericArrayRef, InlineLength,
-    U3, U4, Unsigned, always,
+    AllocError, ArrayLength, BorrowedItems, BoxedArray, FillError, GenericArray, GenericArrayRef,
+    InlineLength, U3, U4, Unsigned, always,
 };
 use std::alloc::Global;
 use std::test::Fail;
@@ -81,7 +81,8 @@ fn masked_and_totalled<
     requires fits { S.Mapped.Fits }
     requires callable { MayMap S.entry F.pre F.step mask.old (S.items key) }
     requires acts { ActsOnEntry S.entry F.step mask.old (λ b. bit_xor b 54) }
-    ensures { IfOk result (λ total. total ≡ fold (λ total b. (total + b) % 2 ^ 8) 0 (map (λ b. bit_xor b 54) (S.items key))) }
+    ensures { IfOk result (λ total.
+        total ≡ fold (λ total b. (total + b) % 2 ^ 8) 0 (map (λ b. bit_xor b 54) (S.items key))) }
 {
     map_total_by(
         key,
@@ -164,7 +165,8 @@ fn scaled_sums<N: ArrayLength<u32>>(
 }
 
 fn dot<N: ArrayLength<u32>>(left: GenericArray<u32, N>, right: GenericArrayRef<'_, u32, N>) -> u32
-    ensures { result ≡ fold (λ total x. (total + x) % 2 ^ 32) 0 (map (λ p. p.0 * p.1 % 2 ^ 32) (zip left (items_of_view right.entry))) }
+    ensures { result ≡ fold (λ total x. (total + x) % 2 ^ 32) 0
+        (map (λ p. p.0 * p.1 % 2 ^ 32) (zip left (items_of_view right.entry))) }
 {
     let products = left.zip_inline_ref(right, |l: &u32, r: &u32| l.wrapping_mul(*r));
     products
@@ -214,7 +216,8 @@ fn counted_up_boxed<N: Unsigned>(
     alloc: Global,
     first: usize,
 ) -> Result<BoxedArray<usize, N>, AllocError>
-    ensures { IfOk result (λ made. made ≡ map (λ index. (first + index) % 2 ^ 64) (range_with_len 0 N.USIZE)) }
+    ensures { IfOk result (λ made.
+        made ≡ map (λ index. (first + index) % 2 ^ 64) (range_with_len 0 N.USIZE)) }
 {
     BoxedArray::generate(alloc, |index| first.wrapping_add(index))
 }
@@ -249,7 +252,8 @@ fn digits_of_text<S: FromFallibleIterator<u8>>(
 ) -> Result<S, FillError<u8, S::Error>>
     requires fits { S.Fits }
     ensures len { IfOk result (λ made. length text.now ≡ S.Length.USIZE) }
-    ensures digits { IfOk result (λ made. try_map (λ digit. digit) (map (digit_of base) text.now) ≡ Ok (S.items made)) }
+    ensures digits { IfOk result (λ made.
+        try_map (λ digit. digit) (map (digit_of base) text.now) ≡ Ok (S.items made)) }
 {
     S::from_fallible_iter(
         place,

@@ -83,7 +83,8 @@ fn four_digits_lent(
     alloc: Global,
     text: &[u8],
 ) -> Result<BoxedArray<u8, U4>, FillError<u8, AllocError>>
-    ensures other { IfOk (fill_answer result) (λ built. IfOk built (λ made. IfErr made (λ byte. (byte < 48) ⊎ (57 < byte)))) }
+    ensures other { IfOk (fill_answer result) (λ built.
+        IfOk built (λ made. IfErr made (λ byte. (byte < 48) ⊎ (57 < byte)))) }
     ensures long { OnOk result (length text.now ≡ 4) }
 {
     let mut digits = text.iter().map(decimal_digit);

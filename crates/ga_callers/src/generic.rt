@@ -32,7 +32,8 @@ fn sevens<S: GenericSequence<u8>>(place: S::Place) -> Result<S::Sequence, AllocE
 
 fn places<S: GenericSequence<usize>>(place: S::Place) -> Result<S::Sequence, S::Error>
     requires fits { S.Fits }
-    ensures items { IfOk result (λ made. S.Sequence.items made ≡ map (λ place. place) (range_with_len 0 S.Length.USIZE)) }
+    ensures items { IfOk result (λ made.
+        S.Sequence.items made ≡ map (λ place. place) (range_with_len 0 S.Length.USIZE)) }
     ensures given { S.IsPromised → IsOk result }
 {
     S::generate(place, |index| index)
@@ -115,7 +116,8 @@ fn digits_lent<S: FromFallibleIterator<u8>>(
     text: &[u8],
 ) -> Result<S, FillError<u8, S::Error>>
     requires fits { S.Fits }
-    ensures other { IfOk (fill_answer (built_items S.items result)) (λ built. IfOk built (λ made. IfErr made (λ byte. (byte < 48) ⊎ (57 < byte)))) }
+    ensures other { IfOk (fill_answer (built_items S.items result)) (λ built.
+        IfOk built (λ made. IfErr made (λ byte. (byte < 48) ⊎ (57 < byte)))) }
     ensures long { OnOk result (length text.now ≡ S.Length.USIZE) }
 {
     let mut digits = text.iter().map(decimal_digit);

@@ -23,7 +23,9 @@ fn dot_of_boxed_and_array<N: ArrayLength<u32>>(
     left: BoxedArray<u32, N>,
     right: GenericArray<u32, N>,
 ) -> Result<u32, AllocError>
-    ensures { IfOk result (λ dot. dot ≡ fold (λ total x. (total + x) % 2 ^ 32) 0 (map (λ p. p.0 * p.1 % 2 ^ 32) (zip left right))) }
+    ensures { IfOk result (λ dot.
+        dot ≡ fold (λ total x. (total + x) % 2 ^ 32) 0
+        (map (λ p. p.0 * p.1 % 2 ^ 32) (zip left right))) }
 {
     dot_by(
         left,

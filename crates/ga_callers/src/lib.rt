@@ -33,8 +33,6 @@ mod kinds;
 #[cfg(test)]
 mod macros;
 #[cfg(test)]
-mod matrix;
-#[cfg(test)]
 mod own_lengths;
 #[cfg(test)]
 mod parts;

@@ -13,7 +13,8 @@ fn from_both_ends<'a>(
     chunks: &'a ChunksRef<'_, u32, U3>,
 ) -> [Option<GenericArrayRef<'a, u32, U3>>; 3]
     requires two { rows 3 (items_of_chunks chunks.now) ≡ (1 ∷ 2 ∷ 3 ∷ []) ∷ (4 ∷ 5 ∷ 6 ∷ []) ∷ [] }
-    ensures { map (option_map items_of_view) result ≡ Some (4 ∷ 5 ∷ 6 ∷ []) ∷ Some (1 ∷ 2 ∷ 3 ∷ []) ∷ None ∷ [] }
+    ensures { map (option_map items_of_view) result
+        ≡ Some (4 ∷ 5 ∷ 6 ∷ []) ∷ Some (1 ∷ 2 ∷ 3 ∷ []) ∷ None ∷ [] }
 {
     let mut left = chunks.iter();
     let last = left.next_back();
@@ -38,7 +39,8 @@ fn second_from_the_back<'a>(
 fn last_row<'a, T, N: Unsigned>(
     chunks: &'a ChunksRef<'_, T, N>,
 ) -> Option<GenericArrayRef<'a, T, N>>
-    ensures { option_map items_of_view result ≡ slice_get (reverse (rows N.USIZE (items_of_chunks chunks.now))) 0 }
+    ensures { option_map items_of_view result
+        ≡ slice_get (reverse (rows N.USIZE (items_of_chunks chunks.now))) 0 }
 {
     chunks.iter().nth_back(0)
 }

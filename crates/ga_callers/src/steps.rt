@@ -32,7 +32,8 @@ fn taken_and_replaced<I: TwoEnded<u32>>(
     replies: &mut Vec<Reply<u32, u32>>,
 ) -> Result<(), AllocError>
     requires three { I.items numbers.old ≡ 1 ∷ 2 ∷ 3 ∷ [] }
-    ensures replies { OnOk result (replies.new.items ≡ replies.old.items ++ Item (Some 1) ∷ Old 3 ∷ Outside 8 ∷ Item (Some 9) ∷ []) }
+    ensures replies { OnOk result (replies.new.items
+        ≡ replies.old.items ++ Item (Some 1) ∷ Old 3 ∷ Outside 8 ∷ Item (Some 9) ∷ []) }
     ensures left { OnOk result (I.items numbers.new ≡ 2 ∷ []) }
 {
     let steps = vec![in alloc;
@@ -53,7 +54,9 @@ fn taken_and_looked_at<I: TwoEnded<u32>>(
     replies: &mut Vec<Reply<u32, u32>>,
 ) -> Result<(), AllocError>
     requires five { I.items numbers.old ≡ 1 ∷ 2 ∷ 3 ∷ 4 ∷ 5 ∷ [] }
-    ensures replies { OnOk result (replies.new.items ≡ replies.old.items ++ Item (Some 2) ∷ Seen 12 ∷ Item None ∷ Item None ∷ Seen 0 ∷ []) }
+    ensures replies { OnOk result (replies.new.items
+        ≡ replies.old.items
+        ++ Item (Some 2) ∷ Seen 12 ∷ Item None ∷ Item None ∷ Seen 0 ∷ []) }
     ensures left { OnOk result (I.items numbers.new ≡ []) }
 {
     let mut look = total;
@@ -99,8 +102,10 @@ fn taken_in_two_orders<I: TwoEnded<u32>>(
 ) -> Result<(), AllocError>
     requires five { I.items numbers.old ≡ 1 ∷ 2 ∷ 3 ∷ 4 ∷ 5 ∷ [] }
     requires same { I.items others.old ≡ 1 ∷ 2 ∷ 3 ∷ 4 ∷ 5 ∷ [] }
-    ensures replies { OnOk result (replies.new.items ≡ replies.old.items ++ Item (Some 2) ∷ Item (Some 5) ∷ Item (Some 3) ∷ []) }
-    ensures others { OnOk result (other_replies.new.items ≡ other_replies.old.items ++ Item (Some 5) ∷ Item (Some 2) ∷ Item (Some 3) ∷ []) }
+    ensures replies { OnOk result (replies.new.items
+        ≡ replies.old.items ++ Item (Some 2) ∷ Item (Some 5) ∷ Item (Some 3) ∷ []) }
+    ensures others { OnOk result (other_replies.new.items
+        ≡ other_replies.old.items ++ Item (Some 5) ∷ Item (Some 2) ∷ Item (Some 3) ∷ []) }
     ensures left { OnOk result ((I.items numbers.new ≡ 4 ∷ []) × (I.items others.new ≡ 4 ∷ [])) }
 {
     let mut look = total;
@@ -117,7 +122,8 @@ fn looks_counted<I: TwoEnded<u32>>(
     replies: &mut Vec<Reply<u32, usize>>,
 ) -> Result<usize, AllocError>
     requires three { I.items numbers.old ≡ 1 ∷ 2 ∷ 3 ∷ [] }
-    ensures replies { OnOk result (replies.new.items ≡ replies.old.items ++ Seen 3 ∷ Item (Some 1) ∷ Seen 2 ∷ []) }
+    ensures replies { OnOk result (replies.new.items
+        ≡ replies.old.items ++ Seen 3 ∷ Item (Some 1) ∷ Seen 2 ∷ []) }
     ensures left { OnOk result (I.items numbers.new ≡ 2 ∷ 3 ∷ []) }
     ensures looks { IfOk result (λ looks. looks ≡ 2) }
 {

@@ -41,7 +41,8 @@ pub trait BorrowedItems<T, N: Unsigned> {
         N: ArrayLength<U>,
         requires fits { Fits }
         requires callable { MayMap (λ item. item.now) F.pre F.step f (items self.now) }
-        ensures run { (last : F) × ClosureRun (CallAt (λ item. item.now) F.step) f (items self.now) result last }
+        ensures run { (last : F)
+            × ClosureRun (CallAt (λ item. item.now) F.step) f (items self.now) result last }
         ensures acts { (h : T → U) → ActsOnEntry (λ item. item.now) F.step f h
             → result ≡ map h (items self.now) }
     {
@@ -80,7 +81,8 @@ pub trait BorrowedItems<T, N: Unsigned> {
         N: ArrayLength<U>,
         requires fits { Fits }
         requires callable { MayTryMap (λ item. item.now) F.pre F.step f (items self.now) }
-        ensures run { (last : F) × FirstErrorRun (CallAt (λ item. item.now) F.step) f (items self.now) result last }
+        ensures run { (last : F)
+            × FirstErrorRun (CallAt (λ item. item.now) F.step) f (items self.now) result last }
         ensures acts { (h : T → Result U E) → ActsOnEntry (λ item. item.now) F.step f h
             → result ≡ try_map h (items self.now) }
     {

@@ -28,7 +28,8 @@ fn build_of_results<T: Drop, E: Drop, S: FromFallibleIterator<T>>(
 ) -> Result<S, FillError<E, S::Error>>
     requires fits { S.Fits }
     ensures only { IfOk result (λ made. length items.items ≡ S.Length.USIZE) }
-    ensures good { IfOk result (λ made. try_map (λ (item : Result T E). item) (map Ok items.items) ≡ Ok (S.items made)) }
+    ensures good { IfOk result (λ made.
+        try_map (λ (item : Result T E). item) (map Ok items.items) ≡ Ok (S.items made)) }
     ensures exactly { S.IsPromised → length items.items ≡ S.Length.USIZE → IsOk result }
 {
     S::from_fallible_iter(

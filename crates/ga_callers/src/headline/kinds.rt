@@ -138,7 +138,8 @@ fn stopped_in_boxed(
 
 /// The sum, or an error where it is above 3.
 fn up_to_three(sum: u32, item: u32) -> Result<u32, u32>
-    ensures { result ≡ (if nat_lt 3 ((sum + item) % 2 ^ 32) then Err ((sum + item) % 2 ^ 32) else Ok ((sum + item) % 2 ^ 32)) }
+    ensures { let total = (sum + item) % 2 ^ 32 in
+        result ≡ (if nat_lt 3 total then Err total else Ok total) }
 {
     let sum = sum.wrapping_add(item);
     if sum > 3 { Err(sum) } else { Ok(sum) }
@@ -189,7 +190,8 @@ fn walked_inline(
 ) -> Result<GenericArrayIter<u32, U3>, AllocError>
     requires array { array ≡ 1 ∷ 2 ∷ 3 ∷ [] }
     requires steps { steps.items ≡ Next ∷ Look ∷ Set 1 9 ∷ NextBack ∷ [] }
-    ensures replies { OnOk result (replies.new.items ≡ replies.old.items ++ Item (Some 1) ∷ Seen 2 ∷ Old 3 ∷ Item (Some 9) ∷ []) }
+    ensures replies { OnOk result (replies.new.items
+        ≡ replies.old.items ++ Item (Some 1) ∷ Seen 2 ∷ Old 3 ∷ Item (Some 9) ∷ []) }
     ensures left { IfOk result (λ left. left ≡ 2 ∷ []) }
 {
     walk(array, steps, &mut count_of, replies)
@@ -202,7 +204,8 @@ fn walked_boxed(
 ) -> Result<BoxedArrayIter<u32>, AllocError>
     requires array { array ≡ 1 ∷ 2 ∷ 3 ∷ [] }
     requires steps { steps.items ≡ Next ∷ Look ∷ Set 1 9 ∷ NextBack ∷ [] }
-    ensures replies { OnOk result (replies.new.items ≡ replies.old.items ++ Item (Some 1) ∷ Seen 2 ∷ Old 3 ∷ Item (Some 9) ∷ []) }
+    ensures replies { OnOk result (replies.new.items
+        ≡ replies.old.items ++ Item (Some 1) ∷ Seen 2 ∷ Old 3 ∷ Item (Some 9) ∷ []) }
     ensures left { IfOk result (λ left. left ≡ 2 ∷ []) }
 {
     walk(array, steps, &mut count_of, replies)

@@ -23,7 +23,8 @@ pub fn put_then_pop<
     requires callable { S.IsAlwaysCallable see }
     ensures array { result.0 ≡ array }
     ensures item { result.1 ≡ item }
-    ensures between { FnOnceReturnsAt S.FnOnce see (if at_front then item ∷ array else (array ++ item ∷ [])) result.2 }
+    ensures between { FnOnceReturnsAt S.FnOnce see
+        (if at_front then item ∷ array else (array ++ item ∷ [])) result.2 }
 {
     let longer: GenericArray<T, M> = if at_front {
         array.prepend(item)
@@ -51,7 +52,8 @@ pub fn pop_then_put<
     requires one_shorter { N.USIZE ≡ M.USIZE + 1 }
     requires callable { S.IsAlwaysCallable see }
     ensures array { result.0 ≡ array }
-    ensures between { FnOnceReturnsAt S.FnOnce see (if at_front then drop 1 array else take M.USIZE array) result.1 }
+    ensures between { FnOnceReturnsAt S.FnOnce see
+        (if at_front then drop 1 array else take M.USIZE array) result.1 }
 {
     // The slices know the lengths.
     let _ = array.as_slice();

@@ -17,9 +17,12 @@ pub fn walk<T: Drop, R, S: TwoEndedSequence<T>, G: FnMut(&[T]) -> R>(
     look: &mut G,
     replies: &mut Vec<Reply<T, R>>,
 ) -> Result<S::TwoEnded, AllocError>
-    requires callable { MaySteps (MayCallAt (λ slice. slice.now) G.pre) (CallAt (λ slice. slice.now) G.step) (S.items s, look.old) steps.items }
-    ensures run { IfOk result (λ left. (given : List (Reply T R)) × (replies.new.items ≡ replies.old.items ++ given)
-        × StepsRun (CallAt (λ slice. slice.now) G.step) (S.items s, look.old) steps.items given (S.TwoEnded.items left, look.new)
+    requires callable { MaySteps (MayCallAt (λ slice. slice.now) G.pre)
+        (CallAt (λ slice. slice.now) G.step) (S.items s, look.old) steps.items }
+    ensures run { IfOk result (λ left.
+        (given : List (Reply T R)) × (replies.new.items ≡ replies.old.items ++ given)
+        × StepsRun (CallAt (λ slice. slice.now) G.step) (S.items s, look.old) steps.items given
+        (S.TwoEnded.items left, look.new)
         × Account (S.items s) steps.items given (S.TwoEnded.items left)) }
 {
     let mut left = s.into_two_ended();

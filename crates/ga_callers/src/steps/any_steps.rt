@@ -17,8 +17,11 @@ fn counted<T: Drop, I: TwoEnded<T>>(
     replies: &mut Vec<Reply<T, usize>>,
 ) -> Result<(), AllocError>
     requires fresh { replies.old.items ≡ [] }
-    ensures counts { OnOk result ((test : T → Bool) → count_by test (I.items items.old) + count_by test (flat_map items_put steps.items)
-        ≡ count_by test (gone_front (I.items items.old) steps.items) + (count_by test (gone_back (I.items items.old) steps.items) + (count_by test (flat_map items_returned replies.new.items) + count_by test (I.items items.new)))) }
+    ensures counts { OnOk result ((test : T → Bool)
+        → count_by test (I.items items.old) + count_by test (flat_map items_put steps.items)
+        ≡ count_by test (gone_front (I.items items.old) steps.items)
+        + (count_by test (gone_back (I.items items.old) steps.items)
+        + (count_by test (flat_map items_returned replies.new.items) + count_by test (I.items items.new)))) }
 {
     run_steps(items, steps, &mut count_of::<T>, replies)?;
     Ok(())
@@ -44,10 +47,13 @@ fn first_replied<T: Drop, I: TwoEnded<T>>(
     steps: Vec<Step<T>>,
     replies: &mut Vec<Reply<T, usize>>,
 ) -> Result<(), AllocError>
-    requires enough { sum_by front_count steps.items + sum_by back_count steps.items ≤ length (I.items items.old) }
+    requires enough { sum_by front_count steps.items + sum_by back_count steps.items
+        ≤ length (I.items items.old) }
     requires no_set { HasNoSet steps.items }
     ensures first { OnOk result ((given : List (Reply T ℕ)) × (replies.new.items ≡ replies.old.items ++ given)
-        × ((k : ℕ) → slice_get steps.items k ≡ Some Next → sum_by front_count (take (k + 1) steps.items) ≡ 1 → slice_get given k ≡ Some (Item (slice_get (I.items items.old) 0)))) }
+        × ((k : ℕ) → slice_get steps.items k ≡ Some Next
+        → sum_by front_count (take (k + 1) steps.items) ≡ 1
+        → slice_get given k ≡ Some (Item (slice_get (I.items items.old) 0)))) }
 {
     run_steps(items, steps, &mut count_of::<T>, replies)?;
     Ok(())

@@ -14,7 +14,8 @@ fn replaced_inline(
     alloc: Global,
     replies: &mut Vec<Reply<u32, u32>>,
 ) -> Result<GenericArrayIter<u32, U3>, AllocError>
-    ensures replies { OnOk result (replies.new.items ≡ replies.old.items ++ Item (Some 1) ∷ Old 3 ∷ Outside 8 ∷ Item (Some 9) ∷ []) }
+    ensures replies { OnOk result (replies.new.items
+        ≡ replies.old.items ++ Item (Some 1) ∷ Old 3 ∷ Outside 8 ∷ Item (Some 9) ∷ []) }
     ensures left { IfOk result (λ left. left ≡ 2 ∷ []) }
 {
     let mut numbers = GenericArray::<u32, U3>::from_array([1, 2, 3]).into_iter();
@@ -26,7 +27,8 @@ fn replaced_boxed(
     alloc: Global,
     replies: &mut Vec<Reply<u32, u32>>,
 ) -> Result<BoxedArrayIter<u32>, AllocError>
-    ensures replies { OnOk result (replies.new.items ≡ replies.old.items ++ Item (Some 1) ∷ Old 3 ∷ Outside 8 ∷ Item (Some 9) ∷ []) }
+    ensures replies { OnOk result (replies.new.items
+        ≡ replies.old.items ++ Item (Some 1) ∷ Old 3 ∷ Outside 8 ∷ Item (Some 9) ∷ []) }
     ensures left { IfOk result (λ left. left ≡ 2 ∷ []) }
 {
     let mut numbers = BoxedArray::<u32, U3>::from_array(alloc, [1, 2, 3])?.into_iter();
@@ -91,7 +93,8 @@ fn taken<K: Kind>(
         ∷ Item (Some 2) ∷ Seen 12 ∷ Item None ∷ Item None ∷ Seen 0
         ∷ Item (Some 2) ∷ Seen 12 ∷ Item None ∷ Item None ∷ Seen 0
         ∷ Item (Some 2) ∷ Item (Some 5) ∷ Item (Some 3) ∷ []) }
-    ensures others { OnOk result (other_replies.new.items ≡ other_replies.old.items ++ Item (Some 5) ∷ Item (Some 2) ∷ Item (Some 3) ∷ []) }
+    ensures others { OnOk result (other_replies.new.items
+        ≡ other_replies.old.items ++ Item (Some 5) ∷ Item (Some 2) ∷ Item (Some 3) ∷ []) }
 {
     let mut two = K::two(alloc)?;
     taken_behind(alloc, &mut two, replies)?;

@@ -15,7 +15,8 @@ pub(crate) fn in_two_pieces<C: BlockStream>(
     second: &mut [u8],
 ) -> Result<(), StreamEnd>
     ensures { OnOk result (first.new ++ second.new ≡ under (first.old ++ second.old)
-        (key_bytes (C.block mode.old.cipher) C.BlockSize.USIZE mode.old.position (length first.old + length second.old))) }
+        (key_bytes (C.block mode.old.cipher) C.BlockSize.USIZE mode.old.position
+        (length first.old + length second.old))) }
 {
     mode.apply(first)?;
     mode.apply(second)

@@ -9,7 +9,8 @@ use std::num::NonZeroU64;
 use std::test::Fail;
 
 fn is_code<H: LongDigest>(key: &[u8], counter: u64, digits: Digits, code: u32) -> bool
-    ensures { IsTrue result ↔ (code ≡ code_of H.digest H.BlockSize.USIZE key.now counter (digit_count digits)) }
+    ensures { IsTrue result
+        ↔ (code ≡ code_of H.digest H.BlockSize.USIZE key.now counter (digit_count digits)) }
 {
     counter_code::<H>(key, counter, digits) == code
 }
