@@ -1,10 +1,10 @@
 -- Key streams by pieces, and texts under a key by pieces and twice.
 use Rattle.ga_ciphers.specs.Keystream.{IsCurrent, key_byte, key_bytes, under}
 use Rattle.std.proofs.Common.{◌≡◌, ℕ, zero, suc, ◌+◌, ◌-◌, ◌*◌, ◌/◌, ◌%◌, ◌<◌, ◌≤◌, List, [], ◌∷◌, ◌++◌, ap, ap₂, arith, bit_xor, drop, get_or, inl, inr, length, length-take, map, min, refl, slice_range, sym, take, ◌∙◌}
-use Rattle.std.proofs.Math.Nat.{add-mul-mod_self_right, div-lt_iff_lt-mul, mod-lt, mod_self}
+use Rattle.std.proofs.Math.Nat.{add-mul-mod_self_right, mod-lt, mod_self}
 use Rattle.std.proofs.Math.Seq.{drop-cons, take-add}
 use Rattle.std.proofs.lemmas.Bool.{cases_lt}
-use Rattle.std.proofs.lemmas.List.{append-nil, drop-drop, drop_all, drop_at, map-append, take_all, take_at}
+use Rattle.std.proofs.lemmas.List.{drop-drop, drop_at, map-append, take_at}
 use Rattle.std.proofs.lemmas.List.FromFn.{length-map-range_with_len}
 use Rattle.std.proofs.lemmas.Nat.{div-add-mod', div-mul-add, mod-mul-add}
 use Rattle.std.specs.Int.Bits.{xor_assoc, xor_self, xor_zero_r}
@@ -84,10 +84,6 @@ module _ (width : ℕ) (some : 0 < width) (position : ℕ) where
   place_is : position / width * width + position % width ≡ position
   place_is = div-add-mod' position width
 
-  -- the block at a place before the end is one that there is
-  pub number-lt : (blocks : ℕ) → position < blocks * width → position / width < blocks
-  number-lt blocks below = (div-lt_iff_lt-mul some).1 below
-
   -- the block at the place is current behind it too, up to its end
   pub IsCurrent-further : (block : ℕ → List ℕ) (kept : List ℕ) (count next : ℕ) → kept ≡ block (position / width) → position % width + count ≤ width → next ≡ position + count → IsCurrent block width next kept
   IsCurrent-further block kept count next is inside further within =
@@ -127,9 +123,6 @@ module _ (block : ℕ → List ℕ) (width start : ℕ) (text : List ℕ) where
   abbrev pub under_so_far : ℕ → List ℕ
   under_so_far done = under (take done text) (key_bytes block width start done) ++ drop done text
 
-  pub under_so_far-none : under_so_far 0 ≡ text
-  under_so_far-none = refl
-
   module _ (done count : ℕ) (inside : done + count ≤ length text) where
     front : length (take done text) ≡ length (key_bytes block width start done)
     front = omega (arith, length-take done text, length-key_bytes block width start done)
@@ -151,12 +144,6 @@ module _ (block : ℕ → List ℕ) (width start : ℕ) (text : List ℕ) where
         let joined : under (take (done + count) text) (key_bytes block width start (done + count)) ≡ so_far ++ under (take count (drop done text)) (key_bytes block width (start + done) count) =
         ap₂ under (take-add done count text) (key_bytes-append block width start done count) ∙ under-append (take done text) (key_bytes block width start done) (take count (drop done text)) (key_bytes block width (start + done) count) front in
         ap₂ ◌++◌ (ap₂ ◌++◌ front_is (ap₂ under part_is same) ∙ sym joined) behind_is
-
-  pub under_so_far-all : (done : ℕ) → done ≡ length text → under_so_far done ≡ under text (key_bytes block width start (length text))
-  under_so_far-all done all =
-      let none : drop (length text) text ≡ [] = drop_all (length text) text (omega arith) in
-      let whole : take (length text) text ≡ text = take_all (length text) text (omega arith) in
-      ap under_so_far all ∙ (ap₂ (λ front behind. under front (key_bytes block width start (length text)) ++ behind) whole none ∙ append-nil (under text (key_bytes block width start (length text))))
 
 -- A turn of the loop over a text: so many bytes of the block at the place are put over the next bytes of the text.
 module _ (block : ℕ → List ℕ) (width start : ℕ) (text : List ℕ) (some : 0 < width) (position done count : ℕ) (now kept : List ℕ)

@@ -1,7 +1,7 @@
 -- Steps that cut a list from its ends, joined to what std says of `next` and `next_back`.
 use Rattle.ga_views.specs.Cut.{StepGives, back, front}
-use Rattle.std.proofs.Common.{◌≡◌, ℕ, zero, suc, ◌+◌, ◌-◌, ◌<◌, ◌≤◌, List, [], ◌∷◌, ◌++◌, inl, inr, Option, None, Some, length, min, take, drop, reverse, refl, sym, ap, ◌∙◌, append_assoc, arith, length-append, length-drop, slice_get}
-use Rattle.std.proofs.lemmas.List.{drop-drop, length-reverse, length-take, reverse-append, reverse-reverse, take-append-drop, take-take}
+use Rattle.std.proofs.Common.{◌≡◌, ℕ, zero, suc, ◌+◌, ◌-◌, ◌≤◌, List, [], ◌∷◌, ◌++◌, inl, inr, Option, None, Some, length, min, take, drop, reverse, refl, sym, ap, ◌∙◌, append_assoc, arith, length-append, length-drop, slice_get}
+use Rattle.std.proofs.lemmas.List.{drop-drop, length-reverse, reverse-append, reverse-reverse, take-append-drop}
 use Rattle.std.proofs.Math.ListN.{drop_of_length-le}
 use Rattle.std.proofs.Math.Seq.{drop-append_seam, take-append_seam}
 use Rattle.std.proofs.lemmas.Bool.{cases_lt}
@@ -96,11 +96,3 @@ module _ {T : Type 0} where
       let count = length-append left (item ∷ []) in
       let one_less : length items - 1 ≡ length left = let same : length items ≡ length (left ++ item ∷ []) = ap length came in omega arith in
       sym (take-append_seam left (item ∷ [])) ∙ (ap (λ k. take k (left ++ item ∷ [])) (sym one_less) ∙ ap (take (length items - 1)) (sym came))
-
-  -- and so of the first items of a list
-  pub front-popped : (n given : ℕ) (all items left : List T) (reply : Option T) → n ≡ length all → given < n → items ≡ take (n - given) all
-      → YieldsLast (λ all. all) items reply left → left ≡ take (n - (given + 1)) all
-  front-popped n given all items left reply count below first step =
-      let long : length items ≡ n - given = ap length first ∙ (length-take (n - given) all ∙ (omega arith)) in
-      let one_less : length items - 1 ≡ n - (given + 1) = omega arith in
-      popped items reply left step ∙ (ap (λ k. take k items) one_less ∙ (ap (take (n - (given + 1))) first ∙ take-take (n - (given + 1)) (n - given) all (omega arith)))

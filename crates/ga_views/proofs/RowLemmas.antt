@@ -76,12 +76,6 @@ module _ {X : Type 0} (width : ℕ) (items : List X) where
   pub slice_get-rows_past : (r : ℕ) → chunk_count width items ≤ r → slice_get (rows width items) r ≡ None
   slice_get-rows_past r past = slice_get_past (rows width items) r (omega (arith, length-rows))
 
-  -- of width 0 there is no row
-  pub rows-flat : width ≡ 0 → rows width items ≡ []
-  rows-flat flat =
-      let none : chunk_count width items ≡ 0 = ap (λ n. length items / n) flat ∙ div-zero (length items) in
-      ap (λ n. map (row_at width items) (range_with_len 0 n)) none
-
   -- a row that lies in the first items is a row of all
   row-kept : (r count : ℕ) → r < count → row_at width (take (count * width) items) r ≡ row_at width items r
   row-kept r count below =

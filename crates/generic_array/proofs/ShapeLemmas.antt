@@ -106,13 +106,6 @@ module _ {T : Type 0} where
       ap (λ more. x ∷ more) (swap_remove-next n front left item last d here)
       ∙ sym (swap_remove-suc x (front ++ last ∷ []) n d (omega (arith, length-append front (last ∷ []))))
 
-  -- what was built of the items before a place, the last item and what is left
-  pub swap_remove-built : (n : ℕ) (items front left start one two all : List T) (item last d : T) → items ≡ front ++ last ∷ [] → drop n front ≡ item ∷ left
-      → start ≡ [] → one ≡ start ++ take n front → two ≡ one ++ last ∷ [] → all ≡ two ++ left → all ≡ swap_remove items n d
-  swap_remove-built n items front left start one two all item last d whole here none before then behind =
-      behind ∙ (ap (λ l. l ++ left) (then ∙ ap (λ l. l ++ last ∷ []) (before ∙ ap (λ l. l ++ take n front) none)) ∙ (append_assoc (take n front) (last ∷ []) left
-      ∙ (swap_remove-next n front left item last d here ∙ ap (λ l. swap_remove l n d) (sym whole))))
-
   -- the places before those that were written, and these
   pub taken-row : (at n : ℕ) (places front moved rest behind : List T) → front ≡ take at places → length front ≡ at → behind ≡ moved ++ rest → length moved ≡ n
       → take (at + n) (front ++ behind) ≡ take at places ++ moved

@@ -4,7 +4,6 @@ use Rattle.ga_core.proofs.CallLemmas.{may_map-at, may_try_map-at, may_zip-at}
 use Rattle.ga_core.specs.Calls.{MayMap, MayTryMap, MayZip}
 use Rattle.ga_core.specs.Entries.{CallAt, CallAtPair, MayCallAt}
 use Rattle.ga_core.specs.Runs.{ClosureRun, FirstErrorRun}
-use Rattle.generic_array.specs.Built.{built_items}
 use Rattle.generic_array.specs.GivenEntries.{CallAtNext, CallAtNextPair, MayCallAtNext, MayCallAtNextPair}
 use Rattle.generic_array.specs.EntryRuns.{FirstErrorRan}
 use Rattle.std.proofs.Common.{◌≡◌, ℕ, suc, ◌<◌, List, [], ◌∷◌, ◌++◌, length, length-append, arith, ◌⊎◌, inl, inr, map, Result, Ok, Err, Option, None, Some, append-nil, refl, ap, sym, ◌∙◌, subst}
@@ -152,11 +151,6 @@ module _ {S R I J T B : Type 0} (steps : S → Option I → S → Type 0) (other
     pub pair-callable : (f : F) (xs : List T) (bs : List B) → MayZip entry other pre step f xs bs → MayMap pair_entry pair_pre pair_step f (zip xs bs)
     pair-callable f xs bs callable = λ passed q rest ys reached whole run item same stays.
         may_zip-at entry other pre step f xs bs callable passed q rest ys reached whole (ClosureRun-map _ _ pair-call f passed ys reached run) item.0 item.1 (ap (λ p. p.0) same) (ap (λ p. p.1) same)
-
--- what was made is a list itself
-pub built_items-list : {T E : Type 0} (built : Result (List T) E) → built_items (λ items. items) built ≡ built
-built_items-list (Ok items) = refl
-built_items-list (Err error) = refl
 
 module _ {C K Y E : Type 0} (calls : C → K → Result Y E → C → Type 0) where
   -- a run with no error is a run of good calls
