@@ -112,21 +112,23 @@ class Site:
     def __init__(self, top, library):
         self.top, self.library, self.items, self.by_name = top, library, [], {}
         self.crates = {name: self.module(Item("mod", name, "", None, 1), top / "crates" / name / "src" / "lib.rt") for name in CRATES}
-        self.modules = [item for item in self.items if item.kind == "mod"]
-        for module in self.modules:
-            self.settle(module)
         for item in self.items:
-            if item.home and item.kind not in ("mod", "use"):
+            item.home = self.home(item)
+            if item.home:
+                page = f"{item.kind}.{item.name}.html" if item.kind in WITH_A_PAGE else "index.html" + f"#{item.kind}.{item.name}" * (item.kind != "mod")
+                item.url = "/".join([*self.path(item.home), page])
                 self.by_name.setdefault(item.name, []).append(item)
         self.impls = [item for item in self.items if item.kind == "impl" and self.place(item)]
-        for module in self.modules:
-            module.exported = [(name, self.by_name[path[-1]][0]) for _, path, name in self.exported(module) if module.home
-                               and path[-1] in self.by_name and self.by_name[path[-1]][0].home is not module]
 
     def module(self, module, file):
         """A module with all that stands in its file and below."""
         inner = "\n".join(re.findall(r"(?m)^//! ?(.*)$", file.read_text()))
         module.docs, module.title, module.members = inner or module.docs, inner.partition("\n")[0].rstrip("."), list(items_of(file.read_text(), file, module))
+        for use, path, name in [(use, *export) for use in module.of_kind("use") if use.public for export in exports(use)]:
+            if path[0] in (*CRATES, "crate", *(member.name for member in module.of_kind("mod"))):
+                module.exported.append(name)
+            else:
+                module.members.append(Item("foreign", name, f"use {'::'.join(path)}", use.file, use.line, use.docs, owner=module))
         self.items += [module] if not module.owner else []
         self.items += [item for member in module.members for item in (member, *member.members)]
         for member in module.of_kind("mod"):
@@ -137,29 +139,17 @@ class Site:
         """The names of a module and of those above it."""
         return [*self.path(module.owner), module.name] if module.owner else [module.name]
 
-    def settle(self, module):
-        """Gives public items their homes: the module where each stands, if that is public, or else the one that first exports it."""
-        if module.owner and not (module.public and module.owner.home):
-            return
-        module.home, module.url = module, "/".join(self.path(module)) + "/index.html"
-        chosen = [item for item in module.members if item.public and item.kind not in ("use", "impl", "ghost use", "mod")]
-        for use, path, name in self.exported(module):
-            child = next((other for other in module.of_kind("mod") if other.name == path[0]), None)
-            through = [passed for passed in self.exported(child) if passed[2] == path[-1]] if child else []
-            chosen += [item for item in self.items if item.name == path[-1] and item.public and item.owner and item.owner.kind == "mod"
-                       and child and not child.public and self.path(item.owner)[:len(self.path(child))] == self.path(child)]
-            for use, path, name in through if child else [(use, path, name)]:
-                if path[0] not in (*CRATES, "crate") and not any(path[0] == other.name for other in use.owner.of_kind("mod")):
-                    chosen.append(Item("use", name, f"use {'::'.join(path)}", use.file, use.line, use.docs, owner=module))
-                    self.items.append(chosen[-1])
-        for item in chosen:
-            if not item.home:
-                page = f"{item.kind}.{item.name}.html" if item.kind in WITH_A_PAGE else f"index.html#{item.kind}.{item.name}"
-                item.home, item.url = module, module.url.removesuffix("index.html") + page
-
-    def exported(self, module):
-        """What a module exports: each `use`, the path and the name."""
-        return [(use, path, name) for use in module.of_kind("use") if use.public for path, name in exports(use)]
+    def home(self, item):
+        """The public module that an item is found in: where it stands, or the one that exports what stands in a hidden module below it."""
+        if item.kind == "mod":
+            return item if not item.owner or item.public and self.home(item.owner) else None
+        if not item.public or item.owner.kind != "mod" or item.kind in ("impl", "use", "ghost use"):
+            return None
+        module, seen = item.owner, item.kind == "macro"
+        while module.owner and not self.home(module):
+            module = module.owner
+            seen = seen or item.name in module.exported
+        return module if seen or module is item.owner else None
 
     def item_named(self, name, item):
         """The public item that a name of code means at an item, told by the imports of its file."""
@@ -196,7 +186,7 @@ class Site:
         for item in self.items:
             if item.home or item in self.impls or self.is_law(item):
                 yield item
-                yield from self.public_members(item) if item.kind not in ("mod", "use") else ()
+                yield from self.public_members(item) if item.kind not in ("mod", "foreign") else ()
 
     def traits(self, name):
         """The traits of a name: ours, or else std's."""

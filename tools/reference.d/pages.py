@@ -156,31 +156,19 @@ class Pages:
     # Writing
 
     def write(self):
-        """Writes all pages, the list of names that the search reads, and what stands beside them."""
+        """Writes all pages, and what stands beside them."""
         for item in [item for item in self.site.items if item.home and item.kind in ("mod", *WITH_A_PAGE)]:
             self.page("module.html" if item.kind == "mod" else "type.html", item.url, item=item)
         for file, words in self.words.items():
             self.page("words.html", words[0].url.partition("#")[0] if words else f"words/{file.stem}.html", words=words, title=re.match(r"-- (.*)|", file.read_text())[1] or "")
         pictured = {name: (self.site.top / name).read_text() for name in ("crates.txt", "bench/table.txt")}
-        for name in ("words/std.html", "words/index.html", "rust.html", "index.html"):
+        for name in ("words/std.html", "words/index.html", "rust.html", "index.html", "names.js"):
             self.page(name.replace("words/index", "words_index").removeprefix("words/"), name, pictured=pictured)
         for name in ("style.css", "search.js", "pictures.js"):
             shutil.copy(TEMPLATES / name, self.folder / name)
-        (self.folder / "names.js").write_text("const NAMES = " + json.dumps(list(self.names()), ensure_ascii=False, separators=(",", ":")) + ";\n")
 
     def page(self, template, url, **given):
         """Writes a page."""
         self.depth = url.count("/")
         (self.folder / url).parent.mkdir(parents=True, exist_ok=True)
         (self.folder / url).write_text(self.templates.get_template(template).render(url=url, top="../" * self.depth, **given))
-
-    def names(self):
-        """What the search finds: a name, its kind, its name in full, its place and its line."""
-        kinds = {"ghost": "ghost member", "mod": "module", "type": "alias", "use": "of another library"}
-        for item in self.site.shown():
-            if item.name and item.url and item.kind not in ("impl", "field") and not (item.owner and item.owner.kind == "impl" and item.owner.trait):
-                kind = ("method" if "::" in self.full_name(item) else "function" if item.public else "law") if item.kind == "fn" else kinds.get(item.kind, item.kind)
-                yield item.name, kind, self.full_name(item), item.url, re.sub(r"[`*]", "", self.line(item))
-        yield from ((word.name, "word", f"{word.module}.{word.name}", word.url, self.line(word)) for word in self.own_words)
-        yield from ((name.split(".")[-1].strip("◌"), "word of std", name, thing.url, self.line(thing)) for name, thing in self.std.items())
-        yield from ((name.split("::")[-1], "Rust crate", name, item.url if item else "rust.html", line) for name, item, line in self.rust_names)

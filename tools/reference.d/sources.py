@@ -100,16 +100,6 @@ def head_and_clauses(text, at):
             return text[at:sign.start() if end is None else end].strip(), clauses, sign.start()
 
 
-def lines_above(text, at, end):
-    """The docs, the notes and the attributes above an item, and where it begins. An empty line parts notes from it."""
-    found = {"///": [], "//": [], "#": [], "//!": []}
-    while above := ABOVE.match(text, at, end):
-        found["//"] = [] if above[1] else found["//"]
-        found[above[3] or "#"].append(above[4] if above[3] else above[2])
-        at = above.end()
-    return found, at
-
-
 def fields(body, item):
     """The fields of a struct or the variants of an enum, each of which begins a line."""
     above, found = {"///": [], "//": []}, []
@@ -131,7 +121,11 @@ def items_of(text, file, owner=None, at=0, end=None):
     """The items between two places of a file's text."""
     end = len(text) if end is None else end
     while True:
-        above, at = lines_above(text, at, end)
+        above = {"///": [], "//": [], "//!": [], "#": []}
+        while line := ABOVE.match(text, at, end):
+            above["//"] = [] if line[1] else above["//"]  # An empty line parts notes from an item.
+            above[line[3] or "#"].append(line[4] if line[3] else line[2])
+            at = line.end()
         begin = START.match(text, at, end)
         if not begin:
             if text[at:end].strip():
@@ -226,16 +220,13 @@ class Library:
         return self.definitions(file).get(name) or next((word for word in self.definitions(file).values() if part.search(word.head)), None)
 
     @functools.cached_property
-    def files_of_traits(self):
-        """The files of std's traits, by the name of each."""
-        found = collections.defaultdict(list)
-        for crate in ("core", "std", "std_alloc", "std_io") if self.kit else ():
-            for file in sorted((self.kit / crate / "src").rglob("*.rt")):
-                for name in re.findall(r"(?m)^pub trait (\w+)", file.read_text()):
-                    found[name].append(file)
-        return found
+    def std_sources(self):
+        """The files of std's sources, with their texts."""
+        crates = ("core", "std", "std_alloc", "std_io") if self.kit else ()
+        return [(file, file.read_text()) for crate in crates for file in sorted((self.kit / crate / "src").rglob("*.rt"))]
 
     @functools.lru_cache(None)
     def std_traits(self, name):
         """The traits of std that have this name."""
-        return [item for file in self.files_of_traits[name] for item in items_of(file.read_text(), file) if item.kind == "trait" and item.name == name]
+        found = [(file, text, re.search(rf"(?m)^pub trait {re.escape(name)}\b", text)) for file, text in self.std_sources]
+        return [next(items_of(text, file, None, begin.start())) for file, text, begin in found if begin]

@@ -1,7 +1,7 @@
 // The search, the theme, and the contents on a phone.
 const field = document.getElementById("search");
 const list = document.getElementById("found");
-const ORDER = ["struct", "enum", "trait", "macro", "module", "function", "method", "alias", "const", "variant", "type", "Rust crate", "word", "ghost member", "use", "word of std"];
+const ORDER = ["struct", "enum", "trait", "macro", "module", "function", "method", "alias", "const", "variant", "type", "Rust crate", "word", "law", "ghost member", "of another library", "word of std"];
 let chosen = -1;
 
 // How well a name fits what was typed: the lower the better, or nothing.
