@@ -145,7 +145,8 @@ class Site:
             return item if not item.owner or item.public and self.home(item.owner) else None
         if not item.public or item.owner.kind != "mod" or item.kind in ("impl", "use", "ghost use"):
             return None
-        module, seen = item.owner, item.kind == "macro"
+        aliases = [alias for alias in item.owner.of_kind("type") if alias is not item and re.search(rf"\b{item.name}\b", alias.head)]
+        module, seen = item.owner, item.kind == "macro" or any(self.home(alias) for alias in aliases)
         while module.owner and not self.home(module):
             module = module.owner
             seen = seen or item.name in module.exported

@@ -120,8 +120,12 @@ class Pages:
 
     def docs(self, text, item=None, owner=None):
         """Docs as HTML, in which names of items and definitions lead to them."""
+        owners = [owner or (item and self.full_name(item).partition("::")[0])]
+
         def shown(found):
-            place = self.meant(html.unescape(found[1]), owner or (item and self.full_name(item).partition("::")[0]))
+            name = html.unescape(found[1])
+            place = self.meant(name, owners[0]) if item else self.meant(name, owners[-1])
+            owners.append(re.sub(r"<.*|\W", "", name) if place and re.search(r"(struct|trait|enum)\.\w+\.html$", place) else owners[-1])
             return f'<a href="{self.link(place)}">{found[0]}</a>' if place and (item is None or place != item.url) else found[0]
         return Markup(re.sub(r"<code>([^<]+)</code>", shown, markdown.markdown(text, extensions=["fenced_code", "tables"])))
 

@@ -6,10 +6,12 @@ import collections
 import functools
 import json
 import re
+import textwrap
 
 # What a scan stops at: texts, characters and comments, in which brackets mean nothing, then brackets and ends.
 SIGN = re.compile(r'"(?:\\.|[^"\\])*"|\'(?:\\.[^\']*|[^\\\'])\'|//[^\n]*|[{}()\[\];]')
 CLAUSE = re.compile(r"\b(requires|ensures)(\*?)\s*(\w*)\s*$")
+NO_BODY = re.compile(r"(?:\bghost \w+\s*[=:]|\}\s*=|::|\.)\s*$")
 ABOVE = re.compile(r"\s*?(\n\s*\n)?\s*((///|//!|//) ?(.*)|#!?\[(?:[^\[\]]|\[[^\]]*\])*\])")
 START = re.compile(r"\s*(?P<public>pub\b(?P<within>\([^)]*\))?\s*)?(?:(?:final|unsafe|const(?= (?:unsafe )?fn))\s+)*"
                    r"(?P<kind>fn|struct|enum|trait|type|const|static|mod|impl|use|ghost use|ghost|macro_rules!)(?=\W)\s*(?P<name>\w*)")
@@ -62,9 +64,8 @@ def parted(text, separator=","):
 
 def dedented(text):
     """A text whose later lines lose what they are all indented by."""
-    first, *others = text.rstrip().split("\n")
-    spaces = min((len(line) - len(line.lstrip()) for line in others if line.strip()), default=0)
-    return "\n".join([first.lstrip(), *(line[spaces:] for line in others)])
+    first, _, others = text.strip().partition("\n")
+    return f"{first}\n{textwrap.dedent(others)}".rstrip()
 
 
 def imports_of(text):
@@ -94,16 +95,16 @@ def head_and_clauses(text, at):
         place = closing(text, sign.start()) if sign[0] in "([{" else sign.end()
         clause = CLAUSE.search(text, at, sign.start()) if sign[0] == "{" else None
         if clause:
-            clauses.append(Clause(*clause.groups(), dedented(text[sign.start() + 1:place - 1].strip())))
+            clauses.append(Clause(*clause.groups(), dedented(text[sign.start() + 1:place - 1])))
             end = clause.start() if end is None else end
-        elif sign[0] in "{;":
-            return text[at:sign.start() if end is None else end].strip(), clauses, sign.start()
+        elif sign[0] == ";" or sign[0] == "{" and not NO_BODY.search(text, at, sign.start()):
+            return re.sub(r"\n\s*\)", "\n)", dedented(text[at:sign.start() if end is None else end])), clauses, sign.start()
 
 
 def fields(body, item):
     """The fields of a struct or the variants of an enum, each of which begins a line."""
     above, found = {"///": [], "//": []}, []
-    for line in dedented("\n" + body).strip("\n").split("\n"):
+    for line in textwrap.dedent(body).strip("\n").split("\n"):
         if line.startswith("//"):
             above["///" if line.startswith("///") else "//"].append(line.lstrip("/")[1:])
         elif line.startswith((" ", "}")) and found:
@@ -132,23 +133,19 @@ def items_of(text, file, owner=None, at=0, end=None):
                 raise ValueError(f"{file}: not an item: {text[at:at + 60]!r}")
             return
         start, kind = at + len(begin[0]) - len(begin[0].lstrip()), begin["kind"].replace("macro_rules!", "macro")
-        item = Item(kind, begin["name"], "", file, text.count("\n", 0, start) + 1, "\n".join(above["///"]), " ".join(above["//"]), owner=owner,
+        head, clauses, stop = head_and_clauses(text, start)
+        at = closing(text, stop) if text[stop] == "{" else stop + 1
+        item = Item(kind, begin["name"] if kind != "impl" else "", head, file, text.count("\n", 0, start) + 1, "\n".join(above["///"]), " ".join(above["//"]),
                     public=bool(begin["public"]) and not begin["within"] or kind == "macro" and "macro_export" in "".join(above["#"]))
-        if kind in ("use", "ghost use", "ghost", "type", "const", "static"):
-            stop = text.index(";", closing(text, text.index("{", start)) if kind == "ghost" else start)
-            item.head, at = dedented(text[start:stop]), stop + 1
-        else:
-            head, item.clauses, stop = head_and_clauses(text, start)
-            item.head, at = re.sub(r"\n\s*\)", "\n)", dedented(head)), closing(text, stop) if text[stop] == "{" else stop + 1
-            body = text[stop + 1:at - 1]
-            if kind in ("trait", "impl"):
-                item.imports = imports_of("\n".join(re.findall(r"(?m)^ *ghost use .*;$", body)))
-                item.members = list(items_of(text, file, item, stop + 1, at - 1))
-            elif kind in ("struct", "enum"):
-                item.members = fields(body, item)
-            elif kind == "macro":
-                arms = [arm for arm in re.findall(r"(?m)^    (\(.*\)) => \{$", body) if "$other" not in arm]
-                item.head = "\n".join([f"macro_rules! {item.name} {{", *(f"    {arm} => {{ .. }};" for arm in arms), "}"])
+        item.owner, item.clauses, body = owner, clauses, text[stop + 1:at - 1]
+        if kind in ("trait", "impl"):
+            item.imports = imports_of("\n".join(re.findall(r"(?m)^ *ghost use .*;$", body)))
+            item.members = list(items_of(text, file, item, stop + 1, at - 1))
+        elif kind in ("struct", "enum"):
+            item.members = fields(body, item)
+        elif kind == "macro":
+            arms = [arm for arm in re.findall(r"(?m)^    (\(.*\)) => \{$", body) if "$other" not in arm]
+            item.head = "\n".join([f"macro_rules! {item.name} {{", *(f"    {arm} => {{ .. }};" for arm in arms), "}"])
         yield item
 
 
