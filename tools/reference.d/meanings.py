@@ -45,19 +45,18 @@ class Scope:
 
     def __init__(self, site, item):
         self.site, self.item, self.bounds, self.local, self.near = site, item, {}, set(), {}
-        self.imports = dict(item.imports) if item.kind == "word" else imports_of("\n".join(re.findall(r"(?m)^ghost use .*", item.file.read_text())))
+        self.imports = item.imports if item.kind == "word" else imports_of("\n".join(re.findall(r"(?m)^ghost use .*", item.file.read_text())))
         for part in (item.owner, item) if item.kind != "word" else ():
             if part is not None and part.kind in ("trait", "impl", "fn", *WITH_A_PAGE):
                 bounds, parameters = declared(part.head)
-                self.bounds, self.imports, self.local = self.bounds | bounds, self.imports | part.imports, self.local | (parameters if part.kind == "fn" else set())
-                self.local |= {member.name for member in part.members} if part.kind in ("struct", "enum") else set()
+                self.bounds, self.imports = self.bounds | bounds, self.imports | part.imports
+                self.local |= {member.name for member in part.members} if part.kind in ("struct", "enum") else parameters
                 self.near |= {member.name: member for member in part.of_kind("ghost")} if part.kind == "trait" else {}
                 self.bounds |= {"Self": [part.name if part.kind == "trait" else part.of_trait]} if part.kind in ("trait", "impl") else {}
         if item.kind == "word":
-            here = site.library.definitions(item.file)
-            self.near = {name: word for name, word in here.items()}
-            patterns = re.findall(rf"(?m)^{re.escape(item.name)} (.*?) = ", item.head)
-            self.local = {atom for atom in re.findall(r"[^\s(){}]+", " ".join(patterns)) if atom not in self.imports and atom not in here}
+            self.near = site.library.definitions(item.file)
+            patterns = " ".join(re.findall(rf"(?m)^{re.escape(item.name)} (.*?) = ", item.head))
+            self.local = {*re.findall(r"[^\s(){}]+", patterns)} - {*self.imports, *self.near}
         self.imports = {piece: told for name, told in self.imports.items() for piece in name.split("◌") if piece} | self.imports
 
     def closure(self, bounds):
@@ -82,7 +81,7 @@ class Scope:
                 if member.name == name:
                     deeper = parted(member.head.partition(":")[2], "+") + self.bounds.get(f"{prefix}.{name}", [])
                     return self.below(f"{prefix}.{name}", self.closure(deeper), rest)
-        return ("local", None) if name in OF_A_TYPE else ("unknown", None)
+        return "local" if name in OF_A_TYPE or not self.site.library.kit else "unknown", None
 
     def meaning(self, atom, bound):
         """What an atom of a term means: "local", "unknown", or "member" or "word" and what it names."""
@@ -115,7 +114,8 @@ class Site:
         for item in self.items:
             item.home = self.home(item)
             if item.home:
-                page = f"{item.kind}.{item.name}.html" if item.kind in WITH_A_PAGE else "index.html" + f"#{item.kind}.{item.name}" * (item.kind != "mod")
+                anchor = f"#{item.kind}.{item.name}" if item.kind != "mod" else ""
+                page = f"{item.kind}.{item.name}.html" if item.kind in WITH_A_PAGE else "index.html" + anchor
                 item.url = "/".join([*self.path(item.home), page])
                 self.by_name.setdefault(item.name, []).append(item)
         self.impls = [item for item in self.items if item.kind == "impl" and self.place(item)]
@@ -123,7 +123,8 @@ class Site:
     def module(self, module, file):
         """A module with all that stands in its file and below."""
         inner = "\n".join(re.findall(r"(?m)^//! ?(.*)$", file.read_text()))
-        module.docs, module.title, module.members = inner or module.docs, inner.partition("\n")[0].rstrip("."), list(items_of(file.read_text(), file, module))
+        module.docs, module.title = inner or module.docs, inner.partition("\n")[0].rstrip(".")
+        module.members = list(items_of(file.read_text(), file, module))
         for use, path, name in [(use, *export) for use in module.of_kind("use") if use.public for export in exports(use)]:
             if path[0] in (*CRATES, "crate", *(member.name for member in module.of_kind("mod"))):
                 module.exported.append(name)
@@ -157,8 +158,10 @@ class Site:
         module = item
         while module.kind != "mod":
             module = module.owner
-        foreign = [path for use in module.of_kind("use") for path, here in exports(use) if here == name and path[0] not in (*CRATES, "crate", "super")]
-        return min(self.by_name.get(name, []), key=lambda other: self.path(other.home)[0] != self.path(module)[0], default=None) if not foreign or any(path[0] == other.name for path in foreign for other in module.of_kind("mod")) else None
+        near = (*CRATES, "crate", "super", *(child.name for child in module.of_kind("mod")))
+        if any(here == name and path[0] not in near for use in module.of_kind("use") for path, here in exports(use)):
+            return None
+        return min(self.by_name.get(name, []), key=lambda other: self.path(other.home)[0] != self.path(module)[0], default=None)
 
     def place(self, impl):
         """Puts an impl with its type, or else with its trait, and tells whether readers see it."""

@@ -1,7 +1,6 @@
 """Writes the pages of a reference from the templates of reference.d/pages."""
+import collections
 import html
-import itertools
-import json
 import pathlib
 import re
 import shutil
@@ -14,7 +13,6 @@ import markdown
 from markupsafe import Markup
 
 from meanings import CRATES, WITH_A_PAGE, Scope
-from sources import Item
 
 TEMPLATES = pathlib.Path(__file__).resolve().parent / "pages"
 KEYWORDS = set("pub const fn struct enum trait type impl for where mut dyn final self Self as ref unsafe macro_rules".split())
@@ -34,7 +32,8 @@ class Pages:
         self.places = {self.full_name(item): item.url for item in [*self.own_words, *site.shown()] if item.url}
         self.places |= {item.name: item.url for item in [*self.own_words, *site.items] if item.url and item.home or item.kind == "word"}
         self.rust_names = list(self.surface())
-        self.templates = jinja2.Environment(loader=jinja2.FileSystemLoader(TEMPLATES), trim_blocks=True, lstrip_blocks=True, undefined=jinja2.StrictUndefined)
+        self.templates = jinja2.Environment(
+            loader=jinja2.FileSystemLoader(TEMPLATES), trim_blocks=True, lstrip_blocks=True, undefined=jinja2.StrictUndefined)
         self.templates.filters |= {"code": self.code, "docs": self.docs, "term": self.term, "line": self.line, "link": self.link}
         self.templates.globals |= {"site": site, "pages": self, "members": site.public_members}
 
@@ -46,36 +45,37 @@ class Pages:
             crate, _, module = word.module.partition(".")
             word.url = f"words/{crate}/{module}.html#{word.name}"
         for item in self.site.items:
-            item.implementors, taken = [impl for impl in self.site.impls if impl.trait is item], set()
-            for member in itertools.chain(item.blocks, *map(self.site.public_members, [item, *item.blocks])) if item.home and item.kind in WITH_A_PAGE else ():
-                anchors = (f"{member.kind}.{member.name or member.of_trait}" + f"-{count}" * (count > 0) for count in itertools.count())
-                anchor = next(anchor for anchor in anchors if anchor not in taken)
-                taken.add(anchor)
-                member.url = f"{item.url}#{anchor}"
+            item.implementors, taken = [impl for impl in self.site.impls if impl.trait is item], collections.Counter()
+            members = [member for owner in (item, *item.blocks) for member in self.site.public_members(owner)]
+            for member in [*item.blocks, *members] if item.home and item.kind in WITH_A_PAGE else ():
+                anchor = f"{member.kind}.{member.name or member.of_trait}"
+                member.url = f"{item.url}#{anchor}" + f"-{taken[anchor]}" * (taken[anchor] > 0)
+                taken[anchor] += 1
         for law in filter(self.site.is_law, self.site.items):
             law.url = f"{law.owner.url}#law.{law.name}"
 
     def survey(self):
         """Notes at each definition and ghost member who names it, and gathers those of std."""
-        for user, _, kind, target in self.site.named(self.site.shown()):
-            self.note(kind, target, user)
+        for user, _, _, target in self.site.named(self.site.shown()):
+            self.note(target, user)
         for word in self.own_words:
-            for _, kind, target in Scope(self.site, word).pieces(word.head):
-                self.note(kind, target, word)
+            for _, _, target in Scope(self.site, word).pieces(word.head):
+                self.note(target, word)
 
-    def note(self, kind, thing, user):
+    def note(self, thing, user):
         """Notes one who names a thing; a thing of std gets its place first."""
-        if thing is not None and thing is not user:
-            if not thing.url:
-                declared = re.match(r"Rattle\.(\w+)\.specs\.(?:declared|contracts)\.(?:.*\.)?(\w+?)(?:\.TheVariants)?$", thing.module)
-                types = self.site.by_name.get(declared[2], []) if declared else []
-                if declared and self.site.library.own(declared[1]) and not types:
-                    return
-                name = thing.name if thing.kind in ("word", "trait") else f"{thing.owner.name}.{thing.name}"
-                name = f"{thing.module}.{name}" if name in self.std else name
-                thing.url = types[0].url if types else f"words/std.html#{name}"
-                self.std |= {} if types else {name: thing}
-            thing.users += [user] if not any(other is user for other in thing.users[-3:] + thing.users) else []
+        if thing is None or thing is user:
+            return
+        if not thing.url:
+            declared = re.match(r"Rattle\.(\w+)\.specs\.(?:declared|contracts)\.(?:.*\.)?(\w+?)(?:\.TheVariants)?$", thing.module)
+            types = self.site.by_name.get(declared[2], []) if declared else []
+            if declared and self.site.library.own(declared[1]) and not types:
+                return
+            name = thing.name if thing.kind in ("word", "trait") else f"{thing.owner.name}.{thing.name}"
+            name = f"{thing.module}.{name}" if name in self.std else name
+            thing.url = types[0].url if types else f"words/std.html#{name}"
+            self.std |= {} if types else {name: thing}
+        thing.users += [user] if not any(other is user for other in thing.users) else []
 
     def full_name(self, item):
         """An item's name behind that of its type or trait, a definition's behind its module."""
@@ -97,7 +97,7 @@ class Pages:
     def term(self, text, item):
         """A term as HTML, in which each name leads to its definition."""
         made = []
-        for atom, kind, target in Scope(self.site, item).pieces(text):
+        for atom, _, target in Scope(self.site, item).pieces(text):
             shown = html.escape(atom, quote=False)
             if target is not None and target.url and target is not item:
                 sign = "" if re.search(r"\w", atom) else " class=sign"
@@ -109,13 +109,16 @@ class Pages:
 
     def code(self, text, item):
         """Code as HTML, in which the names of items lead to them."""
+
         def shown(found):
             name = found[0]
             if name == item.name and "\n" not in text[:found.start()]:
                 return f"<strong>{name}</strong>"
             other = self.site.item_named(name, item) if name[0].isupper() else None
-            told = f'<a href="{self.link(other.url)}" title="{html.escape(self.line(other))}">{name}</a>' if other and other is not item else html.escape(name, quote=False)
-            return f"<b>{name}</b>" if name in KEYWORDS else told
+            if other and other is not item:
+                return f'<a href="{self.link(other.url)}" title="{html.escape(self.line(other))}">{name}</a>'
+            return f"<b>{name}</b>" if name in KEYWORDS else html.escape(name, quote=False)
+
         return Markup(re.sub(r"//.*|'?\b[A-Za-z_]\w*\b|[<>&]", shown, text))
 
     def docs(self, text, item=None, owner=None):
@@ -140,21 +143,21 @@ class Pages:
         text, left_out = re.split(r"## Own items(?s:.*)## Left out", self.surface_text)
         items = {item.url: item for item in self.site.shown() if item.url}
         same, others = text.split("By another name")
-        for bullet in re.findall(r"(?m)^- (.*\n(?:  .*\n)*)", same + "\0" + others):
-            owner, (theirs, _, ours) = "GenericArray", bullet.replace("::", "\0").partition(": ")
-            found, names = [], re.findall(r"`([^`]+)`", re.sub(r" (between|of|to) .*", "", theirs, flags=re.S).replace("\0", "::"))
+        for bullet in re.findall(r"(?m)^- (.*\n(?:  .*\n)*)", same + "\n" + others):
+            owner, found, (theirs, _, ours) = "GenericArray", [], bullet.partition(": ")
             for name in re.findall(r"`([^`]+)`", bullet):
                 item = items.get(self.meant(name, owner))
                 owner = item.name if item and item.kind in WITH_A_PAGE else owner
-                if item and bullet in same:
+                found += [item] if item and (bullet in same or f"`{name}`" in ours) else []
+            if bullet in same:
+                for item in found:
                     item.rust.append(self.full_name(item))
-                elif item and f"`{name}`" in ours.replace("\0", "::"):
-                    found.append(item)
+                continue
             found = [item for item in found if item.kind == "fn"] or found
-            for name in names if bullet in others else ():
-                yield name, found[0] if found else None, " ".join(ours.replace("\0", "::").replace("`", "").split())
-            for item in found:
-                item.rust += names
+            for name in re.findall(r"`([^`]+)`", re.sub(r" (between|of|to) .*", "", theirs, flags=re.S)):
+                yield name, found[0] if found else None, " ".join(ours.replace("`", "").split())
+                for item in found:
+                    item.rust.append(name)
         yield from ((name, None, "left out") for name in re.findall(r"`([^`]+)`", left_out))
 
     # Writing
@@ -164,7 +167,7 @@ class Pages:
         for item in [item for item in self.site.items if item.home and item.kind in ("mod", *WITH_A_PAGE)]:
             self.page("module.html" if item.kind == "mod" else "type.html", item.url, item=item)
         for file, words in self.words.items():
-            self.page("words.html", words[0].url.partition("#")[0] if words else f"words/{file.stem}.html", words=words, title=re.match(r"-- (.*)|", file.read_text())[1] or "")
+            self.page("words.html", words[0].url.partition("#")[0], words=words, title=re.match(r"-- (.*)|", file.read_text())[1] or "")
         pictured = {name: (self.site.top / name).read_text() for name in ("crates.txt", "bench/table.txt")}
         for name in ("words/std.html", "words/index.html", "rust.html", "index.html", "names.js"):
             self.page(name.replace("words/index", "words_index").removeprefix("words/"), name, pictured=pictured)

@@ -135,9 +135,10 @@ def items_of(text, file, owner=None, at=0, end=None):
         start, kind = at + len(begin[0]) - len(begin[0].lstrip()), begin["kind"].replace("macro_rules!", "macro")
         head, clauses, stop = head_and_clauses(text, start)
         at = closing(text, stop) if text[stop] == "{" else stop + 1
-        item = Item(kind, begin["name"] if kind != "impl" else "", head, file, text.count("\n", 0, start) + 1, "\n".join(above["///"]), " ".join(above["//"]),
-                    public=bool(begin["public"]) and not begin["within"] or kind == "macro" and "macro_export" in "".join(above["#"]))
-        item.owner, item.clauses, body = owner, clauses, text[stop + 1:at - 1]
+        line, name = text.count("\n", 0, start) + 1, begin["name"] if kind != "impl" else ""
+        item = Item(kind, name, head, file, line, "\n".join(above["///"]), " ".join(above["//"]), owner=owner, clauses=clauses)
+        item.public = bool(begin["public"]) and not begin["within"] or kind == "macro" and "macro_export" in "".join(above["#"])
+        body = text[stop + 1:at - 1]
         if kind in ("trait", "impl"):
             item.imports = imports_of("\n".join(re.findall(r"(?m)^ *ghost use .*;$", body)))
             item.members = list(items_of(text, file, item, stop + 1, at - 1))
@@ -207,11 +208,10 @@ class Library:
     def word(self, path, name):
         """The definition that a name of a module stands for, or None."""
         file = self.module_file(path)
-        if ".specs.declared." in path or ".specs.contracts." in path or path.startswith("Prim.") or not file:
-            return Item("word", name, "", None, 0, module=path) if not file and re.search(r"\.(declared|contracts)\.|^Prim\.", path) else None
-        text = file.read_text()
-        passed = {} if name in self.definitions(file) else imports_of("\n".join(use[0] for use in USE.finditer(text) if use[1]))
-        if name in passed:
+        if not file:  # The compiler makes such modules, of types and of what is built in.
+            return Item("word", name, "", None, 0, module=path) if re.search(r"\.(declared|contracts)\.|^Prim\.", path) else None
+        passed = imports_of("\n".join(use[0] for use in USE.finditer(file.read_text()) if use[1]))
+        if name in passed and name not in self.definitions(file):
             return self.word(*passed[name])
         part = re.compile(rf"(?m)^ +(?:pub )?{re.escape(name)} :")
         return self.definitions(file).get(name) or next((word for word in self.definitions(file).values() if part.search(word.head)), None)
