@@ -159,7 +159,7 @@ class Site:
         while module.kind != "mod":
             module = module.owner
         near = (*CRATES, "crate", "super", *(child.name for child in module.of_kind("mod")))
-        if any(here == name and path[0] not in near for use in module.of_kind("use") for path, here in exports(use)):
+        if any(here == name and path[0] not in near for use in module.of_kind("use") if not use.public for path, here in exports(use)):
             return None
         return min(self.by_name.get(name, []), key=lambda other: self.path(other.home)[0] != self.path(module)[0], default=None)
 

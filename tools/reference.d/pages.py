@@ -127,15 +127,15 @@ class Pages:
 
         def shown(found):
             name = html.unescape(found[1])
-            place = self.meant(name, owners[0]) if item else self.meant(name, owners[-1])
+            place = self.meant(name, *(owners[:1] if item else ()), owners[-1])
             owners.append(re.sub(r"<.*|\W", "", name) if place and re.search(r"(struct|trait|enum)\.\w+\.html$", place) else owners[-1])
             return f'<a href="{self.link(place)}">{found[0]}</a>' if place and (item is None or place != item.url) else found[0]
         return Markup(re.sub(r"<code>([^<]+)</code>", shown, markdown.markdown(text, extensions=["fenced_code", "tables"])))
 
-    def meant(self, name, owner):
-        """The place of what a name in docs means: a member beside it, or else an item or a definition."""
+    def meant(self, name, *owners):
+        """The place of what a name in docs means: a member beside it or of the type named last, or else an item or a definition."""
         name = re.sub(r"<.*>|[()!&]", "", name)
-        return self.places.get(f"{owner}::{name}") or self.places.get(name)
+        return next((self.places[full] for full in (*(f"{owner}::{name}" for owner in owners), name) if full in self.places), None)
 
     def surface(self):
         """Notes the Rust crate's names at their counterparts, as SURFACE tells them. Gives those that have another name here, or none."""
