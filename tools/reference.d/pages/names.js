@@ -1,0 +1,18 @@
+// What the search finds: a name, its kind, its name in full, its place and its line.
+const NAMES = [
+{% set kinds = {"ghost": "ghost member", "mod": "module", "type": "alias", "foreign": "of another library"} %}
+{% for item in site.shown() if item.name and item.url and item.kind not in ("impl", "field") and not (item.owner and item.owner.kind == "impl" and item.owner.trait) %}
+{% set full = pages.full_name(item) %}
+{% set kind = ("method" if "::" in full else "function" if item.public else "law") if item.kind == "fn" else kinds.get(item.kind, item.kind) %}
+{{ [item.name, kind, full, item.url, (item|line).replace("`", "")]|tojson }},
+{% endfor %}
+{% for word in pages.own_words %}
+{{ [word.name, "word", word.module ~ "." ~ word.name, word.url, word|line]|tojson }},
+{% endfor %}
+{% for name, thing in pages.std.items() %}
+{{ [name.split(".")[-1].strip("◌"), "word of std", name, thing.url, thing|line]|tojson }},
+{% endfor %}
+{% for name, item, line in pages.rust_names %}
+{{ [name.split("::")[-1], "Rust crate", name, item.url if item else "rust.html", line]|tojson }},
+{% endfor %}
+];

@@ -1,0 +1,229 @@
+"""Reads the sources of crates: items with their docs, signatures and clauses, and the definitions of specs/.
+
+It knows the forms that these sources have, and not the whole language. It needs no library.
+"""
+import collections
+import functools
+import json
+import re
+import textwrap
+
+# What a scan stops at: texts, characters and comments, in which brackets mean nothing, then brackets and ends.
+SIGN = re.compile(r'"(?:\\.|[^"\\])*"|\'(?:\\.[^\']*|[^\\\'])\'|//[^\n]*|[{}()\[\];]')
+CLAUSE = re.compile(r"\b(requires|ensures)(\*?)\s*(\w*)\s*$")
+NO_BODY = re.compile(r"(?:\bghost \w+\s*[=:]|\}\s*=|::|\.)\s*$")
+ABOVE = re.compile(r"\s*?(\n\s*\n)?\s*((///|//!|//) ?(.*)|#!?\[(?:[^\[\]]|\[[^\]]*\])*\])")
+START = re.compile(r"\s*(?P<public>pub\b(?P<within>\([^)]*\))?\s*)?(?:(?:final|unsafe|const(?= (?:unsafe )?fn))\s+)*"
+                   r"(?P<kind>fn|struct|enum|trait|type|const|static|mod|impl|use|ghost use|ghost|macro_rules!)(?=\W)\s*(?P<name>\w*)")
+USE = re.compile(r"(?m)^\s*(?:unfoldable )?(pub )?(?:ghost )?use ([^\s;{]+?)(?:\.\{([^}]*)\})?(?: as ([\w-]+))?;?\s*$")
+DEFINED = re.compile(r" *(?:(?:abbrev|unfoldable|pub|record|data|axiom) )*([^\s({]+)((?: ?[({].*?[)}])*) :(?: |$)")
+Clause = collections.namedtuple("Clause", "keyword star name term")
+
+
+class Item:
+    """An item, a member of one, or a definition. What it has beyond its text is noted here later."""
+
+    def __init__(self, kind, name, head, file, line, docs="", notes="", **more):
+        self.kind, self.name, self.head, self.file, self.line, self.docs, self.notes = kind, name, head, file, line, docs, notes
+        self.owner, self.home, self.url, self.public, self.imports, self.module, self.trait = None, None, "", True, {}, "", None
+        self.clauses, self.members, self.users, self.rust, self.blocks, self.exported = [], [], [], [], [], []
+        self.__dict__.update(more)
+
+    def of_kind(self, *kinds):
+        """The members of these kinds."""
+        return [member for member in self.members if member.kind in kinds]
+
+    def terms(self):
+        """The terms that the item says something by."""
+        return [clause.term for clause in self.clauses] + ([self.term()] if self.kind == "ghost" else [])
+
+    def term(self):
+        """The type or the term of a ghost member."""
+        return self.head[self.head.index("{") + 1:self.head.rindex("}")].strip()
+
+
+def closing(text, at):
+    """The place behind the bracket that closes the one at `at`."""
+    depth = 0
+    for sign in SIGN.finditer(text, at):
+        depth += (sign[0] in "{([") - (sign[0] in "})]")
+        if depth == 0:
+            return sign.end()
+    raise ValueError("a bracket isn't closed")
+
+
+def parted(text, separator=","):
+    """The parts of a list, cut at separators that stand in no bracket."""
+    parts, depth = [""], 0
+    for at, sign in enumerate(text):
+        depth += (sign in "([{<") - (sign in ")]}" or sign == ">" and text[at - 1] not in "-=")
+        parts += [""] if depth == 0 and sign == separator else []
+        parts[-1] += "" if depth == 0 and sign == separator else sign
+    return [part.strip() for part in parts if part.strip()]
+
+
+def dedented(text):
+    """A text whose later lines lose what they are all indented by."""
+    first, _, others = text.strip().partition("\n")
+    return f"{first}\n{textwrap.dedent(others)}".rstrip()
+
+
+def imports_of(text):
+    """The names that lines of `use` import, each with its module and its name there; an alias of a module has no name."""
+    found = {}
+    for _, module, names, alias in USE.findall(text):
+        for name in filter(None, map(str.strip, names.split(","))):
+            there, _, here = name.partition(" as ")
+            found[here or there] = module, there
+        found |= {alias: (module, "")} if alias else {}
+    return found
+
+
+def exports(use):
+    """The paths that a `use` names, each with the name that it gives."""
+    stem, _, names = use.head.split("use ", 1)[1].partition("{")
+    for name in list(filter(None, map(str.strip, names.rstrip("}").split(",")))) or [""]:
+        there, _, here = (stem + name).partition(" as ")
+        yield there.split("::"), here or there.split("::")[-1]
+
+
+def head_and_clauses(text, at):
+    """The head of the item at `at`, its clauses, and where its body or its `;` begins."""
+    clauses, end, place = [], None, at
+    while True:
+        sign = SIGN.search(text, place)
+        place = closing(text, sign.start()) if sign[0] in "([{" else sign.end()
+        clause = CLAUSE.search(text, at, sign.start()) if sign[0] == "{" else None
+        if clause:
+            clauses.append(Clause(*clause.groups(), dedented(text[sign.start() + 1:place - 1])))
+            end = clause.start() if end is None else end
+        elif sign[0] == ";" or sign[0] == "{" and not NO_BODY.search(text, at, sign.start()):
+            return re.sub(r"\n\s*\)", "\n)", dedented(text[at:sign.start() if end is None else end])), clauses, sign.start()
+
+
+def fields(body, item):
+    """The fields of a struct or the variants of an enum, each of which begins a line."""
+    above, found = {"///": [], "//": []}, []
+    for line in textwrap.dedent(body).strip("\n").split("\n"):
+        if line.startswith("//"):
+            above["///" if line.startswith("///") else "//"].append(line.lstrip("/")[1:])
+        elif line.startswith((" ", "}")) and found:
+            found[-1].head += "\n" + line.rstrip(",")
+        elif line and not line.startswith("#["):
+            kind = "ghost" if line.startswith("ghost ") else "variant" if item.kind == "enum" else "field"
+            name = re.match(r"(?:pub |ghost )*(\w+)", line)[1]
+            found.append(Item(kind, name, line.rstrip(","), item.file, item.line, "\n".join(above["///"]), " ".join(above["//"]),
+                              public=kind != "field" or line.startswith("pub "), owner=item))
+            above = {"///": [], "//": []}
+    return found
+
+
+def items_of(text, file, owner=None, at=0, end=None):
+    """The items between two places of a file's text."""
+    end = len(text) if end is None else end
+    while True:
+        above = {"///": [], "//": [], "//!": [], "#": []}
+        while line := ABOVE.match(text, at, end):
+            above["//"] = [] if line[1] else above["//"]  # An empty line parts notes from an item.
+            above[line[3] or "#"].append(line[4] if line[3] else line[2])
+            at = line.end()
+        begin = START.match(text, at, end)
+        if not begin:
+            if text[at:end].strip():
+                raise ValueError(f"{file}: not an item: {text[at:at + 60]!r}")
+            return
+        start, kind = at + len(begin[0]) - len(begin[0].lstrip()), begin["kind"].replace("macro_rules!", "macro")
+        head, clauses, stop = head_and_clauses(text, start)
+        at = closing(text, stop) if text[stop] == "{" else stop + 1
+        line, name = text.count("\n", 0, start) + 1, begin["name"] if kind != "impl" else ""
+        item = Item(kind, name, head, file, line, "\n".join(above["///"]), " ".join(above["//"]), owner=owner, clauses=clauses)
+        item.public = bool(begin["public"]) and not begin["within"] or kind == "macro" and "macro_export" in "".join(above["#"])
+        body = text[stop + 1:at - 1]
+        if kind in ("trait", "impl"):
+            item.imports = imports_of("\n".join(re.findall(r"(?m)^ *ghost use .*;$", body)))
+            item.members = list(items_of(text, file, item, stop + 1, at - 1))
+        elif kind in ("struct", "enum"):
+            item.members = fields(body, item)
+        elif kind == "macro":
+            arms = [arm for arm in re.findall(r"(?m)^    (\(.*\)) => \{$", body) if "$other" not in arm]
+            item.head = "\n".join([f"macro_rules! {item.name} {{", *(f"    {arm} => {{ .. }};" for arm in arms), "}"])
+        yield item
+
+
+def definitions(file, module):
+    """The definitions of a file of specs/, by name, each with the module blocks that it stands in and the lines of notes above it."""
+    lines, found, blocks, notes, at = file.read_text().split("\n"), {}, [], [], 0
+    imports, deep = imports_of("\n".join(line for line in lines if "use " in line)), [len(line) - len(line.lstrip()) for line in lines]
+    while at < len(lines):
+        line, indent, stop = lines[at], deep[at], at + 1
+        blocks = [block for block in blocks if not line.strip() or block[0] < indent]
+        defined = DEFINED.match(line)
+        if re.match(r" *module _ .*where$", line):
+            blocks.append((indent, line.strip()))
+        elif defined and not re.match(r" *(--|use |pub use |mod |module )", line):
+            while stop < len(lines) and (not lines[stop].strip() or deep[stop] > indent or lines[stop].split()[0] == defined[1]):
+                stop += 1
+            text = "\n".join(row[indent:] for row in lines[at:stop]).rstrip()
+            found.setdefault(defined[1], Item("word", defined[1], text, file, at + 1, notes=" ".join(notes), module=module,
+                                              context=[block[1] for block in blocks], imports=imports))
+        notes = [*notes, line.strip()[3:]] if line.strip().startswith("-- ") else []
+        at = stop
+    return found
+
+
+class Library:
+    """The crates of a repository and of the toolchain, if there is one: modules, words and std's traits by their names."""
+
+    def __init__(self, top, kit=None):
+        self.top, self.kit, mounts = top, kit, kit / "logic" / "antt-project.json" if kit else None
+        self.mounts = json.loads(mounts.read_text())["mounts"] if mounts and mounts.exists() else {}
+
+    def own(self, crate):
+        """Whether a crate is the repository's."""
+        return (self.top / "crates" / crate).exists()
+
+    @functools.lru_cache(None)
+    def module_file(self, path):
+        """The file of a module, through what other modules of its crate pass on, or None."""
+        root, *rest = path.split(".")
+        if root != "Rattle":
+            folders = [self.kit / "logic" / self.mounts.get(root, root) / part for part in ("", "src")] if self.kit else []
+            return next((file for file in (folder.joinpath(*rest).with_suffix(".antt") for folder in folders if rest) if file.exists()), None)
+        folder, rest = (self.top / "crates" if self.own(rest[0]) or not self.kit else self.kit) / rest[0] / rest[1], rest[2:]
+        file = folder.joinpath(*rest).with_suffix(".antt")
+        for count in range(0 if file.exists() else len(rest), 0, -1):
+            for passing, name in (("Lib", ".".join(rest[:count])), ("/".join(rest[:count - 1]) or "Lib", rest[count - 1])):
+                text = folder.joinpath(passing + ".antt").read_text() if folder.joinpath(passing + ".antt").exists() else ""
+                if passed := re.search(rf"(?m)^pub use (\S+\.{re.escape(name)})$", text):
+                    return self.module_file(".".join([passed[1], *rest[count:]]))
+        return file if file.exists() else None
+
+    @functools.lru_cache(None)
+    def definitions(self, file):
+        """The definitions of a file, whose module is told by its place."""
+        place = file.relative_to(self.top / "crates" if file.is_relative_to(self.top / "crates") else self.kit).with_suffix("").parts
+        return definitions(file, ".".join(part for part in place if part != "specs"))
+
+    @functools.lru_cache(None)
+    def word(self, path, name):
+        """The definition that a name of a module stands for, or None."""
+        file = self.module_file(path)
+        if not file:  # The compiler makes such modules, of types and of what is built in.
+            return Item("word", name, "", None, 0, module=path) if re.search(r"\.(declared|contracts)\.|^Prim\.", path) else None
+        passed = imports_of("\n".join(use[0] for use in USE.finditer(file.read_text()) if use[1]))
+        if name in passed and name not in self.definitions(file):
+            return self.word(*passed[name])
+        part = re.compile(rf"(?m)^ +(?:pub )?{re.escape(name)} :")
+        return self.definitions(file).get(name) or next((word for word in self.definitions(file).values() if part.search(word.head)), None)
+
+    @functools.cached_property
+    def std_sources(self):
+        """The files of std's sources, with their texts."""
+        crates = ("core", "std", "std_alloc", "std_io") if self.kit else ()
+        return [(file, file.read_text()) for crate in crates for file in sorted((self.kit / crate / "src").rglob("*.rt"))]
+
+    @functools.lru_cache(None)
+    def std_traits(self, name):
+        """The traits of std that have this name."""
+        found = [(file, text, re.search(rf"(?m)^pub trait {re.escape(name)}\b", text)) for file, text in self.std_sources]
+        return [next(items_of(text, file, None, begin.start())) for file, text, begin in found if begin]
