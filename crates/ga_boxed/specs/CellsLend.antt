@@ -5,6 +5,7 @@ use Rattle.std.specs.Borrow.{Array, Fml, Lends, MutBor, RattleType}
 use Rattle.std.specs.List.{refill}
 use Rattle.std.specs.Prelude.{List, length}
 
+-- the cells with these items in the place of theirs
 abbrev pub with_items : {X : Type 0} → Cells X → List X → Cells X
 with_items c xs = record { mark = c.mark; at = c.at; passed = c.passed; items = xs; room = c.room }
 

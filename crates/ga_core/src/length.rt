@@ -11,6 +11,7 @@ pub trait ArrayLength<T>: Unsigned {
     /// Where such an array keeps its items: a store with room for exactly `USIZE` of them.
     type ArrayType: Store<T>;
 
+    // The store has room for exactly `USIZE` items.
     ghost capacity_is: { Self.ArrayType.CAPACITY ≡ Self.USIZE };
 }
 

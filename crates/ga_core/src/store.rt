@@ -13,8 +13,10 @@ use std::default::MadeWith;
 ///
 /// Who writes one gives the six calls without a body. The other three stand on them.
 pub trait Store<T>: Sized + Drop {
+    // The items, in order.
     ghost items: { Self → List T };
 
+    // How many items there is room for.
     ghost CAPACITY: { ℕ };
 
     /// A store without items. Its capacity is at most `MAX_INLINE`.

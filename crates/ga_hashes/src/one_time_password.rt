@@ -16,8 +16,11 @@ use std::num::NonZeroU64;
 /// How many decimal digits a code has.
 #[derive(Debug, Clone, Copy, PartialEq, Eq)]
 pub enum Digits {
+    /// Six digits.
     Six,
+    /// Seven digits.
     Seven,
+    /// Eight digits.
     Eight,
 }
 

@@ -10,6 +10,7 @@ pub const MAX_INLINE: usize = 65_536;
 
 /// A length that is a type. The counterpart of `typenum::Unsigned`, of which only `USIZE` is kept.
 pub trait Unsigned {
+    // The length.
     ghost USIZE: { ℕ };
 
     /// The length as a number.
@@ -21,6 +22,7 @@ pub trait Unsigned {
 /// Every named length is one. An `impl` for another, as for `Const<100>`, is two lines: it proves that the
 /// length is at most `MAX_INLINE`.
 pub trait InlineLength: Unsigned {
+    // The length is at most `MAX_INLINE`.
     ghost fits: { FitsInline Self.USIZE };
 }
 

@@ -10,6 +10,7 @@ ghost use Rattle.std.specs.Prelude.{◌≡◌, ℕ, ◌+◌, ◌<◌, ◌≤◌,
 /// The writing view is generic over it: a contract can say what a view ends as, where its slice is
 /// borrowed on, only if the slice stands behind a bound.
 pub trait ReborrowSlice<T>: Drop {
+    // The items of the slice.
     ghost items: { Self → List T };
 
     // Both are the same reference, whatever has been written through it.
@@ -23,6 +24,7 @@ pub trait ReborrowSlice<T>: Drop {
     ghost slice_with: { (slice : Self) (written : List T) → (after : Self)
         × (items after ≡ refill (length (items slice)) (items slice) written) };
 
+    // With these items it is the same reference.
     ghost slice_with_stays: { (slice : Self) (written : List T) → stays slice (slice_with slice written).0 };
 
     /// The items, in order, for writing. The caller says how many they are, so that the compiler knows
@@ -37,6 +39,7 @@ pub trait ReborrowSlice<T>: Drop {
     ghost slice_with_item: { (slice : Self) (index : ℕ) (item : T) → (after : Self)
         × (items after ≡ slice_set (items slice) index item) };
 
+    // With this item it is the same reference.
     ghost slice_with_item_stays: { (slice : Self) (index : ℕ) (item : T)
         → stays slice (slice_with_item slice index item).0 };
 

@@ -11,6 +11,7 @@ use std::slice;
 
 /// `array.len()`, where the trait is in scope. The associated `GenericArray::len()` takes no array.
 pub trait Len {
+    // The number of items.
     ghost LEN: { ℕ };
 
     /// The number of items, which the type tells.

@@ -21,8 +21,10 @@ mod views;
 
 /// A sequence to which an item can be added.
 pub trait Lengthen<T, Longer>: Sized {
+    // The items.
     ghost items: { Self → List T };
 
+    // Those of the longer sequence.
     ghost longer_items: { Longer → List T };
 
     // A longer sequence has one item more, and its length fits.
@@ -41,8 +43,10 @@ pub trait Lengthen<T, Longer>: Sized {
 
 /// A sequence from which an end can be taken.
 pub trait Shorten<T, Shorter>: Sized {
+    // The items.
     ghost items: { Self → List T };
 
+    // Those of the shorter sequence.
     ghost shorter_items: { Shorter → List T };
 
     // A shorter sequence has one item less.
@@ -61,10 +65,13 @@ pub trait Shorten<T, Shorter>: Sized {
 
 /// A sequence that can be joined with one that follows it.
 pub trait Concat<T, Rest, Output>: Sized {
+    // The items.
     ghost items: { Self → List T };
 
+    // The items that follow.
     ghost rest_items: { Rest → List T };
 
+    // Those of what is made.
     ghost output_items: { Output → List T };
 
     // How many items the sequence has.
@@ -84,10 +91,13 @@ pub trait Concat<T, Rest, Output>: Sized {
 
 /// A sequence that can be cut in two.
 pub trait Split<T, First, Second>: Sized {
+    // The items.
     ghost items: { Self → List T };
 
+    // Those of the first part.
     ghost first_items: { First → List T };
 
+    // Those of the second part.
     ghost second_items: { Second → List T };
 
     // How many items the first part has.
@@ -106,8 +116,10 @@ pub trait Split<T, First, Second>: Sized {
 
 /// A sequence from which the item at a place can be taken.
 pub trait Remove<T, Output>: Sized {
+    // The items.
     ghost items: { Self → List T };
 
+    // Those of what is made.
     ghost output_items: { Output → List T };
 
     // What is left has one item less.
@@ -170,6 +182,7 @@ pub trait Flatten<T, Output>: Sized {
     // The items of each row.
     ghost row_items: { Self → List (List T) };
 
+    // Those of what is made.
     ghost output_items: { Output → List T };
 
     // How many items a row has.
@@ -189,8 +202,10 @@ pub trait Flatten<T, Output>: Sized {
 
 /// A sequence that can be cut into rows of one width.
 pub trait Unflatten<T, Output>: Sized {
+    // The items.
     ghost items: { Self → List T };
 
+    // The rows of what is made.
     ghost output_rows: { Output → List (List T) };
 
     // How many items a row has.
