@@ -1,6 +1,7 @@
 -- Sums of bytes, by a fold.
-use Rattle.generic_array.specs.Entries.{FoldAt, MayFoldAt}
-use Rattle.generic_array.specs.Runs.{CallableInFold, FoldRun}
+use Rattle.generic_array.specs.Calls.{MayFold}
+use Rattle.generic_array.specs.Entries.{FoldAt}
+use Rattle.generic_array.specs.Runs.{FoldRun}
 use Rattle.std.proofs.Common.{◌≡◌, ℕ, ◌+◌, ◌*◌, ◌≤◌, List, [], ◌∷◌, length, length-append, arith, ap}
 
 module _ {F I : Type 0} (entry : I → ℕ) (step : F → ℕ → I → ℕ → F → Type 0) (rises : (f : F) (a : ℕ) (item : I) (b : ℕ) (g : F) → step f a item b g → b ≤ a + 255) where
@@ -11,7 +12,7 @@ module _ {F I : Type 0} (entry : I → ℕ) (step : F → ℕ → I → ℕ → 
       omega (arith, FoldRun-bound run.0.0 run.0.1 xs b g run.2, rises f a run.1.0 run.0.1 run.0.0 run.1.2)
 
   -- so it may be called where it may with what so many bytes add up to at most
-  pub CallableInFold-bound : (pre : F → ℕ → I → Type 0) (n : ℕ) → ((f : F) (a : ℕ) (item : I) → a ≤ 255 * n → pre f a item)
-      → (f : F) (xs : List ℕ) → length xs ≡ n → CallableInFold (MayFoldAt entry pre) (FoldAt entry step) f 0 xs
-  CallableInFold-bound pre n may f xs long passed x others reached value whole run item same =
+  pub MayFold-bound : (pre : F → ℕ → I → Type 0) (n : ℕ) → ((f : F) (a : ℕ) (item : I) → a ≤ 255 * n → pre f a item)
+      → (f : F) (xs : List ℕ) → length xs ≡ n → MayFold entry pre step f 0 xs
+  MayFold-bound pre n may f xs long passed x others reached value whole run item same stays =
       may reached value item (omega (arith, FoldRun-bound f 0 passed value reached run, length-append passed (x ∷ others), ap length whole, long))

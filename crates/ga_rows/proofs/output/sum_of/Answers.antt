@@ -1,11 +1,11 @@
-use Rattle.ga_rows.proofs.SumLemmas.{CallableInFold-bound, FoldRun-bound}
+use Rattle.ga_rows.proofs.SumLemmas.{MayFold-bound, FoldRun-bound}
 use Rattle.ga_rows.proofs.output.sum_of.Goals as goal
 use Rattle.std.proofs.Common.{◌≡◌, arith, rules}
 use Rattle.std.specs.List.{sum}
 
 pub total_by-requires : goal.total_by-requires
 total_by-requires g c =
-    record { callable = CallableInFold-bound (λ byte. byte.now) _ (λ f a item b next call. search rules) _ g.N.Unsigned.USIZE (λ f a item few. search rules) _ _ c.args.row.full }
+    record { callable = MayFold-bound (λ byte. byte.now) _ (λ f a item b next call. search rules) _ g.N.Unsigned.USIZE (λ f a item few. search rules) _ _ c.args.row.full }
 
 pub returns : goal.returns
 returns g c =
