@@ -8,7 +8,9 @@ use Rattle.std.specs.Result.{IfOk}
 
 module _ {F X Y R : Type 0} (step : F → X → Y → F → Type 0) (P : Y → Type 0) where
   -- P holds of all answers where it holds of the answer of each call
-  pub IfOk-all : ((f : F) (x : X) (y : Y) (next : F) → step f x y next → P y) → (f : F) (xs : List X) (last : F) (result : Result (List Y) R)
+  pub IfOk-all : ((f : F) (x : X) (y : Y) (next : F) → step f x y next → P y)
+      → (f : F) (xs : List X) (last : F) (result : Result (List Y) R)
       → IfOk result (λ ys. ClosureRun step f xs ys last) → IfOk result (All P)
   IfOk-all each f xs last result run =
-      IfOk-weaker result (λ ys. ClosureRun step f xs ys last) (All P) (λ ys ran. ClosureRun-all step P each f xs ys last ran) run
+      IfOk-weaker result (λ ys. ClosureRun step f xs ys last) (All P)
+        (λ ys ran. ClosureRun-all step P each f xs ys last ran) run

@@ -11,7 +11,8 @@ use base.Fraction.{full_share}
 use base.Shift.{Keyless}
 use denote.Exit.{Exit, hidden, leaves, unchanged, under}
 use denote.Memory.{mem}
-use denote.Param.Send.{AllSend, Common, Frees, IsSend, IsSync, Quiet, owning_send, part_keyless, sendable, struct_send, struct_sync}
+use denote.Param.Send.{AllSend, Common, Frees, IsSend, IsSync, Quiet, owning_send, part_keyless, sendable, struct_send}
+use denote.Param.Send.{struct_sync}
 use denote.RattleType.{RattleType}
 use denote.RawPtr.{Ptr, block_ptr, null_ptr}
 use denote.Slice.{elements_shared}
@@ -49,18 +50,22 @@ module _ (R : RattleType) where
   pub Cells-send : IsSend R → IsSend (Cells.the_row R)
   Cells-send s =
       let O = Cells.the_type R in let all : AllSend (fields O) = (search sendable, tt) in
-      owning_send O all (λ d. cells-Keyless s d.at d.passed d.items d.room) (λ k. quiet (to O) (exits_of k (fields O)) ((struct_send (shape O) all).leaving k))
+      owning_send O all (λ d. cells-Keyless s d.at d.passed d.items d.room)
+        (λ k. quiet (to O) (exits_of k (fields O)) ((struct_send (shape O) all).leaving k))
 
   pub Cells-sync : IsSync R → IsSync (Cells.the_row R)
   Cells-sync y =
       let O = Cells.the_type R in
-      record { shared = λ d b o κ. ((struct_sync (shape O) (search sendable, tt)).shared (to O d) b o κ, cells_lent-Common y d.at d.passed d.items d.room κ) }
+      record { shared = λ d b o κ. ((struct_sync (shape O) (search sendable, tt)).shared (to O d) b o κ,
+        cells_lent-Common y d.at d.passed d.items d.room κ) }
 
   module _ (A : RattleType) (g : Ghosts A.Denot) where
     pub Deed-send : Frees g g.dealloc_token → IsSend (Deed.the_row R A g)
     Deed-send f =
         let O = Deed.the_type R A g in let all : AllSend (fields O) = (search sendable, tt) in
-        owning_send O all (λ d. if_so (has_block d.len) _ (f.frees d.alloc _ d.at)) (λ k. quiet (to O) (exits_of k (fields O)) ((struct_send (shape O) all).leaving k))
+        owning_send O all (λ d. if_so (has_block d.len) _ (f.frees d.alloc _ d.at))
+          (λ k. quiet (to O) (exits_of k (fields O)) ((struct_send (shape O) all).leaving k))
 
     pub Deed-sync : IsSync (Deed.the_row R A g)
-    Deed-sync = let O = Deed.the_type R A g in record { shared = λ d b o κ. ((struct_sync (shape O) (search sendable, tt)).shared (to O d) b o κ, tt) }
+    Deed-sync = let O = Deed.the_type R A g in record { shared =
+      λ d b o κ. ((struct_sync (shape O) (search sendable, tt)).shared (to O d) b o κ, tt) }

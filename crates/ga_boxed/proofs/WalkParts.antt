@@ -1,4 +1,5 @@
--- What the walks share: a value of one pointer, one of no bytes, a tuple of three, an item as a machine value and in memory, and how a walk begins and ends. Assumes `Logic`.
+-- What the walks share: a value of one pointer, one of no bytes, a tuple of three, an item as a machine value and in
+-- memory, and how a walk begins and ends. Assumes `Logic`.
 use mathlib.Core.Path.{◌≡◌, refl, subst, sym, ap, ◌∙◌}
 use Prim.Native.Nat.{ℕ, ◌*◌, ◌<◌, ◌^◌}
 use mathlib.Core.List.{List, [], ◌∷◌, ◌++◌}
@@ -10,7 +11,8 @@ use contract.Lifetimes.{Lfts, Shares}
 use contract.Monad.{Fun}
 use contract.Running.{Running}
 use types.Logic.{Logic, sem}
-use types.Kit.{Item, Goal, Step, step, ‵, ◌$◌, ◌∵◌, !, qed, move, fjoin, fpack, feq_i, done, some, ◌⊛◌, use1, pick, split, check, show}
+use types.Kit.{Item, Goal, Step, step, ‵, ◌$◌, ◌∵◌, !, qed, move, fjoin, fpack, feq_i, done, some, ◌⊛◌, use1, pick}
+use types.Kit.{split, check, show}
 use denote.RattleType.{RattleType, Valss}
 use denote.RawPtr.{Ptr, RawPtr, ptr_val, rawptr_vals, rawptr_Tells}
 use denote.Shadow.{makes_shadow}
@@ -102,39 +104,54 @@ mark = vstruct (vcons (vstruct vnil) vnil)
 pub mark_Tells : (E : El) → Tells (Mark E) (Is (Mark E)) (λ _. mark ∷ [])
 mark_Tells E = Struct-Tells (shape (C-type.the_type (R E))) ((λ _. vstruct vnil ∷ []), tt) ((λ x vs p. p.1.0), tt)
 
-pub mark_made : (E : El) {M : Type 1} {𝓤 : Ura M} (𝓛 : Logic 𝓤) → ent 𝓤 (emp 𝓤) (sem 𝓛 ((Mark E).own_val (tt, tt) (mark ∷ [])))
-mark_made E 𝓛 = makes_shadow 𝓛 ((Mark E).own_val (tt, tt) (mark ∷ [])) (λ vss. (tt, ((λ uss. (tt, tt)), tt))) ((vstruct vnil ∷ [], tt), (refl, ((tt, (refl, tt)), tt)))
+pub mark_made : (E : El) {M : Type 1} {𝓤 : Ura M} (𝓛 : Logic 𝓤)
+    → ent 𝓤 (emp 𝓤) (sem 𝓛 ((Mark E).own_val (tt, tt) (mark ∷ [])))
+mark_made E 𝓛 = makes_shadow 𝓛 ((Mark E).own_val (tt, tt) (mark ∷ [])) (λ vss. (tt, ((λ uss. (tt, tt)), tt)))
+    ((vstruct vnil ∷ [], tt), (refl, ((tt, (refl, tt)), tt)))
 
 module _ {M : Type 1} {𝓤 : Ura M} {𝓛 : Logic 𝓤} {K : Type 0} {Γ : List (Item 𝓤)} {G : Goal 𝓤 𝓛.H} where
   pub word_made : K → (c : Ptr) → Step K 𝓛 (‵ (Word.own_val (c, tt) (word c ∷ [])) ∷ Γ) G Γ G
   word_made t c = step (λ s.
-      nothing t $ feq_i t (List Val) (ptr_val c ∷ []) (ptr_val c ∷ []) refl $ fjoin t $ feq_i t (List Val) (word c ∷ []) (word c ∷ []) refl $ fjoin t $
+      nothing t $ feq_i t (List Val) (ptr_val c ∷ []) (ptr_val c ∷ []) refl $ fjoin t $ feq_i t (List Val) (word c ∷ [])
+        (word c ∷ []) refl $ fjoin t $
       fpack t (Valss (RawPtr ∷ [])) (within one_field (c, tt) (word c ∷ [])) (ptr_val c ∷ [], tt) $ s)
 
 abbrev pub three_val : Val → Val → Val → Val
 three_val u v w = vstruct (vcons u (vcons v (vcons w vnil)))
 
-pub three_of : {M : Type 1} {𝓤 : Ura M} (𝓛 : Logic 𝓤) (R S T : RattleType) (x : R.Denot) (y : S.Denot) (z : T.Denot) (u v w : Val)
-    → ent 𝓤 (sep 𝓤 (sem 𝓛 (R.own_val x (u ∷ []))) (sep 𝓤 (sem 𝓛 (S.own_val y (v ∷ []))) (sem 𝓛 (T.own_val z (w ∷ []))))) (sem 𝓛 ((Tuple (R ∷ S ∷ T ∷ [])).own_val (x, y, z) (three_val u v w ∷ [])))
+pub three_of : {M : Type 1} {𝓤 : Ura M} (𝓛 : Logic 𝓤) (R S T : RattleType) (x : R.Denot) (y : S.Denot) (z : T.Denot)
+    (u v w : Val)
+    → ent 𝓤 (sep 𝓤 (sem 𝓛 (R.own_val x (u ∷ []))) (sep 𝓤 (sem 𝓛 (S.own_val y (v ∷ []))) (sem 𝓛 (T.own_val z (w ∷ [])))))
+      (sem 𝓛 ((Tuple (R ∷ S ∷ T ∷ [])).own_val (x, y, z) (three_val u v w ∷ [])))
 three_of 𝓛 R S T x y z u v w =
-    qed 𝓛 (‵ (R.own_val x (u ∷ [])) ∷ ‵ (S.own_val y (v ∷ [])) ∷ ‵ (T.own_val z (w ∷ [])) ∷ []) ∵ nothing ! $ move ! (3 ∷ 0 ∷ []) $ fjoin ! $ move ! (2 ∷ 0 ∷ []) $ fjoin ! $ move ! (1 ∷ 0 ∷ []) $ fjoin ! $
+    qed 𝓛 (‵ (R.own_val x (u ∷ [])) ∷ ‵ (S.own_val y (v ∷ [])) ∷ ‵ (T.own_val z (w ∷ [])) ∷ []) ∵ nothing ! $ move !
+      (3 ∷ 0 ∷ []) $ fjoin ! $ move ! (2 ∷ 0 ∷ []) $ fjoin ! $ move ! (1 ∷ 0 ∷ []) $ fjoin ! $
     feq_i ! (List Val) (three_val u v w ∷ []) (three_val u v w ∷ []) refl $ fjoin ! $
-    fpack ! (Valss (R ∷ S ∷ T ∷ [])) (within (Declared.shape (tuple_type (R ∷ S ∷ T ∷ []))) (x, (y, (z, tt))) (three_val u v w ∷ [])) (u ∷ [], (v ∷ [], (w ∷ [], tt))) $ done !
+    fpack ! (Valss (R ∷ S ∷ T ∷ [])) (within (Declared.shape (tuple_type (R ∷ S ∷ T ∷ []))) (x, (y, (z, tt)))
+      (three_val u v w ∷ [])) (u ∷ [], (v ∷ [], (w ∷ [], tt))) $ done !
 
 module _ (i : ℕ) (Y : RattleType) (L : Laws Y) {M : Type 1} {𝓤 : Ura M} (𝓛 : Logic 𝓤) where
   open 𝓛 use {H}
 
-  pub value_out : (x : Y.Denot) (b o : ℕ) → ent 𝓤 (sem 𝓛 (part_at (param i Y) full_share x b o)) (ex 𝓤 (λ (v : Val). guard 𝓤 (Good (layout Y) v) (sep 𝓤 (H.at full_share (layout Y) b o v) (sem 𝓛 (Y.own_val x (v ∷ []))))))
+  pub value_out : (x : Y.Denot) (b o : ℕ) → ent 𝓤 (sem 𝓛 (part_at (param i Y) full_share x b o))
+      (ex 𝓤 (λ (v : Val). guard 𝓤 (Good (layout Y) v)
+      (sep 𝓤 (H.at full_share (layout Y) b o v) (sem 𝓛 (Y.own_val x (v ∷ []))))))
   value_out x b o = qed 𝓛 (‵ (part_at (param i Y) full_share x b o) ∷ []) ∵
-      use1 𝓛 (some (λ (v : Val). ‵ (fat full_share (layout Y) b o v) ⊛ ‵ (Y.own_val x (v ∷ [])))) (part_out 𝓛 (param i Y) refl full_share x b o) $ pick ! (λ v. split ! $ move ! (1 ∷ []) $
+      use1 𝓛 (some (λ (v : Val). ‵ (fat full_share (layout Y) b o v) ⊛ ‵ (Y.own_val x (v ∷ []))))
+        (part_out 𝓛 (param i Y) refl full_share x b o) $ pick ! (λ v. split ! $ move ! (1 ∷ []) $
       peeks ! (param i Y) (Is (param i Y)) (shows 𝓛 (param i Y)) x (v ∷ []) (λ p.
-      show ! (λ (w : Val). guard 𝓤 (Good (layout Y) w) (sep 𝓤 (H.at full_share (layout Y) b o w) (sem 𝓛 (Y.own_val x (w ∷ []))))) v $ check ! (((param_laws i Y L).lawful 𝓛).typed x (v ∷ []) p).0 $ move ! (1 ∷ 0 ∷ []) $ done !))
+      show ! (λ (w : Val). guard 𝓤 (Good (layout Y) w)
+        (sep 𝓤 (H.at full_share (layout Y) b o w) (sem 𝓛 (Y.own_val x (w ∷ []))))) v $ check !
+        (((param_laws i Y L).lawful 𝓛).typed x (v ∷ []) p).0 $ move ! (1 ∷ 0 ∷ []) $ done !))
 
-  pub value_in : (x : Y.Denot) (b o : ℕ) (v : Val) → ent 𝓤 (sep 𝓤 (H.at full_share (layout Y) b o v) (sem 𝓛 (Y.own_val x (v ∷ [])))) (sem 𝓛 (part_at (param i Y) full_share x b o))
+  pub value_in : (x : Y.Denot) (b o : ℕ) (v : Val)
+      → ent 𝓤 (sep 𝓤 (H.at full_share (layout Y) b o v) (sem 𝓛 (Y.own_val x (v ∷ []))))
+      (sem 𝓛 (part_at (param i Y) full_share x b o))
   value_in x b o v = part_in 𝓛 (param i Y) refl full_share x b o v
 
 -- what is owned of an item is one machine value, of its type
-pub is_one : (E : El) {M : Type 1} {𝓤 : Ura M} (𝓛 : Logic 𝓤) (x : el_x E) (vs : List Val) → Is (R E) x vs → (v : Val) × (vs ≡ v ∷ []) × Good (elτ E) v
+pub is_one : (E : El) {M : Type 1} {𝓤 : Ura M} (𝓛 : Logic 𝓤) (x : el_x E) (vs : List Val) → Is (R E) x vs
+    → (v : Val) × (vs ≡ v ∷ []) × Good (elτ E) v
 is_one E 𝓛 x vs is = one E vs ((lawful E 𝓛).typed x vs is)
 
 -- the tokens of the lifetimes of the two type parameters
@@ -151,13 +168,20 @@ module _ (E : El) {M : Type 1} {𝓤 : Ura M} (κ : Lft) (q : Share) (rb ro : �
   Left Q d r v = Had d ++ ‵ (Q.own_val r (v ∷ [])) ∷ []
 
 -- what is met over a function's own lifetimes is met with one more for each type parameter
-module _ {M : Type 1} {𝓤 : Ura M} (𝓛 : Logic 𝓤) (𝓜 : Model 𝓤 𝓛.H) (𝓡 : Running 𝓤 𝓛.H 𝓜) (T : Ended) (c : Clauses 𝓤 T) where
-  pub grows : (m : ℕ) (ℓs : Lfts m) (k : Callee) → Meets 𝓛 T.signature (𝓡.run (𝓡.env k)) (closing 𝓛 T c) → Triple 𝓤 (𝓡.run (𝓡.env k)) (grown 𝓛 T.signature m ℓs (closing 𝓛 T c))
+module _ {M : Type 1} {𝓤 : Ura M} (𝓛 : Logic 𝓤) (𝓜 : Model 𝓤 𝓛.H) (𝓡 : Running 𝓤 𝓛.H 𝓜) (T : Ended)
+    (c : Clauses 𝓤 T) where
+  pub grows : (m : ℕ) (ℓs : Lfts m) (k : Callee) → Meets 𝓛 T.signature (𝓡.run (𝓡.env k)) (closing 𝓛 T c)
+      → Triple 𝓤 (𝓡.run (𝓡.env k)) (grown 𝓛 T.signature m ℓs (closing 𝓛 T c))
   grows m ℓs k = spared 𝓛 T.signature (𝓡.run (𝓡.env k)) (run_framed 𝓤 𝓛.H 𝓜 𝓡 (𝓡.env k)) m ℓs (closing 𝓛 T c)
 
 -- in a walk the parameters' machine values are written out
-pub at_values : {M : Type 1} {𝓤 : Ura M} (𝓛 : Logic 𝓤) (T : Ended) (hs : Stays T.signature.params T.kept) (c : Clauses 𝓤 T) (run : Fun 𝓤) (y : (walk_of 𝓛 T hs c).Ghost) (vss : Vals T.signature y.0.0) → y.0.4 ≡ vss
-    → ent 𝓤 ((walk_of 𝓛 T hs c).pre ((y.0.0, y.0.1, y.0.2, y.0.3, vss), y.1)) (run ((walk_of 𝓛 T hs c).args ((y.0.0, y.0.1, y.0.2, y.0.3, vss), y.1)) ((walk_of 𝓛 T hs c).post ((y.0.0, y.0.1, y.0.2, y.0.3, vss), y.1)))
+pub at_values : {M : Type 1} {𝓤 : Ura M} (𝓛 : Logic 𝓤) (T : Ended) (hs : Stays T.signature.params T.kept)
+    (c : Clauses 𝓤 T) (run : Fun 𝓤) (y : (walk_of 𝓛 T hs c).Ghost) (vss : Vals T.signature y.0.0) → y.0.4 ≡ vss
+    → ent 𝓤 ((walk_of 𝓛 T hs c).pre ((y.0.0, y.0.1, y.0.2, y.0.3, vss), y.1))
+      (run ((walk_of 𝓛 T hs c).args ((y.0.0, y.0.1, y.0.2, y.0.3, vss), y.1))
+      ((walk_of 𝓛 T hs c).post ((y.0.0, y.0.1, y.0.2, y.0.3, vss), y.1)))
     → ent 𝓤 ((walk_of 𝓛 T hs c).pre y) (run ((walk_of 𝓛 T hs c).args y) ((walk_of 𝓛 T hs c).post y))
 at_values {𝓤 = 𝓤} 𝓛 T hs c run y vss e =
-    subst (λ (us : Vals T.signature y.0.0). let z : (walk_of 𝓛 T hs c).Ghost = ((y.0.0, y.0.1, y.0.2, y.0.3, us), y.1) in ent 𝓤 ((walk_of 𝓛 T hs c).pre z) (run ((walk_of 𝓛 T hs c).args z) ((walk_of 𝓛 T hs c).post z))) (sym e)
+    subst (λ (us : Vals T.signature y.0.0). let z : (walk_of 𝓛 T hs c).Ghost =
+      ((y.0.0, y.0.1, y.0.2, y.0.3, us), y.1) in ent 𝓤 ((walk_of 𝓛 T hs c).pre z)
+      (run ((walk_of 𝓛 T hs c).args z) ((walk_of 𝓛 T hs c).post z))) (sym e)

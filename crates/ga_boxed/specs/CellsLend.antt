@@ -11,4 +11,5 @@ with_items c xs = record { mark = c.mark; at = c.at; passed = c.passed; items = 
 
 -- once the borrow r ends, the items are those that r shows last, and nothing else changes
 abbrev pub lends_items : (R : RattleType) → MutBor (Cells R.Denot) → MutBor (List R.Denot) → Fml
-lends_items R c r = Lends (the_row R) (Array R 0) c r (λ ws. with_items c.now (refill (length c.now.items) c.now.items ws))
+lends_items R c r = Lends (the_row R) (Array R 0) c r
+    (λ ws. with_items c.now (refill (length c.now.items) c.now.items ws))

@@ -22,7 +22,8 @@ initial_state key nonce =
 abbrev pub state_at : List ℕ → ℕ → List ℕ
 state_at state number = slice_set state 12 number
 
--- the block of this number: the bytes of the state after ten double rounds, each word plus the word that it began as (2.3)
+-- the block of this number: the bytes of the state after ten double rounds, each word plus the word that it began as
+-- (2.3)
 abbrev pub chacha20_block : List ℕ → ℕ → List ℕ
 chacha20_block state number =
     let first = state_at state number in

@@ -3,11 +3,13 @@ use Rattle.ga_core.specs.Calls.{MayFold}
 use Rattle.ga_core.specs.Entries.{FoldAt}
 use Rattle.ga_core.specs.Runs.{ClosureRun, FirstErrorRun, FoldRun}
 use Rattle.ga_core.specs.Tries.{result_and_then, try_map}
-use Rattle.std.proofs.Common.{◌≡◌, ℕ, ◌+◌, ◌<◌, List, [], ◌∷◌, Result, Ok, Err, inl, inr, ap, arith, fold, map, refl, subst, sym, ◌∙◌}
+use Rattle.std.proofs.Common.{◌≡◌, ℕ, ◌+◌, ◌<◌, List, [], ◌∷◌, Result, Ok, Err, inl, inr, ap, arith, fold, map, refl}
+use Rattle.std.proofs.Common.{subst, sym, ◌∙◌}
 use Rattle.std.proofs.lemmas.List.Sums.{sum_by-append, sum_by-cons}
 use Rattle.std.specs.List.{sum_by}
 
-module _ {F X Y : Type 0} (step : F → X → Y → F → Type 0) (f : F) (h : X → Y) (acts : (x : X) (y : Y) (next : F) → step f x y next → (next ≡ f) × (y ≡ h x)) where
+module _ {F X Y : Type 0} (step : F → X → Y → F → Type 0) (f : F) (h : X → Y) (acts : (x : X) (y : Y) (next : F)
+    → step f x y next → (next ≡ f) × (y ≡ h x)) where
   -- a run answers h of each input
   pub answers_of_run : (xs : List X) (ys : List Y) (last : F) → ClosureRun step f xs ys last → ys ≡ map h xs
   answers_of_run [] [] last run = refl
@@ -18,27 +20,35 @@ module _ {F X Y : Type 0} (step : F → X → Y → F → Type 0) (f : F) (h : X
       let others = answers_of_run xs ys last (subst (λ k. ClosureRun step k xs ys last) call.0 run.2) in
       cc (call.1, others)
 
-module _ {F X Y E : Type 0} (step : F → X → Result Y E → F → Type 0) (f : F) (h : X → Result Y E) (acts : (x : X) (y : Result Y E) (next : F) → step f x y next → (next ≡ f) × (y ≡ h x)) where
+module _ {F X Y E : Type 0} (step : F → X → Result Y E → F → Type 0) (f : F) (h : X → Result Y E)
+    (acts : (x : X) (y : Result Y E) (next : F) → step f x y next → (next ≡ f) × (y ≡ h x)) where
   -- a run up to the first error answers all good answers of h, or its first error
-  pub answers_until_error : (xs : List X) (answer : Result (List Y) E) (last : F) → FirstErrorRun step f xs answer last → answer ≡ try_map h xs
+  pub answers_until_error : (xs : List X) (answer : Result (List Y) E) (last : F) → FirstErrorRun step f xs answer last
+      → answer ≡ try_map h xs
   answers_until_error [] (Ok []) last run = refl
   answers_until_error [] (Ok (y ∷ ys)) last run = absurd run
   answers_until_error [] (Err error) last run = absurd run
   answers_until_error (x ∷ xs) (Ok []) last run = absurd run
   answers_until_error (x ∷ xs) (Ok (y ∷ ys)) last run =
       let call = acts x (Ok y) run.0 run.1 in
-      let others = answers_until_error xs (Ok ys) last (subst (λ k. FirstErrorRun step k xs (Ok ys) last) call.0 run.2) in
-      ap (result_and_then (λ zs. Ok (y ∷ zs))) others ∙ ap (result_and_then (λ z. result_and_then (λ zs. Ok (z ∷ zs)) (try_map h xs))) call.1
+      let others = answers_until_error xs (Ok ys) last
+        (subst (λ k. FirstErrorRun step k xs (Ok ys) last) call.0 run.2) in
+      ap (result_and_then (λ zs. Ok (y ∷ zs))) others
+        ∙ ap (result_and_then (λ z. result_and_then (λ zs. Ok (z ∷ zs)) (try_map h xs))) call.1
   answers_until_error (x ∷ xs) (Err error) last run =
       elim run [
-        | inl failed ↦ ap (result_and_then (λ z. result_and_then (λ zs. Ok (z ∷ zs)) (try_map h xs))) (acts x (Err error) last failed).1
+        | inl failed ↦ ap (result_and_then (λ z. result_and_then (λ zs. Ok (z ∷ zs)) (try_map h xs)))
+          (acts x (Err error) last failed).1
         | inr good ↦
             let call = acts x (Ok good.0) good.1 good.2 in
-            let others = answers_until_error xs (Err error) last (subst (λ k. FirstErrorRun step k xs (Err error) last) call.0 good.3) in
-            ap (result_and_then (λ zs. Ok (good.0 ∷ zs))) others ∙ ap (result_and_then (λ z. result_and_then (λ zs. Ok (z ∷ zs)) (try_map h xs))) call.1
+            let others = answers_until_error xs (Err error) last
+              (subst (λ k. FirstErrorRun step k xs (Err error) last) call.0 good.3) in
+            ap (result_and_then (λ zs. Ok (good.0 ∷ zs))) others
+              ∙ ap (result_and_then (λ z. result_and_then (λ zs. Ok (z ∷ zs)) (try_map h xs))) call.1
       ]
 
-module _ {F A X : Type 0} (step : F → A → X → A → F → Type 0) (f : F) (h : A → X → A) (acts : (a : A) (x : X) (b : A) (next : F) → step f a x b next → (next ≡ f) × (b ≡ h a x)) where
+module _ {F A X : Type 0} (step : F → A → X → A → F → Type 0) (f : F) (h : A → X → A)
+    (acts : (a : A) (x : X) (b : A) (next : F) → step f a x b next → (next ≡ f) × (b ≡ h a x)) where
   -- a fold is the fold of h
   pub answer_of_fold : (a : A) (xs : List X) (b : A) (last : F) → FoldRun step f a xs b last → b ≡ fold h a xs
   answer_of_fold a [] b last run = sym (ap (λ p. p.1) run)
@@ -53,11 +63,13 @@ module _ {F X : Type 0} (value : X → ℕ) (step : F → ℕ → X → ℕ → 
       → (f : F) (a : ℕ) (xs : List X) (b : ℕ) (last : F) → FoldRun step f a xs b last → b ≡ a + sum_by value xs
   fold-sum adds f a [] b last run = omega (arith, ap (λ p. p.1) run)
   fold-sum adds f a (x ∷ xs) b last run =
-      omega (arith, fold-sum adds run.0.0 run.0.1 xs b last run.2, adds f a x run.0.1 run.0.0 run.1, sum_by-cons value x xs)
+      omega (arith, fold-sum adds run.0.0 run.0.1 xs b last run.2, adds f a x run.0.1 run.0.0 run.1,
+        sum_by-cons value x xs)
 
-module _ {F I X : Type 0} (entry : I → X) (value : X → ℕ) (step : F → ℕ → I → ℕ → F → Type 0) (pre : F → ℕ → I → Type 0) where
-  -- A fold that adds values may be made where their sum is below a bound, below which each call may be made. With `search rules` for
-  -- the facts on one call this is the whole of a caller's condition.
+module _ {F I X : Type 0} (entry : I → X) (value : X → ℕ) (step : F → ℕ → I → ℕ → F → Type 0) (pre : F → ℕ → I
+    → Type 0) where
+  -- A fold that adds values may be made where their sum is below a bound, below which each call may be made. With
+  -- `search rules` for the facts on one call this is the whole of a caller's condition.
   pub sum_is_callable : (f : F) (xs : List X) (bound : ℕ)
       → ((f : F) (a : ℕ) (item : I) (b : ℕ) (next : F) → step f a item b next → b ≡ a + value (entry item))
       → ((f : F) (a : ℕ) (item : I) → a + value (entry item) < bound → pre f a item)
@@ -65,4 +77,6 @@ module _ {F I X : Type 0} (entry : I → X) (value : X → ℕ) (step : F → �
   sum_is_callable f xs bound adds may within passed x others reached so_far whole run item is stays =
       let at_entry : (f : F) (a : ℕ) (x : X) (b : ℕ) (next : F) → FoldAt entry step f a x b next → b ≡ a + value x =
       λ f a x b next call. adds f a call.0 b next call.2 ∙ ap (λ y. a + value y) call.1 in
-      may reached so_far item (omega (arith, fold-sum value (FoldAt entry step) at_entry f 0 passed so_far reached run, sum_by-append value passed (x ∷ others), sum_by-cons value x others, ap (sum_by value) whole, ap value is, within))
+      may reached so_far item (omega (arith, fold-sum value (FoldAt entry step) at_entry f 0 passed so_far reached run,
+        sum_by-append value passed (x ∷ others), sum_by-cons value x others, ap (sum_by value) whole, ap value is,
+        within))

@@ -1,7 +1,8 @@
 -- Copies of one value that equal it, and answers that share a property.
 use Rattle.ga_core.specs.Copies.{ExactlyEach, Repeats}
 use Rattle.ga_core.specs.Runs.{ClosureRun}
-use Rattle.std.proofs.Common.{◌≡◌, ℕ, zero, suc, ◌+◌, ◌-◌, List, [], ◌∷◌, ◌++◌, length, replicate, refl, ap, ◌∙◌, arith, slice_index_or, slice_set}
+use Rattle.std.proofs.Common.{◌≡◌, ℕ, zero, suc, ◌+◌, ◌-◌, List, [], ◌∷◌, ◌++◌, length, replicate, refl, ap, ◌∙◌, arith}
+use Rattle.std.proofs.Common.{slice_index_or, slice_set}
 use Rattle.std.proofs.Math.Seq.{set-append_seam}
 use Rattle.std.proofs.lemmas.List.{replicate-append-replicate}
 use Rattle.std.specs.List.{All}
@@ -11,20 +12,25 @@ module _ {T : Type 0} where
   all_equal : (item : T) (items : List T) → All (λ x. x ≡ item) items → items ≡ replicate (length items) item
   all_equal item [] all = refl
   all_equal item (x ∷ items) all =
-      ap (λ first. first ∷ items) (all 0 x (omega arith)) ∙ ap (λ others. item ∷ others) (all_equal item items (λ k d within. all (suc k) d (omega (arith, within))))
+      ap (λ first. first ∷ items) (all 0 x (omega arith))
+        ∙ ap (λ others. item ∷ others) (all_equal item items (λ k d within. all (suc k) d (omega (arith, within))))
 
   -- where a clone equals its source, the copies are equal
-  pub Repeats-same : (is_clone : T → T → Type 0) (item : T) (n : ℕ) (array : List T) → ((copy : T) → is_clone item copy → copy ≡ item)
+  pub Repeats-same : (is_clone : T → T → Type 0) (item : T) (n : ℕ) (array : List T)
+      → ((copy : T) → is_clone item copy → copy ≡ item)
       → Repeats is_clone item n array → array ≡ replicate n item
   Repeats-same is_clone item zero array equal none = none
   Repeats-same is_clone item (suc n) array equal (clones, made, long, all) =
       let same : clones ≡ replicate n item =
-      all_equal item clones (λ k d within. equal (slice_index_or clones k d) (all k d within)) ∙ ap (λ k. replicate k item) long in
+      all_equal item clones (λ k d within. equal (slice_index_or clones k d) (all k d within))
+        ∙ ap (λ k. replicate k item) long in
       let more : n + 1 ≡ suc n = omega arith in
-      made ∙ (ap (λ front. front ++ item ∷ []) same ∙ (replicate-append-replicate n 1 item ∙ ap (λ k. replicate k item) more))
+      made ∙ (ap (λ front. front ++ item ∷ []) same
+        ∙ (replicate-append-replicate n 1 item ∙ ap (λ k. replicate k item) more))
 
   -- clones over all slots but the last, and the item over the last
-  pub Repeats-written : (is_clone : T → T → Type 0) (item : T) (n : ℕ) (clones rest : List T) → length clones + 1 ≡ n → length rest ≡ 1 → All (is_clone item) clones
+  pub Repeats-written : (is_clone : T → T → Type 0) (item : T) (n : ℕ) (clones rest : List T) → length clones + 1 ≡ n
+      → length rest ≡ 1 → All (is_clone item) clones
       → Repeats is_clone item n (slice_set (clones ++ rest) (n - 1) item)
   Repeats-written is_clone item n clones [] long one all = absurd (omega (arith, one))
   Repeats-written is_clone item n clones (x ∷ y ∷ rest) long one all = absurd (omega (arith, one))
@@ -40,7 +46,8 @@ module _ {T : Type 0} where
 
 module _ {F X Y : Type 0} (step : F → X → Y → F → Type 0) (P : Y → Type 0) where
   -- P holds of all answers where it holds of the answer of each call
-  pub ClosureRun-all : ((f : F) (x : X) (y : Y) (next : F) → step f x y next → P y) → (f : F) (xs : List X) (ys : List Y) (last : F) → ClosureRun step f xs ys last → All P ys
+  pub ClosureRun-all : ((f : F) (x : X) (y : Y) (next : F) → step f x y next → P y)
+      → (f : F) (xs : List X) (ys : List Y) (last : F) → ClosureRun step f xs ys last → All P ys
   ClosureRun-all each f [] [] last run = λ k d within. absurd (omega (arith, within))
   ClosureRun-all each f [] (y ∷ ys) last run = absurd run
   ClosureRun-all each f (x ∷ xs) [] last run = absurd run
@@ -54,4 +61,5 @@ module _ {T : Type 0} (P : T → Type 0) where
   ExactlyEach-all zero (x ∷ items) long all = absurd (omega (arith, long))
   ExactlyEach-all (suc n) [] long all = absurd (omega (arith, long))
   ExactlyEach-all (suc n) (x ∷ items) long all =
-      (x, items, refl, all 0 x (omega arith), ExactlyEach-all n items (omega (arith, long)) (λ k d within. all (suc k) d (omega (arith, within))))
+      (x, items, refl, all 0 x (omega arith), ExactlyEach-all n items (omega (arith, long))
+        (λ k d within. all (suc k) d (omega (arith, within))))

@@ -11,7 +11,8 @@ use Rattle.std.specs.Ordering.{nat_cmp}
 use Rattle.std.specs.Prelude.{[]}
 
 -- sorted keys ascend strictly once `dedup` has gone over them
-pub strictly_sorted : (sorted left : List (List ℕ)) → IsSorted (slice_cmp nat_cmp) sorted → IsFiltered (DiffersFromLast (pointwise nat_eq)) [] sorted left
+pub strictly_sorted : (sorted left : List (List ℕ)) → IsSorted (slice_cmp nat_cmp) sorted
+    → IsFiltered (DiffersFromLast (pointwise nat_eq)) [] sorted left
     → IsStrictlySortedBy (slice_cmp nat_cmp) left
 strictly_sorted sorted left in_order filtered =
     subst (IsStrictlySortedBy (slice_cmp nat_cmp)) (sym (dedup_is (pointwise nat_eq) sorted left filtered))

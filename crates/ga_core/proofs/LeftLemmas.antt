@@ -1,46 +1,61 @@
 -- What is left of a list between two slots, when something is taken from either end.
 use Rattle.arrayvec.proofs.IterLemmas.{slice_range_first, slice_range_last}
-use Rattle.std.proofs.Common.{◌≡◌, ℕ, ◌+◌, ◌-◌, ◌<◌, ◌≤◌, List, [], ◌∷◌, ◌++◌, length, drop, take, refl, reverse, sym, ap, ◌∙◌, arith, get_or, slice_set, length-drop, length-take}
+use Rattle.std.proofs.Common.{◌≡◌, ℕ, ◌+◌, ◌-◌, ◌<◌, ◌≤◌, List, [], ◌∷◌, ◌++◌, length, drop, take, refl, reverse, sym}
+use Rattle.std.proofs.Common.{ap, ◌∙◌, arith, get_or, slice_set, length-drop, length-take}
 use Rattle.std.proofs.lemmas.List.{drop-drop, drop-take, reverse-append, take-take}
 use Rattle.std.specs.List.{slice_range}
 
 module _ {T : Type 0} where
   -- how many are left
-  pub left-count : (items : List T) (front back : ℕ) → front ≤ back → back ≤ length items → length (slice_range items front back) ≡ back - front
-  left-count items front back ordered within = omega (arith, length-take (back - front) (drop front items), length-drop front items)
+  pub left-count : (items : List T) (front back : ℕ) → front ≤ back → back ≤ length items
+      → length (slice_range items front back) ≡ back - front
+  left-count items front back ordered within = omega
+    (arith, length-take (back - front) (drop front items), length-drop front items)
 
   -- the first was taken, and a blank stands in its slot
-  pub left-first : (items after : List T) (front back : ℕ) (item : T) → front < back → back ≤ length items → item ≡ get_or items front item → (blank : T) × (after ≡ slice_set items front blank)
+  pub left-first : (items after : List T) (front back : ℕ) (item : T) → front < back → back ≤ length items
+      → item ≡ get_or items front item → (blank : T) × (after ≡ slice_set items front blank)
       → slice_range items front back ≡ item ∷ slice_range after (front + 1) back
   left-first items after front back item some within here written =
-      slice_range_first items front back item written.0 some within here ∙ ap (λ slots. item ∷ slice_range slots (front + 1) back) (sym written.1)
+      slice_range_first items front back item written.0 some within here
+        ∙ ap (λ slots. item ∷ slice_range slots (front + 1) back) (sym written.1)
 
   -- the last was taken, and a blank stands in its slot
-  pub left-last : (items after : List T) (front back : ℕ) (item : T) → front < back → back ≤ length items → item ≡ get_or items (back - 1) item → (blank : T) × (after ≡ slice_set items (back - 1) blank)
+  pub left-last : (items after : List T) (front back : ℕ) (item : T) → front < back → back ≤ length items
+      → item ≡ get_or items (back - 1) item → (blank : T) × (after ≡ slice_set items (back - 1) blank)
       → slice_range items front back ≡ slice_range after front (back - 1) ++ item ∷ []
   left-last items after front back item some within here written =
-      slice_range_last items front back item written.0 some within here ∙ ap (λ slots. slice_range slots front (back - 1) ++ item ∷ []) (sym written.1)
+      slice_range_last items front back item written.0 some within here
+        ∙ ap (λ slots. slice_range slots front (back - 1) ++ item ∷ []) (sym written.1)
 
   -- the same, of the items from the back
-  pub left-last_reversed : (items : List T) (front back : ℕ) (item slot blank : T) → front < back → back ≤ length items → item ≡ get_or items (back - 1) slot → slot ≡ get_or items (back - 1) slot
-      → reverse (slice_range items front back) ≡ item ∷ reverse (slice_range (slice_set items (back - 1) blank) front (back - 1))
+  pub left-last_reversed : (items : List T) (front back : ℕ) (item slot blank : T) → front < back → back ≤ length items
+      → item ≡ get_or items (back - 1) slot → slot ≡ get_or items (back - 1) slot
+      → reverse (slice_range items front back) ≡ item
+        ∷ reverse (slice_range (slice_set items (back - 1) blank) front (back - 1))
   left-last_reversed items front back item slot blank some within here is =
       let after = slice_set items (back - 1) blank in
       let this = here ∙ ap (get_or items (back - 1)) (is ∙ sym here) in
-      ap reverse (left-last items after front back item some within this (blank, refl)) ∙ reverse-append (slice_range after front (back - 1)) (item ∷ [])
+      ap reverse (left-last items after front back item some within this (blank, refl))
+        ∙ reverse-append (slice_range after front (back - 1)) (item ∷ [])
 
   -- so many were given up at the front
-  pub left-behind : (items after left : List T) (front back passed : ℕ) → front ≤ back → back ≤ length items → slice_range items front back ≡ left → passed ≤ length left → drop (front + passed) after ≡ drop (front + passed) items
+  pub left-behind : (items after left : List T) (front back passed : ℕ) → front ≤ back → back ≤ length items
+      → slice_range items front back ≡ left → passed ≤ length left
+      → drop (front + passed) after ≡ drop (front + passed) items
       → slice_range after (front + passed) back ≡ drop passed left
   left-behind items after left front back passed ordered within shown some same =
       let count : length left ≡ back - front = ap length (sym shown) ∙ left-count items front back ordered within in
       let rest = back - (front + passed) in
       let long : back - front ≡ passed + rest = omega arith in
       ap (take rest) (same ∙ sym (drop-drop passed front items))
-      ∙ (sym (drop-take passed rest (drop front items)) ∙ (ap (λ k. drop passed (take k (drop front items))) (sym long) ∙ ap (drop passed) shown))
+      ∙ (sym (drop-take passed rest (drop front items))
+        ∙ (ap (λ k. drop passed (take k (drop front items))) (sym long) ∙ ap (drop passed) shown))
 
   -- so many were given up at the back
-  pub left-before : (items after left : List T) (front back passed : ℕ) → front ≤ back → back ≤ length items → slice_range items front back ≡ left → passed ≤ length left → take (back - passed) after ≡ take (back - passed) items
+  pub left-before : (items after left : List T) (front back passed : ℕ) → front ≤ back → back ≤ length items
+      → slice_range items front back ≡ left → passed ≤ length left
+      → take (back - passed) after ≡ take (back - passed) items
       → slice_range after front (back - passed) ≡ take (length left - passed) left
   left-before items after left front back passed ordered within shown some same =
       let count : length left ≡ back - front = ap length (sym shown) ∙ left-count items front back ordered within in
@@ -50,4 +65,6 @@ module _ {T : Type 0} where
       let part : (slots : List T) → take (end - front) (drop front slots) ≡ drop front (take end slots) =
       λ slots. sym (drop-take front (end - front) slots) ∙ ap (λ k. drop front (take k slots)) (sym whole) in
       part after
-      ∙ (ap (drop front) same ∙ (sym (part items) ∙ (sym (take-take (end - front) (back - front) (drop front items) (omega arith)) ∙ (ap (take (end - front)) shown ∙ ap (λ k. take k left) kept))))
+      ∙ (ap (drop front) same
+        ∙ (sym (part items) ∙ (sym (take-take (end - front) (back - front) (drop front items) (omega arith))
+        ∙ (ap (take (end - front)) shown ∙ ap (λ k. take k left) kept))))

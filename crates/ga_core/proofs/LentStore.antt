@@ -1,7 +1,9 @@
--- A default body of `Store` that lends a part of the slice which the store's own `as_mut_slice` lends, and takes numbers.
+-- A default body of `Store` that lends a part of the slice which the store's own `as_mut_slice` lends, and takes
+-- numbers.
 --     args, S, R      the arguments that stand for its two parameters, the type of the store, and that of an item
 --     loan_of         what such a function asks and gives, as `LoanWalk` has it
---     calls_slice     the call as a step of a walk: the store that was passed and the tokens are what it asks; it gives the slice, taken apart, and the store follows the slice
+--     calls_slice     the call as a step of a walk: the store that was passed and the tokens are what it asks; it gives
+--                     the slice, taken apart, and the store follows the slice
 -- Assumes `Logic`.
 use Rattle.ga_core.specs.contracts.store.Store.as_mut_slice as callee
 use Rattle.ga_core.specs.declared.store.Store as store
@@ -34,7 +36,8 @@ use prog.Wp.{Calls, Env, Loops}
 use seplogic.Ra.Ura.{Ura}
 use sound.WpLaws.{FmC}
 use types.Hole.{Holey}
-use types.Kit.{‵, ◌⊛◌, ◌$◌, await, drop, feq_l, fjoin, fsplit, fsplit3, Item, join, lands, later, move, pick, Post, raw, runs, Seq, some, split, split3, use0, use1}
+use types.Kit.{‵, ◌⊛◌, ◌$◌, await, drop, feq_l, fjoin, fsplit, fsplit3, Item, join, lands, later, move, pick, Post, raw}
+use types.Kit.{runs, Seq, some, split, split3, use0, use1}
 use types.Logic.{Logic}
 use types.Run.{Opds}
 use types.SemTy.{Arr, Body}
@@ -53,9 +56,11 @@ module _ (Z X : RattleType) (g : store.Ghosts Z.Denot X.Denot) (d dd : Dict) whe
   abbrev pub lives : Lfts 3 → List (Type 0)
   lives κs = (κs.1.0 ⊑ Z.lives) ∷ (κs.1.1.0 ⊑ X.lives) ∷ []
 
-  -- a U is lent by a function that takes k numbers, the store ends with `written` of its last value, and `shown` is said of the result
+  -- a U is lent by a function that takes k numbers, the store ends with `written` of its last value, and `shown` is
+  -- said of the result
   abbrev pub loan_of : (k : ℕ) (result : Slot 3) (U : RattleType) → ((κs : Lfts 3) → (result.row κs).Denot → GName)
-      → ((κs : Lfts 3) → List X.Denot → Words 3 κs k → Type 0) → ((κs : Lfts 3) → List X.Denot → Words 3 κs k → U.Denot → List X.Denot)
+      → ((κs : Lfts 3) → List X.Denot → Words 3 κs k → Type 0)
+        → ((κs : Lfts 3) → List X.Denot → Words 3 κs k → U.Denot → List X.Denot)
       → ((κs : Lfts 3) → List X.Denot → Words 3 κs k → (result.row κs).Denot → Type 0) → Loan
   loan_of k result U name asks written shown = record {
     more = 2;
@@ -65,7 +70,8 @@ module _ (Z X : RattleType) (g : store.Ghosts Z.Denot X.Denot) (d dd : Dict) whe
     numbers = k;
     lives = lives;
     asks = λ κs store ns. asks κs (g.items store) ns ∷ [];
-    ties = λ κs x ns r. follows S U x.ghost_name (name κs r) (λ w. (g.store_with x.now (written κs (g.items x.now) ns w)).0);
+    ties = λ κs x ns r. follows S U x.ghost_name (name κs r)
+      (λ w. (g.store_with x.now (written κs (g.items x.now) ns w)).0);
     gives = λ κs store ns r. shown κs (g.items store) ns r;
   }
 
@@ -75,7 +81,8 @@ module _ (Z X : RattleType) (g : store.Ghosts Z.Denot X.Denot) (d dd : Dict) whe
     abbrev pub Called : Contract 𝓤
     Called = triple_of 𝓛 (callee.signature Z X) (callee.spec Z X g d dd 𝓛 at_mem run)
 
-    module _ (κs : Lfts 3) (qs : Shares 3) (bounds : AllOutlive 3 (callee.signature Z X).outlives κs) (x : MutBor S.Denot) where
+    module _ (κs : Lfts 3) (qs : Shares 3) (bounds : AllOutlive 3 (callee.signature Z X).outlives κs)
+        (x : MutBor S.Denot) where
       abbrev pub choice : Called.Ghost
       choice = ((κs, qs, bounds, (x, tt), (mut_vals x, tt)), tt)
 
@@ -101,19 +108,28 @@ module _ (Z X : RattleType) (g : store.Ghosts Z.Denot X.Denot) (d dd : Dict) whe
       abbrev pub tied : MutBor (List X.Denot) → Fml
       tied s = follows S (Array R 0) x.ghost_name s.ghost_name after
 
-      module _ {K : Type 0} {Γ : List (Item 𝓤)} {E : Env 𝓤 H} {C : Calls 𝓤 H} {Λ : Loops 𝓤 H} {f : Callee} {xs : List Opd} {p : Place} {rest : Code} {q : Post 𝓤 H} where
-        pub calls_slice : K → FmC 𝓤 H 𝓛.laws C → Triple 𝓤 (C f) Called → Every (lives κs) → Opds K 𝓛 (raw (Called.pre choice) ∷ Γ) E xs (Called.args choice)
-            → ((v : Val) (s : MutBor (List X.Denot)) → Told v s → Seq K 𝓛 (seen s ∷ borrow s ∷ ‵ (flft κs.0 qs.0) ∷ ‵ (tied s) ∷ raw (toks 𝓛 2 κs.1 qs.1) ∷ Γ) (lands C Λ E p v rest q))
-            → Seq K 𝓛 (‵ Passed ∷ ‵ (flft κs.0 qs.0) ∷ raw (toks 𝓛 2 κs.1 qs.1) ∷ Γ) (runs C Λ E (seq (call f xs p) rest) q)
+      module _ {K : Type 0} {Γ : List (Item 𝓤)} {E : Env 𝓤 H} {C : Calls 𝓤 H} {Λ : Loops 𝓤 H} {f : Callee}
+          {xs : List Opd} {p : Place} {rest : Code} {q : Post 𝓤 H} where
+        pub calls_slice : K → FmC 𝓤 H 𝓛.laws C → Triple 𝓤 (C f) Called → Every (lives κs)
+            → Opds K 𝓛 (raw (Called.pre choice) ∷ Γ) E xs (Called.args choice)
+            → ((v : Val) (s : MutBor (List X.Denot)) → Told v s
+              → Seq K 𝓛 (seen s ∷ borrow s ∷ ‵ (flft κs.0 qs.0) ∷ ‵ (tied s) ∷ raw (toks 𝓛 2 κs.1 qs.1) ∷ Γ)
+              (lands C Λ E p v rest q))
+            → Seq K 𝓛 (‵ Passed ∷ ‵ (flft κs.0 qs.0) ∷ raw (toks 𝓛 2 κs.1 qs.1) ∷ Γ)
+              (runs C Λ E (seq (call f xs p) rest) q)
         calls_slice t framed met live operands then =
             nothing t $ move t (1 ∷ 0 ∷ []) $ fjoin t $ move t (1 ∷ 2 ∷ []) $ join t $ join t $
             nothing t $ use0 𝓛 (raw (fact 𝓤 (κs.1.1.0 ⊑ X.lives))) (fact_i 𝓤 _ (emp 𝓤) live.1.0) $ join t $
             use0 𝓛 (raw (fact 𝓤 (κs.1.0 ⊑ Z.lives))) (fact_i 𝓤 _ (emp 𝓤) live.0) $ join t $
             move t (1 ∷ 0 ∷ []) $ join t $ use1 𝓛 (raw (Called.pre choice)) (id⊢ 𝓤 _) $
             calls_at t framed Called met choice operands (λ v.
-            use1 𝓛 (later (some (λ (s : MutBor (List X.Denot)). ((‵ (flft κs.0 qs.0) ⊛ raw (toks 𝓛 2 κs.1 qs.1)) ⊛ ‵ ((MutSlice (named 0) κs.0 R).own_val s (v ∷ []))) ⊛
-            some (λ (ws : Unit {0} × Unit {0}). ‵ (fsep ftrue ftrue) ⊛ ‵ (tied s) ⊛ raw (fact 𝓤 (s.now ≡ g.items x.now)))))) (id⊢ 𝓤 _) $
-            await t tt $ pick t (λ s. split t $ split t $ move t (2 ∷ []) $ pick t (λ ws. split3 t $ drop t $ move t (1 ∷ []) $ heard t _ (λ same.
+            use1 𝓛 (later (some (λ (s : MutBor (List X.Denot)).
+              ((‵ (flft κs.0 qs.0) ⊛ raw (toks 𝓛 2 κs.1 qs.1)) ⊛ ‵ ((MutSlice (named 0) κs.0 R).own_val s (v ∷ []))) ⊛
+            some (λ (ws : Unit {0} × Unit {0}). ‵ (fsep ftrue ftrue) ⊛ ‵ (tied s) ⊛ raw
+              (fact 𝓤 (s.now ≡ g.items x.now)))))) (id⊢ 𝓤 _) $
+            await t tt $ pick t (λ s. split t $ split t $ move t (2 ∷ []) $ pick t
+              (λ ws. split3 t $ drop t $ move t (1 ∷ []) $ heard t _ (λ same.
             -- [what follows; the tokens; the slice]
-            move t (1 ∷ []) $ split t $ move t (3 ∷ []) $ fsplit3 t $ fsplit t $ feq_l t (λ e. pure_l t (room R (length s.now)) (λ fits.
+            move t (1 ∷ []) $ split t $ move t (3 ∷ []) $ fsplit3 t $ fsplit t $ feq_l t
+              (λ e. pure_l t (room R (length s.now)) (λ fits.
             move t (0 ∷ 1 ∷ 2 ∷ 4 ∷ []) $ then v s (ap only e, fits, same)))))))

@@ -1,5 +1,7 @@
 -- Two lists of one length, compared pair by pair in parts.
-use Rattle.std.proofs.Common.{◌≡◌, ℕ, zero, suc, ◌+◌, ◌<◌, Bool, true, false, ◌&&◌, List, [], ◌∷◌, ◌++◌, Option, Ordering, Less, Equal, Greater, take, drop, length, ap, sym, ◌∙◌, refl, arith, slice_index_or}
+use Rattle.std.proofs.Common.{◌≡◌, ℕ, zero, suc, ◌+◌, ◌<◌, Bool, true, false, ◌&&◌, List, [], ◌∷◌, ◌++◌, Option}
+use Rattle.std.proofs.Common.{Ordering, Less, Equal, Greater, take, drop, length, ap, sym, ◌∙◌, refl, arith}
+use Rattle.std.proofs.Common.{slice_index_or}
 use Rattle.std.proofs.lemmas.List.{drop-take, length-drop, length-take, take-append-drop, take-take, take_more}
 use Rattle.std.specs.Cmp.{IsPartialOrder}
 use Rattle.std.specs.Cmp.Lexicographic.{pointwise, slice_cmp, slice_partial_cmp}
@@ -34,31 +36,38 @@ module _ {T : Type 0} where
   drop-long n xs ys long = simp length-drop cc
 
 module _ {T : Type 0} (E : T → T → Bool) where
-  pointwise-append : (xs ys more others : List T) → length xs ≡ length ys → pointwise E (xs ++ more) (ys ++ others) ≡ (pointwise E xs ys && pointwise E more others)
+  pointwise-append : (xs ys more others : List T) → length xs ≡ length ys
+      → pointwise E (xs ++ more) (ys ++ others) ≡ (pointwise E xs ys && pointwise E more others)
   pointwise-append [] [] more others long = refl
   pointwise-append [] (y ∷ ys) more others long = cc
   pointwise-append (x ∷ xs) [] more others long = cc
   pointwise-append (x ∷ xs) (y ∷ ys) more others long =
-      ap (λ b. E x y && b) (pointwise-append xs ys more others (cc)) ∙ and-joined (E x y) (pointwise E xs ys) (pointwise E more others)
+      ap (λ b. E x y && b) (pointwise-append xs ys more others (cc))
+        ∙ and-joined (E x y) (pointwise E xs ys) (pointwise E more others)
 
   -- the first n pairs, and those behind them
-  pointwise-cut : (n : ℕ) (xs ys : List T) → length xs ≡ length ys → pointwise E xs ys ≡ (pointwise E (take n xs) (take n ys) && pointwise E (drop n xs) (drop n ys))
+  pointwise-cut : (n : ℕ) (xs ys : List T) → length xs ≡ length ys
+      → pointwise E xs ys ≡ (pointwise E (take n xs) (take n ys) && pointwise E (drop n xs) (drop n ys))
   pointwise-cut n xs ys long =
       sym (λ i. pointwise E (take-append-drop n xs i) (take-append-drop n ys i))
       ∙ pointwise-append (take n xs) (take n ys) (drop n xs) (drop n ys) (take-long n xs ys long)
 
   -- the pairs so far, and the next
-  pub pointwise-next : (n : ℕ) (xs ys : List T) (x y : T) → n < length xs → length xs ≡ length ys → x ≡ slice_index_or xs n x → y ≡ slice_index_or ys n y
+  pub pointwise-next : (n : ℕ) (xs ys : List T) (x y : T) → n < length xs → length xs ≡ length ys
+      → x ≡ slice_index_or xs n x → y ≡ slice_index_or ys n y
       → pointwise E (take (n + 1) xs) (take (n + 1) ys) ≡ (pointwise E (take n xs) (take n ys) && E x y)
   pointwise-next n xs ys x y some long this that =
-      let first : take (n + 1) xs ≡ take n xs ++ x ∷ [] = take_more xs n x some ∙ ap (λ item. take n xs ++ item ∷ []) (sym this) in
-      let second : take (n + 1) ys ≡ take n ys ++ y ∷ [] = take_more ys n y (omega arith) ∙ ap (λ item. take n ys ++ item ∷ []) (sym that) in
+      let first : take (n + 1) xs ≡ take n xs ++ x ∷ [] =
+        take_more xs n x some ∙ ap (λ item. take n xs ++ item ∷ []) (sym this) in
+      let second : take (n + 1) ys ≡ take n ys ++ y ∷ [] =
+        take_more ys n y (omega arith) ∙ ap (λ item. take n ys ++ item ∷ []) (sym that) in
       (λ i. pointwise E (first i) (second i))
       ∙ (pointwise-append (take n xs) (take n ys) (x ∷ []) (y ∷ []) (take-long n xs ys long)
       ∙ ap (λ b. pointwise E (take n xs) (take n ys) && b) (and-true (E x y)))
 
   -- the first n pairs are equal, and so are the m behind them
-  pub block-equal : (n m end : ℕ) (xs ys : List T) → length xs ≡ length ys → n + m ≡ end → pointwise E (take n xs) (take n ys) ≡ true
+  pub block-equal : (n m end : ℕ) (xs ys : List T) → length xs ≡ length ys → n + m ≡ end
+      → pointwise E (take n xs) (take n ys) ≡ true
       → true ≡ pointwise E (take m (drop n xs)) (take m (drop n ys)) → pointwise E (take end xs) (take end ys) ≡ true
   block-equal n m end xs ys long sum before here =
       let within : (l : List T) → take n (take (n + m) l) ≡ take n l = λ l. take-take n (n + m) l (omega arith) in
@@ -68,14 +77,18 @@ module _ {T : Type 0} (E : T → T → Bool) where
       ∙ ((λ i. before i && sym here i))))
 
   -- of the m pairs behind the first n, one is not equal
-  pub block-differs : (n m : ℕ) (xs ys : List T) → length xs ≡ length ys → false ≡ pointwise E (take m (drop n xs)) (take m (drop n ys)) → pointwise E xs ys ≡ false
+  pub block-differs : (n m : ℕ) (xs ys : List T) → length xs ≡ length ys
+      → false ≡ pointwise E (take m (drop n xs)) (take m (drop n ys)) → pointwise E xs ys ≡ false
   block-differs n m xs ys long here =
       let behind : pointwise E (drop n xs) (drop n ys) ≡ false =
-      pointwise-cut m (drop n xs) (drop n ys) (drop-long n xs ys long) ∙ ap (λ b. b && pointwise E (drop m (drop n xs)) (drop m (drop n ys))) (sym here) in
-      pointwise-cut n xs ys long ∙ (ap (λ b. pointwise E (take n xs) (take n ys) && b) behind ∙ and-false (pointwise E (take n xs) (take n ys)))
+      pointwise-cut m (drop n xs) (drop n ys) (drop-long n xs ys long)
+        ∙ ap (λ b. b && pointwise E (drop m (drop n xs)) (drop m (drop n ys))) (sym here) in
+      pointwise-cut n xs ys long ∙ (ap (λ b. pointwise E (take n xs) (take n ys) && b) behind
+        ∙ and-false (pointwise E (take n xs) (take n ys)))
 
   -- behind equal pairs the order is that of the others
-  pub cmp-behind : (R : T → T → Ordering) → ((x y : T) → E x y ≡ eq_by_cmp R x y) → (n : ℕ) (xs ys : List T) → length xs ≡ length ys → pointwise E (take n xs) (take n ys) ≡ true
+  pub cmp-behind : (R : T → T → Ordering) → ((x y : T) → E x y ≡ eq_by_cmp R x y) → (n : ℕ) (xs ys : List T)
+      → length xs ≡ length ys → pointwise E (take n xs) (take n ys) ≡ true
       → slice_cmp R xs ys ≡ slice_cmp R (drop n xs) (drop n ys)
   cmp-behind R ties zero xs ys long equal = refl
   cmp-behind R ties (suc n) [] [] long equal = refl
@@ -83,9 +96,11 @@ module _ {T : Type 0} (E : T → T → Bool) where
   cmp-behind R ties (suc n) (x ∷ xs) [] long equal = cc
   cmp-behind R ties (suc n) (x ∷ xs) (y ∷ ys) long equal =
       let both = and-both (E x y) (pointwise E (take n xs) (take n ys)) equal in
-      ap (λ found. ordering_then found (slice_cmp R xs ys)) (level (R x y) (sym (ties x y) ∙ both.0)) ∙ cmp-behind R ties n xs ys (cc) both.1
+      ap (λ found. ordering_then found (slice_cmp R xs ys)) (level (R x y) (sym (ties x y) ∙ both.0))
+        ∙ cmp-behind R ties n xs ys (cc) both.1
 
-  pub partial_cmp-behind : {C : T → T → Option Ordering} → IsPartialOrder E C → (n : ℕ) (xs ys : List T) → length xs ≡ length ys → pointwise E (take n xs) (take n ys) ≡ true
+  pub partial_cmp-behind : {C : T → T → Option Ordering} → IsPartialOrder E C → (n : ℕ) (xs ys : List T)
+      → length xs ≡ length ys → pointwise E (take n xs) (take n ys) ≡ true
       → slice_partial_cmp C xs ys ≡ slice_partial_cmp C (drop n xs) (drop n ys)
   partial_cmp-behind laws zero xs ys long equal = refl
   partial_cmp-behind laws (suc n) [] [] long equal = refl
@@ -93,4 +108,5 @@ module _ {T : Type 0} (E : T → T → Bool) where
   partial_cmp-behind laws (suc n) (x ∷ xs) [] long equal = cc
   partial_cmp-behind {C} laws (suc n) (x ∷ xs) (y ∷ ys) long equal =
       let both = and-both (E x y) (pointwise E (take n xs) (take n ys)) equal in
-      ap (λ found. partial_ordering_then found (slice_partial_cmp C xs ys)) ((laws.matches_eq x y).0 both.0) ∙ partial_cmp-behind laws n xs ys (cc) both.1
+      ap (λ found. partial_ordering_then found (slice_partial_cmp C xs ys)) ((laws.matches_eq x y).0 both.0)
+        ∙ partial_cmp-behind laws n xs ys (cc) both.1

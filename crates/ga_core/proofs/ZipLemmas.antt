@@ -14,7 +14,8 @@ module _ {A B : Type 0} where
   drop-zip (suc n) (x ∷ xs) (y ∷ ys) = drop-zip n xs ys
 
   -- the pairs from a place on begin with that of the two items there
-  pub pairs-here : (n : ℕ) (xs more : List A) (ys others : List B) (x : A) (y : B) → drop n xs ≡ x ∷ more → drop n ys ≡ y ∷ others
+  pub pairs-here : (n : ℕ) (xs more : List A) (ys others : List B) (x : A) (y : B) → drop n xs ≡ x ∷ more
+      → drop n ys ≡ y ∷ others
       → drop n (zip xs ys) ≡ (x, y) ∷ zip more others
   pairs-here n xs more ys others x y left right =
       drop-zip n xs ys ∙ (ap (λ l. zip l (drop n ys)) left ∙ ap (λ r. zip (x ∷ more) r) right)

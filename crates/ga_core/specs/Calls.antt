@@ -1,4 +1,6 @@
--- Where a closure may be called: at each number below n or each item of a list in turn, in each state that the calls before lead to. Each word ends in a premise that a caller gets: where no call changes the closure, what holds of its first state holds of each that it reaches.
+-- Where a closure may be called: at each number below n or each item of a list in turn, in each state that the calls
+-- before lead to. Each word ends in a premise that a caller gets: where no call changes the closure, what holds of
+-- its first state holds of each that it reaches.
 use Rattle.ga_core.specs.Entries.{CallAt, CallAtPair, FoldAt}
 use Rattle.ga_core.specs.Runs.{ClosureRun, FoldRun}
 use Rattle.std.specs.List.{range_with_len, zip}
@@ -18,13 +20,15 @@ module _ {F Y : Type 0} (pre : F → ℕ → Type 0) (step : F → ℕ → Y →
   -- f may be called at each number below n in turn
   abbrev pub MayGenerate : F → ℕ → Type 0
   MayGenerate f n = (k : ℕ) (ys : List Y) (reached : F)
-      → k < n → ClosureRun step f (range_with_len 0 k) ys reached → (pre f k → Stays step f → pre reached k) → pre reached k
+      → k < n → ClosureRun step f (range_with_len 0 k) ys reached → (pre f k → Stays step f → pre reached k)
+        → pre reached k
 
 module _ {F Y E : Type 0} (pre : F → ℕ → Type 0) (step : F → ℕ → Result Y E → F → Type 0) where
   -- f may be called at each number below n in turn, as long as its calls are good
   abbrev pub MayTryGenerate : F → ℕ → Type 0
   MayTryGenerate f n = (k : ℕ) (good : List Y) (reached : F)
-      → k < n → ClosureRun step f (range_with_len 0 k) (map Ok good) reached → (pre f k → Stays step f → pre reached k) → pre reached k
+      → k < n → ClosureRun step f (range_with_len 0 k) (map Ok good) reached → (pre f k → Stays step f → pre reached k)
+        → pre reached k
 
 module _ {F I T : Type 0} (entry : I → T) (pre : F → I → Type 0) where
   -- f may be called at an entry of each item in turn
@@ -39,7 +43,8 @@ module _ {F I T : Type 0} (entry : I → T) (pre : F → I → Type 0) where
       → items ≡ passed ++ item ∷ others → ClosureRun (CallAt entry step) f passed (map Ok good) reached
       → (at : I) → entry at ≡ item → (pre f at → Stays step f → pre reached at) → pre reached at
 
-module _ {F I J T B Y : Type 0} (entry : I → T) (other : J → B) (pre : F → I → J → Type 0) (step : F → I → J → Y → F → Type 0) where
+module _ {F I J T B Y : Type 0} (entry : I → T) (other : J → B) (pre : F → I → J → Type 0) (step : F → I → J → Y → F
+    → Type 0) where
   -- f may be called at entries of each two items at the same index in turn
   abbrev pub MayZip : F → List T → List B → Type 0
   MayZip f left right = (passed : List (T × B)) (pair : T × B) (others : List (T × B)) (ys : List Y) (reached : F)

@@ -6,10 +6,12 @@ module _ {T : Type 0} (is_clone : T → T → Type 0) (item : T) where
   -- n values: clones of the item, and last the item itself
   abbrev pub Repeats : ℕ → List T → Type 0
   Repeats zero array = array ≡ []
-  Repeats (suc n) array = (clones : List T) × (array ≡ clones ++ item ∷ []) × (length clones ≡ n) × All (is_clone item) clones
+  Repeats (suc n) array = (clones : List T) × (array ≡ clones ++ item ∷ []) × (length clones ≡ n)
+    × All (is_clone item) clones
 
 module _ {T : Type 0} (P : T → Type 0) where
-  -- n items, of each of which P holds: told item by item, so that a search learns all of them at a length that is a number
+  -- n items, of each of which P holds: told item by item, so that a search learns all of them at a length that is a
+  -- number
   abbrev pub ExactlyEach : ℕ → List T → Type 0
   ExactlyEach zero items = items ≡ []
   ExactlyEach (suc n) items = (item : T) × (others : List T) × (items ≡ item ∷ others) × P item × ExactlyEach n others

@@ -1,4 +1,5 @@
--- Calls of a closure at entries that stand for values: an item by value stands for itself, a reference for the item behind it.
+-- Calls of a closure at entries that stand for values: an item by value stands for itself, a reference for the item
+-- behind it.
 use Rattle.std.specs.Prelude.{◌≡◌}
 
 module _ {I T F : Type 0} (entry : I → T) where
@@ -32,4 +33,5 @@ module _ {I T F A B : Type 0} (entry : I → T) where
 module _ {I J T B F Y : Type 0} (entry : I → T) (other : J → B) where
   -- each call of f at two entries returns h of the pair that they stand for, and leaves f as it is
   abbrev pub ActsOnEntries : (F → I → J → Y → F → Type 0) → F → (T × B → Y) → Type 0
-  ActsOnEntries step f h = (left : I) (right : J) (y : Y) (g : F) → step f left right y g → (g ≡ f) × (y ≡ h (entry left, other right))
+  ActsOnEntries step f h = (left : I) (right : J) (y : Y) (g : F) → step f left right y g
+    → (g ≡ f) × (y ≡ h (entry left, other right))

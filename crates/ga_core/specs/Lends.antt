@@ -8,7 +8,8 @@ use Rattle.std.specs.Prelude.{ℕ, List, length, slice_set}
 use Rattle.std.specs.Slice.Iter.{iter_mut_name}
 use Rattle.std.specs.declared.slice.IterMut.{IterMut}
 
-module _ (T N S : RattleType) (n : unsigned.Ghosts N.Denot) (s : store.Ghosts S.Denot T.Denot) (array : MutBor (List T.Denot)) where
+module _ (T N S : RattleType) (n : unsigned.Ghosts N.Denot) (s : store.Ghosts S.Denot T.Denot)
+    (array : MutBor (List T.Denot)) where
   -- the array with these items written over its own, as many as it has
   abbrev pub array_with : List T.Denot → List T.Denot
   array_with written = refill (length array.now) array.now written

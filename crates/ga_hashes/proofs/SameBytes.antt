@@ -13,7 +13,8 @@ same-from_xor : (a b : ℕ) → bit_xor a b ≡ 0 → b ≡ a
 same-from_xor a b none = omega (arith, none, xor_add_and a b, and_le_l a b, and_le_r a b)
 
 -- lists of one length are the same where `seen`, with all their differing bits added, is 0
-pub same-from_none : (seen : ℕ) (left right : List ℕ) → length right ≡ length left → fold bit_or seen (differences left right) ≡ 0
+pub same-from_none : (seen : ℕ) (left right : List ℕ) → length right ≡ length left
+    → fold bit_or seen (differences left right) ≡ 0
     → (seen ≡ 0) × (right ≡ left)
 same-from_none seen [] [] len none = (none, refl)
 same-from_none seen [] (r ∷ right) len none = absurd (omega (arith, len))

@@ -7,7 +7,8 @@ use Rattle.std.specs.Borrow.{Bor}
 use Rattle.std.specs.Int.{to_be_bytes, w64}
 use Rattle.std.specs.Prelude.{◌≡◌, ℕ, ◌+◌, ◌-◌, ◌*◌, ◌%◌, ◌^◌, List, ◌∷◌, ◌++◌, length, min, replicate}
 
--- the bytes that wait for their block to fill, and how many bytes were fed; 2^64 - 1 stands for every number from there on
+-- the bytes that wait for their block to fill, and how many bytes were fed; 2^64 - 1 stands for every number from
+-- there on
 pub record Fed : Type 0 where
   pub kept : List ℕ
   pub len : ℕ
@@ -21,7 +22,8 @@ module _ {V F : Type 0} (bytes_of : V → List ℕ) (step : F → V → Unit {0}
   abbrev pub Takes : F → List (List ℕ) → F → Type 0
   Takes f blocks last = (answers : List (Unit {0})) × ClosureRun (CallAt bytes_of step) f blocks answers last
 
-  -- f may be called at each of these blocks in turn, which have this width, in each state that the calls before it lead to
+  -- f may be called at each of these blocks in turn, which have this width, in each state that the calls before it
+  -- lead to
   abbrev pub MayTake : (F → V → Type 0) → ℕ → F → List (List ℕ) → Type 0
   MayTake pre width f blocks = MayMap bytes_of (λ g view. length (bytes_of view) ≡ width → pre g view) step f blocks
 
@@ -39,11 +41,13 @@ module _ {F : Type 0} (step : F → Bor (List ℕ) → Unit {0} → F → Type 0
   abbrev pub MayTakeBlocks : (F → Bor (List ℕ) → Type 0) → ℕ → F → List ℕ → Type 0
   MayTakeBlocks pre width f message = MayTake (λ slice. slice.now) step pre width f (rows width message)
 
--- how many zeros stand between the mark and the length behind `len` bytes: the fewest with which whole blocks are filled
+-- how many zeros stand between the mark and the length behind `len` bytes: the fewest with which whole blocks are
+-- filled
 abbrev pub zero_count : ℕ → ℕ → ℕ
 zero_count width len = (width - (len + 9) % width) % width
 
--- what follows a message of `len` bytes, of which `place` stand in its last blocks: the mark, zeros, and the number of bits, its high byte first
+-- what follows a message of `len` bytes, of which `place` stand in its last blocks: the mark, zeros, and the number
+-- of bits, its high byte first
 abbrev pub padding : ℕ → ℕ → ℕ → List ℕ
 padding width place len = 128 ∷ replicate (zero_count width place) 0 ++ to_be_bytes w64 (8 * len)
 

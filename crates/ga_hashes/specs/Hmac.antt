@@ -24,7 +24,8 @@ hmac_of digest block key message =
 
 -- the value for tags was fed the key and then the message: its inner and its outer hash function,
 -- which hold what `holds` says, began with the key under the masks
-abbrev pub Holds : {H B O BA OA : Type 0} → (H → List ℕ → Type 0) → (List ℕ → List ℕ) → ℕ → Hmac H B O BA OA → List ℕ → List ℕ → Type 0
+abbrev pub Holds : {H B O BA OA : Type 0} → (H → List ℕ → Type 0) → (List ℕ → List ℕ) → ℕ → Hmac H B O BA OA → List ℕ
+    → List ℕ → Type 0
 Holds holds digest block hmac key message =
     let padded = key_block digest block key in
     holds hmac.inner (with_mask 0x36 padded ++ message) × holds hmac.outer (with_mask 0x5c padded)

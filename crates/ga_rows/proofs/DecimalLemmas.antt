@@ -6,7 +6,8 @@ pub decimal-two_digits : (n : ℕ) → 10 ≤ n → n < 100 → decimal n ≡ (4
 decimal-two_digits n low high =
     decimal_step n low (omega arith) ∙ ap (λ front. front ++ (48 + n % 10) ∷ []) (decimal_digit (n / 10) (omega arith))
 
-pub decimal-three_digits : (n : ℕ) → 100 ≤ n → n < 1000 → decimal n ≡ (48 + n / 100) ∷ (48 + n / 10 % 10) ∷ (48 + n % 10) ∷ []
+pub decimal-three_digits : (n : ℕ) → 100 ≤ n → n < 1000
+    → decimal n ≡ (48 + n / 100) ∷ (48 + n / 10 % 10) ∷ (48 + n % 10) ∷ []
 decimal-three_digits n low high =
     let tens : n / 10 / 10 ≡ n / 100 = omega arith in
     decimal_step n (omega arith) (omega arith)

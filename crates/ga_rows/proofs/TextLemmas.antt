@@ -1,7 +1,8 @@
 -- The lines of rows, put down one after the other, and the front of what was put behind a text.
 use Rattle.ga_rows.specs.Text.{line, lines, row_text}
 use Rattle.ga_rows.specs.declared.arguments.Mode.{Mode}
-use Rattle.std.proofs.Common.{[], ◌≡◌, ℕ, ◌+◌, ◌≤◌, List, ◌∷◌, ◌++◌, None, Option, Some, append_assoc, ap, arith, length, length-take, sym, take, ◌∙◌}
+use Rattle.std.proofs.Common.{[], ◌≡◌, ℕ, ◌+◌, ◌≤◌, List, ◌∷◌, ◌++◌, None, Option, Some, append_assoc, ap, arith}
+use Rattle.std.proofs.Common.{length, length-take, sym, take, ◌∙◌}
 use Rattle.std.proofs.KnownBytes.{Appends-nil, Appends-trans}
 use Rattle.std.proofs.Math.Seq.{take-append-add}
 use Rattle.std.proofs.lemmas.List.{take-append-le}
@@ -20,17 +21,20 @@ module _ (mode : Mode) where
 
   -- also after one more line
   pub lines-more : (all left after : List (List ℕ)) (row : List ℕ) (before now later : Option (List ℕ))
-      → LinesSoFar all left before now → left ≡ row ∷ after → Appends now later (line (row_text mode row)) → LinesSoFar all after before later
+      → LinesSoFar all left before now → left ≡ row ∷ after → Appends now later (line (row_text mode row))
+        → LinesSoFar all after before later
   lines-more all left after row before now later so_far step put =
       let first = line (row_text mode row) in
       record {
         done = so_far.done ++ first;
         appended = Appends-trans before now later so_far.done first so_far.appended put;
-        whole = so_far.whole ∙ (ap (λ rows. so_far.done ++ lines mode rows) step ∙ sym (append_assoc so_far.done first (lines mode after)));
+        whole = so_far.whole ∙ (ap (λ rows. so_far.done ++ lines mode rows) step
+          ∙ sym (append_assoc so_far.done first (lines mode after)));
       }
 
 -- known bytes that a text behind others kept grow by what is put behind the text
-pub Appends-behind : (before kept : Option (List ℕ)) (text after put : List ℕ) → Keeps before (append_known kept text) → after ≡ text ++ put → Appends before (append_known kept after) put
+pub Appends-behind : (before kept : Option (List ℕ)) (text after put : List ℕ) → Keeps before (append_known kept text)
+    → after ≡ text ++ put → Appends before (append_known kept after) put
 Appends-behind None kept text after put keeps is = tt
 Appends-behind (Some bytes) None text after put keeps is = absurd keeps
 Appends-behind (Some bytes) (Some front) text after put keeps is =

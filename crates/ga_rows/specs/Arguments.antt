@@ -17,14 +17,22 @@ bytes_of W16 = 16
 -- the mode of this name
 abbrev pub mode_named : List ℕ → Option Mode
 mode_named word =
-    if bytes_eq word (codes "dec") then Some Dec else if bytes_eq word (codes "hex") then Some Hex else if bytes_eq word (codes "back") then Some Back else if bytes_eq word (codes "sum") then Some Sum
-    else if bytes_eq word (codes "last") then Some Last else None
+    if bytes_eq word (codes "dec") then Some Dec
+    else if bytes_eq word (codes "hex") then Some Hex
+    else if bytes_eq word (codes "back") then Some Back
+    else if bytes_eq word (codes "sum") then Some Sum
+    else if bytes_eq word (codes "last") then Some Last
+    else None
 
 -- the width of this number
 abbrev pub width_named : List ℕ → Option Width
 width_named word =
-    if bytes_eq word (codes "1") then Some W1 else if bytes_eq word (codes "2") then Some W2 else if bytes_eq word (codes "4") then Some W4
-    else if bytes_eq word (codes "8") then Some W8 else if bytes_eq word (codes "16") then Some W16 else None
+    if bytes_eq word (codes "1") then Some W1
+    else if bytes_eq word (codes "2") then Some W2
+    else if bytes_eq word (codes "4") then Some W4
+    else if bytes_eq word (codes "8") then Some W8
+    else if bytes_eq word (codes "16") then Some W16
+    else None
 
 -- a mode, and a width if there is one
 abbrev pub with_width : Option Mode → Option Width → Option (Mode × Width)

@@ -1,13 +1,17 @@
 -- What a search in a table of keys finds, and what an edit at that place does.
-use Rattle.ga_uses.proofs.EntryLemmas.{insert_at, insert_gap, lookup-insert_entry, lookup_at, lookup_gap, remove_at, remove_gap, sorted_insert, sorted_remove, tie}
-use Rattle.ga_uses.proofs.SearchLemmas.{above_at, above_from, and_false, answers_from, both, filter_between, from_not_less, rises}
-use Rattle.ga_uses.specs.KeyTable.{ChangesKey, HasKeyAt, IsGapFor, IsInKeyOrder, entries_from_to, key_order, value_at, with_entry, without_key}
+use Rattle.ga_uses.proofs.EntryLemmas.{insert_at, insert_gap, lookup-insert_entry, lookup_at, lookup_gap, remove_at}
+use Rattle.ga_uses.proofs.EntryLemmas.{remove_gap, sorted_insert, sorted_remove, tie}
+use Rattle.ga_uses.proofs.SearchLemmas.{above_at, above_from, and_false, answers_from, both, filter_between}
+use Rattle.ga_uses.proofs.SearchLemmas.{from_not_less, rises}
+use Rattle.ga_uses.specs.KeyTable.{ChangesKey, HasKeyAt, IsGapFor, IsInKeyOrder, entries_from_to, key_order, value_at}
+use Rattle.ga_uses.specs.KeyTable.{with_entry, without_key}
 use Rattle.std.proofs.lemmas.Cmp.{eq_by_cmp_equiv, nat_list_cmp_total, tied_itself}
 use Rattle.std.proofs.lemmas.Map.{lookup-remove_entry}
 use Rattle.std.proofs.lemmas.Map.Keys.{IsDistinct-from_sorted}
 use Rattle.std.proofs.lemmas.Map.Lookups.{exact_bytes}
 use Rattle.std.specs.Prelude.{slice_range}
-use Rattle.std.proofs.Common.{◌≡◌, ℕ, ◌-◌, ◌≤◌, Bool, true, false, min, cond, List, [], length, get_or, set, Some, None, Result, Ok, Err, IfOk, IfErr, refl, sym, ◌∙◌, ap, subst, arith}
+use Rattle.std.proofs.Common.{◌≡◌, ℕ, ◌-◌, ◌≤◌, Bool, true, false, min, cond, List, [], length, get_or, set, Some, None}
+use Rattle.std.proofs.Common.{Result, Ok, Err, IfOk, IfErr, refl, sym, ◌∙◌, ap, subst, arith}
 use Rattle.std.specs.BTreeMap.{is_at}
 use Rattle.std.specs.List.{insert, remove}
 use Rattle.std.specs.List.Sorted.{IsStrictlySortedBy, IsSearchInRange, IsBinarySearchResult, IsPartitionPoint}
@@ -18,7 +22,9 @@ use Rattle.std.specs.declared.cmp.Ordering.TheVariants.{Less, Equal, Greater}
 
 module _ {V : Type 0} (es : List (List ℕ × V)) (sorted : IsInKeyOrder es) where
   -- a binary search ends at the key, or at the place where it would go
-  pub searched : (key : List ℕ) (r : Result ℕ ℕ) → IsSearchInRange r (length es) → IsBinarySearchResult (λ e. key_order e.0 key) es r → record { found : IfOk r (HasKeyAt es key); absent : IfErr r (IsGapFor es key) }
+  pub searched : (key : List ℕ) (r : Result ℕ ℕ) → IsSearchInRange r (length es)
+      → IsBinarySearchResult (λ e. key_order e.0 key) es r
+      → record { found : IfOk r (HasKeyAt es key); absent : IfErr r (IsGapFor es key) }
   searched key (Ok i) lt equal =
       let at = above_at nat_list_cmp_total key es i lt sorted equal in
       record {
@@ -45,11 +51,17 @@ module _ {V : Type 0} (es : List (List ℕ × V)) (sorted : IsInKeyOrder es) whe
       }
 
   -- where two searches by the bounds end, the entries between them stand
-  pub ranged : (from to : List ℕ) (s t : ℕ) → s ≤ length es → t ≤ length es → IsPartitionPoint (λ e. is_lt (key_order e.0 from) ≡ true) (λ e. is_lt (key_order e.0 from) ≡ false) es s → IsPartitionPoint (λ e. is_lt (key_order e.0 to) ≡ true) (λ e. is_lt (key_order e.0 to) ≡ false) es t → entries_from_to es from to ≡ slice_range es (min s t) t
+  pub ranged : (from to : List ℕ) (s t : ℕ) → s ≤ length es → t ≤ length es
+      → IsPartitionPoint (λ e. is_lt (key_order e.0 from) ≡ true) (λ e. is_lt (key_order e.0 from) ≡ false) es s
+      → IsPartitionPoint (λ e. is_lt (key_order e.0 to) ≡ true) (λ e. is_lt (key_order e.0 to) ≡ false) es t
+      → entries_from_to es from to ≡ slice_range es (min s t) t
   ranged from to s t ls lt first second =
       filter_between _ es (min s t) (t - min s t) (omega arith)
-      (λ j d low high. both (from_not_less nat_list_cmp_total from (get_or es j d).0 true (first.0 j d low (omega (arith, high)))) refl)
-      (λ j d low high. both (from_not_less nat_list_cmp_total from (get_or es j d).0 false (first.1 j d (omega (arith, low, high)) (omega (arith, low, high)))) (second.0 j d (omega arith) (omega (arith, low, high))))
+      (λ j d low high. both (from_not_less nat_list_cmp_total from (get_or es j d).0 true
+        (first.0 j d low (omega (arith, high)))) refl)
+      (λ j d low high. both (from_not_less nat_list_cmp_total from (get_or es j d).0 false
+        (first.1 j d (omega (arith, low, high)) (omega (arith, low, high))))
+        (second.0 j d (omega arith) (omega (arith, low, high))))
       (λ j d low high. both refl (second.1 j d (omega (arith, low)) high) ∙ and_false _)
 
 -- ---- the edits keep the order
@@ -60,9 +72,11 @@ sorted_empty V = tt
 
 module _ {V : Type 0} (es : List (List ℕ × V)) (sorted : IsInKeyOrder es) (key : List ℕ) (i : ℕ) where
   -- e is the entry that was there
-  pub sorted_written : HasKeyAt es key i → (e : List ℕ × V) (v : V) → e ≡ get_or es i e → IsInKeyOrder (set es i (e.0, v))
+  pub sorted_written : HasKeyAt es key i → (e : List ℕ × V) (v : V) → e ≡ get_or es i e
+      → IsInKeyOrder (set es i (e.0, v))
   sorted_written has e v is =
-      subst (λ (x : List ℕ × V). IsInKeyOrder (set es i (x.0, v))) (sym is) (subst IsInKeyOrder (has.written v e) (sorted_insert nat_list_cmp_total key es v sorted))
+      subst (λ (x : List ℕ × V). IsInKeyOrder (set es i (x.0, v))) (sym is)
+        (subst IsInKeyOrder (has.written v e) (sorted_insert nat_list_cmp_total key es v sorted))
 
   -- b is whether there was memory
   pub sorted_inserted : IsGapFor es key i → (v : V) (b : Bool) → IsInKeyOrder (cond b (insert es i (key, v)) es)
@@ -87,19 +101,25 @@ module _ {V : Type 0} (es : List (List ℕ × V)) (key : List ℕ) where
   pub changes-with_entry : (value : V) → ChangesKey es (with_entry es key value) key (Some value)
   changes-with_entry value =
       let at = λ (b : Bool) (q : List ℕ). cond b (Some value) (value_at es q) in (
-        lookup-insert_entry nat_list_cmp_total key value key es ∙ ap (λ b. at b key) (ap is_eq (tied_itself nat_list_cmp_total key)),
-        λ other differ. lookup-insert_entry nat_list_cmp_total key value other es ∙ ap (λ b. at b other) (unlike key other differ),
+        lookup-insert_entry nat_list_cmp_total key value key es
+          ∙ ap (λ b. at b key) (ap is_eq (tied_itself nat_list_cmp_total key)),
+        λ other differ. lookup-insert_entry nat_list_cmp_total key value other es
+          ∙ ap (λ b. at b other) (unlike key other differ),
       )
 
   pub changes-without_key : IsInKeyOrder es → ChangesKey es (without_key es key) key None
   changes-without_key sorted =
       let at = λ (b : Bool) (q : List ℕ). cond b None (value_at es q) in
-      let taken = λ (q : List ℕ). lookup-remove_entry {eq = eq_by_cmp key_order} (eq_by_cmp_equiv nat_list_cmp_total) (is_at (key_order key)) (λ x y h. ap is_eq (nat_list_cmp_total.congr key x y (tie (key_order key x) h))) q es (IsDistinct-from_sorted key_order (keys_of es) sorted) in (
+      let taken = λ (q : List ℕ). lookup-remove_entry {eq = eq_by_cmp key_order} (eq_by_cmp_equiv nat_list_cmp_total)
+        (is_at (key_order key)) (λ x y h. ap is_eq (nat_list_cmp_total.congr key x y (tie (key_order key x) h))) q es
+        (IsDistinct-from_sorted key_order (keys_of es) sorted) in (
         taken key ∙ ap (λ b. at b key) (ap is_eq (tied_itself nat_list_cmp_total key)),
         λ other differ. taken other ∙ ap (λ b. at b other) (unlike key other differ),
       )
 
 -- the same where place i is written over: e is the entry that was there
-pub changes_written : {V : Type 0} (es : List (List ℕ × V)) (key : List ℕ) (i : ℕ) → HasKeyAt es key i → (e : List ℕ × V) (v : V) → e ≡ get_or es i e → ChangesKey es (set es i (e.0, v)) key (Some v)
+pub changes_written : {V : Type 0} (es : List (List ℕ × V)) (key : List ℕ) (i : ℕ) → HasKeyAt es key i
+    → (e : List ℕ × V) (v : V) → e ≡ get_or es i e → ChangesKey es (set es i (e.0, v)) key (Some v)
 changes_written {V} es key i has e v is =
-    subst (λ (x : List ℕ × V). ChangesKey es (set es i (x.0, v)) key (Some v)) (sym is) (subst (λ l. ChangesKey es l key (Some v)) (has.written v e) (changes-with_entry es key v))
+    subst (λ (x : List ℕ × V). ChangesKey es (set es i (x.0, v)) key (Some v)) (sym is)
+      (subst (λ l. ChangesKey es l key (Some v)) (has.written v e) (changes-with_entry es key v))

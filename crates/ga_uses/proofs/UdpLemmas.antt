@@ -2,7 +2,8 @@
 use Rattle.generic_array.proofs.RowLemmas.{chunk_rest-first, rows-first}
 use Rattle.generic_array.specs.Rows.{chunk_rest, rows}
 use Rattle.ga_uses.specs.Udp.{field_of, header_of, number_of, ones_complement_sum, sum_with_carry, summed_bytes, words}
-use Rattle.std.proofs.Common.{◌≡◌, ℕ, zero, suc, ◌+◌, ◌*◌, ◌<◌, ◌≤◌, ◌/◌, ◌%◌, ◌^◌, List, [], ◌∷◌, ◌++◌, get_or, length, map, refl, sym, ◌∙◌, ap, arith}
+use Rattle.std.proofs.Common.{◌≡◌, ℕ, zero, suc, ◌+◌, ◌*◌, ◌<◌, ◌≤◌, ◌/◌, ◌%◌, ◌^◌, List, [], ◌∷◌, ◌++◌, get_or, length}
+use Rattle.std.proofs.Common.{map, refl, sym, ◌∙◌, ap, arith}
 use Rattle.std.proofs.lemmas.Grind.{fold-append}
 use Rattle.std.specs.Prelude.{fold}
 
@@ -20,29 +21,45 @@ words-rows (x ∷ []) = refl
 words-rows (x ∷ y ∷ xs) =
     let first = rows-first {X = ℕ} 2 (x ∷ y ∷ xs) (omega arith) (omega arith) in
     let rest = chunk_rest-first {X = ℕ} 2 (x ∷ y ∷ xs) (omega arith) (omega arith) in
-    ap (λ ws. (x * 2 ^ 8 + y) ∷ ws) (words-rows xs) ∙ sym (ap (λ r. map number_of r ++ words (chunk_rest 2 (x ∷ y ∷ xs))) first ∙ ap (λ r. (x * 2 ^ 8 + y) ∷ (map number_of (rows 2 xs) ++ words r)) rest)
+    ap (λ ws. (x * 2 ^ 8 + y) ∷ ws) (words-rows xs)
+      ∙ sym (ap (λ r. map number_of r ++ words (chunk_rest 2 (x ∷ y ∷ xs))) first
+      ∙ ap (λ r. (x * 2 ^ 8 + y) ∷ (map number_of (rows 2 xs) ++ words r)) rest)
 
 -- the sum over the rows' numbers, and then over the rest
-pub fold-rows : (xs : List ℕ) (sum : ℕ) → fold sum_with_carry sum (words xs) ≡ fold sum_with_carry (fold sum_with_carry sum (map number_of (rows 2 xs))) (words (chunk_rest 2 xs))
-fold-rows xs sum = ap (fold sum_with_carry sum) (words-rows xs) ∙ fold-append sum_with_carry sum (map number_of (rows 2 xs)) (words (chunk_rest 2 xs))
+pub fold-rows : (xs : List ℕ) (sum : ℕ) → fold sum_with_carry sum (words xs)
+    ≡ fold sum_with_carry (fold sum_with_carry sum (map number_of (rows 2 xs))) (words (chunk_rest 2 xs))
+fold-rows xs sum = ap (fold sum_with_carry sum) (words-rows xs)
+    ∙ fold-append sum_with_carry sum (map number_of (rows 2 xs)) (words (chunk_rest 2 xs))
 
 -- the sum over a piece of an even number of bytes, and then over what follows
-pub fold-pieces : (n : ℕ) (xs ys : List ℕ) (sum : ℕ) → length xs ≡ n + n → fold sum_with_carry sum (words (xs ++ ys)) ≡ fold sum_with_carry (fold sum_with_carry sum (words xs)) (words ys)
-fold-pieces n xs ys sum even = ap (fold sum_with_carry sum) (words-append n xs ys even) ∙ fold-append sum_with_carry sum (words xs) (words ys)
+pub fold-pieces : (n : ℕ) (xs ys : List ℕ) (sum : ℕ) → length xs ≡ n + n
+    → fold sum_with_carry sum (words (xs ++ ys)) ≡ fold sum_with_carry (fold sum_with_carry sum (words xs)) (words ys)
+fold-pieces n xs ys sum even = ap (fold sum_with_carry sum) (words-append n xs ys even)
+    ∙ fold-append sum_with_carry sum (words xs) (words ys)
 
 -- the two bytes of a number give it back
 rejoined : (n : ℕ) → n / 2 ^ 8 * 2 ^ 8 + n % 2 ^ 8 ≡ n
 rejoined n = omega arith
 
 -- the sum, piece by piece: addresses, the words between them and the payload, and the payload
-pub summed : (from to payload : List ℕ) (len source destination : ℕ) → length from ≡ 4 → length to ≡ 4 → len ≡ 8 + length payload → fold sum_with_carry (fold sum_with_carry (fold sum_with_carry (fold sum_with_carry 0 (words from)) (words to)) (17 ∷ len ∷ source ∷ destination ∷ len ∷ 0 ∷ [])) (words payload) ≡ ones_complement_sum (summed_bytes from to source destination payload)
+pub summed : (from to payload : List ℕ) (len source destination : ℕ) → length from ≡ 4 → length to ≡ 4
+    → len ≡ 8 + length payload → fold sum_with_carry
+    (fold sum_with_carry (fold sum_with_carry (fold sum_with_carry 0 (words from)) (words to))
+    (17 ∷ len ∷ source ∷ destination ∷ len ∷ 0 ∷ [])) (words payload)
+    ≡ ones_complement_sum (summed_bytes from to source destination payload)
 summed from to payload len source destination four_from four_to is =
     let behind = 0 ∷ 17 ∷ field_of len ++ (header_of source destination len 0 ++ payload) in
     let first = fold-pieces 2 from (to ++ behind) 0 four_from in
     let second = fold-pieces 2 to behind (fold sum_with_carry 0 (words from)) four_to in
-    let third : words behind ≡ 17 ∷ len ∷ source ∷ destination ∷ len ∷ 0 ∷ words payload = λ i. 17 ∷ rejoined len i ∷ rejoined source i ∷ rejoined destination i ∷ rejoined len i ∷ 0 ∷ words payload in
-    let all : fold sum_with_carry 0 (words (from ++ (to ++ behind))) ≡ fold sum_with_carry (fold sum_with_carry (fold sum_with_carry 0 (words from)) (words to)) (17 ∷ len ∷ source ∷ destination ∷ len ∷ 0 ∷ words payload) = first ∙ (second ∙ ap (fold sum_with_carry (fold sum_with_carry (fold sum_with_carry 0 (words from)) (words to))) third) in
-    sym all ∙ ap (λ n. ones_complement_sum (from ++ (to ++ (0 ∷ 17 ∷ field_of n ++ (header_of source destination n 0 ++ payload))))) is
+    let third : words behind ≡ 17 ∷ len ∷ source ∷ destination ∷ len ∷ 0 ∷ words payload =
+      λ i. 17 ∷ rejoined len i ∷ rejoined source i ∷ rejoined destination i ∷ rejoined len i ∷ 0 ∷ words payload in
+    let all : fold sum_with_carry 0 (words (from ++ (to ++ behind)))
+      ≡ fold sum_with_carry (fold sum_with_carry (fold sum_with_carry 0 (words from)) (words to))
+      (17 ∷ len ∷ source ∷ destination ∷ len ∷ 0 ∷ words payload) =
+      first ∙ (second ∙ ap (fold sum_with_carry (fold sum_with_carry (fold sum_with_carry 0 (words from)) (words to)))
+      third) in
+    sym all ∙ ap (λ n. ones_complement_sum (from ++
+      (to ++ (0 ∷ 17 ∷ field_of n ++ (header_of source destination n 0 ++ payload))))) is
 
 one_left : (rest : List ℕ) → 1 ≤ length rest → length rest < 2 → words rest ≡ (get_or rest 0 0 * 2 ^ 8) ∷ []
 one_left [] least most = absurd (omega (arith, least))
@@ -54,14 +71,17 @@ none_left [] most = refl
 none_left (x ∷ rest) most = absurd (omega (arith, most))
 
 -- the total over whole rows is that of all bytes, once the byte that is left is added
-module _ (xs whole rest : List ℕ) (same : rows 2 whole ≡ rows 2 xs) (left : rest ≡ chunk_rest 2 xs) (sum total : ℕ) (is : total ≡ fold sum_with_carry sum (map number_of (rows 2 whole))) where
+module _ (xs whole rest : List ℕ) (same : rows 2 whole ≡ rows 2 xs) (left : rest ≡ chunk_rest 2 xs) (sum total : ℕ)
+    (is : total ≡ fold sum_with_carry sum (map number_of (rows 2 whole))) where
   all : fold sum_with_carry sum (words xs) ≡ fold sum_with_carry total (words rest)
   all =
       fold-rows xs sum
-      ∙ (ap (λ t. fold sum_with_carry t (words (chunk_rest 2 xs))) (sym (is ∙ ap (λ rs. fold sum_with_carry sum (map number_of rs)) same))
+      ∙ (ap (λ t. fold sum_with_carry t (words (chunk_rest 2 xs)))
+        (sym (is ∙ ap (λ rs. fold sum_with_carry sum (map number_of rs)) same))
       ∙ ap (λ r. fold sum_with_carry total (words r)) (sym left))
 
-  pub total-one : 1 ≤ length rest → length rest < 2 → sum_with_carry total (get_or rest 0 0 * 2 ^ 8) ≡ fold sum_with_carry sum (words xs)
+  pub total-one : 1 ≤ length rest → length rest < 2
+      → sum_with_carry total (get_or rest 0 0 * 2 ^ 8) ≡ fold sum_with_carry sum (words xs)
   total-one least most = sym (all ∙ ap (fold sum_with_carry total) (one_left rest least most))
 
   pub total-none : length rest < 1 → total ≡ fold sum_with_carry sum (words xs)

@@ -5,7 +5,8 @@ use Rattle.std.specs.List.{insert, remove}
 use Rattle.std.specs.List.Sorted.{IsStrictlySortedBy}
 use Rattle.std.specs.Map.{keys_of, lookup, remove_entry}
 use Rattle.std.specs.Ordering.{is_le, is_lt, nat_cmp}
-use Rattle.std.specs.Prelude.{◌≡◌, ◌≢◌, ℕ, ◌<◌, ◌≤◌, ◌&&◌, List, None, Option, Some, filter, length, slice_index_or, slice_set}
+use Rattle.std.specs.Prelude.{◌≡◌, ◌≢◌, ℕ, ◌<◌, ◌≤◌, ◌&&◌, List, None, Option, Some, filter, length, slice_index_or}
+use Rattle.std.specs.Prelude.{slice_set}
 use Rattle.std.specs.declared.cmp.Ordering.{Ordering}
 
 -- the order of keys: the first byte that differs decides
@@ -35,13 +36,15 @@ module _ {V : Type 0} where
 
   -- the value at the key becomes this one, or none, and every other key keeps what it has
   abbrev pub ChangesKey : List (List ℕ × V) → List (List ℕ × V) → List ℕ → Option V → Type 0
-  ChangesKey old new key value = (value_at new key ≡ value) × ((other : List ℕ) → other ≢ key → value_at new other ≡ value_at old other)
+  ChangesKey old new key value = (value_at new key ≡ value)
+    × ((other : List ℕ) → other ≢ key → value_at new other ≡ value_at old other)
 
   -- place i has the key: what a look-up, a write and a removal at the key come to
   pub record HasKeyAt (entries : List (List ℕ × V)) (key : List ℕ) (i : ℕ) : Type 0 where
     pub in_range : i < length entries
     pub value : (d : List ℕ × V) → value_at entries key ≡ Some (slice_index_or entries i d).1
-    pub written : (value : V) (d : List ℕ × V) → with_entry entries key value ≡ slice_set entries i ((slice_index_or entries i d).0, value)
+    pub written : (value : V) (d : List ℕ × V) → with_entry entries key value
+        ≡ slice_set entries i ((slice_index_or entries i d).0, value)
     pub removed : without_key entries key ≡ remove entries i
 
   -- no place has the key, which would go to place i

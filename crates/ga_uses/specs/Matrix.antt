@@ -12,7 +12,8 @@ transpose columns rows = map (column_of rows) (range_with_len 0 columns)
 
 -- the sum of the products of numbers at the same places
 abbrev pub dot_product : List ℕ → List ℕ → ℕ
-dot_product left right = fold (λ total product. (total + product) % 2 ^ 64) 0 (map (λ pair. (pair.0 * pair.1) % 2 ^ 64) (zip left right))
+dot_product left right = fold (λ total product. (total + product) % 2 ^ 64) 0
+    (map (λ pair. (pair.0 * pair.1) % 2 ^ 64) (zip left right))
 
 -- a row times each column of a matrix that has so many
 abbrev pub row_product : ℕ → List ℕ → List (List ℕ) → List ℕ

@@ -1,5 +1,6 @@
 -- A UDP datagram as a list of bytes: four fields of two bytes each, high byte first, and the payload.
-use Rattle.std.specs.Prelude.{◌≡◌, ℕ, ◌+◌, ◌-◌, ◌*◌, ◌/◌, ◌%◌, ◌^◌, ◌≤◌, ◌==◌, List, [], ◌∷◌, ◌++◌, fold, if◌then◌else◌, length, slice_index}
+use Rattle.std.specs.Prelude.{◌≡◌, ℕ, ◌+◌, ◌-◌, ◌*◌, ◌/◌, ◌%◌, ◌^◌, ◌≤◌, ◌==◌, List, [], ◌∷◌, ◌++◌, fold, if◌then◌else◌}
+use Rattle.std.specs.Prelude.{length, slice_index}
 
 -- the number that two bytes stand for, high byte first
 abbrev pub number_of : List ℕ → ℕ
@@ -37,11 +38,13 @@ complement_of sum = if 2 ^ 16 - 1 - sum == 0 then 2 ^ 16 - 1 else 2 ^ 16 - 1 - s
 abbrev pub checksum_of : List ℕ → ℕ
 checksum_of bytes = complement_of (ones_complement_sum bytes)
 
--- what is summed: the pseudo header of both addresses, the protocol's number 17 and the length, then the header with no checksum, and the payload
+-- what is summed: the pseudo header of both addresses, the protocol's number 17 and the length, then the header with
+-- no checksum, and the payload
 abbrev pub summed_bytes : List ℕ → List ℕ → ℕ → ℕ → List ℕ → List ℕ
 summed_bytes source_address destination_address source destination payload =
     let len = 8 + length payload in
-    source_address ++ (destination_address ++ (0 ∷ 17 ∷ field_of len ++ (header_of source destination len 0 ++ payload)))
+    source_address ++ (destination_address ++ (0 ∷ 17 ∷ field_of len
+      ++ (header_of source destination len 0 ++ payload)))
 
 -- the datagram as it is sent: the header with its length and checksum, and the payload
 abbrev pub datagram_of : List ℕ → List ℕ → ℕ → ℕ → List ℕ → List ℕ

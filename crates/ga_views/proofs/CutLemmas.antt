@@ -1,6 +1,8 @@
 -- Steps that cut a list from its ends, joined to what std says of `next` and `next_back`.
 use Rattle.ga_views.specs.Cut.{StepGives, back, front}
-use Rattle.std.proofs.Common.{◌≡◌, ℕ, zero, suc, ◌+◌, ◌-◌, ◌≤◌, List, [], ◌∷◌, ◌++◌, inl, inr, Option, None, Some, length, min, take, drop, reverse, refl, sym, ap, ◌∙◌, append_assoc, arith, length-append, length-drop, slice_get}
+use Rattle.std.proofs.Common.{◌≡◌, ℕ, zero, suc, ◌+◌, ◌-◌, ◌≤◌, List, [], ◌∷◌, ◌++◌, inl, inr, Option, None, Some}
+use Rattle.std.proofs.Common.{length, min, take, drop, reverse, refl, sym, ap, ◌∙◌, append_assoc, arith, length-append}
+use Rattle.std.proofs.Common.{length-drop, slice_get}
 use Rattle.std.proofs.lemmas.List.{drop-drop, length-reverse, reverse-append, reverse-reverse, take-append-drop}
 use Rattle.std.proofs.Math.ListN.{drop_of_length-le}
 use Rattle.std.proofs.Math.Seq.{drop-append_seam, take-append_seam}
@@ -17,44 +19,56 @@ module _ {T : Type 0} where
   slice_get-drop (suc n) (x ∷ items) = slice_get-drop n items
 
   -- `next` replies with the first item and leaves the others
-  pub next-step : (items : List T) (reply : Option T) (left : List T) → YieldsFirst (λ all. all) items reply left → StepGives (front 0) items reply left
+  pub next-step : (items : List T) (reply : Option T) (left : List T) → YieldsFirst (λ all. all) items reply left
+      → StepGives (front 0) items reply left
   next-step items None left ended = (ap (λ all. slice_get all 0) (sym ended.0), ended.1 ∙ ap (drop 1) (sym ended.0))
   next-step items (Some item) left came = (ap (λ all. slice_get all 0) (sym came), ap (drop 1) (sym came))
 
   -- a step whose items are views of those of the list
-  pub first-by : {A : Type 0} (view : A → T) (items : List T) (reply : Option A) (left : List T) → YieldsFirstBy view (λ all. all) items reply left → YieldsFirst (λ all. all) items (option_map view reply) left
+  pub first-by : {A : Type 0} (view : A → T) (items : List T) (reply : Option A) (left : List T)
+      → YieldsFirstBy view (λ all. all) items reply left → YieldsFirst (λ all. all) items (option_map view reply) left
   first-by view items None left step = step
   first-by view items (Some item) left step = step
 
-  pub last-by : {A : Type 0} (view : A → T) (items : List T) (reply : Option A) (left : List T) → YieldsLastBy view (λ all. all) items reply left → YieldsLast (λ all. all) items (option_map view reply) left
+  pub last-by : {A : Type 0} (view : A → T) (items : List T) (reply : Option A) (left : List T)
+      → YieldsLastBy view (λ all. all) items reply left → YieldsLast (λ all. all) items (option_map view reply) left
   last-by view items None left step = step
   last-by view items (Some item) left step = step
 
   -- all but the last are, from the back, what lies behind the first
-  pub reverse-take : (items : List T) (kept passed : ℕ) → length items ≡ kept + passed → reverse (take kept items) ≡ drop passed (reverse items)
+  pub reverse-take : (items : List T) (kept passed : ℕ) → length items ≡ kept + passed
+      → reverse (take kept items) ≡ drop passed (reverse items)
   reverse-take items kept passed long =
       let last = reverse (drop kept items) in
-      let count : passed ≡ length last = omega (arith, length-reverse (drop kept items), length-drop kept items, long) in
+      let count : passed ≡ length last = omega (arith, length-reverse (drop kept items), length-drop kept items,
+        long) in
       sym (drop-append_seam last (reverse (take kept items)))
       ∙ (ap (λ k. drop k (last ++ reverse (take kept items))) (sym count)
-      ∙ ap (drop passed) (sym (reverse-append (take kept items) (drop kept items)) ∙ ap reverse (take-append-drop kept items)))
+      ∙ ap (drop passed) (sym (reverse-append (take kept items) (drop kept items))
+        ∙ ap reverse (take-append-drop kept items)))
 
   -- `next_back` is `next` on the reversed list
-  pub next_back-reversed : (items : List T) (reply : Option T) (left : List T) → YieldsLast (λ all. all) items reply left → YieldsFirst (λ all. all) (reverse items) reply (reverse left)
+  pub next_back-reversed : (items : List T) (reply : Option T) (left : List T)
+      → YieldsLast (λ all. all) items reply left → YieldsFirst (λ all. all) (reverse items) reply (reverse left)
   next_back-reversed items None left ended = (ap reverse ended.0, ap reverse ended.1)
   next_back-reversed items (Some item) left came = ap reverse came ∙ reverse-append left (item ∷ [])
 
   -- one item more was taken from the front
-  pub taken-more : (all taken left : List T) (item : T) (others : List T) → all ≡ taken ++ left → left ≡ item ∷ others → all ≡ (taken ++ item ∷ []) ++ others
-  taken-more all taken left item others so_far step = so_far ∙ (ap (λ rest. taken ++ rest) step ∙ sym (append_assoc taken (item ∷ []) others))
+  pub taken-more : (all taken left : List T) (item : T) (others : List T) → all ≡ taken ++ left → left ≡ item ∷ others
+      → all ≡ (taken ++ item ∷ []) ++ others
+  taken-more all taken left item others so_far step =
+    so_far ∙ (ap (λ rest. taken ++ rest) step ∙ sym (append_assoc taken (item ∷ []) others))
 
   -- one item more was passed over
-  pub passed-more : (n : ℕ) (items left : List T) (reply : Option T) (after : List T) → left ≡ drop n items → YieldsFirst (λ all. all) left reply after → after ≡ drop (n + 1) items
-  passed-more n items left reply after passed step = (next-step left reply after step).1 ∙ (ap (drop 1) passed ∙ drop-drop 1 n items)
+  pub passed-more : (n : ℕ) (items left : List T) (reply : Option T) (after : List T) → left ≡ drop n items
+      → YieldsFirst (λ all. all) left reply after → after ≡ drop (n + 1) items
+  passed-more n items left reply after passed step =
+    (next-step left reply after step).1 ∙ (ap (drop 1) passed ∙ drop-drop 1 n items)
 
   -- behind n items, or behind all where there are no more, `next` does the step
   pub nth-step : (n passed : ℕ) (items left : List T) (reply : Option T) (after : List T)
-      → passed ≡ min n (length items) → left ≡ drop passed items → YieldsFirst (λ all. all) left reply after → StepGives (front n) items reply after
+      → passed ≡ min n (length items) → left ≡ drop passed items → YieldsFirst (λ all. all) left reply after
+        → StepGives (front n) items reply after
   nth-step n passed items left reply after count here step =
       let gave = next-step left reply after step in
       elim (cases_lt (length items) n) [
@@ -73,7 +87,8 @@ module _ {T : Type 0} where
 
   -- where there are no more than n items, the step consumes them
   pub nth-past : (n : ℕ) (items left : List T) → length items ≤ n → left ≡ [] → StepGives (front n) items None left
-  nth-past n items left beyond none = (sym (slice_get_past items n (omega arith)), none ∙ sym (drop_of_length-le items (omega arith)))
+  nth-past n items left beyond none = (sym (slice_get_past items n (omega arith)), none
+    ∙ sym (drop_of_length-le items (omega arith)))
 
   -- the same from the back
   pub nth_back-past : (n : ℕ) (items left : List T) → length items ≤ n → left ≡ [] → StepGives (back n) items None left
@@ -83,16 +98,21 @@ module _ {T : Type 0} where
 
   -- behind n items from the back, or before all where there are no more, `next_back` does the step
   pub nth_back-step : (n passed : ℕ) (items left : List T) (reply : Option T) (after : List T)
-      → passed ≡ min n (length items) → reverse left ≡ drop passed (reverse items) → YieldsLast (λ all. all) left reply after → StepGives (back n) items reply after
+      → passed ≡ min n (length items) → reverse left ≡ drop passed (reverse items)
+        → YieldsLast (λ all. all) left reply after → StepGives (back n) items reply after
   nth_back-step n passed items left reply after count here step =
       let same : length (reverse items) ≡ length items = length-reverse items in
-      let gave = nth-step n passed (reverse items) (reverse left) reply (reverse after) (omega arith) here (next_back-reversed left reply after step) in
+      let gave = nth-step n passed (reverse items) (reverse left) reply (reverse after) (omega arith) here
+        (next_back-reversed left reply after step) in
       (gave.0, sym (reverse-reverse after) ∙ ap reverse gave.1)
 
   -- `pop` leaves one item fewer
-  popped : (items : List T) (reply : Option T) (left : List T) → YieldsLast (λ all. all) items reply left → left ≡ take (length items - 1) items
+  popped : (items : List T) (reply : Option T) (left : List T) → YieldsLast (λ all. all) items reply left
+      → left ≡ take (length items - 1) items
   popped items None left ended = ended.1 ∙ ap (λ all. take (length all - 1) all) (sym ended.0)
   popped items (Some item) left came =
       let count = length-append left (item ∷ []) in
-      let one_less : length items - 1 ≡ length left = let same : length items ≡ length (left ++ item ∷ []) = ap length came in omega arith in
-      sym (take-append_seam left (item ∷ [])) ∙ (ap (λ k. take k (left ++ item ∷ [])) (sym one_less) ∙ ap (take (length items - 1)) (sym came))
+      let one_less : length items - 1 ≡ length left = let same : length items ≡ length (left ++ item ∷ []) =
+        ap length came in omega arith in
+      sym (take-append_seam left (item ∷ [])) ∙ (ap (λ k. take k (left ++ item ∷ [])) (sym one_less)
+        ∙ ap (take (length items - 1)) (sym came))

@@ -2,7 +2,9 @@
 use Rattle.ga_views.specs.HexText.{hex_digits, hex_text}
 use Rattle.hex.proofs.HexLemmas.{IsAscii-encode_with, length-encode_with}
 use Rattle.hex.specs.Hex.{encode_lower, encode_with, lower_digits, upper_digits}
-use Rattle.std.proofs.Common.{◌≡◌, ℕ, ◌+◌, ◌-◌, ◌*◌, ◌/◌, ◌%◌, ◌≤◌, inl, inr, Bool, true, false, if◌then◌else◌, List, [], ◌∷◌, ◌++◌, Option, None, Some, MatchOption, refl, sym, ap, ◌∙◌, arith, length, map, nat_lt, min, take}
+use Rattle.std.proofs.Common.{◌≡◌, ℕ, ◌+◌, ◌-◌, ◌*◌, ◌/◌, ◌%◌, ◌≤◌, inl, inr, Bool, true, false, if◌then◌else◌, List}
+use Rattle.std.proofs.Common.{[], ◌∷◌, ◌++◌, Option, None, Some, MatchOption, refl, sym, ap, ◌∙◌, arith, length, map}
+use Rattle.std.proofs.Common.{nat_lt, min, take}
 use Rattle.std.proofs.Math.ListN.{get_or-map}
 use Rattle.std.proofs.Math.Seq.{take-append-add}
 use Rattle.std.proofs.lemmas.Bool.{cases_lt, ltb-true}
@@ -15,24 +17,28 @@ use Rattle.std.specs.List.{list_all}
 use Rattle.std.specs.Str.{IsAscii, IsUtf8}
 
 -- digits of a table in upper case are those of the table in upper case
-uppercase-encode_with : (t bytes : List ℕ) → map to_ascii_uppercase (encode_with t bytes) ≡ encode_with (map to_ascii_uppercase t) bytes
+uppercase-encode_with : (t bytes : List ℕ) → map to_ascii_uppercase (encode_with t bytes)
+    ≡ encode_with (map to_ascii_uppercase t) bytes
 unfolding encode_with
 uppercase-encode_with t [] = refl
 uppercase-encode_with t (b ∷ rest) =
-    rw (uppercase-encode_with t rest, ← get_or-map to_ascii_uppercase t (b / 16) 0, ← get_or-map to_ascii_uppercase t (b % 16) 0) refl
+    rw (uppercase-encode_with t rest, ← get_or-map to_ascii_uppercase t (b / 16) 0,
+      ← get_or-map to_ascii_uppercase t (b % 16) 0) refl
 
 -- digits in lower case, made upper case, are those in upper case
 pub uppercase_lower : (bytes : List ℕ) → map to_ascii_uppercase (encode_lower bytes) ≡ hex_digits true bytes
 uppercase_lower bytes = uppercase-encode_with lower_digits bytes
 
 -- the digits of bytes and of others behind them
-encode_with-append : (t bytes others : List ℕ) → encode_with t (bytes ++ others) ≡ encode_with t bytes ++ encode_with t others
+encode_with-append : (t bytes others : List ℕ) → encode_with t (bytes ++ others) ≡ encode_with t bytes
+    ++ encode_with t others
 unfolding encode_with
 encode_with-append t [] others = refl
 encode_with-append t (b ∷ rest) others = rw (encode_with-append t rest others) refl
 
 -- what is taken of two lists is taken of the first as far as that goes
-take-append_min : (count n : ℕ) (xs ys : List ℕ) → n ≡ min count (length xs) → take count (xs ++ ys) ≡ take n xs ++ take (count - n) ys
+take-append_min : (count n : ℕ) (xs ys : List ℕ) → n ≡ min count (length xs)
+    → take count (xs ++ ys) ≡ take n xs ++ take (count - n) ys
 take-append_min count n xs ys is =
     elim (cases_lt count (length xs)) [
       | inl short ↦
@@ -47,7 +53,8 @@ take-append_min count n xs ys is =
 
 -- a text whose bytes pass the test is ASCII
 IsAscii-from_test : (text : List ℕ) → list_all (λ b. nat_lt b 128) text ≡ true → IsAscii text
-IsAscii-from_test text pass = IsAscii-from_all text (λ k d lt. ltb-true _ 128 (AllPass-from_list_all (λ b. nat_lt b 128) text pass k d lt))
+IsAscii-from_test text pass = IsAscii-from_all text
+    (λ k d lt. ltb-true _ 128 (AllPass-from_list_all (λ b. nat_lt b 128) text pass k d lt))
 
 -- each digit of a table is ASCII
 IsAscii-table : (upper : Bool) → IsAscii (if upper then upper_digits else lower_digits)
@@ -63,18 +70,23 @@ module _ (upper : Bool) where
   pub IsUtf8-hex_digits : (n : ℕ) (bytes : List ℕ) → IsUtf8 (take n (hex_digits upper bytes))
   IsUtf8-hex_digits n bytes = IsUtf8-from_ascii _ (IsAscii-take _ n (IsAscii-encode_with _ bytes (IsAscii-table upper)))
 
-  -- the digits that are to be written of two parts of the bytes: of the first as many as it has, and the others of the second
-  pub take-hex_digits : (count n : ℕ) (bytes piece behind text : List ℕ) → bytes ≡ piece ++ behind → text ≡ hex_digits upper piece → n ≡ min count (length text)
+  -- the digits that are to be written of two parts of the bytes: of the first as many as it has, and the others of
+  -- the second
+  pub take-hex_digits : (count n : ℕ) (bytes piece behind text : List ℕ) → bytes ≡ piece ++ behind
+      → text ≡ hex_digits upper piece → n ≡ min count (length text)
       → take count (hex_digits upper bytes) ≡ take n text ++ take (count - n) (hex_digits upper behind)
   take-hex_digits count n bytes piece behind text parts digits few =
       ap (λ all. take count (hex_digits upper all)) parts
-      ∙ (ap (take count) (encode_with-append _ piece behind ∙ ap (λ front. front ++ hex_digits upper behind) (sym digits))
+      ∙ (ap (take count) (encode_with-append _ piece behind
+        ∙ ap (λ front. front ++ hex_digits upper behind) (sym digits))
       ∙ take-append_min count n text (hex_digits upper behind) few)
 
   -- the text is as many digits as the limit lets through
-  pub hex_text-counted : (limit : Option ℕ) (bytes : List ℕ) (count : ℕ) → MatchOption limit (count ≡ 2 * length bytes) (λ most. count ≡ min most (2 * length bytes))
+  pub hex_text-counted : (limit : Option ℕ) (bytes : List ℕ) (count : ℕ)
+      → MatchOption limit (count ≡ 2 * length bytes) (λ most. count ≡ min most (2 * length bytes))
       → (hex_text upper limit bytes ≡ take count (hex_digits upper bytes)) × (count ≤ 2 * length bytes)
-  hex_text-counted None bytes count is = (sym (take_all count (hex_digits upper bytes) (omega (arith, length-hex_digits bytes))), omega arith)
+  hex_text-counted None bytes count is =
+    (sym (take_all count (hex_digits upper bytes) (omega (arith, length-hex_digits bytes))), omega arith)
   hex_text-counted (Some most) bytes count is =
       let digits = hex_digits upper bytes in
       let long = length-hex_digits bytes in (

@@ -15,7 +15,8 @@ use Rattle.ga_views.proofs.InnerSlice.{LentSlice, Open, lends_slice, lent_slice}
 use Rattle.ga_views.proofs.PartLoan.{Others, cut, keeps, part, part_room, place, written}
 
 -- `len` items from place `from` on are lent
-module _ {M : Type 1} {𝓤 : Ura M} (𝓛 : Logic 𝓤) (R : RattleType) (κ κ' : Lft) (q : Share) (x : MutBor (MutBor (List R.Denot))) (from len : ℕ) where
+module _ {M : Type 1} {𝓤 : Ura M} (𝓛 : Logic 𝓤) (R : RattleType) (κ κ' : Lft) (q : Share)
+    (x : MutBor (MutBor (List R.Denot))) (from len : ℕ) where
   open 𝓛 use {H}
 
   abbrev d : MutBor (List R.Denot)
@@ -33,6 +34,8 @@ module _ {M : Type 1} {𝓤 : Ura M} (𝓛 : Logic 𝓤) (R : RattleType) (κ κ
   abbrev pub lent : GName → Item 𝓤
   lent = lent_slice 𝓛 R κ κ' q x lies items over
 
-  pub lends_range : from + len ≤ length d.now → Incl κ κ' → Room R (length d.now) → ent 𝓤 (Open 𝓛 R κ κ' q x) (H.⇛ (ex 𝓤 (LentSlice 𝓛 R κ κ' q x lies items over)))
+  pub lends_range : from + len ≤ length d.now → Incl κ κ' → Room R (length d.now)
+      → ent 𝓤 (Open 𝓛 R κ κ' q x) (H.⇛ (ex 𝓤 (LentSlice 𝓛 R κ κ' q x lies items over)))
   lends_range within outlives rm =
-      lends_slice 𝓛 R κ κ' q x lies items over outlives rm (part_room 𝓛 R d from len within rm) (Others 𝓛 R d from len) (cut 𝓛 R d from len within) (keeps 𝓛 R d from len within)
+      lends_slice 𝓛 R κ κ' q x lies items over outlives rm (part_room 𝓛 R d from len within rm) (Others 𝓛 R d from len)
+        (cut 𝓛 R d from len within) (keeps 𝓛 R d from len within)

@@ -25,17 +25,21 @@ part_long from len xs within =
     length-take-le len (drop from xs) (omega arith)
 
 -- the part is written as far as it goes
-part-is : {T : Type 0} (from len : ℕ) (xs ws : List T) → put_mid from len xs (refill len (mid_of from len xs) ws) ≡ part_set from len xs ws
+part-is : {T : Type 0} (from len : ℕ) (xs ws : List T)
+    → put_mid from len xs (refill len (mid_of from len xs) ws) ≡ part_set from len xs ws
 part-is from len xs ws = ap (λ l. take from xs ++ (refill len (mid_of from len xs) ws ++ l)) (drop-drop len from xs)
 
-pub part_filled : {T : Type 0} (from len : ℕ) (xs ws : List T) → from + len ≤ length xs → length ws ≡ length (mid_of from len xs)
+pub part_filled : {T : Type 0} (from len : ℕ) (xs ws : List T) → from + len ≤ length xs
+    → length ws ≡ length (mid_of from len xs)
     → put_mid from len xs ws ≡ refill (length xs) xs (part_set from len xs ws)
 part_filled from len xs ws within e =
     let part = mid_of from len xs in
     let long = part_long from len xs within in
     let same : put_mid from len xs ws ≡ part_set from len xs ws =
-    ap (λ l. take from xs ++ (l ++ post_of from len xs)) (refilled len part ws long (e ∙ long)) ∙ part-is from len xs ws in
-    refilled (length xs) xs (put_mid from len xs ws) refl (same_len_mid from len xs ws e) ∙ ap (refill (length xs) xs) same
+    ap (λ l. take from xs ++ (l ++ post_of from len xs)) (refilled len part ws long (e ∙ long))
+      ∙ part-is from len xs ws in
+    refilled (length xs) xs (put_mid from len xs ws) refl (same_len_mid from len xs ws e)
+      ∙ ap (refill (length xs) xs) same
 
 pub part_fills : {T : Type 0} (from len : ℕ) (xs ws : List T) → from + len ≤ length xs
     → refill (length xs) xs (part_set from len xs ws) ≡ part_set from len xs ws
@@ -47,7 +51,8 @@ part_fills from len xs ws within =
     sym (refilled (length xs) xs (part_set from len xs ws) refl (ap length (sym (part-is from len xs ws)) ∙ whole))
 
 -- `after` is what stands once the part was written
-module _ {T : Type 0} (from len : ℕ) (xs ws after : List T) (within : from + len ≤ length xs) (written : after ≡ refill (length xs) xs (part_set from len xs ws)) where
+module _ {T : Type 0} (from len : ℕ) (xs ws after : List T) (within : from + len ≤ length xs)
+    (written : after ≡ refill (length xs) xs (part_set from len xs ws)) where
   abbrev filled : List T
   filled = refill len (take len (drop from xs)) ws
 
@@ -64,18 +69,23 @@ module _ {T : Type 0} (from len : ℕ) (xs ws after : List T) (within : from + l
   stands = written ∙ part_fills from len xs ws within
 
   past : drop from after ≡ filled ++ behind
-  past = ap (drop from) stands ∙ (ap (λ k. drop k (take from xs ++ (filled ++ behind))) (sym before_long) ∙ drop-append_seam (take from xs) (filled ++ behind))
+  past = ap (drop from) stands ∙ (ap (λ k. drop k (take from xs ++ (filled ++ behind))) (sym before_long)
+    ∙ drop-append_seam (take from xs) (filled ++ behind))
 
   pub part-before : take from after ≡ take from xs
-  part-before = ap (take from) stands ∙ (ap (λ k. take k (take from xs ++ (filled ++ behind))) (sym before_long) ∙ take-append_seam (take from xs) (filled ++ behind))
+  part-before = ap (take from) stands ∙ (ap (λ k. take k (take from xs ++ (filled ++ behind))) (sym before_long)
+    ∙ take-append_seam (take from xs) (filled ++ behind))
 
   pub part-within : take len (drop from after) ≡ filled
-  part-within = ap (take len) past ∙ (ap (λ k. take k (filled ++ behind)) (sym filled_long) ∙ take-append_seam filled behind)
+  part-within = ap (take len) past ∙ (ap (λ k. take k (filled ++ behind)) (sym filled_long)
+    ∙ take-append_seam filled behind)
 
   pub part-behind : drop (from + len) after ≡ behind
-  part-behind = sym (drop-drop len from after) ∙ (ap (drop len) past ∙ (ap (λ k. drop k (filled ++ behind)) (sym filled_long) ∙ drop-append_seam filled behind))
+  part-behind = sym (drop-drop len from after) ∙ (ap (drop len) past
+    ∙ (ap (λ k. drop k (filled ++ behind)) (sym filled_long) ∙ drop-append_seam filled behind))
 
-pub part-all : {T : Type 0} (xs ws : List T) → refill (length xs) xs (part_set 0 (length xs) xs ws) ≡ refill (length xs) xs ws
+pub part-all : {T : Type 0} (xs ws : List T) → refill (length xs) xs (part_set 0 (length xs) xs ws)
+    ≡ refill (length xs) xs ws
 part-all xs ws =
     let after = refill (length xs) xs (part_set 0 (length xs) xs ws) in
     let count : length after ≡ length xs = sym (length_refill (length xs) xs (part_set 0 (length xs) xs ws) refl) in

@@ -1,7 +1,9 @@
 -- A part of the items of a slice that is lent on. Assumes `Logic`.
---     part, place, written, Others     the items of the part, where they lie, the slice with others written over them, and what the part leaves of it in memory
+--     part, place, written, Others     the items of the part, where they lie, the slice with others written over them,
+--                                      and what the part leaves of it in memory
 --     cut, keeps                       the slice's items in memory are the part and the others, and back
---     lends_part                       the part is lent for as long as the slice was, and what lent the slice follows it
+--     lends_part                       the part is lent for as long as the slice was, and what lent the slice follows
+--                                      it
 use Prim.Native.Nat.{ℕ, ◌+◌, ◌*◌, ◌≤◌}
 use Rattle.ga_views.proofs.ItemLoan.{spot}
 use Rattle.ga_views.proofs.PartLemmas.{part_filled, part_long}
@@ -29,7 +31,8 @@ use native.Mathlib.Omega.{arith}
 use seplogic.Ra.Ura.{Ura}
 use types.Follow.{takes_part}
 use types.Hole.{Holey}
-use types.Kit.{Item, ‵, raw, ◌⊛◌, ◌$◌, ◌∵◌, !, await, done, drop, feq_i, feq_l, fjoin, fsplit, group, later, move, now, pick, qed, rewrite, show, some, split, split3, updating, use1, use2}
+use types.Kit.{Item, ‵, raw, ◌⊛◌, ◌$◌, ◌∵◌, !, await, done, drop, feq_i, feq_l, fjoin, fsplit, group, later, move, now}
+use types.Kit.{pick, qed, rewrite, show, some, split, split3, updating, use1, use2}
 use types.Logic.{Logic, sem}
 use types.Mut.{open_ref}
 use types.SemTy.{Arr, Body, SemTy, cells}
@@ -74,13 +77,16 @@ module _ {M : Type 1} {𝓤 : Ura M} (𝓛 : Logic 𝓤) (R : RattleType) (d : M
         at_mul d.ref_ptr.1 (mem R).size (length front)
         ∙ ap (λ n. n * (mem R).size + d.ref_ptr.1) (length-take-le from d.now (omega arith))
 
-    pub cut : ent 𝓤 (sem 𝓛 (Items.own_at d.now d.ref_ptr.0 d.ref_ptr.1)) (sep 𝓤 (sem 𝓛 (Part.own_at part d.ref_ptr.0 place)) Others)
+    pub cut : ent 𝓤 (sem 𝓛 (Items.own_at d.now d.ref_ptr.0 d.ref_ptr.1))
+        (sep 𝓤 (sem 𝓛 (Part.own_at part d.ref_ptr.0 place)) Others)
     cut =
         let block = d.ref_ptr.0 in
         let behind = drop_list from d.now in
         qed 𝓛 (‵ (Items.own_at d.now block d.ref_ptr.1) ∷ []) ∵ fsplit ! $ drop ! $
-        rewrite ! 0 (λ (l : List R.Denot). ‵ (cells (mem R) l block d.ref_ptr.1)) (sym (take-append-drop from d.now)) refl $
-        use1 𝓛 (‵ Front ⊛ ‵ (cells (mem R) behind block (at d.ref_ptr.1 (mem R).size (length front)))) (cut_app 𝓛 (mem R) front behind block d.ref_ptr.1) $
+        rewrite ! 0 (λ (l : List R.Denot). ‵ (cells (mem R) l block d.ref_ptr.1))
+          (sym (take-append-drop from d.now)) refl $
+        use1 𝓛 (‵ Front ⊛ ‵ (cells (mem R) behind block (at d.ref_ptr.1 (mem R).size (length front))))
+          (cut_app 𝓛 (mem R) front behind block d.ref_ptr.1) $
         split ! $ move ! (1 ∷ []) $
         rewrite ! 0 (λ (n : ℕ). ‵ (cells (mem R) behind block n)) begins refl $
         rewrite ! 0 (λ (l : List R.Denot). ‵ (cells (mem R) l block place)) (sym (take-append-drop len behind)) refl $
@@ -88,16 +94,20 @@ module _ {M : Type 1} {𝓤 : Ura M} (𝓛 : Logic 𝓤) (R : RattleType) (d : M
         -- [the part's items; those behind; those before]
         feq_i ! ℕ (length part) (length part) refl $ fjoin ! $ move ! (0 ∷ 2 ∷ 1 ∷ []) $ done !
 
-    pub keeps : (ws : List R.Denot) → ent 𝓤 (sep 𝓤 (sem 𝓛 (Part.own_at ws d.ref_ptr.0 place)) Others) (sem 𝓛 (Items.own_at (written ws) d.ref_ptr.0 d.ref_ptr.1))
+    pub keeps : (ws : List R.Denot) → ent 𝓤 (sep 𝓤 (sem 𝓛 (Part.own_at ws d.ref_ptr.0 place)) Others)
+        (sem 𝓛 (Items.own_at (written ws) d.ref_ptr.0 d.ref_ptr.1))
     keeps ws =
         let block = d.ref_ptr.0 in
         qed 𝓛 (‵ (Part.own_at ws block place) ∷ ‵ Front ∷ ‵ Back ∷ []) ∵ fsplit ! $ feq_l ! (λ e.
-        rewrite ! 2 (λ (n : ℕ). ‵ (cells (mem R) back block (at place (mem R).size n))) (sym e) refl $ move ! (0 ∷ 2 ∷ []) $
+        rewrite ! 2 (λ (n : ℕ). ‵ (cells (mem R) back block (at place (mem R).size n))) (sym e) refl $ move !
+          (0 ∷ 2 ∷ []) $
         use2 𝓛 (‵ (cells (mem R) (ws ++ back) block place)) (join_app 𝓛 (mem R) ws back block place) $
         rewrite ! 0 (λ (n : ℕ). ‵ (cells (mem R) (ws ++ back) block n)) (sym begins) refl $ move ! (1 ∷ 0 ∷ []) $
-        use2 𝓛 (‵ (cells (mem R) (put_mid from len d.now ws) block d.ref_ptr.1)) (join_app 𝓛 (mem R) front (ws ++ back) block d.ref_ptr.1) $
+        use2 𝓛 (‵ (cells (mem R) (put_mid from len d.now ws) block d.ref_ptr.1))
+          (join_app 𝓛 (mem R) front (ws ++ back) block d.ref_ptr.1) $
         feq_i ! ℕ (length (put_mid from len d.now ws)) (length d.now) (same_len_mid from len d.now ws e) $ fjoin ! $
-        rewrite ! 0 (λ (l : List R.Denot). ‵ (Items.own_at l block d.ref_ptr.1)) (part_filled from len d.now ws within e) refl $ done !)
+        rewrite ! 0 (λ (l : List R.Denot). ‵ (Items.own_at l block d.ref_ptr.1))
+          (part_filled from len d.now ws within e) refl $ done !)
 
     -- the part's items are counted by a word, as the slice's are
     pub part_room : Room R (length d.now) → Room R (length part)
@@ -106,7 +116,8 @@ module _ {M : Type 1} {𝓤 : Ura M} (𝓛 : Logic 𝓤) (R : RattleType) (d : M
         (lt_of_le_of_lt fewer rm.0, lt_of_le_of_lt (mul-le-mul_right (mem R).size fewer) rm.1)
 
 -- the slice is s. What lent it, a `From` under the name γ, ends as `after` of the slice's items
-module _ {M : Type 1} {𝓤 : Ura M} (𝓛 : Logic 𝓤) (From R : RattleType) (after : List R.Denot → From.Denot) (κ : Lft) (q : Share) (γ : GName) (s : MutBor (List R.Denot)) (from len : ℕ) where
+module _ {M : Type 1} {𝓤 : Ura M} (𝓛 : Logic 𝓤) (From R : RattleType) (after : List R.Denot → From.Denot) (κ : Lft)
+    (q : Share) (γ : GName) (s : MutBor (List R.Denot)) (from len : ℕ) where
   open 𝓛 use {H, A}
 
   abbrev items : List R.Denot
@@ -124,13 +135,17 @@ module _ {M : Type 1} {𝓤 : Ura M} (𝓛 : Logic 𝓤) (From R : RattleType) (
 
   -- the reference is to k items
   abbrev pub LentPart : ℕ → GName → SProp 𝓤
-  LentPart k δ = sep 𝓤 (sem 𝓛 ((MutSlice (named 0) κ R).own_val (slice δ) (slice_val (s.ref_ptr.0, lies) k ∷ []))) (sep 𝓤 (A.lft κ q) (sem 𝓛 (follows From (Array R 0) γ δ ends)))
+  LentPart k δ = sep 𝓤 (sem 𝓛 ((MutSlice (named 0) κ R).own_val (slice δ) (slice_val (s.ref_ptr.0, lies) k ∷ [])))
+    (sep 𝓤 (A.lft κ q) (sem 𝓛 (follows From (Array R 0) γ δ ends)))
 
   abbrev pub lent_part : ℕ → GName → Item 𝓤
-  lent_part k δ = ‵ ((MutSlice (named 0) κ R).own_val (slice δ) (slice_val (s.ref_ptr.0, lies) k ∷ [])) ⊛ ‵ (flft κ q) ⊛ ‵ (follows From (Array R 0) γ δ ends)
+  lent_part k δ = ‵ ((MutSlice (named 0) κ R).own_val (slice δ) (slice_val (s.ref_ptr.0, lies) k ∷ [])) ⊛ ‵ (flft κ q) ⊛
+    ‵ (follows From (Array R 0) γ δ ends)
 
   pub lends_part : from + len ≤ length s.now → Room R (length s.now)
-      → ent 𝓤 (sep 𝓤 (A.obs s.ghost_name ((coded_list R.coded).code (heres R s.now))) (sep 𝓤 (A.bor κ (Body (Arr (Holey (mem R)) (length s.now)) s.ref_ptr.0 s.ref_ptr.1 s.ghost_name)) (sep 𝓤 (A.lft κ q) (sem 𝓛 (follows From (Array R 0) γ s.ghost_name after)))))
+      → ent 𝓤 (sep 𝓤 (A.obs s.ghost_name ((coded_list R.coded).code (heres R s.now)))
+        (sep 𝓤 (A.bor κ (Body (Arr (Holey (mem R)) (length s.now)) s.ref_ptr.0 s.ref_ptr.1 s.ghost_name))
+        (sep 𝓤 (A.lft κ q) (sem 𝓛 (follows From (Array R 0) γ s.ghost_name after)))))
       (H.⇛ (ex 𝓤 (LentPart len)))
   lends_part within rm =
       let block : ℕ = s.ref_ptr.0 in
@@ -139,17 +154,25 @@ module _ {M : Type 1} {𝓤 : Ura M} (𝓛 : Logic 𝓤) (From R : RattleType) (
       let these : SemTy = Part 𝓛 R s from len in
       let others : SProp 𝓤 = Others 𝓛 R s from len in
       let over : List R.Denot → List R.Denot = written 𝓛 R s from len in
-      qed 𝓛 (‵ (fobs s.ghost_name (code (heres R s.now))) ∷ ‵ (fbor κ (Body (Arr (Holey (mem R)) (length s.now)) block s.ref_ptr.1 s.ghost_name)) ∷ ‵ (flft κ q) ∷ ‵ (follows From (Array R 0) γ s.ghost_name after) ∷ []) ∵
+      qed 𝓛 (‵ (fobs s.ghost_name (code (heres R s.now)))
+        ∷ ‵ (fbor κ (Body (Arr (Holey (mem R)) (length s.now)) block s.ref_ptr.1 s.ghost_name)) ∷ ‵ (flft κ q)
+        ∷ ‵ (follows From (Array R 0) γ s.ghost_name after) ∷ []) ∵
       updating ! $ rewrite ! 0 (λ (l : List R.Denot). ‵ (fobs s.ghost_name (code l))) (heres_id R s.now) refl $
-      open_ref ! tt whole $ use1 𝓛 (‵ (these.own_at items block lies) ⊛ raw others) (cut 𝓛 R s from len within) $ split ! $
+      open_ref ! tt whole $ use1 𝓛 (‵ (these.own_at items block lies) ⊛ raw others)
+        (cut 𝓛 R s from len within) $ split ! $
       -- [the part; the others; the open borrow, in three entries; what lent the slice follows it]
       move ! (2 ∷ 3 ∷ 4 ∷ 0 ∷ 1 ∷ []) $ group ! 5 $
-      use1 𝓛 (later (some (λ (δ : GName). ‵ (fobs δ (code items)) ⊛ ‵ (fbor κ (Body these block lies δ)) ⊛ ‵ (flft κ q) ⊛ ‵ (follows (Array R 0) (Array R 0) s.ghost_name δ over))))
-      (takes_part 𝓛 whole these over κ q block s.ref_ptr.1 block lies s.ghost_name others (keeps 𝓛 R s from len within) (code s.now) (code s.now) items) $
+      use1 𝓛 (later (some (λ (δ : GName). ‵ (fobs δ (code items)) ⊛ ‵ (fbor κ (Body these block lies δ)) ⊛ ‵ (flft κ q)
+        ⊛ ‵ (follows (Array R 0) (Array R 0) s.ghost_name δ over))))
+      (takes_part 𝓛 whole these over κ q block s.ref_ptr.1 block lies s.ghost_name others (keeps 𝓛 R s from len within)
+        (code s.now) (code s.now) items) $
       await ! tt $ pick ! (λ δ. split3 ! $ move ! (2 ∷ []) $ split ! $ move ! (4 ∷ 1 ∷ []) $
-      use2 𝓛 (‵ (follows From (Array R 0) γ δ ends)) (follows_then 𝓛 From (Array R 0) (Array R 0) after over γ s.ghost_name δ) $
+      use2 𝓛 (‵ (follows From (Array R 0) γ δ ends))
+        (follows_then 𝓛 From (Array R 0) (Array R 0) after over γ s.ghost_name δ) $
       -- [what lent the slice follows the part; the token; the part's last value; its borrow]
       move ! (2 ∷ 3 ∷ []) $
-      use2 𝓛 (‵ ((MutSlice (named 0) κ R).own_val (slice δ) (slice_val (block, lies) (length items) ∷ []))) (slice_of 𝓛 R (named 0) κ block lies δ items (part_room 𝓛 R s from len within rm)) $
-      rewrite ! 0 (λ (k : ℕ). ‵ ((MutSlice (named 0) κ R).own_val (slice δ) (slice_val (block, lies) k ∷ []))) (part_long from len s.now within) refl $
+      use2 𝓛 (‵ ((MutSlice (named 0) κ R).own_val (slice δ) (slice_val (block, lies) (length items) ∷ [])))
+        (slice_of 𝓛 R (named 0) κ block lies δ items (part_room 𝓛 R s from len within rm)) $
+      rewrite ! 0 (λ (k : ℕ). ‵ ((MutSlice (named 0) κ R).own_val (slice δ) (slice_val (block, lies) k ∷ [])))
+        (part_long from len s.now within) refl $
       now ! $ show ! (LentPart len) δ $ move ! (0 ∷ 2 ∷ 1 ∷ []) $ done !)

@@ -1,9 +1,12 @@
 -- Rows from both ends, and the rows of the items that fill them: what a walk over rows and a cut behind them cite.
 use Rattle.ga_views.specs.Rows.{chunk_count, chunk_rest, row_at, rows}
-use Rattle.std.proofs.Common.{◌≡◌, ℕ, zero, suc, ◌+◌, ◌-◌, ◌*◌, ◌/◌, ◌<◌, ◌≤◌, List, [], ◌∷◌, ◌++◌, None, Some, map, length, take, drop, refl, sym, ap, ◌∙◌, arith, length-drop, slice_get}
-use Rattle.std.proofs.Math.Nat.{div-eq-sub-div, div-eq_of_lt, div-mul-le_self, div-zero, mul-div_cancel, mul-le-mul_right, zero-div}
+use Rattle.std.proofs.Common.{◌≡◌, ℕ, zero, suc, ◌+◌, ◌-◌, ◌*◌, ◌/◌, ◌<◌, ◌≤◌, List, [], ◌∷◌, ◌++◌, None, Some, map}
+use Rattle.std.proofs.Common.{length, take, drop, refl, sym, ap, ◌∙◌, arith, length-drop, slice_get}
+use Rattle.std.proofs.Math.Nat.{div-eq-sub-div, div-eq_of_lt, div-mul-le_self, div-zero, mul-div_cancel}
+use Rattle.std.proofs.Math.Nat.{mul-le-mul_right, zero-div}
 use Rattle.std.proofs.lemmas.List.{drop-drop, drop-take, length-take-le, take-take, take_all}
-use Rattle.std.proofs.lemmas.List.FromFn.{get_or-map-range_with_len, length-map-range_with_len, map-range_with_len_more, take-map-range_with_len}
+use Rattle.std.proofs.lemmas.List.FromFn.{get_or-map-range_with_len, length-map-range_with_len, map-range_with_len_more}
+use Rattle.std.proofs.lemmas.List.FromFn.{take-map-range_with_len}
 use Rattle.std.proofs.lemmas.Option.{slice_get_past, slice_get_read}
 use Rattle.std.specs.List.{range_with_len}
 
@@ -19,7 +22,8 @@ module _ {X : Type 0} (width : ℕ) (items : List X) where
       let places : (r + 1) * width ≡ width + r * width = omega arith in
       ap (take width) (ap (λ k. drop k items) places ∙ sym (drop-drop (r * width) width items))
 
-  rows_shifted : (a n : ℕ) → map (row_at width items) (range_with_len (a + 1) n) ≡ map (row_at width (drop width items)) (range_with_len a n)
+  rows_shifted : (a n : ℕ) → map (row_at width items) (range_with_len (a + 1) n)
+      ≡ map (row_at width (drop width items)) (range_with_len a n)
   rows_shifted a zero = refl
   rows_shifted a (suc n) = let first = row_shifted a in let others = rows_shifted (a + 1) n in cc
 
@@ -36,17 +40,21 @@ module _ {X : Type 0} (width : ℕ) (items : List X) where
     rows-first =
         let none : 0 * width ≡ 0 = omega arith in
         ap (λ n. map (row_at width items) (range_with_len 0 n)) count-step
-        ∙ (ap (λ k. take width (drop k items) ∷ map (row_at width items) (range_with_len 1 (chunk_count width (drop width items)))) none
+        ∙ (ap (λ k. take width (drop k items) ∷ map (row_at width items)
+          (range_with_len 1 (chunk_count width (drop width items)))) none
         ∙ ap (λ others. take width items ∷ others) (rows_shifted 0 (chunk_count width (drop width items))))
 
     -- the same where what is split off stands under names
-    pub rows-split : (row left : List X) → row ≡ take width items → left ≡ drop width items → rows width items ≡ row ∷ rows width left
-    rows-split row left front back = rows-first ∙ (ap (λ first. first ∷ rows width (drop width items)) (sym front) ∙ ap (λ others. row ∷ rows width others) (sym back))
+    pub rows-split : (row left : List X) → row ≡ take width items → left ≡ drop width items
+        → rows width items ≡ row ∷ rows width left
+    rows-split row left front back = rows-first ∙ (ap (λ first. first ∷ rows width (drop width items)) (sym front)
+      ∙ ap (λ others. row ∷ rows width others) (sym back))
 
     pub chunk_rest-first : chunk_rest width items ≡ chunk_rest width (drop width items)
     chunk_rest-first =
         let count = chunk_count width (drop width items) in
-        let places : chunk_count width items * width ≡ width + count * width = ap (λ n. n * width) count-step ∙ (omega arith) in
+        let places : chunk_count width items * width ≡ width + count * width =
+          ap (λ n. n * width) count-step ∙ (omega arith) in
         ap (λ k. drop k items) places ∙ sym (drop-drop (count * width) width items)
 
   module _ (few : length items < width) where
@@ -67,7 +75,8 @@ module _ {X : Type 0} (width : ℕ) (items : List X) where
   length-rows = length-map-range_with_len (row_at width items) 0 (chunk_count width items)
 
   -- the row at an index; there is none from their number on
-  pub slice_get-rows : (r : ℕ) → r < chunk_count width items → slice_get (rows width items) r ≡ Some (row_at width items r)
+  pub slice_get-rows : (r : ℕ) → r < chunk_count width items
+      → slice_get (rows width items) r ≡ Some (row_at width items r)
   slice_get-rows r below =
       let count = chunk_count width items in
       slice_get_read (rows width items) count r (row_at width items r) (sym length-rows) below
@@ -87,7 +96,8 @@ module _ {X : Type 0} (width : ℕ) (items : List X) where
       ∙ (ap (take width) (drop-take (r * width) more items) ∙ take-take width more (drop (r * width) items) wide)
 
   -- and so are those from row a on
-  rows-kept : (a n count : ℕ) → a + n ≤ count → map (row_at width (take (count * width) items)) (range_with_len a n) ≡ map (row_at width items) (range_with_len a n)
+  rows-kept : (a n count : ℕ) → a + n ≤ count → map (row_at width (take (count * width) items)) (range_with_len a n)
+      ≡ map (row_at width items) (range_with_len a n)
   rows-kept a zero count _ = refl
   rows-kept a (suc n) count within =
       let first = row-kept a count (omega arith) in
@@ -99,7 +109,8 @@ module _ {X : Type 0} (width : ℕ) (items : List X) where
   rows-of_whole =
       let count = chunk_count width items in
       let whole = take (count * width) items in
-      let long : length whole ≡ count * width = length-take-le (count * width) items (div-mul-le_self (length items) width) in
+      let long : length whole ≡ count * width = length-take-le (count * width) items
+        (div-mul-le_self (length items) width) in
       let same : chunk_count width whole ≡ count = ap (λ n. n / width) long ∙ count-whole (length items) width in
       ap (λ n. map (row_at width whole) (range_with_len 0 n)) same ∙ rows-kept 0 count count (omega arith)
 
@@ -117,34 +128,47 @@ wide_by len (suc width) k within = omega arith
 
 module _ {X : Type 0} (width : ℕ) where
   -- the rows behind the first k
-  pub rows-dropped : (k : ℕ) (items : List X) → k ≤ chunk_count width items → rows width (drop (k * width) items) ≡ drop k (rows width items)
+  pub rows-dropped : (k : ℕ) (items : List X) → k ≤ chunk_count width items
+      → rows width (drop (k * width) items) ≡ drop k (rows width items)
   rows-dropped zero items within = let none : 0 * width ≡ 0 = omega arith in ap (λ n. rows width (drop n items)) none
   rows-dropped (suc k) items within =
       let wide = wide_by (length items) width k within in
-      let enough : width ≤ length items = omega (arith, mul-le-mul_right width within, div-mul-le_self (length items) width) in
+      let enough : width ≤ length items = omega (arith, mul-le-mul_right width within,
+        div-mul-le_self (length items) width) in
       let first = rows-first width items wide enough in
-      let left : k ≤ chunk_count width (drop width items) = omega (arith, within, ap length first, length-rows width items, length-rows width (drop width items)) in
+      let left : k ≤ chunk_count width (drop width items) =
+        omega (arith, within, ap length first, length-rows width items, length-rows width (drop width items)) in
       let place : suc k * width ≡ width + k * width = omega arith in
       ap (λ n. rows width (drop n items)) place
-      ∙ (ap (rows width) (sym (drop-drop (k * width) width items)) ∙ (rows-dropped k (drop width items) left ∙ ap (drop (suc k)) (sym first)))
+      ∙ (ap (rows width) (sym (drop-drop (k * width) width items))
+        ∙ (rows-dropped k (drop width items) left ∙ ap (drop (suc k)) (sym first)))
 
   -- the rows of the items of the first k rows
-  rows-taken : (k : ℕ) (items : List X) → k ≤ chunk_count width items → rows width (take (k * width) items) ≡ take k (rows width items)
-  rows-taken zero items within = let none : 0 * width ≡ 0 = omega arith in ap (λ n. rows width (take n items)) none ∙ ap (λ n. map (row_at width []) (range_with_len 0 n)) (zero-div width)
+  rows-taken : (k : ℕ) (items : List X) → k ≤ chunk_count width items
+      → rows width (take (k * width) items) ≡ take k (rows width items)
+  rows-taken zero items within = let none : 0 * width ≡ 0 = omega arith in
+    ap (λ n. rows width (take n items)) none ∙ ap (λ n. map (row_at width []) (range_with_len 0 n)) (zero-div width)
   rows-taken (suc k) items within =
       let first_rows = take (suc k * width) items in
-      let long : length first_rows ≡ suc k * width = length-take-le (suc k * width) items (omega (arith, mul-le-mul_right width within, div-mul-le_self (length items) width)) in
-      let count : chunk_count width first_rows ≡ suc k = ap (λ n. n / width) long ∙ mul-div_cancel (suc k) (wide_by (length items) width k within) in
+      let long : length first_rows ≡ suc k * width =
+        length-take-le (suc k * width) items (omega
+        (arith, mul-le-mul_right width within, div-mul-le_self (length items) width)) in
+      let count : chunk_count width first_rows ≡ suc k =
+        ap (λ n. n / width) long ∙ mul-div_cancel (suc k) (wide_by (length items) width k within) in
       ap (λ n. map (row_at width first_rows) (range_with_len 0 n)) count
-      ∙ (rows-kept width items 0 (suc k) (suc k) (omega arith) ∙ sym (take-map-range_with_len (row_at width items) 0 (chunk_count width items) (suc k) within))
+      ∙ (rows-kept width items 0 (suc k) (suc k) (omega arith)
+        ∙ sym (take-map-range_with_len (row_at width items) 0 (chunk_count width items) (suc k) within))
 
   -- so many rows of those that a list tells are there, and so are their items
-  pub count-within : (k : ℕ) (items : List X) (left : List (List X)) → rows width items ≡ left → k ≤ length left → k ≤ chunk_count width items
+  pub count-within : (k : ℕ) (items : List X) (left : List (List X)) → rows width items ≡ left → k ≤ length left
+      → k ≤ chunk_count width items
   count-within k items left same within = omega (arith, within, length-rows width items, ap length same)
 
-  pub items-within : (k : ℕ) (items : List X) (left : List (List X)) → rows width items ≡ left → k ≤ length left → (n : ℕ) → n ≡ width → k * n ≤ length items
+  pub items-within : (k : ℕ) (items : List X) (left : List (List X)) → rows width items ≡ left → k ≤ length left
+      → (n : ℕ) → n ≡ width → k * n ≤ length items
   items-within k items left same within n as_wide =
-      omega (arith, ap (λ w. k * w) as_wide, mul-le-mul_right width (count-within k items left same within), div-mul-le_self (length items) width)
+      omega (arith, ap (λ w. k * w) as_wide, mul-le-mul_right width (count-within k items left same within),
+        div-mul-le_self (length items) width)
 
 -- a cut of items that leave no rest, behind the first k rows or before the last k
 module _ {X : Type 0} (width : ℕ) (items : List X) (whole : length items ≡ chunk_count width items * width) where
@@ -153,23 +177,30 @@ module _ {X : Type 0} (width : ℕ) (items : List X) (whole : length items ≡ c
     fewer =
         let others = chunk_count width items - k in
         let all : chunk_count width items ≡ k + others = omega arith in
-        let places : chunk_count width items * width ≡ k * width + others * width = ap (λ n. n * width) all ∙ (omega arith) in
+        let places : chunk_count width items * width ≡ k * width + others * width =
+          ap (λ n. n * width) all ∙ (omega arith) in
         omega (arith, whole, places)
 
     pub whole-dropped : length (drop (k * width) items) ≡ chunk_count width (drop (k * width) items) * width
-    whole-dropped = whole_by (chunk_count width items - k) width (length (drop (k * width) items)) (length-drop (k * width) items ∙ fewer)
+    whole-dropped = whole_by (chunk_count width items - k) width (length (drop (k * width) items))
+      (length-drop (k * width) items ∙ fewer)
 
-    pub whole-taken : let before = take (length items - k * width) items in length before ≡ chunk_count width before * width
+    pub whole-taken : let before = take (length items - k * width) items in
+        length before ≡ chunk_count width before * width
     whole-taken =
         let before = take (length items - k * width) items in
-        whole_by (chunk_count width items - k) width (length before) (length-take-le (length items - k * width) items (omega arith) ∙ fewer)
+        whole_by (chunk_count width items - k) width (length before)
+          (length-take-le (length items - k * width) items (omega arith) ∙ fewer)
 
-    pub rows-before : rows width (take (length items - k * width) items) ≡ take (chunk_count width items - k) (rows width items)
-    rows-before = ap (λ n. rows width (take n items)) fewer ∙ rows-taken width (chunk_count width items - k) items (omega arith)
+    pub rows-before : rows width (take (length items - k * width) items)
+        ≡ take (chunk_count width items - k) (rows width items)
+    rows-before = ap (λ n. rows width (take n items)) fewer
+      ∙ rows-taken width (chunk_count width items - k) items (omega arith)
 
   -- the last row is what stands behind the others
   module _ (wide : 0 < width) (enough : width ≤ length items) where
-    pub rows-last : rows width items ≡ rows width (take (length items - width) items) ++ drop (length items - width) items ∷ []
+    pub rows-last : rows width items ≡ rows width (take (length items - width) items)
+        ++ drop (length items - width) items ∷ []
     rows-last =
         let before = length items - width in
         let last = chunk_count width items - 1 in
@@ -177,13 +208,16 @@ module _ {X : Type 0} (width : ℕ) (items : List X) (whole : length items ≡ c
         let one : 1 * width ≡ width = omega arith in
         let place : before ≡ last * width = ap (λ n. length items - n) (sym one) ∙ fewer 1 (omega (arith, all)) in
         let row : row_at width items last ≡ drop before items =
-        ap (λ n. take width (drop n items)) (sym place) ∙ take_all width (drop before items) (omega (arith, length-drop before items)) in
+        ap (λ n. take width (drop n items)) (sym place)
+          ∙ take_all width (drop before items) (omega (arith, length-drop before items)) in
         let others : rows width (take before items) ≡ map (row_at width items) (range_with_len 0 last) =
         ap (λ n. rows width (take n items)) place
-        ∙ (rows-taken width last items (omega (arith, all)) ∙ take-map-range_with_len (row_at width items) 0 (chunk_count width items) last (omega (arith, all))) in
+        ∙ (rows-taken width last items (omega (arith, all))
+          ∙ take-map-range_with_len (row_at width items) 0 (chunk_count width items) last (omega (arith, all))) in
         ap (λ n. map (row_at width items) (range_with_len 0 n)) all
         ∙ (map-range_with_len_more (row_at width items) 0 last last (omega arith)
-        ∙ (ap (λ list. list ++ row_at width items last ∷ []) (sym others) ∙ ap (λ r. rows width (take before items) ++ r ∷ []) row))
+        ∙ (ap (λ list. list ++ row_at width items last ∷ []) (sym others)
+          ∙ ap (λ r. rows width (take before items) ++ r ∷ []) row))
 
 -- a whole row ends within the items
 pub row-within : (len width index : ℕ) → index < len / width → index * width + width ≤ len

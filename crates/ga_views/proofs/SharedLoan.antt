@@ -13,7 +13,8 @@ use base.Share
 use contract.BorrowLft.{◌⊑◌, ⊑_trans, meet_⊑_left, meet_⊑_right}
 use mir.Syntax.{named}
 use mir.Val.{Val, vptr}
-use types.Kit.{Item, ‵, raw, ◌⊛◌, later, ◌$◌, ◌∵◌, !, qed, move, assume, use1, use2, split, frame, show, await, fsplit3, fjoin3, feq_i, feq_l, updating, now, done}
+use types.Kit.{Item, ‵, raw, ◌⊛◌, later, ◌$◌, ◌∵◌, !, qed, move, assume, use1, use2, split, frame, show, await, fsplit3}
+use types.Kit.{fjoin3, feq_i, feq_l, updating, now, done}
 use types.Logic.{Logic, sem}
 use types.Mut.{open_ref, close_ref}
 use types.Tokens.{lft_new, lft_end, lft-common, lent_back}
@@ -24,7 +25,8 @@ use denote.Ref.{MutRef, ShrRef}
 use denote.Shares.{Shares}
 
 -- the reference points to (b, o), its name is γ, and what it shows is x
-module _ {M : Type 1} {𝓤 : Ura M} (𝓛 : Logic 𝓤) (R : RattleType) (κ : Lft) (q : Share) (b o : ℕ) (γ : GName) (x : R.Denot) where
+module _ {M : Type 1} {𝓤 : Ura M} (𝓛 : Logic 𝓤) (R : RattleType) (κ : Lft) (q : Share) (b o : ℕ) (γ : GName)
+    (x : R.Denot) where
   open 𝓛 use {H, A}
 
   abbrev pub Whole : Fml
@@ -46,24 +48,33 @@ module _ {M : Type 1} {𝓤 : Ura M} (𝓛 : Logic 𝓤) (R : RattleType) (κ : 
   pub lends_shared : Shares 𝓛 R R.lives → κ ⊑ R.lives → ent 𝓤 (sep 𝓤 (sem 𝓛 Whole) (A.lft κ q)) (H.⇛ (ex 𝓤 LentShared))
   lends_shared shares lives =
       qed 𝓛 (‵ Whole ∷ ‵ (flft κ q) ∷ []) ∵ updating ! $ move ! (1 ∷ []) $
-      use1 𝓛 (‵ (flft κ (Share.left q)) ⊛ ‵ (flft κ (Share.right q))) (𝓛.lfts.lft_split κ q) $ split ! $ move ! (1 ∷ []) $ lft_new ! tt (λ a.
+      use1 𝓛 (‵ (flft κ (Share.left q)) ⊛ ‵ (flft κ (Share.right q))) (𝓛.lfts.lft_split κ q) $ split ! $ move !
+        (1 ∷ []) $ lft_new ! tt (λ a.
       let within = meet_⊑_right (a ∷ []) κ in
       let r : Share = (common full_share (Share.right q)).0 in
       let Both : SProp 𝓤 = sep 𝓤 (A.lft (a ∷ []) full_share) (A.lft κ (Share.right q)) in
-      use2 𝓛 (‵ (flft (a ∷ κ) r) ⊛ raw (wand 𝓤 (A.lft (a ∷ κ) r) Both)) (lft-common 𝓛 (a ∷ []) κ full_share (Share.right q)) $ split ! $
+      use2 𝓛 (‵ (flft (a ∷ κ) r) ⊛ raw (wand 𝓤 (A.lft (a ∷ κ) r) Both))
+        (lft-common 𝓛 (a ∷ []) κ full_share (Share.right q)) $ split ! $
       -- [the new token; its way back; the other half of κ's token; the reference]
       move ! (3 ∷ 2 ∷ []) $ fsplit3 ! $ feq_l ! (λ _. open_ref ! tt (mem R) $
       -- [what the reference shows; the open borrow; obs; auth; the new token; its way back]
-      move ! (0 ∷ 4 ∷ []) $ use2 𝓛 (later ((‵ (Shared (a, r)) ⊛ ‵ (flent (a ∷ κ) (part_at R full_share x b o))) ⊛ ‵ (flft (a ∷ κ) r)))
-      (lends_shr 𝓛 R (named 0) (a ∷ κ) full_share x b o R.lives (shares x) ((a ∷ κ, r) ∷ []) (⊑_trans (a ∷ κ) κ R.lives within lives) (Incl-refl (a ∷ κ))) $
+      move ! (0 ∷ 4 ∷ []) $ use2 𝓛
+        (later ((‵ (Shared (a, r)) ⊛ ‵ (flent (a ∷ κ) (part_at R full_share x b o))) ⊛ ‵ (flft (a ∷ κ) r)))
+      (lends_shr 𝓛 R (named 0) (a ∷ κ) full_share x b o R.lives (shares x) ((a ∷ κ, r) ∷ [])
+        (⊑_trans (a ∷ κ) κ R.lives within lives) (Incl-refl (a ∷ κ))) $
       await ! tt $ split ! $ split ! $
       -- [the `&`; the lender's right; the new token; the open borrow; obs; auth; the token's way back]
-      move ! (0 ∷ 2 ∷ []) $ now ! $ show ! LentShared (a, r) $ frame ! $ frame ! $ assume ! (‵ (flft (a ∷ κ) r)) $ updating ! $
-      move ! (0 ∷ 5 ∷ []) $ use2 𝓛 (‵ (flft (a ∷ []) full_share) ⊛ ‵ (flft κ (Share.right q))) (apply∗ 𝓤 (A.lft (a ∷ κ) r) Both) $ split ! $ lft_end ! tt $
-      use1 𝓛 (‵ (fdead (a ∷ κ))) (𝓛.lfts.dead-incl (a ∷ κ) (a ∷ []) (meet_⊑_left (a ∷ []) κ)) $ move ! (0 ∷ 2 ∷ []) $ lent_back ! tt $
+      move ! (0 ∷ 2 ∷ []) $ now ! $ show ! LentShared (a, r) $ frame ! $ frame ! $ assume !
+        (‵ (flft (a ∷ κ) r)) $ updating ! $
+      move ! (0 ∷ 5 ∷ []) $ use2 𝓛 (‵ (flft (a ∷ []) full_share) ⊛ ‵ (flft κ (Share.right q)))
+        (apply∗ 𝓤 (A.lft (a ∷ κ) r) Both) $ split ! $ lft_end ! tt $
+      use1 𝓛 (‵ (fdead (a ∷ κ))) (𝓛.lfts.dead-incl (a ∷ κ) (a ∷ []) (meet_⊑_left (a ∷ []) κ)) $ move !
+        (0 ∷ 2 ∷ []) $ lent_back ! tt $
       -- [what the reference shows; half of κ's token; the open borrow; obs; auth]
-      move ! (0 ∷ 2 ∷ 3 ∷ 4 ∷ []) $ close_ref ! tt (mem R) x $ feq_i ! (List Val) (vptr b o ∷ []) (vptr b o ∷ []) refl $ fjoin3 ! $ move ! (1 ∷ 2 ∷ []) $
+      move ! (0 ∷ 2 ∷ 3 ∷ 4 ∷ []) $ close_ref ! tt (mem R) x $ feq_i ! (List Val) (vptr b o ∷ [])
+        (vptr b o ∷ []) refl $ fjoin3 ! $ move ! (1 ∷ 2 ∷ []) $
       use2 𝓛 (‵ (flft κ q)) (𝓛.lfts.lft_join κ q) $ move ! (1 ∷ 0 ∷ []) $ now ! $ done !))
 
-  pub comes_back : (t : ℕ × Share) → ent 𝓤 (sep 𝓤 (A.lft (t.0 ∷ κ) t.1) (Back t)) (H.⇛ (sep 𝓤 (sem 𝓛 Whole) (A.lft κ q)))
+  pub comes_back : (t : ℕ × Share) → ent 𝓤 (sep 𝓤 (A.lft (t.0 ∷ κ) t.1) (Back t))
+      (H.⇛ (sep 𝓤 (sem 𝓛 Whole) (A.lft κ q)))
   comes_back t = apply∗ 𝓤 (A.lft (t.0 ∷ κ) t.1) (H.⇛ (sep 𝓤 (sem 𝓛 Whole) (A.lft κ q)))

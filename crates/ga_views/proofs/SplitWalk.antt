@@ -1,7 +1,9 @@
--- The call that cuts a slice for writing in two, `split_at_mut`, as a step of a walk: the slice, the place and the tokens go in, and the two parts come out with what is known of them. Assumes `Logic`.
+-- The call that cuts a slice for writing in two, `split_at_mut`, as a step of a walk: the slice, the place and the
+-- tokens go in, and the two parts come out with what is known of them. Assumes `Logic`.
 use Prim.Native.Nat.{ℕ}
 use Rattle.std.below.core.specs.contracts.slice.slice+T.split_at_mut as cut_contract
-use Rattle.std.proofs.Common.{◌≡◌, ◌+◌, ◌++◌, ◌≤◌, ◌<◌, ◌^◌, [], ◌∷◌, ◌∙◌, ap, drop as drop_l, length, List, MutBor, refl, take}
+use Rattle.std.proofs.Common.{◌≡◌, ◌+◌, ◌++◌, ◌≤◌, ◌<◌, ◌^◌, [], ◌∷◌, ◌∙◌, ap, drop as drop_l, length, List, MutBor}
+use Rattle.std.proofs.Common.{refl, take}
 use Rattle.std.specs.List.{SameBelow, TailFrom}
 use base.Fml.{flft, Fml, ftrue, Lft, Share}
 use base.Logic.{emp, id⊢, SProp}
@@ -27,7 +29,8 @@ use prog.Routine.{Routine}
 use prog.Wp.{Calls, Env, Loops}
 use seplogic.Ra.Ura.{Ura}
 use sound.WpLaws.{FmC}
-use types.Kit.{‵, ◌⊛◌, ◌$◌, await, drop, feq_l, fjoin, fpick, fsplit, group, Item, join, lands, later, move, pick, Post, raw, regoal, rewrite, runs, Seq, some, split, use0, use1}
+use types.Kit.{‵, ◌⊛◌, ◌$◌, await, drop, feq_l, fjoin, fpick, fsplit, group, Item, join, lands, later, move, pick, Post}
+use types.Kit.{raw, regoal, rewrite, runs, Seq, some, split, use0, use1}
 use types.Logic.{Logic}
 use types.Run.{Opds}
 
@@ -40,11 +43,13 @@ module _ (X : RattleType) where
 
   -- what the slice ends as: the items of the one part and then those of the other
   abbrev pub joins : Items → Items → Items → Fml
-  joins s first second = follows_both (Array E 0) (Array E 0) (Array E 0) s.ghost_name first.ghost_name second.ghost_name ◌++◌
+  joins s first second = follows_both (Array E 0) (Array E 0)
+    (Array E 0) s.ghost_name first.ghost_name second.ghost_name ◌++◌
 
   -- the two parts, as the machine has them
   abbrev pub parts_val : Items → Items → Val
-  parts_val first second = vstruct (of_list (slice_val first.ref_ptr (length first.now) ∷ slice_val second.ref_ptr (length second.now) ∷ []))
+  parts_val first second =
+    vstruct (of_list (slice_val first.ref_ptr (length first.now) ∷ slice_val second.ref_ptr (length second.now) ∷ []))
 
   -- what is known of the two parts of a slice that is cut at a place
   pub record Cut (s : Items) (place : ℕ) (first second : Items) : Type 0 where
@@ -68,15 +73,21 @@ module _ (X : RattleType) where
       S = MutSlice (named 0) κ E
 
       abbrev pub cut_at : Cuts.Ghost
-      cut_at = (((κ, (κT, tt)), (q, (qT, tt)), (within, tt), (s, (place, tt)), (mut_slice_vals s, (vint w64 place ∷ [], tt))), tt)
+      cut_at = (((κ, (κT, tt)), (q, (qT, tt)), (within, tt), (s, (place, tt)),
+        (mut_slice_vals s, (vint w64 place ∷ [], tt))), tt)
 
-      module _ {K : Type 0} {Γ : List (Item 𝓤)} {G : Env 𝓤 H} {C : Calls 𝓤 H} {Λ : Loops 𝓤 H} {f : Callee} {xs : List Operand} {p : Place} {rest : Code} {post : Post 𝓤 H} where
-        -- the call takes the slice, the place and the two tokens; it gives both parts, what the slice ends as, and the tokens
-        pub cuts : K → FmC 𝓤 H 𝓛.laws C → Triple 𝓤 (C f) Cuts → κT ⊑ X.lives → place ≤ length s.now → Opds K 𝓛 (raw (Cuts.pre cut_at) ∷ Γ) G xs (Cuts.args cut_at)
+      module _ {K : Type 0} {Γ : List (Item 𝓤)} {G : Env 𝓤 H} {C : Calls 𝓤 H} {Λ : Loops 𝓤 H} {f : Callee}
+          {xs : List Operand} {p : Place} {rest : Code} {post : Post 𝓤 H} where
+        -- the call takes the slice, the place and the two tokens; it gives both parts, what the slice ends as, and
+        -- the tokens
+        pub cuts : K → FmC 𝓤 H 𝓛.laws C → Triple 𝓤 (C f) Cuts → κT ⊑ X.lives → place ≤ length s.now
+            → Opds K 𝓛 (raw (Cuts.pre cut_at) ∷ Γ) G xs (Cuts.args cut_at)
             → ((first second : Items) → Cut s place first second
-            → Seq K 𝓛 (‵ (S.own_val second (mut_slice_vals second)) ∷ ‵ (S.own_val first (mut_slice_vals first)) ∷ ‵ (joins s first second) ∷ (‵ (flft κ q) ⊛ ‵ (flft κT qT) ⊛ ‵ ftrue) ∷ Γ)
+            → Seq K 𝓛 (‵ (S.own_val second (mut_slice_vals second)) ∷ ‵ (S.own_val first (mut_slice_vals first))
+              ∷ ‵ (joins s first second) ∷ (‵ (flft κ q) ⊛ ‵ (flft κT qT) ⊛ ‵ ftrue) ∷ Γ)
             (lands C Λ G p (parts_val first second) rest post))
-            → Seq K 𝓛 (‵ (S.own_val s (mut_slice_vals s)) ∷ ‵ (usize.own_val place (vint w64 place ∷ [])) ∷ ‵ (flft κ q) ∷ ‵ (flft κT qT) ∷ Γ) (runs C Λ G (seq (call f xs p) rest) post)
+            → Seq K 𝓛 (‵ (S.own_val s (mut_slice_vals s)) ∷ ‵ (usize.own_val place (vint w64 place ∷ [])) ∷ ‵ (flft κ q)
+              ∷ ‵ (flft κT qT) ∷ Γ) (runs C Λ G (seq (call f xs p) rest) post)
         cuts t framed met lives inside read then =
             nothing t $ move t (2 ∷ 0 ∷ []) $ fjoin t $ move t (1 ∷ 0 ∷ []) $ fjoin t $
             nothing t $ move t (2 ∷ 3 ∷ 0 ∷ 1 ∷ []) $ group t 3 $ join t $
@@ -84,18 +95,26 @@ module _ (X : RattleType) where
             use0 𝓛 (raw (fact 𝓤 (κT ⊑ X.lives))) (fact_i 𝓤 _ (emp 𝓤) lives) $ join t $
             move t (1 ∷ 0 ∷ []) $ join t $ use1 𝓛 (raw (Cuts.pre cut_at)) (id⊢ 𝓤 _) $
             calls_at t framed Cuts met cut_at read (λ u.
-            use1 𝓛 (later (some (λ (r : S.Denot × S.Denot). ((‵ (flft κ q) ⊛ ‵ (flft κT qT) ⊛ ‵ ftrue) ⊛ ‵ ((Tuple (S ∷ S ∷ [])).own_val r (u ∷ []))) ⊛
-            some (λ (ws : Lasts (cut_contract.ended X) cut_at.0.0 cut_at.0.3). ‵ (lasts (cut_contract.ended X) cut_at.0.0 cut_at.0.3 ws) ⊛
-            raw (fact 𝓤 (s.now ≡ r.0.now ++ r.1.now)) ⊛ raw (fact 𝓤 (length r.0.now ≡ place)) ⊛ raw (fact 𝓤 (length r.1.now + place ≡ length s.now)) ⊛
-            raw (fact 𝓤 (r.0.now ≡ take place s.now)) ⊛ raw (fact 𝓤 (r.1.now ≡ drop_l place s.now)) ⊛ raw (fact 𝓤 (SameBelow s.now r.0.now place × TailFrom s.now r.1.now place)) ⊛
+            use1 𝓛 (later (some (λ (r : S.Denot × S.Denot).
+              ((‵ (flft κ q) ⊛ ‵ (flft κT qT) ⊛ ‵ ftrue) ⊛ ‵ ((Tuple (S ∷ S ∷ [])).own_val r (u ∷ []))) ⊛
+            some (λ (ws : Lasts (cut_contract.ended X) cut_at.0.0 cut_at.0.3).
+              ‵ (lasts (cut_contract.ended X) cut_at.0.0 cut_at.0.3 ws) ⊛
+            raw (fact 𝓤 (s.now ≡ r.0.now ++ r.1.now)) ⊛ raw (fact 𝓤 (length r.0.now ≡ place)) ⊛ raw
+              (fact 𝓤 (length r.1.now + place ≡ length s.now)) ⊛
+            raw (fact 𝓤 (r.0.now ≡ take place s.now)) ⊛ raw (fact 𝓤 (r.1.now ≡ drop_l place s.now)) ⊛ raw
+              (fact 𝓤 (SameBelow s.now r.0.now place × TailFrom s.now r.1.now place)) ⊛
             ‵ (joins s r.0 r.1))))) (id⊢ 𝓤 _) $
             await t tt $ pick t (λ r. split t $ split t $ move t (2 ∷ []) $ pick t (λ ws. split t $ drop t $
             split t $ heard t _ (λ whole. split t $ heard t _ (λ first_len. split t $ heard t _ (λ second_len.
             split t $ heard t _ (λ first_is. split t $ heard t _ (λ second_is. split t $ drop t $
             -- [what the slice ends as; the tokens; the pair]
             move t (2 ∷ []) $ fpick t (λ vss. fsplit t $
-            move t (1 ∷ []) $ fsplit t $ peeks t S (Is S) (shows 𝓛 S) r.0 vss.0 (λ is₁. rewrite t 0 (λ (vs : List Val). ‵ (S.own_val r.0 vs)) is₁.0.0 refl $
-            move t (1 ∷ []) $ fsplit t $ peeks t S (Is S) (shows 𝓛 S) r.1 vss.1.0 (λ is₂. rewrite t 0 (λ (vs : List Val). ‵ (S.own_val r.1 vs)) is₂.0.0 refl $
+            move t (1 ∷ []) $ fsplit t $ peeks t S (Is S) (shows 𝓛 S) r.0 vss.0
+              (λ is₁. rewrite t 0 (λ (vs : List Val). ‵ (S.own_val r.0 vs)) is₁.0.0 refl $
+            move t (1 ∷ []) $ fsplit t $ peeks t S (Is S) (shows 𝓛 S) r.1 vss.1.0
+              (λ is₂. rewrite t 0 (λ (vs : List Val). ‵ (S.own_val r.1 vs)) is₂.0.0 refl $
             move t (3 ∷ []) $ feq_l t (λ pair. move t (1 ∷ []) $ drop t $
-            regoal t (λ (v : Val). lands C Λ G p v rest post) (ap only (pair ∙ (λ i. vstruct (of_list (is₁.0.0 i ++ (is₂.0.0 i ++ []))) ∷ []))) refl $
-            then r.0 r.1 (record { whole = whole; first_len = first_len; second_len = second_len; first_is = first_is; second_is = second_is; first_fits = is₁.0.1.0; second_fits = is₂.0.1.0 })))))))))))))
+            regoal t (λ (v : Val). lands C Λ G p v rest post)
+              (ap only (pair ∙ (λ i. vstruct (of_list (is₁.0.0 i ++ (is₂.0.0 i ++ []))) ∷ []))) refl $
+            then r.0 r.1 (record { whole = whole; first_len = first_len; second_len = second_len; first_is =
+              first_is; second_is = second_is; first_fits = is₁.0.1.0; second_fits = is₂.0.1.0 })))))))))))))

@@ -7,5 +7,6 @@ use Rattle.std.proofs.Common.{ap}
 use Rattle.std.specs.Prelude.{◌≡◌, length}
 
 module _ {S T N : Type 0} {s : reborrow.Ghosts S T} {n : unsigned.Ghosts N} where
-  pub same_full : (view : ViewMut S T N s n) (full : length (s.items view.slice) ≡ n.USIZE) → view ≡ record view { full = full }
+  pub same_full : (view : ViewMut S T N s n) (full : length (s.items view.slice) ≡ n.USIZE)
+      → view ≡ record view { full = full }
   same_full view full = ap (λ fact. record view { full = fact }) (ℕ_set _ _ view.full full)

@@ -5,8 +5,10 @@ use Rattle.std.specs.Prelude.{ℕ, ◌+◌, ◌++◌, List, drop, take}
 
 -- the items with these over the `len` from place `from` on, as many as these are
 abbrev pub part_set : {X : Type 0} → ℕ → ℕ → List X → List X → List X
-part_set from len items part = take from items ++ (refill len (take len (drop from items)) part ++ drop (from + len) items)
+part_set from len items part = take from items ++ (refill len (take len (drop from items)) part
+    ++ drop (from + len) items)
 
 -- once both borrows end, the slice is the items of the first and then those of the second
 abbrev pub LendsHalves : (T : RattleType) (slice first second : MutBor (List T.Denot)) → Fml
-LendsHalves T slice first second = follows_both (Array T 0) (Array T 0) (Array T 0) slice.ghost_name first.ghost_name second.ghost_name ◌++◌
+LendsHalves T slice first second = follows_both (Array T 0) (Array T 0)
+    (Array T 0) slice.ghost_name first.ghost_name second.ghost_name ◌++◌

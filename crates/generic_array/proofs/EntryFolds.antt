@@ -1,4 +1,5 @@
--- What folds over entries come to, where the closure acts as a function: each call answers h, and leaves the closure as it is.
+-- What folds over entries come to, where the closure acts as a function: each call answers h, and leaves the closure
+-- as it is.
 use Rattle.ga_core.proofs.ActsLemmas.{answer_of_fold}
 use Rattle.ga_core.specs.Entries.{ActsInFold, FoldAt}
 use Rattle.ga_core.specs.Runs.{FoldRun}
@@ -6,29 +7,37 @@ use Rattle.ga_core.specs.Tries.{result_and_then, try_fold}
 use Rattle.generic_array.specs.EntryRuns.{TryFoldRun}
 use Rattle.std.proofs.Common.{◌≡◌, List, [], ◌∷◌, Result, Ok, Err, inl, inr, ap, fold, subst, sym, ◌∙◌}
 
-module _ {I T F A B : Type 0} (entry : I → T) (step : F → A → I → B → F → Type 0) (f : F) (h : A → T → B) (acts : ActsInFold entry step f h) where
+module _ {I T F A B : Type 0} (entry : I → T) (step : F → A → I → B → F → Type 0) (f : F) (h : A → T → B)
+    (acts : ActsInFold entry step f h) where
   fold_call_at : (a : A) (x : T) (b : B) (next : F) → FoldAt entry step f a x b next → (next ≡ f) × (b ≡ h a x)
   fold_call_at a x b next call = let o = acts a call.0 b next call.2 in (o.0, o.1 ∙ ap (h a) call.1)
 
-module _ {I T F A : Type 0} (entry : I → T) (step : F → A → I → A → F → Type 0) (f : F) (h : A → T → A) (acts : ActsInFold entry step f h) where
+module _ {I T F A : Type 0} (entry : I → T) (step : F → A → I → A → F → Type 0) (f : F) (h : A → T → A)
+    (acts : ActsInFold entry step f h) where
   -- a fold is the fold of h
-  pub fold_at_entries : (a : A) (xs : List T) (b : A) (last : F) → FoldRun (FoldAt entry step) f a xs b last → b ≡ fold h a xs
+  pub fold_at_entries : (a : A) (xs : List T) (b : A) (last : F) → FoldRun (FoldAt entry step) f a xs b last
+      → b ≡ fold h a xs
   fold_at_entries = answer_of_fold (FoldAt entry step) f h (fold_call_at entry step f h acts)
 
-module _ {I T F A E : Type 0} (entry : I → T) (step : F → A → I → Result A E → F → Type 0) (f : F) (h : A → T → Result A E) (acts : ActsInFold entry step f h) where
+module _ {I T F A E : Type 0} (entry : I → T) (step : F → A → I → Result A E → F → Type 0) (f : F) (h : A → T
+    → Result A E) (acts : ActsInFold entry step f h) where
   -- a fold up to the first error is that of h
-  pub try_fold_at_entries : (a : A) (xs : List T) (answer : Result A E) (last : F) → TryFoldRun (FoldAt entry step) f a xs answer last → answer ≡ try_fold h a xs
+  pub try_fold_at_entries : (a : A) (xs : List T) (answer : Result A E) (last : F)
+      → TryFoldRun (FoldAt entry step) f a xs answer last → answer ≡ try_fold h a xs
   try_fold_at_entries a [] (Ok b) last run = sym (ap Ok run.0)
   try_fold_at_entries a [] (Err error) last run = absurd run
   try_fold_at_entries a (x ∷ xs) (Ok b) last run =
       let call = fold_call_at entry step f h acts a x (Ok run.0) run.1 run.2 in
-      try_fold_at_entries run.0 xs (Ok b) last (subst (λ k. TryFoldRun (FoldAt entry step) k run.0 xs (Ok b) last) call.0 run.3)
+      try_fold_at_entries run.0 xs (Ok b) last (subst
+        (λ k. TryFoldRun (FoldAt entry step) k run.0 xs (Ok b) last) call.0 run.3)
       ∙ ap (result_and_then (λ c. try_fold h c xs)) call.1
   try_fold_at_entries a (x ∷ xs) (Err error) last run =
       elim run [
-        | inl failed ↦ ap (result_and_then (λ c. try_fold h c xs)) (fold_call_at entry step f h acts a x (Err error) last failed).1
+        | inl failed ↦ ap (result_and_then (λ c. try_fold h c xs))
+          (fold_call_at entry step f h acts a x (Err error) last failed).1
         | inr good ↦
             let call = fold_call_at entry step f h acts a x (Ok good.0) good.1 good.2 in
-            try_fold_at_entries good.0 xs (Err error) last (subst (λ k. TryFoldRun (FoldAt entry step) k good.0 xs (Err error) last) call.0 good.3)
+            try_fold_at_entries good.0 xs (Err error) last
+              (subst (λ k. TryFoldRun (FoldAt entry step) k good.0 xs (Err error) last) call.0 good.3)
             ∙ ap (result_and_then (λ c. try_fold h c xs)) call.1
       ]

@@ -1,11 +1,14 @@
 -- Items taken out of a list, and rows of it joined and cut.
-use Rattle.std.proofs.Common.{◌≡◌, ℕ, zero, suc, ◌+◌, ◌-◌, ◌*◌, ◌/◌, ◌<◌, ◌≤◌, List, [], ◌∷◌, ◌++◌, Some, take, drop, refl, subst, ap, ◌∙◌, sym, arith, append_assoc, get_or, length, length-append, length-drop, length-set, length-take, map, slice_get, slice_index_or, slice_set}
+use Rattle.std.proofs.Common.{◌≡◌, ℕ, zero, suc, ◌+◌, ◌-◌, ◌*◌, ◌/◌, ◌<◌, ◌≤◌, List, [], ◌∷◌, ◌++◌, Some, take, drop}
+use Rattle.std.proofs.Common.{refl, subst, ap, ◌∙◌, sym, arith, append_assoc, get_or, length, length-append}
+use Rattle.std.proofs.Common.{length-drop, length-set, length-take, map, slice_get, slice_index_or, slice_set}
 use Rattle.ga_core.proofs.SlotLemmas.{refill-whole}
 use Rattle.ga_core.proofs.RowLemmas.{rows-few, rows-first}
 use Rattle.std.proofs.Math.Seq.{drop-append_seam, take-append_seam}
 use Rattle.generic_array.specs.Rows.{row_at, rows}
 use Rattle.std.proofs.Math.Nat.{suc-mul}
-use Rattle.std.proofs.lemmas.List.{append-nil, drop_all, drop_more, get_or-drop, get_or-set_same, get_or_default, nil_from_length, take-append-drop, take-set-le, take_all}
+use Rattle.std.proofs.lemmas.List.{append-nil, drop_all, drop_more, get_or-drop, get_or-set_same, get_or_default}
+use Rattle.std.proofs.lemmas.List.{nil_from_length, take-append-drop, take-set-le, take_all}
 use Rattle.std.proofs.lemmas.List.FromFn.{map-range_with_len_more}
 use Rattle.std.proofs.lemmas.Nat.{div-mul-add}
 use Rattle.std.proofs.lemmas.List.Concat.{flat_map-cons}
@@ -13,19 +16,23 @@ use Rattle.std.proofs.lemmas.List.Elements.{All-head, All-tail}
 use Rattle.std.specs.List.{All, flat_map, range_with_len, refill, remove, swap, swap_remove}
 
 -- how many items the rows have that are left after the first of them
-pub area-next : {R : Type 0} (row : R) (these left : List R) → these ≡ row ∷ left → (w at total : ℕ) → at + length these * w ≡ total → (at + w) + length left * w ≡ total
+pub area-next : {R : Type 0} (row : R) (these left : List R) → these ≡ row ∷ left → (w at total : ℕ)
+    → at + length these * w ≡ total → (at + w) + length left * w ≡ total
 area-next row these left first w at total same =
     let more : length these * w ≡ length left * w + w = ap (λ all. length all * w) first ∙ suc-mul (length left) w in
     omega arith
 
-pub area-room : (R : Type 0) (rows : List R) (i : ℕ) (d : R) (w at total : ℕ) → i < length rows → at + length (drop i rows) * w ≡ total → at + w ≤ total
+pub area-room : (R : Type 0) (rows : List R) (i : ℕ) (d : R) (w at total : ℕ) → i < length rows
+    → at + length (drop i rows) * w ≡ total → at + w ≤ total
 area-room R rows i d w at total here same =
-    let more = area-next (get_or rows i d) (drop i rows) (drop (i + 1) rows) (drop_more rows i d here) w at total same in
+    let more = area-next (get_or rows i d) (drop i rows) (drop (i + 1) rows)
+      (drop_more rows i d here) w at total same in
     omega (arith, more)
 
 module _ {T : Type 0} where
   -- what stands in an array whose places were written in two parts
-  pub refill-parts : (n : ℕ) (items front back first rest : List T) → front ≡ first → back ≡ rest → n ≡ length front + length back → refill n items (front ++ back) ≡ first ++ rest
+  pub refill-parts : (n : ℕ) (items front back first rest : List T) → front ≡ first → back ≡ rest
+      → n ≡ length front + length back → refill n items (front ++ back) ≡ first ++ rest
   refill-parts n items front back first rest one two long =
       refill-whole n items (front ++ back) (long ∙ sym (length-append front back))
       ∙ (ap (λ l. l ++ back) one ∙ ap (λ l. first ++ l) two)
@@ -42,12 +49,14 @@ module _ {T : Type 0} where
   get-only (x ∷ y ∷ items) d long = absurd (omega (arith, long))
 
   -- the item at a place, and the list without it
-  pub slice_get-next : (n : ℕ) (items left : List T) (item : T) → drop n items ≡ item ∷ left → slice_get items n ≡ Some item
+  pub slice_get-next : (n : ℕ) (items left : List T) (item : T) → drop n items ≡ item ∷ left
+      → slice_get items n ≡ Some item
   slice_get-next zero items left item here = ap (λ all. slice_get all 0) here
   slice_get-next (suc n) [] left item here = cc
   slice_get-next (suc n) (x ∷ items) left item here = slice_get-next n items left item here
 
-  pub remove-next : (n : ℕ) (items left : List T) (item : T) → drop n items ≡ item ∷ left → take n items ++ left ≡ remove items n
+  pub remove-next : (n : ℕ) (items left : List T) (item : T) → drop n items ≡ item ∷ left
+      → take n items ++ left ≡ remove items n
   remove-next zero items left item here = ap (drop 1) (sym here)
   remove-next (suc n) [] left item here = cc
   remove-next (suc n) (x ∷ items) left item here = ap (λ more. x ∷ more) (remove-next n items left item here)
@@ -71,15 +80,19 @@ module _ {T : Type 0} where
     others-long = omega (arith, length-append (take i items) left, length-take i items, length-drop (i + 1) items)
 
     parts : whole ≡ others ++ item ∷ []
-    parts = same ∙ (ap (λ l. take i items ++ l) (carried ∙ ap (λ l. drop 1 l ++ take 1 l) cut) ∙ sym (append_assoc (take i items) left (item ∷ [])))
+    parts = same ∙ (ap (λ l. take i items ++ l) (carried ∙ ap (λ l. drop 1 l ++ take 1 l) cut)
+      ∙ sym (append_assoc (take i items) left (item ∷ [])))
 
     pub carried-others : take m whole ≡ remove items i
-    carried-others = ap (take m) parts ∙ (ap (λ k. take k (others ++ item ∷ [])) others-long ∙ (take-append_seam others (item ∷ []) ∙ remove-next i items left item cut))
+    carried-others = ap (take m) parts ∙ (ap (λ k. take k (others ++ item ∷ [])) others-long
+      ∙ (take-append_seam others (item ∷ []) ∙ remove-next i items left item cut))
 
     pub carried-item : slice_get items i ≡ Some (slice_index_or (drop m whole) 0 d)
     carried-item =
         slice_get-next i items left item cut
-        ∙ ap (λ l. Some (slice_index_or l 0 d)) (sym (ap (drop m) parts ∙ (ap (λ k. drop k (others ++ item ∷ [])) others-long ∙ drop-append_seam others (item ∷ []))))
+        ∙ ap (λ l. Some (slice_index_or l 0 d)) (sym
+          (ap (drop m) parts ∙ (ap (λ k. drop k (others ++ item ∷ [])) others-long
+          ∙ drop-append_seam others (item ∷ []))))
 
   -- the list where the last takes the place of an item
   last_of : (front : List T) (last d : T) → slice_index_or (front ++ last ∷ []) (length front) d ≡ last
@@ -91,23 +104,28 @@ module _ {T : Type 0} where
       let all = front ++ last ∷ [] in
       let long : suc (length all) - 1 ≡ suc (length front) = omega (arith, length-append front (last ∷ [])) in
       ap (λ k. take k (slice_index_or (x ∷ all) k d ∷ all)) long
-      ∙ (ap (λ y. y ∷ take (length front) all) (last_of front last d) ∙ ap (λ more. last ∷ more) (take-append_seam front (last ∷ [])))
+      ∙ (ap (λ y. y ∷ take (length front) all) (last_of front last d)
+        ∙ ap (λ more. last ∷ more) (take-append_seam front (last ∷ [])))
 
-  swap_remove-suc : (x : T) (items : List T) (n : ℕ) (d : T) → 0 < length items → swap_remove (x ∷ items) (suc n) d ≡ x ∷ swap_remove items n d
+  swap_remove-suc : (x : T) (items : List T) (n : ℕ) (d : T) → 0 < length items
+      → swap_remove (x ∷ items) (suc n) d ≡ x ∷ swap_remove items n d
   swap_remove-suc x items n d some =
       let long : suc (length items) - 1 ≡ suc (length items - 1) = omega arith in
       ap (λ k. take k (x ∷ slice_set items n (slice_index_or (x ∷ items) k d))) long
 
-  swap_remove-next : (n : ℕ) (front left : List T) (item last d : T) → drop n front ≡ item ∷ left → take n front ++ last ∷ left ≡ swap_remove (front ++ last ∷ []) n d
+  swap_remove-next : (n : ℕ) (front left : List T) (item last d : T) → drop n front ≡ item ∷ left
+      → take n front ++ last ∷ left ≡ swap_remove (front ++ last ∷ []) n d
   swap_remove-next zero [] left item last d here = cc
   swap_remove-next (suc n) [] left item last d here = cc
-  swap_remove-next zero (x ∷ front) left item last d here = ap (λ all. last ∷ drop 1 all) (sym here) ∙ sym (swap_remove-first x front last d)
+  swap_remove-next zero (x ∷ front) left item last d here =
+    ap (λ all. last ∷ drop 1 all) (sym here) ∙ sym (swap_remove-first x front last d)
   swap_remove-next (suc n) (x ∷ front) left item last d here =
       ap (λ more. x ∷ more) (swap_remove-next n front left item last d here)
       ∙ sym (swap_remove-suc x (front ++ last ∷ []) n d (omega (arith, length-append front (last ∷ []))))
 
   -- the places before those that were written, and these
-  pub taken-row : (at n : ℕ) (places front moved rest behind : List T) → front ≡ take at places → length front ≡ at → behind ≡ moved ++ rest → length moved ≡ n
+  pub taken-row : (at n : ℕ) (places front moved rest behind : List T) → front ≡ take at places → length front ≡ at
+      → behind ≡ moved ++ rest → length moved ≡ n
       → take (at + n) (front ++ behind) ≡ take at places ++ moved
   taken-row at n places front moved rest behind same here over long =
       ap (λ l. take (at + n) (front ++ l)) over
@@ -116,49 +134,60 @@ module _ {T : Type 0} where
       ∙ (take-append_seam (front ++ moved) rest ∙ ap (λ l. l ++ moved) same)))
 
   -- what follows the first two of three parts
-  pub drop-parts : (n : ℕ) (front passed rest : List T) → n ≡ length front + length passed → drop n (front ++ (passed ++ rest)) ≡ rest
+  pub drop-parts : (n : ℕ) (front passed rest : List T) → n ≡ length front + length passed
+      → drop n (front ++ (passed ++ rest)) ≡ rest
   drop-parts n front passed rest long =
       ap (drop n) (sym (append_assoc front passed rest))
-      ∙ (ap (λ k. drop k ((front ++ passed) ++ rest)) (omega (arith, length-append front passed)) ∙ drop-append_seam (front ++ passed) rest)
+      ∙ (ap (λ k. drop k ((front ++ passed) ++ rest)) (omega (arith, length-append front passed))
+        ∙ drop-append_seam (front ++ passed) rest)
 
   -- where nothing is left of a row, what follows begins with the next row
-  pub rows-begun : (begun row now : List T) (these left : List (List T)) (whole : List T) → length begun ≡ 0 → these ≡ row ∷ left → now ≡ row
+  pub rows-begun : (begun row now : List T) (these left : List (List T)) (whole : List T) → length begun ≡ 0
+      → these ≡ row ∷ left → now ≡ row
       → begun ++ flat_map (λ r. r) these ≡ whole → now ++ flat_map (λ r. r) left ≡ whole
   rows-begun [] row now these left whole none first starts same =
       ap (λ l. l ++ flat_map (λ r. r) left) starts ∙ (sym (ap (flat_map (λ r. r)) first) ∙ same)
   rows-begun (x ∷ begun) row now these left whole none first starts same = absurd (omega (arith, none))
 
   -- where no row is left, the places are the rows joined
-  pub flat_map-whole : (R : Type 0) (f : R → List T) (rows : List R) (i at w : ℕ) (places whole : List T) → length rows ≤ i → at + length (drop i rows) * w ≡ length places
+  pub flat_map-whole : (R : Type 0) (f : R → List T) (rows : List R) (i at w : ℕ) (places whole : List T)
+      → length rows ≤ i → at + length (drop i rows) * w ≡ length places
       → take at places ++ flat_map (λ r. r) (map f (drop i rows)) ≡ whole → places ≡ whole
   flat_map-whole R f rows i at w places whole past long same =
       let none : drop i rows ≡ [] = drop_all i rows past in
-      let full : at + length {A = R} [] * w ≡ length places = subst (λ l. at + length l * w ≡ length places) none long in
+      let full : at + length {A = R} [] * w ≡ length places =
+        subst (λ l. at + length l * w ≡ length places) none long in
       sym (take_all at places (omega (arith, full)))
-      ∙ (sym (append-nil (take at places)) ∙ (ap (λ l. take at places ++ flat_map (λ r. r) (map f l)) (sym none) ∙ same))
+      ∙ (sym (append-nil (take at places)) ∙ (ap (λ l. take at places ++ flat_map (λ r. r) (map f l)) (sym none)
+        ∙ same))
 
   -- rows joined, where the first of those that are left was moved
   module _ {R : Type 0} (row : R) (these left : List R) (first : these ≡ row ∷ left) where
-    pub flat_map-next : (f : R → List T) (built grown whole : List T) → grown ≡ built ++ f row → built ++ flat_map (λ r. r) (map f these) ≡ whole → grown ++ flat_map (λ r. r) (map f left) ≡ whole
+    pub flat_map-next : (f : R → List T) (built grown whole : List T) → grown ≡ built ++ f row
+        → built ++ flat_map (λ r. r) (map f these) ≡ whole → grown ++ flat_map (λ r. r) (map f left) ≡ whole
     flat_map-next f built grown whole grows same =
         ap (λ l. l ++ flat_map (λ r. r) (map f left)) grows
-        ∙ (append_assoc built (f row) (flat_map (λ r. r) (map f left)) ∙ (ap (λ all. built ++ flat_map (λ r. r) (map f all)) (sym first) ∙ same))
+        ∙ (append_assoc built (f row) (flat_map (λ r. r) (map f left))
+          ∙ (ap (λ all. built ++ flat_map (λ r. r) (map f all)) (sym first) ∙ same))
 
   -- one row more
-  pub rows-next : (w p : ℕ) (items row : List T) (before after : List (List T)) → before ≡ map (row_at w items) (range_with_len 0 p) → row ≡ take w (drop (p * w) items)
+  pub rows-next : (w p : ℕ) (items row : List T) (before after : List (List T))
+      → before ≡ map (row_at w items) (range_with_len 0 p) → row ≡ take w (drop (p * w) items)
       → after ≡ before ++ row ∷ [] → after ≡ map (row_at w items) (range_with_len 0 (p + 1))
   rows-next w p items row before after made cut grows =
       grows ∙ (ap (λ all. all ++ row ∷ []) made ∙ (ap (λ r. map (row_at w items) (range_with_len 0 p) ++ r ∷ []) cut
       ∙ sym (map-range_with_len_more (row_at w items) 0 p p (omega arith))))
 
   -- where the items fill the rows, these are all
-  pub rows-whole : (w r : ℕ) (items : List T) → 0 < w → length items ≡ r * w → map (row_at w items) (range_with_len 0 r) ≡ rows w items
+  pub rows-whole : (w r : ℕ) (items : List T) → 0 < w → length items ≡ r * w
+      → map (row_at w items) (range_with_len 0 r) ≡ rows w items
   rows-whole w r items some whole =
       let count : length items / w ≡ r = ap (λ n. n / w) (omega (arith, whole)) ∙ div-mul-add r w 0 some in
       ap (λ n. map (row_at w items) (range_with_len 0 n)) (sym count)
 
   -- the list of which the item at a place and the last one changed places: the others, and the item
-  pub swapped-others : (items : List T) (i m : ℕ) (x : T) → i < length items → length items ≡ m + 1 → take m (swap items i m) ≡ swap_remove items i x
+  pub swapped-others : (items : List T) (i m : ℕ) (x : T) → i < length items → length items ≡ m + 1
+      → take m (swap items i m) ≡ swap_remove items i x
   swapped-others [] i m x here long = absurd (omega (arith, here))
   swapped-others (d ∷ ys) i m x here long =
       let last : length (d ∷ ys) - 1 ≡ m = omega (arith, long) in
@@ -166,7 +195,8 @@ module _ {T : Type 0} where
       ∙ (ap (λ v. take m (slice_set (d ∷ ys) i v)) (get_or_default (d ∷ ys) m d x (omega (arith, long)))
       ∙ ap (λ k. take k (slice_set (d ∷ ys) i (slice_index_or (d ∷ ys) k x))) (sym last))
 
-  pub swapped-item : (items : List T) (i m : ℕ) (x : T) → i < length items → length items ≡ m + 1 → slice_get items i ≡ Some (get_or (drop m (swap items i m)) 0 x)
+  pub swapped-item : (items : List T) (i m : ℕ) (x : T) → i < length items → length items ≡ m + 1
+      → slice_get items i ≡ Some (get_or (drop m (swap items i m)) 0 x)
   swapped-item [] i m x here long = absurd (omega (arith, here))
   swapped-item (d ∷ ys) i m x here long =
       let items = d ∷ ys in
@@ -174,14 +204,17 @@ module _ {T : Type 0} where
       slice_get-next i items (drop (i + 1) items) (get_or items i d) (drop_more items i d here)
       ∙ ap (λ item. Some item) (sym (get_or-drop m (slice_set carried m (slice_index_or items i d)) 0 x
       ∙ (ap (λ k. get_or (slice_set carried m (slice_index_or items i d)) k x) (omega arith)
-      ∙ get_or-set_same carried m (slice_index_or items i d) x (omega (arith, long, length-set items i (slice_index_or items m d))))))
+      ∙ get_or-set_same carried m (slice_index_or items i d) x
+        (omega (arith, long, length-set items i (slice_index_or items m d))))))
 
   -- the same, from what each step of the removal tells
-  module _ (self items : List T) (i n m u : ℕ) (x : T) (here : i < length self) (same : items ≡ self) (long : length items ≡ n) (shorter : n ≡ m + 1) (asked : u ≡ m) where
+  module _ (self items : List T) (i n m u : ℕ) (x : T) (here : i < length self) (same : items ≡ self)
+      (long : length items ≡ n) (shorter : n ≡ m + 1) (asked : u ≡ m) where
     length-self : length self ≡ m + 1
     length-self = omega (arith, ap length same, long, shorter)
 
-    module _ (front behind turned others last : List T) (is_front : front ≡ take i items) (is_behind : behind ≡ drop i items) (turns : turned ≡ drop 1 behind ++ take 1 behind) where
+    module _ (front behind turned others last : List T) (is_front : front ≡ take i items)
+        (is_behind : behind ≡ drop i items) (turns : turned ≡ drop 1 behind ++ take 1 behind) where
       length-u : length self ≡ u + 1
       length-u = omega (arith, length-self, asked)
 
@@ -192,9 +225,11 @@ module _ {T : Type 0} where
       parted = ap (λ l. l ++ turned) (is_front ∙ ap (take i) same)
 
       pub remove-others : (made : List T) → made ≡ others → others ≡ take u (front ++ turned) → made ≡ remove self i
-      remove-others made is_made is_others = is_made ∙ (is_others ∙ carried-others i u self turned (front ++ turned) x here length-u carried parted)
+      remove-others made is_made is_others = is_made
+        ∙ (is_others ∙ carried-others i u self turned (front ++ turned) x here length-u carried parted)
 
-      pub remove-item : (got : T) → got ≡ slice_index_or last 0 x → last ≡ drop u (front ++ turned) → slice_get self i ≡ Some got
+      pub remove-item : (got : T) → got ≡ slice_index_or last 0 x → last ≡ drop u (front ++ turned)
+          → slice_get self i ≡ Some got
       remove-item got is_got is_last =
           carried-item i u self turned (front ++ turned) x here length-u carried parted
           ∙ ap (λ y. Some y) (sym (is_got ∙ ap (λ l. slice_index_or l 0 x) is_last))
@@ -205,29 +240,37 @@ module _ {T : Type 0} where
 
       pub swap_remove-others : (made : List T) → made ≡ others → others ≡ take v swapped → made ≡ swap_remove self i x
       swap_remove-others made is_made is_others =
-          is_made ∙ (is_others ∙ (ap (λ k. take k swapped) then ∙ (ap (take m) swapped-is ∙ swapped-others self i m x here length-self)))
+          is_made ∙ (is_others ∙ (ap (λ k. take k swapped) then
+            ∙ (ap (take m) swapped-is ∙ swapped-others self i m x here length-self)))
 
       pub swap_remove-item : (got : T) → got ≡ get_or last 0 x → last ≡ drop v swapped → slice_get self i ≡ Some got
       swap_remove-item got is_got is_last =
           swapped-item self i m x here length-self
-          ∙ ap (λ y. Some y) (sym (is_got ∙ ap (λ l. get_or l 0 x) (is_last ∙ (ap (λ k. drop k swapped) then ∙ ap (drop m) swapped-is))))
+          ∙ ap (λ y. Some y) (sym (is_got ∙ ap (λ l. get_or l 0 x)
+            (is_last ∙ (ap (λ k. drop k swapped) then ∙ ap (drop m) swapped-is))))
 
 module _ {X : Type 0} (width : ℕ) (some : 0 < width) where
   -- rows joined, and cut again
-  pub rows-of_joined : (all : List (List X)) → All (λ row. length row ≡ width) all → rows width (flat_map (λ row. row) all) ≡ all
+  pub rows-of_joined : (all : List (List X)) → All (λ row. length row ≡ width) all
+      → rows width (flat_map (λ row. row) all) ≡ all
   rows-of_joined [] wide = rows-few width [] some
   rows-of_joined (row ∷ others) wide =
       let first_wide = All-head (λ r. length r ≡ width) row others wide in
       let rest = flat_map (λ r. r) others in
       let joined : flat_map (λ r. r) (row ∷ others) ≡ row ++ rest = flat_map-cons (λ r. r) row others in
       let enough : width ≤ length (row ++ rest) = omega (arith, length-append row rest, first_wide) in
-      let first : take width (row ++ rest) ≡ row = ap (λ n. take n (row ++ rest)) (sym first_wide) ∙ take-append_seam row rest in
-      let after : drop width (row ++ rest) ≡ rest = ap (λ n. drop n (row ++ rest)) (sym first_wide) ∙ drop-append_seam row rest in
-      ap (rows width) joined ∙ (rows-first width (row ++ rest) some enough ∙ (ap (λ r. r ∷ rows width (drop width (row ++ rest))) first
-      ∙ (ap (λ items. row ∷ rows width items) after ∙ ap (λ more. row ∷ more) (rows-of_joined others (All-tail (λ r. length r ≡ width) row others wide)))))
+      let first : take width (row ++ rest) ≡ row =
+        ap (λ n. take n (row ++ rest)) (sym first_wide) ∙ take-append_seam row rest in
+      let after : drop width (row ++ rest) ≡ rest =
+        ap (λ n. drop n (row ++ rest)) (sym first_wide) ∙ drop-append_seam row rest in
+      ap (rows width) joined ∙ (rows-first width (row ++ rest) some enough
+        ∙ (ap (λ r. r ∷ rows width (drop width (row ++ rest))) first
+      ∙ (ap (λ items. row ∷ rows width items) after
+        ∙ ap (λ more. row ∷ more) (rows-of_joined others (All-tail (λ r. length r ≡ width) row others wide)))))
 
   -- items cut into rows, and joined again
-  pub joined-of_rows : (count : ℕ) (items : List X) → length items ≡ count * width → flat_map (λ row. row) (rows width items) ≡ items
+  pub joined-of_rows : (count : ℕ) (items : List X) → length items ≡ count * width
+      → flat_map (λ row. row) (rows width items) ≡ items
   joined-of_rows zero items whole =
       let none : items ≡ [] = nil_from_length items (omega (arith, whole)) in
       ap (λ all. flat_map (λ r. r) (rows width all)) none ∙ (ap (flat_map (λ r. r)) (rows-few width [] some) ∙ sym none)
@@ -237,4 +280,5 @@ module _ {X : Type 0} (width : ℕ) (some : 0 < width) where
       let left : length (drop width items) ≡ count * width = omega (arith, whole, more, length-drop width items) in
       ap (flat_map (λ r. r)) (rows-first width items some enough)
       ∙ (flat_map-cons (λ r. r) (take width items) (rows width (drop width items))
-      ∙ (ap (λ rest. take width items ++ rest) (joined-of_rows count (drop width items) left) ∙ take-append-drop width items))
+      ∙ (ap (λ rest. take width items ++ rest) (joined-of_rows count (drop width items) left)
+        ∙ take-append-drop width items))

@@ -55,8 +55,6 @@ pub fn pop_then_put<
     ensures between { FnOnceReturnsAt S.FnOnce see
         (if at_front then drop 1 array else take M.USIZE array) result.1 }
 {
-    // The slices know the lengths.
-    let _ = array.as_slice();
     let (others, item): (GenericArray<T, M>, T) = if at_front {
         let (first, others) = array.pop_front();
         (others, first)
@@ -86,7 +84,6 @@ pub fn split_then_concat<
     ensures array { result.0 ≡ array }
     ensures between { FnOnceReturnsAtPair S.FnOnce see (take K.USIZE array) (drop K.USIZE array) result.1 }
 {
-    let _ = array.as_slice();
     let (first, second): (GenericArray<T, K>, GenericArray<T, M>) = array.split();
     let seen = see(first.as_slice(), second.as_slice());
     (first.concat(second), seen)
@@ -111,8 +108,6 @@ pub fn concat_then_split<
     ensures second { result.1 ≡ second }
     ensures between { FnOnceReturnsAt S.FnOnce see (first ++ second) result.2 }
 {
-    // The slice knows how many items the first has.
-    let _ = first.as_slice();
     let joined: GenericArray<T, N> = first.concat(second);
     let seen = see(joined.as_slice());
     let (first, second) = joined.split();
@@ -134,7 +129,6 @@ pub fn unflatten_then_flatten<
     ensures array { result.0 ≡ array }
     ensures between { FnOnceReturnsAt S.FnOnce see (rows 2 array) result.1 }
 {
-    let _ = array.as_slice();
     let rows: Pairs<R> = array.unflatten();
     let seen = see(rows.as_slice());
     (rows.flatten(), seen)

@@ -8,7 +8,8 @@ rounds-init c = c.into_array-words.ensures
 
 pub rounds-preserved : goal.rounds-preserved
 unfolding double_rounds
-rounds-preserved c = rw add-one (c.diagonal_round-words.ensures ∙ ap diagonal_round (c.column_round.ensures ∙ ap column_round c.rounds.invariant))
+rounds-preserved c = rw add-one (c.diagonal_round-words.ensures
+    ∙ ap diagonal_round (c.column_round.ensures ∙ ap column_round c.rounds.invariant))
 
 pub returns : goal.returns
 returns c =

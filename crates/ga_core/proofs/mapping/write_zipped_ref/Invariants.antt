@@ -6,4 +6,5 @@ use Rattle.std.specs.List.{zip}
 
 -- the calls so far gave what is written
 abbrev pub invariant-loop-index : goal.invariant-loop-index
-invariant-loop-index g l = ClosureRun (CallAtPair (λ item. item.now) (λ item. item.now) (goal.F-step g)) l.initial.f (take l.index (zip l.left l.right)) (take l.index l.slots) l.f
+invariant-loop-index g l = ClosureRun (CallAtPair (λ item. item.now) (λ item. item.now) (goal.F-step g)) l.initial.f
+    (take l.index (zip l.left l.right)) (take l.index l.slots) l.f

@@ -12,5 +12,6 @@ returns g c =
     record {
       order = c.partial_cmp.ensures
           ∙ ((λ i. slice_partial_cmp g.T.PartialOrd.partial_cmp (take_rest left start i) (take_rest right start i))
-          ∙ sym (partial_cmp-behind g.T.PartialEq.eq g.met.T.PartialOrd.laws start left right c.requires.len c.order_start-start.ensures.equal));
+          ∙ sym (partial_cmp-behind g.T.PartialEq.eq g.met.T.PartialOrd.laws start left right c.requires.len
+            c.order_start-start.ensures.equal));
     }

@@ -12,5 +12,6 @@ returns g c =
     record {
       order = c.cmp.ensures
           ∙ ((λ i. slice_cmp g.T.Ord.cmp (take_rest left start i) (take_rest right start i))
-          ∙ sym (cmp-behind g.T.PartialEq.eq g.T.Ord.cmp g.met.T.Ord.matches_eq start left right c.requires.len c.order_start-start.ensures.equal));
+          ∙ sym (cmp-behind g.T.PartialEq.eq g.T.Ord.cmp g.met.T.Ord.matches_eq start left right c.requires.len
+            c.order_start-start.ensures.equal));
     }

@@ -5,6 +5,7 @@ use Rattle.std.specs.List.{flat_map}
 -- the numbers so far stand behind the first, each after a space
 abbrev pub invariant-loop-number : goal.invariant-loop-number
 invariant-loop-number l = record {
-  text : take l.end l.text ≡ take l.initial.end l.initial.text ++ flat_map (λ number. codes " " ++ decimal number) (take l.number-index l.others);
+  text : take l.end l.text ≡ take l.initial.end l.initial.text
+    ++ flat_map (λ number. codes " " ++ decimal number) (take l.number-index l.others);
   room : l.end + 1 ≤ l.fn.start + 4 * (l.number-index + 1);
 }

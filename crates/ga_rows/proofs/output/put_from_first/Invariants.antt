@@ -12,6 +12,7 @@ invariant-loop-row g l =
     let all = rows g.N.Unsigned.USIZE (items_of_chunks l.fn.chunks) in
     let left = l.row-iterator in
     record {
-      text : LinesSoFar l.fn.mode all left (append_known (contents l.fn.w) l.fn.piece) (append_known (contents l.w) l.piece);
+      text : LinesSoFar l.fn.mode all left (append_known (contents l.fn.w) l.fn.piece)
+          (append_known (contents l.w) l.piece);
       empty : all ≡ [] → left ≡ [] × l.piece ≡ l.fn.piece;
     }

@@ -7,13 +7,15 @@ use Rattle.std.proofs.Common.{◌≡◌, [], reverse}
 use Rattle.std.specs.Io.KnownBytes.{append_known}
 use Rattle.std.specs.Iterator.Adapters.{rev_source}
 
--- the lines so far, written or in the piece, and those of the rows that are left from the back are the lines of all rows from there
+-- the lines so far, written or in the piece, and those of the rows that are left from the back are the lines of all
+-- rows from there
 abbrev pub invariant-loop-row : goal.invariant-loop-row
 invariant-loop-row g l =
     let contents = g.W.Write.contents in
     let all = rows g.N.Unsigned.USIZE (items_of_chunks l.fn.chunks) in
     let left = rev_source l.row-iterator in
     record {
-      text : LinesSoFar Last (reverse all) (reverse left) (append_known (contents l.fn.w) l.fn.piece) (append_known (contents l.w) l.piece);
+      text : LinesSoFar Last (reverse all) (reverse left) (append_known (contents l.fn.w) l.fn.piece)
+          (append_known (contents l.w) l.piece);
       empty : all ≡ [] → left ≡ [] × l.piece ≡ l.fn.piece;
     }

@@ -7,7 +7,8 @@ use Rattle.std.specs.Fmt.{HasWrittenStyled, IsFlush}
 abbrev pub invariant-loop-count : goal.invariant-loop-count
 invariant-loop-count g l =
     record {
-      text : IsFlush l.fn.f → (done : List ℕ) × HasWrittenStyled g.W.Write.write_str_gives l.fn.f done l.f × (hex_text l.fn.upper l.fn.limit l.fn.bytes ≡ done ++ take l.count (hex_digits l.fn.upper l.left));
+      text : IsFlush l.fn.f → (done : List ℕ) × HasWrittenStyled g.W.Write.write_str_gives l.fn.f done l.f
+          × (hex_text l.fn.upper l.fn.limit l.fn.bytes ≡ done ++ take l.count (hex_digits l.fn.upper l.left));
       count : l.count ≤ 2 * length l.left;
     }
 

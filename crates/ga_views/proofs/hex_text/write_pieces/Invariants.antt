@@ -8,7 +8,8 @@ abbrev pub invariant-loop-count : goal.invariant-loop-count
 invariant-loop-count g l =
     let contents = g.W.Write.contents in
     record {
-      text : (done : List ℕ) × Appends (contents l.fn.w) (contents l.w) done × (hex_text l.fn.upper l.fn.limit l.fn.bytes ≡ done ++ take l.count (hex_digits l.fn.upper l.left));
+      text : (done : List ℕ) × Appends (contents l.fn.w) (contents l.w) done
+          × (hex_text l.fn.upper l.fn.limit l.fn.bytes ≡ done ++ take l.count (hex_digits l.fn.upper l.left));
       count : l.count ≤ 2 * length l.left;
     }
 

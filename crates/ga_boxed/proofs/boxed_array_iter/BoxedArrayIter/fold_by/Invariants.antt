@@ -4,7 +4,8 @@ use Rattle.std.proofs.Common.{◌≡◌, List, ◌++◌, length}
 
 -- the calls at the items passed led to the answer and the closure of now
 abbrev pub invariant-loop-item : goal.invariant-loop-item
-invariant-loop-item g l = (passed : List g.row.T.Denot) × (l.fn.self ≡ passed ++ l.self) × FoldRun (goal.F-step g) l.initial.f l.initial.answer passed l.answer l.f
+invariant-loop-item g l = (passed : List g.row.T.Denot) × (l.fn.self ≡ passed ++ l.self)
+    × FoldRun (goal.F-step g) l.initial.f l.initial.answer passed l.answer l.f
 
 -- the items that are left
 abbrev pub decreases-loop-item : goal.decreases-loop-item

@@ -10,5 +10,6 @@ loop-item-preserved g c =
       long = rw c.put.ensures.items (omega (arith, length-append made (c.in_ok-clone.field-0 ∷ []), at.invariant.long));
       room = omega (arith, c.put.ensures.room, at.invariant.room);
       clones = rw c.put.ensures.items
-          (all_zip_more g.T.Clone.is_clone c.as_slice-item-items.result.now made at.item-index _ _ (omega arith) c.item-item.is at.invariant.clones c.in_ok-clone.ensures.cases);
+          (all_zip_more g.T.Clone.is_clone c.as_slice-item-items.result.now made at.item-index _ _
+            (omega arith) c.item-item.is at.invariant.clones c.in_ok-clone.ensures.cases);
     }

@@ -1,5 +1,6 @@
 use Rattle.ga_callers.proofs.own_lengths.CountedStore.remove_at.Goals as goal
-use Rattle.std.proofs.Common.{◌≡◌, ℕ, ◌+◌, ◌-◌, ◌<◌, ◌≤◌, ◌∙◌, List, [], ◌∷◌, ◌++◌, ap, append_assoc, arith, drop, length, length-drop, suc, sym, take}
+use Rattle.std.proofs.Common.{◌≡◌, ℕ, ◌+◌, ◌-◌, ◌<◌, ◌≤◌, ◌∙◌, List, [], ◌∷◌, ◌++◌, ap, append_assoc, arith, drop}
+use Rattle.std.proofs.Common.{length, length-drop, suc, sym, take}
 use Rattle.std.proofs.Math.Seq.{length-take-le, take-add, take-append-add, take-append_seam}
 use Rattle.std.proofs.lemmas.List.{drop-take, take-append-le}
 use Rattle.std.specs.List.{remove}
@@ -12,9 +13,11 @@ remove-within xs i rest blank within =
     let behind = drop (suc i) xs in
     let long : length front ≡ i = length-take-le i xs (omega (arith, within)) in
     let few : rest ≤ length behind = omega (arith, within, length-drop (suc i) xs) in
-    let whole : take (suc i + rest) xs ≡ front ++ take (1 + rest) (drop i xs) = ap (λ n. take n xs) {x = suc i + rest} {y = i + (1 + rest)} (omega arith) ∙ take-add i (1 + rest) xs in
+    let whole : take (suc i + rest) xs ≡ front ++ take (1 + rest) (drop i xs) =
+      ap (λ n. take n xs) {x = suc i + rest} {y = i + (1 + rest)} (omega arith) ∙ take-add i (1 + rest) xs in
     let first : take i (take (suc i + rest) xs) ≡ front =
-    ap (take i) whole ∙ (ap (λ n. take n (front ++ take (1 + rest) (drop i xs))) (sym long) ∙ take-append_seam front (take (1 + rest) (drop i xs))) in
+    ap (take i) whole ∙ (ap (λ n. take n (front ++ take (1 + rest) (drop i xs))) (sym long)
+      ∙ take-append_seam front (take (1 + rest) (drop i xs))) in
     ap (take (i + rest)) (append_assoc front behind (blank ∷ []))
     ∙ (ap (λ n. take (n + rest) (front ++ (behind ++ blank ∷ []))) (sym long)
     ∙ (take-append-add front (behind ++ blank ∷ []) rest
@@ -27,7 +30,8 @@ returns-clause-others g c =
     let count = c.self.inside.count in
     let i = c.args.index in
     let blank = c.default.result in
-    let long : length (take count slots) ≡ count = length-take-le count slots (omega (arith, c.self.invariant.0, c.self.invariant.1)) in
+    let long : length (take count slots) ≡ count =
+      length-take-le count slots (omega (arith, c.self.invariant.0, c.self.invariant.1)) in
     let here : i < count = omega (arith, c.requires.in_bounds, ap length c.self.view_is, long) in
     let rest = count - 1 - i in
     let whole : suc i + rest ≡ count = omega (arith, here) in

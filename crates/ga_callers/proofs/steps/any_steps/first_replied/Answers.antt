@@ -6,7 +6,8 @@ use Rattle.std.proofs.Common.{◌≡◌, ◌+◌, ◌-◌, ◌∙◌, ap, arith,
 use Rattle.std.specs.List.{sum_by}
 
 pub run_steps-requires : goal.run_steps-requires
-run_steps-requires g c = record { callable = MaySteps-always _ _ (λ f items slice same. search rules) c.args.steps.items _ }
+run_steps-requires g c =
+    record { callable = MaySteps-always _ _ (λ f items slice same. search rules) c.args.steps.items _ }
 
 pub returns : goal.returns
 returns g c =

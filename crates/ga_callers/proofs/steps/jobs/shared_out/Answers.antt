@@ -4,7 +4,8 @@ use Rattle.ga_callers.proofs.steps.jobs.shared_out.Goals as goal
 use Rattle.std.proofs.Common.{◌≡◌, rules}
 
 pub run_steps-requires : goal.run_steps-requires
-run_steps-requires g c = record { callable = MaySteps-always _ _ (λ f items slice same. search rules) c.args.turns.items _ }
+run_steps-requires g c =
+    record { callable = MaySteps-always _ _ (λ f items slice same. search rules) c.args.turns.items _ }
 
 pub returns : goal.returns
 returns g c =

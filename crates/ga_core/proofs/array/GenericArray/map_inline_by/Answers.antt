@@ -4,7 +4,8 @@ use Rattle.ga_core.proofs.array.GenericArray.map_inline_by.Goals as goal
 use Rattle.std.proofs.Common.{sym, ◌∙◌}
 
 pub write_mapped-requires-clause-callable : goal.write_mapped-requires-clause-callable
-write_mapped-requires-clause-callable g c = λ passed x others ys reached whole. c.requires.callable passed x others ys reached (sym c.as_mut_slice.ensures.items ∙ whole)
+write_mapped-requires-clause-callable g c = λ passed x others ys reached whole.
+    c.requires.callable passed x others ys reached (sym c.as_mut_slice.ensures.items ∙ whole)
 
 pub returns : goal.returns
 returns g c =

@@ -4,7 +4,8 @@ use Rattle.ga_core.proofs.array.GenericArray.try_map_inline_by.Goals as goal
 use Rattle.std.proofs.Common.{Ok, ap, refl, sym, ◌∙◌}
 
 pub try_write_mapped-requires-clause-callable : goal.try_write_mapped-requires-clause-callable
-try_write_mapped-requires-clause-callable g c = λ passed x others good reached whole. c.requires.callable passed x others good reached (sym c.as_mut_slice.ensures.items ∙ whole)
+try_write_mapped-requires-clause-callable g c = λ passed x others good reached whole.
+    c.requires.callable passed x others good reached (sym c.as_mut_slice.ensures.items ∙ whole)
 
 pub returns-in-Ok : goal.returns-in-Ok
 returns-in-Ok g c =

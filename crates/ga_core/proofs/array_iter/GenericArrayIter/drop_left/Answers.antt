@@ -5,7 +5,9 @@ use Rattle.std.proofs.lemmas.List.{drop-drop}
 
 pub loop-item-preserved : goal.loop-item-preserved
 loop-item-preserved g c =
-    sym (ap (drop 1) c.take_first.ensures) ∙ (ap (drop 1) c.loop-item.invariant ∙ drop-drop 1 c.loop-item._item c.args.self.now)
+    sym (ap (drop 1) c.take_first.ensures) ∙ (ap (drop 1) c.loop-item.invariant
+      ∙ drop-drop 1 c.loop-item._item c.args.self.now)
 
 pub returns : goal.returns
-returns g c = c.loop-item.invariant ∙ drop_of_length-le c.args.self.now (omega (arith, c.loop-item-test.false, c.loop-item.auto._item-end, c.len-item-end.ensures))
+returns g c = c.loop-item.invariant ∙ drop_of_length-le c.args.self.now
+    (omega (arith, c.loop-item-test.false, c.loop-item.auto._item-end, c.len-item-end.ensures))

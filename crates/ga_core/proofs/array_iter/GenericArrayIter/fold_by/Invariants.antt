@@ -4,4 +4,5 @@ use Rattle.std.proofs.Common.{◌≡◌, List, ◌++◌, drop}
 
 -- the calls at the items passed led to the answer and the closure of now; the others stand where they stood
 abbrev pub invariant-loop-slot : goal.invariant-loop-slot
-invariant-loop-slot g l = (passed : List g.row.T.Denot) × (l.fn.self ≡ passed ++ drop l.slot-index l.slot-items) × FoldRun (goal.F-step g) l.initial.f l.initial.answer passed l.answer l.f
+invariant-loop-slot g l = (passed : List g.row.T.Denot) × (l.fn.self ≡ passed ++ drop l.slot-index l.slot-items)
+    × FoldRun (goal.F-step g) l.initial.f l.initial.answer passed l.answer l.f

@@ -6,7 +6,8 @@ use Rattle.std.specs.Iterator.{Yields}
 abbrev pub invariant-loop-items : goal.invariant-loop-items
 invariant-loop-items g l = record {
   can : g.I.Iterator.can_next l.items;
-  taken : (taken : List g.row.T.Denot) × (l.self ≡ l.initial.self ++ taken) × Yields g.I.Iterator.next_gives l.initial.items taken l.items;
+  taken : (taken : List g.row.T.Denot) × (l.self ≡ l.initial.self ++ taken)
+      × Yields g.I.Iterator.next_gives l.initial.items taken l.items;
 }
 
 -- the slots that are left; an iterator that never ends is asked all the same

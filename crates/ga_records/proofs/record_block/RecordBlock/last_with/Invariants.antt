@@ -5,7 +5,8 @@ use Rattle.std.proofs.Common.{◌≡◌, length}
 
 -- no record behind those that are left has the byte
 abbrev pub invariant-loop-record : goal.invariant-loop-record
-invariant-loop-record g l = last_record_with l.byte (rows g.N.Unsigned.USIZE l.self.records.slice.now) ≡ last_record_with l.byte l.left
+invariant-loop-record g l = last_record_with l.byte (rows g.N.Unsigned.USIZE l.self.records.slice.now)
+    ≡ last_record_with l.byte l.left
 
 abbrev pub decreases-loop-record : goal.decreases-loop-record
 decreases-loop-record g l = length l.left

@@ -9,4 +9,5 @@ returns-else-number-lt1000-clause-text c =
     let last = (48 + number % 10) ∷ [] in
     c.push_digit.ensures
     ∙ (ap (λ text. text ++ last) c.push_below_1000-else-number-lt1000.ensures.text
-    ∙ (append_assoc before (decimal (number / 10)) last ∙ ap (λ text. before ++ text) (sym (decimal_step number (omega arith) (omega arith)))))
+    ∙ (append_assoc before (decimal (number / 10)) last
+      ∙ ap (λ text. before ++ text) (sym (decimal_step number (omega arith) (omega arith)))))

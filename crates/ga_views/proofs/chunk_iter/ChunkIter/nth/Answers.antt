@@ -8,6 +8,8 @@ returns g c =
     let left = c.pass_front.new.self in
     let after = c.next.new.self in
     record {
-      step = nth-step c.args.n c.min.result c.args.self.now left (option_map (λ view. view.slice.now) c.next.result) after (omega (arith, c.min.ensures, c.len.ensures)) c.pass_front.ensures
+      step = nth-step c.args.n c.min.result c.args.self.now left
+        (option_map (λ view. view.slice.now) c.next.result) after
+        (omega (arith, c.min.ensures, c.len.ensures)) c.pass_front.ensures
           (first-by (λ view. view.slice.now) left c.next.result after c.next.ensures.steps);
     }

@@ -1,5 +1,5 @@
--- `get_mut` lends the row where there is one, and else gives the rows up as they were.
--- The borrow checker shows no clause on a loan that the answer holds in a view, so this proof walks the code by hand. Assumes `Logic`.
+-- `get_mut` lends the row where there is one, and else gives the rows up as they were. The borrow checker shows no
+-- clause on a loan that the answer holds in a view, so this proof walks the code by hand. Assumes `Logic`.
 use Prim.Native.Nat.{ℕ}
 use Rattle.ga_views.proofs.SharedLoan.{comes_back, lent_shared, lends_shared}
 use Rattle.ga_views.proofs.SliceWalk.{asks_of, passes}
@@ -19,7 +19,8 @@ use Rattle.ga_views.specs.contracts.chunks_mut.ChunksViewMut.len as count_of
 use Rattle.ga_views.specs.contracts.chunks_mut.ChunksViewMut.row_mut as row_of
 use Rattle.ga_views.specs.declared.length.Unsigned as unsigned
 use Rattle.ga_views.specs.declared.reborrow.ReborrowSlice as reborrow
-use Rattle.std.proofs.Common.{◌≡◌, ◌<◌, ◌≤◌, [], ◌∷◌, ◌∙◌, ap, arith, length, List, MutBor, refl, subst, sym, true≢false}
+use Rattle.std.proofs.Common.{◌≡◌, ◌<◌, ◌≤◌, [], ◌∷◌, ◌∙◌, ap, arith, length, List, MutBor, refl, subst, sym}
+use Rattle.std.proofs.Common.{true≢false}
 use Rattle.std.proofs.VecSteps.Element.{none_of, Some-of}
 use Rattle.std.proofs.VecSteps.Shapes.{after}
 use Rattle.std.proofs.raw_atomic.Walks.{leaves, proved}
@@ -57,7 +58,8 @@ use mir.Syntax.{a_type, Args, dcons, dnil, Fn, named, ty_int, w64, w8}
 use mir.Val.{of_list, Val, vint}
 use seplogic.Ra.Ura.{Ura}
 use types.ByLocal.{alloc_all, env, free_all, get, lands_as, look_at, pass_all, sets, sets_last, through}
-use types.Kit.{‵, ◌⊛◌, ◌$◌, ◌∵◌, !, at_ret, await, by, done, drop, feq_l, fjoin, flt_l, fsplit, fsplit3, group, join, keep, later, move, pick, qed, raw, rewrite, some, split, split3, use0, use1, use2}
+use types.Kit.{‵, ◌⊛◌, ◌$◌, ◌∵◌, !, at_ret, await, by, done, drop, feq_l, fjoin, flt_l, fsplit, fsplit3, group, join}
+use types.Kit.{keep, later, move, pick, qed, raw, rewrite, some, split, split3, use0, use1, use2}
 use types.Logic.{Logic, sem}
 use types.Match.{live}
 use types.Part.{agg}
@@ -65,15 +67,18 @@ use types.Run.{addr, and_then, bin, branches, enter, exec, first, lit, no_more, 
 
 -- what the rows end as
 module _ {M : Type 1} {𝓤 : Ura M} (𝓛 : Logic 𝓤) (R U : RattleType) (x : MutBor R.Denot) (F : U.Denot → R.Denot) where
-  some_lends : (γ : GName) → ent 𝓤 (sem 𝓛 (follows R U x.ghost_name γ F)) (sem 𝓛 (follows_if R U x.ghost_name (maybe.some γ) F x.now))
+  some_lends : (γ : GName) → ent 𝓤 (sem 𝓛 (follows R U x.ghost_name γ F))
+      (sem 𝓛 (follows_if R U x.ghost_name (maybe.some γ) F x.now))
   unfolding follows_by
   some_lends γ = id⊢ 𝓤 _
 
-  none_lends : (κ : Lft) → ent 𝓤 (sem 𝓛 ((MutRef (named 0) κ R).own_val x (mut_vals x))) (sem 𝓛 (follows_if R U x.ghost_name maybe.none F x.now))
+  none_lends : (κ : Lft) → ent 𝓤 (sem 𝓛 ((MutRef (named 0) κ R).own_val x (mut_vals x)))
+      (sem 𝓛 (follows_if R U x.ghost_name maybe.none F x.now))
   unfolding follows_by
   none_lends κ =
       qed 𝓛 (‵ ((MutRef (named 0) κ R).own_val x (mut_vals x)) ∷ []) ∵ fsplit3 ! $ drop ! $
-      use1 𝓛 (‵ (fres x.ghost_name (R.coded.code x.now))) (𝓛.names.obs-res x.ghost_name (R.coded.code x.now)) $ keep ! (0 ∷ []) $ done !
+      use1 𝓛 (‵ (fres x.ghost_name (R.coded.code x.now))) (𝓛.names.obs-res x.ghost_name (R.coded.code x.now)) $ keep !
+        (0 ∷ []) $ done !
 
 -- the rows
 module _ (S T N : RattleType) (s : reborrow.Ghosts S.Denot T.Denot) (n : unsigned.Ghosts N.Denot) where
@@ -81,19 +86,24 @@ module _ (S T N : RattleType) (s : reborrow.Ghosts S.Denot T.Denot) (n : unsigne
   Rows = rows.the_row (param 0 S) (param 1 T) (param 2 N) s n
 
   abbrev Rows-laws : Laws S → Laws T → Laws N → Laws Rows
-  Rows-laws LS LT LN = rows_laws.the_row_laws (param 0 S) (param 1 T) (param 2 N) s n (param_laws 0 S LS) (param_laws 1 T LT) (param_laws 2 N LN)
+  Rows-laws LS LT LN = rows_laws.the_row_laws (param 0 S) (param 1 T) (param 2 N) s n (param_laws 0 S LS)
+    (param_laws 1 T LT) (param_laws 2 N LN)
 
 pub get_mut_spec : {M : Type 1} → statement M
 get_mut_spec 𝓤 𝓛 𝓜 𝓡 wired S T N LS LT LN p pd s sd n nd d metP metS metN metD =
     let ends = F.ended S T N p pd s sd n nd d in
     let R : RattleType = Rows S T N s n in
     let E : RattleType = param 1 T in
-    let kept : Stays ends.signature.params ends.kept = (stay_dropped (RefMutOf (0 ∷ []) tt (plain (λ _. R)) (λ _. tt)) no, (stay_dropped (plain (λ _. usize)) yes, tt)) in
+    let kept : Stays ends.signature.params ends.kept =
+      (stay_dropped (RefMutOf (0 ∷ []) tt (plain (λ _. R)) (λ _. tt)) no,
+      (stay_dropped (plain (λ _. usize)) yes, tt)) in
     let c = F.clauses S T N p pd s sd n nd d 𝓛 𝓜.mem 𝓡.returns in
     let 𝓣 = tables 𝓤 𝓛.H 𝓜 𝓡 𝓡.env in
-    let key : Args = bounded (a_type ∷ a_type ∷ a_type ∷ []) (S, (T, (N, tt))) (dcons pd (dcons sd (dcons nd (dcons d dnil)))) in
+    let key : Args = bounded (a_type ∷ a_type ∷ a_type ∷ []) (S, (T, (N, tt)))
+      (dcons pd (dcons sd (dcons nd (dcons d dnil)))) in
     let fn : Fn = inst_fn key code.function in
-    proved 𝓛 ends kept c 𝓜 𝓡 (Goes-spent_ref 𝓛 4 (0 ∷ []) tt (plain (λ _. R)), (Goes-dropped 𝓛 4 (plain (λ _. usize)) yes (λ κs x f. refl), tt))
+    proved 𝓛 ends kept c 𝓜 𝓡 (Goes-spent_ref 𝓛 4 (0 ∷ []) tt (plain (λ _. R)),
+      (Goes-dropped 𝓛 4 (plain (λ _. usize)) yes (λ κs x f. refl), tt))
     (F.Key.name key) fn (code.unfolded 𝓤 𝓛.H 𝓜 𝓡 wired (S, (T, (N, tt))) pd sd nd d)
     (λ κs. (mut_vals, (uint_vals w64, tt))) (λ κs. (mut_Tells (named 0) κs.0 R, (uint_Tells w64, tt)))
     (λ κs qs bounds a gh are.
@@ -108,7 +118,8 @@ get_mut_spec 𝓤 𝓛 𝓜 𝓡 wired S T N LS LT LN p pd s sd n nd d metP metS
     qed 𝓛 (((‵ (flft κ qs.0) ⊛ ‵ (flft κS qs.1.0) ⊛ ‵ (flft κT qs.1.1.0) ⊛ ‵ (flft κN qs.1.1.1.0) ⊛ ‵ ftrue)
     ⊛ ‵ (owns (MutRef (named 0) κ R ∷ usize ∷ []) a (mut_vals self, (vint w64 i ∷ [], tt))))
     ∷ raw (fact 𝓤 (κS ⊑ S.lives)) ∷ raw (fact 𝓤 (κT ⊑ T.lives)) ∷ raw (fact 𝓤 (κN ⊑ N.lives)) ∷ ‵ ftrue ∷ []) ∵
-    move ! (1 ∷ []) $ heard ! _ (λ lS. move ! (1 ∷ []) $ heard ! _ (λ lT. move ! (1 ∷ []) $ heard ! _ (λ lN. move ! (1 ∷ []) $ drop ! $
+    move ! (1 ∷ []) $ heard ! _ (λ lS. move ! (1 ∷ []) $ heard ! _
+      (λ lT. move ! (1 ∷ []) $ heard ! _ (λ lN. move ! (1 ∷ []) $ drop ! $
     split ! $ split3 ! $ move ! (2 ∷ []) $ split3 ! $ move ! (5 ∷ []) $ fsplit ! $ keep ! (0 ∷ 5 ∷ 6 ∷ 2 ∷ 3 ∷ []) $
     enter ! _ _ _ _ _ $ alloc_all ! (λ l. pass_all ! refl ((tt, tt), ((tt, record { fits = fi }), tt)) $
     let En = env fn.locals l in
@@ -116,7 +127,8 @@ get_mut_spec 𝓤 𝓛 𝓜 𝓡 wired S T N LS LT LN p pd s sd n nd d metP metS
     sets ! (addr ! (through ! refl (stop !))) refl (tt, tt) $
     use2 𝓛 (later (some (lent_shared 𝓛 R κ qs.0 b o self.ghost_name self.now)))
     (lends_shared 𝓛 R κ qs.0 b o self.ghost_name self.now ((Rows-laws S T N s n LS LT LN).shares 𝓛)
-    (rows_laws.the_within (param 0 S) E (param 2 N) s n κ (⊑_trans κ κS S.lives bounds.0 lS) (⊑_trans κ κT T.lives bounds.1.0 lT) (⊑_trans κ κN N.lives bounds.1.1.0 lN))) $
+    (rows_laws.the_within (param 0 S) E (param 2 N) s n κ (⊑_trans κ κS S.lives bounds.0 lS)
+      (⊑_trans κ κT T.lives bounds.1.0 lT) (⊑_trans κ κN N.lives bounds.1.1.0 lN))) $
     await ! tt $ pick ! (λ t. split3 ! $
     -- [the rows, read-only; the new token; the way back; the other tokens]
     let κ' : Lft = t.0 ∷ κ in
@@ -127,7 +139,8 @@ get_mut_spec 𝓤 𝓛 𝓜 𝓡 wired S T N LS LT LN p pd s sd n nd d metP metS
       (
         (κ', (κS, (κT, (κN, tt)))),
         (t.1, (qs.1.0, (qs.1.1.0, (qs.1.1.1.0, tt)))),
-        (⊑_trans κ' κ κS inside bounds.0, (⊑_trans κ' κ κT inside bounds.1.0, (⊑_trans κ' κ κN inside bounds.1.1.0, tt))),
+        (⊑_trans κ' κ κS inside bounds.0, (⊑_trans κ' κ κT inside bounds.1.0,
+          (⊑_trans κ' κ κN inside bounds.1.1.0, tt))),
         (shown, tt),
         (shr_vals shown, tt),
       ),
@@ -138,23 +151,30 @@ get_mut_spec 𝓤 𝓛 𝓜 𝓡 wired S T N LS LT LN p pd s sd n nd d metP metS
     use0 𝓛 (raw (fact 𝓤 (κT ⊑ T.lives))) (fact_i 𝓤 _ (emp 𝓤) lT) $ join ! $
     use0 𝓛 (raw (fact 𝓤 (κS ⊑ S.lives))) (fact_i 𝓤 _ (emp 𝓤) lS) $ join ! $
     move ! (1 ∷ 0 ∷ []) $ join ! $ use1 𝓛 (raw (L.pre z)) (id⊢ 𝓤 _) $
-    calls_at ! (framed 𝓤 𝓛.H 𝓜 𝓣) L (len_met.met 𝓤 𝓛 𝓜 𝓡 (code.calls-ga_views::chunks_mut::ChunksViewMut::len 𝓡.env wired) S T N LS LT LN s sd n nd d metS metN metD) z
+    calls_at ! (framed 𝓤 𝓛.H 𝓜 𝓣) L (len_met.met 𝓤 𝓛 𝓜 𝓡
+      (code.calls-ga_views::chunks_mut::ChunksViewMut::len 𝓡.env wired) S T N LS LT LN s sd n nd d metS metN metD) z
     (and_then ! (get ! refl) (no_more !)) (λ v.
-    use1 𝓛 (later (some (λ (m : ℕ). ((‵ (flft κ' t.1) ⊛ ‵ (flft κS qs.1.0) ⊛ ‵ (flft κT qs.1.1.0) ⊛ ‵ (flft κN qs.1.1.1.0) ⊛ ‵ ftrue) ⊛ ‵ (usize.own_val m (v ∷ []))) ⊛
-    some (λ (ws : Unit {0} × Unit {0}). ‵ (lasts (count_of.ended S T N s sd n nd d) z.0.0 (shown, tt) ws) ⊛ raw (fact 𝓤 (m ≡ chunk_count n.USIZE items)) ⊛ raw (fact 𝓤 (m ≡ length (rows_of n.USIZE items))))))) (id⊢ 𝓤 _) $
-    await ! tt $ pick ! (λ m. split ! $ split ! $ move ! (2 ∷ []) $ pick ! (λ ws. split ! $ drop ! $ split ! $ heard ! _ (λ is_count. drop ! $
+    use1 𝓛 (later (some (λ (m : ℕ).
+      ((‵ (flft κ' t.1) ⊛ ‵ (flft κS qs.1.0) ⊛ ‵ (flft κT qs.1.1.0) ⊛ ‵ (flft κN qs.1.1.1.0) ⊛ ‵ ftrue) ⊛
+      ‵ (usize.own_val m (v ∷ []))) ⊛
+    some (λ (ws : Unit {0} × Unit {0}). ‵ (lasts (count_of.ended S T N s sd n nd d) z.0.0 (shown, tt) ws) ⊛ raw
+      (fact 𝓤 (m ≡ chunk_count n.USIZE items)) ⊛ raw (fact 𝓤 (m ≡ length (rows_of n.USIZE items))))))) (id⊢ 𝓤 _) $
+    await ! tt $ pick ! (λ m. split ! $ split ! $ move ! (2 ∷ []) $ pick !
+      (λ ws. split ! $ drop ! $ split ! $ heard ! _ (λ is_count. drop ! $
     move ! (1 ∷ []) $ fsplit ! $ feq_l ! (λ is_m. flt_l ! (λ fm.
     lands_as ! (ap only is_m) refl (tt, record { fits = fm }) $
     -- [the tokens; the way back]
     split3 ! $ move ! (2 ∷ []) $ split3 ! $ move ! (2 ∷ []) $ drop ! $ move ! (2 ∷ 4 ∷ []) $
-    use2 𝓛 (later (‵ ((MutRef (named 0) κ R).own_val self (mut_vals self)) ⊛ ‵ (flft κ qs.0))) (comes_back 𝓛 R κ qs.0 b o self.ghost_name self.now t) $ await ! tt $ split ! $
+    use2 𝓛 (later (‵ ((MutRef (named 0) κ R).own_val self (mut_vals self)) ⊛ ‵ (flft κ qs.0)))
+      (comes_back 𝓛 R κ qs.0 b o self.ghost_name self.now t) $ await ! tt $ split ! $
     -- [the rows; the tokens of κ, of T's lifetime, of N's, of S's]
     sets ! (bin ! (get ! refl) (get ! refl) tt) refl (tt, tt) $
     first ! $ branches ! (get ! refl)
     (λ below.
     let lies : i < chunk_count n.USIZE items = subst (λ (k : ℕ). i < k) is_count (ltb→lt i m below) in
     sets ! (addr ! (through ! refl (stop !))) refl (tt, tt) $
-    let G = triple_of 𝓛 (row_of.signature S T N p pd s sd n nd d) (row_of.spec S T N p pd s sd n nd d 𝓛 𝓜.mem 𝓡.returns) in
+    let G = triple_of 𝓛 (row_of.signature S T N p pd s sd n nd d)
+      (row_of.spec S T N p pd s sd n nd d 𝓛 𝓜.mem 𝓡.returns) in
     let k : G.Ghost = ((κs, qs, bounds, (self, (i, tt)), (mut_vals self, (vint w64 i ∷ [], tt))), tt) in
     nothing ! $ owned ! usize (Is usize) (uint_Makes 𝓛 w64) i _ (refl, fi) $ fjoin ! $ move ! (1 ∷ 0 ∷ []) $ fjoin ! $
     nothing ! $ move ! (2 ∷ 5 ∷ 3 ∷ 4 ∷ 0 ∷ 1 ∷ []) $ group ! 5 $ join ! $
@@ -163,22 +183,32 @@ get_mut_spec 𝓤 𝓛 𝓜 𝓡 wired S T N LS LT LN p pd s sd n nd d metP metS
     use0 𝓛 (raw (fact 𝓤 (κT ⊑ T.lives))) (fact_i 𝓤 _ (emp 𝓤) lT) $ join ! $
     use0 𝓛 (raw (fact 𝓤 (κS ⊑ S.lives))) (fact_i 𝓤 _ (emp 𝓤) lS) $ join ! $
     move ! (1 ∷ 0 ∷ []) $ join ! $ use1 𝓛 (raw (G.pre k)) (id⊢ 𝓤 _) $
-    calls_at ! (framed 𝓤 𝓛.H 𝓜 𝓣) G (row_met.met 𝓤 𝓛 𝓜 𝓡 (code.calls-ga_views::chunks_mut::ChunksViewMut::row_mut 𝓡.env wired) S T N LS LT LN p pd s sd n nd d metP metS metN metD) k
+    calls_at ! (framed 𝓤 𝓛.H 𝓜 𝓣) G (row_met.met 𝓤 𝓛 𝓜 𝓡
+      (code.calls-ga_views::chunks_mut::ChunksViewMut::row_mut 𝓡.env wired) S T N LS LT LN p pd s sd n nd d metP metS
+      metN metD) k
     (and_then ! (get ! refl) (and_then ! (get ! refl) (no_more !))) (λ v'.
     let Slice : RattleType = MutSlice (named 0) κ E in
-    use1 𝓛 (later (some (λ (r : Slice.Denot). ((‵ (flft κ qs.0) ⊛ ‵ (flft κS qs.1.0) ⊛ ‵ (flft κT qs.1.1.0) ⊛ ‵ (flft κN qs.1.1.1.0) ⊛ ‵ ftrue) ⊛ ‵ (Slice.own_val r (v' ∷ []))) ⊛
-    some (λ (ws : Unit {0} × (Unit {0} × Unit {0})). ‵ (lasts (row_of.ended S T N p pd s sd n nd d) κs (self, (i, tt)) ws)
-    ⊛ ‵ (LendsRow (param 0 S) E (param 2 N) s n self i r) ⊛ raw (fact 𝓤 (r.now ≡ row_at n.USIZE items i)) ⊛ raw (fact 𝓤 (length r.now ≡ n.USIZE)))))) (id⊢ 𝓤 _) $
+    use1 𝓛 (later (some (λ (r : Slice.Denot).
+      ((‵ (flft κ qs.0) ⊛ ‵ (flft κS qs.1.0) ⊛ ‵ (flft κT qs.1.1.0) ⊛ ‵ (flft κN qs.1.1.1.0) ⊛ ‵ ftrue) ⊛
+      ‵ (Slice.own_val r (v' ∷ []))) ⊛
+    some (λ (ws : Unit {0} × (Unit {0} × Unit {0})).
+      ‵ (lasts (row_of.ended S T N p pd s sd n nd d) κs (self, (i, tt)) ws)
+    ⊛ ‵ (LendsRow (param 0 S) E (param 2 N) s n self i r) ⊛ raw (fact 𝓤 (r.now ≡ row_at n.USIZE items i)) ⊛ raw
+      (fact 𝓤 (length r.now ≡ n.USIZE)))))) (id⊢ 𝓤 _) $
     await ! tt $ pick ! (λ r. split ! $ split ! $ move ! (2 ∷ []) $ pick ! (λ ws'. split ! $ drop ! $ split3 ! $
     move ! (1 ∷ []) $ heard ! _ (λ is_row. move ! (1 ∷ []) $ heard ! _ (λ wide.
     -- [what the rows end as; the tokens; the row]
     move ! (2 ∷ []) $ peeks ! Slice (Is Slice) (shows 𝓛 Slice) r (v' ∷ []) (λ told.
     rewrite ! 0 (λ (us : List Val). ‵ (Slice.own_val r us)) told.0.0 refl $
     lands_as ! (ap only told.0.0) refl (tt, (tt, (record { fits = told.0.1.0 }, tt))) $
-    nothing ! $ move ! (1 ∷ 0 ∷ []) $ fjoin ! $ move ! (2 ∷ []) $ split3 ! $ move ! (2 ∷ []) $ split3 ! $ move ! (2 ∷ []) $ drop ! $ move ! (2 ∷ 0 ∷ 1 ∷ 4 ∷ []) $
-    passes T 𝓛 (view_of.clauses T N n nd 𝓛 𝓜.mem 𝓡.returns) (κ, (κT, (κN, tt))) (qs.0, (qs.1.1.0, (qs.1.1.1.0, tt))) (bounds.1.0, tt) r tt ! (framed 𝓤 𝓛.H 𝓜 𝓣)
-    (view_met.met 𝓤 𝓛 𝓜 𝓡 (code.calls-ga_views::view_mut::ViewMut+mut+slice+T+T+N::from_mut_slice 𝓡.env wired) T N LT LN n nd metN)
-    (asks_of 𝓛 lT lN (fact_i 𝓤 _ (emp 𝓤) wide)) (and_then ! (get ! refl) (no_more !)) (λ u w. move ! (1 ∷ []) $ heard ! _ (λ this.
+    nothing ! $ move ! (1 ∷ 0 ∷ []) $ fjoin ! $ move ! (2 ∷ []) $ split3 ! $ move ! (2 ∷ []) $ split3 ! $ move !
+      (2 ∷ []) $ drop ! $ move ! (2 ∷ 0 ∷ 1 ∷ 4 ∷ []) $
+    passes T 𝓛 (view_of.clauses T N n nd 𝓛 𝓜.mem 𝓡.returns) (κ, (κT, (κN, tt))) (qs.0, (qs.1.1.0, (qs.1.1.1.0, tt)))
+      (bounds.1.0, tt) r tt ! (framed 𝓤 𝓛.H 𝓜 𝓣)
+    (view_met.met 𝓤 𝓛 𝓜 𝓡 (code.calls-ga_views::view_mut::ViewMut+mut+slice+T+T+N::from_mut_slice 𝓡.env wired) T N LT LN
+      n nd metN)
+    (asks_of 𝓛 lT lN (fact_i 𝓤 _ (emp 𝓤) wide)) (and_then ! (get ! refl) (no_more !))
+      (λ u w. move ! (1 ∷ []) $ heard ! _ (λ this.
     -- [the view; three tokens; the token of S's lifetime; what the rows end as]
     peeks ! V (Is V) (shows 𝓛 V) w (u ∷ []) (λ is.
     let good = ((array_laws lasting 1 T 2 N n LT LN).lawful 𝓛).typed w (u ∷ []) is in
@@ -188,11 +218,16 @@ get_mut_spec 𝓤 𝓛 𝓜 𝓡 wired S T N LS LT LN p pd s sd n nd d metP metS
     sets_last ! (agg ! (and_then ! (lit ! tt) (and_then ! (get ! refl) (no_more !)))) refl typed $
     exec ! 𝓣.C 𝓣.Λ En (after 4 fn.body) (at_ret En (W.post y)) $ sets ! (of_opd ! (get ! refl)) refl typed $
     use1 𝓛 (‵ ((OS.the_row V).own_val (Some w) (out ∷ []))) (Some-of 𝓛 V w u) $ move ! (3 ∷ []) $
-    rewrite ! 0 (λ (γ : GName). ‵ (follows R (Array E 0) self.ghost_name γ set)) (ap (λ (x : Slice.Denot). x.ghost_name) (sym this)) refl $
-    use1 𝓛 (‵ (LendsRowIf (param 0 S) E (param 2 N) s n self i (option_map (λ (x : V.Denot). x.slice) (Some w)))) (some_lends 𝓛 R (Array E 0) self set w.slice.ghost_name) $
-    use0 𝓛 (raw (fact 𝓤 (IfSome (Some w) (λ x. x.slice.now ≡ row_at n.USIZE items i)))) (fact_i 𝓤 _ (emp 𝓤) (ap (λ (x : Slice.Denot). x.now) this ∙ is_row)) $
-    use0 𝓛 (raw (fact 𝓤 (IsSome (Some w) ↔ (i < chunk_count n.USIZE items)))) (fact_i 𝓤 _ (emp 𝓤) ((λ _. lies), (λ _. refl))) $
-    -- [nothing is left of the parameters; the clauses on what the answer is; what the rows end as; the answer; three tokens; that of S's lifetime]
+    rewrite ! 0 (λ (γ : GName). ‵ (follows R (Array E 0) self.ghost_name γ set))
+      (ap (λ (x : Slice.Denot). x.ghost_name) (sym this)) refl $
+    use1 𝓛 (‵ (LendsRowIf (param 0 S) E (param 2 N) s n self i (option_map (λ (x : V.Denot). x.slice) (Some w))))
+      (some_lends 𝓛 R (Array E 0) self set w.slice.ghost_name) $
+    use0 𝓛 (raw (fact 𝓤 (IfSome (Some w) (λ x. x.slice.now ≡ row_at n.USIZE items i))))
+      (fact_i 𝓤 _ (emp 𝓤) (ap (λ (x : Slice.Denot). x.now) this ∙ is_row)) $
+    use0 𝓛 (raw (fact 𝓤 (IsSome (Some w) ↔ (i < chunk_count n.USIZE items))))
+      (fact_i 𝓤 _ (emp 𝓤) ((λ _. lies), (λ _. refl))) $
+    -- [nothing is left of the parameters; the clauses on what the answer is; what the rows end as; the answer; three
+    -- tokens; that of S's lifetime]
     nothing ! $ nothing ! $ fjoin ! $ nothing ! $ fjoin ! $ move ! (5 ∷ []) $ split3 ! $ move ! (2 ∷ []) $ split ! $
     move ! (2 ∷ 9 ∷ 3 ∷ 0 ∷ 1 ∷ 4 ∷ 8 ∷ 7 ∷ []) $ group ! 5 $
     returns ! (look_at ! 0 refl) $ free_all ! refl $
@@ -201,12 +236,16 @@ get_mut_spec 𝓤 𝓛 𝓜 𝓡 wired S T N LS LT LN p pd s sd n nd d metP metS
     let out : Val = live 0 (of_list []) in
     let far : chunk_count n.USIZE items ≤ i = subst (λ (k : ℕ). k ≤ i) is_count (nltb→le i m beyond) in
     sets_last ! (agg ! (and_then ! (lit ! tt) (no_more !))) refl (tt, (record { fits = lit< tt }, tt)) $
-    exec ! 𝓣.C 𝓣.Λ En (after 4 fn.body) (at_ret En (W.post y)) $ sets ! (of_opd ! (get ! refl)) refl (tt, (record { fits = lit< tt }, tt)) $
+    exec ! 𝓣.C 𝓣.Λ En (after 4 fn.body) (at_ret En (W.post y)) $ sets ! (of_opd ! (get ! refl)) refl
+      (tt, (record { fits = lit< tt }, tt)) $
     use1 𝓛 (‵ (LendsRowIf (param 0 S) E (param 2 N) s n self i None)) (none_lends 𝓛 R (Array E 0) self set κ) $
-    use0 𝓛 (raw (fact 𝓤 (IfSome {T = V.Denot} None (λ x. x.slice.now ≡ row_at n.USIZE items i)))) (fact_i 𝓤 _ (emp 𝓤) tt) $
-    use0 𝓛 (raw (fact 𝓤 (IsSome {T = V.Denot} None ↔ (i < chunk_count n.USIZE items)))) (fact_i 𝓤 _ (emp 𝓤) ((λ is. absurd (true≢false (sym is))), (λ lies. absurd (omega arith)))) $
+    use0 𝓛 (raw (fact 𝓤 (IfSome {T = V.Denot} None (λ x. x.slice.now ≡ row_at n.USIZE items i))))
+      (fact_i 𝓤 _ (emp 𝓤) tt) $
+    use0 𝓛 (raw (fact 𝓤 (IsSome {T = V.Denot} None ↔ (i < chunk_count n.USIZE items))))
+      (fact_i 𝓤 _ (emp 𝓤) ((λ is. absurd (true≢false (sym is))), (λ lies. absurd (omega arith)))) $
     use0 𝓛 (‵ ((OS.the_row V).own_val None (out ∷ []))) (none_of 𝓛 V) $
     -- [nothing is left of the parameters; the answer; the clauses on what it is; what the rows end as; the tokens]
-    nothing ! $ nothing ! $ fjoin ! $ nothing ! $ fjoin ! $ nothing ! $ move ! (6 ∷ 9 ∷ 7 ∷ 8 ∷ 0 ∷ 1 ∷ 2 ∷ 5 ∷ []) $ group ! 5 $
+    nothing ! $ nothing ! $ fjoin ! $ nothing ! $ fjoin ! $ nothing ! $ move !
+      (6 ∷ 9 ∷ 7 ∷ 8 ∷ 0 ∷ 1 ∷ 2 ∷ 5 ∷ []) $ group ! 5 $
     returns ! (look_at ! 0 refl) $ free_all ! refl $
     by ! (leaves 𝓛 ends kept c y out None (tt, (tt, tt)) (tt, (tt, tt))))))))))))))))

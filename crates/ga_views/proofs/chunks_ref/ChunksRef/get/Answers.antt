@@ -12,4 +12,6 @@ returns-then-index-len-clause-rows g c =
     ap Some row ∙ sym (slice_get-rows width items c.args.index (omega (arith, c.len.ensures.count)))
 
 pub returns-else-index-len-clause-rows : goal.returns-else-index-len-clause-rows
-returns-else-index-len-clause-rows g c = sym (slice_get-rows_past g.N.Unsigned.USIZE c.args.self.now.slice.now c.args.index (omega (arith, c.len.ensures.count)))
+returns-else-index-len-clause-rows g c =
+    sym (slice_get-rows_past g.N.Unsigned.USIZE c.args.self.now.slice.now c.args.index
+    (omega (arith, c.len.ensures.count)))

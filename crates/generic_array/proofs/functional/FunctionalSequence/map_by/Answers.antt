@@ -4,13 +4,19 @@ use Rattle.std.proofs.Common.{◌∙◌, sym}
 use Rattle.std.proofs.lemmas.Result.{IfOk-weaker}
 
 pub map_entries-requires-clause-callable : goal.map_entries-requires-clause-callable
-map_entries-requires-clause-callable g c = (g.Self.GenericSequence.entry, g.Self.AsSlice.items c.args.self, c.entries_of.ensures.gives, c.entries_of.ensures.long ∙ sym g.met.Self.MappedGenericSequence.same_length, c.requires.callable)
+map_entries-requires-clause-callable g c = (g.Self.GenericSequence.entry, g.Self.AsSlice.items c.args.self,
+    c.entries_of.ensures.gives, c.entries_of.ensures.long ∙ sym g.met.Self.MappedGenericSequence.same_length,
+    c.requires.callable)
 
 pub returns-clause-run : goal.returns-clause-run
-returns-clause-run g c = c.map_entries.ensures.run g.Self.GenericSequence.entry (g.Self.AsSlice.items c.args.self) c.entries_of.ensures.gives (c.entries_of.ensures.long ∙ sym g.met.Self.MappedGenericSequence.same_length)
+returns-clause-run g c = c.map_entries.ensures.run g.Self.GenericSequence.entry
+    (g.Self.AsSlice.items c.args.self) c.entries_of.ensures.gives
+    (c.entries_of.ensures.long ∙ sym g.met.Self.MappedGenericSequence.same_length)
 
 pub returns-clause-acts : goal.returns-clause-acts
-returns-clause-acts g c = IfOk-weaker c.map_entries.result _ _ (λ made run h acts. answers_at_entries _ _ _ h acts _ _ _ run) (returns-clause-run g c)
+returns-clause-acts g c = IfOk-weaker c.map_entries.result _ _
+    (λ made run h acts. answers_at_entries _ _ _ h acts _ _ _ run) (returns-clause-run g c)
 
 pub returns-clause-len : goal.returns-clause-len
-returns-clause-len g c = IfOk-weaker c.map_entries.result _ _ (λ made long. long ∙ g.met.Self.MappedGenericSequence.same_length) c.map_entries.ensures.len
+returns-clause-len g c = IfOk-weaker c.map_entries.result _ _
+    (λ made long. long ∙ g.met.Self.MappedGenericSequence.same_length) c.map_entries.ensures.len

@@ -4,14 +4,20 @@ use Rattle.std.proofs.Common.{◌∙◌, sym}
 use Rattle.std.proofs.lemmas.Result.{IfOk-weaker}
 
 pub try_map_entries-requires-clause-callable : goal.try_map_entries-requires-clause-callable
-try_map_entries-requires-clause-callable g c = (g.Self.GenericSequence.entry, g.Self.AsSlice.items c.args.self, c.entries_of.ensures.gives, c.entries_of.ensures.long ∙ sym g.met.Self.MappedGenericSequence.same_length, c.requires.callable)
+try_map_entries-requires-clause-callable g c = (g.Self.GenericSequence.entry, g.Self.AsSlice.items c.args.self,
+    c.entries_of.ensures.gives, c.entries_of.ensures.long ∙ sym g.met.Self.MappedGenericSequence.same_length,
+    c.requires.callable)
 
 pub returns-clause-run : goal.returns-clause-run
-returns-clause-run g c = c.try_map_entries.ensures.run g.Self.GenericSequence.entry (g.Self.AsSlice.items c.args.self) c.entries_of.ensures.gives (c.entries_of.ensures.long ∙ sym g.met.Self.MappedGenericSequence.same_length)
+returns-clause-run g c = c.try_map_entries.ensures.run g.Self.GenericSequence.entry
+    (g.Self.AsSlice.items c.args.self) c.entries_of.ensures.gives
+    (c.entries_of.ensures.long ∙ sym g.met.Self.MappedGenericSequence.same_length)
 
 pub returns-clause-acts : goal.returns-clause-acts
-returns-clause-acts g c = IfOk-weaker c.try_map_entries.result _ _ (λ made run h acts. tries_at_entries _ (goal.F-step g) c.args.f.now h acts _ _ _ run) (returns-clause-run g c)
+returns-clause-acts g c = IfOk-weaker c.try_map_entries.result _ _
+    (λ made run h acts. tries_at_entries _ (goal.F-step g) c.args.f.now h acts _ _ _ run) (returns-clause-run g c)
 
 pub returns-clause-len : goal.returns-clause-len
 returns-clause-len g c =
-    IfOk-weaker c.try_map_entries.result _ _ (λ built. IfOk-weaker built _ _ (λ made long. long ∙ g.met.Self.MappedGenericSequence.same_length)) c.try_map_entries.ensures.len
+    IfOk-weaker c.try_map_entries.result _ _ (λ built. IfOk-weaker built _ _
+      (λ made long. long ∙ g.met.Self.MappedGenericSequence.same_length)) c.try_map_entries.ensures.len

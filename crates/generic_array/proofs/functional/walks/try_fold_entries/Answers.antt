@@ -1,4 +1,5 @@
-use Rattle.generic_array.proofs.FoldLemmas.{FoldLoop-callable, FoldLoop-end, FoldLoop-entry, FoldLoop-error, FoldLoop-more, TryFoldRun-good, may_try_fold-at}
+use Rattle.generic_array.proofs.FoldLemmas.{FoldLoop-callable, FoldLoop-end, FoldLoop-entry, FoldLoop-error}
+use Rattle.generic_array.proofs.FoldLemmas.{FoldLoop-more, TryFoldRun-good, may_try_fold-at}
 use Rattle.generic_array.proofs.functional.walks.try_fold_entries.Goals as goal
 use Rattle.ga_core.specs.Entries.{FoldAt}
 use Rattle.std.proofs.Common.{◌≡◌, rules}
@@ -11,16 +12,22 @@ loop-entry-init g c =
 pub f-requires : goal.f-requires
 f-requires g c =
     let asked = c.requires.callable in
-    FoldLoop-callable c.loop-entry.invariant (goal.F-pre g) c.in-Some.entry c.next.new.self (asked.0, asked.1, asked.2, may_try_fold-at asked.0 (goal.F-pre g) (goal.F-step g) c.args.f.now c.args.init asked.1 asked.3) c.in-Some.ensures.steps
+    FoldLoop-callable c.loop-entry.invariant (goal.F-pre g) c.in-Some.entry c.next.new.self
+      (asked.0, asked.1, asked.2, may_try_fold-at asked.0 (goal.F-pre g)
+      (goal.F-step g) c.args.f.now c.args.init asked.1 asked.3) c.in-Some.ensures.steps
 
 pub loop-entry-preserved : goal.loop-entry-preserved
-loop-entry-preserved g c = FoldLoop-more c.loop-entry.invariant c.in-Some.entry c.next.new.self c.f.new.self c.in-Ok.next c.in-Some.ensures.steps c.in-Ok.ensures (search rules) (search rules)
+loop-entry-preserved g c = FoldLoop-more c.loop-entry.invariant c.in-Some.entry c.next.new.self c.f.new.self
+    c.in-Ok.next c.in-Some.ensures.steps c.in-Ok.ensures (search rules) (search rules)
 
 pub returns-in-Err : goal.returns-in-Err
-returns-in-Err g c = record { run = FoldLoop-error (goal.F-step g) c.in-Some.entry c.next.new.self c.in-Err.error c.f.new.self c.loop-entry.invariant c.in-Some.ensures.steps c.in-Err.ensures }
+returns-in-Err g c = record { run = FoldLoop-error
+    (goal.F-step g) c.in-Some.entry c.next.new.self c.in-Err.error c.f.new.self c.loop-entry.invariant
+    c.in-Some.ensures.steps c.in-Err.ensures }
 
 pub returns : goal.returns
 returns g c = record {
   run = λ entry values gives.
-      TryFoldRun-good (FoldAt entry (goal.F-step g)) c.args.f.now c.args.init values c.loop-entry.answer c.loop-entry.f (FoldLoop-end c.loop-entry.invariant c.next.new.self c.in-None.ensures.steps entry values gives);
+      TryFoldRun-good (FoldAt entry (goal.F-step g)) c.args.f.now c.args.init values c.loop-entry.answer c.loop-entry.f
+        (FoldLoop-end c.loop-entry.invariant c.next.new.self c.in-None.ensures.steps entry values gives);
 }

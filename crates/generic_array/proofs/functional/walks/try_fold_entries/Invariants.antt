@@ -5,4 +5,5 @@ use Rattle.generic_array.specs.EntryRuns.{good_step}
 abbrev pub invariant-loop-entry : goal.invariant-loop-entry
 invariant-loop-entry g l =
     let I = g.I.Iterator in
-    FoldLoop g.row.T.Denot I.can_next I.next_gives I.remaining (good_step (goal.F-step g)) l.fn.entries l.initial.f l.initial.answer l.entry-iterator l.f l.answer
+    FoldLoop g.row.T.Denot I.can_next I.next_gives I.remaining
+      (good_step (goal.F-step g)) l.fn.entries l.initial.f l.initial.answer l.entry-iterator l.f l.answer

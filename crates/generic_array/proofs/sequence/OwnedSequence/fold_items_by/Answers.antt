@@ -5,13 +5,15 @@ use Rattle.generic_array.proofs.sequence.OwnedSequence.fold_items_by.Goals as go
 pub fold_entries-requires : goal.fold_entries-requires
 fold_entries-requires g c =
     let items = g.Self.AsSlice.items c.args.self in
-    let gives = g.met.Self.OwnedSequence.gives_items c.args.self c.into_iter.result c.into_iter.ensures.into_iter_gives in
+    let gives = g.met.Self.OwnedSequence.gives_items c.args.self c.into_iter.result c.into_iter.ensures.into_iter_gives
+      in
     record { callable = ((λ item. item), items, gives, c.requires.callable) }
 
 pub returns-clause-run : goal.returns-clause-run
 returns-clause-run g c =
     let items = g.Self.AsSlice.items c.args.self in
-    let gives = g.met.Self.OwnedSequence.gives_items c.args.self c.into_iter.result c.into_iter.ensures.into_iter_gives in
+    let gives = g.met.Self.OwnedSequence.gives_items c.args.self c.into_iter.result c.into_iter.ensures.into_iter_gives
+      in
     FoldRun-by_items (goal.F-step g) _ _ items _ _ (c.fold_entries.ensures.run (λ item. item) items gives)
 
 pub returns-clause-acts : goal.returns-clause-acts

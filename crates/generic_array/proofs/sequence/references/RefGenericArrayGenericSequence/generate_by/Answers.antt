@@ -4,4 +4,5 @@ use Rattle.std.proofs.Common.{◌∙◌}
 use Rattle.std.proofs.lemmas.List.FromFn.{length-range_with_len}
 
 pub returns-clause-len : goal.returns-clause-len
-returns-clause-len g c = ClosureRun-length _ _ _ _ _ c.generate_by.ensures.run ∙ length-range_with_len 0 g.N.Unsigned.USIZE
+returns-clause-len g c = ClosureRun-length _ _ _ _ _ c.generate_by.ensures.run
+    ∙ length-range_with_len 0 g.N.Unsigned.USIZE
