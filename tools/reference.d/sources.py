@@ -4,6 +4,7 @@ It knows the forms that these sources have, and not the whole language. It needs
 """
 import collections
 import functools
+import inspect
 import json
 import re
 import textwrap
@@ -12,8 +13,9 @@ import textwrap
 SIGN = re.compile(r'"(?:\\.|[^"\\])*"|\'(?:\\.[^\']*|[^\\\'])\'|//[^\n]*|[{}()\[\];]')
 CLAUSE = re.compile(r"\b(requires|ensures)(\*?)\s*(\w*)\s*$")
 NO_BODY = re.compile(r"(?:\bghost \w+\s*[=:]|\}\s*=|::|\.)\s*$")
-ABOVE = re.compile(r"\s*?(\n\s*\n)?\s*((///|//!|//) ?(.*)|#!?\[(?:[^\[\]]|\[[^\]]*\])*\])")
-START = re.compile(r"\s*(?P<public>pub\b(?P<within>\([^)]*\))?\s*)?(?:(?:final|unsafe|const(?= (?:unsafe )?fn))\s+)*"
+ABOVE = re.compile(r"(?:\s*(?://.*|#!?\[(?:[^\[\]]|\[[^\]]*\])*\]))*\s*")
+FIELD = re.compile(r"(?m)((?:^(?://|#\[).*\n)*)^((?:pub |ghost )*(\w+).*(?:\n[ }].*)*)")
+START = re.compile(r"(?P<public>pub\b(?P<within>\([^)]*\))?\s*)?(?:(?:final|unsafe|const(?= (?:unsafe )?fn))\s+)*"
                    r"(?P<kind>fn|struct|enum|trait|type|const|static|mod|impl|use|ghost use|ghost|macro_rules!)(?=\W)\s*(?P<name>\w*)")
 USE = re.compile(r"(?m)^\s*(?:unfoldable )?(pub )?(?:ghost )?use ([^\s;{]+?)(?:\.\{([^}]*)\})?(?: as ([\w-]+))?;?\s*$")
 DEFINED = re.compile(r" *(?:(?:abbrev|unfoldable|pub|record|data|axiom) )*([^\s({]+)((?: ?[({].*?[)}])*) :(?: |$)")
@@ -62,12 +64,6 @@ def parted(text, separator=","):
     return [part.strip() for part in parts if part.strip()]
 
 
-def dedented(text):
-    """A text whose later lines lose what they are all indented by."""
-    first, _, others = text.strip().partition("\n")
-    return f"{first}\n{textwrap.dedent(others)}".rstrip()
-
-
 def imports_of(text):
     """The names that lines of `use` import, each with its module and its name there; an alias of a module has no name."""
     found = {}
@@ -95,59 +91,52 @@ def head_and_clauses(text, at):
         place = closing(text, sign.start()) if sign[0] in "([{" else sign.end()
         clause = CLAUSE.search(text, at, sign.start()) if sign[0] == "{" else None
         if clause:
-            clauses.append(Clause(*clause.groups(), dedented(text[sign.start() + 1:place - 1])))
+            clauses.append(Clause(*clause.groups(), inspect.cleandoc(text[sign.start() + 1:place - 1].strip())))
             end = clause.start() if end is None else end
         elif sign[0] == ";" or sign[0] == "{" and not NO_BODY.search(text, at, sign.start()):
-            return re.sub(r"\n\s*\)", "\n)", dedented(text[at:sign.start() if end is None else end])), clauses, sign.start()
+            return re.sub(r"\n\s*\)", "\n)", inspect.cleandoc(text[at:sign.start() if end is None else end].strip())), clauses, sign.start()
+
+
+def docs_and_notes(above):
+    """The docs above an item, and the notes that no empty line parts from it."""
+    notes = re.findall(r"(?m)^ *//(?![/!]) ?(.*)", re.split(r"\n\s*\n", above)[-1])
+    return "\n".join(re.findall(r"(?m)^ */// ?(.*)", above)), " ".join(notes)
 
 
 def fields(body, item):
     """The fields of a struct or the variants of an enum, each of which begins a line."""
-    above, found = {"///": [], "//": []}, []
-    for line in textwrap.dedent(body).strip("\n").split("\n"):
-        if line.startswith("//"):
-            above["///" if line.startswith("///") else "//"].append(line.lstrip("/")[1:])
-        elif line.startswith((" ", "}")) and found:
-            found[-1].head += "\n" + line.rstrip(",")
-        elif line and not line.startswith("#["):
-            kind = "ghost" if line.startswith("ghost ") else "variant" if item.kind == "enum" else "field"
-            name = re.match(r"(?:pub |ghost )*(\w+)", line)[1]
-            found.append(Item(kind, name, line.rstrip(","), item.file, item.line, "\n".join(above["///"]), " ".join(above["//"]),
-                              public=kind != "field" or line.startswith("pub "), owner=item))
-            above = {"///": [], "//": []}
-    return found
+    for above, head, name in FIELD.findall(textwrap.dedent(body)):
+        kind = "ghost" if head.startswith("ghost ") else "variant" if item.kind == "enum" else "field"
+        public = kind != "field" or head.startswith("pub ")
+        yield Item(kind, name, head.rstrip(","), item.file, item.line, *docs_and_notes(above), public=public, owner=item)
 
 
 def items_of(text, file, owner=None, at=0, end=None):
     """The items between two places of a file's text."""
     end = len(text) if end is None else end
-    while True:
-        above = {"///": [], "//": [], "//!": [], "#": []}
-        while line := ABOVE.match(text, at, end):
-            above["//"] = [] if line[1] else above["//"]  # An empty line parts notes from an item.
-            above[line[3] or "#"].append(line[4] if line[3] else line[2])
-            at = line.end()
-        begin = START.match(text, at, end)
+    above = ABOVE.match(text, at, end)
+    while above.end() < end:
+        start = above.end()
+        begin = START.match(text, start, end)
         if not begin:
-            if text[at:end].strip():
-                raise ValueError(f"{file}: not an item: {text[at:at + 60]!r}")
-            return
-        start, kind = at + len(begin[0]) - len(begin[0].lstrip()), begin["kind"].replace("macro_rules!", "macro")
+            raise ValueError(f"{file}: not an item: {text[start:start + 60]!r}")
+        kind = begin["kind"].replace("macro_rules!", "macro")
         head, clauses, stop = head_and_clauses(text, start)
         at = closing(text, stop) if text[stop] == "{" else stop + 1
         line, name = text.count("\n", 0, start) + 1, begin["name"] if kind != "impl" else ""
-        item = Item(kind, name, head, file, line, "\n".join(above["///"]), " ".join(above["//"]), owner=owner, clauses=clauses)
-        item.public = bool(begin["public"]) and not begin["within"] or kind == "macro" and "macro_export" in "".join(above["#"])
+        item = Item(kind, name, head, file, line, *docs_and_notes(above[0]), owner=owner, clauses=clauses)
+        item.public = bool(begin["public"]) and not begin["within"] or kind == "macro" and "macro_export" in above[0]
         body = text[stop + 1:at - 1]
         if kind in ("trait", "impl"):
             item.imports = imports_of("\n".join(re.findall(r"(?m)^ *ghost use .*;$", body)))
             item.members = list(items_of(text, file, item, stop + 1, at - 1))
         elif kind in ("struct", "enum"):
-            item.members = fields(body, item)
+            item.members = list(fields(body, item))
         elif kind == "macro":
             arms = [arm for arm in re.findall(r"(?m)^    (\(.*\)) => \{$", body) if "$other" not in arm]
             item.head = "\n".join([f"macro_rules! {item.name} {{", *(f"    {arm} => {{ .. }};" for arm in arms), "}"])
         yield item
+        above = ABOVE.match(text, at, end)
 
 
 def definitions(file, module):
