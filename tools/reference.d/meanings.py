@@ -1,7 +1,7 @@
 """What the names of clauses and definitions mean, and what of the crates is public and where."""
 import re
 
-from sources import Item, exports, imports_of, items_of, parted
+from sources import ANGLE, Item, closing, exports, imports_of, items_of, parted
 
 CRATES = "ga_views ga_core ga_boxed generic_array ga_records ga_hashes ga_ciphers".split()
 WITH_A_PAGE = ("struct", "enum", "trait")
@@ -15,12 +15,9 @@ UNDER_A_BOUND = {"step": "steps"}  # FnMut's member is spelled so where it is wr
 
 def generics(head):
     """The text between the angle brackets behind an item's name, and what follows."""
-    begin, depth = re.match(r"(?:pub\([^)]*\))?[^<({:;=]*", head).end(), 0
-    for at in range(begin, len(head) if head[begin:begin + 1] == "<" else begin):
-        depth += (head[at] == "<") - (head[at] == ">" and head[at - 1] not in "-=")
-        if depth == 0:
-            return head[begin + 1:at], head[at + 1:]
-    return "", head[begin:]
+    begin = re.match(r"(?:pub\([^)]*\))?[^<({:;=]*", head).end()
+    end = closing(head, begin, ANGLE) if head.startswith("<", begin) else begin
+    return head[begin + 1:end - 1], head[end:]
 
 
 def declared(head):

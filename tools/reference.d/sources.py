@@ -11,6 +11,7 @@ import textwrap
 
 # What a scan stops at: texts, characters and comments, in which brackets mean nothing, then brackets and ends.
 SIGN = re.compile(r'"(?:\\.|[^"\\])*"|\'(?:\\.[^\']*|[^\\\'])\'|//[^\n]*|[{}()\[\];]')
+ANGLE = re.compile(r"<|(?<![-=])>")
 CLAUSE = re.compile(r"\b(requires|ensures)(\*?)\s*(\w*)\s*$")
 NO_BODY = re.compile(r"(?:\bghost \w+\s*[=:]|\}\s*=|::|\.)\s*$")
 ABOVE = re.compile(r"(?:\s*(?://.*|#!?\[(?:[^\[\]]|\[[^\]]*\])*\]))*\s*")
@@ -44,11 +45,11 @@ class Item:
         return self.head[self.head.index("{") + 1:self.head.rindex("}")].strip()
 
 
-def closing(text, at):
+def closing(text, at, signs=SIGN):
     """The place behind the bracket that closes the one at `at`."""
     depth = 0
-    for sign in SIGN.finditer(text, at):
-        depth += (sign[0] in "{([") - (sign[0] in "})]")
+    for sign in signs.finditer(text, at):
+        depth += (sign[0] in "{([<") - (sign[0] in "})]>")
         if depth == 0:
             return sign.end()
     raise ValueError("a bracket isn't closed")
@@ -166,6 +167,8 @@ class Library:
     def __init__(self, top, kit=None):
         self.top, self.kit, mounts = top, kit, kit / "logic" / "antt-project.json" if kit else None
         self.mounts = json.loads(mounts.read_text())["mounts"] if mounts and mounts.exists() else {}
+        folders = [kit / crate / "src" for crate in ("core", "std", "std_alloc", "std_io")] if kit else []
+        self.std = [(file, file.read_text()) for folder in folders for file in sorted(folder.rglob("*.rt"))]
 
     def own(self, crate):
         """Whether a crate is the repository's."""
@@ -205,14 +208,8 @@ class Library:
         part = re.compile(rf"(?m)^ +(?:pub )?{re.escape(name)} :")
         return self.definitions(file).get(name) or next((word for word in self.definitions(file).values() if part.search(word.head)), None)
 
-    @functools.cached_property
-    def std_sources(self):
-        """The files of std's sources, with their texts."""
-        crates = ("core", "std", "std_alloc", "std_io") if self.kit else ()
-        return [(file, file.read_text()) for crate in crates for file in sorted((self.kit / crate / "src").rglob("*.rt"))]
-
     @functools.lru_cache(None)
     def std_traits(self, name):
         """The traits of std that have this name."""
-        found = [(file, text, re.search(rf"(?m)^pub trait {re.escape(name)}\b", text)) for file, text in self.std_sources]
+        found = [(file, text, re.search(rf"(?m)^pub trait {re.escape(name)}\b", text)) for file, text in self.std]
         return [next(items_of(text, file, None, begin.start())) for file, text, begin in found if begin]
