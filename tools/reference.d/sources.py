@@ -19,7 +19,10 @@ FIELD = re.compile(r"(?m)((?:^(?://|#\[).*\n)*)^((?:pub |ghost )*(\w+).*(?:\n[ }
 START = re.compile(r"(?P<public>pub\b(?P<within>\([^)]*\))?\s*)?(?:(?:final|unsafe|const(?= (?:unsafe )?fn))\s+)*"
                    r"(?P<kind>fn|struct|enum|trait|type|const|static|mod|impl|use|ghost use|ghost|macro_rules!)(?=\W)\s*(?P<name>\w*)")
 USE = re.compile(r"(?m)^\s*(?:unfoldable )?(pub )?(?:ghost )?use ([^\s;{]+?)(?:\.\{([^}]*)\})?(?: as ([\w-]+))?;?\s*$")
-DEFINED = re.compile(r" *(?:(?:abbrev|unfoldable|pub|record|data|axiom) )*([^\s({]+)((?: ?[({].*?[)}])*) :(?: |$)")
+# A definition with the notes above it and all lines below that are deeper or begin with its name; or the beginning of a module block.
+DEFINED = re.compile(r"(?m)(?P<notes>(?:^ *-- .*\n)*)^(?=(?P<indent> *))(?:(?P<block> *module _ .*where)$|(?P<head> *"
+                     r"(?:(?:abbrev|unfoldable|pub|record|data|axiom) )*(?!--|use |mod |module )(?P<name>[^\s({]+)(?: ?[({].*?[)}])* :(?: .*|$)"
+                     r"(?:\n(?:(?P=indent)(?: .*|(?P=name)(?: .*|$))| *$))*))")
 Clause = collections.namedtuple("Clause", "keyword star name term")
 
 
@@ -140,27 +143,6 @@ def items_of(text, file, owner=None, at=0, end=None):
         above = ABOVE.match(text, at, end)
 
 
-def definitions(file, module):
-    """The definitions of a file of specs/, by name, each with the module blocks that it stands in and the lines of notes above it."""
-    lines, found, blocks, notes, at = file.read_text().split("\n"), {}, [], [], 0
-    imports, deep = imports_of("\n".join(line for line in lines if "use " in line)), [len(line) - len(line.lstrip()) for line in lines]
-    while at < len(lines):
-        line, indent, stop = lines[at], deep[at], at + 1
-        blocks = [block for block in blocks if not line.strip() or block[0] < indent]
-        defined = DEFINED.match(line)
-        if re.match(r" *module _ .*where$", line):
-            blocks.append((indent, line.strip()))
-        elif defined and not re.match(r" *(--|use |pub use |mod |module )", line):
-            while stop < len(lines) and (not lines[stop].strip() or deep[stop] > indent or lines[stop].split()[0] == defined[1]):
-                stop += 1
-            text = "\n".join(row[indent:] for row in lines[at:stop]).rstrip()
-            found.setdefault(defined[1], Item("word", defined[1], text, file, at + 1, notes=" ".join(notes), module=module,
-                                              context=[block[1] for block in blocks], imports=imports))
-        notes = [*notes, line.strip()[3:]] if line.strip().startswith("-- ") else []
-        at = stop
-    return found
-
-
 class Library:
     """The crates of a repository and of the toolchain, if there is one: modules, words and std's traits by their names."""
 
@@ -192,9 +174,19 @@ class Library:
 
     @functools.lru_cache(None)
     def definitions(self, file):
-        """The definitions of a file, whose module is told by its place."""
+        """The definitions of a file of specs/, by name, each with the module blocks that it stands in and the lines of notes above it."""
         place = file.relative_to(self.top / "crates" if file.is_relative_to(self.top / "crates") else self.kit).with_suffix("").parts
-        return definitions(file, ".".join(part for part in place if part != "specs"))
+        text, module, found, blocks = file.read_text(), ".".join(part for part in place if part != "specs"), {}, []
+        imports = imports_of(text)
+        for part in DEFINED.finditer(text):
+            blocks = [block for block in blocks if not block.startswith(part["indent"])]
+            if part["block"]:
+                blocks.append(part["block"])
+            else:
+                line, notes = text.count("\n", 0, part.start("head")) + 1, " ".join(re.findall("-- (.*)", part["notes"]))
+                found.setdefault(part["name"], Item("word", part["name"], textwrap.dedent(part["head"]).rstrip(), file, line, notes=notes,
+                                                    module=module, context=[block.strip() for block in blocks], imports=imports))
+        return found
 
     @functools.lru_cache(None)
     def word(self, path, name):
