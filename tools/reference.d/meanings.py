@@ -1,7 +1,7 @@
 """What the names of clauses and definitions mean, and what of the crates is public and where."""
 import re
 
-from sources import ANGLE, Item, closing, exports, imports_of, items_of, parted
+from sources import ANGLE, Item, closing, imports_of, items_of, parted
 
 CRATES = "ga_views ga_core ga_boxed generic_array ga_records ga_hashes ga_ciphers".split()
 WITH_A_PAGE = ("struct", "enum", "trait")
@@ -42,14 +42,14 @@ class Scope:
 
     def __init__(self, site, item):
         self.site, self.item, self.bounds, self.local, self.near = site, item, {}, set(), {}
-        self.imports = item.imports if item.kind == "word" else imports_of("\n".join(re.findall(r"(?m)^ghost use .*", item.file.read_text())))
-        for part in (item.owner, item) if item.kind != "word" else ():
-            if part is not None and part.kind in ("trait", "impl", "fn", *WITH_A_PAGE):
-                bounds, parameters = declared(part.head)
-                self.bounds, self.imports = self.bounds | bounds, self.imports | part.imports
-                self.local |= {member.name for member in part.members} if part.kind in ("struct", "enum") else parameters
-                self.near |= {member.name: member for member in part.of_kind("ghost")} if part.kind == "trait" else {}
-                self.bounds |= {"Self": [part.name if part.kind == "trait" else part.of_trait]} if part.kind in ("trait", "impl") else {}
+        self.imports = item.imports if item.kind == "word" else {}
+        for part in (item.module, item.owner, item) if item.kind != "word" else ():
+            bounds, parameters = declared(part.head)
+            self.imports |= imports_of("\n".join(use.head for use in part.of_kind("ghost use")))
+            self.local |= {member.name for member in part.members} if part.kind in ("struct", "enum") else parameters
+            self.near |= {member.name: member for member in part.of_kind("ghost")} if part.kind == "trait" else {}
+            self.bounds |= {"Self": [part.name if part.kind == "trait" else part.of_trait]} if part.kind in ("trait", "impl") else {}
+            self.bounds |= bounds
         if item.kind == "word":
             self.near = site.library.definitions(item.file)
             patterns = " ".join(re.findall(rf"(?m)^{re.escape(item.name)} (.*?) = ", item.head))
@@ -111,7 +111,7 @@ class Site:
         for item in self.items:
             item.home = self.home(item)
             if item.home:
-                anchor = f"#{item.kind}.{item.name}" if item.kind != "mod" else ""
+                anchor = f"#{item.kind if item.public else 'law'}.{item.name}" if item.kind != "mod" else ""
                 page = f"{item.kind}.{item.name}.html" if item.kind in WITH_A_PAGE else "index.html" + anchor
                 item.url = "/".join([*self.path(item.home), page])
                 self.by_name.setdefault(item.name, []).append(item)
@@ -122,11 +122,12 @@ class Site:
         inner = "\n".join(re.findall(r"(?m)^//! ?(.*)$", file.read_text()))
         module.docs, module.title = inner or module.docs, inner.partition("\n")[0].rstrip(".")
         module.members = list(items_of(file.read_text(), file, module))
-        for use, path, name in [(use, *export) for use in module.of_kind("use") if use.public for export in exports(use)]:
-            if path[0] in (*CRATES, "crate", *(member.name for member in module.of_kind("mod"))):
-                module.exported.append(name)
-            else:
-                module.members.append(Item("foreign", name, f"use {'::'.join(path)}", use.file, use.line, use.docs, owner=module))
+        for use in [use for use in module.of_kind("use") if use.public]:
+            for name, (path, there) in imports_of(use.head).items():
+                if path.split("::")[0] in (*CRATES, "crate", *(member.name for member in module.of_kind("mod"))):
+                    module.exported.append(name)
+                else:
+                    module.members.append(Item("foreign", name, f"use {path}::{there}".rstrip(":"), use.file, use.line, use.docs, owner=module))
         self.items += [module] if not module.owner else []
         self.items += [item for member in module.members for item in (member, *member.members)]
         for member in module.of_kind("mod"):
@@ -141,6 +142,8 @@ class Site:
         """The public module that an item is found in: where it stands, or the one that exports what stands in a hidden module below it."""
         if item.kind == "mod":
             return item if not item.owner or item.public and self.home(item.owner) else None
+        if item.kind == "fn" and item.owner.kind == "mod" and not any(member.public for member in item.owner.members):
+            return self.home(item.owner)  # A law: nothing can call it, and its module has only such.
         if not item.public or item.owner.kind != "mod" or item.kind in ("impl", "use", "ghost use"):
             return None
         aliases = [alias for alias in item.owner.of_kind("type") if alias is not item and re.search(rf"\b{item.name}\b", alias.head)]
@@ -152,11 +155,10 @@ class Site:
 
     def item_named(self, name, item):
         """The public item that a name of code means at an item, told by the imports of its file."""
-        module = item
-        while module.kind != "mod":
-            module = module.owner
+        module = item if item.kind == "mod" else item.module
         near = (*CRATES, "crate", "super", *(child.name for child in module.of_kind("mod")))
-        if any(here == name and path[0] not in near for use in module.of_kind("use") if not use.public for path, here in exports(use)):
+        uses = imports_of("\n".join(use.head for use in module.of_kind("use") if not use.public))
+        if name in uses and uses[name][0].split("::")[0] not in near:
             return None
         return min(self.by_name.get(name, []), key=lambda other: self.path(other.home)[0] != self.path(module)[0], default=None)
 
@@ -178,14 +180,10 @@ class Site:
         of_all = item.kind in ("trait", "enum") or item.kind == "impl" and item.of_trait
         return [member for member in item.members if member.kind != "ghost use" and (of_all or member.public or member.kind == "ghost")]
 
-    def is_law(self, item):
-        """Whether a function is shown though nothing can call it, as its module has only such."""
-        return item.kind == "fn" and item.owner.kind == "mod" and bool(item.owner.home) and not any(member.public for member in item.owner.members)
-
     def shown(self):
         """All items that have a place in the reference, with their members."""
         for item in self.items:
-            if item.home or item in self.impls or self.is_law(item):
+            if item.home or item in self.impls:
                 yield item
                 yield from self.public_members(item) if item.kind not in ("mod", "foreign") else ()
 
@@ -196,6 +194,6 @@ class Site:
     def named(self, items):
         """Each name of each term of items: the item, the name, its kind and what it means."""
         for item in items:
-            scope = Scope(self, item) if item.terms() else None
-            for term in item.terms():
-                yield from ((item, *piece) for piece in scope.pieces(term) if piece[1] != "local")
+            scope = Scope(self, item) if item.clauses else None
+            for clause in item.clauses:
+                yield from ((item, *piece) for piece in scope.pieces(clause.term) if piece[1] != "local")

@@ -28,7 +28,7 @@ class Pages:
         self.words = {file: list(site.library.definitions(file).values()) for file in files}
         self.own_words = [word for words in self.words.values() for word in words]
         self.place_members()
-        self.survey()
+        self.note_users()
         self.places = {self.full_name(item): item.url for item in [*self.own_words, *site.shown()] if item.url}
         self.places |= {item.name: item.url for item in [*self.own_words, *site.items] if item.url and item.home or item.kind == "word"}
         self.rust_names = list(self.surface())
@@ -42,40 +42,29 @@ class Pages:
     def place_members(self):
         """Gives each definition and each member of a page its anchor; no two members of a page have the same."""
         for word in self.own_words:
-            crate, _, module = word.module.partition(".")
-            word.url = f"words/{crate}/{module}.html#{word.name}"
-        for item in self.site.items:
-            item.implementors, taken = [impl for impl in self.site.impls if impl.trait is item], collections.Counter()
-            members = [member for owner in (item, *item.blocks) for member in self.site.public_members(owner)]
-            for member in [*item.blocks, *members] if item.home and item.kind in WITH_A_PAGE else ():
+            word.url = f"words/{word.module.replace('.', '/', 1)}.html#{word.name}"
+        for item in [item for item in self.site.items if item.home and item.kind in WITH_A_PAGE]:
+            taken, members = collections.Counter(), [member for owner in (item, *item.blocks) for member in self.site.public_members(owner)]
+            for member in [*item.blocks, *members]:
                 anchor = f"{member.kind}.{member.name or member.of_trait}"
                 member.url = f"{item.url}#{anchor}" + f"-{taken[anchor]}" * (taken[anchor] > 0)
                 taken[anchor] += 1
-        for law in filter(self.site.is_law, self.site.items):
-            law.url = f"{law.owner.url}#law.{law.name}"
 
-    def survey(self):
-        """Notes at each definition and ghost member who names it, and gathers those of std."""
-        for user, _, _, target in self.site.named(self.site.shown()):
-            self.note(target, user)
-        for word in self.own_words:
-            for _, _, target in Scope(self.site, word).pieces(word.head):
-                self.note(target, word)
-
-    def note(self, thing, user):
-        """Notes one who names a thing; a thing of std gets its place first."""
-        if thing is None or thing is user:
-            return
-        if not thing.url:
-            declared = re.match(r"Rattle\.(\w+)\.specs\.(?:declared|contracts)\.(?:.*\.)?(\w+?)(?:\.TheVariants)?$", thing.module)
-            types = self.site.by_name.get(declared[2], []) if declared else []
-            if declared and self.site.library.own(declared[1]) and not types:
-                return
-            name = thing.name if thing.kind in ("word", "trait") else f"{thing.owner.name}.{thing.name}"
-            name = f"{thing.module}.{name}" if name in self.std else name
-            thing.url = types[0].url if types else f"words/std.html#{name}"
-            self.std |= {} if types else {name: thing}
-        thing.users += [user] if not any(other is user for other in thing.users) else []
+    def note_users(self):
+        """Notes at each definition and ghost member who names it. Those of std get their places by the way."""
+        for user, _, _, thing in self.site.named([*self.site.shown(), *self.own_words]):
+            if thing is None or thing is user:
+                continue
+            if not thing.url:
+                declared = re.match(r"Rattle\.(\w+)\.specs\.(?:declared|contracts)\.(?:.*\.)?(\w+?)(?:\.TheVariants)?$", str(thing.module))
+                types = self.site.by_name.get(declared[2], []) if declared else []
+                if declared and self.site.library.own(declared[1]) and not types:
+                    continue
+                name = thing.name if thing.kind in ("word", "trait") else f"{thing.owner.name}.{thing.name}"
+                name = f"{thing.module}.{name}" if name in self.std else name
+                thing.url = types[0].url if types else f"words/std.html#{name}"
+                self.std |= {} if types else {name: thing}
+            thing.users += [user] if user not in thing.users else []
 
     def full_name(self, item):
         """An item's name behind that of its type or trait, a definition's behind its module."""

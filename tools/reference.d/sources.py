@@ -18,7 +18,7 @@ ABOVE = re.compile(r"(?:\s*(?://.*|#!?\[(?:[^\[\]]|\[[^\]]*\])*\]))*\s*")
 FIELD = re.compile(r"(?m)((?:^(?://|#\[).*\n)*)^((?:pub |ghost )*(\w+).*(?:\n[ }].*)*)")
 START = re.compile(r"(?P<public>pub\b(?P<within>\([^)]*\))?\s*)?(?:(?:final|unsafe|const(?= (?:unsafe )?fn))\s+)*"
                    r"(?P<kind>fn|struct|enum|trait|type|const|static|mod|impl|use|ghost use|ghost|macro_rules!)(?=\W)\s*(?P<name>\w*)")
-USE = re.compile(r"(?m)^\s*(?:unfoldable )?(pub )?(?:ghost )?use ([^\s;{]+?)(?:\.\{([^}]*)\})?(?: as ([\w-]+))?;?\s*$")
+USE = re.compile(r"(?m)^\s*(?:unfoldable )?(pub )?(?:ghost )?use ([^\s;{]+?)(?:(?:\.|::)\{([^}]*)\})?(?: as ([\w-]+))?;?\s*$")
 # A definition with the notes above it and all lines below that are deeper or begin with its name; or the beginning of a module block.
 DEFINED = re.compile(r"(?m)(?P<notes>(?:^ *-- .*\n)*)^(?=(?P<indent> *))(?:(?P<block> *module _ .*where)$|(?P<head> *"
                      r"(?:(?:abbrev|unfoldable|pub|record|data|axiom) )*(?!--|use |mod |module )(?P<name>[^\s({]+)(?: ?[({].*?[)}])* :(?: .*|$)"
@@ -29,23 +29,18 @@ Clause = collections.namedtuple("Clause", "keyword star name term")
 class Item:
     """An item, a member of one, or a definition. What it has beyond its text is noted here later."""
 
-    def __init__(self, kind, name, head, file, line, docs="", notes="", **more):
+    def __init__(self, kind, name, head, file, line, docs="", notes="", owner=None, **more):
         self.kind, self.name, self.head, self.file, self.line, self.docs, self.notes = kind, name, head, file, line, docs, notes
-        self.owner, self.home, self.url, self.public, self.imports, self.module, self.trait = None, None, "", True, {}, "", None
+        self.owner, self.module = owner, owner if owner is None or owner.kind == "mod" else owner.module
+        self.home, self.url, self.public, self.trait = None, "", True, None
         self.clauses, self.members, self.users, self.rust, self.blocks, self.exported = [], [], [], [], [], []
         self.__dict__.update(more)
+        if kind == "ghost":
+            self.clauses = [Clause("ghost", "", name, head[head.index("{") + 1:head.rindex("}")].strip())]
 
     def of_kind(self, *kinds):
         """The members of these kinds."""
         return [member for member in self.members if member.kind in kinds]
-
-    def terms(self):
-        """The terms that the item says something by."""
-        return [clause.term for clause in self.clauses] + ([self.term()] if self.kind == "ghost" else [])
-
-    def term(self):
-        """The type or the term of a ghost member."""
-        return self.head[self.head.index("{") + 1:self.head.rindex("}")].strip()
 
 
 def closing(text, at, signs=SIGN):
@@ -69,22 +64,14 @@ def parted(text, separator=","):
 
 
 def imports_of(text):
-    """The names that lines of `use` import, each with its module and its name there; an alias of a module has no name."""
+    """The names that lines of `use` give, each with its module and its name there; a name that stands for a whole path has none there."""
     found = {}
     for _, module, names, alias in USE.findall(text):
         for name in filter(None, map(str.strip, names.split(","))):
             there, _, here = name.partition(" as ")
             found[here or there] = module, there
-        found |= {alias: (module, "")} if alias else {}
+        found |= {} if names else {alias or re.split("[.:]", module)[-1]: (module, "")}
     return found
-
-
-def exports(use):
-    """The paths that a `use` names, each with the name that it gives."""
-    stem, _, names = use.head.split("use ", 1)[1].partition("{")
-    for name in list(filter(None, map(str.strip, names.rstrip("}").split(",")))) or [""]:
-        there, _, here = (stem + name).partition(" as ")
-        yield there.split("::"), here or there.split("::")[-1]
 
 
 def head_and_clauses(text, at):
@@ -132,7 +119,6 @@ def items_of(text, file, owner=None, at=0, end=None):
         item.public = bool(begin["public"]) and not begin["within"] or kind == "macro" and "macro_export" in above[0]
         body = text[stop + 1:at - 1]
         if kind in ("trait", "impl"):
-            item.imports = imports_of("\n".join(re.findall(r"(?m)^ *ghost use .*;$", body)))
             item.members = list(items_of(text, file, item, stop + 1, at - 1))
         elif kind in ("struct", "enum"):
             item.members = list(fields(body, item))
@@ -183,9 +169,10 @@ class Library:
             if part["block"]:
                 blocks.append(part["block"])
             else:
+                head = textwrap.dedent(part["head"]).rstrip()
                 line, notes = text.count("\n", 0, part.start("head")) + 1, " ".join(re.findall("-- (.*)", part["notes"]))
-                found.setdefault(part["name"], Item("word", part["name"], textwrap.dedent(part["head"]).rstrip(), file, line, notes=notes,
-                                                    module=module, context=[block.strip() for block in blocks], imports=imports))
+                found.setdefault(part["name"], Item("word", part["name"], head, file, line, notes=notes, module=module, imports=imports,
+                                                    context=[block.strip() for block in blocks], clauses=[Clause("", "", "", head)]))
         return found
 
     @functools.lru_cache(None)
