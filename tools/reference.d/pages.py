@@ -34,7 +34,8 @@ class Pages:
         self.rust_names = list(self.surface())
         self.templates = jinja2.Environment(
             loader=jinja2.FileSystemLoader(TEMPLATES), trim_blocks=True, lstrip_blocks=True, undefined=jinja2.StrictUndefined)
-        self.templates.filters |= {"code": self.code, "docs": self.docs, "term": self.term, "line": self.line, "link": self.link}
+        own = {"code": self.code, "docs": self.docs, "term": self.term, "line": self.line, "link": self.link}
+        self.templates.filters |= own | {"escaped": html.escape}
         self.templates.globals |= {"site": site, "pages": self, "members": site.public_members}
 
     # Places
@@ -83,32 +84,22 @@ class Pages:
         said = self.notation.get(item.name.strip("◌")) or item.notes or item.docs.partition("\n\n")[0]
         return " ".join(said.split()) or re.sub(r"^((abbrev|unfoldable|pub|ghost) )*", "", item.head.split("\n")[0]) or item.module
 
+    def shown(self, pieces, item):
+        """Pieces of a term or of code as HTML."""
+        return Markup(self.templates.get_template("pieces.html").render(pieces=pieces, item=item))
+
     def term(self, text, item):
         """A term as HTML, in which each name leads to its definition."""
-        made = []
-        for atom, _, target in Scope(self.site, item).pieces(text):
-            shown = html.escape(atom, quote=False)
-            if target is not None and target.url and target is not item:
-                sign = "" if re.search(r"\w", atom) else " class=sign"
-                made.append(f'<a{sign} href="{html.escape(self.link(target.url))}" title="{html.escape(self.line(target))}">{shown}</a>')
-            else:
-                told = self.notation.get(atom)
-                made.append(f'<span title="{html.escape(told)}">{shown}</span>' if told else f"<strong>{shown}</strong>" if target is item else shown)
-        return Markup("".join(made))
+        return self.shown([(atom, target, self.notation.get(atom), False) for atom, _, target in Scope(self.site, item).pieces(text)], item)
 
     def code(self, text, item):
         """Code as HTML, in which the names of items lead to them."""
-
-        def shown(found):
-            name = found[0]
-            if name == item.name and "\n" not in text[:found.start()]:
-                return f"<strong>{name}</strong>"
-            other = self.site.item_named(name, item) if name[0].isupper() else None
-            if other and other is not item:
-                return f'<a href="{self.link(other.url)}" title="{html.escape(self.line(other))}">{name}</a>'
-            return f"<b>{name}</b>" if name in KEYWORDS else html.escape(name, quote=False)
-
-        return Markup(re.sub(r"//.*|'?\b[A-Za-z_]\w*\b|[<>&]", shown, text))
+        pieces = []
+        for number, line in enumerate(text.splitlines(keepends=True)):
+            for name in filter(None, re.split(r"(//.*|'?\b[A-Za-z_]\w*\b)", line)):
+                other = self.site.item_named(name, item) if name[:1].isupper() else None
+                pieces.append((name, item if name == item.name and number == 0 else other, None, name in KEYWORDS))
+        return self.shown(pieces, item)
 
     def docs(self, text, item=None, owner=None):
         """Docs as HTML, in which names of items and definitions lead to them."""
