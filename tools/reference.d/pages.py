@@ -34,8 +34,7 @@ class Pages:
         self.rust_names = list(self.surface())
         self.templates = jinja2.Environment(
             loader=jinja2.FileSystemLoader(TEMPLATES), trim_blocks=True, lstrip_blocks=True, undefined=jinja2.StrictUndefined)
-        own = {"code": self.code, "docs": self.docs, "term": self.term, "line": self.line, "link": self.link}
-        self.templates.filters |= own | {"escaped": html.escape}
+        self.templates.filters |= {filter.__name__: filter for filter in (self.code, self.docs, self.term, self.line, self.link, html.escape)}
         self.templates.globals |= {"site": site, "pages": self, "members": site.public_members}
 
     # Places
@@ -129,15 +128,11 @@ class Pages:
                 item = items.get(self.meant(name, owner))
                 owner = item.name if item and item.kind in WITH_A_PAGE else owner
                 found += [item] if item and (bullet in same or f"`{name}`" in ours) else []
-            if bullet in same:
-                for item in found:
-                    item.rust.append(self.full_name(item))
-                continue
-            found = [item for item in found if item.kind == "fn"] or found
-            for name in re.findall(r"`([^`]+)`", re.sub(r" (between|of|to) .*", "", theirs, flags=re.S)):
-                yield name, found[0] if found else None, " ".join(ours.replace("`", "").split())
-                for item in found:
-                    item.rust.append(name)
+            names = re.findall(r"`([^`]+)`", re.sub(r" (between|of|to) .*", "", theirs, flags=re.S)) if bullet in others else []
+            found = [item for item in found if item.kind == "fn" and names] or found
+            for item in found:
+                item.rust += names or [self.full_name(item)]
+            yield from ((name, found[0] if found else None, " ".join(ours.replace("`", "").split())) for name in names)
         yield from ((name, None, "left out") for name in re.findall(r"`([^`]+)`", left_out))
 
     # Writing
@@ -146,11 +141,10 @@ class Pages:
         """Writes all pages, and what stands beside them."""
         for item in [item for item in self.site.items if item.home and item.kind in ("mod", *WITH_A_PAGE)]:
             self.page("module.html" if item.kind == "mod" else "type.html", item.url, item=item)
-        for file, words in self.words.items():
-            self.page("words.html", words[0].url.partition("#")[0], words=words, title=re.match(r"-- (.*)|", file.read_text())[1] or "")
-        pictured = {name: (self.site.top / name).read_text() for name in ("crates.txt", "bench/table.txt")}
+        for words in self.words.values():
+            self.page("words.html", words[0].url.partition("#")[0], words=words)
         for name in ("words/std.html", "words/index.html", "rust.html", "index.html", "names.js"):
-            self.page(name.replace("words/index", "words_index").removeprefix("words/"), name, pictured=pictured)
+            self.page(name, name)
         for name in ("style.css", "search.js", "pictures.js"):
             shutil.copy(TEMPLATES / name, self.folder / name)
 

@@ -152,10 +152,10 @@ class Library:
         folder, rest = (self.top / "crates" if self.own(rest[0]) or not self.kit else self.kit) / rest[0] / rest[1], rest[2:]
         file = folder.joinpath(*rest).with_suffix(".antt")
         for count in range(0 if file.exists() else len(rest), 0, -1):
-            for passing, name in (("Lib", ".".join(rest[:count])), ("/".join(rest[:count - 1]) or "Lib", rest[count - 1])):
-                text = folder.joinpath(passing + ".antt").read_text() if folder.joinpath(passing + ".antt").exists() else ""
-                if passed := re.search(rf"(?m)^pub use (\S+\.{re.escape(name)})$", text):
-                    return self.module_file(".".join([passed[1], *rest[count:]]))
+            passing = folder.joinpath(*(rest[:count - 1] or ["Lib"])).with_suffix(".antt")
+            passed = re.search(rf"(?m)^pub use (\S+\.{re.escape(rest[count - 1])})$", passing.read_text() if passing.exists() else "")
+            if passed:
+                return self.module_file(".".join([passed[1], *rest[count:]]))
         return file if file.exists() else None
 
     @functools.lru_cache(None)
