@@ -3,7 +3,6 @@ import collections
 import html
 import pathlib
 import re
-import shutil
 import sys
 import urllib.parse
 
@@ -30,14 +29,11 @@ class Pages:
         self.place_members()
         self.note_users()
         self.places = {self.full_name(item): item.url for item in [*self.own_words, *site.shown()] if item.url}
-        self.places |= {item.name: item.url for item in [*self.own_words, *site.items] if item.url and item.home or item.kind == "word"}
         self.rust_names = list(self.surface())
         self.templates = jinja2.Environment(
             loader=jinja2.FileSystemLoader(TEMPLATES), trim_blocks=True, lstrip_blocks=True, undefined=jinja2.StrictUndefined)
         self.templates.filters |= {filter.__name__: filter for filter in (self.code, self.docs, self.term, self.line, self.link, html.escape)}
         self.templates.globals |= {"site": site, "pages": self, "members": site.public_members}
-
-    # Places
 
     def place_members(self):
         """Gives each definition and each member of a page its anchor; no two members of a page have the same."""
@@ -75,8 +71,6 @@ class Pages:
         """A place, seen from the page that is written."""
         page, _, anchor = url.partition("#")
         return "../" * self.depth + page + ("#" + urllib.parse.quote(anchor) if anchor else "")
-
-    # Text
 
     def line(self, item):
         """The line that an item or a definition is told by: its notes or docs, or else its type."""
@@ -135,21 +129,17 @@ class Pages:
             yield from ((name, found[0] if found else None, " ".join(ours.replace("`", "").split())) for name in names)
         yield from ((name, None, "left out") for name in re.findall(r"`([^`]+)`", left_out))
 
-    # Writing
-
     def write(self):
         """Writes all pages, and what stands beside them."""
         for item in [item for item in self.site.items if item.home and item.kind in ("mod", *WITH_A_PAGE)]:
             self.page("module.html" if item.kind == "mod" else "type.html", item.url, item=item)
         for words in self.words.values():
             self.page("words.html", words[0].url.partition("#")[0], words=words)
-        for name in ("words/std.html", "words/index.html", "rust.html", "index.html", "names.js"):
+        for name in ("words/std.html", "words/index.html", "rust.html", "index.html", "names.js", "search.js", "pictures.js", "style.css"):
             self.page(name, name)
-        for name in ("style.css", "search.js", "pictures.js"):
-            shutil.copy(TEMPLATES / name, self.folder / name)
 
     def page(self, template, url, **given):
         """Writes a page."""
         self.depth = url.count("/")
         (self.folder / url).parent.mkdir(parents=True, exist_ok=True)
-        (self.folder / url).write_text(self.templates.get_template(template).render(url=url, top="../" * self.depth, **given))
+        (self.folder / url).write_text(self.templates.get_template(template).render(url=url, top="../" * self.depth, **given) + "\n")

@@ -33,7 +33,7 @@ class Item:
         self.kind, self.name, self.head, self.file, self.line, self.docs, self.notes = kind, name, head, file, line, docs, notes
         self.owner, self.module = owner, owner if owner is None or owner.kind == "mod" else owner.module
         self.home, self.url, self.public, self.trait = None, "", True, None
-        self.clauses, self.members, self.users, self.rust, self.blocks, self.exported = [], [], [], [], [], []
+        self.clauses, self.members, self.users, self.rust, self.blocks, self.exported, self.foreign = [], [], [], [], [], [], []
         self.__dict__.update(more)
         if kind == "ghost":
             self.clauses = [Clause("ghost", "", name, head[head.index("{") + 1:head.rindex("}")].strip())]
