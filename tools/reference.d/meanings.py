@@ -81,7 +81,7 @@ class Scope:
 
     def meaning(self, atom, bound):
         """What an atom of a term means: "local", "unknown", or "member" or "word" and what it names."""
-        name, *path = atom.rstrip(".").split(".") if atom.strip(".") else [atom]
+        name, *path = atom.rstrip(".").split(".")
         if path and name in self.bounds and name not in bound:
             return self.below(name, self.closure(self.bounds[name]), path)
         if name in bound or name in self.local or name in OF_THE_LANGUAGE or re.match(r"[\d\"]|//|$", name):
@@ -155,9 +155,8 @@ class Site:
 
     def item_named(self, name, item):
         """The public item that a name of code means at an item, told by the imports of its file."""
-        module = item if item.kind == "mod" else item.module
-        others = self.by_name.get(name, []) if name not in module.foreign else []
-        return min(others, key=lambda other: self.path(other.home)[0] != self.path(module)[0], default=None)
+        others = self.by_name.get(name, []) if name not in item.module.foreign else []
+        return min(others, key=lambda other: self.path(other.home)[0] != self.path(item.module)[0], default=None)
 
     def place(self, impl):
         """Notes an impl's type, or else its trait, where readers find it, and tells whether they see it."""

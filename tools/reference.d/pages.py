@@ -7,8 +7,8 @@ import sys
 import urllib.parse
 
 sys.path.append("/usr/lib/python3/dist-packages")  # Debian's libraries, for a Python that is not Debian's.
-import jinja2
 import markdown
+from jinja2 import Environment, FileSystemLoader, StrictUndefined
 from markupsafe import Markup
 
 from meanings import CRATES, WITH_A_PAGE, Scope
@@ -28,10 +28,9 @@ class Pages:
         self.own_words = [word for words in self.words.values() for word in words]
         self.place_members()
         self.note_users()
-        self.places = {self.full_name(item): item.url for item in [*self.own_words, *site.shown()] if item.url}
+        self.places = {self.full_name(item): item for item in [*self.own_words, *site.shown()] if item.url}
         self.rust_names = list(self.surface())
-        self.templates = jinja2.Environment(
-            loader=jinja2.FileSystemLoader(TEMPLATES), trim_blocks=True, lstrip_blocks=True, undefined=jinja2.StrictUndefined)
+        self.templates = Environment(loader=FileSystemLoader(TEMPLATES), trim_blocks=True, lstrip_blocks=True, undefined=StrictUndefined)
         self.templates.filters |= {filter.__name__: filter for filter in (self.code, self.docs, self.term, self.line, self.link, html.escape)}
         self.templates.globals |= {"site": site, "pages": self, "members": site.public_members}
 
@@ -100,26 +99,24 @@ class Pages:
 
         def shown(found):
             name = html.unescape(found[1])
-            place = self.meant(name, *(owners[:1] if item else ()), owners[-1])
-            owners.append(re.sub(r"<.*|\W", "", name) if place and re.search(r"(struct|trait|enum)\.\w+\.html$", place) else owners[-1])
-            return f'<a href="{self.link(place)}">{found[0]}</a>' if place and (item is None or place != item.url) else found[0]
+            other = self.meant(name, *(owners[:1] if item else ()), owners[-1])
+            owners.append(re.sub(r"<.*|\W", "", name) if other and other.kind in WITH_A_PAGE else owners[-1])
+            return f'<a href="{self.link(other.url)}">{found[0]}</a>' if other and other is not item else found[0]
         return Markup(re.sub(r"<code>([^<]+)</code>", shown, markdown.markdown(text, extensions=["fenced_code", "tables"])))
 
     def meant(self, name, *owners):
-        """The place of what a name in docs means: a member beside it or of the type named last, or else an item or a definition."""
+        """What a name in docs means: a member beside it or of the type named last, or else an item or a definition."""
         name = re.sub(r"<.*>|[()!&]", "", name)
         return next((self.places[full] for full in (*(f"{owner}::{name}" for owner in owners), name) if full in self.places), None)
 
     def surface(self):
         """Notes the Rust crate's names at their counterparts, as SURFACE tells them. Gives those that have another name here, or none."""
         self.surface_text = re.sub(r"\[([^\]]*)\]\([^)]*\)", r"\1", (self.site.top / "docs" / "SURFACE.md").read_text())
-        text, left_out = re.split(r"## Own items(?s:.*)## Left out", self.surface_text)
-        items = {item.url: item for item in self.site.shown() if item.url}
-        same, others = text.split("By another name")
+        same, others, left_out = re.split(r"By another name|## Own items(?s:.*)## Left out", self.surface_text)
         for bullet in re.findall(r"(?m)^- (.*\n(?:  .*\n)*)", same + "\n" + others):
             owner, found, (theirs, _, ours) = "GenericArray", [], bullet.partition(": ")
             for name in re.findall(r"`([^`]+)`", bullet):
-                item = items.get(self.meant(name, owner))
+                item = self.meant(name, owner)
                 owner = item.name if item and item.kind in WITH_A_PAGE else owner
                 found += [item] if item and (bullet in same or f"`{name}`" in ours) else []
             names = re.findall(r"`([^`]+)`", re.sub(r" (between|of|to) .*", "", theirs, flags=re.S)) if bullet in others else []

@@ -31,7 +31,7 @@ class Item:
 
     def __init__(self, kind, name, head, file, line, docs="", notes="", owner=None, **more):
         self.kind, self.name, self.head, self.file, self.line, self.docs, self.notes = kind, name, head, file, line, docs, notes
-        self.owner, self.module = owner, owner if owner is None or owner.kind == "mod" else owner.module
+        self.owner, self.module = owner, self if kind == "mod" else owner and owner.module
         self.home, self.url, self.public, self.trait = None, "", True, None
         self.clauses, self.members, self.users, self.rust, self.blocks, self.exported, self.foreign = [], [], [], [], [], [], []
         self.__dict__.update(more)
@@ -55,12 +55,11 @@ def closing(text, at, signs=SIGN):
 
 def parted(text, separator=","):
     """The parts of a list, cut at separators that stand in no bracket."""
-    parts, depth = [""], 0
+    marked, depth = "", 0
     for at, sign in enumerate(text):
         depth += (sign in "([{<") - (sign in ")]}" or sign == ">" and text[at - 1] not in "-=")
-        parts += [""] if depth == 0 and sign == separator else []
-        parts[-1] += "" if depth == 0 and sign == separator else sign
-    return [part.strip() for part in parts if part.strip()]
+        marked += "\0" if depth == 0 and sign == separator else sign
+    return [part.strip() for part in marked.split("\0") if part.strip()]
 
 
 def imports_of(text):
@@ -133,8 +132,8 @@ class Library:
     """The crates of a repository and of the toolchain, if there is one: modules, words and std's traits by their names."""
 
     def __init__(self, top, kit=None):
-        self.top, self.kit, mounts = top, kit, kit / "logic" / "antt-project.json" if kit else None
-        self.mounts = json.loads(mounts.read_text())["mounts"] if mounts and mounts.exists() else {}
+        self.top, self.kit = top, kit
+        self.mounts = json.loads((kit / "logic" / "antt-project.json").read_text())["mounts"] if kit else {}
         folders = [kit / crate / "src" for crate in ("core", "std", "std_alloc", "std_io")] if kit else []
         self.std = [(file, file.read_text()) for folder in folders for file in sorted(folder.rglob("*.rt"))]
 
@@ -153,8 +152,7 @@ class Library:
         file = folder.joinpath(*rest).with_suffix(".antt")
         for count in range(0 if file.exists() else len(rest), 0, -1):
             passing = folder.joinpath(*(rest[:count - 1] or ["Lib"])).with_suffix(".antt")
-            passed = re.search(rf"(?m)^pub use (\S+\.{re.escape(rest[count - 1])})$", passing.read_text() if passing.exists() else "")
-            if passed:
+            if passed := re.search(rf"(?m)^pub use (\S+\.{re.escape(rest[count - 1])})$", passing.read_text() if passing.exists() else ""):
                 return self.module_file(".".join([passed[1], *rest[count:]]))
         return file if file.exists() else None
 
