@@ -1,7 +1,7 @@
 """What the names of clauses and definitions mean, and what of the crates is public and where."""
 import re
 
-from sources import Item, exports, imports_of, items_of, parted
+from sources import ANGLE, Item, closing, imports_of, items_of, parted
 
 CRATES = "ga_views ga_core ga_boxed generic_array ga_records ga_hashes ga_ciphers".split()
 WITH_A_PAGE = ("struct", "enum", "trait")
@@ -15,12 +15,9 @@ UNDER_A_BOUND = {"step": "steps"}  # FnMut's member is spelled so where it is wr
 
 def generics(head):
     """The text between the angle brackets behind an item's name, and what follows."""
-    begin, depth = re.match(r"(?:pub\([^)]*\))?[^<({:;=]*", head).end(), 0
-    for at in range(begin, len(head) if head[begin:begin + 1] == "<" else begin):
-        depth += (head[at] == "<") - (head[at] == ">" and head[at - 1] not in "-=")
-        if depth == 0:
-            return head[begin + 1:at], head[at + 1:]
-    return "", head[begin:]
+    begin = re.match(r"(?:pub\([^)]*\))?[^<({:;=]*", head).end()
+    end = closing(head, begin, ANGLE) if head.startswith("<", begin) else begin
+    return head[begin + 1:end - 1], head[end:]
 
 
 def declared(head):
@@ -45,14 +42,14 @@ class Scope:
 
     def __init__(self, site, item):
         self.site, self.item, self.bounds, self.local, self.near = site, item, {}, set(), {}
-        self.imports = item.imports if item.kind == "word" else imports_of("\n".join(re.findall(r"(?m)^ghost use .*", item.file.read_text())))
-        for part in (item.owner, item) if item.kind != "word" else ():
-            if part is not None and part.kind in ("trait", "impl", "fn", *WITH_A_PAGE):
-                bounds, parameters = declared(part.head)
-                self.bounds, self.imports = self.bounds | bounds, self.imports | part.imports
-                self.local |= {member.name for member in part.members} if part.kind in ("struct", "enum") else parameters
-                self.near |= {member.name: member for member in part.of_kind("ghost")} if part.kind == "trait" else {}
-                self.bounds |= {"Self": [part.name if part.kind == "trait" else part.of_trait]} if part.kind in ("trait", "impl") else {}
+        self.imports = item.imports if item.kind == "word" else {}
+        for part in (item.module, item.owner, item) if item.kind != "word" else ():
+            bounds, parameters = declared(part.head)
+            self.imports |= imports_of("\n".join(use.head for use in part.of_kind("ghost use")))
+            self.local |= {member.name for member in part.members} if part.kind in ("struct", "enum") else parameters
+            self.near |= {member.name: member for member in part.of_kind("ghost")} if part.kind == "trait" else {}
+            self.bounds |= {"Self": [part.name if part.kind == "trait" else part.of_trait]} if part.kind in ("trait", "impl") else {}
+            self.bounds |= bounds
         if item.kind == "word":
             self.near = site.library.definitions(item.file)
             patterns = " ".join(re.findall(rf"(?m)^{re.escape(item.name)} (.*?) = ", item.head))
@@ -63,7 +60,9 @@ class Scope:
         """The traits of bounds and those that stand above them, each once."""
         found, left = [], list(bounds)
         while left:
-            for trait in self.site.traits(base_name(left.pop(0))):
+            name = base_name(left.pop(0))
+            ours = [item for item in self.site.by_name.get(name, []) if item.kind == "trait"]
+            for trait in ours or self.site.library.std_traits(name):
                 if trait not in found:
                     found.append(trait)
                     left += parted(generics(trait.head)[1].split("where")[0].removeprefix(":"), "+")
@@ -72,20 +71,17 @@ class Scope:
     def below(self, prefix, traits, path):
         """What a path below a type means."""
         name, rest = UNDER_A_BOUND.get(path[0], path[0]), path[1:]
-        for trait in traits if name not in OF_A_TYPE else ():
-            if trait.name == name:
-                return self.below(prefix, [trait], rest) if rest else ("member", trait)
-            for member in trait.of_kind("ghost", "type"):
-                if member.name == name and (member.kind == "ghost" or not rest):
-                    return ("member", member) if member.kind == "ghost" else ("local", None)
-                if member.name == name:
-                    deeper = parted(member.head.partition(":")[2], "+") + self.bounds.get(f"{prefix}.{name}", [])
-                    return self.below(f"{prefix}.{name}", self.closure(deeper), rest)
-        return "local" if name in OF_A_TYPE or not self.site.library.kit else "unknown", None
+        found = next((member for trait in traits for member in (trait, *trait.of_kind("ghost", "type")) if member.name == name), None)
+        if not found:
+            return "local" if name in OF_A_TYPE or not self.site.library.kit else "unknown", None
+        if found.kind == "ghost" or not rest:
+            return ("local", None) if found.kind == "type" else ("member", found)
+        deeper = parted(found.head.partition(":")[2], "+") + self.bounds.get(f"{prefix}.{name}", []) if found.kind == "type" else []
+        return self.below(f"{prefix}.{name}" if deeper else prefix, self.closure(deeper) or [found], rest)
 
     def meaning(self, atom, bound):
         """What an atom of a term means: "local", "unknown", or "member" or "word" and what it names."""
-        name, *path = atom.rstrip(".").split(".") if atom.strip(".") else [atom]
+        name, *path = atom.rstrip(".").split(".")
         if path and name in self.bounds and name not in bound:
             return self.below(name, self.closure(self.bounds[name]), path)
         if name in bound or name in self.local or name in OF_THE_LANGUAGE or re.match(r"[\d\"]|//|$", name):
@@ -114,22 +110,26 @@ class Site:
         for item in self.items:
             item.home = self.home(item)
             if item.home:
-                anchor = f"#{item.kind}.{item.name}" if item.kind != "mod" else ""
-                page = f"{item.kind}.{item.name}.html" if item.kind in WITH_A_PAGE else "index.html" + anchor
-                item.url = "/".join([*self.path(item.home), page])
+                place = "index.html" if item.kind == "mod" else f"index.html#{item.kind if item.public else 'law'}.{item.name}"
+                item.url = "/".join([*self.path(item.home), f"{item.kind}.{item.name}.html" if item.kind in WITH_A_PAGE else place])
                 self.by_name.setdefault(item.name, []).append(item)
         self.impls = [item for item in self.items if item.kind == "impl" and self.place(item)]
+        for impl in self.impls:
+            impl.of.blocks.append(impl)
 
     def module(self, module, file):
         """A module with all that stands in its file and below."""
         inner = "\n".join(re.findall(r"(?m)^//! ?(.*)$", file.read_text()))
         module.docs, module.title = inner or module.docs, inner.partition("\n")[0].rstrip(".")
         module.members = list(items_of(file.read_text(), file, module))
-        for use, path, name in [(use, *export) for use in module.of_kind("use") if use.public for export in exports(use)]:
-            if path[0] in (*CRATES, "crate", *(member.name for member in module.of_kind("mod"))):
-                module.exported.append(name)
+        near = (*CRATES, "crate", "super", *(member.name for member in module.of_kind("mod")))
+        for use, name, (path, there) in [(use, *found) for use in module.of_kind("use") for found in imports_of(use.head).items()]:
+            if path.split("::")[0] in near:
+                module.exported += [name] if use.public else []
+            elif use.public:
+                module.members.append(Item("foreign", name, f"use {path}::{there}".rstrip(":"), use.file, use.line, use.docs, owner=module))
             else:
-                module.members.append(Item("foreign", name, f"use {'::'.join(path)}", use.file, use.line, use.docs, owner=module))
+                module.foreign.append(name)
         self.items += [module] if not module.owner else []
         self.items += [item for member in module.members for item in (member, *member.members)]
         for member in module.of_kind("mod"):
@@ -141,64 +141,48 @@ class Site:
         return [*self.path(module.owner), module.name] if module.owner else [module.name]
 
     def home(self, item):
-        """The public module that an item is found in: where it stands, or the one that exports what stands in a hidden module below it."""
+        """The public module that an item is found in: where it stands, or above a hidden module, which exports what is public there."""
         if item.kind == "mod":
             return item if not item.owner or item.public and self.home(item.owner) else None
+        if item.kind == "fn" and item.owner.kind == "mod" and not any(member.public for member in item.owner.members):
+            return self.home(item.owner)  # A law: nothing can call it, and its module has only such.
         if not item.public or item.owner.kind != "mod" or item.kind in ("impl", "use", "ghost use"):
             return None
-        aliases = [alias for alias in item.owner.of_kind("type") if alias is not item and re.search(rf"\b{item.name}\b", alias.head)]
-        module, seen = item.owner, item.kind == "macro" or any(self.home(alias) for alias in aliases)
-        while module.owner and not self.home(module):
+        module = item.owner
+        while not self.home(module):
             module = module.owner
-            seen = seen or item.name in module.exported
-        return module if seen or module is item.owner else None
+        return module
 
     def item_named(self, name, item):
         """The public item that a name of code means at an item, told by the imports of its file."""
-        module = item
-        while module.kind != "mod":
-            module = module.owner
-        near = (*CRATES, "crate", "super", *(child.name for child in module.of_kind("mod")))
-        if any(here == name and path[0] not in near for use in module.of_kind("use") if not use.public for path, here in exports(use)):
-            return None
-        return min(self.by_name.get(name, []), key=lambda other: self.path(other.home)[0] != self.path(module)[0], default=None)
+        others = self.by_name.get(name, []) if name not in item.module.foreign else []
+        return min(others, key=lambda other: self.path(other.home)[0] != self.path(item.module)[0], default=None)
 
     def place(self, impl):
-        """Puts an impl with its type, or else with its trait, and tells whether readers see it."""
+        """Notes an impl's type, or else its trait, where readers find it, and tells whether they see it."""
         header = (generics(impl.head)[1] if impl.head.startswith("impl<") else impl.head[5:]).split("where")[0].strip()
         trait, _, of = header.rpartition(" for ")
         impl.of_trait, traits = base_name(trait), [item for item in self.by_name.get(base_name(trait), []) if item.kind == "trait"]
         types = [self.item_named(name, impl) for name in [base_name(of), *re.findall(r"\w+", header)]]
         types = [item if item and item.kind in WITH_A_PAGE[:2] else None for item in types]
         impl.trait, impl.of = (traits or [None])[0], types[0] or (traits or [*filter(None, types), None])[0]
-        seen = impl.of and (trait or any(member.public for member in impl.of_kind("fn")))
-        if seen:
-            impl.of.blocks.append(impl)
-        return bool(seen)
+        return impl.of and (trait or any(member.public for member in impl.of_kind("fn")))
 
     def public_members(self, item):
         """What readers see of an item's members."""
         of_all = item.kind in ("trait", "enum") or item.kind == "impl" and item.of_trait
         return [member for member in item.members if member.kind != "ghost use" and (of_all or member.public or member.kind == "ghost")]
 
-    def is_law(self, item):
-        """Whether a function is shown though nothing can call it, as its module has only such."""
-        return item.kind == "fn" and item.owner.kind == "mod" and bool(item.owner.home) and not any(member.public for member in item.owner.members)
-
     def shown(self):
         """All items that have a place in the reference, with their members."""
         for item in self.items:
-            if item.home or item in self.impls or self.is_law(item):
+            if item.home or item in self.impls:
                 yield item
                 yield from self.public_members(item) if item.kind not in ("mod", "foreign") else ()
-
-    def traits(self, name):
-        """The traits of a name: ours, or else std's."""
-        return [item for item in self.by_name.get(name, []) if item.kind == "trait"] or self.library.std_traits(name)
 
     def named(self, items):
         """Each name of each term of items: the item, the name, its kind and what it means."""
         for item in items:
-            scope = Scope(self, item) if item.terms() else None
-            for term in item.terms():
-                yield from ((item, *piece) for piece in scope.pieces(term) if piece[1] != "local")
+            scope = Scope(self, item) if item.clauses else None
+            for clause in item.clauses:
+                yield from ((item, *piece) for piece in scope.pieces(clause.term) if piece[1] != "local")

@@ -3,13 +3,12 @@ import collections
 import html
 import pathlib
 import re
-import shutil
 import sys
 import urllib.parse
 
 sys.path.append("/usr/lib/python3/dist-packages")  # Debian's libraries, for a Python that is not Debian's.
-import jinja2
 import markdown
+from jinja2 import Environment, FileSystemLoader, StrictUndefined
 from markupsafe import Markup
 
 from meanings import CRATES, WITH_A_PAGE, Scope
@@ -28,54 +27,39 @@ class Pages:
         self.words = {file: list(site.library.definitions(file).values()) for file in files}
         self.own_words = [word for words in self.words.values() for word in words]
         self.place_members()
-        self.survey()
-        self.places = {self.full_name(item): item.url for item in [*self.own_words, *site.shown()] if item.url}
-        self.places |= {item.name: item.url for item in [*self.own_words, *site.items] if item.url and item.home or item.kind == "word"}
+        self.note_users()
+        self.places = {self.full_name(item): item for item in [*self.own_words, *site.shown()] if item.url}
         self.rust_names = list(self.surface())
-        self.templates = jinja2.Environment(
-            loader=jinja2.FileSystemLoader(TEMPLATES), trim_blocks=True, lstrip_blocks=True, undefined=jinja2.StrictUndefined)
-        self.templates.filters |= {"code": self.code, "docs": self.docs, "term": self.term, "line": self.line, "link": self.link}
+        self.templates = Environment(loader=FileSystemLoader(TEMPLATES), trim_blocks=True, lstrip_blocks=True, undefined=StrictUndefined)
+        self.templates.filters |= {filter.__name__: filter for filter in (self.code, self.docs, self.term, self.line, self.link, html.escape)}
         self.templates.globals |= {"site": site, "pages": self, "members": site.public_members}
-
-    # Places
 
     def place_members(self):
         """Gives each definition and each member of a page its anchor; no two members of a page have the same."""
         for word in self.own_words:
-            crate, _, module = word.module.partition(".")
-            word.url = f"words/{crate}/{module}.html#{word.name}"
-        for item in self.site.items:
-            item.implementors, taken = [impl for impl in self.site.impls if impl.trait is item], collections.Counter()
-            members = [member for owner in (item, *item.blocks) for member in self.site.public_members(owner)]
-            for member in [*item.blocks, *members] if item.home and item.kind in WITH_A_PAGE else ():
+            word.url = f"words/{word.module.replace('.', '/', 1)}.html#{word.name}"
+        for item in [item for item in self.site.items if item.home and item.kind in WITH_A_PAGE]:
+            taken, members = collections.Counter(), [member for owner in (item, *item.blocks) for member in self.site.public_members(owner)]
+            for member in [*item.blocks, *members]:
                 anchor = f"{member.kind}.{member.name or member.of_trait}"
                 member.url = f"{item.url}#{anchor}" + f"-{taken[anchor]}" * (taken[anchor] > 0)
                 taken[anchor] += 1
-        for law in filter(self.site.is_law, self.site.items):
-            law.url = f"{law.owner.url}#law.{law.name}"
 
-    def survey(self):
-        """Notes at each definition and ghost member who names it, and gathers those of std."""
-        for user, _, _, target in self.site.named(self.site.shown()):
-            self.note(target, user)
-        for word in self.own_words:
-            for _, _, target in Scope(self.site, word).pieces(word.head):
-                self.note(target, word)
-
-    def note(self, thing, user):
-        """Notes one who names a thing; a thing of std gets its place first."""
-        if thing is None or thing is user:
-            return
-        if not thing.url:
-            declared = re.match(r"Rattle\.(\w+)\.specs\.(?:declared|contracts)\.(?:.*\.)?(\w+?)(?:\.TheVariants)?$", thing.module)
-            types = self.site.by_name.get(declared[2], []) if declared else []
-            if declared and self.site.library.own(declared[1]) and not types:
-                return
-            name = thing.name if thing.kind in ("word", "trait") else f"{thing.owner.name}.{thing.name}"
-            name = f"{thing.module}.{name}" if name in self.std else name
-            thing.url = types[0].url if types else f"words/std.html#{name}"
-            self.std |= {} if types else {name: thing}
-        thing.users += [user] if not any(other is user for other in thing.users) else []
+    def note_users(self):
+        """Notes at each definition and ghost member who names it. Those of std get their places by the way."""
+        for user, _, _, thing in self.site.named([*self.site.shown(), *self.own_words]):
+            if thing is None or thing is user:
+                continue
+            if not thing.url:
+                declared = re.match(r"Rattle\.(\w+)\.specs\.(?:declared|contracts)\.(?:.*\.)?(\w+?)(?:\.TheVariants)?$", str(thing.module))
+                types = self.site.by_name.get(declared[2], []) if declared else []
+                if declared and self.site.library.own(declared[1]) and not types:
+                    continue
+                name = thing.name if thing.kind in ("word", "trait") else f"{thing.owner.name}.{thing.name}"
+                name = f"{thing.module}.{name}" if name in self.std else name
+                thing.url = types[0].url if types else f"words/std.html#{name}"
+                self.std |= {} if types else {name: thing}
+            thing.users += [user] if user not in thing.users else []
 
     def full_name(self, item):
         """An item's name behind that of its type or trait, a definition's behind its module."""
@@ -87,39 +71,27 @@ class Pages:
         page, _, anchor = url.partition("#")
         return "../" * self.depth + page + ("#" + urllib.parse.quote(anchor) if anchor else "")
 
-    # Text
-
     def line(self, item):
         """The line that an item or a definition is told by: its notes or docs, or else its type."""
         said = self.notation.get(item.name.strip("◌")) or item.notes or item.docs.partition("\n\n")[0]
         return " ".join(said.split()) or re.sub(r"^((abbrev|unfoldable|pub|ghost) )*", "", item.head.split("\n")[0]) or item.module
 
+    def shown(self, pieces, item):
+        """Pieces of a term or of code as HTML."""
+        return Markup(self.templates.get_template("pieces.html").render(pieces=pieces, item=item))
+
     def term(self, text, item):
         """A term as HTML, in which each name leads to its definition."""
-        made = []
-        for atom, _, target in Scope(self.site, item).pieces(text):
-            shown = html.escape(atom, quote=False)
-            if target is not None and target.url and target is not item:
-                sign = "" if re.search(r"\w", atom) else " class=sign"
-                made.append(f'<a{sign} href="{html.escape(self.link(target.url))}" title="{html.escape(self.line(target))}">{shown}</a>')
-            else:
-                told = self.notation.get(atom)
-                made.append(f'<span title="{html.escape(told)}">{shown}</span>' if told else f"<strong>{shown}</strong>" if target is item else shown)
-        return Markup("".join(made))
+        return self.shown([(atom, target, self.notation.get(atom), False) for atom, _, target in Scope(self.site, item).pieces(text)], item)
 
     def code(self, text, item):
         """Code as HTML, in which the names of items lead to them."""
-
-        def shown(found):
-            name = found[0]
-            if name == item.name and "\n" not in text[:found.start()]:
-                return f"<strong>{name}</strong>"
-            other = self.site.item_named(name, item) if name[0].isupper() else None
-            if other and other is not item:
-                return f'<a href="{self.link(other.url)}" title="{html.escape(self.line(other))}">{name}</a>'
-            return f"<b>{name}</b>" if name in KEYWORDS else html.escape(name, quote=False)
-
-        return Markup(re.sub(r"//.*|'?\b[A-Za-z_]\w*\b|[<>&]", shown, text))
+        pieces = []
+        for number, line in enumerate(text.splitlines(keepends=True)):
+            for name in filter(None, re.split(r"(//.*|'?\b[A-Za-z_]\w*\b)", line)):
+                other = self.site.item_named(name, item) if name[:1].isupper() else None
+                pieces.append((name, item if name == item.name and number == 0 else other, None, name in KEYWORDS))
+        return self.shown(pieces, item)
 
     def docs(self, text, item=None, owner=None):
         """Docs as HTML, in which names of items and definitions lead to them."""
@@ -127,55 +99,44 @@ class Pages:
 
         def shown(found):
             name = html.unescape(found[1])
-            place = self.meant(name, *(owners[:1] if item else ()), owners[-1])
-            owners.append(re.sub(r"<.*|\W", "", name) if place and re.search(r"(struct|trait|enum)\.\w+\.html$", place) else owners[-1])
-            return f'<a href="{self.link(place)}">{found[0]}</a>' if place and (item is None or place != item.url) else found[0]
+            other = self.meant(name, *(owners[:1] if item else ()), owners[-1])
+            owners.append(re.sub(r"<.*|\W", "", name) if other and other.kind in WITH_A_PAGE else owners[-1])
+            return f'<a href="{self.link(other.url)}">{found[0]}</a>' if other and other is not item else found[0]
         return Markup(re.sub(r"<code>([^<]+)</code>", shown, markdown.markdown(text, extensions=["fenced_code", "tables"])))
 
     def meant(self, name, *owners):
-        """The place of what a name in docs means: a member beside it or of the type named last, or else an item or a definition."""
+        """What a name in docs means: a member beside it or of the type named last, or else an item or a definition."""
         name = re.sub(r"<.*>|[()!&]", "", name)
         return next((self.places[full] for full in (*(f"{owner}::{name}" for owner in owners), name) if full in self.places), None)
 
     def surface(self):
         """Notes the Rust crate's names at their counterparts, as SURFACE tells them. Gives those that have another name here, or none."""
         self.surface_text = re.sub(r"\[([^\]]*)\]\([^)]*\)", r"\1", (self.site.top / "docs" / "SURFACE.md").read_text())
-        text, left_out = re.split(r"## Own items(?s:.*)## Left out", self.surface_text)
-        items = {item.url: item for item in self.site.shown() if item.url}
-        same, others = text.split("By another name")
+        same, others, left_out = re.split(r"By another name|## Own items(?s:.*)## Left out", self.surface_text)
         for bullet in re.findall(r"(?m)^- (.*\n(?:  .*\n)*)", same + "\n" + others):
             owner, found, (theirs, _, ours) = "GenericArray", [], bullet.partition(": ")
             for name in re.findall(r"`([^`]+)`", bullet):
-                item = items.get(self.meant(name, owner))
+                item = self.meant(name, owner)
                 owner = item.name if item and item.kind in WITH_A_PAGE else owner
                 found += [item] if item and (bullet in same or f"`{name}`" in ours) else []
-            if bullet in same:
-                for item in found:
-                    item.rust.append(self.full_name(item))
-                continue
-            found = [item for item in found if item.kind == "fn"] or found
-            for name in re.findall(r"`([^`]+)`", re.sub(r" (between|of|to) .*", "", theirs, flags=re.S)):
-                yield name, found[0] if found else None, " ".join(ours.replace("`", "").split())
-                for item in found:
-                    item.rust.append(name)
+            names = re.findall(r"`([^`]+)`", re.sub(r" (between|of|to) .*", "", theirs, flags=re.S)) if bullet in others else []
+            found = [item for item in found if item.kind == "fn" and names] or found
+            for item in found:
+                item.rust += names or [self.full_name(item)]
+            yield from ((name, found[0] if found else None, " ".join(ours.replace("`", "").split())) for name in names)
         yield from ((name, None, "left out") for name in re.findall(r"`([^`]+)`", left_out))
-
-    # Writing
 
     def write(self):
         """Writes all pages, and what stands beside them."""
         for item in [item for item in self.site.items if item.home and item.kind in ("mod", *WITH_A_PAGE)]:
             self.page("module.html" if item.kind == "mod" else "type.html", item.url, item=item)
-        for file, words in self.words.items():
-            self.page("words.html", words[0].url.partition("#")[0], words=words, title=re.match(r"-- (.*)|", file.read_text())[1] or "")
-        pictured = {name: (self.site.top / name).read_text() for name in ("crates.txt", "bench/table.txt")}
-        for name in ("words/std.html", "words/index.html", "rust.html", "index.html", "names.js"):
-            self.page(name.replace("words/index", "words_index").removeprefix("words/"), name, pictured=pictured)
-        for name in ("style.css", "search.js", "pictures.js"):
-            shutil.copy(TEMPLATES / name, self.folder / name)
+        for words in self.words.values():
+            self.page("words.html", words[0].url.partition("#")[0], words=words)
+        for name in ("words/std.html", "words/index.html", "rust.html", "index.html", "names.js", "search.js", "pictures.js", "style.css"):
+            self.page(name, name)
 
     def page(self, template, url, **given):
         """Writes a page."""
         self.depth = url.count("/")
         (self.folder / url).parent.mkdir(parents=True, exist_ok=True)
-        (self.folder / url).write_text(self.templates.get_template(template).render(url=url, top="../" * self.depth, **given))
+        (self.folder / url).write_text(self.templates.get_template(template).render(url=url, top="../" * self.depth, **given) + "\n")
