@@ -13,4 +13,4 @@ module _ {F X Y R : Type 0} (step : F → X → Y → F → Type 0) (P : Y → T
       → IfOk result (λ ys. ClosureRun step f xs ys last) → IfOk result (All P)
   IfOk-all each f xs last result run =
       IfOk-weaker result (λ ys. ClosureRun step f xs ys last) (All P)
-        (λ ys ran. ClosureRun-all step P each f xs ys last ran) run
+      (λ ys ran. ClosureRun-all step P each f xs ys last ran) run

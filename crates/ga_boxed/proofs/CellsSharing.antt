@@ -29,14 +29,14 @@ module _ {M : Type 1} {𝓤 : Ura M} (𝓛 : Logic 𝓤) (l : Lft) (R : RattleTy
   Lends-items [] b o = Lends-nothing 𝓛 ftrue l
   Lends-items (x ∷ xs) b o =
       Lends-both 𝓛 _ (cells (mem R) xs b (o + type_size R)) (shared_of R x b o)
-        (elements_shared R xs b (o + type_size R)) l (λ κ ts. Shares-less 𝓛 R R.lives l inc (L.shares 𝓛) x κ ts b o)
-        (Lends-items xs b (o + type_size R))
+      (elements_shared R xs b (o + type_size R)) l (λ κ ts. Shares-less 𝓛 R R.lives l inc (L.shares 𝓛) x κ ts b o)
+      (Lends-items xs b (o + type_size R))
 
   pub Lends-cells : (p : Ptr) (m : ℕ) (xs : List R.Denot) (n : ℕ)
       → Lends 𝓛 (cells_own R p m xs n) (cells_lent R p m xs n) l
   Lends-cells (block_ptr b o) m xs n =
       Lends-both 𝓛 (fit R (m + length xs + n)) _ (said (fit R (m + length xs + n)))
-        (elements_shared R xs b (m * type_size R + o)) l (Lends-said 𝓛 (fit R (m + length xs + n)) tt l)
+      (elements_shared R xs b (m * type_size R + o)) l (Lends-said 𝓛 (fit R (m + length xs + n)) tt l)
       (Lends-first 𝓛 (cells (mem R) xs b (m * type_size R + o)) _ (elements_shared R xs b (m * type_size R + o)) l
-        (Lends-items xs b (m * type_size R + o)))
+      (Lends-items xs b (m * type_size R + o)))
   Lends-cells null_ptr m xs n = Lends-false 𝓛 (said ffalse) l

@@ -35,17 +35,17 @@ module _ {M : Type 1} (𝓤 : Ura M) where
   learned (φ ∷ ψ ∷ φs) h k =
       let F : SProp 𝓤 = fact 𝓤 φ in let G : SProp 𝓤 = facts (ψ ∷ φs) in
       fact_use 𝓤 φ (via 𝓤 (sep 𝓤 F G) h (fst∗ 𝓤 F G))
-        (λ x. learned (ψ ∷ φs) (via 𝓤 (sep 𝓤 F G) h (snd∗ 𝓤 F G)) (λ xs. k (x, xs)))
+      (λ x. learned (ψ ∷ φs) (via 𝓤 (sep 𝓤 F G) h (snd∗ 𝓤 F G)) (λ xs. k (x, xs)))
 
   pub learns : (φs : List (Type 0)) (P : SProp 𝓤) {Q : SProp 𝓤} → (Every φs → ent 𝓤 P Q) → ent 𝓤 (sep 𝓤 P (facts φs)) Q
   learns φs P h =
       let F : SProp 𝓤 = sep 𝓤 P (facts φs) in learned φs {P = F} (snd∗ 𝓤 P (facts φs))
-        (λ x. via 𝓤 P (fst∗ 𝓤 P (facts φs)) (h x))
+      (λ x. via 𝓤 P (fst∗ 𝓤 P (facts φs)) (h x))
 
 pub says_every : {M : Type 1} {𝓤 : Ura M} {𝓛 : Logic 𝓤} {K : Type 0} {Γ : List (Item 𝓤)} → K → (φs : List (Type 0))
     → {P : SProp 𝓤} → Every φs
     → Step K 𝓛 Γ (prop P) Γ (prop (sep 𝓤 P (facts 𝓤 φs)))
 says_every {𝓤 = 𝓤} t φs {P} x = step (λ s. record {
   prf = via 𝓤 P s.prf (via 𝓤 (sep 𝓤 (emp 𝓤) P) (emp∗ 𝓤 P)
-    (via 𝓤 (sep 𝓤 (facts 𝓤 φs) P) (mono_l 𝓤 P (shown 𝓤 φs x)) (comm∗ 𝓤 (facts 𝓤 φs) P)));
+      (via 𝓤 (sep 𝓤 (facts 𝓤 φs) P) (mono_l 𝓤 P (shown 𝓤 φs x)) (comm∗ 𝓤 (facts 𝓤 φs) P)));
 })

@@ -37,9 +37,9 @@ module _ {X : Type 0} where
   split_last [] some = absurd (some refl)
   split_last (y ∷ ys) some =
       let xs : List X = y ∷ ys in let j = length xs - 1 in let whole : suc j ≡ length xs = omega arith in let x =
-        get_or xs j y in
+      get_or xs j y in
       let cut : xs ≡ take j xs ++ x ∷ [] = sym (take-length xs) ∙ sym (ap (λ k. take k xs) whole)
-        ∙ take-suc xs j y (omega arith) in
+      ∙ take-suc xs j y (omega arith) in
       (x, cut, sym (length-append (take j xs) (x ∷ [])) ∙ ap length (sym cut))
 
 module _ (E : El) {M : Type 1} {𝓤 : Ura M} (𝓛 : Logic 𝓤) (b : ℕ) where
@@ -60,36 +60,36 @@ module _ (E : El) {M : Type 1} {𝓤 : Ura M} (𝓛 : Logic 𝓤) (b : ℕ) wher
   cut : (xs : List (el_x E)) (x : el_x E) (o at : ℕ) → at ≡ length xs * s + o
       → ent 𝓤 (sem 𝓛 (Row (xs ++ x ∷ []) o)) (sep 𝓤 (sem 𝓛 (Row xs o)) (sem 𝓛 (Item x at)))
   cut [] x o at e = qed 𝓛 (‵ (Row (x ∷ []) o) ∷ []) ∵ fsplit ! $ rewrite ! 0 (λ (k : ℕ). ‵ (Item x k)) {x = at}
-    (omega (arith, zero-mul s)) refl $ move ! (1 ∷ 0 ∷ []) $ done !
+      (omega (arith, zero-mul s)) refl $ move ! (1 ∷ 0 ∷ []) $ done !
   cut (y ∷ xs) x o at e = let more : at ≡ suc (length xs) * s + o = e in
-    qed 𝓛 (‵ (Row (y ∷ xs ++ x ∷ []) o) ∷ []) ∵ fsplit ! $ move ! (1 ∷ []) $
+      qed 𝓛 (‵ (Row (y ∷ xs ++ x ∷ []) o) ∷ []) ∵ fsplit ! $ move ! (1 ∷ []) $
       use1 𝓛 (‵ (Row xs (o + s)) ⊛ ‵ (Item x at)) (cut xs x (o + s) at (omega (arith, suc-mul (length xs) s))) $ split !
-        $ move ! (2 ∷ 0 ∷ []) $ fjoin ! $ done !
+      $ move ! (2 ∷ 0 ∷ []) $ fjoin ! $ done !
 
   glue : (xs : List (el_x E)) (x : el_x E) (o at : ℕ) → at ≡ length xs * s + o
       → ent 𝓤 (sep 𝓤 (sem 𝓛 (Row xs o)) (sem 𝓛 (Item x at))) (sem 𝓛 (Row (xs ++ x ∷ []) o))
   glue [] x o at e = qed 𝓛 (‵ ftrue ∷ ‵ (Item x at) ∷ []) ∵ skip ! $ rewrite ! 0 (λ (k : ℕ). ‵ (Item x k)) {x = o}
-    (omega (arith, zero-mul s)) refl $ nothing ! $ move ! (1 ∷ 0 ∷ []) $ fjoin ! $ done !
+      (omega (arith, zero-mul s)) refl $ nothing ! $ move ! (1 ∷ 0 ∷ []) $ fjoin ! $ done !
   glue (y ∷ xs) x o at e = let more : at ≡ suc (length xs) * s + o = e in
-    qed 𝓛 (‵ (Row (y ∷ xs) o) ∷ ‵ (Item x at) ∷ []) ∵ fsplit ! $ move ! (1 ∷ 2 ∷ []) $
+      qed 𝓛 (‵ (Row (y ∷ xs) o) ∷ ‵ (Item x at) ∷ []) ∵ fsplit ! $ move ! (1 ∷ 2 ∷ []) $
       use2 𝓛 (‵ (Row (xs ++ x ∷ []) (o + s))) (glue xs x (o + s) at (omega (arith, suc-mul (length xs) s))) $ move !
-        (1 ∷ 0 ∷ []) $ fjoin ! $ done !
+      (1 ∷ 0 ∷ []) $ fjoin ! $ done !
 
   first_out : (n at : ℕ) → n ≢ 0 → ent 𝓤 (sem 𝓛 (Room at n))
       (sep 𝓤 (H.room (elτ E) b at) (sem 𝓛 (Room (at + s) (n - 1))))
   first_out zero at some = absurd (some refl)
   first_out (suc n) at some = qed 𝓛 (‵ (Room at (suc n)) ∷ []) ∵ as_written ! (ty_array (elτ E) (suc n)) b at $
       use1 𝓛 (‵ (froom (elτ E) b at) ⊛ ‵ (froom (ty_array (elτ E) n) b (at + s)))
-        (𝓛.laws.room_uncons (elτ E) n b at) $ split ! $ move ! (1 ∷ []) $
+      (𝓛.laws.room_uncons (elτ E) n b at) $ split ! $ move ! (1 ∷ []) $
       as_raw ! (ty_array (elτ E) n) b (at + s) $ rewrite ! 0 (λ (k : ℕ). ‵ (Room (at + s) k)) {x = suc n - 1}
-        (omega arith) refl $ move ! (1 ∷ 0 ∷ []) $ done !
+      (omega arith) refl $ move ! (1 ∷ 0 ∷ []) $ done !
 
   first_in : (n at : ℕ) → ent 𝓤 (sep 𝓤 (H.room (elτ E) b at) (sem 𝓛 (Room (at + s) n))) (sem 𝓛 (Room at (n + 1)))
   first_in n at = qed 𝓛 (‵ (froom (elτ E) b at) ∷ ‵ (Room (at + s) n) ∷ []) ∵ move ! (1 ∷ []) $ as_written !
-    (ty_array (elτ E) n) b (at + s) $ move ! (1 ∷ 0 ∷ []) $
+      (ty_array (elτ E) n) b (at + s) $ move ! (1 ∷ 0 ∷ []) $
       use2 𝓛 (‵ (froom (ty_array (elτ E) (suc n)) b at)) (𝓛.laws.room_cons (elτ E) n b at) $
       as_raw ! (ty_array (elτ E) (suc n)) b at $ rewrite ! 0 (λ (k : ℕ). ‵ (Room at k)) {x = n + 1}
-        (omega arith) refl $ done !
+      (omega arith) refl $ done !
 
   module _ (o m : ℕ) where
     -- where the slot behind the items begins
@@ -111,7 +111,7 @@ module _ (E : El) {M : Type 1} {𝓤 : Ura M} (𝓛 : Logic 𝓤) (b : ℕ) wher
     next_end xs x =
         let long : suc (m + length xs) ≡ m + length (xs ++ x ∷ []) = omega (arith, length-append xs (x ∷ [])) in
         let one : End xs + s ≡ suc (m + length xs) * s + o = omega (arith, suc-mul (m + length xs) s) in
-          one ∙ ap (λ k. k * s + o) long
+        one ∙ ap (λ k. k * s + o) long
 
     pub room_out : (xs : List (el_x E)) (n : ℕ) → n ≢ 0
         → ent 𝓤 (sem 𝓛 (Held xs n)) (sep 𝓤 (H.room (elτ E) b (End xs)) (sem 𝓛 (Around xs (n - 1))))
@@ -122,23 +122,23 @@ module _ (E : El) {M : Type 1} {𝓤 : Ura M} (𝓛 : Logic 𝓤) (b : ℕ) wher
     pub room_in : (xs : List (el_x E)) (n : ℕ) → ent 𝓤 (sep 𝓤 (H.room (elτ E) b (End xs)) (sem 𝓛 (Around xs n)))
         (sem 𝓛 (Held xs (n + 1)))
     room_in xs n = qed 𝓛 (‵ (froom (elτ E) b (End xs)) ∷ ‵ (Around xs n) ∷ []) ∵ move ! (1 ∷ []) $ fsplit ! $ move !
-      (1 ∷ []) $ fsplit ! $ move ! (3 ∷ 1 ∷ []) $
+        (1 ∷ []) $ fsplit ! $ move ! (3 ∷ 1 ∷ []) $
         use2 𝓛 (‵ (Room (End xs) (n + 1))) (first_in n (End xs)) $ move ! (1 ∷ 0 ∷ []) $ fjoin ! $ move !
-          (1 ∷ 0 ∷ []) $ fjoin ! $ done !
+        (1 ∷ 0 ∷ []) $ fjoin ! $ done !
 
     pub item_out : (xs : List (el_x E)) (x : el_x E) (n : ℕ)
         → ent 𝓤 (sem 𝓛 (Held (xs ++ x ∷ []) n)) (sep 𝓤 (sem 𝓛 (Item x (End xs))) (sem 𝓛 (Around xs n)))
     item_out xs x n = qed 𝓛 (‵ (Held (xs ++ x ∷ []) n) ∷ []) ∵ fsplit ! $
         use1 𝓛 (‵ (Row xs (m * s + o)) ⊛ ‵ (Item x (End xs)))
-          (cut xs x (m * s + o) (End xs) (end_is xs)) $ split ! $ move ! (2 ∷ []) $ fsplit ! $ move ! (1 ∷ []) $
+        (cut xs x (m * s + o) (End xs) (end_is xs)) $ split ! $ move ! (2 ∷ []) $ fsplit ! $ move ! (1 ∷ []) $
         rewrite ! 0 (λ (k : ℕ). ‵ (Room k n)) (sym (next_end xs x)) refl $ move ! (1 ∷ 0 ∷ []) $ fjoin ! $ move !
-          (1 ∷ 0 ∷ []) $ fjoin ! $ move ! (1 ∷ 0 ∷ []) $ done !
+        (1 ∷ 0 ∷ []) $ fjoin ! $ move ! (1 ∷ 0 ∷ []) $ done !
 
     pub item_in : (xs : List (el_x E)) (x : el_x E) (n : ℕ)
         → ent 𝓤 (sep 𝓤 (sem 𝓛 (Item x (End xs))) (sem 𝓛 (Around xs n))) (sem 𝓛 (Held (xs ++ x ∷ []) n))
     item_in xs x n = qed 𝓛 (‵ (Item x (End xs)) ∷ ‵ (Around xs n) ∷ []) ∵ move ! (1 ∷ []) $ fsplit ! $ move !
-      (0 ∷ 2 ∷ []) $
+        (0 ∷ 2 ∷ []) $
         use2 𝓛 (‵ (Row (xs ++ x ∷ []) (m * s + o))) (glue xs x (m * s + o) (End xs) (end_is xs)) $ move !
-          (1 ∷ []) $ fsplit ! $ move ! (1 ∷ []) $
+        (1 ∷ []) $ fsplit ! $ move ! (1 ∷ []) $
         rewrite ! 0 (λ (k : ℕ). ‵ (Room k n)) (next_end xs x) refl $ move ! (1 ∷ 0 ∷ []) $ fjoin ! $ move !
-          (1 ∷ 0 ∷ []) $ fjoin ! $ done !
+        (1 ∷ 0 ∷ []) $ fjoin ! $ done !

@@ -37,8 +37,8 @@ module _ (E : El) where
     pub empty_snoc : (m o : ℕ) → ent 𝓤 (sep 𝓤 (H.room (elτ E) b (m * s + o)) (sem 𝓛 (empty (R E) b o m)))
         (sem 𝓛 (empty (R E) b o (m + 1)))
     empty_snoc m o = let more : suc m ≡ m + 1 = omega arith in
-      qed 𝓛 (‵ (froom (elτ E) b (m * s + o)) ∷ ‵ (empty (R E) b o m) ∷ []) ∵ move ! (1 ∷ []) $
+        qed 𝓛 (‵ (froom (elτ E) b (m * s + o)) ∷ ‵ (empty (R E) b o m) ∷ []) ∵ move ! (1 ∷ []) $
         use1 𝓛 (‵ (froom (ty_array (elτ E) m) b o)) (𝓛.laws.raw-room (ty_array (elτ E) m) b o) $
         use2 𝓛 (‵ (froom (ty_array (elτ E) (suc m)) b o)) (room_snoc (record { row = E.row; laws = E.laws }) 𝓛 b o m) $
         rewrite ! 0 (λ (k : ℕ). ‵ (froom (ty_array (elτ E) k) b o)) more refl $ by !
-          (𝓛.laws.room-raw (ty_array (elτ E) (m + 1)) b o)
+        (𝓛.laws.room-raw (ty_array (elτ E) (m + 1)) b o)

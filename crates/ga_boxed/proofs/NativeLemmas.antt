@@ -31,7 +31,7 @@ module _ {M : Type 1} {𝓤 : Ura M} (𝓛 : Logic 𝓤) where
       → ent 𝓤 (sem 𝓛 ftrue) (sem 𝓛 (all_last (λ _. Unit {0}) (λ _ _. ftrue) xs fs))
   nothing_left [] fs = qed 𝓛 (‵ ftrue ∷ []) ∵ done !
   nothing_left (x ∷ xs) fs = qed 𝓛 (‵ ftrue ∷ []) ∵ use1 𝓛 (‵ (all_last (λ _. Unit {0}) (λ _ _. ftrue) xs fs.1))
-    (nothing_left xs fs.1) $ nothing ! $ fjoin ! $ done !
+      (nothing_left xs fs.1) $ nothing ! $ fjoin ! $ done !
 
   module _ (E : El) (b o : ℕ) where
     abbrev s : ℕ
@@ -42,13 +42,13 @@ module _ {M : Type 1} {𝓤 : Ura M} (𝓛 : Logic 𝓤) where
     all_items n xs small =
         qed 𝓛 (‵ (part_at (Array (R E) n) full_share xs b o) ∷ []) ∵
         use1 𝓛 (‵ (fsep (feq ℕ (length xs) n) (row (R E) full_share xs b o)))
-          (Array-apart 𝓛 (R E) full_share tt n xs b o) $ fsplit ! $ feq_l ! (λ long.
+        (Array-apart 𝓛 (R E) full_share tt n xs b o) $ fsplit ! $ feq_l ! (λ long.
         use1 𝓛 (‵ (cells (mem (R E)) xs b o)) (whole_in 𝓛 (R E) xs b o) $
         rewrite ! 0 (λ (k : ℕ). ‵ (cells (mem (R E)) xs b k)) {x = 0 * s + o} (omega (arith, zero-mul s)) refl $
         use0 𝓛 (‵ (froom (ty_array (elτ E) 0) b ((0 + length xs) * s + o)))
-          (𝓛.laws.room_nil (elτ E) b ((0 + length xs) * s + o)) $ as_raw ! (ty_array (elτ E) 0) b
-          ((0 + length xs) * s + o) $
+        (𝓛.laws.room_nil (elτ E) b ((0 + length xs) * s + o)) $ as_raw ! (ty_array (elτ E) 0) b
+        ((0 + length xs) * s + o) $
         use0 𝓛 (‵ (froom (ty_array (elτ E) 0) b o)) (𝓛.laws.room_nil (elτ E) b o) $ as_raw !
-          (ty_array (elτ E) 0) b o $ fjoin ! $ move ! (1 ∷ 0 ∷ []) $ fjoin ! $
+        (ty_array (elτ E) 0) b o $ fjoin ! $ move ! (1 ∷ 0 ∷ []) $ fjoin ! $
         flt_i ! ((0 + length xs + 0) * s) (2 ^ 63) (let all : n ≡ 0 + length xs + 0 = omega arith in
-          subst (λ k. k * s < 2 ^ 63) all small) $ fjoin ! $ done !)
+        subst (λ k. k * s < 2 ^ 63) all small) $ fjoin ! $ done !)

@@ -9,4 +9,4 @@ module _ (R : RattleType) (block : MutBor (Live R.Denot)) where
   -- once the borrow r ends, the items are those that r shows last, and the room is what it was
   abbrev pub LendsLive : MutBor (List R.Denot) → Fml
   LendsLive r = Lends (the_row R) (Array R 0) block r
-    (λ ws. live (refill (length block.now.items) block.now.items ws) block.now.room)
+      (λ ws. live (refill (length block.now.items) block.now.items ws) block.now.room)

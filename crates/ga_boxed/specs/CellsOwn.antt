@@ -25,13 +25,13 @@ module _ (R : RattleType) where
   abbrev pub cells_own : Ptr → ℕ → List R.Denot → ℕ → Fml
   cells_own (block_ptr b o) m xs n =
       fsep (fit (m + length xs + n)) (fsep (cells (mem R) xs b (m * type_size R + o))
-        (fsep (empty b o m) (empty b ((m + length xs) * type_size R + o) n)))
+      (fsep (empty b o m) (empty b ((m + length xs) * type_size R + o) n)))
   cells_own null_ptr m xs n = ffalse
 
   -- a `&` reaches the items alone
   abbrev pub cells_lent : Ptr → ℕ → List R.Denot → ℕ → Lft → Fml
   cells_lent (block_ptr b o) m xs n = beside (said (fit (m + length xs + n)))
-    (elements_shared R xs b (m * type_size R + o))
+      (elements_shared R xs b (m * type_size R + o))
   cells_lent null_ptr m xs n = said ffalse
 
   -- the allocator's token for a block of n places, where there is a block

@@ -15,4 +15,4 @@ module _ (T N : RattleType) (n : unsigned.Ghosts N.Denot) (array : MutBor (List 
   -- the same where the items went to an `iter_mut`
   abbrev pub LendsIter : IterMut T.Denot → Fml
   LendsIter items = follows (the_row T N n) (Array T 0) array.ghost_name (iter_mut_name items)
-    (refill (length array.now) array.now)
+      (refill (length array.now) array.now)

@@ -15,4 +15,4 @@ module _ {X : Type 0} where
   -- a code of blocks, from one of items
   abbrev pub live_code : Coded X → Coded (Live X)
   live_code c = code_by (List X × ℕ) (coded× (coded_list c) coded_ℕ) (λ b. (b.items, b.room)) (λ p. live p.0 p.1)
-    (λ _. refl)
+      (λ _. refl)

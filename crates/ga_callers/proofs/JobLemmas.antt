@@ -31,11 +31,11 @@ module _ {J R G : Type 0} (look : G → List J → R → G → Type 0) where
   own-gone (step ∷ steps) before [] last turns run = absurd run
   own-gone (Next ∷ steps) before (reply ∷ replies) last turns run =
       let others = subst (λ left. gone_front left steps ≡ jobs_by own_job steps replies) run.1.1
-        (own-gone steps run.0 replies last turns.1 run.2) in
+      (own-gone steps run.0 replies last turns.1 run.2) in
       cc (others, first-job before.0, ap job_of run.1.0.0)
   own-gone (NextBack ∷ steps) before (reply ∷ replies) last turns run =
-    subst (λ left. gone_front left steps ≡ jobs_by own_job steps replies) run.1.1
-    (own-gone steps run.0 replies last turns.1 run.2)
+      subst (λ left. gone_front left steps ≡ jobs_by own_job steps replies) run.1.1
+      (own-gone steps run.0 replies last turns.1 run.2)
   own-gone (Nth n ∷ steps) before (reply ∷ replies) last turns run = absurd turns.0
   own-gone (NthBack n ∷ steps) before (reply ∷ replies) last turns run = absurd turns.0
   own-gone (Look ∷ steps) before (reply ∷ replies) last turns run = absurd turns.0
@@ -47,11 +47,11 @@ module _ {J R G : Type 0} (look : G → List J → R → G → Type 0) where
   stolen-gone [] before replies last turns run = refl
   stolen-gone (step ∷ steps) before [] last turns run = absurd run
   stolen-gone (Next ∷ steps) before (reply ∷ replies) last turns run =
-    subst (λ left. gone_back left steps ≡ jobs_by stolen_job steps replies) run.1.1
-    (stolen-gone steps run.0 replies last turns.1 run.2)
+      subst (λ left. gone_back left steps ≡ jobs_by stolen_job steps replies) run.1.1
+      (stolen-gone steps run.0 replies last turns.1 run.2)
   stolen-gone (NextBack ∷ steps) before (reply ∷ replies) last turns run =
       let others = subst (λ left. gone_back left steps ≡ jobs_by stolen_job steps replies) run.1.1
-        (stolen-gone steps run.0 replies last turns.1 run.2) in
+      (stolen-gone steps run.0 replies last turns.1 run.2) in
       cc (others, first-job (reverse before.0), ap job_of run.1.0.0)
   stolen-gone (Nth n ∷ steps) before (reply ∷ replies) last turns run = absurd turns.0
   stolen-gone (NthBack n ∷ steps) before (reply ∷ replies) last turns run = absurd turns.0
@@ -61,7 +61,7 @@ module _ {J R G : Type 0} (look : G → List J → R → G → Type 0) where
   pub jobs-shared : (steps : List (Step J)) (before : List J × G) (replies : List (Reply J R)) (last : List J × G)
       → AreTurns steps → StepsRun look before steps replies last
       → Account before.0 steps replies last.0 → jobs_by own_job steps replies
-        ++ (last.0 ++ reverse (jobs_by stolen_job steps replies)) ≡ before.0
+      ++ (last.0 ++ reverse (jobs_by stolen_job steps replies)) ≡ before.0
   jobs-shared steps before replies last turns run account = cc (
     own-gone steps before replies last turns run,
     stolen-gone steps before replies last turns run,

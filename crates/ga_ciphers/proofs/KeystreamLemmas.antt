@@ -22,7 +22,7 @@ range_with_len-append a (suc m) n =
     let more : suc m + n ≡ suc (m + n) = omega arith in
     let further : a + 1 + m ≡ a + suc m = omega arith in
     ap (range_with_len a) more ∙ ap (λ xs. a ∷ xs)
-      (range_with_len-append (a + 1) m n ∙ ap (λ k. range_with_len (a + 1) m ++ range_with_len k n) further)
+    (range_with_len-append (a + 1) m n ∙ ap (λ k. range_with_len (a + 1) m ++ range_with_len k n) further)
 
 module _ (block : ℕ → List ℕ) (width : ℕ) where
   -- a piece of m + n bytes: m bytes, and n from further on
@@ -30,7 +30,7 @@ module _ (block : ℕ → List ℕ) (width : ℕ) where
       ++ key_bytes block width (from + m) n
   key_bytes-append from m n =
       ap (map (key_byte block width)) (range_with_len-append from m n)
-        ∙ map-append (key_byte block width) (range_with_len from m) (range_with_len (from + m) n)
+      ∙ map-append (key_byte block width) (range_with_len from m) (range_with_len (from + m) n)
 
   pub length-key_bytes : (from count : ℕ) → length (key_bytes block width from count) ≡ count
   length-key_bytes from count = length-map-range_with_len (key_byte block width) from count
@@ -69,19 +69,19 @@ module _ (block : ℕ → List ℕ) (width from : ℕ) where
   under_in_pieces first second =
       sym (ap (under (first ++ second)) (key_bytes-append block width from (length first) (length second))
       ∙ under-append first (key_bytes block width from (length first)) second
-        (key_bytes block width (from + length first) (length second))
-        (sym (length-key_bytes block width from (length first))))
+      (key_bytes block width (from + length first) (length second))
+      (sym (length-key_bytes block width from (length first))))
 
   -- the key twice leaves the text
   pub under_taken_off : (text now : List ℕ) → now ≡ under text (key_bytes block width from (length text))
       → under now (key_bytes block width from (length now)) ≡ text
   under_taken_off text now is =
       let same : length text ≡ length (key_bytes block width from (length text)) =
-        sym (length-key_bytes block width from (length text)) in
+      sym (length-key_bytes block width from (length text)) in
       let long : length now ≡ length text = ap length is
-        ∙ length-under text (key_bytes block width from (length text)) same in
+      ∙ length-under text (key_bytes block width from (length text)) same in
       ap₂ under is (ap (key_bytes block width from) long)
-        ∙ under_twice text (key_bytes block width from (length text)) same
+      ∙ under_twice text (key_bytes block width from (length text)) same
 
 -- what is written at each place is the text under the key
 pub under-from_places : (text key new : List ℕ) → length text ≡ length key → length new ≡ length text
@@ -92,7 +92,7 @@ under-from_places (t ∷ text) [] new same long places = absurd (omega (arith, s
 under-from_places (t ∷ text) (k ∷ key) [] same long places = absurd (omega (arith, long))
 under-from_places (t ∷ text) (k ∷ key) (n ∷ new) same long places =
     ap₂ ◌∷◌ (places 0 (omega arith)) (under-from_places text key new (omega (arith, same)) (omega (arith, long))
-      (λ i below. places (suc i) (omega arith)))
+    (λ i below. places (suc i) (omega arith)))
 
 -- Places in blocks of one width.
 module _ (width : ℕ) (some : 0 < width) (position : ℕ) where
@@ -106,14 +106,14 @@ module _ (width : ℕ) (some : 0 < width) (position : ℕ) where
       elim (cases_lt (position % width + count) width) as (λ _. kept ≡ block (next / width)) [
         | inl below ↦
             let split : position / width * width + (position % width + count) ≡ next =
-              omega (arith, place_is, further) in
+            omega (arith, place_is, further) in
             is ∙ ap block (sym (ap (λ n. n / width) (sym split)
-              ∙ div-mul-add (position / width) width (position % width + count) below))
+            ∙ div-mul-add (position / width) width (position % width + count) below))
         | inr end ↦
             let all : position % width + count ≡ width = omega arith in
             let split : width + position / width * width ≡ next = omega (arith, place_is, further) in
             absurd (within (ap (λ n. n % width) (sym split)
-              ∙ (add-mul-mod_self_right width (position / width) width ∙ mod_self width)))
+            ∙ (add-mul-mod_self_right width (position / width) width ∙ mod_self width)))
       ]
 
 -- The bytes of one block.
@@ -128,7 +128,7 @@ module _ (block : ℕ → List ℕ) (width number : ℕ) (long : length (block n
       let quotient : from / width ≡ number = ap (λ n. n / width) (sym is) ∙ div-mul-add number width place here in
       let remainder : from % width ≡ place = ap (λ n. n % width) (sym is) ∙ mod-mul-add number width place here in
       let first : get_or (block number) place 0 ≡ key_byte block width from =
-        ap₂ (λ n p. get_or (block n) p 0) (sym quotient) (sym remainder) in
+      ap₂ (λ n p. get_or (block n) p 0) (sym quotient) (sym remainder) in
       ap (take (suc count)) (drop-cons (block number) place 0 below)
       ∙ ap₂ ◌∷◌ first (in_block count (suc place) (from + 1) (omega (arith, inside)) next)
 
@@ -155,7 +155,7 @@ module _ (block : ℕ → List ℕ) (width start : ℕ) (text : List ℕ) where
     pub under_so_far-more : (now key : List ℕ) → now ≡ under_so_far done
         → key ≡ key_bytes block width (start + done) count
         → take done now ++ under (slice_range now done (done + length key)) key
-          ++ drop (done + length key) now ≡ under_so_far (done + count)
+        ++ drop (done + length key) now ≡ under_so_far (done + count)
     under_so_far-more now key is same =
         let counted : length key ≡ count = ap length same ∙ length-key_bytes block width (start + done) count in
         let many : done + length key - done ≡ count = omega arith in
@@ -165,19 +165,19 @@ module _ (block : ℕ → List ℕ) (width start : ℕ) (text : List ℕ) where
         let part_is : slice_range now done (done + length key) ≡ take count (drop done text) = ap₂ take many rest_is in
         let behind_is : drop (done + length key) now ≡ drop (done + count) text =
         ap (λ n. drop (done + n) now) counted ∙ (sym (drop-drop count done now)
-          ∙ (ap (drop count) rest_is ∙ drop-drop count done text)) in
+        ∙ (ap (drop count) rest_is ∙ drop-drop count done text)) in
         let joined : under (take (done + count) text) (key_bytes block width start (done + count)) ≡ so_far
-          ++ under (take count (drop done text)) (key_bytes block width (start + done) count) =
+        ++ under (take count (drop done text)) (key_bytes block width (start + done) count) =
         ap₂ under (take-add done count text) (key_bytes-append block width start done count)
-          ∙ under-append (take done text) (key_bytes block width start done) (take count (drop done text))
-          (key_bytes block width (start + done) count) front in
+        ∙ under-append (take done text) (key_bytes block width start done) (take count (drop done text))
+        (key_bytes block width (start + done) count) front in
         ap₂ ◌++◌ (ap₂ ◌++◌ front_is (ap₂ under part_is same) ∙ sym joined) behind_is
 
 -- A turn of the loop over a text: so many bytes of the block at the place are put over the next bytes of the text.
 module _ (block : ℕ → List ℕ) (width start : ℕ) (text : List ℕ) (some : 0 < width) (position done count : ℕ)
     (now kept : List ℕ)
     (counted : count ≡ min (length now - done) (width - position % width)) (long : length now ≡ length text)
-        (passed : done ≤ length text) where
+    (passed : done ≤ length text) where
   pub count-le_block : position % width + count ≤ width
   count-le_block = omega (arith, mod-lt position some)
 
@@ -188,12 +188,12 @@ module _ (block : ℕ → List ℕ) (width start : ℕ) (text : List ℕ) (some 
       → now ≡ under_so_far block width start text done → (key : List ℕ)
       → key ≡ slice_range kept (position % width) (position % width + count)
       → take done now ++ under (slice_range now done (done + length key)) key
-        ++ drop (done + length key) now ≡ under_so_far block width start text (done + count)
+      ++ drop (done + length key) now ≡ under_so_far block width start text (done + count)
   piece_more at full is so_far key part =
       let full_block : length (block (position / width)) ≡ width = ap length (sym is) ∙ full in
       let in_stream : key ≡ key_bytes block width position count =
       part ∙ (ap (λ xs. slice_range xs (position % width) (position % width + count)) is
-        ∙ key_bytes-in_block block width (position / width) full_block position (position % width) count count-le_block
-        (place_is width some position)) in
+      ∙ key_bytes-in_block block width (position / width) full_block position (position % width) count count-le_block
+      (place_is width some position)) in
       under_so_far-more block width start text done count count-le_text now key so_far
-        (in_stream ∙ ap (λ p. key_bytes block width p count) at)
+      (in_stream ∙ ap (λ p. key_bytes block width p count) at)

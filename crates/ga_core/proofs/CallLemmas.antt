@@ -26,7 +26,7 @@ module _ {F X Y : Type 0} (step : F → X → Y → F → Type 0) where
   ClosureRun-of_items f [] (y ∷ ys) last run = run
   ClosureRun-of_items f (x ∷ xs) [] last run = run
   ClosureRun-of_items f (x ∷ xs) (y ∷ ys) last run =
-    (run.0, (x, refl, run.1), ClosureRun-of_items run.0 xs ys last run.2)
+      (run.0, (x, refl, run.1), ClosureRun-of_items run.0 xs ys last run.2)
 
 module _ {F A X : Type 0} (step : F → A → X → A → F → Type 0) where
   -- where no call changes f, a fold leaves it as it is
@@ -35,7 +35,7 @@ module _ {F A X : Type 0} (step : F → A → X → A → F → Type 0) where
   stays-fold f stays a [] b last run = sym (ap (λ p. p.0) run)
   stays-fold f stays a (x ∷ xs) b last run =
       stays-fold f stays run.0.1 xs b last (subst (λ s. FoldRun step s run.0.1 xs b last)
-        (stays a x run.0.1 run.0.0 run.1) run.2)
+      (stays a x run.0.1 run.0.0 run.1) run.2)
 
   -- a fold over items is one over entries that stand for themselves
   pub FoldRun-of_items : (f : F) (a : A) (xs : List X) (b : A) (last : F) → FoldRun step f a xs b last
@@ -47,13 +47,13 @@ module _ {F Y : Type 0} (pre : F → ℕ → Type 0) (step : F → ℕ → Y →
   pub may_generate-at : (n : ℕ) → MayGenerate pre step f n → (k : ℕ) (ys : List Y) (reached : F) → k < n
       → ClosureRun step f (range_with_len 0 k) ys reached → pre reached k
   may_generate-at n may = λ k ys reached below run. may k ys reached below run
-    (stays-holds step (λ s. pre s k) f (range_with_len 0 k) ys reached run)
+      (stays-holds step (λ s. pre s k) f (range_with_len 0 k) ys reached run)
 
 module _ {F Y E : Type 0} (pre : F → ℕ → Type 0) (step : F → ℕ → Result Y E → F → Type 0) (f : F) where
   pub may_try_generate-at : (n : ℕ) → MayTryGenerate pre step f n → (k : ℕ) (good : List Y) (reached : F) → k < n
       → ClosureRun step f (range_with_len 0 k) (map Ok good) reached → pre reached k
   may_try_generate-at n may = λ k good reached below run. may k good reached below run
-    (stays-holds step (λ s. pre s k) f (range_with_len 0 k) (map Ok good) reached run)
+      (stays-holds step (λ s. pre s k) f (range_with_len 0 k) (map Ok good) reached run)
 
 module _ {F I T : Type 0} (entry : I → T) (pre : F → I → Type 0) where
   pub may_map-at : {Y : Type 0} (step : F → I → Y → F → Type 0) (f : F) (xs : List T) → MayMap entry pre step f xs
@@ -61,8 +61,8 @@ module _ {F I T : Type 0} (entry : I → T) (pre : F → I → Type 0) where
       → ClosureRun (CallAt entry step) f passed ys reached → (item : I) → entry item ≡ x → pre reached item
   may_map-at step f xs may = λ passed x others ys reached whole run item is.
       may passed x others ys reached whole run item is
-        (λ here stays. stays-holds (CallAt entry step) (λ s. pre s item) f passed ys reached run here
-        (λ v y g call. stays call.0 y g call.2))
+      (λ here stays. stays-holds (CallAt entry step) (λ s. pre s item) f passed ys reached run here
+      (λ v y g call. stays call.0 y g call.2))
 
   pub may_try_map-at : {Y E : Type 0} (step : F → I → Result Y E → F → Type 0) (f : F) (xs : List T)
       → MayTryMap entry pre step f xs
@@ -70,20 +70,20 @@ module _ {F I T : Type 0} (entry : I → T) (pre : F → I → Type 0) where
       → ClosureRun (CallAt entry step) f passed (map Ok good) reached → (item : I) → entry item ≡ x → pre reached item
   may_try_map-at step f xs may = λ passed x others good reached whole run item is.
       may passed x others good reached whole run item is
-        (λ here stays. stays-holds (CallAt entry step) (λ s. pre s item) f passed (map Ok good) reached run here
-        (λ v y g call. stays call.0 y g call.2))
+      (λ here stays. stays-holds (CallAt entry step) (λ s. pre s item) f passed (map Ok good) reached run here
+      (λ v y g call. stays call.0 y g call.2))
 
 module _ {F I J T B Y : Type 0} (entry : I → T) (other : J → B) (pre : F → I → J → Type 0) (step : F → I → J → Y → F
     → Type 0) (f : F) where
   pub may_zip-at : (xs : List T) (bs : List B) → MayZip entry other pre step f xs bs
       → (passed : List (T × B)) (p : T × B) (others : List (T × B)) (ys : List Y) (reached : F)
-        → zip xs bs ≡ passed ++ p ∷ others
+      → zip xs bs ≡ passed ++ p ∷ others
       → ClosureRun (CallAtPair entry other step) f passed ys reached → (left : I) (right : J) → entry left ≡ p.0
-        → other right ≡ p.1 → pre reached left right
+      → other right ≡ p.1 → pre reached left right
   may_zip-at xs bs may = λ passed p others ys reached whole run left right is also.
       may passed p others ys reached whole run left right is also
       (λ here stays. stays-holds (CallAtPair entry other step) (λ s. pre s left right) f passed ys reached run here
-        (λ v y g call. stays call.0 call.1 y g call.4))
+      (λ v y g call. stays call.0 call.1 y g call.4))
 
 module _ {F A I T : Type 0} (entry : I → T) (pre : F → A → I → Type 0) where
   pub may_fold-at : (step : F → A → I → A → F → Type 0) (f : F) (a : A) (xs : List T) → MayFold entry pre step f a xs
@@ -92,5 +92,5 @@ module _ {F A I T : Type 0} (entry : I → T) (pre : F → A → I → Type 0) w
   may_fold-at step f a xs may = λ passed x others reached value whole run item is.
       may passed x others reached value whole run item is
       (λ here stays. subst (λ s. pre s value item)
-        (sym (stays-fold (FoldAt entry step) f (λ b v c g call. stays b call.0 c g call.2) a passed value reached run))
-        here)
+      (sym (stays-fold (FoldAt entry step) f (λ b v c g call. stays b call.0 c g call.2) a passed value reached run))
+      here)

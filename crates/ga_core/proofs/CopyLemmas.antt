@@ -13,7 +13,7 @@ module _ {T : Type 0} where
   all_equal item [] all = refl
   all_equal item (x ∷ items) all =
       ap (λ first. first ∷ items) (all 0 x (omega arith))
-        ∙ ap (λ others. item ∷ others) (all_equal item items (λ k d within. all (suc k) d (omega (arith, within))))
+      ∙ ap (λ others. item ∷ others) (all_equal item items (λ k d within. all (suc k) d (omega (arith, within))))
 
   -- where a clone equals its source, the copies are equal
   pub Repeats-same : (is_clone : T → T → Type 0) (item : T) (n : ℕ) (array : List T)
@@ -23,10 +23,10 @@ module _ {T : Type 0} where
   Repeats-same is_clone item (suc n) array equal (clones, made, long, all) =
       let same : clones ≡ replicate n item =
       all_equal item clones (λ k d within. equal (slice_index_or clones k d) (all k d within))
-        ∙ ap (λ k. replicate k item) long in
+      ∙ ap (λ k. replicate k item) long in
       let more : n + 1 ≡ suc n = omega arith in
       made ∙ (ap (λ front. front ++ item ∷ []) same
-        ∙ (replicate-append-replicate n 1 item ∙ ap (λ k. replicate k item) more))
+      ∙ (replicate-append-replicate n 1 item ∙ ap (λ k. replicate k item) more))
 
   -- clones over all slots but the last, and the item over the last
   pub Repeats-written : (is_clone : T → T → Type 0) (item : T) (n : ℕ) (clones rest : List T) → length clones + 1 ≡ n
@@ -60,6 +60,11 @@ module _ {T : Type 0} (P : T → Type 0) where
   ExactlyEach-all zero [] long all = refl
   ExactlyEach-all zero (x ∷ items) long all = absurd (omega (arith, long))
   ExactlyEach-all (suc n) [] long all = absurd (omega (arith, long))
-  ExactlyEach-all (suc n) (x ∷ items) long all =
-      (x, items, refl, all 0 x (omega arith), ExactlyEach-all n items (omega (arith, long))
-        (λ k d within. all (suc k) d (omega (arith, within))))
+  ExactlyEach-all (suc n) (x ∷ items) long all = (
+    x,
+    items,
+    refl,
+    all 0 x (omega arith),
+    ExactlyEach-all n items (omega (arith, long))
+        (λ k d within. all (suc k) d (omega (arith, within))),
+  )

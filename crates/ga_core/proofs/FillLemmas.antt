@@ -14,9 +14,11 @@ module _ {S T : Type 0} (next_gives : S → Option T → S → Type 0) where
       → Takes next_gives before room taken after → P taken → TakeRuns next_gives before room P
   TakeRuns-from_takes P before room taken after (inl (calls, all)) holds =
       (run next_gives before taken false (after, calls, λ whole. cc), refl, (holds, inl all))
-  TakeRuns-from_takes P before room taken after (inr (calls, short)) holds =
-      (run next_gives before taken true (to_end next_gives before taken (after, calls)), refl,
-        (holds, inr (refl, short)))
+  TakeRuns-from_takes P before room taken after (inr (calls, short)) holds = (
+    run next_gives before taken true (to_end next_gives before taken (after, calls)),
+    refl,
+    (holds, inr (refl, short)),
+  )
 
   -- items, and then what other calls gave
   Asks-behind : (before reached : S) (taken : List T) (n : ℕ) (after : S) → Yields next_gives before taken reached
@@ -27,7 +29,7 @@ module _ {S T : Type 0} (next_gives : S → Option T → S → Type 0) where
   Asks-behind before reached (item ∷ taken) n after calls asks =
       let more : suc (length taken) + n ≡ suc (length taken + n) = omega arith in
       subst (λ k. Asks next_gives before k after) (sym more)
-        (Some item, calls.0, calls.1, Asks-behind calls.0 reached taken n after calls.2 asks)
+      (Some item, calls.0, calls.1, Asks-behind calls.0 reached taken n after calls.2 asks)
 
   -- an end, or the last of the calls
   Asks-last : (before : S) (last : Option T) (n : ℕ) (after : S) → next_gives before last after
@@ -35,7 +37,7 @@ module _ {S T : Type 0} (next_gives : S → Option T → S → Type 0) where
   Asks-last before None zero after call some = absurd (omega (arith, some))
   Asks-last before None (suc n) after call some = (None, after, call, refl)
   Asks-last before (Some item) n after call one = subst (λ k. Asks next_gives before k after) (sym one)
-    (Some item, after, call, refl)
+      (Some item, after, call, refl)
 
   pub Asks-from_takes : (before : S) (room : ℕ) (taken : List T) (after : S) → Takes next_gives before room taken after
       → Asks next_gives before room after
@@ -46,7 +48,7 @@ module _ {S T : Type 0} (next_gives : S → Option T → S → Type 0) where
       let rest : length taken + (room - length taken) ≡ room = omega (arith, short) in
       subst (λ k. Asks next_gives before k after) rest
       (Asks-behind before reached taken (room - length taken) after calls
-        (Asks-last reached None (room - length taken) after end (omega (arith, short))))
+      (Asks-last reached None (room - length taken) after end (omega (arith, short))))
 
   -- how many calls are left for the last answer of a fill
   calls_left : (taken : List T) (last : Option T) (n : ℕ) → MatchOption last (length taken < n) (λ _. length taken ≡ n)
@@ -57,12 +59,12 @@ module _ {S T : Type 0} (next_gives : S → Option T → S → Type 0) where
   asks_in_fill : (before : S) (n : ℕ) (taken : List T) (last : Option T) (after : S) → length taken ≤ n
       → YieldsThen next_gives before taken last after
       → MatchOption last (0 < n + 1 - length taken) (λ _. n + 1 - length taken ≡ 1)
-        → Asks next_gives before (n + 1) after
+      → Asks next_gives before (n + 1) after
   asks_in_fill before n taken last after within (reached, calls, call) left =
       let rest : length taken + (n + 1 - length taken) ≡ n + 1 = omega (arith, within) in
       subst (λ k. Asks next_gives before k after) rest
-        (Asks-behind before reached taken (n + 1 - length taken) after calls
-        (Asks-last reached last (n + 1 - length taken) after call left))
+      (Asks-behind before reached taken (n + 1 - length taken) after calls
+      (Asks-last reached last (n + 1 - length taken) after call left))
 
   -- at most n items were taken in a fill that was refused
   taken_within : (taken : List T) (last : Option T) (n : ℕ)
@@ -85,16 +87,21 @@ module _ {S T E : Type 0} (next_gives : S → Option T → S → Type 0) where
       → MatchOption last (length taken < n) (λ _. length taken ≡ n) → FillRuns next_gives before n (Err error)
   refused_runs before n error after taken None calls short =
       (run next_gives before taken true (to_end next_gives before taken (after, calls)), refl, inl (refl, short))
-  refused_runs before n error after taken (Some item) calls full =
-      (run next_gives before (taken ++ item ∷ []) false (to_item next_gives before after taken item calls), refl,
-        inr (omega (arith, length-append taken (item ∷ []))))
+  refused_runs before n error after taken (Some item) calls full = (
+    run next_gives before (taken ++ item ∷ []) false (to_item next_gives before after taken item calls),
+    refl,
+    inr (omega (arith, length-append taken (item ∷ []))),
+  )
 
   pub FillRuns-from_fill : (before : S) (n : ℕ) (result : Result (List T) E) (after : S)
       → Fills next_gives before n result after → FillRuns next_gives before n result
   FillRuns-from_fill before n (Ok array) after (taken, last, calls, whole) =
-      let ended = subst (λ o. YieldsThen next_gives before taken o after) whole.2 calls in
-      (run next_gives before taken true (to_end next_gives before taken (after, ended)), refl, refl,
-        (sym whole.0, whole.1))
+      let ended = subst (λ o. YieldsThen next_gives before taken o after) whole.2 calls in (
+        run next_gives before taken true (to_end next_gives before taken (after, ended)),
+        refl,
+        refl,
+        (sym whole.0, whole.1),
+      )
   FillRuns-from_fill before n (Err error) after (taken, last, calls, short) =
       refused_runs before n error after taken last calls short
 
@@ -109,20 +116,25 @@ module _ {S T E : Type 0} (next_gives : S → Option (Result T E) → S → Type
       → TakesGood next_gives before room good result after → P good → TakeGoodRuns next_gives before room result P
   TakeGoodRuns-from_takes P before room good (Ok done) after takes holds =
       TakeRuns-from_takes next_gives (λ items. IsOkAnd (try_map (λ item. item) items) P) before room
-        (map Ok good) after takes
+      (map Ok good) after takes
       (subst (λ (values : Result (List T) E). IsOkAnd values P) (sym (all_good good)) holds)
-  TakeGoodRuns-from_takes P before room good (Err error) after (calls, short) holds =
-      (run next_gives before (map Ok good ++ Err error ∷ []) false
-        (to_item next_gives before after (map Ok good) (Err error) calls), refl, (good, holds, refl, short))
+  TakeGoodRuns-from_takes P before room good (Err error) after (calls, short) holds = (
+    run next_gives before (map Ok good ++ Err error ∷ []) false
+        (to_item next_gives before after (map Ok good) (Err error) calls),
+    refl,
+    (good, holds, refl, short),
+  )
 
 module _ {S T E F : Type 0} (next_gives : S → Option (Result T E) → S → Type 0) where
   -- the calls of a fallible fill that is refused, by how they ended
   refused_fallible_runs : (before : S) (n : ℕ) (refused : F) (after : S) (good : List T) (last : Option (Result T E))
       → YieldsThen next_gives before (map Ok good) last after
       → MatchOption last (length good < n) (λ _. length good ≡ n) → FillFalliblyRuns next_gives before n (Err refused)
-  refused_fallible_runs before n refused after good None calls short =
-      (run next_gives before (map Ok good) true (to_end next_gives before (map Ok good) (after, calls)), refl,
-        inl (refl, omega (arith, length-map {B = Result T E} good Ok, short)))
+  refused_fallible_runs before n refused after good None calls short = (
+    run next_gives before (map Ok good) true (to_end next_gives before (map Ok good) (after, calls)),
+    refl,
+    inl (refl, omega (arith, length-map {B = Result T E} good Ok, short)),
+  )
   refused_fallible_runs before n refused after good (Some item) calls full = (
     run next_gives before (map Ok good ++ item ∷ []) false (to_item next_gives before after (map Ok good) item calls),
     refl,
@@ -137,13 +149,19 @@ module _ {S T E F : Type 0} (next_gives : S → Option (Result T E) → S → Ty
         run next_gives before (map Ok good) true (to_end next_gives before (map Ok good) (after, ended)),
         refl,
         refl,
-        (ap (λ items. map Ok items) (sym whole.0), all_good good ∙ ap Ok (sym whole.0),
-          omega (arith, length-map {B = Result T E} good Ok, whole.1)),
+        (
+          ap (λ items. map Ok items) (sym whole.0),
+          all_good good ∙ ap Ok (sym whole.0),
+          omega (arith, length-map {B = Result T E} good Ok, whole.1),
+        ),
       )
   FillFalliblyRuns-from_fill before n (Ok (Err error)) after (good, last, calls, first) =
-      let came = subst (λ o. YieldsThen next_gives before (map Ok good) o after) first.0 calls in
-      (run next_gives before (map Ok good ++ Err error ∷ []) false
-        (to_item next_gives before after (map Ok good) (Err error) came), refl, (good, refl, first.1))
+      let came = subst (λ o. YieldsThen next_gives before (map Ok good) o after) first.0 calls in (
+        run next_gives before (map Ok good ++ Err error ∷ []) false
+            (to_item next_gives before after (map Ok good) (Err error) came),
+        refl,
+        (good, refl, first.1),
+      )
   FillFalliblyRuns-from_fill before n (Err refused) after (good, last, calls, short) =
       refused_fallible_runs before n refused after good last calls short
 
@@ -153,21 +171,23 @@ module _ {S T E : Type 0} (next_gives : S → Option (Result T E) → S → Type
       → length good ≡ n → Yields next_gives before (map Ok good) after
   good_all before n good after (inl (calls, all)) full = calls
   good_all before n good after (inr (calls, short)) full =
-    absurd (omega (arith, short, full, length-map {B = Result T E} good Ok))
+      absurd (omega (arith, short, full, length-map {B = Result T E} good Ok))
 
   -- an end before so many good values, or one item more, in which case there is no array
   pub good_refused : (before : S) (n : ℕ) (good : List T) (reached after : S)
       → Takes next_gives before n (map Ok good) reached
       → ((length good ≢ n) × (after ≡ reached)) ⊎ ((length good ≡ n)
-        × ((more : Result T E) × next_gives reached (Some more) after))
+      × ((more : Result T E) × next_gives reached (Some more) after))
       → (last : Option (Result T E)) × YieldsThen next_gives before (map Ok good) last after
-        × MatchOption last (length good < n) (λ _. length good ≡ n)
+      × MatchOption last (length good < n) (λ _. length good ≡ n)
   good_refused before n good reached after (inl (calls, all)) (inl (other, same)) =
-    absurd (other (omega (arith, all, length-map {B = Result T E} good Ok)))
+      absurd (other (omega (arith, all, length-map {B = Result T E} good Ok)))
   good_refused before n good reached after (inl (calls, all)) (inr (full, (more, call))) =
-    (Some more, (reached, calls, call), full)
-  good_refused before n good reached after (inr (calls, short)) (inl (other, same)) =
-      (None, subst (λ s. YieldsThen next_gives before (map Ok good) None s) (sym same) calls,
-        omega (arith, short, length-map {B = Result T E} good Ok))
+      (Some more, (reached, calls, call), full)
+  good_refused before n good reached after (inr (calls, short)) (inl (other, same)) = (
+    None,
+    subst (λ s. YieldsThen next_gives before (map Ok good) None s) (sym same) calls,
+    omega (arith, short, length-map {B = Result T E} good Ok),
+  )
   good_refused before n good reached after (inr (calls, short)) (inr (full, (more, call))) =
-    absurd (omega (arith, short, full, length-map {B = Result T E} good Ok))
+      absurd (omega (arith, short, full, length-map {B = Result T E} good Ok))

@@ -14,7 +14,7 @@ module _ {F X Y : Type 0} (step : F → X → Y → F → Type 0) where
   ClosureRun-join f [] ys (y ∷ first) second reached last run then = absurd run
   ClosureRun-join f (x ∷ xs) ys [] second reached last run then = absurd run
   ClosureRun-join f (x ∷ xs) ys (y ∷ first) second reached last run then =
-    (run.0, run.1, ClosureRun-join run.0 xs ys first second reached last run.2 then)
+      (run.0, run.1, ClosureRun-join run.0 xs ys first second reached last run.2 then)
 
   -- the same, where the results of both are those of the whole
   pub ClosureRun-in_turn : (f : F) (xs ys : List X) (first second all : List Y) (between last : F)
@@ -22,7 +22,7 @@ module _ {F X Y : Type 0} (step : F → X → Y → F → Type 0) where
       → ClosureRun step between ys second last → ClosureRun step f (xs ++ ys) all last
   ClosureRun-in_turn f xs ys first second all between last joined run then =
       subst (λ answers. ClosureRun step f (xs ++ ys) answers last) (sym joined)
-        (ClosureRun-join f xs ys first second between last run then)
+      (ClosureRun-join f xs ys first second between last run then)
 
 module _ {F I T Y : Type 0} (entry : I → T) (pre : F → I → Type 0) (step : F → I → Y → F → Type 0) where
   -- what may be called over joined lists may be called over the first
@@ -36,5 +36,5 @@ module _ {F I T Y : Type 0} (entry : I → T) (pre : F → I → Type 0) (step :
       → MayMap entry pre step between ys
   MayMap-second f xs ys first between may ran passed x others answers reached whole run item is stays =
       may_map-at entry pre step f (xs ++ ys) may (xs ++ passed) x others (first ++ answers) reached
-        (ap (λ all. xs ++ all) whole ∙ sym (append_assoc xs passed (x ∷ others)))
+      (ap (λ all. xs ++ all) whole ∙ sym (append_assoc xs passed (x ∷ others)))
       (ClosureRun-join (CallAt entry step) f xs passed first answers between reached ran run) item is

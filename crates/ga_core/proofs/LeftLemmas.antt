@@ -10,7 +10,7 @@ module _ {T : Type 0} where
   pub left-count : (items : List T) (front back : ℕ) → front ≤ back → back ≤ length items
       → length (slice_range items front back) ≡ back - front
   left-count items front back ordered within = omega
-    (arith, length-take (back - front) (drop front items), length-drop front items)
+      (arith, length-take (back - front) (drop front items), length-drop front items)
 
   -- the first was taken, and a blank stands in its slot
   pub left-first : (items after : List T) (front back : ℕ) (item : T) → front < back → back ≤ length items
@@ -18,7 +18,7 @@ module _ {T : Type 0} where
       → slice_range items front back ≡ item ∷ slice_range after (front + 1) back
   left-first items after front back item some within here written =
       slice_range_first items front back item written.0 some within here
-        ∙ ap (λ slots. item ∷ slice_range slots (front + 1) back) (sym written.1)
+      ∙ ap (λ slots. item ∷ slice_range slots (front + 1) back) (sym written.1)
 
   -- the last was taken, and a blank stands in its slot
   pub left-last : (items after : List T) (front back : ℕ) (item : T) → front < back → back ≤ length items
@@ -26,18 +26,18 @@ module _ {T : Type 0} where
       → slice_range items front back ≡ slice_range after front (back - 1) ++ item ∷ []
   left-last items after front back item some within here written =
       slice_range_last items front back item written.0 some within here
-        ∙ ap (λ slots. slice_range slots front (back - 1) ++ item ∷ []) (sym written.1)
+      ∙ ap (λ slots. slice_range slots front (back - 1) ++ item ∷ []) (sym written.1)
 
   -- the same, of the items from the back
   pub left-last_reversed : (items : List T) (front back : ℕ) (item slot blank : T) → front < back → back ≤ length items
       → item ≡ get_or items (back - 1) slot → slot ≡ get_or items (back - 1) slot
       → reverse (slice_range items front back) ≡ item
-        ∷ reverse (slice_range (slice_set items (back - 1) blank) front (back - 1))
+      ∷ reverse (slice_range (slice_set items (back - 1) blank) front (back - 1))
   left-last_reversed items front back item slot blank some within here is =
       let after = slice_set items (back - 1) blank in
       let this = here ∙ ap (get_or items (back - 1)) (is ∙ sym here) in
       ap reverse (left-last items after front back item some within this (blank, refl))
-        ∙ reverse-append (slice_range after front (back - 1)) (item ∷ [])
+      ∙ reverse-append (slice_range after front (back - 1)) (item ∷ [])
 
   -- so many were given up at the front
   pub left-behind : (items after left : List T) (front back passed : ℕ) → front ≤ back → back ≤ length items
@@ -50,7 +50,7 @@ module _ {T : Type 0} where
       let long : back - front ≡ passed + rest = omega arith in
       ap (take rest) (same ∙ sym (drop-drop passed front items))
       ∙ (sym (drop-take passed rest (drop front items))
-        ∙ (ap (λ k. drop passed (take k (drop front items))) (sym long) ∙ ap (drop passed) shown))
+      ∙ (ap (λ k. drop passed (take k (drop front items))) (sym long) ∙ ap (drop passed) shown))
 
   -- so many were given up at the back
   pub left-before : (items after left : List T) (front back passed : ℕ) → front ≤ back → back ≤ length items
@@ -66,5 +66,5 @@ module _ {T : Type 0} where
       λ slots. sym (drop-take front (end - front) slots) ∙ ap (λ k. drop front (take k slots)) (sym whole) in
       part after
       ∙ (ap (drop front) same
-        ∙ (sym (part items) ∙ (sym (take-take (end - front) (back - front) (drop front items) (omega arith))
-        ∙ (ap (take (end - front)) shown ∙ ap (λ k. take k left) kept))))
+      ∙ (sym (part items) ∙ (sym (take-take (end - front) (back - front) (drop front items) (omega arith))
+      ∙ (ap (take (end - front)) shown ∙ ap (λ k. take k left) kept))))

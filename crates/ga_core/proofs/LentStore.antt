@@ -60,7 +60,7 @@ module _ (Z X : RattleType) (g : store.Ghosts Z.Denot X.Denot) (d dd : Dict) whe
   -- said of the result
   abbrev pub loan_of : (k : ℕ) (result : Slot 3) (U : RattleType) → ((κs : Lfts 3) → (result.row κs).Denot → GName)
       → ((κs : Lfts 3) → List X.Denot → Words 3 κs k → Type 0)
-        → ((κs : Lfts 3) → List X.Denot → Words 3 κs k → U.Denot → List X.Denot)
+      → ((κs : Lfts 3) → List X.Denot → Words 3 κs k → U.Denot → List X.Denot)
       → ((κs : Lfts 3) → List X.Denot → Words 3 κs k → (result.row κs).Denot → Type 0) → Loan
   loan_of k result U name asks written shown = record {
     more = 2;
@@ -71,7 +71,7 @@ module _ (Z X : RattleType) (g : store.Ghosts Z.Denot X.Denot) (d dd : Dict) whe
     lives = lives;
     asks = λ κs store ns. asks κs (g.items store) ns ∷ [];
     ties = λ κs x ns r. follows S U x.ghost_name (name κs r)
-      (λ w. (g.store_with x.now (written κs (g.items x.now) ns w)).0);
+        (λ w. (g.store_with x.now (written κs (g.items x.now) ns w)).0);
     gives = λ κs store ns r. shown κs (g.items store) ns r;
   }
 
@@ -113,10 +113,10 @@ module _ (Z X : RattleType) (g : store.Ghosts Z.Denot X.Denot) (d dd : Dict) whe
         pub calls_slice : K → FmC 𝓤 H 𝓛.laws C → Triple 𝓤 (C f) Called → Every (lives κs)
             → Opds K 𝓛 (raw (Called.pre choice) ∷ Γ) E xs (Called.args choice)
             → ((v : Val) (s : MutBor (List X.Denot)) → Told v s
-              → Seq K 𝓛 (seen s ∷ borrow s ∷ ‵ (flft κs.0 qs.0) ∷ ‵ (tied s) ∷ raw (toks 𝓛 2 κs.1 qs.1) ∷ Γ)
-              (lands C Λ E p v rest q))
+            → Seq K 𝓛 (seen s ∷ borrow s ∷ ‵ (flft κs.0 qs.0) ∷ ‵ (tied s) ∷ raw (toks 𝓛 2 κs.1 qs.1) ∷ Γ)
+            (lands C Λ E p v rest q))
             → Seq K 𝓛 (‵ Passed ∷ ‵ (flft κs.0 qs.0) ∷ raw (toks 𝓛 2 κs.1 qs.1) ∷ Γ)
-              (runs C Λ E (seq (call f xs p) rest) q)
+            (runs C Λ E (seq (call f xs p) rest) q)
         calls_slice t framed met live operands then =
             nothing t $ move t (1 ∷ 0 ∷ []) $ fjoin t $ move t (1 ∷ 2 ∷ []) $ join t $ join t $
             nothing t $ use0 𝓛 (raw (fact 𝓤 (κs.1.1.0 ⊑ X.lives))) (fact_i 𝓤 _ (emp 𝓤) live.1.0) $ join t $
@@ -124,12 +124,12 @@ module _ (Z X : RattleType) (g : store.Ghosts Z.Denot X.Denot) (d dd : Dict) whe
             move t (1 ∷ 0 ∷ []) $ join t $ use1 𝓛 (raw (Called.pre choice)) (id⊢ 𝓤 _) $
             calls_at t framed Called met choice operands (λ v.
             use1 𝓛 (later (some (λ (s : MutBor (List X.Denot)).
-              ((‵ (flft κs.0 qs.0) ⊛ raw (toks 𝓛 2 κs.1 qs.1)) ⊛ ‵ ((MutSlice (named 0) κs.0 R).own_val s (v ∷ []))) ⊛
+            ((‵ (flft κs.0 qs.0) ⊛ raw (toks 𝓛 2 κs.1 qs.1)) ⊛ ‵ ((MutSlice (named 0) κs.0 R).own_val s (v ∷ []))) ⊛
             some (λ (ws : Unit {0} × Unit {0}). ‵ (fsep ftrue ftrue) ⊛ ‵ (tied s) ⊛ raw
-              (fact 𝓤 (s.now ≡ g.items x.now)))))) (id⊢ 𝓤 _) $
+            (fact 𝓤 (s.now ≡ g.items x.now)))))) (id⊢ 𝓤 _) $
             await t tt $ pick t (λ s. split t $ split t $ move t (2 ∷ []) $ pick t
-              (λ ws. split3 t $ drop t $ move t (1 ∷ []) $ heard t _ (λ same.
+            (λ ws. split3 t $ drop t $ move t (1 ∷ []) $ heard t _ (λ same.
             -- [what follows; the tokens; the slice]
             move t (1 ∷ []) $ split t $ move t (3 ∷ []) $ fsplit3 t $ fsplit t $ feq_l t
-              (λ e. pure_l t (room R (length s.now)) (λ fits.
+            (λ e. pure_l t (room R (length s.now)) (λ fits.
             move t (0 ∷ 1 ∷ 2 ∷ 4 ∷ []) $ then v s (ap only e, fits, same)))))))

@@ -22,4 +22,4 @@ pub FirstErrorRun-made : {F X Y E : Type 0} (step : F → X → Result Y E → F
     → FirstErrorRun step f lent given last → FirstErrorRun step f items answer last
 FirstErrorRun-made step f last {lent} {items} {given} {answer} same made run =
     subst (λ xs. FirstErrorRun step f xs answer last) same
-      (subst (λ found. FirstErrorRun step f lent found last) (sym made) run)
+    (subst (λ found. FirstErrorRun step f lent found last) (sym made) run)

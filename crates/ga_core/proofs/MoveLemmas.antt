@@ -35,14 +35,14 @@ module _ {T : Type 0} where
       → drop n left ≡ drop n items
       → drop n items ≡ item ∷ drop (n + 1) left
   next-here n items left item some this behind = sym behind
-    ∙ (drop_more left n item some ∙ ap (λ x. x ∷ drop (n + 1) left) (sym this))
+      ∙ (drop_more left n item some ∙ ap (λ x. x ∷ drop (n + 1) left) (sym this))
 
   -- the next item of all is the one that was taken from its slot
   pub taken-here : (n : ℕ) (items left : List T) (there item : T) → n < length left
       → there ≡ slice_index_or left n there → item ≡ slice_index_or left n there → drop n left ≡ drop n items
       → drop n items ≡ item ∷ drop (n + 1) left
   taken-here n items left there item some is value behind =
-    next-here n items left item some (this-here n left there item is value) behind
+      next-here n items left item some (this-here n left there item is value) behind
 
   -- a list is what was passed, the next item, and the others
   pub cut-here : (n : ℕ) (items others : List T) (item : T) → drop n items ≡ item ∷ others
@@ -53,7 +53,7 @@ module _ {T : Type 0} where
   pub behind-next : (n : ℕ) (items left : List T) (item blank : T) → n < length left
       → drop n items ≡ item ∷ drop (n + 1) left → drop (n + 1) (slice_set left n blank) ≡ drop (n + 1) items
   behind-next n items left item blank some here = drop-set-lt (n + 1) left n blank (omega arith)
-    ∙ drop-next n items (drop (n + 1) left) item here
+      ∙ drop-next n items (drop (n + 1) left) item here
 
   -- the first n items were moved, and the others are left in their slots
   abbrev pub MovedSoFar : ℕ → List T → List T → List T → Type 0
@@ -63,21 +63,22 @@ module _ {T : Type 0} where
   pub pushed-next : (n : ℕ) (items left before after : List T) (item blank : T) → n < length left
       → item ≡ slice_index_or left n item
       → MovedSoFar n items left before → after ≡ before ++ item ∷ []
-        → MovedSoFar (n + 1) items (slice_set left n blank) after
+      → MovedSoFar (n + 1) items (slice_set left n blank) after
   pushed-next n items left before after item blank some this moved grows =
-      let here = next-here n items left item some this moved.1 in
-      (take-next n [] before after items (drop (n + 1) left) item here moved.0 grows,
-        behind-next n items left item blank some here)
+      let here = next-here n items left item some this moved.1 in (
+        take-next n [] before after items (drop (n + 1) left) item here moved.0 grows,
+        behind-next n items left item blank some here,
+      )
 
   -- the same, to its slot in another
   pub moved-next : (n : ℕ) (items left slots : List T) (item blank : T) → n < length left → n < length slots
       → item ≡ slice_index_or left n item
       → take n slots ≡ take n items → drop n left ≡ drop n items
       → (take (n + 1) (slice_set slots n item) ≡ take (n + 1) items)
-        × (drop (n + 1) (slice_set left n blank) ≡ drop (n + 1) items)
+      × (drop (n + 1) (slice_set left n blank) ≡ drop (n + 1) items)
   moved-next n items left slots item blank some room this before behind =
       pushed-next n items left (take n slots) (take (n + 1) (slice_set slots n item)) item blank some this
-        (before, behind) (take_more_set slots n item room)
+      (before, behind) (take_more_set slots n item room)
 
   -- what was passed, and the next
   pub take-one_more : (n : ℕ) (items others : List T) (item : T) → drop n items ≡ item ∷ others
@@ -91,4 +92,4 @@ module _ {T : Type 0} where
       → All P (take (n + 1) (slice_set left n blank))
   left-next P n left blank some before here =
       subst (All P) (sym (take_more_set left n blank some))
-        (All-append P (take n left) (blank ∷ []) before (All-cons P blank [] here (All-nil P)))
+      (All-append P (take n left) (blank ∷ []) before (All-cons P blank [] here (All-nil P)))

@@ -18,32 +18,35 @@ module _ {F X Y : Type 0} {Run : List X → List Y → F → Type 0} {n : ℕ} {
       → item ≡ slice_index_or left n there
       → items ≡ take n items ++ item ∷ drop (n + 1) left
   cut-next so_far some is value = cut-here n items _ item
-    (taken-here n items left there item some is value so_far.behind)
+      (taken-here n items left there item some is value so_far.behind)
 
   -- a call at that item was made, and its answer was written
   written-next : (y : Y) (last : F) (after : List X) → drop (n + 1) after ≡ drop (n + 1) left
       → WrittenSoFar Run n items left slots reached → n < length left → n < length slots
       → there ≡ slice_index_or left n there → item ≡ slice_index_or left n there
-        → Run (take n items ++ item ∷ []) (take n slots ++ y ∷ []) last
+      → Run (take n items ++ item ∷ []) (take n slots ++ y ∷ []) last
       → WrittenSoFar Run (n + 1) items after (slice_set slots n y) last
   written-next y last after same so_far some room is value longer =
       let here = taken-here n items left there item some is value so_far.behind in
-      record { run = rw (take_more_set slots n y room, take-one_more n items _ item here) longer; behind =
-        same ∙ drop-next n items _ item here }
+      record {
+        run = rw (take_more_set slots n y room, take-one_more n items _ item here) longer;
+        behind =
+            same ∙ drop-next n items _ item here;
+      }
 
   -- the same, where the item was taken out of its slot
   pub taken-next : (y : Y) (last : F) (blank : X) → WrittenSoFar Run n items left slots reached → n < length left
       → n < length slots
       → there ≡ slice_index_or left n there → item ≡ slice_index_or left n there
-        → Run (take n items ++ item ∷ []) (take n slots ++ y ∷ []) last
+      → Run (take n items ++ item ∷ []) (take n slots ++ y ∷ []) last
       → WrittenSoFar Run (n + 1) items (slice_set left n blank) (slice_set slots n y) last
   taken-next y last blank = written-next y last (slice_set left n blank)
-    (drop-set-lt (n + 1) left n blank (omega arith))
+      (drop-set-lt (n + 1) left n blank (omega arith))
 
   -- the same, where the item was read
   pub read-next : (y : Y) (last : F) → WrittenSoFar Run n items left slots reached → n < length left → n < length slots
       → there ≡ slice_index_or left n there → item ≡ slice_index_or left n there
-        → Run (take n items ++ item ∷ []) (take n slots ++ y ∷ []) last
+      → Run (take n items ++ item ∷ []) (take n slots ++ y ∷ []) last
       → WrittenSoFar Run (n + 1) items left (slice_set slots n y) last
   read-next y last = written-next y last left refl
 
@@ -52,4 +55,4 @@ pub run-of_all : {X Y : Type 0} (Run : List X → List Y → Type 0) (n : ℕ) (
     → length items ≤ n → length slots ≤ n → Run (take n items) (take n slots) → Run items slots
 run-of_all Run n items slots passed full run =
     subst (λ ys. Run items ys) (take_all n slots full)
-      (subst (λ xs. Run xs (take n slots)) (take_all n items passed) run)
+    (subst (λ xs. Run xs (take n slots)) (take_all n items passed) run)

@@ -43,7 +43,7 @@ module _ {T : Type 0} (E : T → T → Bool) where
   pointwise-append (x ∷ xs) [] more others long = cc
   pointwise-append (x ∷ xs) (y ∷ ys) more others long =
       ap (λ b. E x y && b) (pointwise-append xs ys more others (cc))
-        ∙ and-joined (E x y) (pointwise E xs ys) (pointwise E more others)
+      ∙ and-joined (E x y) (pointwise E xs ys) (pointwise E more others)
 
   -- the first n pairs, and those behind them
   pointwise-cut : (n : ℕ) (xs ys : List T) → length xs ≡ length ys
@@ -58,9 +58,9 @@ module _ {T : Type 0} (E : T → T → Bool) where
       → pointwise E (take (n + 1) xs) (take (n + 1) ys) ≡ (pointwise E (take n xs) (take n ys) && E x y)
   pointwise-next n xs ys x y some long this that =
       let first : take (n + 1) xs ≡ take n xs ++ x ∷ [] =
-        take_more xs n x some ∙ ap (λ item. take n xs ++ item ∷ []) (sym this) in
+      take_more xs n x some ∙ ap (λ item. take n xs ++ item ∷ []) (sym this) in
       let second : take (n + 1) ys ≡ take n ys ++ y ∷ [] =
-        take_more ys n y (omega arith) ∙ ap (λ item. take n ys ++ item ∷ []) (sym that) in
+      take_more ys n y (omega arith) ∙ ap (λ item. take n ys ++ item ∷ []) (sym that) in
       (λ i. pointwise E (first i) (second i))
       ∙ (pointwise-append (take n xs) (take n ys) (x ∷ []) (y ∷ []) (take-long n xs ys long)
       ∙ ap (λ b. pointwise E (take n xs) (take n ys) && b) (and-true (E x y)))
@@ -82,9 +82,9 @@ module _ {T : Type 0} (E : T → T → Bool) where
   block-differs n m xs ys long here =
       let behind : pointwise E (drop n xs) (drop n ys) ≡ false =
       pointwise-cut m (drop n xs) (drop n ys) (drop-long n xs ys long)
-        ∙ ap (λ b. b && pointwise E (drop m (drop n xs)) (drop m (drop n ys))) (sym here) in
+      ∙ ap (λ b. b && pointwise E (drop m (drop n xs)) (drop m (drop n ys))) (sym here) in
       pointwise-cut n xs ys long ∙ (ap (λ b. pointwise E (take n xs) (take n ys) && b) behind
-        ∙ and-false (pointwise E (take n xs) (take n ys)))
+      ∙ and-false (pointwise E (take n xs) (take n ys)))
 
   -- behind equal pairs the order is that of the others
   pub cmp-behind : (R : T → T → Ordering) → ((x y : T) → E x y ≡ eq_by_cmp R x y) → (n : ℕ) (xs ys : List T)
@@ -97,7 +97,7 @@ module _ {T : Type 0} (E : T → T → Bool) where
   cmp-behind R ties (suc n) (x ∷ xs) (y ∷ ys) long equal =
       let both = and-both (E x y) (pointwise E (take n xs) (take n ys)) equal in
       ap (λ found. ordering_then found (slice_cmp R xs ys)) (level (R x y) (sym (ties x y) ∙ both.0))
-        ∙ cmp-behind R ties n xs ys (cc) both.1
+      ∙ cmp-behind R ties n xs ys (cc) both.1
 
   pub partial_cmp-behind : {C : T → T → Option Ordering} → IsPartialOrder E C → (n : ℕ) (xs ys : List T)
       → length xs ≡ length ys → pointwise E (take n xs) (take n ys) ≡ true
@@ -109,4 +109,4 @@ module _ {T : Type 0} (E : T → T → Bool) where
   partial_cmp-behind {C} laws (suc n) (x ∷ xs) (y ∷ ys) long equal =
       let both = and-both (E x y) (pointwise E (take n xs) (take n ys)) equal in
       ap (λ found. partial_ordering_then found (slice_partial_cmp C xs ys)) ((laws.matches_eq x y).0 both.0)
-        ∙ partial_cmp-behind laws n xs ys (cc) both.1
+      ∙ partial_cmp-behind laws n xs ys (cc) both.1

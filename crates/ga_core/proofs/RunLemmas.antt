@@ -26,7 +26,7 @@ range_with_len-cut zero m a n last long end =
     let same : last ≡ a = omega arith in
     let whole : n ≡ suc m = omega arith in
     subst (λ j. range_with_len a j ≡ last ∷ range_with_len (last + 1) m) (sym whole)
-      (ap (λ j. j ∷ range_with_len (j + 1) m) (sym same))
+    (ap (λ j. j ∷ range_with_len (j + 1) m) (sym same))
 range_with_len-cut (suc k) m a n last long end =
     let whole : n ≡ suc (k + suc m) = omega arith in
     subst (λ j. range_with_len a j ≡ range_with_len a (suc k) ++ last ∷ range_with_len (last + 1) m) (sym whole)
@@ -37,11 +37,11 @@ module _ {F X Y : Type 0} (step : F → X → Y → F → Type 0) where
   pub ClosureRun-snoc : (f : F) (xs : List X) (ys : List Y) (reached : F) (x : X) (y : Y) (last : F)
       → ClosureRun step f xs ys reached → step reached x y last → ClosureRun step f (xs ++ x ∷ []) (ys ++ y ∷ []) last
   ClosureRun-snoc f [] [] reached x y last run call =
-    (last, let P : F → Type 0 = λ k. step k x y last in subst P (sym run) call, refl)
+      (last, let P : F → Type 0 = λ k. step k x y last in subst P (sym run) call, refl)
   ClosureRun-snoc f [] (z ∷ ys) reached x y last run call = absurd run
   ClosureRun-snoc f (w ∷ xs) [] reached x y last run call = absurd run
   ClosureRun-snoc f (w ∷ xs) (z ∷ ys) reached x y last run call =
-    (run.0, run.1, ClosureRun-snoc run.0 xs ys reached x y last run.2 call)
+      (run.0, run.1, ClosureRun-snoc run.0 xs ys reached x y last run.2 call)
 
   -- there is one answer for each input
   pub ClosureRun-length : (f : F) (xs : List X) (ys : List Y) (last : F) → ClosureRun step f xs ys last
@@ -55,7 +55,7 @@ module _ {F X Y E : Type 0} (step : F → X → Result Y E → F → Type 0) whe
   -- good calls, and one more
   pub ClosureRun-good : (f : F) (xs : List X) (good : List Y) (reached : F) (x : X) (item : Y) (last : F)
       → ClosureRun step f xs (map Ok good) reached → step reached x (Ok item) last
-        → ClosureRun step f (xs ++ x ∷ []) (map Ok (good ++ item ∷ [])) last
+      → ClosureRun step f (xs ++ x ∷ []) (map Ok (good ++ item ∷ [])) last
   ClosureRun-good f xs good reached x item last run call =
       subst (λ answers. ClosureRun step f (xs ++ x ∷ []) answers last) (sym (map-append Ok good (item ∷ [])))
       (ClosureRun-snoc step f xs (map Ok good) reached x (Ok item) last run call)
@@ -85,9 +85,9 @@ module _ {F X Y E : Type 0} (step : F → X → Result Y E → F → Type 0) whe
   pub FirstErrorRun-error : (f : F) (xs : List X) (good : List Y) (reached : F) (x : X) (others : List X) (error : E)
       (last : F)
       → ClosureRun step f xs (map Ok good) reached → step reached x (Err error) last
-        → FirstErrorRun step f (xs ++ x ∷ others) (Err error) last
+      → FirstErrorRun step f (xs ++ x ∷ others) (Err error) last
   FirstErrorRun-error f [] [] reached x others error last run call =
-    inl (subst (λ k. step k x (Err error) last) (sym run) call)
+      inl (subst (λ k. step k x (Err error) last) (sym run) call)
   FirstErrorRun-error f [] (y ∷ good) reached x others error last run call = absurd run
   FirstErrorRun-error f (w ∷ xs) [] reached x others error last run call = absurd run
   FirstErrorRun-error f (w ∷ xs) (y ∷ good) reached x others error last run call =
@@ -97,11 +97,11 @@ module _ {F Y E : Type 0} (step : F → ℕ → Result Y E → F → Type 0) whe
   -- good calls at the numbers below k, and an error at k
   pub FirstErrorRun-at : (f : F) (k n : ℕ) (good : List Y) (reached : F) (error : E) (last : F) → k < n
       → ClosureRun step f (range_with_len 0 k) (map Ok good) reached → step reached k (Err error) last
-        → FirstErrorRun step f (range_with_len 0 n) (Err error) last
+      → FirstErrorRun step f (range_with_len 0 n) (Err error) last
   FirstErrorRun-at f k n good reached error last below run call =
       let whole : n ≡ k + suc (n - k - 1) = omega arith in
       let cut : range_with_len 0 n ≡ range_with_len 0 k ++ k ∷ range_with_len (k + 1) (n - k - 1) =
-        range_with_len-cut k (n - k - 1) 0 n k whole (omega arith) in
+      range_with_len-cut k (n - k - 1) 0 n k whole (omega arith) in
       subst (λ inputs. FirstErrorRun step f inputs (Err error) last) (sym cut)
       (FirstErrorRun-error step f (range_with_len 0 k) good reached k
-        (range_with_len (k + 1) (n - k - 1)) error last run call)
+      (range_with_len (k + 1) (n - k - 1)) error last run call)

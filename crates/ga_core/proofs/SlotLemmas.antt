@@ -7,16 +7,16 @@ use Rattle.std.specs.List.{refill}
 pub refill-whole : {X : Type 0} (n : ℕ) (items written : List X) → n ≡ length written → refill n items written ≡ written
 refill-whole n items written all =
     ap (λ k. take k (written ++ drop (length written) items)) all
-      ∙ take-append_seam written (drop (length written) items)
+    ∙ take-append_seam written (drop (length written) items)
 
 -- what stands after a loan of all slots, where one was written
 pub refill-set : {X : Type 0} (items slots after : List X) (slot : ℕ) (item : X) → slots ≡ items
     → after ≡ refill (length items) items (slice_set slots slot item) → after ≡ slice_set items slot item
 refill-set items slots after slot item same written =
     let whole : length items ≡ length (slice_set slots slot item) =
-      ap length (sym same) ∙ sym (length-set slots slot item) in
+    ap length (sym same) ∙ sym (length-set slots slot item) in
     written ∙ (refill-whole (length items) items (slice_set slots slot item) whole
-      ∙ ap (λ list. slice_set list slot item) same)
+    ∙ ap (λ list. slice_set list slot item) same)
 
 -- what stands after a loan of all slots
 pub refill-over : {X : Type 0} (items slots written after : List X) → slots ≡ items → length written ≡ length slots

@@ -12,7 +12,7 @@ rest_is : {X : Type 0} (xs ys : List X) (i : ℕ) → length xs ≡ i + length y
 rest_is xs [] i long stand = drop_of_length-le xs (omega (arith, long))
 rest_is xs (y ∷ ys) i long stand =
     drop_more xs i y (omega (arith, long)) ∙ (ap (λ first. first ∷ drop (i + 1) xs) (sym stand.0)
-      ∙ ap (λ rest. y ∷ rest) (rest_is xs ys (i + 1) (omega (arith, long)) stand.1))
+    ∙ ap (λ rest. y ∷ rest) (rest_is xs ys (i + 1) (omega (arith, long)) stand.1))
 
 pub all_stand : {X : Type 0} (xs ys : List X) → length xs ≡ length ys → Stand xs 0 ys → xs ≡ ys
 all_stand xs ys long stand = rest_is xs ys 0 (omega (arith, long)) stand

@@ -21,14 +21,14 @@ module _ {F Y : Type 0} (pre : F → ℕ → Type 0) (step : F → ℕ → Y →
   abbrev pub MayGenerate : F → ℕ → Type 0
   MayGenerate f n = (k : ℕ) (ys : List Y) (reached : F)
       → k < n → ClosureRun step f (range_with_len 0 k) ys reached → (pre f k → Stays step f → pre reached k)
-        → pre reached k
+      → pre reached k
 
 module _ {F Y E : Type 0} (pre : F → ℕ → Type 0) (step : F → ℕ → Result Y E → F → Type 0) where
   -- f may be called at each number below n in turn, as long as its calls are good
   abbrev pub MayTryGenerate : F → ℕ → Type 0
   MayTryGenerate f n = (k : ℕ) (good : List Y) (reached : F)
       → k < n → ClosureRun step f (range_with_len 0 k) (map Ok good) reached → (pre f k → Stays step f → pre reached k)
-        → pre reached k
+      → pre reached k
 
 module _ {F I T : Type 0} (entry : I → T) (pre : F → I → Type 0) where
   -- f may be called at an entry of each item in turn

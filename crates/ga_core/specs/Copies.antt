@@ -7,7 +7,7 @@ module _ {T : Type 0} (is_clone : T → T → Type 0) (item : T) where
   abbrev pub Repeats : ℕ → List T → Type 0
   Repeats zero array = array ≡ []
   Repeats (suc n) array = (clones : List T) × (array ≡ clones ++ item ∷ []) × (length clones ≡ n)
-    × All (is_clone item) clones
+      × All (is_clone item) clones
 
 module _ {T : Type 0} (P : T → Type 0) where
   -- n items, of each of which P holds: told item by item, so that a search learns all of them at a length that is a

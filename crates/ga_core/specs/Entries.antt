@@ -34,4 +34,4 @@ module _ {I J T B F Y : Type 0} (entry : I → T) (other : J → B) where
   -- each call of f at two entries returns h of the pair that they stand for, and leaves f as it is
   abbrev pub ActsOnEntries : (F → I → J → Y → F → Type 0) → F → (T × B → Y) → Type 0
   ActsOnEntries step f h = (left : I) (right : J) (y : Y) (g : F) → step f left right y g
-    → (g ≡ f) × (y ≡ h (entry left, other right))
+      → (g ≡ f) × (y ≡ h (entry left, other right))

@@ -11,20 +11,20 @@ module _ {S T : Type 0} (next_gives : S → Option T → S → Type 0) where
   abbrev pub Takes : S → ℕ → List T → S → Type 0
   Takes before room taken after =
       (Yields next_gives before taken after × (length taken ≡ room))
-        ⊎ (YieldsThen next_gives before taken None after × (length taken < room))
+      ⊎ (YieldsThen next_gives before taken None after × (length taken < room))
 
   -- what `Takes` says, as one run of calls that gave items of which P holds: the form that proofs follow along a
   -- chain of std's iterators
   abbrev pub TakeRuns : S → ℕ → (List T → Type 0) → Type 0
   TakeRuns before room P = SomeRun next_gives before
-    (λ run. P run.items × ((run.len ≡ room) ⊎ (IsTrue run.whole × (run.len < room))))
+      (λ run. P run.items × ((run.len ≡ room) ⊎ (IsTrue run.whole × (run.len < room))))
 
   -- n calls of `next`, or fewer where the end comes first, led from before to after: the form that proofs follow
   -- where the iterator is asked on
   abbrev pub Asks : S → ℕ → S → Type 0
   Asks before zero after = before ≡ after
   Asks before (suc n) after = (answer : Option T) × (reached : S) × next_gives before answer reached
-    × MatchOption answer (reached ≡ after) (λ _. Asks reached n after)
+      × MatchOption answer (reached ≡ after) (λ _. Asks reached n after)
 
 module _ {S T E : Type 0} (next_gives : S → Option T → S → Type 0) where
   -- Calls of `next` led from before to after: they gave the items taken, and then last. There is an array of these
@@ -54,7 +54,7 @@ module _ {S T E : Type 0} (next_gives : S → Option (Result T E) → S → Type
   -- item taken. An error that comes after n good values is one item more.
   abbrev pub FillsFallibly : {F : Type 0} → S → ℕ → Result (Result (List T) E) F → S → Type 0
   FillsFallibly before n result after = (good : List T) × (last : Option (Result T E))
-    × YieldsThen next_gives before (map Ok good) last after
+      × YieldsThen next_gives before (map Ok good) last after
       × MatchResult result
       (λ built. MatchResult built
       (λ array. (array ≡ good) × (length good ≡ n) × (last ≡ None))
@@ -66,14 +66,14 @@ module _ {S T E : Type 0} (next_gives : S → Option (Result T E) → S → Type
   TakeGoodRuns before room result P = MatchResult result
       (λ _. TakeRuns next_gives before room (λ items. IsOkAnd (try_map (λ item. item) items) P))
       (λ error. SomeRun next_gives before (λ run. (good : List T) × P good × (run.items ≡ map Ok good ++ Err error ∷ [])
-        × (length good < room)))
+      × (length good < room)))
 
   -- what `FillsFallibly` says, as one run of calls: the form that proofs follow along a chain of std's iterators
   abbrev pub FillFalliblyRuns : {F : Type 0} → S → ℕ → Result (Result (List T) E) F → Type 0
   FillFalliblyRuns before n result = MatchResult result
       (λ built. MatchResult built
       (λ array. WholeRun next_gives before (λ run. (run.items ≡ map Ok array)
-        × (try_map (λ item. item) run.items ≡ Ok array) × (run.len ≡ n)))
+      × (try_map (λ item. item) run.items ≡ Ok array) × (run.len ≡ n)))
       (λ error. SomeRun next_gives before (λ run. (good : List T) × (run.items ≡ map Ok good ++ Err error ∷ [])
-        × (length good < n))))
+      × (length good < n))))
       (λ _. SomeRun next_gives before (λ run. (IsTrue run.whole × (run.len < n)) ⊎ (run.len ≡ n + 1)))

@@ -20,11 +20,11 @@ module _ {F X Y E : Type 0} (step : F → X → Result Y E → F → Type 0) whe
   FirstErrorRun f (x ∷ xs) (Ok []) last = ⊥
   FirstErrorRun f (x ∷ xs) (Ok (y ∷ ys)) last = (next : F) × step f x (Ok y) next × FirstErrorRun next xs (Ok ys) last
   FirstErrorRun f (x ∷ xs) (Err error) last = step f x (Err error) last
-    ⊎ ((y : Y) × (next : F) × step f x (Ok y) next × FirstErrorRun next xs (Err error) last)
+      ⊎ ((y : Y) × (next : F) × step f x (Ok y) next × FirstErrorRun next xs (Err error) last)
 
 module _ {F A X : Type 0} (step : F → A → X → A → F → Type 0) where
   -- calls led from the state f to the state last, one at each item in order, each with what the one before returned,
   -- from init to the result
   abbrev pub FoldRun : F → A → List X → A → F → Type 0
   FoldRun f init items answer last = FoldsTo {P = F × A}
-    (λ before item after. step before.0 before.1 item after.1 after.0) (f, init) items (last, answer)
+      (λ before item after. step before.0 before.1 item after.1 after.0) (f, init) items (last, answer)

@@ -12,9 +12,11 @@ module _ {V F : Type 0} (bytes_of : V → List ℕ) (step : F → V → Unit {0}
   -- calls at some blocks, and then at others
   pub Takes-join : (f : F) (xs ys : List (List ℕ)) (between last : F) → Takes bytes_of step f xs between
       → Takes bytes_of step between ys last → Takes bytes_of step f (xs ++ ys) last
-  Takes-join f xs ys between last first then =
-      (first.0 ++ then.0, ClosureRun-in_turn (CallAt bytes_of step) f xs ys first.0 then.0
-        (first.0 ++ then.0) between last refl first.1 then.1)
+  Takes-join f xs ys between last first then = (
+    first.0 ++ then.0,
+    ClosureRun-in_turn (CallAt bytes_of step) f xs ys first.0 then.0
+        (first.0 ++ then.0) between last refl first.1 then.1,
+  )
 
   -- no call at no block
   pub Takes-none : (f : F) (blocks : List (List ℕ)) → blocks ≡ [] → Takes bytes_of step f blocks f
@@ -41,7 +43,7 @@ module _ {V F : Type 0} (bytes_of : V → List ℕ) (step : F → V → Unit {0}
     pub MayTake-front : (f : F) (xs ys : List (List ℕ)) → MayTake bytes_of step pre width f (xs ++ ys)
         → MayTake bytes_of step pre width f xs
     MayTake-front f xs ys may = MayMap-first bytes_of (λ g view. length (bytes_of view) ≡ width
-      → pre g view) step f xs ys may
+        → pre g view) step f xs ys may
 
     -- and then at the others
     pub MayTake-behind : (f : F) (xs ys : List (List ℕ)) (between : F) → MayTake bytes_of step pre width f (xs ++ ys)
@@ -49,13 +51,13 @@ module _ {V F : Type 0} (bytes_of : V → List ℕ) (step : F → V → Unit {0}
         → MayTake bytes_of step pre width between ys
     MayTake-behind f xs ys between may taken =
         MayMap-second bytes_of (λ g view. length (bytes_of view) ≡ width
-          → pre g view) step f xs ys taken.0 between may taken.1
+        → pre g view) step f xs ys taken.0 between may taken.1
 
     -- a call at the first block may be made
     pub MayTake-first : (f : F) (v : V) (others : List (List ℕ)) → length (bytes_of v) ≡ width
         → MayTake bytes_of step pre width f (bytes_of v ∷ others) → pre f v
     MayTake-first f v others full may = may_map-at bytes_of (λ g view. length (bytes_of view) ≡ width
-      → pre g view) step f (bytes_of v ∷ others) may [] (bytes_of v) others [] f refl refl v refl full
+        → pre g view) step f (bytes_of v ∷ others) may [] (bytes_of v) others [] f refl refl v refl full
 
     -- and then those at the others
     pub MayTake-others : (f : F) (v : V) (others : List (List ℕ)) (between : F) → step f v tt between
@@ -70,45 +72,48 @@ module _ {V F : Type 0} (bytes_of : V → List ℕ) (step : F → V → Unit {0}
   -- fewer bytes than a block are kept, with no call
   pub HasFed-few : (f : F) (bytes : List ℕ) → length bytes < width → HasFed bytes_of step width f bytes bytes f
   HasFed-few f bytes few =
-    record { blocks = Takes-none bytes_of step f (rows width bytes) (rows-few width bytes few); rest =
-    sym (chunk_rest-few width bytes few) }
+      record {
+        blocks = Takes-none bytes_of step f (rows width bytes) (rows-few width bytes few);
+        rest =
+            sym (chunk_rest-few width bytes few);
+      }
 
   -- more bytes
   pub HasFed-more : (first f last : F) (message kept bytes left : List ℕ)
       → HasFed bytes_of step width first message kept f
       → Takes bytes_of step f (rows width (kept ++ bytes)) last → left ≡ chunk_rest width (kept ++ bytes)
-        → HasFed bytes_of step width first (message ++ bytes) left last
+      → HasFed bytes_of step width first (message ++ bytes) left last
   HasFed-more first f last message kept bytes left fed taken rest =
       let same = ap (λ k. rows width message ++ rows width (k ++ bytes)) fed.rest in
       record {
         blocks = Takes-along bytes_of step first (rows width message ++ rows width (kept ++ bytes))
-          (rows width (message ++ bytes)) last
+            (rows width (message ++ bytes)) last
             (rows-joined width some message bytes ∙ sym same)
-              (Takes-join bytes_of step first (rows width message)
-              (rows width (kept ++ bytes)) f last fed.blocks taken);
+            (Takes-join bytes_of step first (rows width message)
+            (rows width (kept ++ bytes)) f last fed.blocks taken);
         rest = rest ∙ (ap (λ k. chunk_rest width (k ++ bytes)) fed.rest
-          ∙ sym (chunk_rest-joined width some message bytes));
+            ∙ sym (chunk_rest-joined width some message bytes));
       }
 
   -- and when these may be fed
   pub MayTake-more : (pre : F → V → Type 0) (first f : F) (all message kept bytes more : List ℕ)
       → all ≡ message ++ (bytes ++ more)
       → MayTake bytes_of step pre width first (rows width all) → HasFed bytes_of step width first message kept f
-        → MayTake bytes_of step pre width f (rows width (kept ++ bytes))
+      → MayTake bytes_of step pre width f (rows width (kept ++ bytes))
   MayTake-more pre first f all message kept bytes more whole may fed =
       let left = kept ++ (bytes ++ more) in
       let parts : rows width all ≡ rows width message ++ rows width left =
       ap (rows width) whole ∙ (rows-joined width some message (bytes ++ more)
-        ∙ ap (λ k. rows width message ++ rows width (k ++ (bytes ++ more))) (sym fed.rest)) in
+      ∙ ap (λ k. rows width message ++ rows width (k ++ (bytes ++ more))) (sym fed.rest)) in
       let then : rows width left ≡ rows width (kept ++ bytes) ++ rows width (chunk_rest width (kept ++ bytes) ++ more) =
       ap (rows width) (sym (append_assoc kept bytes more)) ∙ rows-joined width some (kept ++ bytes) more in
       let may_left = MayTake-behind bytes_of step pre width first (rows width message) (rows width left) f
       (MayTake-along bytes_of step pre width first (rows width all) (rows width message ++ rows width left) parts may)
-        fed.blocks in
+      fed.blocks in
       MayTake-front bytes_of step pre width f (rows width (kept ++ bytes))
-        (rows width (chunk_rest width (kept ++ bytes) ++ more))
+      (rows width (chunk_rest width (kept ++ bytes) ++ more))
       (MayTake-along bytes_of step pre width f (rows width left)
-        (rows width (kept ++ bytes) ++ rows width (chunk_rest width (kept ++ bytes) ++ more)) then may_left)
+      (rows width (kept ++ bytes) ++ rows width (chunk_rest width (kept ++ bytes) ++ more)) then may_left)
 
 -- A block that is full now, the one that a call sees, and the bytes behind it are all bytes.
 module _ {V F : Type 0} (bytes_of : V → List ℕ) (step : F → V → Unit {0} → F → Type 0) (width : ℕ) (some : 0 < width)
@@ -128,13 +133,13 @@ module _ {V F : Type 0} (bytes_of : V → List ℕ) (step : F → V → Unit {0}
     pub full-then_callable : (between : F) → step f v tt between
         → MayTake bytes_of step pre width between (rows width behind)
     full-then_callable between call = MayTake-others bytes_of step pre width f v
-      (rows width behind) between call may_first
+        (rows width behind) between call may_first
 
   pub full-taken : (f between last : F) → step f v tt between → Takes bytes_of step between (rows width behind) last
       → Takes bytes_of step f (rows width all) last
   full-taken f between last call then =
       Takes-along bytes_of step f (bytes_of v ∷ rows width behind) (rows width all) last blocks
-        (Takes-first bytes_of step f v (rows width behind) between last call then)
+      (Takes-first bytes_of step f v (rows width behind) between last call then)
 
 -- Calls at the blocks passed led from f₀ to f, and those at the blocks that are left may be made.
 pub record BlocksLeft {V F : Type 0} (bytes_of : V → List ℕ) (step : F → V → Unit {0} → F → Type 0) (pre : F → V
@@ -149,7 +154,7 @@ module _ {V F : Type 0} {bytes_of : V → List ℕ} {step : F → V → Unit {0}
       → length (bytes_of v) ≡ width → BlocksLeft bytes_of step pre width f₀ all f left → pre f v
   BlocksLeft-callable v left others next full state =
       MayTake-first bytes_of step pre width f v others full
-        (MayTake-along bytes_of step pre width f left (bytes_of v ∷ others) next state.may)
+      (MayTake-along bytes_of step pre width f left (bytes_of v ∷ others) next state.may)
 
   -- it was made
   pub BlocksLeft-more : (v : V) (left others : List (List ℕ)) (g : F) → left ≡ bytes_of v ∷ others → step f v tt g
@@ -160,7 +165,7 @@ module _ {V F : Type 0} {bytes_of : V → List ℕ} {step : F → V → Unit {0}
       record {
         may = MayTake-others bytes_of step pre width f v others g call may;
         then = λ last taken. state.then last (Takes-along bytes_of step f (bytes_of v ∷ others) left last next
-          (Takes-first bytes_of step f v others g last call taken));
+            (Takes-first bytes_of step f v others g last call taken));
       }
 
   -- no block is left

@@ -13,18 +13,18 @@ cut : (room behind : ℕ) (bytes output : List ℕ) → behind + room ≡ length
     → take (length bytes) (take room bytes ++ drop (behind + length bytes) output) ≡ take room bytes
 cut room behind bytes output all =
     elim (cases_lt room (length bytes)) as (λ _. take (length bytes)
-      (take room bytes ++ drop (behind + length bytes) output) ≡ take room bytes) [
+    (take room bytes ++ drop (behind + length bytes) output) ≡ take room bytes) [
       | inl short ↦
           let none : drop (behind + length bytes) output ≡ [] =
-            drop_all (behind + length bytes) output (omega (arith, all, short)) in
+          drop_all (behind + length bytes) output (omega (arith, all, short)) in
           let few : length (take room bytes) ≤ length bytes =
-            omega (arith, short, length-take-le room bytes (omega (arith, short))) in
+          omega (arith, short, length-take-le room bytes (omega (arith, short))) in
           ap (λ rest. take (length bytes) (take room bytes ++ rest)) none
-            ∙ (ap (take (length bytes)) (append-nil (take room bytes)) ∙ take_all (length bytes) (take room bytes) few)
+          ∙ (ap (take (length bytes)) (append-nil (take room bytes)) ∙ take_all (length bytes) (take room bytes) few)
       | inr fits ↦
           let whole : take room bytes ≡ bytes = take_all room bytes fits in
           ap (λ part. take (length bytes) (part ++ drop (behind + length bytes) output)) whole
-            ∙ (take-append_seam bytes (drop (behind + length bytes) output) ∙ sym whole)
+          ∙ (take-append_seam bytes (drop (behind + length bytes) output) ∙ sym whole)
     ]
 
 -- bytes behind those that an output begins with
@@ -36,19 +36,23 @@ more made bytes output below begun =
     let behind = take room bytes ++ drop (at + length bytes) output in
     let left : take (at + length bytes) (made ++ behind) ≡ made ++ take room bytes =
     take-append-add made behind (length bytes) ∙ ap (λ rest. made ++ rest)
-      (cut room at bytes output (omega (arith, below))) in
+    (cut room at bytes output (omega (arith, below))) in
     let right : take (length output) (made ++ bytes) ≡ made ++ take room bytes =
     let sum : length output ≡ at + room = omega (arith, below) in
-      ap (λ n. take n (made ++ bytes)) sum ∙ take-append-add made bytes room in
+    ap (λ n. take n (made ++ bytes)) sum ∙ take-append-add made bytes room in
     ap (λ n. take n (written_at at bytes output)) (length-append made bytes)
-      ∙ (ap (λ front. take (at + length bytes) (front ++ behind)) begun ∙ (left ∙ sym right))
+    ∙ (ap (λ front. take (at + length bytes) (front ++ behind)) begun ∙ (left ∙ sym right))
 
 module _ (digest : List ℕ → List ℕ) (block : ℕ) (key info : List ℕ) (size : ℕ) where
   -- no block is written
   pub BeginsWithBlocks-none : (output : List ℕ) → BeginsWithBlocks digest block key info size 0 output
   unfolding output_block output_blocks
-  BeginsWithBlocks-none output = record { begun = sym (take-nil (length output)); len = omega arith; last =
-    drop-nil (0 * size - size) }
+  BeginsWithBlocks-none output = record {
+    begun = sym (take-nil (length output));
+    len = omega arith;
+    last =
+        drop-nil (0 * size - size);
+  }
 
   -- one block more, of this size
   module _ (number at from : ℕ) (output bytes written : List ℕ) (room : number * size < length output)
@@ -56,28 +60,28 @@ module _ (digest : List ℕ → List ℕ) (block : ℕ) (key info : List ℕ) (s
       (at_is : at ≡ number * size) (from_is : from ≡ number * size - size)
       (tag : bytes ≡ hmac_of digest block key (take (at - from) (drop from output) ++ (info ++ ((number + 1) ∷ []))))
       (whole : length bytes ≡ size) (put : written ≡ written_at at bytes output)
-          (stays : length written ≡ length output) where
+      (stays : length written ≡ length output) where
     abbrev made : List ℕ
     made = output_blocks digest block key info number
 
     full : take (number * size) output ≡ made
     full = ap (λ n. take n output) (sym begun.len)
-      ∙ (begun.begun ∙ take_all (length output) made (omega (arith, room, begun.len)))
+        ∙ (begun.begun ∙ take_all (length output) made (omega (arith, room, begun.len)))
 
     is_before : take (at - from) (drop from output) ≡ output_block digest block key info number
     is_before =
         let end : from + (at - from) ≡ number * size = omega (arith, at_is, from_is) in
         sym (drop-take from (at - from) output)
         ∙ (ap (λ n. drop from (take n output)) end
-          ∙ (ap (λ n. drop n (take (number * size) output)) from_is
-          ∙ (ap (drop (number * size - size)) full ∙ begun.last)))
+        ∙ (ap (λ n. drop n (take (number * size) output)) from_is
+        ∙ (ap (drop (number * size - size)) full ∙ begun.last)))
 
     is_block : bytes ≡ output_block digest block key info (suc number)
     unfolding output_block
     is_block =
         tag ∙ (ap (λ b. hmac_of digest block key (b ++ (info ++ ((number + 1) ∷ [])))) is_before
         ∙ ap (λ n. hmac_of digest block key (output_block digest block key info number ++ (info ++ (n ∷ []))))
-          (add-one number))
+        (add-one number))
 
     are_blocks : output_blocks digest block key info (suc number) ≡ made ++ bytes
     unfolding output_blocks
@@ -87,7 +91,7 @@ module _ (digest : List ℕ → List ℕ) (block : ℕ) (key info : List ℕ) (s
     begun_next =
         ap (take (length (made ++ bytes))) (put ∙ ap (λ n. written_at n bytes output) (at_is ∙ sym begun.len))
         ∙ (more made bytes output (omega (arith, room, begun.len)) (ap (λ n. take n output) begun.len ∙ full)
-          ∙ ap (λ n. take n (made ++ bytes)) (sym stays))
+        ∙ ap (λ n. take n (made ++ bytes)) (sym stays))
 
     next : BeginsWithBlocks digest block key info size (suc number) written
     next =
@@ -97,9 +101,9 @@ module _ (digest : List ℕ → List ℕ) (block : ℕ) (key info : List ℕ) (s
           begun = subst (λ b. take (length b) written ≡ take (length written) b) (sym all) begun_next;
           len = ap length all ∙ (length-append made bytes ∙ omega (arith, suc-mul number size, begun.len, whole));
           last = ap (drop (suc number * size - size)) all
-            ∙ (ap (λ n. drop n (made ++ bytes)) place ∙ (drop-append_seam made bytes ∙ is_block));
+              ∙ (ap (λ n. drop n (made ++ bytes)) place ∙ (drop-append_seam made bytes ∙ is_block));
         }
 
     pub BeginsWithBlocks-more : BeginsWithBlocks digest block key info size (number + 1) written
     BeginsWithBlocks-more = subst (λ n. BeginsWithBlocks digest block key info size n written)
-      (sym (add-one number)) next
+        (sym (add-one number)) next

@@ -15,7 +15,7 @@ module _ {P X : Type 0} (items_of : P → List X) (pieces : List P) (i : ℕ) (d
       let piece = get_or pieces i d in
       ap (flat_map items_of) (take_more pieces i d below)
       ∙ (flat_map-append items_of (take i pieces) (piece ∷ [])
-        ∙ ap (λ k. before ++ k) (flat_map-cons items_of piece [] ∙ append-nil (items_of piece)))
+      ∙ ap (λ k. before ++ k) (flat_map-cons items_of piece [] ∙ append-nil (items_of piece)))
 
   -- all pieces, cut at one of them
   pub pieces-cut : flat_map items_of pieces ≡ flat_map items_of (take i pieces)
@@ -25,4 +25,4 @@ module _ {P X : Type 0} (items_of : P → List X) (pieces : List P) (i : ℕ) (d
       ap (flat_map items_of) (sym (take-append-drop (i + 1) pieces))
       ∙ (flat_map-append items_of (take (i + 1) pieces) (drop (i + 1) pieces)
       ∙ (ap (λ k. k ++ behind) pieces-more ∙ append_assoc (flat_map items_of (take i pieces))
-        (items_of (get_or pieces i d)) behind))
+      (items_of (get_or pieces i d)) behind))

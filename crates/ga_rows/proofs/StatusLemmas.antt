@@ -49,7 +49,7 @@ pub ListedAnd-kept : {S E : Type 0} (next_gives : S → Option (String Global) �
     → Type 0)
     (listed : Result S E) (words : S) (kept : List (String Global))
     → listed ≡ Ok words → WholeRun next_gives words (λ run. kept ≡ drop 1 run.items)
-      → P (meaning_of_words (map string_bytes kept)) → ListedAnd next_gives listed P
+    → P (meaning_of_words (map string_bytes kept)) → ListedAnd next_gives listed P
 ListedAnd-kept next_gives P listed words kept is all holds =
     rw is (all.0, all.1, all.2, subst (λ given. P (meaning_of_words (map string_bytes given))) all.3 holds)
 
@@ -58,7 +58,7 @@ pub ListedEach-kept : {S E : Type 0} (next_gives : S → Option (String Global) 
     → Type 0)
     (listed : Result S E) (words : S) (kept : List (String Global))
     → listed ≡ Ok words → WholeRun next_gives words (λ run. kept ≡ drop 1 run.items) → ListedEach next_gives listed P
-      → P (meaning_of_words (map string_bytes kept))
+    → P (meaning_of_words (map string_bytes kept))
 ListedEach-kept next_gives P listed words kept is all each =
     let of_words = subst (λ listing. ListedEach next_gives listing P) is each in
     subst (λ given. P (meaning_of_words (map string_bytes given))) (sym all.3) (of_words all.0 all.0.seen all.1 all.2)

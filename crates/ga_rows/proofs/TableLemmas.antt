@@ -19,7 +19,7 @@ module _ (texts : List (List ℕ)) (counts : List ℕ) where
       → (take (get_or counts k 0) (get_or texts k []) ≡ decimal k) × (get_or counts k 0 < 4)
   entry-at n all =
       (Decides-below_and is_entry (λ k. (take (get_or counts k 0) (get_or texts k []) ≡ decimal k)
-        × (get_or counts k 0 < 4)) are_entries_below
+      × (get_or counts k 0 < 4)) are_entries_below
       (λ k. Decides-and _ _ (bytes_eq-Decides _ _) (Decides-ltb _ 4)) refl (λ _. refl) n).0 all
 
 all_entries : are_entries_below TEXTS DIGITS 256 ≡ true

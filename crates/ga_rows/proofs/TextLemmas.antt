@@ -22,14 +22,14 @@ module _ (mode : Mode) where
   -- also after one more line
   pub lines-more : (all left after : List (List ℕ)) (row : List ℕ) (before now later : Option (List ℕ))
       → LinesSoFar all left before now → left ≡ row ∷ after → Appends now later (line (row_text mode row))
-        → LinesSoFar all after before later
+      → LinesSoFar all after before later
   lines-more all left after row before now later so_far step put =
       let first = line (row_text mode row) in
       record {
         done = so_far.done ++ first;
         appended = Appends-trans before now later so_far.done first so_far.appended put;
         whole = so_far.whole ∙ (ap (λ rows. so_far.done ++ lines mode rows) step
-          ∙ sym (append_assoc so_far.done first (lines mode after)));
+            ∙ sym (append_assoc so_far.done first (lines mode after)));
       }
 
 -- known bytes that a text behind others kept grow by what is put behind the text

@@ -10,10 +10,10 @@ use Rattle.std.specs.declared.alloc.Global.{Global}
 module _ {S E : Type 0} (next_gives : S → Option (String Global) → S → Type 0) where
   abbrev pub ListedAnd : Result S E → (Option (Mode × Width) → Type 0) → Type 0
   ListedAnd listed P = IsOkAnd listed (λ words. WholeRun next_gives words
-    (λ run. P (meaning_of_words (map string_bytes (drop 1 run.items)))))
+      (λ run. P (meaning_of_words (map string_bytes (drop 1 run.items)))))
 
   -- the words can be listed, and P holds of what all but the first mean, however they are listed to their end
   abbrev pub ListedEach : Result S E → (Option (Mode × Width) → Type 0) → Type 0
   ListedEach listed P =
-    IsOkAnd listed (λ words. EachRunFrom next_gives words (λ run. run.whole ≡ true
-    → P (meaning_of_words (map string_bytes (drop 1 run.items)))))
+      IsOkAnd listed (λ words. EachRunFrom next_gives words (λ run. run.whole ≡ true
+      → P (meaning_of_words (map string_bytes (drop 1 run.items)))))

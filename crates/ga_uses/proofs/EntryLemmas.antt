@@ -43,21 +43,21 @@ module _ {K X : Type 0} (R : K → K → Ordering) (k : K) where
   lookup_at [] i d lt above at = absurd (omega (arith, lt))
   lookup_at (e ∷ es) zero d lt above at = lookup_step e es Equal at
   lookup_at (e ∷ es) (suc i) d lt above at = lookup_step e es Greater above.0
-    ∙ lookup_at es i d (omega (arith, lt)) above.1 at
+      ∙ lookup_at es i d (omega (arith, lt)) above.1 at
 
   pub insert_at : (es : List (K × X)) (i : ℕ) (v : X) (d : K × X) → i < length es → AboveFirst es i
       → AnswersAt es i Equal → insert_entry R es k v ≡ set es i ((get_or es i d).0, v)
   insert_at [] i v d lt above at = absurd (omega (arith, lt))
   insert_at (e ∷ es) zero v d lt above at = insert_step e es v Equal at
   insert_at (e ∷ es) (suc i) v d lt above at = insert_step e es v Greater above.0
-    ∙ ap (λ l. e ∷ l) (insert_at es i v d (omega (arith, lt)) above.1 at)
+      ∙ ap (λ l. e ∷ l) (insert_at es i v d (omega (arith, lt)) above.1 at)
 
   pub remove_at : (es : List (K × X)) (i : ℕ) → i < length es → AboveFirst es i → AnswersAt es i Equal
       → remove_entry (is_at (R k)) es ≡ remove es i
   remove_at [] i lt above at = absurd (omega (arith, lt))
   remove_at (e ∷ es) zero lt above at = remove_step e es Equal at
   remove_at (e ∷ es) (suc i) lt above at = remove_step e es Greater above.0
-    ∙ ap (λ l. e ∷ l) (remove_at es i (omega (arith, lt)) above.1 at)
+      ∙ ap (λ l. e ∷ l) (remove_at es i (omega (arith, lt)) above.1 at)
 
   -- where no place has it, and it would go to place i
   pub insert_gap : (es : List (K × X)) (i : ℕ) (v : X) → i ≤ length es → AboveFirst es i → AnswersAt es i Less
@@ -66,7 +66,7 @@ module _ {K X : Type 0} (R : K → K → Ordering) (k : K) where
   insert_gap [] (suc i) v le above at = absurd above
   insert_gap (e ∷ es) zero v le above at = insert_step e es v Less at
   insert_gap (e ∷ es) (suc i) v le above at = insert_step e es v Greater above.0
-    ∙ ap (λ l. e ∷ l) (insert_gap es i v (omega (arith, le)) above.1 at)
+      ∙ ap (λ l. e ∷ l) (insert_gap es i v (omega (arith, le)) above.1 at)
 
   -- no key is k
   abbrev NoneIs : List (K × X) → Type 0
@@ -80,7 +80,7 @@ module _ {K X : Type 0} (R : K → K → Ordering) (k : K) where
   remove_none : (es : List (K × X)) → NoneIs es → remove_entry (is_at (R k)) es ≡ es
   remove_none [] none = refl
   remove_none (e ∷ es) none = ap (λ b. cond b es (e ∷ remove_entry (is_at (R k)) es)) none.0
-    ∙ ap (λ l. e ∷ l) (remove_none es none.1)
+      ∙ ap (λ l. e ∷ l) (remove_none es none.1)
 
 -- the same comparison from the other side
 pub turned : {K : Type 0} {R : K → K → Ordering} → IsTotalOrder R → (k x : K) → R k x ≡ Greater → R x k ≡ Less
@@ -153,16 +153,16 @@ module _ {K X : Type 0} (R : K → K → Ordering) (test : K → Bool) where
       → AllByRecursion (λ y. R x y ≡ Less) (keys_of (remove_entry test es))
   below_remove x [] all = tt
   below_remove x (e ∷ es) all = elim (test e.0) as
-    (λ b. AllByRecursion (λ y. R x y ≡ Less) (keys_of (cond b es (e ∷ remove_entry test es))))
-    [ true ↦ all.1 | false ↦ (all.0, below_remove x es all.1) ]
+      (λ b. AllByRecursion (λ y. R x y ≡ Less) (keys_of (cond b es (e ∷ remove_entry test es))))
+      [ true ↦ all.1 | false ↦ (all.0, below_remove x es all.1) ]
 
   pub sorted_remove : (es : List (K × X)) → IsStrictlySortedBy R (keys_of es)
       → IsStrictlySortedBy R (keys_of (remove_entry test es))
   unfolding IsStrictlySortedBy
   sorted_remove [] sorted = tt
   sorted_remove (e ∷ es) sorted = elim (test e.0) as
-    (λ b. IsStrictlySortedBy R (keys_of (cond b es (e ∷ remove_entry test es))))
-    [ true ↦ sorted.1 | false ↦ (below_remove e.0 es sorted.0, sorted_remove es sorted.1) ]
+      (λ b. IsStrictlySortedBy R (keys_of (cond b es (e ∷ remove_entry test es))))
+      [ true ↦ sorted.1 | false ↦ (below_remove e.0 es sorted.0, sorted_remove es sorted.1) ]
 
 -- ---- what a look-up finds after an edit
 
@@ -205,11 +205,11 @@ module _ {K X : Type 0} {R : K → K → Ordering} (o : IsTotalOrder R) (k : K) 
   lookup_insert_by e es Equal h rest =
       let same : is_eq (R q e.0) ≡ is_eq (R k q) = ap is_eq (sym (alike_right o k e.0 q h)) ∙ ties_back in
       ap (λ b. cond b (Some v) (lookup (is_at (R q)) es)) same
-        ∙ (same_test v e.1 (lookup (is_at (R q)) es) (is_eq (R k q))
-        ∙ ap (λ b. cond (is_eq (R k q)) (Some v) (cond b (Some e.1) (lookup (is_at (R q)) es))) (sym same))
+      ∙ (same_test v e.1 (lookup (is_at (R q)) es) (is_eq (R k q))
+      ∙ ap (λ b. cond (is_eq (R k q)) (Some v) (cond b (Some e.1) (lookup (is_at (R q)) es))) (sym same))
   lookup_insert_by e es Greater h rest =
       ap (λ l. cond (is_eq (R q e.0)) (Some e.1) l) rest
-        ∙ swapped_tests v e.1 (lookup (is_at (R q)) es) (is_eq (R q e.0)) (is_eq (R k q)) (apart e h)
+      ∙ swapped_tests v e.1 (lookup (is_at (R q)) es) (is_eq (R q e.0)) (is_eq (R k q)) (apart e h)
 
   pub lookup-insert_entry : (es : List (K × X)) → lookup (is_at (R q)) (insert_entry R es k v)
       ≡ cond (is_eq (R k q)) (Some v) (lookup (is_at (R q)) es)

@@ -58,10 +58,10 @@ module _ {V : Type 0} (es : List (List ℕ × V)) (sorted : IsInKeyOrder es) whe
   ranged from to s t ls lt first second =
       filter_between _ es (min s t) (t - min s t) (omega arith)
       (λ j d low high. both (from_not_less nat_list_cmp_total from (get_or es j d).0 true
-        (first.0 j d low (omega (arith, high)))) refl)
+      (first.0 j d low (omega (arith, high)))) refl)
       (λ j d low high. both (from_not_less nat_list_cmp_total from (get_or es j d).0 false
-        (first.1 j d (omega (arith, low, high)) (omega (arith, low, high))))
-        (second.0 j d (omega arith) (omega (arith, low, high))))
+      (first.1 j d (omega (arith, low, high)) (omega (arith, low, high))))
+      (second.0 j d (omega arith) (omega (arith, low, high))))
       (λ j d low high. both refl (second.1 j d (omega (arith, low)) high) ∙ and_false _)
 
 -- ---- the edits keep the order
@@ -76,7 +76,7 @@ module _ {V : Type 0} (es : List (List ℕ × V)) (sorted : IsInKeyOrder es) (ke
       → IsInKeyOrder (set es i (e.0, v))
   sorted_written has e v is =
       subst (λ (x : List ℕ × V). IsInKeyOrder (set es i (x.0, v))) (sym is)
-        (subst IsInKeyOrder (has.written v e) (sorted_insert nat_list_cmp_total key es v sorted))
+      (subst IsInKeyOrder (has.written v e) (sorted_insert nat_list_cmp_total key es v sorted))
 
   -- b is whether there was memory
   pub sorted_inserted : IsGapFor es key i → (v : V) (b : Bool) → IsInKeyOrder (cond b (insert es i (key, v)) es)
@@ -102,17 +102,17 @@ module _ {V : Type 0} (es : List (List ℕ × V)) (key : List ℕ) where
   changes-with_entry value =
       let at = λ (b : Bool) (q : List ℕ). cond b (Some value) (value_at es q) in (
         lookup-insert_entry nat_list_cmp_total key value key es
-          ∙ ap (λ b. at b key) (ap is_eq (tied_itself nat_list_cmp_total key)),
+            ∙ ap (λ b. at b key) (ap is_eq (tied_itself nat_list_cmp_total key)),
         λ other differ. lookup-insert_entry nat_list_cmp_total key value other es
-          ∙ ap (λ b. at b other) (unlike key other differ),
+            ∙ ap (λ b. at b other) (unlike key other differ),
       )
 
   pub changes-without_key : IsInKeyOrder es → ChangesKey es (without_key es key) key None
   changes-without_key sorted =
       let at = λ (b : Bool) (q : List ℕ). cond b None (value_at es q) in
       let taken = λ (q : List ℕ). lookup-remove_entry {eq = eq_by_cmp key_order} (eq_by_cmp_equiv nat_list_cmp_total)
-        (is_at (key_order key)) (λ x y h. ap is_eq (nat_list_cmp_total.congr key x y (tie (key_order key x) h))) q es
-        (IsDistinct-from_sorted key_order (keys_of es) sorted) in (
+      (is_at (key_order key)) (λ x y h. ap is_eq (nat_list_cmp_total.congr key x y (tie (key_order key x) h))) q es
+      (IsDistinct-from_sorted key_order (keys_of es) sorted) in (
         taken key ∙ ap (λ b. at b key) (ap is_eq (tied_itself nat_list_cmp_total key)),
         λ other differ. taken other ∙ ap (λ b. at b other) (unlike key other differ),
       )
@@ -122,4 +122,4 @@ pub changes_written : {V : Type 0} (es : List (List ℕ × V)) (key : List ℕ) 
     → (e : List ℕ × V) (v : V) → e ≡ get_or es i e → ChangesKey es (set es i (e.0, v)) key (Some v)
 changes_written {V} es key i has e v is =
     subst (λ (x : List ℕ × V). ChangesKey es (set es i (x.0, v)) key (Some v)) (sym is)
-      (subst (λ l. ChangesKey es l key (Some v)) (has.written v e) (changes-with_entry es key v))
+    (subst (λ l. ChangesKey es l key (Some v)) (has.written v e) (changes-with_entry es key v))

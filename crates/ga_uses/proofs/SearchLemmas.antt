@@ -42,15 +42,17 @@ module _ {K X : Type 0} {R : K → K → Ordering} (o : IsTotalOrder R) (k : K) 
       → AboveFirst R k es i
   above_from es zero le within = tt
   above_from [] (suc i) le within = absurd (omega (arith, le))
-  above_from (e ∷ es) (suc i) le within = (turned_less o k e.0 (within 0 e (omega arith) (omega arith)),
-    above_from es i (omega (arith, le)) (λ j d low high. within (suc j) d (omega arith) (omega (arith, high))))
+  above_from (e ∷ es) (suc i) le within = (
+    turned_less o k e.0 (within 0 e (omega arith) (omega arith)),
+    above_from es i (omega (arith, le)) (λ j d low high. within (suc j) d (omega arith) (omega (arith, high))),
+  )
 
   pub answers_from : (es : List (K × X)) (i : ℕ) → AllWithin (λ e. R e.0 k ≡ Greater) es i (length es)
       → AnswersAt R k es i Less
   answers_from [] i within = tt
   answers_from (e ∷ es) zero within = turned_greater o k e.0 (within 0 e (omega arith) (omega arith))
   answers_from (e ∷ es) (suc i) within = answers_from es i
-    (λ j d low high. within (suc j) d (omega (arith, low)) (omega (arith, high)))
+      (λ j d low high. within (suc j) d (omega (arith, low)) (omega (arith, high)))
 
   -- the keys before a place that has k are below it
   pub above_at : (es : List (K × X)) (i : ℕ) → i < length es → IsStrictlySortedBy R (keys_of es)
@@ -81,20 +83,20 @@ filter_between p [] (suc m) zero le front middle back = refl
 filter_between p [] (suc m) (suc n) le front middle back = refl
 filter_between p (e ∷ es) zero zero le front middle back =
     ap (λ b. cond b (e ∷ filter p es) (filter p es)) (back 0 e (omega arith) (omega arith))
-      ∙ filter_between p es zero zero (omega arith) (λ j d low high. absurd (omega (arith, high)))
-      (λ j d low high. absurd (omega (arith, high)))
-      (λ j d low high. back (suc j) d (omega arith) (omega (arith, high)))
+    ∙ filter_between p es zero zero (omega arith) (λ j d low high. absurd (omega (arith, high)))
+    (λ j d low high. absurd (omega (arith, high)))
+    (λ j d low high. back (suc j) d (omega arith) (omega (arith, high)))
 filter_between p (e ∷ es) zero (suc n) le front middle back =
     ap (λ b. cond b (e ∷ filter p es) (filter p es)) (middle 0 e (omega arith) (omega arith))
-      ∙ ap (λ l. e ∷ l) (filter_between p es zero n (omega (arith, le)) (λ j d low high. absurd (omega (arith, high)))
-      (λ j d low high. middle (suc j) d (omega arith) (omega (arith, high)))
-      (λ j d low high. back (suc j) d (omega (arith, low)) (omega (arith, high))))
+    ∙ ap (λ l. e ∷ l) (filter_between p es zero n (omega (arith, le)) (λ j d low high. absurd (omega (arith, high)))
+    (λ j d low high. middle (suc j) d (omega arith) (omega (arith, high)))
+    (λ j d low high. back (suc j) d (omega (arith, low)) (omega (arith, high))))
 filter_between p (e ∷ es) (suc m) n le front middle back =
     ap (λ b. cond b (e ∷ filter p es) (filter p es)) (front 0 e (omega arith) (omega arith))
-      ∙ filter_between p es m n (omega (arith, le))
-      (λ j d low high. front (suc j) d (omega arith) (omega (arith, high)))
-      (λ j d low high. middle (suc j) d (omega (arith, low)) (omega (arith, high)))
-      (λ j d low high. back (suc j) d (omega (arith, low)) (omega (arith, high)))
+    ∙ filter_between p es m n (omega (arith, le))
+    (λ j d low high. front (suc j) d (omega arith) (omega (arith, high)))
+    (λ j d low high. middle (suc j) d (omega (arith, low)) (omega (arith, high)))
+    (λ j d low high. back (suc j) d (omega (arith, low)) (omega (arith, high)))
 
 -- what is below a key comes before what isn't
 index_of_less : (r : Ordering) → is_lt r ≡ true → ordering_index r ≤ 0

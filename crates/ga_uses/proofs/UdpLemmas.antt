@@ -22,8 +22,8 @@ words-rows (x ∷ y ∷ xs) =
     let first = rows-first {X = ℕ} 2 (x ∷ y ∷ xs) (omega arith) (omega arith) in
     let rest = chunk_rest-first {X = ℕ} 2 (x ∷ y ∷ xs) (omega arith) (omega arith) in
     ap (λ ws. (x * 2 ^ 8 + y) ∷ ws) (words-rows xs)
-      ∙ sym (ap (λ r. map number_of r ++ words (chunk_rest 2 (x ∷ y ∷ xs))) first
-      ∙ ap (λ r. (x * 2 ^ 8 + y) ∷ (map number_of (rows 2 xs) ++ words r)) rest)
+    ∙ sym (ap (λ r. map number_of r ++ words (chunk_rest 2 (x ∷ y ∷ xs))) first
+    ∙ ap (λ r. (x * 2 ^ 8 + y) ∷ (map number_of (rows 2 xs) ++ words r)) rest)
 
 -- the sum over the rows' numbers, and then over the rest
 pub fold-rows : (xs : List ℕ) (sum : ℕ) → fold sum_with_carry sum (words xs)
@@ -52,14 +52,14 @@ summed from to payload len source destination four_from four_to is =
     let first = fold-pieces 2 from (to ++ behind) 0 four_from in
     let second = fold-pieces 2 to behind (fold sum_with_carry 0 (words from)) four_to in
     let third : words behind ≡ 17 ∷ len ∷ source ∷ destination ∷ len ∷ 0 ∷ words payload =
-      λ i. 17 ∷ rejoined len i ∷ rejoined source i ∷ rejoined destination i ∷ rejoined len i ∷ 0 ∷ words payload in
+    λ i. 17 ∷ rejoined len i ∷ rejoined source i ∷ rejoined destination i ∷ rejoined len i ∷ 0 ∷ words payload in
     let all : fold sum_with_carry 0 (words (from ++ (to ++ behind)))
-      ≡ fold sum_with_carry (fold sum_with_carry (fold sum_with_carry 0 (words from)) (words to))
-      (17 ∷ len ∷ source ∷ destination ∷ len ∷ 0 ∷ words payload) =
-      first ∙ (second ∙ ap (fold sum_with_carry (fold sum_with_carry (fold sum_with_carry 0 (words from)) (words to)))
-      third) in
+    ≡ fold sum_with_carry (fold sum_with_carry (fold sum_with_carry 0 (words from)) (words to))
+    (17 ∷ len ∷ source ∷ destination ∷ len ∷ 0 ∷ words payload) =
+    first ∙ (second ∙ ap (fold sum_with_carry (fold sum_with_carry (fold sum_with_carry 0 (words from)) (words to)))
+    third) in
     sym all ∙ ap (λ n. ones_complement_sum (from ++
-      (to ++ (0 ∷ 17 ∷ field_of n ++ (header_of source destination n 0 ++ payload))))) is
+    (to ++ (0 ∷ 17 ∷ field_of n ++ (header_of source destination n 0 ++ payload))))) is
 
 one_left : (rest : List ℕ) → 1 ≤ length rest → length rest < 2 → words rest ≡ (get_or rest 0 0 * 2 ^ 8) ∷ []
 one_left [] least most = absurd (omega (arith, least))
@@ -77,7 +77,7 @@ module _ (xs whole rest : List ℕ) (same : rows 2 whole ≡ rows 2 xs) (left : 
   all =
       fold-rows xs sum
       ∙ (ap (λ t. fold sum_with_carry t (words (chunk_rest 2 xs)))
-        (sym (is ∙ ap (λ rs. fold sum_with_carry sum (map number_of rs)) same))
+      (sym (is ∙ ap (λ rs. fold sum_with_carry sum (map number_of rs)) same))
       ∙ ap (λ r. fold sum_with_carry total (words r)) (sym left))
 
   pub total-one : 1 ≤ length rest → length rest < 2

@@ -37,7 +37,7 @@ module _ {V : Type 0} where
   -- the value at the key becomes this one, or none, and every other key keeps what it has
   abbrev pub ChangesKey : List (List ℕ × V) → List (List ℕ × V) → List ℕ → Option V → Type 0
   ChangesKey old new key value = (value_at new key ≡ value)
-    × ((other : List ℕ) → other ≢ key → value_at new other ≡ value_at old other)
+      × ((other : List ℕ) → other ≢ key → value_at new other ≡ value_at old other)
 
   -- place i has the key: what a look-up, a write and a removal at the key come to
   pub record HasKeyAt (entries : List (List ℕ × V)) (key : List ℕ) (i : ℕ) : Type 0 where

@@ -44,7 +44,7 @@ abbrev pub summed_bytes : List ℕ → List ℕ → ℕ → ℕ → List ℕ →
 summed_bytes source_address destination_address source destination payload =
     let len = 8 + length payload in
     source_address ++ (destination_address ++ (0 ∷ 17 ∷ field_of len
-      ++ (header_of source destination len 0 ++ payload)))
+    ++ (header_of source destination len 0 ++ payload)))
 
 -- the datagram as it is sent: the header with its length and checksum, and the payload
 abbrev pub datagram_of : List ℕ → List ℕ → ℕ → ℕ → List ℕ → List ℕ

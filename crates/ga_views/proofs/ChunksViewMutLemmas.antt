@@ -14,7 +14,7 @@ module _ {S T N : Type 0} {s : reborrow.Ghosts S T} {n : unsigned.Ghosts N} (row
       → slice ≡ other → record rows { slice = slice; whole = whole } ≡ record rows { slice = other; whole = also }
   same_rows slice other whole also same =
       subst (λ x. (fact : length (s.items x) ≡ chunk_count n.USIZE (s.items x) * n.USIZE)
-        → record rows { slice = slice; whole = whole } ≡ record rows { slice = x; whole = fact }) same
+      → record rows { slice = slice; whole = whole } ≡ record rows { slice = x; whole = fact }) same
       (λ fact. ap (λ f. record rows { slice = slice; whole = f }) (ℕ_set _ _ whole fact)) also
 
   -- no rest is left whatever is written over the items
@@ -23,5 +23,5 @@ module _ {S T N : Type 0} {s : reborrow.Ghosts S T} {n : unsigned.Ghosts N} (row
   whole-after written =
       let after = s.slice_with rows.slice written in
       let same = ap length after.1 ∙ sym (length_refill (length (s.items rows.slice)) (s.items rows.slice) written refl)
-        in
+      in
       same ∙ (rows.whole ∙ ap (λ len. len / n.USIZE * n.USIZE) (sym same))

@@ -40,12 +40,16 @@ module _ {T : Type 0} where
       → reverse (take kept items) ≡ drop passed (reverse items)
   reverse-take items kept passed long =
       let last = reverse (drop kept items) in
-      let count : passed ≡ length last = omega (arith, length-reverse (drop kept items), length-drop kept items,
-        long) in
+      let count : passed ≡ length last = omega (
+        arith,
+        length-reverse (drop kept items),
+        length-drop kept items,
+        long,
+      ) in
       sym (drop-append_seam last (reverse (take kept items)))
       ∙ (ap (λ k. drop k (last ++ reverse (take kept items))) (sym count)
       ∙ ap (drop passed) (sym (reverse-append (take kept items) (drop kept items))
-        ∙ ap reverse (take-append-drop kept items)))
+      ∙ ap reverse (take-append-drop kept items)))
 
   -- `next_back` is `next` on the reversed list
   pub next_back-reversed : (items : List T) (reply : Option T) (left : List T)
@@ -57,18 +61,18 @@ module _ {T : Type 0} where
   pub taken-more : (all taken left : List T) (item : T) (others : List T) → all ≡ taken ++ left → left ≡ item ∷ others
       → all ≡ (taken ++ item ∷ []) ++ others
   taken-more all taken left item others so_far step =
-    so_far ∙ (ap (λ rest. taken ++ rest) step ∙ sym (append_assoc taken (item ∷ []) others))
+      so_far ∙ (ap (λ rest. taken ++ rest) step ∙ sym (append_assoc taken (item ∷ []) others))
 
   -- one item more was passed over
   pub passed-more : (n : ℕ) (items left : List T) (reply : Option T) (after : List T) → left ≡ drop n items
       → YieldsFirst (λ all. all) left reply after → after ≡ drop (n + 1) items
   passed-more n items left reply after passed step =
-    (next-step left reply after step).1 ∙ (ap (drop 1) passed ∙ drop-drop 1 n items)
+      (next-step left reply after step).1 ∙ (ap (drop 1) passed ∙ drop-drop 1 n items)
 
   -- behind n items, or behind all where there are no more, `next` does the step
   pub nth-step : (n passed : ℕ) (items left : List T) (reply : Option T) (after : List T)
       → passed ≡ min n (length items) → left ≡ drop passed items → YieldsFirst (λ all. all) left reply after
-        → StepGives (front n) items reply after
+      → StepGives (front n) items reply after
   nth-step n passed items left reply after count here step =
       let gave = next-step left reply after step in
       elim (cases_lt (length items) n) [
@@ -87,8 +91,11 @@ module _ {T : Type 0} where
 
   -- where there are no more than n items, the step consumes them
   pub nth-past : (n : ℕ) (items left : List T) → length items ≤ n → left ≡ [] → StepGives (front n) items None left
-  nth-past n items left beyond none = (sym (slice_get_past items n (omega arith)), none
-    ∙ sym (drop_of_length-le items (omega arith)))
+  nth-past n items left beyond none = (
+    sym (slice_get_past items n (omega arith)),
+    none
+        ∙ sym (drop_of_length-le items (omega arith)),
+  )
 
   -- the same from the back
   pub nth_back-past : (n : ℕ) (items left : List T) → length items ≤ n → left ≡ [] → StepGives (back n) items None left
@@ -99,11 +106,11 @@ module _ {T : Type 0} where
   -- behind n items from the back, or before all where there are no more, `next_back` does the step
   pub nth_back-step : (n passed : ℕ) (items left : List T) (reply : Option T) (after : List T)
       → passed ≡ min n (length items) → reverse left ≡ drop passed (reverse items)
-        → YieldsLast (λ all. all) left reply after → StepGives (back n) items reply after
+      → YieldsLast (λ all. all) left reply after → StepGives (back n) items reply after
   nth_back-step n passed items left reply after count here step =
       let same : length (reverse items) ≡ length items = length-reverse items in
       let gave = nth-step n passed (reverse items) (reverse left) reply (reverse after) (omega arith) here
-        (next_back-reversed left reply after step) in
+      (next_back-reversed left reply after step) in
       (gave.0, sym (reverse-reverse after) ∙ ap reverse gave.1)
 
   -- `pop` leaves one item fewer
@@ -113,6 +120,6 @@ module _ {T : Type 0} where
   popped items (Some item) left came =
       let count = length-append left (item ∷ []) in
       let one_less : length items - 1 ≡ length left = let same : length items ≡ length (left ++ item ∷ []) =
-        ap length came in omega arith in
+      ap length came in omega arith in
       sym (take-append_seam left (item ∷ [])) ∙ (ap (λ k. take k (left ++ item ∷ [])) (sym one_less)
-        ∙ ap (take (length items - 1)) (sym came))
+      ∙ ap (take (length items - 1)) (sym came))

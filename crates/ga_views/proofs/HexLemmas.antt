@@ -22,8 +22,11 @@ uppercase-encode_with : (t bytes : List ℕ) → map to_ascii_uppercase (encode_
 unfolding encode_with
 uppercase-encode_with t [] = refl
 uppercase-encode_with t (b ∷ rest) =
-    rw (uppercase-encode_with t rest, ← get_or-map to_ascii_uppercase t (b / 16) 0,
-      ← get_or-map to_ascii_uppercase t (b % 16) 0) refl
+    rw (
+      uppercase-encode_with t rest,
+      ← get_or-map to_ascii_uppercase t (b / 16) 0,
+      ← get_or-map to_ascii_uppercase t (b % 16) 0,
+    ) refl
 
 -- digits in lower case, made upper case, are those in upper case
 pub uppercase_lower : (bytes : List ℕ) → map to_ascii_uppercase (encode_lower bytes) ≡ hex_digits true bytes
@@ -78,7 +81,7 @@ module _ (upper : Bool) where
   take-hex_digits count n bytes piece behind text parts digits few =
       ap (λ all. take count (hex_digits upper all)) parts
       ∙ (ap (take count) (encode_with-append _ piece behind
-        ∙ ap (λ front. front ++ hex_digits upper behind) (sym digits))
+      ∙ ap (λ front. front ++ hex_digits upper behind) (sym digits))
       ∙ take-append_min count n text (hex_digits upper behind) few)
 
   -- the text is as many digits as the limit lets through
@@ -86,7 +89,7 @@ module _ (upper : Bool) where
       → MatchOption limit (count ≡ 2 * length bytes) (λ most. count ≡ min most (2 * length bytes))
       → (hex_text upper limit bytes ≡ take count (hex_digits upper bytes)) × (count ≤ 2 * length bytes)
   hex_text-counted None bytes count is =
-    (sym (take_all count (hex_digits upper bytes) (omega (arith, length-hex_digits bytes))), omega arith)
+      (sym (take_all count (hex_digits upper bytes) (omega (arith, length-hex_digits bytes))), omega arith)
   hex_text-counted (Some most) bytes count is =
       let digits = hex_digits upper bytes in
       let long = length-hex_digits bytes in (

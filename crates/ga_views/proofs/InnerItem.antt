@@ -34,10 +34,10 @@ module _ {M : Type 1} {𝓤 : Ura M} (𝓛 : Logic 𝓤) (T : RattleType) (κ κ
       → ent 𝓤 (Open 𝓛 T κ κ' q x) (H.⇛ (ex 𝓤 Lent))
   lends_element outlives room within =
       qed 𝓛 (‵ (fobs x.ghost_name ((Inner T κ').coded.code x.now))
-        ∷ ‵ (fbor κ (Body (mem (Inner T κ')) x.ref_ptr.0 x.ref_ptr.1 x.ghost_name)) ∷ ‵ (flft κ q) ∷ []) ∵ updating ! $
+      ∷ ‵ (fbor κ (Body (mem (Inner T κ')) x.ref_ptr.0 x.ref_ptr.1 x.ghost_name)) ∷ ‵ (flft κ q) ∷ []) ∵ updating ! $
       use3 𝓛 (later (some (λ (δ : GName). ‵ ((MutSlice (named 0) κ T).own_val (renamed x.now δ) (mut_slice_vals x.now))
-        ⊛ ‵ (flft κ q) ⊛ ‵ (follows (Inner T κ') (Array T 0) x.ghost_name δ (at_last x.now)))))
+      ⊛ ‵ (flft κ q) ⊛ ‵ (follows (Inner T κ') (Array T 0) x.ghost_name δ (at_last x.now)))))
       (lends_inner_slice 𝓛 T (named 0) (named 1) κ κ' x outlives room q) $ await ! tt $ pick !
-        (λ δ. split3 ! $ fsplit3 ! $ drop ! $ group ! 4 $
+      (λ δ. split3 ! $ fsplit3 ! $ drop ! $ group ! 4 $
       use1 𝓛 (later (raw (ex 𝓤 Lent))) (lends_item 𝓛 (Inner T κ') T (at_last x.now) κ q x.ghost_name
-        (renamed x.now δ) i within) $ await ! tt $ now ! $ done !)
+      (renamed x.now δ) i within) $ await ! tt $ now ! $ done !)

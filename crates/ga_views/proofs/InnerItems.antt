@@ -33,9 +33,9 @@ module _ {M : Type 1} {𝓤 : Ura M} (𝓛 : Logic 𝓤) (R : RattleType) (κ κ
       (sem 𝓛 (items_at R x.now (written ws)))
   keeps ws =
       qed 𝓛 (‵ (items_at R x.now ws) ∷ raw (emp 𝓤) ∷ []) ∵ fsplit ! $ feq_l !
-        (λ e. feq_i ! ℕ (length ws) (length items) e $ fjoin ! $
+      (λ e. feq_i ! ℕ (length ws) (length items) e $ fjoin ! $
       rewrite ! 0 (λ (l : List R.Denot). ‵ (items_at R x.now l)) (refilled (length items) items ws refl e) refl $ keep !
-        (0 ∷ []) $ done !)
+      (0 ∷ []) $ done !)
 
   every : ent 𝓤 (sem 𝓛 (items_at R x.now items)) (sep 𝓤 (sem 𝓛 (items_at R x.now items)) (emp 𝓤))
   every = qed 𝓛 (‵ (items_at R x.now items) ∷ []) ∵ nothing ! $ move ! (1 ∷ 0 ∷ []) $ done !

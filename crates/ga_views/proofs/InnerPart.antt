@@ -38,4 +38,4 @@ module _ {M : Type 1} {𝓤 : Ura M} (𝓛 : Logic 𝓤) (R : RattleType) (κ κ
       → ent 𝓤 (Open 𝓛 R κ κ' q x) (H.⇛ (ex 𝓤 (LentSlice 𝓛 R κ κ' q x lies items over)))
   lends_range within outlives rm =
       lends_slice 𝓛 R κ κ' q x lies items over outlives rm (part_room 𝓛 R d from len within rm) (Others 𝓛 R d from len)
-        (cut 𝓛 R d from len within) (keeps 𝓛 R d from len within)
+      (cut 𝓛 R d from len within) (keeps 𝓛 R d from len within)

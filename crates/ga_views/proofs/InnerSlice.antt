@@ -53,7 +53,7 @@ module _ (X : RattleType) (n : ℕ) where
 
   abbrev pub loan_of : (result : Slot 3) (U : RattleType) → ((κs : Lfts 3) → (result.row κs).Denot → GName)
       → ((κs : Lfts 3) → List X.Denot → Words 3 κs n → List (Type 0))
-        → ((κs : Lfts 3) → List X.Denot → Words 3 κs n → U.Denot → List X.Denot)
+      → ((κs : Lfts 3) → List X.Denot → Words 3 κs n → U.Denot → List X.Denot)
       → ((κs : Lfts 3) → List X.Denot → Words 3 κs n → (result.row κs).Denot → Type 0) → Loan
   loan_of result U name asks written shown = record {
     more = 2;
@@ -64,16 +64,16 @@ module _ (X : RattleType) (n : ℕ) where
     lives = λ κs. (κs.1.1.0 ⊑ X.lives) ∷ [];
     asks = λ κs d ns. asks κs d.now ns;
     ties = λ κs x ns r. follows (MutSlice (named 1) κs.1.0 R) U x.ghost_name (name κs r)
-      (λ w. at_last x.now (written κs x.now.now ns w));
+        (λ w. at_last x.now (written κs x.now.now ns w));
     gives = λ κs d ns r. shown κs d.now ns r;
   }
 
   -- a slice is lent, which shows `part`
   abbrev pub slice_lent : ((κs : Lfts 3) → List X.Denot → Words 3 κs n → List (Type 0))
-    → ((κs : Lfts 3) → List X.Denot → Words 3 κs n → List X.Denot → List X.Denot)
+      → ((κs : Lfts 3) → List X.Denot → Words 3 κs n → List X.Denot → List X.Denot)
       → ((κs : Lfts 3) → List X.Denot → Words 3 κs n → List X.Denot) → Loan
   slice_lent asks written part = loan_of (SliceRefMutOf (0 ∷ []) tt (plain (λ _. R)) (λ _. tt)) (Array R 0)
-    (λ κs r. r.ghost_name) asks written (λ κs items ns r. r.now ≡ part κs items ns)
+      (λ κs r. r.ghost_name) asks written (λ κs items ns r. r.now ≡ part κs items ns)
 
 -- the inner reference
 abbrev pub Inner : RattleType → Lft → RattleType
@@ -93,15 +93,15 @@ in_code R = slice_ty (ty_ref erased mut (pointee R.written))
 module _ {M : Type 1} {𝓤 : Ura M} {𝓛 : Logic 𝓤} {K : Type 0} {Γ : List (Item 𝓤)} {G : Goal 𝓤 𝓛.H} where
   pub opens_inner : K → Soaks G → (R : RattleType) {κ κ' : Lft} {q : Share} (x : MutBor (MutBor (List R.Denot)))
       → (Room R (length x.now.now)
-        → Seq K 𝓛 (‵ (fat full_share (in_code R) x.ref_ptr.0 x.ref_ptr.1 (slice_val x.now.ref_ptr (length x.now.now)))
-        ∷ ‵ ((Inner R κ').own_val x.now (mut_slice_vals x.now))
-        ∷ ‵ (fobor κ q (Body (mem (Inner R κ')) x.ref_ptr.0 x.ref_ptr.1 x.ghost_name))
-        ∷ ‵ (fobs x.ghost_name ((Inner R κ').coded.code x.now)) ∷ ‵ (fauth x.ghost_name ((Inner R κ').coded.code x.now))
-        ∷ Γ) G)
+      → Seq K 𝓛 (‵ (fat full_share (in_code R) x.ref_ptr.0 x.ref_ptr.1 (slice_val x.now.ref_ptr (length x.now.now)))
+      ∷ ‵ ((Inner R κ').own_val x.now (mut_slice_vals x.now))
+      ∷ ‵ (fobor κ q (Body (mem (Inner R κ')) x.ref_ptr.0 x.ref_ptr.1 x.ghost_name))
+      ∷ ‵ (fobs x.ghost_name ((Inner R κ').coded.code x.now)) ∷ ‵ (fauth x.ghost_name ((Inner R κ').coded.code x.now))
+      ∷ Γ) G)
       → Seq K 𝓛 (‵ ((MutRef (named 0) κ (Inner R κ')).own_val x (mut_vals x)) ∷ ‵ (flft κ q) ∷ Γ) G
   opens_inner t z R {κ' = κ'} x k =
       let S = Inner R κ' in let d = x.now in let b = x.ref_ptr.0 in let o = x.ref_ptr.1 in let v =
-        slice_val d.ref_ptr (length d.now) in
+      slice_val d.ref_ptr (length d.now) in
       fsplit3 t $ drop t $ opens t z S b o (λ vs. move t (1 ∷ []) $ peeks t S (Is S) (shows 𝓛 S) d vs (λ told.
       rewrite t 0 (λ (us : List Val). ‵ (S.own_val d us)) told.0.0 refl $
       rewrite t 1 (λ (us : List Val). ‵ (cell_at full_share S.mir us b o)) told.0.0 refl $ move t (1 ∷ []) $
@@ -110,16 +110,16 @@ module _ {M : Type 1} {𝓤 : Ura M} {𝓛 : Logic 𝓤} {K : Type 0} {Γ : List
   pub closes_inner : K → Soaks G → (R : RattleType) {κ κ' : Lft} {q : Share} {u w : Gv}
       (x : MutBor (MutBor (List R.Denot)))
       → Step K 𝓛 (‵ (fobs x.ghost_name ((Inner R κ').coded.code x.now))
-        ∷ ‵ (fbor κ (Body (mem (Inner R κ')) x.ref_ptr.0 x.ref_ptr.1 x.ghost_name)) ∷ ‵ (flft κ q) ∷ Γ) G
+      ∷ ‵ (fbor κ (Body (mem (Inner R κ')) x.ref_ptr.0 x.ref_ptr.1 x.ghost_name)) ∷ ‵ (flft κ q) ∷ Γ) G
       (‵ (fat full_share (in_code R) x.ref_ptr.0 x.ref_ptr.1 (slice_val x.now.ref_ptr (length x.now.now)))
-        ∷ ‵ ((Inner R κ').own_val x.now (mut_slice_vals x.now))
-        ∷ ‵ (fobor κ q (Body (mem (Inner R κ')) x.ref_ptr.0 x.ref_ptr.1 x.ghost_name)) ∷ ‵ (fobs x.ghost_name u)
-        ∷ ‵ (fauth x.ghost_name w) ∷ Γ) G
+      ∷ ‵ ((Inner R κ').own_val x.now (mut_slice_vals x.now))
+      ∷ ‵ (fobor κ q (Body (mem (Inner R κ')) x.ref_ptr.0 x.ref_ptr.1 x.ghost_name)) ∷ ‵ (fobs x.ghost_name u)
+      ∷ ‵ (fauth x.ghost_name w) ∷ Γ) G
   closes_inner t z R {κ' = κ'} x = step (λ s.
       let S = Inner R κ' in let b = x.ref_ptr.0 in let o = x.ref_ptr.1 in let v =
-        slice_val x.now.ref_ptr (length x.now.now) in
+      slice_val x.now.ref_ptr (length x.now.now) in
       use1 𝓛 (‵ (cell_at full_share S.mir (v ∷ []) b o))
-        (𝓛.laws.at_raw full_share (in_code R) b o v) $ closes t z S x.now (v ∷ []) b o $ s)
+      (𝓛.laws.at_raw full_share (in_code R) b o v) $ closes t z S x.now (v ∷ []) b o $ s)
 
 -- the last value of the outer reference x and its borrow, and the token
 abbrev pub Open : {M : Type 1} {𝓤 : Ura M} (𝓛 : Logic 𝓤) (R : RattleType) → Lft → Lft → Share
@@ -148,7 +148,7 @@ module _ {M : Type 1} {𝓤 : Ura M} (𝓛 : Logic 𝓤) (R U : RattleType) (own
 
   abbrev Lent : U.Denot → GName → SProp 𝓤
   Lent y δ = sep 𝓤 (A.obs δ (U.coded.code y)) (sep 𝓤 (A.bor κ (Body Part b o δ))
-    (sep 𝓤 (A.lft κ q) (sem 𝓛 (follows (Inner R κ') U γ δ after))))
+      (sep 𝓤 (A.lft κ q) (sem 𝓛 (follows (Inner R κ') U γ δ after))))
 
   pub lends_part : Incl κ κ' → Room R (length d.now) → (y : U.Denot) (Rest : SProp 𝓤)
       → ent 𝓤 (sem 𝓛 (items_at R d d.now)) (sep 𝓤 (sem 𝓛 (own y b o)) Rest)
@@ -157,17 +157,17 @@ module _ {M : Type 1} {𝓤 : Ura M} (𝓛 : Logic 𝓤) (R U : RattleType) (own
   lends_part within rm y Rest cut back =
       let code = (coded_list R.coded).code in
       qed 𝓛 (‵ (fobs γ ((Inner R κ').coded.code d)) ∷ ‵ (fbor κ (Body (mem (Inner R κ')) x.ref_ptr.0 x.ref_ptr.1 γ))
-        ∷ ‵ (flft κ q) ∷ []) ∵ updating ! $
+      ∷ ‵ (flft κ q) ∷ []) ∵ updating ! $
       use3 𝓛 (later (some (λ (δ : GName). ‵ ((MutSlice (named 0) κ R).own_val (renamed d δ) (mut_slice_vals d)) ⊛
-        ‵ (flft κ q) ⊛ ‵ (follows (Inner R κ') (Array R 0) γ δ (at_last d)))))
+      ‵ (flft κ q) ⊛ ‵ (follows (Inner R κ') (Array R 0) γ δ (at_last d)))))
       (lends_inner_slice 𝓛 R (named 0) (named 1) κ κ' x within rm q) $
       await ! tt $ pick ! (λ δ. split3 ! $ fsplit3 ! $ drop ! $
       rewrite ! 0 (λ (l : List R.Denot). ‵ (fobs δ (code l))) (heres_id R d.now) refl $
       -- [the items' last value; their borrow; the token; the inner reference follows them]
       open_ref ! tt (Items R d) $ use1 𝓛 (‵ (own y b o) ⊛ raw Rest) cut $ split ! $ move !
-        (2 ∷ 3 ∷ 4 ∷ 0 ∷ 1 ∷ []) $ group ! 5 $
+      (2 ∷ 3 ∷ 4 ∷ 0 ∷ 1 ∷ []) $ group ! 5 $
       use1 𝓛 (later (some (λ (γ' : GName). ‵ (fobs γ' (U.coded.code y)) ⊛ ‵ (fbor κ (Body Part b o γ')) ⊛ ‵ (flft κ q) ⊛
-        ‵ (follows (Array R 0) U δ γ' F))))
+      ‵ (follows (Array R 0) U δ γ' F))))
       (takes_part 𝓛 (Items R d) Part F κ q d.ref_ptr.0 d.ref_ptr.1 b o δ Rest back (code d.now) (code d.now) y) $
       await ! tt $ pick ! (λ γ'. split3 ! $ move ! (2 ∷ []) $ split ! $ move ! (4 ∷ 1 ∷ []) $
       use2 𝓛 (‵ (follows (Inner R κ') U γ γ' after)) (follows_then 𝓛 (Inner R κ') (Array R 0) U (at_last d) F γ δ γ') $
@@ -206,10 +206,10 @@ module _ {M : Type 1} {𝓤 : Ura M} (𝓛 : Logic 𝓤) (R : RattleType) (κ κ
       → ent 𝓤 (Open 𝓛 R κ κ' q x) (H.⇛ (ex 𝓤 LentSlice))
   lends_slice within rm fits Rest cut back =
       qed 𝓛 (‵ (fobs x.ghost_name ((Inner R κ').coded.code x.now))
-        ∷ ‵ (fbor κ (Body (mem (Inner R κ')) x.ref_ptr.0 x.ref_ptr.1 x.ghost_name)) ∷ ‵ (flft κ q) ∷ []) ∵ updating ! $
+      ∷ ‵ (fbor κ (Body (mem (Inner R κ')) x.ref_ptr.0 x.ref_ptr.1 x.ghost_name)) ∷ ‵ (flft κ q) ∷ []) ∵ updating ! $
       use3 𝓛 (later (some (λ (δ : GName). ‵ (fobs δ ((Array R 0).coded.code part)) ⊛
-        ‵ (fbor κ (Body (Arr (mem R) (length part)) block spot δ)) ⊛ ‵ (flft κ q) ⊛ ‵ (tied δ))))
+      ‵ (fbor κ (Body (Arr (mem R) (length part)) block spot δ)) ⊛ ‵ (flft κ q) ⊛ ‵ (tied δ))))
       (lends_part 𝓛 R (Array R 0) (Arr (mem R) (length part)).own_at written κ κ' q block spot x within rm part Rest cut
-        back) $
+      back) $
       await ! tt $ pick ! (λ δ. split3 ! $
       use2 𝓛 (‵ (result δ)) (slice_of 𝓛 R (named 0) κ block spot δ part fits) $ now ! $ show ! LentSlice δ $ done !)

@@ -69,33 +69,33 @@ module _ {M : Type 1} {𝓤 : Ura M} (𝓛 : Logic 𝓤) (From R : RattleType) (
 
   abbrev pub LentItem : GName × R.Denot → SProp 𝓤
   LentItem y = guard 𝓤 (y.1 ≡ get_or s.now i y.1) (sep 𝓤
-    (sem 𝓛 ((MutRef (named 0) κ R).own_val (item y) (vptr block place ∷ [])))
-    (sep 𝓤 (A.lft κ q) (sem 𝓛 (follows From R γ y.0 written))))
+      (sem 𝓛 ((MutRef (named 0) κ R).own_val (item y) (vptr block place ∷ [])))
+      (sep 𝓤 (A.lft κ q) (sem 𝓛 (follows From R γ y.0 written))))
 
   abbrev pub lent_item : GName × R.Denot → Item 𝓤
   lent_item y = given (y.1 ≡ get_or s.now i y.1) (‵ ((MutRef (named 0) κ R).own_val (item y) (vptr block place ∷ [])) ⊛
-    ‵ (flft κ q) ⊛ ‵ (follows From R γ y.0 written))
+      ‵ (flft κ q) ⊛ ‵ (follows From R γ y.0 written))
 
   pub lends_item : i < length s.now
       → ent 𝓤 (sep 𝓤 (A.obs s.ghost_name ((coded_list R.coded).code (heres R s.now)))
-        (sep 𝓤 (A.bor κ (Body (Arr (Holey (mem R)) (length s.now)) block s.ref_ptr.1 s.ghost_name))
-        (sep 𝓤 (A.lft κ q) (sem 𝓛 (follows From (Array R 0) γ s.ghost_name after)))))
+      (sep 𝓤 (A.bor κ (Body (Arr (Holey (mem R)) (length s.now)) block s.ref_ptr.1 s.ghost_name))
+      (sep 𝓤 (A.lft κ q) (sem 𝓛 (follows From (Array R 0) γ s.ghost_name after)))))
       (H.⇛ (ex 𝓤 LentItem))
   lends_item within =
       let any : R.Denot = inhabits s.now i within in
       let y : R.Denot = get_or s.now i any in
       qed 𝓛 (‵ (fobs s.ghost_name ((coded_list R.coded).code (heres R s.now)))
-        ∷ ‵ (fbor κ (Body (Arr (Holey (mem R)) (length s.now)) block s.ref_ptr.1 s.ghost_name)) ∷ ‵ (flft κ q)
-        ∷ ‵ (follows From (Array R 0) γ s.ghost_name after) ∷ []) ∵
+      ∷ ‵ (fbor κ (Body (Arr (Holey (mem R)) (length s.now)) block s.ref_ptr.1 s.ghost_name)) ∷ ‵ (flft κ q)
+      ∷ ‵ (follows From (Array R 0) γ s.ghost_name after) ∷ []) ∵
       updating ! $ rewrite ! 0 (λ (l : List R.Denot). ‵ (fobs s.ghost_name ((coded_list R.coded).code l)))
-        (heres_id R s.now) refl $
+      (heres_id R s.now) refl $
       use3 𝓛 (later (some (λ (δ : GName). ‵ (fobs δ (R.coded.code y)) ⊛ ‵ (fbor κ (Body (mem R) block place δ)) ⊛
-        ‵ (flft κ q) ⊛ ‵ (follows (Array R 0) R s.ghost_name δ (set s.now i)))))
+      ‵ (flft κ q) ⊛ ‵ (follows (Array R 0) R s.ghost_name δ (set s.now i)))))
       (takes_at 𝓛 (mem R) κ (length s.now) block s.ref_ptr.1 q s.ghost_name s.now i place any y
-        (at_mul s.ref_ptr.1 (mem R).size i) within refl) $ await ! tt $ pick ! (λ δ. split3 ! $
+      (at_mul s.ref_ptr.1 (mem R).size i) within refl) $ await ! tt $ pick ! (λ δ. split3 ! $
       -- [the item's last value; its borrow; the token, and the slice follows the item; what lent the slice follows it]
       move ! (2 ∷ []) $ split ! $ move ! (4 ∷ 1 ∷ []) $
       use2 𝓛 (‵ (follows From R γ δ written)) (follows_then 𝓛 From (Array R 0) R after (set s.now i) γ s.ghost_name δ) $
       move ! (2 ∷ 3 ∷ []) $ feq_i ! (List Val) (vptr block place ∷ []) (vptr block place ∷ []) refl $ fjoin3 ! $ move !
-        (0 ∷ 2 ∷ 1 ∷ []) $
+      (0 ∷ 2 ∷ 1 ∷ []) $
       now ! $ show ! LentItem (δ, y) $ check ! (twice s.now i any) $ done !)

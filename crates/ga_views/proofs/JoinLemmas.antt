@@ -24,11 +24,11 @@ module _ {X : Type 0} (width : ℕ) (some : 0 < width) where
         ap (rows width) (sym joined)
         ∙ (rows-first width (row ++ others) some enough
         ∙ (ap (λ first. first ∷ rows width (drop width (row ++ others))) front
-          ∙ ap (λ left. row ∷ rows width left) behind))
+        ∙ ap (λ left. row ∷ rows width left) behind))
 
     pub chunk_rest-behind : chunk_rest width all ≡ chunk_rest width others
     chunk_rest-behind = ap (chunk_rest width) (sym joined)
-      ∙ (chunk_rest-first width (row ++ others) some enough ∙ ap (chunk_rest width) behind)
+        ∙ (chunk_rest-first width (row ++ others) some enough ∙ ap (chunk_rest width) behind)
 
   -- what holds of fewer items than a row takes, and of a row in front of items of which it holds, holds of all
   module _ (P : List X → Type 0) (few : (items : List X) → length items < width → P items)
@@ -40,7 +40,7 @@ module _ {X : Type 0} (width : ℕ) (some : 0 < width) where
           | inl less ↦ few items less
           | inr enough ↦ subst P (take-append-drop width items)
               (more (take width items) (drop width items) (length-take-le width items enough)
-                (by_rows_within fuel (drop width items) (omega (arith, length-drop width items))))
+              (by_rows_within fuel (drop width items) (omega (arith, length-drop width items))))
         ]
 
     pub by_rows : (items : List X) → P items
@@ -49,7 +49,7 @@ module _ {X : Type 0} (width : ℕ) (some : 0 < width) where
   -- the rows and the rest of joined lists: those of the first, and then of its rest joined with the second
   abbrev Joins : List X → List X → Type 0
   Joins ys xs = (rows width (xs ++ ys) ≡ rows width xs ++ rows width (chunk_rest width xs ++ ys))
-    × (chunk_rest width (xs ++ ys) ≡ chunk_rest width (chunk_rest width xs ++ ys))
+      × (chunk_rest width (xs ++ ys) ≡ chunk_rest width (chunk_rest width xs ++ ys))
 
   joins-few : (ys xs : List X) → length xs < width → Joins ys xs
   joins-few ys xs few =
@@ -69,7 +69,7 @@ module _ {X : Type 0} (width : ℕ) (some : 0 < width) where
             ∙ (ap (λ k. row ∷ (rows width others ++ rows width (k ++ ys))) (sym rest)
             ∙ ap (λ k. k ++ rows width (chunk_rest width (row ++ others) ++ ys)) (sym first))),
         chunk_rest-behind row (others ++ ys) ((row ++ others) ++ ys) along full
-          ∙ (joined.1 ∙ ap (λ k. chunk_rest width (k ++ ys)) (sym rest)),
+            ∙ (joined.1 ∙ ap (λ k. chunk_rest width (k ++ ys)) (sym rest)),
       )
 
   pub rows-joined : (xs ys : List X) → rows width (xs ++ ys) ≡ rows width xs ++ rows width (chunk_rest width xs ++ ys)

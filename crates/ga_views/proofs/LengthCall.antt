@@ -41,18 +41,18 @@ module _ (N : RattleType) (g : unsigned.Ghosts N.Denot) (d : Dict) {M : Type 1} 
       {rest : Code} {q : Post 𝓤 H} where
     pub calls_length : K → FmC 𝓤 H 𝓛.laws C → Triple 𝓤 (C f) Called → (κ : Lft) (share : Share) → κ ⊑ N.lives
         → ((m : ℕ) → m ≡ g.USIZE → m < 2 ^ 64 → Seq K 𝓛 (‵ (usize.own_val m (vint w64 m ∷ [])) ∷ token κ share ∷ Γ)
-          (lands C Λ E p (vint w64 m) rest q))
+        (lands C Λ E p (vint w64 m) rest q))
         → Seq K 𝓛 (token κ share ∷ Γ) (runs C Λ E (seq (call f [] p) rest) q)
     calls_length t framed met κ share lives then =
         let z : Called.Ghost = (((κ, tt), (share, tt), tt, tt, tt), tt) in
         nothing t $ move t (1 ∷ 0 ∷ []) $ join t $ nothing t $ use0 𝓛 (raw (fact 𝓤 (κ ⊑ N.lives)))
-          (fact_i 𝓤 _ (emp 𝓤) lives) $ join t $
+        (fact_i 𝓤 _ (emp 𝓤) lives) $ join t $
         move t (1 ∷ 0 ∷ []) $ join t $ use1 𝓛 (raw (Called.pre z)) (id⊢ 𝓤 _) $
         calls_at t framed Called met z (no_more t) (λ v.
         use1 𝓛 (later (some (λ (m : ℕ). (token κ share ⊛ ‵ (usize.own_val m (v ∷ []))) ⊛ some
-          (λ (ws : Unit {0}). ‵ ftrue ⊛ raw (fact 𝓤 (m ≡ g.USIZE)))))) (id⊢ 𝓤 _) $
+        (λ (ws : Unit {0}). ‵ ftrue ⊛ raw (fact 𝓤 (m ≡ g.USIZE)))))) (id⊢ 𝓤 _) $
         await t tt $ pick t (λ m. split t $ split t $ move t (2 ∷ []) $ pick t
-          (λ ws. split t $ drop t $ heard t _ (λ is_length.
+        (λ ws. split t $ drop t $ heard t _ (λ is_length.
         move t (1 ∷ []) $ peeks t usize (Is usize) (shows 𝓛 usize) m (v ∷ []) (λ word.
         rewrite t 0 (λ (vs : List Val). ‵ (usize.own_val m vs)) word.0 refl $
         regoal t (λ (u : Val). lands C Λ E p u rest q) (ap only word.0) refl $ then m is_length word.1)))))

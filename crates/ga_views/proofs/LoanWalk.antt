@@ -80,7 +80,7 @@ module _ (L : ℕ) where
       none_left zero ns vss = id⊢ 𝓤 _
       none_left (suc n) ns vss =
           qed 𝓛 [] ∵ use0 𝓛 (‵ (has_of κs (words n) (kept n) (stays n) ns.1 (lasting n ns.1) vss.1))
-            (none_left n ns.1 vss.1) $ nothing ! $ fjoin ! $ done !
+          (none_left n ns.1 vss.1) $ nothing ! $ fjoin ! $ done !
 
   go : {M : Type 1} {𝓤 : Ura M} (𝓛 : Logic 𝓤) (n : ℕ) → AllGo 𝓛 L (words n) (kept n) (stays n)
   go 𝓛 zero = tt
@@ -136,8 +136,16 @@ module _ (T : Loan) where
   outer = mut_ref_to (0 ∷ []) tt T.lent
 
   abbrev pub ended : Ended
-  ended = record { signature = record { lifetimes = lifetimes; outlives = T.outlives; params =
-    outer ∷ words lifetimes T.numbers; result = T.result }; kept = (no, kept lifetimes T.numbers) }
+  ended = record {
+    signature = record {
+      lifetimes = lifetimes;
+      outlives = T.outlives;
+      params =
+          outer ∷ words lifetimes T.numbers;
+      result = T.result;
+    };
+    kept = (no, kept lifetimes T.numbers);
+  }
 
   abbrev stayed : Stays ended.signature.params ended.kept
   stayed = (stay_dropped outer no, stays lifetimes T.numbers)
@@ -146,30 +154,34 @@ module _ (T : Loan) where
     open 𝓛 use {H}
 
     abbrev pub clauses : Clauses 𝓤 ended
-    clauses κs a = record { ghost = Unit {0}; requires = λ _. needed 𝓤 (T.lives κs) (T.asks κs a.0.now a.1); ensures =
-      λ _ r w. sep 𝓤 (sem 𝓛 (T.ties κs a.0 a.1 r)) (fact 𝓤 (T.gives κs a.0.now a.1 r)) }
+    clauses κs a = record {
+      ghost = Unit {0};
+      requires = λ _. needed 𝓤 (T.lives κs) (T.asks κs a.0.now a.1);
+      ensures =
+          λ _ r w. sep 𝓤 (sem 𝓛 (T.ties κs a.0 a.1 r)) (fact 𝓤 (T.gives κs a.0.now a.1 r));
+    }
 
     module _ (κs : Lfts lifetimes) (qs : Shares lifetimes) (x : MutBor (T.lent.row κs).Denot)
         (ns : Words lifetimes κs T.numbers) where
       -- the reference, the token of its lifetime, and the others
       abbrev pub Had : List (Item 𝓤)
       Had = ‵ ((MutRef (named 0) κs.0 (T.lent.row κs)).own_val x (mut_vals x)) ∷ ‵ (flft κs.0 qs.0)
-        ∷ raw (toks 𝓛 T.more κs.1 qs.1) ∷ []
+          ∷ raw (toks 𝓛 T.more κs.1 qs.1) ∷ []
 
       -- the result, the token, what the reference ends as, and the other tokens
       abbrev pub Left : (T.result.row κs).Denot → Val → List (Item 𝓤)
       Left r v = ‵ ((T.result.row κs).own_val r (v ∷ [])) ∷ ‵ (flft κs.0 qs.0) ∷ ‵ (T.ties κs x ns r)
-        ∷ raw (toks 𝓛 T.more κs.1 qs.1) ∷ []
+          ∷ raw (toks 𝓛 T.more κs.1 qs.1) ∷ []
 
     -- a walk is given what is asked, and how it ends
     abbrev pub Walk : Calls 𝓤 H → Loops 𝓤 H → Fn → Type 2
     Walk C Λ e = (κs : Lfts lifetimes) (qs : Shares lifetimes) (bounds : AllOutlive lifetimes T.outlives κs)
-      (x : MutBor (T.lent.row κs).Denot) (ns : Words lifetimes κs T.numbers) (Post : Val → SProp 𝓤)
+        (x : MutBor (T.lent.row κs).Denot) (ns : Words lifetimes κs T.numbers) (Post : Val → SProp 𝓤)
         → Every (T.lives κs) → Every (T.asks κs x.now ns) → Fitting lifetimes κs T.numbers ns
         → ((v : Val) (r : (T.result.row κs).Denot) → T.gives κs x.now ns r → ent 𝓤 (⋆ 𝓛 (Left κs qs x ns r v)) (Post v))
         → ent 𝓤 (⋆ 𝓛 (Had κs qs x ns)) (WpFn 𝓤 H C Λ e
-          (vptr x.ref_ptr.0 x.ref_ptr.1 ∷ flat (types_at (words lifetimes T.numbers) κs)
-          (values lifetimes κs T.numbers ns)) Post)
+        (vptr x.ref_ptr.0 x.ref_ptr.1 ∷ flat (types_at (words lifetimes T.numbers) κs)
+        (values lifetimes κs T.numbers ns)) Post)
 
     module _ (κs : Lfts lifetimes) (qs : Shares lifetimes) (bounds : AllOutlive lifetimes T.outlives κs)
         (x : MutBor (T.lent.row κs).Denot) (ns : Words lifetimes κs T.numbers) where
@@ -180,17 +192,17 @@ module _ (T : Loan) where
           (sem 𝓛 (owns (types_at ended.signature.params κs) (x, ns) bound.0.4))) (⋆ 𝓛 (Had κs qs x ns))
       entry =
           qed 𝓛 ((‵ (flft κs.0 qs.0) ⊛ raw (toks 𝓛 T.more κs.1 qs.1))
-            ∷ ‵ (owns (types_at ended.signature.params κs) (x, ns) bound.0.4) ∷ []) ∵
+          ∷ ‵ (owns (types_at ended.signature.params κs) (x, ns) bound.0.4) ∷ []) ∵
           split ! $ move ! (2 ∷ []) $ fsplit ! $ keep ! (0 ∷ 2 ∷ 3 ∷ []) $ done !
 
       exits : (v : Val) (r : (T.result.row κs).Denot) → T.gives κs x.now ns r
           → ent 𝓤 (⋆ 𝓛 (Left κs qs x ns r v)) ((walk_of 𝓛 ended stayed clauses).post bound v)
       exits v r given =
           qed 𝓛 (Left κs qs x ns r v) ∵ suffices ! _
-            (ends_at 𝓛 ended stayed clauses bound v r (tt, lasting lifetimes κs T.numbers ns)
-            (tt, fits lifetimes κs T.numbers ns)) $
+          (ends_at 𝓛 ended stayed clauses bound v r (tt, lasting lifetimes κs T.numbers ns)
+          (tt, fits lifetimes κs T.numbers ns)) $
           use0 𝓛 (‵ (has_of κs (words lifetimes T.numbers) (kept lifetimes T.numbers) (stays lifetimes T.numbers) ns
-            (lasting lifetimes κs T.numbers ns) (values lifetimes κs T.numbers ns)))
+          (lasting lifetimes κs T.numbers ns) (values lifetimes κs T.numbers ns)))
           (none_left lifetimes κs 𝓛 T.numbers ns (values lifetimes κs T.numbers ns)) $ nothing ! $ fjoin ! $
           -- [nothing of the parameters; the result; the token; what the reference ends as; the other tokens]
           move ! (0 ∷ 1 ∷ []) $ join ! $ move ! (1 ∷ 3 ∷ []) $ join ! $ join ! $ frame ! $ says ! given $ done !
@@ -202,14 +214,16 @@ module _ (T : Loan) where
       pub lends : (k : Callee) (e : Fn) → Closed 𝓤 H 𝓣.C 𝓣.Λ k e → Walk 𝓣.C 𝓣.Λ e
           → Meets 𝓛 ended.signature (𝓣.C k) (closing 𝓛 ended clauses)
       lends k e closed walk =
-          proved 𝓛 ended stayed clauses 𝓜 𝓡 (Goes-spent_ref 𝓛 lifetimes (0 ∷ []) tt T.lent,
-            go lifetimes 𝓛 T.numbers) k e closed
+          proved 𝓛 ended stayed clauses 𝓜 𝓡 (
+            Goes-spent_ref 𝓛 lifetimes (0 ∷ []) tt T.lent,
+            go lifetimes 𝓛 T.numbers,
+          ) k e closed
           (λ κs. (mut_vals, spells lifetimes κs T.numbers))
-            (λ κs. (mut_Tells (named 0) κs.0 (T.lent.row κs), tells lifetimes κs T.numbers))
+          (λ κs. (mut_Tells (named 0) κs.0 (T.lent.row κs), tells lifetimes κs T.numbers))
           (λ κs qs bounds a g are.
           let given : SProp 𝓤 = needed 𝓤 (T.lives κs) (T.asks κs a.0.now a.1) in
           let start : SProp 𝓤 = sep 𝓤 (toks 𝓛 lifetimes κs qs)
-            (sem 𝓛 (owns (types_at ended.signature.params κs) a (bound κs qs bounds a.0 a.1).0.4)) in
+          (sem 𝓛 (owns (types_at ended.signature.params κs) a (bound κs qs bounds a.0 a.1).0.4)) in
           learns 𝓤 (T.lives κs) (T.asks κs a.0.now a.1) (snd∗ 𝓤 start given) (λ lives asked.
           via 𝓤 start (fst∗ 𝓤 start given) (via 𝓤 _ (entry κs qs bounds a.0 a.1)
           (walk κs qs bounds a.0 a.1 _ lives asked are.1 (exits κs qs bounds a.0 a.1)))))

@@ -37,9 +37,9 @@ part_filled from len xs ws within e =
     let long = part_long from len xs within in
     let same : put_mid from len xs ws ≡ part_set from len xs ws =
     ap (λ l. take from xs ++ (l ++ post_of from len xs)) (refilled len part ws long (e ∙ long))
-      ∙ part-is from len xs ws in
+    ∙ part-is from len xs ws in
     refilled (length xs) xs (put_mid from len xs ws) refl (same_len_mid from len xs ws e)
-      ∙ ap (refill (length xs) xs) same
+    ∙ ap (refill (length xs) xs) same
 
 pub part_fills : {T : Type 0} (from len : ℕ) (xs ws : List T) → from + len ≤ length xs
     → refill (length xs) xs (part_set from len xs ws) ≡ part_set from len xs ws
@@ -70,19 +70,19 @@ module _ {T : Type 0} (from len : ℕ) (xs ws after : List T) (within : from + l
 
   past : drop from after ≡ filled ++ behind
   past = ap (drop from) stands ∙ (ap (λ k. drop k (take from xs ++ (filled ++ behind))) (sym before_long)
-    ∙ drop-append_seam (take from xs) (filled ++ behind))
+      ∙ drop-append_seam (take from xs) (filled ++ behind))
 
   pub part-before : take from after ≡ take from xs
   part-before = ap (take from) stands ∙ (ap (λ k. take k (take from xs ++ (filled ++ behind))) (sym before_long)
-    ∙ take-append_seam (take from xs) (filled ++ behind))
+      ∙ take-append_seam (take from xs) (filled ++ behind))
 
   pub part-within : take len (drop from after) ≡ filled
   part-within = ap (take len) past ∙ (ap (λ k. take k (filled ++ behind)) (sym filled_long)
-    ∙ take-append_seam filled behind)
+      ∙ take-append_seam filled behind)
 
   pub part-behind : drop (from + len) after ≡ behind
   part-behind = sym (drop-drop len from after) ∙ (ap (drop len) past
-    ∙ (ap (λ k. drop k (filled ++ behind)) (sym filled_long) ∙ drop-append_seam filled behind))
+      ∙ (ap (λ k. drop k (filled ++ behind)) (sym filled_long) ∙ drop-append_seam filled behind))
 
 pub part-all : {T : Type 0} (xs ws : List T) → refill (length xs) xs (part_set 0 (length xs) xs ws)
     ≡ refill (length xs) xs ws

@@ -84,9 +84,9 @@ module _ {M : Type 1} {𝓤 : Ura M} (𝓛 : Logic 𝓤) (R : RattleType) (d : M
         let behind = drop_list from d.now in
         qed 𝓛 (‵ (Items.own_at d.now block d.ref_ptr.1) ∷ []) ∵ fsplit ! $ drop ! $
         rewrite ! 0 (λ (l : List R.Denot). ‵ (cells (mem R) l block d.ref_ptr.1))
-          (sym (take-append-drop from d.now)) refl $
+        (sym (take-append-drop from d.now)) refl $
         use1 𝓛 (‵ Front ⊛ ‵ (cells (mem R) behind block (at d.ref_ptr.1 (mem R).size (length front))))
-          (cut_app 𝓛 (mem R) front behind block d.ref_ptr.1) $
+        (cut_app 𝓛 (mem R) front behind block d.ref_ptr.1) $
         split ! $ move ! (1 ∷ []) $
         rewrite ! 0 (λ (n : ℕ). ‵ (cells (mem R) behind block n)) begins refl $
         rewrite ! 0 (λ (l : List R.Denot). ‵ (cells (mem R) l block place)) (sym (take-append-drop len behind)) refl $
@@ -100,14 +100,14 @@ module _ {M : Type 1} {𝓤 : Ura M} (𝓛 : Logic 𝓤) (R : RattleType) (d : M
         let block = d.ref_ptr.0 in
         qed 𝓛 (‵ (Part.own_at ws block place) ∷ ‵ Front ∷ ‵ Back ∷ []) ∵ fsplit ! $ feq_l ! (λ e.
         rewrite ! 2 (λ (n : ℕ). ‵ (cells (mem R) back block (at place (mem R).size n))) (sym e) refl $ move !
-          (0 ∷ 2 ∷ []) $
+        (0 ∷ 2 ∷ []) $
         use2 𝓛 (‵ (cells (mem R) (ws ++ back) block place)) (join_app 𝓛 (mem R) ws back block place) $
         rewrite ! 0 (λ (n : ℕ). ‵ (cells (mem R) (ws ++ back) block n)) (sym begins) refl $ move ! (1 ∷ 0 ∷ []) $
         use2 𝓛 (‵ (cells (mem R) (put_mid from len d.now ws) block d.ref_ptr.1))
-          (join_app 𝓛 (mem R) front (ws ++ back) block d.ref_ptr.1) $
+        (join_app 𝓛 (mem R) front (ws ++ back) block d.ref_ptr.1) $
         feq_i ! ℕ (length (put_mid from len d.now ws)) (length d.now) (same_len_mid from len d.now ws e) $ fjoin ! $
         rewrite ! 0 (λ (l : List R.Denot). ‵ (Items.own_at l block d.ref_ptr.1))
-          (part_filled from len d.now ws within e) refl $ done !)
+        (part_filled from len d.now ws within e) refl $ done !)
 
     -- the part's items are counted by a word, as the slice's are
     pub part_room : Room R (length d.now) → Room R (length part)
@@ -136,16 +136,16 @@ module _ {M : Type 1} {𝓤 : Ura M} (𝓛 : Logic 𝓤) (From R : RattleType) (
   -- the reference is to k items
   abbrev pub LentPart : ℕ → GName → SProp 𝓤
   LentPart k δ = sep 𝓤 (sem 𝓛 ((MutSlice (named 0) κ R).own_val (slice δ) (slice_val (s.ref_ptr.0, lies) k ∷ [])))
-    (sep 𝓤 (A.lft κ q) (sem 𝓛 (follows From (Array R 0) γ δ ends)))
+      (sep 𝓤 (A.lft κ q) (sem 𝓛 (follows From (Array R 0) γ δ ends)))
 
   abbrev pub lent_part : ℕ → GName → Item 𝓤
   lent_part k δ = ‵ ((MutSlice (named 0) κ R).own_val (slice δ) (slice_val (s.ref_ptr.0, lies) k ∷ [])) ⊛ ‵ (flft κ q) ⊛
-    ‵ (follows From (Array R 0) γ δ ends)
+      ‵ (follows From (Array R 0) γ δ ends)
 
   pub lends_part : from + len ≤ length s.now → Room R (length s.now)
       → ent 𝓤 (sep 𝓤 (A.obs s.ghost_name ((coded_list R.coded).code (heres R s.now)))
-        (sep 𝓤 (A.bor κ (Body (Arr (Holey (mem R)) (length s.now)) s.ref_ptr.0 s.ref_ptr.1 s.ghost_name))
-        (sep 𝓤 (A.lft κ q) (sem 𝓛 (follows From (Array R 0) γ s.ghost_name after)))))
+      (sep 𝓤 (A.bor κ (Body (Arr (Holey (mem R)) (length s.now)) s.ref_ptr.0 s.ref_ptr.1 s.ghost_name))
+      (sep 𝓤 (A.lft κ q) (sem 𝓛 (follows From (Array R 0) γ s.ghost_name after)))))
       (H.⇛ (ex 𝓤 (LentPart len)))
   lends_part within rm =
       let block : ℕ = s.ref_ptr.0 in
@@ -155,24 +155,24 @@ module _ {M : Type 1} {𝓤 : Ura M} (𝓛 : Logic 𝓤) (From R : RattleType) (
       let others : SProp 𝓤 = Others 𝓛 R s from len in
       let over : List R.Denot → List R.Denot = written 𝓛 R s from len in
       qed 𝓛 (‵ (fobs s.ghost_name (code (heres R s.now)))
-        ∷ ‵ (fbor κ (Body (Arr (Holey (mem R)) (length s.now)) block s.ref_ptr.1 s.ghost_name)) ∷ ‵ (flft κ q)
-        ∷ ‵ (follows From (Array R 0) γ s.ghost_name after) ∷ []) ∵
+      ∷ ‵ (fbor κ (Body (Arr (Holey (mem R)) (length s.now)) block s.ref_ptr.1 s.ghost_name)) ∷ ‵ (flft κ q)
+      ∷ ‵ (follows From (Array R 0) γ s.ghost_name after) ∷ []) ∵
       updating ! $ rewrite ! 0 (λ (l : List R.Denot). ‵ (fobs s.ghost_name (code l))) (heres_id R s.now) refl $
       open_ref ! tt whole $ use1 𝓛 (‵ (these.own_at items block lies) ⊛ raw others)
-        (cut 𝓛 R s from len within) $ split ! $
+      (cut 𝓛 R s from len within) $ split ! $
       -- [the part; the others; the open borrow, in three entries; what lent the slice follows it]
       move ! (2 ∷ 3 ∷ 4 ∷ 0 ∷ 1 ∷ []) $ group ! 5 $
       use1 𝓛 (later (some (λ (δ : GName). ‵ (fobs δ (code items)) ⊛ ‵ (fbor κ (Body these block lies δ)) ⊛ ‵ (flft κ q)
-        ⊛ ‵ (follows (Array R 0) (Array R 0) s.ghost_name δ over))))
+      ⊛ ‵ (follows (Array R 0) (Array R 0) s.ghost_name δ over))))
       (takes_part 𝓛 whole these over κ q block s.ref_ptr.1 block lies s.ghost_name others (keeps 𝓛 R s from len within)
-        (code s.now) (code s.now) items) $
+      (code s.now) (code s.now) items) $
       await ! tt $ pick ! (λ δ. split3 ! $ move ! (2 ∷ []) $ split ! $ move ! (4 ∷ 1 ∷ []) $
       use2 𝓛 (‵ (follows From (Array R 0) γ δ ends))
-        (follows_then 𝓛 From (Array R 0) (Array R 0) after over γ s.ghost_name δ) $
+      (follows_then 𝓛 From (Array R 0) (Array R 0) after over γ s.ghost_name δ) $
       -- [what lent the slice follows the part; the token; the part's last value; its borrow]
       move ! (2 ∷ 3 ∷ []) $
       use2 𝓛 (‵ ((MutSlice (named 0) κ R).own_val (slice δ) (slice_val (block, lies) (length items) ∷ [])))
-        (slice_of 𝓛 R (named 0) κ block lies δ items (part_room 𝓛 R s from len within rm)) $
+      (slice_of 𝓛 R (named 0) κ block lies δ items (part_room 𝓛 R s from len within rm)) $
       rewrite ! 0 (λ (k : ℕ). ‵ ((MutSlice (named 0) κ R).own_val (slice δ) (slice_val (block, lies) k ∷ [])))
-        (part_long from len s.now within) refl $
+      (part_long from len s.now within) refl $
       now ! $ show ! (LentPart len) δ $ move ! (0 ∷ 2 ∷ 1 ∷ []) $ done !)

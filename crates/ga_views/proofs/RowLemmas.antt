@@ -41,20 +41,20 @@ module _ {X : Type 0} (width : ℕ) (items : List X) where
         let none : 0 * width ≡ 0 = omega arith in
         ap (λ n. map (row_at width items) (range_with_len 0 n)) count-step
         ∙ (ap (λ k. take width (drop k items) ∷ map (row_at width items)
-          (range_with_len 1 (chunk_count width (drop width items)))) none
+        (range_with_len 1 (chunk_count width (drop width items)))) none
         ∙ ap (λ others. take width items ∷ others) (rows_shifted 0 (chunk_count width (drop width items))))
 
     -- the same where what is split off stands under names
     pub rows-split : (row left : List X) → row ≡ take width items → left ≡ drop width items
         → rows width items ≡ row ∷ rows width left
     rows-split row left front back = rows-first ∙ (ap (λ first. first ∷ rows width (drop width items)) (sym front)
-      ∙ ap (λ others. row ∷ rows width others) (sym back))
+        ∙ ap (λ others. row ∷ rows width others) (sym back))
 
     pub chunk_rest-first : chunk_rest width items ≡ chunk_rest width (drop width items)
     chunk_rest-first =
         let count = chunk_count width (drop width items) in
         let places : chunk_count width items * width ≡ width + count * width =
-          ap (λ n. n * width) count-step ∙ (omega arith) in
+        ap (λ n. n * width) count-step ∙ (omega arith) in
         ap (λ k. drop k items) places ∙ sym (drop-drop (count * width) width items)
 
   module _ (few : length items < width) where
@@ -110,7 +110,7 @@ module _ {X : Type 0} (width : ℕ) (items : List X) where
       let count = chunk_count width items in
       let whole = take (count * width) items in
       let long : length whole ≡ count * width = length-take-le (count * width) items
-        (div-mul-le_self (length items) width) in
+      (div-mul-le_self (length items) width) in
       let same : chunk_count width whole ≡ count = ap (λ n. n / width) long ∙ count-whole (length items) width in
       ap (λ n. map (row_at width whole) (range_with_len 0 n)) same ∙ rows-kept 0 count count (omega arith)
 
@@ -133,31 +133,34 @@ module _ {X : Type 0} (width : ℕ) where
   rows-dropped zero items within = let none : 0 * width ≡ 0 = omega arith in ap (λ n. rows width (drop n items)) none
   rows-dropped (suc k) items within =
       let wide = wide_by (length items) width k within in
-      let enough : width ≤ length items = omega (arith, mul-le-mul_right width within,
-        div-mul-le_self (length items) width) in
+      let enough : width ≤ length items = omega (
+        arith,
+        mul-le-mul_right width within,
+        div-mul-le_self (length items) width,
+      ) in
       let first = rows-first width items wide enough in
       let left : k ≤ chunk_count width (drop width items) =
-        omega (arith, within, ap length first, length-rows width items, length-rows width (drop width items)) in
+      omega (arith, within, ap length first, length-rows width items, length-rows width (drop width items)) in
       let place : suc k * width ≡ width + k * width = omega arith in
       ap (λ n. rows width (drop n items)) place
       ∙ (ap (rows width) (sym (drop-drop (k * width) width items))
-        ∙ (rows-dropped k (drop width items) left ∙ ap (drop (suc k)) (sym first)))
+      ∙ (rows-dropped k (drop width items) left ∙ ap (drop (suc k)) (sym first)))
 
   -- the rows of the items of the first k rows
   rows-taken : (k : ℕ) (items : List X) → k ≤ chunk_count width items
       → rows width (take (k * width) items) ≡ take k (rows width items)
   rows-taken zero items within = let none : 0 * width ≡ 0 = omega arith in
-    ap (λ n. rows width (take n items)) none ∙ ap (λ n. map (row_at width []) (range_with_len 0 n)) (zero-div width)
+      ap (λ n. rows width (take n items)) none ∙ ap (λ n. map (row_at width []) (range_with_len 0 n)) (zero-div width)
   rows-taken (suc k) items within =
       let first_rows = take (suc k * width) items in
       let long : length first_rows ≡ suc k * width =
-        length-take-le (suc k * width) items (omega
-        (arith, mul-le-mul_right width within, div-mul-le_self (length items) width)) in
+      length-take-le (suc k * width) items (omega
+      (arith, mul-le-mul_right width within, div-mul-le_self (length items) width)) in
       let count : chunk_count width first_rows ≡ suc k =
-        ap (λ n. n / width) long ∙ mul-div_cancel (suc k) (wide_by (length items) width k within) in
+      ap (λ n. n / width) long ∙ mul-div_cancel (suc k) (wide_by (length items) width k within) in
       ap (λ n. map (row_at width first_rows) (range_with_len 0 n)) count
       ∙ (rows-kept width items 0 (suc k) (suc k) (omega arith)
-        ∙ sym (take-map-range_with_len (row_at width items) 0 (chunk_count width items) (suc k) within))
+      ∙ sym (take-map-range_with_len (row_at width items) 0 (chunk_count width items) (suc k) within))
 
   -- so many rows of those that a list tells are there, and so are their items
   pub count-within : (k : ℕ) (items : List X) (left : List (List X)) → rows width items ≡ left → k ≤ length left
@@ -167,8 +170,12 @@ module _ {X : Type 0} (width : ℕ) where
   pub items-within : (k : ℕ) (items : List X) (left : List (List X)) → rows width items ≡ left → k ≤ length left
       → (n : ℕ) → n ≡ width → k * n ≤ length items
   items-within k items left same within n as_wide =
-      omega (arith, ap (λ w. k * w) as_wide, mul-le-mul_right width (count-within k items left same within),
-        div-mul-le_self (length items) width)
+      omega (
+        arith,
+        ap (λ w. k * w) as_wide,
+        mul-le-mul_right width (count-within k items left same within),
+        div-mul-le_self (length items) width,
+      )
 
 -- a cut of items that leave no rest, behind the first k rows or before the last k
 module _ {X : Type 0} (width : ℕ) (items : List X) (whole : length items ≡ chunk_count width items * width) where
@@ -178,24 +185,24 @@ module _ {X : Type 0} (width : ℕ) (items : List X) (whole : length items ≡ c
         let others = chunk_count width items - k in
         let all : chunk_count width items ≡ k + others = omega arith in
         let places : chunk_count width items * width ≡ k * width + others * width =
-          ap (λ n. n * width) all ∙ (omega arith) in
+        ap (λ n. n * width) all ∙ (omega arith) in
         omega (arith, whole, places)
 
     pub whole-dropped : length (drop (k * width) items) ≡ chunk_count width (drop (k * width) items) * width
     whole-dropped = whole_by (chunk_count width items - k) width (length (drop (k * width) items))
-      (length-drop (k * width) items ∙ fewer)
+        (length-drop (k * width) items ∙ fewer)
 
     pub whole-taken : let before = take (length items - k * width) items in
         length before ≡ chunk_count width before * width
     whole-taken =
         let before = take (length items - k * width) items in
         whole_by (chunk_count width items - k) width (length before)
-          (length-take-le (length items - k * width) items (omega arith) ∙ fewer)
+        (length-take-le (length items - k * width) items (omega arith) ∙ fewer)
 
     pub rows-before : rows width (take (length items - k * width) items)
         ≡ take (chunk_count width items - k) (rows width items)
     rows-before = ap (λ n. rows width (take n items)) fewer
-      ∙ rows-taken width (chunk_count width items - k) items (omega arith)
+        ∙ rows-taken width (chunk_count width items - k) items (omega arith)
 
   -- the last row is what stands behind the others
   module _ (wide : 0 < width) (enough : width ≤ length items) where
@@ -209,15 +216,15 @@ module _ {X : Type 0} (width : ℕ) (items : List X) (whole : length items ≡ c
         let place : before ≡ last * width = ap (λ n. length items - n) (sym one) ∙ fewer 1 (omega (arith, all)) in
         let row : row_at width items last ≡ drop before items =
         ap (λ n. take width (drop n items)) (sym place)
-          ∙ take_all width (drop before items) (omega (arith, length-drop before items)) in
+        ∙ take_all width (drop before items) (omega (arith, length-drop before items)) in
         let others : rows width (take before items) ≡ map (row_at width items) (range_with_len 0 last) =
         ap (λ n. rows width (take n items)) place
         ∙ (rows-taken width last items (omega (arith, all))
-          ∙ take-map-range_with_len (row_at width items) 0 (chunk_count width items) last (omega (arith, all))) in
+        ∙ take-map-range_with_len (row_at width items) 0 (chunk_count width items) last (omega (arith, all))) in
         ap (λ n. map (row_at width items) (range_with_len 0 n)) all
         ∙ (map-range_with_len_more (row_at width items) 0 last last (omega arith)
         ∙ (ap (λ list. list ++ row_at width items last ∷ []) (sym others)
-          ∙ ap (λ r. rows width (take before items) ++ r ∷ []) row))
+        ∙ ap (λ r. rows width (take before items) ++ r ∷ []) row))
 
 -- a whole row ends within the items
 pub row-within : (len width index : ℕ) → index < len / width → index * width + width ≤ len

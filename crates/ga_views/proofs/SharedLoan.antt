@@ -49,30 +49,30 @@ module _ {M : Type 1} {𝓤 : Ura M} (𝓛 : Logic 𝓤) (R : RattleType) (κ : 
   lends_shared shares lives =
       qed 𝓛 (‵ Whole ∷ ‵ (flft κ q) ∷ []) ∵ updating ! $ move ! (1 ∷ []) $
       use1 𝓛 (‵ (flft κ (Share.left q)) ⊛ ‵ (flft κ (Share.right q))) (𝓛.lfts.lft_split κ q) $ split ! $ move !
-        (1 ∷ []) $ lft_new ! tt (λ a.
+      (1 ∷ []) $ lft_new ! tt (λ a.
       let within = meet_⊑_right (a ∷ []) κ in
       let r : Share = (common full_share (Share.right q)).0 in
       let Both : SProp 𝓤 = sep 𝓤 (A.lft (a ∷ []) full_share) (A.lft κ (Share.right q)) in
       use2 𝓛 (‵ (flft (a ∷ κ) r) ⊛ raw (wand 𝓤 (A.lft (a ∷ κ) r) Both))
-        (lft-common 𝓛 (a ∷ []) κ full_share (Share.right q)) $ split ! $
+      (lft-common 𝓛 (a ∷ []) κ full_share (Share.right q)) $ split ! $
       -- [the new token; its way back; the other half of κ's token; the reference]
       move ! (3 ∷ 2 ∷ []) $ fsplit3 ! $ feq_l ! (λ _. open_ref ! tt (mem R) $
       -- [what the reference shows; the open borrow; obs; auth; the new token; its way back]
       move ! (0 ∷ 4 ∷ []) $ use2 𝓛
-        (later ((‵ (Shared (a, r)) ⊛ ‵ (flent (a ∷ κ) (part_at R full_share x b o))) ⊛ ‵ (flft (a ∷ κ) r)))
+      (later ((‵ (Shared (a, r)) ⊛ ‵ (flent (a ∷ κ) (part_at R full_share x b o))) ⊛ ‵ (flft (a ∷ κ) r)))
       (lends_shr 𝓛 R (named 0) (a ∷ κ) full_share x b o R.lives (shares x) ((a ∷ κ, r) ∷ [])
-        (⊑_trans (a ∷ κ) κ R.lives within lives) (Incl-refl (a ∷ κ))) $
+      (⊑_trans (a ∷ κ) κ R.lives within lives) (Incl-refl (a ∷ κ))) $
       await ! tt $ split ! $ split ! $
       -- [the `&`; the lender's right; the new token; the open borrow; obs; auth; the token's way back]
       move ! (0 ∷ 2 ∷ []) $ now ! $ show ! LentShared (a, r) $ frame ! $ frame ! $ assume !
-        (‵ (flft (a ∷ κ) r)) $ updating ! $
+      (‵ (flft (a ∷ κ) r)) $ updating ! $
       move ! (0 ∷ 5 ∷ []) $ use2 𝓛 (‵ (flft (a ∷ []) full_share) ⊛ ‵ (flft κ (Share.right q)))
-        (apply∗ 𝓤 (A.lft (a ∷ κ) r) Both) $ split ! $ lft_end ! tt $
+      (apply∗ 𝓤 (A.lft (a ∷ κ) r) Both) $ split ! $ lft_end ! tt $
       use1 𝓛 (‵ (fdead (a ∷ κ))) (𝓛.lfts.dead-incl (a ∷ κ) (a ∷ []) (meet_⊑_left (a ∷ []) κ)) $ move !
-        (0 ∷ 2 ∷ []) $ lent_back ! tt $
+      (0 ∷ 2 ∷ []) $ lent_back ! tt $
       -- [what the reference shows; half of κ's token; the open borrow; obs; auth]
       move ! (0 ∷ 2 ∷ 3 ∷ 4 ∷ []) $ close_ref ! tt (mem R) x $ feq_i ! (List Val) (vptr b o ∷ [])
-        (vptr b o ∷ []) refl $ fjoin3 ! $ move ! (1 ∷ 2 ∷ []) $
+      (vptr b o ∷ []) refl $ fjoin3 ! $ move ! (1 ∷ 2 ∷ []) $
       use2 𝓛 (‵ (flft κ q)) (𝓛.lfts.lft_join κ q) $ move ! (1 ∷ 0 ∷ []) $ now ! $ done !))
 
   pub comes_back : (t : ℕ × Share) → ent 𝓤 (sep 𝓤 (A.lft (t.0 ∷ κ) t.1) (Back t))

@@ -23,7 +23,7 @@ module _ (ℓ : NamedLft) (i : ℕ) (X : RattleType) where
 
   abbrev pub slice_laws : Laws X → Laws Slice
   slice_laws LX = of_field (mut_slice_field ℓ R tt) (mut_slice_laws ℓ R tt) refl
-    (mut_slice_shared ℓ R tt (row_shared R (param_laws i X LX)))
+      (mut_slice_shared ℓ R tt (row_shared R (param_laws i X LX)))
 
   module _ (j : ℕ) (N : RattleType) (g : unsigned.Ghosts N.Denot) where
     abbrev pub ArrayView : RattleType
@@ -31,4 +31,4 @@ module _ (ℓ : NamedLft) (i : ℕ) (X : RattleType) where
 
     abbrev pub array_laws : Laws X → Laws N → Laws ArrayView
     array_laws LX LN = view_laws.the_row_laws Slice R (param j N) (impl.ghosts R) g (slice_laws LX) (param_laws i X LX)
-      (param_laws j N LN)
+        (param_laws j N LN)

@@ -46,8 +46,16 @@ module _ (more : ℕ) (outlives : List (Outlives (suc more))) (X : RattleType) (
   taken = SliceRefMutOf (0 ∷ []) tt (plain (λ _. E)) (λ _. tt)
 
   abbrev ended : Ended
-  ended = record { signature = record { lifetimes = suc more; outlives = outlives; params = taken ∷ []; result =
-    result }; kept = (no, tt) }
+  ended = record {
+    signature = record {
+      lifetimes = suc more;
+      outlives = outlives;
+      params = taken ∷ [];
+      result =
+          result;
+    };
+    kept = (no, tt);
+  }
 
   abbrev kept : Stays ended.signature.params ended.kept
   kept = (stay_dropped taken no, tt)
@@ -73,9 +81,9 @@ module _ (more : ℕ) {outlives : List (Outlives (suc more))} (X : RattleType) {
     abbrev Left : Val → (type_at result κs).Denot → SProp 𝓤
     Left v r =
         sep 𝓤 (alive 𝓛 T.signature κs qs)
-          (sep 𝓤 (sem 𝓛 (has_of κs T.signature.params T.kept hs (s, tt) (tt, tt) (mut_slice_vals s, tt)))
+        (sep 𝓤 (sem 𝓛 (has_of κs T.signature.params T.kept hs (s, tt) (tt, tt) (mut_slice_vals s, tt)))
         (sep 𝓤 (sem 𝓛 ((type_at result κs).own_val r (v ∷ [])))
-          ((c κs (s, tt)).ensures g r (at_exit T κs (s, tt) (tt, tt)))))
+        ((c κs (s, tt)).ensures g r (at_exit T κs (s, tt) (tt, tt)))))
 
   module _ (𝓜 : Model 𝓤 H) (𝓡 : Running 𝓤 H 𝓜) where
     abbrev 𝓣 : MachineTables 𝓤 H 𝓜
@@ -84,7 +92,7 @@ module _ (more : ℕ) {outlives : List (Outlives (suc more))} (X : RattleType) {
     -- the function's contract, from its walk, which is given how it ends
     pub gives_up : (k : Callee) (e : Fn) → Closed 𝓤 H 𝓣.C 𝓣.Λ k e
         → ((κs : Lfts (suc more)) (qs : Shares (suc more)) (bounds : AllOutlive (suc more) outlives κs)
-          (s : Items more outlives X result) (g : (c κs (s, tt)).ghost) → length s.now < 2 ^ 64
+        (s : Items more outlives X result) (g : (c κs (s, tt)).ghost) → length s.now < 2 ^ 64
         → (Post : Val → SProp 𝓤) → ((v : Val) (r : (type_at result κs).Denot) → ent 𝓤 (Left κs qs s g v r) (Post v))
         → ent 𝓤 (Had κs qs s g) (WpFn 𝓤 H 𝓣.C 𝓣.Λ e (slice_val s.ref_ptr (length s.now) ∷ []) Post))
         → Meets 𝓛 T.signature (𝓣.C k) (closing 𝓛 T c)
@@ -92,7 +100,7 @@ module _ (more : ℕ) {outlives : List (Outlives (suc more))} (X : RattleType) {
         proved 𝓛 T hs c 𝓜 𝓡 (Goes-spent_slice 𝓛 (suc more) (0 ∷ []) tt (plain (λ _. param 0 X)), tt) k e closed
         (λ κs. (mut_slice_vals, tt)) (λ κs. (mut_slice_Tells (named 0) κs.0 (param 0 X), tt))
         (λ κs qs bounds a g are. walk κs qs bounds a.0 g are.0.0.1.0 _
-          (λ v r. leaves 𝓛 T hs c ((κs, qs, bounds, a, (mut_slice_vals a.0, tt)), g) v r (tt, tt) (tt, tt)))
+        (λ v r. leaves 𝓛 T hs c ((κs, qs, bounds, a, (mut_slice_vals a.0, tt)), g) v r (tt, tt) (tt, tt)))
 
 -- what a call asks of the lifetimes of two type parameters, before what else it asks
 module _ {M : Type 1} {𝓤 : Ura M} (𝓛 : Logic 𝓤) where
@@ -128,19 +136,19 @@ module _ {outlives : List (Outlives 3)} (X : RattleType) {result : Slot 3} {M : 
           → Opds K 𝓛 (raw (Passed.pre passed_at) ∷ Γ) G xs (Passed.args passed_at)
           → ((v : Val) (r : (type_at result κs).Denot)
           → Seq K 𝓛 (‵ ((type_at result κs).own_val r (v ∷ []))
-            ∷ raw ((c κs (s, tt)).ensures g r (at_exit Callable κs (s, tt) (tt, tt))) ∷ tokens ∷ Γ)
-            (lands C Λ G p v rest post))
+          ∷ raw ((c κs (s, tt)).ensures g r (at_exit Callable κs (s, tt) (tt, tt))) ∷ tokens ∷ Γ)
+          (lands C Λ G p v rest post))
           → Seq K 𝓛 (‵ (flft κs.0 qs.0) ∷ ‵ (flft κs.1.0 qs.1.0) ∷ ‵ (flft κs.1.1.0 qs.1.1.0)
-            ∷ ‵ (owns (types_at Callable.signature.params κs) (s, tt) (mut_slice_vals s, tt)) ∷ Γ)
+          ∷ ‵ (owns (types_at Callable.signature.params κs) (s, tt) (mut_slice_vals s, tt)) ∷ Γ)
           (runs C Λ G (seq (call f xs p) rest) post)
       passes t framed met asked read then =
           nothing t $ move t (1 ∷ 2 ∷ 3 ∷ 0 ∷ []) $ group t 4 $ join t $ use0 𝓛
-            (raw ((c κs (s, tt)).requires g)) asked $ move t (1 ∷ 0 ∷ []) $ join t $
+          (raw ((c κs (s, tt)).requires g)) asked $ move t (1 ∷ 0 ∷ []) $ join t $
           use1 𝓛 (raw (Passed.pre passed_at)) (id⊢ 𝓤 _) $
           calls_at t framed Passed met passed_at read (λ v.
           use1 𝓛 (later (some (λ (r : (type_at result κs).Denot).
-            (tokens ⊛ ‵ ((type_at result κs).own_val r (v ∷ []))) ⊛
+          (tokens ⊛ ‵ ((type_at result κs).own_val r (v ∷ []))) ⊛
           some (λ (ws : Lasts Callable κs (s, tt)). ‵ (lasts Callable κs (s, tt) ws) ⊛ raw
-            ((c κs (s, tt)).ensures g r (at_exit Callable κs (s, tt) ws)))))) (id⊢ 𝓤 _) $
+          ((c κs (s, tt)).ensures g r (at_exit Callable κs (s, tt) ws)))))) (id⊢ 𝓤 _) $
           await t tt $ pick t (λ r. split t $ split t $ move t (2 ∷ []) $ pick t
-            (λ ws. split t $ drop t $ move t (2 ∷ 0 ∷ 1 ∷ []) $ then v r)))
+          (λ ws. split t $ drop t $ move t (2 ∷ 0 ∷ 1 ∷ []) $ then v r)))

@@ -44,12 +44,12 @@ module _ (X : RattleType) where
   -- what the slice ends as: the items of the one part and then those of the other
   abbrev pub joins : Items → Items → Items → Fml
   joins s first second = follows_both (Array E 0) (Array E 0)
-    (Array E 0) s.ghost_name first.ghost_name second.ghost_name ◌++◌
+      (Array E 0) s.ghost_name first.ghost_name second.ghost_name ◌++◌
 
   -- the two parts, as the machine has them
   abbrev pub parts_val : Items → Items → Val
   parts_val first second =
-    vstruct (of_list (slice_val first.ref_ptr (length first.now) ∷ slice_val second.ref_ptr (length second.now) ∷ []))
+      vstruct (of_list (slice_val first.ref_ptr (length first.now) ∷ slice_val second.ref_ptr (length second.now) ∷ []))
 
   -- what is known of the two parts of a slice that is cut at a place
   pub record Cut (s : Items) (place : ℕ) (first second : Items) : Type 0 where
@@ -73,8 +73,16 @@ module _ (X : RattleType) where
       S = MutSlice (named 0) κ E
 
       abbrev pub cut_at : Cuts.Ghost
-      cut_at = (((κ, (κT, tt)), (q, (qT, tt)), (within, tt), (s, (place, tt)),
-        (mut_slice_vals s, (vint w64 place ∷ [], tt))), tt)
+      cut_at = (
+        (
+          (κ, (κT, tt)),
+          (q, (qT, tt)),
+          (within, tt),
+          (s, (place, tt)),
+          (mut_slice_vals s, (vint w64 place ∷ [], tt)),
+        ),
+        tt,
+      )
 
       module _ {K : Type 0} {Γ : List (Item 𝓤)} {G : Env 𝓤 H} {C : Calls 𝓤 H} {Λ : Loops 𝓤 H} {f : Callee}
           {xs : List Operand} {p : Place} {rest : Code} {post : Post 𝓤 H} where
@@ -84,10 +92,10 @@ module _ (X : RattleType) where
             → Opds K 𝓛 (raw (Cuts.pre cut_at) ∷ Γ) G xs (Cuts.args cut_at)
             → ((first second : Items) → Cut s place first second
             → Seq K 𝓛 (‵ (S.own_val second (mut_slice_vals second)) ∷ ‵ (S.own_val first (mut_slice_vals first))
-              ∷ ‵ (joins s first second) ∷ (‵ (flft κ q) ⊛ ‵ (flft κT qT) ⊛ ‵ ftrue) ∷ Γ)
+            ∷ ‵ (joins s first second) ∷ (‵ (flft κ q) ⊛ ‵ (flft κT qT) ⊛ ‵ ftrue) ∷ Γ)
             (lands C Λ G p (parts_val first second) rest post))
             → Seq K 𝓛 (‵ (S.own_val s (mut_slice_vals s)) ∷ ‵ (usize.own_val place (vint w64 place ∷ [])) ∷ ‵ (flft κ q)
-              ∷ ‵ (flft κT qT) ∷ Γ) (runs C Λ G (seq (call f xs p) rest) post)
+            ∷ ‵ (flft κT qT) ∷ Γ) (runs C Λ G (seq (call f xs p) rest) post)
         cuts t framed met lives inside read then =
             nothing t $ move t (2 ∷ 0 ∷ []) $ fjoin t $ move t (1 ∷ 0 ∷ []) $ fjoin t $
             nothing t $ move t (2 ∷ 3 ∷ 0 ∷ 1 ∷ []) $ group t 3 $ join t $
@@ -96,13 +104,13 @@ module _ (X : RattleType) where
             move t (1 ∷ 0 ∷ []) $ join t $ use1 𝓛 (raw (Cuts.pre cut_at)) (id⊢ 𝓤 _) $
             calls_at t framed Cuts met cut_at read (λ u.
             use1 𝓛 (later (some (λ (r : S.Denot × S.Denot).
-              ((‵ (flft κ q) ⊛ ‵ (flft κT qT) ⊛ ‵ ftrue) ⊛ ‵ ((Tuple (S ∷ S ∷ [])).own_val r (u ∷ []))) ⊛
+            ((‵ (flft κ q) ⊛ ‵ (flft κT qT) ⊛ ‵ ftrue) ⊛ ‵ ((Tuple (S ∷ S ∷ [])).own_val r (u ∷ []))) ⊛
             some (λ (ws : Lasts (cut_contract.ended X) cut_at.0.0 cut_at.0.3).
-              ‵ (lasts (cut_contract.ended X) cut_at.0.0 cut_at.0.3 ws) ⊛
+            ‵ (lasts (cut_contract.ended X) cut_at.0.0 cut_at.0.3 ws) ⊛
             raw (fact 𝓤 (s.now ≡ r.0.now ++ r.1.now)) ⊛ raw (fact 𝓤 (length r.0.now ≡ place)) ⊛ raw
-              (fact 𝓤 (length r.1.now + place ≡ length s.now)) ⊛
+            (fact 𝓤 (length r.1.now + place ≡ length s.now)) ⊛
             raw (fact 𝓤 (r.0.now ≡ take place s.now)) ⊛ raw (fact 𝓤 (r.1.now ≡ drop_l place s.now)) ⊛ raw
-              (fact 𝓤 (SameBelow s.now r.0.now place × TailFrom s.now r.1.now place)) ⊛
+            (fact 𝓤 (SameBelow s.now r.0.now place × TailFrom s.now r.1.now place)) ⊛
             ‵ (joins s r.0 r.1))))) (id⊢ 𝓤 _) $
             await t tt $ pick t (λ r. split t $ split t $ move t (2 ∷ []) $ pick t (λ ws. split t $ drop t $
             split t $ heard t _ (λ whole. split t $ heard t _ (λ first_len. split t $ heard t _ (λ second_len.
@@ -110,11 +118,19 @@ module _ (X : RattleType) where
             -- [what the slice ends as; the tokens; the pair]
             move t (2 ∷ []) $ fpick t (λ vss. fsplit t $
             move t (1 ∷ []) $ fsplit t $ peeks t S (Is S) (shows 𝓛 S) r.0 vss.0
-              (λ is₁. rewrite t 0 (λ (vs : List Val). ‵ (S.own_val r.0 vs)) is₁.0.0 refl $
+            (λ is₁. rewrite t 0 (λ (vs : List Val). ‵ (S.own_val r.0 vs)) is₁.0.0 refl $
             move t (1 ∷ []) $ fsplit t $ peeks t S (Is S) (shows 𝓛 S) r.1 vss.1.0
-              (λ is₂. rewrite t 0 (λ (vs : List Val). ‵ (S.own_val r.1 vs)) is₂.0.0 refl $
+            (λ is₂. rewrite t 0 (λ (vs : List Val). ‵ (S.own_val r.1 vs)) is₂.0.0 refl $
             move t (3 ∷ []) $ feq_l t (λ pair. move t (1 ∷ []) $ drop t $
             regoal t (λ (v : Val). lands C Λ G p v rest post)
-              (ap only (pair ∙ (λ i. vstruct (of_list (is₁.0.0 i ++ (is₂.0.0 i ++ []))) ∷ []))) refl $
-            then r.0 r.1 (record { whole = whole; first_len = first_len; second_len = second_len; first_is =
-              first_is; second_is = second_is; first_fits = is₁.0.1.0; second_fits = is₂.0.1.0 })))))))))))))
+            (ap only (pair ∙ (λ i. vstruct (of_list (is₁.0.0 i ++ (is₂.0.0 i ++ []))) ∷ []))) refl $
+            then r.0 r.1 (record {
+              whole = whole;
+              first_len = first_len;
+              second_len = second_len;
+              first_is =
+                  first_is;
+              second_is = second_is;
+              first_fits = is₁.0.1.0;
+              second_fits = is₂.0.1.0;
+            })))))))))))))

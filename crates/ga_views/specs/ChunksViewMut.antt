@@ -11,7 +11,7 @@ use Rattle.std.specs.Prelude.{◌≡◌, ℕ, ◌*◌, ◌/◌, List, Option, le
 module _ (S T N : RattleType) (s : reborrow.Ghosts S.Denot T.Denot) (n : unsigned.Ghosts N.Denot) where
   -- the rows, where their slice has become another of the same length
   abbrev with_slice : (rows : (the_row S T N s n).Denot) (slice : S.Denot)
-    → length (s.items slice) ≡ length (s.items rows.slice) → (the_row S T N s n).Denot
+      → length (s.items slice) ≡ length (s.items rows.slice) → (the_row S T N s n).Denot
   with_slice rows slice same = record rows {
     slice = slice;
     whole = same ∙ (rows.whole ∙ ap (λ len. len / n.USIZE * n.USIZE) (sym same));
@@ -22,7 +22,7 @@ module _ (S T N : RattleType) (s : reborrow.Ghosts S.Denot T.Denot) (n : unsigne
   rows_with rows written =
       let after = s.slice_with rows.slice written in
       with_slice rows after.0 (ap length after.1 ∙ sym
-        (length_refill (length (s.items rows.slice)) (s.items rows.slice) written refl))
+      (length_refill (length (s.items rows.slice)) (s.items rows.slice) written refl))
 
   -- the rows with these items in the row at an index
   abbrev pub row_set : (the_row S T N s n).Denot → ℕ → List T.Denot → (the_row S T N s n).Denot

@@ -10,9 +10,9 @@ module _ {T : Type 0} (items : List T) (n : ℕ) where
   -- these n items, from both ends
   abbrev pub IteratesOver : Iter T → Type 0
   IteratesOver iterator = (iter_rest iterator ≡ items) × (length (iter_rest iterator) ≡ n)
-    × (length (iter_rest iterator) < 2 ^ 64) × IterYieldsInOrder T × IterYieldsInReverse T
+      × (length (iter_rest iterator) < 2 ^ 64) × IterYieldsInOrder T × IterYieldsInReverse T
 
   -- the same for writing
   abbrev pub IteratesMutOver : IterMut T → Type 0
   IteratesMutOver iterator = (iter_mut_rest iterator ≡ items) × (length (iter_mut_rest iterator) ≡ n)
-    × (length (iter_mut_rest iterator) < 2 ^ 64) × IterMutYieldsInOrder T × IterMutYieldsInReverse T
+      × (length (iter_mut_rest iterator) < 2 ^ 64) × IterMutYieldsInOrder T × IterMutYieldsInReverse T

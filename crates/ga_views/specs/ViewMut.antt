@@ -13,7 +13,7 @@ use Rattle.std.specs.declared.slice.IterMut.{IterMut}
 module _ (S T N : RattleType) (s : reborrow.Ghosts S.Denot T.Denot) (n : unsigned.Ghosts N.Denot) where
   -- the view, where its slice has become another of the same length
   abbrev with_slice : (view : (the_row S T N s n).Denot) (slice : S.Denot)
-    → length (s.items slice) ≡ length (s.items view.slice) → (the_row S T N s n).Denot
+      → length (s.items slice) ≡ length (s.items view.slice) → (the_row S T N s n).Denot
   with_slice view slice same = record view { slice = slice; full = same ∙ view.full }
 
   -- the view with these items written over its own, as many as it has
@@ -21,7 +21,7 @@ module _ (S T N : RattleType) (s : reborrow.Ghosts S.Denot T.Denot) (n : unsigne
   view_with view written =
       let after = s.slice_with view.slice written in
       with_slice view after.0 (ap length after.1 ∙ sym
-        (length_refill (length (s.items view.slice)) (s.items view.slice) written refl))
+      (length_refill (length (s.items view.slice)) (s.items view.slice) written refl))
 
   -- the view with this item at a place
   abbrev pub view_with_item : (the_row S T N s n).Denot → ℕ → T.Denot → (the_row S T N s n).Denot

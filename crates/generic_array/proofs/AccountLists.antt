@@ -19,12 +19,12 @@ module _ {T : Type 0} where
   interchange : (A B a b : List T) → IsPermutation ((A ++ B) ++ (a ++ b)) ((A ++ a) ++ (B ++ b))
   interchange A B a b =
       let left : (A ++ B) ++ (a ++ b) ≡ A ++ ((B ++ a) ++ b) =
-        append_assoc A B (a ++ b) ∙ ap (λ l. A ++ l) (sym (append_assoc B a b)) in
+      append_assoc A B (a ++ b) ∙ ap (λ l. A ++ l) (sym (append_assoc B a b)) in
       let right : A ++ ((a ++ B) ++ b) ≡ (A ++ a) ++ (B ++ b) =
-        ap (λ l. A ++ l) (append_assoc a B b) ∙ sym (append_assoc A a (B ++ b)) in
+      ap (λ l. A ++ l) (append_assoc a B b) ∙ sym (append_assoc A a (B ++ b)) in
       and_then (permuted left)
-        (and_then (IsPermutation-append_right A ((B ++ a) ++ b) ((a ++ B) ++ b)
-        (IsPermutation-append_left b (B ++ a) (a ++ B) (IsPermutation-append_comm B a))) (permuted right))
+      (and_then (IsPermutation-append_right A ((B ++ a) ++ b) ((a ++ B) ++ b)
+      (IsPermutation-append_left b (B ++ a) (a ++ B) (IsPermutation-append_comm B a))) (permuted right))
 
   -- what one step takes, hands out and leaves, before what the others do
   pub whole-more : (items new news A B h left a b hs last : List T)
@@ -33,8 +33,8 @@ module _ {T : Type 0} where
   whole-more items new news A B h left a b hs last one others =
       let begun : IsPermutation (items ++ (new ++ news)) ((A ++ (B ++ h)) ++ (left ++ news)) =
       and_then (permuted (sym (append_assoc items new news)))
-        (and_then (IsPermutation-append_left news (items ++ new) ((A ++ (B ++ h)) ++ left) one)
-        (permuted (append_assoc (A ++ (B ++ h)) left news))) in
+      (and_then (IsPermutation-append_left news (items ++ new) ((A ++ (B ++ h)) ++ left) one)
+      (permuted (append_assoc (A ++ (B ++ h)) left news))) in
       let joined = IsPermutation-append_right (A ++ (B ++ h)) (left ++ news) (a ++ (b ++ (hs ++ last))) others in
       let ends : IsPermutation ((B ++ h) ++ (b ++ (hs ++ last))) ((B ++ b) ++ ((h ++ hs) ++ last)) =
       and_then (interchange B h b (hs ++ last)) (permuted (ap (λ l. (B ++ b) ++ l) (sym (append_assoc h hs last)))) in
@@ -83,7 +83,7 @@ module _ {T : Type 0} where
   pub without-last : (n : ℕ) (items : List T) → reverse (drop n (reverse items))
       ++ reverse (take n (reverse items)) ≡ items
   without-last n items = sym (reverse-append (take n (reverse items)) (drop n (reverse items)))
-    ∙ (ap reverse (take-append-drop n (reverse items)) ∙ reverse-reverse items)
+      ∙ (ap reverse (take-append-drop n (reverse items)) ∙ reverse-reverse items)
 
   -- what is left behind the first n items, and these, both turned round
   pub behind : (n : ℕ) (items : List T) → reverse (drop n items) ++ reverse (take n items) ≡ reverse items

@@ -50,15 +50,15 @@ module _ {S I T F A : Type 0} {can : S → Type 0} {steps : S → Option I → S
     -- the call at the item that comes may be made
     pub FoldLoop-callable : (pre : F → A → I → Type 0) (item : I) (t : S)
         → SomeEntries can steps remaining entries (λ (entry : I → T) values. (passed : List T) (x : T) (others : List T)
-          (reached : F) (value : A)
+        (reached : F) (value : A)
         → values ≡ passed ++ x ∷ others → FoldRun (FoldAt entry step) f₀ a₀ passed value reached → (at : I)
-          → entry at ≡ x → pre reached value at)
+        → entry at ≡ x → pre reached value at)
         → steps s (Some item) t → pre f a item
     FoldLoop-callable pre item t asked next =
         let so_far = loop.so_far asked.0 asked.1 asked.2 in
         let given = next_given steps asked.0 s so_far.left item t so_far.gives next in
         asked.3 so_far.passed (asked.0 item) given.0 f a
-          (so_far.whole ∙ ap (λ left. so_far.passed ++ left) given.1) so_far.ran item refl
+        (so_far.whole ∙ ap (λ left. so_far.passed ++ left) given.1) so_far.ran item refl
 
     -- it was made
     pub FoldLoop-more : (item : I) (t : S) (g : F) (b : A) → steps s (Some item) t → step f a item b g → can t
@@ -74,7 +74,7 @@ module _ {S I T F A : Type 0} {can : S → Type 0} {steps : S → Option I → S
             passed = so_far.passed ++ entry item ∷ [];
             left = given.0;
             whole = so_far.whole ∙ (ap (λ left. so_far.passed ++ left) given.1
-              ∙ sym (append_assoc so_far.passed (entry item ∷ []) given.0));
+                ∙ sym (append_assoc so_far.passed (entry item ∷ []) given.0));
             gives = given.2;
             ran = FoldsTo-push _ (f₀, a₀) so_far.passed (f, a) (entry item) (g, b) so_far.ran (item, refl, call);
           };
@@ -86,8 +86,8 @@ module _ {S I T F A : Type 0} {can : S → Type 0} {steps : S → Option I → S
     FoldLoop-end t next entry values gives =
         let so_far = loop.so_far entry values gives in
         let whole : values ≡ so_far.passed = so_far.whole
-          ∙ (ap (λ left. so_far.passed ++ left) (end_given steps entry s so_far.left t so_far.gives next)
-          ∙ append-nil so_far.passed) in
+        ∙ (ap (λ left. so_far.passed ++ left) (end_given steps entry s so_far.left t so_far.gives next)
+        ∙ append-nil so_far.passed) in
         subst (λ passed. FoldRun (FoldAt entry step) f₀ a₀ passed a f) (sym whole) so_far.ran
 
 -- items that stand for themselves
@@ -109,9 +109,9 @@ module _ {F A X E : Type 0} (step : F → A → X → Result A E → F → Type 
   pub TryFoldRun-error : (f : F) (a : A) (passed : List X) (b : A) (g : F) (x : X) (others : List X) (error : E)
       (last : F)
       → FoldRun (good_step step) f a passed b g → step g b x (Err error) last
-        → TryFoldRun step f a (passed ++ x ∷ others) (Err error) last
+      → TryFoldRun step f a (passed ++ x ∷ others) (Err error) last
   TryFoldRun-error f a [] b g x others error last run call =
-    inl (subst (λ p. step p.0 p.1 x (Err error) last) (sym run) call)
+      inl (subst (λ p. step p.0 p.1 x (Err error) last) (sym run) call)
   TryFoldRun-error f a (y ∷ passed) b g x others error last run call =
       inr (run.0.1, run.0.0, run.1, TryFoldRun-error run.0.0 run.0.1 passed b g x others error last run.2 call)
 
@@ -121,15 +121,15 @@ module _ {S I T F A E : Type 0} {can : S → Type 0} {steps : S → Option I →
   pub FoldLoop-error : (step : F → A → I → Result A E → F → Type 0) (item : I) (t : S) (error : E) (last : F)
       → FoldLoop T can steps remaining (good_step step) entries f₀ a₀ s f a
       → steps s (Some item) t → step f a item (Err error) last → (entry : I → T) (values : List T)
-        → GivesEntries can steps remaining entry entries values
+      → GivesEntries can steps remaining entry entries values
       → TryFoldRun (FoldAt entry step) f₀ a₀ values (Err error) last
   FoldLoop-error step item t error last loop next call entry values gives =
       let so_far = loop.so_far entry values gives in
       let given = next_given steps entry s so_far.left item t so_far.gives next in
       subst (λ xs. TryFoldRun (FoldAt entry step) f₀ a₀ xs (Err error) last)
-        (sym (so_far.whole ∙ ap (λ left. so_far.passed ++ left) given.1))
+      (sym (so_far.whole ∙ ap (λ left. so_far.passed ++ left) given.1))
       (TryFoldRun-error (FoldAt entry step) f₀ a₀ so_far.passed a f (entry item) given.0 error last so_far.ran
-        (item, refl, call))
+      (item, refl, call))
 
 -- where f may be called in a fold up to its first error, it may be called in each state that good calls lead to
 module _ {F A I T E : Type 0} (entry : I → T) (pre : F → A → I → Type 0) (step : F → A → I → Result A E → F
@@ -137,9 +137,9 @@ module _ {F A I T E : Type 0} (entry : I → T) (pre : F → A → I → Type 0)
   pub may_try_fold-at : (f : F) (a : A) (xs : List T) → MayTryFold entry pre step f a xs
       → (passed : List T) (x : T) (others : List T) (reached : F) (value : A) → xs ≡ passed ++ x ∷ others
       → FoldRun (good_step (FoldAt entry step)) f a passed value reached → (item : I) → entry item ≡ x
-        → pre reached value item
+      → pre reached value item
   may_try_fold-at f a xs may = λ passed x others reached value whole run item is.
       may passed x others reached value whole run item is
       (λ here stays. subst (λ s. pre s value item)
-        (sym (stays-fold (good_step (FoldAt entry step)) f
-        (λ b v c g call. stays b call.0 (Ok c) g call.2) a passed value reached run)) here)
+      (sym (stays-fold (good_step (FoldAt entry step)) f
+      (λ b v c g call. stays b call.0 (Ok c) g call.2) a passed value reached run)) here)

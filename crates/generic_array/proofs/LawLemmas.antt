@@ -20,7 +20,7 @@ module _ {F X Y : Type 0} (step : F → X → Y → F → Type 0) where
   ClosureRun-joined f xs ys answers last = (
     ClosureRun-cut f xs ys answers last,
     λ parts. subst (λ all. ClosureRun step f (xs ++ ys) all last) (sym parts.3)
-      (ClosureRun-join step f xs ys parts.0 parts.1 parts.2 last parts.4 parts.5),
+        (ClosureRun-join step f xs ys parts.0 parts.1 parts.2 last parts.4 parts.5),
   )
 
 module _ {F X Y E : Type 0} (step : F → X → Result Y E → F → Type 0) where
@@ -44,12 +44,23 @@ module _ {F X Y E : Type 0} (step : F → X → Result Y E → F → Type 0) whe
       let whole = good-run f (xs ++ ys) answers last in
       let joined = ClosureRun-joined GoodCall f xs ys answers last in (
         λ run.
-            let parts = joined.0 (whole.0 run) in
-            (parts.0, parts.1, parts.2, parts.3, (good-run f xs parts.0 parts.2).1 parts.4,
-              (good-run parts.2 ys parts.1 last).1 parts.5),
+            let parts = joined.0 (whole.0 run) in (
+              parts.0,
+              parts.1,
+              parts.2,
+              parts.3,
+              (good-run f xs parts.0 parts.2).1 parts.4,
+              (good-run parts.2 ys parts.1 last).1 parts.5,
+            ),
         λ parts.
-            whole.1 (joined.1 (parts.0, parts.1, parts.2, parts.3, (good-run f xs parts.0 parts.2).0 parts.4,
-              (good-run parts.2 ys parts.1 last).0 parts.5)),
+            whole.1 (joined.1 (
+              parts.0,
+              parts.1,
+              parts.2,
+              parts.3,
+              (good-run f xs parts.0 parts.2).0 parts.4,
+              (good-run parts.2 ys parts.1 last).0 parts.5,
+            )),
       )
 
   error-cut : (f : F) (xs ys : List X) (error : E) (last : F) → FirstErrorRun step f (xs ++ ys) (Err error) last
@@ -57,9 +68,11 @@ module _ {F X Y E : Type 0} (step : F → X → Result Y E → F → Type 0) whe
   error-cut f [] ys error last run = inr ([], f, refl, run)
   error-cut f (x ∷ xs) ys error last (inl call) = inl (inl call)
   error-cut f (x ∷ xs) ys error last (inr more) =
-      elim (error-cut more.1 xs ys error last more.3) as (λ _. ErrorRunInParts step f (x ∷ xs) ys error last)
-      [ inl here ↦ inl (inr (more.0, more.1, more.2, here)) | inr later ↦ inr
-        (more.0 ∷ later.0, later.1, (more.1, more.2, later.2), later.3) ]
+      elim (error-cut more.1 xs ys error last more.3) as (λ _. ErrorRunInParts step f (x ∷ xs) ys error last) [
+        | inl here ↦ inl (inr (more.0, more.1, more.2, here))
+        | inr later ↦ inr
+            (more.0 ∷ later.0, later.1, (more.1, more.2, later.2), later.3)
+      ]
 
   -- the first error of the first part is that of the whole
   error-first : (f : F) (xs ys : List X) (error : E) (last : F) → FirstErrorRun step f xs (Err error) last
@@ -67,25 +80,27 @@ module _ {F X Y E : Type 0} (step : F → X → Result Y E → F → Type 0) whe
   error-first f [] ys error last run = absurd run
   error-first f (x ∷ xs) ys error last (inl call) = inl call
   error-first f (x ∷ xs) ys error last (inr more) =
-    inr (more.0, more.1, more.2, error-first more.1 xs ys error last more.3)
+      inr (more.0, more.1, more.2, error-first more.1 xs ys error last more.3)
 
   error-second : (f : F) (xs ys : List X) (first : List Y) (reached : F) (error : E) (last : F)
       → FirstErrorRun step f xs (Ok first) reached
       → FirstErrorRun step reached ys (Err error) last → FirstErrorRun step f (xs ++ ys) (Err error) last
   error-second f [] ys [] reached error last run then =
-    subst (λ k. FirstErrorRun step k ys (Err error) last) (sym run) then
+      subst (λ k. FirstErrorRun step k ys (Err error) last) (sym run) then
   error-second f [] ys (y ∷ first) reached error last run then = absurd run
   error-second f (x ∷ xs) ys [] reached error last run then = absurd run
   error-second f (x ∷ xs) ys (y ∷ first) reached error last run then =
-    inr (y, run.0, run.1, error-second run.0 xs ys first reached error last run.2 then)
+      inr (y, run.0, run.1, error-second run.0 xs ys first reached error last run.2 then)
 
   -- where a call failed, in the first part or in the second
   pub FirstErrorRun-joined_error : ErrorRunsJoin step
   FirstErrorRun-joined_error f xs ys error last = (
     error-cut f xs ys error last,
-    λ parts. elim parts as (λ _. FirstErrorRun step f (xs ++ ys) (Err error) last)
-        [ inl here ↦ error-first f xs ys error last here | inr later ↦ error-second f xs ys later.0 later.1 error last
-          later.2 later.3 ],
+    λ parts. elim parts as (λ _. FirstErrorRun step f (xs ++ ys) (Err error) last) [
+      | inl here ↦ error-first f xs ys error last here
+      | inr later ↦ error-second f xs ys later.0 later.1 error last
+          later.2 later.3
+    ],
   )
 
 module _ {P X : Type 0} (R : P → X → P → Type 0) where
@@ -93,7 +108,7 @@ module _ {P X : Type 0} (R : P → X → P → Type 0) where
       → (j : P) × FoldsTo R p xs j × FoldsTo R j ys q
   FoldsTo-cut p [] ys q fold = (p, refl, fold)
   FoldsTo-cut p (x ∷ xs) ys q fold = let others = FoldsTo-cut fold.0 xs ys q fold.2 in
-    (others.0, (fold.0, fold.1, others.1), others.2)
+      (others.0, (fold.0, fold.1, others.1), others.2)
 
   FoldsTo-join : (p : P) (xs ys : List X) (j q : P) → FoldsTo R p xs j → FoldsTo R j ys q → FoldsTo R p (xs ++ ys) q
   FoldsTo-join p [] ys j q fold then = subst (λ k. FoldsTo R k ys q) (sym fold) then
@@ -104,19 +119,19 @@ module _ {F A X : Type 0} (step : F → A → X → A → F → Type 0) where
   FoldRun-joined f init xs ys answer last =
       let R : F × A → X → F × A → Type 0 = λ before item after. step before.0 before.1 item after.1 after.0 in (
         λ fold. let parts = FoldsTo-cut R (f, init) xs ys (last, answer) fold in
-          (parts.0.1, parts.0.0, parts.1, parts.2),
+            (parts.0.1, parts.0.0, parts.1, parts.2),
         λ parts. FoldsTo-join R (f, init) xs ys (parts.1, parts.0) (last, answer) parts.2 parts.3,
       )
 
 module _ {F A X E : Type 0} (step : F → A → X → Result A E → F → Type 0) where
   abbrev GoodInParts : F → A → List X → List X → A → F → Type 0
   GoodInParts f a xs ys answer last = (value : A) × (reached : F) × TryFoldRun step f a xs (Ok value) reached
-    × TryFoldRun step reached value ys (Ok answer) last
+      × TryFoldRun step reached value ys (Ok answer) last
 
   abbrev ErrorInParts : F → A → List X → List X → E → F → Type 0
   ErrorInParts f a xs ys error last =
       TryFoldRun step f a xs (Err error) last ⊎ ((value : A) × (reached : F) × TryFoldRun step f a xs (Ok value) reached
-        × TryFoldRun step reached value ys (Err error) last)
+      × TryFoldRun step reached value ys (Err error) last)
 
   good_fold-cut : (f : F) (a : A) (xs ys : List X) (answer : A) (last : F)
       → TryFoldRun step f a (xs ++ ys) (Ok answer) last → GoodInParts f a xs ys answer last
@@ -130,49 +145,55 @@ module _ {F A X E : Type 0} (step : F → A → X → Result A E → F → Type 
       → (a ≡ value) × (f ≡ reached) → TryFoldRun step reached value ys answer last → TryFoldRun step f a ys answer last
   after-fold f reached a value ys answer last same then =
       subst (λ b. TryFoldRun step f b ys answer last) (sym same.0)
-        (subst (λ g. TryFoldRun step g value ys answer last) (sym same.1) then)
+      (subst (λ g. TryFoldRun step g value ys answer last) (sym same.1) then)
 
   good_fold-join : (f : F) (a : A) (xs ys : List X) (answer : A) (last : F) (value : A) (reached : F)
       → TryFoldRun step f a xs (Ok value) reached → TryFoldRun step reached value ys (Ok answer) last
       → TryFoldRun step f a (xs ++ ys) (Ok answer) last
   good_fold-join f a [] ys answer last value reached run then =
-    after-fold f reached a value ys (Ok answer) last run then
+      after-fold f reached a value ys (Ok answer) last run then
   good_fold-join f a (x ∷ xs) ys answer last value reached run then =
-    (run.0, run.1, run.2, good_fold-join run.1 run.0 xs ys answer last value reached run.3 then)
+      (run.0, run.1, run.2, good_fold-join run.1 run.0 xs ys answer last value reached run.3 then)
 
   pub TryFoldRun-joined : GoodFoldsJoin step
-  TryFoldRun-joined f init xs ys answer last =
-      (good_fold-cut f init xs ys answer last, λ parts.
-        good_fold-join f init xs ys answer last parts.0 parts.1 parts.2 parts.3)
+  TryFoldRun-joined f init xs ys answer last = (
+    good_fold-cut f init xs ys answer last,
+    λ parts.
+        good_fold-join f init xs ys answer last parts.0 parts.1 parts.2 parts.3,
+  )
 
   error_fold-cut : (f : F) (a : A) (xs ys : List X) (error : E) (last : F)
       → TryFoldRun step f a (xs ++ ys) (Err error) last → ErrorInParts f a xs ys error last
   error_fold-cut f a [] ys error last run = inr (a, f, (refl, refl), run)
   error_fold-cut f a (x ∷ xs) ys error last (inl call) = inl (inl call)
   error_fold-cut f a (x ∷ xs) ys error last (inr more) =
-      elim (error_fold-cut more.1 more.0 xs ys error last more.3) as (λ _. ErrorInParts f a (x ∷ xs) ys error last)
-      [ inl here ↦ inl (inr (more.0, more.1, more.2, here)) | inr later ↦ inr
-        (later.0, later.1, (more.0, more.1, more.2, later.2), later.3) ]
+      elim (error_fold-cut more.1 more.0 xs ys error last more.3) as (λ _. ErrorInParts f a (x ∷ xs) ys error last) [
+        | inl here ↦ inl (inr (more.0, more.1, more.2, here))
+        | inr later ↦ inr
+            (later.0, later.1, (more.0, more.1, more.2, later.2), later.3)
+      ]
 
   error_fold-first : (f : F) (a : A) (xs ys : List X) (error : E) (last : F) → TryFoldRun step f a xs (Err error) last
       → TryFoldRun step f a (xs ++ ys) (Err error) last
   error_fold-first f a [] ys error last run = absurd run
   error_fold-first f a (x ∷ xs) ys error last (inl call) = inl call
   error_fold-first f a (x ∷ xs) ys error last (inr more) =
-    inr (more.0, more.1, more.2, error_fold-first more.1 more.0 xs ys error last more.3)
+      inr (more.0, more.1, more.2, error_fold-first more.1 more.0 xs ys error last more.3)
 
   error_fold-second : (f : F) (a : A) (xs ys : List X) (error : E) (last : F) (value : A) (reached : F)
       → TryFoldRun step f a xs (Ok value) reached → TryFoldRun step reached value ys (Err error) last
       → TryFoldRun step f a (xs ++ ys) (Err error) last
   error_fold-second f a [] ys error last value reached run then =
-    after-fold f reached a value ys (Err error) last run then
+      after-fold f reached a value ys (Err error) last run then
   error_fold-second f a (x ∷ xs) ys error last value reached run then =
-    inr (run.0, run.1, run.2, error_fold-second run.1 run.0 xs ys error last value reached run.3 then)
+      inr (run.0, run.1, run.2, error_fold-second run.1 run.0 xs ys error last value reached run.3 then)
 
   pub TryFoldRun-joined_error : FoldsToErrorJoin step
   TryFoldRun-joined_error f init xs ys error last = (
     error_fold-cut f init xs ys error last,
-    λ parts. elim parts as (λ _. TryFoldRun step f init (xs ++ ys) (Err error) last)
-        [ inl here ↦ error_fold-first f init xs ys error last here | inr later ↦ error_fold-second f init xs ys error
-          last later.0 later.1 later.2 later.3 ],
+    λ parts. elim parts as (λ _. TryFoldRun step f init (xs ++ ys) (Err error) last) [
+      | inl here ↦ error_fold-first f init xs ys error last here
+      | inr later ↦ error_fold-second f init xs ys error
+          last later.0 later.1 later.2 later.3
+    ],
   )

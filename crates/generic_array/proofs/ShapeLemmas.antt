@@ -26,7 +26,7 @@ pub area-room : (R : Type 0) (rows : List R) (i : ℕ) (d : R) (w at total : ℕ
     → at + length (drop i rows) * w ≡ total → at + w ≤ total
 area-room R rows i d w at total here same =
     let more = area-next (get_or rows i d) (drop i rows) (drop (i + 1) rows)
-      (drop_more rows i d here) w at total same in
+    (drop_more rows i d here) w at total same in
     omega (arith, more)
 
 module _ {T : Type 0} where
@@ -81,18 +81,18 @@ module _ {T : Type 0} where
 
     parts : whole ≡ others ++ item ∷ []
     parts = same ∙ (ap (λ l. take i items ++ l) (carried ∙ ap (λ l. drop 1 l ++ take 1 l) cut)
-      ∙ sym (append_assoc (take i items) left (item ∷ [])))
+        ∙ sym (append_assoc (take i items) left (item ∷ [])))
 
     pub carried-others : take m whole ≡ remove items i
     carried-others = ap (take m) parts ∙ (ap (λ k. take k (others ++ item ∷ [])) others-long
-      ∙ (take-append_seam others (item ∷ []) ∙ remove-next i items left item cut))
+        ∙ (take-append_seam others (item ∷ []) ∙ remove-next i items left item cut))
 
     pub carried-item : slice_get items i ≡ Some (slice_index_or (drop m whole) 0 d)
     carried-item =
         slice_get-next i items left item cut
         ∙ ap (λ l. Some (slice_index_or l 0 d)) (sym
-          (ap (drop m) parts ∙ (ap (λ k. drop k (others ++ item ∷ [])) others-long
-          ∙ drop-append_seam others (item ∷ []))))
+        (ap (drop m) parts ∙ (ap (λ k. drop k (others ++ item ∷ [])) others-long
+        ∙ drop-append_seam others (item ∷ []))))
 
   -- the list where the last takes the place of an item
   last_of : (front : List T) (last d : T) → slice_index_or (front ++ last ∷ []) (length front) d ≡ last
@@ -105,7 +105,7 @@ module _ {T : Type 0} where
       let long : suc (length all) - 1 ≡ suc (length front) = omega (arith, length-append front (last ∷ [])) in
       ap (λ k. take k (slice_index_or (x ∷ all) k d ∷ all)) long
       ∙ (ap (λ y. y ∷ take (length front) all) (last_of front last d)
-        ∙ ap (λ more. last ∷ more) (take-append_seam front (last ∷ [])))
+      ∙ ap (λ more. last ∷ more) (take-append_seam front (last ∷ [])))
 
   swap_remove-suc : (x : T) (items : List T) (n : ℕ) (d : T) → 0 < length items
       → swap_remove (x ∷ items) (suc n) d ≡ x ∷ swap_remove items n d
@@ -118,7 +118,7 @@ module _ {T : Type 0} where
   swap_remove-next zero [] left item last d here = cc
   swap_remove-next (suc n) [] left item last d here = cc
   swap_remove-next zero (x ∷ front) left item last d here =
-    ap (λ all. last ∷ drop 1 all) (sym here) ∙ sym (swap_remove-first x front last d)
+      ap (λ all. last ∷ drop 1 all) (sym here) ∙ sym (swap_remove-first x front last d)
   swap_remove-next (suc n) (x ∷ front) left item last d here =
       ap (λ more. x ∷ more) (swap_remove-next n front left item last d here)
       ∙ sym (swap_remove-suc x (front ++ last ∷ []) n d (omega (arith, length-append front (last ∷ []))))
@@ -139,7 +139,7 @@ module _ {T : Type 0} where
   drop-parts n front passed rest long =
       ap (drop n) (sym (append_assoc front passed rest))
       ∙ (ap (λ k. drop k ((front ++ passed) ++ rest)) (omega (arith, length-append front passed))
-        ∙ drop-append_seam (front ++ passed) rest)
+      ∙ drop-append_seam (front ++ passed) rest)
 
   -- where nothing is left of a row, what follows begins with the next row
   pub rows-begun : (begun row now : List T) (these left : List (List T)) (whole : List T) → length begun ≡ 0
@@ -156,10 +156,10 @@ module _ {T : Type 0} where
   flat_map-whole R f rows i at w places whole past long same =
       let none : drop i rows ≡ [] = drop_all i rows past in
       let full : at + length {A = R} [] * w ≡ length places =
-        subst (λ l. at + length l * w ≡ length places) none long in
+      subst (λ l. at + length l * w ≡ length places) none long in
       sym (take_all at places (omega (arith, full)))
       ∙ (sym (append-nil (take at places)) ∙ (ap (λ l. take at places ++ flat_map (λ r. r) (map f l)) (sym none)
-        ∙ same))
+      ∙ same))
 
   -- rows joined, where the first of those that are left was moved
   module _ {R : Type 0} (row : R) (these left : List R) (first : these ≡ row ∷ left) where
@@ -168,7 +168,7 @@ module _ {T : Type 0} where
     flat_map-next f built grown whole grows same =
         ap (λ l. l ++ flat_map (λ r. r) (map f left)) grows
         ∙ (append_assoc built (f row) (flat_map (λ r. r) (map f left))
-          ∙ (ap (λ all. built ++ flat_map (λ r. r) (map f all)) (sym first) ∙ same))
+        ∙ (ap (λ all. built ++ flat_map (λ r. r) (map f all)) (sym first) ∙ same))
 
   -- one row more
   pub rows-next : (w p : ℕ) (items row : List T) (before after : List (List T))
@@ -205,7 +205,7 @@ module _ {T : Type 0} where
       ∙ ap (λ item. Some item) (sym (get_or-drop m (slice_set carried m (slice_index_or items i d)) 0 x
       ∙ (ap (λ k. get_or (slice_set carried m (slice_index_or items i d)) k x) (omega arith)
       ∙ get_or-set_same carried m (slice_index_or items i d) x
-        (omega (arith, long, length-set items i (slice_index_or items m d))))))
+      (omega (arith, long, length-set items i (slice_index_or items m d))))))
 
   -- the same, from what each step of the removal tells
   module _ (self items : List T) (i n m u : ℕ) (x : T) (here : i < length self) (same : items ≡ self)
@@ -226,7 +226,7 @@ module _ {T : Type 0} where
 
       pub remove-others : (made : List T) → made ≡ others → others ≡ take u (front ++ turned) → made ≡ remove self i
       remove-others made is_made is_others = is_made
-        ∙ (is_others ∙ carried-others i u self turned (front ++ turned) x here length-u carried parted)
+          ∙ (is_others ∙ carried-others i u self turned (front ++ turned) x here length-u carried parted)
 
       pub remove-item : (got : T) → got ≡ slice_index_or last 0 x → last ≡ drop u (front ++ turned)
           → slice_get self i ≡ Some got
@@ -241,13 +241,13 @@ module _ {T : Type 0} where
       pub swap_remove-others : (made : List T) → made ≡ others → others ≡ take v swapped → made ≡ swap_remove self i x
       swap_remove-others made is_made is_others =
           is_made ∙ (is_others ∙ (ap (λ k. take k swapped) then
-            ∙ (ap (take m) swapped-is ∙ swapped-others self i m x here length-self)))
+          ∙ (ap (take m) swapped-is ∙ swapped-others self i m x here length-self)))
 
       pub swap_remove-item : (got : T) → got ≡ get_or last 0 x → last ≡ drop v swapped → slice_get self i ≡ Some got
       swap_remove-item got is_got is_last =
           swapped-item self i m x here length-self
           ∙ ap (λ y. Some y) (sym (is_got ∙ ap (λ l. get_or l 0 x)
-            (is_last ∙ (ap (λ k. drop k swapped) then ∙ ap (drop m) swapped-is))))
+          (is_last ∙ (ap (λ k. drop k swapped) then ∙ ap (drop m) swapped-is))))
 
 module _ {X : Type 0} (width : ℕ) (some : 0 < width) where
   -- rows joined, and cut again
@@ -260,13 +260,13 @@ module _ {X : Type 0} (width : ℕ) (some : 0 < width) where
       let joined : flat_map (λ r. r) (row ∷ others) ≡ row ++ rest = flat_map-cons (λ r. r) row others in
       let enough : width ≤ length (row ++ rest) = omega (arith, length-append row rest, first_wide) in
       let first : take width (row ++ rest) ≡ row =
-        ap (λ n. take n (row ++ rest)) (sym first_wide) ∙ take-append_seam row rest in
+      ap (λ n. take n (row ++ rest)) (sym first_wide) ∙ take-append_seam row rest in
       let after : drop width (row ++ rest) ≡ rest =
-        ap (λ n. drop n (row ++ rest)) (sym first_wide) ∙ drop-append_seam row rest in
+      ap (λ n. drop n (row ++ rest)) (sym first_wide) ∙ drop-append_seam row rest in
       ap (rows width) joined ∙ (rows-first width (row ++ rest) some enough
-        ∙ (ap (λ r. r ∷ rows width (drop width (row ++ rest))) first
+      ∙ (ap (λ r. r ∷ rows width (drop width (row ++ rest))) first
       ∙ (ap (λ items. row ∷ rows width items) after
-        ∙ ap (λ more. row ∷ more) (rows-of_joined others (All-tail (λ r. length r ≡ width) row others wide)))))
+      ∙ ap (λ more. row ∷ more) (rows-of_joined others (All-tail (λ r. length r ≡ width) row others wide)))))
 
   -- items cut into rows, and joined again
   pub joined-of_rows : (count : ℕ) (items : List X) → length items ≡ count * width
@@ -281,4 +281,4 @@ module _ {X : Type 0} (width : ℕ) (some : 0 < width) where
       ap (flat_map (λ r. r)) (rows-first width items some enough)
       ∙ (flat_map-cons (λ r. r) (take width items) (rows width (drop width items))
       ∙ (ap (λ rest. take width items ++ rest) (joined-of_rows count (drop width items) left)
-        ∙ take-append-drop width items))
+      ∙ take-append-drop width items))

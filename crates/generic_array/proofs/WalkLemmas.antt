@@ -23,8 +23,11 @@ module _ {S I T : Type 0} (steps : S → Option I → S → Type 0) (entry : I �
   pub next_given : (s : S) (left : List T) (item : I) (t : S) → AlwaysYields steps entry s left → steps s (Some item) t
       → (others : List T) × (left ≡ entry item ∷ others) × AlwaysYields steps entry t others
   next_given s [] item t gives step = absurd (gives item t step)
-  next_given s (x ∷ left) item t gives step = (left, ap (λ y. y ∷ left) (sym (gives.1 item t step).0),
-    (gives.1 item t step).1)
+  next_given s (x ∷ left) item t gives step = (
+    left,
+    ap (λ y. y ∷ left) (sym (gives.1 item t step).0),
+    (gives.1 item t step).1,
+  )
 
   -- it ended: nothing was left
   pub end_given : (s : S) (left : List T) (t : S) → AlwaysYields steps entry s left → steps s None t → left ≡ []
@@ -37,18 +40,24 @@ module _ {S I T C F K Y : Type 0} (steps : S → Option I → S → Type 0) (can
     → Type 0) (step : F → I → Y → F → Type 0)
     (it : C → S) (fn : C → F) (calls : C → K → Y → C → Type 0)
     (reads : (c : C) (k : K) (y : Y) (d : C) → calls c k y d
-        → CallAtNext can steps step (it c) (fn c) y (it d) (fn d)) where
+    → CallAtNext can steps step (it c) (fn c) y (it d) (fn d)) where
   -- calls from c to d passed entries, and gave what f answers at these
   abbrev pub Walks : List T → C → List K → List Y → C → Type 0
   Walks values c ks ys d = (passed : List T) × (left : List T) × (values ≡ passed ++ left) × (length passed ≡ length ks)
-    × AlwaysYields steps entry (it d) left × can (it d)
+      × AlwaysYields steps entry (it d) left × can (it d)
       × ClosureRun (CallAt entry step) (fn c) passed ys (fn d)
 
   pub walk : (values : List T) (c : C) (ks : List K) (ys : List Y) (d : C) → AlwaysYields steps entry (it c) values
       → can (it c) → ClosureRun calls c ks ys d → Walks values c ks ys d
-  walk values c [] [] d gives may run =
-      ([], values, refl, refl, subst (λ e. AlwaysYields steps entry (it e) values) run gives,
-        subst (λ e. can (it e)) run may, ap fn run)
+  walk values c [] [] d gives may run = (
+    [],
+    values,
+    refl,
+    refl,
+    subst (λ e. AlwaysYields steps entry (it e) values) run gives,
+    subst (λ e. can (it e)) run may,
+    ap fn run,
+  )
   walk values c [] (y ∷ ys) d gives may run = absurd run
   walk values c (k ∷ ks) [] d gives may run = absurd run
   walk values c (k ∷ ks) (y ∷ ys) d gives may run =
@@ -69,7 +78,7 @@ module _ {S I T C F K Y : Type 0} (steps : S → Option I → S → Type 0) (can
   pub walked-callable : (values : List T) (c : C) (ks : List K) (ys : List Y) (d : C) (walked : Walks values c ks ys d)
       → length ks < length values
       → ((x : T) (others : List T) → values ≡ walked.0 ++ x ∷ others → MayCallAt entry pre (fn d) x)
-        → MayCallAtNext can steps pre (it d) (fn d)
+      → MayCallAtNext can steps pre (it d) (fn d)
   walked-callable values c ks ys d walked more callable = (
     walked.5,
     (λ t ended.
@@ -86,7 +95,7 @@ module _ {S I T C F K Y : Type 0} (steps : S → Option I → S → Type 0) (can
   walk-callable values c ks ys d gives may run more callable =
       let walked = walk values c ks ys d gives may run in
       walked-callable values c ks ys d walked more
-        (λ x others whole. may_map-at entry pre step (fn c) values callable walked.0 x others ys (fn d) whole walked.6)
+      (λ x others whole. may_map-at entry pre step (fn c) values callable walked.0 x others ys (fn d) whole walked.6)
 
   -- after as many calls as there are entries, all are passed
   pub walk-whole : (values : List T) (c : C) (ks : List K) (ys : List Y) (d : C)
@@ -95,7 +104,7 @@ module _ {S I T C F K Y : Type 0} (steps : S → Option I → S → Type 0) (can
   walk-whole values c ks ys d gives may run all =
       let walked = walk values c ks ys d gives may run in
       let none : walked.1 ≡ [] = length_zero walked.1
-        (omega (arith, ap length walked.2, length-append walked.0 walked.1, walked.3, all)) in
+      (omega (arith, ap length walked.2, length-append walked.0 walked.1, walked.3, all)) in
       let same : values ≡ walked.0 = walked.2 ∙ (ap (λ left. walked.0 ++ left) none ∙ append-nil walked.0) in
       subst (λ passed. ClosureRun (CallAt entry step) (fn c) passed ys (fn d)) (sym same) walked.6
 
@@ -122,7 +131,7 @@ module _ {S R I J T B : Type 0} (steps : S → Option I → S → Type 0) (other
     (other : J → B) where
   abbrev pub PairSteps : S × R → Option (I × J) → S × R → Type 0
   PairSteps s reply t = MatchOption reply (steps s.0 None t.0 ⊎ others s.1 None t.1)
-    (λ p. steps s.0 (Some p.0) t.0 × others s.1 (Some p.1) t.1)
+      (λ p. steps s.0 (Some p.0) t.0 × others s.1 (Some p.1) t.1)
 
   abbrev pub pair_entry : I × J → T × B
   pair_entry p = (entry p.0, other p.1)
@@ -174,7 +183,7 @@ module _ {S R I J T B : Type 0} (steps : S → Option I → S → Type 0) (other
         → MayMap pair_entry pair_pre pair_step f (zip xs bs)
     pair-callable f xs bs callable = λ passed q rest ys reached whole run item same stays.
         may_zip-at entry other pre step f xs bs callable passed q rest ys reached whole
-          (ClosureRun-map _ _ pair-call f passed ys reached run) item.0 item.1 (ap (λ p. p.0) same) (ap (λ p. p.1) same)
+        (ClosureRun-map _ _ pair-call f passed ys reached run) item.0 item.1 (ap (λ p. p.0) same) (ap (λ p. p.1) same)
 
 module _ {C K Y E : Type 0} (calls : C → K → Result Y E → C → Type 0) where
   -- a run with no error is a run of good calls
@@ -190,17 +199,17 @@ module _ {C K Y E : Type 0} (calls : C → K → Result Y E → C → Type 0) wh
       → ((c : C) (k : K) (y : Result Y E) (d : C) → calls c k y d → part d ≡ part c)
       → (answer : Result (List Y) E) (c : C) (ks : List K) (d : C) → FirstErrorRun calls c ks answer d → part d ≡ part c
   FirstErrorRun-keeps part keeps (Ok good) c ks d run =
-    ClosureRun-keeps calls part keeps c ks (map Ok good) d (FirstErrorRun-all_good c ks good d run)
+      ClosureRun-keeps calls part keeps c ks (map Ok good) d (FirstErrorRun-all_good c ks good d run)
   FirstErrorRun-keeps part keeps (Err error) c [] d run = absurd run
   FirstErrorRun-keeps part keeps (Err error) c (k ∷ ks) d (inl call) = keeps c k (Err error) d call
   FirstErrorRun-keeps part keeps (Err error) c (k ∷ ks) d (inr more) =
-    FirstErrorRun-keeps part keeps (Err error) more.1 ks d more.3 ∙ keeps c k (Ok more.0) more.1 more.2
+      FirstErrorRun-keeps part keeps (Err error) more.1 ks d more.3 ∙ keeps c k (Ok more.0) more.1 more.2
 
 module _ {S I T C F K Y E : Type 0} (steps : S → Option I → S → Type 0) (can : S → Type 0) (entry : I → T) (step : F → I
     → Result Y E → F → Type 0)
     (it : C → S) (fn : C → F) (calls : C → K → Result Y E → C → Type 0)
     (reads : (c : C) (k : K) (y : Result Y E) (d : C) → calls c k y d
-        → CallAtNext can steps step (it c) (fn c) y (it d) (fn d)) where
+    → CallAtNext can steps step (it c) (fn c) y (it d) (fn d)) where
   -- an error at some call is one at some entry
   pub walk-error : (values : List T) (c : C) (ks : List K) (error : E) (d : C) → AlwaysYields steps entry (it c) values
       → FirstErrorRun calls c ks (Err error) d
@@ -210,7 +219,7 @@ module _ {S I T C F K Y E : Type 0} (steps : S → Option I → S → Type 0) (c
       let read = reads c k (Err error) d call in
       let given = next_given steps entry (it c) values read.0.0 (it d) gives read.0.1 in
       subst (λ xs. FirstErrorRun (CallAt entry step) (fn c) xs (Err error) (fn d)) (sym given.1)
-        (inl (read.0.0, refl, read.0.2))
+      (inl (read.0.0, refl, read.0.2))
   walk-error values c (k ∷ ks) error d gives (inr more) =
       let read = reads c k (Ok more.0) more.1 more.2 in
       let given = next_given steps entry (it c) values read.0.0 (it more.1) gives read.0.1 in
@@ -226,17 +235,17 @@ module _ {S I T C F K Y E : Type 0} (steps : S → Option I → S → Type 0) (c
       let walked = walk steps can entry pre step it fn calls reads values c ks (map Ok good) d gives may run in
       walked-callable steps can entry pre step it fn calls reads values c ks (map Ok good) d walked more
       (λ x others whole. may_try_map-at entry pre step (fn c) values callable walked.0 x others good
-        (fn d) whole walked.6)
+      (fn d) whole walked.6)
 
   -- the run that came to the answer is the run over all entries
   pub walk-answer : (pre : F → I → Type 0) (answer : Result (List Y) E) (values : List T) (c : C) (ks : List K) (d : C)
       → AlwaysYields steps entry (it c) values → can (it c)
       → length ks ≡ length values → FirstErrorRun calls c ks answer d
-        → FirstErrorRun (CallAt entry step) (fn c) values answer (fn d)
+      → FirstErrorRun (CallAt entry step) (fn c) values answer (fn d)
   walk-answer pre (Ok good) values c ks d gives may all run =
       FirstErrorRun-good (CallAt entry step) (fn c) values good (fn d)
       (walk-whole steps can entry pre step it fn calls reads values c ks (map Ok good) d gives may
-        (FirstErrorRun-all_good calls c ks good d run) all)
+      (FirstErrorRun-all_good calls c ks good d run) all)
   walk-answer pre (Err error) values c ks d gives may all run = walk-error values c ks error d gives run
 
 -- the same of a run that is told as a record, from which the calls are found
@@ -250,11 +259,11 @@ module _ {C K Y E : Type 0} {calls : C → K → Result Y E → C → Type 0} {c
       → Type 0) (step : F → I → Result Y E → F → Type 0)
       (it : C → S) (fn : C → F) → FirstErrorRan calls c ks answer d
       → ((f : C) (k : K) (y : Result Y E) (g : C) → calls f k y g
-        → CallAtNext can steps step (it f) (fn f) y (it g) (fn g))
+      → CallAtNext can steps step (it f) (fn f) y (it g) (fn g))
       → (values : List T) → AlwaysYields steps entry (it c) values → can (it c) → length ks ≡ length values
-        → FirstErrorRun (CallAt entry step) (fn c) values answer (fn d)
+      → FirstErrorRun (CallAt entry step) (fn c) values answer (fn d)
   walk-ran steps can entry pre step it fn ran reads values gives may all =
-    walk-answer steps can entry step it fn calls reads pre answer values c ks d gives may all ran.run
+      walk-answer steps can entry step it fn calls reads pre answer values c ks d gives may all ran.run
 
 -- good calls at the numbers below n gave n answers
 pub FirstErrorRun-below_length : {F Y E : Type 0} (step : F → ℕ → Result Y E → F → Type 0) (f : F) (n : ℕ)

@@ -21,7 +21,7 @@ module _ {F A X E : Type 0} (step : F → A → X → Result A E → F → Type 
   TryFoldRun f a [] (Err error) last = ⊥
   TryFoldRun f a (x ∷ xs) (Ok b) last = (c : A) × (g : F) × step f a x (Ok c) g × TryFoldRun g c xs (Ok b) last
   TryFoldRun f a (x ∷ xs) (Err error) last = step f a x (Err error) last
-    ⊎ ((c : A) × (g : F) × step f a x (Ok c) g × TryFoldRun g c xs (Err error) last)
+      ⊎ ((c : A) × (g : F) × step f a x (Ok c) g × TryFoldRun g c xs (Err error) last)
 
 module _ {F A I T E : Type 0} (entry : I → T) (pre : F → A → I → Type 0) (step : F → A → I → Result A E → F
     → Type 0) where

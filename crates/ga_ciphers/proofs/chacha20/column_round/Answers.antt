@@ -3,5 +3,9 @@ use Rattle.rand_chacha.specs.Block.{column_round}
 
 pub returns : goal.returns
 unfolding column_round
-returns c = rw (← c.quarter_round-a0.ensures, ← c.quarter_round-a1.ensures, ← c.quarter_round-a2.ensures,
-    ← c.quarter_round-a3.ensures)
+returns c = rw (
+  ← c.quarter_round-a0.ensures,
+  ← c.quarter_round-a1.ensures,
+  ← c.quarter_round-a2.ensures,
+  ← c.quarter_round-a3.ensures,
+)

@@ -9,24 +9,26 @@ pub f-requires : goal.f-requires
 f-requires g c =
     let run = ClosureRun-of_items _ _ _ _ _ c.loop-index.invariant.run in
     may_try_map-at (λ item. item) _ _ _ _ c.requires.callable _ c.take.result _
-      (take c.loop-index.index c.loop-index.slots) _
-      (cut-next c.loop-index.invariant (omega arith) c.index-items-index.is c.take.ensures.value) run _ refl
+    (take c.loop-index.index c.loop-index.slots) _
+    (cut-next c.loop-index.invariant (omega arith) c.index-items-index.is c.take.ensures.value) run _ refl
 
 pub loop-index-preserved : goal.loop-index-preserved
 loop-index-preserved g c =
     let run = ClosureRun-good _ _ _ (take c.loop-index.index c.loop-index.slots) _ c.take.result c.in-Ok.item _
-      c.loop-index.invariant.run c.in-Ok.ensures in
+    c.loop-index.invariant.run c.in-Ok.ensures in
     taken-next c.in-Ok.item c.f.new.self c.take.new.dest c.loop-index.invariant (omega arith)
-      (omega arith) c.index-items-index.is c.take.ensures.value run
+    (omega arith) c.index-items-index.is c.take.ensures.value run
 
 pub returns-in-Err : goal.returns-in-Err
 returns-in-Err g c =
     let cut = cut-next c.loop-index.invariant (omega arith) c.index-items-index.is c.take.ensures.value in
-    record { run = subst (λ xs. FirstErrorRun (goal.F-step g) c.args.f.now xs (Err c.in-Err.error) c.f.new.self)
-      (sym cut) (FirstErrorRun-error _ _ _ _ _ _ _ _ _ c.loop-index.invariant.run c.in-Err.ensures) }
+    record {
+      run = subst (λ xs. FirstErrorRun (goal.F-step g) c.args.f.now xs (Err c.in-Err.error) c.f.new.self)
+          (sym cut) (FirstErrorRun-error _ _ _ _ _ _ _ _ _ c.loop-index.invariant.run c.in-Err.ensures);
+    }
 
 pub returns : goal.returns
 returns g c =
     let run = run-of_all (λ items good. ClosureRun (goal.F-step g) c.args.f.now items (map Ok good) c.loop-index.f)
-      c.loop-index.index _ _ (omega arith) (omega arith) c.loop-index.invariant.run in
+    c.loop-index.index _ _ (omega arith) (omega arith) c.loop-index.invariant.run in
     record { run = FirstErrorRun-good _ _ _ _ _ run }

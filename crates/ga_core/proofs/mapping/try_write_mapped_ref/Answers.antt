@@ -15,21 +15,23 @@ f-requires g c = may_try_map-at (λ item. item.now) _ _ _ _ c.requires.callable 
 pub loop-index-preserved : goal.loop-index-preserved
 loop-index-preserved g c =
     let run = ClosureRun-good _ _ _ (take c.loop-index.index c.loop-index.slots) _ c.index-items-index.result
-      c.in-Ok.item _ c.loop-index.invariant.run (_, refl, c.in-Ok.ensures) in
+    c.in-Ok.item _ c.loop-index.invariant.run (_, refl, c.in-Ok.ensures) in
     read-next {Run = λ items good. ClosureRun (CallAt (λ item. item.now) (goal.F-step g)) c.args.f.now items
-      (map Ok good)} c.in-Ok.item c.f.new.self c.loop-index.invariant (omega arith)
-      (omega arith) c.index-items-index.is c.index-items-index.is run
+    (map Ok good)} c.in-Ok.item c.f.new.self c.loop-index.invariant (omega arith)
+    (omega arith) c.index-items-index.is c.index-items-index.is run
 
 pub returns-in-Err : goal.returns-in-Err
 returns-in-Err g c =
     let cut = cut-next c.loop-index.invariant (omega arith) c.index-items-index.is c.index-items-index.is in
     let run = FirstErrorRun-error _ _ _ (take c.loop-index.index c.loop-index.slots) _ c.index-items-index.result _ _ _
-      c.loop-index.invariant.run (_, refl, c.in-Err.ensures) in
-    record { run = subst (λ xs. FirstErrorRun (CallAt (λ item. item.now) (goal.F-step g)) c.args.f.now xs
-      (Err c.in-Err.error) c.f.new.self) (sym cut) run }
+    c.loop-index.invariant.run (_, refl, c.in-Err.ensures) in
+    record {
+      run = subst (λ xs. FirstErrorRun (CallAt (λ item. item.now) (goal.F-step g)) c.args.f.now xs
+          (Err c.in-Err.error) c.f.new.self) (sym cut) run;
+    }
 
 pub returns : goal.returns
 returns g c =
     let run = run-of_all (λ items good. ClosureRun (CallAt (λ item. item.now) (goal.F-step g)) c.args.f.now items
-      (map Ok good) c.loop-index.f) c.loop-index.index _ _ (omega arith) (omega arith) c.loop-index.invariant.run in
+    (map Ok good) c.loop-index.f) c.loop-index.index _ _ (omega arith) (omega arith) c.loop-index.invariant.run in
     record { run = FirstErrorRun-good _ _ _ _ _ run }

@@ -8,10 +8,10 @@ pub f-requires : goal.f-requires
 f-requires g c =
     let run = ClosureRun-of_items _ _ _ _ _ c.loop-index.invariant.run in
     may_map-at (λ item. item) _ _ _ _ c.requires.callable _ c.take.result _ _ _
-      (cut-next c.loop-index.invariant (omega arith) c.index-items-index.is c.take.ensures.value) run _ refl
+    (cut-next c.loop-index.invariant (omega arith) c.index-items-index.is c.take.ensures.value) run _ refl
 
 pub loop-index-preserved : goal.loop-index-preserved
 loop-index-preserved g c =
     let run = ClosureRun-snoc _ _ _ _ _ c.take.result _ _ c.loop-index.invariant.run c.f.ensures in
     taken-next c.f.result c.f.new.self c.take.new.dest c.loop-index.invariant (omega arith)
-      (omega arith) c.index-items-index.is c.take.ensures.value run
+    (omega arith) c.index-items-index.is c.take.ensures.value run

@@ -14,6 +14,6 @@ f-requires g c = may_map-at (λ item. item.now) _ _ _ _ c.requires.callable _ c.
 pub loop-index-preserved : goal.loop-index-preserved
 loop-index-preserved g c =
     let run = ClosureRun-snoc _ _ _ _ _ c.index-items-index.result _ _ c.loop-index.invariant.run
-      (_, refl, c.f.ensures) in
+    (_, refl, c.f.ensures) in
     read-next {Run = ClosureRun (CallAt (λ item. item.now) (goal.F-step g)) c.args.f.now} c.f.result c.f.new.self
-      c.loop-index.invariant (omega arith) (omega arith) c.index-items-index.is c.index-items-index.is run
+    c.loop-index.invariant (omega arith) (omega arith) c.index-items-index.is c.index-items-index.is run

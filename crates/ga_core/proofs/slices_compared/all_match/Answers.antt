@@ -4,6 +4,6 @@ use Rattle.ga_core.proofs.slices_compared.all_match.Goals as goal
 pub loop-index-preserved : goal.loop-index-preserved
 loop-index-preserved g c =
     let more = pointwise-next g.T.PartialEq.eq c.loop-index.index c.args.left.now c.args.right.now
-      c.index-left-index.result c.index-right-index.result
+    c.index-left-index.result c.index-right-index.result
     c.loop-index-test.true c.requires.len c.index-left-index.is c.index-right-index.is in
     cc (more, c.loop-index.invariant, c.eq-same.ensures)

@@ -6,7 +6,7 @@ pub returns-then-not-all_match-clause-differs : goal.returns-then-not-all_match-
 returns-then-not-all_match-clause-differs g c some =
     let start = c.loop-start.start in
     block-differs g.T.PartialEq.eq start (start + c.block_of-block.result - start) c.args.left.now c.args.right.now
-      c.requires.len c.if-not-all_match.ensures.equal
+    c.requires.len c.if-not-all_match.ensures.equal
 
 pub loop-start-preserved : goal.loop-start-preserved
 loop-start-preserved g c =
@@ -15,7 +15,7 @@ loop-start-preserved g c =
     record {
       within = omega arith;
       equal = block-equal g.T.PartialEq.eq at.start (end - at.start) end c.args.left.now c.args.right.now c.requires.len
-        (omega arith) at.invariant.equal c.if-not-all_match.ensures.equal;
+          (omega arith) at.invariant.equal c.if-not-all_match.ensures.equal;
     }
 
 pub returns-then-all_match-clause-equal : goal.returns-then-all_match-clause-equal
@@ -23,10 +23,10 @@ returns-then-all_match-clause-equal g c =
     let at = c.loop-start in
     let end = length c.args.left.now in
     block-equal g.T.PartialEq.eq at.start (end - at.start) end c.args.left.now c.args.right.now c.requires.len
-      (omega arith) at.invariant.equal c.if-all_match.ensures.equal
+    (omega arith) at.invariant.equal c.if-all_match.ensures.equal
 
 pub returns-else-all_match-clause-differs : goal.returns-else-all_match-clause-differs
 returns-else-all_match-clause-differs g c some =
     let start = c.loop-start.start in
     block-differs g.T.PartialEq.eq start (length c.args.left.now - start) c.args.left.now c.args.right.now
-      c.requires.len c.if-all_match.ensures.equal
+    c.requires.len c.if-all_match.ensures.equal

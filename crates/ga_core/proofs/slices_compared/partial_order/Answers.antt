@@ -13,5 +13,5 @@ returns g c =
       order = c.partial_cmp.ensures
           ∙ ((λ i. slice_partial_cmp g.T.PartialOrd.partial_cmp (take_rest left start i) (take_rest right start i))
           ∙ sym (partial_cmp-behind g.T.PartialEq.eq g.met.T.PartialOrd.laws start left right c.requires.len
-            c.order_start-start.ensures.equal));
+          c.order_start-start.ensures.equal));
     }

@@ -13,5 +13,5 @@ returns g c =
       order = c.cmp.ensures
           ∙ ((λ i. slice_cmp g.T.Ord.cmp (take_rest left start i) (take_rest right start i))
           ∙ sym (cmp-behind g.T.PartialEq.eq g.T.Ord.cmp g.met.T.Ord.matches_eq start left right c.requires.len
-            c.order_start-start.ensures.equal));
+          c.order_start-start.ensures.equal));
     }

@@ -13,7 +13,7 @@ f-requires g c = may_try_generate-at _ _ _ _ c.requires.callable c.loop-index.in
 pub loop-index-preserved : goal.loop-index-preserved
 loop-index-preserved g c =
     rw (take_more_set c.loop-index.slots c.loop-index.index c.in-Ok.item (omega arith), below-add_one)
-      (ClosureRun-good _ _ _ _ _ _ _ _ c.loop-index.invariant c.in-Ok.ensures)
+    (ClosureRun-good _ _ _ _ _ _ _ _ c.loop-index.invariant c.in-Ok.ensures)
 
 pub returns-in-Err : goal.returns-in-Err
 returns-in-Err g c =
@@ -24,12 +24,12 @@ pub returns : goal.returns
 returns g c =
     let n = length c.args.slots.now in
     let whole : take c.loop-index.index c.loop-index.slots ≡ c.loop-index.slots =
-      take_all c.loop-index.index c.loop-index.slots (omega arith) in
+    take_all c.loop-index.index c.loop-index.slots (omega arith) in
     let all : c.loop-index.index ≡ n = omega (arith, c.loop-index-test.false, c.loop-index.auto.index-end) in
     record {
       run = subst (λ k. FirstErrorRun (goal.F-step g) c.args.f.now (range_with_len 0 k)
-        (Ok c.loop-index.slots) c.loop-index.f) all
+          (Ok c.loop-index.slots) c.loop-index.f) all
           (subst (λ items. FirstErrorRun (goal.F-step g) c.args.f.now (range_with_len 0 c.loop-index.index)
-            (Ok items) c.loop-index.f) whole
+          (Ok items) c.loop-index.f) whole
           (FirstErrorRun-good _ _ _ _ _ c.loop-index.invariant));
     }

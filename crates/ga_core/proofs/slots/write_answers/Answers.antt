@@ -10,4 +10,4 @@ f-requires g c = may_generate-at _ _ _ _ c.requires.callable c.loop-index.index 
 pub loop-index-preserved : goal.loop-index-preserved
 loop-index-preserved g c =
     rw (take_more_set c.loop-index.slots c.loop-index.index c.f.result (omega arith), below-add_one)
-      (ClosureRun-snoc _ _ _ _ _ _ _ _ c.loop-index.invariant c.f.ensures)
+    (ClosureRun-snoc _ _ _ _ _ _ _ _ c.loop-index.invariant c.f.ensures)

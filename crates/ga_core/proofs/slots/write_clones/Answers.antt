@@ -8,4 +8,4 @@ loop-index-preserved g c =
     let at = c.loop-index in
     rw (take_more_set at.slots at.index c.in-Ok.copy (omega arith))
     (all_zip_more g.T.Clone.is_clone c.args.items.now (take at.index at.slots) at.index _ _
-      (omega arith) c.index-items-index.is at.invariant c.in-Ok.ensures.cases)
+    (omega arith) c.index-items-index.is at.invariant c.in-Ok.ensures.cases)

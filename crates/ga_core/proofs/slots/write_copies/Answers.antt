@@ -11,16 +11,16 @@ returns-after-loop-slot-clause-items g c =
     let at = c.loop-slot in
     let whole : take at.slot-index at.slot-items ≡ at.slot-items = take_all at.slot-index at.slot-items (omega arith) in
     Repeats-written g.T.Clone.is_clone c.args.item (length slots) at.slot-items (drop (length slots - 1) slots)
-      (omega (arith, length-take (length slots - 1) slots))
+    (omega (arith, length-take (length slots - 1) slots))
     (omega (arith, length-drop (length slots - 1) slots))
-      (subst (All (g.T.Clone.is_clone c.args.item)) whole at.invariant)
+    (subst (All (g.T.Clone.is_clone c.args.item)) whole at.invariant)
 
 pub loop-slot-preserved : goal.loop-slot-preserved
 loop-slot-preserved g c =
     let at = c.loop-slot in
     rw (take_more_set at.slot-items at.slot-index c.in-Ok.copy (omega arith))
-      (All-push (g.T.Clone.is_clone c.args.item) (take at.slot-index at.slot-items) c.in-Ok.copy at.invariant
-      c.in-Ok.ensures.cases)
+    (All-push (g.T.Clone.is_clone c.args.item) (take at.slot-index at.slot-items) c.in-Ok.copy at.invariant
+    c.in-Ok.ensures.cases)
 
 pub returns-in-Err : goal.returns-in-Err
 returns-in-Err g c = record {

@@ -12,9 +12,9 @@ feed-requires g c =
     let d : Bor (List ℕ) = record { ref_ptr = (0, 0); now = [] } in
     record {
       callable = MayTake-more (λ slice. slice.now) (goal.F-step g) g.N.Unsigned.USIZE c.requires.some
-        (goal.F-pre g) c.args.f.now c.loop-piece.f (flat_map (λ piece. piece.now) pieces)
+          (goal.F-pre g) c.args.f.now c.loop-piece.f (flat_map (λ piece. piece.now) pieces)
           (flat_map (λ piece. piece.now) (take i pieces)) c.loop-piece.buffer.kept (get_or pieces i d).now
-            (flat_map (λ piece. piece.now) (drop (i + 1) pieces))
+          (flat_map (λ piece. piece.now) (drop (i + 1) pieces))
           (pieces-cut (λ piece. piece.now) pieces i d (omega arith)) c.requires.callable c.loop-piece.invariant.0;
     }
 
@@ -26,8 +26,13 @@ loop-piece-preserved g c =
     let message = flat_map (λ piece. piece.now) (take i pieces) in
     let more = pieces-more (λ piece. piece.now) pieces i d (omega arith) in (
       subst (λ m. HasFed (λ slice. slice.now) (goal.F-step g) g.N.Unsigned.USIZE c.args.f.now m c.feed.new.self.kept
-        c.feed.new.f) (sym more)
+          c.feed.new.f) (sym more)
           (c.feed.ensures.whole c.args.f.now message c.loop-piece.invariant.0),
-      omega (arith, c.feed.ensures.len, c.loop-piece.invariant.1, ap length more,
-        length-append message (get_or pieces i d).now),
+      omega (
+        arith,
+        c.feed.ensures.len,
+        c.loop-piece.invariant.1,
+        ap length more,
+        length-append message (get_or pieces i d).now,
+      ),
     )

@@ -8,4 +8,4 @@ abbrev pub invariant-loop-piece : goal.invariant-loop-piece
 invariant-loop-piece g l =
     let message = flat_map (λ piece. piece.now) (take l.piece-index l.pieces) in
     HasFed (λ slice. slice.now) (goal.F-step g) g.N.Unsigned.USIZE l.initial.f message l.buffer.kept l.f
-      × (l.buffer.len ≡ count_more 0 message)
+    × (l.buffer.len ≡ count_more 0 message)

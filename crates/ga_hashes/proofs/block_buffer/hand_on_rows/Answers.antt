@@ -6,7 +6,7 @@ use Rattle.std.proofs.Common.{◌≡◌, ◌∷◌, ap, rules, sym, ◌∙◌}
 pub loop-block-init : goal.loop-block-init
 loop-block-init g c =
     let same = c.into_iter-block-iterator.ensures.into_iter_gives
-      ∙ (c.iter-block-items.ensures.rows ∙ c.chunks_from_slice.ensures.rows) in
+    ∙ (c.iter-block-items.ensures.rows ∙ c.chunks_from_slice.ensures.rows) in
     (tt, tt, BlocksLeft-start c.into_iter-block-iterator.result same c.requires.callable)
 
 -- the slice of the view is the next block
@@ -20,9 +20,12 @@ f-requires g c = BlocksLeft-callable c.as_slice.result c.loop-block.block-iterat
 
 pub loop-block-preserved : goal.loop-block-preserved
 loop-block-preserved g c =
-    let here = c.in-Some.ensures.steps ∙ ap (λ block. block ∷ c.next.new.self) (sym c.as_slice.ensures.items) in
-    (search rules, search rules, BlocksLeft-more c.as_slice.result c.loop-block.block-iterator c.next.new.self
-      c.f.new.self here c.f.ensures c.loop-block.invariant.2)
+    let here = c.in-Some.ensures.steps ∙ ap (λ block. block ∷ c.next.new.self) (sym c.as_slice.ensures.items) in (
+      search rules,
+      search rules,
+      BlocksLeft-more c.as_slice.result c.loop-block.block-iterator c.next.new.self
+          c.f.new.self here c.f.ensures c.loop-block.invariant.2,
+    )
 
 pub returns-clause-blocks : goal.returns-clause-blocks
 returns-clause-blocks g c = BlocksLeft-end c.loop-block.block-iterator c.in-None.ensures.steps.0

@@ -8,4 +8,4 @@ invariant-loop-block g l =
     let turns = goal.iterator-loop-block g in
     turns.can_next l.block-iterator × turns.is_finite l.block-iterator
     × BlocksLeft (λ slice. slice.now) (goal.F-step g) (goal.F-pre g) g.N.Unsigned.USIZE l.initial.f
-      (rows g.N.Unsigned.USIZE l.fn.bytes) l.f l.block-iterator
+    (rows g.N.Unsigned.USIZE l.fn.bytes) l.f l.block-iterator

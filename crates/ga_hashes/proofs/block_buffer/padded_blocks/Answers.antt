@@ -13,9 +13,9 @@ feed_pieces-buffer-requires-clause-callable g c =
     let message = flat_map (λ piece. piece.now) c.args.pieces.now in
     let last = padding width (length message) (length message) in
     MayTake-front (λ slice. slice.now) (goal.F-step g) (goal.F-pre g) width c.args.f.now (rows width message)
-      (rows width (chunk_rest width message ++ last))
+    (rows width (chunk_rest width message ++ last))
     (MayTake-along (λ slice. slice.now) (goal.F-step g) (goal.F-pre g) width c.args.f.now (rows width (message ++ last))
-      (rows width message ++ rows width (chunk_rest width message ++ last))
+    (rows width message ++ rows width (chunk_rest width message ++ last))
     (rows-joined width c.requires.some message last) c.requires.callable)
 
 pub finish-requires-clause-callable : goal.finish-requires-clause-callable
@@ -24,24 +24,30 @@ finish-requires-clause-callable g c =
     let message = flat_map (λ piece. piece.now) c.args.pieces.now in
     let kept = c.feed_pieces-buffer.result.kept in
     let len : c.feed_pieces-buffer.result.len ≡ length message =
-      omega (arith, c.feed_pieces-buffer.ensures.len, c.requires.len) in
+    omega (arith, c.feed_pieces-buffer.ensures.len, c.requires.len) in
     let last = padding width (length kept) c.feed_pieces-buffer.result.len in
     let whole : with_padding width message ≡ message ++ (last ++ []) =
     ap (λ p. message ++ p)
-      (sym (padding-kept width message kept c.feed_pieces-buffer.ensures.kept c.feed_pieces-buffer.result.len len)
-      ∙ sym (append-nil last)) in
+    (sym (padding-kept width message kept c.feed_pieces-buffer.ensures.kept c.feed_pieces-buffer.result.len len)
+    ∙ sym (append-nil last)) in
     MayTake-more (λ slice. slice.now) (goal.F-step g) width c.requires.some
-      (goal.F-pre g) c.args.f.now c.feed_pieces-buffer.new.f (with_padding width message) message kept last [] whole
-    c.requires.callable (record { blocks = c.feed_pieces-buffer.ensures.blocks; rest =
-      c.feed_pieces-buffer.ensures.kept })
+    (goal.F-pre g) c.args.f.now c.feed_pieces-buffer.new.f (with_padding width message) message kept last [] whole
+    c.requires.callable (record {
+      blocks = c.feed_pieces-buffer.ensures.blocks;
+      rest =
+          c.feed_pieces-buffer.ensures.kept;
+    })
 
 pub returns-clause-blocks : goal.returns-clause-blocks
 returns-clause-blocks g c =
     let message = flat_map (λ piece. piece.now) c.args.pieces.now in
     let len : c.feed_pieces-buffer.result.len ≡ length message =
-      omega (arith, c.feed_pieces-buffer.ensures.len, c.requires.len) in
-    c.finish.ensures.whole c.args.f.now message (record { blocks = c.feed_pieces-buffer.ensures.blocks; rest =
-      c.feed_pieces-buffer.ensures.kept }) len
+    omega (arith, c.feed_pieces-buffer.ensures.len, c.requires.len) in
+    c.finish.ensures.whole c.args.f.now message (record {
+      blocks = c.feed_pieces-buffer.ensures.blocks;
+      rest =
+          c.feed_pieces-buffer.ensures.kept;
+    }) len
 
 pub returns-clause-whole : goal.returns-clause-whole
 returns-clause-whole g c = with_padding-whole g.N.Unsigned.USIZE c.requires.some

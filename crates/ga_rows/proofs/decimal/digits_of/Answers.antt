@@ -7,7 +7,7 @@ pub returns-clause-digits : goal.returns-clause-digits
 returns-clause-digits c =
     let entry = table-at c.from-place.result (omega arith) in
     ap (λ count. take count (get_or TEXTS c.from-place.result [])) c.from.ensures
-      ∙ (entry.0 ∙ ap decimal c.from-place.ensures)
+    ∙ (entry.0 ∙ ap decimal c.from-place.ensures)
 
 pub returns-clause-count : goal.returns-clause-count
 returns-clause-count c =

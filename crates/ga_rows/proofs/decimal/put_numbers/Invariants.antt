@@ -6,6 +6,6 @@ use Rattle.std.specs.List.{flat_map}
 abbrev pub invariant-loop-number : goal.invariant-loop-number
 invariant-loop-number l = record {
   text : take l.end l.text ≡ take l.initial.end l.initial.text
-    ++ flat_map (λ number. codes " " ++ decimal number) (take l.number-index l.others);
+      ++ flat_map (λ number. codes " " ++ decimal number) (take l.number-index l.others);
   room : l.end + 1 ≤ l.fn.start + 4 * (l.number-index + 1);
 }

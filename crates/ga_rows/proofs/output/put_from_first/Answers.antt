@@ -12,10 +12,13 @@ loop-row-init g c =
 pub loop-row-preserved : goal.loop-row-preserved
 loop-row-preserved g c = record {
   text = lines-more c.args.mode _ _ c.next.new.self c.in-Some.row.slice.now _ _ _ c.loop-row.invariant.text
-    c.in-Some.ensures.steps (elim c.if-not-has_room.branch [
-    | then-not-has_room+in_ok-hand_over w ↦ search rules
-    | else-not-has_room w ↦ Appends-behind _ _ _ _ _ (search (rules, Keeps-refl)) c.in_ok-put_row.ensures
-  ]);
-  empty = λ none. absurd (omega (arith, ap length (c.loop-row.invariant.empty none).0,
-    ap length c.in-Some.ensures.steps));
+      c.in-Some.ensures.steps (elim c.if-not-has_room.branch [
+        | then-not-has_room+in_ok-hand_over w ↦ search rules
+        | else-not-has_room w ↦ Appends-behind _ _ _ _ _ (search (rules, Keeps-refl)) c.in_ok-put_row.ensures
+      ]);
+  empty = λ none. absurd (omega (
+    arith,
+    ap length (c.loop-row.invariant.empty none).0,
+    ap length c.in-Some.ensures.steps,
+  ));
 }

@@ -10,7 +10,7 @@ use Rattle.std.specs.Iterator.Adapters.{rev_source}
 pub loop-row-init : goal.loop-row-init
 loop-row-init g c =
     let same = ap rev_source c.into_iter-row-iterator.ensures.into_iter_gives
-      ∙ (c.rev-row-items.ensures.source ∙ c.iter.ensures.rows) in
+    ∙ (c.rev-row-items.ensures.source ∙ c.iter.ensures.rows) in
     record { text = lines-none Last _ _ _ (ap reverse same); empty = λ none. (same ∙ none, refl) }
 
 pub loop-row-preserved : goal.loop-row-preserved
@@ -20,10 +20,14 @@ loop-row-preserved g c =
     let came = c.in-Some.ensures.steps in
     record {
       text = lines-more Last _ _ (reverse left) row _ _ _ c.loop-row.invariant.text
-        (ap reverse came ∙ reverse-append left (row ∷ [])) (elim c.if-not-has_room.branch [
-        | then-not-has_room+in_ok-hand_over w ↦ search rules
-        | else-not-has_room w ↦ Appends-behind _ _ _ _ _ (search (rules, Keeps-refl)) c.in_ok-put_row.ensures
-      ]);
-      empty = λ none. absurd (omega (arith, ap length (c.loop-row.invariant.empty none).0, ap length came,
-        length-append left (row ∷ [])));
+          (ap reverse came ∙ reverse-append left (row ∷ [])) (elim c.if-not-has_room.branch [
+            | then-not-has_room+in_ok-hand_over w ↦ search rules
+            | else-not-has_room w ↦ Appends-behind _ _ _ _ _ (search (rules, Keeps-refl)) c.in_ok-put_row.ensures
+          ]);
+      empty = λ none. absurd (omega (
+        arith,
+        ap length (c.loop-row.invariant.empty none).0,
+        ap length came,
+        length-append left (row ∷ []),
+      ));
     }

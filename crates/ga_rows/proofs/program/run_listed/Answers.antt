@@ -14,12 +14,12 @@ returns-clause-text g c = λ code. elim c.match-listed.branch [
   | in-Ok+in-Ok-words_after_name w ↦
       let ended : (w.run.result ≡ Whole) ⊎ (w.run.result ≡ Rest) = ended_well w.run.result (search rules) in
       ListedAnd-kept g.I.Iterator.next_gives (λ meant. IsSomeAnd meant
-        (λ meaning. IfSome (g.R.Read.remaining c.args.r.now) (λ input.
+      (λ meaning. IfSome (g.R.Read.remaining c.args.r.now) (λ input.
       Appends (g.W.Write.contents c.args.w.now) (g.W.Write.contents c.match-listed.w)
-        (text_of meaning.0 meaning.1 input))))
+      (text_of meaning.0 meaning.1 input))))
       c.args.listed w.in-Ok.words w.in-Ok-words_after_name.words.items w.in-Ok.is w.in-Ok-words_after_name.ensures.ok
       (IsSomeAnd-there (meaning_of_words (map string_bytes w.in-Ok-words_after_name.words.items)) _ (search rules)
-        (search rules))
+      (search rules))
   | in-Ok+in-Err-words_after_name w ↦ search rules
   | in-Err w ↦ search rules
 ]
@@ -29,9 +29,9 @@ returns-clause-whole g c = λ code. elim c.match-listed.branch [
   | in-Ok+in-Ok-words_after_name w ↦
       let ended = ended_whole w.run.result (search rules) in
       ListedAnd-kept g.I.Iterator.next_gives (λ meant. IfSome meant
-        (λ meaning. IfSome (g.R.Read.remaining c.args.r.now) (λ input. chunk_rest (bytes_of meaning.1) input ≡ [])))
+      (λ meaning. IfSome (g.R.Read.remaining c.args.r.now) (λ input. chunk_rest (bytes_of meaning.1) input ≡ [])))
       c.args.listed w.in-Ok.words w.in-Ok-words_after_name.words.items w.in-Ok.is w.in-Ok-words_after_name.ensures.ok
-        (search rules)
+      (search rules)
   | in-Ok+in-Err-words_after_name w ↦ search rules
   | in-Err w ↦ search rules
 ]
@@ -41,9 +41,9 @@ returns-clause-rest g c = λ code. elim c.match-listed.branch [
   | in-Ok+in-Ok-words_after_name w ↦
       let ended = ended_rest w.run.result (search rules) in
       ListedAnd-kept g.I.Iterator.next_gives (λ meant. IfSome meant
-        (λ meaning. IfSome (g.R.Read.remaining c.args.r.now) (λ input. chunk_rest (bytes_of meaning.1) input ≢ [])))
+      (λ meaning. IfSome (g.R.Read.remaining c.args.r.now) (λ input. chunk_rest (bytes_of meaning.1) input ≢ [])))
       c.args.listed w.in-Ok.words w.in-Ok-words_after_name.words.items w.in-Ok.is w.in-Ok-words_after_name.ensures.ok
-        (search rules)
+      (search rules)
   | in-Ok+in-Err-words_after_name w ↦ search rules
   | in-Err w ↦ search rules
 ]
@@ -54,7 +54,7 @@ returns-clause-words g c = λ code. elim c.match-listed.branch [
       let ended = ended_words w.run.result (search rules) in
       ListedAnd-kept g.I.Iterator.next_gives (λ meant. meant ≡ None)
       c.args.listed w.in-Ok.words w.in-Ok-words_after_name.words.items w.in-Ok.is w.in-Ok-words_after_name.ensures.ok
-        (search rules)
+      (search rules)
   | in-Ok+in-Err-words_after_name w ↦ search rules
   | in-Err w ↦ search rules
 ]
@@ -64,9 +64,9 @@ returns-clause-meaningless g c = λ each. elim c.match-listed.branch [
   | in-Ok+in-Ok-words_after_name w ↦
       let nothing = ListedEach-kept g.I.Iterator.next_gives (λ meant. meant ≡ None)
       c.args.listed w.in-Ok.words w.in-Ok-words_after_name.words.items w.in-Ok.is w.in-Ok-words_after_name.ensures.ok
-        each in
+      each in
       let unknown : w.run.result ≡ Words = w.run.ensures.words.1
-        (ap (λ words. meaning_of_words (map string_bytes words)) w.as_slice.ensures.value ∙ nothing) in
+      (ap (λ words. meaning_of_words (map string_bytes words)) w.as_slice.ensures.value ∙ nothing) in
       inl (search rules)
   | in-Ok+in-Err-words_after_name w ↦ inr (search rules)
   | in-Err w ↦ search rules
@@ -77,9 +77,9 @@ returns-clause-unread g c = λ each. elim c.match-listed.branch [
   | in-Ok+in-Ok-words_after_name w ↦
       let nothing = ListedEach-kept g.I.Iterator.next_gives (λ meant. meant ≡ None)
       c.args.listed w.in-Ok.words w.in-Ok-words_after_name.words.items w.in-Ok.is w.in-Ok-words_after_name.ensures.ok
-        each in
+      each in
       let unknown : w.run.result ≡ Words = w.run.ensures.words.1
-        (ap (λ words. meaning_of_words (map string_bytes words)) w.as_slice.ensures.value ∙ nothing) in
+      (ap (λ words. meaning_of_words (map string_bytes words)) w.as_slice.ensures.value ∙ nothing) in
       let kept = w.run.ensures.untouched unknown in
       search rules
   | in-Ok+in-Err-words_after_name w ↦ search rules

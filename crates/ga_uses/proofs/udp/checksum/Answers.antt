@@ -10,6 +10,13 @@ returns c =
     let from = c.args.source_address in
     let to = c.args.destination_address in
     c.complement.ensures
-    ∙ ap complement_of (rw (c.with_words.ensures, acts, c.with_words-addresses.ensures, c.with_words-first.ensures,
-      c.from_array-between.ensures, c.into_slice.ensures.items, c.into_slice-2.ensures.items)
+    ∙ ap complement_of (rw (
+      c.with_words.ensures,
+      acts,
+      c.with_words-addresses.ensures,
+      c.with_words-first.ensures,
+      c.from_array-between.ensures,
+      c.into_slice.ensures.items,
+      c.into_slice-2.ensures.items,
+    )
     (summed from.slice.now to.slice.now c.args.payload.now _ _ _ from.full to.full refl))

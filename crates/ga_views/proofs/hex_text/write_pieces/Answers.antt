@@ -9,7 +9,7 @@ pub loop-count-init : goal.loop-count-init
 loop-count-init g c =
     let bytes = c.args.bytes.now in
     let counted : MatchOption c.args.limit (c.map_or-count.result ≡ 2 * length bytes)
-      (λ most. c.map_or-count.result ≡ min most (2 * length bytes)) = search rules in
+    (λ most. c.map_or-count.result ≡ min most (2 * length bytes)) = search rules in
     let text = hex_text-counted c.args.upper c.args.limit bytes c.map_or-count.result counted in
     record { text = ([], Appends-nil _, text.0); count = text.1 }
 
@@ -17,8 +17,13 @@ pub returns-in_err-write_all-clause-empty : goal.returns-in_err-write_all-clause
 returns-in_err-write_all-clause-empty g c none =
     let text = c.loop-count.invariant.text in
     let digits = hex_digits c.args.upper c.loop-count.left.now in
-    absurd (omega (arith, ap length (sym none ∙ text.2), length-append text.0 (take c.loop-count.count digits),
-      length-take c.loop-count.count digits, length-hex_digits c.args.upper c.loop-count.left.now))
+    absurd (omega (
+      arith,
+      ap length (sym none ∙ text.2),
+      length-append text.0 (take c.loop-count.count digits),
+      length-take c.loop-count.count digits,
+      length-hex_digits c.args.upper c.loop-count.left.now,
+    ))
 
 pub loop-count-preserved : goal.loop-count-preserved
 loop-count-preserved g c =
@@ -28,20 +33,20 @@ loop-count-preserved g c =
     let behind = c.split_at.result.1.now in
     let written = take c.min-written.result c.put_digits.new.text in
     let long : length c.put_digits.new.text ≡ 2 * length piece =
-      ap length c.put_digits.ensures ∙ length-hex_digits c.args.upper piece in
+    ap length c.put_digits.ensures ∙ length-hex_digits c.args.upper piece in
     let few : c.min-written.result ≡ min c.loop-count.count (length c.put_digits.new.text) = search rules in
     let step : take c.loop-count.count (hex_digits c.args.upper c.loop-count.left.now) ≡ written
-      ++ take (c.loop-count.count - c.min-written.result) (hex_digits c.args.upper behind) =
+    ++ take (c.loop-count.count - c.min-written.result) (hex_digits c.args.upper behind) =
     take-hex_digits c.args.upper c.loop-count.count c.min-written.result c.loop-count.left.now piece behind
-      c.put_digits.new.text c.split_at.ensures.by_index.0 c.put_digits.ensures few in
+    c.put_digits.new.text c.split_at.ensures.by_index.0 c.put_digits.ensures few in
     record {
       text = (
         so_far.0 ++ written,
         Appends-trans (contents c.args.w.now) (contents c.loop-count.w)
-          (contents c.write_all.new.self) so_far.0 written so_far.1 c.in_ok-write_all.ensures.bytes,
+            (contents c.write_all.new.self) so_far.0 written so_far.1 c.in_ok-write_all.ensures.bytes,
         so_far.2 ∙ (ap (λ rest. so_far.0 ++ rest) step
-          ∙ sym (append_assoc so_far.0 written (take (c.loop-count.count - c.min-written.result)
-          (hex_digits c.args.upper behind)))),
+            ∙ sym (append_assoc so_far.0 written (take (c.loop-count.count - c.min-written.result)
+            (hex_digits c.args.upper behind)))),
       );
       count = omega arith;
     }

@@ -13,9 +13,13 @@ loop-items-preserved g c =
       can = c.in-Some-Ok.ensures.goes.keeps;
       taken = rw (c.put.ensures.items, map-append)
           (Yields-more g.I.Iterator.next_gives c.args.items.now (map Ok at.good.items) at.items
-            (Ok c.in-Some-Ok.item) _ at.invariant.taken came);
-      room = rw c.put.ensures.items (omega (arith, length-append at.good.items (c.in-Some-Ok.item ∷ []),
-        c.put.ensures.room, at.invariant.room));
+          (Ok c.in-Some-Ok.item) _ at.invariant.taken came);
+      room = rw c.put.ensures.items (omega (
+        arith,
+        length-append at.good.items (c.in-Some-Ok.item ∷ []),
+        c.put.ensures.room,
+        at.invariant.room,
+      ));
     }
 
 pub returns-in-Some-Err-clause-fill : goal.returns-in-Some-Err-clause-fill
@@ -24,7 +28,7 @@ returns-in-Some-Err-clause-fill g c = search rules
 pub returns-in-Some-Err-clause-runs : goal.returns-in-Some-Err-clause-runs
 returns-in-Some-Err-clause-runs g c =
     FillFalliblyRuns-from_fill {F = LengthError} g.I.Iterator.next_gives c.args.items.now g.N.Unsigned.USIZE
-      (Ok (Err c.in-Some-Err.error)) _ (returns-in-Some-Err-clause-fill g c)
+    (Ok (Err c.in-Some-Err.error)) _ (returns-in-Some-Err-clause-fill g c)
 
 pub returns-in-None-clause-fill : goal.returns-in-None-clause-fill
 returns-in-None-clause-fill g c = search rules
@@ -32,7 +36,7 @@ returns-in-None-clause-fill g c = search rules
 pub returns-in-None-clause-runs : goal.returns-in-None-clause-runs
 returns-in-None-clause-runs g c =
     FillFalliblyRuns-from_fill {F = LengthError} g.I.Iterator.next_gives c.args.items.now g.N.Unsigned.USIZE
-      (Err (record {})) _ (returns-in-None-clause-fill g c)
+    (Err (record {})) _ (returns-in-None-clause-fill g c)
 
 pub returns-in-None-next-clause-fill : goal.returns-in-None-next-clause-fill
 returns-in-None-next-clause-fill g c = search rules
@@ -40,7 +44,7 @@ returns-in-None-next-clause-fill g c = search rules
 pub returns-in-None-next-clause-runs : goal.returns-in-None-next-clause-runs
 returns-in-None-next-clause-runs g c =
     FillFalliblyRuns-from_fill {F = LengthError} g.I.Iterator.next_gives c.args.items.now g.N.Unsigned.USIZE
-      (Ok (Ok _)) _ (returns-in-None-next-clause-fill g c)
+    (Ok (Ok _)) _ (returns-in-None-next-clause-fill g c)
 
 pub returns-in-Some-clause-fill : goal.returns-in-Some-clause-fill
 returns-in-Some-clause-fill g c = search rules
@@ -48,4 +52,4 @@ returns-in-Some-clause-fill g c = search rules
 pub returns-in-Some-clause-runs : goal.returns-in-Some-clause-runs
 returns-in-Some-clause-runs g c =
     FillFalliblyRuns-from_fill {F = LengthError} g.I.Iterator.next_gives c.args.items.now g.N.Unsigned.USIZE
-      (Err (record {})) _ (returns-in-Some-clause-fill g c)
+    (Err (record {})) _ (returns-in-Some-clause-fill g c)

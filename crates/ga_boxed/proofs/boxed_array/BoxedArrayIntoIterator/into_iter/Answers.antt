@@ -3,5 +3,11 @@ use Rattle.ga_boxed.proofs.boxed_array.BoxedArrayIntoIterator.into_iter.Goals as
 use Rattle.std.proofs.Common.{◌∙◌, ap}
 
 pub returns : goal.returns
-returns g c = record { into_iter_gives = (c.of_items.ensures
-    ∙ (ap (λ block. block.items) c.counted.ensures ∙ c.self.view_is), rest_runs, rest_runs_back) }
+returns g c = record {
+  into_iter_gives = (
+    c.of_items.ensures
+        ∙ (ap (λ block. block.items) c.counted.ensures ∙ c.self.view_is),
+    rest_runs,
+    rest_runs_back,
+  );
+}

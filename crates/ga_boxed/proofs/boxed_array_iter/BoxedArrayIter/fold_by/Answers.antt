@@ -12,7 +12,7 @@ f-answer-requires g c =
     let so_far = c.loop-item.invariant in
     let whole = so_far.1 ∙ ap (λ left. so_far.0 ++ left) c.in-Some.ensures.steps in
     may_fold-at (λ item. item) _ _ _ _ _ c.requires.callable so_far.0 c.in-Some.item c.next.new.self c.loop-item.f
-      c.loop-item.answer whole (FoldRun-of_items _ _ _ _ _ _ so_far.2) _ refl
+    c.loop-item.answer whole (FoldRun-of_items _ _ _ _ _ _ so_far.2) _ refl
 
 pub loop-item-preserved : goal.loop-item-preserved
 loop-item-preserved g c =
@@ -21,11 +21,11 @@ loop-item-preserved g c =
       so_far.0 ++ item ∷ [],
       taken-more c.args.self so_far.0 c.loop-item.self item c.next.new.self so_far.1 c.in-Some.ensures.steps,
       FoldsTo-push _ (c.args.f.now, c.args.init) so_far.0 (c.loop-item.f, c.loop-item.answer) item
-        (c.f-answer.new.self, c.f-answer.result) so_far.2 c.f-answer.ensures,
+          (c.f-answer.new.self, c.f-answer.result) so_far.2 c.f-answer.ensures,
     )
 
 pub returns : goal.returns
 returns g c =
     let run : FoldRun (goal.F-step g) c.args.f.now c.args.init c.args.self c.loop-item.answer c.loop-item.f =
-      grind (arith, common_steps) in
+    grind (arith, common_steps) in
     record { run = run; acts = λ h acts. answer_of_fold _ _ h acts _ _ _ _ run }

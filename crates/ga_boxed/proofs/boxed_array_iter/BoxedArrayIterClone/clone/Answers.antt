@@ -11,5 +11,5 @@ loop-item-preserved g c =
       room = omega (arith, c.put.ensures.room, at.invariant.room);
       clones = rw c.put.ensures.items
           (all_zip_more g.T.Clone.is_clone c.as_slice-item-items.result.now made at.item-index _ _
-            (omega arith) c.item-item.is at.invariant.clones c.in_ok-clone.ensures.cases);
+          (omega arith) c.item-item.is at.invariant.clones c.in_ok-clone.ensures.cases);
     }

@@ -53,7 +53,7 @@ times_capped zero k = (λ _. no_bytes k, λ _. no_bytes (capped k))
 times_capped (suc c) k =
     let same : k < 2 ^ 63 → capped k ≡ k = λ small. capped_is k (omega arith) in (
       λ h. subst (λ (j : ℕ). suc c * j < 2 ^ 63) (same
-        (capped_small k (one_below (suc c) (capped k) (2 ^ 63) (omega arith) h))) h,
+          (capped_small k (one_below (suc c) (capped k) (2 ^ 63) (omega arith) h))) h,
       λ h. subst (λ (j : ℕ). suc c * j < 2 ^ 63) (sym (same (one_below (suc c) k (2 ^ 63) (omega arith) h))) h,
     )
 
@@ -69,14 +69,22 @@ of_size : (c k : ℕ) → 0 < capped k → (leb c (most / capped k) ≡ true) �
 of_size c k some =
     let iff = le-div_iff_mul-le {k = capped k} {x = c} {y = most} some in (
       λ e. let low : c * capped k ≤ most = iff.0 (leb→le c (most / capped k) (subst T (sym e) tt)) in
-        (times_capped c k).0 (omega arith),
+          (times_capped c k).0 (omega arith),
       λ h. let low : c * capped k < 2 ^ 63 = (times_capped c k).1 h in
-        T_true _ (le→leb c (most / capped k) (iff.1 (omega arith))),
+          T_true _ (le→leb c (most / capped k) (iff.1 (omega arith))),
     )
 
 abbrev ended : Ended
-ended = record { signature = record { lifetimes = 0; outlives = []; params = plain (λ _. usize) ∷ []; result =
-    plain (λ _. bool) }; kept = (yes, tt) }
+ended = record {
+  signature = record {
+    lifetimes = 0;
+    outlives = [];
+    params = plain (λ _. usize) ∷ [];
+    result =
+        plain (λ _. bool);
+  };
+  kept = (yes, tt);
+}
 
 abbrev stayed : Stays ended.signature.params ended.kept
 stayed = (stay_dropped (plain (λ _. usize)) yes, tt)
@@ -104,7 +112,7 @@ module _ (E : El) {M : Type 1} {𝓤 : Ura M} (𝓛 : Logic 𝓤) (C : Calls �
   exits r gives =
       qed 𝓛 [] ∵ suffices ! _ (ends_at 𝓛 ended stayed (spec E 𝓛) bound (vbool r) r (tt, tt) (tt, tt)) $ says ! gives $
       feq_i ! (List Val) (vbool r ∷ []) (vbool r ∷ []) refl $ nothing ! $ nothing ! $ fjoin ! $ join ! $ nothing ! $
-        join ! $ done !
+      join ! $ done !
 
   walk : c < 2 ^ 64 → ent 𝓤 (on_entry 𝓛 ended.signature tt tt (c, tt) (vint w64 c ∷ [], tt))
       (WpFn 𝓤 H C Λ (function E) (vint w64 c ∷ []) Post)
@@ -113,18 +121,20 @@ module _ (E : El) {M : Type 1} {𝓤 : Ura M} (𝓛 : Logic 𝓤) (C : Calls �
       let low : q < 2 ^ 64 = omega (arith, div-le_self most k) in
       qed 𝓛 ((‵ ftrue ⊛ ‵ (owns (usize ∷ []) (c, tt) (vint w64 c ∷ [], tt))) ∷ []) ∵ keep ! [] $
       enter ! C Λ (function E) (vint w64 c ∷ []) _ $ alloc_all !
-        (λ l. pass_all ! refl ((tt, record { fits = few }), tt) $
+      (λ l. pass_all ! refl ((tt, record { fits = few }), tt) $
       let En : Env 𝓤 H = env (function E).locals l in
       sets ! (of_opd ! (size_word !)) refl (tt, record { fits = capped_fits (sz E) }) $
       sets ! (bin ! (get ! refl) (lit ! tt) tt) refl (tt, tt) $
       first ! $ branches ! (get ! refl)
       (λ none. sets ! (of_opd ! (true_lit !)) refl (tt, tt) $
       returns_within ! Post refl (look_at ! 0 refl) $ free_all ! refl $ by !
-        (exits true (λ _. of_no_size c (sz E) none, λ _. refl)))
+      (exits true (λ _. of_no_size c (sz E) none, λ _. refl)))
       (λ some. skips ! $ exec ! C Λ En (after 3 (function E).body) (at_ret En Post) $
-      sets ! (bin ! (record { go = λ Kt z. via 𝓤 (Kt (vint w64 most)) z
-        (guard_i 𝓤 (Fits w64 most) (Kt (vint w64 most)) (record { fits = lit< tt })) }) (get ! refl) (some_size k some))
-        refl (tt, record { fits = low }) $
+      sets ! (bin ! (record {
+        go = λ Kt z. via 𝓤 (Kt (vint w64 most)) z
+            (guard_i 𝓤 (Fits w64 most) (Kt (vint w64 most)) (record { fits = lit< tt }));
+      }) (get ! refl) (some_size k some))
+      refl (tt, record { fits = low }) $
       sets ! (bin ! (get ! refl) (get ! refl) tt) refl (tt, tt) $
       returns ! (look_at ! 0 refl) $ free_all ! refl $ by ! (exits (leb c q) (of_size c (sz E) (some_size k some)))))
 
@@ -133,7 +143,7 @@ fits_spec 𝓤 𝓛 𝓜 𝓡 wired X LX y =
     let E : El = record { row = X; laws = LX } in let 𝓣 = tables 𝓤 𝓛.H 𝓜 𝓡 𝓡.env in
     grows 𝓛 𝓜 𝓡 ended (spec E 𝓛) 1 (X.lives, tt) (#self (args E))
     (proved 𝓛 ended stayed (spec E 𝓛) 𝓜 𝓡 (Goes-dropped 𝓛 0 (plain (λ _. usize)) yes (λ κs x f. refl), tt)
-      (#self (args E)) (function E) (code.unfolded 𝓤 𝓛.H 𝓜 𝓡 wired (X, tt)) (λ κs. (uint_vals w64, tt))
-      (λ κs. (uint_Tells w64, tt))
+    (#self (args E)) (function E) (code.unfolded 𝓤 𝓛.H 𝓜 𝓡 wired (X, tt)) (λ κs. (uint_vals w64, tt))
+    (λ κs. (uint_Tells w64, tt))
     (λ κs qs bounds a g are. via 𝓤 _ (fst∗ 𝓤 _ (emp 𝓤)) (walk E 𝓛 𝓣.C 𝓣.Λ a.0 are.0.1)))
     ((y.0.0, y.0.1, tt, y.0.3, y.0.4), y.1)

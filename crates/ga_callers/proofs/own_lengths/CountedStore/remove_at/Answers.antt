@@ -14,10 +14,10 @@ remove-within xs i rest blank within =
     let long : length front ≡ i = length-take-le i xs (omega (arith, within)) in
     let few : rest ≤ length behind = omega (arith, within, length-drop (suc i) xs) in
     let whole : take (suc i + rest) xs ≡ front ++ take (1 + rest) (drop i xs) =
-      ap (λ n. take n xs) {x = suc i + rest} {y = i + (1 + rest)} (omega arith) ∙ take-add i (1 + rest) xs in
+    ap (λ n. take n xs) {x = suc i + rest} {y = i + (1 + rest)} (omega arith) ∙ take-add i (1 + rest) xs in
     let first : take i (take (suc i + rest) xs) ≡ front =
     ap (take i) whole ∙ (ap (λ n. take n (front ++ take (1 + rest) (drop i xs))) (sym long)
-      ∙ take-append_seam front (take (1 + rest) (drop i xs))) in
+    ∙ take-append_seam front (take (1 + rest) (drop i xs))) in
     ap (take (i + rest)) (append_assoc front behind (blank ∷ []))
     ∙ (ap (λ n. take (n + rest) (front ++ (behind ++ blank ∷ []))) (sym long)
     ∙ (take-append-add front (behind ++ blank ∷ []) rest
@@ -31,7 +31,7 @@ returns-clause-others g c =
     let i = c.args.index in
     let blank = c.default.result in
     let long : length (take count slots) ≡ count =
-      length-take-le count slots (omega (arith, c.self.invariant.0, c.self.invariant.1)) in
+    length-take-le count slots (omega (arith, c.self.invariant.0, c.self.invariant.1)) in
     let here : i < count = omega (arith, c.requires.in_bounds, ap length c.self.view_is, long) in
     let rest = count - 1 - i in
     let whole : suc i + rest ≡ count = omega (arith, here) in

@@ -15,7 +15,7 @@ returns g c =
     let given : run.0 ≡ c.run_steps.new.replies.items = cc (run.1, c.requires.fresh) in
     record {
       counts = Account-counts (items c.args.items.now) c.args.steps.items c.run_steps.new.replies.items
-        (items c.run_steps.new.iter)
+          (items c.run_steps.new.iter)
           (subst (λ replies. Account (items c.args.items.now) c.args.steps.items replies (items c.run_steps.new.iter))
-            given run.3);
+          given run.3);
     }

@@ -14,21 +14,21 @@ pieces-preserved g c =
     let count = c.min-count.result in
     let kept = c.make_current.new.block in
     let is : kept ≡ block (position / width) = c.make_current.ensures
-      ∙ ap (λ cipher. g.C.BlockStream.block cipher (position / width)) so_far.cipher in
+    ∙ ap (λ cipher. g.C.BlockStream.block cipher (position / width)) so_far.cipher in
     let full : length kept ≡ width = ap length (sym c.as_slice.ensures.items) ∙ c.as_slice.ensures.len in
     let counted : count ≡ min (length c.pieces.bytes - c.pieces.done) (width - position % width) =
-      cc (c.min-count.ensures, c.USIZE-in-pieces.ensures, c.USIZE.ensures) in
+    cc (c.min-count.ensures, c.USIZE-in-pieces.ensures, c.USIZE.ensures) in
     let long : length c.pieces.bytes ≡ length text = c.pieces.auto.bytes in
     let in_block = count-le_block block width c.args.self.now.position text some position c.pieces.done count
-      c.pieces.bytes kept counted long so_far.done in
+    c.pieces.bytes kept counted long so_far.done in
     let part = ap₂ (λ w xs. slice_range xs (position % w) (position % w + count)) c.USIZE.ensures
-      c.as_slice.ensures.items in
+    c.as_slice.ensures.items in
     record {
       cipher = so_far.cipher;
       position = omega arith;
       current = IsCurrent-further width some position block kept count (position + count) is in_block refl;
       done = count-le_text block width c.args.self.now.position text some position c.pieces.done count c.pieces.bytes
-        kept counted long so_far.done;
+          kept counted long so_far.done;
       text = c.xor_piece.ensures ∙ piece_more block width c.args.self.now.position text some position c.pieces.done
-        count c.pieces.bytes kept counted long so_far.done so_far.position full is so_far.text _ part;
+          count c.pieces.bytes kept counted long so_far.done so_far.position full is so_far.text _ part;
     }

@@ -17,8 +17,13 @@ returns g c =
         λ w.
             (g.N.ArrayType.Store.store_with c.self.inside.store (part_set 0 count items w)).1
             ∙ (ap (λ k. refill (length items) items (part_set 0 k items w)) long
-              ∙ (part-all items w ∙ ap (λ l. refill (length l) l w) c.self.view_is)),
+            ∙ (part-all items w ∙ ap (λ l. refill (length l) l w) c.self.view_is)),
       ),
-      record { writes_back = tt; items = shown; len =
-        ap length (shown ∙ sym c.self.view_is) ∙ c.self.invariant.0; fits = c.self.invariant.1 },
+      record {
+        writes_back = tt;
+        items = shown;
+        len =
+            ap length (shown ∙ sym c.self.view_is) ∙ c.self.invariant.0;
+        fits = c.self.invariant.1;
+      },
     )

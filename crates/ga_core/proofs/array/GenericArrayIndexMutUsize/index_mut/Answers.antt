@@ -13,13 +13,13 @@ returns g c =
         λ w.
             let after = g.N.ArrayType.Store.store_with c.self.inside.store (slice_set items index w) in
             refill-set items items (g.N.ArrayType.Store.items after.0) index w refl after.1
-              ∙ ap (λ items. slice_set items index w) c.self.view_is,
+            ∙ ap (λ items. slice_set items index w) c.self.view_is,
       ),
       record {
         writes_back = tt;
         value = sym (ap (λ items. slice_get items index) c.self.view_is)
-          ∙ slice_get_read items g.N.Unsigned.USIZE index c.item_mut.result.now
-          (sym c.self.invariant.0) c.requires c.item_mut.ensures.value;
+            ∙ slice_get_read items g.N.Unsigned.USIZE index c.item_mut.result.now
+            (sym c.self.invariant.0) c.requires c.item_mut.ensures.value;
       },
     )
 

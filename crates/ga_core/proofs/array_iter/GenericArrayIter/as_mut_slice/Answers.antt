@@ -21,7 +21,7 @@ returns g c =
     let front = c.self.inside.front in
     let len = c.self.inside.back - front in
     let count : len ≡ length c.args.self.now = sym (left-count items front c.self.inside.back inv.0 inv.1)
-      ∙ ap length c.self.view_is in (
+    ∙ ap length c.self.view_is in (
       (
         refl,
         λ w.

@@ -6,7 +6,7 @@ use Rattle.std.proofs.lemmas.List.{drop-drop}
 pub loop-item-preserved : goal.loop-item-preserved
 loop-item-preserved g c =
     sym (ap (drop 1) c.take_first.ensures) ∙ (ap (drop 1) c.loop-item.invariant
-      ∙ drop-drop 1 c.loop-item._item c.args.self.now)
+    ∙ drop-drop 1 c.loop-item._item c.args.self.now)
 
 pub returns : goal.returns
 returns g c = c.loop-item.invariant ∙ drop_of_length-le c.args.self.now

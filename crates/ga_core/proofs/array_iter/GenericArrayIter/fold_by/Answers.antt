@@ -17,10 +17,10 @@ f-answer-requires g c =
     let i = c.loop-slot.slot-index in
     let step : drop i slots ≡ c.take.result ∷ drop (i + 1) slots =
     drop_more slots i c.slot-item.result (omega (arith, c.loop-slot-test.true, c.loop-slot.auto.slot-items))
-      ∙ ap (λ x. x ∷ drop (i + 1) slots) (sym c.take.ensures.value) in
+    ∙ ap (λ x. x ∷ drop (i + 1) slots) (sym c.take.ensures.value) in
     may_fold-at (λ item. item) _ _ _ _ _ c.requires.callable so_far.0 c.take.result
-      (drop (i + 1) slots) c.loop-slot.f c.loop-slot.answer (so_far.1 ∙ ap (λ rest. so_far.0 ++ rest) step)
-      (FoldRun-of_items _ _ _ _ _ _ so_far.2) _ refl
+    (drop (i + 1) slots) c.loop-slot.f c.loop-slot.answer (so_far.1 ∙ ap (λ rest. so_far.0 ++ rest) step)
+    (FoldRun-of_items _ _ _ _ _ _ so_far.2) _ refl
 
 pub loop-slot-preserved : goal.loop-slot-preserved
 loop-slot-preserved g c =
@@ -34,18 +34,18 @@ loop-slot-preserved g c =
     ∙ ap (λ rest. item ∷ rest) (sym (drop-set-lt (i + 1) slots i c.take.new.dest (omega arith)))) in (
       so_far.0 ++ item ∷ [],
       taken-more c.args.self so_far.0 (drop i slots) item
-        (drop (i + 1) (slice_set slots i c.take.new.dest)) so_far.1 step,
+          (drop (i + 1) (slice_set slots i c.take.new.dest)) so_far.1 step,
       FoldsTo-push _ (c.args.f.now, c.args.init) so_far.0 (c.loop-slot.f, c.loop-slot.answer) item
-        (c.f-answer.new.self, c.f-answer.result) so_far.2 c.f-answer.ensures,
+          (c.f-answer.new.self, c.f-answer.result) so_far.2 c.f-answer.ensures,
     )
 
 pub returns : goal.returns
 returns g c =
     let so_far = c.loop-slot.invariant in
     let none : drop c.loop-slot.slot-index c.loop-slot.slot-items ≡ [] =
-      drop_all c.loop-slot.slot-index c.loop-slot.slot-items
-      (omega (arith, c.loop-slot-test.false, c.loop-slot.auto.slot-items)) in
+    drop_all c.loop-slot.slot-index c.loop-slot.slot-items
+    (omega (arith, c.loop-slot-test.false, c.loop-slot.auto.slot-items)) in
     let run : FoldRun (goal.F-step g) c.args.f.now c.args.init c.args.self c.loop-slot.answer c.loop-slot.f =
     subst (λ items. FoldRun (goal.F-step g) c.args.f.now c.args.init items c.loop-slot.answer c.loop-slot.f)
-      (sym (so_far.1 ∙ (ap (λ rest. so_far.0 ++ rest) none ∙ append-nil so_far.0))) so_far.2 in
+    (sym (so_far.1 ∙ (ap (λ rest. so_far.0 ++ rest) none ∙ append-nil so_far.0))) so_far.2 in
     record { run = run; acts = λ h acts. answer_of_fold _ _ h acts _ _ _ _ run }

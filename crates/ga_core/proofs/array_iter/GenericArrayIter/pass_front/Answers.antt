@@ -15,12 +15,12 @@ returns-then-passed-gt0 g c =
     let front = c.self.inside.front in
     let back = c.self.inside.back in
     let count : back - front ≡ length c.args.self.now =
-      sym (left-count items front back inv.0 inv.1) ∙ ap length c.self.view_is in
+    sym (left-count items front back inv.0 inv.1) ∙ ap length c.self.view_is in
     let here : front % 65536 ≡ front = mod-eq_of_lt
-      (omega (arith, count, inv.1, inv.2, inv.3, c.if-passed-gt0.true, c.requires.in_bounds)) in
+    (omega (arith, count, inv.1, inv.2, inv.3, c.if-passed-gt0.true, c.requires.in_bounds)) in
     let after = g.N.ArrayType.Store.store_with c.self.inside.store (part_set (front % 65536) passed items blanks) in
     let written = after.1 ∙ ap (λ k. refill (length items) items (part_set k passed items blanks)) here in
     let past = part-behind front passed items blanks (g.N.ArrayType.Store.items after.0)
-      (omega (arith, count, inv.0, inv.1, c.requires.in_bounds)) written in
+    (omega (arith, count, inv.0, inv.1, c.requires.in_bounds)) written in
     left-behind items (g.N.ArrayType.Store.items after.0) c.args.self.now front back passed inv.0 inv.1 c.self.view_is
-      c.requires.in_bounds past
+    c.requires.in_bounds past

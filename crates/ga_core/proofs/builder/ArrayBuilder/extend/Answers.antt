@@ -14,9 +14,9 @@ loop-items-preserved g c =
       taken = (
         so_far.0 ++ item ∷ [],
         rw c.push.ensures (ap (λ items. items ++ item ∷ []) so_far.1
-          ∙ append_assoc c.args.self.now so_far.0 (item ∷ [])),
+            ∙ append_assoc c.args.self.now so_far.0 (item ∷ [])),
         Yields-more g.I.Iterator.next_gives c.args.items.now so_far.0 c.loop-items.items item c.next.new.self so_far.2
-          c.in-Some.ensures.steps,
+            c.in-Some.ensures.steps,
       );
     }
 
@@ -26,10 +26,12 @@ returns-in-None-clause-runs g c =
     let room = g.N.Unsigned.USIZE - length c.args.self.now in
     let short : length c.loop-items.self < g.N.Unsigned.USIZE = search rules in
     let takes : Takes g.I.Iterator.next_gives c.args.items.now room so_far.0 c.next.new.self =
-    inr ((c.loop-items.items, so_far.2, c.in-None.ensures.steps),
-      omega (arith, length-append c.args.self.now so_far.0, ap length so_far.1, short)) in
+    inr (
+      (c.loop-items.items, so_far.2, c.in-None.ensures.steps),
+      omega (arith, length-append c.args.self.now so_far.0, ap length so_far.1, short),
+    ) in
     TakeRuns-from_takes g.I.Iterator.next_gives (λ taken. c.loop-items.self ≡ c.args.self.now
-      ++ taken) c.args.items.now room so_far.0 c.next.new.self takes so_far.1
+    ++ taken) c.args.items.now room so_far.0 c.next.new.self takes so_far.1
 
 pub returns-in-None-clause-asks : goal.returns-in-None-clause-asks
 returns-in-None-clause-asks g c =
@@ -37,8 +39,10 @@ returns-in-None-clause-asks g c =
     let room = g.N.Unsigned.USIZE - length c.args.self.now in
     let short : length c.loop-items.self < g.N.Unsigned.USIZE = search rules in
     Asks-from_takes g.I.Iterator.next_gives c.args.items.now room so_far.0 c.next.new.self
-    (inr ((c.loop-items.items, so_far.2, c.in-None.ensures.steps),
-      omega (arith, length-append c.args.self.now so_far.0, ap length so_far.1, short)))
+    (inr (
+      (c.loop-items.items, so_far.2, c.in-None.ensures.steps),
+      omega (arith, length-append c.args.self.now so_far.0, ap length so_far.1, short),
+    ))
 
 pub returns-clause-runs : goal.returns-clause-runs
 returns-clause-runs g c =
@@ -47,24 +51,39 @@ returns-clause-runs g c =
     let takes : Takes g.I.Iterator.next_gives c.args.items.now room so_far.0 c.loop-items.items =
     inl (so_far.2, omega (arith, length-append c.args.self.now so_far.0, ap length so_far.1)) in
     TakeRuns-from_takes g.I.Iterator.next_gives (λ taken. c.loop-items.self ≡ c.args.self.now
-      ++ taken) c.args.items.now room so_far.0 c.loop-items.items takes so_far.1
+    ++ taken) c.args.items.now room so_far.0 c.loop-items.items takes so_far.1
 
 pub returns-clause-asks : goal.returns-clause-asks
 returns-clause-asks g c =
     let so_far = c.loop-items.invariant.taken in
     Asks-from_takes g.I.Iterator.next_gives c.args.items.now
-      (g.N.Unsigned.USIZE - length c.args.self.now) so_far.0 c.loop-items.items
+    (g.N.Unsigned.USIZE - length c.args.self.now) so_far.0 c.loop-items.items
     (inl (so_far.2, omega (arith, length-append c.args.self.now so_far.0, ap length so_far.1)))
 
 pub returns-clause-taken : goal.returns-clause-taken
 returns-clause-taken g c =
-    let so_far = c.loop-items.invariant.taken in
-    (so_far.0, so_far.1, inl (so_far.2, omega (arith, length-append c.args.self.now so_far.0, ap length so_far.1,
-      c.loop-items-test.ensures.full.0 refl)))
+    let so_far = c.loop-items.invariant.taken in (
+      so_far.0,
+      so_far.1,
+      inl (
+        so_far.2,
+        omega (
+          arith,
+          length-append c.args.self.now so_far.0,
+          ap length so_far.1,
+          c.loop-items-test.ensures.full.0 refl,
+        ),
+      ),
+    )
 
 pub returns-in-None-clause-taken : goal.returns-in-None-clause-taken
 returns-in-None-clause-taken g c =
     let so_far = c.loop-items.invariant.taken in
-    let short : length c.loop-items.self < g.N.Unsigned.USIZE = search rules in
-    (so_far.0, so_far.1, inr ((c.loop-items.items, so_far.2, c.in-None.ensures.steps),
-      omega (arith, length-append c.args.self.now so_far.0, ap length so_far.1, short)))
+    let short : length c.loop-items.self < g.N.Unsigned.USIZE = search rules in (
+      so_far.0,
+      so_far.1,
+      inr (
+        (c.loop-items.items, so_far.2, c.in-None.ensures.steps),
+        omega (arith, length-append c.args.self.now so_far.0, ap length so_far.1, short),
+      ),
+    )

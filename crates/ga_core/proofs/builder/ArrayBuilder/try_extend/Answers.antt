@@ -17,13 +17,13 @@ loop-items-preserved g c =
       taken = (
         so_far.0 ++ item ∷ [],
         rw c.push.ensures (ap (λ items. items ++ item ∷ []) so_far.1
-          ∙ append_assoc c.args.self.now so_far.0 (item ∷ [])),
+            ∙ append_assoc c.args.self.now so_far.0 (item ∷ [])),
         subst (λ taken. Yields g.I.Iterator.next_gives c.args.items.now taken c.next.new.self)
-          (sym (map-append Ok so_far.0 (item ∷ [])))
+            (sym (map-append Ok so_far.0 (item ∷ [])))
             (Yields-more g.I.Iterator.next_gives c.args.items.now (map Ok so_far.0) c.loop-items.items
-              (Ok item) c.next.new.self so_far.2
+            (Ok item) c.next.new.self so_far.2
             (subst (λ reply. g.I.Iterator.next_gives c.loop-items.items (Some reply) c.next.new.self)
-              c.in-Some-Ok.field-0-is c.in-Some-Ok.ensures.steps)),
+            c.in-Some-Ok.field-0-is c.in-Some-Ok.ensures.steps)),
       );
     }
 
@@ -33,12 +33,20 @@ returns g c =
     let room = g.N.Unsigned.USIZE - length c.args.self.now in
     let taken = c.loop-items.invariant.taken in
     let takes : TakesGood next_gives c.args.items.now room taken.0 (Ok tt) c.loop-items.items =
-    inl (taken.2, omega (arith, length-map {B = Result g.row.T.Denot g.row.E.Denot} taken.0 Ok, ap length taken.1,
-      length-append c.args.self.now taken.0, c.loop-items-test.ensures.full.0 refl)) in
+    inl (
+      taken.2,
+      omega (
+        arith,
+        length-map {B = Result g.row.T.Denot g.row.E.Denot} taken.0 Ok,
+        ap length taken.1,
+        length-append c.args.self.now taken.0,
+        c.loop-items-test.ensures.full.0 refl,
+      ),
+    ) in
     record {
       taken = (taken.0, taken.1, takes);
       runs = TakeGoodRuns-from_takes next_gives (λ good. c.loop-items.self ≡ c.args.self.now
-        ++ good) c.args.items.now room taken.0 (Ok tt) c.loop-items.items takes taken.1;
+          ++ good) c.args.items.now room taken.0 (Ok tt) c.loop-items.items takes taken.1;
       can = λ _. c.loop-items.invariant.can;
       can_on = tt;
     }
@@ -49,17 +57,23 @@ returns-in-None g c =
     let room = g.N.Unsigned.USIZE - length c.args.self.now in
     let taken = c.loop-items.invariant.taken in
     let other : length c.loop-items.self ≢ g.N.Unsigned.USIZE =
-      λ full. true≢false (sym (c.loop-items-test.ensures.full.1 full)) in
+    λ full. true≢false (sym (c.loop-items-test.ensures.full.1 full)) in
     let takes : TakesGood next_gives c.args.items.now room taken.0 (Ok tt) c.next.new.self =
     inr (
       (c.loop-items.items, taken.2, c.in-None.ensures.steps),
-      omega (arith, length-map {B = Result g.row.T.Denot g.row.E.Denot} taken.0 Ok, ap length taken.1,
-        length-append c.args.self.now taken.0, c.loop-items-test.ensures.bound, other),
+      omega (
+        arith,
+        length-map {B = Result g.row.T.Denot g.row.E.Denot} taken.0 Ok,
+        ap length taken.1,
+        length-append c.args.self.now taken.0,
+        c.loop-items-test.ensures.bound,
+        other,
+      ),
     ) in
     record {
       taken = (taken.0, taken.1, takes);
       runs = TakeGoodRuns-from_takes next_gives (λ good. c.loop-items.self ≡ c.args.self.now
-        ++ good) c.args.items.now room taken.0 (Ok tt) c.next.new.self takes taken.1;
+          ++ good) c.args.items.now room taken.0 (Ok tt) c.next.new.self takes taken.1;
       can = λ full. absurd (other full);
       can_on = tt;
     }
@@ -70,16 +84,23 @@ returns-in-Some-Err g c =
     let room = g.N.Unsigned.USIZE - length c.args.self.now in
     let taken = c.loop-items.invariant.taken in
     let other : length c.loop-items.self ≢ g.N.Unsigned.USIZE =
-      λ full. true≢false (sym (c.loop-items-test.ensures.full.1 full)) in
+    λ full. true≢false (sym (c.loop-items-test.ensures.full.1 full)) in
     let call = subst (λ reply. next_gives c.loop-items.items (Some reply) c.next.new.self) c.in-Some-Err.field-0-is
-      c.in-Some-Err.ensures.steps in
-    let takes : TakesGood next_gives c.args.items.now room taken.0 (Err c.in-Some-Err.error) c.next.new.self =
-    ((c.loop-items.items, taken.2, call), omega (arith, ap length taken.1, length-append c.args.self.now taken.0,
-      c.loop-items-test.ensures.bound, other)) in
+    c.in-Some-Err.ensures.steps in
+    let takes : TakesGood next_gives c.args.items.now room taken.0 (Err c.in-Some-Err.error) c.next.new.self = (
+      (c.loop-items.items, taken.2, call),
+      omega (
+        arith,
+        ap length taken.1,
+        length-append c.args.self.now taken.0,
+        c.loop-items-test.ensures.bound,
+        other,
+      ),
+    ) in
     record {
       taken = (taken.0, taken.1, takes);
       runs = TakeGoodRuns-from_takes next_gives (λ good. c.loop-items.self ≡ c.args.self.now
-        ++ good) c.args.items.now room taken.0 (Err c.in-Some-Err.error) c.next.new.self takes taken.1;
+          ++ good) c.args.items.now room taken.0 (Err c.in-Some-Err.error) c.next.new.self takes taken.1;
       can = λ full. absurd (other full);
       can_on = c.in-Some-Err.ensures.goes.keeps;
     }

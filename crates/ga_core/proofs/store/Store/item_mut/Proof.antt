@@ -33,16 +33,16 @@ loan Z X g d dd = loan_of Z X g d dd 1 (RefMutOf (0 ∷ []) tt (plain (λ _. R Z
 pub item_mut_spec : {M : Type 1} → statement M
 item_mut_spec 𝓤 𝓛 𝓜 𝓡 wired Z X LZ LX g d dd met metD =
     lends (loan Z X g d dd) 𝓛 𝓜 𝓡 (#self (args Z X g d dd)) (inst_fn (args Z X g d dd) code.function)
-      (code.unfolded 𝓤 𝓛.H 𝓜 𝓡 wired (Z, (X, tt)) d dd)
+    (code.unfolded 𝓤 𝓛.H 𝓜 𝓡 wired (Z, (X, tt)) d dd)
     (λ κs qs bounds x ns Post lives asked are exits.
     let E : RattleType = R Z X g d dd in
     let Store : RattleType = S Z X g d dd in
     let i : ℕ = ns.0 in
     qed 𝓛 (Had (loan Z X g d dd) 𝓛 κs qs x ns) ∵ enter ! _ _ _ _ _ $ alloc_all !
-      (λ l. pass_all ! refl ((tt, tt), ((tt, record { fits = are.0.1 }), tt)) $
+    (λ l. pass_all ! refl ((tt, tt), ((tt, record { fits = are.0.1 }), tt)) $
     sets ! (addr ! (through ! refl (stop !))) refl (tt, tt) $
     calls_slice Z X g d dd 𝓛 𝓜.mem 𝓡.returns κs qs bounds x ! (framed 𝓤 𝓛.H 𝓜 (tables 𝓤 𝓛.H 𝓜 𝓡 𝓡.env))
-      (met.as_mut_slice dd) lives
+    (met.as_mut_slice dd) lives
     (and_then ! (get ! refl) (no_more !)) (λ v s told.
     let width : ℕ = size (layout X) in
     let within : i < length s.now = omega (arith, asked.0, ap length told.2) in
@@ -50,15 +50,15 @@ item_mut_spec 𝓤 𝓛 𝓜 𝓡 wired Z X LZ LX g d dd met metD =
     let after : List X.Denot → Store.Denot = λ written. (g.store_with x.now written).0 in
     lands_as ! told.0 refl (tt, (tt, (record { fits = told.1.0 }, tt))) $
     sets ! (is ! (bin ! (get ! refl) (size_word !) (record { fits = uncapped_fits i width offset }))
-      (ap (vint w64) (uncapped i width offset))) refl (tt, record { fits = offset }) $
+    (ap (vint w64) (uncapped i width offset))) refl (tt, record { fits = offset }) $
     sets ! (bin ! (get_in ! (fld ! refl (stop !)) (sub ! 0 refl (whole !))) (get ! refl) tt) refl (tt, tt) $
     sets ! (addr ! (through ! refl (stop !))) refl (tt, tt) $
     -- [the slice's last value; its borrow; the token; the store follows the slice; the other tokens]
     group ! 4 $ use1 𝓛 (later (some (lent_item 𝓛 Store E after κs.0 qs.0 x.ghost_name s i)))
-      (lends_item 𝓛 Store E after κs.0 qs.0 x.ghost_name s i within) $ await ! tt $ pick !
-      (λ y. learn ! (λ read. split3 ! $
+    (lends_item 𝓛 Store E after κs.0 qs.0 x.ghost_name s i within) $ await ! tt $ pick !
+    (λ y. learn ! (λ read. split3 ! $
     rewrite ! 2 (λ (ends : X.Denot → Store.Denot). ‵ (follows Store E x.ghost_name y.0 ends))
-      (λ j w. after (set (told.2 j) i w)) refl $
+    (λ j w. after (set (told.2 j) i w)) refl $
     returns ! (look_at ! 0 refl) $ free_all ! refl $ keep ! (0 ∷ 1 ∷ 2 ∷ 3 ∷ []) $
     by ! (exits _ (record { ref_ptr = (s.ref_ptr.0, spot E s i); ghost_name = y.0; now = y.1 })
-      (read ∙ ap (λ l. get_or l i y.1) told.2)))))))
+    (read ∙ ap (λ l. get_or l i y.1) told.2)))))))

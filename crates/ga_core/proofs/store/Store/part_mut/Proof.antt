@@ -38,16 +38,16 @@ loan Z X g d dd = loan_of Z X g d dd 2 (SliceRefMutOf (0 ∷ []) tt (plain (λ _
 pub part_mut_spec : {M : Type 1} → statement M
 part_mut_spec 𝓤 𝓛 𝓜 𝓡 wired Z X LZ LX g d dd met metD =
     lends (loan Z X g d dd) 𝓛 𝓜 𝓡 (#self (args Z X g d dd)) (inst_fn (args Z X g d dd) code.function)
-      (code.unfolded 𝓤 𝓛.H 𝓜 𝓡 wired (Z, (X, tt)) d dd)
+    (code.unfolded 𝓤 𝓛.H 𝓜 𝓡 wired (Z, (X, tt)) d dd)
     (λ κs qs bounds x ns Post lives asked are exits.
     let E : RattleType = R Z X g d dd in
     let Store : RattleType = S Z X g d dd in
     let from : ℕ = ns.0 in let len : ℕ = ns.1.0 in
     qed 𝓛 (Had (loan Z X g d dd) 𝓛 κs qs x ns) ∵ enter ! _ _ _ _ _ $ alloc_all !
-      (λ l. pass_all ! refl ((tt, tt), ((tt, record { fits = are.0.1 }), ((tt, record { fits = are.1.0.1 }), tt))) $
+    (λ l. pass_all ! refl ((tt, tt), ((tt, record { fits = are.0.1 }), ((tt, record { fits = are.1.0.1 }), tt))) $
     sets ! (addr ! (through ! refl (stop !))) refl (tt, tt) $
     calls_slice Z X g d dd 𝓛 𝓜.mem 𝓡.returns κs qs bounds x ! (framed 𝓤 𝓛.H 𝓜 (tables 𝓤 𝓛.H 𝓜 𝓡 𝓡.env))
-      (met.as_mut_slice dd) lives
+    (met.as_mut_slice dd) lives
     (and_then ! (get ! refl) (no_more !)) (λ v s told.
     let width : ℕ = size (layout X) in
     let within : from + len ≤ length s.now = omega (arith, asked.0, ap length told.2) in
@@ -58,19 +58,19 @@ part_mut_spec 𝓤 𝓛 𝓜 𝓡 wired Z X LZ LX g d dd met metD =
     lands_as ! told.0 refl (tt, (tt, (record { fits = told.1.0 }, tt))) $
     sets ! (bin ! (get ! refl) (get ! refl) (record { fits = end })) refl (tt, record { fits = end }) $
     sets ! (is ! (bin ! (get ! refl) (size_word !) (record { fits = uncapped_fits from width offset }))
-      (ap (vint w64) (uncapped from width offset))) refl (tt, record { fits = offset }) $
+    (ap (vint w64) (uncapped from width offset))) refl (tt, record { fits = offset }) $
     sets ! (bin ! (get_in ! (fld ! refl (stop !)) (sub ! 0 refl (whole !))) (get ! refl) tt) refl (tt, tt) $
     sets ! (is ! (bin ! (get ! refl) (get ! refl) (omega arith)) (ap (vint w64) long)) refl
-      (tt, record { fits = are.1.0.1 }) $
+    (tt, record { fits = are.1.0.1 }) $
     sets ! (addr ! (through ! refl (stop !))) refl (tt, tt) $
     sets ! (agg ! (and_then ! (get ! refl) (and_then ! (get ! refl) (no_more !)))) refl
-      (tt, (tt, (record { fits = are.1.0.1 }, tt))) $
+    (tt, (tt, (record { fits = are.1.0.1 }, tt))) $
     -- [the slice's last value; its borrow; the token; the store follows the slice; the other tokens]
     group ! 4 $ use1 𝓛 (later (some (lent_part 𝓛 Store E after κs.0 qs.0 x.ghost_name s from len len)))
-      (lends_part 𝓛 Store E after κs.0 qs.0 x.ghost_name s from len within told.1) $ await ! tt $ pick !
-      (λ δ. split3 ! $
+    (lends_part 𝓛 Store E after κs.0 qs.0 x.ghost_name s from len within told.1) $ await ! tt $ pick !
+    (λ δ. split3 ! $
     rewrite ! 2 (λ (ends : List X.Denot → Store.Denot). ‵ (follows Store (Array E 0) x.ghost_name δ ends))
-      (λ j ws. after ((part_fills from len s.now ws within ∙ ap (λ l. part_set from len l ws) told.2) j)) refl $
+    (λ j ws. after ((part_fills from len s.now ws within ∙ ap (λ l. part_set from len l ws) told.2) j)) refl $
     returns ! (look_at ! 0 refl) $ free_all ! refl $ keep ! (0 ∷ 1 ∷ 2 ∷ 3 ∷ []) $
     by ! (exits _ (slice 𝓛 Store E after κs.0 qs.0 x.ghost_name s from len δ)
-      (ap (λ l. take len (drop_list from l)) told.2))))))
+    (ap (λ l. take len (drop_list from l)) told.2))))))

@@ -10,8 +10,12 @@ use Rattle.std.proofs.lemmas.List.{nil_from_length}
 -- the bytes fill no block
 few : (g : given.Over) (c : goal.After-append g) → length (c.args.self.now.kept ++ c.args.bytes.now)
     < g.N.Unsigned.USIZE
-few g c = omega (arith, length-append c.args.self.now.kept c.args.bytes.now, ap (λ v. length v.kept) c.self.view_is,
-    c.self.invariant.0)
+few g c = omega (
+  arith,
+  length-append c.args.self.now.kept c.args.bytes.now,
+  ap (λ v. length v.kept) c.self.view_is,
+  c.self.invariant.0,
+)
 
 pub returns-then-bytes-missing-clause-blocks : goal.returns-then-bytes-missing-clause-blocks
 returns-then-bytes-missing-clause-blocks g c =
@@ -23,16 +27,16 @@ pub returns-then-bytes-missing-clause-kept : goal.returns-then-bytes-missing-cla
 returns-then-bytes-missing-clause-kept g c =
     let all = c.args.self.now.kept ++ c.args.bytes.now in
     c.append.ensures ∙ (ap (λ v. v.kept ++ c.args.bytes.now) c.self.view_is
-      ∙ sym (chunk_rest-few g.N.Unsigned.USIZE all (few g c)))
+    ∙ sym (chunk_rest-few g.N.Unsigned.USIZE all (few g c)))
 
 pub hand_on_rows-requires-clause-callable : goal.hand_on_rows-requires-clause-callable
 hand_on_rows-requires-clause-callable g c =
     let width = g.N.Unsigned.USIZE in
     let bytes = c.args.bytes.now in
     let none : c.args.self.now.kept ≡ [] = nil_from_length c.args.self.now.kept
-      (omega (arith, ap (λ v. length v.kept) c.self.view_is, c.self.invariant.0)) in
+    (omega (arith, ap (λ v. length v.kept) c.self.view_is, c.self.invariant.0)) in
     MayTake-along (λ slice. slice.now) (goal.F-step g) (goal.F-pre g) width c.args.f.now
-      (rows width (c.args.self.now.kept ++ bytes)) (rows width bytes)
+    (rows width (c.args.self.now.kept ++ bytes)) (rows width bytes)
     (ap (λ kept. rows width (kept ++ bytes)) none) c.requires.callable
 
 pub f-requires : goal.f-requires
@@ -40,10 +44,10 @@ f-requires g c =
     let all = c.args.self.now.kept ++ c.args.bytes.now in
     let joined : c.as_slice.result.now ++ c.complete-block.result.1.now ≡ all =
     ap (λ block. block ++ c.complete-block.result.1.now) c.as_slice.ensures.items
-      ∙ (c.complete-block.ensures.parts ∙ ap (λ v. v.kept ++ c.args.bytes.now) c.self.view_is) in
+    ∙ (c.complete-block.ensures.parts ∙ ap (λ v. v.kept ++ c.args.bytes.now) c.self.view_is) in
     full-callable (λ slice. slice.now) (goal.F-step g) g.N.Unsigned.USIZE
-      (omega (arith, c.self.invariant.0)) all c.complete-block.result.1.now c.as_slice.result joined
-      c.as_slice.ensures.len
+    (omega (arith, c.self.invariant.0)) all c.complete-block.result.1.now c.as_slice.result joined
+    c.as_slice.ensures.len
     (goal.F-pre g) c.args.f.now c.requires.callable
 
 pub hand_on_rows-requires-2-clause-callable : goal.hand_on_rows-requires-2-clause-callable
@@ -51,10 +55,10 @@ hand_on_rows-requires-2-clause-callable g c =
     let all = c.args.self.now.kept ++ c.args.bytes.now in
     let joined : c.as_slice.result.now ++ c.complete-block.result.1.now ≡ all =
     ap (λ block. block ++ c.complete-block.result.1.now) c.as_slice.ensures.items
-      ∙ (c.complete-block.ensures.parts ∙ ap (λ v. v.kept ++ c.args.bytes.now) c.self.view_is) in
+    ∙ (c.complete-block.ensures.parts ∙ ap (λ v. v.kept ++ c.args.bytes.now) c.self.view_is) in
     full-then_callable (λ slice. slice.now) (goal.F-step g) g.N.Unsigned.USIZE
-      (omega (arith, c.self.invariant.0)) all c.complete-block.result.1.now c.as_slice.result joined
-      c.as_slice.ensures.len
+    (omega (arith, c.self.invariant.0)) all c.complete-block.result.1.now c.as_slice.result joined
+    c.as_slice.ensures.len
     (goal.F-pre g) c.args.f.now c.requires.callable c.f.new.self c.f.ensures
 
 pub returns-clause-blocks : goal.returns-clause-blocks
@@ -62,10 +66,10 @@ returns-clause-blocks g c =
     let all = c.args.self.now.kept ++ c.args.bytes.now in
     let joined : c.as_slice.result.now ++ c.complete-block.result.1.now ≡ all =
     ap (λ block. block ++ c.complete-block.result.1.now) c.as_slice.ensures.items
-      ∙ (c.complete-block.ensures.parts ∙ ap (λ v. v.kept ++ c.args.bytes.now) c.self.view_is) in
+    ∙ (c.complete-block.ensures.parts ∙ ap (λ v. v.kept ++ c.args.bytes.now) c.self.view_is) in
     full-taken (λ slice. slice.now) (goal.F-step g) g.N.Unsigned.USIZE
-      (omega (arith, c.self.invariant.0)) all c.complete-block.result.1.now c.as_slice.result joined
-      c.as_slice.ensures.len
+    (omega (arith, c.self.invariant.0)) all c.complete-block.result.1.now c.as_slice.result joined
+    c.as_slice.ensures.len
     c.args.f.now c.f.new.self c.hand_on_rows-2.new.f c.f.ensures (search rules)
 
 pub returns-clause-kept : goal.returns-clause-kept
@@ -73,7 +77,7 @@ returns-clause-kept g c =
     let all = c.args.self.now.kept ++ c.args.bytes.now in
     let joined : c.as_slice.result.now ++ c.complete-block.result.1.now ≡ all =
     ap (λ block. block ++ c.complete-block.result.1.now) c.as_slice.ensures.items
-      ∙ (c.complete-block.ensures.parts ∙ ap (λ v. v.kept ++ c.args.bytes.now) c.self.view_is) in
+    ∙ (c.complete-block.ensures.parts ∙ ap (λ v. v.kept ++ c.args.bytes.now) c.self.view_is) in
     c.hand_on_rows-2.ensures.kept
     ∙ sym (chunk_rest-behind g.N.Unsigned.USIZE (omega (arith, c.self.invariant.0)) c.as_slice.result.now
-      c.complete-block.result.1.now all joined c.as_slice.ensures.len)
+    c.complete-block.result.1.now all joined c.as_slice.ensures.len)

@@ -27,9 +27,9 @@ feed-requires g c =
     let kept = c.args.self.kept in
     record {
       callable = MayTake-more (λ slice. slice.now) (goal.F-step g) width (omega (arith, few g early))
-        (goal.F-pre g) c.args.f.now c.args.f.now (kept ++ padding width (length kept) c.args.self.len) kept kept
+          (goal.F-pre g) c.args.f.now c.args.f.now (kept ++ padding width (length kept) c.args.self.len) kept kept
           (128 ∷ []) (replicate (zero_count width (length kept)) 0
-            ++ to_be_bytes w64 (8 * c.args.self.len)) refl c.requires.callable (begun g early);
+          ++ to_be_bytes w64 (8 * c.args.self.len)) refl c.requires.callable (begun g early);
     }
 
 -- and then the zeros
@@ -40,19 +40,19 @@ feed_zeros-requires-clause-callable g c =
     let kept = c.args.self.kept in
     let bits = to_be_bytes w64 (8 * c.args.self.len) in
     let whole = padding-after_mark width kept c.args.self.len c.zero_count-zeros.result bits
-      c.zero_count-zeros.ensures.count refl in
+    c.zero_count-zeros.ensures.count refl in
     MayTake-more (λ slice. slice.now) (goal.F-step g) width (omega (arith, few g early))
-      (goal.F-pre g) c.args.f.now c.feed.new.f (kept ++ padding width (length kept) c.args.self.len)
+    (goal.F-pre g) c.args.f.now c.feed.new.f (kept ++ padding width (length kept) c.args.self.len)
     (kept ++ 128 ∷ []) c.feed.new.self.kept (replicate c.zero_count-zeros.result 0) bits whole c.requires.callable
-      (c.feed.ensures.whole c.args.f.now kept (begun g early))
+    (c.feed.ensures.whole c.args.f.now kept (begun g early))
 
 -- mark and zeros were fed
 filled : (g : given.Over) (c : After-feed_zeros g)
     → HasFed (λ slice. slice.now) (goal.F-step g) g.N.Unsigned.USIZE c.args.f.now c.args.self.kept c.args.self.kept
-      c.args.f.now
+    c.args.f.now
     → HasFed (λ slice. slice.now) (goal.F-step g) g.N.Unsigned.USIZE c.args.f.now
     ((c.args.self.kept ++ 128 ∷ []) ++ replicate c.zero_count-zeros.result 0) c.feed_zeros.new.self.kept
-      c.feed_zeros.new.f
+    c.feed_zeros.new.f
 filled g c fed = c.feed_zeros.ensures c.args.f.now (c.args.self.kept ++ 128 ∷ [])
     (c.feed.ensures.whole c.args.f.now c.args.self.kept fed)
 
@@ -62,9 +62,9 @@ in_turn : (g : given.Over) (c : After-feed_zeros g)
     ≡ ((c.args.self.kept ++ 128 ∷ []) ++ replicate c.zero_count-zeros.result 0) ++ c.to_be_bytes-bits.result
 in_turn g c =
     let told : c.to_be_bytes-bits.result ≡ to_be_bytes w64 (8 * c.args.self.len) =
-      c.to_be_bytes-bits.ensures ∙ ap (λ v. to_be_bytes w64 (8 * v.len)) c.buffer.view_is in
+    c.to_be_bytes-bits.ensures ∙ ap (λ v. to_be_bytes w64 (8 * v.len)) c.buffer.view_is in
     padding-in_turn g.N.Unsigned.USIZE c.args.self.kept c.args.self.len c.zero_count-zeros.result
-      c.to_be_bytes-bits.result c.zero_count-zeros.ensures.count told
+    c.to_be_bytes-bits.result c.zero_count-zeros.ensures.count told
 
 -- and then the length
 pub feed-requires-2 : goal.feed-requires-2
@@ -78,9 +78,9 @@ feed-requires-2 g c =
     let message = (kept ++ 128 ∷ []) ++ replicate c.zero_count-zeros.result 0 in
     record {
       callable = MayTake-more (λ slice. slice.now) (goal.F-step g) width (omega (arith, few g early))
-        (goal.F-pre g) c.args.f.now c.feed_zeros.new.f
+          (goal.F-pre g) c.args.f.now c.feed_zeros.new.f
           (kept ++ padding width (length kept) c.args.self.len) message c.feed_zeros.new.self.kept bits []
-            (in_turn g so_far ∙ ap (λ b. message ++ b) (sym (append-nil bits)))
+          (in_turn g so_far ∙ ap (λ b. message ++ b) (sym (append-nil bits)))
           c.requires.callable (filled g so_far (begun g early));
     }
 
@@ -92,7 +92,7 @@ returns-clause-blocks g c =
     let message = (c.args.self.kept ++ 128 ∷ []) ++ replicate c.zero_count-zeros.result 0 in
     let done = c.feed-2.ensures.whole c.args.f.now message (filled g so_far (begun g at.After-zero_count-zeros)) in
     Takes-along (λ slice. slice.now) (goal.F-step g) c.args.f.now (rows width (message ++ c.to_be_bytes-bits.result))
-      (rows width (c.args.self.kept ++ padding width (length c.args.self.kept) c.args.self.len)) c.feed-2.new.f
+    (rows width (c.args.self.kept ++ padding width (length c.args.self.kept) c.args.self.len)) c.feed-2.new.f
     (ap (rows width) (in_turn g so_far)) done.blocks
 
 pub returns-clause-whole : goal.returns-clause-whole
@@ -101,10 +101,10 @@ returns-clause-whole g c first message fed len =
     let kept = c.args.self.kept in
     let last = padding width (length kept) c.args.self.len in
     let more = HasFed-more (λ slice. slice.now) (goal.F-step g) width
-      (omega (arith, few g (goal.at.returns-clause-whole g c).After-zero_count-zeros)) first c.args.f.now c.feed-2.new.f
-      message kept last
+    (omega (arith, few g (goal.at.returns-clause-whole g c).After-zero_count-zeros)) first c.args.f.now c.feed-2.new.f
+    message kept last
     (chunk_rest width (kept ++ last)) fed (returns-clause-blocks g c) refl in
     Takes-along (λ slice. slice.now) (goal.F-step g) first (rows width (message ++ last))
-      (rows width (with_padding width message)) c.feed-2.new.f
+    (rows width (with_padding width message)) c.feed-2.new.f
     (ap (λ p. rows width (message ++ p)) (sym (padding-kept width message kept fed.rest c.args.self.len len)))
-      more.blocks
+    more.blocks

@@ -10,7 +10,7 @@ returns-then-contains-clause-index g c =
     let row = c.in-Some.record.slice.now in
     let found : has c.args.byte row ≡ true = search rules in
     sym (walk-found c.args.byte all c.loop-record.left c.next_back.new.self row c.loop-record.invariant
-      c.in-Some.ensures.steps c.len.result c.len.ensures found)
+    c.in-Some.ensures.steps c.len.result c.len.ensures found)
 
 pub returns-then-contains-clause-some : goal.returns-then-contains-clause-some
 returns-then-contains-clause-some g c =
@@ -27,10 +27,12 @@ pub loop-record-preserved : goal.loop-record-preserved
 loop-record-preserved g c =
     let all = rows g.N.Unsigned.USIZE c.args.self.now.records.slice.now in
     walk-passed c.args.byte all c.loop-record.left c.next_back.new.self c.in-Some.record.slice.now
-      c.loop-record.invariant c.in-Some.ensures.steps (search rules)
+    c.loop-record.invariant c.in-Some.ensures.steps (search rules)
 
 pub returns-clause-none : goal.returns-clause-none
 returns-clause-none g c =
-    let all = rows g.N.Unsigned.USIZE c.args.self.now.records.slice.now in
-    (λ _. none-has c.args.byte all (c.loop-record.invariant
-      ∙ ap (last_record_with c.args.byte) c.in_default.ensures.steps.0), λ none. refl)
+    let all = rows g.N.Unsigned.USIZE c.args.self.now.records.slice.now in (
+      λ _. none-has c.args.byte all (c.loop-record.invariant
+          ∙ ap (last_record_with c.args.byte) c.in_default.ensures.steps.0),
+      λ none. refl,
+    )

@@ -10,4 +10,4 @@ returns-else-number-lt1000-clause-text c =
     c.push_digit.ensures
     ∙ (ap (λ text. text ++ last) c.push_below_1000-else-number-lt1000.ensures.text
     ∙ (append_assoc before (decimal (number / 10)) last
-      ∙ ap (λ text. before ++ text) (sym (decimal_step number (omega arith) (omega arith)))))
+    ∙ ap (λ text. before ++ text) (sym (decimal_step number (omega arith) (omega arith)))))

@@ -20,10 +20,10 @@ pub returns-in-Ok-clause-changes : goal.returns-in-Ok-clause-changes
 returns-in-Ok-clause-changes g c =
     rw (c.self.view_is, c.replace.ensures.after)
     (changes_written c.args.self.now c.args.key c.in-Ok.place c.in-Ok.ensures.found _ c.args.value
-      (rw c.self.view_is at c.index_mut-entry.ensures.value))
+    (rw c.self.view_is at c.index_mut-entry.ensures.value))
 
 pub returns-in_ok-insert-in-Err-clause-changes : goal.returns-in_ok-insert-in-Err-clause-changes
 returns-in_ok-insert-in-Err-clause-changes g c =
     let same : c.insert.new.self.items ≡ with_entry c.args.self.now c.args.key c.args.value =
-      grind (arith, common_steps, c.in-Err.ensures.absent.inserted c.args.value, c.in_ok-insert-in-Err.ensures.items) in
+    grind (arith, common_steps, c.in-Err.ensures.absent.inserted c.args.value, c.in_ok-insert-in-Err.ensures.items) in
     rw same (changes-with_entry c.args.self.now c.args.key c.args.value)

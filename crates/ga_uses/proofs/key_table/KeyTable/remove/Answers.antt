@@ -14,5 +14,5 @@ invariant_of-self g c = subst IsInKeyOrder (sym c.remove-key.ensures.items)
 pub returns-in-Ok-clause-changes : goal.returns-in-Ok-clause-changes
 returns-in-Ok-clause-changes g c =
     let same : c.remove-key.new.self.items ≡ without_key c.args.self.now c.args.key.now =
-      grind (arith, common_steps, c.in-Ok.ensures.found.removed, c.remove-key.ensures.items) in
+    grind (arith, common_steps, c.in-Ok.ensures.found.removed, c.remove-key.ensures.items) in
     rw same (changes-without_key c.args.self.now c.args.key.now (subst IsInKeyOrder c.self.view_is c.self.invariant))

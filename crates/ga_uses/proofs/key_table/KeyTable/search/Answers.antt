@@ -9,6 +9,6 @@ pub returns : goal.returns
 returns g c =
     let facts = c.binary_search_by.ensures in
     let by_key = facts.position (λ e. key_order e.0 c.args.key.now)
-      (always_returns_same _ _ _ (λ a r f' called. search rules)) in
+    (always_returns_same _ _ _ (λ a r f' called. search rules)) in
     rw (← c.self.view_is, ← c.deref.ensures.value)
-      (searched _ (rw c.deref.ensures.value c.self.invariant) c.args.key.now _ facts.bound by_key)
+    (searched _ (rw c.deref.ensures.value c.self.invariant) c.args.key.now _ facts.bound by_key)

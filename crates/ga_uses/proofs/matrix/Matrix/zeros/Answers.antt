@@ -6,4 +6,4 @@ pub returns : goal.returns
 returns g c =
     let row = replicate g.C.Unsigned.USIZE 0 in
     replicate_each (λ items. items ≡ row) row (λ items same. same) g.R.Unsigned.USIZE c.default.result
-      c.default.ensures.each
+    c.default.ensures.each

@@ -6,4 +6,4 @@ pub returns-in_default : goal.returns-in_default
 returns-in_default g c =
     let left = c.self.inside.left.now in
     ap (λ width. length left / width) c.USIZE.ensures
-      ∙ (sym (length-rows g.N.Unsigned.USIZE left) ∙ ap length c.self.view_is)
+    ∙ (sym (length-rows g.N.Unsigned.USIZE left) ∙ ap length c.self.view_is)

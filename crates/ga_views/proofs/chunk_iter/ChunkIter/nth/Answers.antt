@@ -9,7 +9,7 @@ returns g c =
     let after = c.next.new.self in
     record {
       step = nth-step c.args.n c.min.result c.args.self.now left
-        (option_map (λ view. view.slice.now) c.next.result) after
-        (omega (arith, c.min.ensures, c.len.ensures)) c.pass_front.ensures
+          (option_map (λ view. view.slice.now) c.next.result) after
+          (omega (arith, c.min.ensures, c.len.ensures)) c.pass_front.ensures
           (first-by (λ view. view.slice.now) left c.next.result after c.next.ensures.steps);
     }

@@ -11,8 +11,8 @@ returns g c =
     let after = c.next_back.new.self in
     record {
       step = nth_back-step c.args.n passed items left (option_map (λ view. view.slice.now) c.next_back.result) after
-        (omega (arith, c.min.ensures, c.len.ensures))
+          (omega (arith, c.min.ensures, c.len.ensures))
           (ap reverse c.pass_back.ensures ∙ reverse-take items (length items - passed) passed
-            (omega (arith, c.min.ensures, c.len.ensures)))
+          (omega (arith, c.min.ensures, c.len.ensures)))
           (last-by (λ view. view.slice.now) left c.next_back.result after c.next_back.ensures.steps);
     }

@@ -69,10 +69,10 @@ module _ {M : Type 1} {𝓤 : Ura M} (𝓛 : Logic 𝓤) (R R' : RattleType) whe
   both_of x y v u =
       let out : List Val = vstruct (of_list (v ∷ u ∷ [])) ∷ [] in
       qed 𝓛 (‵ (R.own_val x (v ∷ [])) ∷ ‵ (R'.own_val y (u ∷ [])) ∷ []) ∵ nothing ! $ move !
-        (2 ∷ 0 ∷ []) $ fjoin ! $ move ! (1 ∷ 0 ∷ []) $ fjoin ! $
+      (2 ∷ 0 ∷ []) $ fjoin ! $ move ! (1 ∷ 0 ∷ []) $ fjoin ! $
       feq_i ! (List Val) out out refl $ fjoin ! $
       fpack ! (Valss (R ∷ R' ∷ [])) (within (shape (tuple_type (R ∷ R' ∷ []))) (x, (y, tt)) out)
-        (v ∷ [], (u ∷ [], tt)) $ done !
+      (v ∷ [], (u ∷ [], tt)) $ done !
 
 module _ (X N : RattleType) (g : unsigned.Ghosts N.Denot) (d : Dict) where
   abbrev R : RattleType
@@ -102,11 +102,11 @@ module _ (X N : RattleType) (g : unsigned.Ghosts N.Denot) (d : Dict) where
     module _ (LX : Laws X) where
       abbrev part_laws : Laws Part
       part_laws = arg_laws (ty_struct [] (tcons ty_ptr (tcons (ty_int w64) tnil))) no (Slice lasting 0 X)
-        (slice_laws lasting 0 X LX) refl
+          (slice_laws lasting 0 X LX) refl
 
       abbrev view_laws : Laws N → Laws View
       view_laws LN = rows_laws.the_row_laws (Slice lasting 0 X) R (param 1 N) (impl.ghosts R) g
-        (slice_laws lasting 0 X LX) (param_laws 0 X LX) (param_laws 1 N LN)
+          (slice_laws lasting 0 X LX) (param_laws 0 X LX) (param_laws 1 N LN)
 
 -- `over` asks for the slice's drop, so that one's code is opened
 pub chunks_from_slice_mut_spec : {M : Type 1} → statement M
@@ -116,7 +116,7 @@ chunks_from_slice_mut_spec 𝓤 𝓛 𝓜 𝓡 wired X N LX LN g d bound =
     let key : Args = bounded (a_type ∷ a_type ∷ []) (X, (N, tt)) (dcons d dnil) in
     let fn : Fn = inst_fn key code.function in
     gives_up 2 X 𝓛 (F.clauses X N g d 𝓛 𝓜.mem 𝓡.returns) 𝓜 𝓡 (F.Key.name key) fn
-      (code.unfolded 𝓤 𝓛.H 𝓜 𝓡 wired (X, (N, tt)) d) (λ κs qs bounds s gh fits Post leave.
+    (code.unfolded 𝓤 𝓛.H 𝓜 𝓡 wired (X, (N, tt)) d) (λ κs qs bounds s gh fits Post leave.
     let n : ℕ = length s.now in let width : ℕ = g.USIZE in
     let κ : Lft = κs.0 in let κT : Lft = κs.1.0 in let κN : Lft = κs.1.1.0 in
     let tokens = ‵ (flft κ qs.0) ⊛ ‵ (flft κT qs.1.0) ⊛ ‵ (flft κN qs.1.1.0) ⊛ ‵ ftrue in
@@ -131,7 +131,7 @@ chunks_from_slice_mut_spec 𝓤 𝓛 𝓜 𝓡 wired X N LX LN g d bound =
     sets ! (of_opd ! (get_in ! (fld ! refl (stop !)) (sub ! 1 refl (whole !)))) refl (tt, record { fits = fits }) $
     -- the rows' width
     move ! (2 ∷ []) $ calls_length N g d 𝓛 𝓜.mem 𝓡.returns ! (framed 𝓤 𝓛.H 𝓜 𝓣) bound.USIZE κN qs.1.1.0 lN
-      (λ m is_width fm.
+    (λ m is_width fm.
     -- [the width; the token of N; the tokens of κ, T; the slice]
     lands_as ! refl refl (tt, record { fits = fm }) $
     -- how many items lie in whole rows
@@ -139,15 +139,15 @@ chunks_from_slice_mut_spec 𝓤 𝓛 𝓜 𝓡 wired X N LX LN g d bound =
     let zK : K.Ghost = ((tt, tt, tt, (n, (m, tt)), (vint w64 n ∷ [], (vint w64 m ∷ [], tt))), tt) in
     owned ! usize _ (uint_Makes 𝓛 w64) n _ (refl, fits) $
     nothing ! $ move ! (2 ∷ 0 ∷ []) $ fjoin ! $ move ! (1 ∷ 0 ∷ []) $ fjoin ! $ nothing ! $ join ! $ nothing ! $ move !
-      (1 ∷ 0 ∷ []) $ join ! $
+    (1 ∷ 0 ∷ []) $ join ! $
     use1 𝓛 (raw (K.pre zK)) (id⊢ 𝓤 _) $
     calls_at ! (framed 𝓤 𝓛.H 𝓜 𝓣) K (counted.met 𝓤 𝓛 𝓜 𝓡 (code.calls-ga_views::chunks_ref::len_of_rows 𝓡.env wired)) zK
     (and_then ! (get ! refl) (and_then ! (get ! refl) (no_more !))) (λ v.
     use1 𝓛 (later (some (λ (k : ℕ). (‵ ftrue ⊛ ‵ (usize.own_val k (v ∷ []))) ⊛
     some (λ (ws : Lasts count_contract.ended zK.0.0 zK.0.3). ‵ (lasts count_contract.ended zK.0.0 zK.0.3 ws) ⊛ raw
-      (fact 𝓤 (k ≡ n / m * m)))))) (id⊢ 𝓤 _) $
+    (fact 𝓤 (k ≡ n / m * m)))))) (id⊢ 𝓤 _) $
     await ! tt $ pick ! (λ k. split ! $ split ! $ drop ! $ move ! (1 ∷ []) $ pick !
-      (λ ws. split ! $ drop ! $ heard ! _ (λ is_count.
+    (λ ws. split ! $ drop ! $ heard ! _ (λ is_count.
     -- [the count; the tokens of N, κ, T; the slice]
     peeks ! usize (Is usize) (shows 𝓛 usize) k (v ∷ []) (λ word.
     lands_as ! (ap only word.0) refl (tt, record { fits = word.1 }) $
@@ -155,44 +155,57 @@ chunks_from_slice_mut_spec 𝓤 𝓛 𝓜 𝓡 wired X N LX LN g d bound =
     -- the slice is cut
     sets ! (addr ! (from ! (fld ! refl (hop ! (look_in_at ! 1 (sub ! 0 refl (whole !))) (stop !))))) refl (tt, tt) $
     sets ! (agg ! (and_then ! (get ! refl) (and_then ! (get_in ! (fld ! refl (stop !)) (sub ! 1 refl (whole !)))
-      (no_more !)))) refl (tt, (tt, (record { fits = fits }, tt))) $
+    (no_more !)))) refl (tt, (tt, (record { fits = fits }, tt))) $
     let count : k ≡ chunk_count width s.now * width = is_count ∙ ap (λ (w : ℕ). n / w * w) is_width in
     let inside : k ≤ length s.now = omega (arith, is_count, div-mul-le_self n m) in
     move ! (4 ∷ []) $ fsplit ! $ move ! (1 ∷ []) $ drop ! $
     move ! (0 ∷ 1 ∷ 3 ∷ 4 ∷ []) $
     cuts X 𝓛 𝓜.mem 𝓡.returns κ κT qs.0 qs.1.0 bounds.0 s k ! (framed 𝓤 𝓛.H 𝓜 𝓣)
-      (cut.met 𝓤 𝓛 𝓜 𝓡 (code.calls-core::slice::slice+T::split_at_mut 𝓡.env wired) X LX) lT inside
+    (cut.met 𝓤 𝓛 𝓜 𝓡 (code.calls-core::slice::slice+T::split_at_mut 𝓡.env wired) X LX) lT inside
     (and_then ! (get ! refl) (and_then ! (get ! refl) (no_more !))) (λ first second parts.
     -- [the second part; the first part; what follows; the tokens of κ, T; the token of N]
-    lands_as ! refl refl (tt, ((tt, (record { fits = parts.first_fits }, tt)),
-      ((tt, (record { fits = parts.second_fits }, tt)), tt))) $
+    lands_as ! refl refl (
+      tt,
+      (
+        (tt, (record { fits = parts.first_fits }, tt)),
+        ((tt, (record { fits = parts.second_fits }, tt)), tt),
+      ),
+    ) $
     sets ! (of_opd ! (get_in ! (fld ! refl (stop !)) (sub ! 0 refl (whole !)))) refl
-      (tt, (tt, (record { fits = parts.first_fits }, tt))) $
+    (tt, (tt, (record { fits = parts.first_fits }, tt))) $
     sets ! (of_opd ! (get_in ! (fld ! refl (stop !)) (sub ! 1 refl (whole !)))) refl
-      (tt, (tt, (record { fits = parts.second_fits }, tt))) $
+    (tt, (tt, (record { fits = parts.second_fits }, tt))) $
     sets ! (addr ! (from ! (fld ! refl (hop ! (look_in_at ! 3 (sub ! 0 refl (whole !))) (stop !))))) refl (tt, tt) $
     sets ! (agg ! (and_then ! (get ! refl) (and_then ! (get_in ! (fld ! refl (stop !)) (sub ! 1 refl (whole !)))
-      (no_more !)))) refl (tt, (tt, (record { fits = parts.first_fits }, tt))) $
+    (no_more !)))) refl (tt, (tt, (record { fits = parts.first_fits }, tt))) $
     -- rows are made of the first part
     let lκ : κ ⊑ X.lives = ⊑_trans κ κT X.lives bounds.0 lT in let lS : κ ⊑ κ ++ X.lives =
-      ⊑_meet κ κ X.lives (⊑_refl κ) lκ in
+    ⊑_meet κ κ X.lives (⊑_refl κ) lκ in
     let P : RattleType = Part X N g d κ in let LP = part_laws X N g d κ LX in let I : RattleType = Item X N g d in
-      let Z : RattleType = Length X N g d in
+    let Z : RattleType = Length X N g d in
     let J : RattleType = Lent X N g d in let gP = impl.ghosts J in let dP : Dict = impl.dict J in
     let drops : Dict = impl_of ("ga_views::Destruct++none::drop" ∷ []) (tcons (layout P) tnil) dnil in
     let lends = lent.bound 𝓡.env (code.calls-ga_views::reborrow::RefMutSliceReborrowSlice::all 𝓡.env wired)
     (code.calls-ga_views::reborrow::RefMutSliceReborrowSlice::all_mut 𝓡.env wired)
     (code.calls-ga_views::reborrow::RefMutSliceReborrowSlice::item_mut 𝓡.env wired) κ J
-      (arg_laws (layout X) no E (param_laws 0 X LX) refl) lκ _ 𝓤 𝓛 𝓜 𝓡 in
+    (arg_laws (layout X) no E (param_laws 0 X LX) refl) lκ _ 𝓤 𝓛 𝓜 𝓡 in
     let makes = made.met 𝓤 𝓛 𝓜 𝓡 (code.calls-ga_views::chunks_mut::ChunksViewMut::over 𝓡.env wired) P I Z
     LP (arg_laws (layout X) yes E (param_laws 0 X LX) refl)
-      (arg_laws (layout N) yes (param 1 N) (param_laws 1 N LN) refl) gP dP g d drops
+    (arg_laws (layout N) yes (param 1 N) (param_laws 1 N LN) refl) gP dP g d drops
     (record { all = lends.all; all_mut = lends.all_mut; item_mut = lends.item_mut }) (record { USIZE = bound.USIZE })
     (glues "ga_views::Destruct++none::drop" 𝓡.env (code.calls-ga_views::Destruct++none::drop 𝓡.env wired) P LP _ 𝓤 𝓛 𝓜 𝓡) in
     let O = triple_of 𝓛 (make_contract.signature P I Z gP dP g d drops)
-      (make_contract.spec P I Z gP dP g d drops 𝓛 𝓜.mem 𝓡.returns) in
-    let zO : O.Ghost = (((κ, (κT, (κN, tt))), (qs.0, (qs.1.0, (qs.1.1.0, tt))), tt, (first, tt),
-      (mut_slice_vals first, tt)), tt) in
+    (make_contract.spec P I Z gP dP g d drops 𝓛 𝓜.mem 𝓡.returns) in
+    let zO : O.Ghost = (
+      (
+        (κ, (κT, (κN, tt))),
+        (qs.0, (qs.1.0, (qs.1.1.0, tt))),
+        tt,
+        (first, tt),
+        (mut_slice_vals first, tt),
+      ),
+      tt,
+    ) in
     let long : length first.now ≡ n / width * width = parts.first_len ∙ count in
     let whole_rows : length first.now ≡ chunk_count width first.now * width =
     long ∙ (sym (ap (λ (i : ℕ). i * width) (count-whole n width)) ∙ sym (ap (λ (i : ℕ). i / width * width) long)) in
@@ -212,25 +225,25 @@ chunks_from_slice_mut_spec 𝓤 𝓛 𝓜 𝓡 wired X N LX LN g d bound =
     lands_as ! refl refl (((view_laws X N g d κ LX LN).lawful 𝓛).typed w (u ∷ []) is).0 $
     sets ! (addr ! (from ! (fld ! refl (hop ! (look_in_at ! 4 (sub ! 0 refl (whole !))) (stop !))))) refl (tt, tt) $
     sets ! (agg ! (and_then ! (get ! refl) (and_then ! (get_in ! (fld ! refl (stop !)) (sub ! 1 refl (whole !)))
-      (no_more !)))) refl (tt, (tt, (record { fits = parts.second_fits }, tt))) $
+    (no_more !)))) refl (tt, (tt, (record { fits = parts.second_fits }, tt))) $
     let second_val : Val = slice_val second.ref_ptr (length second.now) in let out : Val =
-      vstruct (of_list (u ∷ second_val ∷ [])) in
+    vstruct (of_list (u ∷ second_val ∷ [])) in
     move ! (0 ∷ 2 ∷ []) $ use2 𝓛 (‵ (Answer.own_val (w, second) (out ∷ []))) (both_of 𝓛 Rows S w second u second_val) $
     peeks ! Answer (Is Answer) (shows 𝓛 Answer) (w, second) (out ∷ []) (λ both.
     sets ! (agg ! (and_then ! (get ! refl) (and_then ! (get ! refl) (no_more !)))) refl
     (((tuple_laws (Rows ∷ S ∷ []) (view_laws X N g d κ LX LN, (slice_laws (lasting X N g d κ) 0 X LX, tt))).lawful
-      𝓛).typed (w, second) (out ∷ []) both).0 $
+    𝓛).typed (w, second) (out ∷ []) both).0 $
     returns ! (look_at ! 0 refl) $ free_all ! refl $
     -- [the rows and the rest; the tokens; what follows]
     rewrite ! 2 (λ (name : GName). ‵ (follows_both (Array E 0) (Array E 0)
-      (Array E 0) s.ghost_name name second.ghost_name ◌++◌)) (ap (λ (x : S.Denot). x.ghost_name) (sym this)) refl $
+    (Array E 0) s.ghost_name name second.ghost_name ◌++◌)) (ap (λ (x : S.Denot). x.ghost_name) (sym this)) refl $
     let same : w.slice.now ≡ first.now = ap (λ (x : S.Denot). x.now) this in
     use0 𝓛 (raw (fact 𝓤 (w.slice.now ++ second.now ≡ s.now)))
-      (fact_i 𝓤 _ (emp 𝓤) (ap (λ (items : List E.Denot). items ++ second.now) same ∙ sym parts.whole)) $
+    (fact_i 𝓤 _ (emp 𝓤) (ap (λ (items : List E.Denot). items ++ second.now) same ∙ sym parts.whole)) $
     use0 𝓛 (raw (fact 𝓤 (second.now ≡ chunk_rest width s.now)))
-      (fact_i 𝓤 _ (emp 𝓤) (parts.second_is ∙ ap (λ (i : ℕ). drop_l i s.now) count)) $
+    (fact_i 𝓤 _ (emp 𝓤) (parts.second_is ∙ ap (λ (i : ℕ). drop_l i s.now) count)) $
     use0 𝓛 (raw (fact 𝓤 (rows width w.slice.now ≡ rows width s.now)))
     (fact_i 𝓤 _ (emp 𝓤) (ap (rows width) (same ∙ (parts.first_is ∙ ap (λ (i : ℕ). take i s.now) count))
-      ∙ rows-of_whole width s.now)) $
+    ∙ rows-of_whole width s.now)) $
     nothing ! $ nothing ! $ fjoin ! $ move ! (5 ∷ 0 ∷ 4 ∷ 6 ∷ []) $
     by ! (leave out (w, second)))))))))))))))))))

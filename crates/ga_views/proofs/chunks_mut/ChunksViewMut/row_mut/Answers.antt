@@ -14,8 +14,11 @@ returns g c =
     let width = c.USIZE-width.result in
     let behind = drop (c.args.index * width) items in
     let below : c.args.index < length items / width = rw c.USIZE-width.ensures c.requires.in_bounds in
-    let fits : width ≤ length behind = omega (arith, length-drop (c.args.index * width) items,
-      row-within (length items) width c.args.index below) in (
+    let fits : width ≤ length behind = omega (
+      arith,
+      length-drop (c.args.index * width) items,
+      row-within (length items) width c.args.index below,
+    ) in (
       (refl, λ row. same_rows c.args.self.now _ _ _ _ (rw c.USIZE-width.ensures refl)),
       record {
         writes_back = _;

@@ -39,7 +39,7 @@ module _ (X : RattleType) where
 
   abbrev loan : Loan
   loan = slice_lent X 2 (λ κs items ns. (ns.0 + ns.1.0 ≤ length items) ∷ [])
-    (λ κs items ns part. refill (length items) items (part_set ns.0 ns.1.0 items part)) part
+      (λ κs items ns part. refill (length items) items (part_set ns.0 ns.1.0 items part)) part
 
 module _ (X : RattleType) {M : Type 1} {𝓤 : Ura M} (𝓛 : Logic 𝓤) (C : Calls 𝓤 𝓛.H) (Λ : Loops 𝓤 𝓛.H) where
   walk : Walk (loan X) 𝓛 C Λ (function X)
@@ -47,7 +47,7 @@ module _ (X : RattleType) {M : Type 1} {𝓤 : Ura M} (𝓛 : Logic 𝓤) (C : C
       let s : ℕ = size (layout X) in let shown : List X.Denot = part X κs x.now.now ns in
       let long : length shown ≡ ns.1.0 = part_long ns.0 ns.1.0 x.now.now asked.0 in
       qed 𝓛 (Had (loan X) 𝓛 κs qs x ns) ∵ enter ! C Λ (function X) _ _ $ alloc_all !
-        (λ l. pass_all ! refl ((tt, tt), ((tt, record { fits = are.0.1 }), ((tt, record { fits = are.1.0.1 }), tt))) $
+      (λ l. pass_all ! refl ((tt, tt), ((tt, record { fits = are.0.1 }), ((tt, record { fits = are.1.0.1 }), tt))) $
       opens_inner ! tt (param 0 X) x (λ rm.
       let offset : ns.0 * s < 2 ^ 64 = offset_fits ns.0 (length x.now.now) s (omega (arith, asked.0)) rm.1 in
       let end : ns.0 + ns.1.0 < 2 ^ 64 = omega (arith, rm.0, asked.0) in
@@ -55,26 +55,26 @@ module _ (X : RattleType) {M : Type 1} {𝓤 : Ura M} (𝓛 : Logic 𝓤) (C : C
       let width : (ns.0 + ns.1.0) - ns.0 ≡ length shown = omega arith in
       -- [the inner reference's cell; what it owns; the open borrow, in three entries]
       sets ! (of_opd ! (load ! (through ! refl (fld ! refl (stop !))) (look_in ! 0 (sub ! 1 refl (whole !))))) refl
-        (tt, record { fits = rm.0 }) $
+      (tt, record { fits = rm.0 }) $
       sets ! (addr ! (through ! refl (fld ! refl (hop ! (look_in ! 0 (sub ! 0 refl (whole !))) (stop !))))) refl
-        (tt, tt) $
+      (tt, tt) $
       sets ! (agg ! (and_then ! (get ! refl) (and_then ! (get ! refl) (no_more !)))) refl
-        (tt, (tt, (record { fits = rm.0 }, tt))) $
+      (tt, (tt, (record { fits = rm.0 }, tt))) $
       sets ! (bin ! (get ! refl) (get ! refl) (record { fits = end })) refl (tt, record { fits = end }) $
       sets ! (is ! (bin ! (get ! refl) (size_word !) (record { fits = uncapped_fits ns.0 s offset }))
-        (ap (vint w64) (uncapped ns.0 s offset))) refl (tt, record { fits = offset }) $
+      (ap (vint w64) (uncapped ns.0 s offset))) refl (tt, record { fits = offset }) $
       sets ! (bin ! (get_in ! (fld ! refl (stop !)) (sub ! 0 refl (whole !))) (get ! refl) tt) refl (tt, tt) $
       sets ! (is ! (bin ! (get ! refl) (get ! refl) (omega arith)) (ap (vint w64) width)) refl
-        (tt, record { fits = fits }) $
+      (tt, record { fits = fits }) $
       sets ! (addr ! (through ! refl (stop !))) refl (tt, tt) $
       sets ! (agg ! (and_then ! (get ! refl) (and_then ! (get ! refl) (no_more !)))) refl
-        (tt, (tt, (record { fits = fits }, tt))) $
+      (tt, (tt, (record { fits = fits }, tt))) $
       closes_inner ! tt (param 0 X) x $
       use3 𝓛 (later (some (lent 𝓛 (param 0 X) κs.0 κs.1.0 qs.0 x ns.0 ns.1.0)))
-        (lends_range 𝓛 (param 0 X) κs.0 κs.1.0 qs.0 x ns.0 ns.1.0 asked.0 bounds.0 rm) $ await ! tt $ pick ! (λ δ.
+      (lends_range 𝓛 (param 0 X) κs.0 κs.1.0 qs.0 x ns.0 ns.1.0 asked.0 bounds.0 rm) $ await ! tt $ pick ! (λ δ.
       returns ! (look_at ! 0 refl) $ free_all ! refl $ keep ! (0 ∷ 1 ∷ []) $ split3 ! $
       by ! (exits _ (record { ref_ptr = (x.now.ref_ptr.0, spot (param 0 X) x.now ns.0); ghost_name = δ; now = shown })
-        refl))))
+      refl))))
 
 pub part_mut_spec : {M : Type 1} → statement M
 part_mut_spec 𝓤 𝓛 𝓜 𝓡 wired X laws =

@@ -32,29 +32,29 @@ module _ (X : RattleType) where
 
   abbrev loan : Loan
   loan = slice_lent X 1 (λ κs items ns. (ns.0 ≡ length items) ∷ []) (λ κs items ns. refill (length items) items)
-    (λ κs items ns. items)
+      (λ κs items ns. items)
 
 module _ (X : RattleType) {M : Type 1} {𝓤 : Ura M} (𝓛 : Logic 𝓤) (C : Calls 𝓤 𝓛.H) (Λ : Loops 𝓤 𝓛.H) where
   walk : Walk (loan X) 𝓛 C Λ (function X)
   walk κs qs bounds x ns Post lives asked are exits =
       qed 𝓛 (Had (loan X) 𝓛 κs qs x ns) ∵ enter ! C Λ (function X) _ _ $ alloc_all !
-        (λ l. pass_all ! refl ((tt, tt), ((tt, record { fits = are.0.1 }), tt)) $
+      (λ l. pass_all ! refl ((tt, tt), ((tt, record { fits = are.0.1 }), tt)) $
       opens_inner ! tt (param 0 X) x (λ rm.
       -- [the inner reference's cell; what it owns; the open borrow, in three entries]
       sets ! (of_opd ! (load ! (through ! refl (fld ! refl (stop !))) (look_in ! 0 (sub ! 1 refl (whole !))))) refl
-        (tt, record { fits = rm.0 }) $
+      (tt, record { fits = rm.0 }) $
       sets ! (addr ! (through ! refl (fld ! refl (hop ! (look_in ! 0 (sub ! 0 refl (whole !))) (stop !))))) refl
-        (tt, tt) $
+      (tt, tt) $
       sets ! (agg ! (and_then ! (get ! refl) (and_then ! (get ! refl) (no_more !)))) refl
-        (tt, (tt, (record { fits = rm.0 }, tt))) $
+      (tt, (tt, (record { fits = rm.0 }, tt))) $
       sets ! (addr ! (from ! (fld ! refl (hop ! (look_in_at ! 5 (sub ! 0 refl (whole !))) (stop !))))) refl (tt, tt) $
       sets ! (is ! (agg ! (and_then ! (get ! refl) (and_then ! (get ! refl) (no_more !))))
-        (ap (slice_val x.now.ref_ptr) asked.0)) refl (tt, (tt, (record { fits = rm.0 }, tt))) $
+      (ap (slice_val x.now.ref_ptr) asked.0)) refl (tt, (tt, (record { fits = rm.0 }, tt))) $
       closes_inner ! tt (param 0 X) x $
       use3 𝓛 (later (some (lent 𝓛 (param 0 X) κs.0 κs.1.0 qs.0 x)))
-        (lends_all 𝓛 (param 0 X) κs.0 κs.1.0 qs.0 x bounds.0 rm) $ await ! tt $ pick ! (λ δ.
+      (lends_all 𝓛 (param 0 X) κs.0 κs.1.0 qs.0 x bounds.0 rm) $ await ! tt $ pick ! (λ δ.
       returns ! (look_at ! 0 refl) $ free_all ! refl $ keep ! (0 ∷ 1 ∷ []) $ split3 ! $ by !
-        (exits (slice_val x.now.ref_ptr (length x.now.now)) (renamed x.now δ) refl))))
+      (exits (slice_val x.now.ref_ptr (length x.now.now)) (renamed x.now δ) refl))))
 
 pub all_mut_spec : {M : Type 1} → statement M
 all_mut_spec 𝓤 𝓛 𝓜 𝓡 wired X laws =

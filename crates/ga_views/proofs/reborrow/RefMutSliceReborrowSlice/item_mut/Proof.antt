@@ -34,29 +34,29 @@ module _ (X : RattleType) where
   abbrev loan : Loan
   loan = loan_of X 1 (RefMutOf (0 ∷ []) tt (plain (λ _. param 0 X)) (λ _. tt)) (param 0 X) (λ κs r. r.ghost_name)
       (λ κs items ns. (ns.0 < length items) ∷ []) (λ κs items ns item. set items ns.0 item)
-        (λ κs items ns r. r.now ≡ get_or items ns.0 r.now)
+      (λ κs items ns r. r.now ≡ get_or items ns.0 r.now)
 
 module _ (X : RattleType) {M : Type 1} {𝓤 : Ura M} (𝓛 : Logic 𝓤) (C : Calls 𝓤 𝓛.H) (Λ : Loops 𝓤 𝓛.H) where
   walk : Walk (loan X) 𝓛 C Λ (function X)
   walk κs qs bounds x ns Post lives asked are exits =
       qed 𝓛 (Had (loan X) 𝓛 κs qs x ns) ∵ enter ! C Λ (function X) _ _ $ alloc_all !
-        (λ l. pass_all ! refl ((tt, tt), ((tt, record { fits = are.0.1 }), tt)) $
+      (λ l. pass_all ! refl ((tt, tt), ((tt, record { fits = are.0.1 }), tt)) $
       opens_inner ! tt (param 0 X) x (λ rm.
       let offset : ns.0 * size (layout X) < 2 ^ 64 =
-        offset_fits ns.0 (length x.now.now) (size (layout X)) (omega (arith, asked.0)) rm.1 in
+      offset_fits ns.0 (length x.now.now) (size (layout X)) (omega (arith, asked.0)) rm.1 in
       -- [the inner reference's cell; what it owns; the open borrow, in three entries]
       sets ! (is ! (bin ! (get ! refl) (size_word !) (record { fits = uncapped_fits ns.0 (size (layout X)) offset }))
-        (ap (vint w64) (uncapped ns.0 (size (layout X)) offset))) refl (tt, record { fits = offset }) $
+      (ap (vint w64) (uncapped ns.0 (size (layout X)) offset))) refl (tt, record { fits = offset }) $
       sets ! (bin ! (load ! (through ! refl (fld ! refl (stop !))) (look_in ! 0 (sub ! 0 refl (whole !))))
-        (get ! refl) tt) refl (tt, tt) $
+      (get ! refl) tt) refl (tt, tt) $
       sets ! (addr ! (through ! refl (stop !))) refl (tt, tt) $
       closes_inner ! tt (param 0 X) x $
       use3 𝓛 (later (some (lent 𝓛 (param 0 X) κs.0 κs.1.0 qs.0 x ns.0)))
-        (lends_element 𝓛 (param 0 X) κs.0 κs.1.0 qs.0 x ns.0 bounds.0 rm asked.0) $ await ! tt $ pick !
-        (λ y. learn ! (λ read.
+      (lends_element 𝓛 (param 0 X) κs.0 κs.1.0 qs.0 x ns.0 bounds.0 rm asked.0) $ await ! tt $ pick !
+      (λ y. learn ! (λ read.
       returns ! (look_at ! 0 refl) $ free_all ! refl $ keep ! (0 ∷ 1 ∷ []) $ split3 ! $
       by ! (exits _ (record { ref_ptr = (x.now.ref_ptr.0, spot (param 0 X) x.now ns.0); ghost_name = y.0; now = y.1 })
-        read)))))
+      read)))))
 
 pub item_mut_spec : {M : Type 1} → statement M
 item_mut_spec 𝓤 𝓛 𝓜 𝓡 wired X laws =

@@ -58,7 +58,7 @@ module _ {M : Type 1} {𝓤 : Ura M} (𝓛 : Logic 𝓤) (R : RattleType) (s : M
       qed 𝓛 (‵ ((MutSlice ℓ κ R).own_val s vs) ∷ []) ∵ fsplit3 ! $ drop ! $
       rewrite ! 0 (λ (l : List R.Denot). ‵ (fobs s.ghost_name ((coded_list R.coded).code l))) (heres_id R s.now) refl $
       use1 𝓛 (‵ (fres s.ghost_name ((coded_list R.coded).code s.now)))
-        (𝓛.names.obs-res s.ghost_name ((coded_list R.coded).code s.now)) $ keep ! (0 ∷ []) $ done !
+      (𝓛.names.obs-res s.ghost_name ((coded_list R.coded).code s.now)) $ keep ! (0 ∷ []) $ done !
 
 -- what the slice ends as
 module _ {M : Type 1} {𝓤 : Ura M} (𝓛 : Logic 𝓤) (R : RattleType) (s : MutBor (List R.Denot)) (A E : Type 0) (name : A
@@ -71,7 +71,7 @@ module _ {M : Type 1} {𝓤 : Ura M} (𝓛 : Logic 𝓤) (R : RattleType) (s : M
 
   abbrev Fits : Result A E → Type 0
   Fits r = (t : (List R.Denot → List R.Denot) × List R.Denot) × ((w : List R.Denot) → OnOk r (t.0 w ≡ w))
-    × OnErr r (t.1 ≡ s.now)
+      × OnErr r (t.1 ≡ s.now)
 
   abbrev Ends : (r : Result A E) → Fits r → Fml
   Ends r t = follows_if (Array R 0) (Array R 0) s.ghost_name (name_if_ok name r) t.0.0 t.0.1
@@ -81,11 +81,11 @@ module _ {M : Type 1} {𝓤 : Ura M} (𝓛 : Logic 𝓤) (R : RattleType) (s : M
   same =
       let code : List R.Denot → Gv = (Array R 0).coded.code in
       let From : List R.Denot → List R.Denot → Fml =
-        λ z w. fsep (feq (List R.Denot) z w) (fauth s.ghost_name (code w)) in
+      λ z w. fsep (feq (List R.Denot) z w) (fauth s.ghost_name (code w)) in
       let said = qed 𝓛 [] ∵ each ! (λ (w : List R.Denot). wand 𝓤 (𝓛.A.res s.ghost_name (code w))
-        (𝓛.A.res s.ghost_name (code w))) (λ w. assume ! (‵ (fres s.ghost_name (code w))) $ done !) in
+      (𝓛.A.res s.ghost_name (code w))) (λ w. assume ! (‵ (fres s.ghost_name (code w))) $ done !) in
       let back = qed 𝓛 [] ∵ each ! (λ (z : List R.Denot). wand 𝓤 (𝓛.A.auth s.ghost_name (code z))
-        (sem 𝓛 (fex (List R.Denot) (From z)))) (λ z. assume ! (‵ (fauth s.ghost_name (code z))) $
+      (sem 𝓛 (fex (List R.Denot) (From z)))) (λ z. assume ! (‵ (fauth s.ghost_name (code z))) $
       feq_i ! (List R.Denot) z z refl $ fjoin ! $ fpack ! (List R.Denot) (From z) z $ done !) in
       record { apply = λ a p. (said.apply a p, back.apply a p) }
 
@@ -107,7 +107,7 @@ try_from_mut_slice_spec 𝓤 𝓛 𝓜 𝓡 wired X N LX LN g d bound =
     let key : Args = bounded (a_type ∷ a_type ∷ []) (X, (N, tt)) (dcons d dnil) in
     let fn : Fn = inst_fn key code.function in
     gives_up 2 X 𝓛 (F.clauses X N g d 𝓛 𝓜.mem 𝓡.returns) 𝓜 𝓡 (F.Key.name key) fn
-      (code.unfolded 𝓤 𝓛.H 𝓜 𝓡 wired (X, (N, tt)) d) (λ κs qs bounds s gh fits Post leave.
+    (code.unfolded 𝓤 𝓛.H 𝓜 𝓡 wired (X, (N, tt)) d) (λ κs qs bounds s gh fits Post leave.
     let n : ℕ = length s.now in
     let κ : Lft = κs.0 in let κT : Lft = κs.1.0 in let κN : Lft = κs.1.1.0 in
     let tokens = ‵ (flft κ qs.0) ⊛ ‵ (flft κT qs.1.0) ⊛ ‵ (flft κN qs.1.1.0) ⊛ ‵ ftrue in
@@ -126,7 +126,7 @@ try_from_mut_slice_spec 𝓤 𝓛 𝓜 𝓡 wired X N LX LN g d bound =
     -- [the tokens, that of N's lifetime last; the slice]
     sets ! (of_opd ! (get_in ! (fld ! refl (stop !)) (sub ! 1 refl (whole !)))) refl (tt, record { fits = fits }) $
     move ! (2 ∷ []) $ calls_length N g d 𝓛 𝓜.mem 𝓡.returns ! (framed 𝓤 𝓛.H 𝓜 𝓣) bound.USIZE κN qs.1.1.0 lN
-      (λ m is_length fm. drop ! $
+    (λ m is_length fm. drop ! $
     lands_as ! refl refl (tt, record { fits = fm }) $
     sets ! (bin ! (get ! refl) (get ! refl) tt) refl (tt, tt) $
     first ! $ branches ! (get ! refl)
@@ -134,13 +134,13 @@ try_from_mut_slice_spec 𝓤 𝓛 𝓜 𝓡 wired X N LX LN g d bound =
     let of_length : n ≡ g.USIZE = eqb→eq n m equal ∙ is_length in
     sets ! (addr ! (from ! (fld ! refl (hop ! (look_in_at ! 1 (sub ! 0 refl (whole !))) (stop !))))) refl (tt, tt) $
     sets ! (agg ! (and_then ! (get ! refl) (and_then ! (get_in ! (fld ! refl (stop !)) (sub ! 1 refl (whole !)))
-      (no_more !)))) refl (tt, (tt, (record { fits = fits }, tt))) $
+    (no_more !)))) refl (tt, (tt, (record { fits = fits }, tt))) $
     split ! $ move ! (1 ∷ []) $ drop ! $ move ! (1 ∷ 2 ∷ 0 ∷ 3 ∷ []) $
     passes X 𝓛 (callee.clauses X N g d 𝓛 𝓜.mem 𝓡.returns) κs qs bounds s tt ! (framed 𝓤 𝓛.H 𝓜 𝓣)
     (theirs.met 𝓤 𝓛 𝓜 𝓡 (code.calls-ga_views::view_mut::ViewMut+mut+slice+T+T+N::from_mut_slice 𝓡.env wired) X N LX LN g
-      d bound)
+    d bound)
     (asks_of 𝓛 lT lN (fact_i 𝓤 _ (emp 𝓤) of_length)) (and_then ! (get ! refl) (no_more !))
-      (λ u w. move ! (1 ∷ []) $ heard ! _ (λ this.
+    (λ u w. move ! (1 ∷ []) $ heard ! _ (λ this.
     -- [the view; the tokens]
     peeks ! V (Is V) (shows 𝓛 V) w (u ∷ []) (λ is.
     let good = ((array_laws lasting 0 X 1 N g LX LN).lawful 𝓛).typed w (u ∷ []) is in
@@ -152,9 +152,9 @@ try_from_mut_slice_spec 𝓤 𝓛 𝓜 𝓡 wired X N LX LN g d bound =
     use1 𝓛 (‵ (Answer.own_val (Ok w) (out ∷ []))) (ok_of 𝓛 V Refusal w u) $
     use0 𝓛 (raw (fact 𝓤 (IfOk {E = Refusal.Denot} (Ok w) (λ answer. answer.slice ≡ s)))) (fact_i 𝓤 _ (emp 𝓤) this) $
     use0 𝓛 (raw (fact 𝓤 (IsOk {E = Refusal.Denot} (Ok w) ↔ (n ≡ g.USIZE))))
-      (fact_i 𝓤 _ (emp 𝓤) ((λ _. of_length), (λ _. refl))) $
+    (fact_i 𝓤 _ (emp 𝓤) ((λ _. of_length), (λ _. refl))) $
     use0 𝓛 (‵ (Rests 𝓛 E s V.Denot Refusal.Denot name (Ok w)))
-      (Ok-rests 𝓛 E s V.Denot Refusal.Denot name w (ap (λ (x : S.Denot). x.ghost_name) this)) $
+    (Ok-rests 𝓛 E s V.Denot Refusal.Denot name w (ap (λ (x : S.Denot). x.ghost_name) this)) $
     -- [nothing is left of the parameter; the answer, the clauses and the tokens in the order in which they came]
     nothing ! $ nothing ! $ fjoin ! $
     returns ! (look_at ! 0 refl) $ free_all ! refl $ move ! (5 ∷ 0 ∷ 4 ∷ []) $
@@ -163,20 +163,20 @@ try_from_mut_slice_spec 𝓤 𝓛 𝓜 𝓡 wired X N LX LN g d bound =
     let e : Refusal.Denot = record {} in
     let out : Val = live 1 (of_list (vstruct vnil ∷ [])) in
     let unfit : n ≡ g.USIZE → ⊥ = λ eq. T_not (eqb n m) differ
-      (subst (λ (j : ℕ). T (eqb n j)) (eq ∙ sym is_length) (eqb_refl n)) in
+    (subst (λ (j : ℕ). T (eqb n j)) (eq ∙ sym is_length) (eqb_refl n)) in
     -- [the token of N's lifetime; the two others; the slice]
     sets ! (agg ! (no_more !)) refl (tt, tt) $
     sets_last ! (agg ! (and_then ! (lit ! tt) (and_then ! (get ! refl) (no_more !)))) refl
-      (tt, (record { fits = lit< tt }, (tt, tt))) $
+    (tt, (record { fits = lit< tt }, (tt, tt))) $
     exec ! 𝓣.C 𝓣.Λ En (after 4 fn.body) (at_ret En Post) $ sets ! (of_opd ! (get ! refl)) refl
-      (tt, (record { fits = lit< tt }, (tt, tt))) $
+    (tt, (record { fits = lit< tt }, (tt, tt))) $
     move ! (1 ∷ 2 ∷ 0 ∷ []) $ group ! 3 $ move ! (1 ∷ []) $ fsplit ! $
     use1 𝓛 (‵ (fres s.ghost_name ((Array E 0).coded.code s.now))) (given_up 𝓛 E s (named 0) κ (mut_slice_vals s)) $
     use1 𝓛 (‵ (Rests 𝓛 E s V.Denot Refusal.Denot name (Err e))) (Err-rests 𝓛 E s V.Denot Refusal.Denot name e) $
     move ! (1 ∷ []) $ drop ! $
     use0 𝓛 (raw (fact 𝓤 (IfOk {T = V.Denot} (Err e) (λ answer. answer.slice ≡ s)))) (fact_i 𝓤 _ (emp 𝓤) tt) $
     use0 𝓛 (raw (fact 𝓤 (IsOk {T = V.Denot} (Err e) ↔ (n ≡ g.USIZE))))
-      (fact_i 𝓤 _ (emp 𝓤) ((λ is. absurd (true≢false (sym is))), (λ eq. absurd (unfit eq)))) $
+    (fact_i 𝓤 _ (emp 𝓤) ((λ is. absurd (true≢false (sym is))), (λ eq. absurd (unfit eq)))) $
     move ! (2 ∷ []) $
     let owned : Fml = Refusal.own_val e (vstruct vnil ∷ []) in
     use0 𝓛 (‵ owned) (makes_shadow 𝓛 owned (λ vss. (tt, tt)) (tt, (refl, tt))) $

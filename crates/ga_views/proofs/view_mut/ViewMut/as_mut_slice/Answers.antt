@@ -6,6 +6,10 @@ use Rattle.std.specs.Prelude.{refl}
 pub returns : goal.returns
 returns g c = (
   (refl, λ written. same_full _ _),
-  record { writes_back = _; items = c.all_mut.ensures.value; len =
-    ap length c.all_mut.ensures.value ∙ c.args.self.now.full },
+  record {
+    writes_back = _;
+    items = c.all_mut.ensures.value;
+    len =
+        ap length c.all_mut.ensures.value ∙ c.args.self.now.full;
+  },
 )

@@ -4,9 +4,13 @@ use Rattle.std.proofs.Common.{◌∙◌, sym}
 use Rattle.std.proofs.lemmas.Result.{IfOk-weaker}
 
 pub try_map_entries-requires-clause-callable : goal.try_map_entries-requires-clause-callable
-try_map_entries-requires-clause-callable g c = (g.Self.GenericSequence.entry, g.Self.AsSlice.items c.args.self,
-    c.entries_of.ensures.gives, c.entries_of.ensures.long ∙ sym g.met.Self.MappedGenericSequence.same_length,
-    c.requires.callable)
+try_map_entries-requires-clause-callable g c = (
+  g.Self.GenericSequence.entry,
+  g.Self.AsSlice.items c.args.self,
+  c.entries_of.ensures.gives,
+  c.entries_of.ensures.long ∙ sym g.met.Self.MappedGenericSequence.same_length,
+  c.requires.callable,
+)
 
 pub returns-clause-run : goal.returns-clause-run
 returns-clause-run g c = c.try_map_entries.ensures.run g.Self.GenericSequence.entry
@@ -20,4 +24,4 @@ returns-clause-acts g c = IfOk-weaker c.try_map_entries.result _ _
 pub returns-clause-len : goal.returns-clause-len
 returns-clause-len g c =
     IfOk-weaker c.try_map_entries.result _ _ (λ built. IfOk-weaker built _ _
-      (λ made long. long ∙ g.met.Self.MappedGenericSequence.same_length)) c.try_map_entries.ensures.len
+    (λ made long. long ∙ g.met.Self.MappedGenericSequence.same_length)) c.try_map_entries.ensures.len

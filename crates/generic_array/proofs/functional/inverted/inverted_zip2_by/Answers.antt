@@ -7,9 +7,17 @@ pub zip_entries-requires-clause-callable : goal.zip_entries-requires-clause-call
 zip_entries-requires-clause-callable g c =
     let same = sym g.met.Lhs.MappedGenericSequence.same_length in
     let long = c.entries_of.ensures.long ∙ same in
-    let also = c.entries_of-2.ensures.long ∙ (c.requires.lengths ∙ same) in
-    (g.Lhs.GenericSequence.entry, g.Lhs.AsSlice.items c.args.lhs, g.S.GenericSequence.entry, g.S.AsSlice.items c.args.s,
-      c.entries_of.ensures.gives, c.entries_of-2.ensures.gives, long, also, c.requires.callable)
+    let also = c.entries_of-2.ensures.long ∙ (c.requires.lengths ∙ same) in (
+      g.Lhs.GenericSequence.entry,
+      g.Lhs.AsSlice.items c.args.lhs,
+      g.S.GenericSequence.entry,
+      g.S.AsSlice.items c.args.s,
+      c.entries_of.ensures.gives,
+      c.entries_of-2.ensures.gives,
+      long,
+      also,
+      c.requires.callable,
+    )
 
 pub returns-clause-run : goal.returns-clause-run
 returns-clause-run g c =
@@ -17,7 +25,7 @@ returns-clause-run g c =
     let long = c.entries_of.ensures.long ∙ same in
     let also = c.entries_of-2.ensures.long ∙ (c.requires.lengths ∙ same) in
     c.zip_entries.ensures.run g.Lhs.GenericSequence.entry (g.Lhs.AsSlice.items c.args.lhs) g.S.GenericSequence.entry
-      (g.S.AsSlice.items c.args.s) c.entries_of.ensures.gives c.entries_of-2.ensures.gives long also
+    (g.S.AsSlice.items c.args.s) c.entries_of.ensures.gives c.entries_of-2.ensures.gives long also
 
 pub returns-clause-acts : goal.returns-clause-acts
 returns-clause-acts g c = IfOk-weaker c.zip_entries.result _ _

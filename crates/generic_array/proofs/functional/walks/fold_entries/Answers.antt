@@ -12,7 +12,7 @@ pub f-answer-requires : goal.f-answer-requires
 f-answer-requires g c =
     let asked = c.requires.callable in
     FoldLoop-callable c.loop-entry.invariant (goal.F-pre g) c.in-Some.entry c.next.new.self
-      (asked.0, asked.1, asked.2, may_fold-at asked.0 _ _ _ _ _ asked.3) c.in-Some.ensures.steps
+    (asked.0, asked.1, asked.2, may_fold-at asked.0 _ _ _ _ _ asked.3) c.in-Some.ensures.steps
 
 pub loop-entry-preserved : goal.loop-entry-preserved
 loop-entry-preserved g c = FoldLoop-more c.loop-entry.invariant c.in-Some.entry c.next.new.self c.f-answer.new.self

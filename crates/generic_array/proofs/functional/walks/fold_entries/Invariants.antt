@@ -5,4 +5,4 @@ abbrev pub invariant-loop-entry : goal.invariant-loop-entry
 invariant-loop-entry g l =
     let I = g.I.Iterator in
     FoldLoop g.row.T.Denot I.can_next I.next_gives I.remaining
-      (goal.F-step g) l.fn.entries l.initial.f l.initial.answer l.entry-iterator l.f l.answer
+    (goal.F-step g) l.fn.entries l.initial.f l.initial.answer l.entry-iterator l.f l.answer

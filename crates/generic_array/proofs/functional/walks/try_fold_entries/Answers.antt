@@ -12,22 +12,28 @@ loop-entry-init g c =
 pub f-requires : goal.f-requires
 f-requires g c =
     let asked = c.requires.callable in
-    FoldLoop-callable c.loop-entry.invariant (goal.F-pre g) c.in-Some.entry c.next.new.self
-      (asked.0, asked.1, asked.2, may_try_fold-at asked.0 (goal.F-pre g)
-      (goal.F-step g) c.args.f.now c.args.init asked.1 asked.3) c.in-Some.ensures.steps
+    FoldLoop-callable c.loop-entry.invariant (goal.F-pre g) c.in-Some.entry c.next.new.self (
+      asked.0,
+      asked.1,
+      asked.2,
+      may_try_fold-at asked.0 (goal.F-pre g)
+          (goal.F-step g) c.args.f.now c.args.init asked.1 asked.3,
+    ) c.in-Some.ensures.steps
 
 pub loop-entry-preserved : goal.loop-entry-preserved
 loop-entry-preserved g c = FoldLoop-more c.loop-entry.invariant c.in-Some.entry c.next.new.self c.f.new.self
     c.in-Ok.next c.in-Some.ensures.steps c.in-Ok.ensures (search rules) (search rules)
 
 pub returns-in-Err : goal.returns-in-Err
-returns-in-Err g c = record { run = FoldLoop-error
-    (goal.F-step g) c.in-Some.entry c.next.new.self c.in-Err.error c.f.new.self c.loop-entry.invariant
-    c.in-Some.ensures.steps c.in-Err.ensures }
+returns-in-Err g c = record {
+  run = FoldLoop-error
+      (goal.F-step g) c.in-Some.entry c.next.new.self c.in-Err.error c.f.new.self c.loop-entry.invariant
+      c.in-Some.ensures.steps c.in-Err.ensures;
+}
 
 pub returns : goal.returns
 returns g c = record {
   run = λ entry values gives.
       TryFoldRun-good (FoldAt entry (goal.F-step g)) c.args.f.now c.args.init values c.loop-entry.answer c.loop-entry.f
-        (FoldLoop-end c.loop-entry.invariant c.next.new.self c.in-None.ensures.steps entry values gives);
+      (FoldLoop-end c.loop-entry.invariant c.next.new.self c.in-None.ensures.steps entry values gives);
 }

@@ -16,17 +16,17 @@ generate_by-requires-clause-callable g c =
     let may = g.I.Iterator.can_next in
     let other_may = g.J.Iterator.can_next in
     let both = pairs_given steps others asked.0 asked.2 c.args.left c.args.right asked.1 asked.3
-      (asked.6 ∙ sym asked.7) asked.4.2 asked.5.2 in
+    (asked.6 ∙ sym asked.7) asked.4.2 asked.5.2 in
     λ k ys reached below run stays. pair-may_call steps others asked.0 asked.2 (goal.F-pre g)
-      (goal.F-step g) may other_may reached.0.now reached.1.now reached.2.now
+    (goal.F-step g) may other_may reached.0.now reached.1.now reached.2.now
     (walk-callable (PairSteps steps others asked.0 asked.2)
-      (both_can steps others asked.0 asked.2 (goal.F-pre g) (goal.F-step g) may other_may)
-      (pair_entry steps others asked.0 asked.2)
+    (both_can steps others asked.0 asked.2 (goal.F-pre g) (goal.F-step g) may other_may)
+    (pair_entry steps others asked.0 asked.2)
     (pair_pre steps others asked.0 asked.2 (goal.F-pre g) (goal.F-step g))
-      (pair_step steps others asked.0 asked.2 (goal.F-pre g) (goal.F-step g))
+    (pair_step steps others asked.0 asked.2 (goal.F-pre g) (goal.F-step g))
     (λ d. (d.0.now, d.1.now)) (λ d. d.2.now) _
     (λ d j y e call. pair-called steps others asked.0 asked.2 (goal.F-pre g)
-      (goal.F-step g) may other_may d.0.now d.1.now d.2.now y e.0.now e.1.now e.2.now call.met.1.0)
+    (goal.F-step g) may other_may d.0.now d.1.now d.2.now y e.0.now e.1.now e.2.now call.met.1.0)
     (zip asked.1 asked.3) _ _ ys reached both (asked.4.0, asked.5.0) run
     (omega (arith, length-range_with_len 0 k, length-zip asked.1 asked.3, asked.6, asked.7, below))
     (pair-callable steps others asked.0 asked.2 (goal.F-pre g) (goal.F-step g) c.args.f.now asked.1 asked.3 asked.8))
@@ -38,17 +38,17 @@ returns-clause-run g c = λ entry values other more gives also long same.
     let may = g.I.Iterator.can_next in
     let other_may = g.J.Iterator.can_next in
     let both = pairs_given steps others entry other c.args.left c.args.right values more
-      (long ∙ sym same) gives.2 also.2 in
+    (long ∙ sym same) gives.2 also.2 in
     IfOk-weaker c.generate_by.result _ _ (λ made run.
     let kept = ClosureRun-keeps _ (λ d. d.2.ghost_name) (λ d j y e call. call.met.1.1) _ _ _ c.generate_by.new.f run in
     let whole = walk-whole (PairSteps steps others entry other)
-      (both_can steps others entry other (goal.F-pre g) (goal.F-step g) may other_may)
-      (pair_entry steps others entry other)
+    (both_can steps others entry other (goal.F-pre g) (goal.F-step g) may other_may)
+    (pair_entry steps others entry other)
     (pair_pre steps others entry other (goal.F-pre g) (goal.F-step g))
-      (pair_step steps others entry other (goal.F-pre g) (goal.F-step g))
+    (pair_step steps others entry other (goal.F-pre g) (goal.F-step g))
     (λ d. (d.0.now, d.1.now)) (λ d. d.2.now) _
     (λ d j y e call. pair-called steps others entry other (goal.F-pre g)
-      (goal.F-step g) may other_may d.0.now d.1.now d.2.now y e.0.now e.1.now e.2.now call.met.1.0)
+    (goal.F-step g) may other_may d.0.now d.1.now d.2.now y e.0.now e.1.now e.2.now call.met.1.0)
     (zip values more) _ _ (g.M.Sequence.AsSlice.items made) c.generate_by.new.f both (gives.0, also.0) run
     (omega (arith, length-range_with_len 0 g.M.Length.Unsigned.USIZE, length-zip values more, long, same)) in
     let calls = ClosureRun-map _ _ (pair-call steps others entry other (goal.F-pre g) (goal.F-step g)) _ _ _ _ whole in

@@ -6,14 +6,14 @@ pub fold_entries-requires : goal.fold_entries-requires
 fold_entries-requires g c =
     let items = g.Self.AsSlice.items c.args.self in
     let gives = g.met.Self.OwnedSequence.gives_items c.args.self c.into_iter.result c.into_iter.ensures.into_iter_gives
-      in
+    in
     record { callable = ((λ item. item), items, gives, c.requires.callable) }
 
 pub returns-clause-run : goal.returns-clause-run
 returns-clause-run g c =
     let items = g.Self.AsSlice.items c.args.self in
     let gives = g.met.Self.OwnedSequence.gives_items c.args.self c.into_iter.result c.into_iter.ensures.into_iter_gives
-      in
+    in
     FoldRun-by_items (goal.F-step g) _ _ items _ _ (c.fold_entries.ensures.run (λ item. item) items gives)
 
 pub returns-clause-acts : goal.returns-clause-acts

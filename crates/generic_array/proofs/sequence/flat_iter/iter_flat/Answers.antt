@@ -7,4 +7,4 @@ use Rattle.generic_array.proofs.sequence.flat_iter.iter_flat.Goals as goal
 pub returns-clause-runs : goal.returns-clause-runs
 returns-clause-runs g c =
     from_front (YieldsFirstRef {A = g.row.T.Denot} (λ left. left)) (λ x. x.now) (λ left. left)
-      (λ before after ended. ap length ended.0) (λ before item after came. came)
+    (λ before after ended. ap length ended.0) (λ before item after came. came)

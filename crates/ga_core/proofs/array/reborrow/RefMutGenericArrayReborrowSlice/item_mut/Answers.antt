@@ -3,9 +3,15 @@ use Rattle.std.proofs.Common.{ap, arith, length, refl, sym}
 use Rattle.std.proofs.lemmas.Option.{get_or_from_slice_get}
 
 pub returns : goal.returns
-returns g c = ((refl, λ w. refl), record { writes_back = tt; value =
-    sym (get_or_from_slice_get c.args.self.now.now c.args.index c.index_mut.result.now c.index_mut.result.now
-    c.index_mut.ensures.value) })
+returns g c = (
+  (refl, λ w. refl),
+  record {
+    writes_back = tt;
+    value =
+        sym (get_or_from_slice_get c.args.self.now.now c.args.index c.index_mut.result.now c.index_mut.result.now
+        c.index_mut.ensures.value);
+  },
+)
 
 pub as_slice-requires : goal.as_slice-requires
 as_slice-requires g c = λ κs outlive. outlive

@@ -9,4 +9,4 @@ returns-clause-len g c =
     let n = g.N.Unsigned.USIZE in
     IfOk-weaker c.try_generate_by.result _ _
     (λ built run. FirstErrorRun-length (goal.F-step g) c.args.f.now (range_with_len 0 n) built c.try_generate_by.new.f n
-      (length-range_with_len 0 n) run) c.try_generate_by.ensures.run
+    (length-range_with_len 0 n) run) c.try_generate_by.ensures.run

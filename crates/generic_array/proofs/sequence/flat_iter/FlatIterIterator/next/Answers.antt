@@ -14,9 +14,9 @@ returns-in-Some-clause-steps g c = sym c.loop-item.invariant
 pub loop-item-preserved : goal.loop-item-preserved
 loop-item-preserved g c =
     rows-begun (iter_rest c.loop-item.self-inside.row) c.in-Some-next.row.now (iter_rest c.iter-self-inside.result)
-      (iter_rest c.loop-item.self-inside.rows)
+    (iter_rest c.loop-item.self-inside.rows)
     (iter_rest c.next-in-loop-item.new.self) c.args.self.now c.in_default.ensures.steps.0 c.in-Some-next.ensures.steps
-      c.iter-self-inside.ensures.0 c.loop-item.invariant
+    c.iter-self-inside.ensures.0 c.loop-item.invariant
 
 pub loop-item-smaller : goal.loop-item-smaller
 loop-item-smaller g c = omega (arith, ap length c.in-Some-next.ensures.steps)

@@ -72,7 +72,7 @@ module _ (X : RattleType) (κ : Lft) where
       abbrev view_told : Told View
       view_told =
           laws.the_told S (param 0 X) (param i Z) (impl.ghosts (param 0 X)) g (slice_laws lasting 0 X LX)
-            (param_laws 0 X LX) (param_laws i Z LZ)
+          (param_laws 0 X LX) (param_laws i Z LZ)
           (field_told (mut_slice_field lasting (param 0 X) tt) (mut_slice_laws lasting (param 0 X) tt))
 
 -- N, K and P are the types of the lengths of the view and of its two halves
@@ -102,18 +102,18 @@ halves_of_spec 𝓤 𝓛 𝓜 𝓡 wired X N K P LX LN LK LP gN dN gK dK gP dP b
     (λ κs. (λ x. (view_told X κs.0 1 N gN LX LN).val x ∷ [], tt)) (λ κs. ((view_told X κs.0 1 N gN LX LN).tells, tt))
     (λ κs qs bounds a gh are.
     let κ : Lft = κs.0 in let κT : Lft = κs.1.0 in let κN : Lft = κs.1.1.0 in let κK : Lft = κs.1.1.1.0 in
-      let κP : Lft = κs.1.1.1.1.0 in
+    let κP : Lft = κs.1.1.1.1.0 in
     let Part : RattleType = S X κ in
     let One : RattleType = View X κ 1 N gN in let First : RattleType = View X κ 2 K gK in let Second : RattleType =
-      View X κ 3 P gP in
+    View X κ 3 P gP in
     let Answer : RattleType = Tuple (First ∷ Second ∷ []) in
     let whole_val : Val = (view_told X κ 1 N gN LX LN).val a.0 in
     let W = walk_of 𝓛 ends kept c in
     let y : W.Ghost = ((κs, qs, bounds, a, (whole_val ∷ [], tt)), tt) in
     qed 𝓛 (((‵ (flft κ qs.0) ⊛ ‵ (flft κT qs.1.0) ⊛ ‵ (flft κN qs.1.1.0) ⊛ ‵ (flft κK qs.1.1.1.0) ⊛
-      ‵ (flft κP qs.1.1.1.1.0) ⊛ ‵ ftrue) ⊛
+    ‵ (flft κP qs.1.1.1.1.0) ⊛ ‵ ftrue) ⊛
     ‵ (owns (One ∷ []) a (whole_val ∷ [], tt))) ∷ raw (fact 𝓤 (κT ⊑ X.lives)) ∷ raw (fact 𝓤 (κN ⊑ N.lives))
-      ∷ raw (fact 𝓤 (κK ⊑ K.lives)) ∷ raw (fact 𝓤 (κP ⊑ P.lives)) ∷
+    ∷ raw (fact 𝓤 (κK ⊑ K.lives)) ∷ raw (fact 𝓤 (κP ⊑ P.lives)) ∷
     raw (fact 𝓤 (gN.USIZE ≡ gK.USIZE + gP.USIZE)) ∷ []) ∵
     move ! (1 ∷ []) $ heard ! _ (λ lT. move ! (1 ∷ []) $ heard ! _ (λ lN. move ! (1 ∷ []) $ heard ! _ (λ lK.
     move ! (1 ∷ []) $ heard ! _ (λ lP. move ! (1 ∷ []) $ heard ! _ (λ sum.
@@ -131,15 +131,15 @@ halves_of_spec 𝓤 𝓛 𝓜 𝓡 wired X N K P LX LN LK LP gN dN gK dK gP dP b
     move ! (1 ∷ 0 ∷ []) $ join ! $ use1 𝓛 (raw (T.pre zT)) (id⊢ 𝓤 _) $
     calls_at ! (framed 𝓤 𝓛.H 𝓜 𝓣) T
     (taken.met 𝓤 𝓛 𝓜 𝓡 (code.calls-ga_views::view_mut::ViewMut+mut+slice+T+T+N::into_mut_slice 𝓡.env wired) X N LX LN gN
-      dN boundN) zT
+    dN boundN) zT
     (and_then ! (get ! refl) (no_more !)) (λ u.
     use1 𝓛 (later (some (λ (s : Part.Denot). ((‵ (flft κ qs.0) ⊛ ‵ (flft κT qs.1.0) ⊛ ‵ (flft κN qs.1.1.0) ⊛ ‵ ftrue) ⊛
-      ‵ (Part.own_val s (u ∷ []))) ⊛
+    ‵ (Part.own_val s (u ∷ []))) ⊛
     some (λ (ws : Lasts (take_contract.ended X N gN dN) zT.0.0 zT.0.3).
-      ‵ (lasts (take_contract.ended X N gN dN) zT.0.0 zT.0.3 ws) ⊛
+    ‵ (lasts (take_contract.ended X N gN dN) zT.0.0 zT.0.3 ws) ⊛
     raw (fact 𝓤 (s ≡ a.0.slice)) ⊛ raw (fact 𝓤 (length s.now ≡ gN.USIZE)))))) (id⊢ 𝓤 _) $
     await ! tt $ pick ! (λ s. split ! $ split ! $ move ! (2 ∷ []) $ pick !
-      (λ ws. split3 ! $ drop ! $ heard ! _ (λ same. heard ! _ (λ is_N.
+    (λ ws. split3 ! $ drop ! $ heard ! _ (λ same. heard ! _ (λ is_N.
     -- [the tokens of κ, T, N; the slice; the tokens of P, K]
     move ! (1 ∷ []) $ peeks ! Part (Is Part) (shows 𝓛 Part) s (u ∷ []) (λ is.
     lands_as ! (ap only is.0.0) refl (tt, (tt, (record { fits = is.0.1.0 }, tt))) $
@@ -153,33 +153,45 @@ halves_of_spec 𝓤 𝓛 𝓜 𝓡 wired X N K P LX LN LK LP gN dN gK dK gP dP b
     let inside : m ≤ length s.now = omega (arith, is_K, is_N, sum) in
     move ! (3 ∷ []) $ split3 ! $ move ! (5 ∷ 3 ∷ 0 ∷ 1 ∷ []) $
     cuts X 𝓛 𝓜.mem 𝓡.returns κ κT qs.0 qs.1.0 bounds.0 s m ! (framed 𝓤 𝓛.H 𝓜 𝓣)
-      (cut.met 𝓤 𝓛 𝓜 𝓡 (code.calls-core::slice::slice+T::split_at_mut 𝓡.env wired) X LX) lT inside
+    (cut.met 𝓤 𝓛 𝓜 𝓡 (code.calls-core::slice::slice+T::split_at_mut 𝓡.env wired) X LX) lT inside
     (and_then ! (get ! refl) (and_then ! (get ! refl) (no_more !))) (λ first second parts.
     -- [the second part; the first part; what follows; the tokens of κ, T; the token of N, with nothing; the tokens of
     -- K, P]
-    lands_as ! refl refl (tt, ((tt, (record { fits = parts.first_fits }, tt)),
-      ((tt, (record { fits = parts.second_fits }, tt)), tt))) $
+    lands_as ! refl refl (
+      tt,
+      (
+        (tt, (record { fits = parts.first_fits }, tt)),
+        ((tt, (record { fits = parts.second_fits }, tt)), tt),
+      ),
+    ) $
     sets ! (of_opd ! (get_in ! (fld ! refl (stop !)) (sub ! 0 refl (whole !)))) refl
-      (tt, (tt, (record { fits = parts.first_fits }, tt))) $
+    (tt, (tt, (record { fits = parts.first_fits }, tt))) $
     sets ! (of_opd ! (get_in ! (fld ! refl (stop !)) (sub ! 1 refl (whole !)))) refl
-      (tt, (tt, (record { fits = parts.second_fits }, tt))) $
+    (tt, (tt, (record { fits = parts.second_fits }, tt))) $
     sets ! (addr ! (from ! (fld ! refl (hop ! (look_in_at ! 2 (sub ! 0 refl (whole !))) (stop !))))) refl (tt, tt) $
     sets ! (agg ! (and_then ! (get ! refl) (and_then ! (get_in ! (fld ! refl (stop !)) (sub ! 1 refl (whole !)))
-      (no_more !)))) refl (tt, (tt, (record { fits = parts.first_fits }, tt))) $
+    (no_more !)))) refl (tt, (tt, (record { fits = parts.first_fits }, tt))) $
     sets ! (addr ! (from ! (fld ! refl (hop ! (look_in_at ! 3 (sub ! 0 refl (whole !))) (stop !))))) refl (tt, tt) $
     sets ! (agg ! (and_then ! (get ! refl) (and_then ! (get_in ! (fld ! refl (stop !)) (sub ! 1 refl (whole !)))
-      (no_more !)))) refl (tt, (tt, (record { fits = parts.second_fits }, tt))) $
+    (no_more !)))) refl (tt, (tt, (record { fits = parts.second_fits }, tt))) $
     -- the views are made
     let B = triple_of 𝓛 (make_contract.signature X K P gK dK gP dP)
-      (make_contract.spec X K P gK dK gP dP 𝓛 𝓜.mem 𝓡.returns) in
-    let zB : B.Ghost =
-    (((κ, (κT, (κK, (κP, tt)))), (qs.0, (qs.1.0, (qs.1.1.1.0, (qs.1.1.1.1.0, tt)))), bounds, (first, (second, tt)),
-      (mut_slice_vals first, (mut_slice_vals second, tt))), tt) in
+    (make_contract.spec X K P gK dK gP dP 𝓛 𝓜.mem 𝓡.returns) in
+    let zB : B.Ghost = (
+      (
+        (κ, (κT, (κK, (κP, tt)))),
+        (qs.0, (qs.1.0, (qs.1.1.1.0, (qs.1.1.1.1.0, tt)))),
+        bounds,
+        (first, (second, tt)),
+        (mut_slice_vals first, (mut_slice_vals second, tt)),
+      ),
+      tt,
+    ) in
     nothing ! $ move ! (1 ∷ 0 ∷ []) $ fjoin ! $ move ! (1 ∷ 0 ∷ []) $ fjoin ! $ move ! (2 ∷ []) $ split3 ! $ move !
-      (6 ∷ []) $ split ! $
+    (6 ∷ []) $ split ! $
     move ! (2 ∷ 3 ∷ 0 ∷ 8 ∷ 1 ∷ 5 ∷ []) $ group ! 5 $ join ! $
     use0 𝓛 (raw (fact 𝓤 (length second.now ≡ gP.USIZE)))
-      (fact_i 𝓤 _ (emp 𝓤) (omega (arith, is_K, is_N, sum, parts.second_len))) $
+    (fact_i 𝓤 _ (emp 𝓤) (omega (arith, is_K, is_N, sum, parts.second_len))) $
     use0 𝓛 (raw (fact 𝓤 (length first.now ≡ gK.USIZE))) (fact_i 𝓤 _ (emp 𝓤) (parts.first_len ∙ is_K)) $ join ! $
     use0 𝓛 (raw (fact 𝓤 (κP ⊑ P.lives))) (fact_i 𝓤 _ (emp 𝓤) lP) $ join ! $
     use0 𝓛 (raw (fact 𝓤 (κK ⊑ K.lives))) (fact_i 𝓤 _ (emp 𝓤) lK) $ join ! $
@@ -187,33 +199,33 @@ halves_of_spec 𝓤 𝓛 𝓜 𝓡 wired X N K P LX LN LK LP gN dN gK dK gP dP b
     move ! (1 ∷ 0 ∷ []) $ join ! $ use1 𝓛 (raw (B.pre zB)) (id⊢ 𝓤 _) $
     calls_at ! (framed 𝓤 𝓛.H 𝓜 𝓣) B
     (made.met 𝓤 𝓛 𝓜 𝓡 (code.calls-generic_array::sequence::shapes::views::views_of 𝓡.env wired) X K P LX LK LP gK dK gP
-      dP boundK boundP) zB
+    dP boundK boundP) zB
     (and_then ! (get ! refl) (and_then ! (get ! refl) (no_more !))) (λ u.
     use1 𝓛 (later (some (λ (w : Answer.Denot).
     ((‵ (flft κ qs.0) ⊛ ‵ (flft κT qs.1.0) ⊛ ‵ (flft κK qs.1.1.1.0) ⊛ ‵ (flft κP qs.1.1.1.1.0) ⊛ ‵ ftrue) ⊛
-      ‵ (Answer.own_val w (u ∷ []))) ⊛
+    ‵ (Answer.own_val w (u ∷ []))) ⊛
     some (λ (ws : Lasts (make_contract.ended X K P gK dK gP dP) zB.0.0 zB.0.3).
-      ‵ (lasts (make_contract.ended X K P gK dK gP dP) zB.0.0 zB.0.3 ws) ⊛
+    ‵ (lasts (make_contract.ended X K P gK dK gP dP) zB.0.0 zB.0.3 ws) ⊛
     raw (fact 𝓤 (w.0.slice ≡ first)) ⊛ raw (fact 𝓤 (w.1.slice ≡ second)))))) (id⊢ 𝓤 _) $
     await ! tt $ pick ! (λ w. split ! $ split ! $ move ! (2 ∷ []) $ pick !
-      (λ ws. split3 ! $ drop ! $ heard ! _ (λ of_first. heard ! _ (λ of_second.
+    (λ ws. split3 ! $ drop ! $ heard ! _ (λ of_first. heard ! _ (λ of_second.
     -- [the tokens of κ, T, K, P; the views; nothing; what follows; the token of N]
     move ! (1 ∷ []) $ peeks ! Answer (Is Answer) (shows 𝓛 Answer) w (u ∷ []) (λ views.
     lands_as ! refl refl (((tuple_laws (First ∷ Second ∷ [])
-      (view_laws X κ 2 K gK LX LK, (view_laws X κ 3 P gP LX LP, tt))).lawful 𝓛).typed w (u ∷ []) views).0 $
+    (view_laws X κ 2 K gK LX LK, (view_laws X κ 3 P gP LX LP, tt))).lawful 𝓛).typed w (u ∷ []) views).0 $
     returns ! (look_at ! 0 refl) $ free_all ! refl $
     rewrite ! 3 (λ (names : GName × GName × GName).
-      ‵ (follows_both (Array E 0) (Array E 0) (Array E 0) names.0 names.1 names.2 ◌++◌))
+    ‵ (follows_both (Array E 0) (Array E 0) (Array E 0) names.0 names.1 names.2 ◌++◌))
     (λ i. ((same i).ghost_name, (sym of_first i).ghost_name, (sym of_second i).ghost_name)) refl $
     move ! (1 ∷ 4 ∷ []) $ split3 ! $ move ! (3 ∷ []) $ split ! $ move ! (1 ∷ []) $ drop ! $ move !
-      (1 ∷ 2 ∷ 0 ∷ 3 ∷ []) $ group ! 4 $
+    (1 ∷ 2 ∷ 0 ∷ 3 ∷ []) $ group ! 4 $
     -- [all tokens; the views; nothing; what follows]
     nothing ! $ move ! (0 ∷ 3 ∷ []) $ fjoin ! $
     use0 𝓛 (raw (fact 𝓤 (w.1.slice.now ≡ drop_l gK.USIZE a.0.slice.now)))
     (fact_i 𝓤 _ (emp 𝓤) (ap (λ (x : Part.Denot). x.now) of_second ∙ parts.second_is
-      ∙ (λ i. drop_l (is_K i) (same i).now))) $
+    ∙ (λ i. drop_l (is_K i) (same i).now))) $
     use0 𝓛 (raw (fact 𝓤 (w.0.slice.now ≡ take gK.USIZE a.0.slice.now)))
     (fact_i 𝓤 _ (emp 𝓤) (ap (λ (x : Part.Denot). x.now) of_first ∙ parts.first_is ∙ (λ i. take (is_K i) (same i).now)))
-      $
+    $
     move ! (3 ∷ 2 ∷ 4 ∷ 5 ∷ []) $
     by ! (leaves 𝓛 ends kept c y u w ((tt, tt), tt) (tt, tt)))))))))))))))))))))))

@@ -9,13 +9,19 @@ returns g c =
     let two = c.move_items-2.ensures.moved ∙ c.as_mut_slice-3.ensures.items in
     let long = sym c.as_mut_slice-2.ensures.len ∙ ap length c.as_mut_slice-2.ensures.items in
     let joined = refill-parts (length c.default-both.result) c.default-both.result c.move_items.new.slots
-      c.move_items-2.new.slots c.args.self c.args.rest one two
-    (omega (arith, c.move_items.auto.slots, c.move_items-2.auto.slots, c.split_at_mut-left.ensures.front_len,
-      c.split_at_mut-left.ensures.back_len, ap length c.as_mut_slice.ensures.items)) in
+    c.move_items-2.new.slots c.args.self c.args.rest one two
+    (omega (
+      arith,
+      c.move_items.auto.slots,
+      c.move_items-2.auto.slots,
+      c.split_at_mut-left.ensures.front_len,
+      c.split_at_mut-left.ensures.back_len,
+      ap length c.as_mut_slice.ensures.items,
+    )) in
     record {
       joined = joined;
       first = ap (take g.N.Unsigned.USIZE) joined ∙
-        (ap (λ n. take n (c.args.self ++ c.args.rest)) long ∙ take-append_seam c.args.self c.args.rest);
+          (ap (λ n. take n (c.args.self ++ c.args.rest)) long ∙ take-append_seam c.args.self c.args.rest);
       rest = ap (drop g.N.Unsigned.USIZE) joined ∙
-        (ap (λ n. drop n (c.args.self ++ c.args.rest)) long ∙ drop-append_seam c.args.self c.args.rest);
+          (ap (λ n. drop n (c.args.self ++ c.args.rest)) long ∙ drop-append_seam c.args.self c.args.rest);
     }
