@@ -175,9 +175,8 @@ module _ (block : ℕ → List ℕ) (width start : ℕ) (text : List ℕ) where
 
 -- A turn of the loop over a text: so many bytes of the block at the place are put over the next bytes of the text.
 module _ (block : ℕ → List ℕ) (width start : ℕ) (text : List ℕ) (some : 0 < width) (position done count : ℕ)
-    (now kept : List ℕ)
-    (counted : count ≡ min (length now - done) (width - position % width)) (long : length now ≡ length text)
-    (passed : done ≤ length text) where
+    (now kept : List ℕ) (counted : count ≡ min (length now - done) (width - position % width))
+    (long : length now ≡ length text) (passed : done ≤ length text) where
   pub count-le_block : position % width + count ≤ width
   count-le_block = omega (arith, mod-lt position some)
 

@@ -8,8 +8,8 @@ use Rattle.std.proofs.Common.{subst, sym, ◌∙◌}
 use Rattle.std.proofs.lemmas.List.Sums.{sum_by-append, sum_by-cons}
 use Rattle.std.specs.List.{sum_by}
 
-module _ {F X Y : Type 0} (step : F → X → Y → F → Type 0) (f : F) (h : X → Y) (acts : (x : X) (y : Y) (next : F)
-    → step f x y next → (next ≡ f) × (y ≡ h x)) where
+module _ {F X Y : Type 0} (step : F → X → Y → F → Type 0) (f : F) (h : X → Y)
+    (acts : (x : X) (y : Y) (next : F) → step f x y next → (next ≡ f) × (y ≡ h x)) where
   -- a run answers h of each input
   pub answers_of_run : (xs : List X) (ys : List Y) (last : F) → ClosureRun step f xs ys last → ys ≡ map h xs
   answers_of_run [] [] last run = refl
@@ -70,8 +70,8 @@ module _ {F X : Type 0} (value : X → ℕ) (step : F → ℕ → X → ℕ → 
         sum_by-cons value x xs,
       )
 
-module _ {F I X : Type 0} (entry : I → X) (value : X → ℕ) (step : F → ℕ → I → ℕ → F → Type 0) (pre : F → ℕ → I
-    → Type 0) where
+module _ {F I X : Type 0} (entry : I → X) (value : X → ℕ) (step : F → ℕ → I → ℕ → F → Type 0)
+    (pre : F → ℕ → I → Type 0) where
   -- A fold that adds values may be made where their sum is below a bound, below which each call may be made. With
   -- `search rules` for the facts on one call this is the whole of a caller's condition.
   pub sum_is_callable : (f : F) (xs : List X) (bound : ℕ)

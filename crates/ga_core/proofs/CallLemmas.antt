@@ -73,8 +73,8 @@ module _ {F I T : Type 0} (entry : I → T) (pre : F → I → Type 0) where
       (λ here stays. stays-holds (CallAt entry step) (λ s. pre s item) f passed (map Ok good) reached run here
       (λ v y g call. stays call.0 y g call.2))
 
-module _ {F I J T B Y : Type 0} (entry : I → T) (other : J → B) (pre : F → I → J → Type 0) (step : F → I → J → Y → F
-    → Type 0) (f : F) where
+module _ {F I J T B Y : Type 0} (entry : I → T) (other : J → B) (pre : F → I → J → Type 0)
+    (step : F → I → J → Y → F → Type 0) (f : F) where
   pub may_zip-at : (xs : List T) (bs : List B) → MayZip entry other pre step f xs bs
       → (passed : List (T × B)) (p : T × B) (others : List (T × B)) (ys : List Y) (reached : F)
       → zip xs bs ≡ passed ++ p ∷ others

@@ -16,8 +16,8 @@ module _ {I T F Y : Type 0} (entry : I → T) (step : F → I → Y → F → Ty
       → ys ≡ map h xs
   answers_at_entries = answers_of_run (CallAt entry step) f h call_at
 
-module _ {I J T B F Y : Type 0} (entry : I → T) (other : J → B) (step : F → I → J → Y → F → Type 0) (f : F) (h : T × B
-    → Y) (acts : ActsOnEntries entry other step f h) where
+module _ {I J T B F Y : Type 0} (entry : I → T) (other : J → B) (step : F → I → J → Y → F → Type 0) (f : F)
+    (h : T × B → Y) (acts : ActsOnEntries entry other step f h) where
   call_at_pair : (p : T × B) (y : Y) (next : F) → CallAtPair entry other step f p y next → (next ≡ f) × (y ≡ h p)
   call_at_pair p y next call =
       let o = acts call.0 call.1 y next call.4 in

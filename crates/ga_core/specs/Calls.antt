@@ -43,8 +43,8 @@ module _ {F I T : Type 0} (entry : I → T) (pre : F → I → Type 0) where
       → items ≡ passed ++ item ∷ others → ClosureRun (CallAt entry step) f passed (map Ok good) reached
       → (at : I) → entry at ≡ item → (pre f at → Stays step f → pre reached at) → pre reached at
 
-module _ {F I J T B Y : Type 0} (entry : I → T) (other : J → B) (pre : F → I → J → Type 0) (step : F → I → J → Y → F
-    → Type 0) where
+module _ {F I J T B Y : Type 0} (entry : I → T) (other : J → B) (pre : F → I → J → Type 0)
+    (step : F → I → J → Y → F → Type 0) where
   -- f may be called at entries of each two items at the same index in turn
   abbrev pub MayZip : F → List T → List B → Type 0
   MayZip f left right = (passed : List (T × B)) (pair : T × B) (others : List (T × B)) (ys : List Y) (reached : F)

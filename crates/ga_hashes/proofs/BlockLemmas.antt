@@ -117,8 +117,7 @@ module _ {V F : Type 0} (bytes_of : V → List ℕ) (step : F → V → Unit {0}
 
 -- A block that is full now, the one that a call sees, and the bytes behind it are all bytes.
 module _ {V F : Type 0} (bytes_of : V → List ℕ) (step : F → V → Unit {0} → F → Type 0) (width : ℕ) (some : 0 < width)
-    (all behind : List ℕ) (v : V)
-    (joined : bytes_of v ++ behind ≡ all) (full : length (bytes_of v) ≡ width) where
+    (all behind : List ℕ) (v : V) (joined : bytes_of v ++ behind ≡ all) (full : length (bytes_of v) ≡ width) where
   -- the blocks of all bytes are that block and those behind it
   blocks : rows width all ≡ bytes_of v ∷ rows width behind
   blocks = rows-behind width some (bytes_of v) behind all joined full

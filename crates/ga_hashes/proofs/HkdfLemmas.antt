@@ -56,8 +56,8 @@ module _ (digest : List ℕ → List ℕ) (block : ℕ) (key info : List ℕ) (s
 
   -- one block more, of this size
   module _ (number at from : ℕ) (output bytes written : List ℕ) (room : number * size < length output)
-      (begun : BeginsWithBlocks digest block key info size number output)
-      (at_is : at ≡ number * size) (from_is : from ≡ number * size - size)
+      (begun : BeginsWithBlocks digest block key info size number output) (at_is : at ≡ number * size)
+      (from_is : from ≡ number * size - size)
       (tag : bytes ≡ hmac_of digest block key (take (at - from) (drop from output) ++ (info ++ ((number + 1) ∷ []))))
       (whole : length bytes ≡ size) (put : written ≡ written_at at bytes output)
       (stays : length written ≡ length output) where

@@ -129,9 +129,8 @@ Open {𝓤 = 𝓤} 𝓛 R κ κ' q x = sep 𝓤 (𝓛.A.obs x.ghost_name ((Inner
 
 -- the outer reference is x, and the inner one d.
 -- The part is a U, which lies at (b, o) as `own` says, and the items are F w with the part at w
-module _ {M : Type 1} {𝓤 : Ura M} (𝓛 : Logic 𝓤) (R U : RattleType) (own : U.Denot → ℕ → ℕ → Fml) (F : U.Denot
-    → List R.Denot)
-    (κ κ' : Lft) (q : Share) (b o : ℕ) (x : MutBor (MutBor (List R.Denot))) where
+module _ {M : Type 1} {𝓤 : Ura M} (𝓛 : Logic 𝓤) (R U : RattleType) (own : U.Denot → ℕ → ℕ → Fml)
+    (F : U.Denot → List R.Denot) (κ κ' : Lft) (q : Share) (b o : ℕ) (x : MutBor (MutBor (List R.Denot))) where
   open 𝓛 use {H, A}
 
   abbrev d : MutBor (List R.Denot)

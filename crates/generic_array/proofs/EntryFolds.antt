@@ -19,8 +19,8 @@ module _ {I T F A : Type 0} (entry : I → T) (step : F → A → I → A → F 
       → b ≡ fold h a xs
   fold_at_entries = answer_of_fold (FoldAt entry step) f h (fold_call_at entry step f h acts)
 
-module _ {I T F A E : Type 0} (entry : I → T) (step : F → A → I → Result A E → F → Type 0) (f : F) (h : A → T
-    → Result A E) (acts : ActsInFold entry step f h) where
+module _ {I T F A E : Type 0} (entry : I → T) (step : F → A → I → Result A E → F → Type 0) (f : F)
+    (h : A → T → Result A E) (acts : ActsInFold entry step f h) where
   -- a fold up to the first error is that of h
   pub try_fold_at_entries : (a : A) (xs : List T) (answer : Result A E) (last : F)
       → TryFoldRun (FoldAt entry step) f a xs answer last → answer ≡ try_fold h a xs

@@ -29,8 +29,8 @@ pub record FoldLoop {S I F A : Type 0} (T : Type 0) (can : S → Type 0) (steps 
   pub so_far : (entry : I → T) (values : List T) → GivesEntries can steps remaining entry entries values
       → FoldsSoFar steps entry step values f₀ a₀ s f a
 
-module _ {S I T F A : Type 0} {can : S → Type 0} {steps : S → Option I → S → Type 0} {remaining : S → Count} {step : F
-    → A → I → A → F → Type 0} {entries : S} {f₀ : F} {a₀ : A} where
+module _ {S I T F A : Type 0} {can : S → Type 0} {steps : S → Option I → S → Type 0} {remaining : S → Count}
+    {step : F → A → I → A → F → Type 0} {entries : S} {f₀ : F} {a₀ : A} where
   -- at its entry no call was made
   pub FoldLoop-entry : (s : S) → s ≡ entries → can entries → IsFinite (remaining entries)
       → FoldLoop T can steps remaining step entries f₀ a₀ s f₀ a₀
@@ -132,8 +132,8 @@ module _ {S I T F A E : Type 0} {can : S → Type 0} {steps : S → Option I →
       (item, refl, call))
 
 -- where f may be called in a fold up to its first error, it may be called in each state that good calls lead to
-module _ {F A I T E : Type 0} (entry : I → T) (pre : F → A → I → Type 0) (step : F → A → I → Result A E → F
-    → Type 0) where
+module _ {F A I T E : Type 0} (entry : I → T) (pre : F → A → I → Type 0)
+    (step : F → A → I → Result A E → F → Type 0) where
   pub may_try_fold-at : (f : F) (a : A) (xs : List T) → MayTryFold entry pre step f a xs
       → (passed : List T) (x : T) (others : List T) (reached : F) (value : A) → xs ≡ passed ++ x ∷ others
       → FoldRun (good_step (FoldAt entry step)) f a passed value reached → (item : I) → entry item ≡ x

@@ -108,8 +108,8 @@ module _ {S I T C F K Y : Type 0} (steps : S → Option I → S → Type 0) (can
       let same : values ≡ walked.0 = walked.2 ∙ (ap (λ left. walked.0 ++ left) none ∙ append-nil walked.0) in
       subst (λ passed. ClosureRun (CallAt entry step) (fn c) passed ys (fn d)) (sym same) walked.6
 
-module _ {C K Y A : Type 0} (calls : C → K → Y → C → Type 0) (part : C → A) (keeps : (c : C) (k : K) (y : Y) (d : C)
-    → calls c k y d → part d ≡ part c) where
+module _ {C K Y A : Type 0} (calls : C → K → Y → C → Type 0) (part : C → A)
+    (keeps : (c : C) (k : K) (y : Y) (d : C) → calls c k y d → part d ≡ part c) where
   -- what each call keeps, a run keeps
   pub ClosureRun-keeps : (c : C) (ks : List K) (ys : List Y) (d : C) → ClosureRun calls c ks ys d → part d ≡ part c
   ClosureRun-keeps c [] [] d run = ap part (sym run)
@@ -117,8 +117,8 @@ module _ {C K Y A : Type 0} (calls : C → K → Y → C → Type 0) (part : C �
   ClosureRun-keeps c (k ∷ ks) [] d run = absurd run
   ClosureRun-keeps c (k ∷ ks) (y ∷ ys) d run = ClosureRun-keeps run.0 ks ys d run.2 ∙ keeps c k y run.0 run.1
 
-module _ {F X Y : Type 0} (P Q : F → X → Y → F → Type 0) (each : (f : F) (x : X) (y : Y) (g : F) → P f x y g
-    → Q f x y g) where
+module _ {F X Y : Type 0} (P Q : F → X → Y → F → Type 0)
+    (each : (f : F) (x : X) (y : Y) (g : F) → P f x y g → Q f x y g) where
   -- a run of calls that each are also another kind of call
   pub ClosureRun-map : (f : F) (xs : List X) (ys : List Y) (g : F) → ClosureRun P f xs ys g → ClosureRun Q f xs ys g
   ClosureRun-map f [] [] g run = run

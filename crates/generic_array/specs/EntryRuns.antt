@@ -23,8 +23,8 @@ module _ {F A X E : Type 0} (step : F → A → X → Result A E → F → Type 
   TryFoldRun f a (x ∷ xs) (Err error) last = step f a x (Err error) last
       ⊎ ((c : A) × (g : F) × step f a x (Ok c) g × TryFoldRun g c xs (Err error) last)
 
-module _ {F A I T E : Type 0} (entry : I → T) (pre : F → A → I → Type 0) (step : F → A → I → Result A E → F
-    → Type 0) where
+module _ {F A I T E : Type 0} (entry : I → T) (pre : F → A → I → Type 0)
+    (step : F → A → I → Result A E → F → Type 0) where
   -- f may be called at an entry of each item in turn, each time with the value reached, as long as its calls are good
   abbrev pub MayTryFold : F → A → List T → Type 0
   MayTryFold f init items = (passed : List T) (item : T) (others : List T) (reached : F) (value : A)

@@ -39,8 +39,8 @@ module _ {S I F : Type 0} (can_next : S → Type 0) (next_gives : S → Option I
   CallAtNext step entries f y after g = ((item : I) × next_gives entries (Some item) after × step f item y g)
       × can_next after
 
-module _ {S R I J F : Type 0} (can_next : S → Type 0) (next_gives : S → Option I → S → Type 0) (other_can_next : R
-    → Type 0) (other_gives : R → Option J → R → Type 0) where
+module _ {S R I J F : Type 0} (can_next : S → Type 0) (next_gives : S → Option I → S → Type 0)
+    (other_can_next : R → Type 0) (other_gives : R → Option J → R → Type 0) where
   -- the same of two iterators, and f may be called at what the two give
   abbrev pub MayCallAtNextPair : (F → I → J → Type 0) → S → R → F → Type 0
   MayCallAtNextPair pre entries others f = can_next entries × other_can_next others

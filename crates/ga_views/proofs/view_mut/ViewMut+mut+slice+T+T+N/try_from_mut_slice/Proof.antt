@@ -61,8 +61,8 @@ module _ {M : Type 1} {𝓤 : Ura M} (𝓛 : Logic 𝓤) (R : RattleType) (s : M
       (𝓛.names.obs-res s.ghost_name ((coded_list R.coded).code s.now)) $ keep ! (0 ∷ []) $ done !
 
 -- what the slice ends as
-module _ {M : Type 1} {𝓤 : Ura M} (𝓛 : Logic 𝓤) (R : RattleType) (s : MutBor (List R.Denot)) (A E : Type 0) (name : A
-    → GName) where
+module _ {M : Type 1} {𝓤 : Ura M} (𝓛 : Logic 𝓤) (R : RattleType) (s : MutBor (List R.Denot)) (A E : Type 0)
+    (name : A → GName) where
   abbrev Rests : Result A E → Fml
   Rests r = RestsIfErr (Array R 0) s name r (λ rest. rest ≡ s.now)
 
