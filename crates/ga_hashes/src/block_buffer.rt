@@ -64,14 +64,14 @@ impl<N: ArrayLength<u8>> BlockBuffer<N> {
             → HasFed (λ slice. slice.now) F.step N.USIZE first message self.old.kept f.old
             → HasFed (λ slice. slice.now) F.step N.USIZE first (message ++ bytes.now) self.new.kept f.new }
     {
-        // Where a field is used, the type's invariant is known: blocks aren't empty.
-        let _ = &self.kept;
         self.feed_blocks(bytes, f);
     }
 
-    // The feed itself, of which `feed` says one thing more that follows.
+    // The feed itself, of which `feed` says one thing more that follows. It uses the fields, so it can
+    // say of the buffer that blocks aren't empty.
     fn feed_blocks<F: FnMut(&[u8])>(&mut self, bytes: &[u8], f: &mut F)
         requires callable { MayTakeBlocks F.step F.pre N.USIZE f.old (self.old.kept ++ bytes.now) }
+        ensures some { 0 < N.USIZE }
         ensures blocks { TakesBlocks F.step N.USIZE f.old (self.old.kept ++ bytes.now) f.new }
         ensures kept { self.new.kept ≡ chunk_rest N.USIZE (self.old.kept ++ bytes.now) }
         ensures len { self.new.len ≡ count_more self.old.len bytes.now }
@@ -128,14 +128,13 @@ impl<N: ArrayLength<u8>> BlockBuffer<N> {
     // Feeds fewer zeros than a block has bytes.
     fn feed_zeros<F: FnMut(&[u8])>(&mut self, count: usize, f: &mut F)
         requires few { count < N.USIZE }
+        requires fits { FitsInline N.USIZE }
         requires callable { MayTakeBlocks F.step F.pre N.USIZE f.old (self.old.kept ++ replicate count 0) }
         ensures { (first : F) (message : List ℕ)
             → HasFed (λ slice. slice.now) F.step N.USIZE first message self.old.kept f.old
             → HasFed (λ slice. slice.now) F.step N.USIZE first (message ++ replicate count 0)
             self.new.kept f.new }
     {
-        // Where a field is used, the type's invariant is known: the length fits.
-        let _ = &self.kept;
         let block = zeros::<N>();
         let (zeros, _) = block.as_slice().split_at(count);
         self.feed(zeros, f);

@@ -1,10 +1,8 @@
 use Rattle.ga_hashes.proofs.BlockLemmas.{HasFed-more}
 use Rattle.ga_hashes.proofs.block_buffer.BlockBuffer.feed.Goals as goal
-use Rattle.std.proofs.Common.{arith}
 
 pub returns-clause-whole : goal.returns-clause-whole
 returns-clause-whole g c first message fed =
     HasFed-more (λ slice. slice.now) (goal.F-step g) g.N.Unsigned.USIZE
-    (omega (arith, c.self.invariant.0)) first c.args.f.now c.feed_blocks.new.f message c.args.self.now.kept
-    c.args.bytes.now
+    c.feed_blocks.ensures.some first c.args.f.now c.feed_blocks.new.f message c.args.self.now.kept c.args.bytes.now
     c.feed_blocks.new.self.kept fed c.feed_blocks.ensures.blocks c.feed_blocks.ensures.kept
