@@ -1,6 +1,7 @@
 //! An array for writing, as what a writing view stands on.
 use crate::array::GenericArray;
 use crate::length::ArrayLength;
+use crate::store::Store;
 use ga_views::reborrow::ReborrowSlice;
 
 impl<'a, T, N: ArrayLength<T>> ReborrowSlice<T> for &'a mut GenericArray<T, N> {
@@ -33,8 +34,8 @@ impl<'a, T, N: ArrayLength<T>> ReborrowSlice<T> for &'a mut GenericArray<T, N> {
 
     #[inline]
     fn item_mut(&mut self, index: usize) -> &mut T {
-        // Its contract shows that there are `N` items.
-        let _ = GenericArray::as_slice(self);
-        &mut self[index]
+        // The checker knows the fields of what a variable refers to by one reference.
+        let array: &mut GenericArray<T, N> = self;
+        array.store.item_mut(index)
     }
 }

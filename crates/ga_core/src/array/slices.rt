@@ -11,6 +11,7 @@ use crate::array::GenericArray;
 use crate::builder::ArrayBuilder;
 use crate::length::ArrayLength;
 use ga_views::{ChunksMut, ChunksRef, GenericArrayMut, GenericArrayRef, LengthError, ViewMut};
+use std::marker::PhantomData;
 
 impl<T, N: ArrayLength<T>> GenericArray<T, N> {
     /// The read-only view of the items.
@@ -31,9 +32,12 @@ impl<T, N: ArrayLength<T>> GenericArray<T, N> {
         ensures slice { result.slice ≡ self.entry }
         ensures fits { FitsInline N.USIZE }
     {
-        // Where a field is used, the type's invariant is known: there are `N` items.
-        let _ = &self.store;
-        ViewMut::over(self)
+        // With the array's own field, its invariant is known: there are `N` items.
+        ViewMut {
+            of: self.of,
+            len: PhantomData,
+            slice: self,
+        }
     }
 
     /// The read-only view of a slice of `N` items, which need not fit inline.

@@ -1,20 +1,23 @@
+use Rattle.ga_core.proofs.SlotLemmas.{refill-set}
 use Rattle.ga_core.proofs.array.reborrow.RefMutGenericArrayReborrowSlice.item_mut.Goals as goal
-use Rattle.std.proofs.Common.{ap, arith, length, refl, sym}
-use Rattle.std.proofs.lemmas.Option.{get_or_from_slice_get}
+use Rattle.std.proofs.Common.{◌∙◌, ap, refl, slice_set}
+use Rattle.std.specs.Prelude.{slice_index_or}
 
 pub returns : goal.returns
-returns g c = (
-  (refl, λ w. refl),
-  record {
-    writes_back = tt;
-    value =
-        sym (get_or_from_slice_get c.args.self.now.now c.args.index c.index_mut.result.now c.index_mut.result.now
-        c.index_mut.ensures.value);
-  },
-)
-
-pub as_slice-requires : goal.as_slice-requires
-as_slice-requires g c = λ κs outlive. outlive
-
-pub index_mut-requires : goal.index_mut-requires
-index_mut-requires g c = omega (arith, c.requires.in_bounds, ap length c.as_slice.ensures.items, c.as_slice.ensures.len)
+returns g c =
+    let items = g.N.ArrayType.Store.items c.array.inside.store in
+    let index = c.args.index in (
+      (
+        refl,
+        λ w.
+            let after = g.N.ArrayType.Store.store_with c.array.inside.store (slice_set items index w) in
+            let shown = refill-set items items (g.N.ArrayType.Store.items after.0) index w refl after.1
+            ∙ ap (λ items. slice_set items index w) c.array.view_is in
+            ap (λ now. record c.args.self.now { now = now }) shown,
+      ),
+      record {
+        writes_back = tt;
+        value = c.item_mut.ensures.value
+            ∙ ap (λ items. slice_index_or items index c.item_mut.result.now) c.array.view_is;
+      },
+    )
