@@ -180,10 +180,8 @@ impl<S: ReborrowPart<T>, T, N: Unsigned> ChunksViewMut<S, T, N> {
         ensures row { result.now ≡ row_at N.USIZE (S.items self.old.slice) index }
         ensures len { length result.now ≡ N.USIZE }
     {
-        // Its contract shows that a `usize` counts the items.
-        let _ = self.as_slice();
-        let width = N::USIZE;
-        self.slice.part_mut(index * width, width)
+        let start = self.view().start_of(index);
+        self.slice.part_mut(start, N::USIZE)
     }
 
     /// The row at `index` for writing, or `None` where `index` isn't below the number of rows. Constant

@@ -73,6 +73,15 @@ impl<'a, T, N: Unsigned> ChunksRef<'a, T, N> {
         }
     }
 
+    // Where the row at `index` starts among the items. They lie in a slice, so this fits a `usize`.
+    #[inline]
+    pub(crate) fn start_of(self, index: usize) -> usize
+        requires in_bounds { index < chunk_count N.USIZE (items_of_chunks self) }
+        ensures { result ≡ index * N.USIZE }
+    {
+        index * N::USIZE
+    }
+
     /// The row at `index`, or `None` if there are at most `index` rows. O(1).
     #[inline]
     pub fn get(&self, index: usize) -> Option<GenericArrayRef<'a, T, N>>
@@ -83,7 +92,7 @@ impl<'a, T, N: Unsigned> ChunksRef<'a, T, N> {
             ≡ slice_get (rows N.USIZE (items_of_chunks self.now)) index }
     {
         if index < self.len() {
-            let (_, behind) = self.slice.split_at(index * N::USIZE);
+            let (_, behind) = self.slice.split_at(self.start_of(index));
             let (row, _) = behind.split_at(N::USIZE);
             Some(GenericArrayRef::from_slice(row))
         } else {
