@@ -1,4 +1,4 @@
-//! Tuples of the items of arrays, each by the native array of them.
+//! Tuples of the items of arrays, each by the native array of them and std's `From`.
 ghost use Rattle.std.specs.Prelude.{◌≡◌, ◌∷◌, []};
 
 use crate::array::GenericArray;
@@ -10,8 +10,7 @@ impl<T: Default + Drop> From<GenericArray<T, U1>> for (T,) {
     ghost from_gives = { λ array tuple. array ≡ tuple.0 ∷ [] };
 
     fn from(array: GenericArray<T, U1>) -> Self {
-        let [a]: [T; 1] = native(array);
-        (a,)
+        native::<T, U1, 1>(array).into()
     }
 }
 
@@ -19,8 +18,7 @@ impl<T: Default + Drop> From<GenericArray<T, U2>> for (T, T) {
     ghost from_gives = { λ array tuple. array ≡ tuple.0 ∷ tuple.1 ∷ [] };
 
     fn from(array: GenericArray<T, U2>) -> Self {
-        let [a, b]: [T; 2] = native(array);
-        (a, b)
+        native::<T, U2, 2>(array).into()
     }
 }
 
@@ -28,8 +26,7 @@ impl<T: Default + Drop> From<GenericArray<T, U3>> for (T, T, T) {
     ghost from_gives = { λ array tuple. array ≡ tuple.0 ∷ tuple.1 ∷ tuple.2 ∷ [] };
 
     fn from(array: GenericArray<T, U3>) -> Self {
-        let [a, b, c]: [T; 3] = native(array);
-        (a, b, c)
+        native::<T, U3, 3>(array).into()
     }
 }
 
@@ -37,8 +34,7 @@ impl<T: Default + Drop> From<GenericArray<T, U4>> for (T, T, T, T) {
     ghost from_gives = { λ array tuple. array ≡ tuple.0 ∷ tuple.1 ∷ tuple.2 ∷ tuple.3 ∷ [] };
 
     fn from(array: GenericArray<T, U4>) -> Self {
-        let [a, b, c, d]: [T; 4] = native(array);
-        (a, b, c, d)
+        native::<T, U4, 4>(array).into()
     }
 }
 
@@ -46,8 +42,7 @@ impl<T: Default + Drop> From<GenericArray<T, U5>> for (T, T, T, T, T) {
     ghost from_gives = { λ array tuple. array ≡ tuple.0 ∷ tuple.1 ∷ tuple.2 ∷ tuple.3 ∷ tuple.4 ∷ [] };
 
     fn from(array: GenericArray<T, U5>) -> Self {
-        let [a, b, c, d, e]: [T; 5] = native(array);
-        (a, b, c, d, e)
+        native::<T, U5, 5>(array).into()
     }
 }
 
@@ -56,8 +51,7 @@ impl<T: Default + Drop> From<GenericArray<T, U6>> for (T, T, T, T, T, T) {
         array ≡ tuple.0 ∷ tuple.1 ∷ tuple.2 ∷ tuple.3 ∷ tuple.4 ∷ tuple.5 ∷ [] };
 
     fn from(array: GenericArray<T, U6>) -> Self {
-        let [a, b, c, d, e, f]: [T; 6] = native(array);
-        (a, b, c, d, e, f)
+        native::<T, U6, 6>(array).into()
     }
 }
 
@@ -66,8 +60,7 @@ impl<T: Default + Drop> From<GenericArray<T, U7>> for (T, T, T, T, T, T, T) {
         array ≡ tuple.0 ∷ tuple.1 ∷ tuple.2 ∷ tuple.3 ∷ tuple.4 ∷ tuple.5 ∷ tuple.6 ∷ [] };
 
     fn from(array: GenericArray<T, U7>) -> Self {
-        let [a, b, c, d, e, f, g]: [T; 7] = native(array);
-        (a, b, c, d, e, f, g)
+        native::<T, U7, 7>(array).into()
     }
 }
 
@@ -76,8 +69,7 @@ impl<T: Default + Drop> From<GenericArray<T, U8>> for (T, T, T, T, T, T, T, T) {
         array ≡ tuple.0 ∷ tuple.1 ∷ tuple.2 ∷ tuple.3 ∷ tuple.4 ∷ tuple.5 ∷ tuple.6 ∷ tuple.7 ∷ [] };
 
     fn from(array: GenericArray<T, U8>) -> Self {
-        let [a, b, c, d, e, f, g, h]: [T; 8] = native(array);
-        (a, b, c, d, e, f, g, h)
+        native::<T, U8, 8>(array).into()
     }
 }
 
@@ -87,8 +79,7 @@ impl<T: Default + Drop> From<GenericArray<T, U9>> for (T, T, T, T, T, T, T, T, T
         tuple.7 ∷ tuple.8 ∷ [] };
 
     fn from(array: GenericArray<T, U9>) -> Self {
-        let [a, b, c, d, e, f, g, h, i]: [T; 9] = native(array);
-        (a, b, c, d, e, f, g, h, i)
+        native::<T, U9, 9>(array).into()
     }
 }
 
@@ -98,8 +89,7 @@ impl<T: Default + Drop> From<GenericArray<T, U10>> for (T, T, T, T, T, T, T, T, 
         tuple.8 ∷ tuple.9 ∷ [] };
 
     fn from(array: GenericArray<T, U10>) -> Self {
-        let [a, b, c, d, e, f, g, h, i, j]: [T; 10] = native(array);
-        (a, b, c, d, e, f, g, h, i, j)
+        native::<T, U10, 10>(array).into()
     }
 }
 
@@ -109,8 +99,7 @@ impl<T: Default + Drop> From<GenericArray<T, U11>> for (T, T, T, T, T, T, T, T, 
         tuple.9 ∷ tuple.10 ∷ [] };
 
     fn from(array: GenericArray<T, U11>) -> Self {
-        let [a, b, c, d, e, f, g, h, i, j, k]: [T; 11] = native(array);
-        (a, b, c, d, e, f, g, h, i, j, k)
+        native::<T, U11, 11>(array).into()
     }
 }
 
@@ -120,8 +109,7 @@ impl<T: Default + Drop> From<GenericArray<T, U12>> for (T, T, T, T, T, T, T, T, 
         tuple.9 ∷ tuple.10 ∷ tuple.11 ∷ [] };
 
     fn from(array: GenericArray<T, U12>) -> Self {
-        let [a, b, c, d, e, f, g, h, i, j, k, l]: [T; 12] = native(array);
-        (a, b, c, d, e, f, g, h, i, j, k, l)
+        native::<T, U12, 12>(array).into()
     }
 }
 
