@@ -1,23 +1,294 @@
-//! What the library promises, in one place.
-//!
-//! For every element type and length that its store holds, every closure with state and every finite
-//! iterator, inline, boxed and borrowed sequences mean, through one interface, lists of exactly N values:
-//!
-//! - a build succeeds exactly where N items come: `builds`;
-//! - closure calls run in order and stop at the first error: `calls`, and over joined lists `joined_runs`;
-//! - shapes undo each other: `shapes`;
-//! - every run of two-ended iterator calls gives what a list cut from both ends gives: `steps`.
-//!
-//! Each function's contract is a part of this. `kinds` calls each at every kind that has it.
-/// A build succeeds exactly where N items come.
-pub mod builds;
-/// Closure calls run in order and stop at the first error.
-pub mod calls;
-/// A run over joined lists is one over each in turn.
-pub mod joined_runs;
-#[cfg(test)]
-mod kinds;
-/// Shapes undo each other.
-pub mod shapes;
-/// Any run of two-ended calls is a list cut from both ends.
-pub mod steps;
+//! The headline at each kind of sequence that has it, with exact results.
+ghost use Rattle.generic_array.specs.Views.{items_of_view};
+ghost use Rattle.generic_array.specs.declared.steps.step.Reply.TheVariants.{Item, Old, Seen};
+ghost use Rattle.generic_array.specs.declared.steps.step.Step.TheVariants.{Look, Next, NextBack, Set};
+ghost use Rattle.std.specs.Prelude.{◌≡◌, ◌+◌, ◌%◌, ◌^◌, [], ◌∷◌, ◌++◌, Err, IfOk, Ok, OnOk, Some, if◌then◌else◌, length, nat_eq, nat_lt};
+
+use crate::kinds::{boxed_one_two_three, four_five_six, one_two_three};
+use ga_headline::builds::build;
+use ga_headline::calls::{fold, map, try_fold, try_map, zip};
+use ga_headline::joined_runs::{folds_join, maps_join, try_folds_join, try_maps_join, zips_join};
+use ga_headline::shapes::{
+    concat_then_split, flatten_then_unflatten, pop_then_put, put_then_pop, split_then_concat,
+    unflatten_then_flatten,
+};
+use ga_headline::steps::walk;
+use generic_array::sequence::{GenericSequence, SequenceItem};
+use generic_array::steps::{Reply, Step};
+use generic_array::{
+    AllocError, BoxedArray, BoxedArrayIter, FillError, GenericArray, GenericArrayIter,
+    GenericArrayRef, Never, U0, U2, U3, U4, U5, always, arr,
+};
+use std::alloc::Global;
+use std::test::Fail;
+
+// Builds.
+
+fn inline_of(items: Vec<u32>) -> Result<GenericArray<u32, U3>, FillError<Never, Never>>
+    requires { items.items ≡ 1 ∷ 2 ∷ 3 ∷ [] }
+    ensures { result ≡ Ok (1 ∷ 2 ∷ 3 ∷ []) }
+{
+    build((), items)
+}
+
+fn boxed_of(
+    alloc: Global,
+    items: Vec<u32>,
+) -> Result<BoxedArray<u32, U3>, FillError<Never, AllocError>>
+    requires { items.items ≡ 1 ∷ 2 ∷ 3 ∷ [] }
+    ensures { IfOk result (λ array. array ≡ 1 ∷ 2 ∷ 3 ∷ []) }
+{
+    build(alloc, items)
+}
+
+// Calls: running totals at each kind, sums of two kinds, and what stops at an item.
+
+fn totals_of_inline(array: GenericArray<u32, U3>) -> GenericArray<u32, U3>
+    requires { array ≡ 1 ∷ 2 ∷ 3 ∷ [] }
+    ensures { result ≡ 1 ∷ 3 ∷ 6 ∷ [] }
+{
+    let mut total = 0u32;
+    always(map(
+        array,
+        (),
+        &mut |item: u32| {
+            total = total.wrapping_add(item);
+            total
+        },
+    ))
+}
+
+fn totals_of_view(view: GenericArrayRef<'_, u32, U3>) -> GenericArray<u32, U3>
+    requires { items_of_view view ≡ 1 ∷ 2 ∷ 3 ∷ [] }
+    ensures { result ≡ 1 ∷ 3 ∷ 6 ∷ [] }
+{
+    let mut total = 0u32;
+    always(map(
+        view,
+        (),
+        &mut |item: &u32| {
+            total = total.wrapping_add(*item);
+            total
+        },
+    ))
+}
+
+fn totals_of_boxed(
+    alloc: Global,
+    array: BoxedArray<u32, U3>,
+) -> Result<BoxedArray<u32, U3>, AllocError>
+    requires { array ≡ 1 ∷ 2 ∷ 3 ∷ [] }
+    ensures { IfOk result (λ totals. totals ≡ 1 ∷ 3 ∷ 6 ∷ []) }
+{
+    let mut total = 0u32;
+    map(
+        array,
+        alloc,
+        &mut |item: u32| {
+            total = total.wrapping_add(item);
+            total
+        },
+    )
+}
+
+fn sums_of_boxed_and_view(
+    alloc: Global,
+    left: BoxedArray<u32, U3>,
+    right: GenericArrayRef<'_, u32, U3>,
+) -> Result<BoxedArray<u32, U3>, AllocError>
+    requires left { left ≡ 1 ∷ 2 ∷ 3 ∷ [] }
+    requires right { items_of_view right ≡ 4 ∷ 5 ∷ 6 ∷ [] }
+    ensures { IfOk result (λ sums. sums ≡ 5 ∷ 7 ∷ 9 ∷ []) }
+{
+    zip(
+        left,
+        alloc,
+        right,
+        &mut |l: u32, r: &u32| { l.wrapping_add(*r) },
+    )
+}
+
+fn sum_of_reference(array: &GenericArray<u32, U3>) -> u32
+    requires { array.now ≡ 1 ∷ 2 ∷ 3 ∷ [] }
+    ensures { result ≡ 6 }
+{
+    fold(
+        array,
+        0,
+        &mut |sum: u32, item: &u32| sum.wrapping_add(*item),
+    )
+}
+
+/// The entry, or an error where it is 2.
+fn stopped_at_two(entry: u32) -> Result<u32, u32>
+    ensures { result ≡ (if nat_eq entry 2 then Err entry else Ok entry) }
+{
+    if entry == 2 { Err(entry) } else { Ok(entry) }
+}
+
+fn stopped_in_boxed(
+    alloc: Global,
+    array: BoxedArray<u32, U3>,
+) -> Result<Result<BoxedArray<u32, U3>, u32>, AllocError>
+    requires { array ≡ 1 ∷ 2 ∷ 3 ∷ [] }
+    ensures { IfOk result (λ built. built ≡ Err 2) }
+{
+    try_map(array, alloc, &mut stopped_at_two)
+}
+
+/// The sum, or an error where it is above 3.
+fn up_to_three(sum: u32, item: u32) -> Result<u32, u32>
+    ensures { let total = (sum + item) % 2 ^ 32 in
+        result ≡ (if nat_lt 3 total then Err total else Ok total) }
+{
+    let sum = sum.wrapping_add(item);
+    if sum > 3 { Err(sum) } else { Ok(sum) }
+}
+
+fn stopped_past_three_in_view(view: GenericArrayRef<'_, u32, U3>) -> Result<u32, u32>
+    requires { items_of_view view ≡ 1 ∷ 3 ∷ 9 ∷ [] }
+    ensures { result ≡ Err 4 }
+{
+    try_fold(view, 0, &mut |sum: u32, item: &u32| up_to_three(sum, *item))
+}
+
+// Joined runs, at any kind.
+
+fn all_join<S: GenericSequence<u32>>(s: &S)
+where
+    SequenceItem<S>: Drop,
+{
+    maps_join::<u32, u32, S, _>(s, &|_item: SequenceItem<S>| 0u32);
+    zips_join::<u32, u32, u32, S, S, _>(
+        s,
+        s,
+        &|_item: SequenceItem<S>, _other: SequenceItem<S>| 0u32,
+    );
+    try_maps_join::<u32, u32, u32, S, _>(
+        s,
+        &|_item: SequenceItem<S>| -> Result<u32, u32> { Ok(0) },
+    );
+    folds_join::<u32, u32, S, _>(s, &|sum: u32, _item: SequenceItem<S>| sum);
+    try_folds_join::<u32, u32, u32, S, _>(
+        s,
+        &|sum: u32, _item: SequenceItem<S>| -> Result<u32, u32> { Ok(sum) },
+    );
+}
+
+// Steps.
+
+fn count_of(items: &[u32]) -> usize
+    ensures { result ≡ length items.now }
+{
+    items.len()
+}
+
+fn walked_inline(
+    array: GenericArray<u32, U3>,
+    steps: Vec<Step<u32>>,
+    replies: &mut Vec<Reply<u32, usize>>,
+) -> Result<GenericArrayIter<u32, U3>, AllocError>
+    requires array { array ≡ 1 ∷ 2 ∷ 3 ∷ [] }
+    requires steps { steps.items ≡ Next ∷ Look ∷ Set 1 9 ∷ NextBack ∷ [] }
+    ensures replies { OnOk result (replies.new.items
+        ≡ replies.old.items ++ Item (Some 1) ∷ Seen 2 ∷ Old 3 ∷ Item (Some 9) ∷ []) }
+    ensures left { IfOk result (λ left. left ≡ 2 ∷ []) }
+{
+    walk(array, steps, &mut count_of, replies)
+}
+
+fn walked_boxed(
+    array: BoxedArray<u32, U3>,
+    steps: Vec<Step<u32>>,
+    replies: &mut Vec<Reply<u32, usize>>,
+) -> Result<BoxedArrayIter<u32>, AllocError>
+    requires array { array ≡ 1 ∷ 2 ∷ 3 ∷ [] }
+    requires steps { steps.items ≡ Next ∷ Look ∷ Set 1 9 ∷ NextBack ∷ [] }
+    ensures replies { OnOk result (replies.new.items
+        ≡ replies.old.items ++ Item (Some 1) ∷ Seen 2 ∷ Old 3 ∷ Item (Some 9) ∷ []) }
+    ensures left { IfOk result (λ left. left ≡ 2 ∷ []) }
+{
+    walk(array, steps, &mut count_of, replies)
+}
+
+/// The sum of the items.
+fn sum_of(items: &[u32]) -> u32 {
+    items.iter().fold(0, |sum, item| sum.wrapping_add(*item))
+}
+
+#[test]
+fn builds_want_just_their_number(rt: HostRuntime) -> Result<(), Fail> {
+    let alloc = rt.alloc();
+    let three = [1, 2, 3].as_slice();
+    assert!(rt; inline_of(vec![in alloc; 1, 2, 3]?).is_ok_and(|array| array.as_slice() == three));
+    assert!(rt;
+        boxed_of(alloc, vec![in alloc; 1, 2, 3]?).is_ok_and(|array| array.as_slice() == three)
+    );
+    Ok(())
+}
+
+#[test]
+fn calls_run_in_order_up_to_an_error(rt: HostRuntime) -> Result<(), Fail> {
+    let alloc = rt.alloc();
+    let array = one_two_three();
+    let totals = [1, 3, 6].as_slice();
+    assert!(rt; totals_of_inline(one_two_three()).as_slice() == totals);
+    assert!(rt; totals_of_view(array.view()).as_slice() == totals);
+    assert!(rt; totals_of_boxed(alloc, boxed_one_two_three(alloc)?)?.as_slice() == totals);
+    let (boxed, right) = (boxed_one_two_three(alloc)?, four_five_six());
+    let sums = sums_of_boxed_and_view(alloc, boxed, right.view())?;
+    assert!(rt; sums.as_slice() == [5, 7, 9].as_slice() && sum_of_reference(&array) == 6);
+    let stopped = stopped_in_boxed(alloc, boxed_one_two_three(alloc)?)?;
+    assert!(rt; matches!(stopped, Err(2)));
+    let array = arr![1u32, 3, 9];
+    assert!(rt; matches!(stopped_past_three_in_view(array.view()), Err(4)));
+    Ok(())
+}
+
+#[test]
+fn runs_join(rt: HostRuntime) {
+    all_join(&one_two_three().view());
+}
+
+#[test]
+fn what_is_done_and_undone_is_as_it_was(rt: HostRuntime) {
+    let four = [1, 2, 3, 4].as_slice();
+    let one_to_four: GenericArray<u32, U4> = arr![1, 2, 3, 4];
+    let (array, item, sum) = put_then_pop::<u32, U4, U5, _, _>(one_to_four, 9, false, sum_of);
+    assert!(rt; item == 9 && sum == 19 && array.as_slice() == four);
+    let (array, item, sum) = put_then_pop::<u32, U4, U5, _, _>(array, 8, true, sum_of);
+    assert!(rt; item == 8 && sum == 18 && array.as_slice() == four);
+    let (array, sum) = pop_then_put::<u32, U4, U3, _, _>(array, false, sum_of);
+    assert!(rt; sum == 6);
+    let (array, sum) = pop_then_put::<u32, U4, U3, _, _>(array, true, sum_of);
+    assert!(rt; sum == 9);
+    let (array, sums) = split_then_concat::<u32, U4, U2, U2, _, _>(array, |first, second| {
+        (sum_of(first), sum_of(second))
+    });
+    assert!(rt; sums == (3, 7) && array.as_slice() == four);
+    let (none, array, sum) = concat_then_split::<u32, U4, U0, U4, _, _>(arr![], array, sum_of);
+    assert!(rt; none.as_slice().is_empty() && sum == 10 && array.as_slice() == four);
+    let bytes: GenericArray<u8, U4> = arr![1, 2, 3, 4];
+    let (bytes, count) = unflatten_then_flatten::<U4, U2, _, _>(bytes, |rows| rows.len());
+    assert!(rt; count == 2 && bytes.as_slice() == [1, 2, 3, 4].as_slice());
+    let rows = arr![arr![1u8, 2], arr![3, 4]];
+    let (rows, count) = flatten_then_unflatten::<U4, U2, _, _>(rows, |items| items.len());
+    assert!(rt; count == 4 && rows.as_slice()[1].as_slice() == [3, 4].as_slice());
+}
+
+#[test]
+fn steps_cut_a_list_from_both_ends(rt: HostRuntime) -> Result<(), Fail> {
+    let alloc = rt.alloc();
+    let wanted = "[Item(Some(1)), Seen(2), Old(3), Item(Some(9))]";
+    let mut replies = Vec::new(alloc);
+    let steps = vec![in alloc; Step::Next, Step::Look, Step::Set(1, 9), Step::NextBack]?;
+    let left = walked_inline(one_two_three(), steps, &mut replies)?;
+    assert!(rt; left.as_slice() == [2].as_slice());
+    assert!(rt; format!(in alloc; "{replies:?}")?.as_str() == wanted);
+    let mut replies = Vec::new(alloc);
+    let steps = vec![in alloc; Step::Next, Step::Look, Step::Set(1, 9), Step::NextBack]?;
+    let left = walked_boxed(boxed_one_two_three(alloc)?, steps, &mut replies)?;
+    assert!(rt; left.as_slice() == [2].as_slice());
+    assert!(rt; format!(in alloc; "{replies:?}")?.as_str() == wanted);
+    Ok(())
+}

@@ -21,7 +21,8 @@ mod fixed_list;
 mod generic;
 #[cfg(test)]
 mod headers;
-pub mod headline;
+#[cfg(test)]
+mod headline;
 #[cfg(test)]
 mod hex_text;
 #[cfg(test)]

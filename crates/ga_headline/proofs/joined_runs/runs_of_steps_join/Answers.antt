@@ -1,5 +1,5 @@
 use Rattle.generic_array.proofs.LawLemmas.{ClosureRun-joined}
-use Rattle.ga_callers.proofs.headline.joined_runs.zips_join.Goals as goal
+use Rattle.ga_headline.proofs.joined_runs.runs_of_steps_join.Goals as goal
 
 pub returns : goal.returns
 returns g c = ClosureRun-joined _

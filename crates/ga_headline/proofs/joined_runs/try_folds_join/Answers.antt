@@ -1,5 +1,5 @@
 use Rattle.generic_array.proofs.LawLemmas.{TryFoldRun-joined, TryFoldRun-joined_error}
-use Rattle.ga_callers.proofs.headline.joined_runs.try_folds_join.Goals as goal
+use Rattle.ga_headline.proofs.joined_runs.try_folds_join.Goals as goal
 use Rattle.generic_array.specs.Entries.{FoldAt}
 
 pub returns-clause-good : goal.returns-clause-good

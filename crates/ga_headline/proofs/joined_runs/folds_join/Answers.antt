@@ -1,5 +1,5 @@
 use Rattle.generic_array.proofs.LawLemmas.{FoldRun-joined}
-use Rattle.ga_callers.proofs.headline.joined_runs.folds_join.Goals as goal
+use Rattle.ga_headline.proofs.joined_runs.folds_join.Goals as goal
 
 pub returns : goal.returns
 returns g c = FoldRun-joined _

@@ -1,4 +1,4 @@
-use Rattle.ga_callers.proofs.headline.steps.walk.Goals as goal
+use Rattle.ga_headline.proofs.steps.walk.Goals as goal
 use Rattle.generic_array.specs.Entries.{CallAt, MayCallAt}
 use Rattle.generic_array.specs.Steps.{MaySteps}
 use Rattle.std.proofs.Common.{subst, sym}

@@ -1,0 +1,24 @@
+//! What the library promises, in one place.
+//!
+//! For every element type and length that its store holds, every closure with state and every finite
+//! iterator, inline, boxed and borrowed sequences mean, through one interface, lists of exactly N values:
+//!
+//! - a build succeeds exactly where N items come: `builds`;
+//! - closure calls run in order and stop at the first error: `calls`, and over joined lists `joined_runs`;
+//! - shapes undo each other: `shapes`;
+//! - every run of two-ended iterator calls gives what a list cut from both ends gives: `steps`.
+//!
+//! Each function's contract is a part of this. `headline` of `ga_callers` calls each at every kind that
+//! has it.
+#![tactic(auto)]
+
+/// A build succeeds exactly where N items come.
+pub mod builds;
+/// Closure calls run in order and stop at the first error.
+pub mod calls;
+/// A run over joined lists is one over each in turn.
+pub mod joined_runs;
+/// Shapes undo each other.
+pub mod shapes;
+/// Any run of two-ended calls is a list cut from both ends.
+pub mod steps;
