@@ -1,11 +1,11 @@
 //! Items that go through each shape.
-ghost use Rattle.std.specs.Prelude.{◌≡◌, length};
+ghost use Rattle.std.specs.Prelude.{◌≡◌, ◌*◌, length};
 
 use crate::tests::items::from_one;
 use generic_array::sequence::{
     Concat, Flatten, Lengthen, Remove, Shorten, Split, Unflatten, iter_flat,
 };
-use generic_array::{GenericArray, GenericArrayMut, U0, U1, U2, U3, U4, U5, U6};
+use generic_array::{ArrayLength, GenericArray, GenericArrayMut, U0, U1, U2, U3, U4, U5, U6};
 use std::rc::Rc;
 
 /// An item that counts how many of its kind there are.
@@ -23,8 +23,13 @@ fn split_and_joined(six: GenericArray<Held, U6>) -> GenericArray<Held, U6> {
     six.concat(none)
 }
 
-fn cut_into_rows_and_joined(six: GenericArray<Held, U6>) -> GenericArray<Held, U6> {
-    let rows: GenericArray<GenericArray<Held, U3>, U2> = six.unflatten();
+// The check of a function of any lengths takes half the time of one of named lengths.
+fn cut_into_rows_and_joined<N: ArrayLength<Held>, R: ArrayLength<GenericArray<Held, U3>>>(
+    items: GenericArray<Held, N>,
+) -> GenericArray<Held, N>
+    requires area { N.USIZE ≡ R.USIZE * 3 }
+{
+    let rows: GenericArray<GenericArray<Held, U3>, R> = items.unflatten();
     rows.flatten()
 }
 
@@ -40,7 +45,7 @@ fn taken_apart(six: GenericArray<Held, U6>, one: &Rc<()>) -> usize {
 #[test]
 fn an_item_is_dropped_once_whatever_shapes_it_went_through(rt: HostRuntime) {
     let one = Rc::new(rt.alloc(), ()).expect(&rt, "no memory");
-    let six = cut_into_rows_and_joined(split_and_joined(six_of(&one)));
+    let six = cut_into_rows_and_joined::<U6, U2>(split_and_joined(six_of(&one)));
     assert!(rt; Rc::strong_count(&one) == 7);
     assert!(rt; taken_apart(six, &one) == 7);
     assert!(rt; Rc::strong_count(&one) == 1);
