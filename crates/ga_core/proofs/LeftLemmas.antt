@@ -12,21 +12,31 @@ module _ {T : Type 0} where
   left-count items front back ordered within = omega
       (arith, length-take (back - front) (drop front items), length-drop front items)
 
+  -- where an item is left, so is a slot
+  pub left-some : (items left : List T) (front back : ℕ) → front ≤ back → back ≤ length items
+      → slice_range items front back ≡ left → 0 < length left → front < back
+  left-some items left front back ordered within shown some =
+      omega (arith, left-count items front back ordered within, ap length shown, some)
+
   -- the first was taken, and a blank stands in its slot
-  pub left-first : (items after : List T) (front back : ℕ) (item : T) → front < back → back ≤ length items
+  pub left-first : (items after left : List T) (front back : ℕ) (item : T) → front ≤ back → back ≤ length items
+      → slice_range items front back ≡ left → 0 < length left
       → item ≡ get_or items front item → (blank : T) × (after ≡ slice_set items front blank)
-      → slice_range items front back ≡ item ∷ slice_range after (front + 1) back
-  left-first items after front back item some within here written =
-      slice_range_first items front back item written.0 some within here
-      ∙ ap (λ slots. item ∷ slice_range slots (front + 1) back) (sym written.1)
+      → left ≡ item ∷ slice_range after (front + 1) back
+  left-first items after left front back item ordered within shown some here written =
+      sym shown ∙ (slice_range_first items front back item written.0
+      (left-some items left front back ordered within shown some) within here
+      ∙ ap (λ slots. item ∷ slice_range slots (front + 1) back) (sym written.1))
 
   -- the last was taken, and a blank stands in its slot
-  pub left-last : (items after : List T) (front back : ℕ) (item : T) → front < back → back ≤ length items
+  pub left-last : (items after left : List T) (front back : ℕ) (item : T) → front ≤ back → back ≤ length items
+      → slice_range items front back ≡ left → 0 < length left
       → item ≡ get_or items (back - 1) item → (blank : T) × (after ≡ slice_set items (back - 1) blank)
-      → slice_range items front back ≡ slice_range after front (back - 1) ++ item ∷ []
-  left-last items after front back item some within here written =
-      slice_range_last items front back item written.0 some within here
-      ∙ ap (λ slots. slice_range slots front (back - 1) ++ item ∷ []) (sym written.1)
+      → left ≡ slice_range after front (back - 1) ++ item ∷ []
+  left-last items after left front back item ordered within shown some here written =
+      sym shown ∙ (slice_range_last items front back item written.0
+      (left-some items left front back ordered within shown some) within here
+      ∙ ap (λ slots. slice_range slots front (back - 1) ++ item ∷ []) (sym written.1))
 
   -- the same, of the items from the back
   pub left-last_reversed : (items : List T) (front back : ℕ) (item slot blank : T) → front < back → back ≤ length items
@@ -34,10 +44,10 @@ module _ {T : Type 0} where
       → reverse (slice_range items front back) ≡ item
       ∷ reverse (slice_range (slice_set items (back - 1) blank) front (back - 1))
   left-last_reversed items front back item slot blank some within here is =
-      let after = slice_set items (back - 1) blank in
-      let this = here ∙ ap (get_or items (back - 1)) (is ∙ sym here) in
-      ap reverse (left-last items after front back item some within this (blank, refl))
-      ∙ reverse-append (slice_range after front (back - 1)) (item ∷ [])
+      let left = slice_range (slice_set items (back - 1) blank) front (back - 1) in
+      ap reverse (slice_range_last items front back item blank some within (here ∙ ap (get_or items (back - 1))
+      (is ∙ sym here)))
+      ∙ reverse-append left (item ∷ [])
 
   -- so many were given up at the front
   pub left-behind : (items after left : List T) (front back passed : ℕ) → front ≤ back → back ≤ length items

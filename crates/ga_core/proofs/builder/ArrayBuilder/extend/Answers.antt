@@ -1,4 +1,4 @@
-use Rattle.ga_core.proofs.FillLemmas.{Asks-from_takes, TakeRuns-from_takes}
+use Rattle.ga_core.proofs.FillLemmas.{Asks-from_takes, TakeRuns-from_takes, room-filled, room-left}
 use Rattle.ga_core.proofs.builder.ArrayBuilder.extend.Goals as goal
 use Rattle.std.proofs.Common.{◌≡◌, ◌∷◌, [], ◌++◌, ◌-◌, ◌<◌, ap, append_assoc, arith, inl, inr, length, length-append}
 use Rattle.std.proofs.Common.{refl, rules, ◌∙◌}
@@ -22,14 +22,8 @@ loop-items-preserved g c =
 pub returns-in-None-clause-taken : goal.returns-in-None-clause-taken
 returns-in-None-clause-taken g c =
     let so_far = c.loop-items.invariant.taken in
-    let short : length c.loop-items.self < g.N.Unsigned.USIZE = search rules in (
-      so_far.0,
-      so_far.1,
-      inr (
-        (c.loop-items.items, so_far.2, c.in-None.ensures.steps),
-        omega (arith, length-append c.args.self.now so_far.0, ap length so_far.1, short),
-      ),
-    )
+    let few = room-left _ _ _ _ so_far.1 (search rules) in
+    (so_far.0, so_far.1, inr ((c.loop-items.items, so_far.2, c.in-None.ensures.steps), few))
 
 pub returns-in-None-clause-runs : goal.returns-in-None-clause-runs
 returns-in-None-clause-runs g c = let taken = returns-in-None-clause-taken g c in
@@ -42,20 +36,8 @@ returns-in-None-clause-asks g c = let taken = returns-in-None-clause-taken g c i
     c.next.new.self taken.2
 
 pub returns-clause-taken : goal.returns-clause-taken
-returns-clause-taken g c =
-    let so_far = c.loop-items.invariant.taken in (
-      so_far.0,
-      so_far.1,
-      inl (
-        so_far.2,
-        omega (
-          arith,
-          length-append c.args.self.now so_far.0,
-          ap length so_far.1,
-          c.loop-items-test.ensures.full.0 refl,
-        ),
-      ),
-    )
+returns-clause-taken g c = let so_far = c.loop-items.invariant.taken in
+    (so_far.0, so_far.1, inl (so_far.2, room-filled _ _ _ _ so_far.1 (c.loop-items-test.ensures.full.0 refl)))
 
 pub returns-clause-runs : goal.returns-clause-runs
 returns-clause-runs g c = let taken = returns-clause-taken g c in

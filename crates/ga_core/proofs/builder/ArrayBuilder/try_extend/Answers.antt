@@ -1,5 +1,5 @@
 use mathlib.Core.Bool.{true≢false}
-use Rattle.ga_core.proofs.FillLemmas.{TakeGoodRuns-from_takes}
+use Rattle.ga_core.proofs.FillLemmas.{TakeGoodRuns-from_takes, room-filled, room-left}
 use Rattle.ga_core.proofs.builder.ArrayBuilder.try_extend.Given as given
 use Rattle.ga_core.proofs.builder.ArrayBuilder.try_extend.Goals as goal
 use Rattle.ga_core.proofs.builder.ArrayBuilder.try_extend.Goals.{After-next}
@@ -32,28 +32,20 @@ loop-items-preserved g c =
 few : (g : given.Over) (c : After-next g) → length c.loop-items.invariant.taken.0
     < g.N.Unsigned.USIZE - length c.args.self.now
 few g c =
-    let taken = c.loop-items.invariant.taken in
     let open_still : length c.loop-items.self ≢ g.N.Unsigned.USIZE =
     λ full. true≢false (sym (c.loop-items-test.ensures.full.1 full)) in
-    omega
-    (arith, ap length taken.1, length-append c.args.self.now taken.0, c.loop-items-test.ensures.bound, open_still)
+    room-left _ _ _ _ c.loop-items.invariant.taken.1 (omega (arith, c.loop-items-test.ensures.bound, open_still))
 
 pub returns-clause-taken : goal.returns-clause-taken
-returns-clause-taken g c =
-    let taken = c.loop-items.invariant.taken in (
-      taken.0,
-      taken.1,
-      inl (
-        taken.2,
-        omega (
-          arith,
-          length-map {B = Result g.row.T.Denot g.row.E.Denot} taken.0 Ok,
-          ap length taken.1,
-          length-append c.args.self.now taken.0,
-          c.loop-items-test.ensures.full.0 refl,
-        ),
-      ),
-    )
+returns-clause-taken g c = let taken = c.loop-items.invariant.taken in (
+  taken.0,
+  taken.1,
+  inl (
+    taken.2,
+    length-map taken.0 Ok
+        ∙ room-filled _ _ _ _ taken.1 (c.loop-items-test.ensures.full.0 refl),
+  ),
+)
 
 pub returns-clause-runs : goal.returns-clause-runs
 returns-clause-runs g c = let taken = returns-clause-taken g c in
