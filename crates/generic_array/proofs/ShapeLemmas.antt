@@ -15,6 +15,10 @@ use Rattle.std.proofs.lemmas.List.Concat.{flat_map-cons}
 use Rattle.std.proofs.lemmas.List.Elements.{All-head, All-tail}
 use Rattle.std.specs.List.{All, flat_map, range_with_len, refill, remove, swap, swap_remove}
 
+-- one place is left behind all but one
+pub one-behind : (back all at more one : ℕ) → back + at ≡ all → all ≡ more → at ≡ one → more ≡ one + 1 → back ≡ 1
+one-behind back all at more one cut whole here longer = omega arith
+
 -- how many items the rows have that are left after the first of them
 pub area-next : {R : Type 0} (row : R) (these left : List R) → these ≡ row ∷ left → (w at total : ℕ)
     → at + length these * w ≡ total → (at + w) + length left * w ≡ total
@@ -30,11 +34,14 @@ area-room R rows i d w at total here same =
     omega (arith, more)
 
 module _ {T : Type 0} where
-  -- what stands in an array whose places were written in two parts
-  pub refill-parts : (n : ℕ) (items front back first rest : List T) → front ≡ first → back ≡ rest
-      → n ≡ length front + length back → refill n items (front ++ back) ≡ first ++ rest
-  refill-parts n items front back first rest one two long =
-      refill-whole n items (front ++ back) (long ∙ sym (length-append front back))
+  -- what stands in an array whose places were lent in two parts, once both are written
+  pub refill-parts : (items lent was_front was_back front back first rest : List T) → lent ≡ items
+      → lent ≡ was_front ++ was_back → length front ≡ length was_front → length back ≡ length was_back
+      → front ≡ first → back ≡ rest → refill (length items) items (front ++ back) ≡ first ++ rest
+  refill-parts items lent was_front was_back front back first rest whole cut wide long one two =
+      let same : length items ≡ length (was_front ++ was_back) = ap length (sym whole ∙ cut) in
+      refill-whole (length items) items (front ++ back)
+      (omega (arith, same, length-append was_front was_back, length-append front back, wide, long))
       ∙ (ap (λ l. l ++ back) one ∙ ap (λ l. first ++ l) two)
 
   -- a list of one item
