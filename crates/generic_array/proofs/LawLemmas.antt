@@ -29,39 +29,19 @@ module _ {F X Y E : Type 0} (step : F → X → Result Y E → F → Type 0) whe
 
   -- a run with no error is a run of good calls
   good-run : (f : F) (xs : List X) (answers : List Y) (last : F)
-      → FirstErrorRun step f xs (Ok answers) last ↔ ClosureRun GoodCall f xs answers last
-  good-run f [] [] last = (λ run. run, λ run. run)
-  good-run f [] (y ∷ answers) last = (λ run. run, λ run. run)
-  good-run f (x ∷ xs) [] last = (λ run. run, λ run. run)
-  good-run f (x ∷ xs) (y ∷ answers) last = (
-    λ run. (run.0, run.1, (good-run run.0 xs answers last).0 run.2),
-    λ run. (run.0, run.1, (good-run run.0 xs answers last).1 run.2),
-  )
+      → FirstErrorRun step f xs (Ok answers) last ≡ ClosureRun GoodCall f xs answers last
+  good-run f [] [] last = refl
+  good-run f [] (y ∷ answers) last = refl
+  good-run f (x ∷ xs) [] last = refl
+  good-run f (x ∷ xs) (y ∷ answers) last = λ i. (g : F) × GoodCall f x y g × good-run g xs answers last i
 
   -- where no call of the first part failed
   pub FirstErrorRun-joined : GoodRunsJoin step
-  FirstErrorRun-joined f xs ys answers last =
-      let whole = good-run f (xs ++ ys) answers last in
-      let joined = ClosureRun-joined GoodCall f xs ys answers last in (
-        λ run.
-            let parts = joined.0 (whole.0 run) in (
-              parts.0,
-              parts.1,
-              parts.2,
-              parts.3,
-              (good-run f xs parts.0 parts.2).1 parts.4,
-              (good-run parts.2 ys parts.1 last).1 parts.5,
-            ),
-        λ parts.
-            whole.1 (joined.1 (
-              parts.0,
-              parts.1,
-              parts.2,
-              parts.3,
-              (good-run f xs parts.0 parts.2).0 parts.4,
-              (good-run parts.2 ys parts.1 last).0 parts.5,
-            )),
-      )
+  FirstErrorRun-joined f xs ys answers last = subst
+      (λ (Run : F → List X → List Y → F → Type 0). Run f (xs ++ ys) answers last
+      ↔ ((first : List Y) × (second : List Y) × (reached : F) × (answers ≡ first ++ second)
+      × Run f xs first reached × Run reached ys second last))
+      (λ i g zs made end. sym (good-run g zs made end) i) (ClosureRun-joined GoodCall f xs ys answers last)
 
   error-cut : (f : F) (xs ys : List X) (error : E) (last : F) → FirstErrorRun step f (xs ++ ys) (Err error) last
       → ErrorRunInParts step f xs ys error last
