@@ -1,6 +1,6 @@
 use Rattle.ga_core.proofs.FillLemmas.{Asks-from_takes, TakeRuns-from_takes, room-filled, room-left}
 use Rattle.ga_core.proofs.builder.ArrayBuilder.extend.Goals as goal
-use Rattle.std.proofs.Common.{◌≡◌, ◌∷◌, [], ◌++◌, ◌-◌, ◌<◌, ap, append_assoc, arith, inl, inr, length, length-append}
+use Rattle.std.proofs.Common.{◌≡◌, ◌∷◌, [], ◌++◌, ◌-◌, ap, append_assoc, inl, inr, length}
 use Rattle.std.proofs.Common.{refl, rules, ◌∙◌}
 use Rattle.std.proofs.iter.Next.{Yields-more}
 

@@ -4,7 +4,7 @@ use Rattle.ga_core.proofs.builder.ArrayBuilder.try_extend.Given as given
 use Rattle.ga_core.proofs.builder.ArrayBuilder.try_extend.Goals as goal
 use Rattle.ga_core.proofs.builder.ArrayBuilder.try_extend.Goals.{After-next}
 use Rattle.std.proofs.Common.{◌≡◌, ◌≢◌, ◌<◌, ◌∷◌, [], ◌++◌, ◌-◌, Err, Ok, Result, Some, ap, append_assoc, arith, inl, inr}
-use Rattle.std.proofs.Common.{length, length-append, map, refl, subst, sym, ◌∙◌}
+use Rattle.std.proofs.Common.{length, map, refl, subst, sym, ◌∙◌}
 use Rattle.std.proofs.iter.Next.{Yields-more}
 use Rattle.std.proofs.lemmas.List.{length-map, map-append}
 use Rattle.std.specs.Iterator.{Yields}
