@@ -127,19 +127,20 @@ module _ {F A X E : Type 0} (step : F → A → X → Result A E → F → Type 
       subst (λ b. TryFoldRun step f b ys answer last) (sym same.0)
       (subst (λ g. TryFoldRun step g value ys answer last) (sym same.1) then)
 
-  good_fold-join : (f : F) (a : A) (xs ys : List X) (answer : A) (last : F) (value : A) (reached : F)
-      → TryFoldRun step f a xs (Ok value) reached → TryFoldRun step reached value ys (Ok answer) last
-      → TryFoldRun step f a (xs ++ ys) (Ok answer) last
-  good_fold-join f a [] ys answer last value reached run then =
-      after-fold f reached a value ys (Ok answer) last run then
-  good_fold-join f a (x ∷ xs) ys answer last value reached run then =
-      (run.0, run.1, run.2, good_fold-join run.1 run.0 xs ys answer last value reached run.3 then)
+  -- a fold over the second list, with an error or none, behind one over the first with none
+  fold-behind : (f : F) (a : A) (xs ys : List X) (result : Result A E) (last : F) (value : A) (reached : F)
+      → TryFoldRun step f a xs (Ok value) reached → TryFoldRun step reached value ys result last
+      → TryFoldRun step f a (xs ++ ys) result last
+  fold-behind f a [] ys result last value reached run then = after-fold f reached a value ys result last run then
+  fold-behind f a (x ∷ xs) ys (Ok answer) last value reached run then =
+      (run.0, run.1, run.2, fold-behind run.1 run.0 xs ys (Ok answer) last value reached run.3 then)
+  fold-behind f a (x ∷ xs) ys (Err error) last value reached run then =
+      inr (run.0, run.1, run.2, fold-behind run.1 run.0 xs ys (Err error) last value reached run.3 then)
 
   pub TryFoldRun-joined : GoodFoldsJoin step
   TryFoldRun-joined f init xs ys answer last = (
     good_fold-cut f init xs ys answer last,
-    λ parts.
-        good_fold-join f init xs ys answer last parts.0 parts.1 parts.2 parts.3,
+    λ parts. fold-behind f init xs ys (Ok answer) last parts.0 parts.1 parts.2 parts.3,
   )
 
   error_fold-cut : (f : F) (a : A) (xs ys : List X) (error : E) (last : F)
@@ -160,20 +161,12 @@ module _ {F A X E : Type 0} (step : F → A → X → Result A E → F → Type 
   error_fold-first f a (x ∷ xs) ys error last (inr more) =
       inr (more.0, more.1, more.2, error_fold-first more.1 more.0 xs ys error last more.3)
 
-  error_fold-second : (f : F) (a : A) (xs ys : List X) (error : E) (last : F) (value : A) (reached : F)
-      → TryFoldRun step f a xs (Ok value) reached → TryFoldRun step reached value ys (Err error) last
-      → TryFoldRun step f a (xs ++ ys) (Err error) last
-  error_fold-second f a [] ys error last value reached run then =
-      after-fold f reached a value ys (Err error) last run then
-  error_fold-second f a (x ∷ xs) ys error last value reached run then =
-      inr (run.0, run.1, run.2, error_fold-second run.1 run.0 xs ys error last value reached run.3 then)
-
   pub TryFoldRun-joined_error : FoldsToErrorJoin step
   TryFoldRun-joined_error f init xs ys error last = (
     error_fold-cut f init xs ys error last,
     λ parts. elim parts as (λ _. TryFoldRun step f init (xs ++ ys) (Err error) last) [
       | inl here ↦ error_fold-first f init xs ys error last here
-      | inr later ↦ error_fold-second f init xs ys error
+      | inr later ↦ fold-behind f init xs ys (Err error)
           last later.0 later.1 later.2 later.3
     ],
   )
