@@ -101,35 +101,6 @@ module _ {T : Type 0} where
         (ap (drop m) parts ∙ (ap (λ k. drop k (others ++ item ∷ [])) others-long
         ∙ drop-append_seam others (item ∷ []))))
 
-  -- the list where the last takes the place of an item
-  last_of : (front : List T) (last d : T) → slice_index_or (front ++ last ∷ []) (length front) d ≡ last
-  last_of [] last d = refl
-  last_of (x ∷ front) last d = last_of front last d
-
-  swap_remove-first : (x : T) (front : List T) (last d : T) → swap_remove (x ∷ (front ++ last ∷ [])) 0 d ≡ last ∷ front
-  swap_remove-first x front last d =
-      let all = front ++ last ∷ [] in
-      let long : suc (length all) - 1 ≡ suc (length front) = omega (arith, length-append front (last ∷ [])) in
-      ap (λ k. take k (slice_index_or (x ∷ all) k d ∷ all)) long
-      ∙ (ap (λ y. y ∷ take (length front) all) (last_of front last d)
-      ∙ ap (λ more. last ∷ more) (take-append_seam front (last ∷ [])))
-
-  swap_remove-suc : (x : T) (items : List T) (n : ℕ) (d : T) → 0 < length items
-      → swap_remove (x ∷ items) (suc n) d ≡ x ∷ swap_remove items n d
-  swap_remove-suc x items n d some =
-      let long : suc (length items) - 1 ≡ suc (length items - 1) = omega arith in
-      ap (λ k. take k (x ∷ slice_set items n (slice_index_or (x ∷ items) k d))) long
-
-  swap_remove-next : (n : ℕ) (front left : List T) (item last d : T) → drop n front ≡ item ∷ left
-      → take n front ++ last ∷ left ≡ swap_remove (front ++ last ∷ []) n d
-  swap_remove-next zero [] left item last d here = cc
-  swap_remove-next (suc n) [] left item last d here = cc
-  swap_remove-next zero (x ∷ front) left item last d here =
-      ap (λ all. last ∷ drop 1 all) (sym here) ∙ sym (swap_remove-first x front last d)
-  swap_remove-next (suc n) (x ∷ front) left item last d here =
-      ap (λ more. x ∷ more) (swap_remove-next n front left item last d here)
-      ∙ sym (swap_remove-suc x (front ++ last ∷ []) n d (omega (arith, length-append front (last ∷ []))))
-
   -- the places before those that were written, and these
   pub taken-row : (at n : ℕ) (places front moved rest behind : List T) → front ≡ take at places → length front ≡ at
       → behind ≡ moved ++ rest → length moved ≡ n
