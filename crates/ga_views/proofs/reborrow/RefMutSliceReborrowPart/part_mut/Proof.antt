@@ -6,16 +6,14 @@ use Rattle.std.proofs.Common.{◌≡◌, ℕ, ◌+◌, ◌-◌, ◌*◌, ◌^◌
 use Rattle.std.specs.List.{refill}
 use Rattle.ga_views.proofs.InnerPart.{lent, lends_range}
 use Rattle.ga_views.proofs.PartLemmas.{part_long}
-use Rattle.ga_views.proofs.InnerSlice.{args, closes_inner, opens_inner, slice_lent}
+use Rattle.ga_views.proofs.InnerSlice.{closes_inner, opens_inner, slice_lent}
 use Rattle.ga_views.proofs.ItemLoan.{uncapped_fits, offset_fits, spot, uncapped}
 use Rattle.ga_views.proofs.LoanWalk.{Had, Loan, Words, lends}
 use Rattle.ga_views.specs.Parts.{part_set}
-use Rattle.ga_views.specs.contracts.reborrow.RefMutSliceReborrowPart.part_mut.Key.{name as #self}
 use Rattle.ga_views.proofs.reborrow.RefMutSliceReborrowPart.part_mut.Code as code
 use Rattle.ga_views.proofs.reborrow.RefMutSliceReborrowPart.part_mut.Statement.{statement}
 use contract.Lifetimes.{Lfts}
 use lib.ListN.{take, drop as drop_list}
-use mir.MapTy.{inst_fn}
 use mir.Syntax.{w64}
 use mir.Val.{vint}
 use prog.Memory.{size}
@@ -36,7 +34,7 @@ module _ (X : RattleType) where
 
 pub part_mut_spec : {M : Type 1} → statement M
 part_mut_spec 𝓤 𝓛 𝓜 𝓡 wired X laws =
-    lends (loan X) 𝓛 𝓜 𝓡 (#self (args X)) (inst_fn (args X) code.function) (code.unfolded 𝓤 𝓛.H 𝓜 𝓡 wired (X, tt))
+    lends (loan X) 𝓛 𝓜 𝓡 _ _ (code.unfolded 𝓤 𝓛.H 𝓜 𝓡 wired (X, tt))
     (λ κs qs bounds x ns Post lives asked are exits.
     let s : ℕ = size (layout X) in let shown : List X.Denot = part X κs x.now.now ns in
     let long : length shown ≡ ns.1.0 = part_long ns.0 ns.1.0 x.now.now asked.0 in

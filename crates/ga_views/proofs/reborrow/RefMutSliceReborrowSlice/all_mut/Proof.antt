@@ -4,7 +4,6 @@
 use mathlib.Core.Path.{◌≡◌, refl, ap}
 use mathlib.Core.List.{[], ◌∷◌}
 use lib.ListN.{length}
-use mir.MapTy.{inst_fn}
 use types.ByLocal.{alloc_all, pass_all, free_all, look_at, look_in_at, get, through, sets, is}
 use types.Kit.{some, later, ◌$◌, ◌∵◌, !, qed, by, keep, use3, split3, pick, await}
 use types.Part.{whole, sub, look_in, agg}
@@ -15,9 +14,8 @@ use denote.Slice.{slice_val}
 use denote.Through.{renamed}
 use Rattle.std.specs.List.{refill}
 use Rattle.ga_views.proofs.InnerItems.{lent, lends_all}
-use Rattle.ga_views.proofs.InnerSlice.{args, closes_inner, opens_inner, slice_lent}
+use Rattle.ga_views.proofs.InnerSlice.{closes_inner, opens_inner, slice_lent}
 use Rattle.ga_views.proofs.LoanWalk.{Had, Loan, lends}
-use Rattle.ga_views.specs.contracts.reborrow.RefMutSliceReborrowSlice.all_mut.Key.{name as #self}
 use Rattle.ga_views.proofs.reborrow.RefMutSliceReborrowSlice.all_mut.Statement.{statement}
 use Rattle.ga_views.proofs.reborrow.RefMutSliceReborrowSlice.all_mut.Code as code
 
@@ -27,7 +25,7 @@ loan X = slice_lent X 1 (λ κs items ns. (ns.0 ≡ length items) ∷ []) (λ κ
 
 pub all_mut_spec : {M : Type 1} → statement M
 all_mut_spec 𝓤 𝓛 𝓜 𝓡 wired X laws =
-    lends (loan X) 𝓛 𝓜 𝓡 (#self (args X)) (inst_fn (args X) code.function) (code.unfolded 𝓤 𝓛.H 𝓜 𝓡 wired (X, tt))
+    lends (loan X) 𝓛 𝓜 𝓡 _ _ (code.unfolded 𝓤 𝓛.H 𝓜 𝓡 wired (X, tt))
     (λ κs qs bounds x ns Post lives asked are exits.
     qed 𝓛 (Had (loan X) 𝓛 κs qs x ns) ∵ enter ! _ _ _ _ _ $ alloc_all !
     (λ l. pass_all ! refl ((tt, tt), ((tt, record { fits = are.0.1 }), tt)) $

@@ -4,13 +4,11 @@
 -- element is lent by `InnerItem`'s `lends_element`.
 use Rattle.std.proofs.Common.{◌≡◌, ◌*◌, ◌^◌, ◌<◌, [], ◌∷◌, length, refl, ap, arith, get_or, set}
 use Rattle.ga_views.proofs.InnerItem.{lent, lends_element}
-use Rattle.ga_views.proofs.InnerSlice.{args, closes_inner, loan_of, opens_inner}
+use Rattle.ga_views.proofs.InnerSlice.{closes_inner, loan_of, opens_inner}
 use Rattle.ga_views.proofs.ItemLoan.{uncapped_fits, offset_fits, spot, uncapped}
 use Rattle.ga_views.proofs.LoanWalk.{Had, Loan, lends}
-use Rattle.ga_views.specs.contracts.reborrow.RefMutSliceReborrowSlice.item_mut.Key.{name as #self}
 use Rattle.ga_views.proofs.reborrow.RefMutSliceReborrowSlice.item_mut.Code as code
 use Rattle.ga_views.proofs.reborrow.RefMutSliceReborrowSlice.item_mut.Statement.{statement}
-use mir.MapTy.{inst_fn}
 use mir.Syntax.{w64}
 use mir.Val.{vint}
 use prog.Memory.{size}
@@ -30,7 +28,7 @@ loan X = loan_of X 1 (RefMutOf (0 ∷ []) tt (plain (λ _. param 0 X)) (λ _. tt
 
 pub item_mut_spec : {M : Type 1} → statement M
 item_mut_spec 𝓤 𝓛 𝓜 𝓡 wired X laws =
-    lends (loan X) 𝓛 𝓜 𝓡 (#self (args X)) (inst_fn (args X) code.function) (code.unfolded 𝓤 𝓛.H 𝓜 𝓡 wired (X, tt))
+    lends (loan X) 𝓛 𝓜 𝓡 _ _ (code.unfolded 𝓤 𝓛.H 𝓜 𝓡 wired (X, tt))
     (λ κs qs bounds x ns Post lives asked are exits.
     qed 𝓛 (Had (loan X) 𝓛 κs qs x ns) ∵ enter ! _ _ _ _ _ $ alloc_all !
     (λ l. pass_all ! refl ((tt, tt), ((tt, record { fits = are.0.1 }), tt)) $
