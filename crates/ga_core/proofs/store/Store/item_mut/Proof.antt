@@ -32,8 +32,7 @@ pub item_mut_spec : {M : Type 1} → statement M
 item_mut_spec 𝓤 𝓛 𝓜 𝓡 wired Z X LZ LX g d dd met metD =
     lends (loan Z X g d dd) 𝓛 𝓜 𝓡 _ _ (code.unfolded 𝓤 𝓛.H 𝓜 𝓡 wired (Z, (X, tt)) d dd)
     (λ κs qs bounds x ns Post lives asked are exits.
-    let E : RattleType = R Z X g d dd in
-    let Store : RattleType = S Z X g d dd in
+    let E : RattleType = R Z X g d dd in let Store : RattleType = S Z X g d dd in
     let i : ℕ = ns.0 in
     qed 𝓛 (Had (loan Z X g d dd) 𝓛 κs qs x ns) ∵ enter ! _ _ _ _ _ $ alloc_all !
     (λ l. pass_all ! refl ((tt, tt), ((tt, record { fits = are.0.1 }), tt)) $

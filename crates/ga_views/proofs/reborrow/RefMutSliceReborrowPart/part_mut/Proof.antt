@@ -33,8 +33,7 @@ module _ (X : RattleType) where
       (λ κs items ns part. refill (length items) items (part_set ns.0 ns.1.0 items part)) part
 
 pub part_mut_spec : {M : Type 1} → statement M
-part_mut_spec 𝓤 𝓛 𝓜 𝓡 wired X laws =
-    lends (loan X) 𝓛 𝓜 𝓡 _ _ (code.unfolded 𝓤 𝓛.H 𝓜 𝓡 wired (X, tt))
+part_mut_spec 𝓤 𝓛 𝓜 𝓡 wired X laws = lends (loan X) 𝓛 𝓜 𝓡 _ _ (code.unfolded 𝓤 𝓛.H 𝓜 𝓡 wired (X, tt))
     (λ κs qs bounds x ns Post lives asked are exits.
     let s : ℕ = size (layout X) in let shown : List X.Denot = part X κs x.now.now ns in
     let long : length shown ≡ ns.1.0 = part_long ns.0 ns.1.0 x.now.now asked.0 in

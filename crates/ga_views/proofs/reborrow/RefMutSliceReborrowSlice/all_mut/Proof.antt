@@ -24,12 +24,10 @@ loan X = slice_lent X 1 (λ κs items ns. (ns.0 ≡ length items) ∷ []) (λ κ
     (λ κs items ns. items)
 
 pub all_mut_spec : {M : Type 1} → statement M
-all_mut_spec 𝓤 𝓛 𝓜 𝓡 wired X laws =
-    lends (loan X) 𝓛 𝓜 𝓡 _ _ (code.unfolded 𝓤 𝓛.H 𝓜 𝓡 wired (X, tt))
+all_mut_spec 𝓤 𝓛 𝓜 𝓡 wired X laws = lends (loan X) 𝓛 𝓜 𝓡 _ _ (code.unfolded 𝓤 𝓛.H 𝓜 𝓡 wired (X, tt))
     (λ κs qs bounds x ns Post lives asked are exits.
     qed 𝓛 (Had (loan X) 𝓛 κs qs x ns) ∵ enter ! _ _ _ _ _ $ alloc_all !
-    (λ l. pass_all ! refl ((tt, tt), ((tt, record { fits = are.0.1 }), tt)) $
-    opens_inner ! tt (param 0 X) x (λ rm.
+    (λ l. pass_all ! refl ((tt, tt), ((tt, record { fits = are.0.1 }), tt)) $ opens_inner ! tt (param 0 X) x (λ rm.
     -- [the inner reference's cell; what it owns; the open borrow, in three entries]
     sets ! (of_opd ! (load ! (through ! refl (fld ! refl (stop !))) (look_in ! 0 (sub ! 1 refl (whole !))))) refl
     (tt, record { fits = rm.0 }) $

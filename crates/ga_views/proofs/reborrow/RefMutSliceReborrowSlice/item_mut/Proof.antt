@@ -27,12 +27,10 @@ loan X = loan_of X 1 (RefMutOf (0 ∷ []) tt (plain (λ _. param 0 X)) (λ _. tt
     (λ κs items ns r. r.now ≡ get_or items ns.0 r.now)
 
 pub item_mut_spec : {M : Type 1} → statement M
-item_mut_spec 𝓤 𝓛 𝓜 𝓡 wired X laws =
-    lends (loan X) 𝓛 𝓜 𝓡 _ _ (code.unfolded 𝓤 𝓛.H 𝓜 𝓡 wired (X, tt))
+item_mut_spec 𝓤 𝓛 𝓜 𝓡 wired X laws = lends (loan X) 𝓛 𝓜 𝓡 _ _ (code.unfolded 𝓤 𝓛.H 𝓜 𝓡 wired (X, tt))
     (λ κs qs bounds x ns Post lives asked are exits.
     qed 𝓛 (Had (loan X) 𝓛 κs qs x ns) ∵ enter ! _ _ _ _ _ $ alloc_all !
-    (λ l. pass_all ! refl ((tt, tt), ((tt, record { fits = are.0.1 }), tt)) $
-    opens_inner ! tt (param 0 X) x (λ rm.
+    (λ l. pass_all ! refl ((tt, tt), ((tt, record { fits = are.0.1 }), tt)) $ opens_inner ! tt (param 0 X) x (λ rm.
     let offset : ns.0 * size (layout X) < 2 ^ 64 =
     offset_fits ns.0 (length x.now.now) (size (layout X)) (omega (arith, asked.0)) rm.1 in
     -- [the inner reference's cell; what it owns; the open borrow, in three entries]
