@@ -2,7 +2,8 @@
 use Rattle.std.proofs.Common.{◌≡◌, ℕ, zero, suc, ◌+◌, ◌-◌, ◌<◌, Bool, true, false, ◌&&◌, List, [], ◌∷◌, ◌++◌, Option}
 use Rattle.std.proofs.Common.{Ordering, Less, Equal, Greater, take, drop, length, ap, sym, ◌∙◌, refl, arith}
 use Rattle.std.proofs.Common.{slice_index_or}
-use Rattle.std.proofs.lemmas.List.{drop-take, length-drop, length-take, take-append-drop, take-take, take_more, take_rest}
+use Rattle.std.proofs.lemmas.List.{drop-take, length-drop, length-take, take-append-drop, take-take, take_more}
+use Rattle.std.proofs.lemmas.List.{take_rest}
 use Rattle.std.specs.Cmp.{IsPartialOrder}
 use Rattle.std.specs.Cmp.Lexicographic.{pointwise, slice_cmp, slice_partial_cmp}
 use Rattle.std.specs.Ordering.{eq_by_cmp, is_eq, ordering_then, partial_ordering_then}

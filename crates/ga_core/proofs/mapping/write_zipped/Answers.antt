@@ -26,7 +26,8 @@ right_here g c = let at = c.loop-index in
     (omega (arith, c.loop-index-test.true, at.auto.index-end, at.auto.right, c.requires.right))
     c.index-right-index.is c.take-in-loop-index.ensures.value at.invariant.behind_right
 
-here : (g : given.Over) (c : After-take-in-loop-index g) → drop c.loop-index.index (zip c.args.left.now c.args.right.now)
+here : (g : given.Over) (c : After-take-in-loop-index g)
+    → drop c.loop-index.index (zip c.args.left.now c.args.right.now)
     ≡ (c.take.result, c.take-in-loop-index.result)
     ∷ zip (drop (c.loop-index.index + 1) c.loop-index.left) (drop (c.loop-index.index + 1) c.loop-index.right)
 here g c = pairs-here c.loop-index.index c.args.left.now _ c.args.right.now _ c.take.result

@@ -3,8 +3,8 @@ use Rattle.ga_core.proofs.FillLemmas.{TakeGoodRuns-from_takes, room-filled, room
 use Rattle.ga_core.proofs.builder.ArrayBuilder.try_extend.Given as given
 use Rattle.ga_core.proofs.builder.ArrayBuilder.try_extend.Goals as goal
 use Rattle.ga_core.proofs.builder.ArrayBuilder.try_extend.Goals.{After-next}
-use Rattle.std.proofs.Common.{◌≡◌, ◌≢◌, ◌<◌, ◌∷◌, [], ◌++◌, ◌-◌, Err, Ok, Result, Some, ap, append_assoc, arith, inl, inr}
-use Rattle.std.proofs.Common.{length, map, refl, subst, sym, ◌∙◌}
+use Rattle.std.proofs.Common.{◌≡◌, ◌≢◌, ◌<◌, ◌∷◌, [], ◌++◌, ◌-◌, Err, Ok, Result, Some, ap, append_assoc, arith}
+use Rattle.std.proofs.Common.{inl, inr, length, map, refl, subst, sym, ◌∙◌}
 use Rattle.std.proofs.iter.Next.{Yields-more}
 use Rattle.std.proofs.lemmas.List.{length-map, map-append}
 use Rattle.std.specs.Iterator.{Yields}
@@ -83,4 +83,5 @@ returns-in-Some-Err-clause-taken g c =
 pub returns-in-Some-Err-clause-runs : goal.returns-in-Some-Err-clause-runs
 returns-in-Some-Err-clause-runs g c = let taken = returns-in-Some-Err-clause-taken g c in
     TakeGoodRuns-from_takes g.I.Iterator.next_gives (λ good. c.loop-items.self ≡ c.args.self.now ++ good)
-    c.args.items.now (g.N.Unsigned.USIZE - length c.args.self.now) taken.0 (Err c.in-Some-Err.error) c.next.new.self taken.2 taken.1
+    c.args.items.now (g.N.Unsigned.USIZE - length c.args.self.now) taken.0 (Err c.in-Some-Err.error) c.next.new.self
+    taken.2 taken.1
