@@ -190,7 +190,8 @@ chunks_from_slice_mut_spec 𝓤 𝓛 𝓜 𝓡 wired X N LX LN g d bound =
     LP (arg_laws (layout X) yes E (param_laws 0 X LX) refl)
     (arg_laws (layout N) yes (param 1 N) (param_laws 1 N LN) refl) gP dP g d drops
     (record { all = lends.all; all_mut = lends.all_mut; item_mut = lends.item_mut }) (record { USIZE = bound.USIZE })
-    (glues "ga_views::Destruct++none::drop" 𝓡.env (code.calls-ga_views::Destruct++none::drop 𝓡.env wired) P LP _ 𝓤 𝓛 𝓜 𝓡) in
+    (glues "ga_views::Destruct++none::drop" 𝓡.env (code.calls-ga_views::Destruct++none::drop 𝓡.env wired) P LP _ 𝓤 𝓛
+    𝓜 𝓡) in
     let O = triple_of 𝓛 (make_contract.signature P I Z gP dP g d drops)
     (make_contract.spec P I Z gP dP g d drops 𝓛 𝓜.mem 𝓡.returns) in
     let zO : O.Ghost = (
