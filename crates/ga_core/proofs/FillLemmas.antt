@@ -9,6 +9,14 @@ use Rattle.std.proofs.lemmas.List.{length-map}
 use Rattle.std.proofs.iter.runs.Made.{run, to_end, to_item}
 use Rattle.std.specs.Iterator.{Yields, YieldsThen}
 
+-- what was appended to a builder fills its room, or less of it
+module _ {T : Type 0} (before taken after : List T) (width : ℕ) (appended : after ≡ before ++ taken) where
+  pub room-filled : length after ≡ width → length taken ≡ width - length before
+  room-filled full = omega (arith, length-append before taken, ap length appended, full)
+
+  pub room-left : length after < width → length taken < width - length before
+  room-left few = omega (arith, length-append before taken, ap length appended, few)
+
 module _ {S T : Type 0} (next_gives : S → Option T → S → Type 0) where
   pub TakeRuns-from_takes : (P : List T → Type 0) (before : S) (room : ℕ) (taken : List T) (after : S)
       → Takes next_gives before room taken after → P taken → TakeRuns next_gives before room P

@@ -1,9 +1,12 @@
 -- What is left of a list between two slots, when something is taken from either end.
 use Rattle.arrayvec.proofs.IterLemmas.{slice_range_first, slice_range_last}
-use Rattle.std.proofs.Common.{◌≡◌, ℕ, ◌+◌, ◌-◌, ◌<◌, ◌≤◌, List, [], ◌∷◌, ◌++◌, length, drop, take, refl, reverse, sym}
+use Rattle.ga_views.proofs.PartLemmas.{part-before, part-behind}
+use Rattle.ga_views.specs.Parts.{part_set}
+use Rattle.std.proofs.Common.{◌≡◌, ℕ, ◌+◌, ◌-◌, ◌%◌, ◌<◌, ◌≤◌, List, [], ◌∷◌, ◌++◌, length, drop, take, reverse, sym}
 use Rattle.std.proofs.Common.{ap, ◌∙◌, arith, get_or, slice_set, length-drop, length-take}
 use Rattle.std.proofs.lemmas.List.{drop-drop, drop-take, reverse-append, take-take}
-use Rattle.std.specs.List.{slice_range}
+use Rattle.std.proofs.Math.Nat.{mod-eq_of_lt}
+use Rattle.std.specs.List.{refill, slice_range}
 
 module _ {T : Type 0} where
   -- how many are left
@@ -12,21 +15,31 @@ module _ {T : Type 0} where
   left-count items front back ordered within = omega
       (arith, length-take (back - front) (drop front items), length-drop front items)
 
+  -- where an item is left, so is a slot
+  pub left-some : (items left : List T) (front back : ℕ) → front ≤ back → back ≤ length items
+      → slice_range items front back ≡ left → 0 < length left → (front < back) × (back ≤ length items)
+  left-some items left front back ordered within shown some =
+      (omega (arith, left-count items front back ordered within, ap length shown, some), within)
+
   -- the first was taken, and a blank stands in its slot
-  pub left-first : (items after : List T) (front back : ℕ) (item : T) → front < back → back ≤ length items
+  pub left-first : (items after left : List T) (front back : ℕ) (item : T) → front ≤ back → back ≤ length items
+      → slice_range items front back ≡ left → 0 < length left
       → item ≡ get_or items front item → (blank : T) × (after ≡ slice_set items front blank)
-      → slice_range items front back ≡ item ∷ slice_range after (front + 1) back
-  left-first items after front back item some within here written =
-      slice_range_first items front back item written.0 some within here
-      ∙ ap (λ slots. item ∷ slice_range slots (front + 1) back) (sym written.1)
+      → left ≡ item ∷ slice_range after (front + 1) back
+  left-first items after left front back item ordered within shown some here written =
+      sym shown ∙ (slice_range_first items front back item written.0
+      (left-some items left front back ordered within shown some).0 within here
+      ∙ ap (λ slots. item ∷ slice_range slots (front + 1) back) (sym written.1))
 
   -- the last was taken, and a blank stands in its slot
-  pub left-last : (items after : List T) (front back : ℕ) (item : T) → front < back → back ≤ length items
+  pub left-last : (items after left : List T) (front back : ℕ) (item : T) → front ≤ back → back ≤ length items
+      → slice_range items front back ≡ left → 0 < length left
       → item ≡ get_or items (back - 1) item → (blank : T) × (after ≡ slice_set items (back - 1) blank)
-      → slice_range items front back ≡ slice_range after front (back - 1) ++ item ∷ []
-  left-last items after front back item some within here written =
-      slice_range_last items front back item written.0 some within here
-      ∙ ap (λ slots. slice_range slots front (back - 1) ++ item ∷ []) (sym written.1)
+      → left ≡ slice_range after front (back - 1) ++ item ∷ []
+  left-last items after left front back item ordered within shown some here written =
+      sym shown ∙ (slice_range_last items front back item written.0
+      (left-some items left front back ordered within shown some).0 within here
+      ∙ ap (λ slots. slice_range slots front (back - 1) ++ item ∷ []) (sym written.1))
 
   -- the same, of the items from the back
   pub left-last_reversed : (items : List T) (front back : ℕ) (item slot blank : T) → front < back → back ≤ length items
@@ -34,18 +47,28 @@ module _ {T : Type 0} where
       → reverse (slice_range items front back) ≡ item
       ∷ reverse (slice_range (slice_set items (back - 1) blank) front (back - 1))
   left-last_reversed items front back item slot blank some within here is =
-      let after = slice_set items (back - 1) blank in
-      let this = here ∙ ap (get_or items (back - 1)) (is ∙ sym here) in
-      ap reverse (left-last items after front back item some within this (blank, refl))
-      ∙ reverse-append (slice_range after front (back - 1)) (item ∷ [])
+      let left = slice_range (slice_set items (back - 1) blank) front (back - 1) in
+      ap reverse (slice_range_last items front back item blank some within (here ∙ ap (get_or items (back - 1))
+      (is ∙ sym here)))
+      ∙ reverse-append left (item ∷ [])
 
-  -- so many were given up at the front
-  pub left-behind : (items after left : List T) (front back passed : ℕ) → front ≤ back → back ≤ length items
-      → slice_range items front back ≡ left → passed ≤ length left
-      → drop (front + passed) after ≡ drop (front + passed) items
+  -- a part whose slot is written as a remainder
+  blanked : (items after blanks : List T) (slot passed : ℕ) → slot < 65536
+      → after ≡ refill (length items) items (part_set (slot % 65536) passed items blanks)
+      → after ≡ refill (length items) items (part_set slot passed items blanks)
+  blanked items after blanks slot passed small written = written
+      ∙ ap (λ k. refill (length items) items (part_set k passed items blanks)) (mod-eq_of_lt small)
+
+  -- so many were given up at the front, and blanks stand in their slots
+  pub left-behind : (items after left blanks : List T) (front back passed : ℕ) → front ≤ back → back ≤ length items
+      → length items ≤ 65536 → slice_range items front back ≡ left → passed ≤ length left → 0 < passed
+      → after ≡ refill (length items) items (part_set (front % 65536) passed items blanks)
       → slice_range after (front + passed) back ≡ drop passed left
-  left-behind items after left front back passed ordered within shown some same =
+  left-behind items after left blanks front back passed ordered within fits shown enough some written =
       let count : length left ≡ back - front = ap length (sym shown) ∙ left-count items front back ordered within in
+      let same : drop (front + passed) after ≡ drop (front + passed) items =
+      part-behind front passed items blanks after (omega arith)
+      (blanked items after blanks front passed (omega arith) written) in
       let rest = back - (front + passed) in
       let long : back - front ≡ passed + rest = omega arith in
       ap (take rest) (same ∙ sym (drop-drop passed front items))
@@ -53,13 +76,16 @@ module _ {T : Type 0} where
       ∙ (ap (λ k. drop passed (take k (drop front items))) (sym long) ∙ ap (drop passed) shown))
 
   -- so many were given up at the back
-  pub left-before : (items after left : List T) (front back passed : ℕ) → front ≤ back → back ≤ length items
-      → slice_range items front back ≡ left → passed ≤ length left
-      → take (back - passed) after ≡ take (back - passed) items
+  pub left-before : (items after left blanks : List T) (front back passed : ℕ) → front ≤ back → back ≤ length items
+      → length items ≤ 65536 → slice_range items front back ≡ left → passed ≤ length left → 0 < passed
+      → after ≡ refill (length items) items (part_set ((back - passed) % 65536) passed items blanks)
       → slice_range after front (back - passed) ≡ take (length left - passed) left
-  left-before items after left front back passed ordered within shown some same =
+  left-before items after left blanks front back passed ordered within fits shown enough some written =
       let count : length left ≡ back - front = ap length (sym shown) ∙ left-count items front back ordered within in
       let end = back - passed in
+      let same : take end after ≡ take end items =
+      part-before end passed items blanks after (omega arith)
+      (blanked items after blanks end passed (omega arith) written) in
       let whole : end ≡ front + (end - front) = omega arith in
       let kept : end - front ≡ length left - passed = omega arith in
       let part : (slots : List T) → take (end - front) (drop front slots) ≡ drop front (take end slots) =

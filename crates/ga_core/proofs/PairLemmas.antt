@@ -1,8 +1,9 @@
 -- Two lists of one length, compared pair by pair in parts.
-use Rattle.std.proofs.Common.{◌≡◌, ℕ, zero, suc, ◌+◌, ◌<◌, Bool, true, false, ◌&&◌, List, [], ◌∷◌, ◌++◌, Option}
+use Rattle.std.proofs.Common.{◌≡◌, ℕ, zero, suc, ◌+◌, ◌-◌, ◌<◌, Bool, true, false, ◌&&◌, List, [], ◌∷◌, ◌++◌, Option}
 use Rattle.std.proofs.Common.{Ordering, Less, Equal, Greater, take, drop, length, ap, sym, ◌∙◌, refl, arith}
 use Rattle.std.proofs.Common.{slice_index_or}
 use Rattle.std.proofs.lemmas.List.{drop-take, length-drop, length-take, take-append-drop, take-take, take_more}
+use Rattle.std.proofs.lemmas.List.{take_rest}
 use Rattle.std.specs.Cmp.{IsPartialOrder}
 use Rattle.std.specs.Cmp.Lexicographic.{pointwise, slice_cmp, slice_partial_cmp}
 use Rattle.std.specs.Ordering.{eq_by_cmp, is_eq, ordering_then, partial_ordering_then}
@@ -87,7 +88,7 @@ module _ {T : Type 0} (E : T → T → Bool) where
       ∙ and-false (pointwise E (take n xs) (take n ys)))
 
   -- behind equal pairs the order is that of the others
-  pub cmp-behind : (R : T → T → Ordering) → ((x y : T) → E x y ≡ eq_by_cmp R x y) → (n : ℕ) (xs ys : List T)
+  cmp-behind : (R : T → T → Ordering) → ((x y : T) → E x y ≡ eq_by_cmp R x y) → (n : ℕ) (xs ys : List T)
       → length xs ≡ length ys → pointwise E (take n xs) (take n ys) ≡ true
       → slice_cmp R xs ys ≡ slice_cmp R (drop n xs) (drop n ys)
   cmp-behind R ties zero xs ys long equal = refl
@@ -99,7 +100,7 @@ module _ {T : Type 0} (E : T → T → Bool) where
       ap (λ found. ordering_then found (slice_cmp R xs ys)) (level (R x y) (sym (ties x y) ∙ both.0))
       ∙ cmp-behind R ties n xs ys (cc) both.1
 
-  pub partial_cmp-behind : {C : T → T → Option Ordering} → IsPartialOrder E C → (n : ℕ) (xs ys : List T)
+  partial_cmp-behind : {C : T → T → Option Ordering} → IsPartialOrder E C → (n : ℕ) (xs ys : List T)
       → length xs ≡ length ys → pointwise E (take n xs) (take n ys) ≡ true
       → slice_partial_cmp C xs ys ≡ slice_partial_cmp C (drop n xs) (drop n ys)
   partial_cmp-behind laws zero xs ys long equal = refl
@@ -110,3 +111,17 @@ module _ {T : Type 0} (E : T → T → Bool) where
       let both = and-both (E x y) (pointwise E (take n xs) (take n ys)) equal in
       ap (λ found. partial_ordering_then found (slice_partial_cmp C xs ys)) ((laws.matches_eq x y).0 both.0)
       ∙ partial_cmp-behind laws n xs ys (cc) both.1
+
+  -- a comparison of slices that leaves those pairs out
+  pub cmp-rest : (R : T → T → Ordering) → ((x y : T) → E x y ≡ eq_by_cmp R x y) → (n : ℕ) (xs ys : List T)
+      → length xs ≡ length ys → pointwise E (take n xs) (take n ys) ≡ true
+      → slice_cmp R (take (length xs - n) (drop n xs)) (take (length ys - n) (drop n ys)) ≡ slice_cmp R xs ys
+  cmp-rest R ties n xs ys long equal = (λ i. slice_cmp R (take_rest xs n i) (take_rest ys n i))
+      ∙ sym (cmp-behind R ties n xs ys long equal)
+
+  pub partial_cmp-rest : {C : T → T → Option Ordering} → IsPartialOrder E C → (n : ℕ) (xs ys : List T)
+      → length xs ≡ length ys → pointwise E (take n xs) (take n ys) ≡ true
+      → slice_partial_cmp C (take (length xs - n) (drop n xs)) (take (length ys - n) (drop n ys))
+      ≡ slice_partial_cmp C xs ys
+  partial_cmp-rest {C} laws n xs ys long equal = (λ i. slice_partial_cmp C (take_rest xs n i) (take_rest ys n i))
+      ∙ sym (partial_cmp-behind laws n xs ys long equal)

@@ -1,5 +1,7 @@
 -- Pairs of the items of two lists, from a place on.
-use Rattle.std.proofs.Common.{◌≡◌, ℕ, zero, suc, List, [], ◌∷◌, drop, refl, sym, ◌∙◌, ap}
+use Rattle.ga_core.proofs.NextCalls.{run-of_all}
+use Rattle.std.proofs.Common.{◌≡◌, ℕ, zero, suc, ◌≤◌, List, [], ◌∷◌, arith, drop, length, refl, sym, take, ◌∙◌, ap}
+use Rattle.std.proofs.lemmas.Slice.Zip.{length-zip}
 use Rattle.std.specs.List.{zip}
 
 module _ {A B : Type 0} where
@@ -23,3 +25,10 @@ module _ {A B : Type 0} where
   -- pairs of equal lists
   pub same-pairs : {xs others : List A} {ys more : List B} → xs ≡ others → ys ≡ more → zip xs ys ≡ zip others more
   same-pairs left right = cc
+
+-- calls at all pairs, whose answers are in all slots
+pub run-of_all_pairs : {A B U : Type 0} (Run : List (A × B) → List U → Type 0) (n : ℕ) (xs : List A) (ys : List B)
+    (slots : List U) → length xs ≤ n → length slots ≤ n → Run (take n (zip xs ys)) (take n slots)
+    → Run (zip xs ys) slots
+run-of_all_pairs Run n xs ys slots passed full run =
+    run-of_all Run n (zip xs ys) slots (omega (arith, length-zip xs ys, passed)) full run

@@ -1,11 +1,11 @@
 -- Steps that cut a list from its ends, joined to what std says of `next` and `next_back`.
 use Rattle.ga_views.specs.Cut.{StepGives, back, front}
-use Rattle.std.proofs.Common.{◌≡◌, ℕ, zero, suc, ◌+◌, ◌-◌, ◌≤◌, List, [], ◌∷◌, ◌++◌, inl, inr, Option, None, Some}
-use Rattle.std.proofs.Common.{length, min, take, drop, reverse, refl, sym, ap, ◌∙◌, append_assoc, arith, length-append}
+use Rattle.std.proofs.Common.{◌≡◌, ℕ, zero, suc, ◌+◌, ◌≤◌, List, [], ◌∷◌, ◌++◌, inl, inr, Option, None, Some}
+use Rattle.std.proofs.Common.{length, min, take, drop, reverse, refl, sym, ap, ◌∙◌, append_assoc, arith}
 use Rattle.std.proofs.Common.{length-drop, slice_get}
 use Rattle.std.proofs.lemmas.List.{drop-drop, length-reverse, reverse-append, reverse-reverse, take-append-drop}
 use Rattle.std.proofs.Math.ListN.{drop_of_length-le}
-use Rattle.std.proofs.Math.Seq.{drop-append_seam, take-append_seam}
+use Rattle.std.proofs.Math.Seq.{drop-append_seam}
 use Rattle.std.proofs.lemmas.Bool.{cases_lt}
 use Rattle.std.proofs.lemmas.Option.{slice_get_past}
 use Rattle.std.specs.Iterator.{YieldsFirst, YieldsFirstBy, YieldsLast, YieldsLastBy}
@@ -112,14 +112,3 @@ module _ {T : Type 0} where
       let gave = nth-step n passed (reverse items) (reverse left) reply (reverse after) (omega arith) here
       (next_back-reversed left reply after step) in
       (gave.0, sym (reverse-reverse after) ∙ ap reverse gave.1)
-
-  -- `pop` leaves one item fewer
-  popped : (items : List T) (reply : Option T) (left : List T) → YieldsLast (λ all. all) items reply left
-      → left ≡ take (length items - 1) items
-  popped items None left ended = ended.1 ∙ ap (λ all. take (length all - 1) all) (sym ended.0)
-  popped items (Some item) left came =
-      let count = length-append left (item ∷ []) in
-      let one_less : length items - 1 ≡ length left = let same : length items ≡ length (left ++ item ∷ []) =
-      ap length came in omega arith in
-      sym (take-append_seam left (item ∷ [])) ∙ (ap (λ k. take k (left ++ item ∷ [])) (sym one_less)
-      ∙ ap (take (length items - 1)) (sym came))

@@ -4,7 +4,7 @@ use Rattle.hex.proofs.HexLemmas.{IsAscii-encode_with, length-encode_with}
 use Rattle.hex.specs.Hex.{encode_lower, encode_with, lower_digits, upper_digits}
 use Rattle.std.proofs.Common.{◌≡◌, ℕ, ◌+◌, ◌-◌, ◌*◌, ◌/◌, ◌%◌, ◌≤◌, inl, inr, Bool, true, false, if◌then◌else◌, List}
 use Rattle.std.proofs.Common.{[], ◌∷◌, ◌++◌, Option, None, Some, MatchOption, refl, sym, ap, ◌∙◌, arith, length, map}
-use Rattle.std.proofs.Common.{nat_lt, min, take}
+use Rattle.std.proofs.Common.{append_assoc, length-append, nat_lt, min, take}
 use Rattle.std.proofs.Math.ListN.{get_or-map}
 use Rattle.std.proofs.Math.Seq.{take-append-add}
 use Rattle.std.proofs.lemmas.Bool.{cases_lt, ltb-true}
@@ -75,7 +75,7 @@ module _ (upper : Bool) where
 
   -- the digits that are to be written of two parts of the bytes: of the first as many as it has, and the others of
   -- the second
-  pub take-hex_digits : (count n : ℕ) (bytes piece behind text : List ℕ) → bytes ≡ piece ++ behind
+  take-hex_digits : (count n : ℕ) (bytes piece behind text : List ℕ) → bytes ≡ piece ++ behind
       → text ≡ hex_digits upper piece → n ≡ min count (length text)
       → take count (hex_digits upper bytes) ≡ take n text ++ take (count - n) (hex_digits upper behind)
   take-hex_digits count n bytes piece behind text parts digits few =
@@ -83,6 +83,27 @@ module _ (upper : Bool) where
       ∙ (ap (take count) (encode_with-append _ piece behind
       ∙ ap (λ front. front ++ hex_digits upper behind) (sym digits))
       ∙ take-append_min count n text (hex_digits upper behind) few)
+
+  -- the whole text is what was written, this piece and what is to be written of what lies behind it
+  pub pieces-next : (count n : ℕ) (bytes piece behind text whole done : List ℕ) → bytes ≡ piece ++ behind
+      → text ≡ hex_digits upper piece → n ≡ min count (length text)
+      → whole ≡ done ++ take count (hex_digits upper bytes)
+      → whole ≡ (done ++ take n text) ++ take (count - n) (hex_digits upper behind)
+  pieces-next count n bytes piece behind text whole done parts digits few told =
+      told ∙ (ap (λ rest. done ++ rest) (take-hex_digits count n bytes piece behind text parts digits few)
+      ∙ sym (append_assoc done (take n text) (take (count - n) (hex_digits upper behind))))
+
+  -- and what is to be written is there
+  pub pieces-left : (count n : ℕ) (bytes piece behind text : List ℕ) → bytes ≡ piece ++ behind
+      → text ≡ hex_digits upper piece → n ≡ min count (length text) → count ≤ 2 * length bytes
+      → count - n ≤ 2 * length behind
+  pieces-left count n bytes piece behind text parts digits few enough = omega (
+    arith,
+    ap length parts,
+    length-append piece behind,
+    ap length digits,
+    length-hex_digits piece,
+  )
 
   -- the text is as many digits as the limit lets through
   pub hex_text-counted : (limit : Option ℕ) (bytes : List ℕ) (count : ℕ)

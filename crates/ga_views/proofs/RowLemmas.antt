@@ -45,10 +45,11 @@ module _ {X : Type 0} (width : ℕ) (items : List X) where
         ∙ ap (λ others. take width items ∷ others) (rows_shifted 0 (chunk_count width (drop width items))))
 
     -- the same where what is split off stands under names
-    pub rows-split : (row left : List X) → row ≡ take width items → left ≡ drop width items
-        → rows width items ≡ row ∷ rows width left
-    rows-split row left front back = rows-first ∙ (ap (λ first. first ∷ rows width (drop width items)) (sym front)
-        ∙ ap (λ others. row ∷ rows width others) (sym back))
+    pub rows-split : (shown : List (List X)) (w : ℕ) (row left : List X) → rows width items ≡ shown → w ≡ width
+        → row ≡ take w items → left ≡ drop w items → shown ≡ row ∷ rows width left
+    rows-split shown w row left same as_wide front back = sym same ∙ (rows-first
+        ∙ (ap (λ first. first ∷ rows width (drop width items)) (ap (λ n. take n items) (sym as_wide) ∙ sym front)
+        ∙ ap (λ others. row ∷ rows width others) (ap (λ n. drop n items) (sym as_wide) ∙ sym back)))
 
     pub chunk_rest-first : chunk_rest width items ≡ chunk_rest width (drop width items)
     chunk_rest-first =
@@ -69,6 +70,11 @@ module _ {X : Type 0} (width : ℕ) (items : List X) where
     chunk_rest-few =
         let start : chunk_count width items * width ≡ 0 = ap (λ n. n * width) none ∙ (omega arith) in
         ap (λ k. drop k items) start
+
+  -- where no row of the width under a name is there, none is left
+  pub rows-none : (shown : List (List X)) (w : ℕ) → rows width items ≡ shown → w ≡ width → rows w items ≡ []
+      → shown ≡ []
+  rows-none shown w same as_wide nothing = sym same ∙ (ap (λ n. rows n items) (sym as_wide) ∙ nothing)
 
   -- how many rows there are
   pub length-rows : length (rows width items) ≡ chunk_count width items
@@ -128,7 +134,7 @@ wide_by len (suc width) k within = omega arith
 
 module _ {X : Type 0} (width : ℕ) where
   -- the rows behind the first k
-  pub rows-dropped : (k : ℕ) (items : List X) → k ≤ chunk_count width items
+  rows-dropped : (k : ℕ) (items : List X) → k ≤ chunk_count width items
       → rows width (drop (k * width) items) ≡ drop k (rows width items)
   rows-dropped zero items within = let none : 0 * width ≡ 0 = omega arith in ap (λ n. rows width (drop n items)) none
   rows-dropped (suc k) items within =
@@ -163,7 +169,7 @@ module _ {X : Type 0} (width : ℕ) where
       ∙ sym (take-map-range_with_len (row_at width items) 0 (chunk_count width items) (suc k) within))
 
   -- so many rows of those that a list tells are there, and so are their items
-  pub count-within : (k : ℕ) (items : List X) (left : List (List X)) → rows width items ≡ left → k ≤ length left
+  count-within : (k : ℕ) (items : List X) (left : List (List X)) → rows width items ≡ left → k ≤ length left
       → k ≤ chunk_count width items
   count-within k items left same within = omega (arith, within, length-rows width items, ap length same)
 
@@ -188,25 +194,48 @@ module _ {X : Type 0} (width : ℕ) (items : List X) (whole : length items ≡ c
         ap (λ n. n * width) all ∙ (omega arith) in
         omega (arith, whole, places)
 
-    pub whole-dropped : length (drop (k * width) items) ≡ chunk_count width (drop (k * width) items) * width
+    whole-dropped : length (drop (k * width) items) ≡ chunk_count width (drop (k * width) items) * width
     whole-dropped = whole_by (chunk_count width items - k) width (length (drop (k * width) items))
         (length-drop (k * width) items ∙ fewer)
 
-    pub whole-taken : let before = take (length items - k * width) items in
+    whole-taken : let before = take (length items - k * width) items in
         length before ≡ chunk_count width before * width
     whole-taken =
         let before = take (length items - k * width) items in
         whole_by (chunk_count width items - k) width (length before)
         (length-take-le (length items - k * width) items (omega arith) ∙ fewer)
 
-    pub rows-before : rows width (take (length items - k * width) items)
+    rows-before : rows width (take (length items - k * width) items)
         ≡ take (chunk_count width items - k) (rows width items)
     rows-before = ap (λ n. rows width (take n items)) fewer
         ∙ rows-taken width (chunk_count width items - k) items (omega arith)
 
+  -- the others leave no rest either, and their rows are those of the list that tells them
+  module _ (k : ℕ) (left : List (List X)) (shown : rows width items ≡ left) (within : k ≤ length left) (n : ℕ)
+      (as_wide : n ≡ width) (others : List X) where
+    some : k ≤ chunk_count width items
+    some = count-within width k items left shown within
+
+    pub passed-front : others ≡ drop (k * n) items
+        → (length others ≡ chunk_count width others * width) × (rows width others ≡ drop k left)
+    passed-front cut =
+        let here : others ≡ drop (k * width) items = cut ∙ ap (λ w. drop (k * w) items) as_wide in
+        (rw here (whole-dropped k some), ap (rows width) here ∙ (rows-dropped width k items some ∙ ap (drop k) shown))
+
+    pub passed-back : others ≡ take (length items - k * n) items
+        → (length others ≡ chunk_count width others * width) × (rows width others ≡ take (length left - k) left)
+    passed-back cut =
+        let here : others ≡ take (length items - k * width) items =
+        cut ∙ ap (λ w. take (length items - k * w) items) as_wide in
+        let count : chunk_count width items ≡ length left = sym (length-rows width items) ∙ ap length shown in (
+          rw here (whole-taken k some),
+          ap (rows width) here ∙ (rows-before k some
+              ∙ (ap (λ m. take (m - k) (rows width items)) count ∙ ap (take (length left - k)) shown)),
+        )
+
   -- the last row is what stands behind the others
   module _ (wide : 0 < width) (enough : width ≤ length items) where
-    pub rows-last : rows width items ≡ rows width (take (length items - width) items)
+    rows-last : rows width items ≡ rows width (take (length items - width) items)
         ++ drop (length items - width) items ∷ []
     rows-last =
         let before = length items - width in
@@ -225,6 +254,17 @@ module _ {X : Type 0} (width : ℕ) (items : List X) (whole : length items ≡ c
         ∙ (map-range_with_len_more (row_at width items) 0 last last (omega arith)
         ∙ (ap (λ list. list ++ row_at width items last ∷ []) (sym others)
         ∙ ap (λ r. rows width (take before items) ++ r ∷ []) row))
+
+    -- the same where what is split off stands under names
+    pub rows-split_back : (shown : List (List X)) (w : ℕ) (others row : List X) → rows width items ≡ shown → w ≡ width
+        → others ≡ take (length items - w) items → row ≡ drop (length items - w) items
+        → shown ≡ rows width others ++ row ∷ []
+    rows-split_back shown w others row same as_wide front back =
+        let place = ap (λ n. length items - n) (sym as_wide) in
+        sym same ∙ (rows-last
+        ∙ (ap (λ l. rows width l ++ drop (length items - width) items ∷ [])
+        (ap (λ n. take n items) place ∙ sym front)
+        ∙ ap (λ last. rows width others ++ last ∷ []) (ap (λ n. drop n items) place ∙ sym back)))
 
 -- a whole row ends within the items
 pub row-within : (len width index : ℕ) → index < len / width → index * width + width ≤ len

@@ -29,39 +29,19 @@ module _ {F X Y E : Type 0} (step : F → X → Result Y E → F → Type 0) whe
 
   -- a run with no error is a run of good calls
   good-run : (f : F) (xs : List X) (answers : List Y) (last : F)
-      → FirstErrorRun step f xs (Ok answers) last ↔ ClosureRun GoodCall f xs answers last
-  good-run f [] [] last = (λ run. run, λ run. run)
-  good-run f [] (y ∷ answers) last = (λ run. run, λ run. run)
-  good-run f (x ∷ xs) [] last = (λ run. run, λ run. run)
-  good-run f (x ∷ xs) (y ∷ answers) last = (
-    λ run. (run.0, run.1, (good-run run.0 xs answers last).0 run.2),
-    λ run. (run.0, run.1, (good-run run.0 xs answers last).1 run.2),
-  )
+      → FirstErrorRun step f xs (Ok answers) last ≡ ClosureRun GoodCall f xs answers last
+  good-run f [] [] last = refl
+  good-run f [] (y ∷ answers) last = refl
+  good-run f (x ∷ xs) [] last = refl
+  good-run f (x ∷ xs) (y ∷ answers) last = λ i. (g : F) × GoodCall f x y g × good-run g xs answers last i
 
   -- where no call of the first part failed
   pub FirstErrorRun-joined : GoodRunsJoin step
-  FirstErrorRun-joined f xs ys answers last =
-      let whole = good-run f (xs ++ ys) answers last in
-      let joined = ClosureRun-joined GoodCall f xs ys answers last in (
-        λ run.
-            let parts = joined.0 (whole.0 run) in (
-              parts.0,
-              parts.1,
-              parts.2,
-              parts.3,
-              (good-run f xs parts.0 parts.2).1 parts.4,
-              (good-run parts.2 ys parts.1 last).1 parts.5,
-            ),
-        λ parts.
-            whole.1 (joined.1 (
-              parts.0,
-              parts.1,
-              parts.2,
-              parts.3,
-              (good-run f xs parts.0 parts.2).0 parts.4,
-              (good-run parts.2 ys parts.1 last).0 parts.5,
-            )),
-      )
+  FirstErrorRun-joined f xs ys answers last = subst
+      (λ (Run : F → List X → List Y → F → Type 0). Run f (xs ++ ys) answers last
+      ↔ ((first : List Y) × (second : List Y) × (reached : F) × (answers ≡ first ++ second)
+      × Run f xs first reached × Run reached ys second last))
+      (λ i g zs made end. sym (good-run g zs made end) i) (ClosureRun-joined GoodCall f xs ys answers last)
 
   error-cut : (f : F) (xs ys : List X) (error : E) (last : F) → FirstErrorRun step f (xs ++ ys) (Err error) last
       → ErrorRunInParts step f xs ys error last
@@ -147,19 +127,20 @@ module _ {F A X E : Type 0} (step : F → A → X → Result A E → F → Type 
       subst (λ b. TryFoldRun step f b ys answer last) (sym same.0)
       (subst (λ g. TryFoldRun step g value ys answer last) (sym same.1) then)
 
-  good_fold-join : (f : F) (a : A) (xs ys : List X) (answer : A) (last : F) (value : A) (reached : F)
-      → TryFoldRun step f a xs (Ok value) reached → TryFoldRun step reached value ys (Ok answer) last
-      → TryFoldRun step f a (xs ++ ys) (Ok answer) last
-  good_fold-join f a [] ys answer last value reached run then =
-      after-fold f reached a value ys (Ok answer) last run then
-  good_fold-join f a (x ∷ xs) ys answer last value reached run then =
-      (run.0, run.1, run.2, good_fold-join run.1 run.0 xs ys answer last value reached run.3 then)
+  -- a fold over the second list, with an error or none, behind one over the first with none
+  fold-behind : (f : F) (a : A) (xs ys : List X) (result : Result A E) (last : F) (value : A) (reached : F)
+      → TryFoldRun step f a xs (Ok value) reached → TryFoldRun step reached value ys result last
+      → TryFoldRun step f a (xs ++ ys) result last
+  fold-behind f a [] ys result last value reached run then = after-fold f reached a value ys result last run then
+  fold-behind f a (x ∷ xs) ys (Ok answer) last value reached run then =
+      (run.0, run.1, run.2, fold-behind run.1 run.0 xs ys (Ok answer) last value reached run.3 then)
+  fold-behind f a (x ∷ xs) ys (Err error) last value reached run then =
+      inr (run.0, run.1, run.2, fold-behind run.1 run.0 xs ys (Err error) last value reached run.3 then)
 
   pub TryFoldRun-joined : GoodFoldsJoin step
   TryFoldRun-joined f init xs ys answer last = (
     good_fold-cut f init xs ys answer last,
-    λ parts.
-        good_fold-join f init xs ys answer last parts.0 parts.1 parts.2 parts.3,
+    λ parts. fold-behind f init xs ys (Ok answer) last parts.0 parts.1 parts.2 parts.3,
   )
 
   error_fold-cut : (f : F) (a : A) (xs ys : List X) (error : E) (last : F)
@@ -180,20 +161,12 @@ module _ {F A X E : Type 0} (step : F → A → X → Result A E → F → Type 
   error_fold-first f a (x ∷ xs) ys error last (inr more) =
       inr (more.0, more.1, more.2, error_fold-first more.1 more.0 xs ys error last more.3)
 
-  error_fold-second : (f : F) (a : A) (xs ys : List X) (error : E) (last : F) (value : A) (reached : F)
-      → TryFoldRun step f a xs (Ok value) reached → TryFoldRun step reached value ys (Err error) last
-      → TryFoldRun step f a (xs ++ ys) (Err error) last
-  error_fold-second f a [] ys error last value reached run then =
-      after-fold f reached a value ys (Err error) last run then
-  error_fold-second f a (x ∷ xs) ys error last value reached run then =
-      inr (run.0, run.1, run.2, error_fold-second run.1 run.0 xs ys error last value reached run.3 then)
-
   pub TryFoldRun-joined_error : FoldsToErrorJoin step
   TryFoldRun-joined_error f init xs ys error last = (
     error_fold-cut f init xs ys error last,
     λ parts. elim parts as (λ _. TryFoldRun step f init (xs ++ ys) (Err error) last) [
       | inl here ↦ error_fold-first f init xs ys error last here
-      | inr later ↦ error_fold-second f init xs ys error
+      | inr later ↦ fold-behind f init xs ys (Err error)
           last later.0 later.1 later.2 later.3
     ],
   )

@@ -15,6 +15,10 @@ use Rattle.std.proofs.lemmas.List.Concat.{flat_map-cons}
 use Rattle.std.proofs.lemmas.List.Elements.{All-head, All-tail}
 use Rattle.std.specs.List.{All, flat_map, range_with_len, refill, remove, swap, swap_remove}
 
+-- one place is left behind all but one
+pub one-behind : (back all at more one : ℕ) → back + at ≡ all → all ≡ more → at ≡ one → more ≡ one + 1 → back ≡ 1
+one-behind back all at more one cut whole here longer = omega arith
+
 -- how many items the rows have that are left after the first of them
 pub area-next : {R : Type 0} (row : R) (these left : List R) → these ≡ row ∷ left → (w at total : ℕ)
     → at + length these * w ≡ total → (at + w) + length left * w ≡ total
@@ -30,11 +34,14 @@ area-room R rows i d w at total here same =
     omega (arith, more)
 
 module _ {T : Type 0} where
-  -- what stands in an array whose places were written in two parts
-  pub refill-parts : (n : ℕ) (items front back first rest : List T) → front ≡ first → back ≡ rest
-      → n ≡ length front + length back → refill n items (front ++ back) ≡ first ++ rest
-  refill-parts n items front back first rest one two long =
-      refill-whole n items (front ++ back) (long ∙ sym (length-append front back))
+  -- what stands in an array whose places were lent in two parts, once both are written
+  pub refill-parts : (items lent was_front was_back front back first rest : List T) → lent ≡ items
+      → lent ≡ was_front ++ was_back → length front ≡ length was_front → length back ≡ length was_back
+      → front ≡ first → back ≡ rest → refill (length items) items (front ++ back) ≡ first ++ rest
+  refill-parts items lent was_front was_back front back first rest whole cut wide long one two =
+      let same : length items ≡ length (was_front ++ was_back) = ap length (sym whole ∙ cut) in
+      refill-whole (length items) items (front ++ back)
+      (omega (arith, same, length-append was_front was_back, length-append front back, wide, long))
       ∙ (ap (λ l. l ++ back) one ∙ ap (λ l. first ++ l) two)
 
   -- a list of one item
@@ -93,35 +100,6 @@ module _ {T : Type 0} where
         ∙ ap (λ l. Some (slice_index_or l 0 d)) (sym
         (ap (drop m) parts ∙ (ap (λ k. drop k (others ++ item ∷ [])) others-long
         ∙ drop-append_seam others (item ∷ []))))
-
-  -- the list where the last takes the place of an item
-  last_of : (front : List T) (last d : T) → slice_index_or (front ++ last ∷ []) (length front) d ≡ last
-  last_of [] last d = refl
-  last_of (x ∷ front) last d = last_of front last d
-
-  swap_remove-first : (x : T) (front : List T) (last d : T) → swap_remove (x ∷ (front ++ last ∷ [])) 0 d ≡ last ∷ front
-  swap_remove-first x front last d =
-      let all = front ++ last ∷ [] in
-      let long : suc (length all) - 1 ≡ suc (length front) = omega (arith, length-append front (last ∷ [])) in
-      ap (λ k. take k (slice_index_or (x ∷ all) k d ∷ all)) long
-      ∙ (ap (λ y. y ∷ take (length front) all) (last_of front last d)
-      ∙ ap (λ more. last ∷ more) (take-append_seam front (last ∷ [])))
-
-  swap_remove-suc : (x : T) (items : List T) (n : ℕ) (d : T) → 0 < length items
-      → swap_remove (x ∷ items) (suc n) d ≡ x ∷ swap_remove items n d
-  swap_remove-suc x items n d some =
-      let long : suc (length items) - 1 ≡ suc (length items - 1) = omega arith in
-      ap (λ k. take k (x ∷ slice_set items n (slice_index_or (x ∷ items) k d))) long
-
-  swap_remove-next : (n : ℕ) (front left : List T) (item last d : T) → drop n front ≡ item ∷ left
-      → take n front ++ last ∷ left ≡ swap_remove (front ++ last ∷ []) n d
-  swap_remove-next zero [] left item last d here = cc
-  swap_remove-next (suc n) [] left item last d here = cc
-  swap_remove-next zero (x ∷ front) left item last d here =
-      ap (λ all. last ∷ drop 1 all) (sym here) ∙ sym (swap_remove-first x front last d)
-  swap_remove-next (suc n) (x ∷ front) left item last d here =
-      ap (λ more. x ∷ more) (swap_remove-next n front left item last d here)
-      ∙ sym (swap_remove-suc x (front ++ last ∷ []) n d (omega (arith, length-append front (last ∷ []))))
 
   -- the places before those that were written, and these
   pub taken-row : (at n : ℕ) (places front moved rest behind : List T) → front ≡ take at places → length front ≡ at

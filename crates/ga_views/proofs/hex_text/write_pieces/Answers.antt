@@ -1,16 +1,13 @@
-use Rattle.ga_views.proofs.HexLemmas.{hex_text-counted, length-hex_digits, take-hex_digits}
+use Rattle.ga_views.proofs.HexLemmas.{hex_text-counted, length-hex_digits, pieces-left, pieces-next}
 use Rattle.ga_views.proofs.hex_text.write_pieces.Goals as goal
 use Rattle.ga_views.specs.HexText.{hex_digits}
-use Rattle.std.proofs.Common.{◌≡◌, ◌-◌, ◌*◌, ◌++◌, [], MatchOption, ap, append_assoc, arith, length, length-append}
+use Rattle.std.proofs.Common.{◌≡◌, ◌++◌, [], ap, arith, length, length-append}
 use Rattle.std.proofs.Common.{length-take, min, rules, sym, take, ◌∙◌}
 use Rattle.std.proofs.KnownBytes.{Appends-nil, Appends-trans}
 
 pub loop-count-init : goal.loop-count-init
 loop-count-init g c =
-    let bytes = c.args.bytes.now in
-    let counted : MatchOption c.args.limit (c.map_or-count.result ≡ 2 * length bytes)
-    (λ most. c.map_or-count.result ≡ min most (2 * length bytes)) = search rules in
-    let text = hex_text-counted c.args.upper c.args.limit bytes c.map_or-count.result counted in
+    let text = hex_text-counted c.args.upper c.args.limit c.args.bytes.now c.map_or-count.result (search rules) in
     record { text = ([], Appends-nil _, text.0); count = text.1 }
 
 pub returns-in_err-write_all-clause-empty : goal.returns-in_err-write_all-clause-empty
@@ -29,24 +26,15 @@ pub loop-count-preserved : goal.loop-count-preserved
 loop-count-preserved g c =
     let contents = g.W.Write.contents in
     let so_far = c.loop-count.invariant.text in
-    let piece = c.split_at.result.0.now in
-    let behind = c.split_at.result.1.now in
     let written = take c.min-written.result c.put_digits.new.text in
-    let long : length c.put_digits.new.text ≡ 2 * length piece =
-    ap length c.put_digits.ensures ∙ length-hex_digits c.args.upper piece in
     let few : c.min-written.result ≡ min c.loop-count.count (length c.put_digits.new.text) = search rules in
-    let step : take c.loop-count.count (hex_digits c.args.upper c.loop-count.left.now) ≡ written
-    ++ take (c.loop-count.count - c.min-written.result) (hex_digits c.args.upper behind) =
-    take-hex_digits c.args.upper c.loop-count.count c.min-written.result c.loop-count.left.now piece behind
-    c.put_digits.new.text c.split_at.ensures.by_index.0 c.put_digits.ensures few in
     record {
       text = (
         so_far.0 ++ written,
         Appends-trans (contents c.args.w.now) (contents c.loop-count.w)
             (contents c.write_all.new.self) so_far.0 written so_far.1 c.in_ok-write_all.ensures.bytes,
-        so_far.2 ∙ (ap (λ rest. so_far.0 ++ rest) step
-            ∙ sym (append_assoc so_far.0 written (take (c.loop-count.count - c.min-written.result)
-            (hex_digits c.args.upper behind)))),
+        pieces-next c.args.upper _ _ _ _ _ _ _ _ c.split_at.ensures.by_index.0 c.put_digits.ensures few so_far.2,
       );
-      count = omega arith;
+      count = pieces-left c.args.upper _ _ _ _ _ _ c.split_at.ensures.by_index.0 c.put_digits.ensures few
+          c.loop-count.invariant.count;
     }

@@ -21,14 +21,13 @@ use contract.Monad.{fact}
 use contract.Running.{tables}
 use denote.Laws.{Is, shows}
 use denote.Param.Laws.{Laws}
-use denote.Param.{bounded, param}
+use denote.Param.{param}
 use denote.RattleType.{owns, RattleType}
 use denote.Ref.{NamedLft}
 use denote.Slice.{mut_slice_vals, MutSlice}
 use denote.Steps.{heard, nothing, peeks}
 use denote.Triple.Table.{framed}
-use mir.MapTy.{inst_fn}
-use mir.Syntax.{a_type, Args, dcons, dnil, Fn, named}
+use mir.Syntax.{named}
 use types.ByLocal.{alloc_all, free_all, get, get_in, lands_as, look_at, look_in_at, pass_all, sets}
 use types.Kit.{‵, ◌⊛◌, ◌$◌, ◌∵◌, !, by, drop, fjoin, group, move, qed, raw, split, split3}
 use types.Part.{agg, sub, whole}
@@ -56,10 +55,7 @@ module _ (X N : RattleType) (g : unsigned.Ghosts N.Denot) (κ : Lft) where
 -- A is the type of the slots of N's arrays
 pub try_from_mut_slice_spec : {M : Type 1} → statement M
 try_from_mut_slice_spec 𝓤 𝓛 𝓜 𝓡 wired X N A LX LN LA gL dL g d gS dS dA boundL bound boundS glue =
-    let key : Args = bounded (a_type ∷ a_type ∷ a_type ∷ []) (X, (N, (A, tt)))
-    (dcons dL (dcons d (dcons dS (dcons dA dnil)))) in
-    let fn : Fn = inst_fn key code.function in
-    gives_up 3 X 𝓛 (F.clauses X N A gL dL g d gS dS dA 𝓛 𝓜.mem 𝓡.returns) 𝓜 𝓡 (F.Key.name key) fn
+    gives_up 3 X 𝓛 (F.clauses X N A gL dL g d gS dS dA 𝓛 𝓜.mem 𝓡.returns) 𝓜 𝓡 _ _
     (code.unfolded 𝓤 𝓛.H 𝓜 𝓡 wired (X, (N, (A, tt))) dL d dS dA) (λ κs qs bounds s gh fits Post leave.
     let κ : Lft = κs.0 in let κT : Lft = κs.1.0 in let κN : Lft = κs.1.1.0 in let κA : Lft = κs.1.1.1.0 in
     let T : RattleType = S X N g κ in let V : RattleType = View X N g κ in let R : RattleType = Answer X N g κ in

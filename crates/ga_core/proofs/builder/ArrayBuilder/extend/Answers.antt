@@ -1,7 +1,6 @@
-use Rattle.ga_core.proofs.FillLemmas.{Asks-from_takes, TakeRuns-from_takes}
+use Rattle.ga_core.proofs.FillLemmas.{Asks-from_takes, TakeRuns-from_takes, room-filled, room-left}
 use Rattle.ga_core.proofs.builder.ArrayBuilder.extend.Goals as goal
-use Rattle.ga_core.specs.Fill.{Takes}
-use Rattle.std.proofs.Common.{◌≡◌, ◌∷◌, [], ◌++◌, ◌-◌, ◌<◌, ap, append_assoc, arith, inl, inr, length, length-append}
+use Rattle.std.proofs.Common.{◌≡◌, ◌∷◌, [], ◌++◌, ◌-◌, ap, append_assoc, inl, inr, length}
 use Rattle.std.proofs.Common.{refl, rules, ◌∙◌}
 use Rattle.std.proofs.iter.Next.{Yields-more}
 
@@ -20,70 +19,32 @@ loop-items-preserved g c =
       );
     }
 
-pub returns-in-None-clause-runs : goal.returns-in-None-clause-runs
-returns-in-None-clause-runs g c =
-    let so_far = c.loop-items.invariant.taken in
-    let room = g.N.Unsigned.USIZE - length c.args.self.now in
-    let short : length c.loop-items.self < g.N.Unsigned.USIZE = search rules in
-    let takes : Takes g.I.Iterator.next_gives c.args.items.now room so_far.0 c.next.new.self =
-    inr (
-      (c.loop-items.items, so_far.2, c.in-None.ensures.steps),
-      omega (arith, length-append c.args.self.now so_far.0, ap length so_far.1, short),
-    ) in
-    TakeRuns-from_takes g.I.Iterator.next_gives (λ taken. c.loop-items.self ≡ c.args.self.now
-    ++ taken) c.args.items.now room so_far.0 c.next.new.self takes so_far.1
-
-pub returns-in-None-clause-asks : goal.returns-in-None-clause-asks
-returns-in-None-clause-asks g c =
-    let so_far = c.loop-items.invariant.taken in
-    let room = g.N.Unsigned.USIZE - length c.args.self.now in
-    let short : length c.loop-items.self < g.N.Unsigned.USIZE = search rules in
-    Asks-from_takes g.I.Iterator.next_gives c.args.items.now room so_far.0 c.next.new.self
-    (inr (
-      (c.loop-items.items, so_far.2, c.in-None.ensures.steps),
-      omega (arith, length-append c.args.self.now so_far.0, ap length so_far.1, short),
-    ))
-
-pub returns-clause-runs : goal.returns-clause-runs
-returns-clause-runs g c =
-    let so_far = c.loop-items.invariant.taken in
-    let room = g.N.Unsigned.USIZE - length c.args.self.now in
-    let takes : Takes g.I.Iterator.next_gives c.args.items.now room so_far.0 c.loop-items.items =
-    inl (so_far.2, omega (arith, length-append c.args.self.now so_far.0, ap length so_far.1)) in
-    TakeRuns-from_takes g.I.Iterator.next_gives (λ taken. c.loop-items.self ≡ c.args.self.now
-    ++ taken) c.args.items.now room so_far.0 c.loop-items.items takes so_far.1
-
-pub returns-clause-asks : goal.returns-clause-asks
-returns-clause-asks g c =
-    let so_far = c.loop-items.invariant.taken in
-    Asks-from_takes g.I.Iterator.next_gives c.args.items.now
-    (g.N.Unsigned.USIZE - length c.args.self.now) so_far.0 c.loop-items.items
-    (inl (so_far.2, omega (arith, length-append c.args.self.now so_far.0, ap length so_far.1)))
-
-pub returns-clause-taken : goal.returns-clause-taken
-returns-clause-taken g c =
-    let so_far = c.loop-items.invariant.taken in (
-      so_far.0,
-      so_far.1,
-      inl (
-        so_far.2,
-        omega (
-          arith,
-          length-append c.args.self.now so_far.0,
-          ap length so_far.1,
-          c.loop-items-test.ensures.full.0 refl,
-        ),
-      ),
-    )
-
 pub returns-in-None-clause-taken : goal.returns-in-None-clause-taken
 returns-in-None-clause-taken g c =
     let so_far = c.loop-items.invariant.taken in
-    let short : length c.loop-items.self < g.N.Unsigned.USIZE = search rules in (
-      so_far.0,
-      so_far.1,
-      inr (
-        (c.loop-items.items, so_far.2, c.in-None.ensures.steps),
-        omega (arith, length-append c.args.self.now so_far.0, ap length so_far.1, short),
-      ),
-    )
+    let few = room-left _ _ _ _ so_far.1 (search rules) in
+    (so_far.0, so_far.1, inr ((c.loop-items.items, so_far.2, c.in-None.ensures.steps), few))
+
+pub returns-in-None-clause-runs : goal.returns-in-None-clause-runs
+returns-in-None-clause-runs g c = let taken = returns-in-None-clause-taken g c in
+    TakeRuns-from_takes g.I.Iterator.next_gives (λ items. c.loop-items.self ≡ c.args.self.now ++ items)
+    c.args.items.now (g.N.Unsigned.USIZE - length c.args.self.now) taken.0 c.next.new.self taken.2 taken.1
+
+pub returns-in-None-clause-asks : goal.returns-in-None-clause-asks
+returns-in-None-clause-asks g c = let taken = returns-in-None-clause-taken g c in
+    Asks-from_takes g.I.Iterator.next_gives c.args.items.now (g.N.Unsigned.USIZE - length c.args.self.now) taken.0
+    c.next.new.self taken.2
+
+pub returns-clause-taken : goal.returns-clause-taken
+returns-clause-taken g c = let so_far = c.loop-items.invariant.taken in
+    (so_far.0, so_far.1, inl (so_far.2, room-filled _ _ _ _ so_far.1 (c.loop-items-test.ensures.full.0 refl)))
+
+pub returns-clause-runs : goal.returns-clause-runs
+returns-clause-runs g c = let taken = returns-clause-taken g c in
+    TakeRuns-from_takes g.I.Iterator.next_gives (λ items. c.loop-items.self ≡ c.args.self.now ++ items)
+    c.args.items.now (g.N.Unsigned.USIZE - length c.args.self.now) taken.0 c.loop-items.items taken.2 taken.1
+
+pub returns-clause-asks : goal.returns-clause-asks
+returns-clause-asks g c = let taken = returns-clause-taken g c in
+    Asks-from_takes g.I.Iterator.next_gives c.args.items.now (g.N.Unsigned.USIZE - length c.args.self.now) taken.0
+    c.loop-items.items taken.2

@@ -1,9 +1,10 @@
 use mathlib.Core.Bool.{true≢false}
-use Rattle.ga_core.proofs.FillLemmas.{TakeGoodRuns-from_takes}
+use Rattle.ga_core.proofs.FillLemmas.{TakeGoodRuns-from_takes, room-filled, room-left}
+use Rattle.ga_core.proofs.builder.ArrayBuilder.try_extend.Given as given
 use Rattle.ga_core.proofs.builder.ArrayBuilder.try_extend.Goals as goal
-use Rattle.ga_core.specs.Fill.{TakesGood}
-use Rattle.std.proofs.Common.{◌≡◌, ◌≢◌, ◌∷◌, [], ◌++◌, ◌-◌, Err, Ok, Result, Some, ap, append_assoc, arith, inl, inr}
-use Rattle.std.proofs.Common.{length, length-append, map, refl, subst, sym, ◌∙◌}
+use Rattle.ga_core.proofs.builder.ArrayBuilder.try_extend.Goals.{After-next}
+use Rattle.std.proofs.Common.{◌≡◌, ◌≢◌, ◌<◌, ◌∷◌, [], ◌++◌, ◌-◌, Err, Ok, Result, Some, ap, append_assoc, arith}
+use Rattle.std.proofs.Common.{inl, inr, length, map, refl, subst, sym, ◌∙◌}
 use Rattle.std.proofs.iter.Next.{Yields-more}
 use Rattle.std.proofs.lemmas.List.{length-map, map-append}
 use Rattle.std.specs.Iterator.{Yields}
@@ -27,80 +28,60 @@ loop-items-preserved g c =
       );
     }
 
-pub returns : goal.returns
-returns g c =
-    let next_gives = g.I.Iterator.next_gives in
-    let room = g.N.Unsigned.USIZE - length c.args.self.now in
-    let taken = c.loop-items.invariant.taken in
-    let takes : TakesGood next_gives c.args.items.now room taken.0 (Ok tt) c.loop-items.items =
-    inl (
-      taken.2,
-      omega (
-        arith,
-        length-map {B = Result g.row.T.Denot g.row.E.Denot} taken.0 Ok,
-        ap length taken.1,
-        length-append c.args.self.now taken.0,
-        c.loop-items-test.ensures.full.0 refl,
-      ),
-    ) in
-    record {
-      taken = (taken.0, taken.1, takes);
-      runs = TakeGoodRuns-from_takes next_gives (λ good. c.loop-items.self ≡ c.args.self.now
-          ++ good) c.args.items.now room taken.0 (Ok tt) c.loop-items.items takes taken.1;
-      can = λ _. c.loop-items.invariant.can;
-      can_on = tt;
-    }
-
-pub returns-in-None : goal.returns-in-None
-returns-in-None g c =
-    let next_gives = g.I.Iterator.next_gives in
-    let room = g.N.Unsigned.USIZE - length c.args.self.now in
-    let taken = c.loop-items.invariant.taken in
-    let other : length c.loop-items.self ≢ g.N.Unsigned.USIZE =
+-- while the builder isn't full, fewer good values came than there was room for
+few : (g : given.Over) (c : After-next g) → length c.loop-items.invariant.taken.0
+    < g.N.Unsigned.USIZE - length c.args.self.now
+few g c =
+    let open_still : length c.loop-items.self ≢ g.N.Unsigned.USIZE =
     λ full. true≢false (sym (c.loop-items-test.ensures.full.1 full)) in
-    let takes : TakesGood next_gives c.args.items.now room taken.0 (Ok tt) c.next.new.self =
-    inr (
-      (c.loop-items.items, taken.2, c.in-None.ensures.steps),
-      omega (
-        arith,
-        length-map {B = Result g.row.T.Denot g.row.E.Denot} taken.0 Ok,
-        ap length taken.1,
-        length-append c.args.self.now taken.0,
-        c.loop-items-test.ensures.bound,
-        other,
-      ),
-    ) in
-    record {
-      taken = (taken.0, taken.1, takes);
-      runs = TakeGoodRuns-from_takes next_gives (λ good. c.loop-items.self ≡ c.args.self.now
-          ++ good) c.args.items.now room taken.0 (Ok tt) c.next.new.self takes taken.1;
-      can = λ full. absurd (other full);
-      can_on = tt;
-    }
+    room-left _ _ _ _ c.loop-items.invariant.taken.1 (omega (arith, c.loop-items-test.ensures.bound, open_still))
 
-pub returns-in-Some-Err : goal.returns-in-Some-Err
-returns-in-Some-Err g c =
-    let next_gives = g.I.Iterator.next_gives in
-    let room = g.N.Unsigned.USIZE - length c.args.self.now in
-    let taken = c.loop-items.invariant.taken in
-    let other : length c.loop-items.self ≢ g.N.Unsigned.USIZE =
-    λ full. true≢false (sym (c.loop-items-test.ensures.full.1 full)) in
-    let call = subst (λ reply. next_gives c.loop-items.items (Some reply) c.next.new.self) c.in-Some-Err.field-0-is
-    c.in-Some-Err.ensures.steps in
-    let takes : TakesGood next_gives c.args.items.now room taken.0 (Err c.in-Some-Err.error) c.next.new.self = (
-      (c.loop-items.items, taken.2, call),
-      omega (
-        arith,
-        ap length taken.1,
-        length-append c.args.self.now taken.0,
-        c.loop-items-test.ensures.bound,
-        other,
+pub returns-clause-taken : goal.returns-clause-taken
+returns-clause-taken g c = let taken = c.loop-items.invariant.taken in (
+  taken.0,
+  taken.1,
+  inl (
+    taken.2,
+    length-map taken.0 Ok
+        ∙ room-filled _ _ _ _ taken.1 (c.loop-items-test.ensures.full.0 refl),
+  ),
+)
+
+pub returns-clause-runs : goal.returns-clause-runs
+returns-clause-runs g c = let taken = returns-clause-taken g c in
+    TakeGoodRuns-from_takes g.I.Iterator.next_gives (λ good. c.loop-items.self ≡ c.args.self.now ++ good)
+    c.args.items.now (g.N.Unsigned.USIZE - length c.args.self.now) taken.0 (Ok tt) c.loop-items.items taken.2 taken.1
+
+pub returns-in-None-clause-taken : goal.returns-in-None-clause-taken
+returns-in-None-clause-taken g c =
+    let taken = c.loop-items.invariant.taken in (
+      taken.0,
+      taken.1,
+      inr (
+        (c.loop-items.items, taken.2, c.in-None.ensures.steps),
+        omega (
+          arith,
+          length-map {B = Result g.row.T.Denot g.row.E.Denot} taken.0 Ok,
+          few g (goal.at.returns-in-None-clause-taken g c).After-next,
+        ),
       ),
-    ) in
-    record {
-      taken = (taken.0, taken.1, takes);
-      runs = TakeGoodRuns-from_takes next_gives (λ good. c.loop-items.self ≡ c.args.self.now
-          ++ good) c.args.items.now room taken.0 (Err c.in-Some-Err.error) c.next.new.self takes taken.1;
-      can = λ full. absurd (other full);
-      can_on = c.in-Some-Err.ensures.goes.keeps;
-    }
+    )
+
+pub returns-in-None-clause-runs : goal.returns-in-None-clause-runs
+returns-in-None-clause-runs g c = let taken = returns-in-None-clause-taken g c in
+    TakeGoodRuns-from_takes g.I.Iterator.next_gives (λ good. c.loop-items.self ≡ c.args.self.now ++ good)
+    c.args.items.now (g.N.Unsigned.USIZE - length c.args.self.now) taken.0 (Ok tt) c.next.new.self taken.2 taken.1
+
+pub returns-in-Some-Err-clause-taken : goal.returns-in-Some-Err-clause-taken
+returns-in-Some-Err-clause-taken g c =
+    let taken = c.loop-items.invariant.taken in
+    let call = subst (λ reply. g.I.Iterator.next_gives c.loop-items.items (Some reply) c.next.new.self)
+    c.in-Some-Err.field-0-is c.in-Some-Err.ensures.steps in
+    let early = (goal.at.returns-in-Some-Err-clause-taken g c).After-next in
+    (taken.0, taken.1, ((c.loop-items.items, taken.2, call), few g early))
+
+pub returns-in-Some-Err-clause-runs : goal.returns-in-Some-Err-clause-runs
+returns-in-Some-Err-clause-runs g c = let taken = returns-in-Some-Err-clause-taken g c in
+    TakeGoodRuns-from_takes g.I.Iterator.next_gives (λ good. c.loop-items.self ≡ c.args.self.now ++ good)
+    c.args.items.now (g.N.Unsigned.USIZE - length c.args.self.now) taken.0 (Err c.in-Some-Err.error) c.next.new.self
+    taken.2 taken.1

@@ -1,10 +1,9 @@
 -- `item_mut` lends one item of the slice that `as_mut_slice` lends, and the store follows the item. The borrow
 -- checker does not follow a loan through a slice to its lender, so this proof walks the code by hand: the slice's
 -- pointer gives the item's slot, and then the item is lent, by `ItemLoan`'s `lends_item`. Assumes `Logic`.
-use Rattle.ga_core.proofs.LentStore.{args, calls_slice, loan_of, R, S}
+use Rattle.ga_core.proofs.LentStore.{calls_slice, loan_of, R, S}
 use Rattle.ga_core.proofs.store.Store.item_mut.Code as code
 use Rattle.ga_core.proofs.store.Store.item_mut.Statement.{statement}
-use Rattle.ga_core.specs.contracts.store.Store.item_mut.Key.{name as #self}
 use Rattle.ga_core.specs.declared.store.Store as store
 use Rattle.ga_views.proofs.ItemLoan.{uncapped_fits, lends_item, lent_item, offset_fits, spot, uncapped}
 use Rattle.ga_views.proofs.LoanWalk.{Had, lends, Loan}
@@ -16,7 +15,6 @@ use denote.Param.{layout}
 use denote.RattleType.{RattleType}
 use denote.Signature.{plain}
 use denote.Triple.Table.{framed}
-use mir.MapTy.{inst_fn}
 use mir.Syntax.{Dict, w64}
 use mir.Val.{vint}
 use prog.Memory.{size}
@@ -32,11 +30,9 @@ loan Z X g d dd = loan_of Z X g d dd 1 (RefMutOf (0 ∷ []) tt (plain (λ _. R Z
 
 pub item_mut_spec : {M : Type 1} → statement M
 item_mut_spec 𝓤 𝓛 𝓜 𝓡 wired Z X LZ LX g d dd met metD =
-    lends (loan Z X g d dd) 𝓛 𝓜 𝓡 (#self (args Z X g d dd)) (inst_fn (args Z X g d dd) code.function)
-    (code.unfolded 𝓤 𝓛.H 𝓜 𝓡 wired (Z, (X, tt)) d dd)
+    lends (loan Z X g d dd) 𝓛 𝓜 𝓡 _ _ (code.unfolded 𝓤 𝓛.H 𝓜 𝓡 wired (Z, (X, tt)) d dd)
     (λ κs qs bounds x ns Post lives asked are exits.
-    let E : RattleType = R Z X g d dd in
-    let Store : RattleType = S Z X g d dd in
+    let E : RattleType = R Z X g d dd in let Store : RattleType = S Z X g d dd in
     let i : ℕ = ns.0 in
     qed 𝓛 (Had (loan Z X g d dd) 𝓛 κs qs x ns) ∵ enter ! _ _ _ _ _ $ alloc_all !
     (λ l. pass_all ! refl ((tt, tt), ((tt, record { fits = are.0.1 }), tt)) $

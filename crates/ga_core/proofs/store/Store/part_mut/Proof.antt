@@ -1,10 +1,9 @@
 -- `part_mut` lends a part of the slice that `as_mut_slice` lends, and the store follows the part. The borrow checker
 -- does not follow a loan through a slice to its lender, so this proof walks the code by hand: the slice's pointer
 -- gives the part's place, and then the part is lent, by `PartLoan`'s `lends_part`. Assumes `Logic`.
-use Rattle.ga_core.proofs.LentStore.{args, calls_slice, loan_of, R, S}
+use Rattle.ga_core.proofs.LentStore.{calls_slice, loan_of, R, S}
 use Rattle.ga_core.proofs.store.Store.part_mut.Code as code
 use Rattle.ga_core.proofs.store.Store.part_mut.Statement.{statement}
-use Rattle.ga_core.specs.contracts.store.Store.part_mut.Key.{name as #self}
 use Rattle.ga_core.specs.declared.store.Store as store
 use Rattle.ga_views.proofs.ItemLoan.{offset_fits, uncapped, uncapped_fits}
 use Rattle.ga_views.proofs.LoanWalk.{Had, lends, Loan}
@@ -21,7 +20,6 @@ use denote.Param.{layout}
 use denote.RattleType.{RattleType}
 use denote.Signature.{plain}
 use denote.Triple.Table.{framed}
-use mir.MapTy.{inst_fn}
 use mir.Syntax.{Dict, w64}
 use mir.Val.{vint}
 use prog.Memory.{size}
@@ -37,11 +35,9 @@ loan Z X g d dd = loan_of Z X g d dd 2 (SliceRefMutOf (0 ∷ []) tt (plain (λ _
 
 pub part_mut_spec : {M : Type 1} → statement M
 part_mut_spec 𝓤 𝓛 𝓜 𝓡 wired Z X LZ LX g d dd met metD =
-    lends (loan Z X g d dd) 𝓛 𝓜 𝓡 (#self (args Z X g d dd)) (inst_fn (args Z X g d dd) code.function)
-    (code.unfolded 𝓤 𝓛.H 𝓜 𝓡 wired (Z, (X, tt)) d dd)
+    lends (loan Z X g d dd) 𝓛 𝓜 𝓡 _ _ (code.unfolded 𝓤 𝓛.H 𝓜 𝓡 wired (Z, (X, tt)) d dd)
     (λ κs qs bounds x ns Post lives asked are exits.
-    let E : RattleType = R Z X g d dd in
-    let Store : RattleType = S Z X g d dd in
+    let E : RattleType = R Z X g d dd in let Store : RattleType = S Z X g d dd in
     let from : ℕ = ns.0 in let len : ℕ = ns.1.0 in
     qed 𝓛 (Had (loan Z X g d dd) 𝓛 κs qs x ns) ∵ enter ! _ _ _ _ _ $ alloc_all !
     (λ l. pass_all ! refl ((tt, tt), ((tt, record { fits = are.0.1 }), ((tt, record { fits = are.1.0.1 }), tt))) $

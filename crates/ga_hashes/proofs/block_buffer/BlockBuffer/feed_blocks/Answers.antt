@@ -1,6 +1,7 @@
 use Rattle.ga_hashes.proofs.BlockLemmas.{MayTake-along, Takes-none, full-callable, full-taken, full-then_callable}
 use Rattle.ga_hashes.proofs.block_buffer.BlockBuffer.feed_blocks.Given as given
 use Rattle.ga_hashes.proofs.block_buffer.BlockBuffer.feed_blocks.Goals as goal
+use Rattle.ga_hashes.proofs.block_buffer.BlockBuffer.feed_blocks.Goals.{After-as_slice}
 use Rattle.generic_array.proofs.JoinLemmas.{chunk_rest-behind}
 use Rattle.generic_array.proofs.RowLemmas.{chunk_rest-few, rows-few}
 use Rattle.generic_array.specs.Rows.{rows}
@@ -39,45 +40,34 @@ hand_on_rows-requires-clause-callable g c =
     (rows width (c.args.self.now.kept ++ bytes)) (rows width bytes)
     (ap (λ kept. rows width (kept ++ bytes)) none) c.requires.callable
 
+-- the block that is full now and the bytes behind it are all bytes
+joined : (g : given.Over) (c : After-as_slice g)
+    → c.as_slice.result.now ++ c.complete-block.result.1.now ≡ c.args.self.now.kept ++ c.args.bytes.now
+joined g c = ap (λ block. block ++ c.complete-block.result.1.now) c.as_slice.ensures.items
+    ∙ (c.complete-block.ensures.parts ∙ ap (λ v. v.kept ++ c.args.bytes.now) c.self.view_is)
+
 pub f-requires : goal.f-requires
-f-requires g c =
-    let all = c.args.self.now.kept ++ c.args.bytes.now in
-    let joined : c.as_slice.result.now ++ c.complete-block.result.1.now ≡ all =
-    ap (λ block. block ++ c.complete-block.result.1.now) c.as_slice.ensures.items
-    ∙ (c.complete-block.ensures.parts ∙ ap (λ v. v.kept ++ c.args.bytes.now) c.self.view_is) in
-    full-callable (λ slice. slice.now) (goal.F-step g) g.N.Unsigned.USIZE
-    (omega (arith, c.self.invariant.0)) all c.complete-block.result.1.now c.as_slice.result joined
-    c.as_slice.ensures.len
+f-requires g c = full-callable (λ slice. slice.now) (goal.F-step g) g.N.Unsigned.USIZE
+    (omega (arith, c.self.invariant.0)) (c.args.self.now.kept ++ c.args.bytes.now) c.complete-block.result.1.now
+    c.as_slice.result (joined g (goal.at.f-requires g c).After-as_slice) c.as_slice.ensures.len
     (goal.F-pre g) c.args.f.now c.requires.callable
 
 pub hand_on_rows-requires-2-clause-callable : goal.hand_on_rows-requires-2-clause-callable
 hand_on_rows-requires-2-clause-callable g c =
-    let all = c.args.self.now.kept ++ c.args.bytes.now in
-    let joined : c.as_slice.result.now ++ c.complete-block.result.1.now ≡ all =
-    ap (λ block. block ++ c.complete-block.result.1.now) c.as_slice.ensures.items
-    ∙ (c.complete-block.ensures.parts ∙ ap (λ v. v.kept ++ c.args.bytes.now) c.self.view_is) in
     full-then_callable (λ slice. slice.now) (goal.F-step g) g.N.Unsigned.USIZE
-    (omega (arith, c.self.invariant.0)) all c.complete-block.result.1.now c.as_slice.result joined
+    (omega (arith, c.self.invariant.0)) (c.args.self.now.kept ++ c.args.bytes.now) c.complete-block.result.1.now
+    c.as_slice.result (joined g (goal.at.hand_on_rows-requires-2-clause-callable g c).After-as_slice)
     c.as_slice.ensures.len
     (goal.F-pre g) c.args.f.now c.requires.callable c.f.new.self c.f.ensures
 
 pub returns-clause-blocks : goal.returns-clause-blocks
-returns-clause-blocks g c =
-    let all = c.args.self.now.kept ++ c.args.bytes.now in
-    let joined : c.as_slice.result.now ++ c.complete-block.result.1.now ≡ all =
-    ap (λ block. block ++ c.complete-block.result.1.now) c.as_slice.ensures.items
-    ∙ (c.complete-block.ensures.parts ∙ ap (λ v. v.kept ++ c.args.bytes.now) c.self.view_is) in
-    full-taken (λ slice. slice.now) (goal.F-step g) g.N.Unsigned.USIZE
-    (omega (arith, c.self.invariant.0)) all c.complete-block.result.1.now c.as_slice.result joined
-    c.as_slice.ensures.len
+returns-clause-blocks g c = full-taken (λ slice. slice.now) (goal.F-step g) g.N.Unsigned.USIZE
+    (omega (arith, c.self.invariant.0)) (c.args.self.now.kept ++ c.args.bytes.now) c.complete-block.result.1.now
+    c.as_slice.result (joined g (goal.at.returns-clause-blocks g c).After-as_slice) c.as_slice.ensures.len
     c.args.f.now c.f.new.self c.hand_on_rows-2.new.f c.f.ensures (search rules)
 
 pub returns-clause-kept : goal.returns-clause-kept
-returns-clause-kept g c =
-    let all = c.args.self.now.kept ++ c.args.bytes.now in
-    let joined : c.as_slice.result.now ++ c.complete-block.result.1.now ≡ all =
-    ap (λ block. block ++ c.complete-block.result.1.now) c.as_slice.ensures.items
-    ∙ (c.complete-block.ensures.parts ∙ ap (λ v. v.kept ++ c.args.bytes.now) c.self.view_is) in
-    c.hand_on_rows-2.ensures.kept
+returns-clause-kept g c = c.hand_on_rows-2.ensures.kept
     ∙ sym (chunk_rest-behind g.N.Unsigned.USIZE (omega (arith, c.self.invariant.0)) c.as_slice.result.now
-    c.complete-block.result.1.now all joined c.as_slice.ensures.len)
+    c.complete-block.result.1.now (c.args.self.now.kept ++ c.args.bytes.now)
+    (joined g (goal.at.returns-clause-kept g c).After-as_slice) c.as_slice.ensures.len)

@@ -34,7 +34,7 @@ use denote.Builtin.{usize}
 use denote.Exit.{no, yes}
 use denote.Follow.{follows_both}
 use denote.Laws.{Is, shows}
-use denote.Param.{arg, bounded, layout, param}
+use denote.Param.{arg, layout, param}
 use denote.Param.Laws.{arg_laws, Laws, param_laws}
 use denote.Param.NoDrop.{glues}
 use denote.Plain.{uint_Makes}
@@ -49,8 +49,7 @@ use denote.Triple.Call.{calls_at}
 use denote.Triple.Clauses.{Lasts, lasts}
 use denote.Triple.Spec.{triple_of}
 use denote.Triple.Table.{framed}
-use mir.MapTy.{inst_fn}
-use mir.Syntax.{a_type, Args, dcons, Dict, dnil, Fn, impl as impl_of, named, tcons, tnil, ty_int, ty_ptr, ty_struct}
+use mir.Syntax.{Dict, dnil, impl as impl_of, named, tcons, tnil, ty_int, ty_ptr, ty_struct}
 use mir.Syntax.{w64}
 use mir.Val.{of_list, Val, vint, vstruct}
 use seplogic.Ra.Ura.{Ura}
@@ -113,9 +112,7 @@ pub chunks_from_slice_mut_spec : {M : Type 1} → statement M
 unfolding Rattle.ga_views.proofs.Destruct++none.drop.Code.code
 chunks_from_slice_mut_spec 𝓤 𝓛 𝓜 𝓡 wired X N LX LN g d bound =
     let 𝓣 = tables 𝓤 𝓛.H 𝓜 𝓡 𝓡.env in
-    let key : Args = bounded (a_type ∷ a_type ∷ []) (X, (N, tt)) (dcons d dnil) in
-    let fn : Fn = inst_fn key code.function in
-    gives_up 2 X 𝓛 (F.clauses X N g d 𝓛 𝓜.mem 𝓡.returns) 𝓜 𝓡 (F.Key.name key) fn
+    gives_up 2 X 𝓛 (F.clauses X N g d 𝓛 𝓜.mem 𝓡.returns) 𝓜 𝓡 _ _
     (code.unfolded 𝓤 𝓛.H 𝓜 𝓡 wired (X, (N, tt)) d) (λ κs qs bounds s gh fits Post leave.
     let n : ℕ = length s.now in let width : ℕ = g.USIZE in
     let κ : Lft = κs.0 in let κT : Lft = κs.1.0 in let κN : Lft = κs.1.1.0 in
@@ -193,7 +190,8 @@ chunks_from_slice_mut_spec 𝓤 𝓛 𝓜 𝓡 wired X N LX LN g d bound =
     LP (arg_laws (layout X) yes E (param_laws 0 X LX) refl)
     (arg_laws (layout N) yes (param 1 N) (param_laws 1 N LN) refl) gP dP g d drops
     (record { all = lends.all; all_mut = lends.all_mut; item_mut = lends.item_mut }) (record { USIZE = bound.USIZE })
-    (glues "ga_views::Destruct++none::drop" 𝓡.env (code.calls-ga_views::Destruct++none::drop 𝓡.env wired) P LP _ 𝓤 𝓛 𝓜 𝓡) in
+    (glues "ga_views::Destruct++none::drop" 𝓡.env (code.calls-ga_views::Destruct++none::drop 𝓡.env wired) P LP _ 𝓤 𝓛
+    𝓜 𝓡) in
     let O = triple_of 𝓛 (make_contract.signature P I Z gP dP g d drops)
     (make_contract.spec P I Z gP dP g d drops 𝓛 𝓜.mem 𝓡.returns) in
     let zO : O.Ghost = (

@@ -6,34 +6,25 @@ use Rattle.std.proofs.Common.{◌≡◌, ℕ, ◌+◌, ◌-◌, ◌*◌, ◌^◌
 use Rattle.std.specs.List.{refill}
 use Rattle.ga_views.proofs.InnerPart.{lent, lends_range}
 use Rattle.ga_views.proofs.PartLemmas.{part_long}
-use Rattle.ga_views.proofs.InnerSlice.{args, closes_inner, opens_inner, slice_lent}
+use Rattle.ga_views.proofs.InnerSlice.{closes_inner, opens_inner, slice_lent}
 use Rattle.ga_views.proofs.ItemLoan.{uncapped_fits, offset_fits, spot, uncapped}
-use Rattle.ga_views.proofs.LoanWalk.{Had, Loan, Walk, Words, lends}
+use Rattle.ga_views.proofs.LoanWalk.{Had, Loan, Words, lends}
 use Rattle.ga_views.specs.Parts.{part_set}
-use Rattle.ga_views.specs.contracts.reborrow.RefMutSliceReborrowPart.part_mut.Key.{name as #self}
 use Rattle.ga_views.proofs.reborrow.RefMutSliceReborrowPart.part_mut.Code as code
 use Rattle.ga_views.proofs.reborrow.RefMutSliceReborrowPart.part_mut.Statement.{statement}
-use seplogic.Ra.Ura.{Ura}
 use contract.Lifetimes.{Lfts}
-use contract.Running.{tables}
 use lib.ListN.{take, drop as drop_list}
-use mir.MapTy.{inst_fn}
-use mir.Syntax.{Fn, w64}
+use mir.Syntax.{w64}
 use mir.Val.{vint}
 use prog.Memory.{size}
-use prog.Wp.{Calls, Loops}
 use types.ByLocal.{alloc_all, pass_all, free_all, look_at, get, get_in, through, sets, is}
 use types.Kit.{some, later, ◌$◌, ◌∵◌, !, qed, by, keep, split3, use3, await, pick}
-use types.Logic.{Logic}
 use types.Part.{agg, look_in, sub, whole}
 use types.Run.{stop, fld, hop, addr, and_then, bin, load, no_more, of_opd, size_word, returns, enter}
 use denote.Param.{layout, param}
 use denote.RattleType.{RattleType}
 
 module _ (X : RattleType) where
-  abbrev function : Fn
-  function = inst_fn (args X) code.function
-
   abbrev part : (κs : Lfts 3) → List X.Denot → Words 3 κs 2 → List X.Denot
   part κs items ns = take ns.1.0 (drop_list ns.0 items)
 
@@ -41,42 +32,37 @@ module _ (X : RattleType) where
   loan = slice_lent X 2 (λ κs items ns. (ns.0 + ns.1.0 ≤ length items) ∷ [])
       (λ κs items ns part. refill (length items) items (part_set ns.0 ns.1.0 items part)) part
 
-module _ (X : RattleType) {M : Type 1} {𝓤 : Ura M} (𝓛 : Logic 𝓤) (C : Calls 𝓤 𝓛.H) (Λ : Loops 𝓤 𝓛.H) where
-  walk : Walk (loan X) 𝓛 C Λ (function X)
-  walk κs qs bounds x ns Post lives asked are exits =
-      let s : ℕ = size (layout X) in let shown : List X.Denot = part X κs x.now.now ns in
-      let long : length shown ≡ ns.1.0 = part_long ns.0 ns.1.0 x.now.now asked.0 in
-      qed 𝓛 (Had (loan X) 𝓛 κs qs x ns) ∵ enter ! C Λ (function X) _ _ $ alloc_all !
-      (λ l. pass_all ! refl ((tt, tt), ((tt, record { fits = are.0.1 }), ((tt, record { fits = are.1.0.1 }), tt))) $
-      opens_inner ! tt (param 0 X) x (λ rm.
-      let offset : ns.0 * s < 2 ^ 64 = offset_fits ns.0 (length x.now.now) s (omega (arith, asked.0)) rm.1 in
-      let end : ns.0 + ns.1.0 < 2 ^ 64 = omega (arith, rm.0, asked.0) in
-      let fits : length shown < 2 ^ 64 = omega (arith, are.1.0.1) in
-      let width : (ns.0 + ns.1.0) - ns.0 ≡ length shown = omega arith in
-      -- [the inner reference's cell; what it owns; the open borrow, in three entries]
-      sets ! (of_opd ! (load ! (through ! refl (fld ! refl (stop !))) (look_in ! 0 (sub ! 1 refl (whole !))))) refl
-      (tt, record { fits = rm.0 }) $
-      sets ! (addr ! (through ! refl (fld ! refl (hop ! (look_in ! 0 (sub ! 0 refl (whole !))) (stop !))))) refl
-      (tt, tt) $
-      sets ! (agg ! (and_then ! (get ! refl) (and_then ! (get ! refl) (no_more !)))) refl
-      (tt, (tt, (record { fits = rm.0 }, tt))) $
-      sets ! (bin ! (get ! refl) (get ! refl) (record { fits = end })) refl (tt, record { fits = end }) $
-      sets ! (is ! (bin ! (get ! refl) (size_word !) (record { fits = uncapped_fits ns.0 s offset }))
-      (ap (vint w64) (uncapped ns.0 s offset))) refl (tt, record { fits = offset }) $
-      sets ! (bin ! (get_in ! (fld ! refl (stop !)) (sub ! 0 refl (whole !))) (get ! refl) tt) refl (tt, tt) $
-      sets ! (is ! (bin ! (get ! refl) (get ! refl) (omega arith)) (ap (vint w64) width)) refl
-      (tt, record { fits = fits }) $
-      sets ! (addr ! (through ! refl (stop !))) refl (tt, tt) $
-      sets ! (agg ! (and_then ! (get ! refl) (and_then ! (get ! refl) (no_more !)))) refl
-      (tt, (tt, (record { fits = fits }, tt))) $
-      closes_inner ! tt (param 0 X) x $
-      use3 𝓛 (later (some (lent 𝓛 (param 0 X) κs.0 κs.1.0 qs.0 x ns.0 ns.1.0)))
-      (lends_range 𝓛 (param 0 X) κs.0 κs.1.0 qs.0 x ns.0 ns.1.0 asked.0 bounds.0 rm) $ await ! tt $ pick ! (λ δ.
-      returns ! (look_at ! 0 refl) $ free_all ! refl $ keep ! (0 ∷ 1 ∷ []) $ split3 ! $
-      by ! (exits _ (record { ref_ptr = (x.now.ref_ptr.0, spot (param 0 X) x.now ns.0); ghost_name = δ; now = shown })
-      refl))))
-
 pub part_mut_spec : {M : Type 1} → statement M
-part_mut_spec 𝓤 𝓛 𝓜 𝓡 wired X laws =
-    let 𝓣 = tables 𝓤 𝓛.H 𝓜 𝓡 𝓡.env in
-    lends (loan X) 𝓛 𝓜 𝓡 (#self (args X)) (function X) (code.unfolded 𝓤 𝓛.H 𝓜 𝓡 wired (X, tt)) (walk X 𝓛 𝓣.C 𝓣.Λ)
+part_mut_spec 𝓤 𝓛 𝓜 𝓡 wired X laws = lends (loan X) 𝓛 𝓜 𝓡 _ _ (code.unfolded 𝓤 𝓛.H 𝓜 𝓡 wired (X, tt))
+    (λ κs qs bounds x ns Post lives asked are exits.
+    let s : ℕ = size (layout X) in let shown : List X.Denot = part X κs x.now.now ns in
+    let long : length shown ≡ ns.1.0 = part_long ns.0 ns.1.0 x.now.now asked.0 in
+    qed 𝓛 (Had (loan X) 𝓛 κs qs x ns) ∵ enter ! _ _ _ _ _ $ alloc_all !
+    (λ l. pass_all ! refl ((tt, tt), ((tt, record { fits = are.0.1 }), ((tt, record { fits = are.1.0.1 }), tt))) $
+    opens_inner ! tt (param 0 X) x (λ rm.
+    let offset : ns.0 * s < 2 ^ 64 = offset_fits ns.0 (length x.now.now) s (omega (arith, asked.0)) rm.1 in
+    let end : ns.0 + ns.1.0 < 2 ^ 64 = omega (arith, rm.0, asked.0) in
+    let fits : length shown < 2 ^ 64 = omega (arith, are.1.0.1) in
+    let width : (ns.0 + ns.1.0) - ns.0 ≡ length shown = omega arith in
+    -- [the inner reference's cell; what it owns; the open borrow, in three entries]
+    sets ! (of_opd ! (load ! (through ! refl (fld ! refl (stop !))) (look_in ! 0 (sub ! 1 refl (whole !))))) refl
+    (tt, record { fits = rm.0 }) $
+    sets ! (addr ! (through ! refl (fld ! refl (hop ! (look_in ! 0 (sub ! 0 refl (whole !))) (stop !))))) refl
+    (tt, tt) $
+    sets ! (agg ! (and_then ! (get ! refl) (and_then ! (get ! refl) (no_more !)))) refl
+    (tt, (tt, (record { fits = rm.0 }, tt))) $
+    sets ! (bin ! (get ! refl) (get ! refl) (record { fits = end })) refl (tt, record { fits = end }) $
+    sets ! (is ! (bin ! (get ! refl) (size_word !) (record { fits = uncapped_fits ns.0 s offset }))
+    (ap (vint w64) (uncapped ns.0 s offset))) refl (tt, record { fits = offset }) $
+    sets ! (bin ! (get_in ! (fld ! refl (stop !)) (sub ! 0 refl (whole !))) (get ! refl) tt) refl (tt, tt) $
+    sets ! (is ! (bin ! (get ! refl) (get ! refl) (omega arith)) (ap (vint w64) width)) refl
+    (tt, record { fits = fits }) $
+    sets ! (addr ! (through ! refl (stop !))) refl (tt, tt) $
+    sets ! (agg ! (and_then ! (get ! refl) (and_then ! (get ! refl) (no_more !)))) refl
+    (tt, (tt, (record { fits = fits }, tt))) $
+    closes_inner ! tt (param 0 X) x $
+    use3 𝓛 (later (some (lent 𝓛 (param 0 X) κs.0 κs.1.0 qs.0 x ns.0 ns.1.0)))
+    (lends_range 𝓛 (param 0 X) κs.0 κs.1.0 qs.0 x ns.0 ns.1.0 asked.0 bounds.0 rm) $ await ! tt $ pick ! (λ δ.
+    returns ! (look_at ! 0 refl) $ free_all ! refl $ keep ! (0 ∷ 1 ∷ []) $ split3 ! $
+    by ! (exits _ (record { ref_ptr = (x.now.ref_ptr.0, spot (param 0 X) x.now ns.0); ghost_name = δ; now = shown })
+    refl)))))

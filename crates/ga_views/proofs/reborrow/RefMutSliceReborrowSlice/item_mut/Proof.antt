@@ -4,22 +4,16 @@
 -- element is lent by `InnerItem`'s `lends_element`.
 use Rattle.std.proofs.Common.{◌≡◌, ◌*◌, ◌^◌, ◌<◌, [], ◌∷◌, length, refl, ap, arith, get_or, set}
 use Rattle.ga_views.proofs.InnerItem.{lent, lends_element}
-use Rattle.ga_views.proofs.InnerSlice.{args, closes_inner, loan_of, opens_inner}
+use Rattle.ga_views.proofs.InnerSlice.{closes_inner, loan_of, opens_inner}
 use Rattle.ga_views.proofs.ItemLoan.{uncapped_fits, offset_fits, spot, uncapped}
-use Rattle.ga_views.proofs.LoanWalk.{Had, Loan, Walk, lends}
-use Rattle.ga_views.specs.contracts.reborrow.RefMutSliceReborrowSlice.item_mut.Key.{name as #self}
+use Rattle.ga_views.proofs.LoanWalk.{Had, Loan, lends}
 use Rattle.ga_views.proofs.reborrow.RefMutSliceReborrowSlice.item_mut.Code as code
 use Rattle.ga_views.proofs.reborrow.RefMutSliceReborrowSlice.item_mut.Statement.{statement}
-use seplogic.Ra.Ura.{Ura}
-use contract.Running.{tables}
-use mir.MapTy.{inst_fn}
-use mir.Syntax.{Fn, w64}
+use mir.Syntax.{w64}
 use mir.Val.{vint}
 use prog.Memory.{size}
-use prog.Wp.{Calls, Loops}
 use types.ByLocal.{alloc_all, pass_all, free_all, look_at, get, through, sets, is}
 use types.Kit.{some, later, ◌$◌, ◌∵◌, !, qed, by, keep, split3, learn, use3, await, pick}
-use types.Logic.{Logic}
 use types.Part.{look_in, sub, whole}
 use types.Run.{stop, fld, addr, bin, load, size_word, returns, enter}
 use denote.Builtin.{RefMutOf}
@@ -27,38 +21,28 @@ use denote.Param.{layout, param}
 use denote.RattleType.{RattleType}
 use denote.Signature.{plain}
 
-module _ (X : RattleType) where
-  abbrev function : Fn
-  function = inst_fn (args X) code.function
-
-  abbrev loan : Loan
-  loan = loan_of X 1 (RefMutOf (0 ∷ []) tt (plain (λ _. param 0 X)) (λ _. tt)) (param 0 X) (λ κs r. r.ghost_name)
-      (λ κs items ns. (ns.0 < length items) ∷ []) (λ κs items ns item. set items ns.0 item)
-      (λ κs items ns r. r.now ≡ get_or items ns.0 r.now)
-
-module _ (X : RattleType) {M : Type 1} {𝓤 : Ura M} (𝓛 : Logic 𝓤) (C : Calls 𝓤 𝓛.H) (Λ : Loops 𝓤 𝓛.H) where
-  walk : Walk (loan X) 𝓛 C Λ (function X)
-  walk κs qs bounds x ns Post lives asked are exits =
-      qed 𝓛 (Had (loan X) 𝓛 κs qs x ns) ∵ enter ! C Λ (function X) _ _ $ alloc_all !
-      (λ l. pass_all ! refl ((tt, tt), ((tt, record { fits = are.0.1 }), tt)) $
-      opens_inner ! tt (param 0 X) x (λ rm.
-      let offset : ns.0 * size (layout X) < 2 ^ 64 =
-      offset_fits ns.0 (length x.now.now) (size (layout X)) (omega (arith, asked.0)) rm.1 in
-      -- [the inner reference's cell; what it owns; the open borrow, in three entries]
-      sets ! (is ! (bin ! (get ! refl) (size_word !) (record { fits = uncapped_fits ns.0 (size (layout X)) offset }))
-      (ap (vint w64) (uncapped ns.0 (size (layout X)) offset))) refl (tt, record { fits = offset }) $
-      sets ! (bin ! (load ! (through ! refl (fld ! refl (stop !))) (look_in ! 0 (sub ! 0 refl (whole !))))
-      (get ! refl) tt) refl (tt, tt) $
-      sets ! (addr ! (through ! refl (stop !))) refl (tt, tt) $
-      closes_inner ! tt (param 0 X) x $
-      use3 𝓛 (later (some (lent 𝓛 (param 0 X) κs.0 κs.1.0 qs.0 x ns.0)))
-      (lends_element 𝓛 (param 0 X) κs.0 κs.1.0 qs.0 x ns.0 bounds.0 rm asked.0) $ await ! tt $ pick !
-      (λ y. learn ! (λ read.
-      returns ! (look_at ! 0 refl) $ free_all ! refl $ keep ! (0 ∷ 1 ∷ []) $ split3 ! $
-      by ! (exits _ (record { ref_ptr = (x.now.ref_ptr.0, spot (param 0 X) x.now ns.0); ghost_name = y.0; now = y.1 })
-      read)))))
+abbrev loan : RattleType → Loan
+loan X = loan_of X 1 (RefMutOf (0 ∷ []) tt (plain (λ _. param 0 X)) (λ _. tt)) (param 0 X) (λ κs r. r.ghost_name)
+    (λ κs items ns. (ns.0 < length items) ∷ []) (λ κs items ns item. set items ns.0 item)
+    (λ κs items ns r. r.now ≡ get_or items ns.0 r.now)
 
 pub item_mut_spec : {M : Type 1} → statement M
-item_mut_spec 𝓤 𝓛 𝓜 𝓡 wired X laws =
-    let 𝓣 = tables 𝓤 𝓛.H 𝓜 𝓡 𝓡.env in
-    lends (loan X) 𝓛 𝓜 𝓡 (#self (args X)) (function X) (code.unfolded 𝓤 𝓛.H 𝓜 𝓡 wired (X, tt)) (walk X 𝓛 𝓣.C 𝓣.Λ)
+item_mut_spec 𝓤 𝓛 𝓜 𝓡 wired X laws = lends (loan X) 𝓛 𝓜 𝓡 _ _ (code.unfolded 𝓤 𝓛.H 𝓜 𝓡 wired (X, tt))
+    (λ κs qs bounds x ns Post lives asked are exits.
+    qed 𝓛 (Had (loan X) 𝓛 κs qs x ns) ∵ enter ! _ _ _ _ _ $ alloc_all !
+    (λ l. pass_all ! refl ((tt, tt), ((tt, record { fits = are.0.1 }), tt)) $ opens_inner ! tt (param 0 X) x (λ rm.
+    let offset : ns.0 * size (layout X) < 2 ^ 64 =
+    offset_fits ns.0 (length x.now.now) (size (layout X)) (omega (arith, asked.0)) rm.1 in
+    -- [the inner reference's cell; what it owns; the open borrow, in three entries]
+    sets ! (is ! (bin ! (get ! refl) (size_word !) (record { fits = uncapped_fits ns.0 (size (layout X)) offset }))
+    (ap (vint w64) (uncapped ns.0 (size (layout X)) offset))) refl (tt, record { fits = offset }) $
+    sets ! (bin ! (load ! (through ! refl (fld ! refl (stop !))) (look_in ! 0 (sub ! 0 refl (whole !))))
+    (get ! refl) tt) refl (tt, tt) $
+    sets ! (addr ! (through ! refl (stop !))) refl (tt, tt) $
+    closes_inner ! tt (param 0 X) x $
+    use3 𝓛 (later (some (lent 𝓛 (param 0 X) κs.0 κs.1.0 qs.0 x ns.0)))
+    (lends_element 𝓛 (param 0 X) κs.0 κs.1.0 qs.0 x ns.0 bounds.0 rm asked.0) $ await ! tt $ pick !
+    (λ y. learn ! (λ read.
+    returns ! (look_at ! 0 refl) $ free_all ! refl $ keep ! (0 ∷ 1 ∷ []) $ split3 ! $
+    by ! (exits _ (record { ref_ptr = (x.now.ref_ptr.0, spot (param 0 X) x.now ns.0); ghost_name = y.0; now = y.1 })
+    read))))))

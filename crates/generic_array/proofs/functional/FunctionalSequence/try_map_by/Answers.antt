@@ -4,17 +4,12 @@ use Rattle.std.proofs.Common.{◌∙◌, sym}
 use Rattle.std.proofs.lemmas.Result.{IfOk-weaker}
 
 pub try_map_entries-requires-clause-callable : goal.try_map_entries-requires-clause-callable
-try_map_entries-requires-clause-callable g c = (
-  g.Self.GenericSequence.entry,
-  g.Self.AsSlice.items c.args.self,
-  c.entries_of.ensures.gives,
-  c.entries_of.ensures.long ∙ sym g.met.Self.MappedGenericSequence.same_length,
-  c.requires.callable,
-)
+try_map_entries-requires-clause-callable g c =
+    let long = c.entries_of.ensures.long ∙ sym g.met.Self.MappedGenericSequence.same_length in
+    (_, g.Self.AsSlice.items c.args.self, c.entries_of.ensures.gives, long, c.requires.callable)
 
 pub returns-clause-run : goal.returns-clause-run
-returns-clause-run g c = c.try_map_entries.ensures.run g.Self.GenericSequence.entry
-    (g.Self.AsSlice.items c.args.self) c.entries_of.ensures.gives
+returns-clause-run g c = c.try_map_entries.ensures.run _ (g.Self.AsSlice.items c.args.self) c.entries_of.ensures.gives
     (c.entries_of.ensures.long ∙ sym g.met.Self.MappedGenericSequence.same_length)
 
 pub returns-clause-acts : goal.returns-clause-acts

@@ -30,7 +30,7 @@ use denote.Exit.{no}
 use denote.Follow.{follows_both}
 use denote.Laws.{Is, shows}
 use denote.Param.Laws.{field_told, Laws, param_laws, Told}
-use denote.Param.{bounded, param}
+use denote.Param.{param}
 use denote.RattleType.{owns, RattleType}
 use denote.Ref.{NamedLft}
 use denote.Signature.{plain, Slot}
@@ -44,8 +44,7 @@ use denote.Triple.Clauses.{Ended, Lasts, lasts}
 use denote.Triple.Spec.{triple_of}
 use denote.Triple.Table.{framed}
 use denote.Triple.Walked.{stay_dropped, Stays, walk_of}
-use mir.MapTy.{inst_fn}
-use mir.Syntax.{a_type, Args, dcons, Dict, dnil, Fn, named}
+use mir.Syntax.{Dict, named}
 use mir.Val.{Val}
 use types.ByLocal.{alloc_all, free_all, get, get_in, lands_as, look_at, look_in_at, pass_all, sets}
 use types.Kit.{‵, ◌⊛◌, ◌$◌, ◌∵◌, !, await, by, drop, fjoin, group, join, later, move, pick, qed, raw, rewrite, some}
@@ -78,9 +77,6 @@ module _ (X : RattleType) (κ : Lft) where
 -- N, K and P are the types of the lengths of the view and of its two halves
 module _ (X N K P : RattleType) (gN : unsigned.Ghosts N.Denot) (dN : Dict) (gK : unsigned.Ghosts K.Denot) (dK : Dict)
     (gP : unsigned.Ghosts P.Denot) (dP : Dict) where
-  abbrev args : Args
-  args = bounded (a_type ∷ a_type ∷ a_type ∷ a_type ∷ []) (X, (N, (K, (P, tt)))) (dcons dN (dcons dK (dcons dP dnil)))
-
   abbrev ended : Ended
   ended = F.ended X N K P gN dN gK dK gP dP
 
@@ -94,11 +90,9 @@ halves_of_spec 𝓤 𝓛 𝓜 𝓡 wired X N K P LX LN LK LP gN dN gK dK gP dP b
     let kept : Stays ends.signature.params ends.kept = (stay_dropped one no, tt) in
     let c = F.clauses X N K P gN dN gK dK gP dP 𝓛 𝓜.mem 𝓡.returns in
     let 𝓣 = tables 𝓤 𝓛.H 𝓜 𝓡 𝓡.env in
-    let key = args X N K P gN dN gK dK gP dP in
-    let fn : Fn = inst_fn key code.function in
     let E : RattleType = param 0 X in
     proved 𝓛 ends kept c 𝓜 𝓡 (Goes-blank 𝓛 5 one no (λ κs x f. tt), tt)
-    (F.Key.name key) fn (code.unfolded 𝓤 𝓛.H 𝓜 𝓡 wired (X, (N, (K, (P, tt)))) dN dK dP)
+    _ _ (code.unfolded 𝓤 𝓛.H 𝓜 𝓡 wired (X, (N, (K, (P, tt)))) dN dK dP)
     (λ κs. (λ x. (view_told X κs.0 1 N gN LX LN).val x ∷ [], tt)) (λ κs. ((view_told X κs.0 1 N gN LX LN).tells, tt))
     (λ κs qs bounds a gh are.
     let κ : Lft = κs.0 in let κT : Lft = κs.1.0 in let κN : Lft = κs.1.1.0 in let κK : Lft = κs.1.1.1.0 in
