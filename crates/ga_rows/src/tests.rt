@@ -6,11 +6,21 @@ mod refused_memory;
 use crate::arguments::USAGE;
 use crate::{Mode, Status, Width, parse_words, run, run_listed};
 use doubles::{Manner, Sink, Source, WHOLE, repeated};
+use std::alloc::{AllocError, Global};
 use std::env::Args;
 use std::io;
 use std::io::ErrorKind;
 use std::process::ExitCode;
 use std::test::Fail;
+
+/// The words of a text, which stand behind one space each.
+fn words_of(alloc: Global, text: &str) -> Result<Vec<String>, AllocError> {
+    let mut words = Vec::new(alloc);
+    for word in text.split(' ') {
+        words.push(String::from_str(alloc, word)?)?;
+    }
+    Ok(words)
+}
 
 #[test]
 fn words_mean_a_mode_and_a_width(rt: HostRuntime) -> Result<(), Fail> {
@@ -26,10 +36,7 @@ fn words_mean_a_mode_and_a_width(rt: HostRuntime) -> Result<(), Fail> {
         ("dec 4 4", None),
     ];
     for (words, meaning) in cases {
-        let mut given = Vec::new(rt.alloc());
-        for word in words.split(' ') {
-            given.push(String::from_str(rt.alloc(), word)?)?;
-        }
+        let given = words_of(rt.alloc(), words)?;
         assert!(rt; parse_words(given.as_slice()) == meaning, "{words}");
     }
     assert!(rt; parse_words(&[]) == Some((Mode::Dec, Width::W4)));
@@ -66,23 +73,39 @@ fn has_line(text: &[u8], line: Option<&str>) -> bool {
     }
 }
 
+/// Whether listed words and an input give this text, the usage where the words mean nothing, and this
+/// exit status.
+fn gives(
+    alloc: Global,
+    words: &str,
+    mut input: &[u8],
+    printed: &str,
+    code: u8,
+) -> Result<bool, AllocError> {
+    let listed = words_of(alloc, words)?;
+    let (mut out, mut err) = (Vec::new(alloc), Vec::new(alloc));
+    let end = run_listed(
+        alloc,
+        Ok(listed.into_iter()),
+        &mut input,
+        &mut out,
+        &mut err,
+    );
+    let told = if code == 2 { Some(USAGE) } else { None };
+    Ok(
+        out.as_slice() == printed.as_bytes()
+            && has_line(err.as_slice(), told)
+            && end == ExitCode::from(code),
+    )
+}
+
 #[test]
 fn words_and_input_give_texts_and_an_exit_status(rt: HostRuntime) -> Result<(), Fail> {
     for (words, input, printed, code) in CASES {
-        let mut listed = Vec::new(rt.alloc());
-        for word in words.split(' ') {
-            listed.push(String::from_str(rt.alloc(), word)?)?;
-        }
-        let listed = Ok(listed.into_iter());
-        let mut input = input.as_bytes();
-        let mut out = Vec::new(rt.alloc());
-        let mut err = Vec::new(rt.alloc());
-        let end = run_listed(rt.alloc(), listed, &mut input, &mut out, &mut err);
-        let told = if code == 2 { Some(USAGE) } else { None };
-        let is_printed = out.as_slice() == printed.as_bytes();
-        let is_told = has_line(err.as_slice(), told);
-        let is_ended = end == ExitCode::from(code);
-        assert!(rt; is_printed && is_told && is_ended, "{words}");
+        assert!(rt;
+            gives(rt.alloc(), words, input.as_bytes(), printed, code)?,
+            "{words}"
+        );
     }
     Ok(())
 }
