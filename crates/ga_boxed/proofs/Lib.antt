@@ -6,5 +6,6 @@ pub mod Crosses
 pub mod EndLemmas
 pub mod FrontLemmas
 pub mod NativeLemmas
+pub mod PassedLemmas
 pub mod TakeWalk
 pub mod WalkParts
