@@ -1,6 +1,7 @@
 pub mod AnswerLemmas
 pub mod BlockRoom
 pub mod CellsSharing
+pub mod CellsWalk
 pub mod ClauseFacts
 pub mod Crosses
 pub mod EndLemmas

@@ -11,7 +11,7 @@ use contract.Lifetimes.{Lfts, Shares}
 use contract.Monad.{Fun}
 use contract.Running.{Running}
 use types.Logic.{Logic, sem}
-use types.Kit.{Item, Goal, Step, step, ‵, ◌$◌, ◌∵◌, !, qed, move, fjoin, fpack, feq_i, done, some, ◌⊛◌, use1, pick}
+use types.Kit.{Item, Goal, Seq, Step, step, ‵, ◌$◌, ◌∵◌, !, qed, move, fjoin, fpack, feq_i, done, some, ◌⊛◌, use1, pick}
 use types.Kit.{split, check, show}
 use denote.RattleType.{RattleType, Valss}
 use denote.RawPtr.{Ptr, RawPtr, ptr_val, rawptr_vals, rawptr_Tells}
@@ -130,24 +130,16 @@ three_of 𝓛 R S T x y z u v w =
     fpack ! (Valss (R ∷ S ∷ T ∷ [])) (within (Declared.shape (tuple_type (R ∷ S ∷ T ∷ []))) (x, (y, (z, tt)))
     (three_val u v w ∷ [])) (u ∷ [], (v ∷ [], (w ∷ [], tt))) $ done !
 
-module _ (i : ℕ) (Y : RattleType) (L : Laws Y) {M : Type 1} {𝓤 : Ura M} (𝓛 : Logic 𝓤) where
-  open 𝓛 use {H}
-
-  pub value_out : (x : Y.Denot) (b o : ℕ) → ent 𝓤 (sem 𝓛 (part_at (param i Y) full_share x b o))
-      (ex 𝓤 (λ (v : Val). guard 𝓤 (Good (layout Y) v)
-      (sep 𝓤 (H.at full_share (layout Y) b o v) (sem 𝓛 (Y.own_val x (v ∷ []))))))
-  value_out x b o = qed 𝓛 (‵ (part_at (param i Y) full_share x b o) ∷ []) ∵
-      use1 𝓛 (some (λ (v : Val). ‵ (fat full_share (layout Y) b o v) ⊛ ‵ (Y.own_val x (v ∷ []))))
-      (part_out 𝓛 (param i Y) refl full_share x b o) $ pick ! (λ v. split ! $ move ! (1 ∷ []) $
-      peeks ! (param i Y) (Is (param i Y)) (shows 𝓛 (param i Y)) x (v ∷ []) (λ p.
-      show ! (λ (w : Val). guard 𝓤 (Good (layout Y) w)
-      (sep 𝓤 (H.at full_share (layout Y) b o w) (sem 𝓛 (Y.own_val x (w ∷ []))))) v $ check !
-      (((param_laws i Y L).lawful 𝓛).typed x (v ∷ []) p).0 $ move ! (1 ∷ 0 ∷ []) $ done !))
-
-  pub value_in : (x : Y.Denot) (b o : ℕ) (v : Val)
-      → ent 𝓤 (sep 𝓤 (H.at full_share (layout Y) b o v) (sem 𝓛 (Y.own_val x (v ∷ []))))
-      (sem 𝓛 (part_at (param i Y) full_share x b o))
-  value_in x b o v = part_in 𝓛 (param i Y) refl full_share x b o v
+-- an item in memory is its machine value there, and what that owns
+module _ {M : Type 1} {𝓤 : Ura M} {𝓛 : Logic 𝓤} {K : Type 0} {Γ : List (Item 𝓤)} {G : Goal 𝓤 𝓛.H} where
+  pub value_out : K → (E : El) (x : el_x E) (b o : ℕ)
+      → ((v : Val) → Good (elτ E) v → Seq K 𝓛 (‵ (fat full_share (elτ E) b o v) ∷ ‵ (E.row.own_val x (v ∷ [])) ∷ Γ) G)
+      → Seq K 𝓛 (‵ (part_at (R E) full_share x b o) ∷ Γ) G
+  value_out t E x b o k =
+      use1 𝓛 (some (λ (v : Val). ‵ (fat full_share (elτ E) b o v) ⊛ ‵ (E.row.own_val x (v ∷ []))))
+      (part_out 𝓛 (R E) refl full_share x b o) $ pick t (λ v. split t $ move t (1 ∷ []) $
+      peeks t (R E) (Is (R E)) (shows 𝓛 (R E)) x (v ∷ []) (λ p.
+      move t (1 ∷ 0 ∷ []) $ k v ((lawful E 𝓛).typed x (v ∷ []) p).0))
 
 -- what is owned of an item is one machine value, of its type
 pub is_one : (E : El) {M : Type 1} {𝓤 : Ura M} (𝓛 : Logic 𝓤) (x : el_x E) (vs : List Val) → Is (R E) x vs
@@ -157,15 +149,6 @@ is_one E 𝓛 x vs is = one E vs ((lawful E 𝓛).typed x vs is)
 -- the tokens of the lifetimes of the two type parameters
 abbrev pub others : {M : Type 1} {𝓤 : Ura M} → Lfts 3 → Shares 3 → Item 𝓤
 others κs qs = ‵ (flft κs.1.0 qs.1.0) ⊛ ‵ (flft κs.1.1.0 qs.1.1.0) ⊛ ‵ ftrue
-
-module _ (E : El) {M : Type 1} {𝓤 : Ura M} (κ : Lft) (q : Share) (rb ro : ℕ) (γ : GName) where
-  -- the cells as they are, and their borrow
-  abbrev pub Had : (Cr E).Denot → List (Item 𝓤)
-  Had d = ‵ (fobs γ ((Cr E).coded.code d)) ∷ ‵ (fbor κ (Borrowed (mem (Cr E)) rb ro γ)) ∷ ‵ (flft κ q) ∷ []
-
-  -- the same at the end, and the result
-  abbrev pub Left : (Q : RattleType) → (Cr E).Denot → Q.Denot → Val → List (Item 𝓤)
-  Left Q d r v = Had d ++ ‵ (Q.own_val r (v ∷ [])) ∷ []
 
 -- what is met over a function's own lifetimes is met with one more for each type parameter
 module _ {M : Type 1} {𝓤 : Ura M} (𝓛 : Logic 𝓤) (𝓜 : Model 𝓤 𝓛.H) (𝓡 : Running 𝓤 𝓛.H 𝓜) (T : Ended)

@@ -37,8 +37,9 @@ pub returns-in-Some-clause-fill : goal.returns-in-Some-clause-fill
 returns-in-Some-clause-fill g c = search rules
 
 -- the calls of each answer
-runs : (g : given.Over) (items : g.row.I.Denot) (answer : Result (Result (List g.row.T.Denot) g.row.E.Denot) LengthError)
-    (left : g.row.I.Denot) → FillsFallibly g.I.Iterator.next_gives items g.N.Unsigned.USIZE answer left
+runs : (g : given.Over) (items : g.row.I.Denot)
+    (answer : Result (Result (List g.row.T.Denot) g.row.E.Denot) LengthError) (left : g.row.I.Denot)
+    → FillsFallibly g.I.Iterator.next_gives items g.N.Unsigned.USIZE answer left
     → FillFalliblyRuns g.I.Iterator.next_gives items g.N.Unsigned.USIZE answer
 runs g items = FillFalliblyRuns-from_fill g.I.Iterator.next_gives items g.N.Unsigned.USIZE
 

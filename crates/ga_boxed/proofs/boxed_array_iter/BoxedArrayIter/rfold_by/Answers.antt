@@ -12,8 +12,9 @@ f-answer-requires g c =
     let at = c.loop-item in
     let others = c.next_back.new.self in
     let came = next_back-reversed at.self (Some c.in-Some.item) others c.in-Some.ensures.steps in
-    may_fold-at (λ item. item) _ _ _ _ _ c.requires.callable at.invariant.0 c.in-Some.item (reverse others) at.f at.answer
-    (at.invariant.1 ∙ ap (λ rest. at.invariant.0 ++ rest) came) (FoldRun-of_items _ _ _ _ _ _ at.invariant.2) _ refl
+    may_fold-at (λ item. item) _ _ _ _ _ c.requires.callable at.invariant.0 c.in-Some.item (reverse others) at.f
+    at.answer (at.invariant.1 ∙ ap (λ rest. at.invariant.0 ++ rest) came)
+    (FoldRun-of_items _ _ _ _ _ _ at.invariant.2) _ refl
 
 pub loop-item-preserved : goal.loop-item-preserved
 loop-item-preserved g c =
