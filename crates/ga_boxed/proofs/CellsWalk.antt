@@ -151,6 +151,28 @@ module _ (E : El) where
     ends = λ 𝓛. Goes-ref 𝓛 1 0 tt (plain (λ _. Cr E));
   }
 
+  -- `&mut self`, of which nothing is said, since the result may live on in its place
+  abbrev pub spent : Self E
+  spent = record {
+    slot = RefMutOf (0 ∷ []) tt (plain (λ _. Cr E)) (λ _. tt);
+    kept = no;
+    stay = stay_dropped (RefMutOf (0 ∷ []) tt (plain (λ _. Cr E)) (λ _. tt)) no;
+    vals = λ _. mut_vals;
+    tells = λ κs. mut_Tells (named 0) κs.0 (Cr E);
+    ends = λ 𝓛. Goes-spent_ref 𝓛 1 (0 ∷ []) tt (plain (λ _. Cr E));
+  }
+
+  -- `&self`
+  abbrev pub shared : Self E
+  shared = record {
+    slot = RefOf (0 ∷ []) tt (plain (λ _. Cr E)) (λ _. tt);
+    kept = yes;
+    stay = stay_dropped (RefOf (0 ∷ []) tt (plain (λ _. Cr E)) (λ _. tt)) yes;
+    vals = λ _. shr_vals;
+    tells = λ κs. shr_Tells (named 0) κs.0 (Cr E);
+    ends = λ 𝓛. Goes-dropped 𝓛 1 (RefOf (0 ∷ []) tt (plain (λ _. Cr E)) (λ _. tt)) yes (λ κs x f. refl);
+  }
+
 -- such a call: what is asked of `self`, the base and the others, and what is promised of `self`, the others, the result
 -- and `self` as it is seen at the end
 pub record Call (E : El) : Type 3 where

@@ -8,5 +8,6 @@ pub mod EndLemmas
 pub mod FrontLemmas
 pub mod NativeLemmas
 pub mod PassedLemmas
+pub mod SliceWalk
 pub mod TakeWalk
 pub mod WalkParts
