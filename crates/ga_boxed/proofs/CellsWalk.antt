@@ -5,17 +5,17 @@
 --     Call              such a call: its signature and its clauses
 --     Walk, meets       its walk, which is given what it asks and how it ends, and its contract from that
 --     opens_cells, closes_cells      the borrow of `self` is opened, and closed on other cells
-use mathlib.Core.Path.{◌≡◌, refl, sym, subst}
+use mathlib.Core.Path.{◌≡◌, refl, sym}
 use Prim.Native.Nat.{ℕ, ◌+◌, ◌*◌, ◌<◌, ◌^◌}
 use mathlib.Core.List.{List, [], ◌∷◌, ◌++◌}
 use lib.ListN.{length}
 use seplogic.Ra.Ura.{Ura}
 use base.Fraction.{full_share}
 use base.Stored.{Gv}
-use base.Fml.{Lft, GName, Share, ftrue, fat, flft, fobor, fobs, fauth, fsep}
+use base.Fml.{Lft, Share, ftrue, flft, fobor, fobs, fauth}
 use base.Logic.{SProp, ent, emp, never, id⊢, via}
 use mir.Syntax.{Callee, Fn, named, w64}
-use mir.Val.{Val, vptr, vint}
+use mir.Val.{Val, vint}
 use prog.Model.{Model}
 use prog.Wp.{Calls, Closed, Loops, WpFn}
 use contract.Lifetimes.{Lfts, Shares}
@@ -36,13 +36,13 @@ use denote.Signature.{Slot, plain, type_at, types_at}
 use denote.Steps.{closes, nothing, opens}
 use denote.Triple.Carry.{grown}
 use denote.Triple.Clauses.{Clauses, Ended, closing}
-use denote.Triple.End.{Fins, Kepts, all}
+use denote.Triple.End.{Fins, all}
 use denote.Triple.Entry.{on_entry}
 use denote.Triple.Statement.{Triple}
 use denote.Triple.Walked.{AllGo, Goes, Goes-dropped, Goes-ref, Goes-spent_ref, Stay, Stays, fits_of, has_of}
 use denote.Triple.Walked.{stay_dropped, stay_ref, walk_of}
 use Rattle.std.proofs.RcSteps.{Good, word}
-use Rattle.std.proofs.mem.Param.{El, R, el_x, elτ}
+use Rattle.std.proofs.mem.Param.{El, R, elτ}
 use Rattle.std.proofs.raw_atomic.Walks.{leaves, proved_at}
 use Rattle.ga_boxed.proofs.ClauseFacts.{Every, facts, learns}
 use Rattle.ga_boxed.proofs.EndLemmas.{Held}

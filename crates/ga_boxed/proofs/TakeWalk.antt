@@ -1,7 +1,7 @@
 -- The walk of `take_first` and `take_last`, which are the same code: all of it but how the item is cut from the cells,
 -- and what is left of these. Assumes `Logic`.
 use mathlib.Core.Logic.{◌≢◌}
-use mathlib.Core.Path.{◌≡◌, refl, ap, subst, ◌∙◌}
+use mathlib.Core.Path.{◌≡◌, refl, subst, ◌∙◌}
 use Prim.Native.Nat.{ℕ, ◌+◌, ◌*◌, ◌<◌, ◌^◌}
 use native.Mathlib.Omega.{arith}
 use mathlib.Core.List.{List, [], ◌∷◌, ◌++◌}
@@ -10,21 +10,21 @@ use seplogic.Ra.Ura.{Ura}
 use base.Fraction.{full_share}
 use base.Fml.{Fml, fat, froom}
 use base.Logic.{ent, sep}
-use mir.Syntax.{Callee, Fn, Local, Ty, assign, block, copy, deref, field, local, mul, named, offset, op2, place, return}
+use mir.Syntax.{Fn, Ty, assign, block, copy, deref, field, local, mul, named, offset, op2, place, return}
 use mir.Syntax.{rv_opd, seq, size_of, ty_int, ty_ptr, ty_ref, unsigned, value_local, w64, mut}
-use mir.Val.{Val, vint}
-use prog.Wp.{Calls, Closed, Env, Loops}
+use mir.Val.{vint}
+use prog.Wp.{Calls, Env, Loops}
 use types.Logic.{Logic, sem}
-use types.Kit.{‵, ◌⊛◌, some, given, pick, learn, at_ret, ◌$◌, ◌∵◌, !, qed, by, move, keep, use1, use2, split, rewrite}
+use types.Kit.{‵, ◌⊛◌, at_ret, ◌$◌, ◌∵◌, !, qed, by, move, keep, use1, use2, split, rewrite}
 use types.Part.{whole, sub}
 use types.Run.{bin, size_lit, look, stop, fld, load, of_opd, first, blocks, exec, returns, enter}
 use types.ByLocal.{alloc_all, pass_all, free_all, look_at, get, get_in, take_at, give_at, through, sets, sets_last, env}
 use denote.Memory.{part_at}
 use denote.Param.{layout}
 use denote.RawPtr.{Ptr}
-use denote.Ref.{MutBor, mut_vals}
+use denote.Ref.{mut_vals}
 use denote.Signature.{plain}
-use Rattle.std.proofs.RcSteps.{Good, word, word-Good}
+use Rattle.std.proofs.RcSteps.{word, word-Good}
 use Rattle.std.proofs.VecSteps.Shapes.{after}
 use Rattle.std.proofs.mem.Param.{El, R, el_x, elτ}
 use Rattle.std.proofs.ptr.Rows.{times_below, one_below}

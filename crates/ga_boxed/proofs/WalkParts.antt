@@ -2,17 +2,17 @@
 -- memory, and how a walk begins and ends. Assumes `Logic`.
 use mathlib.Core.Path.{◌≡◌, refl, subst, sym, ap, ◌∙◌}
 use Prim.Native.Nat.{ℕ, ◌*◌, ◌<◌, ◌^◌}
-use mathlib.Core.List.{List, [], ◌∷◌, ◌++◌}
+use mathlib.Core.List.{List, [], ◌∷◌}
 use seplogic.Ra.Ura.{Ura}
 use mir.Val.{Val, vstruct, vcons, vnil}
-use base.Logic.{ent, sep, emp, ex, guard}
+use base.Logic.{ent, sep, emp}
 use prog.Model.{Model}
 use contract.Lifetimes.{Lfts, Shares}
 use contract.Monad.{Fun}
 use contract.Running.{Running}
 use types.Logic.{Logic, sem}
 use types.Kit.{Item, Goal, Seq, Step, step, ‵, ◌$◌, ◌∵◌, !, qed, move, fjoin, fpack, feq_i, done, some, ◌⊛◌, use1, pick}
-use types.Kit.{split, check, show}
+use types.Kit.{split}
 use denote.RattleType.{RattleType, Valss}
 use denote.RawPtr.{Ptr, RawPtr, ptr_val, rawptr_vals, rawptr_Tells}
 use denote.Shadow.{makes_shadow}
@@ -36,13 +36,11 @@ use Rattle.ga_boxed.specs.contracts.live_block.cells.Base as B-type
 use Rattle.ga_boxed.specs.contracts.live_block.cells.Deed as D-type
 use base.Fraction.{full_share}
 use mir.Syntax.{Callee, Ty, Args, a_type, ty_array, dcons, dnil}
-use base.Fml.{Lft, GName, Share, fat, flft, fobs, fbor, ftrue}
+use base.Fml.{fat, flft, ftrue}
 use denote.Laws.{Is, Tells, shows}
-use denote.Param.{param, layout, bounded}
-use denote.Param.Laws.{Laws, param_laws}
-use denote.Memory.{mem, part_at}
-use types.SemTy.{Body as Borrowed}
-use borrow.Table.OneValue.{part_in, part_out}
+use denote.Param.{param, bounded}
+use denote.Memory.{part_at}
+use borrow.Table.OneValue.{part_out}
 use mir.Raw.{raw as bare}
 use prog.Memory.{size, align, capped}
 use prog.Capped.{capped_is}

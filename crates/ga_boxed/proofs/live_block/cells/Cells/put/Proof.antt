@@ -7,43 +7,31 @@ use mathlib.Core.List.{List, [], ◌∷◌, ◌++◌}
 use borrow.Table.OneValue.{part_in}
 use seplogic.Ra.Ura.{Ura}
 use base.Fraction.{full_share}
-use mir.Syntax.{Fn, named, w64}
+use mir.Syntax.{Fn, w64}
 use mir.MapTy.{inst_fn}
-use mir.Val.{Val, vptr, vint, vunit}
-use base.Logic.{SProp, ent, never, id⊢}
-use base.Fml.{Lft, GName, Share, ftrue, fat, froom, flft}
-use prog.Wp.{Env, Calls, Loops, WpFn}
+use mir.Val.{Val, vint, vunit}
+use base.Fml.{fat, froom}
+use prog.Wp.{Env, Calls, Loops}
 use types.Logic.{Logic}
 use contract.Running.{tables}
-use types.Kit.{⋆, ‵, ◌⊛◌, at_ret, ◌$◌, ◌∵◌, !, qed, by, move, keep, use1, use2, split, join, rewrite, fsplit, fsplit3}
-use types.Kit.{fjoin, fjoin3, feq_i, suffices, frame, done}
+use types.Kit.{‵, ◌⊛◌, at_ret, ◌$◌, ◌∵◌, !, qed, by, move, keep, use1, use2, split, rewrite, fsplit}
+use types.Kit.{feq_i}
 use types.Part.{whole, sub}
 use types.Run.{init, stop, fld, unit_lit, of_opd, assigns_last, first, blocks, exec, returns, enter}
 use types.ByLocal.{alloc_all, pass_all, free_all, look_at, get, get_in, through, sets, env}
-use denote.Exit.{yes, no}
-use denote.RattleType.{owns}
 use denote.Memory.{part_at}
 use denote.Param.{layout}
-use denote.RawPtr.{Ptr, in_a_block}
-use denote.Ref.{MutBor, MutRef, mut_vals, mut_Tells}
-use denote.Plain.{uint_vals, uint_Tells}
-use Rattle.std.proofs.raw_atomic.Walks.{proved_at}
-use denote.Builtin.{RefMutOf, unit}
+use denote.RawPtr.{Ptr}
+use denote.Ref.{mut_vals}
+use denote.Builtin.{unit}
 use denote.Signature.{plain}
-use denote.Steps.{nothing, opens, closes}
-use denote.Triple.Clauses.{Clauses, Ended}
-use denote.Triple.Entry.{on_entry}
-use denote.Triple.Walked.{Stays, stay_dropped, stay_ref, walk_of, ends_at, Goes-dropped, Goes-ref}
 use Rattle.std.proofs.VecSteps.Shapes.{after}
-use Rattle.std.proofs.RcSteps.{Good, word, word-Good}
+use Rattle.std.proofs.RcSteps.{word, word-Good}
 use lib.ListN.{length, length-append}
-use types.Kit.{flt_l, flt_i}
 use types.Run.{bin, size_lit}
 use types.ByLocal.{take_at, give_at}
-use denote.Builtin.{usize}
 use Rattle.std.proofs.mem.Param.{El, R, args, el_x, elτ}
 use Rattle.std.proofs.ptr.Rows.{times_below, one_below}
-use Rattle.ga_boxed.specs.CellsOwn.{cells_own}
 use Rattle.ga_boxed.proofs.CellsWalk.{Call, Had, Walk, an_item, by_mut, closes_cells, meets, number}
 use Rattle.ga_boxed.proofs.CellsWalk.{opens_cells}
 use Rattle.ga_boxed.proofs.ClauseFacts.{facts, has_every}

@@ -1,41 +1,35 @@
 -- `put_array` writes an array over the room of as many slots. Assumes `Logic`.
-use mathlib.Core.Path.{◌≡◌, refl, sym, ◌∙◌}
+use mathlib.Core.Path.{◌≡◌, refl, ◌∙◌}
 use Prim.Native.Nat.{ℕ, ◌+◌, ◌*◌, ◌<◌, ◌^◌}
 use native.Mathlib.Omega.{arith}
 use mathlib.Core.List.{List, [], ◌∷◌, ◌++◌}
 use lib.ListN.{length}
 use seplogic.Ra.Ura.{Ura}
 use base.Fraction.{full_share}
-use mir.Syntax.{Ty, Fn, Args, ty_array, named, a_type, a_number}
+use mir.Syntax.{Ty, Fn, Args, ty_array, a_type, a_number}
 use mir.MapTy.{inst_fn}
-use mir.Val.{Val, vptr, vunit}
-use base.Logic.{SProp, ent, sep, via, assoc', fst∗, never, id⊢}
-use base.Fml.{Lft, GName, Share, ftrue, fat, flft}
+use mir.Val.{Val, vunit}
+use base.Logic.{via}
+use base.Fml.{fat}
 use prog.Memory.{size}
-use prog.Wp.{Env, Calls, Loops, WpFn}
+use prog.Wp.{Env, Calls, Loops}
 use types.Logic.{Logic}
-use contract.Monad.{fact}
 use contract.Running.{tables}
 use types.Kit.{flt_i, flt_l, ‵, given, at_ret, ◌$◌, ◌∵◌, !, qed, by, move, keep, use1, use2, learn, rewrite}
-use types.Kit.{fsplit, fsplit3, fjoin, fjoin3, feq_i, suffices, frame, done}
+use types.Kit.{fsplit, fjoin, feq_i}
 use types.Part.{whole, sub}
 use types.Run.{init, stop, hop, from, fld, unit_lit, of_opd, assigns_last, first, blocks, exec, returns, enter}
 use types.ByLocal.{alloc_all, pass_all, free_all, look_at, look_in_at, get, sets, env, take_at, give_at}
 use denote.Array.{Array}
-use denote.Exit.{yes, no, all_rest}
-use denote.RattleType.{RattleType, owns}
+use denote.Exit.{all_rest}
+use denote.RattleType.{RattleType}
 use denote.Memory.{part_at}
 use denote.Param.{ArrayAt, param, number, layout, layouts}
 use denote.Param.Laws.{Laws, param_laws, array_at_laws}
-use denote.RawPtr.{Ptr, block_ptr, in_a_block}
-use denote.Ref.{MutBor, MutRef, mut_vals, mut_Tells}
-use Rattle.std.proofs.raw_atomic.Walks.{proved_at}
-use denote.Builtin.{RefMutOf, unit}
+use denote.RawPtr.{Ptr, block_ptr}
+use denote.Ref.{mut_vals}
+use denote.Builtin.{unit}
 use denote.Signature.{plain}
-use denote.Steps.{nothing, opens, closes}
-use denote.Triple.Clauses.{Clauses, Ended}
-use denote.Triple.Entry.{Vals, on_entry}
-use denote.Triple.Walked.{Stays, stay_dropped, stay_ref, walk_of, ends_at, Goes-dropped, Goes-ref}
 use borrow.Table.OneValue.{part_in}
 use Rattle.std.proofs.RawLayout.{as_written}
 use Rattle.std.proofs.VecSteps.Shapes.{after}

@@ -4,42 +4,26 @@ use Prim.Native.Nat.{ℕ, ◌+◌, ◌*◌, ◌≤◌, ◌<◌, ◌^◌}
 use native.Mathlib.Omega.{arith}
 use mathlib.Core.List.{List, [], ◌∷◌}
 use seplogic.Ra.Ura.{Ura}
-use base.Fraction.{full_share}
 use mir.Syntax.{Fn, imm}
 use mir.MapTy.{inst_fn}
-use mir.Val.{Val, vptr, vint}
-use base.Logic.{SProp, ent, never, id⊢}
-use base.Fml.{Lft, Share, ftrue, fat, flft}
-use prog.Wp.{Env, Calls, Loops, WpFn}
+use mir.Val.{Val}
+use base.Logic.{never, id⊢}
+use base.Fml.{flft}
+use prog.Wp.{Calls, Loops}
 use types.Logic.{Logic}
-use contract.Monad.{fact}
 use contract.Running.{tables}
-use types.Kit.{group, ‵, ◌⊛◌, ◌$◌, ◌∵◌, !, qed, by, move, keep, drop, split, join, rewrite, fsplit, fjoin, feq_i}
-use types.Kit.{flt_l, flt_i, suffices, frame, done}
-use types.Part.{whole, sub, agg}
-use types.Run.{stop, fld, of_opd, bin, size_word, and_then, no_more, first, blocks, exec, returns, enter}
-use types.ByLocal.{alloc_all, pass_all, free_all, look_at, get, get_in, sets, sets_last, is, env, take_at, give_at}
-use denote.Exit.{yes, no}
-use denote.RattleType.{owns}
-use denote.Param.{layout}
-use denote.RawPtr.{Ptr, in_a_block}
-use denote.Ref.{Bor, ShrRef, shr_vals, shr_Tells}
-use denote.Plain.{uint_vals, uint_Tells}
-use Rattle.std.proofs.raw_atomic.Walks.{proved}
-use denote.Slice.{ShrSlice, slice_val, elements_shared}
-use denote.Builtin.{RefOf, usize, SliceRefOf}
+use types.Kit.{group, ‵, ◌⊛◌, ◌$◌, ◌∵◌, !, qed, by, move, keep, drop, split, rewrite, fsplit, fjoin, feq_i}
+use types.Kit.{flt_l, flt_i}
+use denote.RawPtr.{in_a_block}
+use denote.Ref.{Bor, shr_vals}
+use denote.Slice.{slice_val, elements_shared}
+use denote.Builtin.{SliceRefOf}
 use denote.Signature.{plain}
 use denote.Opens.{hide, unhide}
 use denote.Steps.{nothing}
-use denote.Triple.Clauses.{Clauses, Ended}
-use denote.Triple.Entry.{on_entry}
-use denote.Triple.Walked.{says, Stays, stay_dropped, walk_of, ends_at, Goes-dropped}
 use lib.ListN.{length}
-use Rattle.std.proofs.VecSteps.Shapes.{after}
-use Rattle.std.proofs.RcSteps.{word, word-Good}
 use Rattle.std.proofs.mem.Param.{El, R, args, el_x}
 use Rattle.std.proofs.ptr.Rows.{times_below}
-use Rattle.ga_core.proofs.ItemLoan.{uncapped_fits, uncapped}
 use Rattle.ga_boxed.specs.CellsOwn.{cells_lent}
 use Rattle.ga_boxed.specs.contracts.live_block.cells.Cells.slice.Key.{name as #self}
 use Rattle.ga_boxed.proofs.CellsWalk.{Call, Had, Walk, meets, number, shared}

@@ -7,45 +7,30 @@ use seplogic.Ra.Ura.{Ura}
 use base.Fraction.{full_share}
 use mir.Syntax.{Fn, named, mut}
 use mir.MapTy.{inst_fn}
-use mir.Val.{Val, vptr, vint}
-use base.Logic.{SProp, ent, sep, never, id⊢}
-use base.Fml.{Lft, GName, Share, Fml, ftrue, fsep, fat, flft}
-use prog.Wp.{Env, Calls, Loops, WpFn}
+use mir.Val.{Val}
+use base.Logic.{ent, sep, id⊢}
+use base.Fml.{GName, Fml, fsep, flft}
+use prog.Wp.{Calls, Loops}
 use types.Logic.{Logic, sem}
-use contract.Monad.{fact}
 use contract.Running.{tables}
 use types.Kit.{split3, ‵, ◌⊛◌, some, later, await, pick, ◌$◌, ◌∵◌, !, qed, by, move, keep, use1, split, join}
-use types.Kit.{raw, group, rewrite, fsplit, fsplit3, fjoin, fjoin3, fpack, flt_l, flt_i, suffices, frame, done}
-use types.Part.{whole, sub, agg}
-use types.Run.{stop, fld, of_opd, bin, size_word, and_then, no_more, first, blocks, exec, returns, enter}
-use types.ByLocal.{alloc_all, pass_all, free_all, look_at, get, get_in, sets, sets_last, is, env, take_at, give_at}
+use types.Kit.{raw, group, rewrite, fsplit, fsplit3, fjoin, fjoin3, fpack, flt_i, done}
 use types.SemTy.{cells}
 use denote.Array.{Array}
-use denote.Exit.{no}
 use denote.Follow.{follows}
 use denote.FollowSlice.{Elements, lends_Elements}
-use denote.RattleType.{owns}
 use denote.Memory.{mem, cell_at, part_of}
-use denote.Param.{layout}
-use denote.RawPtr.{Ptr, block_ptr, in_a_block}
-use denote.Ref.{MutBor, MutRef, mut_vals, mut_Tells}
-use denote.Plain.{uint_vals, uint_Tells}
-use Rattle.std.proofs.raw_atomic.Walks.{proved}
+use denote.RawPtr.{Ptr, block_ptr}
+use denote.Ref.{MutBor, MutRef, mut_vals}
 use denote.Slice.{MutSlice, slice_val}
-use denote.Builtin.{RefMutOf, usize, SliceRefMutOf}
-use denote.Signature.{plain, mut_ref_to}
-use denote.Steps.{nothing, opens}
-use denote.Triple.Clauses.{Clauses, Ended}
-use denote.Triple.Entry.{on_entry}
-use denote.Triple.Walked.{says, Stays, stay_dropped, walk_of, ends_at, Goes-dropped, Goes-spent_ref}
+use denote.Builtin.{SliceRefMutOf}
+use denote.Signature.{plain}
+use denote.Steps.{nothing}
 use lib.ListN.{length, drop as drop_l}
 use lib.Seq.{take_at as take_front}
 use Rattle.std.specs.List.{refill}
-use Rattle.std.proofs.VecSteps.Shapes.{after}
-use Rattle.std.proofs.RcSteps.{word, word-Good}
 use Rattle.std.proofs.mem.Param.{El, R, args, el_x}
 use Rattle.std.proofs.ptr.Rows.{times_below}
-use Rattle.ga_core.proofs.ItemLoan.{uncapped_fits, uncapped}
 use Rattle.ga_boxed.specs.CellsLend.{with_items}
 use Rattle.ga_boxed.specs.CellsOwn.{cells_own, empty}
 use Rattle.ga_boxed.specs.contracts.live_block.cells.Cells.slice_mut.Key.{name as #self}

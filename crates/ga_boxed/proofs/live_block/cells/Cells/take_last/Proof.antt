@@ -1,6 +1,6 @@
 -- `take_last` moves the last item out, and its slot is room. Assumes `Logic`.
 use mathlib.Core.Logic.{◌≢◌}
-use mathlib.Core.Path.{◌≡◌, refl, sym, ap, subst}
+use mathlib.Core.Path.{◌≡◌, refl, sym, ap}
 use Prim.Native.Nat.{ℕ, ◌+◌, ◌-◌, ◌*◌}
 use native.Mathlib.Omega.{arith}
 use mathlib.Core.List.{List, [], ◌∷◌, ◌++◌}
@@ -8,15 +8,14 @@ use lib.ListN.{length, take}
 use seplogic.Ra.Ura.{Ura}
 use base.Fraction.{full_share}
 use base.Fml.{froom}
-use base.Logic.{ent, sep}
 use mir.MapTy.{inst_fn}
-use types.Logic.{Logic, sem}
+use types.Logic.{Logic}
 use contract.Running.{tables}
 use types.Kit.{‵, ◌⊛◌, ◌$◌, ◌∵◌, !, qed, use1, use2, split, rewrite, done}
 use denote.Memory.{part_at}
 use Rattle.std.proofs.mem.Param.{El, R, args, el_x, elτ}
 use Rattle.ga_boxed.proofs.CellsWalk.{meets}
-use Rattle.ga_boxed.proofs.EndLemmas.{split_last, Around, End, Held, room_in, item_out}
+use Rattle.ga_boxed.proofs.EndLemmas.{split_last, Around, Held, room_in, item_out}
 use Rattle.ga_boxed.proofs.TakeWalk.{Giving, Placing, Taken, takes, taking}
 use Rattle.ga_boxed.proofs.WalkParts.{Cr, sz}
 use Rattle.ga_boxed.specs.contracts.live_block.cells.Cells.take_last.Key.{name as #self}
