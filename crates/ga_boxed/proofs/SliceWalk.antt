@@ -3,6 +3,7 @@
 use mathlib.Core.Path.{◌≡◌, refl, ap}
 use Prim.Native.Nat.{ℕ, ◌+◌, ◌*◌, ◌<◌, ◌^◌}
 use mathlib.Core.List.{List, [], ◌∷◌}
+use lib.ListN.{length}
 use seplogic.Ra.Ura.{Ura}
 use base.Fraction.{full_share}
 use base.Fml.{fat}
@@ -16,6 +17,9 @@ use types.Kit.{Go, Goal, Item, Seq, Soaks, ‵, at_ret, mean, ◌$◌, ◌∵◌
 use types.Part.{agg, sub, whole}
 use types.Run.{and_then, bin, blocks, enter, exec, first, fld, no_more, of_opd, returns, size_word, stop}
 use types.ByLocal.{alloc_all, env, free_all, get, get_in, give_at, is, look_at, pass_all, sets, sets_last, take_at}
+use contract.Lifetimes.{Lfts}
+use denote.Exit.{no}
+use denote.Signature.{Slot, type_at}
 use denote.Param.{layout}
 use denote.RawPtr.{Ptr, block_ptr}
 use denote.Slice.{slice_ty, slice_val}
@@ -23,9 +27,29 @@ use Rattle.std.proofs.RcSteps.{word, word-Good}
 use Rattle.std.proofs.VecSteps.Shapes.{after}
 use Rattle.std.proofs.mem.Param.{El, elτ}
 use Rattle.ga_core.proofs.ItemLoan.{uncapped, uncapped_fits}
-use Rattle.ga_boxed.proofs.WalkParts.{Bs, sz}
+use Rattle.ga_boxed.proofs.CallWalk.{Call, Self, number}
+use Rattle.ga_boxed.proofs.CellsWalk.{the_base}
+use Rattle.ga_boxed.proofs.WalkParts.{Bs, Cr, sz}
 
 module _ (E : El) where
+  -- what is promised of the first parameter and the result
+  abbrev pub Showing : Self 1 → Slot 1 → Type 2
+  Showing me out = (M : Type 1) (𝓤 : Ura M) → Logic 𝓤 → (κs : Lfts 1) → (me.slot.row κs).Denot
+      → (type_at out κs).Denot → SProp 𝓤
+
+  -- such a call of the cells that are `now` of its first parameter
+  abbrev pub showing : (me : Self 1) (out : Slot 1) → ((κs : Lfts 1) → (me.slot.row κs).Denot → (Cr E).Denot)
+      → Showing me out → Call 1
+  showing me out now gives = record {
+    outlives = [];
+    me = me;
+    behind = the_base E ∷ number no ∷ number no ∷ [];
+    out = out;
+    asks = λ κs x a. let d = now κs x in
+        (a.0.ptr ≡ d.at) ∷ (a.1.0 ≡ d.passed) ∷ (a.1.1.0 ≡ length d.items) ∷ [];
+    gives = λ M 𝓤 𝓛 κs x a r w. gives M 𝓤 𝓛 κs x r;
+  }
+
   -- σ is the items' type behind a reference, and τ that of the cells
   abbrev slicing : Fn → Mutability → Ty → Ty → Fn
   slicing e μ σ τ = record e {

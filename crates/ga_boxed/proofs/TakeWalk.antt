@@ -10,15 +10,21 @@ use seplogic.Ra.Ura.{Ura}
 use base.Fraction.{full_share}
 use base.Fml.{Fml, fat, froom}
 use base.Logic.{ent, sep}
-use mir.Syntax.{Fn, Ty, assign, block, copy, deref, field, local, mul, named, offset, op2, place, return}
+use mir.Syntax.{Callee, Fn, Ty, assign, block, copy, deref, field, local, mul, named, offset, op2, place, return}
 use mir.Syntax.{rv_opd, seq, size_of, ty_int, ty_ptr, ty_ref, unsigned, value_local, w64, mut}
 use mir.Val.{vint}
-use prog.Wp.{Calls, Env, Loops}
+use prog.Model.{Model}
+use contract.Running.{MachineTables, Running, tables}
+use denote.Triple.Carry.{grown}
+use denote.Triple.Clauses.{closing}
+use denote.Triple.Statement.{Triple}
+use prog.Wp.{Closed, Calls, Env, Loops}
 use types.Logic.{Logic, sem}
 use types.Kit.{‵, ◌⊛◌, at_ret, ◌$◌, ◌∵◌, !, qed, by, move, keep, use1, use2, split, rewrite}
 use types.Part.{whole, sub}
 use types.Run.{bin, size_lit, look, stop, fld, load, of_opd, first, blocks, exec, returns, enter}
 use types.ByLocal.{alloc_all, pass_all, free_all, look_at, get, get_in, take_at, give_at, through, sets, sets_last, env}
+use denote.Exit.{no}
 use denote.Memory.{part_at}
 use denote.Param.{layout}
 use denote.RawPtr.{Ptr}
@@ -28,7 +34,8 @@ use Rattle.std.proofs.RcSteps.{word, word-Good}
 use Rattle.std.proofs.VecSteps.Shapes.{after}
 use Rattle.std.proofs.mem.Param.{El, R, el_x, elτ}
 use Rattle.std.proofs.ptr.Rows.{times_below, one_below}
-use Rattle.ga_boxed.proofs.CellsWalk.{Call, Had, Walk, by_mut, closes_cells, number, opens_cells}
+use Rattle.ga_boxed.proofs.CallWalk.{Call, Had, Walk, clauses, ended, number}
+use Rattle.ga_boxed.proofs.CellsWalk.{by_mut, closes_cells, meets_grown, opens_cells, the_base}
 use Rattle.ga_boxed.proofs.ClauseFacts.{Every, facts, has_every}
 use Rattle.ga_boxed.proofs.EndLemmas.{Held}
 use Rattle.ga_boxed.proofs.WalkParts.{Bs, Cr, sz, value_out}
@@ -42,13 +49,14 @@ module _ (E : El) where
   abbrev pub Giving : Type 1
   Giving = (Cr E).Denot → el_x E → (Cr E).Denot → List (Type 0)
 
-  abbrev pub taking : Placing → Giving → Call E
+  abbrev pub taking : Placing → Giving → Call 1
   taking stands gives = record {
+    outlives = [];
     me = by_mut E;
-    behind = number ∷ [];
+    behind = the_base E ∷ number no ∷ [];
     out = plain (λ _. R E);
-    asks = λ κs x base a. (base.ptr ≡ x.now.at) ∷ stands x.now a.0 ∷ (x.now.items ≢ []) ∷ [];
-    gives = λ {M} {𝓤} 𝓛 κs x a r w. facts 𝓤 (gives x.now r w.now);
+    asks = λ κs x a. (a.0.ptr ≡ x.now.at) ∷ stands x.now a.1.0 ∷ (x.now.items ≢ []) ∷ [];
+    gives = λ M 𝓤 𝓛 κs x a r w. facts 𝓤 (gives x.now r w.now);
   }
 
   -- the item at `index` is cut from the cells d, and the cells `new` are what is left, with its slot
@@ -78,18 +86,18 @@ module _ (E : El) where
         (seq (assign (place 0 []) (rv_opd (copy (place 4 [])))) return);
   }
 
-  pub takes : (stands : Placing) (gives : Giving) {M : Type 1} {𝓤 : Ura M} (𝓛 : Logic 𝓤) (C : Calls 𝓤 𝓛.H)
+  takes : (stands : Placing) (gives : Giving) {M : Type 1} {𝓤 : Ura M} (𝓛 : Logic 𝓤) (C : Calls 𝓤 𝓛.H)
       (Λ : Loops 𝓤 𝓛.H) (e : Fn) (τ : Ty)
       → ((d : (Cr E).Denot) (index : ℕ) → stands d index → d.items ≢ [] → Taken 𝓛 gives d index)
       → Walk (taking stands gives) 𝓛 C Λ (reading e τ)
-  takes stands gives {𝓤 = 𝓤} 𝓛 C Λ e τ cut κs qs x base a w Post asked fine exits =
-      let s = sz E in let d = x.now in let index = a.0 in let c = cut d index asked.1.0 asked.1.1 in
+  takes stands gives {𝓤 = 𝓤} 𝓛 C Λ e τ cut κs qs bounds x a w Post asked fine exits =
+      let s = sz E in let d = x.now in let base = a.0 in let index = a.1.0 in let c = cut d index asked.1.0 asked.1.1 in
       let item = c.item in let all = d.passed + length d.items + d.room in
       qed 𝓛 (Had (taking stands gives) 𝓛 κs qs x a w) ∵ keep ! (0 ∷ 1 ∷ []) $
       enter ! C Λ (reading e τ) (mut_vals x ++ word base.ptr ∷ vint w64 index ∷ []) _ $ alloc_all !
-      (λ l. pass_all ! refl ((tt, tt), (word-Good [] base.ptr, ((tt, record { fits = fine.0 }), tt))) $
+      (λ l. pass_all ! refl ((tt, tt), (word-Good [] base.ptr, ((tt, record { fits = fine.1.0 }), tt))) $
       let En : Env 𝓤 𝓛.H = env (reading e τ).locals l in
-      opens_cells ! tt E x (λ vs b o at small.
+      opens_cells ! tt E κs qs x (λ vs b o at small.
       let tiny : s < 2 ^ 64 = omega (arith, one_below all s (2 ^ 63) (omega (arith, c.within)) small) in
       let far : index * s < 2 ^ 64 = omega (arith, times_below index all s (2 ^ 63) (omega (arith, c.within)) small) in
       take_at ! 2 $ rewrite ! 0 (λ (p : Ptr). ‵ (fat full_share (layout (Bs E)) (l 2) 0 (word p)))
@@ -105,6 +113,21 @@ module _ (E : El) where
       use1 𝓛 (‵ (froom (elτ E) b (index * s + o))) (𝓛.laws.at_room (elτ E) b (index * s + o) v) $ move ! (0 ∷ 2 ∷ []) $
       use2 𝓛 (‵ (Held E 𝓛 b o c.new.passed c.new.items c.new.room)) (c.back b o) $ move !
       (0 ∷ 2 ∷ 3 ∷ 4 ∷ 5 ∷ 6 ∷ 1 ∷ []) $
-      closes_cells ! tt E x c.new vs b o (c.at ∙ at) (subst (λ k. k * s < 2 ^ 63) c.all small) $
+      closes_cells ! tt E κs qs x c.new vs b o (c.at ∙ at) (subst (λ k. k * s < 2 ^ 63) c.all small) $
       returns ! (look_at ! 0 refl) $ free_all ! refl $ keep ! (0 ∷ 1 ∷ 2 ∷ []) $
-      has_every ! (gives d item c.new) c.given $ move ! (1 ∷ 2 ∷ 3 ∷ 0 ∷ []) $ by ! (exits v item c.new (tt, tt) tt))))
+      has_every ! (gives d item c.new) c.given $ move ! (1 ∷ 2 ∷ 3 ∷ 0 ∷ []) $ by ! (exits v item c.new (tt, (tt, tt)) tt))))
+
+  -- the contract of such a call, from how the item is cut
+  module _ (stands : Placing) (gives : Giving) {M : Type 1} {𝓤 : Ura M} (𝓛 : Logic 𝓤) (𝓜 : Model 𝓤 𝓛.H)
+      (𝓡 : Running 𝓤 𝓛.H 𝓜) where
+    abbrev 𝓣 : MachineTables 𝓤 𝓛.H 𝓜
+    𝓣 = tables 𝓤 𝓛.H 𝓜 𝓡 𝓡.env
+
+    abbrev c : Call 1
+    c = taking stands gives
+
+    pub meets_taking : (k : Callee) (e : Fn) (τ : Ty) → Closed 𝓤 𝓛.H 𝓣.C 𝓣.Λ k (reading e τ)
+        → ((d : (Cr E).Denot) (index : ℕ) → stands d index → d.items ≢ [] → Taken 𝓛 gives d index)
+        → Triple 𝓤 (𝓡.run (𝓡.env k)) (grown 𝓛 (ended c).signature 1 (E.row.lives, tt) (closing 𝓛 (ended c) (clauses c 𝓛)))
+    meets_taking k e τ closed cut =
+        meets_grown c 𝓛 𝓜 𝓡 1 (E.row.lives, tt) k (reading e τ) closed (takes stands gives 𝓛 𝓣.C 𝓣.Λ e τ cut)

@@ -23,6 +23,7 @@ use denote.Memory.{part_at}
 use denote.Param.{layout}
 use denote.RawPtr.{Ptr}
 use denote.Ref.{mut_vals}
+use denote.Exit.{no}
 use denote.Builtin.{unit}
 use denote.Signature.{plain}
 use Rattle.std.proofs.VecSteps.Shapes.{after}
@@ -32,8 +33,8 @@ use types.Run.{bin, size_lit}
 use types.ByLocal.{take_at, give_at}
 use Rattle.std.proofs.mem.Param.{El, R, args, el_x, elτ}
 use Rattle.std.proofs.ptr.Rows.{times_below, one_below}
-use Rattle.ga_boxed.proofs.CellsWalk.{Call, Had, Walk, an_item, by_mut, closes_cells, meets, number}
-use Rattle.ga_boxed.proofs.CellsWalk.{opens_cells}
+use Rattle.ga_boxed.proofs.CallWalk.{Call, Had, Walk, an_item, number}
+use Rattle.ga_boxed.proofs.CellsWalk.{by_mut, closes_cells, meets_grown, opens_cells, the_base}
 use Rattle.ga_boxed.proofs.ClauseFacts.{facts, has_every}
 use Rattle.ga_boxed.proofs.WalkParts.{Cr, Bs, sz}
 use Rattle.ga_boxed.proofs.EndLemmas.{positive, Around, Held, room_out, item_in}
@@ -49,23 +50,25 @@ module _ (E : El) where
   Gives d item new = (new.at ≡ d.at) ∷ (new.passed ≡ d.passed) ∷ (new.items ≡ d.items ++ item ∷ [])
       ∷ (new.room ≡ d.room - 1) ∷ []
 
-  abbrev call : Call E
+  abbrev call : Call 1
   call = record {
+    outlives = [];
     me = by_mut E;
-    behind = number ∷ an_item E ∷ [];
+    behind = the_base E ∷ number no ∷ an_item E ∷ [];
     out = plain (λ _. unit);
-    asks = λ κs x base a. let d = x.now in
-        (base.ptr ≡ d.at) ∷ (a.0 ≡ d.passed + length d.items) ∷ (d.room ≢ 0) ∷ [];
-    gives = λ {M} {𝓤} 𝓛 κs x a r w. facts 𝓤 (Gives x.now a.1.0 w.now);
+    asks = λ κs x a. let d = x.now in
+        (a.0.ptr ≡ d.at) ∷ (a.1.0 ≡ d.passed + length d.items) ∷ (d.room ≢ 0) ∷ [];
+    gives = λ M 𝓤 𝓛 κs x a r w. facts 𝓤 (Gives x.now a.1.1.0 w.now);
   }
 
 module _ (E : El) {M : Type 1} {𝓤 : Ura M} (𝓛 : Logic 𝓤) (C : Calls 𝓤 𝓛.H) (Λ : Loops 𝓤 𝓛.H) where
   open 𝓛 use {H}
 
   walk : Walk (call E) 𝓛 C Λ (function E)
-  walk κs qs x base a w Post asked fine exits =
-      let base_is = asked.0 in let index_is = asked.1.0 in let not_none = asked.1.1 in let index = a.0 in
-      let item = a.1.0 in let v_item = w.1.0 in let d = x.now in
+  walk κs qs bounds x a w Post asked fine exits =
+      let base_is = asked.0 in let index_is = asked.1.0 in let not_none = asked.1.1 in let base = a.0 in
+      let index = a.1.0 in
+      let item = a.1.1.0 in let v_item = w.1.1.0 in let d = x.now in
       let xs = d.items in let all = d.passed + length xs + d.room in let behind : index ≡ d.passed + length xs =
       index_is in
       let some : 0 < d.room = positive d.room not_none in
@@ -78,12 +81,12 @@ module _ (E : El) {M : Type 1} {𝓤 : Ura M} (𝓛 : Logic 𝓤) (C : Calls �
             d.room - 1;
       } in
       let same : all ≡ d.passed + length new.items + new.room = omega (arith, length-append xs (item ∷ [])) in
-      qed 𝓛 (Had (call E) 𝓛 κs qs x a w) ∵ move ! (2 ∷ []) $ fsplit ! $ move !
-      (1 ∷ []) $ fsplit ! $ keep ! (3 ∷ 4 ∷ 0 ∷ []) $
+      qed 𝓛 (Had (call E) 𝓛 κs qs x a w) ∵ move ! (2 ∷ []) $ fsplit ! $ move ! (1 ∷ []) $ fsplit ! $ move !
+      (1 ∷ []) $ fsplit ! $ keep ! (4 ∷ 5 ∷ 0 ∷ []) $
       enter ! C Λ (function E) (mut_vals x ++ word base.ptr ∷ vint w64 index ∷ v_item ∷ []) _ $ alloc_all !
-      (λ l. pass_all ! refl ((tt, tt), (word-Good [] base.ptr, ((tt, record { fits = fine.0 }), (fine.1.0, tt)))) $
+      (λ l. pass_all ! refl ((tt, tt), (word-Good [] base.ptr, ((tt, record { fits = fine.1.0 }), (fine.1.1.0, tt)))) $
       let En : Env 𝓤 H = env (function E).locals l in
-      opens_cells ! tt E x (λ vs b o e small.
+      opens_cells ! tt E κs qs x (λ vs b o e small.
       let s = sz E in let tiny : s < 2 ^ 64 = omega (arith, one_below all s (2 ^ 63) (omega arith) small) in
       let far : index * s < 2 ^ 64 = omega (arith, times_below index all s (2 ^ 63) (omega arith) small) in
       let here : (d.passed + length xs) * s + o ≡ index * s + o = ap (λ k. k * s + o) (sym behind) in
@@ -96,21 +99,21 @@ module _ (E : El) {M : Type 1} {𝓤 : Ura M} (𝓛 : Logic 𝓤) (C : Calls �
       (room_out E 𝓛 b o d.passed xs d.room not_none) $ split ! $ rewrite ! 0
       (λ (k : ℕ). ‵ (froom (elτ E) b k)) here refl $
       -- [the room; the other slots; the mark; its cell; the open borrow; obs; auth; what the item owns]
-      sets ! (of_opd ! (get ! refl)) refl fine.1.0 $ assigns_last ! (of_opd ! (get ! refl)) (through ! refl (stop !))
-      (init ! 0 refl fine.1.0) $
+      sets ! (of_opd ! (get ! refl)) refl fine.1.1.0 $ assigns_last ! (of_opd ! (get ! refl)) (through ! refl (stop !))
+      (init ! 0 refl fine.1.1.0) $
       exec ! C Λ En (after 1 (function E).body) (at_ret En Post) $ sets ! (of_opd ! (unit_lit !)) refl (tt, tt) $
       move ! (0 ∷ 7 ∷ []) $ use2 𝓛 (‵ (part_at (R E) full_share item b (index * s + o)))
       (part_in 𝓛 (R E) refl full_share item b (index * s + o) v_item) $ rewrite ! 0
       (λ (k : ℕ). ‵ (part_at (R E) full_share item b k)) (sym here) refl $
       use2 𝓛 (‵ (Held E 𝓛 b o d.passed new.items new.room)) (item_in E 𝓛 b o d.passed xs item new.room) $
-      closes_cells ! tt E x new vs b o e (subst (λ k. k * s < 2 ^ 63) same small) $
+      closes_cells ! tt E κs qs x new vs b o e (subst (λ k. k * s < 2 ^ 63) same small) $
       returns ! (look_at ! 0 refl) $ free_all ! refl $ keep ! (0 ∷ 1 ∷ []) $
       has_every ! (Gives E d item new) (refl, (refl, (refl, refl))) $
       feq_i ! (List Val) (vunit ∷ []) (vunit ∷ []) refl $ move ! (2 ∷ 3 ∷ 0 ∷ 1 ∷ []) $
-      by ! (exits vunit tt new (tt, (tt, tt)) tt)))
+      by ! (exits vunit tt new (tt, (tt, (tt, tt))) tt)))
 
 pub put_spec : {M : Type 1} → stated.statement M
 put_spec 𝓤 𝓛 𝓜 𝓡 wired X LX y =
     let E : El = record { row = X; laws = LX } in let 𝓣 = tables 𝓤 𝓛.H 𝓜 𝓡 𝓡.env in
-    meets (call E) 𝓛 𝓜 𝓡 1 (X.lives, tt) (#self (args E)) (function E) (code.unfolded 𝓤 𝓛.H 𝓜 𝓡 wired (X, tt))
+    meets_grown (call E) 𝓛 𝓜 𝓡 1 (X.lives, tt) (#self (args E)) (function E) (code.unfolded 𝓤 𝓛.H 𝓜 𝓡 wired (X, tt))
     (walk E 𝓛 𝓣.C 𝓣.Λ) ((y.0.0, y.0.1, tt, y.0.3, y.0.4), y.1)

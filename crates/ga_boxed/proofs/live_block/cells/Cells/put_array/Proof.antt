@@ -21,7 +21,7 @@ use types.Part.{whole, sub}
 use types.Run.{init, stop, hop, from, fld, unit_lit, of_opd, assigns_last, first, blocks, exec, returns, enter}
 use types.ByLocal.{alloc_all, pass_all, free_all, look_at, look_in_at, get, sets, env, take_at, give_at}
 use denote.Array.{Array}
-use denote.Exit.{all_rest}
+use denote.Exit.{no, all_rest}
 use denote.RattleType.{RattleType}
 use denote.Memory.{part_at}
 use denote.Param.{ArrayAt, param, number, layout, layouts}
@@ -38,7 +38,8 @@ use Rattle.std.proofs.mem.Param.{El, R, el_x, elτ}
 use Rattle.ga_boxed.specs.CellsOwn.{cells_own, empty}
 use Rattle.ga_boxed.proofs.BlockRoom.{to_block}
 use Rattle.ga_boxed.proofs.NativeLemmas.{all_items, nothing_left}
-use Rattle.ga_boxed.proofs.CellsWalk.{Behind, Call, Had, Walk, by_mut, closes_cells, meets, opens_cells}
+use Rattle.ga_boxed.proofs.CallWalk.{Behind, Call, Had, Walk}
+use Rattle.ga_boxed.proofs.CellsWalk.{by_mut, closes_cells, meets_grown, opens_cells, the_base}
 use Rattle.ga_boxed.proofs.ClauseFacts.{facts, has_every}
 use Rattle.ga_boxed.proofs.WalkParts.{Cr, Bs, sz, is_one}
 use Rattle.ga_boxed.specs.contracts.live_block.cells.Cells.put_array.Key.{name as #self}
@@ -64,9 +65,10 @@ module _ (E : El) (n : ℕ) where
   abbrev Gives : (Cr E).Denot → List (el_x E) → (Cr E).Denot → List (Type 0)
   Gives d items new = (new.at ≡ d.at) ∷ (new.passed ≡ 0) ∷ (new.items ≡ items) ∷ (new.room ≡ 0) ∷ []
 
-  abbrev an_array : Behind
+  abbrev an_array : Behind 1
   an_array = record {
     row = Arr;
+    kept = no;
     Word = Val;
     vals = λ _ v. v ∷ [];
     Fine = λ _ v. Good arr_ty v;
@@ -74,30 +76,33 @@ module _ (E : El) (n : ℕ) where
     ends = λ {M} {𝓤} 𝓛 κs x f vs ok. via 𝓤 _ (nothing_left 𝓛 x f) (𝓛.laws.⇛_intro _);
   }
 
-  abbrev call : Call E
+  abbrev call : Call 1
   call = record {
+    outlives = [];
     me = by_mut E;
-    behind = an_array ∷ [];
+    behind = the_base E ∷ an_array ∷ [];
     out = plain (λ _. unit);
-    asks = λ κs x base a. let d = x.now in
-        (size arr_ty < 2 ^ 63) ∷ (base.ptr ≡ d.at) ∷ (d.passed ≡ 0) ∷ (d.items ≡ []) ∷ (d.room ≡ n) ∷ [];
-    gives = λ {M} {𝓤} 𝓛 κs x a r w. facts 𝓤 (Gives x.now a.0 w.now);
+    asks = λ κs x a. let d = x.now in
+        (size arr_ty < 2 ^ 63) ∷ (a.0.ptr ≡ d.at) ∷ (d.passed ≡ 0) ∷ (d.items ≡ []) ∷ (d.room ≡ n) ∷ [];
+    gives = λ M 𝓤 𝓛 κs x a r w. facts 𝓤 (Gives x.now a.1.0 w.now);
   }
 
 module _ (E : El) (n : ℕ) {M : Type 1} {𝓤 : Ura M} (𝓛 : Logic 𝓤) (C : Calls 𝓤 𝓛.H) (Λ : Loops 𝓤 𝓛.H) where
   open 𝓛 use {H}
 
   walk : Walk (call E n) 𝓛 C Λ (function E n)
-  walk κs qs x base a w Post asked fine exits =
+  walk κs qs bounds x a w Post asked fine exits =
       let base_is = asked.1.0 in let passed_is = asked.1.1.0 in let items_is = asked.1.1.1.0 in
-      let room_is = asked.1.1.1.1 in let d = x.now in let items = a.0 in let v_items = w.0 in let good = fine.0 in
+      let room_is = asked.1.1.1.1 in let d = x.now in let base = a.0 in
+      let items = a.1.0 in let v_items = w.1.0 in let good = fine.1.0 in
       let new : (Cr E).Denot = record { mark = d.mark; at = d.at; passed = 0; items = items; room = 0 } in
       let τ = arr_ty E n in
-      qed 𝓛 (Had (call E n) 𝓛 κs qs x a w) ∵ move ! (2 ∷ []) $ fsplit ! $ keep ! (2 ∷ 3 ∷ 0 ∷ []) $
+      qed 𝓛 (Had (call E n) 𝓛 κs qs x a w) ∵ move ! (2 ∷ []) $ fsplit ! $ move ! (1 ∷ []) $ fsplit ! $ keep !
+      (3 ∷ 4 ∷ 0 ∷ []) $
       enter ! C Λ (function E n) (mut_vals x ++ word base.ptr ∷ v_items ∷ []) _ $ alloc_all !
       (λ l. pass_all ! refl ((tt, tt), (word-Good [] base.ptr, (good, tt))) $
       let En : Env 𝓤 H = env (function E n).locals l in
-      opens_cells ! tt E x (λ vs b o e all_small.
+      opens_cells ! tt E κs qs x (λ vs b o e all_small.
       flt_i ! ((d.passed + length d.items + d.room) * sz E) (2 ^ 63) all_small $ fjoin ! $
       rewrite ! 0 (λ (xs : List (el_x E)). ‵ (cells_own (R E) (block_ptr b o) d.passed xs d.room)) items_is refl $
       use1 𝓛 (given (n * sz E < 2 ^ 63) (‵ (empty (R E) b o n)))
@@ -113,14 +118,14 @@ module _ (E : El) (n : ℕ) {M : Type 1} {𝓤 : Ura M} (𝓛 : Logic 𝓤) (C :
       move ! (0 ∷ 6 ∷ []) $ use2 𝓛 (‵ (part_at (Array (R E) n) full_share items b o))
       (part_in 𝓛 (Array (R E) n) refl full_share items b o v_items) $
       use1 𝓛 (‵ (cells_own (R E) (block_ptr b o) 0 items 0)) (all_items 𝓛 E b o n items small) $
-      fsplit ! $ flt_l ! (λ fit. closes_cells ! tt E x new vs b o e fit $
+      fsplit ! $ flt_l ! (λ fit. closes_cells ! tt E κs qs x new vs b o e fit $
       returns ! (look_at ! 0 refl) $ free_all ! refl $ keep ! (0 ∷ 1 ∷ []) $
       has_every ! (Gives E n d items new) (refl, (refl, (refl, refl))) $
       feq_i ! (List Val) (vunit ∷ []) (vunit ∷ []) refl $ move ! (2 ∷ 3 ∷ 0 ∷ 1 ∷ []) $
-      by ! (exits vunit tt new (all_rest (λ _. Unit {0}) (λ _. tt) items, tt) tt)))))
+      by ! (exits vunit tt new (tt, (all_rest (λ _. Unit {0}) (λ _. tt) items, tt)) tt)))))
 
 pub put_array_spec : {M : Type 1} → stated.statement M
 put_array_spec 𝓤 𝓛 𝓜 𝓡 wired X n LX fits y =
     let E : El = record { row = X; laws = LX } in let 𝓣 = tables 𝓤 𝓛.H 𝓜 𝓡 𝓡.env in
-    meets (call E n) 𝓛 𝓜 𝓡 2 (X.lives, ([], tt)) (#self (args E n)) (function E n)
+    meets_grown (call E n) 𝓛 𝓜 𝓡 2 (X.lives, ([], tt)) (#self (args E n)) (function E n)
     (code.unfolded 𝓤 𝓛.H 𝓜 𝓡 wired (X, (number n, tt))) (walk E n 𝓛 𝓣.C 𝓣.Λ) ((y.0.0, y.0.1, tt, y.0.3, y.0.4), y.1)

@@ -13,7 +13,8 @@ use base.Fml.{GName, Fml, fsep, flft}
 use prog.Wp.{Calls, Loops}
 use types.Logic.{Logic, sem}
 use contract.Running.{tables}
-use types.Kit.{split3, ‵, ◌⊛◌, some, later, await, pick, ◌$◌, ◌∵◌, !, qed, by, move, keep, use1, split, join}
+use contract.Lifetimes.{toks}
+use types.Kit.{raw, split3, ‵, ◌⊛◌, some, later, await, pick, ◌$◌, ◌∵◌, !, qed, by, move, keep, use1, split, join}
 use types.Kit.{raw, group, rewrite, fsplit, fsplit3, fjoin, fjoin3, fpack, flt_i, done}
 use types.SemTy.{cells}
 use denote.Array.{Array}
@@ -34,9 +35,10 @@ use Rattle.std.proofs.ptr.Rows.{times_below}
 use Rattle.ga_boxed.specs.CellsLend.{with_items}
 use Rattle.ga_boxed.specs.CellsOwn.{cells_own, empty}
 use Rattle.ga_boxed.specs.contracts.live_block.cells.Cells.slice_mut.Key.{name as #self}
-use Rattle.ga_boxed.proofs.CellsWalk.{Call, Had, Walk, meets, number, opens_cells, spent}
+use Rattle.ga_boxed.proofs.CallWalk.{Call, Had, Walk}
+use Rattle.ga_boxed.proofs.CellsWalk.{meets_grown, opens_cells, spent, tokens}
 use Rattle.ga_boxed.proofs.ClauseFacts.{facts, has_every}
-use Rattle.ga_boxed.proofs.SliceWalk.{slices}
+use Rattle.ga_boxed.proofs.SliceWalk.{showing, slices}
 use Rattle.ga_boxed.proofs.WalkParts.{Cr, Mark, sz}
 use Rattle.ga_boxed.proofs.live_block.cells.Cells.slice_mut.Statement as stated
 use Rattle.ga_boxed.proofs.live_block.cells.Cells.slice_mut.Code as code
@@ -48,17 +50,11 @@ module _ (E : El) where
   abbrev Written : (Cr E).Denot → List (el_x E) → (Cr E).Denot
   Written d ws = with_items d (refill (length d.items) d.items ws)
 
-  abbrev call : Call E
-  call = record {
-    me = spent E;
-    behind = number ∷ number ∷ [];
-    out = SliceRefMutOf (0 ∷ []) tt (plain (λ _. R E)) (λ _. tt);
-    asks = λ κs x base a. let d = x.now in
-        (base.ptr ≡ d.at) ∷ (a.0 ≡ d.passed) ∷ (a.1.0 ≡ length d.items) ∷ [];
-    gives = λ {M} {𝓤} 𝓛 κs x a r w. sep 𝓤
-        (sem 𝓛 (follows (Cr E) (Array (R E) 0) x.ghost_name r.ghost_name (Written x.now)))
-        (facts 𝓤 ((r.now ≡ x.now.items) ∷ []));
-  }
+  abbrev call : Call 1
+  call = showing E (spent E) (SliceRefMutOf (0 ∷ []) tt (plain (λ _. R E)) (λ _. tt)) (λ κs x. x.now)
+      (λ M 𝓤 𝓛 κs x r. sep 𝓤
+      (sem 𝓛 (follows (Cr E) (Array (R E) 0) x.ghost_name r.ghost_name (Written x.now)))
+      (facts 𝓤 ((r.now ≡ x.now.items) ∷ [])))
 
 module _ (E : El) (d : (Cr E).Denot) (rb ro b o : ℕ) (vs : List Val) where
   -- the slots that hold nothing
@@ -92,16 +88,16 @@ module _ (E : El) (d : (Cr E).Denot) (rb ro b o : ℕ) (vs : List Val) where
 
 module _ (E : El) {M : Type 1} {𝓤 : Ura M} (𝓛 : Logic 𝓤) (C : Calls 𝓤 𝓛.H) (Λ : Loops 𝓤 𝓛.H) where
   walk : Walk (call E) 𝓛 C Λ (function E)
-  walk κs qs x base a w Post asked fine exits =
-      let base_is = asked.0 in let first_place = asked.1.0 in let long = asked.1.1 in let index = a.0 in
-      let len = a.1.0 in let d = x.now in let xs = d.items in let s = sz E in let all = d.passed + length xs + d.room in
+  walk κs qs bounds x a w Post asked fine exits =
+      let base_is = asked.0 in let first_place = asked.1.0 in let long = asked.1.1 in let base = a.0 in
+      let index = a.1.0 in let len = a.1.1.0 in let d = x.now in let xs = d.items in let s = sz E in let all = d.passed + length xs + d.room in
       let κ = κs.0 in let q = qs.0 in let γ = x.ghost_name in let rb = x.ref_ptr.0 in let ro = x.ref_ptr.1 in
       let code = (Cr E).coded.code d in let new = Written E d in
-      let roomy : length xs < 2 ^ 64 = omega (arith, long, fine.1.0) in
+      let roomy : length xs < 2 ^ 64 = omega (arith, long, fine.1.1.0) in
       qed 𝓛 (Had (call E) 𝓛 κs qs x a w) ∵ keep ! (0 ∷ 1 ∷ []) $ group ! 2 $ by !
-      (slices E 𝓛 C Λ (function E) mut _ _ rb ro base index len Post fine.0 fine.1.0
-      (‵ ((MutRef (named 0) κ (Cr E)).own_val x (mut_vals x)) ⊛ ‵ (flft κ q)) (λ Γ G z k. split ! $
-      opens_cells ! z E x (λ vs b o e small.
+      (slices E 𝓛 C Λ (function E) mut _ _ rb ro base index len Post fine.1.0 fine.1.1.0
+      (‵ ((MutRef (named 0) κ (Cr E)).own_val x (mut_vals x)) ⊛ raw (toks 𝓛 1 κs qs)) (λ Γ G z k. split ! $
+      opens_cells ! z E κs qs x (λ vs b o e small.
       let near : index ≤ all = omega (arith, first_place) in
       let far : index * s < 2 ^ 64 = omega (arith, times_below index all s (2 ^ 63) near small) in
       let at = d.passed * s + o in let way = back E d rb ro b o vs 𝓛 e small in
@@ -117,12 +113,12 @@ module _ (E : El) {M : Type 1} {𝓤 : Ura M} (𝓛 : Logic 𝓤) (C : Calls �
       ⊛ ‵ (follows (Cr E) (Array (R E) 0) γ δ new)) (id⊢ 𝓤 _) $ split3 ! $
       rewrite ! 0 (λ (v : Val). ‵ ((MutSlice (named 0) κ (R E)).own_val r (v ∷ [])))
       (λ i. slice_val (b, sym first_place i * s + o) (sym long i)) refl $
-      has_every ! ((xs ≡ xs) ∷ []) refl $ move ! (3 ∷ 0 ∷ []) $ join ! $ nothing ! $ move !
-      (0 ∷ 3 ∷ 2 ∷ 1 ∷ []) $ group ! 4 $
-      k b o (base_is ∙ e) far _ (exits (slice_val (b, index * s + o) len) r tt (tt, (tt, tt)) tt)))))
+      has_every ! ((xs ≡ xs) ∷ []) refl $ move ! (3 ∷ 0 ∷ []) $ join ! $ move ! (2 ∷ []) $
+      tokens ! κs qs $ nothing ! $ move ! (0 ∷ 1 ∷ 3 ∷ 2 ∷ []) $ group ! 4 $
+      k b o (base_is ∙ e) far _ (exits (slice_val (b, index * s + o) len) r tt (tt, (tt, (tt, tt))) tt)))))
 
 pub slice_mut_spec : {M : Type 1} → stated.statement M
 slice_mut_spec 𝓤 𝓛 𝓜 𝓡 wired X LX y =
     let E : El = record { row = X; laws = LX } in let 𝓣 = tables 𝓤 𝓛.H 𝓜 𝓡 𝓡.env in
-    meets (call E) 𝓛 𝓜 𝓡 1 (X.lives, tt) (#self (args E)) (function E) (code.unfolded 𝓤 𝓛.H 𝓜 𝓡 wired (X, tt))
+    meets_grown (call E) 𝓛 𝓜 𝓡 1 (X.lives, tt) (#self (args E)) (function E) (code.unfolded 𝓤 𝓛.H 𝓜 𝓡 wired (X, tt))
     (walk E 𝓛 𝓣.C 𝓣.Λ) ((y.0.0, y.0.1, tt, y.0.3, y.0.4), y.1)

@@ -9,16 +9,14 @@ use seplogic.Ra.Ura.{Ura}
 use base.Fml.{Fml, froom, fsep}
 use mir.MapTy.{inst_fn}
 use types.Logic.{Logic}
-use contract.Running.{tables}
 use types.Kit.{‵, ◌$◌, ◌∵◌, !, qed, move, use2, rewrite, fsplit, fsplit3, fjoin, done}
 use types.SemTy.{cells}
 use denote.Memory.{mem, part_at}
 use base.Fraction.{full_share}
 use Rattle.std.proofs.mem.Param.{El, R, args, el_x, elτ}
-use Rattle.ga_boxed.proofs.CellsWalk.{meets}
 use Rattle.ga_boxed.proofs.EndLemmas.{Held}
 use Rattle.ga_boxed.proofs.FrontLemmas.{uncons, place_after, empty_snoc}
-use Rattle.ga_boxed.proofs.TakeWalk.{Giving, Placing, Taken, takes, taking}
+use Rattle.ga_boxed.proofs.TakeWalk.{Giving, Placing, Taken, meets_taking}
 use Rattle.ga_boxed.proofs.WalkParts.{Cr, sz}
 use Rattle.ga_boxed.proofs.live_block.cells.Cells.take_first.Code as code
 use Rattle.ga_boxed.proofs.live_block.cells.Cells.take_first.Statement as stated
@@ -63,8 +61,6 @@ module _ (E : El) where
 
 pub take_first_spec : {M : Type 1} → stated.statement M
 take_first_spec 𝓤 𝓛 𝓜 𝓡 wired X LX y =
-    let E : El = record { row = X; laws = LX } in let 𝓣 = tables 𝓤 𝓛.H 𝓜 𝓡 𝓡.env in
-    meets (taking E (Stands E) (Gives E)) 𝓛 𝓜 𝓡 1 (X.lives, tt) (#self (args E)) (inst_fn (args E) code.function)
-    (code.unfolded 𝓤 𝓛.H 𝓜 𝓡 wired (X, tt))
-    (takes E (Stands E) (Gives E) 𝓛 𝓣.C 𝓣.Λ (inst_fn (args E) code.function) _ (taken E 𝓛))
-    ((y.0.0, y.0.1, tt, y.0.3, y.0.4), y.1)
+    let E : El = record { row = X; laws = LX } in
+    meets_taking E (Stands E) (Gives E) 𝓛 𝓜 𝓡 (#self (args E)) (inst_fn (args E) code.function) _
+    (code.unfolded 𝓤 𝓛.H 𝓜 𝓡 wired (X, tt)) (taken E 𝓛) ((y.0.0, y.0.1, tt, y.0.3, y.0.4), y.1)

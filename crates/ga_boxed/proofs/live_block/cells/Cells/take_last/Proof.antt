@@ -10,13 +10,11 @@ use base.Fraction.{full_share}
 use base.Fml.{froom}
 use mir.MapTy.{inst_fn}
 use types.Logic.{Logic}
-use contract.Running.{tables}
 use types.Kit.{‵, ◌⊛◌, ◌$◌, ◌∵◌, !, qed, use1, use2, split, rewrite, done}
 use denote.Memory.{part_at}
 use Rattle.std.proofs.mem.Param.{El, R, args, el_x, elτ}
-use Rattle.ga_boxed.proofs.CellsWalk.{meets}
 use Rattle.ga_boxed.proofs.EndLemmas.{split_last, Around, Held, room_in, item_out}
-use Rattle.ga_boxed.proofs.TakeWalk.{Giving, Placing, Taken, takes, taking}
+use Rattle.ga_boxed.proofs.TakeWalk.{Giving, Placing, Taken, meets_taking}
 use Rattle.ga_boxed.proofs.WalkParts.{Cr, sz}
 use Rattle.ga_boxed.specs.contracts.live_block.cells.Cells.take_last.Key.{name as #self}
 use Rattle.ga_boxed.proofs.live_block.cells.Cells.take_last.Statement as stated
@@ -57,8 +55,6 @@ module _ (E : El) where
 
 pub take_last_spec : {M : Type 1} → stated.statement M
 take_last_spec 𝓤 𝓛 𝓜 𝓡 wired X LX y =
-    let E : El = record { row = X; laws = LX } in let 𝓣 = tables 𝓤 𝓛.H 𝓜 𝓡 𝓡.env in
-    meets (taking E (Stands E) (Gives E)) 𝓛 𝓜 𝓡 1 (X.lives, tt) (#self (args E)) (inst_fn (args E) code.function)
-    (code.unfolded 𝓤 𝓛.H 𝓜 𝓡 wired (X, tt))
-    (takes E (Stands E) (Gives E) 𝓛 𝓣.C 𝓣.Λ (inst_fn (args E) code.function) _ (taken E 𝓛))
-    ((y.0.0, y.0.1, tt, y.0.3, y.0.4), y.1)
+    let E : El = record { row = X; laws = LX } in
+    meets_taking E (Stands E) (Gives E) 𝓛 𝓜 𝓡 (#self (args E)) (inst_fn (args E) code.function) _
+    (code.unfolded 𝓤 𝓛.H 𝓜 𝓡 wired (X, tt)) (taken E 𝓛) ((y.0.0, y.0.1, tt, y.0.3, y.0.4), y.1)
