@@ -4,47 +4,39 @@
 --     opens_cells, closes_cells      the borrow of `self` is opened, and closed on other cells
 use mathlib.Core.Path.{◌≡◌, refl, sym}
 use Prim.Native.Nat.{ℕ, ◌+◌, ◌*◌, ◌<◌, ◌^◌}
-use mathlib.Core.List.{List, [], ◌∷◌, ◌++◌}
+use mathlib.Core.List.{List, [], ◌∷◌}
 use lib.ListN.{length}
 use seplogic.Ra.Ura.{Ura}
 use base.Fraction.{full_share}
 use base.Stored.{Gv}
-use base.Fml.{Lft, Share, ftrue, flft, fobor, fobs, fauth}
-use base.Logic.{fst∗, SProp, ent, emp, never, id⊢, via}
-use mir.Syntax.{Callee, Fn, named, w64}
-use mir.Val.{Val, vint}
+use base.Fml.{flft, fobor, fobs, fauth}
+use base.Logic.{fst∗, emp, never, id⊢}
+use mir.Syntax.{Callee, Fn, named}
+use mir.Val.{Val}
 use prog.Model.{Model}
-use prog.Wp.{Calls, Closed, Loops, WpFn}
+use prog.Wp.{Closed}
 use contract.Lifetimes.{Lfts, Shares, toks}
 use contract.Running.{MachineTables, Running, tables}
-use types.Logic.{Logic, sem}
+use types.Logic.{Logic}
 use types.SemTy.{Body as Borrowed}
-use types.Kit.{⋆, ‵, raw, ◌⊛◌, ◌$◌, ◌∵◌, !, qed, move, keep, drop, split, join, rewrite, fsplit, fsplit3, fjoin, fjoin3}
-use types.Kit.{Goal, Item, Seq, Soaks, Step, step, feq_i, flt_i, flt_l, suffices, use0, use1, done}
-use denote.Builtin.{RefMutOf, RefOf, usize}
-use denote.Exit.{Kept, Last, Seen, see, yes, no}
-use denote.Laws.{Are, Is, Ises, Tells}
+use types.Kit.{‵, raw, ◌$◌, move, drop, join, rewrite, fsplit, fsplit3, fjoin, fjoin3}
+use types.Kit.{Goal, Item, Seq, Soaks, Step, step, feq_i, flt_i, flt_l, use1}
+use denote.Builtin.{RefMutOf}
+use denote.Exit.{Kept, yes, no}
 use denote.Memory.{mem, cell_at}
-use denote.Plain.{uint_Tells}
-use denote.RattleType.{Denots, RattleType, Valss, flat, owns}
 use denote.RawPtr.{block_ptr, Ptr, in_a_block}
-use denote.Ref.{MutBor, MutRef, mut_vals, mut_Tells, shr_vals, shr_Tells}
-use denote.Signature.{Slot, plain, type_at, types_at}
+use denote.Ref.{MutBor, MutRef, mut_vals, mut_Tells}
+use denote.Signature.{Slot, plain}
 use denote.Steps.{closes, nothing, opens}
 use denote.Triple.Carry.{grown}
-use denote.Triple.Clauses.{Clauses, Ended, closing}
-use denote.Triple.End.{Fins, all}
-use denote.Triple.Entry.{on_entry}
+use denote.Triple.Clauses.{closing}
 use denote.Triple.Statement.{Triple}
-use denote.Triple.Walked.{AllGo, Goes, Goes-dropped, Goes-ref, Goes-spent_ref, Stay, Stays, fits_of, has_of}
-use denote.Triple.Walked.{stay_dropped, stay_ref, walk_of}
-use Rattle.std.proofs.RcSteps.{Good, word}
-use Rattle.std.proofs.mem.Param.{El, R, elτ}
-use Rattle.std.proofs.raw_atomic.Walks.{leaves, proved_at}
-use Rattle.ga_boxed.proofs.ClauseFacts.{Every, facts, learns}
+use denote.Triple.Walked.{Goes, Goes-dropped, Goes-ref, Goes-spent_ref, Stay}
+use denote.Triple.Walked.{stay_dropped, stay_ref}
+use Rattle.std.proofs.mem.Param.{El, R}
 use Rattle.ga_boxed.proofs.CallWalk.{Behind, Call, Self, Walk, clauses, ended, meets}
 use Rattle.ga_boxed.proofs.EndLemmas.{Held}
-use Rattle.ga_boxed.proofs.WalkParts.{Bs, Cr, Mark, at_values, base_Tells, base_vals, grows, is_one, sz}
+use Rattle.ga_boxed.proofs.WalkParts.{Bs, Cr, Mark, base_Tells, base_vals, grows, sz}
 use Rattle.ga_boxed.specs.CellsOwn.{cells_own}
 
 module _ (E : El) where

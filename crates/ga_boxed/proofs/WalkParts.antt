@@ -5,13 +5,13 @@ use Prim.Native.Nat.{ℕ, ◌*◌, ◌<◌, ◌^◌}
 use mathlib.Core.List.{List, [], ◌∷◌}
 use seplogic.Ra.Ura.{Ura}
 use mir.Val.{Val, vstruct, vcons, vnil}
-use base.Logic.{ent, sep, emp}
+use base.Logic.{id⊢, ent, sep, emp}
 use prog.Model.{Model}
-use contract.Lifetimes.{Lfts, Shares}
+use contract.Lifetimes.{Lfts, Shares, toks}
 use contract.Monad.{Fun}
 use contract.Running.{Running}
 use types.Logic.{Logic, sem}
-use types.Kit.{Item, Goal, Seq, Step, step, ‵, ◌$◌, ◌∵◌, !, qed, move, fjoin, fpack, feq_i, done, some, ◌⊛◌, use1, pick}
+use types.Kit.{raw, join, Item, Goal, Seq, Step, step, ‵, ◌$◌, ◌∵◌, !, qed, move, fjoin, fpack, feq_i, done, some, ◌⊛◌, use1, pick}
 use types.Kit.{split}
 use denote.RattleType.{RattleType, Valss}
 use denote.RawPtr.{Ptr, RawPtr, ptr_val, rawptr_vals, rawptr_Tells}
@@ -147,6 +147,15 @@ is_one E 𝓛 x vs is = one E vs ((lawful E 𝓛).typed x vs is)
 -- the tokens of the lifetimes of the two type parameters
 abbrev pub others : {M : Type 1} {𝓤 : Ura M} → Lfts 3 → Shares 3 → Item 𝓤
 others κs qs = ‵ (flft κs.1.0 qs.1.0) ⊛ ‵ (flft κs.1.1.0 qs.1.1.0) ⊛ ‵ ftrue
+
+module _ {M : Type 1} {𝓤 : Ura M} {𝓛 : Logic 𝓤} {K : Type 0} {Γ : List (Item 𝓤)} {G : Goal 𝓤 𝓛.H} where
+  pub tokens_out : K → (κs : Lfts 3) (qs : Shares 3)
+      → Step K 𝓛 (‵ (flft κs.0 qs.0) ∷ others κs qs ∷ Γ) G (raw (toks 𝓛 3 κs qs) ∷ Γ) G
+  tokens_out t κs qs = step (λ s. use1 𝓛 (‵ (flft κs.0 qs.0) ⊛ others κs qs) (id⊢ 𝓤 _) $ split t $ s)
+
+  pub tokens_in : K → (κs : Lfts 3) (qs : Shares 3)
+      → Step K 𝓛 (raw (toks 𝓛 3 κs qs) ∷ Γ) G (‵ (flft κs.0 qs.0) ∷ others κs qs ∷ Γ) G
+  tokens_in t κs qs = step (λ s. join t $ use1 𝓛 (raw (toks 𝓛 3 κs qs)) (id⊢ 𝓤 _) $ s)
 
 -- what is met over a function's own lifetimes is met with one more for each type parameter
 module _ {M : Type 1} {𝓤 : Ura M} (𝓛 : Logic 𝓤) (𝓜 : Model 𝓤 𝓛.H) (𝓡 : Running 𝓤 𝓛.H 𝓜) (T : Ended)

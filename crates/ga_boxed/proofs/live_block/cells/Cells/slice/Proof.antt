@@ -8,7 +8,6 @@ use mir.Syntax.{Fn, imm}
 use mir.MapTy.{inst_fn}
 use mir.Val.{Val}
 use base.Logic.{never, id⊢}
-use base.Fml.{flft}
 use prog.Wp.{Calls, Loops}
 use types.Logic.{Logic}
 use contract.Running.{tables}
