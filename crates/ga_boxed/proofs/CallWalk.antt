@@ -4,6 +4,7 @@
 --     Self              the first.        by_ref
 --     Call              such a call: its signature and its clauses
 --     Walk, meets       its walk, which is given what it asks and how it ends, and its contract from that
+--     Linked, linked    what a walk may call
 use mathlib.Core.Path.{◌≡◌, refl}
 use Prim.Native.Nat.{ℕ, suc, ◌<◌, ◌^◌}
 use mathlib.Core.List.{List, [], ◌∷◌, ◌++◌}
@@ -11,10 +12,15 @@ use seplogic.Ra.Ura.{Ura}
 use base.Logic.{SProp, ent, emp, id⊢, via}
 use mir.Syntax.{Callee, Fn, named, w64}
 use mir.Val.{Val, vint}
+use prog.Memory.{Memory}
+use prog.Routine.{Routine}
+use contract.Monad.{Fun}
+use sound.WpLaws.{FmC}
+use denote.Triple.Table.{framed as all_framed}
 use prog.Model.{Model}
 use prog.Wp.{Calls, Closed, Loops, WpFn}
 use contract.Lifetimes.{AllOutlive, Lfts, Outlives, Shares, toks}
-use contract.Running.{MachineTables, Running, tables}
+use contract.Running.{Running, tables}
 use types.Logic.{Logic, sem}
 use types.Kit.{⋆, ‵, raw, Item, ◌$◌, ◌∵◌, !, qed, move, fsplit, fjoin, suffices, use0, done}
 use denote.Builtin.{One, RefOf, usize}
@@ -225,19 +231,28 @@ module _ {n : ℕ} (c : Call n) where
           (none_had κs 𝓛 c.behind a ws (vals_of κs c.behind a w)) $
           move ! (1 ∷ 0 ∷ []) $ fjoin ! $ move ! (1 ∷ []) $ done !
 
-    module _ (𝓜 : Model 𝓤 H) (𝓡 : Running 𝓤 H 𝓜) where
-      abbrev 𝓣 : MachineTables 𝓤 H 𝓜
-      𝓣 = tables 𝓤 H 𝓜 𝓡 𝓡.env
+    -- the call's contract, from its walk
+    pub meets : (𝓜 : Model 𝓤 H) (𝓡 : Running 𝓤 H 𝓜) (k : Callee) (e : Fn) → let 𝓣 = tables 𝓤 H 𝓜 𝓡 𝓡.env in
+        Closed 𝓤 H 𝓣.C 𝓣.Λ k e → Walk 𝓣.C 𝓣.Λ e → Meets 𝓛 ended.signature (𝓣.C k) (closing 𝓛 ended clauses)
+    meets 𝓜 𝓡 k e closed walk =
+        let 𝓣 = tables 𝓤 H 𝓜 𝓡 𝓡.env in
+        proved_at 𝓛 ended hs clauses 𝓜 𝓡 (c.me.ends 𝓛, all_end c.behind 𝓛) k e closed
+        (λ y are. let κs = y.0.0 in let qs = y.0.1 in let bounds = y.0.2 in let x = y.0.3.0 in let a = y.0.3.1 in
+        let vss = y.0.4 in
+        let told = all_told κs 𝓛 c.behind a vss.1 are.1 in
+        at_values 𝓛 ended hs clauses (WpFn 𝓤 H 𝓣.C 𝓣.Λ e) y (c.me.vals κs x, vals_of κs c.behind a told.0)
+        (λ i. (c.me.tells κs x vss.0 are.0 i, told.1 i))
+        (learns 𝓤 (c.asks κs x a) _ (λ asked. via 𝓤 _ (entry κs qs bounds x a told.0)
+        (walk κs qs bounds x a told.0 _ asked told.2 (exits κs qs bounds x a told.0)))))
 
-      -- the call's contract, from its walk
-      pub meets : (k : Callee) (e : Fn) → Closed 𝓤 H 𝓣.C 𝓣.Λ k e → Walk 𝓣.C 𝓣.Λ e
-          → Meets 𝓛 ended.signature (𝓣.C k) (closing 𝓛 ended clauses)
-      meets k e closed walk =
-          proved_at 𝓛 ended hs clauses 𝓜 𝓡 (c.me.ends 𝓛, all_end c.behind 𝓛) k e closed
-          (λ y are. let κs = y.0.0 in let qs = y.0.1 in let bounds = y.0.2 in let x = y.0.3.0 in let a = y.0.3.1 in
-          let vss = y.0.4 in
-          let told = all_told κs 𝓛 c.behind a vss.1 are.1 in
-          at_values 𝓛 ended hs clauses (WpFn 𝓤 H 𝓣.C 𝓣.Λ e) y (c.me.vals κs x, vals_of κs c.behind a told.0)
-          (λ i. (c.me.tells κs x vss.0 are.0 i, told.1 i))
-          (learns 𝓤 (c.asks κs x a) _ (λ asked. via 𝓤 _ (entry κs qs bounds x a told.0)
-          (walk κs qs bounds x a told.0 _ asked told.2 (exits κs qs bounds x a told.0)))))
+-- what a walk may call, and where that is
+pub record Linked {M : Type 1} {𝓤 : Ura M} (𝓛 : Logic 𝓤) : Type 2 where
+  pub at_mem : Memory → SProp 𝓤
+  pub run : Routine → Fun 𝓤
+  pub C : Calls 𝓤 𝓛.H
+  pub Λ : Loops 𝓤 𝓛.H
+  pub framed : FmC 𝓤 𝓛.H 𝓛.laws C
+
+abbrev pub linked : {M : Type 1} {𝓤 : Ura M} (𝓛 : Logic 𝓤) (𝓜 : Model 𝓤 𝓛.H) → Running 𝓤 𝓛.H 𝓜 → Linked 𝓛
+linked {𝓤 = 𝓤} 𝓛 𝓜 𝓡 = let 𝓣 = tables 𝓤 𝓛.H 𝓜 𝓡 𝓡.env in
+    record { at_mem = 𝓜.mem; run = 𝓡.returns; C = 𝓣.C; Λ = 𝓣.Λ; framed = all_framed 𝓤 𝓛.H 𝓜 𝓣 }

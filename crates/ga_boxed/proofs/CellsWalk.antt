@@ -74,14 +74,12 @@ module _ (E : El) where
   abbrev pub spent : Self 1
   spent = by_mut_as no (stay_dropped self no) (λ M 𝓤 𝓛. Goes-spent_ref 𝓛 1 (0 ∷ []) tt (plain (λ _. Cr E)))
 
-module _ (c : Call 1) {M : Type 1} {𝓤 : Ura M} (𝓛 : Logic 𝓤) (𝓜 : Model 𝓤 𝓛.H) (𝓡 : Running 𝓤 𝓛.H 𝓜) where
-  abbrev 𝓣 : MachineTables 𝓤 𝓛.H 𝓜
-  𝓣 = tables 𝓤 𝓛.H 𝓜 𝓡 𝓡.env
-
-  pub meets_grown : (m : ℕ) (ℓs : Lfts m) (k : Callee) (e : Fn) → Closed 𝓤 𝓛.H 𝓣.C 𝓣.Λ k e → Walk c 𝓛 𝓣.C 𝓣.Λ e
-      → Triple 𝓤 (𝓡.run (𝓡.env k)) (grown 𝓛 (ended c).signature m ℓs (closing 𝓛 (ended c) (clauses c 𝓛)))
-  meets_grown m ℓs k e closed walk =
-      grows 𝓛 𝓜 𝓡 (ended c) (clauses c 𝓛) m ℓs k (meets c 𝓛 𝓜 𝓡 k e closed walk)
+pub meets_grown : (c : Call 1) {M : Type 1} {𝓤 : Ura M} (𝓛 : Logic 𝓤) (𝓜 : Model 𝓤 𝓛.H) (𝓡 : Running 𝓤 𝓛.H 𝓜)
+    (m : ℕ) (ℓs : Lfts m) (k : Callee) (e : Fn) → let 𝓣 = tables 𝓤 𝓛.H 𝓜 𝓡 𝓡.env in
+    Closed 𝓤 𝓛.H 𝓣.C 𝓣.Λ k e → Walk c 𝓛 𝓣.C 𝓣.Λ e
+    → Triple 𝓤 (𝓡.run (𝓡.env k)) (grown 𝓛 (ended c).signature m ℓs (closing 𝓛 (ended c) (clauses c 𝓛)))
+meets_grown c 𝓛 𝓜 𝓡 m ℓs k e closed walk =
+    grows 𝓛 𝓜 𝓡 (ended c) (clauses c 𝓛) m ℓs k (meets c 𝓛 𝓜 𝓡 k e closed walk)
 
 module _ {M : Type 1} {𝓤 : Ura M} {𝓛 : Logic 𝓤} {K : Type 0} {Γ : List (Item 𝓤)} {G : Goal 𝓤 𝓛.H} where
   -- the token of the one lifetime

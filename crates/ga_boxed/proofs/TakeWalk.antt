@@ -118,16 +118,12 @@ module _ (E : El) where
       has_every ! (gives d item c.new) c.given $ move ! (1 ∷ 2 ∷ 3 ∷ 0 ∷ []) $ by ! (exits v item c.new (tt, (tt, tt)) tt))))
 
   -- the contract of such a call, from how the item is cut
-  module _ (stands : Placing) (gives : Giving) {M : Type 1} {𝓤 : Ura M} (𝓛 : Logic 𝓤) (𝓜 : Model 𝓤 𝓛.H)
-      (𝓡 : Running 𝓤 𝓛.H 𝓜) where
-    abbrev 𝓣 : MachineTables 𝓤 𝓛.H 𝓜
-    𝓣 = tables 𝓤 𝓛.H 𝓜 𝓡 𝓡.env
-
-    abbrev c : Call 1
-    c = taking stands gives
-
-    pub meets_taking : (k : Callee) (e : Fn) (τ : Ty) → Closed 𝓤 𝓛.H 𝓣.C 𝓣.Λ k (reading e τ)
-        → ((d : (Cr E).Denot) (index : ℕ) → stands d index → d.items ≢ [] → Taken 𝓛 gives d index)
-        → Triple 𝓤 (𝓡.run (𝓡.env k)) (grown 𝓛 (ended c).signature 1 (E.row.lives, tt) (closing 𝓛 (ended c) (clauses c 𝓛)))
-    meets_taking k e τ closed cut =
-        meets_grown c 𝓛 𝓜 𝓡 1 (E.row.lives, tt) k (reading e τ) closed (takes stands gives 𝓛 𝓣.C 𝓣.Λ e τ cut)
+  pub meets_taking : (stands : Placing) (gives : Giving) {M : Type 1} {𝓤 : Ura M} (𝓛 : Logic 𝓤) (𝓜 : Model 𝓤 𝓛.H)
+      (𝓡 : Running 𝓤 𝓛.H 𝓜) (k : Callee) (e : Fn) (τ : Ty) → let 𝓣 = tables 𝓤 𝓛.H 𝓜 𝓡 𝓡.env in
+      let c = taking stands gives in Closed 𝓤 𝓛.H 𝓣.C 𝓣.Λ k (reading e τ)
+      → ((d : (Cr E).Denot) (index : ℕ) → stands d index → d.items ≢ [] → Taken 𝓛 gives d index)
+      → Triple 𝓤 (𝓡.run (𝓡.env k)) (grown 𝓛 (ended c).signature 1 (E.row.lives, tt) (closing 𝓛 (ended c) (clauses c 𝓛)))
+  meets_taking stands gives {𝓤 = 𝓤} 𝓛 𝓜 𝓡 k e τ closed cut =
+      let 𝓣 = tables 𝓤 𝓛.H 𝓜 𝓡 𝓡.env in
+      meets_grown (taking stands gives) 𝓛 𝓜 𝓡 1 (E.row.lives, tt) k (reading e τ) closed
+      (takes stands gives 𝓛 𝓣.C 𝓣.Λ e τ cut)

@@ -13,6 +13,7 @@ use contract.Running.{Running}
 use types.Logic.{Logic, sem}
 use types.Kit.{raw, join, Item, Goal, Seq, Step, step, ‵, ◌$◌, ◌∵◌, !, qed, move, fjoin, fpack, feq_i, done, some, ◌⊛◌, use1, pick}
 use types.Kit.{split}
+use denote.Param.Laws.{Laws}
 use denote.RattleType.{RattleType, Valss}
 use denote.RawPtr.{Ptr, RawPtr, ptr_val, rawptr_vals, rawptr_Tells}
 use denote.Shadow.{makes_shadow}
@@ -35,7 +36,8 @@ use Rattle.ga_boxed.specs.contracts.live_block.cells.Cells as C-type
 use Rattle.ga_boxed.specs.contracts.live_block.cells.Base as B-type
 use Rattle.ga_boxed.specs.contracts.live_block.cells.Deed as D-type
 use base.Fraction.{full_share}
-use mir.Syntax.{Callee, Ty, Args, a_type, ty_array, dcons, dnil}
+use Rattle.std.specs.declared.alloc.Allocator.{Ghosts}
+use mir.Syntax.{Dict, Callee, Ty, Args, a_type, ty_array, dcons, dnil}
 use base.Fml.{fat, flft, ftrue}
 use denote.Laws.{Is, Tells, shows}
 use denote.Param.{param, bounded}
@@ -57,6 +59,9 @@ module _ (E : El) where
 
   pub block_align : (n : ℕ) → capped (align (block_ty n)) ≡ capped (align (elτ E))
   block_align n = ap capped (align-raw (ty_array (elτ E) n))
+
+abbrev pub al_of : (W : RattleType) → Laws W → Ghosts W.Denot → Dict → Dict → Al
+al_of W LW g d drops = record { row = W; laws = LW; g = g; d = d; drops = drops }
 
 -- the type arguments of a function over an item and an allocator, and the second of them
 module _ (E : El) (Z : Al) where

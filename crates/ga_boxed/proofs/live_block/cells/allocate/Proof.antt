@@ -56,10 +56,10 @@ use Rattle.std.proofs.VecSteps.Shapes.{after, arm_body, head}
 use Rattle.ga_boxed.specs.CellsOwn.{cells_own, deed_owns}
 use Rattle.ga_boxed.specs.contracts.live_block.cells.allocate as F
 use Rattle.ga_boxed.specs.contracts.live_block.cells.allocate.Key.{name as #self}
-use Rattle.ga_boxed.proofs.CallWalk.{Call, Had, Walk, by_ref, meets, number}
+use Rattle.ga_boxed.proofs.CallWalk.{Call, Had, Walk, by_ref, meets, number, Linked, linked}
 use Rattle.ga_boxed.proofs.ClauseFacts.{Every, facts, has_every}
 use Rattle.ga_boxed.proofs.BlockRoom.{all_empty, none_empty}
-use Rattle.ga_boxed.proofs.WalkParts.{Bs, Cr, Dd, Mark, others, mark, mark_made, sz, tokens_in, tokens_out, three_of, three_val, word_made}
+use Rattle.ga_boxed.proofs.WalkParts.{Bs, Cr, Dd, Mark, others, al_of, mark, mark_made, sz, tokens_in, tokens_out, three_of, three_val, word_made}
 use Rattle.ga_boxed.proofs.live_block.cells.allocate.Statement as stated
 use Rattle.ga_boxed.proofs.live_block.cells.allocate.Code as code
 
@@ -122,38 +122,35 @@ module _ (E : El) (Z : Al) (a : Z.row.Denot) (b o : ℕ) where
       (three_of 𝓛 (Bs E) (Cr E) (Dd E Z) (parts n).0 (parts n).1 (parts n).2 (word p) mark mark) $
       by ! (ok_of 𝓛 (Three E Z) AE.the_row (parts n) made)
 
-module _ (E : El) (Z : Al) {M : Type 1} {𝓤 : Ura M} (𝓛 : Logic 𝓤) (at_mem : Memory → SProp 𝓤) (run : Routine → Fun 𝓤)
-    (C : Calls 𝓤 𝓛.H) (Λ : Loops 𝓤 𝓛.H) (fm : FmC 𝓤 𝓛.H 𝓛.laws C)
-    (callee : Triple 𝓤 (C (takes_key Z)) (Takes Z 𝓛 at_mem run)) where
-  open 𝓛 use {H}
+module _ (E : El) (Z : Al) {M : Type 1} {𝓤 : Ura M} (𝓛 : Logic 𝓤) (link : Linked 𝓛)
+    (callee : Triple 𝓤 (link.C (takes_key Z)) (Takes Z 𝓛 link.at_mem link.run)) where
+  open link use {at_mem, run, C, Λ}
 
   walk : Walk (call E Z) 𝓛 C Λ (function E Z)
-  walk κs qs bounds x args w Post asked fine ends =
+  walk κs qs bounds x ns w Post asked fine ends =
       let short = bounds.0 in let within = asked.1.0 in let small = asked.1.1 in let fits = fine.0 in
-      let rb = x.ref_ptr.0 in let ro = x.ref_ptr.1 in let a = x.now in let len = args.0 in
+      let rb = x.ref_ptr.0 in let ro = x.ref_ptr.1 in let a = x.now in let len = ns.0 in
       let κ = κs.0 in let q = qs.0 in let s = sz E in let bytes : len * s < 2 ^ 64 = omega (arith, small) in
       let exits : (r : (Out E Z).Denot) (v : Val) → Every (Gives E Z a len r)
       → ent 𝓤 (⋆ 𝓛 (‵ ((Out E Z).own_val r (v ∷ [])) ∷ ‵ (flft κ q) ∷ others κs qs ∷ [])) (Post v) = λ r v g.
       qed 𝓛 (‵ ((Out E Z).own_val r (v ∷ [])) ∷ ‵ (flft κ q) ∷ others κs qs ∷ []) ∵
       has_every ! (Gives E Z a len r) g $ move ! (2 ∷ 3 ∷ []) $ tokens_in ! κs qs $ nothing ! $
       move ! (0 ∷ 1 ∷ 3 ∷ 2 ∷ []) $ by ! (ends v r tt (tt, tt) tt) in
-      let all = λ (b o : ℕ). exits (Ok (parts E Z a b o len)) (answer E Z a b o)
+      let bare : Unit {0} × (Unit {0} × Unit {0}) = (tt, (tt, tt)) in let all = λ (b o : ℕ). exits (Ok (parts E Z a b o len)) (answer E Z a b o)
               (refl, (refl, (refl, (refl, (refl, (refl, (refl, λ _. refl))))))) in
-      qed 𝓛 (Had (call E Z) 𝓛 κs qs x args w) ∵ keep ! (0 ∷ 1 ∷ []) $ fsplit ! $ move ! (2 ∷ []) $
+      qed 𝓛 (Had (call E Z) 𝓛 κs qs x ns w) ∵ keep ! (0 ∷ 1 ∷ []) $ fsplit ! $ move ! (2 ∷ []) $
       tokens_out ! κs qs $ keep ! (3 ∷ 0 ∷ 1 ∷ []) $
       enter ! C Λ (function E Z) (vptr rb ro ∷ vint w64 len ∷ []) _ $ alloc_all !
       (λ l. pass_all ! refl ((tt, tt), ((tt, record { fits = fits }), tt)) $
-      let En : Env 𝓤 H = env (function E Z).locals l in
+      let En : Env 𝓤 𝓛.H = env (function E Z).locals l in
       sets ! (bin ! (get ! refl) (lit ! tt) tt) refl (tt, tt) $ first ! $ branches ! (get ! refl)
       (λ t.
       let zero : len ≡ 0 = eqb→eq len 0 t in
       let at : Ptr = block_ptr (l 3) 0 in let ok = first_Good (layout (Three E Z)) (made E Z a (l 3) 0) (typed E Z a (l 3) 0) in
       sets ! (agg ! (no_more !)) refl (tt, tt) $ sets ! (addr ! (from ! (stop !))) refl (tt, tt) $
       sets ! (agg ! (and_then ! (get ! refl) (no_more !))) refl (word-Good [] at) $
-      sets ! (agg ! (no_more !)) refl (tt, tt) $ sets ! (agg ! (and_then ! (get ! refl) (no_more !))) refl
-      (tt, (tt, tt)) $
-      sets ! (agg ! (no_more !)) refl (tt, tt) $ sets ! (agg ! (and_then ! (get ! refl) (no_more !))) refl
-      (tt, (tt, tt)) $
+      sets ! (agg ! (no_more !)) refl (tt, tt) $ sets ! (agg ! (and_then ! (get ! refl) (no_more !))) refl bare $
+      sets ! (agg ! (no_more !)) refl (tt, tt) $ sets ! (agg ! (and_then ! (get ! refl) (no_more !))) refl bare $
       sets ! (agg ! (and_then ! (get ! refl) (and_then ! (get ! refl) (and_then ! (get ! refl) (no_more !))))) refl
       (typed E Z a (l 3) 0) $ sets ! (agg ! (and_then ! (lit ! tt) (and_then ! (get ! refl) (no_more !)))) refl ok $
       use0 𝓛 (‵ (cells_own (R E) at 0 [] 0)) (none_empty E 𝓛 (l 3) 0) $ nothing ! $
@@ -162,9 +159,9 @@ module _ (E : El) (Z : Al) {M : Type 1} {𝓤 : Ura M} (𝓛 : Logic 𝓤) (at_m
       returns_within ! Post refl (look_at ! 0 refl) $ free_all ! refl $ keep ! (0 ∷ 2 ∷ 3 ∷ []) $ by ! (all (l 3) 0))
       (λ t. skips ! $ exec ! C Λ En (after 2 (function E Z).body) (at_ret En Post) $
       let both : Body = head (after 4 (function E Z).body) in
-      let Then : After 𝓤 H =
-      any_q (after_seq 𝓤 H (Wp 𝓤 H C Λ En (after 5 (function E Z).body) (at_return 𝓤 H En Post))
-      (at_return 𝓤 H En Post)) in
+      let Then : After 𝓤 𝓛.H =
+      any_q (after_seq 𝓤 𝓛.H (Wp 𝓤 𝓛.H C Λ En (after 5 (function E Z).body) (at_return 𝓤 𝓛.H En Post))
+      (at_return 𝓤 𝓛.H En Post)) in
       let al : ℕ = capped (align (elτ E)) in
       let y : (Takes Z 𝓛 at_mem run).Ghost = at_takes Z 𝓛 at_mem run κ q (rb, ro) a (len * s) al (block_ty E len) in
       sets ! (is ! (bin ! (get ! refl) (size_word !) (record { fits = uncapped_fits len s bytes }))
@@ -172,7 +169,7 @@ module _ (E : El) (Z : Al) {M : Type 1} {𝓤 : Ura M} (𝓛 : Logic 𝓤) (at_m
       use2 𝓛 (raw ((Takes Z 𝓛 at_mem run).pre y)) (Takes-goes Z 𝓛 at_mem run κ q (rb, ro) a (Incl-trans short within)
       (len * s) al (block_ty E len) (block_size E len bytes) (block_align E len) bytes (capped_fits (align (elτ E))))
       $
-      calls_at ! fm (Takes Z 𝓛 at_mem run) callee y
+      calls_at ! link.framed (Takes Z 𝓛 at_mem run) callee y
       (and_then ! (get ! refl) (and_then ! (get ! refl) (and_then ! (align_word !) (no_more !)))) (λ v.
       use1 𝓛 (later (raw (Answered Z 𝓛 at_mem run a (block_ty E len) v) ⊛ ‵ (flft κ q)))
       (Takes-gives Z 𝓛 at_mem run κ q (rb, ro) a (len * s) al (block_ty E len) v) $ await ! tt $ split ! $
@@ -184,10 +181,8 @@ module _ (E : El) (Z : Al) {M : Type 1} {𝓤 : Ura M} (𝓛 : Logic 𝓤) (at_m
       sets ! (of_opd ! (get_in ! (vrt ! refl (fld ! refl (stop !))) (in_variant ! 0 0 refl refl (whole !)))) refl
       (tt, tt) $ sets ! (of_opd ! (get ! refl)) refl (tt, tt) $
       sets ! (agg ! (and_then ! (get ! refl) (no_more !))) refl (word-Good [] at) $
-      sets ! (agg ! (no_more !)) refl (tt, tt) $ sets ! (agg ! (and_then ! (get ! refl) (no_more !))) refl
-      (tt, (tt, tt)) $
-      sets ! (agg ! (no_more !)) refl (tt, tt) $ sets ! (agg ! (and_then ! (get ! refl) (no_more !))) refl
-      (tt, (tt, tt)) $
+      sets ! (agg ! (no_more !)) refl (tt, tt) $ sets ! (agg ! (and_then ! (get ! refl) (no_more !))) refl bare $
+      sets ! (agg ! (no_more !)) refl (tt, tt) $ sets ! (agg ! (and_then ! (get ! refl) (no_more !))) refl bare $
       sets ! (agg ! (and_then ! (get ! refl) (and_then ! (get ! refl) (and_then ! (get ! refl) (no_more !))))) refl
       (typed E Z a b o) $ sets_last ! (agg ! (and_then ! (lit ! tt) (and_then ! (get ! refl) (no_more !)))) refl ok $
       exec ! C Λ En (after 5 (function E Z).body) (at_ret En Post) $ sets ! (of_opd ! (get ! refl)) refl ok $
@@ -216,7 +211,6 @@ module _ (E : El) (Z : Al) {M : Type 1} {𝓤 : Ura M} (𝓛 : Logic 𝓤) (at_m
 
 pub allocate_spec : {M : Type 1} → stated.statement M
 allocate_spec 𝓤 𝓛 𝓜 𝓡 wired X W LX LW g d dd met md =
-    let E : El = record { row = X; laws = LX } in let Z : Al =
-    record { row = W; laws = LW; g = g; d = d; drops = dd } in let 𝓣 = tables 𝓤 𝓛.H 𝓜 𝓡 𝓡.env in
+    let E : El = record { row = X; laws = LX } in let Z = al_of W LW g d dd in
     meets (call E Z) 𝓛 𝓜 𝓡 (#self (args E Z)) (function E Z) (code.unfolded 𝓤 𝓛.H 𝓜 𝓡 wired (X, (W, tt)) d dd)
-    (walk E Z 𝓛 𝓜.mem 𝓡.returns 𝓣.C 𝓣.Λ (framed 𝓤 𝓛.H 𝓜 𝓣) (met.allocate dd))
+    (walk E Z 𝓛 (linked 𝓛 𝓜 𝓡) (met.allocate dd))

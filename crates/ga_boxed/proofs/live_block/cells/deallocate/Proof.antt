@@ -49,10 +49,10 @@ use Rattle.std.proofs.VecSteps.Shapes.{after}
 use Rattle.ga_boxed.specs.CellsOwn.{cells_own, deed_owns}
 use Rattle.ga_boxed.specs.contracts.live_block.cells.deallocate as F
 use Rattle.ga_boxed.specs.contracts.live_block.cells.deallocate.Key.{name as #self}
-use Rattle.ga_boxed.proofs.CallWalk.{Behind, Call, Had, Walk, by_ref, meets, number}
+use Rattle.ga_boxed.proofs.CallWalk.{Behind, Call, Had, Walk, by_ref, meets, number, Linked, linked}
 use Rattle.ga_boxed.proofs.CellsWalk.{the_base}
 use Rattle.ga_boxed.proofs.BlockRoom.{to_block}
-use Rattle.ga_boxed.proofs.WalkParts.{Bs, Cr, Dd, mark, mark_Tells, others, sz, tokens_in, tokens_out}
+use Rattle.ga_boxed.proofs.WalkParts.{Bs, Cr, Dd, mark, mark_Tells, others, al_of, sz, tokens_in, tokens_out}
 use Rattle.ga_boxed.proofs.live_block.cells.deallocate.Statement as stated
 use Rattle.ga_boxed.proofs.live_block.cells.deallocate.Code as code
 
@@ -93,23 +93,22 @@ module _ (E : El) (Z : Al) where
     gives = λ M 𝓤 𝓛 κs x a r w. emp 𝓤;
   }
 
-module _ (E : El) (Z : Al) {M : Type 1} {𝓤 : Ura M} (𝓛 : Logic 𝓤) (at_mem : Memory → SProp 𝓤) (run : Routine → Fun 𝓤)
-    (C : Calls 𝓤 𝓛.H) (Λ : Loops 𝓤 𝓛.H) (fm : FmC 𝓤 𝓛.H 𝓛.laws C)
-    (callee : Triple 𝓤 (C (gives_key Z)) (Gives Z 𝓛 at_mem run)) where
-  open 𝓛 use {H}
+module _ (E : El) (Z : Al) {M : Type 1} {𝓤 : Ura M} (𝓛 : Logic 𝓤) (link : Linked 𝓛)
+    (callee : Triple 𝓤 (link.C (gives_key Z)) (Gives Z 𝓛 link.at_mem link.run)) where
+  open link use {at_mem, run, C, Λ}
 
   walk : Walk (call E Z) 𝓛 C Λ (function E Z)
-  walk κs qs bounds x args w Post asked fine ends =
+  walk κs qs bounds x ns w Post asked fine ends =
       let within = asked.1.0 in let said = asked.1.1 in
       let base_is = said.0 in let items_is = said.1.0 in let room_is = said.1.1.0 in let deed_at = said.1.1.1.0 in
       let deed_len = said.1.1.1.1.0 in let deed_alloc = said.1.1.1.1.1 in
-      let rb = x.ref_ptr.0 in let ro = x.ref_ptr.1 in let a = x.now in let base = args.0 in let len = args.1.0 in
-      let cells = args.1.1.0 in let deed = args.1.1.1.0 in let fits = fine.1.0 in let κ = κs.0 in let q = qs.0 in
+      let rb = x.ref_ptr.0 in let ro = x.ref_ptr.1 in let a = x.now in let base = ns.0 in let len = ns.1.0 in
+      let cells = ns.1.1.0 in let deed = ns.1.1.1.0 in let fits = fine.1.0 in let κ = κs.0 in let q = qs.0 in
       let exits : ent 𝓤 (⋆ 𝓛 (‵ (flft κ q) ∷ others κs qs ∷ [])) (Post vunit) =
       qed 𝓛 (‵ (flft κ q) ∷ others κs qs ∷ []) ∵ tokens_in ! κs qs $ nothing ! $ feq_i ! (List Val) (vunit ∷ [])
       (vunit ∷ []) refl $ nothing ! $ move ! (2 ∷ 3 ∷ 1 ∷ 0 ∷ []) $
       by ! (ends vunit tt tt (tt, (tt, (tt, (tt, tt)))) tt) in
-      qed 𝓛 (Had (call E Z) 𝓛 κs qs x args w) ∵ fsplit ! $ move ! (2 ∷ []) $ tokens_out ! κs qs $ move !
+      qed 𝓛 (Had (call E Z) 𝓛 κs qs x ns w) ∵ fsplit ! $ move ! (2 ∷ []) $ tokens_out ! κs qs $ move !
       (4 ∷ []) $ fsplit3 ! $ move ! (2 ∷ []) $ fsplit ! $ fsplit ! $ move ! (2 ∷ []) $ fsplit ! $ fsplit ! $ keep !
       (4 ∷ 1 ∷ 10 ∷ 7 ∷ 8 ∷ []) $
       enter ! C Λ (function E Z) (vptr rb ro ∷ word base.ptr ∷ vint w64 len ∷ mark ∷ mark ∷ []) _ $
@@ -117,7 +116,7 @@ module _ (E : El) (Z : Al) {M : Type 1} {𝓤 : Ura M} (𝓛 : Logic 𝓤) (at_m
         (tt, tt),
         (word-Good [] base.ptr, ((tt, record { fits = fits }), ((tt, (tt, tt)), ((tt, (tt, tt)), tt)))),
       ) $
-      let En : Env 𝓤 H = env (function E Z).locals l in
+      let En : Env 𝓤 𝓛.H = env (function E Z).locals l in
       let s = sz E in let al : ℕ = capped (align (elτ E)) in
       sets ! (bin ! (get ! refl) (lit ! tt) tt) refl (tt, tt) $ first ! $ branches ! (get ! refl)
       (λ t.
@@ -138,7 +137,7 @@ module _ (E : El) (Z : Al) {M : Type 1} {𝓤 : Ura M} (𝓛 : Logic 𝓤) (at_m
       group ! 4 $ use1 𝓛 (raw ((Gives Z 𝓛 at_mem run).pre y))
       (Gives-goes Z 𝓛 at_mem run κ q (rb, ro) a (Incl-trans bounds.0 within) b o (len * s) al (block_ty E len)
       (block_size E len bytes) (block_align E len) bytes (capped_fits (align (elτ E)))) $
-      calls_at_last ! fm (Gives Z 𝓛 at_mem run) callee y
+      calls_at_last ! link.framed (Gives Z 𝓛 at_mem run) callee y
       (and_then ! (get ! refl) (and_then ! (get ! refl)
       (and_then ! (get ! refl) (and_then ! (align_word !) (no_more !))))) (λ v.
       use1 𝓛 (later (given (v ≡ vunit) (‵ (flft κ q))))
@@ -154,7 +153,6 @@ module _ (E : El) (Z : Al) {M : Type 1} {𝓤 : Ura M} (𝓛 : Logic 𝓤) (at_m
 
 pub deallocate_spec : {M : Type 1} → stated.statement M
 deallocate_spec 𝓤 𝓛 𝓜 𝓡 wired X W LX LW g d dd met md =
-    let E : El = record { row = X; laws = LX } in let Z : Al =
-    record { row = W; laws = LW; g = g; d = d; drops = dd } in let 𝓣 = tables 𝓤 𝓛.H 𝓜 𝓡 𝓡.env in
+    let E : El = record { row = X; laws = LX } in let Z = al_of W LW g d dd in
     meets (call E Z) 𝓛 𝓜 𝓡 (#self (args E Z)) (function E Z) (code.unfolded 𝓤 𝓛.H 𝓜 𝓡 wired (X, (W, tt)) d dd)
-    (walk E Z 𝓛 𝓜.mem 𝓡.returns 𝓣.C 𝓣.Λ (framed 𝓤 𝓛.H 𝓜 𝓣) (met.deallocate dd))
+    (walk E Z 𝓛 (linked 𝓛 𝓜 𝓡) (met.deallocate dd))
