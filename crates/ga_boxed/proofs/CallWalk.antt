@@ -155,7 +155,7 @@ module _ {n : ℕ} where
         qed 𝓛 [] ∵ use0 𝓛 (‵ (has_of κs (slots ps) (kepts ps) (dropped ps) a.1 ws.1 vss.1))
         (none_had 𝓛 ps a.1 ws.1 vss.1) $ nothing ! $ fjoin ! $ done !
 
--- what is asked of the parameters, and what is promised of them, of the result and of the first as it is seen at the end
+-- what is asked of the parameters, and what is promised of them, of the result and of the first as it is seen at last
 pub record Call (n : ℕ) : Type 3 where
   pub outlives : List (Outlives n)
   pub me : Self n
@@ -210,8 +210,8 @@ module _ {n : ℕ} (c : Call n) where
 
     abbrev pub Walk : Calls 𝓤 H → Loops 𝓤 H → Fn → Type 2
     Walk C Λ e = (κs : Lfts n) (qs : Shares n) → AllOutlive n c.outlives κs → (x : (c.me.slot.row κs).Denot)
-        (a : Args κs c.behind) (w : Words c.behind) (Post : Val → SProp 𝓤) → Every (c.asks κs x a) → Fines κs c.behind a w
-        → Ends κs qs x a Post → ent 𝓤 (⋆ 𝓛 (Had κs qs x a w))
+        (a : Args κs c.behind) (w : Words c.behind) (Post : Val → SProp 𝓤) → Every (c.asks κs x a)
+        → Fines κs c.behind a w → Ends κs qs x a Post → ent 𝓤 (⋆ 𝓛 (Had κs qs x a w))
         (WpFn 𝓤 H C Λ e (c.me.vals κs x ++ flat (rows κs c.behind) (vals_of κs c.behind a w)) Post)
 
     module _ (κs : Lfts n) (qs : Shares n) (bounds : AllOutlive n c.outlives κs) (x : (c.me.slot.row κs).Denot)

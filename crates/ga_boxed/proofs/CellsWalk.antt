@@ -16,7 +16,7 @@ use mir.Val.{Val}
 use prog.Model.{Model}
 use prog.Wp.{Closed}
 use contract.Lifetimes.{Lfts, Shares, toks}
-use contract.Running.{MachineTables, Running, tables}
+use contract.Running.{Running, tables}
 use types.Logic.{Logic}
 use types.SemTy.{Body as Borrowed}
 use types.Kit.{‵, raw, ◌$◌, move, drop, join, rewrite, fsplit, fsplit3, fjoin, fjoin3}
@@ -97,8 +97,8 @@ module _ {M : Type 1} {𝓤 : Ura M} {𝓛 : Logic 𝓤} {K : Type 0} {Γ : List
   opens_cells t z E κs qs x k =
       let d = x.now in
       move t (1 ∷ []) $ use1 𝓛 (‵ (flft κs.0 qs.0)) (fst∗ 𝓤 (𝓛.A.lft κs.0 qs.0) (emp 𝓤)) $ move t
-      (1 ∷ []) $ fsplit3 t $ drop t $ opens t z (Cr E) {h = d} x.ref_ptr.0 x.ref_ptr.1 (λ vs. move t (1 ∷ []) $ fsplit t $ move t
-      (1 ∷ []) $
+      (1 ∷ []) $ fsplit3 t $ drop t $ opens t z (Cr E) {h = d} x.ref_ptr.0 x.ref_ptr.1 (λ vs.
+      move t (1 ∷ []) $ fsplit t $ move t (1 ∷ []) $
       in_a_block t d.at (λ p. cells_own (R E) p d.passed d.items d.room) (id⊢ 𝓤 (never 𝓤))
       (λ b o e. fsplit t $ flt_l t (λ small. k vs b o e small)))
 

@@ -14,7 +14,7 @@ use mir.Syntax.{Callee, Fn, Ty, assign, block, copy, deref, field, local, mul, n
 use mir.Syntax.{rv_opd, seq, size_of, ty_int, ty_ptr, ty_ref, unsigned, value_local, w64, mut}
 use mir.Val.{vint}
 use prog.Model.{Model}
-use contract.Running.{MachineTables, Running, tables}
+use contract.Running.{Running, tables}
 use denote.Triple.Carry.{grown}
 use denote.Triple.Clauses.{closing}
 use denote.Triple.Statement.{Triple}
@@ -115,7 +115,8 @@ module _ (E : El) where
       (0 ∷ 2 ∷ 3 ∷ 4 ∷ 5 ∷ 6 ∷ 1 ∷ []) $
       closes_cells ! tt E κs qs x c.new vs b o (c.at ∙ at) (subst (λ k. k * s < 2 ^ 63) c.all small) $
       returns ! (look_at ! 0 refl) $ free_all ! refl $ keep ! (0 ∷ 1 ∷ 2 ∷ []) $
-      has_every ! (gives d item c.new) c.given $ move ! (1 ∷ 2 ∷ 3 ∷ 0 ∷ []) $ by ! (exits v item c.new (tt, (tt, tt)) tt))))
+      has_every ! (gives d item c.new) c.given $ move ! (1 ∷ 2 ∷ 3 ∷ 0 ∷ []) $ by !
+      (exits v item c.new (tt, (tt, tt)) tt))))
 
   -- the contract of such a call, from how the item is cut
   pub meets_taking : (stands : Placing) (gives : Giving) {M : Type 1} {𝓤 : Ura M} (𝓛 : Logic 𝓤) (𝓜 : Model 𝓤 𝓛.H)

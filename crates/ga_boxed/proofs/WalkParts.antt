@@ -11,8 +11,8 @@ use contract.Lifetimes.{Lfts, Shares, toks}
 use contract.Monad.{Fun}
 use contract.Running.{Running}
 use types.Logic.{Logic, sem}
-use types.Kit.{raw, join, Item, Goal, Seq, Step, step, ‵, ◌$◌, ◌∵◌, !, qed, move, fjoin, fpack, feq_i, done, some, ◌⊛◌, use1, pick}
-use types.Kit.{split}
+use types.Kit.{raw, join, Item, Goal, Seq, Step, step, ‵, ◌$◌, ◌∵◌, !, qed, move, fjoin, fpack, feq_i, done, some}
+use types.Kit.{◌⊛◌, use1, pick, split}
 use denote.Param.Laws.{Laws}
 use denote.RattleType.{RattleType, Valss}
 use denote.RawPtr.{Ptr, RawPtr, ptr_val, rawptr_vals, rawptr_Tells}

@@ -9,17 +9,13 @@ use seplogic.Ra.Ura.{Ura}
 use mir.Syntax.{Fn, Body, w64}
 use mir.MapTy.{inst_fn}
 use mir.Val.{Val, vptr, vint, vstruct, vcons, vnil}
-use base.Logic.{SProp, ent, sep}
+use base.Logic.{ent, sep}
 use base.Fml.{Incl-trans, flft}
-use prog.Memory.{Memory, align, capped}
+use prog.Memory.{align, capped}
 use prog.Capped.{capped_fits}
-use prog.Routine.{Routine}
-use prog.Wp.{Env, Calls, Loops, Wp, after_seq, at_return}
+use prog.Wp.{Env, Wp, after_seq, at_return}
 use types.Logic.{Logic, sem}
-use contract.Monad.{Fun}
 use contract.BorrowLft.{◌⊑◌}
-use contract.Running.{tables}
-use sound.WpLaws.{FmC}
 use types.Kit.{Post as After, any_q, ⋆, ‵, raw, ◌⊛◌, later, await, at_ret, ◌$◌, ◌∵◌, !, qed, by, move, keep, use0, use1}
 use types.Kit.{use2, use3, split, rewrite, fsplit, fjoin}
 use types.Match.{live, vrt, in_variant}
@@ -39,7 +35,6 @@ use denote.Struct.Declared as Declared
 use denote.Struct.Tuple.{Tuple}
 use denote.Triple.Call.{calls_at}
 use denote.Triple.Statement.{Triple}
-use denote.Triple.Table.{framed}
 use Rattle.std.specs.Prelude.{Err, IfOk, IsOk, Ok}
 use Rattle.std.specs.Vec.Ownership.{has_block, owns_if}
 use Rattle.std.specs.contracts.result.Result as RS
@@ -59,7 +54,8 @@ use Rattle.ga_boxed.specs.contracts.live_block.cells.allocate.Key.{name as #self
 use Rattle.ga_boxed.proofs.CallWalk.{Call, Had, Walk, by_ref, meets, number, Linked, linked}
 use Rattle.ga_boxed.proofs.ClauseFacts.{Every, facts, has_every}
 use Rattle.ga_boxed.proofs.BlockRoom.{all_empty, none_empty}
-use Rattle.ga_boxed.proofs.WalkParts.{Bs, Cr, Dd, Mark, others, al_of, mark, mark_made, sz, tokens_in, tokens_out, three_of, three_val, word_made}
+use Rattle.ga_boxed.proofs.WalkParts.{Bs, Cr, Dd, Mark, others, al_of, mark, mark_made, sz, tokens_in, tokens_out}
+use Rattle.ga_boxed.proofs.WalkParts.{three_of, three_val, word_made}
 use Rattle.ga_boxed.proofs.live_block.cells.allocate.Statement as stated
 use Rattle.ga_boxed.proofs.live_block.cells.allocate.Code as code
 
@@ -136,8 +132,9 @@ module _ (E : El) (Z : Al) {M : Type 1} {𝓤 : Ura M} (𝓛 : Logic 𝓤) (link
       qed 𝓛 (‵ ((Out E Z).own_val r (v ∷ [])) ∷ ‵ (flft κ q) ∷ others κs qs ∷ []) ∵
       has_every ! (Gives E Z a len r) g $ move ! (2 ∷ 3 ∷ []) $ tokens_in ! κs qs $ nothing ! $
       move ! (0 ∷ 1 ∷ 3 ∷ 2 ∷ []) $ by ! (ends v r tt (tt, tt) tt) in
-      let bare : Unit {0} × (Unit {0} × Unit {0}) = (tt, (tt, tt)) in let all = λ (b o : ℕ). exits (Ok (parts E Z a b o len)) (answer E Z a b o)
-              (refl, (refl, (refl, (refl, (refl, (refl, (refl, λ _. refl))))))) in
+      let bare : Unit {0} × (Unit {0} × Unit {0}) = (tt, (tt, tt)) in
+      let all = λ (b o : ℕ). exits (Ok (parts E Z a b o len)) (answer E Z a b o)
+      (refl, (refl, (refl, (refl, (refl, (refl, (refl, λ _. refl))))))) in
       qed 𝓛 (Had (call E Z) 𝓛 κs qs x ns w) ∵ keep ! (0 ∷ 1 ∷ []) $ fsplit ! $ move ! (2 ∷ []) $
       tokens_out ! κs qs $ keep ! (3 ∷ 0 ∷ 1 ∷ []) $
       enter ! C Λ (function E Z) (vptr rb ro ∷ vint w64 len ∷ []) _ $ alloc_all !
@@ -146,17 +143,18 @@ module _ (E : El) (Z : Al) {M : Type 1} {𝓤 : Ura M} (𝓛 : Logic 𝓤) (link
       sets ! (bin ! (get ! refl) (lit ! tt) tt) refl (tt, tt) $ first ! $ branches ! (get ! refl)
       (λ t.
       let zero : len ≡ 0 = eqb→eq len 0 t in
-      let at : Ptr = block_ptr (l 3) 0 in let ok = first_Good (layout (Three E Z)) (made E Z a (l 3) 0) (typed E Z a (l 3) 0) in
+      let b = l 3 in let at : Ptr = block_ptr b 0 in
+      let ok = first_Good (layout (Three E Z)) (made E Z a b 0) (typed E Z a b 0) in
       sets ! (agg ! (no_more !)) refl (tt, tt) $ sets ! (addr ! (from ! (stop !))) refl (tt, tt) $
       sets ! (agg ! (and_then ! (get ! refl) (no_more !))) refl (word-Good [] at) $
       sets ! (agg ! (no_more !)) refl (tt, tt) $ sets ! (agg ! (and_then ! (get ! refl) (no_more !))) refl bare $
       sets ! (agg ! (no_more !)) refl (tt, tt) $ sets ! (agg ! (and_then ! (get ! refl) (no_more !))) refl bare $
       sets ! (agg ! (and_then ! (get ! refl) (and_then ! (get ! refl) (and_then ! (get ! refl) (no_more !))))) refl
-      (typed E Z a (l 3) 0) $ sets ! (agg ! (and_then ! (lit ! tt) (and_then ! (get ! refl) (no_more !)))) refl ok $
-      use0 𝓛 (‵ (cells_own (R E) at 0 [] 0)) (none_empty E 𝓛 (l 3) 0) $ nothing ! $
-      use2 𝓛 (‵ ((Out E Z).own_val (Ok (parts E Z a (l 3) 0 0)) (answer E Z a (l 3) 0 ∷ []))) (answered E Z a (l 3) 0 𝓛 0) $
-      rewrite ! 0 (λ (n : ℕ). ‵ ((Out E Z).own_val (Ok (parts E Z a (l 3) 0 n)) (answer E Z a (l 3) 0 ∷ []))) (sym zero) refl $
-      returns_within ! Post refl (look_at ! 0 refl) $ free_all ! refl $ keep ! (0 ∷ 2 ∷ 3 ∷ []) $ by ! (all (l 3) 0))
+      (typed E Z a b 0) $ sets ! (agg ! (and_then ! (lit ! tt) (and_then ! (get ! refl) (no_more !)))) refl ok $
+      use0 𝓛 (‵ (cells_own (R E) at 0 [] 0)) (none_empty E 𝓛 b 0) $ nothing ! $
+      use2 𝓛 (‵ ((Out E Z).own_val (Ok (parts E Z a b 0 0)) (answer E Z a b 0 ∷ []))) (answered E Z a b 0 𝓛 0) $
+      rewrite ! 0 (λ (n : ℕ). ‵ ((Out E Z).own_val (Ok (parts E Z a b 0 n)) (answer E Z a b 0 ∷ []))) (sym zero) refl $
+      returns_within ! Post refl (look_at ! 0 refl) $ free_all ! refl $ keep ! (0 ∷ 2 ∷ 3 ∷ []) $ by ! (all b 0))
       (λ t. skips ! $ exec ! C Λ En (after 2 (function E Z).body) (at_ret En Post) $
       let both : Body = head (after 4 (function E Z).body) in
       let Then : After 𝓤 𝓛.H =

@@ -10,17 +10,13 @@ use seplogic.Ra.Ura.{Ura}
 use mir.Syntax.{Fn, ty_unit, w64}
 use mir.MapTy.{inst_fn}
 use mir.Val.{Val, WT, has_ty, vptr, vint, vunit}
-use base.Logic.{emp, SProp, ent, never, id⊢}
+use base.Logic.{emp, ent, never, id⊢}
 use base.Fml.{Incl-trans, froom, flft}
-use prog.Memory.{Memory, align, capped}
+use prog.Memory.{align, capped}
 use prog.Capped.{capped_fits}
-use prog.Routine.{Routine}
-use prog.Wp.{Env, Calls, Loops}
+use prog.Wp.{Env}
 use types.Logic.{Logic}
-use contract.Monad.{Fun}
 use contract.BorrowLft.{◌⊑◌}
-use contract.Running.{tables}
-use sound.WpLaws.{FmC}
 use types.Kit.{⋆, ‵, raw, given, later, await, learn, at_ret, ◌$◌, ◌∵◌, !, qed, by, move, keep, use1}
 use types.Kit.{group, rewrite, fsplit, fsplit3, feq_i}
 use types.Part.{whole, sub}
@@ -36,7 +32,6 @@ use denote.Signature.{plain}
 use denote.Steps.{nothing}
 use denote.Triple.Call.{calls_at_last}
 use denote.Triple.Statement.{Triple}
-use denote.Triple.Table.{framed}
 use denote.Triple.Walked.{Goes, stay_dropped}
 use Rattle.std.specs.Vec.Ownership.{has_block, owns_if}
 use Rattle.std.proofs.alloc.Calls.{Al, Goes-blank, token, gives_key, Gives, at_gives, Gives-goes, Gives-Gives}

@@ -48,7 +48,8 @@ module _ (E : El) {M : Type 1} {𝓤 : Ura M} (𝓛 : Logic 𝓤) (C : Calls �
   walk : Walk (call E) 𝓛 C Λ (function E)
   walk κs qs bounds x a w Post asked fine exits =
       let base_is = asked.0 in let first_place = asked.1.0 in let long = asked.1.1 in let base = a.0 in
-      let index = a.1.0 in let len = a.1.1.0 in let d = x.now in let xs = d.items in let s = sz E in let all = d.passed + length xs + d.room in
+      let index = a.1.0 in let len = a.1.1.0 in let d = x.now in let xs = d.items in let s = sz E in
+      let all = d.passed + length xs + d.room in
       let own = (call E).me.slot.row κs in
       qed 𝓛 (Had (call E) 𝓛 κs qs x a w) ∵ keep ! (0 ∷ 1 ∷ []) $ group ! 2 $ by !
       (slices E 𝓛 C Λ (function E) imm _ _ x.ref_ptr.0 x.ref_ptr.1 base index len Post fine.1.0 fine.1.1.0

@@ -90,7 +90,8 @@ module _ (E : El) {M : Type 1} {𝓤 : Ura M} (𝓛 : Logic 𝓤) (C : Calls �
   walk : Walk (call E) 𝓛 C Λ (function E)
   walk κs qs bounds x a w Post asked fine exits =
       let base_is = asked.0 in let first_place = asked.1.0 in let long = asked.1.1 in let base = a.0 in
-      let index = a.1.0 in let len = a.1.1.0 in let d = x.now in let xs = d.items in let s = sz E in let all = d.passed + length xs + d.room in
+      let index = a.1.0 in let len = a.1.1.0 in let d = x.now in let xs = d.items in let s = sz E in
+      let all = d.passed + length xs + d.room in
       let κ = κs.0 in let q = qs.0 in let γ = x.ghost_name in let rb = x.ref_ptr.0 in let ro = x.ref_ptr.1 in
       let code = (Cr E).coded.code d in let new = Written E d in
       let roomy : length xs < 2 ^ 64 = omega (arith, long, fine.1.1.0) in
