@@ -1,6 +1,6 @@
 -- A call that takes `self` or another reference first, and of whose other parameters nothing is had at the end: all of
 -- its walk but what it asks, what it gives and its own steps. Assumes `Logic`.
---     Behind            a parameter behind the first.        number, an_item
+--     Behind            a parameter behind the first.        told_by, number, an_item
 --     Self              the first.        by_ref
 --     Call              such a call: its signature and its clauses
 --     Walk, meets       its walk, which is given what it asks and how it ends, and its contract from that
@@ -11,7 +11,7 @@ use mathlib.Core.List.{List, [], ◌∷◌, ◌++◌}
 use seplogic.Ra.Ura.{Ura}
 use base.Logic.{SProp, ent, emp, id⊢, via}
 use mir.Syntax.{Callee, Fn, named, w64}
-use mir.Val.{Val, vint}
+use mir.Val.{Val}
 use prog.Memory.{Memory}
 use prog.Routine.{Routine}
 use contract.Monad.{Fun}
@@ -26,7 +26,7 @@ use types.Kit.{⋆, ‵, raw, Item, ◌$◌, ◌∵◌, !, qed, move, fsplit, fj
 use denote.Builtin.{One, RefOf, usize}
 use denote.Exit.{Kept, Last, Seen, see, yes, no}
 use denote.Laws.{Are, Is, Ises, Tells}
-use denote.Plain.{uint_Tells}
+use denote.Plain.{uint_vals, uint_Tells}
 use denote.RattleType.{Denots, RattleType, Valss, flat, owns}
 use denote.Ref.{shr_vals, shr_Tells}
 use denote.Signature.{Slot, plain, type_at, types_at}
@@ -54,16 +54,24 @@ pub record Behind (n : ℕ) : Type 3 where
   pub ends : {M : Type 1} {𝓤 : Ura M} (𝓛 : Logic 𝓤)
       → Goes 𝓛 n (plain (λ _. row)) kept (stay_dropped (plain (λ _. row)) kept)
 
-abbrev pub number : {n : ℕ} → Kept → Behind n
-number {n} k = record {
-  row = usize;
+-- its value says how it is stored
+abbrev pub told_by : {n : ℕ} (S : RattleType) (k : Kept) (vals : S.Denot → List Val) (Fine : S.Denot → Type 0)
+    → ((x : S.Denot) (vs : List Val) → Is S x vs → (vs ≡ vals x) × Fine x)
+    → ((M : Type 1) (𝓤 : Ura M) (𝓛 : Logic 𝓤) → Goes 𝓛 n (plain (λ _. S)) k (stay_dropped (plain (λ _. S)) k))
+    → Behind n
+told_by S k vals Fine told ends = record {
+  row = S;
   kept = k;
   Word = Unit {0};
-  vals = λ m _. vint w64 m ∷ [];
-  Fine = λ m _. m < 2 ^ 64;
-  told = λ 𝓛 m vs is. (tt, uint_Tells w64 m vs is, is.1);
-  ends = λ 𝓛. Goes-dropped 𝓛 n (plain (λ _. usize)) k (λ κs x f. refl);
+  vals = λ x _. vals x;
+  Fine = λ x _. Fine x;
+  told = λ 𝓛 x vs is. (tt, (told x vs is).0, (told x vs is).1);
+  ends = λ {M} {𝓤} 𝓛. ends M 𝓤 𝓛;
 }
+
+abbrev pub number : {n : ℕ} → Kept → Behind n
+number {n} k = told_by usize k (uint_vals w64) (λ m. m < 2 ^ 64) (λ m vs is. (uint_Tells w64 m vs is, is.1))
+    (λ M 𝓤 𝓛. Goes-dropped 𝓛 n (plain (λ _. usize)) k (λ κs x f. refl))
 
 abbrev pub an_item : {n : ℕ} → El → Behind n
 an_item {n} E = record {

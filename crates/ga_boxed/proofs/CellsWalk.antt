@@ -34,22 +34,15 @@ use denote.Triple.Statement.{Triple}
 use denote.Triple.Walked.{Goes, Goes-dropped, Goes-ref, Goes-spent_ref, Stay}
 use denote.Triple.Walked.{stay_dropped, stay_ref}
 use Rattle.std.proofs.mem.Param.{El, R}
-use Rattle.ga_boxed.proofs.CallWalk.{Behind, Call, Self, Walk, clauses, ended, meets}
+use Rattle.ga_boxed.proofs.CallWalk.{told_by, Behind, Call, Self, Walk, clauses, ended, meets}
 use Rattle.ga_boxed.proofs.EndLemmas.{Held}
 use Rattle.ga_boxed.proofs.WalkParts.{Bs, Cr, Mark, base_Tells, base_vals, grows, sz}
 use Rattle.ga_boxed.specs.CellsOwn.{cells_own}
 
 module _ (E : El) where
   abbrev pub the_base : {n : ℕ} → Behind n
-  the_base {n} = record {
-    row = Bs E;
-    kept = no;
-    Word = Unit {0};
-    vals = λ base _. base_vals E base;
-    Fine = λ _ _. Unit {0};
-    told = λ 𝓛 base vs is. (tt, base_Tells E base vs is, tt);
-    ends = λ 𝓛. Goes-dropped 𝓛 n (plain (λ _. Bs E)) no (λ κs x f. refl);
-  }
+  the_base {n} = told_by (Bs E) no (base_vals E) (λ _. Unit {0}) (λ base vs is. (base_Tells E base vs is, tt))
+      (λ M 𝓤 𝓛. Goes-dropped 𝓛 n (plain (λ _. Bs E)) no (λ κs x f. refl))
 
   abbrev self : Slot 1
   self = RefMutOf (0 ∷ []) tt (plain (λ _. Cr E)) (λ _. tt)
@@ -86,13 +79,18 @@ module _ {M : Type 1} {𝓤 : Ura M} {𝓛 : Logic 𝓤} {K : Type 0} {Γ : List
   pub tokens : K → (κs : Lfts 1) (qs : Shares 1) → Step K 𝓛 (raw (toks 𝓛 1 κs qs) ∷ Γ) G (‵ (flft κs.0 qs.0) ∷ Γ) G
   tokens t κs qs = step (λ s. nothing t $ move t (1 ∷ 0 ∷ []) $ join t $ use1 𝓛 (raw (toks 𝓛 1 κs qs)) (id⊢ 𝓤 _) $ s)
 
+-- the cells d in their slots, what `self` has besides, and its open borrow
+abbrev Opened : {M : Type 1} {𝓤 : Ura M} (𝓛 : Logic 𝓤) (E : El) → Lfts 1 → Shares 1 → MutBor (Cr E).Denot
+    → (Cr E).Denot → List Val → ℕ → ℕ → Gv → Gv → List (Item 𝓤) → List (Item 𝓤)
+Opened 𝓛 E κs qs x d vs b o u w Γ = ‵ (Held E 𝓛 b o d.passed d.items d.room) ∷ ‵ ((Mark E).own_val (tt, tt) vs)
+    ∷ ‵ (cell_at full_share (Cr E).mir vs x.ref_ptr.0 x.ref_ptr.1)
+    ∷ ‵ (fobor κs.0 qs.0 (Borrowed (mem (Cr E)) x.ref_ptr.0 x.ref_ptr.1 x.ghost_name))
+    ∷ ‵ (fobs x.ghost_name u) ∷ ‵ (fauth x.ghost_name w) ∷ Γ
+
 module _ {M : Type 1} {𝓤 : Ura M} {𝓛 : Logic 𝓤} {K : Type 0} {Γ : List (Item 𝓤)} {G : Goal 𝓤 𝓛.H} where
   pub opens_cells : K → Soaks G → (E : El) (κs : Lfts 1) (qs : Shares 1) (x : MutBor (Cr E).Denot) → let d = x.now in
       ((vs : List Val) (b o : ℕ) → d.at ≡ block_ptr b o → (d.passed + length d.items + d.room) * sz E < 2 ^ 63
-      → Seq K 𝓛 (‵ (Held E 𝓛 b o d.passed d.items d.room) ∷ ‵ ((Mark E).own_val (tt, tt) vs)
-      ∷ ‵ (cell_at full_share (Cr E).mir vs x.ref_ptr.0 x.ref_ptr.1)
-      ∷ ‵ (fobor κs.0 qs.0 (Borrowed (mem (Cr E)) x.ref_ptr.0 x.ref_ptr.1 x.ghost_name))
-      ∷ ‵ (fobs x.ghost_name ((Cr E).coded.code d)) ∷ ‵ (fauth x.ghost_name ((Cr E).coded.code d)) ∷ Γ) G)
+      → Seq K 𝓛 (Opened 𝓛 E κs qs x d vs b o ((Cr E).coded.code d) ((Cr E).coded.code d) Γ) G)
       → Seq K 𝓛 (‵ ((MutRef (named 0) κs.0 (Cr E)).own_val x (mut_vals x)) ∷ raw (toks 𝓛 1 κs qs) ∷ Γ) G
   opens_cells t z E κs qs x k =
       let d = x.now in
@@ -106,11 +104,7 @@ module _ {M : Type 1} {𝓤 : Ura M} {𝓛 : Logic 𝓤} {K : Type 0} {Γ : List
       (new : (Cr E).Denot) (vs : List Val) (b o : ℕ) → new.at ≡ block_ptr b o
       → (new.passed + length new.items + new.room) * sz E < 2 ^ 63
       → Step K 𝓛 (‵ ((MutRef (named 0) κs.0 (Cr E)).own_val (record x { now = new }) (mut_vals x))
-      ∷ raw (toks 𝓛 1 κs qs) ∷ Γ) G
-      (‵ (Held E 𝓛 b o new.passed new.items new.room) ∷ ‵ ((Mark E).own_val (tt, tt) vs)
-      ∷ ‵ (cell_at full_share (Cr E).mir vs x.ref_ptr.0 x.ref_ptr.1)
-      ∷ ‵ (fobor κs.0 qs.0 (Borrowed (mem (Cr E)) x.ref_ptr.0 x.ref_ptr.1 x.ghost_name))
-      ∷ ‵ (fobs x.ghost_name u) ∷ ‵ (fauth x.ghost_name w) ∷ Γ) G
+      ∷ raw (toks 𝓛 1 κs qs) ∷ Γ) G (Opened 𝓛 E κs qs x new vs b o u w Γ) G
   closes_cells t z E κs qs x new vs b o e small = step (λ s.
       flt_i t ((new.passed + length new.items + new.room) * sz E) (2 ^ 63) small $ fjoin t $
       rewrite t 0 (λ (p : Ptr). ‵ (cells_own (R E) p new.passed new.items new.room)) (sym e) refl $ move t

@@ -44,7 +44,7 @@ use Rattle.std.proofs.VecSteps.Shapes.{after}
 use Rattle.ga_boxed.specs.CellsOwn.{cells_own, deed_owns}
 use Rattle.ga_boxed.specs.contracts.live_block.cells.deallocate as F
 use Rattle.ga_boxed.specs.contracts.live_block.cells.deallocate.Key.{name as #self}
-use Rattle.ga_boxed.proofs.CallWalk.{Behind, Call, Had, Walk, by_ref, meets, number, Linked, linked}
+use Rattle.ga_boxed.proofs.CallWalk.{told_by, Behind, Call, Had, Walk, by_ref, meets, number, Linked, linked}
 use Rattle.ga_boxed.proofs.CellsWalk.{the_base}
 use Rattle.ga_boxed.proofs.BlockRoom.{to_block}
 use Rattle.ga_boxed.proofs.WalkParts.{Bs, Cr, Dd, mark, mark_Tells, others, al_of, sz, tokens_in, tokens_out}
@@ -63,15 +63,7 @@ module _ (E : El) (Z : Al) where
   abbrev spent : (S : RattleType) → ((x : S.Denot) (vs : List Val) → Is S x vs → vs ≡ mark ∷ [])
       → ((M : Type 1) (𝓤 : Ura M) (𝓛 : Logic 𝓤) → Goes 𝓛 3 (plain (λ _. S)) no (stay_dropped (plain (λ _. S)) no))
       → Behind 3
-  spent S told ends = record {
-    row = S;
-    kept = no;
-    Word = Unit {0};
-    vals = λ _ _. mark ∷ [];
-    Fine = λ _ _. Unit {0};
-    told = λ 𝓛 x vs is. (tt, told x vs is, tt);
-    ends = λ {M} {𝓤} 𝓛. ends M 𝓤 𝓛;
-  }
+  spent S told = told_by S no (λ _. mark ∷ []) (λ _. Unit {0}) (λ x vs is. (told x vs is, tt))
 
   abbrev call : Call 3
   call = record {
