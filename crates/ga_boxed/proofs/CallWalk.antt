@@ -1,9 +1,10 @@
--- A call that takes `self` or another reference first, and of whose other parameters nothing is had at the end: all of
--- its walk but what it asks, what it gives and its own steps. Assumes `Logic`.
+-- A call of whose parameters none but the first is had at the end: all of its walk but what it asks, what it gives and
+-- its own steps. Assumes `Logic`.
 --     Behind            a parameter behind the first.        told_by, number, an_item
---     Self              the first.        by_ref
+--     Self              the first parameter.        by_ref
 --     Call              such a call: its signature and its clauses
 --     Walk, meets       its walk, which is given what it asks and how it ends, and its contract from that
+--     meets_grown       the same with the lifetimes of type parameters
 --     Linked, linked    what a walk may call
 use mathlib.Core.Path.{◌≡◌, refl}
 use Prim.Native.Nat.{ℕ, suc, ◌<◌, ◌^◌}
@@ -31,6 +32,8 @@ use denote.RattleType.{Denots, RattleType, Valss, flat, owns}
 use denote.Ref.{shr_vals, shr_Tells}
 use denote.Signature.{Slot, plain, type_at, types_at}
 use denote.Steps.{nothing}
+use denote.Triple.Carry.{grown}
+use denote.Triple.Statement.{Triple}
 use denote.Triple.Clauses.{Clauses, Ended, closing}
 use denote.Triple.End.{Fins, Kepts}
 use denote.Triple.Entry.{on_entry}
@@ -40,7 +43,7 @@ use Rattle.std.proofs.RcSteps.{Good}
 use Rattle.std.proofs.mem.Param.{El, R, elτ}
 use Rattle.std.proofs.raw_atomic.Walks.{leaves, proved_at}
 use Rattle.ga_boxed.proofs.ClauseFacts.{Every, facts, learns}
-use Rattle.ga_boxed.proofs.WalkParts.{at_values, is_one}
+use Rattle.ga_boxed.proofs.WalkParts.{at_values, grows, is_one}
 
 -- `Word` is what its machine values have besides
 pub record Behind (n : ℕ) : Type 3 where
@@ -253,7 +256,15 @@ module _ {n : ℕ} (c : Call n) where
         (learns 𝓤 (c.asks κs x a) _ (λ asked. via 𝓤 _ (entry κs qs bounds x a told.0)
         (walk κs qs bounds x a told.0 _ asked told.2 (exits κs qs bounds x a told.0)))))
 
--- what a walk may call, and where that is
+-- the same with the lifetimes ℓs of type parameters
+pub meets_grown : {n : ℕ} (c : Call n) {M : Type 1} {𝓤 : Ura M} (𝓛 : Logic 𝓤) (𝓜 : Model 𝓤 𝓛.H) (𝓡 : Running 𝓤 𝓛.H 𝓜)
+    (m : ℕ) (ℓs : Lfts m) (k : Callee) (e : Fn) → let 𝓣 = tables 𝓤 𝓛.H 𝓜 𝓡 𝓡.env in
+    Closed 𝓤 𝓛.H 𝓣.C 𝓣.Λ k e → Walk c 𝓛 𝓣.C 𝓣.Λ e
+    → Triple 𝓤 (𝓡.run (𝓡.env k)) (grown 𝓛 (ended c).signature m ℓs (closing 𝓛 (ended c) (clauses c 𝓛)))
+meets_grown c 𝓛 𝓜 𝓡 m ℓs k e closed walk =
+    grows 𝓛 𝓜 𝓡 (ended c) (clauses c 𝓛) m ℓs k (meets c 𝓛 𝓜 𝓡 k e closed walk)
+
+-- what a walk may call, with what the callees' contracts speak of
 pub record Linked {M : Type 1} {𝓤 : Ura M} (𝓛 : Logic 𝓤) : Type 2 where
   pub at_mem : Memory → SProp 𝓤
   pub run : Routine → Fun 𝓤

@@ -1,6 +1,5 @@
 -- The calls of `Cells` that are given the base: their parameters, and how `self` is opened and closed. Assumes `Logic`.
 --     the_base          the base.        by_mut, spent      `&mut self`
---     meets_grown       a call's contract, from its walk, with the lifetime of the item's type
 --     opens_cells, closes_cells      the borrow of `self` is opened, and closed on other cells
 use mathlib.Core.Path.{◌≡◌, refl, sym}
 use Prim.Native.Nat.{ℕ, ◌+◌, ◌*◌, ◌<◌, ◌^◌}
@@ -11,12 +10,9 @@ use base.Fraction.{full_share}
 use base.Stored.{Gv}
 use base.Fml.{flft, fobor, fobs, fauth}
 use base.Logic.{fst∗, emp, never, id⊢}
-use mir.Syntax.{Callee, Fn, named}
+use mir.Syntax.{named}
 use mir.Val.{Val}
-use prog.Model.{Model}
-use prog.Wp.{Closed}
 use contract.Lifetimes.{Lfts, Shares, toks}
-use contract.Running.{Running, tables}
 use types.Logic.{Logic}
 use types.SemTy.{Body as Borrowed}
 use types.Kit.{‵, raw, ◌$◌, move, drop, join, rewrite, fsplit, fsplit3, fjoin, fjoin3}
@@ -28,15 +24,12 @@ use denote.RawPtr.{block_ptr, Ptr, in_a_block}
 use denote.Ref.{MutBor, MutRef, mut_vals, mut_Tells}
 use denote.Signature.{Slot, plain}
 use denote.Steps.{closes, nothing, opens}
-use denote.Triple.Carry.{grown}
-use denote.Triple.Clauses.{closing}
-use denote.Triple.Statement.{Triple}
 use denote.Triple.Walked.{Goes, Goes-dropped, Goes-ref, Goes-spent_ref, Stay}
 use denote.Triple.Walked.{stay_dropped, stay_ref}
 use Rattle.std.proofs.mem.Param.{El, R}
-use Rattle.ga_boxed.proofs.CallWalk.{told_by, Behind, Call, Self, Walk, clauses, ended, meets}
+use Rattle.ga_boxed.proofs.CallWalk.{told_by, Behind, Self}
 use Rattle.ga_boxed.proofs.EndLemmas.{Held}
-use Rattle.ga_boxed.proofs.WalkParts.{Bs, Cr, Mark, base_Tells, base_vals, grows, sz}
+use Rattle.ga_boxed.proofs.WalkParts.{Bs, Cr, Mark, base_Tells, base_vals, sz}
 use Rattle.ga_boxed.specs.CellsOwn.{cells_own}
 
 module _ (E : El) where
@@ -66,13 +59,6 @@ module _ (E : El) where
   -- nothing is said of it, since the result may live on in its place
   abbrev pub spent : Self 1
   spent = by_mut_as no (stay_dropped self no) (λ M 𝓤 𝓛. Goes-spent_ref 𝓛 1 (0 ∷ []) tt (plain (λ _. Cr E)))
-
-pub meets_grown : (c : Call 1) {M : Type 1} {𝓤 : Ura M} (𝓛 : Logic 𝓤) (𝓜 : Model 𝓤 𝓛.H) (𝓡 : Running 𝓤 𝓛.H 𝓜)
-    (m : ℕ) (ℓs : Lfts m) (k : Callee) (e : Fn) → let 𝓣 = tables 𝓤 𝓛.H 𝓜 𝓡 𝓡.env in
-    Closed 𝓤 𝓛.H 𝓣.C 𝓣.Λ k e → Walk c 𝓛 𝓣.C 𝓣.Λ e
-    → Triple 𝓤 (𝓡.run (𝓡.env k)) (grown 𝓛 (ended c).signature m ℓs (closing 𝓛 (ended c) (clauses c 𝓛)))
-meets_grown c 𝓛 𝓜 𝓡 m ℓs k e closed walk =
-    grows 𝓛 𝓜 𝓡 (ended c) (clauses c 𝓛) m ℓs k (meets c 𝓛 𝓜 𝓡 k e closed walk)
 
 module _ {M : Type 1} {𝓤 : Ura M} {𝓛 : Logic 𝓤} {K : Type 0} {Γ : List (Item 𝓤)} {G : Goal 𝓤 𝓛.H} where
   -- the token of the one lifetime

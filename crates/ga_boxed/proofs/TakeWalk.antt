@@ -34,8 +34,8 @@ use Rattle.std.proofs.RcSteps.{word, word-Good}
 use Rattle.std.proofs.VecSteps.Shapes.{after}
 use Rattle.std.proofs.mem.Param.{El, R, el_x, elτ}
 use Rattle.std.proofs.ptr.Rows.{times_below, one_below}
-use Rattle.ga_boxed.proofs.CallWalk.{Call, Had, Walk, clauses, ended, number}
-use Rattle.ga_boxed.proofs.CellsWalk.{by_mut, closes_cells, meets_grown, opens_cells, the_base}
+use Rattle.ga_boxed.proofs.CallWalk.{Call, Had, Walk, clauses, ended, number, meets_grown}
+use Rattle.ga_boxed.proofs.CellsWalk.{by_mut, closes_cells, opens_cells, the_base}
 use Rattle.ga_boxed.proofs.ClauseFacts.{Every, facts, has_every}
 use Rattle.ga_boxed.proofs.EndLemmas.{Held}
 use Rattle.ga_boxed.proofs.WalkParts.{Bs, Cr, sz, value_out}

@@ -33,8 +33,8 @@ use types.Run.{bin, size_lit}
 use types.ByLocal.{take_at, give_at}
 use Rattle.std.proofs.mem.Param.{El, R, args, el_x, elτ}
 use Rattle.std.proofs.ptr.Rows.{times_below, one_below}
-use Rattle.ga_boxed.proofs.CallWalk.{Call, Had, Walk, an_item, number}
-use Rattle.ga_boxed.proofs.CellsWalk.{by_mut, closes_cells, meets_grown, opens_cells, the_base}
+use Rattle.ga_boxed.proofs.CallWalk.{Call, Had, Walk, an_item, number, meets_grown}
+use Rattle.ga_boxed.proofs.CellsWalk.{by_mut, closes_cells, opens_cells, the_base}
 use Rattle.ga_boxed.proofs.ClauseFacts.{facts, has_every}
 use Rattle.ga_boxed.proofs.WalkParts.{Cr, Bs, sz}
 use Rattle.ga_boxed.proofs.EndLemmas.{positive, Around, Held, room_out, item_in}

@@ -38,8 +38,8 @@ use Rattle.std.proofs.mem.Param.{El, R, el_x, elτ}
 use Rattle.ga_boxed.specs.CellsOwn.{cells_own, empty}
 use Rattle.ga_boxed.proofs.BlockRoom.{to_block}
 use Rattle.ga_boxed.proofs.NativeLemmas.{all_items, nothing_left}
-use Rattle.ga_boxed.proofs.CallWalk.{Behind, Call, Had, Walk}
-use Rattle.ga_boxed.proofs.CellsWalk.{by_mut, closes_cells, meets_grown, opens_cells, the_base}
+use Rattle.ga_boxed.proofs.CallWalk.{Behind, Call, Had, Walk, meets_grown}
+use Rattle.ga_boxed.proofs.CellsWalk.{by_mut, closes_cells, opens_cells, the_base}
 use Rattle.ga_boxed.proofs.ClauseFacts.{facts, has_every}
 use Rattle.ga_boxed.proofs.WalkParts.{Cr, Bs, sz, is_one}
 use Rattle.ga_boxed.specs.contracts.live_block.cells.Cells.put_array.Key.{name as #self}

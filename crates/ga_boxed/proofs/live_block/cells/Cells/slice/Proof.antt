@@ -26,8 +26,7 @@ use Rattle.std.proofs.mem.Param.{El, R, args, el_x}
 use Rattle.std.proofs.ptr.Rows.{times_below}
 use Rattle.ga_boxed.specs.CellsOwn.{cells_lent}
 use Rattle.ga_boxed.specs.contracts.live_block.cells.Cells.slice.Key.{name as #self}
-use Rattle.ga_boxed.proofs.CallWalk.{Call, Had, Walk, by_ref}
-use Rattle.ga_boxed.proofs.CellsWalk.{meets_grown}
+use Rattle.ga_boxed.proofs.CallWalk.{Call, Had, Walk, by_ref, meets_grown}
 use Rattle.ga_boxed.proofs.ClauseFacts.{facts, has_every}
 use Rattle.ga_boxed.proofs.SliceWalk.{showing, slices}
 use Rattle.ga_boxed.proofs.WalkParts.{Cr, sz}

@@ -35,8 +35,8 @@ use Rattle.std.proofs.ptr.Rows.{times_below}
 use Rattle.ga_boxed.specs.CellsLend.{with_items}
 use Rattle.ga_boxed.specs.CellsOwn.{cells_own, empty}
 use Rattle.ga_boxed.specs.contracts.live_block.cells.Cells.slice_mut.Key.{name as #self}
-use Rattle.ga_boxed.proofs.CallWalk.{Call, Had, Walk}
-use Rattle.ga_boxed.proofs.CellsWalk.{meets_grown, opens_cells, spent, tokens}
+use Rattle.ga_boxed.proofs.CallWalk.{Call, Had, Walk, meets_grown}
+use Rattle.ga_boxed.proofs.CellsWalk.{opens_cells, spent, tokens}
 use Rattle.ga_boxed.proofs.ClauseFacts.{facts, has_every}
 use Rattle.ga_boxed.proofs.SliceWalk.{showing, slices}
 use Rattle.ga_boxed.proofs.WalkParts.{Cr, Mark, sz}
