@@ -1,14 +1,14 @@
--- The facts of a contract that states each in a clause of its own, as one tuple. `says_every` takes `Logic`; the rest
+-- The facts of a contract that states each in a clause of its own, as one tuple. `has_every` takes `Logic`; the rest
 -- assumes nothing.
 --     Every          the tuple of the facts
 --     facts          the facts as a contract has them
 --     learns         P ∗ facts as a hypothesis: they are learned
---     says_every     a goal P ∗ facts: they are shown, and P is left
+--     has_every      they are shown, as an entry
 use mathlib.Core.List.{List, [], ◌∷◌}
 use seplogic.Ra.Ura.{Ura}
-use base.Logic.{SProp, ent, sep, emp, id⊢, via, comm∗, mono_l, fst∗, snd∗, emp∗}
+use base.Logic.{SProp, ent, sep, emp, id⊢, via, mono_l, fst∗, snd∗, emp∗}
 use types.Logic.{Logic}
-use types.Kit.{Item, prop, Step, step}
+use types.Kit.{Goal, Item, raw, Step, step, use0, ◌$◌}
 use contract.Monad.{fact, fact_i, fact_use}
 
 abbrev pub Every : List (Type 0) → Type 0
@@ -42,10 +42,6 @@ module _ {M : Type 1} (𝓤 : Ura M) where
       let F : SProp 𝓤 = sep 𝓤 P (facts φs) in learned φs {P = F} (snd∗ 𝓤 P (facts φs))
       (λ x. via 𝓤 P (fst∗ 𝓤 P (facts φs)) (h x))
 
-pub says_every : {M : Type 1} {𝓤 : Ura M} {𝓛 : Logic 𝓤} {K : Type 0} {Γ : List (Item 𝓤)} → K → (φs : List (Type 0))
-    → {P : SProp 𝓤} → Every φs
-    → Step K 𝓛 Γ (prop P) Γ (prop (sep 𝓤 P (facts 𝓤 φs)))
-says_every {𝓤 = 𝓤} t φs {P} x = step (λ s. record {
-  prf = via 𝓤 P s.prf (via 𝓤 (sep 𝓤 (emp 𝓤) P) (emp∗ 𝓤 P)
-      (via 𝓤 (sep 𝓤 (facts 𝓤 φs) P) (mono_l 𝓤 P (shown 𝓤 φs x)) (comm∗ 𝓤 (facts 𝓤 φs) P)));
-})
+pub has_every : {M : Type 1} {𝓤 : Ura M} {𝓛 : Logic 𝓤} {K : Type 0} {Γ : List (Item 𝓤)} {G : Goal 𝓤 𝓛.H} → K
+    → (φs : List (Type 0)) → Every φs → Step K 𝓛 (raw (facts 𝓤 φs) ∷ Γ) G Γ G
+has_every {𝓤 = 𝓤} {𝓛 = 𝓛} t φs x = step (λ s. use0 𝓛 (raw (facts 𝓤 φs)) (shown 𝓤 φs x) $ s)

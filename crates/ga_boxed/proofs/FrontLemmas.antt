@@ -27,9 +27,6 @@ module _ (E : El) where
   pub place_after : (m o : ℕ) → m * s + o + s ≡ (m + 1) * s + o
   place_after m o = omega (arith, next m s)
 
-  pub passed_one : (m k n : ℕ) → m + suc k + n ≡ m + 1 + k + n
-  passed_one m k n = omega arith
-
   module _ {M : Type 1} {𝓤 : Ura M} (𝓛 : Logic 𝓤) (b : ℕ) where
     open 𝓛 use {H}
 

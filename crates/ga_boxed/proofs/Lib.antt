@@ -1,10 +1,14 @@
 pub mod AnswerLemmas
 pub mod BlockRoom
+pub mod CallWalk
 pub mod CellsSharing
+pub mod CellsWalk
 pub mod ClauseFacts
 pub mod Crosses
 pub mod EndLemmas
 pub mod FrontLemmas
 pub mod NativeLemmas
+pub mod PassedLemmas
+pub mod SliceWalk
 pub mod TakeWalk
 pub mod WalkParts

@@ -1,133 +1,130 @@
--- All of the walks of `take_first` and `take_last` but what each asks, what it gives and its own steps. Assumes
--- `Logic`.
-use mathlib.Core.Path.{refl}
-use Prim.Native.Nat.{ℕ, ◌<◌, ◌^◌}
-use mathlib.Core.List.{List, [], ◌∷◌}
+-- The walk of `take_first` and `take_last`, which are the same code: all of it but how the item is cut from the cells,
+-- and what is left of these. Assumes `Logic`.
+use mathlib.Core.Logic.{◌≢◌}
+use mathlib.Core.Path.{◌≡◌, refl, subst, ◌∙◌}
+use Prim.Native.Nat.{ℕ, ◌+◌, ◌*◌, ◌<◌, ◌^◌}
+use native.Mathlib.Omega.{arith}
+use mathlib.Core.List.{List, [], ◌∷◌, ◌++◌}
+use lib.ListN.{length}
 use seplogic.Ra.Ura.{Ura}
-use mir.Syntax.{Callee, Fn, named, w64}
-use mir.Val.{Val, vptr, vint}
-use base.Logic.{SProp, ent, via}
-use base.Fml.{Lft, GName, Share, ftrue, flft}
+use base.Fraction.{full_share}
+use base.Fml.{Fml, fat, froom}
+use base.Logic.{ent, sep}
+use mir.Syntax.{Callee, Fn, Ty, assign, block, copy, deref, field, local, mul, named, offset, op2, place, return}
+use mir.Syntax.{rv_opd, seq, size_of, ty_int, ty_ptr, ty_ref, unsigned, value_local, w64, mut}
+use mir.Val.{vint}
 use prog.Model.{Model}
-use prog.Wp.{Calls, Closed, Loops, WpFn}
-use types.Logic.{Logic}
-use contract.Running.{MachineTables, Running, tables}
-use types.Kit.{⋆, ‵, ◌⊛◌, ◌$◌, ◌∵◌, !, qed, move, keep, split, join, fsplit, fsplit3, fjoin, fjoin3, feq_i, suffices}
-use types.Kit.{frame, done}
-use denote.Builtin.{RefMutOf, usize}
-use denote.Exit.{yes, no}
-use denote.Plain.{uint_vals, uint_Tells}
-use denote.RattleType.{owns}
-use denote.Ref.{MutBor, MutRef, mut_vals, mut_Tells}
-use denote.Signature.{plain}
-use denote.Steps.{nothing}
+use contract.Running.{Running, tables}
 use denote.Triple.Carry.{grown}
-use denote.Triple.Clauses.{Clauses, Ended, closing}
-use denote.Triple.Entry.{on_entry}
+use denote.Triple.Clauses.{closing}
 use denote.Triple.Statement.{Triple}
-use denote.Triple.Walked.{Stays, stay_dropped, stay_ref, walk_of, ends_at, Goes-dropped, Goes-ref}
-use Rattle.std.proofs.mem.Param.{El, R, el_x}
-use Rattle.std.proofs.raw_atomic.Walks.{proved}
-use Rattle.std.proofs.RcSteps.{word}
-use Rattle.ga_boxed.proofs.ClauseFacts.{Every, facts, learns, says_every}
-use Rattle.ga_boxed.proofs.WalkParts.{Cr, Bs, Had, Left, base_vals, base_Tells, grows}
-
-abbrev pub Asking : El → Type 1
-Asking E = (Cr E).Denot → (Bs E).Denot → ℕ → List (Type 0)
-
-abbrev pub Giving : El → Type 1
-Giving E = (Cr E).Denot → el_x E → (Cr E).Denot → List (Type 0)
+use prog.Wp.{Closed, Calls, Env, Loops}
+use types.Logic.{Logic, sem}
+use types.Kit.{‵, ◌⊛◌, at_ret, ◌$◌, ◌∵◌, !, qed, by, move, keep, use1, use2, split, rewrite}
+use types.Part.{whole, sub}
+use types.Run.{bin, size_lit, look, stop, fld, load, of_opd, first, blocks, exec, returns, enter}
+use types.ByLocal.{alloc_all, pass_all, free_all, look_at, get, get_in, take_at, give_at, through, sets, sets_last, env}
+use denote.Exit.{no}
+use denote.Memory.{part_at}
+use denote.Param.{layout}
+use denote.RawPtr.{Ptr}
+use denote.Ref.{mut_vals}
+use denote.Signature.{plain}
+use Rattle.std.proofs.RcSteps.{word, word-Good}
+use Rattle.std.proofs.VecSteps.Shapes.{after}
+use Rattle.std.proofs.mem.Param.{El, R, el_x, elτ}
+use Rattle.std.proofs.ptr.Rows.{times_below, one_below}
+use Rattle.ga_boxed.proofs.CallWalk.{Call, Had, Walk, clauses, ended, number, meets_grown}
+use Rattle.ga_boxed.proofs.CellsWalk.{by_mut, closes_cells, opens_cells, the_base}
+use Rattle.ga_boxed.proofs.ClauseFacts.{Every, facts, has_every}
+use Rattle.ga_boxed.proofs.EndLemmas.{Held}
+use Rattle.ga_boxed.proofs.WalkParts.{Bs, Cr, sz, value_out}
 
 module _ (E : El) where
-  abbrev pub ended : Ended
-  ended = record {
-    signature = record {
-      lifetimes = 1;
-      outlives = [];
-      params =
-          RefMutOf (0 ∷ []) tt (plain (λ _. Cr E)) (λ _. tt) ∷ plain (λ _. Bs E) ∷ plain (λ _. usize) ∷ [];
-      result =
-          plain (λ _. R E);
-    };
-    kept = (yes, (no, (no, tt)));
+  -- where the item stands in the cells
+  abbrev pub Placing : Type 1
+  Placing = (Cr E).Denot → ℕ → Type 0
+
+  -- what is promised of the item and of the cells that are left
+  abbrev pub Giving : Type 1
+  Giving = (Cr E).Denot → el_x E → (Cr E).Denot → List (Type 0)
+
+  abbrev pub taking : Placing → Giving → Call 1
+  taking stands gives = record {
+    outlives = [];
+    me = by_mut E;
+    behind = the_base E ∷ number no ∷ [];
+    out = plain (λ _. R E);
+    asks = λ κs x a. (a.0.ptr ≡ x.now.at) ∷ stands x.now a.1.0 ∷ (x.now.items ≢ []) ∷ [];
+    gives = λ M 𝓤 𝓛 κs x a r w. facts 𝓤 (gives x.now r w.now);
   }
 
-  abbrev stayed : Stays ended.signature.params ended.kept
-  stayed = (
-    stay_ref (0 ∷ []) tt (plain (λ _. Cr E)),
-    (stay_dropped (plain (λ _. Bs E)) no, (stay_dropped (plain (λ _. usize)) no, tt)),
-  )
+  -- the item at `index` is cut from the cells d, and the cells `new` are what is left, with its slot
+  pub record Taken {M : Type 1} {𝓤 : Ura M} (𝓛 : Logic 𝓤) (gives : Giving) (d : (Cr E).Denot) (index : ℕ) : Type 1 where
+    pub item : el_x E
+    pub new : (Cr E).Denot
+    pub given : Every (gives d item new)
+    pub at : new.at ≡ d.at
+    pub within : index < d.passed + length d.items + d.room
+    pub all : d.passed + length d.items + d.room ≡ new.passed + length new.items + new.room
+    pub Others : ℕ → ℕ → Fml
+    pub out : (b o : ℕ) → ent 𝓤 (sem 𝓛 (Held E 𝓛 b o d.passed d.items d.room))
+        (sep 𝓤 (sem 𝓛 (part_at (R E) full_share item b (index * sz E + o))) (sem 𝓛 (Others b o)))
+    pub back : (b o : ℕ) → ent 𝓤 (sep 𝓤 (𝓛.H.room (elτ E) b (index * sz E + o)) (sem 𝓛 (Others b o)))
+        (sem 𝓛 (Held E 𝓛 b o new.passed new.items new.room))
 
-module _ (E : El) (asks : Asking E) (gives : Giving E) {M : Type 1} {𝓤 : Ura M} (𝓛 : Logic 𝓤) where
-  open 𝓛 use {H}
-
-  abbrev clauses : Clauses 𝓤 (ended E)
-  clauses κs a = record {
-    ghost = Unit {0};
-    requires = λ _. facts 𝓤 (asks a.0.now a.1.0 a.1.1.0);
-    ensures =
-        λ _ r w. facts 𝓤 (gives a.0.now r w.0.now);
+  -- the code e of both, as it reads the slot; τ is the type of the cells
+  abbrev reading : Fn → Ty → Fn
+  reading e τ = record e {
+    locals = local (elτ E) value_local ∷ local (ty_ref (named 0) mut τ) value_local ∷ local (layout (Bs E)) value_local
+        ∷ local (ty_int w64) value_local ∷ local (elτ E) value_local ∷ local (ty_int w64) value_local
+        ∷ local ty_ptr value_local ∷ [];
+    body = seq (block
+        (seq (assign (place 5 []) (op2 (mul unsigned) (copy (place 3 [])) (size_of (elτ E))))
+        (seq (assign (place 6 []) (op2 offset (copy (place 2 (field 0 ∷ []))) (copy (place 5 []))))
+        (assign (place 4 []) (rv_opd (copy (place 6 (deref (elτ E) ∷ []))))))))
+        (seq (assign (place 0 []) (rv_opd (copy (place 4 [])))) return);
   }
 
-  -- a walk is given what it asks, and how it ends
-  abbrev pub Walk : Calls 𝓤 H → Loops 𝓤 H → Fn → Type 2
-  Walk C Λ e = (κ : Lft) (q : Share) (rb ro : ℕ) (γ : GName) (d : (Cr E).Denot) (base : (Bs E).Denot) (index : ℕ)
-      (Post : Val → SProp 𝓤) → Every (asks d base index) → index < 2 ^ 64
-      → ((r : el_x E) (v : Val) (new : (Cr E).Denot) → Every (gives d r new)
-      → ent 𝓤 (⋆ 𝓛 (Left E κ q rb ro γ (R E) new r v)) (Post v))
-      → ent 𝓤 (⋆ 𝓛 (Had E κ q rb ro γ d)) (WpFn 𝓤 H C Λ e (vptr rb ro ∷ word base.ptr ∷ vint w64 index ∷ []) Post)
+  takes : (stands : Placing) (gives : Giving) {M : Type 1} {𝓤 : Ura M} (𝓛 : Logic 𝓤) (C : Calls 𝓤 𝓛.H)
+      (Λ : Loops 𝓤 𝓛.H) (e : Fn) (τ : Ty)
+      → ((d : (Cr E).Denot) (index : ℕ) → stands d index → d.items ≢ [] → Taken 𝓛 gives d index)
+      → Walk (taking stands gives) 𝓛 C Λ (reading e τ)
+  takes stands gives {𝓤 = 𝓤} 𝓛 C Λ e τ cut κs qs bounds x a w Post asked fine exits =
+      let s = sz E in let d = x.now in let base = a.0 in let index = a.1.0 in let c = cut d index asked.1.0 asked.1.1 in
+      let item = c.item in let all = d.passed + length d.items + d.room in
+      qed 𝓛 (Had (taking stands gives) 𝓛 κs qs x a w) ∵ keep ! (0 ∷ 1 ∷ []) $
+      enter ! C Λ (reading e τ) (mut_vals x ++ word base.ptr ∷ vint w64 index ∷ []) _ $ alloc_all !
+      (λ l. pass_all ! refl ((tt, tt), (word-Good [] base.ptr, ((tt, record { fits = fine.1.0 }), tt))) $
+      let En : Env 𝓤 𝓛.H = env (reading e τ).locals l in
+      opens_cells ! tt E κs qs x (λ vs b o at small.
+      let tiny : s < 2 ^ 64 = omega (arith, one_below all s (2 ^ 63) (omega (arith, c.within)) small) in
+      let far : index * s < 2 ^ 64 = omega (arith, times_below index all s (2 ^ 63) (omega (arith, c.within)) small) in
+      take_at ! 2 $ rewrite ! 0 (λ (p : Ptr). ‵ (fat full_share (layout (Bs E)) (l 2) 0 (word p)))
+      (asked.0 ∙ at) refl $ give_at ! 2 $ first ! $ blocks ! $
+      sets ! (bin ! (get ! refl) (size_lit ! (record { fits = tiny })) (record { fits = far })) refl
+      (tt, record { fits = far }) $
+      sets ! (bin ! (get_in ! (fld ! refl (stop !)) (sub ! 0 refl (whole !))) (get ! refl) tt) refl (tt, tt) $
+      use1 𝓛 (‵ (part_at (R E) full_share item b (index * s + o)) ⊛ ‵ (c.Others b o)) (c.out b o) $ split ! $
+      value_out ! E item b (index * s + o) (λ v good.
+      -- [the item in its slot; what it owns; the other slots; the mark; its cell; the open borrow; obs; auth]
+      sets_last ! (of_opd ! (load ! (through ! refl (stop !)) (look ! 0 refl))) refl good $
+      exec ! C Λ En (after 1 (reading e τ).body) (at_ret En Post) $ sets ! (of_opd ! (get ! refl)) refl good $
+      use1 𝓛 (‵ (froom (elτ E) b (index * s + o))) (𝓛.laws.at_room (elτ E) b (index * s + o) v) $ move ! (0 ∷ 2 ∷ []) $
+      use2 𝓛 (‵ (Held E 𝓛 b o c.new.passed c.new.items c.new.room)) (c.back b o) $ move !
+      (0 ∷ 2 ∷ 3 ∷ 4 ∷ 5 ∷ 6 ∷ 1 ∷ []) $
+      closes_cells ! tt E κs qs x c.new vs b o (c.at ∙ at) (subst (λ k. k * s < 2 ^ 63) c.all small) $
+      returns ! (look_at ! 0 refl) $ free_all ! refl $ keep ! (0 ∷ 1 ∷ 2 ∷ []) $
+      has_every ! (gives d item c.new) c.given $ move ! (1 ∷ 2 ∷ 3 ∷ 0 ∷ []) $ by !
+      (exits v item c.new (tt, (tt, tt)) tt))))
 
-  module _ (κ : Lft) (q : Share) (rb ro : ℕ) (γ : GName) (d : (Cr E).Denot) (base : (Bs E).Denot) (index : ℕ) where
-    abbrev self : MutBor (Cr E).Denot
-    self = record { ref_ptr = (rb, ro); ghost_name = γ; now = d }
-
-    abbrev bound : (walk_of 𝓛 (ended E) (stayed E) clauses).Ghost
-    bound = (
-      (
-        (κ, tt),
-        (q, tt),
-        tt,
-        (self, (base, (index, tt))),
-        (vptr rb ro ∷ [], (word base.ptr ∷ [], (vint w64 index ∷ [], tt))),
-      ),
-      tt,
-    )
-
-    exits : (r : el_x E) (v : Val) (new : (Cr E).Denot) → Every (gives d r new)
-        → ent 𝓤 (⋆ 𝓛 (Left E κ q rb ro γ (R E) new r v)) ((walk_of 𝓛 (ended E) (stayed E) clauses).post bound v)
-    exits r v new given =
-        qed 𝓛 (Left E κ q rb ro γ (R E) new r v) ∵ suffices ! _
-        (ends_at 𝓛 (ended E) (stayed E) clauses bound v r (new, (tt, (tt, tt))) (tt, (tt, (tt, tt)))) $ says_every !
-        (gives d r new) given $
-        nothing ! $ move ! (3 ∷ 0 ∷ []) $ join ! $ frame ! $ feq_i ! (List Val) (vptr rb ro ∷ [])
-        (vptr rb ro ∷ []) refl $ fjoin3 ! $ nothing ! $ nothing ! $ fjoin ! $ nothing ! $ fjoin ! $ move !
-        (1 ∷ 0 ∷ []) $ fjoin ! $ done !
-
-    entry : ent 𝓤 (on_entry 𝓛 (ended E).signature (κ, tt) (q, tt) (self, (base, (index, tt))) bound.0.4)
-        (⋆ 𝓛 (Had E κ q rb ro γ d))
-    entry = qed 𝓛 ((‵ (flft κ q) ⊛ ‵ ftrue)
-        ∷ ‵ (owns (MutRef (named 0) κ (Cr E) ∷ Bs E ∷ usize ∷ []) (self, (base, (index, tt))) bound.0.4)
-        ∷ []) ∵ split ! $ move ! (2 ∷ []) $ fsplit ! $ fsplit3 ! $ keep ! (1 ∷ 2 ∷ 4 ∷ []) $ done !
-
-  module _ (𝓜 : Model 𝓤 H) (𝓡 : Running 𝓤 H 𝓜) where
-    abbrev 𝓣 : MachineTables 𝓤 H 𝓜
-    𝓣 = tables 𝓤 H 𝓜 𝓡 𝓡.env
-
-    -- the function's contract, from its walk
-    pub takes : (k : Callee) (e : Fn) → Closed 𝓤 H 𝓣.C 𝓣.Λ k e → Walk 𝓣.C 𝓣.Λ e
-        → Triple 𝓤 (𝓡.run (𝓡.env k)) (grown 𝓛 (ended E).signature 1 (E.row.lives, tt) (closing 𝓛 (ended E) clauses))
-    takes k e closed walk =
-        grows 𝓛 𝓜 𝓡 (ended E) clauses 1 (E.row.lives, tt) k
-        (proved 𝓛 (ended E) (stayed E) clauses 𝓜 𝓡 (
-          Goes-ref 𝓛 1 0 tt (plain (λ _. Cr E)),
-          (
-            Goes-dropped 𝓛 1 (plain (λ _. Bs E)) no (λ κs x f. refl),
-            (Goes-dropped 𝓛 1 (plain (λ _. usize)) no (λ κs x f. refl), tt),
-          ),
-        ) k e closed
-        (λ κs. (mut_vals, (base_vals E, (uint_vals w64, tt))))
-        (λ κs. (mut_Tells (named 0) κs.0 (Cr E), (base_Tells E, (uint_Tells w64, tt))))
-        (λ κs qs bounds a g are. let κ = κs.0 in let q = qs.0 in let b = a.0.ref_ptr.0 in let o = a.0.ref_ptr.1 in
-        let γ = a.0.ghost_name in let d = a.0.now in let base = a.1.0 in let index = a.1.1.0 in
-        learns 𝓤 (asks d base index) _ (λ asked. via 𝓤 _ (entry κ q b o γ d base index)
-        (walk κ q b o γ d base index _ asked are.1.1.0.1 (exits κ q b o γ d base index)))))
+  -- the contract of such a call, from how the item is cut
+  pub meets_taking : (stands : Placing) (gives : Giving) {M : Type 1} {𝓤 : Ura M} (𝓛 : Logic 𝓤) (𝓜 : Model 𝓤 𝓛.H)
+      (𝓡 : Running 𝓤 𝓛.H 𝓜) (k : Callee) (e : Fn) (τ : Ty) → let 𝓣 = tables 𝓤 𝓛.H 𝓜 𝓡 𝓡.env in
+      let c = taking stands gives in Closed 𝓤 𝓛.H 𝓣.C 𝓣.Λ k (reading e τ)
+      → ((d : (Cr E).Denot) (index : ℕ) → stands d index → d.items ≢ [] → Taken 𝓛 gives d index)
+      → Triple 𝓤 (𝓡.run (𝓡.env k)) (grown 𝓛 (ended c).signature 1 (E.row.lives, tt) (closing 𝓛 (ended c) (clauses c 𝓛)))
+  meets_taking stands gives {𝓤 = 𝓤} 𝓛 𝓜 𝓡 k e τ closed cut =
+      let 𝓣 = tables 𝓤 𝓛.H 𝓜 𝓡 𝓡.env in
+      meets_grown (taking stands gives) 𝓛 𝓜 𝓡 1 (E.row.lives, tt) k (reading e τ) closed
+      (takes stands gives 𝓛 𝓣.C 𝓣.Λ e τ cut)

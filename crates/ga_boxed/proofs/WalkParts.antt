@@ -2,17 +2,18 @@
 -- memory, and how a walk begins and ends. Assumes `Logic`.
 use mathlib.Core.Path.{◌≡◌, refl, subst, sym, ap, ◌∙◌}
 use Prim.Native.Nat.{ℕ, ◌*◌, ◌<◌, ◌^◌}
-use mathlib.Core.List.{List, [], ◌∷◌, ◌++◌}
+use mathlib.Core.List.{List, [], ◌∷◌}
 use seplogic.Ra.Ura.{Ura}
 use mir.Val.{Val, vstruct, vcons, vnil}
-use base.Logic.{ent, sep, emp, ex, guard}
+use base.Logic.{id⊢, ent, sep, emp}
 use prog.Model.{Model}
-use contract.Lifetimes.{Lfts, Shares}
+use contract.Lifetimes.{Lfts, Shares, toks}
 use contract.Monad.{Fun}
 use contract.Running.{Running}
 use types.Logic.{Logic, sem}
-use types.Kit.{Item, Goal, Step, step, ‵, ◌$◌, ◌∵◌, !, qed, move, fjoin, fpack, feq_i, done, some, ◌⊛◌, use1, pick}
-use types.Kit.{split, check, show}
+use types.Kit.{raw, join, Item, Goal, Seq, Step, step, ‵, ◌$◌, ◌∵◌, !, qed, move, fjoin, fpack, feq_i, done, some}
+use types.Kit.{◌⊛◌, use1, pick, split}
+use denote.Param.Laws.{Laws}
 use denote.RattleType.{RattleType, Valss}
 use denote.RawPtr.{Ptr, RawPtr, ptr_val, rawptr_vals, rawptr_Tells}
 use denote.Shadow.{makes_shadow}
@@ -35,14 +36,13 @@ use Rattle.ga_boxed.specs.contracts.live_block.cells.Cells as C-type
 use Rattle.ga_boxed.specs.contracts.live_block.cells.Base as B-type
 use Rattle.ga_boxed.specs.contracts.live_block.cells.Deed as D-type
 use base.Fraction.{full_share}
-use mir.Syntax.{Callee, Ty, Args, a_type, ty_array, dcons, dnil}
-use base.Fml.{Lft, GName, Share, fat, flft, fobs, fbor, ftrue}
+use Rattle.std.specs.declared.alloc.Allocator.{Ghosts}
+use mir.Syntax.{Dict, Callee, Ty, Args, a_type, ty_array, dcons, dnil}
+use base.Fml.{fat, flft, ftrue}
 use denote.Laws.{Is, Tells, shows}
-use denote.Param.{param, layout, bounded}
-use denote.Param.Laws.{Laws, param_laws}
-use denote.Memory.{mem, part_at}
-use types.SemTy.{Body as Borrowed}
-use borrow.Table.OneValue.{part_in, part_out}
+use denote.Param.{param, bounded}
+use denote.Memory.{part_at}
+use borrow.Table.OneValue.{part_out}
 use mir.Raw.{raw as bare}
 use prog.Memory.{size, align, capped}
 use prog.Capped.{capped_is}
@@ -59,6 +59,9 @@ module _ (E : El) where
 
   pub block_align : (n : ℕ) → capped (align (block_ty n)) ≡ capped (align (elτ E))
   block_align n = ap capped (align-raw (ty_array (elτ E) n))
+
+abbrev pub al_of : (W : RattleType) → Laws W → Ghosts W.Denot → Dict → Dict → Al
+al_of W LW g d drops = record { row = W; laws = LW; g = g; d = d; drops = drops }
 
 -- the type arguments of a function over an item and an allocator, and the second of them
 module _ (E : El) (Z : Al) where
@@ -130,24 +133,16 @@ three_of 𝓛 R S T x y z u v w =
     fpack ! (Valss (R ∷ S ∷ T ∷ [])) (within (Declared.shape (tuple_type (R ∷ S ∷ T ∷ []))) (x, (y, (z, tt)))
     (three_val u v w ∷ [])) (u ∷ [], (v ∷ [], (w ∷ [], tt))) $ done !
 
-module _ (i : ℕ) (Y : RattleType) (L : Laws Y) {M : Type 1} {𝓤 : Ura M} (𝓛 : Logic 𝓤) where
-  open 𝓛 use {H}
-
-  pub value_out : (x : Y.Denot) (b o : ℕ) → ent 𝓤 (sem 𝓛 (part_at (param i Y) full_share x b o))
-      (ex 𝓤 (λ (v : Val). guard 𝓤 (Good (layout Y) v)
-      (sep 𝓤 (H.at full_share (layout Y) b o v) (sem 𝓛 (Y.own_val x (v ∷ []))))))
-  value_out x b o = qed 𝓛 (‵ (part_at (param i Y) full_share x b o) ∷ []) ∵
-      use1 𝓛 (some (λ (v : Val). ‵ (fat full_share (layout Y) b o v) ⊛ ‵ (Y.own_val x (v ∷ []))))
-      (part_out 𝓛 (param i Y) refl full_share x b o) $ pick ! (λ v. split ! $ move ! (1 ∷ []) $
-      peeks ! (param i Y) (Is (param i Y)) (shows 𝓛 (param i Y)) x (v ∷ []) (λ p.
-      show ! (λ (w : Val). guard 𝓤 (Good (layout Y) w)
-      (sep 𝓤 (H.at full_share (layout Y) b o w) (sem 𝓛 (Y.own_val x (w ∷ []))))) v $ check !
-      (((param_laws i Y L).lawful 𝓛).typed x (v ∷ []) p).0 $ move ! (1 ∷ 0 ∷ []) $ done !))
-
-  pub value_in : (x : Y.Denot) (b o : ℕ) (v : Val)
-      → ent 𝓤 (sep 𝓤 (H.at full_share (layout Y) b o v) (sem 𝓛 (Y.own_val x (v ∷ []))))
-      (sem 𝓛 (part_at (param i Y) full_share x b o))
-  value_in x b o v = part_in 𝓛 (param i Y) refl full_share x b o v
+-- an item in memory is its machine value there, and what that owns
+module _ {M : Type 1} {𝓤 : Ura M} {𝓛 : Logic 𝓤} {K : Type 0} {Γ : List (Item 𝓤)} {G : Goal 𝓤 𝓛.H} where
+  pub value_out : K → (E : El) (x : el_x E) (b o : ℕ)
+      → ((v : Val) → Good (elτ E) v → Seq K 𝓛 (‵ (fat full_share (elτ E) b o v) ∷ ‵ (E.row.own_val x (v ∷ [])) ∷ Γ) G)
+      → Seq K 𝓛 (‵ (part_at (R E) full_share x b o) ∷ Γ) G
+  value_out t E x b o k =
+      use1 𝓛 (some (λ (v : Val). ‵ (fat full_share (elτ E) b o v) ⊛ ‵ (E.row.own_val x (v ∷ []))))
+      (part_out 𝓛 (R E) refl full_share x b o) $ pick t (λ v. split t $ move t (1 ∷ []) $
+      peeks t (R E) (Is (R E)) (shows 𝓛 (R E)) x (v ∷ []) (λ p.
+      move t (1 ∷ 0 ∷ []) $ k v ((lawful E 𝓛).typed x (v ∷ []) p).0))
 
 -- what is owned of an item is one machine value, of its type
 pub is_one : (E : El) {M : Type 1} {𝓤 : Ura M} (𝓛 : Logic 𝓤) (x : el_x E) (vs : List Val) → Is (R E) x vs
@@ -158,14 +153,14 @@ is_one E 𝓛 x vs is = one E vs ((lawful E 𝓛).typed x vs is)
 abbrev pub others : {M : Type 1} {𝓤 : Ura M} → Lfts 3 → Shares 3 → Item 𝓤
 others κs qs = ‵ (flft κs.1.0 qs.1.0) ⊛ ‵ (flft κs.1.1.0 qs.1.1.0) ⊛ ‵ ftrue
 
-module _ (E : El) {M : Type 1} {𝓤 : Ura M} (κ : Lft) (q : Share) (rb ro : ℕ) (γ : GName) where
-  -- the cells as they are, and their borrow
-  abbrev pub Had : (Cr E).Denot → List (Item 𝓤)
-  Had d = ‵ (fobs γ ((Cr E).coded.code d)) ∷ ‵ (fbor κ (Borrowed (mem (Cr E)) rb ro γ)) ∷ ‵ (flft κ q) ∷ []
+module _ {M : Type 1} {𝓤 : Ura M} {𝓛 : Logic 𝓤} {K : Type 0} {Γ : List (Item 𝓤)} {G : Goal 𝓤 𝓛.H} where
+  pub tokens_out : K → (κs : Lfts 3) (qs : Shares 3)
+      → Step K 𝓛 (‵ (flft κs.0 qs.0) ∷ others κs qs ∷ Γ) G (raw (toks 𝓛 3 κs qs) ∷ Γ) G
+  tokens_out t κs qs = step (λ s. use1 𝓛 (‵ (flft κs.0 qs.0) ⊛ others κs qs) (id⊢ 𝓤 _) $ split t $ s)
 
-  -- the same at the end, and the result
-  abbrev pub Left : (Q : RattleType) → (Cr E).Denot → Q.Denot → Val → List (Item 𝓤)
-  Left Q d r v = Had d ++ ‵ (Q.own_val r (v ∷ [])) ∷ []
+  pub tokens_in : K → (κs : Lfts 3) (qs : Shares 3)
+      → Step K 𝓛 (raw (toks 𝓛 3 κs qs) ∷ Γ) G (‵ (flft κs.0 qs.0) ∷ others κs qs ∷ Γ) G
+  tokens_in t κs qs = step (λ s. join t $ use1 𝓛 (raw (toks 𝓛 3 κs qs)) (id⊢ 𝓤 _) $ s)
 
 -- what is met over a function's own lifetimes is met with one more for each type parameter
 module _ {M : Type 1} {𝓤 : Ura M} (𝓛 : Logic 𝓤) (𝓜 : Model 𝓤 𝓛.H) (𝓡 : Running 𝓤 𝓛.H 𝓜) (T : Ended)

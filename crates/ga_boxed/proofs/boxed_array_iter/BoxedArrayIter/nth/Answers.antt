@@ -1,6 +1,7 @@
 use Rattle.ga_core.proofs.CutLemmas.{nth-past, nth-step, passed-more}
 use Rattle.ga_boxed.proofs.boxed_array_iter.BoxedArrayIter.nth.Goals as goal
-use Rattle.std.proofs.Common.{Some, ap, arith, length, length-drop, sym, ◌∙◌}
+use Rattle.ga_boxed.proofs.PassedLemmas.{one_left}
+use Rattle.std.proofs.Common.{◌≤◌, Some, ap, arith, length, sym, ◌∙◌}
 
 pub loop-passed-preserved : goal.loop-passed-preserved
 loop-passed-preserved g c =
@@ -9,10 +10,8 @@ loop-passed-preserved g c =
 
 pub returns-then-n-len : goal.returns-then-n-len
 returns-then-n-len g c =
-    record {
-      step = nth-past c.args.n c.args.self.now c.next.new.self
-          (omega (arith, c.if-n-len.true, c.len.ensures)) c.in_default.ensures.steps.1;
-    }
+    let beyond : length c.args.self.now ≤ c.args.n = omega (arith, c.if-n-len.true, c.len.ensures) in
+    record { step = nth-past c.args.n c.args.self.now c.next.new.self beyond c.in_default.ensures.steps.1 }
 
 pub returns : goal.returns
 returns g c = record {
@@ -27,21 +26,13 @@ take_first-requires g c = record {
   some = λ none. omega (
     arith,
     ap length (sym c.self-2.view_is ∙ none),
-    ap length c.loop-passed.invariant,
-    length-drop c.loop-passed._passed c.args.self.now,
-    c.loop-passed.auto._passed-end,
-    c.if-n-len.false,
-    c.len.ensures,
+    one_left c.loop-passed._passed c.args.self.now c.loop-passed.self c.loop-passed.invariant
+        (omega (arith, c.loop-passed.auto._passed-end, c.if-n-len.false, c.len.ensures)),
   );
 }
 
 pub drop_first-requires : goal.drop_first-requires
-drop_first-requires g c =
-    omega (
-      arith,
-      ap length c.loop-passed.invariant,
-      length-drop c.loop-passed._passed c.args.self.now,
-      c.loop-passed-test.true,
-      c.if-n-len.false,
-      c.len.ensures,
-    )
+drop_first-requires g c = record {
+  some = one_left c.loop-passed._passed c.args.self.now c.loop-passed.self c.loop-passed.invariant
+      (omega (arith, c.loop-passed-test.true, c.if-n-len.false, c.len.ensures));
+}

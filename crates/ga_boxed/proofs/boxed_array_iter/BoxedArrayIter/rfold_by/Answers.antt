@@ -9,26 +9,23 @@ use Rattle.std.proofs.lemmas.Fn.{FoldsTo-push}
 
 pub f-answer-requires : goal.f-answer-requires
 f-answer-requires g c =
-    let so_far = c.loop-item.invariant in
-    let item = c.in-Some.item in
-    let left = c.loop-item.self in
+    let at = c.loop-item in
     let others = c.next_back.new.self in
-    let whole = so_far.1 ∙ ap (λ rest. so_far.0 ++ rest)
-    (next_back-reversed left (Some item) others c.in-Some.ensures.steps) in
-    may_fold-at (λ item. item) _ _ _ _ _ c.requires.callable so_far.0 item
-    (reverse others) c.loop-item.f c.loop-item.answer whole (FoldRun-of_items _ _ _ _ _ _ so_far.2) _ refl
+    let came = next_back-reversed at.self (Some c.in-Some.item) others c.in-Some.ensures.steps in
+    may_fold-at (λ item. item) _ _ _ _ _ c.requires.callable at.invariant.0 c.in-Some.item (reverse others) at.f
+    at.answer (at.invariant.1 ∙ ap (λ rest. at.invariant.0 ++ rest) came)
+    (FoldRun-of_items _ _ _ _ _ _ at.invariant.2) _ refl
 
 pub loop-item-preserved : goal.loop-item-preserved
 loop-item-preserved g c =
-    let so_far = c.loop-item.invariant in
+    let at = c.loop-item in
     let item = c.in-Some.item in
-    let left = c.loop-item.self in
     let others = c.next_back.new.self in (
-      so_far.0 ++ item ∷ [],
-      taken-more (reverse c.args.self) so_far.0 (reverse left) item (reverse others) so_far.1
-          (next_back-reversed left (Some item) others c.in-Some.ensures.steps),
-      FoldsTo-push _ (c.args.f.now, c.args.init) so_far.0 (c.loop-item.f, c.loop-item.answer) item
-          (c.f-answer.new.self, c.f-answer.result) so_far.2 c.f-answer.ensures,
+      at.invariant.0 ++ item ∷ [],
+      taken-more (reverse c.args.self) at.invariant.0 (reverse at.self) item (reverse others) at.invariant.1
+          (next_back-reversed at.self (Some item) others c.in-Some.ensures.steps),
+      FoldsTo-push _ (c.args.f.now, c.args.init) at.invariant.0 (at.f, at.answer) item
+          (c.f-answer.new.self, c.f-answer.result) at.invariant.2 c.f-answer.ensures,
     )
 
 pub returns : goal.returns

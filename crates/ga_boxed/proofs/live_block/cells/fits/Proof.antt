@@ -11,32 +11,28 @@ use seplogic.Ra.Ura.{Ura}
 use mir.MapTy.{inst_fn}
 use mir.Syntax.{Fn, w64}
 use mir.Val.{Fits, Val, vbool, vint}
-use base.Fml.{ftrue}
-use base.Logic.{SProp, ent, emp, fst∗, guard_i, via}
+use base.Logic.{ent, emp, guard_i, via}
 use prog.Capped.{capped_fits, capped_is, capped_small}
 use prog.Memory.{capped}
-use prog.Wp.{Env, Calls, Loops, WpFn}
+use prog.Wp.{Env, Calls, Loops}
 use types.Logic.{Logic}
-use contract.Monad.{fact}
 use contract.Running.{tables}
-use types.Kit.{‵, ◌⊛◌, at_ret, ◌$◌, ◌∵◌, !, qed, by, keep, join, fjoin, feq_i, suffices, done}
+use types.Kit.{drop, flt_l, fsplit, at_ret, ◌$◌, ◌∵◌, !, qed, by, keep, feq_i}
 use types.Run.{lit, true_lit, of_opd, bin, first, skips, branches, exec, returns, returns_within, enter, size_word}
 use types.ByLocal.{alloc_all, pass_all, free_all, look_at, get, sets, env}
 use denote.Builtin.{bool, usize}
 use denote.Exit.{yes}
 use denote.Plain.{uint_vals, uint_Tells}
-use denote.RattleType.{owns}
 use denote.Signature.{plain}
 use denote.Steps.{nothing}
-use denote.Triple.Clauses.{Clauses, Ended}
-use denote.Triple.Entry.{on_entry}
-use denote.Triple.Walked.{says, Stays, stay_dropped, walk_of, ends_at, Goes-dropped}
+use denote.Triple.Walked.{stay_dropped, Goes-dropped}
 use Rattle.std.proofs.mem.Param.{El, args}
 use Rattle.std.proofs.ptr.Rows.{one_below}
 use Rattle.std.proofs.Flags.{T_true}
 use Rattle.std.proofs.VecSteps.Shapes.{after}
-use Rattle.std.proofs.raw_atomic.Walks.{proved}
-use Rattle.ga_boxed.proofs.WalkParts.{grows, sz}
+use Rattle.ga_boxed.proofs.CallWalk.{Call, Had, Walk, meets_grown}
+use Rattle.ga_boxed.proofs.ClauseFacts.{facts, has_every}
+use Rattle.ga_boxed.proofs.WalkParts.{sz}
 use Rattle.ga_boxed.proofs.live_block.cells.fits.Code as code
 use Rattle.ga_boxed.proofs.live_block.cells.fits.Statement as stated
 use Rattle.ga_boxed.specs.contracts.live_block.cells.fits.Key.{name as #self}
@@ -74,55 +70,42 @@ of_size c k some =
           T_true _ (le→leb c (most / capped k) (iff.1 (omega arith))),
     )
 
-abbrev ended : Ended
-ended = record {
-  signature = record {
-    lifetimes = 0;
-    outlives = [];
-    params = plain (λ _. usize) ∷ [];
-    result =
-        plain (λ _. bool);
-  };
-  kept = (yes, tt);
-}
-
-abbrev stayed : Stays ended.signature.params ended.kept
-stayed = (stay_dropped (plain (λ _. usize)) yes, tt)
-
 module _ (E : El) where
   abbrev function : Fn
   function = inst_fn (args E) code.function
 
-  abbrev Gives : ℕ → Bool → Type 0
-  Gives c r = (r ≡ true) ↔ (c * sz E < 2 ^ 63)
+  abbrev Gives : ℕ → Bool → List (Type 0)
+  Gives c r = ((r ≡ true) ↔ (c * sz E < 2 ^ 63)) ∷ []
 
-  abbrev spec : {M : Type 1} {𝓤 : Ura M} (𝓛 : Logic 𝓤) → Clauses 𝓤 ended
-  spec {𝓤 = 𝓤} 𝓛 κs a = record { ghost = Unit {0}; requires = λ _. emp 𝓤; ensures = λ _ r w. fact 𝓤 (Gives a.0 r) }
+  abbrev call : Call 0
+  call = record {
+    outlives = [];
+    me = record {
+      slot = plain (λ _. usize);
+      kept = yes;
+      stay = stay_dropped (plain (λ _. usize)) yes;
+      vals = λ _. uint_vals w64;
+      tells = λ _. uint_Tells w64;
+      ends = λ 𝓛. Goes-dropped 𝓛 0 (plain (λ _. usize)) yes (λ κs x f. refl);
+    };
+    behind = [];
+    out = plain (λ _. bool);
+    asks = λ κs c a. [];
+    gives = λ M 𝓤 𝓛 κs c a r w. facts 𝓤 (Gives c r);
+  }
 
-module _ (E : El) {M : Type 1} {𝓤 : Ura M} (𝓛 : Logic 𝓤) (C : Calls 𝓤 𝓛.H) (Λ : Loops 𝓤 𝓛.H) (c : ℕ) where
-  open 𝓛 use {H}
-
-  abbrev bound : (walk_of 𝓛 ended stayed (spec E 𝓛)).Ghost
-  bound = ((tt, tt, tt, (c, tt), (vint w64 c ∷ [], tt)), tt)
-
-  abbrev Post : Val → SProp 𝓤
-  Post = (walk_of 𝓛 ended stayed (spec E 𝓛)).post bound
-
-  exits : (r : Bool) → Gives E c r → ent 𝓤 (emp 𝓤) (Post (vbool r))
-  exits r gives =
-      qed 𝓛 [] ∵ suffices ! _ (ends_at 𝓛 ended stayed (spec E 𝓛) bound (vbool r) r (tt, tt) (tt, tt)) $ says ! gives $
-      feq_i ! (List Val) (vbool r ∷ []) (vbool r ∷ []) refl $ nothing ! $ nothing ! $ fjoin ! $ join ! $ nothing ! $
-      join ! $ done !
-
-  walk : c < 2 ^ 64 → ent 𝓤 (on_entry 𝓛 ended.signature tt tt (c, tt) (vint w64 c ∷ [], tt))
-      (WpFn 𝓤 H C Λ (function E) (vint w64 c ∷ []) Post)
-  walk few =
+module _ (E : El) {M : Type 1} {𝓤 : Ura M} (𝓛 : Logic 𝓤) (C : Calls 𝓤 𝓛.H) (Λ : Loops 𝓤 𝓛.H) where
+  walk : Walk (call E) 𝓛 C Λ (function E)
+  walk κs qs bounds c ns w Post asked fine ends =
       let k : ℕ = capped (sz E) in let q : ℕ = most / k in
       let low : q < 2 ^ 64 = omega (arith, div-le_self most k) in
-      qed 𝓛 ((‵ ftrue ⊛ ‵ (owns (usize ∷ []) (c, tt) (vint w64 c ∷ [], tt))) ∷ []) ∵ keep ! [] $
+      let exits : (r : Bool) → (r ≡ true) ↔ (c * sz E < 2 ^ 63) → ent 𝓤 (emp 𝓤) (Post (vbool r)) = λ r gives.
+      qed 𝓛 [] ∵ has_every ! (Gives E c r) gives $ feq_i ! (List Val) (vbool r ∷ []) (vbool r ∷ []) refl $ nothing ! $
+      nothing ! $ by ! (ends (vbool r) r tt tt tt) in
+      qed 𝓛 (Had (call E) 𝓛 κs qs c ns w) ∵ fsplit ! $ drop ! $ flt_l ! (λ few. keep ! [] $
       enter ! C Λ (function E) (vint w64 c ∷ []) _ $ alloc_all !
       (λ l. pass_all ! refl ((tt, record { fits = few }), tt) $
-      let En : Env 𝓤 H = env (function E).locals l in
+      let En : Env 𝓤 𝓛.H = env (function E).locals l in
       sets ! (of_opd ! (size_word !)) refl (tt, record { fits = capped_fits (sz E) }) $
       sets ! (bin ! (get ! refl) (lit ! tt) tt) refl (tt, tt) $
       first ! $ branches ! (get ! refl)
@@ -136,14 +119,10 @@ module _ (E : El) {M : Type 1} {𝓤 : Ura M} (𝓛 : Logic 𝓤) (C : Calls �
       }) (get ! refl) (some_size k some))
       refl (tt, record { fits = low }) $
       sets ! (bin ! (get ! refl) (get ! refl) tt) refl (tt, tt) $
-      returns ! (look_at ! 0 refl) $ free_all ! refl $ by ! (exits (leb c q) (of_size c (sz E) (some_size k some)))))
+      returns ! (look_at ! 0 refl) $ free_all ! refl $ by ! (exits (leb c q) (of_size c (sz E) (some_size k some))))))
 
 pub fits_spec : {M : Type 1} → stated.statement M
 fits_spec 𝓤 𝓛 𝓜 𝓡 wired X LX y =
     let E : El = record { row = X; laws = LX } in let 𝓣 = tables 𝓤 𝓛.H 𝓜 𝓡 𝓡.env in
-    grows 𝓛 𝓜 𝓡 ended (spec E 𝓛) 1 (X.lives, tt) (#self (args E))
-    (proved 𝓛 ended stayed (spec E 𝓛) 𝓜 𝓡 (Goes-dropped 𝓛 0 (plain (λ _. usize)) yes (λ κs x f. refl), tt)
-    (#self (args E)) (function E) (code.unfolded 𝓤 𝓛.H 𝓜 𝓡 wired (X, tt)) (λ κs. (uint_vals w64, tt))
-    (λ κs. (uint_Tells w64, tt))
-    (λ κs qs bounds a g are. via 𝓤 _ (fst∗ 𝓤 _ (emp 𝓤)) (walk E 𝓛 𝓣.C 𝓣.Λ a.0 are.0.1)))
-    ((y.0.0, y.0.1, tt, y.0.3, y.0.4), y.1)
+    meets_grown (call E) 𝓛 𝓜 𝓡 1 (X.lives, tt) (#self (args E)) (function E) (code.unfolded 𝓤 𝓛.H 𝓜 𝓡 wired (X, tt))
+    (walk E 𝓛 𝓣.C 𝓣.Λ) ((y.0.0, y.0.1, tt, y.0.3, y.0.4), y.1)
