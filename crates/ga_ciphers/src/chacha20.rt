@@ -114,6 +114,7 @@ fn xor_rotate(x: u32, y: u32, k: u32) -> u32
 
 // The quarter round (2.1).
 #[inline(always)]
+#[tactic(auto, unfolding(rand_chacha::specs::Block::quarter_round))]
 fn quarter_round(a: u32, b: u32, c: u32, d: u32) -> (u32, u32, u32, u32)
     ensures { result ≡ quarter_round a b c d }
 {
