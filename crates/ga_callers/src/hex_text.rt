@@ -16,7 +16,8 @@ fn three_digits_written<W: Write>(w: &mut W) -> Result<(), io::Error>
     write_hex(&[10, 20, 30], false, Some(3), w)
 }
 
-fn upper_digits_written<N: ArrayLength<u8>, W: Write>(
+/// Writes the bytes as hex text in upper case.
+pub fn upper_digits_written<N: ArrayLength<u8>, W: Write>(
     row: &GenericArray<u8, N>,
     w: &mut W,
 ) -> Result<(), io::Error>

@@ -1,18 +1,17 @@
 //! Lengths of one's own: one that is kept in an `ArrayVec`, and one that is kept in a store of one's own.
-ghost use Rattle.generic_array.specs.HexText.{hex_digits};
 ghost use Rattle.generic_array.specs.Length.{FitsInline};
 ghost use Rattle.std.specs.Int.Bits.{bit_xor};
-ghost use Rattle.std.specs.Io.KnownBytes.{Appends};
 ghost use Rattle.std.specs.List.{range_with_len};
-ghost use Rattle.std.specs.Prelude.{◌≡◌, ◌-◌, ◌/◌, ◌<◌, [], ◌∷◌, ◌++◌, ◌↔◌, IfOk, IsOk, IsTrue, OnOk, false, length, map, slice_get};
+ghost use Rattle.std.specs.Prelude.{◌≡◌, ◌-◌, ◌/◌, ◌<◌, [], ◌∷◌, ◌++◌, ◌↔◌, IfOk, IsOk, IsTrue, length, map, slice_get};
 
 use crate::answers::has;
+use crate::hex_text::upper_digits_written;
 use arrayvec::ArrayVec;
 use generic_array::sequence::Concat;
 use generic_array::{ArrayLength, GenericArray, LengthError, Store, U10, Unsigned};
 use std::io::Write;
 use std::marker::Model;
-use std::{io, mem};
+use std::mem;
 
 /// The days of a week.
 struct Week;
@@ -155,15 +154,6 @@ fn ends<N: ArrayLength<u8>>(array: GenericArray<u8, N>) -> (Option<u8>, Option<u
     (items.next(), items.next_back())
 }
 
-fn digits_written<N: ArrayLength<u8>, W: Write>(
-    row: &GenericArray<u8, N>,
-    w: &mut W,
-) -> Result<(), io::Error>
-    ensures { OnOk result (Appends (W.contents w.old) (W.contents w.new) (hex_digits false row.now)) }
-{
-    row.write_lower_hex(w, None)
-}
-
 fn halves_of_week() -> GenericArray<usize, Week>
     ensures { result ≡ 0 ∷ 0 ∷ 1 ∷ 1 ∷ 2 ∷ 2 ∷ 3 ∷ [] }
 {
@@ -203,7 +193,7 @@ fn written_and_joined<W: Write>(w: &mut W) -> Option<GenericArray<u8, U10>> {
     let (Ok(week), Ok(sides)) = (week_of(b"abcdefg"), sides_of(b"hij")) else {
         return None;
     };
-    if digits_written(&sides, w).is_err() || digits_written(&week, w).is_err() {
+    if upper_digits_written(&sides, w).is_err() || upper_digits_written(&week, w).is_err() {
         return None;
     }
     Some(joined(week, sides))
@@ -215,5 +205,5 @@ fn arrays_of_lengths_of_ones_own_are_as_all_arrays(rt: HostRuntime) {
     let mut text = Vec::new(rt.alloc());
     let both = written_and_joined(&mut text);
     assert!(rt; both.is_some_and(|both| has(both, b"abcdefghij")));
-    assert!(rt; text.as_slice() == b"68696a61626364656667".as_slice());
+    assert!(rt; text.as_slice() == b"68696A61626364656667".as_slice());
 }

@@ -114,6 +114,7 @@ fn xor_rotate(x: u32, y: u32, k: u32) -> u32
 
 // The quarter round (2.1).
 #[inline(always)]
+#[tactic(auto, unfolding(rand_chacha::specs::Block::quarter_round))]
 fn quarter_round(a: u32, b: u32, c: u32, d: u32) -> (u32, u32, u32, u32)
     ensures { result ≡ quarter_round a b c d }
 {
@@ -130,6 +131,7 @@ fn quarter_round(a: u32, b: u32, c: u32, d: u32) -> (u32, u32, u32, u32)
 
 // The quarter round on each column of the state, read as four rows of four words.
 #[inline(always)]
+#[tactic(auto, unfolding(rand_chacha::specs::Block::column_round))]
 fn column_round(x: [u32; 16]) -> [u32; 16]
     ensures { result ≡ column_round x }
 {
@@ -144,6 +146,7 @@ fn column_round(x: [u32; 16]) -> [u32; 16]
 
 // The quarter round on each diagonal.
 #[inline(always)]
+#[tactic(auto, unfolding(rand_chacha::specs::Block::diagonal_round))]
 fn diagonal_round(x: [u32; 16]) -> [u32; 16]
     ensures { result ≡ diagonal_round x }
 {

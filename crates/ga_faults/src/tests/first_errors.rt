@@ -4,7 +4,8 @@ ghost use Rattle.generic_array.specs.Length.{FitsInline};
 use crate::tests::counted::{Counted, Counts};
 use crate::tests::items::{boxed_counted_from, counted_from};
 use generic_array::functional::FunctionalSequence;
-use generic_array::{AllocError, ArrayLength, BoxedArray, GenericArray, U5, Unsigned, always};
+use generic_array::sequence::SequenceItem;
+use generic_array::{AllocError, ArrayLength, BoxedArray, GenericArray, U5, always};
 use std::alloc::Global;
 use std::cell::Cell;
 use std::test::Fail;
@@ -84,26 +85,17 @@ fn map_up_to_an_error<
     always(array.try_map_by((), f))
 }
 
-/// `try_fold_by` of an inline array.
-fn fold_up_to_an_error<T: Default + Drop, A, E, N: ArrayLength<T>, F: FnMut(A, T) -> Result<A, E>>(
-    array: GenericArray<T, N>,
-    init: A,
-    f: &mut F,
-) -> Result<A, E>
+/// `try_fold_by` of any kind.
+fn fold_up_to_an_error<
+    T,
+    A,
+    E,
+    S: FunctionalSequence<T>,
+    F: FnMut(A, SequenceItem<S>) -> Result<A, E>,
+>(s: S, init: A, f: &mut F) -> Result<A, E>
     requires { (f : _) (total : _) (x : _) → F.pre f total x }
 {
-    array.try_fold_by(init, f)
-}
-
-/// `try_fold_by` of a boxed array.
-fn boxed_fold_up_to_an_error<T: Drop, A, E, N: Unsigned, F: FnMut(A, T) -> Result<A, E>>(
-    array: BoxedArray<T, N>,
-    init: A,
-    f: &mut F,
-) -> Result<A, E>
-    requires { (f : _) (total : _) (x : _) → F.pre f total x }
-{
-    array.try_fold_by(init, f)
+    s.try_fold_by(init, f)
 }
 
 /// The end of `try_generate_by` of five items, inline.
@@ -150,7 +142,7 @@ fn boxed_fold(alloc: Global, refused: u32) -> Result<End, AllocError> {
     let failing = Failing::at(refused, &answers);
     let five = boxed_counted_from::<U5>(alloc, &entries, 1)?;
     let mut answer = |_before: Counted, item: Counted| failing.answer(item.place());
-    let built = boxed_fold_up_to_an_error(five, Counted::new(&answers, 0), &mut answer);
+    let built = fold_up_to_an_error(five, Counted::new(&answers, 0), &mut answer);
     Ok(end_of(built, &failing, &entries))
 }
 

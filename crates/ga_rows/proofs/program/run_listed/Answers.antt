@@ -1,25 +1,20 @@
-use Rattle.generic_array.specs.Rows.{chunk_rest}
-use Rattle.ga_rows.proofs.StatusLemmas.{IsSomeAnd-there, ListedAnd-kept, ListedEach-kept, ended_rest, ended_well}
-use Rattle.ga_rows.proofs.StatusLemmas.{ended_whole, ended_words}
+use Rattle.ga_rows.proofs.StatusLemmas.{IsSomeAnd-there, ended_rest, ended_well, ended_whole, ended_words}
+use Rattle.ga_rows.proofs.program.run_listed.Given as given
 use Rattle.ga_rows.proofs.program.run_listed.Goals as goal
 use Rattle.ga_rows.proofs.program.run_listed.Goals.{in-Ok+in-Ok-words_after_name, in-Ok+in-Err-words_after_name, in-Err}
-use Rattle.ga_rows.specs.Text.{text_of}
-use Rattle.ga_rows.specs.Arguments.{bytes_of, meaning_of_words}
-use Rattle.std.proofs.Common.{◌≡◌, ◌≢◌, ◌⊎◌, None, [], IfSome, IsSomeAnd, ap, inl, inr, map, rules, string_bytes, ◌∙◌}
+use Rattle.ga_rows.specs.Listed.{ListedEach}
+use Rattle.ga_rows.specs.Arguments.{meaning_of_words}
+use Rattle.std.proofs.Common.{◌≡◌, ◌⊎◌, None, ap, inl, inr, map, rules, string_bytes, ◌∙◌}
+use Rattle.std.specs.Process.{exit_status as process_status}
 use Rattle.ga_rows.specs.declared.status.Status.TheVariants.{Rest, Whole, Words}
-use Rattle.std.specs.Io.KnownBytes.{Appends}
 
 pub returns-clause-text : goal.returns-clause-text
 returns-clause-text g c = λ code. elim c.match-listed.branch [
   | in-Ok+in-Ok-words_after_name w ↦
       let ended : (w.run.result ≡ Whole) ⊎ (w.run.result ≡ Rest) = ended_well w.run.result (search rules) in
-      ListedAnd-kept g.I.Iterator.next_gives (λ meant. IsSomeAnd meant
-      (λ meaning. IfSome (g.R.Read.remaining c.args.r.now) (λ input.
-      Appends (g.W.Write.contents c.args.w.now) (g.W.Write.contents c.match-listed.w)
-      (text_of meaning.0 meaning.1 input))))
-      c.args.listed w.in-Ok.words w.in-Ok-words_after_name.words.items w.in-Ok.is w.in-Ok-words_after_name.ensures.ok
-      (IsSomeAnd-there (meaning_of_words (map string_bytes w.in-Ok-words_after_name.words.items)) _ (search rules)
-      (search rules))
+      let all = w.in-Ok-words_after_name.ensures.ok in
+      let meant = meaning_of_words (map string_bytes w.in-Ok-words_after_name.words.items) in
+      rw w.in-Ok.is (all.0, all.1, all.2, rw (← all.3) (IsSomeAnd-there meant _ (search rules) (search rules)))
   | in-Ok+in-Err-words_after_name w ↦ search rules
   | in-Err w ↦ search rules
 ]
@@ -28,10 +23,8 @@ pub returns-clause-whole : goal.returns-clause-whole
 returns-clause-whole g c = λ code. elim c.match-listed.branch [
   | in-Ok+in-Ok-words_after_name w ↦
       let ended = ended_whole w.run.result (search rules) in
-      ListedAnd-kept g.I.Iterator.next_gives (λ meant. IfSome meant
-      (λ meaning. IfSome (g.R.Read.remaining c.args.r.now) (λ input. chunk_rest (bytes_of meaning.1) input ≡ [])))
-      c.args.listed w.in-Ok.words w.in-Ok-words_after_name.words.items w.in-Ok.is w.in-Ok-words_after_name.ensures.ok
-      (search rules)
+      let all = w.in-Ok-words_after_name.ensures.ok in
+      rw w.in-Ok.is (all.0, all.1, all.2, rw (← all.3) (search rules))
   | in-Ok+in-Err-words_after_name w ↦ search rules
   | in-Err w ↦ search rules
 ]
@@ -40,10 +33,8 @@ pub returns-clause-rest : goal.returns-clause-rest
 returns-clause-rest g c = λ code. elim c.match-listed.branch [
   | in-Ok+in-Ok-words_after_name w ↦
       let ended = ended_rest w.run.result (search rules) in
-      ListedAnd-kept g.I.Iterator.next_gives (λ meant. IfSome meant
-      (λ meaning. IfSome (g.R.Read.remaining c.args.r.now) (λ input. chunk_rest (bytes_of meaning.1) input ≢ [])))
-      c.args.listed w.in-Ok.words w.in-Ok-words_after_name.words.items w.in-Ok.is w.in-Ok-words_after_name.ensures.ok
-      (search rules)
+      let all = w.in-Ok-words_after_name.ensures.ok in
+      rw w.in-Ok.is (all.0, all.1, all.2, rw (← all.3) (search rules))
   | in-Ok+in-Err-words_after_name w ↦ search rules
   | in-Err w ↦ search rules
 ]
@@ -52,36 +43,30 @@ pub returns-clause-words : goal.returns-clause-words
 returns-clause-words g c = λ code. elim c.match-listed.branch [
   | in-Ok+in-Ok-words_after_name w ↦
       let ended = ended_words w.run.result (search rules) in
-      ListedAnd-kept g.I.Iterator.next_gives (λ meant. meant ≡ None)
-      c.args.listed w.in-Ok.words w.in-Ok-words_after_name.words.items w.in-Ok.is w.in-Ok-words_after_name.ensures.ok
-      (search rules)
+      let all = w.in-Ok-words_after_name.ensures.ok in
+      rw w.in-Ok.is (all.0, all.1, all.2, rw (← all.3) (search rules))
   | in-Ok+in-Err-words_after_name w ↦ search rules
+  | in-Err w ↦ search rules
+]
+
+-- at words that mean nothing no byte is read, and the exit status says so, or that there was no memory for the words
+meaningless : (g : given.Over) (c : goal.After-from g)
+    → ListedEach g.I.Iterator.next_gives c.args.listed (λ meant. meant ≡ None)
+    → ((process_status c.from.result ≡ 2) ⊎ (process_status c.from.result ≡ 3)) × (c.match-listed.r ≡ c.args.r.now)
+meaningless g c each = elim c.match-listed.branch [
+  | in-Ok+in-Ok-words_after_name w ↦
+      let all = w.in-Ok-words_after_name.ensures.ok in
+      let nothing = (rw w.in-Ok.is at each) all.0 all.0.seen all.1 all.2 in
+      let unknown : w.run.result ≡ Words = w.run.ensures.words.1
+      (ap (λ words. meaning_of_words (map string_bytes words)) (w.as_slice.ensures.value ∙ all.3) ∙ nothing) in
+      let kept = w.run.ensures.untouched unknown in
+      (inl (search rules), search rules)
+  | in-Ok+in-Err-words_after_name w ↦ (inr (search rules), search rules)
   | in-Err w ↦ search rules
 ]
 
 pub returns-clause-meaningless : goal.returns-clause-meaningless
-returns-clause-meaningless g c = λ each. elim c.match-listed.branch [
-  | in-Ok+in-Ok-words_after_name w ↦
-      let nothing = ListedEach-kept g.I.Iterator.next_gives (λ meant. meant ≡ None)
-      c.args.listed w.in-Ok.words w.in-Ok-words_after_name.words.items w.in-Ok.is w.in-Ok-words_after_name.ensures.ok
-      each in
-      let unknown : w.run.result ≡ Words = w.run.ensures.words.1
-      (ap (λ words. meaning_of_words (map string_bytes words)) w.as_slice.ensures.value ∙ nothing) in
-      inl (search rules)
-  | in-Ok+in-Err-words_after_name w ↦ inr (search rules)
-  | in-Err w ↦ search rules
-]
+returns-clause-meaningless g c = λ each. (meaningless g c each).0
 
 pub returns-clause-unread : goal.returns-clause-unread
-returns-clause-unread g c = λ each. elim c.match-listed.branch [
-  | in-Ok+in-Ok-words_after_name w ↦
-      let nothing = ListedEach-kept g.I.Iterator.next_gives (λ meant. meant ≡ None)
-      c.args.listed w.in-Ok.words w.in-Ok-words_after_name.words.items w.in-Ok.is w.in-Ok-words_after_name.ensures.ok
-      each in
-      let unknown : w.run.result ≡ Words = w.run.ensures.words.1
-      (ap (λ words. meaning_of_words (map string_bytes words)) w.as_slice.ensures.value ∙ nothing) in
-      let kept = w.run.ensures.untouched unknown in
-      search rules
-  | in-Ok+in-Err-words_after_name w ↦ search rules
-  | in-Err w ↦ search rules
-]
+returns-clause-unread g c = λ each. (meaningless g c each).1
