@@ -34,8 +34,8 @@ module _ (mode : Mode) where
 
   -- the same where the rows that are left are taken from the back
   pub lines-more_back : (all left after : List (List ℕ)) (row : List ℕ) (before now later : Option (List ℕ))
-      → LinesSoFar all (reverse left) before now → left ≡ after ++ row ∷ [] → Appends now later (line (row_text mode row))
-      → LinesSoFar all (reverse after) before later
+      → LinesSoFar all (reverse left) before now → left ≡ after ++ row ∷ []
+      → Appends now later (line (row_text mode row)) → LinesSoFar all (reverse after) before later
   lines-more_back all left after row before now later so_far step put =
       lines-more all (reverse left) (reverse after) row before now later so_far
       (ap reverse step ∙ reverse-append after (row ∷ [])) put
