@@ -2,8 +2,8 @@
 use Rattle.ga_rows.specs.Status.{exit_status}
 use Rattle.ga_rows.specs.declared.status.Status.{Status}
 use Rattle.ga_rows.specs.declared.status.Status.TheVariants.{Fault, Memory, Rest, Whole, Words}
-use Rattle.std.proofs.Common.{◌≡◌, ◌⊎◌, ◌≤◌, Option, None, Some, IfSome, IsSomeAnd}
-use Rattle.std.proofs.Common.{arith, inl, inr, refl}
+use Rattle.std.proofs.Common.{◌≡◌, ◌⊎◌, ◌↔◌, ◌≤◌, Option, None, Some, IfSome, IsSomeAnd}
+use Rattle.std.proofs.Common.{ap, arith, inl, inr, refl}
 
 pub ended_whole : (status : Status) → exit_status status ≡ 0 → status ≡ Whole
 ended_whole Whole code = refl
@@ -32,6 +32,18 @@ ended_words Rest code = absurd (omega (arith, code))
 ended_words Words code = refl
 ended_words Memory code = absurd (omega (arith, code))
 ended_words Fault code = absurd (omega (arith, code))
+
+-- no memory and any other fault have the exit statuses from 3 on
+pub failed-high : (status : Status) (P : Type 0) → ((status ≡ Memory) ↔ P) → ((status ≡ Fault) ↔ (¬ P))
+    → 3 ≤ exit_status status
+failed-high Memory P memory fault = omega arith
+failed-high Fault P memory fault = omega arith
+failed-high Whole P memory fault =
+    absurd (omega (arith, ap exit_status (fault.1 (λ p. absurd (omega (arith, ap exit_status (memory.1 p)))))))
+failed-high Rest P memory fault =
+    absurd (omega (arith, ap exit_status (fault.1 (λ p. absurd (omega (arith, ap exit_status (memory.1 p)))))))
+failed-high Words P memory fault =
+    absurd (omega (arith, ap exit_status (fault.1 (λ p. absurd (omega (arith, ap exit_status (memory.1 p)))))))
 
 -- a value that is there, with what holds of it if it is there
 pub IsSomeAnd-there : {A : Type 0} (o : Option A) (P : A → Type 0) → ¬ (o ≡ None) → IfSome o P → IsSomeAnd o P

@@ -2,10 +2,10 @@
 use Rattle.ga_rows.specs.Text.{line, lines, row_text}
 use Rattle.ga_rows.specs.declared.arguments.Mode.{Mode}
 use Rattle.std.proofs.Common.{[], ◌≡◌, ℕ, ◌+◌, ◌≤◌, List, ◌∷◌, ◌++◌, None, Option, Some, append_assoc, ap, arith}
-use Rattle.std.proofs.Common.{length, length-take, sym, take, ◌∙◌}
+use Rattle.std.proofs.Common.{length, length-append, length-take, reverse, sym, take, ◌∙◌}
 use Rattle.std.proofs.KnownBytes.{Appends-nil, Appends-trans}
 use Rattle.std.proofs.Math.Seq.{take-append-add}
-use Rattle.std.proofs.lemmas.List.{take-append-le}
+use Rattle.std.proofs.lemmas.List.{reverse-append, take-append-le}
 use Rattle.std.specs.Io.KnownBytes.{Appends, Keeps, append_known}
 
 module _ (mode : Mode) where
@@ -31,6 +31,18 @@ module _ (mode : Mode) where
         whole = so_far.whole ∙ (ap (λ rows. so_far.done ++ lines mode rows) step
             ∙ sym (append_assoc so_far.done first (lines mode after)));
       }
+
+  -- the same where the rows that are left are taken from the back
+  pub lines-more_back : (all left after : List (List ℕ)) (row : List ℕ) (before now later : Option (List ℕ))
+      → LinesSoFar all (reverse left) before now → left ≡ after ++ row ∷ []
+      → Appends now later (line (row_text mode row)) → LinesSoFar all (reverse after) before later
+  lines-more_back all left after row before now later so_far step put =
+      lines-more all (reverse left) (reverse after) row before now later so_far
+      (ap reverse step ∙ reverse-append after (row ∷ [])) put
+
+-- rows that there are none of do not end in a row
+pub no-last : {A : Type 0} (left after : List A) (row : A) → left ≡ [] → left ≡ after ++ row ∷ [] → ⊥
+no-last left after row none step = omega (arith, ap length none, ap length step, length-append after (row ∷ []))
 
 -- known bytes that a text behind others kept grow by what is put behind the text
 pub Appends-behind : (before kept : Option (List ℕ)) (text after put : List ℕ) → Keeps before (append_known kept text)

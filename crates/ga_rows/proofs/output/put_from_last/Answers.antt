@@ -1,10 +1,9 @@
-use Rattle.ga_rows.proofs.TextLemmas.{Appends-behind, lines-more, lines-none}
+use Rattle.ga_rows.proofs.TextLemmas.{Appends-behind, lines-more_back, lines-none, no-last}
 use Rattle.ga_rows.proofs.output.put_from_last.Goals as goal
 use Rattle.ga_rows.proofs.output.put_from_last.Goals.{else-not-has_room, then-not-has_room+in_ok-hand_over}
 use Rattle.ga_rows.specs.declared.arguments.Mode.TheVariants.{Last}
-use Rattle.std.proofs.Common.{[], ◌∷◌, ◌∙◌, ap, arith, length, length-append, refl, reverse, rules}
+use Rattle.std.proofs.Common.{◌∙◌, ap, refl, reverse, rules}
 use Rattle.std.proofs.KnownBytes.{Keeps-refl}
-use Rattle.std.proofs.lemmas.List.{reverse-append}
 use Rattle.std.specs.Iterator.Adapters.{rev_source}
 
 pub loop-row-init : goal.loop-row-init
@@ -15,19 +14,14 @@ loop-row-init g c =
 
 pub loop-row-preserved : goal.loop-row-preserved
 loop-row-preserved g c =
-    let left = c.next.new.self.iter in
+    let left = rev_source c.loop-row.row-iterator in
+    let after = rev_source c.next.new.self in
     let row = c.in-Some.row.slice.now in
-    let came = c.in-Some.ensures.steps in
     record {
-      text = lines-more Last _ _ (reverse left) row _ _ _ c.loop-row.invariant.text
-          (ap reverse came ∙ reverse-append left (row ∷ [])) (elim c.if-not-has_room.branch [
+      text = lines-more_back Last _ left after row _ _ _ c.loop-row.invariant.text c.in-Some.ensures.steps
+          (elim c.if-not-has_room.branch [
             | then-not-has_room+in_ok-hand_over w ↦ search rules
             | else-not-has_room w ↦ Appends-behind _ _ _ _ _ (search (rules, Keeps-refl)) c.in_ok-put_row.ensures
           ]);
-      empty = λ none. absurd (omega (
-        arith,
-        ap length (c.loop-row.invariant.empty none).0,
-        ap length came,
-        length-append left (row ∷ []),
-      ));
+      empty = λ none. absurd (no-last left after row (c.loop-row.invariant.empty none).0 c.in-Some.ensures.steps);
     }
