@@ -139,6 +139,7 @@ fn show_pieces<W: fmt::Write>(
 
 // Puts the digits of the bytes over a text of twice their length.
 #[inline]
+#[tactic(auto, using(crate::proofs::HexLemmas::uppercase_lower))]
 fn put_digits(bytes: &[u8], upper: bool, text: &mut [u8])
     requires { length text.old ≡ 2 * length bytes.now }
     ensures { text.new ≡ hex_digits upper bytes.now }

@@ -17,7 +17,7 @@ unreachable-requires g c =
 pub loop-count-preserved : goal.loop-count-preserved
 loop-count-preserved g c =
     let shown = take c.min-shown.result c.put_digits.new.text in
-    let few : c.min-shown.result ≡ min c.loop-count.count (length c.put_digits.new.text) = c.min-shown.ensures in
+    let few : c.min-shown.result ≡ min c.loop-count.count (length c.put_digits.new.text) = search rules in
     record {
       text = λ flush.
           let before = c.loop-count.invariant.text flush in (

@@ -25,19 +25,16 @@ returns-in_err-write_all-clause-empty g c none =
 pub loop-count-preserved : goal.loop-count-preserved
 loop-count-preserved g c =
     let contents = g.W.Write.contents in
-    let at = c.loop-count in let so_far = at.invariant.text in
-    let piece = c.split_at.result.0.now in let behind = c.split_at.result.1.now in
-    let parts = c.split_at.ensures.by_index.0 in
-    let text = c.put_digits.new.text in let n = c.min-written.result in
-    let few : n ≡ min at.count (length text) = c.min-written.ensures in
+    let so_far = c.loop-count.invariant.text in
+    let written = take c.min-written.result c.put_digits.new.text in
+    let few : c.min-written.result ≡ min c.loop-count.count (length c.put_digits.new.text) = search rules in
     record {
       text = (
-        so_far.0 ++ take n text,
-        Appends-trans (contents c.args.w.now) (contents at.w) (contents c.write_all.new.self) so_far.0 (take n text)
-            so_far.1 c.in_ok-write_all.ensures.bytes,
-        pieces-next c.args.upper at.count n at.left.now piece behind text _ so_far.0 parts c.put_digits.ensures few
-            so_far.2,
+        so_far.0 ++ written,
+        Appends-trans (contents c.args.w.now) (contents c.loop-count.w)
+            (contents c.write_all.new.self) so_far.0 written so_far.1 c.in_ok-write_all.ensures.bytes,
+        pieces-next c.args.upper _ _ _ _ _ _ _ _ c.split_at.ensures.by_index.0 c.put_digits.ensures few so_far.2,
       );
-      count = pieces-left c.args.upper at.count n at.left.now piece behind text parts c.put_digits.ensures few
-          at.invariant.count;
+      count = pieces-left c.args.upper _ _ _ _ _ _ c.split_at.ensures.by_index.0 c.put_digits.ensures few
+          c.loop-count.invariant.count;
     }
