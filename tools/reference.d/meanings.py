@@ -3,13 +3,14 @@ import re
 
 from sources import ANGLE, Item, closing, imports_of, items_of, parted
 
-CRATES = "ga_views ga_core ga_boxed generic_array ga_records ga_hashes ga_ciphers".split()
+CRATES = "ga_views ga_core ga_boxed generic_array ga_headline ga_records ga_hashes ga_ciphers".split()
 WITH_A_PAGE = ("struct", "enum", "trait")
 ATOM = re.compile(r'"[^"]*"|//.*|[^\s(){},;]+|[\s(){},;]+')
 BINDERS = re.compile(r"λ ([^.]*?)\.(?=\s)|(?:[({;]|\blet)\s*((?:[^\s(){};λ.≡]+ )+?)[:=] ")
 OF_THE_LANGUAGE = set("× → ¬ ⊥ λ : = . .. _ | ↦ ⊔ ℓ κ as by do elim end in let record type Type Unit tt absurd 𝓛 Self self result usize "
                       "Some None Ok Err true false []".split())
 OF_A_TYPE = {"row", "code", "Denot"}
+OF_A_CLOSURE = {"IsAlwaysCallable"}  # The language gives it; no source declares it.
 UNDER_A_BOUND = {"step": "steps"}  # FnMut's member is spelled so where it is written under a bound.
 
 
@@ -73,7 +74,7 @@ class Scope:
         name, rest = UNDER_A_BOUND.get(path[0], path[0]), path[1:]
         found = next((member for trait in traits for member in (trait, *trait.of_kind("ghost", "type")) if member.name == name), None)
         if not found:
-            return "local" if name in OF_A_TYPE or not self.site.library.kit else "unknown", None
+            return "local" if name in OF_A_TYPE | OF_A_CLOSURE or not self.site.library.kit else "unknown", None
         if found.kind == "ghost" or not rest:
             return ("local", None) if found.kind == "type" else ("member", found)
         deeper = parted(found.head.partition(":")[2], "+") + self.bounds.get(f"{prefix}.{name}", []) if found.kind == "type" else []
