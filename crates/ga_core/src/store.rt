@@ -6,6 +6,7 @@ ghost use Rattle.std.specs.Iterator.{YieldsLast};
 ghost use Rattle.std.specs.List.{All, refill};
 ghost use Rattle.std.specs.Prelude.{◌≡◌, ℕ, ◌+◌, ◌<◌, ◌≤◌, List, [], ◌∷◌, ◌++◌, drop, length, remove, slice_index_or, slice_set, take};
 
+use crate::slots::move_items;
 use arrayvec::ArrayVec;
 use std::default::MadeWith;
 
@@ -158,4 +159,15 @@ pub(crate) fn store_of_array<T, const N: usize>(items: [T; N]) -> ArrayVec<T, N>
     ensures { result.items ≡ items }
 {
     ArrayVec::from_array_in((), items)
+}
+
+// The items of a full store as a native array.
+#[inline]
+pub(crate) fn array_of_store<T: Default + Drop, const N: usize>(mut store: ArrayVec<T, N>) -> [T; N]
+    requires full { length store.items ≡ N }
+    ensures { result ≡ store.items }
+{
+    let mut items: [T; N] = Default::default();
+    move_items(store.as_mut_slice(), &mut items);
+    items
 }
