@@ -1,2 +1,1 @@
-pub mod AnyLength
 pub mod Jobs

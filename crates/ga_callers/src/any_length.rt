@@ -1,7 +1,7 @@
 //! Callers of any length, each with its exact result.
 ghost use Rattle.generic_array.specs.Length.{FitsInline};
 ghost use Rattle.generic_array.specs.Tries.{try_map};
-ghost use Rattle.ga_callers.specs.AnyLength.{digit_of};
+ghost use Rattle.ga_core_callers.specs.Digits.{digit_of};
 ghost use Rattle.generic_array.specs.Calls.{MayMap};
 ghost use Rattle.generic_array.specs.Entries.{ActsOnEntry};
 ghost use Rattle.generic_array.specs.Views.{items_of_view};
@@ -9,8 +9,10 @@ ghost use Rattle.std.specs.Int.Bits.{bit_xor};
 ghost use Rattle.std.specs.List.{range_with_len, zip};
 ghost use Rattle.std.specs.Prelude.{◌≡◌, ℕ, ◌+◌, ◌-◌, ◌*◌, ◌%◌, ◌^◌, ◌++◌, ◌<◌, ◌≤◌, IfOk, Ok, fold, length, map, replicate, reverse, sum};
 
-use crate::answers::{gives, has};
-use crate::kinds::{boxed_one_two_three, four_five_six, one_two_three};
+use crate::kinds::boxed_one_two_three;
+use ga_core_callers::answers::{gives, has};
+use ga_core_callers::digits::digit_in;
+use ga_core_callers::numbers::{four_five_six, one_two_three};
 use generic_array::checks::{map_total_by, total_by};
 use generic_array::functional::{
     FunctionalSequence, MappedError, MappedGenericSequence, MappedPlace, MappedSequence, MapsInline,
@@ -223,16 +225,6 @@ fn counted_up_boxed<N: Unsigned>(
 }
 
 // Digits in some base, or the first byte that is none.
-
-pub(super) fn digit_in(base: u8, byte: u8) -> Result<u8, u8>
-    ensures { result ≡ digit_of base byte }
-{
-    if byte >= b'0' && byte - b'0' < base {
-        Ok(byte - b'0')
-    } else {
-        Err(byte)
-    }
-}
 
 fn digits_of_view<N: ArrayLength<u8>>(
     text: GenericArrayRef<'_, u8, N>,

@@ -2,9 +2,9 @@
 ghost use Rattle.generic_array.specs.FillAnswer.{fill_answer};
 ghost use Rattle.std.specs.Prelude.{◌≡◌, ◌%◌, ◌∷◌, [], ◌^◌, ◌<◌, ◌↔◌, ◌⊎◌, IfErr, IfOk, IsOk, Ok, OnOk, length, reverse, slice_set, sum};
 
-use crate::answers::gives;
-use crate::digits::decimal_digit;
 use crate::kinds::boxed_one_two_three;
+use ga_core_callers::answers::gives;
+use ga_core_callers::digits::decimal_digit;
 use generic_array::{
     AllocError, BoxedArray, BoxedArrayIter, FillError, GenericArray, LengthError, LiveBlock, U0,
     U2, U3, U4, Unsigned, box_arr,

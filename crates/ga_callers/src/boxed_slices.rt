@@ -1,8 +1,8 @@
 //! Boxed arrays as slices.
 ghost use Rattle.std.specs.List.{list_any};
-ghost use Rattle.std.specs.Prelude.{◌≡◌, ◌==◌, ◌<◌, ◌↔◌, ◌^◌, IsTrue, Some, replicate, slice_get, slice_set, sum};
+ghost use Rattle.std.specs.Prelude.{◌≡◌, ◌==◌, ◌++◌, ◌<◌, ◌≤◌, ◌↔◌, ◌^◌, IsTrue, Some, drop, length, replicate, slice_get, slice_set, sum};
 
-use generic_array::{AllocError, BoxedArray, U3, Unsigned, box_arr};
+use generic_array::{AllocError, BoxedArray, U3, U4, Unsigned, box_arr};
 use std::alloc::Global;
 use std::test::Fail;
 
@@ -63,6 +63,13 @@ fn all_raised<N: Unsigned>(array: &mut BoxedArray<u8, N>) {
     }
 }
 
+fn boxed_front_set<N: Unsigned>(array: &mut BoxedArray<u8, N>, bytes: &[u8])
+    requires { length bytes.now ≤ N.USIZE }
+    ensures { array.new ≡ bytes.now ++ drop (length bytes.now) array.old }
+{
+    array[0..bytes.len()].copy_from_slice(bytes);
+}
+
 /// What each caller returns, and leaves, at the items 1, 2, 3.
 fn read_and_written(alloc: Global) -> Result<bool, AllocError> {
     let mut array: BoxedArray<u8, U3> = box_arr!(alloc, [1, 2, 3])?;
@@ -80,8 +87,16 @@ fn read_and_written(alloc: Global) -> Result<bool, AllocError> {
     Ok(read && set && raised && array.as_slice() == [7, 7, 7].as_slice())
 }
 
+/// A boxed `abcd` with another front.
+fn boxed_with_front(alloc: Global) -> Result<BoxedArray<u8, U4>, AllocError> {
+    let mut array: BoxedArray<u8, U4> = box_arr!(alloc, [b'a', b'b', b'c', b'd'])?;
+    boxed_front_set(&mut array, b"xy");
+    Ok(array)
+}
+
 #[test]
 fn a_boxed_array_is_read_and_written_as_a_slice(rt: HostRuntime) -> Result<(), Fail> {
     assert!(rt; read_and_written(rt.alloc())?);
+    assert!(rt; boxed_with_front(rt.alloc())?.as_slice() == b"xycd".as_slice());
     Ok(())
 }

@@ -1,8 +1,8 @@
 //! Conversions by the traits of std, arrays of zeros, and types with a length.
 ghost use Rattle.std.specs.Prelude.{◌≡◌, ◌∷◌, [], ◌↔◌, IfOk, IsOk, Ok, drop, length, replicate, take};
 
-use crate::answers::{gives, has};
-use crate::kinds::one_two_three;
+use ga_core_callers::answers::{gives, has};
+use ga_core_callers::numbers::one_two_three;
 use generic_array::sequence::{Concat, Split};
 use generic_array::{
     AllocError, ArrayLength, BoxedArray, GenericArray, InlineLength, LengthError, U2, U3, U4, U6,

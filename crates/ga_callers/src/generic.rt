@@ -5,7 +5,7 @@ ghost use Rattle.generic_array.specs.Calls.{MayMap};
 ghost use Rattle.std.specs.List.{range_with_len};
 ghost use Rattle.std.specs.Prelude.{◌≡◌, ◌+◌, ◌<◌, ◌⊎◌, Err, IfErr, IfOk, IsOk, Ok, OnOk, length, map, refl, replicate};
 
-use crate::digits::decimal_digit;
+use ga_core_callers::digits::decimal_digit;
 use generic_array::functional::{
     FunctionalSequence, MappedError, MappedGenericSequence, MappedPlace, MappedSequence,
 };

@@ -4,7 +4,8 @@ ghost use Rattle.generic_array.specs.declared.steps.step.Reply.TheVariants.{Item
 ghost use Rattle.generic_array.specs.declared.steps.step.Step.TheVariants.{Look, Next, NextBack, Set};
 ghost use Rattle.std.specs.Prelude.{◌≡◌, ◌+◌, ◌%◌, ◌^◌, [], ◌∷◌, ◌++◌, Err, IfOk, Ok, OnOk, Some, if◌then◌else◌, length, nat_eq, nat_lt};
 
-use crate::kinds::{boxed_one_two_three, four_five_six, one_two_three};
+use crate::kinds::boxed_one_two_three;
+use ga_core_callers::numbers::{four_five_six, one_two_three};
 use ga_headline::builds::build;
 use ga_headline::calls::{fold, map, try_fold, try_map, zip};
 use ga_headline::joined_runs::{folds_join, maps_join, try_folds_join, try_maps_join, zips_join};

@@ -3,6 +3,7 @@ ghost use Rattle.generic_array.specs.Views.{items_of_view};
 ghost use Rattle.std.specs.List.{zip};
 ghost use Rattle.std.specs.Prelude.{◌≡◌, ◌∷◌, [], ◌+◌, ◌*◌, ◌%◌, ◌^◌, ◌⊎◌, IfOk, fold, map};
 
+use ga_core_callers::numbers::four_five_six;
 use generic_array::checks::{dot_by, map_total_by};
 use generic_array::functional::{FunctionalSequence, inverted_zip_by, inverted_zip2_by};
 use generic_array::{AllocError, ArrayLength, BoxedArray, GenericArray, GenericArrayRef, U2, U3};
@@ -112,20 +113,6 @@ fn calls_of_a_boxed_map(alloc: Global, array: BoxedArray<u32, U3>) -> u32
         Ok(_mapped) => calls,
         Err(_refused) => calls,
     }
-}
-
-/// The array of 1 to 3.
-pub fn one_two_three() -> GenericArray<u32, U3>
-    ensures { result ≡ 1 ∷ 2 ∷ 3 ∷ [] }
-{
-    GenericArray::from_array([1, 2, 3])
-}
-
-/// The array of 4 to 6.
-pub fn four_five_six() -> GenericArray<u32, U3>
-    ensures { result ≡ 4 ∷ 5 ∷ 6 ∷ [] }
-{
-    GenericArray::from_array([4, 5, 6])
 }
 
 /// The boxed array of 1 to 3, or `AllocError` where its block can't be had.

@@ -4,9 +4,8 @@ ghost use Rattle.std.specs.Int.Bits.{bit_xor};
 ghost use Rattle.std.specs.List.{range_with_len};
 ghost use Rattle.std.specs.Prelude.{◌≡◌, ◌-◌, ◌/◌, ◌<◌, [], ◌∷◌, ◌++◌, ◌↔◌, IfOk, IsOk, IsTrue, length, map, slice_get};
 
-use crate::answers::has;
-use crate::hex_text::upper_digits_written;
 use arrayvec::ArrayVec;
+use ga_core_callers::answers::has;
 use generic_array::sequence::Concat;
 use generic_array::{ArrayLength, GenericArray, LengthError, Store, U10, Unsigned};
 use std::io::Write;
@@ -193,7 +192,7 @@ fn written_and_joined<W: Write>(w: &mut W) -> Option<GenericArray<u8, U10>> {
     let (Ok(week), Ok(sides)) = (week_of(b"abcdefg"), sides_of(b"hij")) else {
         return None;
     };
-    if upper_digits_written(&sides, w).is_err() || upper_digits_written(&week, w).is_err() {
+    if sides.write_upper_hex(w, None).is_err() || week.write_upper_hex(w, None).is_err() {
         return None;
     }
     Some(joined(week, sides))

@@ -1,0 +1,38 @@
+//! Callers of inline arrays, views and rows, each proved: what the contracts of `ga_core` give to those who
+//! use it alone.
+//!
+//! Callers stand under `#[cfg(test)]`. What is public serves the tests of `ga_callers` too.
+#![tactic(auto)]
+
+/// Comparisons of what callers made.
+pub mod answers;
+/// The digits that callers read from text.
+pub mod digits;
+/// Arrays of known numbers.
+#[cfg(test)]
+mod builds;
+#[cfg(test)]
+mod fixed_list;
+#[cfg(test)]
+mod hex_text;
+#[cfg(test)]
+mod iterators;
+#[cfg(test)]
+mod keys;
+pub mod numbers;
+#[cfg(test)]
+mod parts;
+#[cfg(test)]
+mod places;
+#[cfg(test)]
+mod plain_calls;
+#[cfg(test)]
+mod row_walks;
+#[cfg(test)]
+mod rows;
+#[cfg(test)]
+mod slices;
+#[cfg(test)]
+mod view_loans;
+#[cfg(test)]
+mod views;

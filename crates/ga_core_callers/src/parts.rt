@@ -1,0 +1,104 @@
+//! Parts of arrays that are written, of a field too.
+ghost use Rattle.std.specs.Prelude.{◌≡◌, ◌++◌, ◌≤◌, ◌+◌, drop, length, take};
+
+use crate::answers::has;
+use ga_core::{ArrayLength, GenericArray, U4};
+use std::marker::Model;
+
+fn front_set<N: ArrayLength<u8>>(array: &mut GenericArray<u8, N>, bytes: &[u8])
+    requires { length bytes.now ≤ N.USIZE }
+    ensures { array.new ≡ bytes.now ++ drop (length bytes.now) array.old }
+{
+    array[0..bytes.len()].copy_from_slice(bytes);
+}
+
+fn back_set<N: ArrayLength<u8>>(array: &mut GenericArray<u8, N>, from: usize, bytes: &[u8])
+    requires { from + length bytes.now ≡ N.USIZE }
+    ensures { array.new ≡ take from array.old ++ bytes.now }
+{
+    array[from..].copy_from_slice(bytes);
+}
+
+#[derive(Drop)]
+struct Packet<N: ArrayLength<u8>> {
+    kind: u8,
+    key: GenericArray<u8, N>,
+}
+
+fn key_part_set<N: ArrayLength<u8>>(packet: &mut Packet<N>, from: usize, bytes: &[u8])
+    requires { from + length bytes.now ≤ N.USIZE }
+    ensures key { packet.new.key ≡ take from packet.old.key
+        ++ (bytes.now ++ drop (from + length bytes.now) packet.old.key) }
+    ensures kind { packet.new.kind ≡ packet.old.kind }
+{
+    packet.key[from..from + bytes.len()].copy_from_slice(bytes);
+}
+
+/// A text of at most `N` bytes: contracts see the bytes that it has.
+#[derive(Drop)]
+struct Text<N: ArrayLength<u8>> {
+    bytes: GenericArray<u8, N>,
+    len: usize,
+}
+
+impl<N: ArrayLength<u8>> Model for Text<N> {
+    ghost use Rattle.ga_core.specs.Length.{FitsInline};
+    ghost use Rattle.std.specs.Prelude.{◌≤◌, ℕ, List, take};
+
+    ghost Value = { List ℕ };
+
+    ghost view = { λ text. take text.len text.bytes };
+
+    ghost invariant = { λ text. (text.len ≤ N.USIZE) × FitsInline N.USIZE };
+}
+
+impl<N: ArrayLength<u8>> Text<N> {
+    fn push(&mut self, bytes: &[u8])
+        requires { length self.old + length bytes.now ≤ N.USIZE }
+        ensures { self.new ≡ self.old ++ bytes.now }
+    {
+        let end = self.len + bytes.len();
+        self.bytes[self.len..end].copy_from_slice(bytes);
+        self.len = end;
+    }
+}
+
+/// An array of `abcd` with another front, and then with another back.
+fn with_front_and_back() -> (GenericArray<u8, U4>, GenericArray<u8, U4>) {
+    let mut array: GenericArray<u8, U4> = GenericArray::from_array(*b"abcd");
+    front_set(&mut array, b"xy");
+    let mut both: GenericArray<u8, U4> = GenericArray::from_array(*b"xycd");
+    back_set(&mut both, 3, b"z");
+    (array, both)
+}
+
+/// A packet whose key of `xycz` has another middle.
+fn packet_with_part() -> Packet<U4> {
+    let mut packet = Packet {
+        kind: 1,
+        key: GenericArray::from_array(*b"xycz"),
+    };
+    key_part_set(&mut packet, 1, b"01");
+    packet
+}
+
+/// The text of two parts.
+fn text_of_two() -> Text<U4> {
+    let mut text = Text::<U4> {
+        bytes: GenericArray::default(),
+        len: 0,
+    };
+    text.push(b"ab");
+    text.push(b"c");
+    text
+}
+
+#[test]
+fn parts_are_written_and_the_others_stay(rt: HostRuntime) {
+    let (front, both) = with_front_and_back();
+    assert!(rt; has(front, b"xycd") && has(both, b"xycz"));
+    let packet = packet_with_part();
+    assert!(rt; packet.kind == 1 && has(packet.key, b"x01z"));
+    let text = text_of_two();
+    assert!(rt; text.len == 3 && has(text.bytes, b"abc\0"));
+}
