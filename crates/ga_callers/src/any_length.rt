@@ -289,25 +289,28 @@ fn checksum_and_total(alloc: Global) -> Result<(u8, u8), AllocError> {
     Ok((sum, total))
 }
 
-/// Whether sums, products and values are those worked out by hand.
-fn numbers_are_right(alloc: Global) -> Result<bool, AllocError> {
+/// Whether sums place by place are those worked out by hand.
+fn sums_are_right(alloc: Global) -> Result<bool, AllocError> {
     let right = four_five_six();
-    let boxed = boxed_one_two_three(alloc)?;
-    let scaled = scaled_sums(alloc, boxed, one_two_three(), 10)?;
-    let boxed_again = boxed_one_two_three(alloc)?;
-    let (sums, left, _right) = sums_and_sides(one_two_three(), four_five_six());
-    Ok(
-        has(place_sums(one_two_three(), right.view()), &[5, 7, 9])
-            && has(one_more_than_sums(one_two_three(), boxed_again), &[3, 5, 7])
-            && has(sums, &[5, 7, 9])
-            && has(left, &[1, 2, 3])
-            && dot(one_two_three(), right.view()) == 32
-            && value_from_highest(one_two_three(), 10) == 123
-            && value_from_lowest(scaled, 10) == 3531
-            && sum_of(right.view()) == 15
-            && has(counted_up::<U3>(5), &[5, 6, 7])
-            && has(counted_up_boxed::<U3>(alloc, 7)?, &[7, 8, 9]),
-    )
+    let more = one_more_than_sums(one_two_three(), boxed_one_two_three(alloc)?);
+    Ok(has(place_sums(one_two_three(), right.view()), &[5, 7, 9]) && has(more, &[3, 5, 7]))
+}
+
+fn sums_stand_beside_both_sides() -> bool {
+    let (sums, left, right) = sums_and_sides(one_two_three(), four_five_six());
+    has(sums, &[5, 7, 9]) && has(left, &[1, 2, 3]) && has(right, &[4, 5, 6])
+}
+
+/// A dot product, a sum, and the values of polynomials.
+fn numbers(alloc: Global) -> Result<[u32; 4], AllocError> {
+    let right = four_five_six();
+    let scaled = scaled_sums(alloc, boxed_one_two_three(alloc)?, one_two_three(), 10)?;
+    Ok([
+        dot(one_two_three(), right.view()),
+        sum_of(right.view()),
+        value_from_highest(one_two_three(), 10),
+        value_from_lowest(scaled, 10),
+    ])
 }
 
 /// Whether text is read and aligned as the callers say.
@@ -321,13 +324,29 @@ fn text_is_right() -> bool {
 }
 
 #[test]
-fn callers_of_any_length_get_what_their_contracts_say(rt: HostRuntime) -> Result<(), Fail> {
+fn masks_of_any_length_are_what_their_contracts_say(rt: HostRuntime) -> Result<(), Fail> {
     assert!(rt; masks_are_right(rt.alloc())?);
     assert!(rt; checksum_and_total(rt.alloc())? == (5, 0xff));
-    assert!(rt; numbers_are_right(rt.alloc())?);
-    assert!(rt; text_is_right());
-    let read = digits_of_text::<GenericArray<u8, U3>>((), b"190", 10);
-    assert!(rt; read.is_ok_and(|digits| has(digits, &[1, 9, 0])));
-    assert!(rt; digits_of_text::<BoxedArray<u8, U3>>(rt.alloc(), b"19x", 10).is_err());
     Ok(())
+}
+
+#[test]
+fn numbers_of_any_length_are_those_worked_out_by_hand(rt: HostRuntime) -> Result<(), Fail> {
+    assert!(rt; sums_are_right(rt.alloc())? && sums_stand_beside_both_sides());
+    assert!(rt; numbers(rt.alloc())? == [32, 15, 123, 3531]);
+    assert!(rt; has(counted_up::<U3>(5), &[5, 6, 7]));
+    assert!(rt; gives(counted_up_boxed::<U3>(rt.alloc(), 7), &[7, 8, 9]));
+    Ok(())
+}
+
+#[test]
+fn text_of_any_length_is_read_and_aligned(rt: HostRuntime) {
+    assert!(rt; text_is_right());
+    assert!(rt;
+        gives(
+            digits_of_text::<GenericArray<u8, U3>>((), b"190", 10),
+            &[1, 9, 0]
+        )
+    );
+    assert!(rt; digits_of_text::<BoxedArray<u8, U3>>(rt.alloc(), b"19x", 10).is_err());
 }

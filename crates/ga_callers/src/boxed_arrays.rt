@@ -11,6 +11,7 @@ use generic_array::{
 };
 use std::alloc::Global;
 use std::marker::{Send, Sync};
+use std::test::Fail;
 
 fn doubled(alloc: Global) -> Result<BoxedArray<usize, U4>, AllocError>
     ensures { IfOk result (λ array. array ≡ 0 ∷ 2 ∷ 4 ∷ 6 ∷ []) }
@@ -195,36 +196,73 @@ fn array_shared<T: Sync, N: Unsigned + Sync>(array: &BoxedArray<T, N>) -> &Boxed
     shared(array)
 }
 
+/// Whether what may hold another number of items does, and gives these.
+fn filled<E: Drop>(built: Result<Result<BoxedArray<u8, U4>, E>, AllocError>, items: &[u8]) -> bool {
+    match built {
+        Ok(filled) => gives(filled, items),
+        Err(AllocError) => false,
+    }
+}
+
+/// The byte for which there are no digits.
+fn other_byte(digits: Result<BoxedArray<u8, U4>, FillError<u8, AllocError>>) -> Option<u8> {
+    match digits {
+        Err(FillError::Item(byte)) => Some(byte),
+        _ => None,
+    }
+}
+
 #[test]
 fn callers_that_build_get_what_their_contracts_say(rt: HostRuntime) {
     let alloc = rt.alloc();
     assert!(rt; gives(doubled(alloc), &[0, 2, 4, 6]) && gives(none(alloc), &[]));
-    assert_eq!(rt; calls_made(alloc), 3);
-    assert!(rt; matches!(refused_at_two(alloc), Ok(Err(2))));
-    assert!(rt; four_of(alloc, b"abcd").is_ok_and(|built| gives(built, b"abcd")));
-    assert!(rt; matches!(four_of(alloc, b"abc"), Ok(Err(LengthError))));
-    assert_eq!(rt; next_after_a_fill(alloc), Ok(None));
-    assert!(rt; gives(four_digits(alloc, b"1804"), &[1, 8, 0, 4]));
-    assert!(rt; matches!(four_digits(alloc, b"18x4"), Err(FillError::Item(b'x'))));
-    assert!(rt; gives(four_digits_lent(alloc, b"1804"), &[1, 8, 0, 4]));
-    assert!(rt; matches!(four_digits_lent(alloc, b"18x4"), Err(FillError::Item(b'x'))));
+    assert!(rt; calls_made(alloc) == 3 && matches!(refused_at_two(alloc), Ok(Err(2))));
     assert!(rt; gives(sevens(alloc), &[7, 7, 7]) && gives(blank(alloc), &[0, 0, 0]));
 }
 
 #[test]
-fn callers_that_write_and_walk_get_what_their_contracts_say(rt: HostRuntime) {
+fn callers_that_fill_get_what_their_contracts_say(rt: HostRuntime) {
     let alloc = rt.alloc();
-    let mut pair = four_and_six(alloc).expect(&rt, "no memory");
-    assert_eq!(rt; pair.as_slice(), [4, 6].as_slice());
+    assert!(rt; filled(four_of(alloc, b"abcd"), b"abcd"));
+    assert!(rt; matches!(four_of(alloc, b"abc"), Ok(Err(LengthError))));
+    assert!(rt; next_after_a_fill(alloc) == Ok(None));
+}
+
+#[test]
+fn callers_that_read_digits_get_what_their_contracts_say(rt: HostRuntime) {
+    let alloc = rt.alloc();
+    assert!(rt; gives(four_digits(alloc, b"1804"), &[1, 8, 0, 4]));
+    assert!(rt; gives(four_digits_lent(alloc, b"1804"), &[1, 8, 0, 4]));
+    assert!(rt; other_byte(four_digits(alloc, b"18x4")) == Some(b'x'));
+    assert!(rt; other_byte(four_digits_lent(alloc, b"18x4")) == Some(b'x'));
+}
+
+/// A pair whose second item was another, and is set again.
+fn set_again(alloc: Global) -> Result<BoxedArray<u8, U2>, AllocError> {
+    let mut pair = four_and_six(alloc)?;
     pair.as_mut_slice()[1] = 5;
     second_place_set(&mut pair);
-    assert_eq!(rt; pair.as_slice(), [4, 6].as_slice());
-    let array = boxed_one_two_three(alloc).expect(&rt, "no memory");
-    assert_eq!(rt; total_that_wraps(array), 6);
-    let array: BoxedArray<u8, U3> = box_arr!(alloc, [1, 2, 3]).expect(&rt, "no memory");
-    let turned = reversed(alloc, array);
-    assert!(rt; turned.is_ok_and(|built| gives(built, &[3, 2, 1])));
-    assert_eq!(rt; total_or_nought(alloc), 12);
-    let array: BoxedArray<u8, U3> = box_arr!(alloc, [4, 5, 6]).expect(&rt, "no memory");
-    assert!(rt; moved_out(array).is_ok_and(|inline| inline.as_slice() == [4, 5, 6].as_slice()));
+    Ok(pair)
+}
+
+#[test]
+fn callers_that_write_get_what_their_contracts_say(rt: HostRuntime) {
+    assert!(rt; gives(four_and_six(rt.alloc()), &[4, 6]));
+    assert!(rt; gives(set_again(rt.alloc()), &[4, 6]));
+}
+
+/// The total of 1 to 3, and their turned copy.
+fn walked(alloc: Global) -> Result<(u32, Result<BoxedArray<u8, U3>, LengthError>), AllocError> {
+    let total = total_that_wraps(boxed_one_two_three(alloc)?);
+    Ok((total, reversed(alloc, box_arr!(alloc, [1, 2, 3])?)?))
+}
+
+#[test]
+fn callers_that_walk_get_what_their_contracts_say(rt: HostRuntime) -> Result<(), Fail> {
+    let (total, turned) = walked(rt.alloc())?;
+    assert!(rt; total == 6 && gives(turned, &[3, 2, 1]));
+    assert!(rt; total_or_nought(rt.alloc()) == 12);
+    let array: BoxedArray<u8, U3> = box_arr!(rt.alloc(), [4, 5, 6])?;
+    assert!(rt; gives(moved_out(array), &[4, 5, 6]));
+    Ok(())
 }

@@ -2,6 +2,7 @@
 ghost use Rattle.std.specs.List.{list_any};
 ghost use Rattle.std.specs.Prelude.{◌≡◌, ◌==◌, ◌++◌, ◌<◌, ◌≤◌, ◌↔◌, ◌^◌, IsTrue, Some, drop, length, replicate, slice_get, slice_set, sum};
 
+use ga_core_callers::answers::gives;
 use generic_array::{AllocError, BoxedArray, U3, U4, Unsigned, box_arr};
 use std::alloc::Global;
 use std::test::Fail;
@@ -70,21 +71,28 @@ fn boxed_front_set<N: Unsigned>(array: &mut BoxedArray<u8, N>, bytes: &[u8])
     array[0..bytes.len()].copy_from_slice(bytes);
 }
 
-/// What each caller returns, and leaves, at the items 1, 2, 3.
-fn read_and_written(alloc: Global) -> Result<bool, AllocError> {
-    let mut array: BoxedArray<u8, U3> = box_arr!(alloc, [1, 2, 3])?;
-    let read = !holds_nothing(&array)
-        && length_of(&array) == 3
-        && items_counted(&array) == 3
-        && item_at(&array, 1) == 2
-        && !has_zero(&array)
-        && sum_of_references(&array) == 6;
-    item_set(&mut array, 1);
+/// Whether each caller that reads 1, 2, 3 returns what its contract says.
+fn reads_are_right<N: Unsigned>(array: &BoxedArray<u8, N>) -> bool
+    requires { N.USIZE ≡ 3 }
+{
+    !holds_nothing(array)
+        && length_of(array) == 3
+        && items_counted(array) == 3
+        && item_at(array, 1) == 2
+        && !has_zero(array)
+        && sum_of_references(array) == 6
+}
+
+/// Whether the array is what each caller that writes leaves, one after the other.
+fn writes_are_right<N: Unsigned>(array: &mut BoxedArray<u8, N>) -> bool
+    requires { N.USIZE ≡ 3 }
+{
+    item_set(array, 1);
     let set = array.as_slice() == [1, 9, 3].as_slice();
-    all_raised(&mut array);
+    all_raised(array);
     let raised = array.as_slice() == [2, 10, 4].as_slice();
-    filled(&mut array);
-    Ok(read && set && raised && array.as_slice() == [7, 7, 7].as_slice())
+    filled(array);
+    set && raised && array.as_slice() == [7, 7, 7].as_slice()
 }
 
 /// A boxed `abcd` with another front.
@@ -96,7 +104,8 @@ fn boxed_with_front(alloc: Global) -> Result<BoxedArray<u8, U4>, AllocError> {
 
 #[test]
 fn a_boxed_array_is_read_and_written_as_a_slice(rt: HostRuntime) -> Result<(), Fail> {
-    assert!(rt; read_and_written(rt.alloc())?);
-    assert!(rt; boxed_with_front(rt.alloc())?.as_slice() == b"xycd".as_slice());
+    let mut array: BoxedArray<u8, U3> = box_arr!(rt.alloc(), [1, 2, 3])?;
+    assert!(rt; reads_are_right(&array) && writes_are_right(&mut array));
+    assert!(rt; gives(boxed_with_front(rt.alloc()), b"xycd"));
     Ok(())
 }

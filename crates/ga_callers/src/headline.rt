@@ -5,6 +5,7 @@ ghost use Rattle.generic_array.specs.declared.steps.step.Step.TheVariants.{Look,
 ghost use Rattle.std.specs.Prelude.{◌≡◌, ◌+◌, ◌%◌, ◌^◌, [], ◌∷◌, ◌++◌, Err, IfOk, Ok, OnOk, Some, if◌then◌else◌, length, nat_eq, nat_lt};
 
 use crate::kinds::boxed_one_two_three;
+use ga_core_callers::answers::{gives, has};
 use ga_core_callers::numbers::{four_five_six, one_two_three};
 use ga_headline::builds::build;
 use ga_headline::calls::{fold, map, try_fold, try_map, zip};
@@ -220,29 +221,39 @@ fn sum_of(items: &[u32]) -> u32 {
 #[test]
 fn builds_want_just_their_number(rt: HostRuntime) -> Result<(), Fail> {
     let alloc = rt.alloc();
-    let three = [1, 2, 3].as_slice();
-    assert!(rt; inline_of(vec![in alloc; 1, 2, 3]?).is_ok_and(|array| array.as_slice() == three));
+    assert!(rt; gives(inline_of(vec![in alloc; 1, 2, 3]?), &[1, 2, 3]));
+    assert!(rt; gives(boxed_of(alloc, vec![in alloc; 1, 2, 3]?), &[1, 2, 3]));
+    Ok(())
+}
+
+#[test]
+fn calls_run_in_order(rt: HostRuntime) -> Result<(), Fail> {
+    let array = one_two_three();
+    assert!(rt; has(totals_of_view(array.view()), &[1, 3, 6]) && sum_of_reference(&array) == 6);
+    assert!(rt; has(totals_of_inline(array), &[1, 3, 6]));
+    let boxed = boxed_one_two_three(rt.alloc())?;
+    assert!(rt; gives(totals_of_boxed(rt.alloc(), boxed), &[1, 3, 6]));
+    Ok(())
+}
+
+#[test]
+fn two_sides_are_called_in_order(rt: HostRuntime) -> Result<(), Fail> {
+    let boxed = boxed_one_two_three(rt.alloc())?;
     assert!(rt;
-        boxed_of(alloc, vec![in alloc; 1, 2, 3]?).is_ok_and(|array| array.as_slice() == three)
+        gives(
+            sums_of_boxed_and_view(rt.alloc(), boxed, four_five_six().view()),
+            &[5, 7, 9]
+        )
     );
     Ok(())
 }
 
 #[test]
-fn calls_run_in_order_up_to_an_error(rt: HostRuntime) -> Result<(), Fail> {
-    let alloc = rt.alloc();
-    let array = one_two_three();
-    let totals = [1, 3, 6].as_slice();
-    assert!(rt; totals_of_inline(one_two_three()).as_slice() == totals);
-    assert!(rt; totals_of_view(array.view()).as_slice() == totals);
-    assert!(rt; totals_of_boxed(alloc, boxed_one_two_three(alloc)?)?.as_slice() == totals);
-    let (boxed, right) = (boxed_one_two_three(alloc)?, four_five_six());
-    let sums = sums_of_boxed_and_view(alloc, boxed, right.view())?;
-    assert!(rt; sums.as_slice() == [5, 7, 9].as_slice() && sum_of_reference(&array) == 6);
-    let stopped = stopped_in_boxed(alloc, boxed_one_two_three(alloc)?)?;
-    assert!(rt; matches!(stopped, Err(2)));
+fn calls_run_up_to_an_error(rt: HostRuntime) -> Result<(), Fail> {
+    let boxed = boxed_one_two_three(rt.alloc())?;
+    assert!(rt; matches!(stopped_in_boxed(rt.alloc(), boxed), Ok(Err(2))));
     let array = arr![1u32, 3, 9];
-    assert!(rt; matches!(stopped_past_three_in_view(array.view()), Err(4)));
+    assert!(rt; stopped_past_three_in_view(array.view()) == Err(4));
     Ok(())
 }
 
@@ -251,45 +262,79 @@ fn runs_join(rt: HostRuntime) {
     all_join(&one_two_three().view());
 }
 
-#[test]
-fn what_is_done_and_undone_is_as_it_was(rt: HostRuntime) {
-    let four = [1, 2, 3, 4].as_slice();
-    let one_to_four: GenericArray<u32, U4> = arr![1, 2, 3, 4];
-    let (array, item, sum) = put_then_pop::<u32, U4, U5, _, _>(one_to_four, 9, false, sum_of);
-    assert!(rt; item == 9 && sum == 19 && array.as_slice() == four);
-    let (array, item, sum) = put_then_pop::<u32, U4, U5, _, _>(array, 8, true, sum_of);
-    assert!(rt; item == 8 && sum == 18 && array.as_slice() == four);
-    let (array, sum) = pop_then_put::<u32, U4, U3, _, _>(array, false, sum_of);
-    assert!(rt; sum == 6);
-    let (array, sum) = pop_then_put::<u32, U4, U3, _, _>(array, true, sum_of);
-    assert!(rt; sum == 9);
-    let (array, sums) = split_then_concat::<u32, U4, U2, U2, _, _>(array, |first, second| {
-        (sum_of(first), sum_of(second))
-    });
-    assert!(rt; sums == (3, 7) && array.as_slice() == four);
-    let (none, array, sum) = concat_then_split::<u32, U4, U0, U4, _, _>(arr![], array, sum_of);
-    assert!(rt; none.as_slice().is_empty() && sum == 10 && array.as_slice() == four);
-    let bytes: GenericArray<u8, U4> = arr![1, 2, 3, 4];
-    let (bytes, count) = unflatten_then_flatten::<U4, U2, _, _>(bytes, |rows| rows.len());
-    assert!(rt; count == 2 && bytes.as_slice() == [1, 2, 3, 4].as_slice());
-    let rows = arr![arr![1u8, 2], arr![3, 4]];
-    let (rows, count) = flatten_then_unflatten::<U4, U2, _, _>(rows, |items| items.len());
-    assert!(rt; count == 4 && rows.as_slice()[1].as_slice() == [3, 4].as_slice());
+/// The array of 1 to 4.
+fn one_to_four() -> GenericArray<u32, U4> {
+    arr![1, 2, 3, 4]
 }
 
 #[test]
-fn steps_cut_a_list_from_both_ends(rt: HostRuntime) -> Result<(), Fail> {
-    let alloc = rt.alloc();
-    let wanted = "[Item(Some(1)), Seen(2), Old(3), Item(Some(9))]";
-    let mut replies = Vec::new(alloc);
-    let steps = vec![in alloc; Step::Next, Step::Look, Step::Set(1, 9), Step::NextBack]?;
-    let left = walked_inline(one_two_three(), steps, &mut replies)?;
-    assert!(rt; left.as_slice() == [2].as_slice());
-    assert!(rt; format!(in alloc; "{replies:?}")?.as_str() == wanted);
-    let mut replies = Vec::new(alloc);
-    let steps = vec![in alloc; Step::Next, Step::Look, Step::Set(1, 9), Step::NextBack]?;
-    let left = walked_boxed(boxed_one_two_three(alloc)?, steps, &mut replies)?;
-    assert!(rt; left.as_slice() == [2].as_slice());
-    assert!(rt; format!(in alloc; "{replies:?}")?.as_str() == wanted);
+fn what_is_put_and_taken_again_is_gone(rt: HostRuntime) {
+    let (array, item, sum) = put_then_pop::<u32, U4, U5, _, _>(one_to_four(), 9, false, sum_of);
+    assert!(rt; item == 9 && sum == 19 && has(array, &[1, 2, 3, 4]));
+    let (array, item, sum) = put_then_pop::<u32, U4, U5, _, _>(one_to_four(), 8, true, sum_of);
+    assert!(rt; item == 8 && sum == 18 && has(array, &[1, 2, 3, 4]));
+}
+
+#[test]
+fn what_is_taken_and_put_again_is_there(rt: HostRuntime) {
+    let (array, sum) = pop_then_put::<u32, U4, U3, _, _>(one_to_four(), false, sum_of);
+    assert!(rt; sum == 6 && has(array, &[1, 2, 3, 4]));
+    let (array, sum) = pop_then_put::<u32, U4, U3, _, _>(one_to_four(), true, sum_of);
+    assert!(rt; sum == 9 && has(array, &[1, 2, 3, 4]));
+}
+
+#[test]
+fn what_is_split_and_joined_is_as_it_was(rt: HostRuntime) {
+    let (array, sums) = split_then_concat::<u32, U4, U2, U2, _, _>(
+        one_to_four(),
+        |first, second| { (sum_of(first), sum_of(second)) },
+    );
+    assert!(rt; sums == (3, 7) && has(array, &[1, 2, 3, 4]));
+    let (none, array, sum) = concat_then_split::<u32, U4, U0, U4, _, _>(
+        arr![],
+        one_to_four(),
+        sum_of,
+    );
+    assert!(rt; sum == 10 && has(none, &[]) && has(array, &[1, 2, 3, 4]));
+}
+
+#[test]
+fn what_is_cut_into_rows_and_joined_is_as_it_was(rt: HostRuntime) {
+    let (bytes, count) = unflatten_then_flatten::<U4, U2, _, _>(
+        arr![1, 2, 3, 4],
+        |rows| rows.len(),
+    );
+    assert!(rt; count == 2 && has(bytes, &[1, 2, 3, 4]));
+    let rows = arr![arr![1u8, 2], arr![3, 4]];
+    let (rows, count) = flatten_then_unflatten::<U4, U2, _, _>(rows, |items| items.len());
+    assert!(rt; count == 4 && rows[1].as_slice() == [3, 4].as_slice());
+}
+
+/// The steps of both walks.
+fn steps(alloc: Global) -> Result<Vec<Step<u32>>, AllocError>
+    ensures { IfOk result (λ steps. steps.items ≡ Next ∷ Look ∷ Set 1 9 ∷ NextBack ∷ []) }
+{
+    Ok(vec![in alloc; Step::Next, Step::Look, Step::Set(1, 9), Step::NextBack]?)
+}
+
+/// Whether these are the replies of both walks.
+fn are_right(alloc: Global, replies: &[Reply<u32, usize>]) -> Result<bool, AllocError> {
+    let text = format!(in alloc; "{replies:?}")?;
+    Ok(text.as_str() == "[Item(Some(1)), Seen(2), Old(3), Item(Some(9))]")
+}
+
+#[test]
+fn steps_cut_an_array_from_both_ends(rt: HostRuntime) -> Result<(), Fail> {
+    let mut replies = Vec::new(rt.alloc());
+    let left = walked_inline(one_two_three(), steps(rt.alloc())?, &mut replies)?;
+    assert!(rt; left.as_slice() == [2].as_slice() && are_right(rt.alloc(), replies.as_slice())?);
+    Ok(())
+}
+
+#[test]
+fn steps_cut_a_boxed_array_from_both_ends(rt: HostRuntime) -> Result<(), Fail> {
+    let (boxed, mut replies) = (boxed_one_two_three(rt.alloc())?, Vec::new(rt.alloc()));
+    let left = walked_boxed(boxed, steps(rt.alloc())?, &mut replies)?;
+    assert!(rt; left.as_slice() == [2].as_slice() && are_right(rt.alloc(), replies.as_slice())?);
     Ok(())
 }

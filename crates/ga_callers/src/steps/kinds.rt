@@ -105,27 +105,46 @@ fn taken<K: Kind>(
     taken_in_two_orders(alloc, &mut five, &mut same, replies, other_replies)
 }
 
-#[test]
-fn known_steps_reply_alike_over_both_iterators(rt: HostRuntime) -> Result<(), Fail> {
-    let alloc = rt.alloc();
+/// The text of the replies and of the other replies, of one kind.
+fn replies_of<K: Kind>(alloc: Global) -> Result<String, AllocError> {
     let mut replies = vec![in alloc; Reply::Old(7)]?;
     let mut others = Vec::new(alloc);
-    taken::<Inline>(alloc, &mut replies, &mut others)?;
-    let _ = replaced_inline(alloc, &mut others)?;
-    let mut same = vec![in alloc; Reply::Old(7)]?;
-    let mut same_others = Vec::new(alloc);
-    taken::<Boxed>(alloc, &mut same, &mut same_others)?;
-    let _ = replaced_boxed(alloc, &mut same_others)?;
-    let text = format!(in alloc; "{replies:?} {others:?}")?;
-    assert!(rt; text == format!(in alloc; "{same:?} {same_others:?}")?);
+    taken::<K>(alloc, &mut replies, &mut others)?;
+    Ok(format!(in alloc; "{replies:?} {others:?}")?)
+}
+
+#[test]
+fn known_steps_reply_alike_over_both_iterators(rt: HostRuntime) -> Result<(), Fail> {
     let wanted = "[Old(7), Item(Some(2)), \
         Item(Some(2)), Seen(12), Item(None), Item(None), Seen(0), \
         Item(Some(2)), Seen(12), Item(None), Item(None), Seen(0), \
         Item(Some(2)), Item(Some(5)), Item(Some(3))] \
-        [Item(Some(5)), Item(Some(2)), Item(Some(3)), \
-        Item(Some(1)), Old(3), Outside(8), Item(Some(9))]";
-    assert!(rt; text.as_str() == wanted);
-    let steps: Vec<Step<u8>> = vec![in alloc; Step::NthBack(1), Step::Look, Step::Set(0, 9)]?;
-    assert!(rt; format!(in alloc; "{steps:?}")?.as_str() == "[NthBack(1), Look, Set(0, 9)]");
+        [Item(Some(5)), Item(Some(2)), Item(Some(3))]";
+    assert!(rt; replies_of::<Inline>(rt.alloc())?.as_str() == wanted);
+    assert!(rt; replies_of::<Boxed>(rt.alloc())?.as_str() == wanted);
+    Ok(())
+}
+
+/// Whether these are the replies of an item taken again.
+fn are_replaced(alloc: Global, replies: &[Reply<u32, u32>]) -> Result<bool, AllocError> {
+    let text = format!(in alloc; "{replies:?}")?;
+    Ok(text.as_str() == "[Item(Some(1)), Old(3), Outside(8), Item(Some(9))]")
+}
+
+#[test]
+fn an_item_that_is_replaced_is_taken(rt: HostRuntime) -> Result<(), Fail> {
+    let (mut replies, mut boxed) = (Vec::new(rt.alloc()), Vec::new(rt.alloc()));
+    let _ = replaced_inline(rt.alloc(), &mut replies)?;
+    assert!(rt; are_replaced(rt.alloc(), replies.as_slice())?);
+    let _ = replaced_boxed(rt.alloc(), &mut boxed)?;
+    assert!(rt; are_replaced(rt.alloc(), boxed.as_slice())?);
+    Ok(())
+}
+
+#[test]
+fn steps_print_their_names(rt: HostRuntime) -> Result<(), Fail> {
+    let steps: [Step<u8>; 3] = [Step::NthBack(1), Step::Look, Step::Set(0, 9)];
+    let text = format!(in rt.alloc(); "{steps:?}")?;
+    assert!(rt; text.as_str() == "[NthBack(1), Look, Set(0, 9)]");
     Ok(())
 }
