@@ -112,6 +112,15 @@ fn by_hand(message: &[u8], zeros: usize, last: [u8; 2]) -> Seen {
     seen
 }
 
+/// What the blocks of 64 bytes are, where the message comes in two pieces.
+fn seen_of_two(first: &[u8], second: &[u8]) -> Seen
+    requires { length first.now + length second.now < 2 ^ 61 }
+{
+    let mut cut = Seen::none(64);
+    blocks_of_two(first, second, &mut |block: &[u8]| cut.take(block));
+    cut
+}
+
 #[test]
 fn blocks_of_a_message_are_those_of_the_standard(rt: HostRuntime) {
     // 24 bits: one block, of 3 bytes, the mark, 52 zeros and the length in 8 bytes.
@@ -121,13 +130,11 @@ fn blocks_of_a_message_are_those_of_the_standard(rt: HostRuntime) {
     let message = b"abcdbcdecdefdefgefghfghighijhijkijkljklmklmnlmnomnopnopq";
     let two = seen_of_three(message, b"", b"");
     assert!(rt; two.len == 128 && two.is(&by_hand(message, 69, [0x01, 0xc0])));
-    let mut cut = Seen::none(64);
-    blocks_of_two(
-        &message[..31],
-        &message[31..],
-        &mut |block: &[u8]| cut.take(block),
-    );
-    assert!(rt; cut.is(&two));
+    assert!(rt; seen_of_two(&message[..31], &message[31..]).is(&two));
+}
+
+#[test]
+fn blocks_of_messages_around_a_whole_block_are_those_of_the_rule(rt: HostRuntime) {
     // No bytes, those with which the length just fits or not, and whole blocks.
     let bytes = [0x61; 192];
     for len in [0, 1, 55, 56, 63, 64, 65, 119, 120, 128, 192] {

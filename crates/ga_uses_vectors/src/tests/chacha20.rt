@@ -173,35 +173,63 @@ fn texts_of_the_standard(rt: HostRuntime) -> Result<(), Fail> {
 /// Where the key stream ends.
 const END: u64 = 1 << 38;
 
+/// A cipher five bytes before that.
+fn at_its_end() -> Result<CounterMode<ChaCha20>, Fail> {
+    let mut mode = CounterMode::new(cipher_of(&[7; 32], &[9; 12])?);
+    mode.seek(END - 5)?;
+    Ok(mode)
+}
+
+#[test]
+fn more_than_is_left_of_the_stream_leaves_the_bytes(rt: HostRuntime) -> Result<(), Fail> {
+    let mut mode = at_its_end()?;
+    let mut bytes = [1, 2, 3, 4, 5, 6];
+    assert!(rt; mode.apply(&mut bytes) == Err(StreamEnd));
+    assert!(rt; bytes == [1, 2, 3, 4, 5, 6] && mode.position() == END - 5);
+    Ok(())
+}
+
+/// What a text of a byte and one of none come to, and a step past the end, and where the stream is then.
+fn beyond(mode: &mut CounterMode<ChaCha20>) -> ([Result<(), StreamEnd>; 3], u64) {
+    let ends = [
+        mode.apply(&mut [6]),
+        mode.apply(&mut []),
+        mode.seek(END + 1),
+    ];
+    (ends, mode.position())
+}
+
 #[test]
 fn ends_after_its_last_block(rt: HostRuntime) -> Result<(), Fail> {
+    let mut mode = at_its_end()?;
+    mode.apply(&mut [1, 2, 3, 4, 5])?;
+    assert!(rt; mode.position() == END);
+    let ends = [Err(StreamEnd), Ok(()), Err(StreamEnd)];
+    assert!(rt; beyond(&mut mode) == (ends, END));
+    Ok(())
+}
+
+/// The first bytes of the key stream.
+fn stream() -> Result<[u8; 130], Fail> {
+    let mut whole = [0; 130];
+    CounterMode::new(cipher_of(&[7; 32], &[9; 12])?).apply(&mut whole)?;
+    Ok(whole)
+}
+
+#[test]
+fn two_pieces_are_one_text(rt: HostRuntime) -> Result<(), Fail> {
+    let (mut first, mut second) = ([0; 70], [0; 60]);
     let mut mode = CounterMode::new(cipher_of(&[7; 32], &[9; 12])?);
-    let mut bytes = [1, 2, 3, 4, 5, 6];
-    mode.seek(END - 5)?;
-    assert!(rt; mode.apply(&mut bytes) == Err(StreamEnd));
-    assert!(rt; bytes == [1, 2, 3, 4, 5, 6]);
-    assert!(rt; mode.position() == END - 5);
-    let (five, last) = bytes.split_at_mut(5);
-    mode.apply(five)?;
-    assert!(rt; mode.position() == END);
-    assert!(rt; mode.apply(last) == Err(StreamEnd));
-    assert!(rt; mode.apply(&mut []) == Ok(()));
-    assert!(rt; mode.seek(END + 1) == Err(StreamEnd));
-    assert!(rt; mode.position() == END);
+    in_two_pieces(&mut mode, &mut first, &mut second)?;
+    let whole = stream()?;
+    assert!(rt; whole[..70] == first[..] && whole[70..] == second[..]);
     Ok(())
 }
 
 #[test]
-fn callers_run(rt: HostRuntime) -> Result<(), Fail> {
-    let mut first = [0; 70];
-    let mut second = [0; 60];
-    let mut mode = CounterMode::new(cipher_of(&[7; 32], &[9; 12])?);
-    in_two_pieces(&mut mode, &mut first, &mut second)?;
-    let mut whole = [0; 130];
-    CounterMode::new(cipher_of(&[7; 32], &[9; 12])?).apply(&mut whole)?;
-    assert!(rt; whole[..70] == first[..]);
-    assert!(rt; whole[70..] == second[..]);
+fn a_text_comes_back(rt: HostRuntime) -> Result<(), Fail> {
+    let mut whole = stream()?;
     there_and_back(cipher_of(&[7; 32], &[9; 12])?, &mut whole)?;
-    assert!(rt; whole[..70] == first[..]);
+    assert!(rt; whole == stream()?);
     Ok(())
 }

@@ -191,7 +191,11 @@ fn tags_of_md5_and_sha1_are_those_of_rfc_2202(rt: HostRuntime) -> Result<(), Fai
     let keys: [&[u8]; 3] = [&[0x0b; 20], &[0xaa; 20], &[0x0c; 20]];
     let of_sha1 = cases(keys, &[0xaa; 80], last);
     assert!(rt; have_tags::<Sha1>(rt.alloc(), &of_sha1, &TAGS_OF_RFC_2202, true)?);
-    // A key of exactly a block, from FIPS 198.
+    Ok(())
+}
+
+#[test]
+fn the_tag_by_a_key_of_exactly_a_block_is_that_of_fips_198(rt: HostRuntime) -> Result<(), Fail> {
     let key = GenericArray::<u8, U64>::generate(|index| index as u8);
     let cases: [Case<'_>; 1] = [(key.as_slice(), b"Sample #1")];
     let tags = [["4f4ca3d5d68ba7cc0a1208c9c61e9c5da0403c0a"; 2]];
@@ -210,10 +214,10 @@ fn tags_of_sha256_and_sha512_are_those_of_rfc_4231(rt: HostRuntime) -> Result<()
     assert!(rt; have_tags::<Sha512>(rt.alloc(), &cases, &TAGS_OF_RFC_4231, true)?);
     assert!(rt;
         is_signed(
-            cases[6].0,
-            cases[6].1,
+            &[0xaa; 131],
+            last,
             b"",
-            tag_of::<Sha256>(cases[6].0, last).as_slice()
+            tag_of::<Sha256>(&[0xaa; 131], last).as_slice()
         )
     );
     Ok(())

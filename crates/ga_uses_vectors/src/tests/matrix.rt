@@ -31,17 +31,19 @@ fn counted() -> Matrix<U2, U3> {
 #[test]
 fn a_matrix_is_read_and_turned(rt: HostRuntime) {
     let matrix = counted();
-    assert!(rt; matrix.at(1, 2) == 6);
     let turned = matrix.transposed();
-    assert!(rt; turned.at(2, 1) == 6 && turned.at(0, 1) == 4);
-    assert!(rt; turned_twice(&matrix).at(1, 2) == 6);
-    let zeros: Matrix<U2, U3> = Matrix::zeros();
-    assert!(rt; zeros.at(1, 1) == 0);
+    assert!(rt; matrix.at(1, 2) == 6 && turned.at(2, 1) == 6 && turned.at(0, 1) == 4);
 }
 
 #[test]
-fn matrices_are_multiplied(rt: HostRuntime) {
-    let right: Matrix<U3, U2> = Matrix {
+fn a_matrix_turned_twice_is_as_it_was(rt: HostRuntime) {
+    let zeros: Matrix<U2, U3> = Matrix::zeros();
+    assert!(rt; turned_twice(&counted()).at(1, 2) == 6 && zeros.at(1, 1) == 0);
+}
+
+/// The rows 7 8, 9 10 and 11 12.
+fn counted_on() -> Matrix<U3, U2> {
+    Matrix {
         rows: arr![
             Row { items: arr![7, 8] },
             Row { items: arr![9, 10] },
@@ -49,8 +51,12 @@ fn matrices_are_multiplied(rt: HostRuntime) {
                 items: arr![11, 12]
             }
         ],
-    };
-    let made = product(&counted(), &right);
+    }
+}
+
+#[test]
+fn matrices_are_multiplied(rt: HostRuntime) {
+    let made = product(&counted(), &counted_on());
     assert!(rt; made.at(0, 0) == 58 && made.at(0, 1) == 64);
     assert!(rt; made.at(1, 0) == 139 && made.at(1, 1) == 154);
 }

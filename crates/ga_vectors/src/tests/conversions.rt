@@ -1,9 +1,11 @@
 //! Items that go from one kind of array to another, through vectors, boxed slices and tuples.
 use crate::tests::compared::holds;
+use crate::tests::items::has;
 use generic_array::{
     AllocError, BoxedArray, Const, GenericArray, U0, U1, U2, U3, U12, arr, box_arr,
 };
 use std::alloc::Global;
+use std::test::Fail;
 
 type Twelve = (u8, u8, u8, u8, u8, u8, u8, u8, u8, u8, u8, u8);
 
@@ -18,6 +20,10 @@ fn tuples_become_arrays_and_come_back(rt: HostRuntime) {
     assert!(rt; one.as_slice() == [7].as_slice());
     let one: (u8,) = one.into();
     assert!(rt; one.0 == 7);
+}
+
+#[test]
+fn twelve_items_are_a_tuple(rt: HostRuntime) {
     let numbers = [1, 2, 3, 4, 5, 6, 7, 8, 9, 10, 11, 12];
     let array: GenericArray<u8, U12> = (1, 2, 3, 4, 5, 6, 7, 8, 9, 10, 11, 12).into();
     assert!(rt; array.as_slice() == numbers.as_slice());
@@ -30,30 +36,38 @@ fn vector_and_back(alloc: Global) -> Result<bool, AllocError> {
     let items = array.into_vec()?;
     let is_whole = items.as_slice() == [1, 2, 3].as_slice();
     let again = BoxedArray::<u8, U3>::try_from_vec(alloc, items)?;
-    Ok(is_whole && again.is_ok_and(|array| array.as_slice() == [1, 2, 3].as_slice()))
+    Ok(is_whole && has(again, &[1, 2, 3]))
 }
 
-/// Whether an inline array goes to a vector, to a boxed slice, and through a block to a boxed slice and
-/// back.
-fn inline_and_boxed(alloc: Global) -> Result<bool, AllocError> {
+/// Whether an inline array goes to a vector of just its number, and to a boxed slice.
+fn inline_to_vectors(alloc: Global) -> Result<bool, AllocError> {
     let vector = arr![1u8, 2].into_vec(alloc)?;
     let is_vector = vector.as_slice() == [1, 2].as_slice() && vector.capacity() == 2;
-    let is_slice = arr![1u8, 2].into_boxed_slice(alloc)?.as_slice() == [1, 2].as_slice();
+    Ok(is_vector && arr![1u8, 2].into_boxed_slice(alloc)?.as_slice() == [1, 2].as_slice())
+}
+
+/// Whether an inline array goes through a block to a boxed slice and back.
+fn boxed_slice_and_back(alloc: Global) -> Result<bool, AllocError> {
     let items = BoxedArray::from_inline(alloc, arr![1u8, 2])?.into_boxed_slice()?;
     let is_kept = items.as_slice() == [1, 2].as_slice();
     let again = BoxedArray::<u8, U2>::try_from_boxed_slice(alloc, items)?;
-    let is_back = again.is_ok_and(|array| array.as_slice() == [1, 2].as_slice());
-    Ok(is_vector && is_slice && is_kept && is_back)
+    Ok(is_kept && has(again, &[1, 2]))
 }
 
 #[test]
-fn items_go_through_blocks_and_back(rt: HostRuntime) {
-    assert!(rt; vector_and_back(rt.alloc()).expect(&rt, "no memory"));
-    assert!(rt; inline_and_boxed(rt.alloc()).expect(&rt, "no memory"));
-    let sevens = box_arr!(rt.alloc(), [7u8; U3]).expect(&rt, "no memory");
-    assert!(rt; sevens.as_slice() == [7, 7, 7].as_slice());
+fn items_go_through_blocks_and_back(rt: HostRuntime) -> Result<(), Fail> {
+    assert!(rt; vector_and_back(rt.alloc())?);
+    assert!(rt; inline_to_vectors(rt.alloc())?);
+    assert!(rt; boxed_slice_and_back(rt.alloc())?);
+    Ok(())
+}
+
+#[test]
+fn blocks_are_written_out(rt: HostRuntime) -> Result<(), Fail> {
+    assert!(rt; has(box_arr!(rt.alloc(), [7u8; U3]), &[7, 7, 7]));
     let none: Result<BoxedArray<u8, U0>, AllocError> = box_arr!(rt.alloc(), []);
-    assert!(rt; none.is_ok_and(|array| array.as_slice().is_empty()));
+    assert!(rt; has(none, &[]));
+    Ok(())
 }
 
 /// A length that no array in a function's frame has.

@@ -1,6 +1,6 @@
 //! Blocks of records that are opened, looked at from both ends, and written out.
 use ga_records::RecordBlock;
-use generic_array::{ArrayLength, LengthError, U2, U3, U4};
+use generic_array::{ArrayLength, GenericArrayRef, LengthError, U2, U3, U4};
 use std::io;
 use std::io::{ErrorKind, Write};
 use std::test::Fail;
@@ -36,55 +36,90 @@ impl Write for Counting {
     }
 }
 
-/// Whether the record at the index has exactly these bytes.
-fn record_is<N: ArrayLength<u8>>(block: &RecordBlock<'_, N>, index: usize, bytes: &[u8]) -> bool {
-    block
-        .record(index)
-        .is_some_and(|record| record.into_slice() == bytes)
+/// Whether there is a record of exactly these bytes.
+fn is<N: ArrayLength<u8>>(record: Option<GenericArrayRef<'_, u8, N>>, bytes: &[u8]) -> bool {
+    match record {
+        Some(record) => record.into_slice() == bytes,
+        None => false,
+    }
+}
+
+/// The indices of the last records with these bytes.
+fn last_with<N: ArrayLength<u8>>(block: &RecordBlock<'_, N>, bytes: [u8; 3]) -> [Option<usize>; 3] {
+    let [first, second, third] = bytes;
+    [
+        block.last_with(first),
+        block.last_with(second),
+        block.last_with(third),
+    ]
 }
 
 #[test]
-fn records_are_found_by_index_and_by_byte(rt: HostRuntime) -> Result<(), Fail> {
+fn records_are_found_by_index(rt: HostRuntime) -> Result<(), Fail> {
     let none: RecordBlock<'_, U2> = RecordBlock::open(&[])?;
-    assert!(rt; none.len() == 0 && none.last_with(0).is_none() && none.record(0).is_none());
+    assert!(rt; none.len() == 0 && none.record(0).is_none());
     let pairs: RecordBlock<'_, U2> = RecordBlock::open(&[1, 2, 3, 2])?;
-    assert!(rt; pairs.len() == 2 && record_is(&pairs, 1, &[3, 2]) && pairs.record(2).is_none());
-    assert!(rt; pairs.last_with(2) == Some(1) && pairs.last_with(1) == Some(0));
-    assert!(rt; pairs.last_with(9).is_none());
-    let threes: RecordBlock<'_, U3> = RecordBlock::open(&[7, 7, 7, 0, 7, 0])?;
-    assert!(rt; threes.last_with(7) == Some(1) && threes.last_with(0) == Some(1));
-    assert!(rt; threes.last_with(5).is_none());
-    let odd: Result<RecordBlock<'_, U2>, LengthError> = RecordBlock::open(&[1, 2, 3]);
-    assert!(rt; odd.is_err());
+    assert!(rt; pairs.len() == 2 && is(pairs.record(1), &[3, 2]) && pairs.record(2).is_none());
     Ok(())
 }
 
 #[test]
-fn records_are_walked_and_written(rt: HostRuntime) -> Result<(), Fail> {
+fn records_are_found_by_byte(rt: HostRuntime) -> Result<(), Fail> {
+    let none: RecordBlock<'_, U2> = RecordBlock::open(&[])?;
+    assert!(rt; none.last_with(0).is_none());
+    let pairs: RecordBlock<'_, U2> = RecordBlock::open(&[1, 2, 3, 2])?;
+    assert!(rt; last_with(&pairs, [2, 1, 9]) == [Some(1), Some(0), None]);
+    let threes: RecordBlock<'_, U3> = RecordBlock::open(&[7, 7, 7, 0, 7, 0])?;
+    assert!(rt; last_with(&threes, [7, 0, 5]) == [Some(1), Some(1), None]);
+    Ok(())
+}
+
+#[test]
+fn a_rest_is_no_record(rt: HostRuntime) {
+    let odd: Result<RecordBlock<'_, U2>, LengthError> = RecordBlock::open(&[1, 2, 3]);
+    assert!(rt; odd.is_err());
+}
+
+/// Whether the records of 1, 2, 3, 2 come from both ends, and no third.
+fn walk_is_right(block: RecordBlock<'_, U2>) -> bool {
+    let mut left = block.iter();
+    is(left.next_back(), &[3, 2]) && is(left.next(), &[1, 2]) && left.next().is_none()
+}
+
+#[test]
+fn records_are_walked_from_both_ends(rt: HostRuntime) -> Result<(), Fail> {
     let pairs: RecordBlock<'_, U2> = RecordBlock::open(&[1, 2, 3, 2])?;
     let copy = pairs;
-    let mut left = copy.iter();
-    assert!(rt;
-        left.next_back()
-            .is_some_and(|record| record.into_slice() == [3, 2].as_slice())
-    );
-    assert!(rt;
-        left.next()
-            .is_some_and(|record| record.into_slice() == [1, 2].as_slice())
-    );
-    assert!(rt; left.next().is_none());
+    assert!(rt; walk_is_right(copy) && walk_is_right(pairs));
+    Ok(())
+}
+
+#[test]
+fn records_are_written_at_once(rt: HostRuntime) -> Result<(), Fail> {
+    let pairs: RecordBlock<'_, U2> = RecordBlock::open(&[1, 2, 3, 2])?;
     let mut written = Vec::new(rt.alloc());
     pairs.write_to(&mut written)?;
-    let none: RecordBlock<'_, U2> = RecordBlock::open(&[])?;
-    none.write_to(&mut written)?;
-    assert!(rt; written.as_slice() == [1, 2, 3, 2].as_slice());
     let mut counting = Counting::new(false);
     pairs.write_to(&mut counting)?;
-    assert!(rt; counting.calls == 1);
+    assert!(rt; written.as_slice() == [1, 2, 3, 2].as_slice() && counting.calls == 1);
+    Ok(())
+}
+
+#[test]
+fn no_records_are_written(rt: HostRuntime) -> Result<(), Fail> {
+    let none: RecordBlock<'_, U2> = RecordBlock::open(&[])?;
+    let mut written = Vec::new(rt.alloc());
+    none.write_to(&mut written)?;
+    assert!(rt; written.as_slice().is_empty());
+    Ok(())
+}
+
+#[test]
+fn a_writers_fault_leaves_the_records(rt: HostRuntime) -> Result<(), Fail> {
     let four: RecordBlock<'_, U4> = RecordBlock::open(b"abcd")?;
     let mut broken = Counting::new(true);
     let fault = four.write_to(&mut broken);
     assert!(rt; fault.is_err_and(|fault| fault.kind() == ErrorKind::StorageFull));
-    assert!(rt; broken.calls == 1 && record_is(&four, 0, b"abcd"));
+    assert!(rt; broken.calls == 1 && is(four.record(0), b"abcd"));
     Ok(())
 }
