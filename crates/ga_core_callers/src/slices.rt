@@ -154,7 +154,9 @@ fn parts_are_right<N: ArrayLength<u8>>(array: &GenericArray<u8, N>) -> bool
     behind_first(array) == [1, 2].as_slice() && whole(array) == [3, 1, 2].as_slice()
 }
 
-fn sums_are_right<N: ArrayLength<u8>>(array: &GenericArray<u8, N>) -> bool {
+fn sums_are_right<N: ArrayLength<u8>>(array: &GenericArray<u8, N>) -> bool
+    requires { sum array.now < 2 ^ 64 }
+{
     sum_as_slice(array) == 6 && sum_of_references(array) == 6
 }
 
