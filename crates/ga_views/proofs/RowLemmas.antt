@@ -316,11 +316,19 @@ module _ {X : Type 0} (width : ℕ) (items : List X) (whole : length items ≡ c
 pub row-within : (len width index : ℕ) → index < len / width → index * width + width ≤ len
 row-within len width index below = omega (arith, mul-le-mul_right width below, div-mul-le_self len width)
 
+pub length-row : {X : Type 0} (width : ℕ) (items : List X) (index : ℕ) → index < chunk_count width items
+    → length (row_at width items index) ≡ width
+length-row width items index below = length-take-le width (drop (index * width) items)
+    (omega (arith, length-drop (index * width) items, row-within (length items) width index below))
+
 -- the row at an index, where the place at which it starts, the width and the number of rows stand under names
 module _ {X : Type 0} (width : ℕ) (items : List X) (index start count : ℕ) (starts : start ≡ index * width)
     (many : count ≡ chunk_count width items) (below : index < count) where
   ends-within : start + width ≤ length items
   ends-within = omega (arith, row-within (length items) width index (rw (sym many) below))
+
+  pub part-within : (w : ℕ) → w ≡ width → start + w ≤ length items
+  part-within w as_wide = omega (arith, ends-within)
 
   pub start-within : start ≤ length items
   start-within = omega (arith, ends-within)
