@@ -3,6 +3,7 @@ use Rattle.ga_views.proofs.hex_text.show_pieces.Goals as goal
 use Rattle.std.proofs.Common.{[], rules, take, ◌++◌}
 use Rattle.std.proofs.Output.{has_written_styled_append, has_written_styled_nil}
 
+-- at the start all of the text is to be written
 pub loop-count-init : goal.loop-count-init
 loop-count-init g c = record {
   text = λ flush. ([], has_written_styled_nil _ _ flush, c.count_digits-count.ensures.text c.args.upper);
@@ -15,6 +16,7 @@ unreachable-requires g c =
     c.in_default.ensures.cases.0 (rw c.put_piece-shown.ensures.digits
     (IsUtf8-hex_digits c.args.upper c.put_piece-shown.result.0 c.loop-count.left.now))
 
+-- one piece more is written
 pub loop-count-preserved : goal.loop-count-preserved
 loop-count-preserved g c =
     let put = c.put_piece-shown in

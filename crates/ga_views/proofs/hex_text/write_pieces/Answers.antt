@@ -3,6 +3,7 @@ use Rattle.ga_views.proofs.hex_text.write_pieces.Goals as goal
 use Rattle.std.proofs.Common.{[], take, ◌++◌}
 use Rattle.std.proofs.KnownBytes.{Appends-nil, Appends-trans}
 
+-- at the start all of the text is to be written
 pub loop-count-init : goal.loop-count-init
 loop-count-init g c = record {
   text = ([], Appends-nil _, c.count_digits-count.ensures.text c.args.upper);
@@ -14,6 +15,7 @@ pub returns-in_err-write_all-clause-empty : goal.returns-in_err-write_all-clause
 returns-in_err-write_all-clause-empty g c none = absurd (some-text c.args.upper _ _ c.loop-count.left.now _
     c.loop-count.invariant.text.2 c.loop-count-test.true c.loop-count.invariant.count none)
 
+-- one piece more is written
 pub loop-count-preserved : goal.loop-count-preserved
 loop-count-preserved g c =
     let contents = g.W.Write.contents in

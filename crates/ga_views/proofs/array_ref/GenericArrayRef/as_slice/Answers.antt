@@ -1,6 +1,7 @@
 use Rattle.ga_views.proofs.GetLemmas.{all-taken, taken-long, taken-within}
 use Rattle.ga_views.proofs.array_ref.GenericArrayRef.as_slice.Goals as goal
 
+-- the slice has as many items as the view, and all are taken
 pub slice_bounds-result-end : goal.slice_bounds-result-end
 slice_bounds-result-end g c = taken-within c.args.self.now.slice.now _ _ c.args.self.now.full c.USIZE.ensures
 

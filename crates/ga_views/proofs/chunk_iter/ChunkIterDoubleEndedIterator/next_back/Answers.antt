@@ -10,6 +10,7 @@ returns-then-not-has_row-clause-steps g c =
     let none = rows-none _ _ _ _ c.self.view_is c.USIZE-width.ensures (c.has_row.ensures.none c.if-not-has_row.true) in
     (none, none)
 
+-- where one is held, the width is within the items
 pub overflow_sub-self-inside : goal.overflow_sub-self-inside
 overflow_sub-self-inside g c = (c.has_row.ensures.some c.if-not-has_row.false).1
 

@@ -4,15 +4,18 @@ use Rattle.ga_views.proofs.chunks_mut.ChunksViewMut.row_mut.Goals as goal
 use Rattle.std.proofs.Common.{ap, length, ◌∙◌}
 use Rattle.std.specs.Prelude.{refl}
 
+-- the row ends within the items
 pub part_mut-requires : goal.part_mut-requires
 part_mut-requires g c = record {
   in_bounds = part-within _ (g.S.ReborrowSlice.items c.args.self.now.slice) c.args.index _ _ c.start_of-start.ensures
       refl c.requires.in_bounds _ c.USIZE.ensures;
 }
 
+-- no rest is left whatever is written
 pub invariant_of-self-lent : goal.invariant_of-self-lent
 invariant_of-self-lent g c = λ row. (whole-after c.args.self.now _, tt)
 
+-- the part is the row at the index
 pub returns : goal.returns
 returns g c =
     let items = g.S.ReborrowSlice.items c.args.self.now.slice in

@@ -2,6 +2,7 @@ use Rattle.ga_views.proofs.RowLemmas.{row-named, row-reached, slice_get-rows, sl
 use Rattle.ga_views.proofs.chunks_ref.ChunksRef.get.Goals as goal
 use Rattle.std.proofs.Common.{◌∙◌, Some, ap, sym}
 
+-- the row starts and ends within the items
 pub split_at-requires : goal.split_at-requires
 split_at-requires g c = start-within _ c.args.self.now.slice.now c.args.index _ _ c.start_of.ensures
     c.len.ensures.count c.if-index-len.true
@@ -19,6 +20,7 @@ pub returns-then-index-len-clause-rows : goal.returns-then-index-len-clause-rows
 returns-then-index-len-clause-rows g c = ap Some (returns-then-index-len-clause-row g c)
     ∙ sym (slice_get-rows _ _ c.args.index (rw (sym c.len.ensures.count) c.if-index-len.true))
 
+-- from the number of rows on, there is none
 pub returns-else-index-len-clause-rows : goal.returns-else-index-len-clause-rows
 returns-else-index-len-clause-rows g c =
     sym (slice_get-rows_past _ _ c.args.index (rw (sym c.len.ensures.count) c.if-index-len.false))

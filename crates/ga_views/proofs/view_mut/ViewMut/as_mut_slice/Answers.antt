@@ -18,6 +18,7 @@ returns g c = (
 pub all_mut-requires : goal.all_mut-requires
 all_mut-requires g c = record { len = c.USIZE.ensures ∙ sym c.args.self.now.full }
 
+-- as many items are there whatever is written
 pub invariant_of-self-lent : goal.invariant_of-self-lent
 invariant_of-self-lent g c = λ written. (
   (view_with g.row.S g.row.T g.row.N g.S.ReborrowSlice g.N.Unsigned
