@@ -4,7 +4,7 @@ use Rattle.hex.proofs.HexLemmas.{IsAscii-encode_with, length-encode_with}
 use Rattle.hex.specs.Hex.{encode_lower, encode_with, lower_digits, upper_digits}
 use Rattle.std.proofs.Common.{◌≡◌, ℕ, ◌+◌, ◌-◌, ◌*◌, ◌/◌, ◌%◌, ◌≤◌, inl, inr, Bool, true, false, if◌then◌else◌, List}
 use Rattle.std.proofs.Common.{[], ◌∷◌, ◌++◌, Option, None, Some, MatchOption, refl, sym, ap, ◌∙◌, arith, length, map}
-use Rattle.std.proofs.Common.{append_assoc, length-append, nat_lt, min, take}
+use Rattle.std.proofs.Common.{append_assoc, length-append, length-take, nat_lt, min, take, ◌<◌}
 use Rattle.std.proofs.Math.ListN.{get_or-map}
 use Rattle.std.proofs.Math.Seq.{take-append-add}
 use Rattle.std.proofs.lemmas.Bool.{cases_lt, ltb-true}
@@ -73,36 +73,42 @@ module _ (upper : Bool) where
   pub IsUtf8-hex_digits : (n : ℕ) (bytes : List ℕ) → IsUtf8 (take n (hex_digits upper bytes))
   IsUtf8-hex_digits n bytes = IsUtf8-from_ascii _ (IsAscii-take _ n (IsAscii-encode_with _ bytes (IsAscii-table upper)))
 
-  -- the digits that are to be written of two parts of the bytes: of the first as many as it has, and the others of
-  -- the second
-  take-hex_digits : (count n : ℕ) (bytes piece behind text : List ℕ) → bytes ≡ piece ++ behind
-      → text ≡ hex_digits upper piece → n ≡ min count (length text)
-      → take count (hex_digits upper bytes) ≡ take n text ++ take (count - n) (hex_digits upper behind)
-  take-hex_digits count n bytes piece behind text parts digits few =
-      ap (λ all. take count (hex_digits upper all)) parts
-      ∙ (ap (take count) (encode_with-append _ piece behind
-      ∙ ap (λ front. front ++ hex_digits upper behind) (sym digits))
-      ∙ take-append_min count n text (hex_digits upper behind) few)
+  -- bytes in two parts, the digits of the first, and how many of them are to be written
+  module _ (count n : ℕ) (bytes piece behind text : List ℕ) (parts : bytes ≡ piece ++ behind)
+      (digits : text ≡ hex_digits upper piece) (few : n ≡ min count (length text)) where
+    all-digits : hex_digits upper bytes ≡ text ++ hex_digits upper behind
+    all-digits = ap (hex_digits upper) parts
+        ∙ (encode_with-append _ piece behind ∙ ap (λ front. front ++ hex_digits upper behind) (sym digits))
 
-  -- the whole text is what was written, this piece and what is to be written of what lies behind it
-  pub pieces-next : (count n : ℕ) (bytes piece behind text whole done : List ℕ) → bytes ≡ piece ++ behind
-      → text ≡ hex_digits upper piece → n ≡ min count (length text)
-      → whole ≡ done ++ take count (hex_digits upper bytes)
-      → whole ≡ (done ++ take n text) ++ take (count - n) (hex_digits upper behind)
-  pieces-next count n bytes piece behind text whole done parts digits few told =
-      told ∙ (ap (λ rest. done ++ rest) (take-hex_digits count n bytes piece behind text parts digits few)
-      ∙ sym (append_assoc done (take n text) (take (count - n) (hex_digits upper behind))))
+    -- so many of the digits, whatever stands behind those of the first part, are the first of all
+    pub piece-digits : (others : List ℕ) → take n (text ++ others) ≡ take n (hex_digits upper bytes)
+    piece-digits others =
+        take-append-le n text others (omega arith)
+        ∙ (sym (take-append-le n text (hex_digits upper behind) (omega arith)) ∙ ap (take n) (sym all-digits))
 
-  -- and what is to be written is there
-  pub pieces-left : (count n : ℕ) (bytes piece behind text : List ℕ) → bytes ≡ piece ++ behind
-      → text ≡ hex_digits upper piece → n ≡ min count (length text) → count ≤ 2 * length bytes
-      → count - n ≤ 2 * length behind
-  pieces-left count n bytes piece behind text parts digits few enough = omega (
+    -- what is to be written of all is these and, of the second part, the others
+    pub piece-rest : take count (hex_digits upper bytes) ≡ take n (hex_digits upper bytes)
+        ++ take (count - n) (hex_digits upper behind)
+    piece-rest =
+        ap (take count) all-digits
+        ∙ (take-append_min count n text (hex_digits upper behind) few
+        ∙ ap (λ front. front ++ take (count - n) (hex_digits upper behind))
+        (sym (take-append-le n text (hex_digits upper behind) (omega arith)) ∙ ap (take n) (sym all-digits)))
+
+    -- and the second part has as many
+    pub piece-left : count ≤ 2 * length bytes → count - n ≤ 2 * length behind
+    piece-left enough =
+        omega (arith, ap length parts, length-append piece behind, ap length digits, length-hex_digits piece)
+
+  -- where digits are to be written, the text isn't empty
+  pub some-text : (whole done bytes : List ℕ) (count : ℕ) → whole ≡ done ++ take count (hex_digits upper bytes)
+      → 0 < count → count ≤ 2 * length bytes → whole ≡ [] → ⊥
+  some-text whole done bytes count told some enough none = omega (
     arith,
-    ap length parts,
-    length-append piece behind,
-    ap length digits,
-    length-hex_digits piece,
+    ap length (sym none ∙ told),
+    length-append done (take count (hex_digits upper bytes)),
+    length-take count (hex_digits upper bytes),
+    length-hex_digits bytes,
   )
 
   -- the text is as many digits as the limit lets through
@@ -120,3 +126,9 @@ module _ (upper : Bool) where
         ],
         omega arith,
       )
+
+-- the whole text is what was written, this piece of what was to be written and the rest of that
+pub text-next : (whole done left piece front rest : List ℕ) → whole ≡ done ++ left → left ≡ front ++ rest
+    → piece ≡ front → whole ≡ (done ++ piece) ++ rest
+text-next whole done left piece front rest told parts same =
+    told ∙ (ap (λ l. done ++ l) (parts ∙ ap (λ l. l ++ rest) (sym same)) ∙ sym (append_assoc done piece rest))

@@ -1,7 +1,7 @@
 -- Rows from both ends, and the rows of the items that fill them: what a walk over rows and a cut behind them cite.
 use Rattle.ga_views.specs.Rows.{chunk_count, chunk_rest, row_at, rows}
 use Rattle.std.proofs.Common.{◌≡◌, ℕ, zero, suc, ◌+◌, ◌-◌, ◌*◌, ◌/◌, ◌<◌, ◌≤◌, List, [], ◌∷◌, ◌++◌, None, Some, map}
-use Rattle.std.proofs.Common.{length, take, drop, refl, sym, ap, ◌∙◌, arith, length-drop, slice_get}
+use Rattle.std.proofs.Common.{length, take, drop, refl, sym, ap, ◌∙◌, arith, length-append, length-drop, slice_get}
 use Rattle.std.proofs.Math.Nat.{div-eq-sub-div, div-eq_of_lt, div-mul-le_self, div-zero, mul-div_cancel}
 use Rattle.std.proofs.Math.Nat.{mul-le-mul_right, zero-div}
 use Rattle.std.proofs.lemmas.List.{drop-drop, drop-take, length-take-le, take-take, take_all}
@@ -44,12 +44,13 @@ module _ {X : Type 0} (width : ℕ) (items : List X) where
         (range_with_len 1 (chunk_count width (drop width items)))) none
         ∙ ap (λ others. take width items ∷ others) (rows_shifted 0 (chunk_count width (drop width items))))
 
-    -- the same where what is split off stands under names
-    pub rows-split : (shown : List (List X)) (w : ℕ) (row left : List X) → rows width items ≡ shown → w ≡ width
-        → row ≡ take w items → left ≡ drop w items → shown ≡ row ∷ rows width left
-    rows-split shown w row left same as_wide front back = sym same ∙ (rows-first
-        ∙ (ap (λ first. first ∷ rows width (drop width items)) (ap (λ n. take n items) (sym as_wide) ∙ sym front)
-        ∙ ap (λ others. row ∷ rows width others) (ap (λ n. drop n items) (sym as_wide) ∙ sym back)))
+    -- what follows the first row leaves no rest either
+    whole-behind : length items ≡ chunk_count width items * width
+        → length (drop width items) ≡ chunk_count width (drop width items) * width
+    whole-behind whole =
+        let places : chunk_count width items * width ≡ width + chunk_count width (drop width items) * width =
+        ap (λ n. n * width) count-step ∙ (omega arith) in
+        omega (arith, length-drop width items)
 
     pub chunk_rest-first : chunk_rest width items ≡ chunk_rest width (drop width items)
     chunk_rest-first =
@@ -126,6 +127,26 @@ whole_by count zero len fills = omega arith
 whole_by count (suc width) len fills =
     let same : len / suc width ≡ count = ap (λ n. n / suc width) fills ∙ mul-div_cancel count (omega arith) in
     fills ∙ ap (λ n. n * suc width) (sym same)
+
+-- a cut of items at the end of the whole rows, where the place and the width stand under names
+module _ {X : Type 0} (width : ℕ) (items : List X) (w place : ℕ) (as_wide : w ≡ width)
+    (here : place ≡ length items / w * w) where
+  ends : place ≡ chunk_count width items * width
+  ends = here ∙ ap (λ n. length items / n * n) as_wide
+
+  pub cut-within : place ≤ length items
+  cut-within = rw here (div-mul-le_self (length items) w)
+
+  -- the items before it leave no rest, and have the same rows
+  pub cut-whole : (before : List X) → length before ≡ place → length before ≡ chunk_count width before * width
+  cut-whole before long = whole_by (chunk_count width items) width (length before) (long ∙ ends)
+
+  pub cut-rows : (before : List X) → before ≡ take place items → rows width before ≡ rows width items
+  cut-rows before front = ap (rows width) (front ∙ ap (λ n. take n items) ends) ∙ rows-of_whole width items
+
+  -- the items behind it are the rest
+  pub cut-rest : (behind : List X) → behind ≡ drop place items → behind ≡ chunk_rest width items
+  cut-rest behind back = back ∙ ap (λ n. drop n items) ends
 
 -- where there is a row, the width isn't 0
 wide_by : (len width k : ℕ) → suc k ≤ len / width → 0 < width
@@ -255,17 +276,70 @@ module _ {X : Type 0} (width : ℕ) (items : List X) (whole : length items ≡ c
         ∙ (ap (λ list. list ++ row_at width items last ∷ []) (sym others)
         ∙ ap (λ r. rows width (take before items) ++ r ∷ []) row))
 
-    -- the same where what is split off stands under names
-    pub rows-split_back : (shown : List (List X)) (w : ℕ) (others row : List X) → rows width items ≡ shown → w ≡ width
-        → others ≡ take (length items - w) items → row ≡ drop (length items - w) items
-        → shown ≡ rows width others ++ row ∷ []
-    rows-split_back shown w others row same as_wide front back =
-        let place = ap (λ n. length items - n) (sym as_wide) in
-        sym same ∙ (rows-last
-        ∙ (ap (λ l. rows width l ++ drop (length items - width) items ∷ [])
-        (ap (λ n. take n items) place ∙ sym front)
-        ∙ ap (λ last. rows width others ++ last ∷ []) (ap (λ n. drop n items) place ∙ sym back)))
+  -- a row under a name is split off, of a width under a name that the items reach
+  module _ (shown : List (List X)) (same : rows width items ≡ shown) (w : ℕ) (as_wide : w ≡ width)
+      (held : (0 < w) × (w ≤ length items)) (row others : List X) where
+    wide : 0 < width
+    wide = omega (arith, held.0)
+
+    enough : width ≤ length items
+    enough = omega (arith, held.1)
+
+    -- at the front it is the first of the rows that are told. The others leave no rest, and are fewer
+    pub first-split : row ≡ take w items → others ≡ drop w items → (shown ≡ row ∷ rows width others)
+        × (length others ≡ chunk_count width others * width) × (length (rows width others) < length shown)
+    first-split front back =
+        let here : others ≡ drop width items = back ∙ ap (λ n. drop n items) as_wide in
+        let told : shown ≡ row ∷ rows width others = sym same ∙ (rows-first width items wide enough
+        ∙ (ap (λ first. first ∷ rows width (drop width items)) (ap (λ n. take n items) (sym as_wide) ∙ sym front)
+        ∙ ap (λ l. row ∷ rows width l) (sym here))) in
+        (told, rw here (whole-behind width items wide enough whole), omega (arith, ap length told))
+
+    -- and at the back the last
+    pub last-split : others ≡ take (length items - w) items → row ≡ drop (length items - w) items
+        → (shown ≡ rows width others ++ row ∷ []) × (length others ≡ chunk_count width others * width)
+        × (length (rows width others) < length shown)
+    last-split front back =
+        let place = ap (λ n. length items - n) as_wide in
+        let here : others ≡ take (length items - width) items = front ∙ ap (λ n. take n items) place in
+        let one : 1 * width ≡ width = omega arith in
+        let told : shown ≡ rows width others ++ row ∷ [] = sym same ∙ (rows-last wide enough
+        ∙ (ap (λ l. rows width l ++ drop (length items - width) items ∷ []) (sym here)
+        ∙ ap (λ last. rows width others ++ last ∷ []) (ap (λ n. drop n items) (sym place) ∙ sym back))) in
+        let left : 1 ≤ chunk_count width items = omega (arith, count-step width items wide enough) in (
+          told,
+          rw (here ∙ ap (λ n. take (length items - n) items) (sym one)) (whole-taken 1 left),
+          omega (arith, ap length told, length-append (rows width others) (row ∷ [])),
+        )
 
 -- a whole row ends within the items
 pub row-within : (len width index : ℕ) → index < len / width → index * width + width ≤ len
 row-within len width index below = omega (arith, mul-le-mul_right width below, div-mul-le_self len width)
+
+pub length-row : {X : Type 0} (width : ℕ) (items : List X) (index : ℕ) → index < chunk_count width items
+    → length (row_at width items index) ≡ width
+length-row width items index below = length-take-le width (drop (index * width) items)
+    (omega (arith, length-drop (index * width) items, row-within (length items) width index below))
+
+-- the row at an index, where the place at which it starts, the width and the number of rows stand under names
+module _ {X : Type 0} (width : ℕ) (items : List X) (index start count : ℕ) (starts : start ≡ index * width)
+    (many : count ≡ chunk_count width items) (below : index < count) where
+  ends-within : start + width ≤ length items
+  ends-within = omega (arith, row-within (length items) width index (rw (sym many) below))
+
+  pub part-within : (w : ℕ) → w ≡ width → start + w ≤ length items
+  part-within w as_wide = omega (arith, ends-within)
+
+  pub start-within : start ≤ length items
+  start-within = omega (arith, ends-within)
+
+  pub row-reached : (w : ℕ) (behind : List X) → w ≡ width → length behind + start ≡ length items → w ≤ length behind
+  row-reached w behind as_wide long = omega (arith, ends-within)
+
+-- it is what stands behind that place
+pub row-named : {X : Type 0} (width : ℕ) (items : List X) (index start w : ℕ) (behind row : List X)
+    → start ≡ index * width → w ≡ width → behind ≡ drop start items → row ≡ take w behind
+    → row ≡ row_at width items index
+row-named width items index start w behind row starts as_wide back front =
+    front ∙ (ap (λ n. take n behind) as_wide
+    ∙ ap (take width) (back ∙ ap (λ n. drop n items) starts))

@@ -2,7 +2,7 @@
 ghost use Rattle.ga_views.specs.HexText.{hex_digits, hex_text};
 ghost use Rattle.std.specs.Fmt.{WritesStyledOnOk, spec_precision};
 ghost use Rattle.std.specs.Io.KnownBytes.{Appends};
-ghost use Rattle.std.specs.Prelude.{◌≡◌, ◌*◌, ◌≤◌, [], IsOk, OnOk, Some, length};
+ghost use Rattle.std.specs.Prelude.{◌≡◌, ◌-◌, ◌*◌, ◌<◌, ◌≤◌, ◌++◌, [], Bool, IsOk, OnOk, Some, length, take};
 
 use hex::encode_to_slice;
 use std::io::Write;
@@ -93,15 +93,11 @@ fn write_pieces<const SIZE: usize, W: Write>(
     ensures empty { hex_text upper limit bytes.now ≡ [] → IsOk result }
 {
     let mut digits = [0; SIZE];
-    let all = 2 * bytes.len();
-    let mut count = limit.map_or(all, |limit: usize| limit.min(all));
+    let mut count = count_digits(bytes, limit);
     let mut left = bytes;
     while count > 0 {
-        let (piece, behind) = left.split_at(left.len().min(SIZE / 2));
-        let text = &mut digits[..2 * piece.len()];
-        put_digits(piece, upper, text);
-        let written = count.min(text.len());
-        w.write_all(&text[..written])?;
+        let (written, behind) = put_piece(left, upper, count, &mut digits);
+        w.write_all(&digits[..written])?;
         count -= written;
         left = behind;
     }
@@ -119,15 +115,11 @@ fn show_pieces<W: fmt::Write>(
         (hex_text upper limit bytes.now) f.new }
 {
     let mut digits = [0; SHORT_TEXT];
-    let all = 2 * bytes.len();
-    let mut count = limit.map_or(all, |limit: usize| limit.min(all));
+    let mut count = count_digits(bytes, limit);
     let mut left = bytes;
     while count > 0 {
-        let (piece, behind) = left.split_at(left.len().min(SHORT_TEXT / 2));
-        let text = &mut digits[..2 * piece.len()];
-        put_digits(piece, upper, text);
-        let shown = count.min(text.len());
-        let Ok(text) = str::from_utf8(&text[..shown]) else {
+        let (shown, behind) = put_piece(left, upper, count, &mut digits);
+        let Ok(text) = str::from_utf8(&digits[..shown]) else {
             unreachable!();
         };
         f.write_str(text)?;
@@ -135,6 +127,41 @@ fn show_pieces<W: fmt::Write>(
         left = behind;
     }
     Ok(())
+}
+
+// How many digits are to be written: two for each byte, but no more than the limit.
+#[inline]
+fn count_digits(bytes: &[u8], limit: Option<usize>) -> usize
+    ensures text { (upper : Bool) → hex_text upper limit bytes.now ≡ take result (hex_digits upper bytes.now) }
+    ensures few { result ≤ 2 * length bytes.now }
+{
+    let all = 2 * bytes.len();
+    match limit {
+        Some(limit) => limit.min(all),
+        None => all,
+    }
+}
+
+// Puts the first digits of the bytes that are left into a buffer: as many as it holds, and no more than
+// `count`. Returns how many are to be written, and the bytes behind.
+#[inline(always)]
+fn put_piece<'a>(left: &'a [u8], upper: bool, count: usize, digits: &mut [u8]) -> (usize, &'a [u8])
+    requires some { 0 < count }
+    requires enough { count ≤ 2 * length left.now }
+    requires room { 2 ≤ length digits.old }
+    ensures digits { take result.0 digits.new ≡ take result.0 (hex_digits upper left.now) }
+    ensures rest { take count (hex_digits upper left.now) ≡ take result.0 (hex_digits upper left.now)
+        ++ take (count - result.0) (hex_digits upper result.1.now) }
+    ensures within { result.0 ≤ length digits.new }
+    ensures some { 0 < result.0 }
+    ensures few { result.0 ≤ count }
+    ensures left { count - result.0 ≤ 2 * length result.1.now }
+{
+    let (piece, behind) = left.split_at(left.len().min(digits.len() / 2));
+    let text = &mut digits[..2 * piece.len()];
+    put_digits(piece, upper, text);
+    let written = count.min(text.len());
+    (written, behind)
 }
 
 // Puts the digits of the bytes over a text of twice their length.

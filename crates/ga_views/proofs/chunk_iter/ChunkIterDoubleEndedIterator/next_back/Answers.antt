@@ -1,35 +1,42 @@
-use Rattle.ga_views.proofs.RowLemmas.{rows-none, rows-split_back}
+use Rattle.ga_views.proofs.RowLemmas.{last-split, rows-none}
 use Rattle.ga_views.proofs.chunk_iter.ChunkIterDoubleEndedIterator.next_back.Given as given
 use Rattle.ga_views.proofs.chunk_iter.ChunkIterDoubleEndedIterator.next_back.Goals as goal
-use Rattle.ga_views.specs.Rows.{rows}
-use Rattle.std.proofs.Common.{rules, [], ◌++◌, ◌∙◌, ◌∷◌, ◌≡◌, ap, arith, length, length-append}
+use Rattle.ga_views.specs.Rows.{chunk_count, rows}
+use Rattle.std.proofs.Common.{[], arith, length, ◌*◌, ◌++◌, ◌<◌, ◌∙◌, ◌∷◌, ◌≡◌}
 
 -- where no row is held, none is left
 pub returns-then-not-has_row-clause-steps : goal.returns-then-not-has_row-clause-steps
 returns-then-not-has_row-clause-steps g c =
-    let none = rows-none _ _ _ _ c.self.view_is c.USIZE-width.ensures (c.has_row.ensures.none (search rules)) in
+    let none = rows-none _ _ _ _ c.self.view_is c.USIZE-width.ensures (c.has_row.ensures.none c.if-not-has_row.true) in
     (none, none)
+
+-- where one is held, the width is within the items
+pub overflow_sub-self-inside : goal.overflow_sub-self-inside
+overflow_sub-self-inside g c = (c.has_row.ensures.some c.if-not-has_row.false).1
+
+pub from_slice-requires : goal.from_slice-requires
+from_slice-requires g c = record {
+  len = omega (
+    arith,
+    (c.has_row.ensures.some c.if-not-has_row.false).1,
+    c.split_at.ensures.back_len,
+  );
+}
 
 -- what is split off is the last of the rows that are left
 split : (g : given.Over) (c : goal.After-from_slice g)
-    → c.args.self.now ≡ rows g.N.Unsigned.USIZE c.split_at.result.0.now ++ c.from_slice.result.slice.now ∷ []
-split g c = rows-split_back _ _ c.self.invariant (omega arith) (omega arith) _ _ _ _ c.self.view_is
-    c.USIZE-width.ensures c.split_at.ensures.front (c.from_slice.ensures ∙ c.split_at.ensures.back)
+    → let left = c.split_at.result.0.now in let width = g.N.Unsigned.USIZE in
+    (c.args.self.now ≡ rows width left ++ c.from_slice.result.slice.now ∷ [])
+    × (length left ≡ chunk_count width left * width) × (length (rows width left) < length c.args.self.now)
+split g c = last-split _ _ c.self.invariant _ c.self.view_is _ c.USIZE-width.ensures
+    (c.has_row.ensures.some c.if-not-has_row.false) _ _ c.split_at.ensures.front
+    (c.from_slice.ensures ∙ c.split_at.ensures.back)
+
+pub invariant_of-self : goal.invariant_of-self
+invariant_of-self g c = (split g c).1
 
 pub returns-clause-steps : goal.returns-clause-steps
-returns-clause-steps g c = split g c
+returns-clause-steps g c = (split g c).0
 
 pub returns-clause-goes : goal.returns-clause-goes
-returns-clause-goes g c = record {
-  on = λ _. (
-    tt,
-    tt,
-    omega (
-      arith,
-      ap length (split g c),
-      length-append (rows g.N.Unsigned.USIZE c.split_at.result.0.now) (c.from_slice.result.slice.now ∷ []),
-    ),
-  );
-  keeps = tt;
-  rests = λ _. tt;
-}
+returns-clause-goes g c = record { on = λ _. (tt, tt, (split g c).2); keeps = tt; rests = λ _. tt }

@@ -1,7 +1,14 @@
-use Rattle.ga_views.proofs.ChunksViewMutLemmas.{same_rows}
+use Rattle.ga_views.proofs.ChunksViewMutLemmas.{same_rows, whole-after}
 use Rattle.ga_views.proofs.chunks_mut.ChunksViewMut.as_mut_slice.Goals as goal
 use Rattle.std.proofs.Common.{ap, length, ◌∙◌}
 use Rattle.std.specs.Prelude.{refl}
+
+pub all_mut-requires : goal.all_mut-requires
+all_mut-requires g c = record { len = ap length c.all-len.ensures }
+
+-- no rest is left whatever is written
+pub invariant_of-self-lent : goal.invariant_of-self-lent
+invariant_of-self-lent g c = λ written. (whole-after c.args.self.now written, tt)
 
 pub returns : goal.returns
 returns g c = (

@@ -1,30 +1,31 @@
-use Rattle.ga_views.proofs.RowLemmas.{row-within}
+use Rattle.ga_views.proofs.RowLemmas.{length-row, part-within, row-named}
 use Rattle.ga_views.proofs.ChunksViewMutLemmas.{same_rows, whole-after}
 use Rattle.ga_views.proofs.chunks_mut.ChunksViewMut.row_mut.Goals as goal
-use Rattle.ga_views.specs.Rows.{row_at}
-use Rattle.std.proofs.Common.{◌≡◌, ◌*◌, ◌≤◌, ap, arith, drop, length, length-drop, ◌∙◌}
-use Rattle.std.proofs.lemmas.List.{length-take-le}
+use Rattle.std.proofs.Common.{ap, length, ◌∙◌}
 use Rattle.std.specs.Prelude.{refl}
 
+-- the row ends within the items
+pub part_mut-requires : goal.part_mut-requires
+part_mut-requires g c = record {
+  in_bounds = part-within _ (g.S.ReborrowSlice.items c.args.self.now.slice) c.args.index _ _ c.start_of-start.ensures
+      refl c.requires.in_bounds _ c.USIZE.ensures;
+}
+
+-- no rest is left whatever is written
 pub invariant_of-self-lent : goal.invariant_of-self-lent
 invariant_of-self-lent g c = λ row. (whole-after c.args.self.now _, tt)
 
+-- the part is the row at the index
 pub returns : goal.returns
 returns g c =
     let items = g.S.ReborrowSlice.items c.args.self.now.slice in
     let width = g.N.Unsigned.USIZE in
-    let behind = drop (c.args.index * width) items in
-    let fits : width ≤ length behind = omega (
-      arith,
-      length-drop (c.args.index * width) items,
-      row-within (length items) width c.args.index c.requires.in_bounds,
-    ) in
-    let row : c.part_mut.result.now ≡ row_at width items c.args.index =
-    rw (c.part_mut.ensures.value, c.USIZE.ensures, c.start_of-start.ensures) refl in (
+    let row = row-named width items c.args.index _ _ _ c.part_mut.result.now c.start_of-start.ensures c.USIZE.ensures
+    refl c.part_mut.ensures.value in (
       (refl, λ row. same_rows c.args.self.now _ _ _ _ (rw (c.USIZE.ensures, c.start_of-start.ensures) refl)),
       record {
         writes_back = _;
         row = row;
-        len = ap length row ∙ length-take-le width behind fits;
+        len = ap length row ∙ length-row width items c.args.index c.requires.in_bounds;
       },
     )
