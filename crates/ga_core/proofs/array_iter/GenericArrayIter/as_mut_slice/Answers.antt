@@ -8,7 +8,9 @@ use Rattle.std.specs.List.{refill}
 pub invariant_of-self-lent : goal.invariant_of-self-lent
 invariant_of-self-lent g c w =
     let inv = c.self.invariant in
-    left-kept _ _ _ _ _ _ inv.0 inv.1 inv.2 inv.3 (g.N.ArrayType.Store.store_with c.self.inside.store _).1
+    let items = g.N.ArrayType.Store.items c.self.inside.store in
+    let part = part_set c.self.inside.front (c.self.inside.back - c.self.inside.front) items w in
+    left-kept items part _ _ _ _ inv.0 inv.1 inv.2 inv.3 (g.N.ArrayType.Store.store_with c.self.inside.store part).1
 
 pub returns : goal.returns
 returns g c =
