@@ -2,8 +2,9 @@
 use Rattle.arrayvec.proofs.IterLemmas.{slice_range_first, slice_range_last}
 use Rattle.ga_views.proofs.PartLemmas.{part-before, part-behind}
 use Rattle.ga_views.specs.Parts.{part_set}
-use Rattle.std.proofs.Common.{◌≡◌, ℕ, ◌+◌, ◌-◌, ◌%◌, ◌<◌, ◌≤◌, List, [], ◌∷◌, ◌++◌, length, drop, take, reverse, refl, sym}
-use Rattle.std.proofs.Common.{ap, ◌∙◌, arith, get_or, slice_get, slice_set, length-append, length-drop, length-take, Option, None, Some}
+use Rattle.std.proofs.Common.{◌≡◌, ℕ, ◌+◌, ◌-◌, ◌%◌, ◌<◌, ◌≤◌, List, [], ◌∷◌, ◌++◌, length, drop, take, reverse, sym}
+use Rattle.std.proofs.Common.{ap, ◌∙◌, arith, get_or, slice_get, slice_set, length-append, length-drop, length-take}
+use Rattle.std.proofs.Common.{Option, None, Some, refl}
 use Rattle.std.proofs.lemmas.List.{drop-drop, drop-take, reverse-append, take-take}
 use Rattle.std.proofs.Math.Nat.{mod-eq_of_lt}
 use Rattle.std.specs.Iterator.{YieldsLast}
@@ -30,7 +31,8 @@ module _ {T : Type 0} where
       (omega (arith, left-count items front back ordered within, ap length shown, some), within)
 
   -- where the slots have met, nothing is left
-  pub left-none : (items left : List T) (front back : ℕ) → back ≤ front → slice_range items front back ≡ left → left ≡ []
+  pub left-none : (items left : List T) (front back : ℕ) → back ≤ front → slice_range items front back ≡ left
+      → left ≡ []
   left-none items left front back met shown =
       let none : back - front ≡ 0 = omega arith in
       sym shown ∙ ap (λ k. take k (drop front items)) none

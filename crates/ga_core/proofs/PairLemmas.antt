@@ -1,7 +1,7 @@
 -- Two lists of one length, compared pair by pair in parts.
-use Rattle.std.proofs.Common.{◌≡◌, ℕ, zero, suc, ◌+◌, ◌-◌, ◌<◌, ◌≤◌, Bool, true, false, ◌&&◌, List, [], ◌∷◌, ◌++◌, Option}
+use Rattle.std.proofs.Common.{◌≡◌, ℕ, zero, suc, ◌+◌, ◌-◌, ◌<◌, ◌≤◌, Bool, true, false, ◌&&◌, List, [], ◌∷◌, ◌++◌}
 use Rattle.std.proofs.Common.{Ordering, Less, Equal, Greater, take, drop, length, ap, sym, ◌∙◌, refl, arith}
-use Rattle.std.proofs.Common.{inl, inr, None, slice_get, slice_index_or}
+use Rattle.std.proofs.Common.{inl, inr, None, Option, slice_get, slice_index_or}
 use Rattle.std.proofs.Math.Dec.{eqb}
 use Rattle.std.proofs.lemmas.Bool.Decides.{eqb_tells}
 use Rattle.std.proofs.lemmas.List.{drop-take, length-drop, length-take, take-append-drop, take-take, take_more}

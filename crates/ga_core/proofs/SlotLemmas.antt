@@ -30,4 +30,5 @@ refill-over items slots written after same long stands =
 pub front-written : {X : Type 0} (len : ℕ) (items written after : List X) → len ≤ length items → length written ≡ len
     → after ≡ refill (length items) items (part_set 0 len items written) → take len after ≡ written
 front-written len items written after within long stands =
-    part-within 0 len items written after (omega (arith, within)) stands ∙ refill-whole len (take len items) written (sym long)
+    part-within 0 len items written after (omega (arith, within)) stands
+    ∙ refill-whole len (take len items) written (sym long)

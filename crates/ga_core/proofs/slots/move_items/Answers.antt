@@ -16,7 +16,8 @@ loop-index-preserved g c =
     record {
       moved = next.0;
       behind = next.1;
-      left = left-next g.T.Default.is_default at.index at.items c.take.new.dest within at.invariant.left c.take.ensures.after;
+      left = left-next g.T.Default.is_default at.index at.items c.take.new.dest within at.invariant.left
+          c.take.ensures.after;
     }
 
 pub returns-clause-moved : goal.returns-clause-moved

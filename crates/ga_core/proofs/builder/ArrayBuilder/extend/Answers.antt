@@ -1,4 +1,5 @@
-use Rattle.ga_core.proofs.FillLemmas.{Asks-from_takes, TakeRuns-from_takes, has-room, room-filled, room-left, room-shrinks}
+use Rattle.ga_core.proofs.FillLemmas.{Asks-from_takes, TakeRuns-from_takes, has-room, room-filled, room-left}
+use Rattle.ga_core.proofs.FillLemmas.{room-shrinks}
 use Rattle.ga_core.proofs.builder.ArrayBuilder.extend.Goals as goal
 use Rattle.std.proofs.Common.{◌≡◌, ◌∷◌, [], ◌++◌, ◌-◌, ap, append_assoc, inl, inr, length}
 use Rattle.std.proofs.Common.{refl, ◌∙◌}
