@@ -1,8 +1,8 @@
 -- Copies of one value that equal it, and answers that share a property.
 use Rattle.ga_core.specs.Copies.{ExactlyEach, Repeats}
 use Rattle.ga_core.specs.Runs.{ClosureRun}
-use Rattle.std.proofs.Common.{◌≡◌, ℕ, zero, suc, ◌+◌, ◌-◌, ◌≤◌, List, [], ◌∷◌, ◌++◌, length, replicate, refl, ap, arith}
-use Rattle.std.proofs.Common.{◌∙◌, slice_index_or, slice_set}
+use Rattle.std.proofs.Common.{◌≡◌, ℕ, zero, suc, ◌+◌, ◌-◌, List, [], ◌∷◌, ◌++◌, length, replicate, refl, ap, ◌∙◌, arith}
+use Rattle.std.proofs.Common.{slice_index_or, slice_set}
 use Rattle.std.proofs.Math.Seq.{set-append_seam}
 use Rattle.std.proofs.lemmas.List.{replicate-append-replicate}
 use Rattle.std.specs.List.{All}
@@ -38,12 +38,6 @@ module _ {T : Type 0} where
   Repeats-written is_clone item (suc n) clones (x ∷ []) long one all =
       let last : suc n - 1 ≡ length clones = omega arith in
       (clones, ap (λ k. slice_set (clones ++ x ∷ []) k item) last ∙ set-append_seam clones x [] item, omega arith, all)
-
-  -- no slots are no copies
-  pub Repeats-none : (is_clone : T → T → Type 0) (item : T) (slots : List T) → length slots ≤ 0
-      → Repeats is_clone item (length slots) slots
-  Repeats-none is_clone item [] none = refl
-  Repeats-none is_clone item (x ∷ slots) none = absurd (omega (arith, none))
 
   -- P holds of one more item in front
   all_more : (P : T → Type 0) (item : T) (items : List T) → P item → All P items → All P (item ∷ items)

@@ -1,5 +1,5 @@
 use Rattle.ga_core.proofs.CallLemmas.{may_map-at}
-use Rattle.ga_core.proofs.NextCalls.{cut-next, read-next, run-of_all}
+use Rattle.ga_core.proofs.NextCalls.{cut-next, read-next}
 use Rattle.ga_core.proofs.RunLemmas.{ClosureRun-snoc}
 use Rattle.ga_core.proofs.mapping.write_mapped_ref.Goals as goal
 use Rattle.ga_core.specs.Entries.{CallAt}
@@ -17,9 +17,3 @@ loop-index-preserved g c =
     (_, refl, c.f.ensures) in
     read-next {Run = ClosureRun (CallAt (λ item. item.now) (goal.F-step g)) c.args.f.now} c.f.result c.f.new.self
     c.loop-index.invariant (omega arith) (omega arith) c.index-items-index.is c.index-items-index.is run
-
-pub returns : goal.returns
-returns g c = record {
-  run = run-of_all (λ items made. ClosureRun (CallAt (λ item. item.now) (goal.F-step g)) c.args.f.now items made
-      c.loop-index.f) c.loop-index.index _ _ (omega arith) (omega arith) c.loop-index.invariant.run;
-}

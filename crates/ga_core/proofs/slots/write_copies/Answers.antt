@@ -1,4 +1,4 @@
-use Rattle.ga_core.proofs.CopyLemmas.{Repeats-none, Repeats-written}
+use Rattle.ga_core.proofs.CopyLemmas.{Repeats-written}
 use Rattle.ga_core.proofs.slots.write_copies.Goals as goal
 use Rattle.std.proofs.Common.{◌≡◌, ◌-◌, arith, drop, length, length-drop, length-take, subst, take}
 use Rattle.std.proofs.lemmas.List.{take_all, take_more_set}
@@ -28,6 +28,3 @@ returns-in-Err g c = record {
   few = λ few. absurd (omega (arith, few, length-take (length c.args.slots.now - 1) c.args.slots.now));
   succeeds = λ fine. absurd (c.in-Err.ensures.cases fine);
 }
-
-pub returns-else-count-gt0-clause-items : goal.returns-else-count-gt0-clause-items
-returns-else-count-gt0-clause-items g c = Repeats-none g.T.Clone.is_clone c.args.item _ c.if-count-gt0.false

@@ -6,10 +6,8 @@ use Rattle.ga_core.proofs.array_iter.GenericArrayIter.rfold_by.Given as given
 use Rattle.ga_core.proofs.array_iter.GenericArrayIter.rfold_by.Goals as goal
 use Rattle.ga_core.proofs.array_iter.GenericArrayIter.rfold_by.Goals.{After-take}
 use Rattle.ga_core.specs.Runs.{FoldRun}
-use Rattle.std.proofs.Common.{◌≡◌, ◌∷◌, [], ◌++◌, ◌-◌, ◌∙◌, ap, arith, length, refl, reverse, slice_set, subst}
-use Rattle.std.proofs.Common.{sym}
+use Rattle.std.proofs.Common.{◌≡◌, ◌∷◌, [], ◌++◌, ◌-◌, ◌∙◌, ap, arith, length, refl, reverse, rules, slice_set}
 use Rattle.std.proofs.lemmas.Fn.{FoldsTo-push}
-use Rattle.std.proofs.lemmas.List.{append-nil, take_all}
 use Rattle.std.specs.List.{slice_range}
 
 -- the item that was taken is the next from the back
@@ -19,14 +17,6 @@ next : (g : given.Over) (c : After-take g) → reverse (slice_range c.loop-index
 next g c = left-last_reversed c.loop-index.items 0 c.loop-index.index c.take.result c.index-items-index.result
     c.take.new.dest c.loop-index-test.true
     (omega (arith, ap length c.as_mut_slice-items.ensures.items)) c.take.ensures.value c.index-items-index.is
-
-pub loop-index-init : goal.loop-index-init
-loop-index-init g c =
-    let items = c.as_mut_slice-items.result.now in (
-      [],
-      ap reverse (sym c.as_mut_slice-items.ensures.items ∙ sym (take_all (length items - 0) items (omega arith))),
-      refl,
-    )
 
 pub f-answer-requires : goal.f-answer-requires
 f-answer-requires g c =
@@ -48,12 +38,6 @@ loop-index-preserved g c =
 
 pub returns : goal.returns
 returns g c =
-    let so_far = c.loop-index.invariant in
-    let ended : c.loop-index.index ≡ 0 = omega (arith, c.loop-index-test.false) in
-    let none : reverse (slice_range c.loop-index.items 0 c.loop-index.index) ≡ [] =
-    ap (λ k. reverse (slice_range c.loop-index.items 0 k)) ended in
     let run : FoldRun (goal.F-step g) c.args.f.now c.args.init
-    (reverse c.args.self) c.loop-index.answer c.loop-index.f =
-    subst (λ items. FoldRun (goal.F-step g) c.args.f.now c.args.init items c.loop-index.answer c.loop-index.f)
-    (sym (so_far.1 ∙ (ap (λ rest. so_far.0 ++ rest) none ∙ append-nil so_far.0))) so_far.2 in
+    (reverse c.args.self) c.loop-index.answer c.loop-index.f = search rules in
     record { run = run; acts = λ h acts. answer_of_fold _ _ h acts _ _ _ _ run }

@@ -1,4 +1,4 @@
-use Rattle.ga_core.proofs.FillLemmas.{TakeGoodRuns-from_takes, has-room, room-filled, room-left, room-shrinks}
+use Rattle.ga_core.proofs.FillLemmas.{TakeGoodRuns-from_takes, has-room, room-filled, room-left}
 use Rattle.ga_core.proofs.builder.ArrayBuilder.try_extend.Given as given
 use Rattle.ga_core.proofs.builder.ArrayBuilder.try_extend.Goals as goal
 use Rattle.ga_core.proofs.builder.ArrayBuilder.try_extend.Goals.{After-next}
@@ -82,13 +82,3 @@ returns-in-Some-Err-clause-runs g c = let taken = returns-in-Some-Err-clause-tak
     TakeGoodRuns-from_takes g.I.Iterator.next_gives (λ good. c.loop-items.self ≡ c.args.self.now ++ good)
     c.args.items.now (g.N.Unsigned.USIZE - length c.args.self.now) taken.0 (Err c.in-Some-Err.error) c.next.new.self
     taken.2 taken.1
-
-pub push-requires : goal.push-requires
-push-requires g c =
-    let told = c.loop-items-test.ensures in
-    record { room = has-room _ _ told.bound told.full.1 }
-
-pub loop-items-smaller : goal.loop-items-smaller
-loop-items-smaller g c =
-    let told = c.loop-items-test.ensures in
-    room-shrinks _ _ _ _ (has-room _ _ told.bound told.full.1) c.push.ensures
