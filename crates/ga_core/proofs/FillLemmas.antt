@@ -1,4 +1,5 @@
 -- A fill, or what is taken of an iterator, as one run of calls, and as so many calls.
+use mathlib.Core.Bool.{true≢false}
 use Rattle.ga_core.specs.Fill.{Asks, FillFalliblyRuns, FillRuns, Fills, FillsFallibly, TakeGoodRuns, TakeRuns, Takes}
 use Rattle.ga_core.specs.Fill.{TakesGood}
 use Rattle.ga_core.specs.Tries.{result_and_then, try_map}
@@ -16,6 +17,18 @@ module _ {T : Type 0} (before taken after : List T) (width : ℕ) (appended : af
 
   pub room-left : length after < width → length taken < width - length before
   room-left few = omega (arith, length-append before taken, ap length appended, few)
+
+-- a builder that isn't full has room
+pub has-room : (n width : ℕ) → n ≤ width → (n ≡ width → false ≡ true) → n < width
+has-room n width within short =
+    let other : n ≢ width = λ full. true≢false (sym (short full)) in
+    omega (arith, within)
+
+-- an item more leaves less room
+pub room-shrinks : {T : Type 0} (before after : List T) (item : T) (width : ℕ) → length before < width
+    → after ≡ before ++ item ∷ [] → width - length after < width - length before
+room-shrinks before after item width room pushed = omega
+    (arith, length-append before (item ∷ []), ap length pushed, room)
 
 module _ {S T : Type 0} (next_gives : S → Option T → S → Type 0) where
   pub TakeRuns-from_takes : (P : List T → Type 0) (before : S) (room : ℕ) (taken : List T) (after : S)

@@ -3,10 +3,19 @@ use Rattle.arrayvec.proofs.IterLemmas.{slice_range_first, slice_range_last}
 use Rattle.ga_views.proofs.PartLemmas.{part-before, part-behind}
 use Rattle.ga_views.specs.Parts.{part_set}
 use Rattle.std.proofs.Common.{◌≡◌, ℕ, ◌+◌, ◌-◌, ◌%◌, ◌<◌, ◌≤◌, List, [], ◌∷◌, ◌++◌, length, drop, take, reverse, sym}
-use Rattle.std.proofs.Common.{ap, ◌∙◌, arith, get_or, slice_set, length-drop, length-take}
+use Rattle.std.proofs.Common.{ap, ◌∙◌, arith, get_or, slice_get, slice_set, length-append, length-drop, length-take}
+use Rattle.std.proofs.Common.{Option, None, Some, refl}
 use Rattle.std.proofs.lemmas.List.{drop-drop, drop-take, reverse-append, take-take}
 use Rattle.std.proofs.Math.Nat.{mod-eq_of_lt}
-use Rattle.std.specs.List.{refill, slice_range}
+use Rattle.std.specs.Iterator.{YieldsLast}
+use Rattle.std.specs.List.{length_refill, refill, slice_range}
+
+-- a part whose slot is written as a remainder lies where the slot says
+pub blanks-within : (slot passed room : ℕ) → slot + passed ≤ room → room ≤ 65536 → 0 < passed
+    → (slot % 65536) + passed ≤ room
+blanks-within slot passed room within fits some =
+    let here : slot % 65536 ≡ slot = mod-eq_of_lt (omega (arith, within)) in
+    omega (arith, here, within)
 
 module _ {T : Type 0} where
   -- how many are left
@@ -20,6 +29,21 @@ module _ {T : Type 0} where
       → slice_range items front back ≡ left → 0 < length left → (front < back) × (back ≤ length items)
   left-some items left front back ordered within shown some =
       (omega (arith, left-count items front back ordered within, ap length shown, some), within)
+
+  -- where the slots have met, nothing is left
+  pub left-none : (items left : List T) (front back : ℕ) → back ≤ front → slice_range items front back ≡ left
+      → left ≡ []
+  left-none items left front back met shown =
+      let none : back - front ≡ 0 = omega arith in
+      sym shown ∙ ap (λ k. take k (drop front items)) none
+
+  -- a list that was written over, as long as it was: the two slots still lie in it
+  pub left-kept : {Fits : Type 0} (items written after : List T) (front back n : ℕ) → front ≤ back → back ≤ length items
+      → length items ≡ n → Fits → after ≡ refill (length items) items written
+      → (front ≤ back) × (back ≤ length after) × (length after ≡ n) × Fits
+  left-kept items written after front back n ordered within full fits stands =
+      let long = ap length stands ∙ sym (length_refill (length items) items written refl) in
+      (ordered, omega (arith, long, within), long ∙ full, fits)
 
   -- the first was taken, and a blank stands in its slot
   pub left-first : (items after left : List T) (front back : ℕ) (item : T) → front ≤ back → back ≤ length items
@@ -40,6 +64,18 @@ module _ {T : Type 0} where
       sym shown ∙ (slice_range_last items front back item written.0
       (left-some items left front back ordered within shown some).0 within here
       ∙ ap (λ slots. slice_range slots front (back - 1) ++ item ∷ []) (sym written.1))
+
+  slice_get-seam : (rest : List T) (item : T) → slice_get (rest ++ item ∷ []) (length rest) ≡ Some item
+  slice_get-seam [] item = refl
+  slice_get-seam (x ∷ rest) item = slice_get-seam rest item
+
+  -- a step from the back replies with the last item, or with `None` where there is none
+  pub left-end : (items : List T) (reply : Option T) (rest : List T) → YieldsLast (λ all. all) items reply rest
+      → reply ≡ slice_get items (length items - 1)
+  left-end items None rest ended = ap (λ all. slice_get all (length all - 1)) (sym ended.0)
+  left-end items (Some item) rest came =
+      let last : length items - 1 ≡ length rest = omega (arith, length-append rest (item ∷ []), ap length came) in
+      sym (ap (slice_get items) last ∙ (ap (λ all. slice_get all (length rest)) came ∙ slice_get-seam rest item))
 
   -- the same, of the items from the back
   pub left-last_reversed : (items : List T) (front back : ℕ) (item slot blank : T) → front < back → back ≤ length items

@@ -1,9 +1,11 @@
 -- Two lists of one length, compared pair by pair in parts.
-use Rattle.std.proofs.Common.{◌≡◌, ℕ, zero, suc, ◌+◌, ◌-◌, ◌<◌, Bool, true, false, ◌&&◌, List, [], ◌∷◌, ◌++◌, Option}
+use Rattle.std.proofs.Common.{◌≡◌, ℕ, zero, suc, ◌+◌, ◌-◌, ◌<◌, ◌≤◌, Bool, true, false, ◌&&◌, List, [], ◌∷◌, ◌++◌}
 use Rattle.std.proofs.Common.{Ordering, Less, Equal, Greater, take, drop, length, ap, sym, ◌∙◌, refl, arith}
-use Rattle.std.proofs.Common.{slice_index_or}
+use Rattle.std.proofs.Common.{inl, inr, None, Option, slice_get, slice_index_or}
+use Rattle.std.proofs.Math.Dec.{eqb}
+use Rattle.std.proofs.lemmas.Bool.Decides.{eqb_tells}
 use Rattle.std.proofs.lemmas.List.{drop-take, length-drop, length-take, take-append-drop, take-take, take_more}
-use Rattle.std.proofs.lemmas.List.{take_rest}
+use Rattle.std.proofs.lemmas.List.{take_all, take_rest}
 use Rattle.std.specs.Cmp.{IsPartialOrder}
 use Rattle.std.specs.Cmp.Lexicographic.{pointwise, slice_cmp, slice_partial_cmp}
 use Rattle.std.specs.Ordering.{eq_by_cmp, is_eq, ordering_then, partial_ordering_then}
@@ -86,6 +88,23 @@ module _ {T : Type 0} (E : T → T → Bool) where
       ∙ ap (λ b. b && pointwise E (drop m (drop n xs)) (drop m (drop n ys))) (sym here) in
       pointwise-cut n xs ys long ∙ (ap (λ b. pointwise E (take n xs) (take n ys) && b) behind
       ∙ and-false (pointwise E (take n xs) (take n ys)))
+
+  -- of no pairs all are equal
+  pub none-equal : (xs ys : List T) → slice_get xs 0 ≡ None → length xs ≡ length ys → true ≡ pointwise E xs ys
+  none-equal [] [] none long = refl
+  none-equal [] (y ∷ ys) none long = cc
+  none-equal (x ∷ xs) ys none long = cc
+
+  -- all pairs are equal where as many at the start are as there are
+  pub start-tells : (n : ℕ) (xs ys : List T) → length xs ≡ length ys → n ≤ length xs
+      → pointwise E (take n xs) (take n ys) ≡ true → (n < length xs → pointwise E xs ys ≡ false)
+      → eqb n (length xs) ≡ pointwise E xs ys
+  start-tells n xs ys long within equal differs =
+      elim (eqb_tells n (length xs)) [
+        | inl all ↦ all.0 ∙ (sym equal ∙ (λ i. pointwise E (take_all n xs (omega (arith, all.1)) i)
+            (take_all n ys (omega (arith, long, all.1)) i)))
+        | inr other ↦ other.0 ∙ sym (differs (omega (arith, within, other.1)))
+      ]
 
   -- behind equal pairs the order is that of the others
   cmp-behind : (R : T → T → Ordering) → ((x y : T) → E x y ≡ eq_by_cmp R x y) → (n : ℕ) (xs ys : List T)

@@ -1,5 +1,7 @@
 -- Writing over the slots of a slice.
-use Rattle.std.proofs.Common.{◌≡◌, ℕ, List, ◌++◌, length, length-set, drop, take, slice_set, sym, ap, ◌∙◌}
+use Rattle.ga_views.proofs.PartLemmas.{part-within}
+use Rattle.ga_views.specs.Parts.{part_set}
+use Rattle.std.proofs.Common.{◌≡◌, ◌≤◌, ℕ, List, arith, ◌++◌, length, length-set, drop, take, slice_set, sym, ap, ◌∙◌}
 use Rattle.std.proofs.Math.Seq.{take-append_seam}
 use Rattle.std.specs.List.{refill}
 
@@ -23,3 +25,10 @@ pub refill-over : {X : Type 0} (items slots written after : List X) → slots �
     → after ≡ refill (length items) items written → after ≡ written
 refill-over items slots written after same long stands =
     stands ∙ refill-whole (length items) items written (ap length (sym same) ∙ sym long)
+
+-- what stands in the first slots, where these were written over
+pub front-written : {X : Type 0} (len : ℕ) (items written after : List X) → len ≤ length items → length written ≡ len
+    → after ≡ refill (length items) items (part_set 0 len items written) → take len after ≡ written
+front-written len items written after within long stands =
+    part-within 0 len items written after (omega (arith, within)) stands
+    ∙ refill-whole len (take len items) written (sym long)

@@ -199,7 +199,7 @@ fn blank<T: Default + Drop>(items: &mut [T])
 fn blank_back<T: Default + Drop>(items: &mut [T])
     ensures len { length items.new ≡ length items.old }
 {
-    for item in items.iter_mut().rev() {
-        *item = T::default();
+    for index in (0..items.len()).rev() {
+        items[index] = T::default();
     }
 }

@@ -84,8 +84,9 @@ impl<T: Default + Drop, N: ArrayLength<T>> GenericArrayIter<T, N> {
         ensures { self.new ≡ take (length self.old - passed) self.old }
     {
         if passed > 0 {
-            self.back -= passed;
-            blank_back(self.store.part_mut(self.back % MAX_INLINE, passed));
+            let first = self.back - passed;
+            self.back = first;
+            blank_back(self.store.part_mut(first % MAX_INLINE, passed));
         }
     }
 }

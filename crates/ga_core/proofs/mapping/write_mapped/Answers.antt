@@ -1,7 +1,8 @@
 use Rattle.ga_core.proofs.CallLemmas.{ClosureRun-of_items, may_map-at}
-use Rattle.ga_core.proofs.NextCalls.{cut-next, taken-next}
+use Rattle.ga_core.proofs.NextCalls.{cut-next, run-of_all, taken-next}
 use Rattle.ga_core.proofs.RunLemmas.{ClosureRun-snoc}
 use Rattle.ga_core.proofs.mapping.write_mapped.Goals as goal
+use Rattle.ga_core.specs.Runs.{ClosureRun}
 use Rattle.std.proofs.Common.{arith, refl}
 
 pub f-requires : goal.f-requires
@@ -15,3 +16,9 @@ loop-index-preserved g c =
     let run = ClosureRun-snoc _ _ _ _ _ c.take.result _ _ c.loop-index.invariant.run c.f.ensures in
     taken-next c.f.result c.f.new.self c.take.new.dest c.loop-index.invariant (omega arith)
     (omega arith) c.index-items-index.is c.take.ensures.value run
+
+pub returns : goal.returns
+returns g c = record {
+  run = run-of_all (λ items made. ClosureRun (goal.F-step g) c.args.f.now items made c.loop-index.f) c.loop-index.index
+      _ _ (omega arith) (omega arith) c.loop-index.invariant.run;
+}

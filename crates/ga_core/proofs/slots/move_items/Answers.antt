@@ -1,16 +1,35 @@
-use Rattle.ga_core.proofs.MoveLemmas.{left-next, moved-next}
+use Rattle.ga_core.proofs.MoveLemmas.{left-next, moved-next, this-here}
 use Rattle.ga_core.proofs.slots.move_items.Goals as goal
-use Rattle.std.proofs.Common.{rules}
+use Rattle.std.proofs.Common.{◌<◌, ◌∙◌, arith, length, subst, sym}
+use Rattle.std.proofs.lemmas.List.{take_all}
+use Rattle.std.specs.List.{All}
 
 pub loop-index-preserved : goal.loop-index-preserved
 loop-index-preserved g c =
     let at = c.loop-index in
-    let next = moved-next at.index c.args.items.now at.items at.slots c.take.result c.take.new.dest (search rules)
-    (search rules) (search rules) at.invariant.moved at.invariant.behind in
+    let within : at.index < length at.items =
+    omega (arith, c.loop-index-test.true, at.auto.index-end, at.auto.items, c.requires.len) in
+    let next = moved-next at.index c.args.items.now at.items at.slots c.take.result c.take.new.dest within
+    (omega (arith, c.loop-index-test.true, at.auto.index-end, at.auto.slots))
+    (this-here at.index at.items c.index-items-index.result c.take.result c.index-items-index.is c.take.ensures.value)
+    at.invariant.moved at.invariant.behind in
     record {
       moved = next.0;
       behind = next.1;
-      left =
-          left-next g.T.Default.is_default at.index at.items c.take.new.dest (search rules) at.invariant.left
-          (search rules);
+      left = left-next g.T.Default.is_default at.index at.items c.take.new.dest within at.invariant.left
+          c.take.ensures.after;
     }
+
+pub returns-clause-moved : goal.returns-clause-moved
+returns-clause-moved g c =
+    let at = c.loop-index in
+    sym (take_all at.index at.slots (omega (arith, c.loop-index-test.false, at.auto.slots)))
+    ∙ (at.invariant.moved
+    ∙ take_all at.index c.args.items.now (omega (arith, c.loop-index-test.false, at.auto.slots, c.requires.len)))
+
+pub returns-clause-left : goal.returns-clause-left
+returns-clause-left g c =
+    let at = c.loop-index in
+    subst (All g.T.Default.is_default)
+    (take_all at.index at.items (omega (arith, c.loop-index-test.false, at.auto.items, c.requires.len)))
+    at.invariant.left

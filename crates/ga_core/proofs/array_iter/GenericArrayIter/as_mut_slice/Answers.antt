@@ -1,18 +1,16 @@
-use Rattle.ga_core.proofs.LeftLemmas.{left-count}
+use Rattle.ga_core.proofs.LeftLemmas.{left-count, left-kept}
 use Rattle.ga_core.proofs.array_iter.GenericArrayIter.as_mut_slice.Goals as goal
 use Rattle.ga_views.proofs.PartLemmas.{part-within}
 use Rattle.ga_views.specs.Parts.{part_set}
 use Rattle.std.proofs.Common.{◌≡◌, ◌-◌, ◌∙◌, ap, arith, length, refl, sym}
-use Rattle.std.specs.List.{length_refill, refill}
+use Rattle.std.specs.List.{refill}
 
 pub invariant_of-self-lent : goal.invariant_of-self-lent
 invariant_of-self-lent g c w =
     let inv = c.self.invariant in
     let items = g.N.ArrayType.Store.items c.self.inside.store in
     let part = part_set c.self.inside.front (c.self.inside.back - c.self.inside.front) items w in
-    let after = g.N.ArrayType.Store.store_with c.self.inside.store part in
-    let long = ap length after.1 ∙ sym (length_refill (length items) items part refl) in
-    (inv.0, omega (arith, long, inv.1), long ∙ inv.2, inv.3)
+    left-kept items part _ _ _ _ inv.0 inv.1 inv.2 inv.3 (g.N.ArrayType.Store.store_with c.self.inside.store part).1
 
 pub returns : goal.returns
 returns g c =

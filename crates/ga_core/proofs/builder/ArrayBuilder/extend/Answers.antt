@@ -1,7 +1,8 @@
-use Rattle.ga_core.proofs.FillLemmas.{Asks-from_takes, TakeRuns-from_takes, room-filled, room-left}
+use Rattle.ga_core.proofs.FillLemmas.{Asks-from_takes, TakeRuns-from_takes, has-room, room-filled, room-left}
+use Rattle.ga_core.proofs.FillLemmas.{room-shrinks}
 use Rattle.ga_core.proofs.builder.ArrayBuilder.extend.Goals as goal
 use Rattle.std.proofs.Common.{◌≡◌, ◌∷◌, [], ◌++◌, ◌-◌, ap, append_assoc, inl, inr, length}
-use Rattle.std.proofs.Common.{refl, rules, ◌∙◌}
+use Rattle.std.proofs.Common.{refl, ◌∙◌}
 use Rattle.std.proofs.iter.Next.{Yields-more}
 
 pub loop-items-preserved : goal.loop-items-preserved
@@ -22,7 +23,8 @@ loop-items-preserved g c =
 pub returns-in-None-clause-taken : goal.returns-in-None-clause-taken
 returns-in-None-clause-taken g c =
     let so_far = c.loop-items.invariant.taken in
-    let few = room-left _ _ _ _ so_far.1 (search rules) in
+    let told = c.loop-items-test.ensures in
+    let few = room-left _ _ _ _ so_far.1 (has-room _ _ told.bound told.full.1) in
     (so_far.0, so_far.1, inr ((c.loop-items.items, so_far.2, c.in-None.ensures.steps), few))
 
 pub returns-in-None-clause-runs : goal.returns-in-None-clause-runs
@@ -48,3 +50,13 @@ pub returns-clause-asks : goal.returns-clause-asks
 returns-clause-asks g c = let taken = returns-clause-taken g c in
     Asks-from_takes g.I.Iterator.next_gives c.args.items.now (g.N.Unsigned.USIZE - length c.args.self.now) taken.0
     c.loop-items.items taken.2
+
+pub push-requires : goal.push-requires
+push-requires g c =
+    let told = c.loop-items-test.ensures in
+    record { room = has-room _ _ told.bound told.full.1 }
+
+pub loop-items-smaller : goal.loop-items-smaller
+loop-items-smaller g c =
+    let told = c.loop-items-test.ensures in
+    room-shrinks _ _ _ _ (has-room _ _ told.bound told.full.1) c.push.ensures

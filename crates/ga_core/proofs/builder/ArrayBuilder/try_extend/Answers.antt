@@ -1,9 +1,8 @@
-use mathlib.Core.Bool.{true≢false}
-use Rattle.ga_core.proofs.FillLemmas.{TakeGoodRuns-from_takes, room-filled, room-left}
+use Rattle.ga_core.proofs.FillLemmas.{TakeGoodRuns-from_takes, has-room, room-filled, room-left}
 use Rattle.ga_core.proofs.builder.ArrayBuilder.try_extend.Given as given
 use Rattle.ga_core.proofs.builder.ArrayBuilder.try_extend.Goals as goal
 use Rattle.ga_core.proofs.builder.ArrayBuilder.try_extend.Goals.{After-next}
-use Rattle.std.proofs.Common.{◌≡◌, ◌≢◌, ◌<◌, ◌∷◌, [], ◌++◌, ◌-◌, Err, Ok, Result, Some, ap, append_assoc, arith}
+use Rattle.std.proofs.Common.{◌≡◌, ◌<◌, ◌∷◌, [], ◌++◌, ◌-◌, Err, Ok, Result, Some, ap, append_assoc, arith}
 use Rattle.std.proofs.Common.{inl, inr, length, map, refl, subst, sym, ◌∙◌}
 use Rattle.std.proofs.iter.Next.{Yields-more}
 use Rattle.std.proofs.lemmas.List.{length-map, map-append}
@@ -31,10 +30,8 @@ loop-items-preserved g c =
 -- while the builder isn't full, fewer good values came than there was room for
 few : (g : given.Over) (c : After-next g) → length c.loop-items.invariant.taken.0
     < g.N.Unsigned.USIZE - length c.args.self.now
-few g c =
-    let open_still : length c.loop-items.self ≢ g.N.Unsigned.USIZE =
-    λ full. true≢false (sym (c.loop-items-test.ensures.full.1 full)) in
-    room-left _ _ _ _ c.loop-items.invariant.taken.1 (omega (arith, c.loop-items-test.ensures.bound, open_still))
+few g c = room-left _ _ _ _ c.loop-items.invariant.taken.1
+    (has-room _ _ c.loop-items-test.ensures.bound c.loop-items-test.ensures.full.1)
 
 pub returns-clause-taken : goal.returns-clause-taken
 returns-clause-taken g c = let taken = c.loop-items.invariant.taken in (
