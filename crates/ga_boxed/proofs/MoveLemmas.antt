@@ -1,5 +1,5 @@
 -- What a loop that moves items one by one into a block, or out of one, knows of its count and of the items.
-use Rattle.std.proofs.Common.{◌≡◌, ◌≢◌, ℕ, zero, suc, ◌+◌, ◌-◌, ◌<◌, ◌≤◌, List, [], ◌∷◌, ◌++◌, length, ap, sym, ◌∙◌, arith}
+use Rattle.std.proofs.Common.{◌≡◌, ◌≢◌, ℕ, ◌+◌, ◌<◌, ◌≤◌, List, [], ◌∷◌, ◌++◌, length, ap, sym, ◌∙◌, arith}
 use Rattle.ga_core.proofs.CutLemmas.{taken-more}
 use Rattle.std.proofs.lemmas.List.{append-nil}
 

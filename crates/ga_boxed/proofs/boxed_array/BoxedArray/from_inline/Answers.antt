@@ -1,7 +1,7 @@
-use Rattle.ga_boxed.proofs.MoveLemmas.{more_room, none_yet}
+use Rattle.ga_boxed.proofs.MoveLemmas.{more_room, none_yet, one_more}
 use Rattle.ga_boxed.proofs.boxed_array.BoxedArray.from_inline.Goals as goal
 use Rattle.ga_core.proofs.MoveLemmas.{pushed-next}
-use Rattle.std.proofs.Common.{◌≡◌, ◌≤◌, ◌∙◌, ap, arith, length, rules, subst, sym}
+use Rattle.std.proofs.Common.{◌<◌, ◌≤◌, ◌∙◌, ap, length, rules, subst, sym}
 use Rattle.std.proofs.lemmas.List.{take_all}
 
 pub loop-slot-init : goal.loop-slot-init
@@ -25,9 +25,13 @@ put-requires g c =
 pub loop-slot-preserved : goal.loop-slot-preserved
 loop-slot-preserved g c =
     let at = c.loop-slot in
-    let moved = pushed-next at.slot-index c.args.array at.slots at.block.items c.put.new.self.items c.take.result
-    c.take.new.dest (search rules) (search rules) at.invariant.moved (search rules) in
-    record { moved = moved; room = search rules }
+    record {
+      moved = pushed-next at.slot-index c.args.array at.slots at.block.items c.put.new.self.items c.take.result
+          c.take.new.dest (subst (λ n. at.slot-index < n) (sym at.auto.slots) c.loop-slot-test.true) (search rules)
+          at.invariant.moved c.put.ensures.items;
+      room = one_more at.slot-index at.block.room c.put.new.self.room (length c.args.array) at.invariant.room
+          c.put.ensures.room;
+    }
 
 pub of_items-requires : goal.of_items-requires
 of_items-requires g c =

@@ -1,5 +1,5 @@
 use Rattle.ga_boxed.proofs.live_block.LiveBlock.take_last.Goals as goal
-use Rattle.std.proofs.Common.{◌≡◌, ◌≢◌, ℕ, ◌+◌, ◌-◌, ◌∙◌, List, [], ◌∷◌, ◌++◌, ap, arith, length, refl, sym}
+use Rattle.std.proofs.Common.{◌≡◌, ◌≢◌, ℕ, ◌+◌, ◌-◌, ◌∙◌, List, [], ◌∷◌, ap, arith, length, refl, sym}
 use Rattle.std.proofs.lemmas.List.{length_push}
 
 -- the last place, where there is an item
