@@ -7,6 +7,7 @@ pub mod ClauseFacts
 pub mod Crosses
 pub mod EndLemmas
 pub mod FrontLemmas
+pub mod MoveLemmas
 pub mod NativeLemmas
 pub mod PassedLemmas
 pub mod SliceWalk

@@ -1,10 +1,50 @@
+use Rattle.ga_boxed.proofs.MoveLemmas.{more_room, none_yet, one_more}
 use Rattle.ga_boxed.proofs.boxed_array.BoxedArray.from_inline.Goals as goal
 use Rattle.ga_core.proofs.MoveLemmas.{pushed-next}
-use Rattle.std.proofs.Common.{rules}
+use Rattle.std.proofs.Common.{◌<◌, ◌≤◌, ◌∙◌, ap, length, rules, subst, sym}
+use Rattle.std.proofs.lemmas.List.{take_all}
+
+pub loop-slot-init : goal.loop-slot-init
+loop-slot-init g c =
+    let block = c.in_ok-block.ensures.block in
+    let slots = c.as_mut_slice-slots.ensures in
+    record {
+      moved = (ap (λ b. b.items) block, slots.items);
+      room = none_yet c.in_ok-block.block.room
+          ∙ (ap (λ b. b.room) block ∙ (c.USIZE.ensures ∙ (sym slots.len ∙ ap length slots.items)));
+    }
+
+pub put-requires : goal.put-requires
+put-requires g c =
+    let at = c.loop-slot in
+    record {
+      room = more_room at.slot-index at.block.room (length c.args.array) (length c.as_mut_slice-slots.result.now)
+          at.invariant.room c.loop-slot-test.true (ap length c.as_mut_slice-slots.ensures.items);
+    }
 
 pub loop-slot-preserved : goal.loop-slot-preserved
 loop-slot-preserved g c =
     let at = c.loop-slot in
-    let moved = pushed-next at.slot-index c.args.array at.slots at.block.items c.put.new.self.items c.take.result
-    c.take.new.dest (search rules) (search rules) at.invariant.moved (search rules) in
-    record { moved = moved; room = search rules }
+    record {
+      moved = pushed-next at.slot-index c.args.array at.slots at.block.items c.put.new.self.items c.take.result
+          c.take.new.dest (subst (λ n. at.slot-index < n) (sym at.auto.slots) c.loop-slot-test.true) (search rules)
+          at.invariant.moved c.put.ensures.items;
+      room = one_more at.slot-index at.block.room c.put.new.self.room (length c.args.array) at.invariant.room
+          c.put.ensures.room;
+    }
+
+pub of_items-requires : goal.of_items-requires
+of_items-requires g c =
+    let at = c.loop-slot in
+    let slots = c.as_mut_slice-slots.ensures in
+    let past = subst (λ n. n ≤ at.slot-index) (ap length slots.items) c.loop-slot-test.false in
+    record {
+      full = ap length (at.invariant.moved.0 ∙ take_all at.slot-index c.args.array past)
+          ∙ (sym (ap length slots.items) ∙ slots.len);
+    }
+
+pub returns-clause-ok : goal.returns-clause-ok
+returns-clause-ok g c =
+    let at = c.loop-slot in
+    let past = subst (λ n. n ≤ at.slot-index) (ap length c.as_mut_slice-slots.ensures.items) c.loop-slot-test.false in
+    c.of_items.ensures ∙ (at.invariant.moved.0 ∙ take_all at.slot-index c.args.array past)

@@ -1,0 +1,51 @@
+-- What a loop that moves items one by one into a block, or out of one, knows of its count and of the items.
+use Rattle.std.proofs.Common.{◌≡◌, ◌≢◌, ℕ, ◌+◌, ◌<◌, ◌≤◌, List, [], ◌∷◌, ◌++◌, length, ap, sym, ◌∙◌, arith}
+use Rattle.ga_core.proofs.CutLemmas.{taken-more}
+use Rattle.std.proofs.lemmas.List.{append-nil}
+
+-- at the start, the room is for all
+pub none_yet : (n : ℕ) → 0 + n ≡ n
+none_yet n = omega arith
+
+module _ (i k n end : ℕ) where
+  -- before the end there is room for one more
+  pub more_room : i + k ≡ n → i < end → end ≡ n → 0 < k
+  more_room so_far below all = omega arith
+
+  -- at the end there is none
+  pub none_left : i + k ≡ n → end ≤ i → end ≡ n → k ≡ 0
+  none_left so_far past all = omega arith
+
+  -- the count has come to the end
+  pub all_counted : end ≤ i → i ≤ end → end ≡ n → i ≡ n
+  all_counted past within all = omega arith
+
+module _ (i k j n : ℕ) where
+  -- one more is there, and room for one fewer
+  pub one_more : i + k ≡ n → j + 1 ≡ k → i + 1 + j ≡ n
+  one_more so_far fewer = omega arith
+
+module _ {T : Type 0} where
+  -- where one is left, there is room for it
+  pub room_for : (room : ℕ) (left others : List T) (item : T) → room ≡ length left → left ≡ item ∷ others → 0 < room
+  room_for room left others item long step = omega (arith, ap length step)
+
+  -- and then for the others
+  pub room_behind : (before after : ℕ) (left others : List T) (item : T) → before ≡ length left → left ≡ item ∷ others
+      → after + 1 ≡ before → after ≡ length others
+  room_behind before after left others item long step fewer = omega (arith, ap length step)
+
+  -- before the end some are left
+  pub some_left : (i n end : ℕ) (left : List T) → i + length left ≡ n → i < end → end ≡ n → left ≢ []
+  some_left i n end left so_far below all none = omega (arith, ap length none)
+
+  -- where none is left, all were moved
+  pub all_moved : (moved left all : List T) → moved ++ left ≡ all → length left ≡ 0 → moved ≡ all
+  all_moved moved [] all so_far none = sym (append-nil moved) ∙ so_far
+  all_moved moved (x ∷ left) all so_far none = absurd (omega (arith, none))
+
+  -- one more was moved
+  pub moved_more : (before after left others all : List T) (item : T) → after ≡ before ++ item ∷ []
+      → before ++ left ≡ all → left ≡ item ∷ others → after ++ others ≡ all
+  moved_more before after left others all item grows so_far step =
+      ap (λ l. l ++ others) grows ∙ sym (taken-more all before left item others (sym so_far) step)

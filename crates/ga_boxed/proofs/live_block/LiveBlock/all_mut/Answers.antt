@@ -1,0 +1,19 @@
+use Rattle.ga_boxed.proofs.live_block.LiveBlock.all_mut.Goals as goal
+use Rattle.std.proofs.Common.{◌+◌, ◌∙◌, ap, length, refl, sym}
+use Rattle.std.specs.List.{length_refill}
+
+-- what is written back are as many items
+pub invariant_of-self-lent : goal.invariant_of-self-lent
+invariant_of-self-lent g c w =
+    let self = c.self.inside in
+    let held = c.self.invariant in
+    let items = self.cells.items in
+    record {
+      at = held.at;
+      passed = held.passed;
+      items = ap (λ n. self.start + n) (sym (length_refill (length items) items w refl)) ∙ held.items;
+      room = held.room;
+      deed_at = held.deed_at;
+      deed_len = held.deed_len;
+      deed_alloc = held.deed_alloc;
+    }
