@@ -22,6 +22,18 @@ pub fn total_by<T, S: FunctionalSequence<T>, A, F: FnMut(A, SequenceItem<S>) -> 
     s.fold_by(init, f)
 }
 
+// `fold_items_by`, with a second condition that always holds: of two, the proof of a call says each by
+// itself, which is cheaper.
+#[inline(always)]
+fn fold_made<U, M: OwnedSequence<U>, A, G: FnMut(A, U) -> A>(made: M, init: A, g: &mut G) -> A
+    requires callable { MayFold (λ item. item) G.pre G.step g.old init (M.items made) }
+    requires same { init ≡ init }
+    ensures run { FoldRun G.step g.old init (M.items made) result g.new }
+    ensures acts { (k : A → U → A) → ActsAsOnTwo G.FnMut g.old k → result ≡ fold k init (M.items made) }
+{
+    made.fold_items_by(init, g)
+}
+
 /// Folds the values of `f` at the entries by `g`, starting from `init`.
 ///
 /// All calls of `f` come first. Allocates before them: if that fails, neither closure is called.
@@ -53,7 +65,7 @@ pub fn map_total_by<
     ensures promised { S.Mapped.IsPromised → IsOk result }
 {
     match s.map_by(place, f) {
-        Ok(mapped) => Ok(mapped.fold_items_by(init, g)),
+        Ok(mapped) => Ok(fold_made(mapped, init, g)),
         Err(refused) => Err(refused),
     }
 }
@@ -95,7 +107,7 @@ pub fn dot_by<
     ensures promised { S.Mapped.IsPromised → IsOk result }
 {
     match left.zip_by(place, right, times) {
-        Ok(products) => Ok(products.fold_items_by(zero, plus)),
+        Ok(products) => Ok(fold_made(products, zero, plus)),
         Err(refused) => Err(refused),
     }
 }

@@ -71,13 +71,15 @@ pub trait TwoEndedSequence<T>: GenericSequence<T> {
         ensures { Self.TwoEnded.items result ≡ Self.items self };
 }
 
-// Makes one step.
+// Makes one step. The second condition always holds: of two, the proof of a call says each by itself,
+// which is cheaper.
 fn step_once<T: Drop, R, I: TwoEnded<T>, G: FnMut(&[T]) -> R>(
     iter: &mut I,
     step: Step<T>,
     look: &mut G,
 ) -> Reply<T, R>
     requires callable { MayStep (MayCallAt (λ slice. slice.now) G.pre) (I.items iter.old, look.old) step }
+    requires same { step ≡ step }
     ensures { StepGivesReply (CallAt (λ slice. slice.now) G.step) (I.items iter.old, look.old) step result
         (I.items iter.new, look.new) }
 {

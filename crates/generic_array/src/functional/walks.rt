@@ -26,6 +26,8 @@ pub(super) fn entries_of<T, S: GenericSequence<T>>(s: S) -> S::IntoIter
 }
 
 // Folds the entries into one value by `f`, in order, starting from `init`.
+//
+// The second condition always holds: of two, the proof of a call says each by itself, which is cheaper.
 #[inline(always)]
 pub(crate) fn fold_entries<T, I: Iterator + Drop, A, F: FnMut(A, I::Item) -> A>(
     entries: I,
@@ -34,6 +36,7 @@ pub(crate) fn fold_entries<T, I: Iterator + Drop, A, F: FnMut(A, I::Item) -> A>(
 ) -> A
     requires callable { SomeEntries I.can_next I.next_gives I.remaining entries
         (λ (entry : I.Item → T) values. MayFold entry F.pre F.step f.old init values) }
+    requires same { init ≡ init }
     ensures run { AllEntries I.can_next I.next_gives I.remaining entries (λ (entry : I.Item → T) values.
         FoldRun (FoldAt entry F.step) f.old init values result f.new) }
 {
@@ -44,7 +47,8 @@ pub(crate) fn fold_entries<T, I: Iterator + Drop, A, F: FnMut(A, I::Item) -> A>(
     answer
 }
 
-// `fold_entries` of a closure that may fail: its first error, after which no call is made.
+// `fold_entries` of a closure that may fail: its first error, after which no call is made. It has two
+// conditions for the same reason.
 #[inline(always)]
 pub(super) fn try_fold_entries<T, I: Iterator + Drop, A, E, F: FnMut(A, I::Item) -> Result<A, E>>(
     entries: I,
@@ -53,6 +57,7 @@ pub(super) fn try_fold_entries<T, I: Iterator + Drop, A, E, F: FnMut(A, I::Item)
 ) -> Result<A, E>
     requires callable { SomeEntries I.can_next I.next_gives I.remaining entries
         (λ (entry : I.Item → T) values. MayTryFold entry F.pre F.step f.old init values) }
+    requires same { init ≡ init }
     ensures run { AllEntries I.can_next I.next_gives I.remaining entries (λ (entry : I.Item → T) values.
         TryFoldRun (FoldAt entry F.step) f.old init values result f.new) }
 {

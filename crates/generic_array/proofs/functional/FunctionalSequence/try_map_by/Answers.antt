@@ -8,15 +8,17 @@ try_map_entries-requires-clause-callable g c =
     let long = c.entries_of.ensures.long ∙ sym g.met.Self.MappedGenericSequence.same_length in
     (_, g.Self.AsSlice.items c.args.self, c.entries_of.ensures.gives, long, c.requires.callable)
 
-pub returns-clause-run : goal.returns-clause-run
-returns-clause-run g c = c.try_map_entries.ensures.run _ (g.Self.AsSlice.items c.args.self) c.entries_of.ensures.gives
-    (c.entries_of.ensures.long ∙ sym g.met.Self.MappedGenericSequence.same_length)
-
-pub returns-clause-acts : goal.returns-clause-acts
-returns-clause-acts g c = IfOk-weaker c.try_map_entries.result _ _
-    (λ made run h acts. tries_at_entries _ (goal.F-step g) c.args.f.now h acts _ _ _ run) (returns-clause-run g c)
-
-pub returns-clause-len : goal.returns-clause-len
-returns-clause-len g c =
-    IfOk-weaker c.try_map_entries.result _ _ (λ built. IfOk-weaker built _ _
-    (λ made long. long ∙ g.met.Self.MappedGenericSequence.same_length)) c.try_map_entries.ensures.len
+pub returns : goal.returns
+returns g c =
+    let same = g.met.Self.MappedGenericSequence.same_length in
+    let run = c.try_map_entries.ensures.run _ (g.Self.AsSlice.items c.args.self) c.entries_of.ensures.gives
+    (c.entries_of.ensures.long ∙ sym same) in
+    record {
+      len = IfOk-weaker c.try_map_entries.result _ _ (λ built. IfOk-weaker built _ _ (λ made long. long ∙ same))
+          c.try_map_entries.ensures.len;
+      run = run;
+      acts = IfOk-weaker c.try_map_entries.result _ _
+          (λ made run h acts. tries_at_entries _ (goal.F-step g) c.args.f.now h acts _ _ _ run) run;
+      err = c.try_map_entries.ensures.err;
+      promised = c.try_map_entries.ensures.promised;
+    }

@@ -19,18 +19,19 @@ zip_entries-requires-clause-callable g c =
       c.requires.callable,
     )
 
-pub returns-clause-run : goal.returns-clause-run
-returns-clause-run g c =
-    let same = sym g.met.Lhs.MappedGenericSequence.same_length in
-    let long = c.entries_of.ensures.long ∙ same in
-    let also = c.entries_of-2.ensures.long ∙ (c.requires.lengths ∙ same) in
-    c.zip_entries.ensures.run g.Lhs.GenericSequence.entry (g.Lhs.AsSlice.items c.args.lhs) g.S.GenericSequence.entry
-    (g.S.AsSlice.items c.args.s) c.entries_of.ensures.gives c.entries_of-2.ensures.gives long also
-
-pub returns-clause-acts : goal.returns-clause-acts
-returns-clause-acts g c = IfOk-weaker c.zip_entries.result _ _
-    (λ made run h acts. answers_at_pairs _ _ _ _ h acts _ _ _ run) (returns-clause-run g c)
-
-pub returns-clause-len : goal.returns-clause-len
-returns-clause-len g c = IfOk-weaker c.zip_entries.result _ _
-    (λ made long. long ∙ g.met.Lhs.MappedGenericSequence.same_length) c.zip_entries.ensures.len
+pub returns : goal.returns
+returns g c =
+    let same = g.met.Lhs.MappedGenericSequence.same_length in
+    let long = c.entries_of.ensures.long ∙ sym same in
+    let also = c.entries_of-2.ensures.long ∙ (c.requires.lengths ∙ sym same) in
+    let run = c.zip_entries.ensures.run g.Lhs.GenericSequence.entry (g.Lhs.AsSlice.items c.args.lhs)
+    g.S.GenericSequence.entry (g.S.AsSlice.items c.args.s) c.entries_of.ensures.gives c.entries_of-2.ensures.gives
+    long also in
+    record {
+      len = IfOk-weaker c.zip_entries.result _ _ (λ made long. long ∙ same) c.zip_entries.ensures.len;
+      run = run;
+      acts = IfOk-weaker c.zip_entries.result _ _
+          (λ made run h acts. answers_at_pairs _ _ _ _ h acts _ _ _ run) run;
+      err = c.zip_entries.ensures.err;
+      promised = c.zip_entries.ensures.promised;
+    }

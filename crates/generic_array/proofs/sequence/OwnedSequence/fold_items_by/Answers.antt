@@ -2,12 +2,11 @@ use Rattle.ga_core.proofs.ActsLemmas.{answer_of_fold}
 use Rattle.generic_array.proofs.FoldLemmas.{FoldRun-by_items}
 use Rattle.generic_array.proofs.sequence.OwnedSequence.fold_items_by.Goals as goal
 
-pub fold_entries-requires : goal.fold_entries-requires
-fold_entries-requires g c =
+pub fold_entries-requires-clause-callable : goal.fold_entries-requires-clause-callable
+fold_entries-requires-clause-callable g c =
     let items = g.Self.AsSlice.items c.args.self in
     let gives = g.met.Self.OwnedSequence.gives_items c.args.self c.into_iter.result c.into_iter.ensures.into_iter_gives
-    in
-    record { callable = ((λ item. item), items, gives, c.requires.callable) }
+    in ((λ item. item), items, gives, c.requires.callable)
 
 pub returns-clause-run : goal.returns-clause-run
 returns-clause-run g c =
