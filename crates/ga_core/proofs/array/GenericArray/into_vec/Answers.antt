@@ -31,3 +31,18 @@ returns-clause-ok g c =
 
 pub returns-clause-empty : goal.returns-clause-empty
 returns-clause-empty g c = λ none. refl
+
+pub loop-slot-init : goal.loop-slot-init
+loop-slot-init g c = record {
+  moved = (c.in_ok-items.ensures.items, c.as_mut_slice-slots.ensures.items);
+  room = omega (
+    arith,
+    c.in_ok-items.ensures.capacity,
+    c.USIZE.ensures,
+    c.as_mut_slice-slots.ensures.len,
+    ap length c.as_mut_slice-slots.ensures.items,
+  );
+}
+
+pub bounds-slots-slot-index : goal.bounds-slots-slot-index
+bounds-slots-slot-index g c = subst (λ n. c.loop-slot.slot-index < n) (sym c.loop-slot.auto.slots) c.loop-slot-test.true
