@@ -5,7 +5,7 @@ use Rattle.ga_core.specs.Fill.{TakesGood}
 use Rattle.ga_core.specs.Tries.{result_and_then, try_map}
 use Rattle.std.proofs.Common.{◌≡◌, ◌≢◌, ◌∙◌, ◌⊎◌, ℕ, zero, suc, ◌+◌, ◌-◌, ◌<◌, ◌≤◌, List, [], ◌∷◌, ◌++◌, length}
 use Rattle.std.proofs.Common.{length-append, map, ap, arith, refl, subst, sym, true, false, inl, inr, Option, None}
-use Rattle.std.proofs.Common.{Some, Result, Ok, Err, IsOkAnd, MatchOption}
+use Rattle.std.proofs.Common.{Some, Result, Ok, Err, IfOk, IsOkAnd, MatchOption, OnErr}
 use Rattle.std.proofs.lemmas.List.{length-map}
 use Rattle.std.proofs.iter.runs.Made.{run, to_end, to_item}
 use Rattle.std.specs.Iterator.{Yields, YieldsThen}
@@ -125,6 +125,34 @@ module _ {S T E : Type 0} (next_gives : S → Option T → S → Type 0) where
       )
   FillRuns-from_fill before n (Err error) after (taken, last, calls, short) =
       refused_runs before n error after taken last calls short
+
+  -- an end before n items, or one item more, in which case there is no array
+  pub Fills-refused : (before : S) (n : ℕ) (error : E) (taken : List T) (reached after : S)
+      → Takes next_gives before n taken reached
+      → ((length taken ≢ n) × (after ≡ reached)) ⊎ ((length taken ≡ n)
+      × ((more : T) × next_gives reached (Some more) after))
+      → Fills next_gives before n (Err error) after
+  Fills-refused before n error taken reached after (inl (calls, all)) (inl (other, same)) = absurd (other all)
+  Fills-refused before n error taken reached after (inl (calls, all)) (inr (full, (more, call))) =
+      (taken, Some more, (reached, calls, call), full)
+  Fills-refused before n error taken reached after (inr (calls, short)) (inl (other, same)) =
+      (taken, None, subst (λ s. YieldsThen next_gives before taken None s) (sym same) calls, short)
+  Fills-refused before n error taken reached after (inr (calls, short)) (inr (full, (more, call))) =
+      absurd (omega (arith, short, full))
+
+  -- what a builder that was empty took, and whether it was full when the iterator ended, is a fill
+  pub Fills-from_takes : (before : S) (n : ℕ) (result : Result (List T) E) (taken : List T) (reached after : S)
+      → Takes next_gives before n taken reached
+      → IfOk result (λ array. (array ≡ taken) × (length taken ≡ n) × next_gives reached None after)
+      → OnErr result (((length taken ≢ n) × (after ≡ reached))
+      ⊎ ((length taken ≡ n) × ((more : T) × next_gives reached (Some more) after)))
+      → Fills next_gives before n result after
+  Fills-from_takes before n (Ok array) taken reached after (inl (calls, all)) (same, full, ended) _ =
+      (taken, None, (reached, calls, ended), (same, full, refl))
+  Fills-from_takes before n (Ok array) taken reached after (inr (calls, short)) (same, full, ended) _ =
+      absurd (omega (arith, short, full))
+  Fills-from_takes before n (Err error) taken reached after takes _ refused =
+      Fills-refused before n error taken reached after takes refused
 
 -- good values are all good
 pub all_good : {T E : Type 0} (good : List T) → try_map (λ (item : Result T E). item) (map Ok good) ≡ Ok good

@@ -2,7 +2,7 @@
 ghost use Rattle.ga_views.specs.Views.{items_of_view};
 ghost use Rattle.ga_views.specs.Length.{FitsInline};
 ghost use Rattle.std.specs.Box.{boxed_slice_items};
-ghost use Rattle.std.specs.Prelude.{◌≡◌, ◌↔◌, IfOk, IsOk, length};
+ghost use Rattle.std.specs.Prelude.{◌≡◌, ◌≤◌, ◌↔◌, IfOk, IsOk, [], length, vec_capacity};
 
 use crate::alloc_error::AllocError;
 use crate::array::GenericArray;
@@ -92,12 +92,13 @@ impl<T: Default + Drop, N: ArrayLength<T>> GenericArray<T, N> {
         ensures ok { IfOk result (λ items. items.items ≡ self) }
         ensures empty { N.USIZE ≡ 0 → IsOk result }
     {
-        let slots = self.as_mut_slice();
-        let mut items = Vec::with_capacity(alloc, N::USIZE)?;
-        for slot in slots.iter_mut() {
-            items.push_reserved(mem::take(slot));
+        match Vec::with_capacity(alloc, N::USIZE) {
+            Ok(mut items) => {
+                push_items(self.as_mut_slice(), &mut items);
+                Ok(items)
+            }
+            Err(_) => Err(AllocError),
         }
-        Ok(items)
     }
 
     /// The items as a boxed slice: see `into_vec`.
@@ -105,7 +106,22 @@ impl<T: Default + Drop, N: ArrayLength<T>> GenericArray<T, N> {
         ensures ok { IfOk result (λ items. boxed_slice_items items ≡ self) }
         ensures empty { N.USIZE ≡ 0 → IsOk result }
     {
-        Ok(self.into_vec(alloc)?.into_boxed_slice())
+        match self.into_vec(alloc) {
+            Ok(items) => Ok(items.into_boxed_slice()),
+            Err(refused) => Err(refused),
+        }
+    }
+}
+
+// Moves the items of a slice into a vector without items that has room for them, and leaves defaults.
+#[inline]
+fn push_items<T: Default + Drop>(slots: &mut [T], items: &mut Vec<T>)
+    requires empty { items.old.items ≡ [] }
+    requires room { length slots.old ≤ vec_capacity items.old }
+    ensures { items.new.items ≡ slots.old }
+{
+    for slot in slots.iter_mut() {
+        items.push_reserved(mem::take(slot));
     }
 }
 

@@ -3,7 +3,7 @@ use Rattle.ga_views.proofs.PartLemmas.{part-all}
 use Rattle.ga_views.specs.Parts.{part_set}
 use Rattle.std.proofs.Common.{◌≡◌, ◌∙◌, ap, length, refl, sym, take}
 use Rattle.std.proofs.Math.Seq.{take-length}
-use Rattle.std.specs.List.{refill}
+use Rattle.std.specs.List.{length_refill, refill}
 
 pub returns : goal.returns
 returns g c =
@@ -26,4 +26,13 @@ returns g c =
             ap length (shown ∙ sym c.self.view_is) ∙ c.self.invariant.0;
         fits = c.self.invariant.1;
       },
+    )
+
+pub invariant_of-self-lent : goal.invariant_of-self-lent
+invariant_of-self-lent g c = λ w.
+    let items = g.N.ArrayType.Store.items c.self.inside.store in
+    let part = part_set 0 c.USIZE.result items w in (
+      ap length (g.N.ArrayType.Store.store_with c.self.inside.store part).1
+          ∙ (sym (length_refill (length items) items part refl) ∙ c.self.invariant.0),
+      c.self.invariant.1,
     )

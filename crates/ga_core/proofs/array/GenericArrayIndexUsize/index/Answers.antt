@@ -1,0 +1,10 @@
+use Rattle.ga_core.proofs.array.GenericArrayIndexUsize.index.Goals as goal
+use Rattle.std.proofs.Common.{◌∙◌, ap, sym}
+use Rattle.std.proofs.lemmas.Option.{slice_get_read}
+use Rattle.std.specs.List.{slice_get}
+
+pub returns : goal.returns
+returns g c =
+    ap (λ items. slice_get items c.args.index) (sym c.as_slice.ensures.items)
+    ∙ slice_get_read c.as_slice.result.now g.N.Unsigned.USIZE c.args.index c.index-as_slice-index.result
+    (sym c.as_slice.ensures.len) c.requires c.index-as_slice-index.is
