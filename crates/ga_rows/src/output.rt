@@ -1,15 +1,20 @@
 //! Writing the rows of an input.
 ghost use Rattle.generic_array.specs.Views.{items_of_chunks, items_of_view};
 ghost use Rattle.generic_array.specs.Rows.{chunk_rest, rows};
+ghost use Rattle.generic_array.specs.Calls.{MayFold};
+ghost use Rattle.generic_array.specs.Entries.{ActsInFold, FoldAt};
+ghost use Rattle.generic_array.specs.Runs.{FoldRun};
 ghost use Rattle.ga_rows.specs.Text.{line, lines, lines_of, rest_line, row_lines, row_text, text_of};
 ghost use Rattle.ga_rows.specs.Arguments.{bytes_of};
-ghost use Rattle.std.specs.Io.KnownBytes.{Appends, append_known};
+ghost use Rattle.std.specs.Io.KnownBytes.{Appends, Keeps, append_known};
 ghost use Rattle.std.specs.Prelude.{◌≡◌, ◌≢◌, ◌+◌, ◌<◌, ◌≤◌, ◌↔◌, [], ◌++◌, IfOk, IsOk, IsTrue, OnOk, length, reverse, sum};
 
 use crate::arguments::{Mode, Width};
 use crate::buffer::{PIECE_SIZE, Piece};
 use generic_array::checks::total_by;
+use generic_array::functional::FunctionalSequence;
 use generic_array::hex_text::write_hex;
+use generic_array::sequence::SequenceItem;
 use generic_array::{ArrayLength, ChunksRef, GenericArrayRef, U1, U2, U4, U8, U16};
 use std::io;
 use std::io::Write;
@@ -98,9 +103,7 @@ fn put_from_first<N: ArrayLength<u8>, W: Write>(
     ensures empty { rows N.USIZE (items_of_chunks chunks.now) ≡ [] → IsOk result × (piece.new ≡ piece.old) }
 {
     for row in chunks.iter() {
-        if !piece.has_room(LONGEST_LINE) {
-            hand_over(piece, w)?;
-        }
+        make_room(piece, w)?;
         put_row(piece, mode, row)?;
     }
     Ok(())
@@ -120,9 +123,7 @@ fn put_from_last<N: ArrayLength<u8>, W: Write>(
     ensures empty { rows N.USIZE (items_of_chunks chunks.now) ≡ [] → IsOk result × (piece.new ≡ piece.old) }
 {
     for row in chunks.iter().rev() {
-        if !piece.has_room(LONGEST_LINE) {
-            hand_over(piece, w)?;
-        }
+        make_room(piece, w)?;
         put_row(piece, Mode::Last, row)?;
     }
     Ok(())
@@ -156,7 +157,22 @@ fn sum_of<N: ArrayLength<u8>>(row: GenericArrayRef<'_, u8, N>) -> u16
     ensures value { result ≡ sum (items_of_view row.entry) }
     ensures small { sum (items_of_view row.entry) < 10000 }
 {
-    total_by(row, 0, &mut |sum: u16, byte: &u8| sum + u16::from(*byte))
+    sum_by(row, &mut |sum: u16, byte: &u8| sum + u16::from(*byte))
+}
+
+// `total_by` of bytes. It stands over any kind of sequence, and has a second condition: of two, the proof of a call
+// says each by itself, which is cheaper.
+#[inline]
+fn sum_by<S: FunctionalSequence<u8>, F: FnMut(u16, SequenceItem<S>) -> u16>(
+    s: S,
+    add: &mut F,
+) -> u16
+    requires callable { MayFold S.entry F.pre F.step add.old 0 (S.items s) }
+    requires adds { ActsInFold S.entry F.step add.old (λ sum byte. sum + byte) }
+    ensures run { FoldRun (FoldAt S.entry F.step) add.old 0 (S.items s) result add.new }
+    ensures value { result ≡ sum (S.items s) }
+{
+    total_by(s, 0, add)
 }
 
 // Puts the line of the bytes that fill no row behind the piece, if there are any.
@@ -169,12 +185,24 @@ fn put_rest<W: Write>(piece: &mut Piece, w: &mut W, rest: &[u8]) -> Result<(), i
     if rest.is_empty() {
         return Ok(());
     }
-    if !piece.has_room(LONGEST_LINE) {
-        hand_over(piece, w)?;
-    }
+    make_room(piece, w)?;
     piece.push_text("rest ");
     piece.push_numbers(rest);
     piece.push(b'\n');
+    Ok(())
+}
+
+// Hands the piece over if it may have no room for a line.
+#[inline(always)]
+fn make_room<W: Write>(piece: &mut Piece, w: &mut W) -> Result<(), io::Error>
+    ensures text { OnOk result (Keeps (append_known (W.contents w.old) piece.old)
+        (append_known (W.contents w.new) piece.new)) }
+    ensures room { OnOk result (length piece.new + LONGEST_LINE ≤ PIECE_SIZE) }
+    ensures empty { piece.old ≡ [] → IsOk result × (piece.new ≡ piece.old) }
+{
+    if !piece.has_room(LONGEST_LINE) {
+        hand_over(piece, w)?;
+    }
     Ok(())
 }
 

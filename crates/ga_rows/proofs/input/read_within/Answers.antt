@@ -1,0 +1,18 @@
+use Rattle.ga_rows.proofs.input.read_within.Goals as goal
+use Rattle.ga_rows.proofs.input.read_within.Goals.{in-Ok+in_ok-append-in-Ok, in-Err+in_ok-after_failed_read-in-Err}
+use Rattle.std.proofs.Common.{ap, subst, sym, ◌∙◌}
+use Rattle.std.proofs.KnownBytes.{Consumes-kept, Consumes-trans}
+use Rattle.std.specs.Io.KnownBytes.{Consumes}
+
+-- what a read gave is behind what was kept, and a read that was interrupted gave nothing
+pub loop-try-preserved : goal.loop-try-preserved
+loop-try-preserved g c =
+    let before = g.R.Read.remaining c.args.r.now in
+    let now = g.R.Read.remaining c.read.new.self in
+    elim c.match-read.branch [
+      | in-Ok+in_ok-append-in-Ok w ↦ subst (Consumes before now)
+          (sym (ap (λ input. input.items) w.input-is ∙ w.in_ok-append-in-Ok.ensures.ok))
+          (Consumes-trans before _ now _ _ c.loop-try.invariant w.in-Ok.ensures.bytes.0)
+      | in-Err+in_ok-after_failed_read-in-Err w ↦ subst (λ input. Consumes before now input.items)
+          (sym w.input-is) (Consumes-kept before _ now _ c.loop-try.invariant w.in-Err.ensures.bytes)
+    ]
