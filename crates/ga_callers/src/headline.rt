@@ -139,11 +139,11 @@ fn stopped_in_boxed(
 }
 
 /// The sum, or an error where it is above 3.
-fn up_to_three(sum: u32, item: u32) -> Result<u32, u32>
-    ensures { let total = (sum + item) % 2 ^ 32 in
+fn up_to_three(sum: u32, item: &u32) -> Result<u32, u32>
+    ensures { let total = (sum + item.now) % 2 ^ 32 in
         result ≡ (if nat_lt 3 total then Err total else Ok total) }
 {
-    let sum = sum.wrapping_add(item);
+    let sum = sum.wrapping_add(*item);
     if sum > 3 { Err(sum) } else { Ok(sum) }
 }
 
@@ -151,7 +151,7 @@ fn stopped_past_three_in_view(view: GenericArrayRef<'_, u32, U3>) -> Result<u32,
     requires { items_of_view view ≡ 1 ∷ 3 ∷ 9 ∷ [] }
     ensures { result ≡ Err 4 }
 {
-    try_fold(view, 0, &mut |sum: u32, item: &u32| up_to_three(sum, *item))
+    try_fold(view, 0, &mut up_to_three)
 }
 
 // Joined runs, at any kind.
