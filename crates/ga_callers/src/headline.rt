@@ -18,8 +18,8 @@ use ga_headline::steps::walk;
 use generic_array::sequence::{GenericSequence, SequenceItem};
 use generic_array::steps::{Reply, Step};
 use generic_array::{
-    AllocError, BoxedArray, BoxedArrayIter, FillError, GenericArray, GenericArrayIter,
-    GenericArrayRef, Never, U0, U2, U3, U4, U5, always, arr,
+    AllocError, ArrayLength, BoxedArray, BoxedArrayIter, FillError, GenericArray, GenericArrayIter,
+    GenericArrayRef, InlineLength, Never, U0, U2, U3, U4, U5, always, arr,
 };
 use std::alloc::Global;
 use std::test::Fail;
@@ -45,7 +45,9 @@ fn boxed_of(
 
 // Calls: running totals at each kind, sums of two kinds, and what stops at an item.
 
-fn totals_of_inline(array: GenericArray<u32, U3>) -> GenericArray<u32, U3>
+fn totals_of_inline<N: ArrayLength<u32> + InlineLength>(
+    array: GenericArray<u32, N>,
+) -> GenericArray<u32, N>
     requires { array ≡ 1 ∷ 2 ∷ 3 ∷ [] }
     ensures { result ≡ 1 ∷ 3 ∷ 6 ∷ [] }
 {
@@ -60,7 +62,9 @@ fn totals_of_inline(array: GenericArray<u32, U3>) -> GenericArray<u32, U3>
     ))
 }
 
-fn totals_of_view(view: GenericArrayRef<'_, u32, U3>) -> GenericArray<u32, U3>
+fn totals_of_view<N: ArrayLength<u32> + InlineLength>(
+    view: GenericArrayRef<'_, u32, N>,
+) -> GenericArray<u32, N>
     requires { items_of_view view ≡ 1 ∷ 2 ∷ 3 ∷ [] }
     ensures { result ≡ 1 ∷ 3 ∷ 6 ∷ [] }
 {
