@@ -8,7 +8,8 @@ use Rattle.std.specs.List.{length_refill, refill}
 
 module _ {X : Type 0} where
   -- slots that were written over are as many as they were
-  pub slots-kept : (slots written : List X) (n : ℕ) → length slots ≡ n → length (refill (length slots) slots written) ≡ n
+  pub slots-kept : (slots written : List X) (n : ℕ) → length slots ≡ n
+      → length (refill (length slots) slots written) ≡ n
   slots-kept slots written n long = sym (length_refill (length slots) slots written refl) ∙ long
 
   -- as many items as are counted
@@ -21,8 +22,8 @@ module _ {X : Type 0} where
   pub item-pushed : (slots : List X) (count : ℕ) (item : X) → count < length slots
       → take (count + 1) (refill (length slots) slots (slice_set slots count item)) ≡ take count slots ++ item ∷ []
   item-pushed slots count item room =
-      ap (take (count + 1)) (refill-set slots slots (refill (length slots) slots (slice_set slots count item)) count item
-      refl refl)
+      ap (take (count + 1)) (refill-set slots slots (refill (length slots) slots (slice_set slots count item)) count
+      item refl refl)
       ∙ take_more_set slots count item room
 
   -- the last item was taken, and a blank stands in its slot
