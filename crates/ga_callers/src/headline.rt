@@ -18,8 +18,8 @@ use ga_headline::steps::walk;
 use generic_array::sequence::{GenericSequence, SequenceItem};
 use generic_array::steps::{Reply, Step};
 use generic_array::{
-    AllocError, BoxedArray, BoxedArrayIter, FillError, GenericArray, GenericArrayIter,
-    GenericArrayRef, Never, U0, U2, U3, U4, U5, always, arr,
+    AllocError, ArrayLength, BoxedArray, BoxedArrayIter, FillError, GenericArray, GenericArrayIter,
+    GenericArrayRef, InlineLength, Never, U0, U2, U3, U4, U5, always, arr,
 };
 use std::alloc::Global;
 use std::test::Fail;
@@ -45,7 +45,9 @@ fn boxed_of(
 
 // Calls: running totals at each kind, sums of two kinds, and what stops at an item.
 
-fn totals_of_inline(array: GenericArray<u32, U3>) -> GenericArray<u32, U3>
+fn totals_of_inline<N: ArrayLength<u32> + InlineLength>(
+    array: GenericArray<u32, N>,
+) -> GenericArray<u32, N>
     requires { array ≡ 1 ∷ 2 ∷ 3 ∷ [] }
     ensures { result ≡ 1 ∷ 3 ∷ 6 ∷ [] }
 {
@@ -60,7 +62,9 @@ fn totals_of_inline(array: GenericArray<u32, U3>) -> GenericArray<u32, U3>
     ))
 }
 
-fn totals_of_view(view: GenericArrayRef<'_, u32, U3>) -> GenericArray<u32, U3>
+fn totals_of_view<N: ArrayLength<u32> + InlineLength>(
+    view: GenericArrayRef<'_, u32, N>,
+) -> GenericArray<u32, N>
     requires { items_of_view view ≡ 1 ∷ 2 ∷ 3 ∷ [] }
     ensures { result ≡ 1 ∷ 3 ∷ 6 ∷ [] }
 {
@@ -139,11 +143,11 @@ fn stopped_in_boxed(
 }
 
 /// The sum, or an error where it is above 3.
-fn up_to_three(sum: u32, item: u32) -> Result<u32, u32>
-    ensures { let total = (sum + item) % 2 ^ 32 in
+fn up_to_three(sum: u32, item: &u32) -> Result<u32, u32>
+    ensures { let total = (sum + item.now) % 2 ^ 32 in
         result ≡ (if nat_lt 3 total then Err total else Ok total) }
 {
-    let sum = sum.wrapping_add(item);
+    let sum = sum.wrapping_add(*item);
     if sum > 3 { Err(sum) } else { Ok(sum) }
 }
 
@@ -151,7 +155,7 @@ fn stopped_past_three_in_view(view: GenericArrayRef<'_, u32, U3>) -> Result<u32,
     requires { items_of_view view ≡ 1 ∷ 3 ∷ 9 ∷ [] }
     ensures { result ≡ Err 4 }
 {
-    try_fold(view, 0, &mut |sum: u32, item: &u32| up_to_three(sum, *item))
+    try_fold(view, 0, &mut up_to_three)
 }
 
 // Joined runs, at any kind.

@@ -1,6 +1,7 @@
+use Rattle.ga_callers.proofs.CountedLemmas.{items-counted}
 use Rattle.ga_callers.proofs.own_lengths.CountedStore.remove_at.Goals as goal
 use Rattle.std.proofs.Common.{◌≡◌, ℕ, ◌+◌, ◌-◌, ◌<◌, ◌≤◌, ◌∙◌, List, [], ◌∷◌, ◌++◌, ap, append_assoc, arith, drop}
-use Rattle.std.proofs.Common.{length, length-drop, suc, sym, take}
+use Rattle.std.proofs.Common.{get_or, get_or-take, length, length-drop, rules, suc, sym, take}
 use Rattle.std.proofs.Math.Seq.{length-take-le, take-add, take-append-add, take-append_seam}
 use Rattle.std.proofs.lemmas.List.{drop-take, take-append-le}
 use Rattle.std.specs.List.{remove}
@@ -39,3 +40,33 @@ returns-clause-others g c =
     ∙ (ap (λ n. take n (remove slots i ++ blank ∷ [])) {x = count - 1} {y = i + rest} (omega (arith, here))
     ∙ (remove-within slots i rest blank (omega (arith, whole, c.self.invariant.0, c.self.invariant.1))
     ∙ (ap (λ n. remove (take n slots) i) whole ∙ ap (λ l. remove l i) c.self.view_is)))
+
+pub remove-item-requires : goal.remove-item-requires
+remove-item-requires g c =
+    let long = items-counted c.self.inside.slots.items c.args.self.now c.self.inside.count g.row.N c.self.invariant.0
+    c.self.invariant.1 c.self.view_is in
+    (search rules, omega (arith, long, c.requires.in_bounds, c.self.invariant.0, c.self.invariant.1))
+
+pub push-requires : goal.push-requires
+push-requires g c = (search rules, omega (arith, c.remove-item.ensures.len, c.self.invariant.1))
+
+pub overflow_sub-self : goal.overflow_sub-self
+overflow_sub-self g c =
+    let long = items-counted c.self.inside.slots.items c.args.self.now c.self.inside.count g.row.N c.self.invariant.0
+    c.self.invariant.1 c.self.view_is in
+    omega (arith, long, c.requires.in_bounds)
+
+pub invariant_of-self : goal.invariant_of-self
+invariant_of-self g c =
+    (omega (arith, c.self.invariant.0), c.push.ensures.len ∙ (c.remove-item.ensures.len ∙ c.self.invariant.1))
+
+pub returns-clause-value : goal.returns-clause-value
+returns-clause-value g c =
+    let slots = c.self.inside.slots.items in
+    let count = c.self.inside.count in
+    let i = c.args.index in
+    let item = c.remove-item.result in
+    let long = items-counted slots c.args.self.now count g.row.N c.self.invariant.0 c.self.invariant.1 c.self.view_is in
+    c.remove-item.ensures.value
+    ∙ (sym (get_or-take count slots i item (omega (arith, long, c.requires.in_bounds)))
+    ∙ ap (λ items. get_or items i item) c.self.view_is)
