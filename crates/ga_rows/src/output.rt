@@ -6,7 +6,7 @@ ghost use Rattle.generic_array.specs.Entries.{ActsInFold, FoldAt};
 ghost use Rattle.generic_array.specs.Runs.{FoldRun};
 ghost use Rattle.ga_rows.specs.Text.{line, lines, lines_of, rest_line, row_lines, row_text, text_of};
 ghost use Rattle.ga_rows.specs.Arguments.{bytes_of};
-ghost use Rattle.std.specs.Io.KnownBytes.{Appends, Keeps, append_known};
+ghost use Rattle.std.specs.Io.KnownBytes.{Appends, append_known};
 ghost use Rattle.std.specs.Prelude.{◌≡◌, ◌≢◌, ◌+◌, ◌<◌, ◌≤◌, ◌↔◌, [], ◌++◌, IfOk, IsOk, IsTrue, OnOk, length, reverse, sum};
 
 use crate::arguments::{Mode, Width};
@@ -103,7 +103,9 @@ fn put_from_first<N: ArrayLength<u8>, W: Write>(
     ensures empty { rows N.USIZE (items_of_chunks chunks.now) ≡ [] → IsOk result × (piece.new ≡ piece.old) }
 {
     for row in chunks.iter() {
-        make_room(piece, w)?;
+        if !piece.has_room(LONGEST_LINE) {
+            hand_over(piece, w)?;
+        }
         put_row(piece, mode, row)?;
     }
     Ok(())
@@ -123,7 +125,9 @@ fn put_from_last<N: ArrayLength<u8>, W: Write>(
     ensures empty { rows N.USIZE (items_of_chunks chunks.now) ≡ [] → IsOk result × (piece.new ≡ piece.old) }
 {
     for row in chunks.iter().rev() {
-        make_room(piece, w)?;
+        if !piece.has_room(LONGEST_LINE) {
+            hand_over(piece, w)?;
+        }
         put_row(piece, Mode::Last, row)?;
     }
     Ok(())
@@ -185,24 +189,12 @@ fn put_rest<W: Write>(piece: &mut Piece, w: &mut W, rest: &[u8]) -> Result<(), i
     if rest.is_empty() {
         return Ok(());
     }
-    make_room(piece, w)?;
-    piece.push_text("rest ");
-    piece.push_numbers(rest);
-    piece.push(b'\n');
-    Ok(())
-}
-
-// Hands the piece over if it may have no room for a line.
-#[inline(always)]
-fn make_room<W: Write>(piece: &mut Piece, w: &mut W) -> Result<(), io::Error>
-    ensures text { OnOk result (Keeps (append_known (W.contents w.old) piece.old)
-        (append_known (W.contents w.new) piece.new)) }
-    ensures room { OnOk result (length piece.new + LONGEST_LINE ≤ PIECE_SIZE) }
-    ensures empty { piece.old ≡ [] → IsOk result × (piece.new ≡ piece.old) }
-{
     if !piece.has_room(LONGEST_LINE) {
         hand_over(piece, w)?;
     }
+    piece.push_text("rest ");
+    piece.push_numbers(rest);
+    piece.push(b'\n');
     Ok(())
 }
 

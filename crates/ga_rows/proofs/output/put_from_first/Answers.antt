@@ -1,6 +1,8 @@
 use Rattle.ga_rows.proofs.TextLemmas.{Appends-behind, lines-more, lines-none}
 use Rattle.ga_rows.proofs.output.put_from_first.Goals as goal
-use Rattle.std.proofs.Common.{◌∙◌, ap, arith, length, refl}
+use Rattle.ga_rows.proofs.output.put_from_first.Goals.{else-not-has_room, then-not-has_room+in_ok-hand_over}
+use Rattle.std.proofs.Common.{◌∙◌, ap, arith, length, refl, rules}
+use Rattle.std.proofs.KnownBytes.{Keeps-refl}
 
 pub loop-row-init : goal.loop-row-init
 loop-row-init g c =
@@ -10,7 +12,10 @@ loop-row-init g c =
 pub loop-row-preserved : goal.loop-row-preserved
 loop-row-preserved g c = record {
   text = lines-more c.args.mode _ _ c.next.new.self c.in-Some.row.slice.now _ _ _ c.loop-row.invariant.text
-      c.in-Some.ensures.steps (Appends-behind _ _ _ _ _ c.in_ok-make_room.ensures.text c.in_ok-put_row.ensures);
+      c.in-Some.ensures.steps (elim c.if-not-has_room.branch [
+        | then-not-has_room+in_ok-hand_over w ↦ search rules
+        | else-not-has_room w ↦ Appends-behind _ _ _ _ _ (search (rules, Keeps-refl)) c.in_ok-put_row.ensures
+      ]);
   empty = λ none. absurd (omega (
     arith,
     ap length (c.loop-row.invariant.empty none).0,

@@ -1,7 +1,9 @@
 use Rattle.ga_rows.proofs.TextLemmas.{Appends-behind, lines-more_back, lines-none, no-last}
 use Rattle.ga_rows.proofs.output.put_from_last.Goals as goal
+use Rattle.ga_rows.proofs.output.put_from_last.Goals.{else-not-has_room, then-not-has_room+in_ok-hand_over}
 use Rattle.ga_rows.specs.declared.arguments.Mode.TheVariants.{Last}
-use Rattle.std.proofs.Common.{◌∙◌, ap, refl, reverse}
+use Rattle.std.proofs.Common.{◌∙◌, ap, refl, reverse, rules}
+use Rattle.std.proofs.KnownBytes.{Keeps-refl}
 use Rattle.std.specs.Iterator.Adapters.{rev_source}
 
 pub loop-row-init : goal.loop-row-init
@@ -17,6 +19,9 @@ loop-row-preserved g c =
     let row = c.in-Some.row.slice.now in
     record {
       text = lines-more_back Last _ left after row _ _ _ c.loop-row.invariant.text c.in-Some.ensures.steps
-          (Appends-behind _ _ _ _ _ c.in_ok-make_room.ensures.text c.in_ok-put_row.ensures);
+          (elim c.if-not-has_room.branch [
+            | then-not-has_room+in_ok-hand_over w ↦ search rules
+            | else-not-has_room w ↦ Appends-behind _ _ _ _ _ (search (rules, Keeps-refl)) c.in_ok-put_row.ensures
+          ]);
       empty = λ none. absurd (no-last left after row (c.loop-row.invariant.empty none).0 c.in-Some.ensures.steps);
     }
