@@ -73,7 +73,8 @@ fn boxed_front_set<N: Unsigned>(array: &mut BoxedArray<u8, N>, bytes: &[u8])
 
 /// Whether each caller that reads 1, 2, 3 returns what its contract says.
 fn reads_are_right<N: Unsigned>(array: &BoxedArray<u8, N>) -> bool
-    requires { N.USIZE ≡ 3 }
+    requires three { N.USIZE ≡ 3 }
+    requires fits { sum array.now < 2 ^ 64 }
 {
     !holds_nothing(array)
         && length_of(array) == 3
