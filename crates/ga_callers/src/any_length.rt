@@ -115,6 +115,16 @@ where
     always(sums.map((), |sum: u32| sum.wrapping_add(1)))
 }
 
+// The same of an inline and a boxed array.
+fn one_more_than_sums_of_both<N: ArrayLength<u32> + InlineLength>(
+    left: GenericArray<u32, N>,
+    right: BoxedArray<u32, N>,
+) -> GenericArray<u32, N>
+    ensures { result ≡ map (λ sum. (sum + 1) % 2 ^ 32) (map (λ p. (p.0 + p.1) % 2 ^ 32) (zip left right)) }
+{
+    one_more_than_sums(left, right)
+}
+
 fn checksum_of_any<S: GenericSequence<u8>>(bytes: &S) -> u8
 where
     S::Length: ArrayLength<u8>,
@@ -292,7 +302,7 @@ fn checksum_and_total(alloc: Global) -> Result<(u8, u8), AllocError> {
 /// Whether sums place by place are those worked out by hand.
 fn sums_are_right(alloc: Global) -> Result<bool, AllocError> {
     let right = four_five_six();
-    let more = one_more_than_sums(one_two_three(), boxed_one_two_three(alloc)?);
+    let more = one_more_than_sums_of_both(one_two_three(), boxed_one_two_three(alloc)?);
     Ok(has(place_sums(one_two_three(), right.view()), &[5, 7, 9]) && has(more, &[3, 5, 7]))
 }
 

@@ -26,8 +26,11 @@ use std::test::Fail;
 
 // Builds.
 
-fn inline_of(items: Vec<u32>) -> Result<GenericArray<u32, U3>, FillError<Never, Never>>
-    requires { items.items ≡ 1 ∷ 2 ∷ 3 ∷ [] }
+fn inline_of<N: ArrayLength<u32> + InlineLength>(
+    items: Vec<u32>,
+) -> Result<GenericArray<u32, N>, FillError<Never, Never>>
+    requires len { N.USIZE ≡ 3 }
+    requires items { items.items ≡ 1 ∷ 2 ∷ 3 ∷ [] }
     ensures { result ≡ Ok (1 ∷ 2 ∷ 3 ∷ []) }
 {
     build((), items)
@@ -97,11 +100,11 @@ fn totals_of_boxed(
     )
 }
 
-fn sums_of_boxed_and_view(
+fn sums_of_boxed_and_view<N: ArrayLength<u32>>(
     alloc: Global,
-    left: BoxedArray<u32, U3>,
-    right: GenericArrayRef<'_, u32, U3>,
-) -> Result<BoxedArray<u32, U3>, AllocError>
+    left: BoxedArray<u32, N>,
+    right: GenericArrayRef<'_, u32, N>,
+) -> Result<BoxedArray<u32, N>, AllocError>
     requires left { left ≡ 1 ∷ 2 ∷ 3 ∷ [] }
     requires right { items_of_view right ≡ 4 ∷ 5 ∷ 6 ∷ [] }
     ensures { IfOk result (λ sums. sums ≡ 5 ∷ 7 ∷ 9 ∷ []) }
@@ -114,7 +117,7 @@ fn sums_of_boxed_and_view(
     )
 }
 
-fn sum_of_reference(array: &GenericArray<u32, U3>) -> u32
+fn sum_of_reference<N: ArrayLength<u32>>(array: &GenericArray<u32, N>) -> u32
     requires { array.now ≡ 1 ∷ 2 ∷ 3 ∷ [] }
     ensures { result ≡ 6 }
 {
@@ -189,11 +192,11 @@ fn count_of(items: &[u32]) -> usize
     items.len()
 }
 
-fn walked_inline(
-    array: GenericArray<u32, U3>,
+fn walked_inline<N: ArrayLength<u32>>(
+    array: GenericArray<u32, N>,
     steps: Vec<Step<u32>>,
     replies: &mut Vec<Reply<u32, usize>>,
-) -> Result<GenericArrayIter<u32, U3>, AllocError>
+) -> Result<GenericArrayIter<u32, N>, AllocError>
     requires array { array ≡ 1 ∷ 2 ∷ 3 ∷ [] }
     requires steps { steps.items ≡ Next ∷ Look ∷ Set 1 9 ∷ NextBack ∷ [] }
     ensures replies { OnOk result (replies.new.items
@@ -225,7 +228,7 @@ fn sum_of(items: &[u32]) -> u32 {
 #[test]
 fn builds_want_just_their_number(rt: HostRuntime) -> Result<(), Fail> {
     let alloc = rt.alloc();
-    assert!(rt; gives(inline_of(vec![in alloc; 1, 2, 3]?), &[1, 2, 3]));
+    assert!(rt; gives(inline_of::<U3>(vec![in alloc; 1, 2, 3]?), &[1, 2, 3]));
     assert!(rt; gives(boxed_of(alloc, vec![in alloc; 1, 2, 3]?), &[1, 2, 3]));
     Ok(())
 }

@@ -1,13 +1,12 @@
 //! Generic functions that know the traits alone, at work for every kind of sequence.
-ghost use Rattle.ga_core.specs.Calls.{MayFold, MayMap, MayZip};
-ghost use Rattle.ga_core.specs.Entries.{ActsInFold, ActsOnEntries, ActsOnEntry, CallAt, CallAtPair, FoldAt};
+ghost use Rattle.ga_core.specs.Calls.{MayFold, MayMap};
+ghost use Rattle.ga_core.specs.Entries.{ActsInFold, ActsOnEntry, CallAt, FoldAt};
 ghost use Rattle.ga_core.specs.Runs.{ClosureRun, FoldRun};
 ghost use Rattle.std.specs.Iterator.{ActsAsOnTwo};
-ghost use Rattle.std.specs.List.{zip};
 ghost use Rattle.std.specs.Prelude.{◌≡◌, IfOk, IsOk, List, OnErr, fold, map};
 
 use crate::functional::{FunctionalSequence, MappedError, MappedGenericSequence, MappedPlace};
-use crate::sequence::{GenericSequence, OwnedSequence, SequenceItem};
+use crate::sequence::{OwnedSequence, SequenceItem};
 
 /// The fold by `f` over the entries, from `init`: a caller of `fold_by` that knows the traits alone.
 pub fn total_by<T, S: FunctionalSequence<T>, A, F: FnMut(A, SequenceItem<S>) -> A>(
@@ -66,48 +65,6 @@ pub fn map_total_by<
 {
     match s.map_by(place, f) {
         Ok(mapped) => Ok(fold_made(mapped, init, g)),
-        Err(refused) => Err(refused),
-    }
-}
-
-/// The dot product of two sequences of numbers, which may be of two kinds: folds the values of
-/// `times` at the entries of each index by `plus`, starting from `zero`.
-///
-/// Requires that the lengths are equal. All calls of `times` come first. Allocates before them: if
-/// that fails, neither closure is called.
-pub fn dot_by<
-    T: Drop,
-    S: FunctionalSequence<T> + MappedGenericSequence<T, T>,
-    R: GenericSequence<T>,
-    F: FnMut(SequenceItem<S>, SequenceItem<R>) -> T,
-    G: FnMut(T, T) -> T,
->(
-    left: S,
-    place: MappedPlace<S, T, T>,
-    right: R,
-    times: &mut F,
-    zero: T,
-    plus: &mut G,
-) -> Result<T, MappedError<S, T, T>>
-    requires lengths { S.Length.USIZE ≡ R.Length.USIZE }
-    requires fits { S.Mapped.Fits }
-    requires callable { MayZip S.entry R.entry F.pre F.step times.old (S.items left) (R.items right) }
-    requires then_callable { (products : List T) (reached : F)
-        → ClosureRun (CallAtPair S.entry R.entry F.step) times.old
-        (zip (S.items left) (R.items right)) products reached
-        → MayFold (λ item. item) G.pre G.step plus.old zero products }
-    ensures run { IfOk result (λ total. (products : List T)
-        × ClosureRun (CallAtPair S.entry R.entry F.step) times.old
-        (zip (S.items left) (R.items right)) products times.new
-        × FoldRun G.step plus.old zero products total plus.new) }
-    ensures acts { IfOk result (λ total. (h : T × T → T) (k : T → T → T)
-        → ActsOnEntries S.entry R.entry F.step times.old h → ActsAsOnTwo G.FnMut plus.old k
-        → total ≡ fold k zero (map h (zip (S.items left) (R.items right)))) }
-    ensures err { OnErr result ((times.new ≡ times.old) × (plus.new ≡ plus.old)) }
-    ensures promised { S.Mapped.IsPromised → IsOk result }
-{
-    match left.zip_by(place, right, times) {
-        Ok(products) => Ok(fold_made(products, zero, plus)),
         Err(refused) => Err(refused),
     }
 }

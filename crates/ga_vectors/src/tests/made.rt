@@ -2,7 +2,10 @@
 
 use crate::tests::items::{TooMany, has};
 use generic_array::sequence::{FallibleGenericSequence, GenericSequence};
-use generic_array::{BoxedArray, Const, GenericArray, GenericArrayRef, U2, U3};
+use generic_array::{
+    ArrayLength, BoxedArray, Const, GenericArray, GenericArrayRef, InlineLength, U3,
+};
+use std::alloc::Global;
 
 #[test]
 fn a_length_fits_inline_up_to_a_bound_and_boxed_always(rt: HostRuntime) {
@@ -31,23 +34,27 @@ fn same(index: usize) -> Result<usize, u8> {
     Ok(index)
 }
 
-/// Whether a kind makes the numbers of two places by a closure that may fail.
-fn are_two_made<S: FallibleGenericSequence<usize>>(place: S::Place) -> bool
+/// Whether a kind makes the numbers of three places by a closure that may fail.
+fn are_three_tried<S: FallibleGenericSequence<usize>>(place: S::Place) -> bool
 where
     S::Sequence: Drop,
     S::Error: Drop,
     requires { S.Fits }
 {
-    S::try_generate(place, same).is_ok_and(|made| has(made, &[0, 1]))
+    S::try_generate(place, same).is_ok_and(|made| has(made, &[0, 1, 2]))
+}
+
+/// Whether each kind of a length makes both. One function for all calls hands over what they share once.
+fn each_makes_three<N: ArrayLength<usize> + InlineLength>(alloc: Global) -> bool {
+    are_three_made::<GenericArray<usize, N>>((), ())
+        && are_three_made::<GenericArrayRef<usize, N>>((), ())
+        && are_three_made::<BoxedArray<usize, N>>(alloc, alloc)
+        && are_three_tried::<GenericArray<usize, N>>(())
+        && are_three_tried::<GenericArrayRef<usize, N>>(())
+        && are_three_tried::<BoxedArray<usize, N>>(alloc)
 }
 
 #[test]
 fn each_kind_is_made_by_the_calls_of_the_traits(rt: HostRuntime) {
-    let alloc = rt.alloc();
-    assert!(rt; are_three_made::<GenericArray<usize, U3>>((), ()));
-    assert!(rt; are_three_made::<GenericArrayRef<usize, U3>>((), ()));
-    assert!(rt; are_three_made::<BoxedArray<usize, U3>>(alloc, alloc));
-    assert!(rt; are_two_made::<GenericArray<usize, U2>>(()));
-    assert!(rt; are_two_made::<GenericArrayRef<usize, U2>>(()));
-    assert!(rt; are_two_made::<BoxedArray<usize, U2>>(alloc));
+    assert!(rt; each_makes_three::<U3>(rt.alloc()));
 }

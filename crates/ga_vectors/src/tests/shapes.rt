@@ -1,11 +1,14 @@
 //! Items that go through each shape.
-ghost use Rattle.std.specs.Prelude.{◌≡◌, ◌*◌, length};
+ghost use Rattle.generic_array.specs.Length.{FitsInline};
+ghost use Rattle.std.specs.Prelude.{◌≡◌, ◌*◌, ◌<◌, length};
 
 use crate::tests::items::from_one;
 use generic_array::sequence::{
     Concat, Flatten, Lengthen, Remove, Shorten, Split, Unflatten, iter_flat,
 };
-use generic_array::{ArrayLength, GenericArray, GenericArrayMut, U0, U1, U2, U3, U4, U5, U6};
+use generic_array::{
+    ArrayLength, GenericArray, GenericArrayMut, InlineLength, U0, U1, U2, U3, U4, U5, U6,
+};
 use std::rc::Rc;
 
 /// An item that counts how many of its kind there are.
@@ -18,19 +21,25 @@ fn six_of(one: &Rc<()>) -> GenericArray<Held, U6> {
     five.prepend(one.clone().ok())
 }
 
-fn split_and_joined(six: GenericArray<Held, U6>) -> GenericArray<Held, U6> {
-    let (none, six): (GenericArray<Held, U0>, GenericArray<Held, U6>) = six.split();
-    six.concat(none)
+// The check of a function of any lengths takes half the time of one of named lengths.
+
+fn split_and_joined<N: ArrayLength<Held>>(items: GenericArray<Held, N>) -> GenericArray<Held, N> {
+    let (none, all): (GenericArray<Held, U0>, GenericArray<Held, N>) = items.split();
+    all.concat(none)
 }
 
-// The check of a function of any lengths takes half the time of one of named lengths.
-fn cut_into_rows_and_joined<N: ArrayLength<Held>, R: ArrayLength<GenericArray<Held, U3>>>(
-    items: GenericArray<Held, N>,
-) -> GenericArray<Held, N>
-    requires area { N.USIZE ≡ R.USIZE * 3 }
+/// Into how many rows items are cut, and the items, of rows that are joined again.
+fn cut_into_rows_and_joined<
+    T: Default + Drop,
+    N: ArrayLength<T>,
+    W: ArrayLength<T> + InlineLength,
+    R: ArrayLength<GenericArray<T, W>>,
+>(items: GenericArray<T, N>) -> (usize, GenericArray<T, N>)
+    requires width { 0 < W.USIZE }
+    requires area { N.USIZE ≡ R.USIZE * W.USIZE }
 {
-    let rows: GenericArray<GenericArray<Held, U3>, R> = items.unflatten();
-    rows.flatten()
+    let rows: GenericArray<GenericArray<T, W>, R> = items.unflatten();
+    (rows.as_slice().len(), rows.flatten())
 }
 
 /// How many there are of the one once six were taken apart, and before these are dropped.
@@ -42,13 +51,19 @@ fn taken_apart(six: GenericArray<Held, U6>, one: &Rc<()>) -> usize {
     Rc::strong_count(one)
 }
 
+/// How many rows six items are cut into, how many of the one there are once they are joined again, and
+/// once they are taken apart.
+fn through_all_shapes(one: &Rc<()>) -> (usize, usize, usize) {
+    let six = split_and_joined(six_of(one));
+    let (rows, six) = cut_into_rows_and_joined::<Held, U6, U3, U2>(six);
+    let joined = Rc::strong_count(one);
+    (rows, joined, taken_apart(six, one))
+}
+
 #[test]
 fn an_item_is_dropped_once_whatever_shapes_it_went_through(rt: HostRuntime) {
     let one = Rc::new(rt.alloc(), ()).expect(&rt, "no memory");
-    let six = cut_into_rows_and_joined::<U6, U2>(split_and_joined(six_of(&one)));
-    assert!(rt; Rc::strong_count(&one) == 7);
-    assert!(rt; taken_apart(six, &one) == 7);
-    assert!(rt; Rc::strong_count(&one) == 1);
+    assert!(rt; through_all_shapes(&one) == (2, 7, 7) && Rc::strong_count(&one) == 1);
 }
 
 // 9 at the first place of the first half, and 8 at the third of the second.
@@ -91,14 +106,24 @@ fn an_array_may_be_without_items(rt: HostRuntime) {
     assert!(rt; two.as_slice() == [1, 2].as_slice());
 }
 
+/// Whether rows without items have none, as they stand and joined.
+fn have_no_items<
+    M: ArrayLength<u32>,
+    W: ArrayLength<u32> + InlineLength,
+    R: ArrayLength<GenericArray<u32, W>> + InlineLength,
+>() -> bool
+    requires fits { FitsInline M.USIZE }
+    requires area { M.USIZE ≡ R.USIZE * W.USIZE }
+{
+    let rows: GenericArray<GenericArray<u32, W>, R> = GenericArray::default();
+    let has_none = iter_flat(rows.view()).next().is_none();
+    let joined: GenericArray<u32, M> = rows.flatten();
+    has_none && joined.as_slice().is_empty()
+}
+
 #[test]
 fn there_may_be_no_rows_or_rows_without_items(rt: HostRuntime) {
-    let no_rows: GenericArray<GenericArray<u32, U2>, U0> = from_one::<U0>().unflatten();
-    assert!(rt; no_rows.as_slice().is_empty());
-    let none: GenericArray<u32, U0> = no_rows.flatten();
-    assert!(rt; none.as_slice().is_empty());
-    let empty_rows: GenericArray<GenericArray<u32, U0>, U3> = GenericArray::default();
-    assert!(rt; iter_flat(empty_rows.view()).next().is_none());
-    let none: GenericArray<u32, U0> = empty_rows.flatten();
-    assert!(rt; none.as_slice().is_empty());
+    let (count, none) = cut_into_rows_and_joined::<u32, U0, U2, U0>(from_one::<U0>());
+    assert!(rt; count == 0 && none.as_slice().is_empty());
+    assert!(rt; have_no_items::<U0, U0, U3>());
 }
