@@ -24,7 +24,7 @@ fn words_of(alloc: Global, text: &str) -> Result<Vec<String>, AllocError> {
 
 #[test]
 fn words_mean_a_mode_and_a_width(rt: HostRuntime) -> Result<(), Fail> {
-    let cases = [
+    let cases: &[(&str, Option<(Mode, Width)>)] = &[
         ("hex", Some((Mode::Hex, Width::W4))),
         ("dec 1", Some((Mode::Dec, Width::W1))),
         ("hex 8", Some((Mode::Hex, Width::W8))),
@@ -37,14 +37,14 @@ fn words_mean_a_mode_and_a_width(rt: HostRuntime) -> Result<(), Fail> {
     ];
     for (words, meaning) in cases {
         let given = words_of(rt.alloc(), words)?;
-        assert!(rt; parse_words(given.as_slice()) == meaning, "{words}");
+        assert!(rt; parse_words(given.as_slice()) == *meaning, "{words}");
     }
     assert!(rt; parse_words(&[]) == Some((Mode::Dec, Width::W4)));
     Ok(())
 }
 
 /// The words as listed, joined by a space, the input, what is printed, and the exit status.
-const CASES: [(&str, &str, &str, u8); 18] = [
+const CASES: &[(&str, &str, &str, u8)] = &[
     ("ga_rows", "abcdefgh", "97 98 99 100\n101 102 103 104\n", 0),
     ("back", "abcdef", "97 98 99 100\nrest 101 102\n", 1),
     ("ga_rows dec", "", "", 0),
@@ -103,7 +103,7 @@ fn gives(
 fn words_and_input_give_texts_and_an_exit_status(rt: HostRuntime) -> Result<(), Fail> {
     for (words, input, printed, code) in CASES {
         assert!(rt;
-            gives(rt.alloc(), words, input.as_bytes(), printed, code)?,
+            gives(rt.alloc(), words, input.as_bytes(), printed, *code)?,
             "{words}"
         );
     }

@@ -8,7 +8,7 @@ use std::test::Fail;
 
 /// Each mode with its word, its line for `ROW`, and in how many writes 2,000 such lines go: a piece of
 /// text has 8,192 bytes, or up to 70 fewer.
-const MODES: [(&str, Mode, &str, usize); 5] = [
+const MODES: &[(&str, Mode, &str, usize)] = &[
     ("dec", Mode::Dec, "255 254 253 252\n", 4),
     ("hex", Mode::Hex, "fffefdfc\n", 3),
     ("back", Mode::Back, "252 253 254 255\n", 4),
@@ -209,7 +209,7 @@ fn each_fails_in_rows(
 fn a_fault_of_the_writer_keeps_its_kind(rt: HostRuntime) {
     for (word, mode, _, _) in MODES {
         let mut sink = Sink::new(b"", WHOLE, 1);
-        let end = rows(&ROW, mode, Width::W4, &mut sink);
+        let end = rows(&ROW, *mode, Width::W4, &mut sink);
         let is_kept = end.is_err_and(|fault| fault.kind() == ErrorKind::StorageFull);
         assert!(rt; is_kept, "{word}");
     }
@@ -219,10 +219,10 @@ fn a_fault_of_the_writer_keeps_its_kind(rt: HostRuntime) {
 fn each_write_and_each_read_fails_in_turn(rt: HostRuntime) -> Result<(), Fail> {
     let rest: &[u8] = &[7, 8];
     for (word, mode, line, many) in MODES {
-        let inputs = [(0, 0, 0), (3, 0, 1), (2, 2, 1), (2000, 2, many)];
+        let inputs = [(0, 0, 0), (3, 0, 1), (2, 2, 1), (2000, 2, *many)];
         for (count, left, writes) in inputs {
             let (rest, _) = rest.split_at(left);
-            let mode = (word, mode, line);
+            let mode = (*word, *mode, *line);
             let is_right = each_fails_in_rows(rt.alloc(), mode, count, rest, writes)?;
             assert!(rt; is_right, "{count} rows and a rest of {left}, {word}");
         }
