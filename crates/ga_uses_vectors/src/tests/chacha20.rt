@@ -66,7 +66,7 @@ fn turns_into(
 
 #[test]
 fn blocks_of_the_standard(rt: HostRuntime) -> Result<(), Fail> {
-    let cases = [
+    let cases: &[(&str, &str, u32, &str)] = &[
         (
             KEY_OF_NUMBERS,
             "000000090000004a00000000",
@@ -111,14 +111,14 @@ fn blocks_of_the_standard(rt: HostRuntime) -> Result<(), Fail> {
         ),
     ];
     for (key, nonce, counter, digits) in cases {
-        assert!(rt; turns_into(rt.alloc(), key, nonce, counter, &[0; 64], digits)?);
+        assert!(rt; turns_into(rt.alloc(), key, nonce, *counter, &[0; 64], digits)?);
     }
     Ok(())
 }
 
 #[test]
 fn texts_of_the_standard(rt: HostRuntime) -> Result<(), Fail> {
-    let cases: [(&str, &str, u32, &[u8], &str); 3] = [
+    let cases: &[(&str, &str, u32, &[u8], &str)] = &[
         (
             KEY_OF_NUMBERS,
             "000000000000004a00000000",
@@ -165,7 +165,7 @@ fn texts_of_the_standard(rt: HostRuntime) -> Result<(), Fail> {
         ),
     ];
     for (key, nonce, counter, text, digits) in cases {
-        assert!(rt; turns_into(rt.alloc(), key, nonce, counter, text, digits)?);
+        assert!(rt; turns_into(rt.alloc(), key, nonce, *counter, text, digits)?);
     }
     Ok(())
 }
