@@ -127,16 +127,7 @@ fn inline_map(refused: u32) -> End {
     end_of(built, &failing, &entries)
 }
 
-/// The end of `try_fold_by` of five items, inline.
-fn inline_fold(refused: u32) -> End {
-    let (answers, entries) = (Counts::new(), Counts::new());
-    let failing = Failing::at(refused, &answers);
-    let five = counted_from::<U5>(&entries, 1);
-    let mut answer = |_before: Counted, item: Counted| failing.answer(item.place());
-    let built = fold_up_to_an_error(five, Counted::new(&answers, 0), &mut answer);
-    end_of(built, &failing, &entries)
-}
-
+/// The end of `try_fold_by` of five items in a block. The fold has one body for all kinds.
 fn boxed_fold(alloc: Global, refused: u32) -> Result<End, AllocError> {
     let (answers, entries) = (Counts::new(), Counts::new());
     let failing = Failing::at(refused, &answers);
@@ -180,7 +171,7 @@ fn no_call_follows_an_error_and_what_was_made_is_dropped(rt: HostRuntime) -> Res
             all_answers: refused,
             entries: 5,
         };
-        assert!(rt; inline_fold(refused) == folded && boxed_fold(alloc, refused)? == folded);
+        assert!(rt; boxed_fold(alloc, refused)? == folded);
     }
     Ok(())
 }
