@@ -29,7 +29,7 @@ impl Read for Drops {
 #[test]
 fn an_end_counts_within_the_bound_alone(rt: HostRuntime) {
     // The interrupted read, the reads of the bytes and the read of the end are asked for.
-    let cases = [
+    let cases: &[(usize, u64, Option<usize>)] = &[
         (3, 0, None),
         (3, 1, None),
         (3, 4, None),
@@ -41,9 +41,9 @@ fn an_end_counts_within_the_bound_alone(rt: HostRuntime) {
     for (left, most, count) in cases {
         let mut drops = Drops {
             is_interrupted: false,
-            left,
+            left: *left,
         };
-        let is_right = match (read_within(rt.alloc(), &mut drops, most), count) {
+        let is_right = match (read_within(rt.alloc(), &mut drops, *most), *count) {
             (Ok(input), Some(count)) => {
                 input.len() == count && input.iter().all(|byte| *byte == 7)
             }

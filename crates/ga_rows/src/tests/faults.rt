@@ -56,6 +56,29 @@ fn rows_end(case: &Case<'_>, sink: &mut Sink<'_>) -> Option<Status> {
     }
 }
 
+/// The words as the system lists them, the program's name first, or `None` where there is no memory.
+fn listed_words(alloc: Global, words: &[String]) -> Option<Vec<String>> {
+    let mut listed = Vec::new(alloc);
+    listed.push(String::from_str(alloc, "ga_rows").ok()?).ok()?;
+    for word in words {
+        listed.push(word.clone().ok()?).ok()?;
+    }
+    Some(listed)
+}
+
+/// The status of a process that ended so, or `None` where standard error isn't told that.
+fn status_told(end: ExitCode, err: &Sink<'_>) -> Option<Status> {
+    for status in &[Status::Whole, Status::Rest] {
+        if end == ExitCode::from(status.code()) && err.writes() == 0 {
+            return Some(*status);
+        }
+    }
+    if end == ExitCode::from(4) && err.has_text() {
+        return Some(Status::Fault);
+    }
+    None
+}
+
 /// How `run_listed` ended, or `None` where standard error isn't told that, or has no memory.
 fn listed_end(
     alloc: Global,
@@ -63,22 +86,10 @@ fn listed_end(
     source: &mut Source<'_>,
     sink: &mut Sink<'_>,
 ) -> Option<Status> {
-    let mut listed = Vec::new(alloc);
-    listed.push(String::from_str(alloc, "ga_rows").ok()?).ok()?;
-    for word in case.words {
-        listed.push(word.clone().ok()?).ok()?;
-    }
+    let listed = listed_words(alloc, case.words)?;
     let mut err = Sink::new(b"ga_rows: read or write fault\n", BYTE_BY_BYTE, usize::MAX);
     let end = run_listed(alloc, Ok(listed.into_iter()), source, sink, &mut err);
-    for status in [Status::Whole, Status::Rest] {
-        if end == ExitCode::from(status.code()) && err.writes() == 0 {
-            return Some(status);
-        }
-    }
-    if end == ExitCode::from(4) && err.has_text() {
-        return Some(Status::Fault);
-    }
-    None
+    status_told(end, &err)
 }
 
 fn end_of(
