@@ -118,7 +118,11 @@ pub fn boxed_one_two_three(alloc: Global) -> Result<BoxedArray<u32, U3>, AllocEr
 
 /// The dot product and the digits of boxed arrays, and the calls of a map.
 fn numbers_of_boxed(alloc: Global) -> Result<(u32, u32, u32), AllocError> {
-    let dot = dot_of(boxed_one_two_three(alloc)?, alloc, boxed_one_two_three(alloc)?)?;
+    let dot = dot_of(
+        boxed_one_two_three(alloc)?,
+        alloc,
+        boxed_one_two_three(alloc)?,
+    )?;
     let digits = digits_of_boxed(alloc, boxed_one_two_three(alloc)?)?;
     let calls = calls_of_a_boxed_map(alloc, boxed_one_two_three(alloc)?);
     Ok((dot, digits, calls))

@@ -142,7 +142,10 @@ fn each_width_gives(alloc: Global, mode: Mode, of_widths: [&str; 5]) -> Result<b
 #[test]
 fn each_mode_and_width_gives_its_lines(rt: HostRuntime) -> Result<(), io::Error> {
     for (mode, of_widths) in LINES {
-        assert!(rt; each_width_gives(rt.alloc(), *mode, *of_widths)?, "{mode:?}");
+        assert!(rt;
+            each_width_gives(rt.alloc(), *mode, *of_widths)?,
+            "{mode:?}"
+        );
     }
     Ok(())
 }

@@ -3,9 +3,7 @@
 use crate::tests::items::{from_one, next_digit};
 use generic_array::checks::map_total_by;
 use generic_array::functional::{inverted_zip, inverted_zip2};
-use generic_array::{
-    ArrayLength, GenericArray, GenericArrayRef, InlineLength, U2, U3, always,
-};
+use generic_array::{ArrayLength, GenericArray, GenericArrayRef, InlineLength, U2, U3, always};
 
 fn doubled(item: u32) -> u32 {
     item.wrapping_mul(2)
