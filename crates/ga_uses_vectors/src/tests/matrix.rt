@@ -76,7 +76,7 @@ where
     [made.at(0, 0), made.at(0, 1), made.at(1, 0), made.at(1, 1)]
 }
 
-// A call at named lengths hands over some hundred impls. So the test has one, of a function that makes the others.
+// A call at named lengths is dear to prove. So the test has one, of a function that makes the others.
 fn all_numbers<R, C>(left: &Matrix<R, C>, right: &Matrix<C, R>) -> ([u64; 3], [u64; 2], [u64; 4])
 where
     C: ArrayLength<u64> + ArrayLength<Row<R>> + InlineLength,
