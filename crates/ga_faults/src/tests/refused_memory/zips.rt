@@ -1,4 +1,4 @@
-//! Zips of a boxed array with one of each kind. What is made is boxed too.
+//! Zips of a boxed array with an inline and with a boxed one. What is made is boxed too.
 use crate::tests::counted::{Counted, Counts};
 use crate::tests::items::{boxed_counted_from, counted_from};
 use crate::tests::outcome::{Outcome, play};
