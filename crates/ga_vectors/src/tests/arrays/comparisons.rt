@@ -1,6 +1,6 @@
 //! Comparisons, hashes and texts of inline arrays.
 use crate::tests::compared::prints;
-use generic_array::{GenericArray, U3};
+use generic_array::{GenericArray, U3, U1024, arr};
 use std::cmp::Ordering;
 use std::hash::{DefaultHasher, Hash, Hasher};
 
@@ -25,6 +25,19 @@ fn arrays_compare_and_hash_as_their_slices_do(rt: HostRuntime) {
     assert!(rt; compared(&array, &GenericArray::from_array([1, 3, 0])) == less);
     assert!(rt; array == three_from(1));
     assert!(rt; hash_of(array) == hash_of([1u8, 2, 3].as_slice()));
+}
+
+/// Two blocks of bytes, and as many with a greater one in the first block.
+fn two_blocks() -> (GenericArray<u8, U1024>, GenericArray<u8, U1024>) {
+    let mut greater = arr![1; U1024];
+    greater[3] = 2;
+    (arr![1; U1024], greater)
+}
+
+#[test]
+fn a_difference_in_the_first_block_is_seen(rt: HostRuntime) {
+    let (left, right) = two_blocks();
+    assert!(rt; compared(&left, &right) == (false, Some(Ordering::Less), Ordering::Less));
 }
 
 #[test]
