@@ -340,8 +340,10 @@ fn steps_cut_an_array_from_both_ends(rt: HostRuntime) -> Result<(), Fail> {
 
 #[test]
 fn steps_cut_a_boxed_array_from_both_ends(rt: HostRuntime) -> Result<(), Fail> {
-    let (boxed, mut replies) = (boxed_one_two_three(rt.alloc())?, Vec::new(rt.alloc()));
+    let boxed = boxed_one_two_three(rt.alloc())?;
+    let mut replies = Vec::with_capacity(rt.alloc(), 4)?;
     let left = walked_boxed(boxed, steps(rt.alloc())?, &mut replies)?;
     assert!(rt; left.as_slice() == [2].as_slice() && are_right(rt.alloc(), replies.as_slice())?);
+    assert!(rt; replies.capacity() == 4);
     Ok(())
 }
