@@ -1,8 +1,10 @@
+use mathlib.Core.Bool.{true≢false}
 use Rattle.ga_core.proofs.FillLemmas.{Asks-from_takes, TakeRuns-from_takes, has-room, room-filled, room-left}
 use Rattle.ga_core.proofs.FillLemmas.{room-shrinks}
 use Rattle.ga_core.proofs.builder.ArrayBuilder.extend.Goals as goal
+use Rattle.ga_core.specs.Fill.{Takes}
 use Rattle.std.proofs.Common.{◌≡◌, ◌∷◌, [], ◌++◌, ◌-◌, ap, append_assoc, inl, inr, length}
-use Rattle.std.proofs.Common.{refl, ◌∙◌}
+use Rattle.std.proofs.Common.{refl, sym, ◌∙◌}
 use Rattle.std.proofs.iter.Next.{Yields-more}
 
 pub loop-items-preserved : goal.loop-items-preserved
@@ -20,36 +22,37 @@ loop-items-preserved g c =
       );
     }
 
-pub returns-in-None-clause-taken : goal.returns-in-None-clause-taken
-returns-in-None-clause-taken g c =
+pub returns-in-None : goal.returns-in-None
+returns-in-None g c =
     let so_far = c.loop-items.invariant.taken in
     let told = c.loop-items-test.ensures in
-    let few = room-left _ _ _ _ so_far.1 (has-room _ _ told.bound told.full.1) in
-    (so_far.0, so_far.1, inr ((c.loop-items.items, so_far.2, c.in-None.ensures.steps), few))
+    let room = g.N.Unsigned.USIZE - length c.args.self.now in
+    let takes : Takes g.I.Iterator.next_gives c.args.items.now room so_far.0 c.next.new.self =
+    inr (
+      (c.loop-items.items, so_far.2, c.in-None.ensures.steps),
+      room-left _ _ _ _ so_far.1 (has-room _ _ told.bound told.full.1),
+    ) in
+    record {
+      taken = (so_far.0, so_far.1, takes);
+      runs = TakeRuns-from_takes g.I.Iterator.next_gives (λ items. c.loop-items.self ≡ c.args.self.now ++ items)
+          c.args.items.now room so_far.0 c.next.new.self takes so_far.1;
+      asks = Asks-from_takes g.I.Iterator.next_gives c.args.items.now room so_far.0 c.next.new.self takes;
+      can = λ full. absurd (true≢false (sym (told.full.1 full)));
+    }
 
-pub returns-in-None-clause-runs : goal.returns-in-None-clause-runs
-returns-in-None-clause-runs g c = let taken = returns-in-None-clause-taken g c in
-    TakeRuns-from_takes g.I.Iterator.next_gives (λ items. c.loop-items.self ≡ c.args.self.now ++ items)
-    c.args.items.now (g.N.Unsigned.USIZE - length c.args.self.now) taken.0 c.next.new.self taken.2 taken.1
-
-pub returns-in-None-clause-asks : goal.returns-in-None-clause-asks
-returns-in-None-clause-asks g c = let taken = returns-in-None-clause-taken g c in
-    Asks-from_takes g.I.Iterator.next_gives c.args.items.now (g.N.Unsigned.USIZE - length c.args.self.now) taken.0
-    c.next.new.self taken.2
-
-pub returns-clause-taken : goal.returns-clause-taken
-returns-clause-taken g c = let so_far = c.loop-items.invariant.taken in
-    (so_far.0, so_far.1, inl (so_far.2, room-filled _ _ _ _ so_far.1 (c.loop-items-test.ensures.full.0 refl)))
-
-pub returns-clause-runs : goal.returns-clause-runs
-returns-clause-runs g c = let taken = returns-clause-taken g c in
-    TakeRuns-from_takes g.I.Iterator.next_gives (λ items. c.loop-items.self ≡ c.args.self.now ++ items)
-    c.args.items.now (g.N.Unsigned.USIZE - length c.args.self.now) taken.0 c.loop-items.items taken.2 taken.1
-
-pub returns-clause-asks : goal.returns-clause-asks
-returns-clause-asks g c = let taken = returns-clause-taken g c in
-    Asks-from_takes g.I.Iterator.next_gives c.args.items.now (g.N.Unsigned.USIZE - length c.args.self.now) taken.0
-    c.loop-items.items taken.2
+pub returns : goal.returns
+returns g c =
+    let so_far = c.loop-items.invariant.taken in
+    let room = g.N.Unsigned.USIZE - length c.args.self.now in
+    let takes : Takes g.I.Iterator.next_gives c.args.items.now room so_far.0 c.loop-items.items =
+    inl (so_far.2, room-filled _ _ _ _ so_far.1 (c.loop-items-test.ensures.full.0 refl)) in
+    record {
+      taken = (so_far.0, so_far.1, takes);
+      runs = TakeRuns-from_takes g.I.Iterator.next_gives (λ items. c.loop-items.self ≡ c.args.self.now ++ items)
+          c.args.items.now room so_far.0 c.loop-items.items takes so_far.1;
+      asks = Asks-from_takes g.I.Iterator.next_gives c.args.items.now room so_far.0 c.loop-items.items takes;
+      can = λ _. c.loop-items.invariant.can;
+    }
 
 pub push-requires : goal.push-requires
 push-requires g c =

@@ -1,9 +1,10 @@
+use mathlib.Core.Bool.{true≢false}
 use Rattle.ga_core.proofs.FillLemmas.{TakeGoodRuns-from_takes, has-room, room-filled, room-left}
-use Rattle.ga_core.proofs.builder.ArrayBuilder.try_extend.Given as given
+use Rattle.ga_core.proofs.FillLemmas.{room-shrinks}
 use Rattle.ga_core.proofs.builder.ArrayBuilder.try_extend.Goals as goal
-use Rattle.ga_core.proofs.builder.ArrayBuilder.try_extend.Goals.{After-next}
-use Rattle.std.proofs.Common.{◌≡◌, ◌<◌, ◌∷◌, [], ◌++◌, ◌-◌, Err, Ok, Result, Some, ap, append_assoc, arith}
-use Rattle.std.proofs.Common.{inl, inr, length, map, refl, subst, sym, ◌∙◌}
+use Rattle.ga_core.specs.Fill.{TakesGood}
+use Rattle.std.proofs.Common.{◌≡◌, ◌∷◌, [], ◌++◌, ◌-◌, Err, Ok, Some, ap, append_assoc}
+use Rattle.std.proofs.Common.{List, Result, arith, inl, inr, length, map, refl, subst, sym, ◌∙◌, ℕ, ◌<◌}
 use Rattle.std.proofs.iter.Next.{Yields-more}
 use Rattle.std.proofs.lemmas.List.{length-map, map-append}
 use Rattle.std.specs.Iterator.{Yields}
@@ -27,58 +28,73 @@ loop-items-preserved g c =
       );
     }
 
--- while the builder isn't full, fewer good values came than there was room for
-few : (g : given.Over) (c : After-next g) → length c.loop-items.invariant.taken.0
-    < g.N.Unsigned.USIZE - length c.args.self.now
-few g c = room-left _ _ _ _ c.loop-items.invariant.taken.1
-    (has-room _ _ c.loop-items-test.ensures.bound c.loop-items-test.ensures.full.1)
+-- good values are as few as the values
+few-good : {T : Type 0} (E : Type 0) (good : List T) (room : ℕ) → length good < room
+    → length (map {B = Result T E} Ok good) < room
+few-good {T} E good room few = omega (arith, length-map {B = Result T E} good Ok, few)
 
-pub returns-clause-taken : goal.returns-clause-taken
-returns-clause-taken g c = let taken = c.loop-items.invariant.taken in (
-  taken.0,
-  taken.1,
-  inl (
-    taken.2,
-    length-map taken.0 Ok
-        ∙ room-filled _ _ _ _ taken.1 (c.loop-items-test.ensures.full.0 refl),
-  ),
-)
+pub returns : goal.returns
+returns g c =
+    let so_far = c.loop-items.invariant.taken in
+    let room = g.N.Unsigned.USIZE - length c.args.self.now in
+    let takes : TakesGood g.I.Iterator.next_gives c.args.items.now room so_far.0 (Ok tt) c.loop-items.items =
+    inl (
+      so_far.2,
+      length-map so_far.0 Ok
+          ∙ room-filled _ _ _ _ so_far.1 (c.loop-items-test.ensures.full.0 refl),
+    ) in
+    record {
+      taken = (so_far.0, so_far.1, takes);
+      runs = TakeGoodRuns-from_takes g.I.Iterator.next_gives (λ good. c.loop-items.self ≡ c.args.self.now ++ good)
+          c.args.items.now room so_far.0 (Ok tt) c.loop-items.items takes so_far.1;
+      can = λ _. c.loop-items.invariant.can;
+      can_on = tt;
+    }
 
-pub returns-clause-runs : goal.returns-clause-runs
-returns-clause-runs g c = let taken = returns-clause-taken g c in
-    TakeGoodRuns-from_takes g.I.Iterator.next_gives (λ good. c.loop-items.self ≡ c.args.self.now ++ good)
-    c.args.items.now (g.N.Unsigned.USIZE - length c.args.self.now) taken.0 (Ok tt) c.loop-items.items taken.2 taken.1
+pub returns-in-None : goal.returns-in-None
+returns-in-None g c =
+    let so_far = c.loop-items.invariant.taken in
+    let told = c.loop-items-test.ensures in
+    let room = g.N.Unsigned.USIZE - length c.args.self.now in
+    let takes : TakesGood g.I.Iterator.next_gives c.args.items.now room so_far.0 (Ok tt) c.next.new.self =
+    inr (
+      (c.loop-items.items, so_far.2, c.in-None.ensures.steps),
+      few-good g.row.E.Denot so_far.0 room (room-left _ _ _ _ so_far.1 (has-room _ _ told.bound told.full.1)),
+    ) in
+    record {
+      taken = (so_far.0, so_far.1, takes);
+      runs = TakeGoodRuns-from_takes g.I.Iterator.next_gives (λ good. c.loop-items.self ≡ c.args.self.now ++ good)
+          c.args.items.now room so_far.0 (Ok tt) c.next.new.self takes so_far.1;
+      can = λ full. absurd (true≢false (sym (told.full.1 full)));
+      can_on = tt;
+    }
 
-pub returns-in-None-clause-taken : goal.returns-in-None-clause-taken
-returns-in-None-clause-taken g c =
-    let taken = c.loop-items.invariant.taken in (
-      taken.0,
-      taken.1,
-      inr (
-        (c.loop-items.items, taken.2, c.in-None.ensures.steps),
-        omega (
-          arith,
-          length-map {B = Result g.row.T.Denot g.row.E.Denot} taken.0 Ok,
-          few g (goal.at.returns-in-None-clause-taken g c).After-next,
-        ),
-      ),
-    )
-
-pub returns-in-None-clause-runs : goal.returns-in-None-clause-runs
-returns-in-None-clause-runs g c = let taken = returns-in-None-clause-taken g c in
-    TakeGoodRuns-from_takes g.I.Iterator.next_gives (λ good. c.loop-items.self ≡ c.args.self.now ++ good)
-    c.args.items.now (g.N.Unsigned.USIZE - length c.args.self.now) taken.0 (Ok tt) c.next.new.self taken.2 taken.1
-
-pub returns-in-Some-Err-clause-taken : goal.returns-in-Some-Err-clause-taken
-returns-in-Some-Err-clause-taken g c =
-    let taken = c.loop-items.invariant.taken in
+pub returns-in-Some-Err : goal.returns-in-Some-Err
+returns-in-Some-Err g c =
+    let so_far = c.loop-items.invariant.taken in
+    let told = c.loop-items-test.ensures in
+    let room = g.N.Unsigned.USIZE - length c.args.self.now in
     let call = subst (λ reply. g.I.Iterator.next_gives c.loop-items.items (Some reply) c.next.new.self)
     c.in-Some-Err.field-0-is c.in-Some-Err.ensures.steps in
-    let early = (goal.at.returns-in-Some-Err-clause-taken g c).After-next in
-    (taken.0, taken.1, ((c.loop-items.items, taken.2, call), few g early))
+    let takes : TakesGood g.I.Iterator.next_gives c.args.items.now room so_far.0 (Err c.in-Some-Err.error)
+    c.next.new.self = (
+      (c.loop-items.items, so_far.2, call),
+      room-left _ _ _ _ so_far.1 (has-room _ _ told.bound told.full.1),
+    ) in
+    record {
+      taken = (so_far.0, so_far.1, takes);
+      runs = TakeGoodRuns-from_takes g.I.Iterator.next_gives (λ good. c.loop-items.self ≡ c.args.self.now ++ good)
+          c.args.items.now room so_far.0 (Err c.in-Some-Err.error) c.next.new.self takes so_far.1;
+      can = λ full. absurd (true≢false (sym (told.full.1 full)));
+      can_on = c.in-Some-Err.ensures.goes.keeps;
+    }
 
-pub returns-in-Some-Err-clause-runs : goal.returns-in-Some-Err-clause-runs
-returns-in-Some-Err-clause-runs g c = let taken = returns-in-Some-Err-clause-taken g c in
-    TakeGoodRuns-from_takes g.I.Iterator.next_gives (λ good. c.loop-items.self ≡ c.args.self.now ++ good)
-    c.args.items.now (g.N.Unsigned.USIZE - length c.args.self.now) taken.0 (Err c.in-Some-Err.error) c.next.new.self
-    taken.2 taken.1
+pub push-requires : goal.push-requires
+push-requires g c =
+    let told = c.loop-items-test.ensures in
+    record { room = has-room _ _ told.bound told.full.1 }
+
+pub loop-items-smaller : goal.loop-items-smaller
+loop-items-smaller g c =
+    let told = c.loop-items-test.ensures in
+    room-shrinks _ _ _ _ (has-room _ _ told.bound told.full.1) c.push.ensures
