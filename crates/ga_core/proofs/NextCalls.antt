@@ -4,6 +4,14 @@ use Rattle.std.proofs.Common.{◌≡◌, ◌∙◌, ℕ, ◌+◌, ◌<◌, ◌�
 use Rattle.std.proofs.Common.{slice_index_or, slice_set, subst, take}
 use Rattle.std.proofs.lemmas.List.{drop-set-lt, take_all, take_more_set}
 
+-- a place in a list is one in another that is as long
+pub place-in : {n width other : ℕ} → n < width → other ≡ width → n < other
+place-in some same = omega arith
+
+-- where a list ends, another ends that is as long
+pub all-in : {n width other : ℕ} → width ≤ n → other ≡ width → other ≤ n
+all-in none same = omega arith
+
 -- The calls at the items before the index gave what is written to the slots before it, and the other items stand in
 -- their slots. Run says which calls, with which answers, led to the state that was reached.
 pub record WrittenSoFar {F X Y : Type 0} (Run : List X → List Y → F → Type 0) (index : ℕ) (items left : List X)

@@ -1,6 +1,9 @@
 -- Pairs of the items of two lists, from a place on.
+use Rattle.ga_core.proofs.MoveLemmas.{take-one_more}
 use Rattle.ga_core.proofs.NextCalls.{run-of_all}
 use Rattle.std.proofs.Common.{◌≡◌, ℕ, zero, suc, ◌≤◌, List, [], ◌∷◌, arith, drop, length, refl, sym, take, ◌∙◌, ap}
+use Rattle.std.proofs.Common.{slice_set, ◌+◌, ◌<◌, ◌++◌}
+use Rattle.std.proofs.lemmas.List.{take_more_set}
 use Rattle.std.proofs.lemmas.Slice.Zip.{length-zip}
 use Rattle.std.specs.List.{zip}
 
@@ -32,3 +35,14 @@ pub run-of_all_pairs : {A B U : Type 0} (Run : List (A × B) → List U → Type
     → Run (zip xs ys) slots
 run-of_all_pairs Run n xs ys slots passed full run =
     run-of_all Run n (zip xs ys) slots (omega (arith, length-zip xs ys, passed)) full run
+
+-- a call at the next pair was made, and its answer was written
+pub run-of_next_pair : {A B U : Type 0} (Run : List (A × B) → List U → Type 0) (n : ℕ) (xs more : List A)
+    (ys others : List B) (x : A) (y : B) (slots : List U) (u : U) → drop n xs ≡ x ∷ more → drop n ys ≡ y ∷ others
+    → n < length slots → Run (take n (zip xs ys) ++ (x, y) ∷ []) (take n slots ++ u ∷ [])
+    → Run (take (n + 1) (zip xs ys)) (take (n + 1) (slice_set slots n u))
+run-of_next_pair Run n xs more ys others x y slots u left right room run =
+    rw (
+      take_more_set slots n u room,
+      take-one_more n (zip xs ys) (zip more others) (x, y) (pairs-here n xs more ys others x y left right),
+    ) run

@@ -1,27 +1,29 @@
 use Rattle.ga_core.proofs.CallLemmas.{ClosureRun-of_items, may_try_map-at}
-use Rattle.ga_core.proofs.NextCalls.{cut-next, run-of_all, taken-next}
+use Rattle.ga_core.proofs.NextCalls.{all-in, cut-next, place-in, run-of_all, taken-next}
 use Rattle.ga_core.proofs.RunLemmas.{ClosureRun-good, FirstErrorRun-error, FirstErrorRun-good}
 use Rattle.ga_core.proofs.mapping.try_write_mapped.Goals as goal
 use Rattle.ga_core.specs.Runs.{ClosureRun, FirstErrorRun}
-use Rattle.std.proofs.Common.{Err, Ok, arith, map, refl, subst, sym, take}
+use Rattle.std.proofs.Common.{Err, Ok, map, refl, subst, sym, take, ◌∙◌}
 
 pub f-requires : goal.f-requires
 f-requires g c =
     let run = ClosureRun-of_items _ _ _ _ _ c.loop-index.invariant.run in
     may_try_map-at (λ item. item) _ _ _ _ c.requires.callable _ c.take.result _
     (take c.loop-index.index c.loop-index.slots) _
-    (cut-next c.loop-index.invariant (omega arith) c.index-items-index.is c.take.ensures.value) run _ refl
+    (cut-next c.loop-index.invariant (place-in c.loop-index-test.true (c.loop-index.auto.items ∙ c.requires.len))
+    c.index-items-index.is c.take.ensures.value) run _ refl
 
 pub loop-index-preserved : goal.loop-index-preserved
 loop-index-preserved g c =
     let run = ClosureRun-good _ _ _ (take c.loop-index.index c.loop-index.slots) _ c.take.result c.in-Ok.item _
     c.loop-index.invariant.run c.in-Ok.ensures in
-    taken-next c.in-Ok.item c.f.new.self c.take.new.dest c.loop-index.invariant (omega arith)
-    (omega arith) c.index-items-index.is c.take.ensures.value run
+    taken-next c.in-Ok.item c.f.new.self c.take.new.dest c.loop-index.invariant (place-in c.loop-index-test.true (c.loop-index.auto.items ∙ c.requires.len))
+    (place-in c.loop-index-test.true c.loop-index.auto.slots) c.index-items-index.is c.take.ensures.value run
 
 pub returns-in-Err : goal.returns-in-Err
 returns-in-Err g c =
-    let cut = cut-next c.loop-index.invariant (omega arith) c.index-items-index.is c.take.ensures.value in
+    let cut = cut-next c.loop-index.invariant (place-in c.loop-index-test.true (c.loop-index.auto.items ∙ c.requires.len))
+    c.index-items-index.is c.take.ensures.value in
     record {
       run = subst (λ xs. FirstErrorRun (goal.F-step g) c.args.f.now xs (Err c.in-Err.error) c.f.new.self)
           (sym cut) (FirstErrorRun-error _ _ _ _ _ _ _ _ _ c.loop-index.invariant.run c.in-Err.ensures);
@@ -30,5 +32,6 @@ returns-in-Err g c =
 pub returns : goal.returns
 returns g c =
     let run = run-of_all (λ items good. ClosureRun (goal.F-step g) c.args.f.now items (map Ok good) c.loop-index.f)
-    c.loop-index.index _ _ (omega arith) (omega arith) c.loop-index.invariant.run in
+    c.loop-index.index _ _ (all-in c.loop-index-test.false c.requires.len) (all-in c.loop-index-test.false c.loop-index.auto.slots)
+    c.loop-index.invariant.run in
     record { run = FirstErrorRun-good _ _ _ _ _ run }

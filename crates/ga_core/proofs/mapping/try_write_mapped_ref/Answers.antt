@@ -1,15 +1,16 @@
 use Rattle.ga_core.proofs.CallLemmas.{may_try_map-at}
-use Rattle.ga_core.proofs.NextCalls.{cut-next, read-next, run-of_all}
+use Rattle.ga_core.proofs.NextCalls.{all-in, cut-next, place-in, read-next, run-of_all}
 use Rattle.ga_core.proofs.RunLemmas.{ClosureRun-good, FirstErrorRun-error, FirstErrorRun-good}
 use Rattle.ga_core.proofs.mapping.try_write_mapped_ref.Goals as goal
 use Rattle.ga_core.specs.Entries.{CallAt}
 use Rattle.ga_core.specs.Runs.{ClosureRun, FirstErrorRun}
-use Rattle.std.proofs.Common.{Err, Ok, arith, map, refl, subst, sym, take}
+use Rattle.std.proofs.Common.{Err, Ok, map, refl, subst, sym, take}
 
 pub f-requires : goal.f-requires
 f-requires g c = may_try_map-at (λ item. item.now) _ _ _ _ c.requires.callable _ c.index-items-index.result _
     (take c.loop-index.index c.loop-index.slots) _
-    (cut-next c.loop-index.invariant (omega arith) c.index-items-index.is c.index-items-index.is)
+    (cut-next c.loop-index.invariant (place-in c.loop-index-test.true c.requires.len)
+    c.index-items-index.is c.index-items-index.is)
     c.loop-index.invariant.run _ refl
 
 pub loop-index-preserved : goal.loop-index-preserved
@@ -17,12 +18,13 @@ loop-index-preserved g c =
     let run = ClosureRun-good _ _ _ (take c.loop-index.index c.loop-index.slots) _ c.index-items-index.result
     c.in-Ok.item _ c.loop-index.invariant.run (_, refl, c.in-Ok.ensures) in
     read-next {Run = λ items good. ClosureRun (CallAt (λ item. item.now) (goal.F-step g)) c.args.f.now items
-    (map Ok good)} c.in-Ok.item c.f.new.self c.loop-index.invariant (omega arith)
-    (omega arith) c.index-items-index.is c.index-items-index.is run
+    (map Ok good)} c.in-Ok.item c.f.new.self c.loop-index.invariant (place-in c.loop-index-test.true c.requires.len)
+    (place-in c.loop-index-test.true c.loop-index.auto.slots) c.index-items-index.is c.index-items-index.is run
 
 pub returns-in-Err : goal.returns-in-Err
 returns-in-Err g c =
-    let cut = cut-next c.loop-index.invariant (omega arith) c.index-items-index.is c.index-items-index.is in
+    let cut = cut-next c.loop-index.invariant (place-in c.loop-index-test.true c.requires.len)
+    c.index-items-index.is c.index-items-index.is in
     let run = FirstErrorRun-error _ _ _ (take c.loop-index.index c.loop-index.slots) _ c.index-items-index.result _ _ _
     c.loop-index.invariant.run (_, refl, c.in-Err.ensures) in
     record {
@@ -33,5 +35,6 @@ returns-in-Err g c =
 pub returns : goal.returns
 returns g c =
     let run = run-of_all (λ items good. ClosureRun (CallAt (λ item. item.now) (goal.F-step g)) c.args.f.now items
-    (map Ok good) c.loop-index.f) c.loop-index.index _ _ (omega arith) (omega arith) c.loop-index.invariant.run in
+    (map Ok good) c.loop-index.f) c.loop-index.index _ _ (all-in c.loop-index-test.false c.requires.len) (all-in c.loop-index-test.false c.loop-index.auto.slots)
+    c.loop-index.invariant.run in
     record { run = FirstErrorRun-good _ _ _ _ _ run }
