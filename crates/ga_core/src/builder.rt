@@ -163,9 +163,9 @@ impl<T: Drop, N: ArrayLength<T>> ArrayBuilder<T, N> {
             ⊎ ((length self ≡ N.USIZE)
             × ((more : I.Item) × I.next_gives items.old (Some more) items.new))) }
     {
-        if !self.is_full() || items.next().is_some() {
-            return Err(LengthError);
+        if self.is_full() && items.next().is_none() {
+            return Ok(self.finish());
         }
-        Ok(self.finish())
+        Err(LengthError)
     }
 }
