@@ -1,5 +1,6 @@
 pub mod AnswerLemmas
 pub mod BlockRoom
+pub mod BuildLemmas
 pub mod CallWalk
 pub mod CellsSharing
 pub mod CellsWalk

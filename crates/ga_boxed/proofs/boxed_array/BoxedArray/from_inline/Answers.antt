@@ -1,7 +1,10 @@
+use borrow.Author.Rules.{scaled_fits≤}
+use Rattle.std.proofs.lemmas.Result.{IfOk-from_err}
+use Rattle.ga_boxed.proofs.BuildLemmas.{not_ok}
 use Rattle.ga_boxed.proofs.MoveLemmas.{more_room, none_yet, one_more}
 use Rattle.ga_boxed.proofs.boxed_array.BoxedArray.from_inline.Goals as goal
 use Rattle.ga_core.proofs.MoveLemmas.{pushed-next}
-use Rattle.std.proofs.Common.{◌<◌, ◌≤◌, ◌∙◌, ap, length, rules, subst, sym}
+use Rattle.std.proofs.Common.{ap, length, refl, rules, subst, sym, ◌<◌, ◌∙◌, ◌≤◌}
 use Rattle.std.proofs.lemmas.List.{take_all}
 
 pub loop-slot-init : goal.loop-slot-init
@@ -43,8 +46,23 @@ of_items-requires g c =
           ∙ (sym (ap length slots.items) ∙ slots.len);
     }
 
-pub returns-clause-ok : goal.returns-clause-ok
-returns-clause-ok g c =
+pub returns-in_err-block : goal.returns-in_err-block
+returns-in_err-block g c = record {
+  ok = IfOk-from_err c.from_residual.result _ c.from_residual.ensures.0;
+  empty = λ none. not_ok (c.in_err-block.ensures.empty (c.USIZE.ensures ∙ none));
+}
+
+pub returns : goal.returns
+returns g c =
     let at = c.loop-slot in
     let past = subst (λ n. n ≤ at.slot-index) (ap length c.as_mut_slice-slots.ensures.items) c.loop-slot-test.false in
-    c.of_items.ensures ∙ (at.invariant.moved.0 ∙ take_all at.slot-index c.args.array past)
+    record {
+      ok = c.of_items.ensures ∙ (at.invariant.moved.0 ∙ take_all at.slot-index c.args.array past);
+      empty = λ none. refl;
+    }
+
+pub offset_bounds-slots-slot-index : goal.offset_bounds-slots-slot-index
+offset_bounds-slots-slot-index g c =
+    let at = c.loop-slot in
+    let slots = c.as_mut_slice-slots in
+    scaled_fits≤ at.slot-index (length slots.result.now) _ at.auto.slot-index-end slots.type_inv.1

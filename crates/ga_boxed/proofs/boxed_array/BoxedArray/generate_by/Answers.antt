@@ -1,32 +1,85 @@
+use Rattle.ga_boxed.proofs.BuildLemmas.{OnErr-holds, not_ok}
+use Rattle.ga_boxed.proofs.MoveLemmas.{all_counted, more_room, none_yet, one_more}
+use Rattle.ga_boxed.proofs.boxed_array.BoxedArray.generate_by.Goals as goal
 use Rattle.ga_core.proofs.ActsLemmas.{answers_of_run}
 use Rattle.ga_core.proofs.CallLemmas.{may_generate-at}
 use Rattle.ga_core.proofs.RunLemmas.{ClosureRun-snoc, below-add_one}
-use Rattle.ga_boxed.proofs.boxed_array.BoxedArray.generate_by.Goals as goal
 use Rattle.ga_core.specs.Runs.{ClosureRun}
-use Rattle.std.proofs.lemmas.Grind.{common_steps}
+use Rattle.std.proofs.Common.{◌≡◌, ◌<◌, ◌+◌, ◌∙◌, [], ap, length, refl, subst, sym}
+use Rattle.std.proofs.lemmas.List.{length_push}
+use Rattle.std.proofs.lemmas.Result.{IfOk-from_err}
 use Rattle.std.specs.List.{range_with_len}
-use Rattle.std.proofs.Common.{◌∷◌, [], ◌<◌, arith, length-append}
+
+pub returns-in_err-items : goal.returns-in_err-items
+returns-in_err-items g c =
+    let result = c.from_residual.result in
+    let refused = c.from_residual.ensures.0 in
+    record {
+      run = IfOk-from_err result _ refused;
+      acts = IfOk-from_err result _ refused;
+      err = OnErr-holds (c.args.f.now ≡ c.args.f.now) result refl;
+      empty = λ none. not_ok (c.in_err-items.ensures.empty (c.USIZE.ensures ∙ none));
+    }
+
+pub loop-index-init : goal.loop-index-init
+loop-index-init g c =
+    let block = c.in_ok-items.ensures.block in
+    record {
+      ran = subst (λ items. ClosureRun (goal.F-step g) c.args.f.now [] items c.args.f.now)
+          (sym (ap (λ b. b.items) block)) refl;
+      long = ap (λ b. length b.items) block;
+      room = none_yet c.in_ok-items.items.room ∙ (ap (λ b. b.room) block ∙ c.USIZE.ensures);
+    }
 
 pub f-requires : goal.f-requires
 f-requires g c =
-    let below : c.loop-index.index < g.N.Unsigned.USIZE =
-    omega (arith, c.loop-index-test.true, c.USIZE-index-end.ensures) in
-    may_generate-at _ _ _ _ c.requires.callable c.loop-index.index _ _ below c.loop-index.invariant.ran
+    let at = c.loop-index in
+    may_generate-at (goal.F-pre g) (goal.F-step g) c.args.f.now g.N.Unsigned.USIZE c.requires.callable at.index
+    at.items.items at.f (subst (λ n. at.index < n) c.USIZE-index-end.ensures c.loop-index-test.true) at.invariant.ran
+
+pub put-requires : goal.put-requires
+put-requires g c =
+    let at = c.loop-index in
+    record {
+      room = more_room at.index at.items.room g.N.Unsigned.USIZE c.USIZE-index-end.result at.invariant.room
+          c.loop-index-test.true c.USIZE-index-end.ensures;
+    }
 
 pub loop-index-preserved : goal.loop-index-preserved
-loop-index-preserved g c = record {
-  ran = rw (c.put.ensures.items, below-add_one)
-      (ClosureRun-snoc _ _ _ _ _ _ _ _ c.loop-index.invariant.ran c.f.ensures);
-  long = rw c.put.ensures.items (omega (
-    arith,
-    length-append c.loop-index.items.items (c.f.result ∷ []),
-    c.loop-index.invariant.long,
-  ));
-  room = omega (arith, c.put.ensures.room, c.loop-index.invariant.room);
-}
+loop-index-preserved g c =
+    let at = c.loop-index in
+    record {
+      ran = rw (c.put.ensures.items, below-add_one)
+          (ClosureRun-snoc (goal.F-step g) c.args.f.now (range_with_len 0 at.index) at.items.items at.f at.index
+          c.f.result c.f.new.self at.invariant.ran c.f.ensures);
+      long = ap length c.put.ensures.items
+          ∙ (length_push at.items.items c.f.result ∙ ap (λ k. k + 1) at.invariant.long);
+      room = one_more at.index at.items.room c.put.new.self.room g.N.Unsigned.USIZE at.invariant.room
+          c.put.ensures.room;
+    }
 
-pub returns-clause-acts : goal.returns-clause-acts
-returns-clause-acts g c h acts =
-    let run : ClosureRun (goal.F-step g) c.args.f.now
-    (range_with_len 0 g.N.Unsigned.USIZE) c.of_items.result c.loop-index.f = grind (arith, common_steps) in
-    answers_of_run _ _ h acts _ _ _ run
+pub of_items-requires : goal.of_items-requires
+of_items-requires g c =
+    let at = c.loop-index in
+    record {
+      full = at.invariant.long
+          ∙ all_counted at.index at.items.room g.N.Unsigned.USIZE c.USIZE-index-end.result c.loop-index-test.false
+          at.auto.index-end c.USIZE-index-end.ensures;
+    }
+
+pub returns : goal.returns
+returns g c =
+    let at = c.loop-index in
+    let all = all_counted at.index at.items.room g.N.Unsigned.USIZE c.USIZE-index-end.result c.loop-index-test.false
+    at.auto.index-end c.USIZE-index-end.ensures in
+    let run : ClosureRun (goal.F-step g) c.args.f.now (range_with_len 0 g.N.Unsigned.USIZE) c.of_items.result at.f =
+    subst (λ n. ClosureRun (goal.F-step g) c.args.f.now (range_with_len 0 n) c.of_items.result at.f) all
+    (subst (λ items. ClosureRun (goal.F-step g) c.args.f.now (range_with_len 0 at.index) items at.f)
+    (sym c.of_items.ensures) at.invariant.ran) in
+    record {
+      run = run;
+      acts = λ h acts. answers_of_run (goal.F-step g) c.args.f.now h acts
+          (range_with_len 0 g.N.Unsigned.USIZE) c.of_items.result at.f run;
+      err = tt;
+      empty = λ none. refl;
+    }

@@ -1,11 +1,39 @@
+use Rattle.ga_boxed.proofs.BuildLemmas.{all_there, grown, less_room, not_all}
+use Rattle.ga_boxed.proofs.MoveLemmas.{none_yet}
 use Rattle.ga_boxed.proofs.boxed_array.BoxedArray.try_boxed_from_fallible_iter_ref.Given as given
 use Rattle.ga_boxed.proofs.boxed_array.BoxedArray.try_boxed_from_fallible_iter_ref.Goals as goal
 use Rattle.ga_core.proofs.FillLemmas.{FillFalliblyRuns-from_fill}
 use Rattle.ga_core.specs.Fill.{FillFalliblyRuns, FillsFallibly}
 use Rattle.ga_core.specs.declared.LengthError.{LengthError}
-use Rattle.std.proofs.Common.{◌∷◌, [], Err, List, Ok, Result, arith, length-append, map, rules}
+use Rattle.std.proofs.Common.{◌+◌, ◌∙◌, Err, List, None, Ok, Result, Some, ap, length, map, refl, subst, sym}
 use Rattle.std.proofs.iter.Next.{Yields-more}
-use Rattle.std.proofs.lemmas.List.{map-append}
+use Rattle.std.proofs.lemmas.List.{length_push, map-append}
+use Rattle.std.specs.Iterator.{Yields}
+
+pub returns-in-Err : goal.returns-in-Err
+returns-in-Err g c = record {
+  fill = tt;
+  runs = tt;
+  can_on = tt;
+  err = refl;
+  empty = λ none. c.in-Err.ensures.empty (c.USIZE.ensures ∙ none);
+}
+
+pub loop-items-init : goal.loop-items-init
+loop-items-init g c =
+    let block = c.in-Ok.ensures.block in
+    record {
+      can = c.requires.can;
+      taken = subst (λ good. Yields g.I.Iterator.next_gives c.args.items.now (map Ok good) c.args.items.now)
+          (sym (ap (λ b. b.items) block)) refl;
+      room = ap (λ b. length b.items + b.room) block ∙ (none_yet c.USIZE.result ∙ c.USIZE.ensures);
+    }
+
+pub put-requires : goal.put-requires
+put-requires g c = record { room = rw (← c.room.ensures) c.loop-items-test.true }
+
+pub loop-items-smaller : goal.loop-items-smaller
+loop-items-smaller g c = less_room c.put.new.self.room c.loop-items.good.room c.put.ensures.room
 
 pub loop-items-preserved : goal.loop-items-preserved
 loop-items-preserved g c =
@@ -16,25 +44,10 @@ loop-items-preserved g c =
       taken = rw (c.put.ensures.items, map-append)
           (Yields-more g.I.Iterator.next_gives c.args.items.now (map Ok at.good.items) at.items
           (Ok c.in-Some-Ok.item) _ at.invariant.taken came);
-      room = rw c.put.ensures.items (omega (
-        arith,
-        length-append at.good.items (c.in-Some-Ok.item ∷ []),
-        c.put.ensures.room,
-        at.invariant.room,
-      ));
+      room = grown (length at.good.items) (length c.put.new.self.items) at.good.room c.put.new.self.room
+          g.N.Unsigned.USIZE (ap length c.put.ensures.items ∙ length_push at.good.items c.in-Some-Ok.item)
+          c.put.ensures.room at.invariant.room;
     }
-
-pub returns-in-Some-Err-clause-fill : goal.returns-in-Some-Err-clause-fill
-returns-in-Some-Err-clause-fill g c = search rules
-
-pub returns-in-None-clause-fill : goal.returns-in-None-clause-fill
-returns-in-None-clause-fill g c = search rules
-
-pub returns-in-None-next-clause-fill : goal.returns-in-None-next-clause-fill
-returns-in-None-next-clause-fill g c = search rules
-
-pub returns-in-Some-clause-fill : goal.returns-in-Some-clause-fill
-returns-in-Some-clause-fill g c = search rules
 
 -- the calls of each answer
 runs : (g : given.Over) (items : g.row.I.Denot)
@@ -43,15 +56,79 @@ runs : (g : given.Over) (items : g.row.I.Denot)
     → FillFalliblyRuns g.I.Iterator.next_gives items g.N.Unsigned.USIZE answer
 runs g items = FillFalliblyRuns-from_fill g.I.Iterator.next_gives items g.N.Unsigned.USIZE
 
-pub returns-in-Some-Err-clause-runs : goal.returns-in-Some-Err-clause-runs
-returns-in-Some-Err-clause-runs g c =
-    runs g c.args.items.now (Ok (Err c.in-Some-Err.error)) _ (returns-in-Some-Err-clause-fill g c)
+pub returns-in-Some-Err : goal.returns-in-Some-Err
+returns-in-Some-Err g c =
+    let at = c.loop-items in
+    let came = rw c.in-Some-Err.field-0-is at c.in-Some-Err.ensures.steps in
+    let few = not_all (length at.good.items) at.good.room g.N.Unsigned.USIZE c.room.result at.invariant.room
+    c.room.ensures c.loop-items-test.true in
+    let fill : FillsFallibly g.I.Iterator.next_gives {F = LengthError} c.args.items.now g.N.Unsigned.USIZE
+    (Ok (Err c.in-Some-Err.error)) c.next.new.self =
+    (at.good.items, Some (Err c.in-Some-Err.error), (at.items, at.invariant.taken, came), (refl, few)) in
+    record {
+      fill = fill;
+      runs = runs g c.args.items.now (Ok (Err c.in-Some-Err.error)) c.next.new.self fill;
+      can_on = c.in-Some-Err.ensures.goes.keeps;
+      err = tt;
+      empty = λ none. refl;
+    }
 
-pub returns-in-None-clause-runs : goal.returns-in-None-clause-runs
-returns-in-None-clause-runs g c = runs g c.args.items.now (Err (record {})) _ (returns-in-None-clause-fill g c)
+pub returns-in-None : goal.returns-in-None
+returns-in-None g c =
+    let at = c.loop-items in
+    let few = not_all (length at.good.items) at.good.room g.N.Unsigned.USIZE c.room.result at.invariant.room
+    c.room.ensures c.loop-items-test.true in
+    let fill : FillsFallibly g.I.Iterator.next_gives {F = LengthError} c.args.items.now g.N.Unsigned.USIZE
+    (Err (record {})) c.next.new.self =
+    (at.good.items, None, (at.items, at.invariant.taken, c.in-None.ensures.steps), few) in
+    record {
+      fill = fill;
+      runs = runs g c.args.items.now (Err (record {})) c.next.new.self fill;
+      can_on = tt;
+      err = tt;
+      empty = λ none. refl;
+    }
 
-pub returns-in-None-next-clause-runs : goal.returns-in-None-next-clause-runs
-returns-in-None-next-clause-runs g c = runs g c.args.items.now (Ok (Ok _)) _ (returns-in-None-next-clause-fill g c)
+pub of_items-requires : goal.of_items-requires
+of_items-requires g c =
+    let at = c.loop-items in
+    record {
+      full = all_there (length at.good.items) at.good.room g.N.Unsigned.USIZE c.room.result at.invariant.room
+          c.room.ensures c.loop-items-test.false;
+    }
 
-pub returns-in-Some-clause-runs : goal.returns-in-Some-clause-runs
-returns-in-Some-clause-runs g c = runs g c.args.items.now (Err (record {})) _ (returns-in-Some-clause-fill g c)
+pub returns-in-None-next : goal.returns-in-None-next
+returns-in-None-next g c =
+    let at = c.loop-items in
+    let all = all_there (length at.good.items) at.good.room g.N.Unsigned.USIZE c.room.result at.invariant.room
+    c.room.ensures c.loop-items-test.false in
+    let fill : FillsFallibly g.I.Iterator.next_gives {F = LengthError} c.args.items.now g.N.Unsigned.USIZE
+    (Ok (Ok c.of_items.result)) c.next-2.new.self = (
+      at.good.items,
+      None,
+      (at.items, at.invariant.taken, c.in-None-next.ensures.steps),
+      (c.of_items.ensures, all, refl),
+    ) in
+    record {
+      fill = fill;
+      runs = runs g c.args.items.now (Ok (Ok c.of_items.result)) c.next-2.new.self fill;
+      can_on = tt;
+      err = tt;
+      empty = λ none. refl;
+    }
+
+pub returns-in-Some : goal.returns-in-Some
+returns-in-Some g c =
+    let at = c.loop-items in
+    let all = all_there (length at.good.items) at.good.room g.N.Unsigned.USIZE c.room.result at.invariant.room
+    c.room.ensures c.loop-items-test.false in
+    let fill : FillsFallibly g.I.Iterator.next_gives {F = LengthError} c.args.items.now g.N.Unsigned.USIZE
+    (Err (record {})) c.next-2.new.self =
+    (at.good.items, Some c.in-Some._surplus, (at.items, at.invariant.taken, c.in-Some.ensures.steps), all) in
+    record {
+      fill = fill;
+      runs = runs g c.args.items.now (Err (record {})) c.next-2.new.self fill;
+      can_on = tt;
+      err = tt;
+      empty = λ none. refl;
+    }

@@ -1,8 +1,45 @@
+use Rattle.ga_boxed.proofs.BuildLemmas.{OnErr-holds, OnOk-refused, all_there, grown, less_room, not_all, not_ok}
+use Rattle.ga_boxed.proofs.MoveLemmas.{none_yet}
 use Rattle.ga_boxed.proofs.boxed_array.BoxedArray.try_boxed_from_iter_ref.Goals as goal
 use Rattle.ga_core.proofs.FillLemmas.{Asks-from_fill, FillRuns-from_fill}
+use Rattle.ga_core.specs.Fill.{Asks, FillRuns, Fills}
 use Rattle.ga_core.specs.declared.LengthError.{LengthError}
-use Rattle.std.proofs.Common.{◌∷◌, [], Err, Ok, arith, length-append, rules}
+use Rattle.std.proofs.Common.{◌≡◌, ◌+◌, ◌∙◌, Err, None, Ok, Some, ap, length, refl, subst, sym}
 use Rattle.std.proofs.iter.Next.{Yields-more}
+use Rattle.std.proofs.lemmas.List.{length_push}
+use Rattle.std.proofs.lemmas.Result.{IfOk-from_err}
+use Rattle.std.specs.Iterator.{Yields}
+
+pub returns-in_err-taken : goal.returns-in_err-taken
+returns-in_err-taken g c =
+    let result = c.from_residual.result in
+    let refused = c.from_residual.ensures.0 in
+    record {
+      fill = IfOk-from_err result
+          (λ built. Fills g.I.Iterator.next_gives c.args.items.now g.N.Unsigned.USIZE built c.args.items.now) refused;
+      runs = IfOk-from_err result
+          (λ built. FillRuns g.I.Iterator.next_gives c.args.items.now g.N.Unsigned.USIZE built) refused;
+      asks = OnOk-refused (Asks g.I.Iterator.next_gives c.args.items.now (g.N.Unsigned.USIZE + 1) c.args.items.now)
+          result refused;
+      err = OnErr-holds (c.args.items.now ≡ c.args.items.now) result refl;
+      empty = λ none. not_ok (c.in_err-taken.ensures.empty (c.USIZE.ensures ∙ none));
+    }
+
+pub loop-items-init : goal.loop-items-init
+loop-items-init g c =
+    let block = c.in_ok-taken.ensures.block in
+    record {
+      can = c.requires.can;
+      taken = subst (λ taken. Yields g.I.Iterator.next_gives c.args.items.now taken c.args.items.now)
+          (sym (ap (λ b. b.items) block)) refl;
+      room = ap (λ b. length b.items + b.room) block ∙ (none_yet c.USIZE.result ∙ c.USIZE.ensures);
+    }
+
+pub put-requires : goal.put-requires
+put-requires g c = record { room = rw (← c.room.ensures) c.loop-items-test.true }
+
+pub loop-items-smaller : goal.loop-items-smaller
+loop-items-smaller g c = less_room c.put.new.self.room c.loop-items.taken.room c.put.ensures.room
 
 pub loop-items-preserved : goal.loop-items-preserved
 loop-items-preserved g c =
@@ -12,49 +49,73 @@ loop-items-preserved g c =
       taken = rw c.put.ensures.items
           (Yields-more g.I.Iterator.next_gives c.args.items.now at.taken.items at.items c.in-Some.item _
           at.invariant.taken c.in-Some.ensures.steps);
-      room = rw c.put.ensures.items (omega (
-        arith,
-        length-append at.taken.items (c.in-Some.item ∷ []),
-        c.put.ensures.room,
-        at.invariant.room,
-      ));
+      room = grown (length at.taken.items) (length c.put.new.self.items) at.taken.room c.put.new.self.room
+          g.N.Unsigned.USIZE (ap length c.put.ensures.items ∙ length_push at.taken.items c.in-Some.item)
+          c.put.ensures.room at.invariant.room;
     }
 
-pub returns-in-None-clause-fill : goal.returns-in-None-clause-fill
-returns-in-None-clause-fill g c = search rules
+pub returns-in-None : goal.returns-in-None
+returns-in-None g c =
+    let at = c.loop-items in
+    let few = not_all (length at.taken.items) at.taken.room g.N.Unsigned.USIZE c.room.result at.invariant.room
+    c.room.ensures c.loop-items-test.true in
+    let fill : Fills {E = LengthError} g.I.Iterator.next_gives c.args.items.now g.N.Unsigned.USIZE (Err (record {}))
+    c.next.new.self = (at.taken.items, None, (at.items, at.invariant.taken, c.in-None.ensures.steps), few) in
+    record {
+      fill = fill;
+      runs = FillRuns-from_fill {E = LengthError} g.I.Iterator.next_gives c.args.items.now g.N.Unsigned.USIZE
+          (Err (record {})) c.next.new.self fill;
+      asks = Asks-from_fill g.I.Iterator.next_gives {E = LengthError} c.args.items.now g.N.Unsigned.USIZE
+          (Err (record {})) c.next.new.self fill;
+      err = tt;
+      empty = λ none. refl;
+    }
 
-pub returns-in-None-clause-runs : goal.returns-in-None-clause-runs
-returns-in-None-clause-runs g c =
-    FillRuns-from_fill {E = LengthError} g.I.Iterator.next_gives c.args.items.now g.N.Unsigned.USIZE (Err (record {})) _
-    (returns-in-None-clause-fill g c)
+pub of_items-requires : goal.of_items-requires
+of_items-requires g c =
+    let at = c.loop-items in
+    record {
+      full = all_there (length at.taken.items) at.taken.room g.N.Unsigned.USIZE c.room.result at.invariant.room
+          c.room.ensures c.loop-items-test.false;
+    }
 
-pub returns-in-None-clause-asks : goal.returns-in-None-clause-asks
-returns-in-None-clause-asks g c =
-    Asks-from_fill g.I.Iterator.next_gives {E = LengthError} c.args.items.now g.N.Unsigned.USIZE (Err (record {})) _
-    (returns-in-None-clause-fill g c)
+pub returns-in-None-next : goal.returns-in-None-next
+returns-in-None-next g c =
+    let at = c.loop-items in
+    let all = all_there (length at.taken.items) at.taken.room g.N.Unsigned.USIZE c.room.result at.invariant.room
+    c.room.ensures c.loop-items-test.false in
+    let fill : Fills {E = LengthError} g.I.Iterator.next_gives c.args.items.now g.N.Unsigned.USIZE
+    (Ok c.of_items.result) c.next-2.new.self = (
+      at.taken.items,
+      None,
+      (at.items, at.invariant.taken, c.in-None-next.ensures.steps),
+      (c.of_items.ensures, all, refl),
+    )
+    in
+    record {
+      fill = fill;
+      runs = FillRuns-from_fill {E = LengthError} g.I.Iterator.next_gives c.args.items.now g.N.Unsigned.USIZE
+          (Ok c.of_items.result) c.next-2.new.self fill;
+      asks = Asks-from_fill g.I.Iterator.next_gives {E = LengthError} c.args.items.now g.N.Unsigned.USIZE
+          (Ok c.of_items.result) c.next-2.new.self fill;
+      err = tt;
+      empty = λ none. refl;
+    }
 
-pub returns-in-None-next-clause-fill : goal.returns-in-None-next-clause-fill
-returns-in-None-next-clause-fill g c = search rules
-
-pub returns-in-None-next-clause-runs : goal.returns-in-None-next-clause-runs
-returns-in-None-next-clause-runs g c =
-    FillRuns-from_fill {E = LengthError} g.I.Iterator.next_gives c.args.items.now g.N.Unsigned.USIZE (Ok _) _
-    (returns-in-None-next-clause-fill g c)
-
-pub returns-in-None-next-clause-asks : goal.returns-in-None-next-clause-asks
-returns-in-None-next-clause-asks g c =
-    Asks-from_fill g.I.Iterator.next_gives {E = LengthError} c.args.items.now g.N.Unsigned.USIZE (Ok _) _
-    (returns-in-None-next-clause-fill g c)
-
-pub returns-in-Some-next-clause-fill : goal.returns-in-Some-next-clause-fill
-returns-in-Some-next-clause-fill g c = search rules
-
-pub returns-in-Some-next-clause-runs : goal.returns-in-Some-next-clause-runs
-returns-in-Some-next-clause-runs g c =
-    FillRuns-from_fill {E = LengthError} g.I.Iterator.next_gives c.args.items.now g.N.Unsigned.USIZE (Err (record {})) _
-    (returns-in-Some-next-clause-fill g c)
-
-pub returns-in-Some-next-clause-asks : goal.returns-in-Some-next-clause-asks
-returns-in-Some-next-clause-asks g c =
-    Asks-from_fill g.I.Iterator.next_gives {E = LengthError} c.args.items.now g.N.Unsigned.USIZE (Err (record {})) _
-    (returns-in-Some-next-clause-fill g c)
+pub returns-in-Some-next : goal.returns-in-Some-next
+returns-in-Some-next g c =
+    let at = c.loop-items in
+    let all = all_there (length at.taken.items) at.taken.room g.N.Unsigned.USIZE c.room.result at.invariant.room
+    c.room.ensures c.loop-items-test.false in
+    let fill : Fills {E = LengthError} g.I.Iterator.next_gives c.args.items.now g.N.Unsigned.USIZE (Err (record {}))
+    c.next-2.new.self =
+    (at.taken.items, Some c.in-Some-next._surplus, (at.items, at.invariant.taken, c.in-Some-next.ensures.steps), all) in
+    record {
+      fill = fill;
+      runs = FillRuns-from_fill {E = LengthError} g.I.Iterator.next_gives c.args.items.now g.N.Unsigned.USIZE
+          (Err (record {})) c.next-2.new.self fill;
+      asks = Asks-from_fill g.I.Iterator.next_gives {E = LengthError} c.args.items.now g.N.Unsigned.USIZE
+          (Err (record {})) c.next-2.new.self fill;
+      err = tt;
+      empty = λ none. refl;
+    }

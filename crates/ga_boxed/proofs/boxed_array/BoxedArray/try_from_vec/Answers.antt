@@ -1,3 +1,5 @@
+use Rattle.std.proofs.lemmas.Result.{IfOk-from_err}
+use Rattle.ga_boxed.proofs.BuildLemmas.{not_ok}
 use Rattle.ga_boxed.proofs.MoveLemmas.{all_moved, moved_more, room_behind, room_for}
 use Rattle.ga_boxed.proofs.boxed_array.BoxedArray.try_from_vec.Goals as goal
 use Rattle.std.proofs.Common.{◌∙◌, ◌++◌, ap, length, refl, sym}
@@ -44,15 +46,40 @@ of_items-requires g c =
           ∙ (sym c.args.items.ok.0 ∙ (sym c.len.ensures ∙ (c.if-len-USIZE.false ∙ c.USIZE.ensures)));
     }
 
-pub returns-clause-variant : goal.returns-clause-variant
-returns-clause-variant g c = (
-  λ good. sym c.args.items.ok.0 ∙ (sym c.len.ensures ∙ (c.if-len-USIZE.false ∙ c.USIZE.ensures)),
-  λ long. refl,
-)
+pub returns-then-len-USIZE : goal.returns-then-len-USIZE
+returns-then-len-USIZE g c = record {
+  variant = (
+    λ wrong. not_ok wrong,
+    λ same. absurd (c.if-len-USIZE.true (c.len.ensures ∙ (c.args.items.ok.0 ∙ (same ∙ sym c.USIZE.ensures)))),
+  );
+  ok = tt;
+  other = λ other. refl;
+  empty = λ none. refl;
+}
 
-pub returns-clause-ok : goal.returns-clause-ok
-returns-clause-ok g c =
+pub returns-in_err-block : goal.returns-in_err-block
+returns-in_err-block g c =
+    let result = c.from_residual.result in
+    let refused = c.from_residual.ensures.0 in
+    record {
+      variant = IfOk-from_err result _ refused;
+      ok = IfOk-from_err result _ refused;
+      other = λ other. absurd (other (sym c.args.items.ok.0 ∙ (sym c.len.ensures ∙ (c.if-len-USIZE.false
+          ∙ c.USIZE.ensures))));
+      empty = λ none. not_ok (c.in_err-block.ensures.empty (c.USIZE-2.ensures ∙ none));
+    }
+
+pub returns : goal.returns
+returns g c =
     let at = c.loop-item in
-    c.of_items.ensures
-    ∙ all_moved at.block.items (into_iter_items at.item-iterator) c.args.items.items at.invariant.moved
-    (sym at.item-iterator.rest.ok.0 ∙ c.in-None.ensures.steps.0)
+    record {
+      variant = (
+        λ good. sym c.args.items.ok.0 ∙ (sym c.len.ensures ∙ (c.if-len-USIZE.false ∙ c.USIZE.ensures)),
+        λ long. refl,
+      );
+      ok = c.of_items.ensures
+          ∙ all_moved at.block.items (into_iter_items at.item-iterator) c.args.items.items at.invariant.moved
+          (sym at.item-iterator.rest.ok.0 ∙ c.in-None.ensures.steps.0);
+      other = λ other. refl;
+      empty = λ none. refl;
+    }

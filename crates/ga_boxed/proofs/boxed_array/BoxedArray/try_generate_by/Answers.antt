@@ -1,48 +1,104 @@
-use Rattle.ga_core.proofs.ActsLemmas.{answers_until_error}
+use Rattle.ga_boxed.proofs.BuildLemmas.{OnErr-holds, not_ok}
+use Rattle.ga_boxed.proofs.MoveLemmas.{all_counted, more_room, none_yet, one_more}
 use Rattle.ga_boxed.proofs.boxed_array.BoxedArray.try_generate_by.Goals as goal
+use Rattle.ga_core.proofs.ActsLemmas.{answers_until_error}
 use Rattle.ga_core.proofs.CallLemmas.{may_try_generate-at}
 use Rattle.ga_core.proofs.RunLemmas.{ClosureRun-good, FirstErrorRun-at, FirstErrorRun-good, below-add_one}
-use Rattle.ga_core.specs.Runs.{FirstErrorRun}
-use Rattle.std.proofs.Common.{◌≡◌, ◌∷◌, [], ◌<◌, Ok, arith, length-append, subst}
+use Rattle.ga_core.specs.Runs.{ClosureRun, FirstErrorRun}
+use Rattle.std.proofs.Common.{◌≡◌, ◌<◌, ◌+◌, ◌∙◌, [], Err, Ok, ap, length, map, refl, subst, sym}
+use Rattle.std.proofs.lemmas.List.{length_push}
+use Rattle.std.proofs.lemmas.Result.{IfOk-from_err}
 use Rattle.std.specs.List.{range_with_len}
+
+pub returns-in_err-good : goal.returns-in_err-good
+returns-in_err-good g c =
+    let result = c.from_residual.result in
+    let refused = c.from_residual.ensures.0 in
+    record {
+      run = IfOk-from_err result _ refused;
+      acts = IfOk-from_err result _ refused;
+      err = OnErr-holds (c.args.f.now ≡ c.args.f.now) result refl;
+      empty = λ none. not_ok (c.in_err-good.ensures.empty (c.USIZE.ensures ∙ none));
+    }
+
+pub loop-index-init : goal.loop-index-init
+loop-index-init g c =
+    let block = c.in_ok-good.ensures.block in
+    record {
+      ran = subst (λ good. ClosureRun (goal.F-step g) c.args.f.now [] (map Ok good) c.args.f.now)
+          (sym (ap (λ b. b.items) block)) refl;
+      long = ap (λ b. length b.items) block;
+      room = none_yet c.in_ok-good.good.room ∙ (ap (λ b. b.room) block ∙ c.USIZE.ensures);
+    }
 
 pub f-requires : goal.f-requires
 f-requires g c =
-    let below : c.loop-index.index < g.N.Unsigned.USIZE =
-    omega (arith, c.loop-index-test.true, c.USIZE-index-end.ensures) in
-    may_try_generate-at _ _ _ _ c.requires.callable c.loop-index.index c.loop-index.good.items _ below
-    c.loop-index.invariant.ran
+    let at = c.loop-index in
+    may_try_generate-at (goal.F-pre g) (goal.F-step g) c.args.f.now g.N.Unsigned.USIZE c.requires.callable at.index
+    at.good.items at.f (subst (λ n. at.index < n) c.USIZE-index-end.ensures c.loop-index-test.true) at.invariant.ran
+
+pub put-requires : goal.put-requires
+put-requires g c =
+    let at = c.loop-index in
+    record {
+      room = more_room at.index at.good.room g.N.Unsigned.USIZE c.USIZE-index-end.result at.invariant.room
+          c.loop-index-test.true c.USIZE-index-end.ensures;
+    }
 
 pub loop-index-preserved : goal.loop-index-preserved
-loop-index-preserved g c = record {
-  ran = rw (c.put.ensures.items, below-add_one)
-      (ClosureRun-good _ _ _ _ _ _ _ _ c.loop-index.invariant.ran c.in-Ok.ensures);
-  long = rw c.put.ensures.items (omega (
-    arith,
-    length-append c.loop-index.good.items (c.in-Ok.item ∷ []),
-    c.loop-index.invariant.long,
-  ));
-  room = omega (arith, c.put.ensures.room, c.loop-index.invariant.room);
-}
+loop-index-preserved g c =
+    let at = c.loop-index in
+    let item = c.in-Ok.item in
+    record {
+      ran = rw (c.put.ensures.items, below-add_one)
+          (ClosureRun-good (goal.F-step g) c.args.f.now (range_with_len 0 at.index) at.good.items at.f at.index item
+          c.f.new.self at.invariant.ran c.in-Ok.ensures);
+      long = ap length c.put.ensures.items ∙ (length_push at.good.items item ∙ ap (λ k. k + 1) at.invariant.long);
+      room = one_more at.index at.good.room c.put.new.self.room g.N.Unsigned.USIZE at.invariant.room
+          c.put.ensures.room;
+    }
 
-pub returns-in-Err-clause-run : goal.returns-in-Err-clause-run
-returns-in-Err-clause-run g c =
-    let below : c.loop-index.index < g.N.Unsigned.USIZE =
-    omega (arith, c.loop-index-test.true, c.USIZE-index-end.ensures) in
-    FirstErrorRun-at _ _ _ _ _ _ _ _ below c.loop-index.invariant.ran c.in-Err.ensures
+pub returns-in-Err : goal.returns-in-Err
+returns-in-Err g c =
+    let at = c.loop-index in
+    let run : FirstErrorRun (goal.F-step g) c.args.f.now (range_with_len 0 g.N.Unsigned.USIZE) (Err c.in-Err.error)
+    c.f.new.self =
+    FirstErrorRun-at (goal.F-step g) c.args.f.now at.index g.N.Unsigned.USIZE at.good.items at.f c.in-Err.error
+    c.f.new.self (subst (λ n. at.index < n) c.USIZE-index-end.ensures c.loop-index-test.true) at.invariant.ran
+    c.in-Err.ensures in
+    record {
+      run = run;
+      acts = λ h acts. answers_until_error (goal.F-step g) c.args.f.now h acts
+          (range_with_len 0 g.N.Unsigned.USIZE) (Err c.in-Err.error) c.f.new.self run;
+      err = tt;
+      empty = λ none. refl;
+    }
 
-pub returns-clause-run : goal.returns-clause-run
-returns-clause-run g c =
-    let all : c.loop-index.index ≡ g.N.Unsigned.USIZE =
-    omega (arith, c.loop-index-test.false, c.loop-index.auto.index-end, c.USIZE-index-end.ensures) in
-    let items = c.loop-index.good.items in
-    rw c.of_items.ensures
-    (subst (λ n. FirstErrorRun (goal.F-step g) c.args.f.now (range_with_len 0 n) (Ok items) c.loop-index.f) all
-    (FirstErrorRun-good _ _ _ items _ c.loop-index.invariant.ran))
+pub of_items-requires : goal.of_items-requires
+of_items-requires g c =
+    let at = c.loop-index in
+    record {
+      full = at.invariant.long
+          ∙ all_counted at.index at.good.room g.N.Unsigned.USIZE c.USIZE-index-end.result c.loop-index-test.false
+          at.auto.index-end c.USIZE-index-end.ensures;
+    }
 
-pub returns-in-Err-clause-acts : goal.returns-in-Err-clause-acts
-returns-in-Err-clause-acts g c h acts = answers_until_error (goal.F-step g) c.args.f.now h acts _ _ _
-    (returns-in-Err-clause-run g c)
-
-pub returns-clause-acts : goal.returns-clause-acts
-returns-clause-acts g c h acts = answers_until_error (goal.F-step g) c.args.f.now h acts _ _ _ (returns-clause-run g c)
+pub returns : goal.returns
+returns g c =
+    let at = c.loop-index in
+    let all = all_counted at.index at.good.room g.N.Unsigned.USIZE c.USIZE-index-end.result c.loop-index-test.false
+    at.auto.index-end c.USIZE-index-end.ensures in
+    let good : FirstErrorRun (goal.F-step g) c.args.f.now (range_with_len 0 at.index) (Ok at.good.items) at.f =
+    FirstErrorRun-good (goal.F-step g) c.args.f.now (range_with_len 0 at.index) at.good.items at.f at.invariant.ran in
+    let run : FirstErrorRun (goal.F-step g) c.args.f.now (range_with_len 0 g.N.Unsigned.USIZE) (Ok c.of_items.result)
+    at.f =
+    subst (λ n. FirstErrorRun (goal.F-step g) c.args.f.now (range_with_len 0 n) (Ok c.of_items.result) at.f) all
+    (subst (λ items. FirstErrorRun (goal.F-step g) c.args.f.now (range_with_len 0 at.index) (Ok items) at.f)
+    (sym c.of_items.ensures) good) in
+    record {
+      run = run;
+      acts = λ h acts. answers_until_error (goal.F-step g) c.args.f.now h acts
+          (range_with_len 0 g.N.Unsigned.USIZE) (Ok c.of_items.result) at.f run;
+      err = tt;
+      empty = λ none. refl;
+    }

@@ -1,0 +1,37 @@
+-- What a loop that fills a block knows where it ends, and what holds where the block was refused.
+use mathlib.Core.Bool.{true≢false}
+use Rattle.std.proofs.Common.{◌≡◌, ℕ, ◌+◌, ◌<◌, ◌≤◌, Result, Ok, Err, OnErr, OnOk, false, true, arith, sym}
+use Rattle.std.specs.Result.{IsErr}
+
+module _ (made room all left : ℕ) where
+  -- where there is room, not all are there
+  pub not_all : made + room ≡ all → left ≡ room → 0 < left → made < all
+  not_all fits same some = omega arith
+
+  -- where there is none, all are there
+  pub all_there : made + room ≡ all → left ≡ room → left ≤ 0 → made ≡ all
+  all_there fits same none = omega arith
+
+-- one fewer is less
+pub less_room : (less room : ℕ) → less + 1 ≡ room → less < room
+less_room less room step = omega arith
+
+-- one more is there, and room for one fewer
+pub grown : (made longer room less all : ℕ) → longer ≡ made + 1 → less + 1 ≡ room → made + room ≡ all
+    → longer + less ≡ all
+grown made longer room less all more fewer fits = omega arith
+
+module _ {A E : Type 0} (P : Type 0) where
+  -- nothing is asked where the result is an error
+  pub OnOk-refused : (r : Result A E) → IsErr r → OnOk r P
+  OnOk-refused (Ok x) refused = absurd (true≢false (sym refused))
+  OnOk-refused (Err e) refused = tt
+
+  -- what holds is so on an error too
+  pub OnErr-holds : (r : Result A E) → P → OnErr r P
+  OnErr-holds (Ok x) holds = tt
+  OnErr-holds (Err e) holds = holds
+
+-- an error isn't a value
+pub not_ok : {P : Type 0} → false ≡ true → P
+not_ok wrong = absurd (true≢false (sym wrong))
