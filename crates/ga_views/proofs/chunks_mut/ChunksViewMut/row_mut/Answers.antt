@@ -1,7 +1,7 @@
 use Rattle.ga_views.proofs.RowLemmas.{length-row, part-within, row-named}
-use Rattle.ga_views.proofs.ChunksViewMutLemmas.{same_rows, whole-after}
+use Rattle.ga_views.proofs.ChunksViewMutLemmas.{same_part, same_rows, whole-after}
 use Rattle.ga_views.proofs.chunks_mut.ChunksViewMut.row_mut.Goals as goal
-use Rattle.std.proofs.Common.{ap, length, ◌∙◌}
+use Rattle.std.proofs.Common.{◌*◌, ap, length, ◌∙◌}
 use Rattle.std.specs.Prelude.{refl}
 
 -- the row ends within the items
@@ -22,7 +22,11 @@ returns g c =
     let width = g.N.Unsigned.USIZE in
     let row = row-named width items c.args.index _ _ _ c.part_mut.result.now c.start_of-start.ensures c.USIZE.ensures
     refl c.part_mut.ensures.value in (
-      (refl, λ row. same_rows c.args.self.now _ _ _ _ (rw (c.USIZE.ensures, c.start_of-start.ensures) refl)),
+      (
+        refl,
+        λ written. same_rows c.args.self.now _ _ _ _ (same_part c.args.self.now items written c.start_of-start.result
+            (c.args.index * width) c.USIZE.result width c.start_of-start.ensures c.USIZE.ensures),
+      ),
       record {
         writes_back = _;
         row = row;
