@@ -6,8 +6,8 @@ use Rattle.ga_core.proofs.SlotLemmas.{refill-whole}
 use Rattle.ga_core.proofs.RowLemmas.{rows-few, rows-first}
 use Rattle.std.proofs.Math.Seq.{drop-append_seam, take-append_seam}
 use Rattle.generic_array.specs.Rows.{row_at, rows}
-use Rattle.std.proofs.Math.Nat.{suc-mul}
-use Rattle.std.proofs.lemmas.List.{append-nil, drop_all, drop_more, get_or-drop, get_or-set_same, get_or_default}
+use Rattle.std.proofs.Math.Nat.{mul-le-mul_right, suc-mul}
+use Rattle.std.proofs.lemmas.List.{append-nil, drop-drop, drop_all, drop_more, get_or-drop, get_or-set_same, get_or_default}
 use Rattle.std.proofs.lemmas.List.{nil_from_length, take-append-drop, take-set-le, take_all}
 use Rattle.std.proofs.lemmas.List.FromFn.{map-range_with_len_more}
 use Rattle.std.proofs.lemmas.Nat.{div-mul-add}
@@ -33,7 +33,23 @@ area-room R rows i d w at total here same =
     (drop_more rows i d here) w at total same in
     omega (arith, more)
 
+-- where the row at a place ends
+pub row-end : (place w at n next : ℕ) → at ≡ place * w → n ≡ w → next ≡ at + n → next ≡ (place + 1) * w
+row-end place w at n next begun wide ends =
+    let more : place * w + w ≡ (place + 1) * w = sym (suc-mul place w) ∙ ap (λ k. k * w) (omega arith) in
+    omega (arith, more)
+
+-- the items reach as far
+pub row-room : (place count w at all : ℕ) → place < count → at ≡ place * w → all ≡ count * w → at + w ≤ all
+row-room place count w at all here begun whole = omega (arith, mul-le-mul_right w here)
+
 module _ {T : Type 0} where
+  -- the row at a place, as it is read from what is left of the items
+  pub row-read : (place w at n : ℕ) (these those : List T) → n ≡ w → at ≡ place * w → these ≡ drop at those
+      → take n these ≡ take w (drop (place * w) those)
+  row-read place w at n these those wide begun same =
+      ap (λ k. take k these) wide ∙ (ap (take w) same ∙ ap (λ k. take w (drop k those)) begun)
+
   -- what stands in an array whose places were lent in two parts, once both are written
   pub refill-parts : (items lent was_front was_back front back first rest : List T) → lent ≡ items
       → lent ≡ was_front ++ was_back → length front ≡ length was_front → length back ≡ length was_back
@@ -118,6 +134,14 @@ module _ {T : Type 0} where
       ap (drop n) (sym (append_assoc front passed rest))
       ∙ (ap (λ k. drop k ((front ++ passed) ++ rest)) (omega (arith, length-append front passed))
       ∙ drop-append_seam (front ++ passed) rest)
+
+  -- what follows them is what followed them in a list that ends alike
+  pub rest-left : (at n m : ℕ) (front passed rest behind items : List T) → length front ≡ at → length passed ≡ n → m ≡ n
+      → rest ≡ drop n behind → behind ≡ drop at items
+      → drop (at + m) (front ++ (passed ++ rest)) ≡ drop (at + m) items
+  rest-left at n m front passed rest behind items here wide same cut starts =
+      drop-parts (at + m) front passed rest (omega arith)
+      ∙ (cut ∙ (ap (drop n) starts ∙ (drop-drop n at items ∙ ap (λ k. drop (at + k) items) (sym same))))
 
   -- where nothing is left of a row, what follows begins with the next row
   pub rows-begun : (begun row now : List T) (these left : List (List T)) (whole : List T) → length begun ≡ 0

@@ -2,7 +2,7 @@
 ghost use Rattle.ga_core.specs.Length.{FitsInline};
 ghost use Rattle.std.specs.Prelude.{◌≡◌, ◌+◌, ◌*◌, ◌<◌, map};
 
-use crate::sequence::shapes::moves::array_of;
+use crate::sequence::shapes::moves::{array_of, deal_rows};
 use crate::sequence::shapes::{Concat, Flatten, Lengthen, Remove, Row, Shorten, Split, Unflatten};
 use ga_core::slots::move_items;
 use ga_core::{ArrayLength, GenericArray};
@@ -186,15 +186,8 @@ where
 
     #[inline(always)]
     fn unflatten(mut self) -> GenericArray<GenericArray<T, W>, R> {
-        let items = self.as_mut_slice();
         let mut rows = GenericArray::<GenericArray<T, W>, R>::default();
-        let mut at = 0;
-        for row in rows.as_mut_slice().iter_mut() {
-            let (_, behind) = items.split_at_mut(at);
-            let (first, _) = behind.split_at_mut(W::USIZE);
-            move_items(first, row.as_mut_slice());
-            at += W::USIZE;
-        }
+        deal_rows(self.as_mut_slice(), rows.as_mut_slice());
         rows
     }
 }

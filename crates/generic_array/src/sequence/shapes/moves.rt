@@ -1,6 +1,7 @@
 //! Items moved from an array into another.
 ghost use Rattle.ga_core.specs.Length.{FitsInline};
-ghost use Rattle.std.specs.Prelude.{◌≡◌, length};
+ghost use Rattle.generic_array.specs.Rows.{rows};
+ghost use Rattle.std.specs.Prelude.{◌≡◌, ◌*◌, ◌<◌, length};
 
 use ga_core::slots::move_items;
 use ga_core::{ArrayLength, GenericArray};
@@ -15,4 +16,23 @@ pub(super) fn array_of<T: Default + Drop, M: ArrayLength<T>>(items: &mut [T]) ->
     let mut array = GenericArray::default();
     move_items(items, array.as_mut_slice());
     array
+}
+
+// Moves the items over the rows, in order, and leaves defaults.
+#[inline(always)]
+pub(super) fn deal_rows<T: Default + Drop, W: ArrayLength<T>>(
+    items: &mut [T],
+    grid: &mut [GenericArray<T, W>],
+)
+    requires len { length items.old ≡ length grid.old * W.USIZE }
+    requires some { 0 < W.USIZE }
+    ensures { grid.new ≡ rows W.USIZE items.old }
+{
+    let mut at = 0;
+    for row in grid.iter_mut() {
+        let (_, behind) = items.split_at_mut(at);
+        let (first, _) = behind.split_at_mut(W::USIZE);
+        move_items(first, row.as_mut_slice());
+        at += W::USIZE;
+    }
 }
