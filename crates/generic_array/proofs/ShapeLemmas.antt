@@ -1,18 +1,21 @@
 -- Items taken out of a list, and rows of it joined and cut.
 use Rattle.std.proofs.Common.{◌≡◌, ℕ, zero, suc, ◌+◌, ◌-◌, ◌*◌, ◌/◌, ◌<◌, ◌≤◌, List, [], ◌∷◌, ◌++◌, Some, take, drop}
 use Rattle.std.proofs.Common.{refl, subst, ap, ◌∙◌, sym, arith, append_assoc, get_or, length, length-append}
-use Rattle.std.proofs.Common.{length-drop, length-set, length-take, map, slice_get, slice_index_or, slice_set}
+use Rattle.std.proofs.Common.{length-drop, length-set, map, slice_get, slice_index_or, slice_set}
 use Rattle.ga_core.proofs.SlotLemmas.{refill-whole}
 use Rattle.ga_core.proofs.RowLemmas.{rows-few, rows-first}
 use Rattle.std.proofs.Math.Seq.{drop-append_seam, take-append_seam}
 use Rattle.generic_array.specs.Rows.{row_at, rows}
 use Rattle.std.proofs.Math.Nat.{mul-le-mul_right, suc-mul}
-use Rattle.std.proofs.lemmas.List.{append-nil, drop-drop, drop_all, drop_more, get_or-drop, get_or-set_same, get_or_default}
+use Rattle.std.proofs.lemmas.List.{append-nil, drop-drop, drop_all, drop_more, get_or-set_same, get_or_default}
 use Rattle.std.proofs.lemmas.List.{nil_from_length, take-append-drop, take-set-le, take_all}
 use Rattle.std.proofs.lemmas.List.FromFn.{map-range_with_len_more}
 use Rattle.std.proofs.lemmas.Nat.{div-mul-add}
 use Rattle.std.proofs.lemmas.List.Concat.{flat_map-cons}
 use Rattle.std.proofs.lemmas.List.Elements.{All-head, All-tail}
+use Rattle.std.proofs.lemmas.List.Edits.{length-remove}
+use Rattle.std.proofs.lemmas.Slice.{put_mid-rotated}
+use borrow.Rule.Slice.PartMut.{mid_of, put_mid}
 use Rattle.std.specs.List.{All, flat_map, range_with_len, refill, remove, swap, swap_remove}
 
 -- one place is left behind all but one
@@ -71,51 +74,40 @@ module _ {T : Type 0} where
   get-only (x ∷ []) d long = refl
   get-only (x ∷ y ∷ items) d long = absurd (omega (arith, long))
 
-  -- the item at a place, and the list without it
+  -- the item at a place
   pub slice_get-next : (n : ℕ) (items left : List T) (item : T) → drop n items ≡ item ∷ left
       → slice_get items n ≡ Some item
   slice_get-next zero items left item here = ap (λ all. slice_get all 0) here
   slice_get-next (suc n) [] left item here = cc
   slice_get-next (suc n) (x ∷ items) left item here = slice_get-next n items left item here
 
-  pub remove-next : (n : ℕ) (items left : List T) (item : T) → drop n items ≡ item ∷ left
-      → take n items ++ left ≡ remove items n
-  remove-next zero items left item here = ap (drop 1) (sym here)
-  remove-next (suc n) [] left item here = cc
-  remove-next (suc n) (x ∷ items) left item here = ap (λ more. x ∷ more) (remove-next n items left item here)
+  get_or-end : (items : List T) (item x : T) → get_or (items ++ item ∷ []) (length items) x ≡ item
+  get_or-end [] item x = refl
+  get_or-end (y ∷ items) item x = get_or-end items item x
 
-  -- the list whose item at a place was carried behind the others: these, and the item
-  module _ (i m : ℕ) (items turned whole : List T) (d : T) (here : i < length items) (long : length items ≡ m + 1)
-      (carried : turned ≡ drop 1 (drop i items) ++ take 1 (drop i items)) (same : whole ≡ take i items ++ turned) where
-    abbrev item : T
-    item = get_or items i d
+  -- a list whose item at a place was carried to the end
+  module _ (xs ys : List T) (i k m : ℕ) (d : T) (here : i < length xs) (reach : length xs ≤ i + k)
+      (long : m + 1 ≡ length xs) (turned : ys ≡ drop 1 (mid_of i k xs) ++ take 1 (mid_of i k xs)) where
+    abbrev carried : List T
+    carried = remove xs i ++ get_or xs i d ∷ []
 
-    abbrev left : List T
-    left = drop (i + 1) items
+    is-carried : put_mid i k xs ys ≡ carried
+    is-carried = put_mid-rotated i k xs ys d here reach turned
 
-    abbrev others : List T
-    others = take i items ++ left
+    others-long : m ≡ length (remove xs i)
+    others-long = omega (arith, length-remove xs i here, long)
 
-    cut : drop i items ≡ item ∷ left
-    cut = drop_more items i d here
+    pub taken-others : (x : T) → take m (slice_set (put_mid i k xs ys) m x) ≡ remove xs i
+    taken-others x =
+        take-set-le m (put_mid i k xs ys) m x (omega arith)
+        ∙ (ap (take m) is-carried ∙ (ap (λ n. take n carried) others-long
+        ∙ take-append_seam (remove xs i) (get_or xs i d ∷ [])))
 
-    others-long : m ≡ length others
-    others-long = omega (arith, length-append (take i items) left, length-take i items, length-drop (i + 1) items)
-
-    parts : whole ≡ others ++ item ∷ []
-    parts = same ∙ (ap (λ l. take i items ++ l) (carried ∙ ap (λ l. drop 1 l ++ take 1 l) cut)
-        ∙ sym (append_assoc (take i items) left (item ∷ [])))
-
-    pub carried-others : take m whole ≡ remove items i
-    carried-others = ap (take m) parts ∙ (ap (λ k. take k (others ++ item ∷ [])) others-long
-        ∙ (take-append_seam others (item ∷ []) ∙ remove-next i items left item cut))
-
-    pub carried-item : slice_get items i ≡ Some (slice_index_or (drop m whole) 0 d)
-    carried-item =
-        slice_get-next i items left item cut
-        ∙ ap (λ l. Some (slice_index_or l 0 d)) (sym
-        (ap (drop m) parts ∙ (ap (λ k. drop k (others ++ item ∷ [])) others-long
-        ∙ drop-append_seam others (item ∷ []))))
+    pub taken-item : (x : T) → slice_get xs i ≡ Some (get_or (put_mid i k xs ys) m x)
+    taken-item x =
+        slice_get-next i xs (drop (i + 1) xs) (get_or xs i d) (drop_more xs i d here)
+        ∙ ap (λ item. Some item) (sym (ap (λ l. get_or l m x) is-carried
+        ∙ (ap (λ n. get_or carried n x) others-long ∙ get_or-end (remove xs i) (get_or xs i d) x)))
 
   -- the places before those that were written, and these
   pub taken-row : (at n : ℕ) (places front moved rest behind : List T) → front ≡ take at places → length front ≡ at
@@ -198,58 +190,14 @@ module _ {T : Type 0} where
       ∙ ap (λ k. take k (slice_set (d ∷ ys) i (slice_index_or (d ∷ ys) k x))) (sym last))
 
   pub swapped-item : (items : List T) (i m : ℕ) (x : T) → i < length items → length items ≡ m + 1
-      → slice_get items i ≡ Some (get_or (drop m (swap items i m)) 0 x)
+      → slice_get items i ≡ Some (get_or (swap items i m) m x)
   swapped-item [] i m x here long = absurd (omega (arith, here))
   swapped-item (d ∷ ys) i m x here long =
       let items = d ∷ ys in
       let carried = slice_set items i (slice_index_or items m d) in
       slice_get-next i items (drop (i + 1) items) (get_or items i d) (drop_more items i d here)
-      ∙ ap (λ item. Some item) (sym (get_or-drop m (slice_set carried m (slice_index_or items i d)) 0 x
-      ∙ (ap (λ k. get_or (slice_set carried m (slice_index_or items i d)) k x) (omega arith)
-      ∙ get_or-set_same carried m (slice_index_or items i d) x
-      (omega (arith, long, length-set items i (slice_index_or items m d))))))
-
-  -- the same, from what each step of the removal tells
-  module _ (self items : List T) (i n m u : ℕ) (x : T) (here : i < length self) (same : items ≡ self)
-      (long : length items ≡ n) (shorter : n ≡ m + 1) (asked : u ≡ m) where
-    length-self : length self ≡ m + 1
-    length-self = omega (arith, ap length same, long, shorter)
-
-    module _ (front behind turned others last : List T) (is_front : front ≡ take i items)
-        (is_behind : behind ≡ drop i items) (turns : turned ≡ drop 1 behind ++ take 1 behind) where
-      length-u : length self ≡ u + 1
-      length-u = omega (arith, length-self, asked)
-
-      carried : turned ≡ drop 1 (drop i self) ++ take 1 (drop i self)
-      carried = turns ∙ ap (λ l. drop 1 l ++ take 1 l) (is_behind ∙ ap (drop i) same)
-
-      parted : front ++ turned ≡ take i self ++ turned
-      parted = ap (λ l. l ++ turned) (is_front ∙ ap (take i) same)
-
-      pub remove-others : (made : List T) → made ≡ others → others ≡ take u (front ++ turned) → made ≡ remove self i
-      remove-others made is_made is_others = is_made
-          ∙ (is_others ∙ carried-others i u self turned (front ++ turned) x here length-u carried parted)
-
-      pub remove-item : (got : T) → got ≡ slice_index_or last 0 x → last ≡ drop u (front ++ turned)
-          → slice_get self i ≡ Some got
-      remove-item got is_got is_last =
-          carried-item i u self turned (front ++ turned) x here length-u carried parted
-          ∙ ap (λ y. Some y) (sym (is_got ∙ ap (λ l. slice_index_or l 0 x) is_last))
-
-    module _ (swapped others last : List T) (v : ℕ) (swaps : swapped ≡ swap items i u) (then : v ≡ m) where
-      swapped-is : swapped ≡ swap self i m
-      swapped-is = swaps ∙ (ap (λ l. swap l i u) same ∙ ap (λ k. swap self i k) asked)
-
-      pub swap_remove-others : (made : List T) → made ≡ others → others ≡ take v swapped → made ≡ swap_remove self i x
-      swap_remove-others made is_made is_others =
-          is_made ∙ (is_others ∙ (ap (λ k. take k swapped) then
-          ∙ (ap (take m) swapped-is ∙ swapped-others self i m x here length-self)))
-
-      pub swap_remove-item : (got : T) → got ≡ get_or last 0 x → last ≡ drop v swapped → slice_get self i ≡ Some got
-      swap_remove-item got is_got is_last =
-          swapped-item self i m x here length-self
-          ∙ ap (λ y. Some y) (sym (is_got ∙ ap (λ l. get_or l 0 x)
-          (is_last ∙ (ap (λ k. drop k swapped) then ∙ ap (drop m) swapped-is))))
+      ∙ ap (λ item. Some item) (sym (get_or-set_same carried m (slice_index_or items i d) x
+      (omega (arith, long, length-set items i (slice_index_or items m d)))))
 
 module _ {X : Type 0} (width : ℕ) (some : 0 < width) where
   -- rows joined, and cut again

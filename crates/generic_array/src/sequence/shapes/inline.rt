@@ -2,7 +2,7 @@
 ghost use Rattle.ga_core.specs.Length.{FitsInline};
 ghost use Rattle.std.specs.Prelude.{◌≡◌, ◌+◌, ◌*◌, ◌<◌, map};
 
-use crate::sequence::shapes::moves::{array_of, deal_rows};
+use crate::sequence::shapes::moves::{array_of, deal_rows, swap_out, take_out};
 use crate::sequence::shapes::{Concat, Flatten, Lengthen, Remove, Row, Shorten, Split, Unflatten};
 use ga_core::slots::move_items;
 use ga_core::{ArrayLength, GenericArray};
@@ -114,18 +114,13 @@ impl<T: Default + Drop, N: ArrayLength<T>, M: ArrayLength<T>> Remove<T, GenericA
     #[inline]
     fn remove(mut self, index: usize) -> (T, GenericArray<T, M>) {
         let items = self.as_mut_slice();
-        let (_, behind) = items.split_at_mut(index);
-        behind.rotate_left(1);
-        let (others, last) = items.split_at_mut(M::USIZE);
-        (mem::take(&mut last[0]), array_of(others))
+        (take_out(items, index), array_of(&mut items[..M::USIZE]))
     }
 
     #[inline]
     fn swap_remove(mut self, index: usize) -> (T, GenericArray<T, M>) {
         let items = self.as_mut_slice();
-        items.swap(index, M::USIZE);
-        let (others, last) = items.split_at_mut(M::USIZE);
-        (mem::take(&mut last[0]), array_of(others))
+        (swap_out(items, index), array_of(&mut items[..M::USIZE]))
     }
 }
 

@@ -1,10 +1,12 @@
 //! Items moved from an array into another.
 ghost use Rattle.ga_core.specs.Length.{FitsInline};
 ghost use Rattle.generic_array.specs.Rows.{rows};
-ghost use Rattle.std.specs.Prelude.{◌≡◌, ◌*◌, ◌<◌, length};
+ghost use Rattle.std.specs.List.{swap_remove};
+ghost use Rattle.std.specs.Prelude.{◌≡◌, ◌-◌, ◌*◌, ◌<◌, Some, length, remove, slice_get, take};
 
 use ga_core::slots::move_items;
 use ga_core::{ArrayLength, GenericArray};
+use std::mem;
 
 // An array of the items of a slice, in which defaults are left.
 #[inline]
@@ -16,6 +18,30 @@ pub(super) fn array_of<T: Default + Drop, M: ArrayLength<T>>(items: &mut [T]) ->
     let mut array = GenericArray::default();
     move_items(items, array.as_mut_slice());
     array
+}
+
+// Takes the item at `index` out. All others are left in order, and behind them a default.
+#[inline]
+pub(super) fn take_out<T: Default + Drop>(items: &mut [T], index: usize) -> T
+    requires { index < length items.old }
+    ensures item { slice_get items.old index ≡ Some result }
+    ensures others { take (length items.old - 1) items.new ≡ remove items.old index }
+{
+    let last = items.len() - 1;
+    items[index..].rotate_left(1);
+    mem::take(&mut items[last])
+}
+
+// `take_out`, where the last item takes the place of the one that was taken.
+#[inline]
+pub(super) fn swap_out<T: Default + Drop>(items: &mut [T], index: usize) -> T
+    requires { index < length items.old }
+    ensures item { slice_get items.old index ≡ Some result }
+    ensures others { take (length items.old - 1) items.new ≡ swap_remove items.old index result }
+{
+    let last = items.len() - 1;
+    items.swap(index, last);
+    mem::take(&mut items[last])
 }
 
 // Moves the items over the rows, in order, and leaves defaults.

@@ -1,16 +1,15 @@
-use Rattle.generic_array.proofs.ShapeLemmas.{remove-item, remove-others}
 use Rattle.generic_array.proofs.sequence.shapes.inline.GenericArrayRemove.remove.Goals as goal
+use Rattle.std.proofs.Common.{◌≡◌, ◌-◌, ◌∙◌, ap, arith, length, slice_get, sym, take}
+use Rattle.std.specs.List.{remove}
 
 pub returns-clause-item : goal.returns-clause-item
 returns-clause-item g c =
-    remove-item _ _ _ _ _ _ c.index-last-0.result c.requires.in_bounds c.as_mut_slice-items.ensures.items
-    c.as_mut_slice-items.ensures.len c.requires.shorter c.USIZE.ensures
-    _ _ _ c.split_at_mut-others.result.0.now _ c.split_at_mut-behind.ensures.front c.split_at_mut-behind.ensures.back
-    c.rotate_left.ensures.after _ c.take.ensures.value c.split_at_mut-others.ensures.back
+    ap (λ l. slice_get l c.args.index) (sym c.as_mut_slice-items.ensures.items) ∙ c.take_out.ensures.item
 
 pub returns-clause-others : goal.returns-clause-others
 returns-clause-others g c =
-    remove-others _ _ _ _ _ _ c.index-last-0.result c.requires.in_bounds c.as_mut_slice-items.ensures.items
-    c.as_mut_slice-items.ensures.len c.requires.shorter c.USIZE.ensures
-    _ _ _ _ c.split_at_mut-others.result.1.now c.split_at_mut-behind.ensures.front c.split_at_mut-behind.ensures.back
-    c.rotate_left.ensures.after _ c.array_of.ensures c.split_at_mut-others.ensures.front
+    let items = c.as_mut_slice-items.result.now in
+    let shorter : c.USIZE.result ≡ length items - 1 =
+    omega (arith, c.as_mut_slice-items.ensures.len, c.requires.shorter, c.USIZE.ensures) in
+    c.array_of.ensures ∙ (ap (λ n. take n c.take_out.new.items) shorter
+    ∙ (c.take_out.ensures.others ∙ ap (λ l. remove l c.args.index) c.as_mut_slice-items.ensures.items))
