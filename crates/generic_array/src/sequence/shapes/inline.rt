@@ -2,7 +2,7 @@
 ghost use Rattle.ga_core.specs.Length.{FitsInline};
 ghost use Rattle.std.specs.Prelude.{◌≡◌, ◌+◌, ◌*◌, ◌<◌, map};
 
-use crate::sequence::shapes::moves::{array_of, deal_rows, swap_out, take_out};
+use crate::sequence::shapes::moves::{array_of, deal_rows, join, swap_out, take_out};
 use crate::sequence::shapes::{Concat, Flatten, Lengthen, Remove, Row, Shorten, Split, Unflatten};
 use ga_core::slots::move_items;
 use ga_core::{ArrayLength, GenericArray};
@@ -74,9 +74,11 @@ impl<T: Default + Drop, N: ArrayLength<T>, R: ArrayLength<T>, M: ArrayLength<T>>
     #[inline(always)]
     fn concat(mut self, mut rest: GenericArray<T, R>) -> GenericArray<T, M> {
         let mut both = GenericArray::default();
-        let (left, right) = both.as_mut_slice().split_at_mut(N::USIZE);
-        move_items(self.as_mut_slice(), left);
-        move_items(rest.as_mut_slice(), right);
+        join(
+            self.as_mut_slice(),
+            rest.as_mut_slice(),
+            both.as_mut_slice(),
+        );
         both
     }
 }

@@ -2,7 +2,7 @@
 ghost use Rattle.ga_core.specs.Length.{FitsInline};
 ghost use Rattle.generic_array.specs.Rows.{rows};
 ghost use Rattle.std.specs.List.{swap_remove};
-ghost use Rattle.std.specs.Prelude.{◌≡◌, ◌-◌, ◌*◌, ◌<◌, Some, length, remove, slice_get, take};
+ghost use Rattle.std.specs.Prelude.{◌≡◌, ◌+◌, ◌-◌, ◌*◌, ◌<◌, ◌++◌, Some, length, remove, slice_get, take};
 
 use ga_core::slots::move_items;
 use ga_core::{ArrayLength, GenericArray};
@@ -18,6 +18,17 @@ pub(super) fn array_of<T: Default + Drop, M: ArrayLength<T>>(items: &mut [T]) ->
     let mut array = GenericArray::default();
     move_items(items, array.as_mut_slice());
     array
+}
+
+// Moves the items of two slices over the slots of another, one after the other, and leaves defaults.
+#[inline(always)]
+pub(super) fn join<T: Default + Drop>(first: &mut [T], rest: &mut [T], slots: &mut [T])
+    requires { length slots.old ≡ length first.old + length rest.old }
+    ensures { slots.new ≡ first.old ++ rest.old }
+{
+    let (left, right) = slots.split_at_mut(first.len());
+    move_items(first, left);
+    move_items(rest, right);
 }
 
 // Takes the item at `index` out. All others are left in order, and behind them a default.
