@@ -1,4 +1,9 @@
 use Rattle.generic_array.proofs.functional.FunctionalSequence.zip.Goals as goal
 
-pub returns-clause-run : goal.returns-clause-run
-returns-clause-run g c = (c.zip_by.new.f, c.zip_by.ensures.run)
+pub returns : goal.returns
+returns g c = record {
+  len = c.zip_by.ensures.len;
+  run = (c.zip_by.new.f, c.zip_by.ensures.run);
+  acts = c.zip_by.ensures.acts;
+  promised = c.zip_by.ensures.promised;
+}
