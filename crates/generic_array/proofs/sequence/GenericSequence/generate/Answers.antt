@@ -1,4 +1,9 @@
 use Rattle.generic_array.proofs.sequence.GenericSequence.generate.Goals as goal
 
-pub returns-clause-run : goal.returns-clause-run
-returns-clause-run g c = (c.generate_by.new.f, c.generate_by.ensures.run)
+pub returns : goal.returns
+returns g c = record {
+  len = c.generate_by.ensures.len;
+  run = (c.generate_by.new.f, c.generate_by.ensures.run);
+  acts = c.generate_by.ensures.acts;
+  promised = c.generate_by.ensures.promised;
+}
