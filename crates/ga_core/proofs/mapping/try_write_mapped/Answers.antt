@@ -17,12 +17,14 @@ pub loop-index-preserved : goal.loop-index-preserved
 loop-index-preserved g c =
     let run = ClosureRun-good _ _ _ (take c.loop-index.index c.loop-index.slots) _ c.take.result c.in-Ok.item _
     c.loop-index.invariant.run c.in-Ok.ensures in
-    taken-next c.in-Ok.item c.f.new.self c.take.new.dest c.loop-index.invariant (place-in c.loop-index-test.true (c.loop-index.auto.items ∙ c.requires.len))
+    taken-next c.in-Ok.item c.f.new.self c.take.new.dest c.loop-index.invariant
+    (place-in c.loop-index-test.true (c.loop-index.auto.items ∙ c.requires.len))
     (place-in c.loop-index-test.true c.loop-index.auto.slots) c.index-items-index.is c.take.ensures.value run
 
 pub returns-in-Err : goal.returns-in-Err
 returns-in-Err g c =
-    let cut = cut-next c.loop-index.invariant (place-in c.loop-index-test.true (c.loop-index.auto.items ∙ c.requires.len))
+    let cut = cut-next c.loop-index.invariant
+    (place-in c.loop-index-test.true (c.loop-index.auto.items ∙ c.requires.len))
     c.index-items-index.is c.take.ensures.value in
     record {
       run = subst (λ xs. FirstErrorRun (goal.F-step g) c.args.f.now xs (Err c.in-Err.error) c.f.new.self)
@@ -32,6 +34,7 @@ returns-in-Err g c =
 pub returns : goal.returns
 returns g c =
     let run = run-of_all (λ items good. ClosureRun (goal.F-step g) c.args.f.now items (map Ok good) c.loop-index.f)
-    c.loop-index.index _ _ (all-in c.loop-index-test.false c.requires.len) (all-in c.loop-index-test.false c.loop-index.auto.slots)
+    c.loop-index.index _ _ (all-in c.loop-index-test.false c.requires.len)
+    (all-in c.loop-index-test.false c.loop-index.auto.slots)
     c.loop-index.invariant.run in
     record { run = FirstErrorRun-good _ _ _ _ _ run }

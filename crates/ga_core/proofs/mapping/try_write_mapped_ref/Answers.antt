@@ -35,6 +35,7 @@ returns-in-Err g c =
 pub returns : goal.returns
 returns g c =
     let run = run-of_all (λ items good. ClosureRun (CallAt (λ item. item.now) (goal.F-step g)) c.args.f.now items
-    (map Ok good) c.loop-index.f) c.loop-index.index _ _ (all-in c.loop-index-test.false c.requires.len) (all-in c.loop-index-test.false c.loop-index.auto.slots)
+    (map Ok good) c.loop-index.f) c.loop-index.index _ _ (all-in c.loop-index-test.false c.requires.len)
+    (all-in c.loop-index-test.false c.loop-index.auto.slots)
     c.loop-index.invariant.run in
     record { run = FirstErrorRun-good _ _ _ _ _ run }

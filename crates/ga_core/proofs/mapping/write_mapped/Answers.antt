@@ -15,7 +15,8 @@ f-requires g c =
 pub loop-index-preserved : goal.loop-index-preserved
 loop-index-preserved g c =
     let run = ClosureRun-snoc _ _ _ _ _ c.take.result _ _ c.loop-index.invariant.run c.f.ensures in
-    taken-next c.f.result c.f.new.self c.take.new.dest c.loop-index.invariant (place-in c.loop-index-test.true (c.loop-index.auto.items ∙ c.requires.len))
+    taken-next c.f.result c.f.new.self c.take.new.dest c.loop-index.invariant
+    (place-in c.loop-index-test.true (c.loop-index.auto.items ∙ c.requires.len))
     (place-in c.loop-index-test.true c.loop-index.auto.slots) c.index-items-index.is c.take.ensures.value run
 
 pub returns : goal.returns

@@ -20,7 +20,9 @@ f-requires g c =
     c.take-in-loop-index.ensures.value at.invariant.behind_right in
     may_zip-at (λ item. item) (λ item. item) _ _ _ _ _ c.requires.callable
     (take at.index (zip c.args.left.now c.args.right.now)) (c.take.result, c.take-in-loop-index.result) _
-    (take at.index at.slots) at.f (cut-here _ _ _ _ (pairs-here at.index c.args.left.now _ c.args.right.now _ _ _ left right)) at.invariant.run _ _ refl refl
+    (take at.index at.slots) at.f
+    (cut-here _ _ _ _ (pairs-here at.index c.args.left.now _ c.args.right.now _ _ _ left right))
+    at.invariant.run _ _ refl refl
 
 pub loop-index-preserved : goal.loop-index-preserved
 loop-index-preserved g c =

@@ -18,7 +18,9 @@ f-requires g c =
     (place-in c.loop-index-test.true c.requires.right) c.index-right-index.is refl in
     may_zip-at (λ item. item.now) (λ item. item.now) _ _ _ _ _ c.requires.callable
     (take at.index (zip c.args.left.now c.args.right.now)) (c.index-left-index.result, c.index-right-index.result) _
-    (take at.index at.slots) at.f (cut-here _ _ _ _ (pairs-here at.index c.args.left.now _ c.args.right.now _ _ _ left right)) at.invariant _ _ refl refl
+    (take at.index at.slots) at.f
+    (cut-here _ _ _ _ (pairs-here at.index c.args.left.now _ c.args.right.now _ _ _ left right))
+    at.invariant _ _ refl refl
 
 pub loop-index-preserved : goal.loop-index-preserved
 loop-index-preserved g c =

@@ -1,6 +1,6 @@
 use Rattle.ga_core.proofs.builder.ArrayBuilder.pop.Goals as goal
-use Rattle.std.proofs.Common.{◌≡◌, ◌<◌, ◌∷◌, ◌++◌, [], List, MatchOption, None, Option, Some, ap, arith, length, refl, rules}
-use Rattle.std.proofs.Common.{IfNone, IfSome, IsSome, length-append, ℕ, ◌≤◌, ◌∙◌, subst, sym}
+use Rattle.std.proofs.Common.{◌≡◌, ◌<◌, ◌∷◌, ◌++◌, [], List, MatchOption, None, Option, Some, ap, arith, length}
+use Rattle.std.proofs.Common.{IfNone, IfSome, IsSome, length-append, refl, rules, ℕ, ◌≤◌, ◌∙◌, subst, sym}
 
 -- what a call says that took the last item, or left an empty list
 module _ {T : Type 0} (before after : List T) where
