@@ -1,9 +1,6 @@
 use Rattle.generic_array.proofs.functional.FunctionalSequence.map.Goals as goal
 
 pub returns : goal.returns
-returns g c = record {
-  len = c.map_by.ensures.len;
-  run = (c.map_by.new.f, c.map_by.ensures.run);
-  acts = c.map_by.ensures.acts;
-  promised = c.map_by.ensures.promised;
-}
+returns g c =
+    let told = c.map_by.ensures in
+    record { len = told.len; run = (c.map_by.new.f, told.run); acts = told.acts; promised = told.promised }

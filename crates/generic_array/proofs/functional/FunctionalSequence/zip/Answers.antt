@@ -1,9 +1,6 @@
 use Rattle.generic_array.proofs.functional.FunctionalSequence.zip.Goals as goal
 
 pub returns : goal.returns
-returns g c = record {
-  len = c.zip_by.ensures.len;
-  run = (c.zip_by.new.f, c.zip_by.ensures.run);
-  acts = c.zip_by.ensures.acts;
-  promised = c.zip_by.ensures.promised;
-}
+returns g c =
+    let told = c.zip_by.ensures in
+    record { len = told.len; run = (c.zip_by.new.f, told.run); acts = told.acts; promised = told.promised }

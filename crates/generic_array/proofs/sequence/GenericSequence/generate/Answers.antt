@@ -1,9 +1,6 @@
 use Rattle.generic_array.proofs.sequence.GenericSequence.generate.Goals as goal
 
 pub returns : goal.returns
-returns g c = record {
-  len = c.generate_by.ensures.len;
-  run = (c.generate_by.new.f, c.generate_by.ensures.run);
-  acts = c.generate_by.ensures.acts;
-  promised = c.generate_by.ensures.promised;
-}
+returns g c =
+    let told = c.generate_by.ensures in
+    record { len = told.len; run = (c.generate_by.new.f, told.run); acts = told.acts; promised = told.promised }
