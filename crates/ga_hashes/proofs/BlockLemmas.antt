@@ -1,11 +1,11 @@
 -- Calls at blocks in turn, and messages that are fed.
 use Rattle.ga_hashes.specs.BlockBuffer.{HasFed, MayTake, Takes}
-use Rattle.generic_array.proofs.JoinLemmas.{chunk_rest-joined, rows-behind, rows-joined}
-use Rattle.generic_array.proofs.CallLemmas.{may_map-at}
-use Rattle.generic_array.proofs.JoinedRuns.{ClosureRun-in_turn, MayMap-first, MayMap-second}
-use Rattle.generic_array.proofs.RowLemmas.{chunk_rest-few, rows-few}
-use Rattle.generic_array.specs.Entries.{CallAt}
-use Rattle.generic_array.specs.Rows.{chunk_rest, rows}
+use Rattle.ga_core.proofs.JoinLemmas.{chunk_rest-joined, rows-behind, rows-joined}
+use Rattle.ga_core.proofs.CallLemmas.{may_map-at}
+use Rattle.ga_core.proofs.JoinedRuns.{ClosureRun-in_turn, MayMap-first, MayMap-second}
+use Rattle.ga_core.proofs.RowLemmas.{chunk_rest-few, rows-few}
+use Rattle.ga_core.specs.Entries.{CallAt}
+use Rattle.ga_core.specs.Rows.{chunk_rest, rows}
 use Rattle.std.proofs.Common.{◌≡◌, ℕ, ◌<◌, List, [], ◌∷◌, ◌++◌, length, refl, sym, ap, ◌∙◌, append_assoc, subst}
 
 module _ {V F : Type 0} (bytes_of : V → List ℕ) (step : F → V → Unit {0} → F → Type 0) where

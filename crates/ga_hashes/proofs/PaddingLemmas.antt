@@ -1,6 +1,6 @@
 -- Padding: what is kept of a message tells how many zeros it takes.
 use Rattle.ga_hashes.specs.BlockBuffer.{with_padding, padding, zero_count}
-use Rattle.generic_array.specs.Rows.{chunk_rest}
+use Rattle.ga_core.specs.Rows.{chunk_rest}
 use Rattle.std.proofs.Common.{◌≡◌, ℕ, ◌+◌, ◌-◌, ◌*◌, ◌/◌, ◌%◌, ◌<◌, ◌∷◌, [], List, ◌++◌, length, replicate, ap, refl}
 use Rattle.std.proofs.Common.{sym, ◌∙◌, append_assoc, arith, inl, inr, length-append, length-drop}
 use Rattle.std.proofs.Math.Nat.{add-mul-mod_self_right, div-mul-le_self, mod-eq_of_lt, mod-lt, mod_self}

@@ -1,8 +1,8 @@
 -- Messages in blocks: what a buffer keeps of them, the calls at their blocks, and the padded message.
-use Rattle.generic_array.specs.Calls.{MayMap}
-use Rattle.generic_array.specs.Entries.{CallAt}
-use Rattle.generic_array.specs.Runs.{ClosureRun}
-use Rattle.generic_array.specs.Rows.{chunk_rest, rows}
+use Rattle.ga_core.specs.Calls.{MayMap}
+use Rattle.ga_core.specs.Entries.{CallAt}
+use Rattle.ga_core.specs.Runs.{ClosureRun}
+use Rattle.ga_core.specs.Rows.{chunk_rest, rows}
 use Rattle.std.specs.Borrow.{Bor}
 use Rattle.std.specs.Int.{to_be_bytes, w64}
 use Rattle.std.specs.Prelude.{◌≡◌, ℕ, ◌+◌, ◌-◌, ◌*◌, ◌%◌, ◌^◌, List, ◌∷◌, ◌++◌, length, min, replicate}

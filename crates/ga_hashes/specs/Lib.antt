@@ -3,11 +3,10 @@ pub mod DigestLengths
 pub mod Hkdf
 pub mod Hmac
 pub mod OneTimePassword
-pub use Rattle.generic_array.specs.Entries
-pub use Rattle.generic_array.specs.EntryRuns
-pub use Rattle.generic_array.specs.Length
-pub use Rattle.generic_array.specs.Rows
-pub use Rattle.generic_array.specs.Runs
+pub use Rattle.ga_core.specs.Entries
+pub use Rattle.ga_core.specs.Length
+pub use Rattle.ga_core.specs.Rows
+pub use Rattle.ga_core.specs.Runs
 pub use Rattle.md5.specs.Md5
 pub use Rattle.sha1.specs.Sha1
 pub use Rattle.sha2.specs.Sha256

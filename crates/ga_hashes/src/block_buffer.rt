@@ -1,11 +1,11 @@
 //! Messages of any length, passed on in blocks of one length.
 ghost use Rattle.ga_hashes.specs.BlockBuffer.{HasFed, MayTakeBlocks, TakesBlocks, count_more, padding, with_padding, zero_count};
-ghost use Rattle.generic_array.specs.Length.{FitsInline};
-ghost use Rattle.generic_array.specs.Rows.{chunk_rest, rows};
+ghost use Rattle.ga_core.specs.Length.{FitsInline};
+ghost use Rattle.ga_core.specs.Rows.{chunk_rest, rows};
 ghost use Rattle.std.specs.List.{flat_map};
 ghost use Rattle.std.specs.Prelude.{◌≡◌, ℕ, ◌+◌, ◌^◌, ◌<◌, ◌≤◌, List, [], ◌++◌, length, replicate};
 
-use generic_array::{ArrayBuilder, ArrayLength, ChunksRef, GenericArray, Unsigned};
+use ga_core::{ArrayBuilder, ArrayLength, ChunksRef, GenericArray, Unsigned};
 use std::marker::Model;
 use std::mem;
 
@@ -20,7 +20,7 @@ pub struct BlockBuffer<N: ArrayLength<u8>> {
 
 impl<N: ArrayLength<u8>> Model for BlockBuffer<N> {
     ghost use Rattle.ga_hashes.specs.BlockBuffer.{Fed};
-    ghost use Rattle.generic_array.specs.Length.{FitsInline};
+    ghost use Rattle.ga_core.specs.Length.{FitsInline};
     ghost use Rattle.std.specs.Prelude.{◌<◌, length};
 
     ghost Value = { Fed };

@@ -8,7 +8,7 @@ ghost use Rattle.std.specs.Prelude.{◌≡◌, ◌+◌, ◌*◌, ◌<◌, ◌≤
 
 use crate::hash_function::HashFunction;
 use crate::hmac::{Hmac, tag_of};
-use generic_array::{GenericArray, LengthError};
+use ga_core::{GenericArray, LengthError};
 
 // How many blocks there are at most: a block's number is a byte, and the first is 1.
 const MAX_BLOCKS: usize = 255;

@@ -2,11 +2,11 @@
 //!
 //! Nothing here allocates, and nothing fails.
 ghost use Rattle.ga_hashes.specs.Hmac.{Holds, hmac_of, key_block, with_mask};
-ghost use Rattle.generic_array.specs.Length.{FitsInline};
+ghost use Rattle.ga_core.specs.Length.{FitsInline};
 ghost use Rattle.std.specs.Prelude.{◌≡◌, ℕ, ◌-◌, ◌≤◌, ◌↔◌, ◌++◌, IsTrue, List, [], length, replicate};
 
 use crate::hash_function::HashFunction;
-use generic_array::{ArrayLength, BorrowedItems, GenericArray};
+use ga_core::{ArrayLength, BorrowedItems, GenericArray};
 
 // The mask of the key before the message.
 const INNER: u8 = 0x36;

@@ -2,7 +2,7 @@
 //! passwords.
 //!
 //! All of it is over any hash function, allocates nothing, and is proved from the public contracts
-//! of `generic_array`.
+//! of `ga_core`.
 #![tactic(auto)]
 
 /// Messages of any length, in blocks of one length.

@@ -8,7 +8,7 @@ ghost use Rattle.std.specs.Prelude.{◌≡◌, ◌/◌, ◌^◌, ◌<◌, ◌≤
 
 use crate::hash_function::HashFunction;
 use crate::hmac::tag_of;
-use generic_array::ArrayLength;
+use ga_core::ArrayLength;
 use sha1::Sha1;
 use sha2::{Sha256, Sha512};
 use std::num::NonZeroU64;

@@ -1,6 +1,6 @@
 use Rattle.ga_hashes.proofs.BlockLemmas.{BlocksLeft}
 use Rattle.ga_hashes.proofs.block_buffer.hand_on_rows.Given as goal
-use Rattle.generic_array.specs.Rows.{rows}
+use Rattle.ga_core.specs.Rows.{rows}
 
 -- the calls at the blocks that are left complete those at all blocks
 abbrev pub invariant-loop-block : goal.invariant-loop-block

@@ -2,8 +2,8 @@ use Rattle.ga_hashes.proofs.BlockLemmas.{MayTake-along, MayTake-front, MayTake-m
 use Rattle.ga_hashes.proofs.PaddingLemmas.{padding-kept, with_padding-whole}
 use Rattle.ga_hashes.proofs.block_buffer.padded_blocks.Goals as goal
 use Rattle.ga_hashes.specs.BlockBuffer.{with_padding, padding}
-use Rattle.generic_array.proofs.JoinLemmas.{rows-joined}
-use Rattle.generic_array.specs.Rows.{chunk_rest, rows}
+use Rattle.ga_core.proofs.JoinLemmas.{rows-joined}
+use Rattle.ga_core.specs.Rows.{chunk_rest, rows}
 use Rattle.std.proofs.Common.{◌≡◌, [], ◌++◌, ap, append-nil, arith, length, sym, ◌∙◌}
 use Rattle.std.specs.List.{flat_map}
 

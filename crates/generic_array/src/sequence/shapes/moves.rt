@@ -1,4 +1,7 @@
 //! Items moved from an array into another.
+//!
+//! What is done to slices is apart from the shapes, each of which calls it once: a proof at an array's
+//! length costs more.
 ghost use Rattle.ga_core.specs.Length.{FitsInline};
 ghost use Rattle.generic_array.specs.Rows.{rows};
 ghost use Rattle.std.specs.List.{swap_remove};

@@ -2,9 +2,9 @@ use Rattle.ga_hashes.proofs.BlockLemmas.{MayTake-along, Takes-none, full-callabl
 use Rattle.ga_hashes.proofs.block_buffer.BlockBuffer.feed_blocks.Given as given
 use Rattle.ga_hashes.proofs.block_buffer.BlockBuffer.feed_blocks.Goals as goal
 use Rattle.ga_hashes.proofs.block_buffer.BlockBuffer.feed_blocks.Goals.{After-as_slice}
-use Rattle.generic_array.proofs.JoinLemmas.{chunk_rest-behind}
-use Rattle.generic_array.proofs.RowLemmas.{chunk_rest-few, rows-few}
-use Rattle.generic_array.specs.Rows.{rows}
+use Rattle.ga_core.proofs.JoinLemmas.{chunk_rest-behind}
+use Rattle.ga_core.proofs.RowLemmas.{chunk_rest-few, rows-few}
+use Rattle.ga_core.specs.Rows.{rows}
 use Rattle.std.proofs.Common.{◌≡◌, [], ◌++◌, ◌<◌, ap, arith, length, length-append, rules, sym, ◌∙◌}
 use Rattle.std.proofs.lemmas.List.{nil_from_length}
 

@@ -1,7 +1,7 @@
 use Rattle.ga_hashes.proofs.BlockLemmas.{MayTake-along}
 use Rattle.ga_hashes.proofs.block_buffer.BlockBuffer.feed_zeros.Goals as goal
 use Rattle.ga_hashes.specs.BlockBuffer.{HasFed}
-use Rattle.generic_array.specs.Rows.{rows}
+use Rattle.ga_core.specs.Rows.{rows}
 use Rattle.std.proofs.Common.{◌≡◌, ◌++◌, ap, arith, replicate, subst, sym, take, ◌∙◌}
 use Rattle.std.proofs.lemmas.List.{take-replicate}
 

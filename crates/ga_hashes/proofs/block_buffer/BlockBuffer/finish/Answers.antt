@@ -4,7 +4,7 @@ use Rattle.ga_hashes.proofs.block_buffer.BlockBuffer.finish.Given as given
 use Rattle.ga_hashes.proofs.block_buffer.BlockBuffer.finish.Goals as goal
 use Rattle.ga_hashes.proofs.block_buffer.BlockBuffer.finish.Goals.{After-feed_zeros, After-zero_count-zeros}
 use Rattle.ga_hashes.specs.BlockBuffer.{HasFed, with_padding, padding, zero_count}
-use Rattle.generic_array.specs.Rows.{chunk_rest, rows}
+use Rattle.ga_core.specs.Rows.{chunk_rest, rows}
 use Rattle.std.proofs.Common.{◌≡◌, ◌<◌, ◌*◌, ◌∷◌, [], ◌++◌, ap, append-nil, arith, length, refl, replicate, sym, ◌∙◌}
 use Rattle.std.specs.Int.{to_be_bytes, w64}
 
