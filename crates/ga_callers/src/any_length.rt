@@ -290,15 +290,6 @@ fn masks_are_right(alloc: Global) -> Result<bool, AllocError> {
     )
 }
 
-/// The checksum of a key that is masked over the traits alone, and its total.
-fn checksum_and_total(alloc: Global) -> Result<(u8, u8), AllocError> {
-    let key = BoxedArray::<u8, U3>::from_array(alloc, [1, 2, 3])?;
-    let sum = checksum_of_any(&masked_sequence(key, alloc, 1)?);
-    let key = BoxedArray::<u8, U3>::from_array(alloc, [0x36, 0, 0xff])?;
-    let total = masked_and_totalled(key, alloc, &mut |b: u8| b ^ 0x36)?;
-    Ok((sum, total))
-}
-
 /// Whether sums place by place are those worked out by hand.
 fn sums_are_right(alloc: Global) -> Result<bool, AllocError> {
     let right = four_five_six();
@@ -334,10 +325,8 @@ fn text_is_right() -> bool {
 }
 
 #[test]
-fn masks_of_any_length_are_what_their_contracts_say(rt: HostRuntime) -> Result<(), Fail> {
-    assert!(rt; masks_are_right(rt.alloc())?);
-    assert!(rt; checksum_and_total(rt.alloc())? == (5, 0xff));
-    Ok(())
+fn masks_of_any_length_are_what_their_contracts_say(rt: HostRuntime) {
+    assert!(rt; masks_are_right(rt.alloc()).expect(&rt, "no memory"));
 }
 
 #[test]
@@ -352,11 +341,4 @@ fn numbers_of_any_length_are_those_worked_out_by_hand(rt: HostRuntime) -> Result
 #[test]
 fn text_of_any_length_is_read_and_aligned(rt: HostRuntime) {
     assert!(rt; text_is_right());
-    assert!(rt;
-        gives(
-            digits_of_text::<GenericArray<u8, U3>>((), b"190", 10),
-            &[1, 9, 0]
-        )
-    );
-    assert!(rt; digits_of_text::<BoxedArray<u8, U3>>(rt.alloc(), b"19x", 10).is_err());
 }

@@ -12,7 +12,7 @@ use generic_array::functional::{
 use generic_array::sequence::{
     FromFallibleIterator, GenericSequence, Lengthen, SequenceItem, Shorten,
 };
-use generic_array::{AllocError, ArrayLength, BoxedArray, FillError, GenericArray, U3};
+use generic_array::{AllocError, ArrayLength, FillError, GenericArray};
 use std::convert::AsSlice;
 
 fn length_of<T, S: GenericSequence<T>>(s: &S) -> usize
@@ -152,13 +152,4 @@ where
         Err(FillError::Item(_)) => items.next(),
         _ => None,
     }
-}
-
-#[test]
-fn items_are_made_and_asked_for_where_the_traits_alone_are_known(rt: HostRuntime) {
-    assert!(rt; seven_at::<BoxedArray<u8, U3>>(rt.alloc(), 2).is_ok_and(|item| item == 7));
-    let results: [Result<u8, u8>; 3] = [Ok(1), Err(7), Ok(2)];
-    let next = next_after_an_error::<GenericArray<u8, U3>, _>((), &mut results.iter().copied());
-    assert!(rt; next == Some(Ok(2)));
-    assert!(rt; digits_lent::<BoxedArray<u8, U3>>(rt.alloc(), b"18").is_err());
 }

@@ -59,21 +59,19 @@ fn rows_are(rows: &GenericArray<GenericArray<i32, U2>, U3>, wanted: [[i32; 2]; 3
         && rows[2].as_slice() == third.as_slice()
 }
 
+fn add(left: &i32, right: i32) -> i32 {
+    left.wrapping_add(right)
+}
+
+fn add_to(sum: i32, item: &i32) -> i32 {
+    sum.wrapping_add(*item)
+}
+
 #[test]
 fn views_are_zipped_and_folded(rt: HostRuntime) {
     let odd = arr![1, 3, 5, 7];
-    let sums = always(
-        odd.view()
-            .zip((), arr![2, 4, 6, 8], |left: &i32, right: i32| {
-                left.wrapping_add(right)
-            }),
-    );
-    assert!(rt; sums.as_slice() == [3, 7, 11, 15].as_slice());
-    assert!(rt;
-        odd.view()
-            .fold(0, |sum: i32, item: &i32| sum.wrapping_add(*item))
-            == 16
-    );
+    let sums = always(odd.view().zip((), arr![2, 4, 6, 8], add));
+    assert!(rt; sums.as_slice() == [3, 7, 11, 15].as_slice() && odd.view().fold(0, add_to) == 16);
 }
 
 #[test]

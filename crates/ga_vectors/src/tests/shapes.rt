@@ -11,14 +11,21 @@ use generic_array::{
 };
 use std::rc::Rc;
 
-/// An item that counts how many of its kind there are.
-type Held = Option<Rc<()>>;
+/// An item that counts how many of its kind there are. One made by `default` counts nothing.
+#[derive(Default, Drop)]
+struct Held(Option<Rc<()>>);
+
+impl Held {
+    fn of(one: &Rc<()>) -> Self {
+        Held(one.clone().ok())
+    }
+}
 
 /// Six items beside the one that they are of.
 fn six_of(one: &Rc<()>) -> GenericArray<Held, U6> {
-    let four: GenericArray<Held, U4> = GenericArray::generate(|_| one.clone().ok());
-    let five: GenericArray<Held, U5> = four.append(one.clone().ok());
-    five.prepend(one.clone().ok())
+    let four: GenericArray<Held, U4> = GenericArray::generate(|_| Held::of(one));
+    let five: GenericArray<Held, U5> = four.append(Held::of(one));
+    five.prepend(Held::of(one))
 }
 
 // The check of a function of any lengths takes half the time of one of named lengths.

@@ -1,10 +1,10 @@
-//! Zips of a boxed array with an inline and with a boxed one. What is made is boxed too.
+//! Zips of two boxed arrays. What is made is boxed too.
 use crate::tests::counted::{Counted, Counts};
-use crate::tests::items::{boxed_counted_from, counted_from};
+use crate::tests::items::boxed_counted_from;
 use crate::tests::outcome::{Outcome, play};
 use crate::tests::refused_memory::three_in_a_block;
 use generic_array::functional::{FunctionalSequence, inverted_zip2};
-use generic_array::{AllocError, ArrayLength, BoxedArray, GenericArray, U3};
+use generic_array::{AllocError, BoxedArray, U3, Unsigned};
 use std::alloc::Global;
 use std::cell::Cell;
 use std::convert::AsSlice;
@@ -24,35 +24,32 @@ fn zipped<S: AsSlice<u32> + Drop>(
     Outcome::of_calls(made, [14, 25, 36].as_slice(), calls.get()).and(counts.drops() == 6)
 }
 
-/// The zip with an inline array, or `inverted_zip2` of that array where `is_inverted`.
-fn zip_boxed<T: Drop, B: Default + Drop, U: Drop, N: ArrayLength<B>, F: FnMut(T, B) -> U>(
+/// `zip` of boxed arrays.
+fn zip<T: Drop, B: Drop, U: Drop, N: Unsigned, F: FnMut(T, B) -> U>(
     alloc: Global,
     left: BoxedArray<T, N>,
-    right: GenericArray<B, N>,
+    right: BoxedArray<B, N>,
     f: F,
-    is_inverted: bool,
 ) -> Result<BoxedArray<U, N>, AllocError>
     requires { (f : _) (x : _) (y : _) → F.pre f x y }
 {
-    if is_inverted {
-        inverted_zip2(right, alloc, left, f)
-    } else {
-        left.zip(alloc, right, f)
-    }
+    left.zip(alloc, right, f)
 }
 
-fn with_inline(alloc: Global, is_inverted: bool) -> Outcome {
-    let (counts, calls) = (Counts::new(), Cell::new(0));
-    let Ok(left) = three_in_a_block(alloc, &counts) else {
-        return Outcome::Refused;
-    };
-    let both = |left: Counted, right: Counted| both(&calls, left, right);
-    let made = zip_boxed(alloc, left, counted_from(&counts, 4), both, is_inverted);
-    zipped(made, &calls, &counts)
+/// `inverted_zip2` of boxed arrays.
+fn inverted<T: Drop, B: Drop, U: Drop, N: Unsigned, F: FnMut(T, B) -> U>(
+    alloc: Global,
+    left: BoxedArray<T, N>,
+    right: BoxedArray<B, N>,
+    f: F,
+) -> Result<BoxedArray<U, N>, AllocError>
+    requires { (f : _) (x : _) (y : _) → F.pre f x y }
+{
+    inverted_zip2(right, alloc, left, f)
 }
 
-/// Of two blocks, by the call itself, which no other test makes.
-fn with_block(alloc: Global) -> Outcome {
+/// A case, by its number.
+fn case(alloc: Global, number: u32) -> Outcome {
     let (counts, calls) = (Counts::new(), Cell::new(0));
     let Ok(left) = three_in_a_block(alloc, &counts) else {
         return Outcome::Refused;
@@ -61,18 +58,14 @@ fn with_block(alloc: Global) -> Outcome {
         return Outcome::Refused;
     };
     let both = |left: Counted, right: Counted| both(&calls, left, right);
-    zipped(left.zip(alloc, right, both), &calls, &counts)
-}
-
-/// A case, by its number.
-fn case(alloc: Global, number: u32) -> Outcome {
-    match number {
-        0 | 1 => with_inline(alloc, number == 1),
-        _ => with_block(alloc),
-    }
+    let made = match number {
+        0 => zip(alloc, left, right, both),
+        _ => inverted(alloc, left, right, both),
+    };
+    zipped(made, &calls, &counts)
 }
 
 #[test]
 fn a_zip_is_exact_or_refused_before_any_call(rt: HostRuntime) {
-    play(&rt, 3, case);
+    play(&rt, 2, case);
 }
