@@ -1,7 +1,6 @@
 -- What a loop that fills a block knows where it ends, and what holds where the block was refused.
 use mathlib.Core.Bool.{true≢false}
-use Rattle.std.proofs.Common.{◌≡◌, ℕ, ◌+◌, ◌<◌, ◌≤◌, Result, Ok, Err, OnErr, OnOk, false, true, arith, sym}
-use Rattle.std.specs.Result.{IsErr}
+use Rattle.std.proofs.Common.{◌≡◌, ℕ, ◌+◌, ◌<◌, ◌≤◌, Result, Ok, Err, OnErr, false, true, arith, sym}
 
 module _ (made room all left : ℕ) where
   -- where there is room, not all are there
@@ -22,11 +21,6 @@ pub grown : (made longer room less all : ℕ) → longer ≡ made + 1 → less +
 grown made longer room less all more fewer fits = omega arith
 
 module _ {A E : Type 0} (P : Type 0) where
-  -- nothing is asked where the result is an error
-  pub OnOk-refused : (r : Result A E) → IsErr r → OnOk r P
-  OnOk-refused (Ok x) refused = absurd (true≢false (sym refused))
-  OnOk-refused (Err e) refused = tt
-
   -- what holds is so on an error too
   pub OnErr-holds : (r : Result A E) → P → OnErr r P
   OnErr-holds (Ok x) holds = tt

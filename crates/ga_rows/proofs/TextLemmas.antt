@@ -1,12 +1,14 @@
 -- The lines of rows, put down one after the other, and the front of what was put behind a text.
 use Rattle.ga_rows.specs.Text.{line, lines, row_text}
 use Rattle.ga_rows.specs.declared.arguments.Mode.{Mode}
-use Rattle.std.proofs.Common.{[], ◌≡◌, ℕ, ◌+◌, ◌≤◌, List, ◌∷◌, ◌++◌, None, Option, Some, append_assoc, ap, arith}
-use Rattle.std.proofs.Common.{length, length-append, length-take, reverse, sym, take, ◌∙◌}
+use Rattle.ga_rows.specs.declared.buffer.TheConstants.{PIECE_SIZE}
+use Rattle.ga_rows.specs.declared.output.TheConstants.{LONGEST_LINE}
+use Rattle.std.proofs.Common.{[], ◌≡◌, ℕ, ◌+◌, ◌≤◌, List, ◌∷◌, ◌++◌, None, Option, Some, append_assoc, append-nil, ap, arith}
+use Rattle.std.proofs.Common.{length, length-append, length-take, reverse, subst, sym, take, ◌∙◌}
 use Rattle.std.proofs.KnownBytes.{Appends-nil, Appends-trans}
 use Rattle.std.proofs.Math.Seq.{take-append-add}
 use Rattle.std.proofs.lemmas.List.{reverse-append, take-append-le}
-use Rattle.std.specs.Io.KnownBytes.{Appends, Keeps, append_known}
+use Rattle.std.specs.Io.KnownBytes.{Appends, append_known}
 
 module _ (mode : Mode) where
   -- known bytes grew by what is, with the lines of the rows that are left, the lines of all
@@ -40,17 +42,30 @@ module _ (mode : Mode) where
       lines-more all (reverse left) (reverse after) row before now later so_far
       (ap reverse step ∙ reverse-append after (row ∷ [])) put
 
+  -- after the last line
+  pub lines-all : (all left : List (List ℕ)) (before now : Option (List ℕ)) → LinesSoFar all left before now
+      → left ≡ [] → Appends before now (lines mode all)
+  lines-all all left before now so_far none = subst (Appends before now)
+      (sym (so_far.whole ∙ (ap (λ rows. so_far.done ++ lines mode rows) none ∙ append-nil so_far.done)))
+      so_far.appended
+
 -- rows that there are none of do not end in a row
 pub no-last : {A : Type 0} (left after : List A) (row : A) → left ≡ [] → left ≡ after ++ row ∷ [] → ⊥
 no-last left after row none step = omega (arith, ap length none, ap length step, length-append after (row ∷ []))
 
--- known bytes that a text behind others kept grow by what is put behind the text
-pub Appends-behind : (before kept : Option (List ℕ)) (text after put : List ℕ) → Keeps before (append_known kept text)
-    → after ≡ text ++ put → Appends before (append_known kept after) put
-Appends-behind None kept text after put keeps is = tt
-Appends-behind (Some bytes) None text after put keeps is = absurd keeps
-Appends-behind (Some bytes) (Some front) text after put keeps is =
-    ap (λ all. front ++ all) is ∙ (sym (append_assoc front text put) ∙ ap (λ all. all ++ put) keeps)
+-- what was put behind an empty text is written once the text is
+pub all-written : (before after last : Option (List ℕ)) (start piece text : List ℕ) → start ≡ []
+    → Appends (append_known before start) (append_known after piece) text → Appends after last piece
+    → Appends before last text
+all-written None after last start piece text none put written = tt
+all-written (Some bytes) None last start piece text none put written = absurd put
+all-written (Some bytes) (Some more) None start piece text none put written = absurd written
+all-written (Some bytes) (Some more) (Some all) start piece text none put written =
+    written ∙ (put ∙ ap (λ front. front ++ text) (ap (λ start. bytes ++ start) none ∙ append-nil bytes))
+
+-- an empty piece has room for a line
+pub none-has_room : (piece : List ℕ) → piece ≡ [] → length piece + LONGEST_LINE ≤ PIECE_SIZE
+none-has_room piece none = subst (λ text. length text + LONGEST_LINE ≤ PIECE_SIZE) (sym none) (omega arith)
 
 -- a text up to a place within what was put there
 pub take-put : (start count : ℕ) (text put behind : List ℕ) → start ≤ length text → count ≤ length put

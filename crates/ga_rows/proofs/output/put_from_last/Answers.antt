@@ -1,9 +1,9 @@
-use Rattle.ga_rows.proofs.TextLemmas.{Appends-behind, lines-more_back, lines-none, no-last}
+use Rattle.ga_rows.proofs.TextLemmas.{lines-all, lines-more_back, lines-none, no-last, none-has_room}
 use Rattle.ga_rows.proofs.output.put_from_last.Goals as goal
 use Rattle.ga_rows.proofs.output.put_from_last.Goals.{else-not-has_room, then-not-has_room+in_ok-hand_over}
 use Rattle.ga_rows.specs.declared.arguments.Mode.TheVariants.{Last}
 use Rattle.std.proofs.Common.{◌∙◌, ap, refl, reverse, rules}
-use Rattle.std.proofs.KnownBytes.{Keeps-refl}
+use Rattle.std.proofs.KnownBytes.{Keeps-refl, append_known-grown}
 use Rattle.std.specs.Iterator.Adapters.{rev_source}
 
 pub loop-row-init : goal.loop-row-init
@@ -21,7 +21,21 @@ loop-row-preserved g c =
       text = lines-more_back Last _ left after row _ _ _ c.loop-row.invariant.text c.in-Some.ensures.steps
           (elim c.if-not-has_room.branch [
             | then-not-has_room+in_ok-hand_over w ↦ search rules
-            | else-not-has_room w ↦ Appends-behind _ _ _ _ _ (search (rules, Keeps-refl)) c.in_ok-put_row.ensures
+            | else-not-has_room w ↦ append_known-grown _ _ _ _ _ (search (rules, Keeps-refl)) c.in_ok-put_row.ensures
           ]);
       empty = λ none. absurd (no-last left after row (c.loop-row.invariant.empty none).0 c.in-Some.ensures.steps);
     }
+
+pub put_row-requires-clause-room : goal.put_row-requires-clause-room
+put_row-requires-clause-room g c = elim c.if-not-has_room.branch [
+  | then-not-has_room+in_ok-hand_over w ↦ none-has_room _ (w.piece-is ∙ w.in_ok-hand_over.ensures.cleared)
+  | else-not-has_room w ↦ search rules
+]
+
+pub returns-clause-text : goal.returns-clause-text
+returns-clause-text g c =
+    lines-all Last _ _ _ _ c.loop-row.invariant.text (ap reverse c.in-None.ensures.steps.0)
+
+pub returns-in_err-put_row-clause-empty : goal.returns-in_err-put_row-clause-empty
+returns-in_err-put_row-clause-empty g c = λ none. absurd (no-last (rev_source c.loop-row.row-iterator)
+    (rev_source c.next.new.self) c.in-Some.row.slice.now (c.loop-row.invariant.empty none).0 c.in-Some.ensures.steps)

@@ -1,4 +1,4 @@
-use Rattle.ga_boxed.proofs.BuildLemmas.{OnErr-holds, OnOk-refused, all_there, grown, less_room, not_all, not_ok}
+use Rattle.ga_boxed.proofs.BuildLemmas.{OnErr-holds, all_there, grown, less_room, not_all, not_ok}
 use Rattle.ga_boxed.proofs.MoveLemmas.{none_yet}
 use Rattle.ga_boxed.proofs.boxed_array.BoxedArray.try_boxed_from_iter_ref.Goals as goal
 use Rattle.ga_core.proofs.FillLemmas.{Asks-from_fill, FillRuns-from_fill}
@@ -19,8 +19,8 @@ returns-in_err-taken g c =
           (λ built. Fills g.I.Iterator.next_gives c.args.items.now g.N.Unsigned.USIZE built c.args.items.now) refused;
       runs = IfOk-from_err result
           (λ built. FillRuns g.I.Iterator.next_gives c.args.items.now g.N.Unsigned.USIZE built) refused;
-      asks = OnOk-refused (Asks g.I.Iterator.next_gives c.args.items.now (g.N.Unsigned.USIZE + 1) c.args.items.now)
-          result refused;
+      asks = IfOk-from_err result
+          (λ _. Asks g.I.Iterator.next_gives c.args.items.now (g.N.Unsigned.USIZE + 1) c.args.items.now) refused;
       err = OnErr-holds (c.args.items.now ≡ c.args.items.now) result refl;
       empty = λ none. not_ok (c.in_err-taken.ensures.empty (c.USIZE.ensures ∙ none));
     }
