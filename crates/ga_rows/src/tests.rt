@@ -156,3 +156,24 @@ fn a_reader_is_read_to_its_end_or_its_fault(rt: HostRuntime) -> Result<(), Fail>
     }
     Ok(())
 }
+
+/// Two copies of the one, and 127 of the other behind them.
+fn two_and_many(alloc: Global, first: &[u8], others: &[u8]) -> Result<Vec<u8>, AllocError> {
+    let many = repeated(alloc, others, 127, b"")?;
+    repeated(alloc, first, 2, many.as_slice())
+}
+
+#[test]
+fn a_line_that_no_longer_fits_begins_the_next_piece(rt: HostRuntime) -> Result<(), Fail> {
+    // Lines of 37 bytes and of 64: behind the first 128, a piece of 8 KiB has room for 54.
+    let short = [10, 10, 10, 10, 10, 0, 0, 0, 0, 0, 0, 0, 0, 0, 0, 0];
+    let line = b"255 255 255 255 255 255 255 255 255 255 255 255 255 255 255 255\n";
+    let input = two_and_many(rt.alloc(), &short, &[255; 16])?;
+    let text = two_and_many(rt.alloc(), b"10 10 10 10 10 0 0 0 0 0 0 0 0 0 0 0\n", line)?;
+    let words = words_of(rt.alloc(), "dec 16")?;
+    let mut source = Source::new(input.as_slice(), WHOLE, false);
+    let mut sink = Sink::new(text.as_slice(), WHOLE, usize::MAX);
+    let end = run(rt.alloc(), words.as_slice(), &mut source, &mut sink);
+    assert!(rt; end == Status::Whole && sink.has_text());
+    Ok(())
+}
