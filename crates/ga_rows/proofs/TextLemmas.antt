@@ -1,4 +1,4 @@
--- The lines of rows, put down one after the other, and the front of what was put behind a text.
+-- The lines of rows, put down one after the other, and the piece of text that they go through.
 use Rattle.ga_rows.specs.Text.{line, lines, row_text}
 use Rattle.ga_rows.specs.declared.arguments.Mode.{Mode}
 use Rattle.ga_rows.specs.declared.buffer.TheConstants.{PIECE_SIZE}

@@ -24,6 +24,8 @@ fn zipped<S: AsSlice<u32> + Drop>(
     Outcome::of_calls(made, [14, 25, 36].as_slice(), calls.get()).and(counts.drops() == 6)
 }
 
+// The checker doesn't cover one function that makes either call.
+
 /// `zip` of boxed arrays.
 fn zip<T: Drop, B: Drop, U: Drop, N: Unsigned, F: FnMut(T, B) -> U>(
     alloc: Global,
