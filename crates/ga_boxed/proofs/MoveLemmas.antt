@@ -26,15 +26,6 @@ module _ (i k j n : ℕ) where
   one_more so_far fewer = omega arith
 
 module _ {T : Type 0} where
-  -- where one is left, there is room for it
-  pub room_for : (room : ℕ) (left others : List T) (item : T) → room ≡ length left → left ≡ item ∷ others → 0 < room
-  room_for room left others item long step = omega (arith, ap length step)
-
-  -- and then for the others
-  pub room_behind : (before after : ℕ) (left others : List T) (item : T) → before ≡ length left → left ≡ item ∷ others
-      → after + 1 ≡ before → after ≡ length others
-  room_behind before after left others item long step fewer = omega (arith, ap length step)
-
   -- before the end some are left
   pub some_left : (i n end : ℕ) (left : List T) → i + length left ≡ n → i < end → end ≡ n → left ≢ []
   some_left i n end left so_far below all none = omega (arith, ap length none)

@@ -5,20 +5,27 @@ use Rattle.ga_core.specs.Runs.{ClosureRun, FirstErrorRun, FoldRun}
 use Rattle.ga_core.specs.Tries.{result_and_then, try_map}
 use Rattle.std.proofs.Common.{◌≡◌, ℕ, ◌+◌, ◌<◌, List, [], ◌∷◌, Result, Ok, Err, inl, inr, ap, arith, fold, map, refl}
 use Rattle.std.proofs.Common.{subst, sym, ◌∙◌}
+use Rattle.std.proofs.lemmas.List.{map-id}
 use Rattle.std.proofs.lemmas.List.Sums.{sum_by-append, sum_by-cons}
 use Rattle.std.specs.List.{sum_by}
+
+module _ {F X Y Z : Type 0} (step : F → X → Y → F → Type 0) (f : F) (view : Y → Z) (h : X → Z) where
+  -- the views of what a run answers are h of each input
+  pub views_of_run : (xs : List X) (ys : List Y) (last : F) → ClosureRun step f xs ys last
+      → ((x : X) (y : Y) (next : F) → step f x y next → (next ≡ f) × (view y ≡ h x)) → map view ys ≡ map h xs
+  views_of_run [] [] last run acts = refl
+  views_of_run [] (y ∷ ys) last run acts = absurd run
+  views_of_run (x ∷ xs) [] last run acts = absurd run
+  views_of_run (x ∷ xs) (y ∷ ys) last run acts =
+      let call = acts x y run.0 run.1 in
+      let others = views_of_run xs ys last (subst (λ k. ClosureRun step k xs ys last) call.0 run.2) acts in
+      cc (call.1, others)
 
 module _ {F X Y : Type 0} (step : F → X → Y → F → Type 0) (f : F) (h : X → Y)
     (acts : (x : X) (y : Y) (next : F) → step f x y next → (next ≡ f) × (y ≡ h x)) where
   -- a run answers h of each input
   pub answers_of_run : (xs : List X) (ys : List Y) (last : F) → ClosureRun step f xs ys last → ys ≡ map h xs
-  answers_of_run [] [] last run = refl
-  answers_of_run [] (y ∷ ys) last run = absurd run
-  answers_of_run (x ∷ xs) [] last run = absurd run
-  answers_of_run (x ∷ xs) (y ∷ ys) last run =
-      let call = acts x y run.0 run.1 in
-      let others = answers_of_run xs ys last (subst (λ k. ClosureRun step k xs ys last) call.0 run.2) in
-      cc (call.1, others)
+  answers_of_run xs ys last run = sym (map-id ys) ∙ views_of_run step f (λ y. y) h xs ys last run acts
 
 module _ {F X Y E : Type 0} (step : F → X → Result Y E → F → Type 0) (f : F) (h : X → Result Y E)
     (acts : (x : X) (y : Result Y E) (next : F) → step f x y next → (next ≡ f) × (y ≡ h x)) where

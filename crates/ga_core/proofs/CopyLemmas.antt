@@ -1,13 +1,19 @@
 -- Copies of one value that equal it, and answers that share a property.
 use Rattle.ga_core.specs.Copies.{ExactlyEach, Repeats}
 use Rattle.ga_core.specs.Runs.{ClosureRun}
-use Rattle.std.proofs.Common.{◌≡◌, ℕ, zero, suc, ◌+◌, ◌-◌, List, [], ◌∷◌, ◌++◌, length, replicate, refl, ap, ◌∙◌, arith}
-use Rattle.std.proofs.Common.{slice_index_or, slice_set}
+use Rattle.std.proofs.Common.{◌≡◌, ℕ, zero, suc, ◌+◌, ◌-◌, List, [], ◌∷◌, ◌++◌, length, map, replicate, refl, ap, ◌∙◌, arith}
+use Rattle.std.proofs.Common.{slice_index_or, slice_set, sym}
 use Rattle.std.proofs.Math.Seq.{set-append_seam}
 use Rattle.std.proofs.lemmas.List.{replicate-append-replicate}
-use Rattle.std.specs.List.{All}
+use Rattle.std.proofs.lemmas.List.FromFn.{length-range_with_len}
+use Rattle.std.proofs.lemmas.Simd.{splat_is_map}
+use Rattle.std.specs.List.{All, range_with_len}
 
 module _ {T : Type 0} where
+  -- one item for each number below n
+  pub map-same : (item : T) (n : ℕ) → map (λ _. item) (range_with_len 0 n) ≡ replicate n item
+  map-same item n = sym (splat_is_map (range_with_len 0 n) n item (length-range_with_len 0 n))
+
   -- a list of equal values
   all_equal : (item : T) (items : List T) → All (λ x. x ≡ item) items → items ≡ replicate (length items) item
   all_equal item [] all = refl

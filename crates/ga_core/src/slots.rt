@@ -3,7 +3,7 @@ ghost use Rattle.ga_core.specs.Calls.{MayGenerate, MayTryGenerate};
 ghost use Rattle.ga_core.specs.Copies.{Repeats};
 ghost use Rattle.ga_core.specs.Runs.{ClosureRun, FirstErrorRun};
 ghost use Rattle.std.specs.List.{All, AllZip, range_with_len};
-ghost use Rattle.std.specs.Prelude.{◌≡◌, ◌≤◌, Err, IsOk, MatchResult, Ok, OnOk, length, replicate};
+ghost use Rattle.std.specs.Prelude.{◌≡◌, ◌≤◌, Err, IsOk, MatchResult, Ok, OnOk, length};
 
 use crate::alloc_error::AllocError;
 use std::mem;
@@ -37,16 +37,6 @@ pub(crate) fn try_write_answers<T: Drop, E, F: FnMut(usize) -> Result<T, E>>(
         }
     }
     Ok(())
-}
-
-// Writes `item` over the slots.
-#[inline]
-pub(crate) fn write_same<T: Copy + Drop>(slots: &mut [T], item: T)
-    ensures { slots.new ≡ replicate (length slots.old) item }
-{
-    for slot in slots.iter_mut() {
-        *slot = item;
-    }
 }
 
 /// Moves the items of a slice over those of another of the same length, which are dropped, and leaves

@@ -59,11 +59,7 @@ impl<T: Drop, N: Unsigned> BoxedArray<T, N> {
         if items.len() != N::USIZE {
             return Ok(Err(LengthError));
         }
-        let mut block = LiveBlock::new(alloc, N::USIZE)?;
-        for item in items {
-            block.put(item);
-        }
-        Ok(Ok(BoxedArray::of_items(block)))
+        Self::try_boxed_from_iter(alloc, items.into_iter())
     }
 
     /// The same of a boxed slice. The counterpart of `GenericArray::try_from_boxed_slice`.

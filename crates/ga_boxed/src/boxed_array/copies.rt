@@ -28,11 +28,7 @@ impl<T: Copy, N: Unsigned> BoxedArray<T, N> {
         ensures items { IfOk result (λ array. array ≡ replicate N.USIZE item) }
         ensures empty { N.USIZE ≡ 0 → IsOk result }
     {
-        let mut copies = LiveBlock::new(alloc, N::USIZE)?;
-        for _copy in 0..N::USIZE {
-            copies.put(item);
-        }
-        Ok(BoxedArray::of_items(copies))
+        Self::generate(alloc, |_| item)
     }
 }
 

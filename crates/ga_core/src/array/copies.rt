@@ -7,7 +7,7 @@ ghost use Rattle.std.specs.Prelude.{◌≡◌, ◌≤◌, IfOk, IsOk, length, re
 use crate::alloc_error::AllocError;
 use crate::array::GenericArray;
 use crate::length::ArrayLength;
-use crate::slots::{write_clones, write_copies, write_same};
+use crate::slots::{write_clones, write_copies};
 use crate::store::Store;
 use std::alloc;
 
@@ -33,9 +33,7 @@ impl<T: Copy + Default + Drop, N: ArrayLength<T>> GenericArray<T, N> {
         requires fits { FitsInline N.USIZE }
         ensures { result ≡ replicate N.USIZE item }
     {
-        let mut array = Self::default();
-        write_same(array.as_mut_slice(), item);
-        array.finished()
+        Self::generate(|_| item)
     }
 }
 

@@ -5,10 +5,9 @@ ghost use Rattle.ga_views.specs.Views.{items_of_chunks, items_of_view};
 ghost use Rattle.ga_views.specs.Rows.{chunk_rest, rows};
 ghost use Rattle.std.specs.Borrow.{Array, RestsIfErr, sem};
 ghost use Rattle.std.specs.Option.{option_copied};
-ghost use Rattle.std.specs.Prelude.{◌≡◌, ◌<◌, ◌↔◌, ◌⊎◌, ◌++◌, IfOk, IsOk, Some, length, map};
+ghost use Rattle.std.specs.Prelude.{◌≡◌, ◌<◌, ◌↔◌, ◌⊎◌, ◌++◌, IfOk, IsOk, Some, length, map, slice_get};
 
 use crate::array::GenericArray;
-use crate::builder::ArrayBuilder;
 use crate::length::ArrayLength;
 use ga_views::{ChunksMut, ChunksRef, GenericArrayMut, GenericArrayRef, LengthError, ViewMut};
 use std::marker::PhantomData;
@@ -120,10 +119,10 @@ impl<T, N: ArrayLength<T>> GenericArray<T, N> {
         ensures { map option_copied result ≡ map Some self.now }
     {
         let items = self.as_slice();
-        let mut references = ArrayBuilder::new();
-        for item in items {
-            references.push(Some(item));
-        }
-        references.finish()
+        GenericArray::generate(
+            |index: usize| -> Option<&T>
+                ensures { option_copied result ≡ slice_get items.entry.now index }
+            { items.get(index) },
+        )
     }
 }
