@@ -3,7 +3,8 @@ ghost use Rattle.ga_core.specs.Calls.{MayGenerate, MayTryGenerate};
 ghost use Rattle.ga_core.specs.Copies.{Repeats};
 ghost use Rattle.ga_core.specs.Runs.{ClosureRun, FirstErrorRun};
 ghost use Rattle.std.specs.List.{All, AllZip, range_with_len};
-ghost use Rattle.std.specs.Prelude.{◌≡◌, ◌≤◌, Err, IsOk, MatchResult, Ok, OnOk, length};
+ghost use Rattle.std.specs.Prelude.{◌≡◌, ◌≤◌, IsOk, Ok, OnOk, length};
+ghost use Rattle.std.specs.Result.{result_and};
 
 use crate::alloc_error::AllocError;
 use std::mem;
@@ -26,9 +27,8 @@ pub(crate) fn try_write_answers<T: Drop, E, F: FnMut(usize) -> Result<T, E>>(
     f: &mut F,
 ) -> Result<(), E>
     requires callable { MayTryGenerate F.pre F.step f.old (length slots.old) }
-    ensures run { MatchResult result
-        (λ _. FirstErrorRun F.step f.old (range_with_len 0 (length slots.old)) (Ok slots.new) f.new)
-        (λ error. FirstErrorRun F.step f.old (range_with_len 0 (length slots.old)) (Err error) f.new) }
+    ensures run { FirstErrorRun F.step f.old (range_with_len 0 (length slots.old))
+        (result_and result (Ok slots.new)) f.new }
 {
     for (index, slot) in slots.iter_mut().enumerate() {
         match f(index) {

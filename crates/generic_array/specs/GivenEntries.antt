@@ -27,6 +27,11 @@ module _ {S I T : Type 0} (can_next : S → Type 0) (next_gives : S → Option I
   abbrev pub AllEntries : S → ((I → T) → List T → Type 0) → Type 0
   AllEntries entries P = (entry : I → T) (values : List T) → GivesEntries entry entries values → P entry values
 
+  -- the same of n values
+  abbrev pub AllEntriesOf : ℕ → S → ((I → T) → List T → Type 0) → Type 0
+  AllEntriesOf n entries P = (entry : I → T) (values : List T) → GivesEntries entry entries values
+      → length values ≡ n → P entry values
+
 module _ {S I F : Type 0} (can_next : S → Type 0) (next_gives : S → Option I → S → Type 0) where
   -- the iterator may be asked and has not ended, and f may be called at what it gives
   abbrev pub MayCallAtNext : (F → I → Type 0) → S → F → Type 0

@@ -62,10 +62,8 @@ impl<T: Default + Drop, N: ArrayLength<T>> GenericArray<T, N> {
             → result ≡ try_map h (range_with_len 0 N.USIZE) }
     {
         let mut array = Self::default();
-        match try_write_answers(array.as_mut_slice(), f) {
-            Ok(()) => Ok(array.finished()),
-            Err(error) => Err(error),
-        }
+        let written = try_write_answers(array.as_mut_slice(), f);
+        GenericArray::finished_if(written, array)
     }
 }
 

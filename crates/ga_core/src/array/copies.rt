@@ -53,10 +53,8 @@ impl<T: Clone + Default, N: ArrayLength<T>> GenericArray<T, N> {
         ensures succeeds { T.is_infallible item → IsOk result }
     {
         let mut array = Self::default();
-        match write_copies(array.as_mut_slice(), item) {
-            Ok(()) => Ok(array.finished()),
-            Err(refused) => Err(refused),
-        }
+        let written = write_copies(array.as_mut_slice(), item);
+        GenericArray::finished_if(written, array)
     }
 
     /// The array of clones of the items, made in order.
@@ -69,10 +67,8 @@ impl<T: Clone + Default, N: ArrayLength<T>> GenericArray<T, N> {
     {
         let items = self.as_slice();
         let mut copy = Self::default();
-        match write_clones(copy.as_mut_slice(), items) {
-            Ok(()) => Ok(copy.finished()),
-            Err(refused) => Err(refused),
-        }
+        let written = write_clones(copy.as_mut_slice(), items);
+        GenericArray::finished_if(written, copy)
     }
 }
 

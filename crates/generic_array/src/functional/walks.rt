@@ -5,11 +5,11 @@
 ghost use Rattle.ga_core.specs.Calls.{MayFold, MayMap, MayTryGenerate, MayTryMap, MayZip};
 ghost use Rattle.ga_core.specs.Entries.{CallAt, CallAtPair, FoldAt};
 ghost use Rattle.ga_core.specs.Runs.{ClosureRun, FirstErrorRun, FoldRun};
-ghost use Rattle.generic_array.specs.Built.{built_items};
-ghost use Rattle.generic_array.specs.GivenEntries.{AllEntries, CallAtNext, CallAtNextPair, GivesEntries, MayCallAtNext, MayCallAtNextPair, SomeEntries, SomeEntriesOf};
+ghost use Rattle.generic_array.specs.Built.{Builds, built_items};
+ghost use Rattle.generic_array.specs.GivenEntries.{AllEntries, AllEntriesOf, CallAtNext, CallAtNextPair, GivesEntries, MayCallAtNext, MayCallAtNextPair, SomeEntries, SomeEntriesOf};
 ghost use Rattle.generic_array.specs.EntryRuns.{FirstErrorRan, MayTryFold, TryFoldRun};
 ghost use Rattle.std.specs.List.{range_with_len, zip};
-ghost use Rattle.std.specs.Prelude.{◌≡◌, IfOk, IsOk, List, OnErr, length};
+ghost use Rattle.std.specs.Prelude.{◌≡◌, IfOk, length};
 
 use crate::sequence::{FallibleGenericSequence, GenericSequence};
 
@@ -93,13 +93,11 @@ pub(super) fn map_entries<T, I: Iterator + Drop, U, M: GenericSequence<U>, F: Fn
     requires fits { M.Fits }
     requires callable { SomeEntriesOf I.can_next I.next_gives I.remaining M.Length.USIZE entries
         (λ (entry : I.Item → T) values. MayMap entry F.pre F.step f.old values) }
-    ensures len { IfOk result (λ made. length (M.Sequence.items made) ≡ M.Length.USIZE) }
-    ensures run { (entry : I.Item → T) (values : List T)
-        → GivesEntries I.can_next I.next_gives I.remaining entry entries values
-        → length values ≡ M.Length.USIZE
-        → IfOk result (λ made. ClosureRun (CallAt entry F.step) f.old values (M.Sequence.items made) f.new) }
-    ensures err { OnErr result (f.new ≡ f.old) }
-    ensures promised { M.IsPromised → IsOk result }
+    ensures { Builds result (λ made. length (M.Sequence.items made) ≡ M.Length.USIZE)
+        (λ made. AllEntriesOf I.can_next I.next_gives I.remaining M.Length.USIZE entries
+        (λ (entry : I.Item → T) values.
+        ClosureRun (CallAt entry F.step) f.old values (M.Sequence.items made) f.new))
+        f.old f.new M.IsPromised }
 {
     M::generate_by(
         place,
@@ -136,13 +134,10 @@ fn try_build<U, E, M: FallibleGenericSequence<U>, G: FnMut(usize) -> Result<U, E
 ) -> Result<Result<M::Sequence, E>, M::Error>
     requires fits { M.Fits }
     requires callable { MayTryGenerate G.pre G.step g.old M.Length.USIZE }
-    ensures err { OnErr result (g.new ≡ g.old) }
-    ensures run { IfOk result (λ built.
-        FirstErrorRan G.step g.old (range_with_len 0 M.Length.USIZE)
-        (built_items M.Sequence.items built) g.new) }
-    ensures len { IfOk result (λ built.
-        IfOk built (λ made. length (M.Sequence.items made) ≡ M.Length.USIZE)) }
-    ensures promised { M.IsPromised → IsOk result }
+    ensures { Builds result (λ built. IfOk built (λ made. length (M.Sequence.items made) ≡ M.Length.USIZE))
+        (λ built. FirstErrorRan G.step g.old (range_with_len 0 M.Length.USIZE)
+        (built_items M.Sequence.items built) g.new)
+        g.old g.new M.IsPromised }
 {
     M::try_generate_by(place, g)
 }
@@ -160,15 +155,11 @@ pub(super) fn try_map_entries<
     requires fits { M.Fits }
     requires callable { SomeEntriesOf I.can_next I.next_gives I.remaining M.Length.USIZE entries
         (λ (entry : I.Item → T) values. MayTryMap entry F.pre F.step f.old values) }
-    ensures len { IfOk result (λ built.
-        IfOk built (λ made. length (M.Sequence.items made) ≡ M.Length.USIZE)) }
-    ensures run { (entry : I.Item → T) (values : List T)
-        → GivesEntries I.can_next I.next_gives I.remaining entry entries values
-        → length values ≡ M.Length.USIZE
-        → IfOk result (λ built.
-        FirstErrorRun (CallAt entry F.step) f.old values (built_items M.Sequence.items built) f.new) }
-    ensures err { OnErr result (f.new ≡ f.old) }
-    ensures promised { M.IsPromised → IsOk result }
+    ensures { Builds result (λ built. IfOk built (λ made. length (M.Sequence.items made) ≡ M.Length.USIZE))
+        (λ built. AllEntriesOf I.can_next I.next_gives I.remaining M.Length.USIZE entries
+        (λ (entry : I.Item → T) values.
+        FirstErrorRun (CallAt entry F.step) f.old values (built_items M.Sequence.items built) f.new))
+        f.old f.new M.IsPromised }
 {
     try_build::<U, E, M, _>(
         place,
@@ -213,20 +204,15 @@ pub(super) fn zip_entries<
     F: FnMut(I::Item, J::Item) -> U,
 >(mut left: I, mut right: J, place: M::Place, f: &mut F) -> Result<M::Sequence, M::Error>
     requires fits { M.Fits }
-    requires callable { (entry : I.Item → T) × (values : List T) × (other : J.Item → B) × (others : List B)
-        × GivesEntries I.can_next I.next_gives I.remaining entry left values
-        × GivesEntries J.can_next J.next_gives J.remaining other right others
-        × (length values ≡ M.Length.USIZE) × (length others ≡ M.Length.USIZE)
-        × MayZip entry other F.pre F.step f.old values others }
-    ensures len { IfOk result (λ made. length (M.Sequence.items made) ≡ M.Length.USIZE) }
-    ensures run { (entry : I.Item → T) (values : List T) (other : J.Item → B) (others : List B)
-        → GivesEntries I.can_next I.next_gives I.remaining entry left values
-        → GivesEntries J.can_next J.next_gives J.remaining other right others
-        → length values ≡ M.Length.USIZE → length others ≡ M.Length.USIZE
-        → IfOk result (λ made. ClosureRun (CallAtPair entry other F.step) f.old (zip values others)
-        (M.Sequence.items made) f.new) }
-    ensures err { OnErr result (f.new ≡ f.old) }
-    ensures promised { M.IsPromised → IsOk result }
+    requires callable { SomeEntriesOf I.can_next I.next_gives I.remaining M.Length.USIZE left
+        (λ (entry : I.Item → T) values. SomeEntriesOf J.can_next J.next_gives J.remaining M.Length.USIZE right
+        (λ (other : J.Item → B) others. MayZip entry other F.pre F.step f.old values others)) }
+    ensures { Builds result (λ made. length (M.Sequence.items made) ≡ M.Length.USIZE)
+        (λ made. AllEntriesOf I.can_next I.next_gives I.remaining M.Length.USIZE left
+        (λ (entry : I.Item → T) values. AllEntriesOf J.can_next J.next_gives J.remaining M.Length.USIZE right
+        (λ (other : J.Item → B) others.
+        ClosureRun (CallAtPair entry other F.step) f.old (zip values others) (M.Sequence.items made) f.new)))
+        f.old f.new M.IsPromised }
 {
     M::generate_by(
         place,

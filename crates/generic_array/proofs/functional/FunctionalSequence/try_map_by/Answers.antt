@@ -11,14 +11,14 @@ try_map_entries-requires-clause-callable g c =
 pub returns : goal.returns
 returns g c =
     let same = g.met.Self.MappedGenericSequence.same_length in
-    let run = c.try_map_entries.ensures.run _ (g.Self.AsSlice.items c.args.self) c.entries_of.ensures.gives
-    (c.entries_of.ensures.long ∙ sym same) in
+    let told = c.try_map_entries.ensures in
+    let run = IfOk-weaker c.try_map_entries.result _ _ (λ made run. run _ (g.Self.AsSlice.items c.args.self)
+    c.entries_of.ensures.gives (c.entries_of.ensures.long ∙ sym same)) told.run in
     record {
-      len = IfOk-weaker c.try_map_entries.result _ _ (λ built. IfOk-weaker built _ _ (λ made long. long ∙ same))
-          c.try_map_entries.ensures.len;
+      len = IfOk-weaker c.try_map_entries.result _ _ (λ built. IfOk-weaker built _ _ (λ made long. long ∙ same)) told.len;
       run = run;
       acts = IfOk-weaker c.try_map_entries.result _ _
           (λ made run h acts. tries_at_entries _ (goal.F-step g) c.args.f.now h acts _ _ _ run) run;
-      err = c.try_map_entries.ensures.err;
-      promised = c.try_map_entries.ensures.promised;
+      err = told.err;
+      promised = told.promised;
     }

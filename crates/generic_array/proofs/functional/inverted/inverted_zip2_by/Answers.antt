@@ -10,13 +10,15 @@ zip_entries-requires-clause-callable g c =
     let also = c.entries_of-2.ensures.long ∙ (c.requires.lengths ∙ same) in (
       g.Lhs.GenericSequence.entry,
       g.Lhs.AsSlice.items c.args.lhs,
-      g.S.GenericSequence.entry,
-      g.S.AsSlice.items c.args.s,
       c.entries_of.ensures.gives,
-      c.entries_of-2.ensures.gives,
       long,
-      also,
-      c.requires.callable,
+      (
+        g.S.GenericSequence.entry,
+        g.S.AsSlice.items c.args.s,
+        c.entries_of-2.ensures.gives,
+        also,
+        c.requires.callable,
+      ),
     )
 
 pub returns : goal.returns
@@ -24,14 +26,14 @@ returns g c =
     let same = g.met.Lhs.MappedGenericSequence.same_length in
     let long = c.entries_of.ensures.long ∙ sym same in
     let also = c.entries_of-2.ensures.long ∙ (c.requires.lengths ∙ sym same) in
-    let run = c.zip_entries.ensures.run g.Lhs.GenericSequence.entry (g.Lhs.AsSlice.items c.args.lhs)
-    g.S.GenericSequence.entry (g.S.AsSlice.items c.args.s) c.entries_of.ensures.gives c.entries_of-2.ensures.gives
-    long also in
+    let told = c.zip_entries.ensures in
+    let run = IfOk-weaker c.zip_entries.result _ _ (λ made run. run _ (g.Lhs.AsSlice.items c.args.lhs)
+    c.entries_of.ensures.gives long _ (g.S.AsSlice.items c.args.s) c.entries_of-2.ensures.gives also) told.run in
     record {
-      len = IfOk-weaker c.zip_entries.result _ _ (λ made long. long ∙ same) c.zip_entries.ensures.len;
+      len = IfOk-weaker c.zip_entries.result _ _ (λ made long. long ∙ same) told.len;
       run = run;
       acts = IfOk-weaker c.zip_entries.result _ _
           (λ made run h acts. answers_at_pairs _ _ _ _ h acts _ _ _ run) run;
-      err = c.zip_entries.ensures.err;
-      promised = c.zip_entries.ensures.promised;
+      err = told.err;
+      promised = told.promised;
     }

@@ -8,21 +8,23 @@ zip_entries-requires-clause-callable g c =
     let len = c.into_iter.ensures.into_iter_gives.3 in (
       (λ item. item),
       c.args.lhs,
-      g.S.GenericSequence.entry,
-      g.S.AsSlice.items c.args.s,
       (tt, tt, gives),
-      c.entries_of.ensures.gives,
       len,
-      c.entries_of.ensures.long,
-      c.requires.callable,
+      (
+        g.S.GenericSequence.entry,
+        g.S.AsSlice.items c.args.s,
+        c.entries_of.ensures.gives,
+        c.entries_of.ensures.long,
+        c.requires.callable,
+      ),
     )
 
 pub returns-clause-run : goal.returns-clause-run
 returns-clause-run g c =
     let gives = left_given c.into_iter.result c.args.lhs c.into_iter.ensures.into_iter_gives.0 in
     let len = c.into_iter.ensures.into_iter_gives.3 in
-    rw c.always.ensures at c.zip_entries.ensures.run (λ item. item) c.args.lhs g.S.GenericSequence.entry
-    (g.S.AsSlice.items c.args.s) (tt, tt, gives) c.entries_of.ensures.gives len c.entries_of.ensures.long
+    (rw c.always.ensures at c.zip_entries.ensures.run) (λ item. item) c.args.lhs (tt, tt, gives) len
+    g.S.GenericSequence.entry (g.S.AsSlice.items c.args.s) c.entries_of.ensures.gives c.entries_of.ensures.long
 
 pub returns-clause-acts : goal.returns-clause-acts
 returns-clause-acts g c h acts = answers_at_pairs _ _ _ _ h acts _ _ _ (returns-clause-run g c)
