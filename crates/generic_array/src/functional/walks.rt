@@ -9,7 +9,7 @@ ghost use Rattle.generic_array.specs.Built.{Builds, built_items};
 ghost use Rattle.generic_array.specs.GivenEntries.{AllEntries, AllEntriesOf, CallAtNext, CallAtNextPair, GivesEntries, MayCallAtNext, MayCallAtNextPair, SomeEntries, SomeEntriesOf};
 ghost use Rattle.generic_array.specs.EntryRuns.{FirstErrorRan, MayTryFold, TryFoldRun};
 ghost use Rattle.std.specs.List.{range_with_len, zip};
-ghost use Rattle.std.specs.Prelude.{◌≡◌, IfOk, length};
+ghost use Rattle.std.specs.Prelude.{◌≡◌, IfOk, None, Some, length};
 
 use crate::sequence::{FallibleGenericSequence, GenericSequence};
 
@@ -71,14 +71,16 @@ pub(super) fn try_fold_entries<T, I: Iterator + Drop, A, E, F: FnMut(A, I::Item)
     Ok(answer)
 }
 
-// The value of `f` at the next entry. Requires that there is one.
+// The next entry. Requires that there is one.
 #[inline]
-fn answer_at_next<I: Iterator, U, F: FnMut(I::Item) -> U>(entries: &mut I, f: &mut F) -> U
-    requires { MayCallAtNext I.can_next I.next_gives F.pre entries.old f.old }
-    ensures { CallAtNext I.can_next I.next_gives F.step entries.old f.old result entries.new f.new }
+fn next_of<I: Iterator>(entries: &mut I) -> I::Item
+    requires can { I.can_next entries.old }
+    requires more { (after : I) → I.next_gives entries.old None after → ⊥ }
+    ensures gives { I.next_gives entries.old (Some result) entries.new }
+    ensures can { I.can_next entries.new }
 {
     match entries.next() {
-        Some(entry) => f(entry),
+        Some(entry) => entry,
         None => unreachable!(),
     }
 }
@@ -106,24 +108,8 @@ pub(super) fn map_entries<T, I: Iterator + Drop, U, M: GenericSequence<U>, F: Fn
             ensures call { CallAtNext I.can_next I.next_gives F.step entries.entry f.entry.now result
                 entries.exit f.exit.now }
             ensures same { f.exit.ghost_name ≡ f.entry.ghost_name }
-        { answer_at_next(&mut entries, f) },
+        { f(next_of(&mut entries)) },
     )
-}
-
-// `answer_at_next` of a closure that may fail: a function of its own, since a call of the other
-// at `Result<U, E>` isn't covered by the checker.
-#[inline]
-fn result_at_next<I: Iterator, U, E, F: FnMut(I::Item) -> Result<U, E>>(
-    entries: &mut I,
-    f: &mut F,
-) -> Result<U, E>
-    requires { MayCallAtNext I.can_next I.next_gives F.pre entries.old f.old }
-    ensures { CallAtNext I.can_next I.next_gives F.step entries.old f.old result entries.new f.new }
-{
-    match entries.next() {
-        Some(entry) => f(entry),
-        None => unreachable!(),
-    }
 }
 
 // `try_generate_by`, whose run is told as a record, since a proof then finds the closure's step.
@@ -168,29 +154,8 @@ pub(super) fn try_map_entries<
             ensures call { CallAtNext I.can_next I.next_gives F.step entries.entry f.entry.now result
                 entries.exit f.exit.now }
             ensures same { f.exit.ghost_name ≡ f.entry.ghost_name }
-        { result_at_next(&mut entries, f) },
+        { f(next_of(&mut entries)) },
     )
-}
-
-// The value of `f` at the next pair of entries. Requires that there is one.
-#[inline]
-fn answer_at_next_pair<I: Iterator + Drop, J: Iterator + Drop, U, F: FnMut(I::Item, J::Item) -> U>(
-    left: &mut I,
-    right: &mut J,
-    f: &mut F,
-) -> U
-    requires { MayCallAtNextPair I.can_next I.next_gives J.can_next J.next_gives F.pre
-        left.old right.old f.old }
-    ensures { CallAtNextPair I.can_next I.next_gives J.can_next J.next_gives F.step left.old right.old
-        f.old result left.new right.new f.new }
-{
-    let Some(entry) = left.next() else {
-        unreachable!()
-    };
-    let Some(other) = right.next() else {
-        unreachable!()
-    };
-    f(entry, other)
 }
 
 // The values of `f` at the pairs of entries, as a sequence of the kind `M`.
@@ -222,6 +187,6 @@ pub(super) fn zip_entries<
             ensures call { CallAtNextPair I.can_next I.next_gives J.can_next J.next_gives F.step left.entry
                 right.entry f.entry.now result left.exit right.exit f.exit.now }
             ensures same { f.exit.ghost_name ≡ f.entry.ghost_name }
-        { answer_at_next_pair(&mut left, &mut right, f) },
+        { f(next_of(&mut left), next_of(&mut right)) },
     )
 }

@@ -9,7 +9,7 @@ generate_by-requires-clause-callable g c =
     let asked = c.requires.callable in
     λ k ys reached below run stays. walk-callable g.I.Iterator.next_gives g.I.Iterator.can_next asked.0 (goal.F-pre g)
     (goal.F-step g)
-    (λ d. d.0.now) (λ d. d.1.now) _ (λ d j y e call. call.met.1.0) asked.1 _ _ ys reached asked.2.2 asked.2.0 run
+    (λ d. d.1.now) (λ d. d.0.now) _ (λ d j y e call. call.met.1.0) asked.1 _ _ ys reached asked.2.2 asked.2.0 run
     (omega (arith, length-range_with_len 0 k, asked.3, below)) asked.4
 
 pub returns : goal.returns
@@ -18,10 +18,10 @@ returns g c =
     record {
       len = told.len;
       run = IfOk-weaker c.generate_by.result _ _ (λ made run entry values gives long.
-          let kept = ClosureRun-keeps _ (λ d. d.1.ghost_name) (λ d j y e call. call.met.1.1) _ _ _
+          let kept = ClosureRun-keeps _ (λ d. d.0.ghost_name) (λ d j y e call. call.met.1.1) _ _ _
           c.generate_by.new.f run in
           let whole = walk-whole g.I.Iterator.next_gives g.I.Iterator.can_next entry (goal.F-pre g) (goal.F-step g)
-          (λ d. d.0.now) (λ d. d.1.now) _ (λ d j y e call. call.met.1.0) values _ _
+          (λ d. d.1.now) (λ d. d.0.now) _ (λ d j y e call. call.met.1.0) values _ _
           (g.M.Sequence.AsSlice.items made) c.generate_by.new.f gives.2 gives.0 run
           (omega (arith, length-range_with_len 0 g.M.Length.Unsigned.USIZE, long)) in
           search rules) told.run;

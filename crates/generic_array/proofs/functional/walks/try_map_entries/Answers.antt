@@ -9,7 +9,7 @@ try_build-requires-clause-callable g c =
     let asked = c.requires.callable in
     λ k good reached below run stays. walk-callable_good g.I.Iterator.next_gives g.I.Iterator.can_next asked.0
     (goal.F-step g)
-    (λ d. d.0.now) (λ d. d.1.now) _ (λ d j y e call. call.met.1.0)
+    (λ d. d.1.now) (λ d. d.0.now) _ (λ d j y e call. call.met.1.0)
     (goal.F-pre g) asked.1 _ _ good reached asked.2.2 asked.2.0 run
     (omega (arith, length-range_with_len 0 k, asked.3, below)) asked.4
 
@@ -19,9 +19,9 @@ returns g c =
     record {
       len = told.len;
       run = IfOk-weaker c.try_build.result _ _ (λ built ran entry values gives long.
-          let kept = FirstErrorRan-keeps ran (λ d. d.1.ghost_name) (λ d j y e call. call.met.1.1) in
+          let kept = FirstErrorRan-keeps ran (λ d. d.0.ghost_name) (λ d j y e call. call.met.1.1) in
           let lifted = walk-ran g.I.Iterator.next_gives g.I.Iterator.can_next entry (goal.F-pre g) (goal.F-step g)
-          (λ d. d.0.now) (λ d. d.1.now) ran (λ d j y e call. call.met.1.0) values
+          (λ d. d.1.now) (λ d. d.0.now) ran (λ d j y e call. call.met.1.0) values
           gives.2 gives.0 (omega (arith, length-range_with_len 0 g.M.Length.Unsigned.USIZE, long)) in
           search rules) told.run;
       err = search rules;
