@@ -166,7 +166,7 @@ pub trait FunctionalSequence<T>: GenericSequence<T> {
         self,
         place: MappedPlace<Self, T, U>,
         rhs: Rhs,
-        mut f: F,
+        f: F,
     ) -> Result<MappedSequence<Self, T, U>, MappedError<Self, T, U>>
     where
         Self: MappedGenericSequence<T, U>,
@@ -182,7 +182,7 @@ pub trait FunctionalSequence<T>: GenericSequence<T> {
             → Self.Mapped.Sequence.items made ≡ map h (zip (Self.items self) (Rhs.items rhs))) }
         ensures promised { Self.Mapped.IsPromised → IsOk result }
     {
-        self.zip_by(place, rhs, &mut f)
+        inverted_zip2(rhs, place, self, f)
     }
 
     /// `zip` that borrows the closure, which can be used again in the state that it reached.

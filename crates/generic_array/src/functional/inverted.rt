@@ -78,7 +78,7 @@ pub fn inverted_zip2<
     lhs: Lhs,
     mut f: F,
 ) -> Result<MappedSequence<Lhs, B, U>, MappedError<Lhs, B, U>>
-    requires lengths { S.Length.USIZE ≡ Lhs.Length.USIZE }
+    requires lengths { Lhs.Length.USIZE ≡ S.Length.USIZE }
     requires fits { Lhs.Mapped.Fits }
     requires callable { MayZip Lhs.entry S.entry F.pre F.step f (Lhs.items lhs) (S.items s) }
     ensures len { IfOk result (λ made. length (Lhs.Mapped.Sequence.items made) ≡ Lhs.Length.USIZE) }
@@ -107,7 +107,7 @@ pub fn inverted_zip2_by<
     lhs: Lhs,
     f: &mut F,
 ) -> Result<MappedSequence<Lhs, B, U>, MappedError<Lhs, B, U>>
-    requires lengths { S.Length.USIZE ≡ Lhs.Length.USIZE }
+    requires lengths { Lhs.Length.USIZE ≡ S.Length.USIZE }
     requires fits { Lhs.Mapped.Fits }
     requires callable { MayZip Lhs.entry S.entry F.pre F.step f.old (Lhs.items lhs) (S.items s) }
     ensures len { IfOk result (λ made. length (Lhs.Mapped.Sequence.items made) ≡ Lhs.Length.USIZE) }

@@ -7,7 +7,7 @@ pub zip_entries-requires-clause-callable : goal.zip_entries-requires-clause-call
 zip_entries-requires-clause-callable g c =
     let same = sym g.met.Lhs.MappedGenericSequence.same_length in
     let long = c.entries_of.ensures.long ∙ same in
-    let also = c.entries_of-2.ensures.long ∙ (c.requires.lengths ∙ same) in (
+    let also = c.entries_of-2.ensures.long ∙ (sym c.requires.lengths ∙ same) in (
       g.Lhs.GenericSequence.entry,
       g.Lhs.AsSlice.items c.args.lhs,
       c.entries_of.ensures.gives,
@@ -25,7 +25,7 @@ pub returns : goal.returns
 returns g c =
     let same = g.met.Lhs.MappedGenericSequence.same_length in
     let long = c.entries_of.ensures.long ∙ sym same in
-    let also = c.entries_of-2.ensures.long ∙ (c.requires.lengths ∙ sym same) in
+    let also = c.entries_of-2.ensures.long ∙ (sym c.requires.lengths ∙ sym same) in
     let told = c.zip_entries.ensures in
     let run = IfOk-weaker c.zip_entries.result _ _ (λ made run. run _ (g.Lhs.AsSlice.items c.args.lhs)
     c.entries_of.ensures.gives long _ (g.S.AsSlice.items c.args.s) c.entries_of-2.ensures.gives also) told.run in
