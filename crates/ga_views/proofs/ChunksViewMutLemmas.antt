@@ -5,9 +5,8 @@ use Rattle.ga_views.specs.Rows.{chunk_count}
 use Rattle.ga_views.specs.declared.chunks_mut.ChunksViewMut.{ChunksViewMut}
 use Rattle.ga_views.specs.declared.length.Unsigned as unsigned
 use Rattle.ga_views.specs.declared.reborrow.ReborrowSlice as reborrow
-use Rattle.std.proofs.Common.{ap, subst, sym, ◌∙◌}
-use Rattle.std.specs.List.{length_refill}
-use Rattle.std.specs.Prelude.{◌≡◌, ℕ, ◌*◌, ◌/◌, List, length, refl}
+use Rattle.std.proofs.Common.{ap, subst, ◌∙◌}
+use Rattle.std.specs.Prelude.{◌≡◌, ℕ, ◌*◌, List, length}
 
 module _ {S T N : Type 0} {s : reborrow.Ghosts S T} {n : unsigned.Ghosts N} (rows : ChunksViewMut S T N s n) where
   pub same_rows : (slice other : S) (whole : length (s.items slice) ≡ chunk_count n.USIZE (s.items slice) * n.USIZE)
@@ -25,12 +24,3 @@ module _ {S T N : Type 0} {s : reborrow.Ghosts S T} {n : unsigned.Ghosts N} (row
   same_part items row start to len width at long =
       ap (λ k. (s.slice_with rows.slice (part_set k len items row)).0) at
       ∙ ap (λ k. (s.slice_with rows.slice (part_set to k items row)).0) long
-
-  -- no rest is left whatever is written over the items
-  pub whole-after : (written : List T) → let after = (s.slice_with rows.slice written).0 in
-      length (s.items after) ≡ chunk_count n.USIZE (s.items after) * n.USIZE
-  whole-after written =
-      let after = s.slice_with rows.slice written in
-      let same = ap length after.1 ∙ sym (length_refill (length (s.items rows.slice)) (s.items rows.slice) written refl)
-      in
-      same ∙ (rows.whole ∙ ap (λ len. len / n.USIZE * n.USIZE) (sym same))

@@ -1,5 +1,6 @@
 -- What rows for writing end as, where their items are lent on.
 use Rattle.ga_views.specs.Parts.{part_set}
+use Rattle.ga_views.specs.Rows.{chunk_count}
 use Rattle.ga_views.specs.contracts.chunks_mut.ChunksViewMut.{the_row}
 use Rattle.ga_views.specs.declared.length.Unsigned as unsigned
 use Rattle.ga_views.specs.declared.reborrow.ReborrowSlice as reborrow
@@ -9,20 +10,22 @@ use Rattle.std.specs.List.{length_refill}
 use Rattle.std.specs.Prelude.{◌≡◌, ℕ, ◌*◌, ◌/◌, List, Option, length, refl}
 
 module _ (S T N : RattleType) (s : reborrow.Ghosts S.Denot T.Denot) (n : unsigned.Ghosts N.Denot) where
-  -- the rows, where their slice has become another of the same length
-  abbrev with_slice : (rows : (the_row S T N s n).Denot) (slice : S.Denot)
-      → length (s.items slice) ≡ length (s.items rows.slice) → (the_row S T N s n).Denot
-  with_slice rows slice same = record rows {
-    slice = slice;
-    whole = same ∙ (rows.whole ∙ ap (λ len. len / n.USIZE * n.USIZE) (sym same));
-  }
+  -- no rest is left whatever is written over the items; a fact of its own, so that no proof opens it
+  pub whole-written : (rows : (the_row S T N s n).Denot) (written : List T.Denot)
+      → let after = (s.slice_with rows.slice written).0 in
+      length (s.items after) ≡ chunk_count n.USIZE (s.items after) * n.USIZE
+  whole-written rows written =
+      let after = s.slice_with rows.slice written in
+      let same = ap length after.1 ∙ sym (length_refill (length (s.items rows.slice)) (s.items rows.slice) written refl)
+      in
+      same ∙ (rows.whole ∙ ap (λ len. len / n.USIZE * n.USIZE) (sym same))
 
   -- the rows with these items written over their own, as many as they have
   abbrev pub rows_with : (the_row S T N s n).Denot → List T.Denot → (the_row S T N s n).Denot
-  rows_with rows written =
-      let after = s.slice_with rows.slice written in
-      with_slice rows after.0 (ap length after.1 ∙ sym
-      (length_refill (length (s.items rows.slice)) (s.items rows.slice) written refl))
+  rows_with rows written = record rows {
+    slice = (s.slice_with rows.slice written).0;
+    whole = whole-written rows written;
+  }
 
   -- the rows with these items in the row at an index
   abbrev pub row_set : (the_row S T N s n).Denot → ℕ → List T.Denot → (the_row S T N s n).Denot

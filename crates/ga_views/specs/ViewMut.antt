@@ -11,23 +11,31 @@ use Rattle.std.specs.Slice.Iter.{iter_mut_name}
 use Rattle.std.specs.declared.slice.IterMut.{IterMut}
 
 module _ (S T N : RattleType) (s : reborrow.Ghosts S.Denot T.Denot) (n : unsigned.Ghosts N.Denot) where
-  -- the view, where its slice has become another of the same length
-  abbrev with_slice : (view : (the_row S T N s n).Denot) (slice : S.Denot)
-      → length (s.items slice) ≡ length (s.items view.slice) → (the_row S T N s n).Denot
-  with_slice view slice same = record view { slice = slice; full = same ∙ view.full }
+  -- the slice stays full whatever is written over the items, or over one; facts of their own, so that no proof opens
+  -- them
+  pub full-written : (view : (the_row S T N s n).Denot) (written : List T.Denot)
+      → length (s.items (s.slice_with view.slice written).0) ≡ n.USIZE
+  full-written view written = ap length (s.slice_with view.slice written).1
+      ∙ (sym (length_refill (length (s.items view.slice)) (s.items view.slice) written refl) ∙ view.full)
+
+  pub full-written_item : (view : (the_row S T N s n).Denot) (i : ℕ) (item : T.Denot)
+      → length (s.items (s.slice_with_item view.slice i item).0) ≡ n.USIZE
+  full-written_item view i item = ap length (s.slice_with_item view.slice i item).1
+      ∙ (length-set (s.items view.slice) i item ∙ view.full)
 
   -- the view with these items written over its own, as many as it has
   abbrev pub view_with : (the_row S T N s n).Denot → List T.Denot → (the_row S T N s n).Denot
-  view_with view written =
-      let after = s.slice_with view.slice written in
-      with_slice view after.0 (ap length after.1 ∙ sym
-      (length_refill (length (s.items view.slice)) (s.items view.slice) written refl))
+  view_with view written = record view {
+    slice = (s.slice_with view.slice written).0;
+    full = full-written view written;
+  }
 
   -- the view with this item at a place
   abbrev pub view_with_item : (the_row S T N s n).Denot → ℕ → T.Denot → (the_row S T N s n).Denot
-  view_with_item view i item =
-      let after = s.slice_with_item view.slice i item in
-      with_slice view after.0 (ap length after.1 ∙ length-set (s.items view.slice) i item)
+  view_with_item view i item = record view {
+    slice = (s.slice_with_item view.slice i item).0;
+    full = full-written_item view i item;
+  }
 
   module _ (view : MutBor (the_row S T N s n).Denot) where
     -- once the borrow r ends, the items are those that r shows last

@@ -1,6 +1,7 @@
 use Rattle.ga_views.proofs.RowLemmas.{length-row, part-within, row-named}
-use Rattle.ga_views.proofs.ChunksViewMutLemmas.{same_part, same_rows, whole-after}
+use Rattle.ga_views.proofs.ChunksViewMutLemmas.{same_part, same_rows}
 use Rattle.ga_views.proofs.chunks_mut.ChunksViewMut.row_mut.Goals as goal
+use Rattle.ga_views.specs.ChunksViewMut.{whole-written}
 use Rattle.std.proofs.Common.{◌*◌, ap, length, ◌∙◌}
 use Rattle.std.specs.Prelude.{refl}
 
@@ -13,7 +14,10 @@ part_mut-requires g c = record {
 
 -- no rest is left whatever is written
 pub invariant_of-self-lent : goal.invariant_of-self-lent
-invariant_of-self-lent g c = λ row. (whole-after c.args.self.now _, tt)
+invariant_of-self-lent g c = λ row. (
+  whole-written g.row.S g.row.T g.row.N g.S.ReborrowSlice g.N.Unsigned c.args.self.now _,
+  tt,
+)
 
 -- the part is the row at the index
 pub returns : goal.returns
