@@ -204,6 +204,14 @@ module _ {X : Type 0} (width : ℕ) where
         div-mul-le_self (length items) width,
       )
 
+  -- so many fit where all do
+  pub items-below : (k : ℕ) (items : List X) (left : List (List X)) → rows width items ≡ left → k ≤ length left
+      → (n : ℕ) → n ≡ width → (most : ℕ) → length items < most → k * n < most
+  items-below k items left same within n as_wide most fits = omega (
+    arith,
+    items-within k items left same within n as_wide,
+  )
+
 -- a cut of items that leave no rest, behind the first k rows or before the last k
 module _ {X : Type 0} (width : ℕ) (items : List X) (whole : length items ≡ chunk_count width items * width) where
   module _ (k : ℕ) (within : k ≤ chunk_count width items) where

@@ -65,7 +65,8 @@ impl<'a, T, N: Unsigned> ChunkIter<'a, T, N> {
     pub fn nth(&mut self, n: usize) -> Option<GenericArrayRef<'a, T, N>>
         ensures step { StepGives (front n) self.old (option_map items_of_view result) self.new }
     {
-        self.pass_front(n.min(self.len()));
+        let (_, left) = self.left.split_at(n.min(self.len()) * N::USIZE);
+        self.left = left;
         self.next()
     }
 
@@ -75,28 +76,9 @@ impl<'a, T, N: Unsigned> ChunkIter<'a, T, N> {
     pub fn nth_back(&mut self, n: usize) -> Option<GenericArrayRef<'a, T, N>>
         ensures step { StepGives (back n) self.old (option_map items_of_view result) self.new }
     {
-        self.pass_back(n.min(self.len()));
+        let passed = n.min(self.len()) * N::USIZE;
+        self.left = &self.left[..self.left.len() - passed];
         self.next_back()
-    }
-
-    // Passes over the first `passed` rows.
-    #[inline]
-    fn pass_front(&mut self, passed: usize)
-        requires in_bounds { passed ≤ length self.old }
-        ensures { self.new ≡ drop passed self.old }
-    {
-        let (_, left) = self.left.split_at(passed * N::USIZE);
-        self.left = left;
-    }
-
-    // Passes over the last `passed` rows.
-    #[inline]
-    fn pass_back(&mut self, passed: usize)
-        requires in_bounds { passed ≤ length self.old }
-        ensures { self.new ≡ take (length self.old - passed) self.old }
-    {
-        let (left, _) = self.left.split_at(self.left.len() - passed * N::USIZE);
-        self.left = left;
     }
 }
 
