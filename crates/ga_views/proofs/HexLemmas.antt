@@ -64,6 +64,10 @@ IsAscii-table : (upper : Bool) → IsAscii (if upper then upper_digits else lowe
 IsAscii-table true = IsAscii-from_test upper_digits refl
 IsAscii-table false = IsAscii-from_test lower_digits refl
 
+-- a piece of half as many bytes as there is room for digits has room for its digits
+pub piece-room : (piece left room : ℕ) → piece ≡ min left (room / 2) → (taken : ℕ) → taken ≡ piece → 2 * taken ≤ room
+piece-room piece left room half taken same = omega arith
+
 module _ (upper : Bool) where
   -- two digits for each byte
   pub length-hex_digits : (bytes : List ℕ) → length (hex_digits upper bytes) ≡ 2 * length bytes
@@ -94,6 +98,15 @@ module _ (upper : Bool) where
         ∙ (take-append_min count n text (hex_digits upper behind) few
         ∙ ap (λ front. front ++ take (count - n) (hex_digits upper behind))
         (sym (take-append-le n text (hex_digits upper behind) (omega arith)) ∙ ap (take n) (sym all-digits)))
+
+    -- they lie within the text and what stands behind it
+    pub piece-within : (others : List ℕ) → n ≤ length (text ++ others)
+    piece-within others = omega (arith, length-append text others)
+
+    -- there is one where there are bytes and room for two digits
+    pub piece-some : (cut room : ℕ) → 0 < count → count ≤ 2 * length bytes → 2 ≤ room
+        → cut ≡ min (length bytes) (room / 2) → length piece ≡ cut → 0 < n
+    piece-some cut room some enough wide half long = omega (arith, ap length digits, length-hex_digits piece)
 
     -- and the second part has as many
     pub piece-left : count ≤ 2 * length bytes → count - n ≤ 2 * length behind
