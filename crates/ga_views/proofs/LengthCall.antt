@@ -1,17 +1,17 @@
 -- The call that gives a length, `N::USIZE()`, as a step of a walk. Assumes `Logic`.
 use Prim.Native.Nat.{ℕ}
+use Rattle.ga_views.proofs.CallWalk.{asked, calls}
 use Rattle.ga_views.specs.contracts.length.Unsigned.USIZE as length_of
 use Rattle.ga_views.specs.declared.length.Unsigned as unsigned
 use Rattle.std.proofs.Common.{◌≡◌, ◌^◌, ◌<◌, [], ◌∷◌, ap, List, refl}
 use base.Fml.{flft, ftrue, Lft, Share}
-use base.Logic.{emp, id⊢, SProp}
+use base.Logic.{id⊢, SProp}
 use contract.BorrowLft.{◌⊑◌}
-use contract.Monad.{fact, fact_i, Fun}
+use contract.Monad.{fact, Fun}
 use denote.Builtin.{usize}
 use denote.Laws.{Is, shows}
 use denote.RattleType.{RattleType}
 use denote.Steps.{heard, nothing, only, peeks}
-use denote.Triple.Call.{calls_at}
 use denote.Triple.Spec.{triple_of}
 use denote.Triple.Statement.{Contract, Triple}
 use mir.Syntax.{Body as Code, call, Callee, Dict, Place, seq, w64}
@@ -21,8 +21,7 @@ use prog.Routine.{Routine}
 use prog.Wp.{Calls, Env, Loops}
 use seplogic.Ra.Ura.{Ura}
 use sound.WpLaws.{FmC}
-use types.Kit.{‵, ◌⊛◌, ◌$◌, await, drop, Item, join, lands, later, move, pick, Post, raw, regoal, rewrite, runs, Seq}
-use types.Kit.{some, split, use0, use1}
+use types.Kit.{‵, ◌⊛◌, ◌$◌, Item, lands, move, Post, raw, regoal, rewrite, runs, Seq}
 use types.Logic.{Logic}
 use types.Run.{no_more}
 
@@ -45,14 +44,10 @@ module _ (N : RattleType) (g : unsigned.Ghosts N.Denot) (d : Dict) {M : Type 1} 
         → Seq K 𝓛 (token κ share ∷ Γ) (runs C Λ E (seq (call f [] p) rest) q)
     calls_length t framed met κ share lives then =
         let z : Called.Ghost = (((κ, tt), (share, tt), tt, tt, tt), tt) in
-        nothing t $ move t (1 ∷ 0 ∷ []) $ join t $ nothing t $ use0 𝓛 (raw (fact 𝓤 (κ ⊑ N.lives)))
-        (fact_i 𝓤 _ (emp 𝓤) lives) $ join t $
-        move t (1 ∷ 0 ∷ []) $ join t $ use1 𝓛 (raw (Called.pre z)) (id⊢ 𝓤 _) $
-        calls_at t framed Called met z (no_more t) (λ v.
-        use1 𝓛 (later (some (λ (m : ℕ). (token κ share ⊛ ‵ (usize.own_val m (v ∷ []))) ⊛ some
-        (λ (ws : Unit {0}). ‵ ftrue ⊛ raw (fact 𝓤 (m ≡ g.USIZE)))))) (id⊢ 𝓤 _) $
-        await t tt $ pick t (λ m. split t $ split t $ move t (2 ∷ []) $ pick t
-        (λ ws. split t $ drop t $ heard t _ (λ is_length.
-        move t (1 ∷ []) $ peeks t usize (Is usize) (shows 𝓛 usize) m (v ∷ []) (λ word.
+        nothing t $ move t (1 ∷ 0 ∷ []) $
+        calls 𝓛 Called z (λ m v. usize.own_val m (v ∷ [])) (λ (ws : Unit {0}). ftrue) (λ m. raw (fact 𝓤 (m ≡ g.USIZE)))
+        t framed met (asked 𝓛 lives (id⊢ 𝓤 _)) (id⊢ 𝓤 _) (λ v. id⊢ 𝓤 _) (no_more t) (λ v m.
+        move t (1 ∷ []) $ heard t _ (λ is_length.
+        peeks t usize (Is usize) (shows 𝓛 usize) m (v ∷ []) (λ word.
         rewrite t 0 (λ (vs : List Val). ‵ (usize.own_val m vs)) word.0 refl $
-        regoal t (λ (u : Val). lands C Λ E p u rest q) (ap only word.0) refl $ then m is_length word.1)))))
+        regoal t (λ (u : Val). lands C Λ E p u rest q) (ap only word.0) refl $ then m is_length word.1)))

@@ -1,13 +1,14 @@
 -- A walk of a function that takes a slice for writing, and nothing else, and gives it up: all of it but what the
 -- function asks, what it gives and its own steps. Assumes `Logic`.
 use Prim.Native.Nat.{ℕ, suc}
+use Rattle.ga_views.proofs.CallWalk.{asked, calls}
 use Rattle.std.proofs.Common.{◌<◌, ◌^◌, [], ◌∷◌, length, List, MutBor}
 use Rattle.std.proofs.raw_atomic.Walks.{leaves, proved}
 use base.Fml.{flft, ftrue, Lft}
 use base.Logic.{emp, ent, id⊢, sep, SProp}
 use contract.BorrowLft.{◌⊑◌}
 use contract.Lifetimes.{AllOutlive, Lfts, Outlives, Shares}
-use contract.Monad.{fact, fact_i}
+use contract.Monad.{fact}
 use contract.Running.{MachineTables, Running, tables}
 use denote.Builtin.{SliceRefMutOf}
 use denote.Exit.{no}
@@ -16,7 +17,6 @@ use denote.RattleType.{owns, RattleType}
 use denote.Signature.{plain, Slot, type_at, types_at}
 use denote.Slice.{mut_slice_Tells, mut_slice_vals, slice_val}
 use denote.Steps.{nothing}
-use denote.Triple.Call.{calls_at}
 use denote.Triple.Clauses.{at_exit, Clauses, closing, Ended, Lasts, lasts}
 use denote.Triple.Entry.{alive, on_entry}
 use denote.Triple.Spec.{Meets, triple_of}
@@ -28,8 +28,7 @@ use prog.Model.{Model}
 use prog.Wp.{Calls, Closed, Env, Loops, WpFn}
 use seplogic.Ra.Ura.{Ura}
 use sound.WpLaws.{FmC}
-use types.Kit.{‵, ◌⊛◌, ◌$◌, ◌∵◌, !, await, done, drop, group, Item, join, lands, later, move, pick, Post, qed, raw}
-use types.Kit.{runs, Seq, some, split, use0, use1}
+use types.Kit.{‵, ◌⊛◌, ◌$◌, group, Item, lands, move, Post, raw, runs, Seq}
 use types.Logic.{Logic, sem}
 use types.Run.{Opds}
 
@@ -106,9 +105,7 @@ module _ (more : ℕ) {outlives : List (Outlives (suc more))} (X : RattleType) {
 module _ {M : Type 1} {𝓤 : Ura M} (𝓛 : Logic 𝓤) where
   pub asks_of : {κT κN ℓT ℓN : Lft} {P : SProp 𝓤} → κT ⊑ ℓT → κN ⊑ ℓN → ent 𝓤 (emp 𝓤) P
       → ent 𝓤 (emp 𝓤) (sep 𝓤 (fact 𝓤 (κT ⊑ ℓT)) (sep 𝓤 (fact 𝓤 (κN ⊑ ℓN)) P))
-  asks_of {κT} {κN} {ℓT} {ℓN} {P} lT lN asked =
-      qed 𝓛 [] ∵ use0 𝓛 (raw P) asked $ use0 𝓛 (raw (fact 𝓤 (κN ⊑ ℓN))) (fact_i 𝓤 _ (emp 𝓤) lN) $ join ! $
-      use0 𝓛 (raw (fact 𝓤 (κT ⊑ ℓT))) (fact_i 𝓤 _ (emp 𝓤) lT) $ join ! $ done !
+  asks_of lT lN others = asked 𝓛 lT (asked 𝓛 lN others)
 
 -- the call of such a function, where it has two type parameters, as a step of its caller's walk
 module _ {outlives : List (Outlives 3)} (X : RattleType) {result : Slot 3} {M : Type 1} {𝓤 : Ura M} (𝓛 : Logic 𝓤)
@@ -142,13 +139,8 @@ module _ {outlives : List (Outlives 3)} (X : RattleType) {result : Slot 3} {M : 
           ∷ ‵ (owns (types_at Callable.signature.params κs) (s, tt) (mut_slice_vals s, tt)) ∷ Γ)
           (runs C Λ G (seq (call f xs p) rest) post)
       passes t framed met asked read then =
-          nothing t $ move t (1 ∷ 2 ∷ 3 ∷ 0 ∷ []) $ group t 4 $ join t $ use0 𝓛
-          (raw ((c κs (s, tt)).requires g)) asked $ move t (1 ∷ 0 ∷ []) $ join t $
-          use1 𝓛 (raw (Passed.pre passed_at)) (id⊢ 𝓤 _) $
-          calls_at t framed Passed met passed_at read (λ v.
-          use1 𝓛 (later (some (λ (r : (type_at result κs).Denot).
-          (tokens ⊛ ‵ ((type_at result κs).own_val r (v ∷ []))) ⊛
-          some (λ (ws : Lasts Callable κs (s, tt)). ‵ (lasts Callable κs (s, tt) ws) ⊛ raw
-          ((c κs (s, tt)).ensures g r (at_exit Callable κs (s, tt) ws)))))) (id⊢ 𝓤 _) $
-          await t tt $ pick t (λ r. split t $ split t $ move t (2 ∷ []) $ pick t
-          (λ ws. split t $ drop t $ move t (2 ∷ 0 ∷ 1 ∷ []) $ then v r)))
+          nothing t $ move t (1 ∷ 2 ∷ 3 ∷ 0 ∷ []) $ group t 4 $
+          calls 𝓛 Passed passed_at (λ r v. (type_at result κs).own_val r (v ∷ []))
+          (λ (ws : Lasts Callable κs (s, tt)). lasts Callable κs (s, tt) ws)
+          (λ r. raw ((c κs (s, tt)).ensures g r (at_exit Callable κs (s, tt) (tt, tt)))) t framed met asked (id⊢ 𝓤 _)
+          (λ v. id⊢ 𝓤 _) read then

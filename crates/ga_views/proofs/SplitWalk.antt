@@ -1,6 +1,7 @@
 -- The call that cuts a slice for writing in two, `split_at_mut`, as a step of a walk: the slice, the place and the
 -- tokens go in, and the two parts come out with what is known of them. Assumes `Logic`.
 use Prim.Native.Nat.{ℕ}
+use Rattle.ga_views.proofs.CallWalk.{asked, calls}
 use Rattle.std.below.core.specs.contracts.slice.slice+T.split_at_mut as cut_contract
 use Rattle.std.proofs.Common.{◌≡◌, ◌+◌, ◌++◌, ◌≤◌, ◌<◌, ◌^◌, [], ◌∷◌, ◌∙◌, ap, drop as drop_l, length, List, MutBor}
 use Rattle.std.proofs.Common.{refl, take}
@@ -18,7 +19,6 @@ use denote.RattleType.{RattleType}
 use denote.Slice.{mut_slice_vals, MutSlice, slice_val}
 use denote.Steps.{heard, nothing, only, peeks}
 use denote.Struct.Tuple.{Tuple}
-use denote.Triple.Call.{calls_at}
 use denote.Triple.Clauses.{Lasts, lasts}
 use denote.Triple.Spec.{triple_of}
 use denote.Triple.Statement.{Contract, Triple}
@@ -29,8 +29,8 @@ use prog.Routine.{Routine}
 use prog.Wp.{Calls, Env, Loops}
 use seplogic.Ra.Ura.{Ura}
 use sound.WpLaws.{FmC}
-use types.Kit.{‵, ◌⊛◌, ◌$◌, await, drop, feq_l, fjoin, fpick, fsplit, group, Item, join, lands, later, move, pick, Post}
-use types.Kit.{raw, regoal, rewrite, runs, Seq, some, split, use0, use1}
+use types.Kit.{‵, ◌⊛◌, ◌$◌, drop, feq_l, fjoin, fpick, fsplit, group, Item, lands, move, Post}
+use types.Kit.{raw, regoal, rewrite, runs, Seq, split}
 use types.Logic.{Logic}
 use types.Run.{Opds}
 
@@ -98,25 +98,20 @@ module _ (X : RattleType) where
             ∷ ‵ (flft κT qT) ∷ Γ) (runs C Λ G (seq (call f xs p) rest) post)
         cuts t framed met lives inside read then =
             nothing t $ move t (2 ∷ 0 ∷ []) $ fjoin t $ move t (1 ∷ 0 ∷ []) $ fjoin t $
-            nothing t $ move t (2 ∷ 3 ∷ 0 ∷ 1 ∷ []) $ group t 3 $ join t $
-            use0 𝓛 (raw (fact 𝓤 (place ≤ length s.now))) (fact_i 𝓤 _ (emp 𝓤) inside) $
-            use0 𝓛 (raw (fact 𝓤 (κT ⊑ X.lives))) (fact_i 𝓤 _ (emp 𝓤) lives) $ join t $
-            move t (1 ∷ 0 ∷ []) $ join t $ use1 𝓛 (raw (Cuts.pre cut_at)) (id⊢ 𝓤 _) $
-            calls_at t framed Cuts met cut_at read (λ u.
-            use1 𝓛 (later (some (λ (r : S.Denot × S.Denot).
-            ((‵ (flft κ q) ⊛ ‵ (flft κT qT) ⊛ ‵ ftrue) ⊛ ‵ ((Tuple (S ∷ S ∷ [])).own_val r (u ∷ []))) ⊛
-            some (λ (ws : Lasts (cut_contract.ended X) cut_at.0.0 cut_at.0.3).
-            ‵ (lasts (cut_contract.ended X) cut_at.0.0 cut_at.0.3 ws) ⊛
-            raw (fact 𝓤 (s.now ≡ r.0.now ++ r.1.now)) ⊛ raw (fact 𝓤 (length r.0.now ≡ place)) ⊛ raw
+            nothing t $ move t (2 ∷ 3 ∷ 0 ∷ 1 ∷ []) $ group t 3 $
+            calls 𝓛 Cuts cut_at (λ (r : S.Denot × S.Denot) u. (Tuple (S ∷ S ∷ [])).own_val r (u ∷ []))
+            (λ (ws : Lasts (cut_contract.ended X) cut_at.0.0 cut_at.0.3).
+            lasts (cut_contract.ended X) cut_at.0.0 cut_at.0.3 ws)
+            (λ r. raw (fact 𝓤 (s.now ≡ r.0.now ++ r.1.now)) ⊛ raw (fact 𝓤 (length r.0.now ≡ place)) ⊛ raw
             (fact 𝓤 (length r.1.now + place ≡ length s.now)) ⊛
             raw (fact 𝓤 (r.0.now ≡ take place s.now)) ⊛ raw (fact 𝓤 (r.1.now ≡ drop_l place s.now)) ⊛ raw
             (fact 𝓤 (SameBelow s.now r.0.now place × TailFrom s.now r.1.now place)) ⊛
-            ‵ (joins s r.0 r.1))))) (id⊢ 𝓤 _) $
-            await t tt $ pick t (λ r. split t $ split t $ move t (2 ∷ []) $ pick t (λ ws. split t $ drop t $
+            ‵ (joins s r.0 r.1)) t framed met (asked 𝓛 lives (fact_i 𝓤 _ (emp 𝓤) inside)) (id⊢ 𝓤 _) (λ u. id⊢ 𝓤 _)
+            read (λ u r. move t (1 ∷ []) $
             split t $ heard t _ (λ whole. split t $ heard t _ (λ first_len. split t $ heard t _ (λ second_len.
             split t $ heard t _ (λ first_is. split t $ heard t _ (λ second_is. split t $ drop t $
-            -- [what the slice ends as; the tokens; the pair]
-            move t (2 ∷ []) $ fpick t (λ vss. fsplit t $
+            -- [what the slice ends as; the pair; the tokens]
+            move t (1 ∷ []) $ fpick t (λ vss. fsplit t $
             move t (1 ∷ []) $ fsplit t $ peeks t S (Is S) (shows 𝓛 S) r.0 vss.0
             (λ is₁. rewrite t 0 (λ (vs : List Val). ‵ (S.own_val r.0 vs)) is₁.0.0 refl $
             move t (1 ∷ []) $ fsplit t $ peeks t S (Is S) (shows 𝓛 S) r.1 vss.1.0
@@ -133,4 +128,4 @@ module _ (X : RattleType) where
               second_is = second_is;
               first_fits = is₁.0.1.0;
               second_fits = is₂.0.1.0;
-            })))))))))))))
+            })))))))))))

@@ -2,6 +2,7 @@
 -- rest end as, one after the other. The borrow checker shows no clause on two parts where one of them is passed on to
 -- a call that makes rows of it, so this proof walks the code by hand. Assumes `Logic`.
 use Prim.Native.Nat.{ℕ}
+use Rattle.ga_views.proofs.CallWalk.{asked, calls}
 use Rattle.ga_views.proofs.LengthCall.{calls_length}
 use Rattle.ga_views.proofs.SliceWalk.{gives_up}
 use Rattle.ga_views.proofs.SliceLaws.{Slice, slice_laws}
@@ -45,7 +46,6 @@ use denote.Steps.{heard, nothing, only, owned, peeks}
 use denote.Struct.Declared.{shape}
 use denote.Struct.Struct.{within}
 use denote.Struct.Tuple.{Tuple, tuple_laws, tuple_type}
-use denote.Triple.Call.{calls_at}
 use denote.Triple.Clauses.{Lasts, lasts}
 use denote.Triple.Spec.{triple_of}
 use denote.Triple.Table.{framed}
@@ -54,8 +54,8 @@ use mir.Syntax.{w64}
 use mir.Val.{of_list, Val, vint, vstruct}
 use seplogic.Ra.Ura.{Ura}
 use types.ByLocal.{alloc_all, free_all, get, get_in, lands_as, look_at, look_in_at, pass_all, sets}
-use types.Kit.{‵, ◌⊛◌, ◌$◌, ◌∵◌, !, await, by, done, drop, feq_i, fjoin, fpack, fsplit, group, join, later, move, pick}
-use types.Kit.{qed, raw, rewrite, some, split, split3, use0, use1, use2}
+use types.Kit.{‵, ◌⊛◌, ◌$◌, ◌∵◌, !, by, done, drop, feq_i, fjoin, fpack, fsplit, group, move}
+use types.Kit.{qed, raw, rewrite, split, split3, use0, use2}
 use types.Logic.{Logic, sem}
 use types.Part.{agg, sub, whole}
 use types.Run.{addr, and_then, enter, fld, from, hop, no_more, of_opd, returns, stop}
@@ -135,16 +135,13 @@ chunks_from_slice_mut_spec 𝓤 𝓛 𝓜 𝓡 wired X N LX LN g d bound =
     let K = triple_of 𝓛 count_contract.signature (count_contract.spec 𝓛 𝓜.mem 𝓡.returns) in
     let zK : K.Ghost = ((tt, tt, tt, (n, (m, tt)), (vint w64 n ∷ [], (vint w64 m ∷ [], tt))), tt) in
     owned ! usize _ (uint_Makes 𝓛 w64) n _ (refl, fits) $
-    nothing ! $ move ! (2 ∷ 0 ∷ []) $ fjoin ! $ move ! (1 ∷ 0 ∷ []) $ fjoin ! $ nothing ! $ join ! $ nothing ! $ move !
-    (1 ∷ 0 ∷ []) $ join ! $
-    use1 𝓛 (raw (K.pre zK)) (id⊢ 𝓤 _) $
-    calls_at ! (framed 𝓤 𝓛.H 𝓜 𝓣) K (counted.met 𝓤 𝓛 𝓜 𝓡 (code.calls-ga_views::chunks_ref::len_of_rows 𝓡.env wired)) zK
-    (and_then ! (get ! refl) (and_then ! (get ! refl) (no_more !))) (λ v.
-    use1 𝓛 (later (some (λ (k : ℕ). (‵ ftrue ⊛ ‵ (usize.own_val k (v ∷ []))) ⊛
-    some (λ (ws : Lasts count_contract.ended zK.0.0 zK.0.3). ‵ (lasts count_contract.ended zK.0.0 zK.0.3 ws) ⊛ raw
-    (fact 𝓤 (k ≡ n / m * m)))))) (id⊢ 𝓤 _) $
-    await ! tt $ pick ! (λ k. split ! $ split ! $ drop ! $ move ! (1 ∷ []) $ pick !
-    (λ ws. split ! $ drop ! $ heard ! _ (λ is_count.
+    nothing ! $ move ! (2 ∷ 0 ∷ []) $ fjoin ! $ move ! (1 ∷ 0 ∷ []) $ fjoin ! $ nothing ! $
+    calls 𝓛 K zK (λ k v. usize.own_val k (v ∷ []))
+    (λ (ws : Lasts count_contract.ended zK.0.0 zK.0.3). lasts count_contract.ended zK.0.0 zK.0.3 ws)
+    (λ k. raw (fact 𝓤 (k ≡ n / m * m))) ! (framed 𝓤 𝓛.H 𝓜 𝓣)
+    (counted.met 𝓤 𝓛 𝓜 𝓡 (code.calls-ga_views::chunks_ref::len_of_rows 𝓡.env wired)) (id⊢ 𝓤 _) (id⊢ 𝓤 _)
+    (λ v. id⊢ 𝓤 _) (and_then ! (get ! refl) (and_then ! (get ! refl) (no_more !))) (λ v k.
+    move ! (1 ∷ []) $ heard ! _ (λ is_count. move ! (1 ∷ []) $ drop ! $
     -- [the count; the tokens of N, κ, T; the slice]
     peeks ! usize (Is usize) (shows 𝓛 usize) k (v ∷ []) (λ word.
     lands_as ! (ap only word.0) refl (tt, record { fits = word.1 }) $
@@ -208,18 +205,13 @@ chunks_from_slice_mut_spec 𝓤 𝓛 𝓜 𝓡 wired X N LX LN g d bound =
     let whole_rows : length first.now ≡ chunk_count width first.now * width =
     long ∙ (sym (ap (λ (i : ℕ). i * width) (count-whole n width)) ∙ sym (ap (λ (i : ℕ). i / width * width) long)) in
     nothing ! $ move ! (2 ∷ 0 ∷ []) $ fjoin ! $ move ! (3 ∷ []) $ split3 ! $ move ! (2 ∷ []) $ drop ! $
-    move ! (0 ∷ 1 ∷ 5 ∷ 2 ∷ []) $ group ! 3 $ join ! $
-    use0 𝓛 (raw (fact 𝓤 (length first.now ≡ chunk_count width first.now * width))) (fact_i 𝓤 _ (emp 𝓤) whole_rows) $
-    use0 𝓛 (raw (fact 𝓤 (κN ⊑ N.lives))) (fact_i 𝓤 _ (emp 𝓤) lN) $ join ! $
-    use0 𝓛 (raw (fact 𝓤 (κT ⊑ X.lives))) (fact_i 𝓤 _ (emp 𝓤) lT) $ join ! $
-    use0 𝓛 (raw (fact 𝓤 (κ ⊑ κ ++ X.lives))) (fact_i 𝓤 _ (emp 𝓤) lS) $ join ! $
-    move ! (1 ∷ 0 ∷ []) $ join ! $ use1 𝓛 (raw (O.pre zO)) (id⊢ 𝓤 _) $
-    calls_at ! (framed 𝓤 𝓛.H 𝓜 𝓣) O makes zO (and_then ! (get ! refl) (no_more !)) (λ u.
-    use1 𝓛 (later (some (λ (w : Rows.Denot). (tokens ⊛ ‵ (Rows.own_val w (u ∷ []))) ⊛
-    some (λ (ws : Unit {0} × Unit {0}). ‵ (fsep ftrue ftrue) ⊛ raw (fact 𝓤 (w.slice ≡ first)))))) (id⊢ 𝓤 _) $
-    await ! tt $ pick ! (λ w. split ! $ split ! $ move ! (2 ∷ []) $ pick ! (λ ws. split ! $ drop ! $ heard ! _ (λ this.
-    -- [the tokens; the rows; the second part; what follows]
-    move ! (1 ∷ []) $ peeks ! Rows (Is Rows) (shows 𝓛 Rows) w (u ∷ []) (λ is.
+    move ! (0 ∷ 1 ∷ 5 ∷ 2 ∷ []) $ group ! 3 $
+    calls 𝓛 O zO (λ w u. Rows.own_val w (u ∷ [])) (λ (ws : Unit {0} × Unit {0}). fsep ftrue ftrue)
+    (λ w. raw (fact 𝓤 (w.slice ≡ first))) ! (framed 𝓤 𝓛.H 𝓜 𝓣) makes
+    (asked 𝓛 lS (asked 𝓛 lT (asked 𝓛 lN (fact_i 𝓤 _ (emp 𝓤) whole_rows)))) (id⊢ 𝓤 _) (λ u. id⊢ 𝓤 _)
+    (and_then ! (get ! refl) (no_more !)) (λ u w. move ! (1 ∷ []) $ heard ! _ (λ this.
+    -- [the rows; the tokens; the second part; what follows]
+    peeks ! Rows (Is Rows) (shows 𝓛 Rows) w (u ∷ []) (λ is.
     lands_as ! refl refl (((view_laws X N g d κ LX LN).lawful 𝓛).typed w (u ∷ []) is).0 $
     sets ! (addr ! (from ! (fld ! refl (hop ! (look_in_at ! 4 (sub ! 0 refl (whole !))) (stop !))))) refl (tt, tt) $
     sets ! (agg ! (and_then ! (get ! refl) (and_then ! (get_in ! (fld ! refl (stop !)) (sub ! 1 refl (whole !)))
@@ -244,4 +236,4 @@ chunks_from_slice_mut_spec 𝓤 𝓛 𝓜 𝓡 wired X N LX LN g d bound =
     (fact_i 𝓤 _ (emp 𝓤) (ap (rows width) (same ∙ (parts.first_is ∙ ap (λ (i : ℕ). take i s.now) count))
     ∙ rows-of_whole width s.now)) $
     nothing ! $ nothing ! $ fjoin ! $ move ! (5 ∷ 0 ∷ 4 ∷ 6 ∷ []) $
-    by ! (leave out (w, second)))))))))))))))))))
+    by ! (leave out (w, second)))))))))))))))

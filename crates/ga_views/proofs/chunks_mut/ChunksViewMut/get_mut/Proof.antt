@@ -2,7 +2,8 @@
 -- clause on a loan that the answer holds in a view, so this proof walks the code by hand. Assumes `Logic`.
 use Prim.Native.Nat.{ℕ}
 use Rattle.ga_views.proofs.SharedLoan.{comes_back, lent_shared, lends_shared}
-use Rattle.ga_views.proofs.SliceWalk.{asks_of, passes}
+use Rattle.ga_views.proofs.CallWalk.{asked, calls}
+use Rattle.ga_views.proofs.SliceWalk.{passes}
 use Rattle.ga_views.proofs.SliceLaws.{ArrayView, array_laws}
 use Rattle.ga_views.proofs.view_mut.ViewMut+mut+slice+T+T+N.from_mut_slice.Met as view_met
 use Rattle.ga_views.proofs.chunks_mut.ChunksViewMut.TheLaws as rows_laws
@@ -46,7 +47,6 @@ use denote.Signature.{plain}
 use denote.Slice.{MutSlice}
 use denote.Steps.{heard, nothing, only, owned, peeks}
 use denote.Struct.Struct.{as_fields}
-use denote.Triple.Call.{calls_at}
 use denote.Triple.Clauses.{lasts}
 use denote.Triple.Spec.{triple_of}
 use denote.Triple.Table.{framed}
@@ -58,7 +58,7 @@ use mir.Syntax.{a_type, Args, dcons, dnil, Fn, named, ty_int, w64, w8}
 use mir.Val.{of_list, Val, vint}
 use seplogic.Ra.Ura.{Ura}
 use types.ByLocal.{alloc_all, env, free_all, get, lands_as, look_at, pass_all, sets, sets_last, through}
-use types.Kit.{‵, ◌⊛◌, ◌$◌, ◌∵◌, !, at_ret, await, by, done, drop, feq_l, fjoin, flt_l, fsplit, fsplit3, group, join}
+use types.Kit.{‵, ◌⊛◌, ◌$◌, ◌∵◌, !, at_ret, await, by, done, drop, feq_l, fjoin, flt_l, fsplit, fsplit3, group}
 use types.Kit.{keep, later, move, pick, qed, raw, rewrite, some, split, split3, use0, use1, use2}
 use types.Logic.{Logic, sem}
 use types.Match.{live}
@@ -154,22 +154,15 @@ get_mut_spec 𝓤 𝓛 𝓜 𝓡 wired S T N LS LT LN p pd s sd n nd d metP metS
       ),
       tt,
     ) in
-    nothing ! $ move ! (1 ∷ 0 ∷ []) $ fjoin ! $ nothing ! $ move ! (2 ∷ 4 ∷ 5 ∷ 6 ∷ 0 ∷ 1 ∷ []) $ group ! 5 $ join ! $
-    nothing ! $ use0 𝓛 (raw (fact 𝓤 (κN ⊑ N.lives))) (fact_i 𝓤 _ (emp 𝓤) lN) $ join ! $
-    use0 𝓛 (raw (fact 𝓤 (κT ⊑ T.lives))) (fact_i 𝓤 _ (emp 𝓤) lT) $ join ! $
-    use0 𝓛 (raw (fact 𝓤 (κS ⊑ S.lives))) (fact_i 𝓤 _ (emp 𝓤) lS) $ join ! $
-    move ! (1 ∷ 0 ∷ []) $ join ! $ use1 𝓛 (raw (L.pre z)) (id⊢ 𝓤 _) $
-    calls_at ! (framed 𝓤 𝓛.H 𝓜 𝓣) L (len_met.met 𝓤 𝓛 𝓜 𝓡
-    (code.calls-ga_views::chunks_mut::ChunksViewMut::len 𝓡.env wired) S T N LS LT LN s sd n nd d metS metN metD) z
-    (and_then ! (get ! refl) (no_more !)) (λ v.
-    use1 𝓛 (later (some (λ (m : ℕ).
-    ((‵ (flft κ' t.1) ⊛ ‵ (flft κS qs.1.0) ⊛ ‵ (flft κT qs.1.1.0) ⊛ ‵ (flft κN qs.1.1.1.0) ⊛ ‵ ftrue) ⊛
-    ‵ (usize.own_val m (v ∷ []))) ⊛
-    some (λ (ws : Unit {0} × Unit {0}). ‵ (lasts (count_of.ended S T N s sd n nd d) z.0.0 (shown, tt) ws) ⊛ raw
-    (fact 𝓤 (m ≡ chunk_count n.USIZE items)) ⊛ raw (fact 𝓤 (m ≡ length (rows_of n.USIZE items))))))) (id⊢ 𝓤 _) $
-    await ! tt $ pick ! (λ m. split ! $ split ! $ move ! (2 ∷ []) $ pick !
-    (λ ws. split ! $ drop ! $ split ! $ heard ! _ (λ is_count. drop ! $
-    move ! (1 ∷ []) $ fsplit ! $ feq_l ! (λ is_m. flt_l ! (λ fm.
+    nothing ! $ move ! (1 ∷ 0 ∷ []) $ fjoin ! $ nothing ! $ move ! (2 ∷ 4 ∷ 5 ∷ 6 ∷ 0 ∷ 1 ∷ []) $ group ! 5 $
+    calls 𝓛 L z (λ m v. usize.own_val m (v ∷ []))
+    (λ (ws : Unit {0} × Unit {0}). lasts (count_of.ended S T N s sd n nd d) z.0.0 (shown, tt) ws)
+    (λ m. raw (fact 𝓤 (m ≡ chunk_count n.USIZE items)) ⊛ raw (fact 𝓤 (m ≡ length (rows_of n.USIZE items)))) !
+    (framed 𝓤 𝓛.H 𝓜 𝓣) (len_met.met 𝓤 𝓛 𝓜 𝓡
+    (code.calls-ga_views::chunks_mut::ChunksViewMut::len 𝓡.env wired) S T N LS LT LN s sd n nd d metS metN metD)
+    (asked 𝓛 lS (asked 𝓛 lT (asked 𝓛 lN (id⊢ 𝓤 _)))) (id⊢ 𝓤 _) (λ v. id⊢ 𝓤 _)
+    (and_then ! (get ! refl) (no_more !)) (λ v m.
+    move ! (1 ∷ []) $ split ! $ heard ! _ (λ is_count. drop ! $ fsplit ! $ feq_l ! (λ is_m. flt_l ! (λ fm.
     lands_as ! (ap only is_m) refl (tt, record { fits = fm }) $
     -- [the tokens; the way back]
     split3 ! $ move ! (2 ∷ []) $ split3 ! $ move ! (2 ∷ []) $ drop ! $ move ! (2 ∷ 4 ∷ []) $
@@ -185,28 +178,18 @@ get_mut_spec 𝓤 𝓛 𝓜 𝓡 wired S T N LS LT LN p pd s sd n nd d metP metS
     (row_of.spec S T N p pd s sd n nd d 𝓛 𝓜.mem 𝓡.returns) in
     let k : G.Ghost = ((κs, qs, bounds, (self, (i, tt)), (mut_vals self, (vint w64 i ∷ [], tt))), tt) in
     nothing ! $ owned ! usize (Is usize) (uint_Makes 𝓛 w64) i _ (refl, fi) $ fjoin ! $ move ! (1 ∷ 0 ∷ []) $ fjoin ! $
-    nothing ! $ move ! (2 ∷ 5 ∷ 3 ∷ 4 ∷ 0 ∷ 1 ∷ []) $ group ! 5 $ join ! $
-    use0 𝓛 (raw (fact 𝓤 (i < chunk_count n.USIZE items))) (fact_i 𝓤 _ (emp 𝓤) lies) $
-    use0 𝓛 (raw (fact 𝓤 (κN ⊑ N.lives))) (fact_i 𝓤 _ (emp 𝓤) lN) $ join ! $
-    use0 𝓛 (raw (fact 𝓤 (κT ⊑ T.lives))) (fact_i 𝓤 _ (emp 𝓤) lT) $ join ! $
-    use0 𝓛 (raw (fact 𝓤 (κS ⊑ S.lives))) (fact_i 𝓤 _ (emp 𝓤) lS) $ join ! $
-    move ! (1 ∷ 0 ∷ []) $ join ! $ use1 𝓛 (raw (G.pre k)) (id⊢ 𝓤 _) $
-    calls_at ! (framed 𝓤 𝓛.H 𝓜 𝓣) G (row_met.met 𝓤 𝓛 𝓜 𝓡
-    (code.calls-ga_views::chunks_mut::ChunksViewMut::row_mut 𝓡.env wired) S T N LS LT LN p pd s sd n nd d metP metS
-    metN metD) k
-    (and_then ! (get ! refl) (and_then ! (get ! refl) (no_more !))) (λ v'.
+    nothing ! $ move ! (2 ∷ 5 ∷ 3 ∷ 4 ∷ 0 ∷ 1 ∷ []) $ group ! 5 $
     let Slice : RattleType = MutSlice (named 0) κ E in
-    use1 𝓛 (later (some (λ (r : Slice.Denot).
-    ((‵ (flft κ qs.0) ⊛ ‵ (flft κS qs.1.0) ⊛ ‵ (flft κT qs.1.1.0) ⊛ ‵ (flft κN qs.1.1.1.0) ⊛ ‵ ftrue) ⊛
-    ‵ (Slice.own_val r (v' ∷ []))) ⊛
-    some (λ (ws : Unit {0} × (Unit {0} × Unit {0})).
-    ‵ (lasts (row_of.ended S T N p pd s sd n nd d) κs (self, (i, tt)) ws)
-    ⊛ ‵ (LendsRow (param 0 S) E (param 2 N) s n self i r) ⊛ raw (fact 𝓤 (r.now ≡ row_at n.USIZE items i)) ⊛ raw
-    (fact 𝓤 (length r.now ≡ n.USIZE)))))) (id⊢ 𝓤 _) $
-    await ! tt $ pick ! (λ r. split ! $ split ! $ move ! (2 ∷ []) $ pick ! (λ ws'. split ! $ drop ! $ split3 ! $
+    calls 𝓛 G k (λ r v. Slice.own_val r (v ∷ []))
+    (λ (ws : Unit {0} × (Unit {0} × Unit {0})). lasts (row_of.ended S T N p pd s sd n nd d) κs (self, (i, tt)) ws)
+    (λ r. ‵ (LendsRow (param 0 S) E (param 2 N) s n self i r) ⊛ raw (fact 𝓤 (r.now ≡ row_at n.USIZE items i)) ⊛ raw
+    (fact 𝓤 (length r.now ≡ n.USIZE))) ! (framed 𝓤 𝓛.H 𝓜 𝓣) (row_met.met 𝓤 𝓛 𝓜 𝓡
+    (code.calls-ga_views::chunks_mut::ChunksViewMut::row_mut 𝓡.env wired) S T N LS LT LN p pd s sd n nd d metP metS
+    metN metD) (asked 𝓛 lS (asked 𝓛 lT (asked 𝓛 lN (fact_i 𝓤 _ (emp 𝓤) lies)))) (id⊢ 𝓤 _) (λ v. id⊢ 𝓤 _)
+    (and_then ! (get ! refl) (and_then ! (get ! refl) (no_more !))) (λ v' r. move ! (1 ∷ []) $ split3 ! $
     move ! (1 ∷ []) $ heard ! _ (λ is_row. move ! (1 ∷ []) $ heard ! _ (λ wide.
     -- [what the rows end as; the tokens; the row]
-    move ! (2 ∷ []) $ peeks ! Slice (Is Slice) (shows 𝓛 Slice) r (v' ∷ []) (λ told.
+    move ! (1 ∷ []) $ peeks ! Slice (Is Slice) (shows 𝓛 Slice) r (v' ∷ []) (λ told.
     rewrite ! 0 (λ (us : List Val). ‵ (Slice.own_val r us)) told.0.0 refl $
     lands_as ! (ap only told.0.0) refl (tt, (tt, (record { fits = told.0.1.0 }, tt))) $
     nothing ! $ move ! (1 ∷ 0 ∷ []) $ fjoin ! $ move ! (2 ∷ []) $ split3 ! $ move ! (2 ∷ []) $ split3 ! $ move !
@@ -215,7 +198,7 @@ get_mut_spec 𝓤 𝓛 𝓜 𝓡 wired S T N LS LT LN p pd s sd n nd d metP metS
     (bounds.1.0, tt) r tt ! (framed 𝓤 𝓛.H 𝓜 𝓣)
     (view_met.met 𝓤 𝓛 𝓜 𝓡 (code.calls-ga_views::view_mut::ViewMut+mut+slice+T+T+N::from_mut_slice 𝓡.env wired) T N LT LN
     n nd metN)
-    (asks_of 𝓛 lT lN (fact_i 𝓤 _ (emp 𝓤) wide)) (and_then ! (get ! refl) (no_more !))
+    (asked 𝓛 lT (asked 𝓛 lN (fact_i 𝓤 _ (emp 𝓤) wide))) (and_then ! (get ! refl) (no_more !))
     (λ u w. move ! (1 ∷ []) $ heard ! _ (λ this.
     -- [the view; three tokens; the token of S's lifetime; what the rows end as]
     peeks ! V (Is V) (shows 𝓛 V) w (u ∷ []) (λ is.
@@ -239,7 +222,7 @@ get_mut_spec 𝓤 𝓛 𝓜 𝓡 wired S T N LS LT LN p pd s sd n nd d metP metS
     nothing ! $ nothing ! $ fjoin ! $ nothing ! $ fjoin ! $ move ! (5 ∷ []) $ split3 ! $ move ! (2 ∷ []) $ split ! $
     move ! (2 ∷ 9 ∷ 3 ∷ 0 ∷ 1 ∷ 4 ∷ 8 ∷ 7 ∷ []) $ group ! 5 $
     returns ! (look_at ! 0 refl) $ free_all ! refl $
-    by ! (leaves 𝓛 ends kept c y out (Some w) (tt, (tt, tt)) (tt, (tt, tt)))))))))))))
+    by ! (leaves 𝓛 ends kept c y out (Some w) (tt, (tt, tt)) (tt, (tt, tt)))))))))))
     (λ beyond.
     let out : Val = live 0 (of_list []) in
     let far : chunk_count n.USIZE items ≤ i = subst (λ (k : ℕ). k ≤ i) is_count (nltb→le i m beyond) in
@@ -256,4 +239,4 @@ get_mut_spec 𝓤 𝓛 𝓜 𝓡 wired S T N LS LT LN p pd s sd n nd d metP metS
     nothing ! $ nothing ! $ fjoin ! $ nothing ! $ fjoin ! $ nothing ! $ move !
     (6 ∷ 9 ∷ 7 ∷ 8 ∷ 0 ∷ 1 ∷ 2 ∷ 5 ∷ []) $ group ! 5 $
     returns ! (look_at ! 0 refl) $ free_all ! refl $
-    by ! (leaves 𝓛 ends kept c y out None (tt, (tt, tt)) (tt, (tt, tt))))))))))))))))
+    by ! (leaves 𝓛 ends kept c y out None (tt, (tt, tt)) (tt, (tt, tt))))))))))))))

@@ -2,8 +2,9 @@
 -- checker shows no clause on a lender that is a slice where the answer is a `Result`, so this proof walks the code by
 -- hand. Assumes `Logic`.
 use Prim.Native.Nat.{ℕ}
+use Rattle.ga_views.proofs.CallWalk.{asked}
 use Rattle.ga_views.proofs.LengthCall.{calls_length}
-use Rattle.ga_views.proofs.SliceWalk.{asks_of, gives_up, passes}
+use Rattle.ga_views.proofs.SliceWalk.{gives_up, passes}
 use Rattle.ga_views.proofs.SliceLaws.{ArrayView, array_laws}
 use Rattle.ga_views.proofs.view_mut.ViewMut+mut+slice+T+T+N.from_mut_slice.Met as theirs
 use Rattle.ga_views.proofs.view_mut.ViewMut+mut+slice+T+T+N.try_from_mut_slice.Code as code
@@ -139,7 +140,7 @@ try_from_mut_slice_spec 𝓤 𝓛 𝓜 𝓡 wired X N LX LN g d bound =
     passes X 𝓛 (callee.clauses X N g d 𝓛 𝓜.mem 𝓡.returns) κs qs bounds s tt ! (framed 𝓤 𝓛.H 𝓜 𝓣)
     (theirs.met 𝓤 𝓛 𝓜 𝓡 (code.calls-ga_views::view_mut::ViewMut+mut+slice+T+T+N::from_mut_slice 𝓡.env wired) X N LX LN g
     d bound)
-    (asks_of 𝓛 lT lN (fact_i 𝓤 _ (emp 𝓤) of_length)) (and_then ! (get ! refl) (no_more !))
+    (asked 𝓛 lT (asked 𝓛 lN (fact_i 𝓤 _ (emp 𝓤) of_length))) (and_then ! (get ! refl) (no_more !))
     (λ u w. move ! (1 ∷ []) $ heard ! _ (λ this.
     -- [the view; the tokens]
     peeks ! V (Is V) (shows 𝓛 V) w (u ∷ []) (λ is.
