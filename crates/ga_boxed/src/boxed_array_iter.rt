@@ -110,14 +110,10 @@ impl<T: Drop> BoxedArrayIter<T> {
     pub fn nth(&mut self, n: usize) -> Option<T>
         ensures step { StepGives (front n) self.old result self.new }
     {
-        if n >= self.len() {
-            while let Some(_item) = self.next() {}
-            return None;
-        }
-        for _passed in 0..n {
+        for _passed in 0..n.min(self.len()) {
             self.drop_first();
         }
-        Some(self.items.take_first())
+        self.next()
     }
 
     /// Drops `n` items from the back and returns the one before them. If at most `n` items are
@@ -125,14 +121,10 @@ impl<T: Drop> BoxedArrayIter<T> {
     pub fn nth_back(&mut self, n: usize) -> Option<T>
         ensures step { StepGives (back n) self.old result self.new }
     {
-        if n >= self.len() {
-            while let Some(_item) = self.next_back() {}
-            return None;
-        }
-        for _passed_back in 0..n {
+        for _passed_back in 0..n.min(self.len()) {
             self.drop_last();
         }
-        Some(self.items.take_last())
+        self.next_back()
     }
 
     /// The last item that is left. The others are dropped; nothing else takes time.

@@ -1,9 +1,5 @@
 use Rattle.ga_boxed.proofs.boxed_array_iter.BoxedArrayIter.nth_back.Given as goal
-use Rattle.std.proofs.Common.{◌≡◌, drop, length, reverse}
-
--- the items that are left
-abbrev pub decreases-loop-item : goal.decreases-loop-item
-decreases-loop-item g l = length l.self
+use Rattle.std.proofs.Common.{◌≡◌, drop, reverse}
 
 -- as many items are gone from the back as were passed over
 abbrev pub invariant-loop-passed_back : goal.invariant-loop-passed_back
