@@ -13,4 +13,5 @@ pub mod NativeLemmas
 pub mod PassedLemmas
 pub mod SliceWalk
 pub mod TakeWalk
+pub mod VecLemmas
 pub mod WalkParts

@@ -1,11 +1,19 @@
 -- What a loop that moves items one by one into a block, or out of one, knows of its count and of the items.
-use Rattle.std.proofs.Common.{◌≡◌, ◌≢◌, ℕ, ◌+◌, ◌<◌, ◌≤◌, List, [], ◌∷◌, ◌++◌, length, ap, sym, ◌∙◌, arith}
+use Rattle.std.proofs.Common.{◌≡◌, ◌≢◌, ℕ, suc, ◌+◌, ◌<◌, ◌≤◌, List, [], ◌∷◌, ◌++◌, length, ap, sym, ◌∙◌, arith}
 use Rattle.ga_core.proofs.CutLemmas.{taken-more}
 use Rattle.std.proofs.lemmas.List.{append-nil}
 
 -- at the start, the room is for all
 pub none_yet : (n : ℕ) → 0 + n ≡ n
 none_yet n = omega arith
+
+-- where no room is left, the count is the whole
+pub room_filled : (n room : ℕ) → room ≡ 0 → n + room ≡ n
+room_filled n room none = omega arith
+
+-- one more was counted, and one fewer is left
+pub count_more : (count left others all : ℕ) → left ≡ suc others → count + left ≡ all → count + 1 + others ≡ all
+count_more count left others all some so_far = omega arith
 
 module _ (i k n end : ℕ) where
   -- before the end there is room for one more

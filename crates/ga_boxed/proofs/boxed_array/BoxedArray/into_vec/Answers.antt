@@ -1,4 +1,4 @@
-use Rattle.ga_boxed.proofs.MoveLemmas.{all_moved, moved_more, none_left, none_yet, some_left}
+use Rattle.ga_boxed.proofs.MoveLemmas.{all_moved, count_more, moved_more, none_left, none_yet, some_left}
 use Rattle.ga_boxed.proofs.boxed_array.BoxedArray.into_vec.Goals as goal
 use Rattle.std.proofs.Common.{◌≡◌, ℕ, suc, ◌+◌, ◌<◌, ◌≤◌, ◌∙◌, ◌++◌, ap, arith, length}
 use Rattle.std.specs.Vec.{vec_capacity, vec_len}
@@ -16,10 +16,6 @@ module _ (len left room : ℕ) where
   room-more : (others longer kept : ℕ) → left ≡ suc others → len + left ≤ room → longer ≡ len + 1 → kept ≡ room
       → longer + others ≤ kept
   room-more others longer kept some fits grows keeps = omega arith
-
--- one more was counted, and one fewer is left
-count-more : (count left others all : ℕ) → left ≡ suc others → count + left ≡ all → count + 1 + others ≡ all
-count-more count left others all some so_far = omega arith
 
 pub loop-moved-init : goal.loop-moved-init
 loop-moved-init g c =
@@ -55,7 +51,7 @@ loop-moved-preserved g c =
     record {
       moved = moved_more at.vector.items vector.items at.block.items others c.args.self c.take_first.result
           c.push_reserved.ensures.items at.invariant.moved step;
-      left = count-more at._moved (length at.block.items) (length others) g.N.Unsigned.USIZE (ap length step)
+      left = count_more at._moved (length at.block.items) (length others) g.N.Unsigned.USIZE (ap length step)
           at.invariant.left;
       room = room-more (vec_len at.vector) (length at.block.items) (vec_capacity at.vector) (length others)
           (vec_len vector) (vec_capacity vector) (ap length step) at.invariant.room c.push_reserved.ensures.len
