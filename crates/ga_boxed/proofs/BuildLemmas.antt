@@ -11,6 +11,10 @@ module _ (made room all left : ℕ) where
   pub all_there : made + room ≡ all → left ≡ room → left ≤ 0 → made ≡ all
   all_there fits same none = omega arith
 
+-- where some are to be made, they are not none
+pub some_asked : {P : Type 0} (k n all : ℕ) → k < n → n ≡ all → all ≡ 0 → P
+some_asked k n all below same none = absurd (omega (arith, below))
+
 -- one fewer is less
 pub less_room : (less room : ℕ) → less + 1 ≡ room → less < room
 less_room less room step = omega arith

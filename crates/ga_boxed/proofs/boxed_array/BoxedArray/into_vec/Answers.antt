@@ -1,6 +1,8 @@
+use Rattle.ga_boxed.proofs.BuildLemmas.{not_ok}
 use Rattle.ga_boxed.proofs.MoveLemmas.{all_moved, count_more, moved_more, none_left, none_yet, some_left}
 use Rattle.ga_boxed.proofs.boxed_array.BoxedArray.into_vec.Goals as goal
-use Rattle.std.proofs.Common.{◌≡◌, ℕ, suc, ◌+◌, ◌<◌, ◌≤◌, ◌∙◌, ◌++◌, ap, arith, length}
+use Rattle.std.proofs.Common.{◌≡◌, ℕ, suc, ◌+◌, ◌<◌, ◌≤◌, ◌∙◌, ◌++◌, ap, arith, length, refl}
+use Rattle.std.proofs.lemmas.Result.{IfOk-from_err}
 use Rattle.std.specs.Vec.{vec_capacity, vec_len}
 
 module _ (len left room : ℕ) where
@@ -58,9 +60,18 @@ loop-moved-preserved g c =
           c.push_reserved.ensures.capacity;
     }
 
-pub returns-clause-ok : goal.returns-clause-ok
-returns-clause-ok g c =
+pub returns-in_err-vector : goal.returns-in_err-vector
+returns-in_err-vector g c = record {
+  ok = IfOk-from_err c.from_residual.result _ c.from_residual.ensures.0;
+  empty = λ none. not_ok (c.in_err-vector.ensures.succeeds (c.USIZE.ensures ∙ none));
+}
+
+pub returns : goal.returns
+returns g c =
     let at = c.loop-moved in
-    all_moved at.vector.items at.block.items c.args.self at.invariant.moved
-    (none_left at._moved (length at.block.items) g.N.Unsigned.USIZE c.USIZE-moved-end.result at.invariant.left
-    c.loop-moved-test.false c.USIZE-moved-end.ensures)
+    record {
+      ok = all_moved at.vector.items at.block.items c.args.self at.invariant.moved
+          (none_left at._moved (length at.block.items) g.N.Unsigned.USIZE c.USIZE-moved-end.result at.invariant.left
+          c.loop-moved-test.false c.USIZE-moved-end.ensures);
+      empty = λ none. refl;
+    }

@@ -1,11 +1,14 @@
+use Rattle.ga_boxed.proofs.BuildLemmas.{not_ok, some_asked}
 use Rattle.ga_boxed.proofs.MoveLemmas.{none_yet}
 use Rattle.ga_boxed.proofs.boxed_array.BoxedArray.repeat.Goals as goal
 use Rattle.ga_boxed.proofs.boxed_array.BoxedArray.repeat.Goals.{then-USIZE-gt0+else-loop-clone-test, else-USIZE-gt0}
 use Rattle.ga_core.proofs.CopyLemmas.{Repeats-same}
 use Rattle.ga_core.specs.Copies.{Repeats}
-use Rattle.std.proofs.Common.{◌≡◌, ℕ, zero, suc, ◌+◌, ◌<◌, ◌≤◌, List, [], ◌∷◌, ◌++◌, ◌∙◌, ap, arith, length, subst, sym}
+use Rattle.std.proofs.Common.{◌≡◌, ℕ, zero, suc, ◌+◌, ◌<◌, ◌≤◌, List, [], ◌∷◌, ◌++◌, ◌∙◌, ap, arith, length, refl, subst}
+use Rattle.std.proofs.Common.{sym}
 use Rattle.std.proofs.lemmas.List.{length_push}
 use Rattle.std.proofs.lemmas.List.Elements.{All-nil, All-push}
+use Rattle.std.proofs.lemmas.Result.{IfOk-from_err}
 use Rattle.std.specs.List.{All}
 
 module _ (made next room all end : ℕ) where
@@ -38,6 +41,26 @@ module _ {T : Type 0} (is_clone : T → T → Type 0) (item : T) where
       → All (is_clone item) clones → Repeats is_clone item n array
   Repeats-made zero clones array made long all = absurd (omega (arith, long))
   Repeats-made (suc n) clones array made long all = (clones, made, omega (arith, long), all)
+
+pub returns-in_err-items : goal.returns-in_err-items
+returns-in_err-items g c =
+    let result = c.from_residual.result in
+    let refused = c.from_residual.ensures.0 in
+    record {
+      items = IfOk-from_err result _ refused;
+      same = λ _. IfOk-from_err result _ refused;
+      empty = λ none. not_ok (c.in_err-items.ensures.empty (c.USIZE.ensures ∙ none));
+    }
+
+pub returns-in_err-clone : goal.returns-in_err-clone
+returns-in_err-clone g c =
+    let result = c.from_residual-in_err-clone.result in
+    let refused = c.from_residual-in_err-clone.ensures.0 in
+    record {
+      items = IfOk-from_err result _ refused;
+      same = λ _. IfOk-from_err result _ refused;
+      empty = λ none. some_asked 0 c.USIZE-2.result g.N.Unsigned.USIZE c.if-USIZE-gt0.true c.USIZE-2.ensures none;
+    }
 
 pub loop-clone-init : goal.loop-clone-init
 loop-clone-init g c =
@@ -96,21 +119,24 @@ of_items-requires g c = record {
   ];
 }
 
-pub returns-clause-items : goal.returns-clause-items
-returns-clause-items g c = elim c.if-USIZE-gt0.branch [
-  | then-USIZE-gt0+else-loop-clone-test w ↦
-      Repeats-made g.T.Clone.is_clone c.args.item g.N.Unsigned.USIZE w.loop-clone.items.items c.of_items.result
-      (c.of_items.ensures ∙ (ap (λ b. b.items) w.items-is ∙ w.put-then-USIZE-gt0.ensures.items))
-      (all-made (length w.loop-clone.items.items) w.loop-clone._clone g.N.Unsigned.USIZE w.USIZE-clone-end.result
-      c.USIZE-2.result w.loop-clone.invariant.long w.loop-clone-test.false w.loop-clone.auto._clone-end
-      w.USIZE-clone-end.ensures w.if-USIZE-gt0.true c.USIZE-2.ensures)
-      w.loop-clone.invariant.clones
-  | else-USIZE-gt0 w ↦
-      subst (λ n. Repeats g.T.Clone.is_clone c.args.item n c.of_items.result)
-      (none-asked c.USIZE-2.result g.N.Unsigned.USIZE w.if-USIZE-gt0.false c.USIZE-2.ensures)
-      (c.of_items.ensures ∙ ap (λ b. b.items) (w.items-is ∙ c.in_ok-items.ensures.block))
-]
-
-pub returns-clause-same : goal.returns-clause-same
-returns-clause-same g c equal =
-    Repeats-same g.T.Clone.is_clone c.args.item g.N.Unsigned.USIZE c.of_items.result equal (returns-clause-items g c)
+pub returns : goal.returns
+returns g c =
+    let items : Repeats g.T.Clone.is_clone c.args.item g.N.Unsigned.USIZE c.of_items.result =
+    elim c.if-USIZE-gt0.branch [
+      | then-USIZE-gt0+else-loop-clone-test w ↦
+          Repeats-made g.T.Clone.is_clone c.args.item g.N.Unsigned.USIZE w.loop-clone.items.items c.of_items.result
+          (c.of_items.ensures ∙ (ap (λ b. b.items) w.items-is ∙ w.put-then-USIZE-gt0.ensures.items))
+          (all-made (length w.loop-clone.items.items) w.loop-clone._clone g.N.Unsigned.USIZE w.USIZE-clone-end.result
+          c.USIZE-2.result w.loop-clone.invariant.long w.loop-clone-test.false w.loop-clone.auto._clone-end
+          w.USIZE-clone-end.ensures w.if-USIZE-gt0.true c.USIZE-2.ensures)
+          w.loop-clone.invariant.clones
+      | else-USIZE-gt0 w ↦
+          subst (λ n. Repeats g.T.Clone.is_clone c.args.item n c.of_items.result)
+          (none-asked c.USIZE-2.result g.N.Unsigned.USIZE w.if-USIZE-gt0.false c.USIZE-2.ensures)
+          (c.of_items.ensures ∙ ap (λ b. b.items) (w.items-is ∙ c.in_ok-items.ensures.block))
+    ] in
+    record {
+      items = items;
+      same = λ equal. Repeats-same g.T.Clone.is_clone c.args.item g.N.Unsigned.USIZE c.of_items.result equal items;
+      empty = λ none. refl;
+    }

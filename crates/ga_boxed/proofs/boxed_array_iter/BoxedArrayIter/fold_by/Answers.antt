@@ -1,10 +1,10 @@
 use Rattle.ga_core.proofs.ActsLemmas.{answer_of_fold}
 use Rattle.ga_core.proofs.CallLemmas.{FoldRun-of_items, may_fold-at}
 use Rattle.ga_core.proofs.CutLemmas.{taken-more}
+use Rattle.ga_boxed.proofs.MoveLemmas.{all_moved}
 use Rattle.ga_boxed.proofs.boxed_array_iter.BoxedArrayIter.fold_by.Goals as goal
 use Rattle.ga_core.specs.Runs.{FoldRun}
-use Rattle.std.proofs.lemmas.Grind.{common_steps}
-use Rattle.std.proofs.Common.{◌∙◌, ap, arith, refl, ◌∷◌, [], ◌++◌}
+use Rattle.std.proofs.Common.{◌∙◌, ap, length, refl, subst, sym, ◌∷◌, [], ◌++◌}
 use Rattle.std.proofs.lemmas.Fn.{FoldsTo-push}
 
 pub f-answer-requires : goal.f-answer-requires
@@ -26,6 +26,9 @@ loop-item-preserved g c =
 
 pub returns : goal.returns
 returns g c =
-    let run : FoldRun (goal.F-step g) c.args.f.now c.args.init c.args.self c.loop-item.answer c.loop-item.f =
-    grind (arith, common_steps) in
+    let at = c.loop-item in
+    let so_far = at.invariant in
+    let run : FoldRun (goal.F-step g) c.args.f.now c.args.init c.args.self at.answer at.f =
+    subst (λ items. FoldRun (goal.F-step g) c.args.f.now c.args.init items at.answer at.f)
+    (all_moved so_far.0 at.self c.args.self (sym so_far.1) (ap length c.in_default.ensures.steps.0)) so_far.2 in
     record { run = run; acts = λ h acts. answer_of_fold _ _ h acts _ _ _ _ run }

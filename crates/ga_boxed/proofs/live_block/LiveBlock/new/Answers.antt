@@ -1,7 +1,9 @@
+use Rattle.ga_boxed.proofs.BuildLemmas.{not_ok}
 use Rattle.ga_boxed.proofs.MoveLemmas.{none_yet}
 use Rattle.ga_boxed.proofs.live_block.LiveBlock.new.Goals as goal
 use Rattle.ga_boxed.specs.Live.{live}
-use Rattle.std.proofs.Common.{[], ◌∙◌, ap, length, refl}
+use Rattle.std.proofs.Common.{[], ◌∙◌, ap, length, refl, rules}
+use Rattle.std.proofs.lemmas.Result.{IfOk-from_err}
 
 pub allocate-requires : goal.allocate-requires
 allocate-requires g c = record { fits = c.if-not-fits.ensures.0 refl }
@@ -19,7 +21,19 @@ invariant_of-result g c =
       deed_alloc = made.deed_alloc;
     }
 
-pub returns-clause-block : goal.returns-clause-block
-returns-clause-block g c =
+pub returns-then-not-fits : goal.returns-then-not-fits
+returns-then-not-fits g c = record { block = tt; empty = λ none. search rules }
+
+pub returns-in_err-base : goal.returns-in_err-base
+returns-in_err-base g c = record {
+  block = IfOk-from_err c.from_residual.result _ c.from_residual.ensures.0;
+  empty = λ none. not_ok (c.in_err-base.ensures.empty none);
+}
+
+pub returns : goal.returns
+returns g c =
     let made = c.in_ok-base.ensures in
-    ap (λ items. live items c.in_ok-base.cells.room) made.items ∙ ap (λ room. live [] room) made.room
+    record {
+      block = ap (λ items. live items c.in_ok-base.cells.room) made.items ∙ ap (λ room. live [] room) made.room;
+      empty = λ none. refl;
+    }

@@ -41,3 +41,11 @@ invariant_of-self g c =
       deed_len = held.deed_len;
       deed_alloc = held.deed_alloc;
     }
+
+pub returns : goal.returns
+returns g c =
+    let took = c.take_last.ensures in
+    record {
+      items = sym (ap (λ b. b.items) c.self.view_is) ∙ took.items;
+      room = took.room ∙ ap (λ b. b.room + 1) c.self.view_is;
+    }
