@@ -1,6 +1,7 @@
 -- What a loop that fills a block knows where it ends, and what holds where the block was refused.
 use mathlib.Core.Bool.{true≢false}
-use Rattle.std.proofs.Common.{◌≡◌, ℕ, ◌+◌, ◌<◌, ◌≤◌, Result, Ok, Err, OnErr, false, true, arith, sym}
+use native.Mathlib.Nat.{zero-mul}
+use Rattle.std.proofs.Common.{◌≡◌, ℕ, ◌+◌, ◌<◌, ◌≤◌, Result, Ok, Err, OnErr, false, true, arith, subst, sym, ◌*◌, ◌^◌}
 
 module _ (made room all left : ℕ) where
   -- where there is room, not all are there
@@ -10,6 +11,10 @@ module _ (made room all left : ℕ) where
   -- where there is none, all are there
   pub all_there : made + room ≡ all → left ≡ room → left ≤ 0 → made ≡ all
   all_there fits same none = omega arith
+
+-- none of any size fit
+pub none_fits : (n size : ℕ) → n ≡ 0 → n * size < 2 ^ 63
+none_fits n size none = subst (λ k. k * size < 2 ^ 63) (sym none) (omega (arith, zero-mul size))
 
 -- where some are to be made, they are not none
 pub some_asked : {P : Type 0} (k n all : ℕ) → k < n → n ≡ all → all ≡ 0 → P

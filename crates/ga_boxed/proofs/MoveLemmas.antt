@@ -1,7 +1,7 @@
 -- What a loop that moves items one by one into a block, or out of one, knows of its count and of the items.
 use Rattle.std.proofs.Common.{◌≡◌, ◌≢◌, ℕ, suc, ◌+◌, ◌<◌, ◌≤◌, List, [], ◌∷◌, ◌++◌, length, ap, sym, ◌∙◌, arith}
 use Rattle.ga_core.proofs.CutLemmas.{taken-more}
-use Rattle.std.proofs.lemmas.List.{append-nil}
+use Rattle.std.proofs.lemmas.List.{append-nil, length_push}
 
 -- at the start, the room is for all
 pub none_yet : (n : ℕ) → 0 + n ≡ n
@@ -37,6 +37,14 @@ module _ {T : Type 0} where
   -- before the end some are left
   pub some_left : (i n end : ℕ) (left : List T) → i + length left ≡ n → i < end → end ≡ n → left ≢ []
   some_left i n end left so_far below all none = omega (arith, ap length none)
+
+  -- one fewer is left, from either end
+  pub one_gone : (left : List T) (item : T) (others : List T) → left ≡ item ∷ others → length others < length left
+  one_gone left item others step = omega (arith, ap length step)
+
+  pub one_gone-back : (left : List T) (item : T) (others : List T) → left ≡ others ++ item ∷ []
+      → length others < length left
+  one_gone-back left item others step = omega (arith, ap length step ∙ length_push others item)
 
   -- where none is left, all were moved
   pub all_moved : (moved left all : List T) → moved ++ left ≡ all → length left ≡ 0 → moved ≡ all

@@ -4,8 +4,8 @@ use Rattle.ga_boxed.proofs.boxed_array.BoxedArray.repeat.Goals as goal
 use Rattle.ga_boxed.proofs.boxed_array.BoxedArray.repeat.Goals.{then-USIZE-gt0+else-loop-clone-test, else-USIZE-gt0}
 use Rattle.ga_core.proofs.CopyLemmas.{Repeats-same}
 use Rattle.ga_core.specs.Copies.{Repeats}
-use Rattle.std.proofs.Common.{◌≡◌, ℕ, zero, suc, ◌+◌, ◌<◌, ◌≤◌, List, [], ◌∷◌, ◌++◌, ◌∙◌, ap, arith, length, refl, subst}
-use Rattle.std.proofs.Common.{sym}
+use Rattle.std.proofs.Common.{◌≡◌, ℕ, zero, suc, ◌+◌, ◌<◌, ◌≤◌, List, [], ◌∷◌, ◌++◌, ◌∙◌, ap, arith, length, refl}
+use Rattle.std.proofs.Common.{subst, sym}
 use Rattle.std.proofs.lemmas.List.{length_push}
 use Rattle.std.proofs.lemmas.List.Elements.{All-nil, All-push}
 use Rattle.std.proofs.lemmas.Result.{IfOk-from_err}

@@ -1,8 +1,8 @@
-use Rattle.ga_boxed.proofs.BuildLemmas.{not_ok}
+use Rattle.ga_boxed.proofs.BuildLemmas.{none_fits, not_ok}
 use Rattle.ga_boxed.proofs.MoveLemmas.{none_yet}
 use Rattle.ga_boxed.proofs.live_block.LiveBlock.new.Goals as goal
 use Rattle.ga_boxed.specs.Live.{live}
-use Rattle.std.proofs.Common.{[], ◌∙◌, ap, length, refl, rules}
+use Rattle.std.proofs.Common.{[], ◌∙◌, ap, length, refl}
 use Rattle.std.proofs.lemmas.Result.{IfOk-from_err}
 
 pub allocate-requires : goal.allocate-requires
@@ -22,7 +22,7 @@ invariant_of-result g c =
     }
 
 pub returns-then-not-fits : goal.returns-then-not-fits
-returns-then-not-fits g c = record { block = tt; empty = λ none. search rules }
+returns-then-not-fits g c = record { block = tt; empty = λ none. c.if-not-fits.ensures.1 (none_fits c.args.size _ none) }
 
 pub returns-in_err-base : goal.returns-in_err-base
 returns-in_err-base g c = record {

@@ -1,3 +1,4 @@
+use Rattle.ga_boxed.proofs.BuildLemmas.{none_fits}
 use Rattle.ga_boxed.proofs.MoveLemmas.{none_yet, room_filled}
 use Rattle.ga_boxed.proofs.live_block.LiveBlock.of_native.Goals as goal
 use Rattle.ga_boxed.specs.Live.{live}
@@ -34,3 +35,12 @@ returns g c =
           ∙ ap (λ room. live c.args.items room) put.room;
       empty = λ none. refl;
     }
+
+pub returns-then-not-fits : goal.returns-then-not-fits
+returns-then-not-fits g c = record {
+  items = tt;
+  empty = λ none. c.if-not-fits.ensures.1 (none_fits g.row.U _ none);
+}
+
+pub returns-in-Err : goal.returns-in-Err
+returns-in-Err g c = record { items = tt; empty = c.in-Err.ensures.empty }

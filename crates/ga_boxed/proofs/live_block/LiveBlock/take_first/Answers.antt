@@ -1,6 +1,12 @@
 use Rattle.ga_boxed.proofs.MoveLemmas.{count_more}
 use Rattle.ga_boxed.proofs.live_block.LiveBlock.take_first.Goals as goal
-use Rattle.std.proofs.Common.{◌+◌, ◌∙◌, ap, length, sym}
+use Rattle.std.proofs.Common.{◌≡◌, ◌≢◌, ◌<◌, ◌+◌, ◌^◌, ◌∙◌, ℕ, List, [], ◌∷◌, ap, arith, length, refl, sym}
+
+-- behind the first item no bound is passed
+first-passed : {T : Type 0} (start end : ℕ) (items : List T) → start + length items ≡ end → items ≢ []
+    → end < 2 ^ 64 → start + 1 < 2 ^ 64
+first-passed start end [] long some fits = absurd (some refl)
+first-passed start end (x ∷ items) long some fits = omega (arith, long)
 
 pub take_first-requires : goal.take_first-requires
 take_first-requires g c = record {
@@ -31,4 +37,12 @@ returns g c =
     record {
       items = sym (ap (λ b. b.items) c.self.view_is) ∙ took.items;
       room = took.room ∙ ap (λ b. b.room) c.self.view_is;
+    }
+
+pub overflow_add-self : goal.overflow_add-self
+overflow_add-self g c =
+    let self = c.self.inside in
+    record {
+      fits = first-passed self.start self.end self.cells.items c.self.invariant.items
+          (λ none. c.requires.some (sym (ap (λ b. b.items) c.self.view_is) ∙ none)) c.self.ranges.1.1.1.0.1;
     }

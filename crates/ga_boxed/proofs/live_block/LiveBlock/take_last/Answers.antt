@@ -1,6 +1,11 @@
 use Rattle.ga_boxed.proofs.live_block.LiveBlock.take_last.Goals as goal
-use Rattle.std.proofs.Common.{◌≡◌, ◌≢◌, ℕ, ◌+◌, ◌-◌, ◌∙◌, List, [], ◌∷◌, ap, arith, length, refl, sym}
+use Rattle.std.proofs.Common.{◌≡◌, ◌≢◌, ◌≤◌, ℕ, ◌+◌, ◌-◌, ◌∙◌, List, [], ◌∷◌, ap, arith, length, refl, sym}
 use Rattle.std.proofs.lemmas.List.{length_push}
+
+-- where there is an item, there is a place
+last-some : {T : Type 0} (start end : ℕ) (items : List T) → start + length items ≡ end → items ≢ [] → 1 ≤ end
+last-some start end [] long some = absurd (some refl)
+last-some start end (x ∷ items) long some = omega (arith, long)
 
 -- the last place, where there is an item
 last-place : {T : Type 0} (passed start end : ℕ) (items : List T) → passed ≡ start → start + length items ≡ end
@@ -49,3 +54,9 @@ returns g c =
       items = sym (ap (λ b. b.items) c.self.view_is) ∙ took.items;
       room = took.room ∙ ap (λ b. b.room + 1) c.self.view_is;
     }
+
+pub overflow_sub-last : goal.overflow_sub-last
+overflow_sub-last g c =
+    let self = c.self.inside in
+    last-some self.start self.end self.cells.items c.self.invariant.items
+    (λ none. c.requires.some (sym (ap (λ b. b.items) c.self.view_is) ∙ none))
