@@ -1,5 +1,5 @@
 -- What a loop that moves items one by one into a block, or out of one, knows of its count and of the items.
-use Rattle.std.proofs.Common.{◌≡◌, ◌≢◌, ℕ, suc, ◌+◌, ◌<◌, ◌≤◌, List, [], ◌∷◌, ◌++◌, length, ap, sym, ◌∙◌, arith}
+use Rattle.std.proofs.Common.{◌≡◌, ◌≢◌, ℕ, suc, ◌+◌, ◌<◌, ◌≤◌, List, [], ◌∷◌, ◌++◌, length, ap, sym, ◌∙◌, arith, refl}
 use Rattle.ga_core.proofs.CutLemmas.{taken-more}
 use Rattle.std.proofs.lemmas.List.{append-nil, length_push}
 
@@ -34,6 +34,14 @@ module _ (i k j n : ℕ) where
   one_more so_far fewer = omega arith
 
 module _ {T : Type 0} where
+  -- where the bounds meet, no item is held, and only there
+  pub none_held : (start end : ℕ) (items : List T) → start + length items ≡ end → start ≡ end → items ≡ []
+  none_held start end [] long meet = refl
+  none_held start end (x ∷ items) long meet = absurd (omega (arith, long, meet))
+
+  pub bounds_meet : (start end : ℕ) (items : List T) → start + length items ≡ end → items ≡ [] → start ≡ end
+  bounds_meet start end items long none = omega (arith, long, ap length none)
+
   -- before the end some are left
   pub some_left : (i n end : ℕ) (left : List T) → i + length left ≡ n → i < end → end ≡ n → left ≢ []
   some_left i n end left so_far below all none = omega (arith, ap length none)

@@ -3,8 +3,8 @@ use Rattle.std.proofs.lemmas.Result.{IfOk-from_err}
 use Rattle.ga_boxed.proofs.BuildLemmas.{not_ok}
 use Rattle.ga_boxed.proofs.MoveLemmas.{more_room, none_yet, one_more}
 use Rattle.ga_boxed.proofs.boxed_array.BoxedArray.from_inline.Goals as goal
-use Rattle.ga_core.proofs.MoveLemmas.{pushed-next}
-use Rattle.std.proofs.Common.{ap, length, refl, rules, subst, sym, ◌<◌, ◌∙◌, ◌≤◌}
+use Rattle.ga_core.proofs.MoveLemmas.{pushed-next, this-here}
+use Rattle.std.proofs.Common.{ap, length, refl, subst, sym, ◌<◌, ◌∙◌, ◌≤◌}
 use Rattle.std.proofs.lemmas.List.{take_all}
 
 pub loop-slot-init : goal.loop-slot-init
@@ -30,7 +30,8 @@ loop-slot-preserved g c =
     let at = c.loop-slot in
     record {
       moved = pushed-next at.slot-index c.args.array at.slots at.block.items c.put.new.self.items c.take.result
-          c.take.new.dest (subst (λ n. at.slot-index < n) (sym at.auto.slots) c.loop-slot-test.true) (search rules)
+          c.take.new.dest (subst (λ n. at.slot-index < n) (sym at.auto.slots) c.loop-slot-test.true)
+          (this-here at.slot-index at.slots c.slot-item.result c.take.result c.slot-item.is c.take.ensures.value)
           at.invariant.moved c.put.ensures.items;
       room = one_more at.slot-index at.block.room c.put.new.self.room (length c.args.array) at.invariant.room
           c.put.ensures.room;

@@ -11,8 +11,10 @@ pub f-answer-requires : goal.f-answer-requires
 f-answer-requires g c =
     let so_far = c.loop-item.invariant in
     let whole = so_far.1 ∙ ap (λ left. so_far.0 ++ left) c.in-Some.ensures.steps in
-    may_fold-at (λ item. item) _ _ _ _ _ c.requires.callable so_far.0 c.in-Some.item c.next.new.self c.loop-item.f
-    c.loop-item.answer whole (FoldRun-of_items _ _ _ _ _ _ so_far.2) _ refl
+    may_fold-at (λ item. item) (goal.F-pre g) (goal.F-step g) c.args.f.now c.args.init c.args.self
+    c.requires.callable so_far.0 c.in-Some.item c.next.new.self c.loop-item.f c.loop-item.answer whole
+    (FoldRun-of_items (goal.F-step g) c.args.f.now c.args.init so_far.0 c.loop-item.answer c.loop-item.f so_far.2)
+    c.in-Some.item refl
 
 pub loop-item-preserved : goal.loop-item-preserved
 loop-item-preserved g c =
@@ -31,7 +33,7 @@ returns g c =
     let run : FoldRun (goal.F-step g) c.args.f.now c.args.init c.args.self at.answer at.f =
     subst (λ items. FoldRun (goal.F-step g) c.args.f.now c.args.init items at.answer at.f)
     (all_moved so_far.0 at.self c.args.self (sym so_far.1) (ap length c.in_default.ensures.steps.0)) so_far.2 in
-    record { run = run; acts = λ h acts. answer_of_fold _ _ h acts _ _ _ _ run }
+    record { run = run; acts = λ h acts. answer_of_fold (goal.F-step g) c.args.f.now h acts c.args.init c.args.self at.answer at.f run }
 
 pub loop-item-smaller : goal.loop-item-smaller
 loop-item-smaller g c =

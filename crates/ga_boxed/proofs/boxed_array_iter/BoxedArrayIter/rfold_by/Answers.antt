@@ -12,9 +12,11 @@ f-answer-requires g c =
     let at = c.loop-item in
     let others = c.next_back.new.self in
     let came = next_back-reversed at.self (Some c.in-Some.item) others c.in-Some.ensures.steps in
-    may_fold-at (λ item. item) _ _ _ _ _ c.requires.callable at.invariant.0 c.in-Some.item (reverse others) at.f
-    at.answer (at.invariant.1 ∙ ap (λ rest. at.invariant.0 ++ rest) came)
-    (FoldRun-of_items _ _ _ _ _ _ at.invariant.2) _ refl
+    may_fold-at (λ item. item) (goal.F-pre g) (goal.F-step g) c.args.f.now c.args.init (reverse c.args.self)
+    c.requires.callable at.invariant.0 c.in-Some.item (reverse others) at.f at.answer
+    (at.invariant.1 ∙ ap (λ rest. at.invariant.0 ++ rest) came)
+    (FoldRun-of_items (goal.F-step g) c.args.f.now c.args.init at.invariant.0 at.answer at.f at.invariant.2)
+    c.in-Some.item refl
 
 pub loop-item-preserved : goal.loop-item-preserved
 loop-item-preserved g c =
@@ -36,7 +38,11 @@ returns g c =
     subst (λ items. FoldRun (goal.F-step g) c.args.f.now c.args.init items at.answer at.f)
     (all_moved so_far.0 (reverse at.self) (reverse c.args.self) (sym so_far.1)
     (ap (λ left. length (reverse left)) c.in_default.ensures.steps.0)) so_far.2 in
-    record { run = run; acts = λ h acts. answer_of_fold _ _ h acts _ _ _ _ run }
+    record {
+      run = run;
+      acts = λ h acts. answer_of_fold (goal.F-step g) c.args.f.now h acts c.args.init (reverse c.args.self) at.answer
+          at.f run;
+    }
 
 pub loop-item-smaller : goal.loop-item-smaller
 loop-item-smaller g c =

@@ -22,7 +22,10 @@ invariant_of-result g c =
     }
 
 pub returns-then-not-fits : goal.returns-then-not-fits
-returns-then-not-fits g c = record { block = tt; empty = λ none. c.if-not-fits.ensures.1 (none_fits c.args.size _ none) }
+returns-then-not-fits g c = record {
+  block = tt;
+  empty = λ none. c.if-not-fits.ensures.1 (none_fits c.args.size _ none);
+}
 
 pub returns-in_err-base : goal.returns-in_err-base
 returns-in_err-base g c = record {

@@ -1,0 +1,22 @@
+use Rattle.ga_boxed.proofs.MoveLemmas.{bounds_meet, none_held}
+use Rattle.ga_boxed.proofs.live_block.LiveBlock.take_front.Goals as goal
+use Rattle.std.proofs.Common.{◌∙◌, ap, refl, sym}
+
+pub returns-then-self : goal.returns-then-self
+returns-then-self g c =
+    let self = c.self.inside in (
+      sym (ap (λ b. b.items) c.self.view_is)
+          ∙ none_held self.start self.end self.cells.items c.self.invariant.items c.if-self.true,
+      refl,
+    )
+
+pub take_first-requires : goal.take_first-requires
+take_first-requires g c =
+    let self = c.self.inside in
+    record {
+      some = λ none. c.if-self.false (bounds_meet self.start self.end self.cells.items c.self.invariant.items
+          (ap (λ b. b.items) c.self.view_is ∙ none));
+    }
+
+pub returns : goal.returns
+returns g c = (c.take_first.ensures.items, c.take_first.ensures.room)
