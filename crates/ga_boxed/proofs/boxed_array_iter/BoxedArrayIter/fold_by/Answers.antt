@@ -33,7 +33,10 @@ returns g c =
     let run : FoldRun (goal.F-step g) c.args.f.now c.args.init c.args.self at.answer at.f =
     subst (λ items. FoldRun (goal.F-step g) c.args.f.now c.args.init items at.answer at.f)
     (all_moved so_far.0 at.self c.args.self (sym so_far.1) (ap length c.in_default.ensures.steps.0)) so_far.2 in
-    record { run = run; acts = λ h acts. answer_of_fold (goal.F-step g) c.args.f.now h acts c.args.init c.args.self at.answer at.f run }
+    record {
+      run = run;
+      acts = λ h acts. answer_of_fold (goal.F-step g) c.args.f.now h acts c.args.init c.args.self at.answer at.f run;
+    }
 
 pub loop-item-smaller : goal.loop-item-smaller
 loop-item-smaller g c =
