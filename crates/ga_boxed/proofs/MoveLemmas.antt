@@ -7,10 +7,6 @@ use Rattle.std.proofs.lemmas.List.{append-nil, length_push}
 pub none_yet : (n : ℕ) → 0 + n ≡ n
 none_yet n = omega arith
 
--- where no room is left, the count is the whole
-pub room_filled : (n room : ℕ) → room ≡ 0 → n + room ≡ n
-room_filled n room none = omega arith
-
 -- one more was counted, and one fewer is left
 pub count_more : (count left others all : ℕ) → left ≡ suc others → count + left ≡ all → count + 1 + others ≡ all
 count_more count left others all some so_far = omega arith

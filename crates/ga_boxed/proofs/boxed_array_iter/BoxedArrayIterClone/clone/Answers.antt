@@ -1,28 +1,9 @@
-use Rattle.ga_boxed.proofs.BuildLemmas.{not_ok, some_asked}
 use Rattle.ga_boxed.proofs.MoveLemmas.{more_room, none_yet, one_more}
 use Rattle.ga_boxed.proofs.boxed_array_iter.BoxedArrayIterClone.clone.Goals as goal
-use Rattle.std.specs.Result.{IsErr, MatchResult}
-use Rattle.std.proofs.Common.{Err, Ok, Result, [], ◌+◌, ◌∙◌, ap, length, refl, subst, sym}
+use Rattle.std.proofs.Common.{[], ◌+◌, ◌∙◌, ap, length, refl, subst, sym}
 use Rattle.std.proofs.lemmas.List.{length_push, take_all}
 use Rattle.std.proofs.lemmas.List.Elements.{all_zip_more}
 use Rattle.std.specs.List.{AllZip}
-
--- an error, and what is known of the items
-refused-clone : {A E N : Type 0} (P : A → Type 0) (r : Result A E) → IsErr r → N → MatchResult r P (λ _. N)
-refused-clone P (Ok copy) refused known = not_ok refused
-refused-clone P (Err error) refused known = known
-
-pub returns-in-Err : goal.returns-in-Err
-returns-in-Err g c = record { cases = λ none. not_ok (c.in-Err.ensures.empty (c.len.ensures ∙ none)) }
-
-pub returns-in_err-clone : goal.returns-in_err-clone
-returns-in_err-clone g c =
-    let items = c.as_slice-item-items in
-    record {
-      cases = refused-clone (AllZip g.T.Clone.is_clone c.args.self.now) c.from_residual.result c.from_residual.ensures.0
-          (some_asked c.loop-item.item-index (length items.result.now) (length c.args.self.now) c.loop-item-test.true
-          (ap length items.ensures));
-    }
 
 pub loop-item-init : goal.loop-item-init
 loop-item-init g c =
