@@ -2,7 +2,8 @@ use Rattle.ga_core.proofs.CopyLemmas.{Repeats-same}
 use Rattle.ga_core.proofs.MadeLemmas.{IfOk-finished_if, made-is_written}
 use Rattle.ga_core.proofs.array.GenericArray.repeat.Goals as goal
 use Rattle.ga_core.specs.Copies.{Repeats}
-use Rattle.std.proofs.Common.{subst, sym}
+use Rattle.std.proofs.Common.{◌≡◌, replicate, subst, sym}
+use Rattle.std.proofs.lemmas.Result.{IfOk-weaker}
 use Rattle.std.specs.Result.{OnOk}
 
 pub returns-clause-items : goal.returns-clause-items
@@ -15,4 +16,7 @@ returns-clause-items g c =
     c.as_mut_slice.ensures.len c.write_copies-written.ensures.items))
 
 pub returns-clause-same : goal.returns-clause-same
-returns-clause-same g c equal = ?
+returns-clause-same g c equal =
+    IfOk-weaker c.finished_if.result (Repeats g.T.Clone.is_clone c.args.item g.N.Unsigned.USIZE)
+    (λ array. array ≡ replicate g.N.Unsigned.USIZE c.args.item)
+    (λ array. Repeats-same g.T.Clone.is_clone c.args.item g.N.Unsigned.USIZE array equal) (returns-clause-items g c)
