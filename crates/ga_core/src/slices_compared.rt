@@ -1,6 +1,6 @@
 //! Two slices of one length, compared block by block.
 ghost use Rattle.std.specs.Cmp.Lexicographic.{pointwise, slice_cmp, slice_partial_cmp};
-ghost use Rattle.std.specs.Prelude.{◌≡◌, ◌<◌, ◌≤◌, false, length, take, true};
+ghost use Rattle.std.specs.Prelude.{◌≡◌, ◌-◌, ◌<◌, ◌≤◌, drop, false, length, take, true};
 
 use std::cmp::Ordering;
 use std::mem;
@@ -87,12 +87,12 @@ fn equal_start<T: PartialEq>(left: &[T], right: &[T]) -> usize
             let mut start = 0;
             while len - start >= block {
                 let end = start + block;
-                if !all_match(&left[start..end], &right[start..end]) {
+                if !parts_match(left, right, start, end) {
                     return start;
                 }
                 start = end;
             }
-            if all_match(&left[start..len], &right[start..len]) {
+            if parts_match(left, right, start, len) {
                 len
             } else {
                 start
@@ -112,6 +112,18 @@ fn block_of<T>(item: &T) -> usize
     } else {
         BLOCK_BYTES
     }
+}
+
+// `==` of the items from `start` up to `end`.
+#[inline]
+fn parts_match<T: PartialEq>(left: &[T], right: &[T], start: usize, end: usize) -> bool
+    requires len { length left.now ≡ length right.now }
+    requires ordered { start ≤ end }
+    requires within { end ≤ length left.now }
+    ensures equal { result ≡ pointwise T.eq (take (end - start) (drop start left.now))
+        (take (end - start) (drop start right.now)) }
+{
+    all_match(&left[start..end], &right[start..end])
 }
 
 // `==` of the slices, with no exit on the way, so that the compiler makes vector code of it.

@@ -2,11 +2,11 @@ use Rattle.ga_core.proofs.PairLemmas.{block-differs, block-equal}
 use Rattle.ga_core.proofs.slices_compared.equal_start.Goals as goal
 use Rattle.std.proofs.Common.{◌+◌, ◌-◌, arith, length}
 
-pub returns-then-not-all_match-clause-differs : goal.returns-then-not-all_match-clause-differs
-returns-then-not-all_match-clause-differs g c some =
+pub returns-then-not-parts_match-clause-differs : goal.returns-then-not-parts_match-clause-differs
+returns-then-not-parts_match-clause-differs g c some =
     let start = c.loop-start.start in
     block-differs g.T.PartialEq.eq start (start + c.block_of-block.result - start) c.args.left.now c.args.right.now
-    c.requires.len c.if-not-all_match.ensures.equal
+    c.requires.len c.if-not-parts_match.ensures.equal
 
 pub loop-start-preserved : goal.loop-start-preserved
 loop-start-preserved g c =
@@ -15,18 +15,18 @@ loop-start-preserved g c =
     record {
       within = omega arith;
       equal = block-equal g.T.PartialEq.eq at.start (end - at.start) end c.args.left.now c.args.right.now c.requires.len
-          (omega arith) at.invariant.equal c.if-not-all_match.ensures.equal;
+          (omega arith) at.invariant.equal c.if-not-parts_match.ensures.equal;
     }
 
-pub returns-then-all_match-clause-equal : goal.returns-then-all_match-clause-equal
-returns-then-all_match-clause-equal g c =
+pub returns-then-parts_match-clause-equal : goal.returns-then-parts_match-clause-equal
+returns-then-parts_match-clause-equal g c =
     let at = c.loop-start in
     let end = length c.args.left.now in
     block-equal g.T.PartialEq.eq at.start (end - at.start) end c.args.left.now c.args.right.now c.requires.len
-    (omega arith) at.invariant.equal c.if-all_match.ensures.equal
+    (omega arith) at.invariant.equal c.if-parts_match.ensures.equal
 
-pub returns-else-all_match-clause-differs : goal.returns-else-all_match-clause-differs
-returns-else-all_match-clause-differs g c some =
+pub returns-else-parts_match-clause-differs : goal.returns-else-parts_match-clause-differs
+returns-else-parts_match-clause-differs g c some =
     let start = c.loop-start.start in
     block-differs g.T.PartialEq.eq start (length c.args.left.now - start) c.args.left.now c.args.right.now
-    c.requires.len c.if-all_match.ensures.equal
+    c.requires.len c.if-parts_match.ensures.equal
