@@ -12,6 +12,7 @@ use crate::store::store_of_array;
 use ga_views::{Const, GenericArrayRef, InlineLength, LengthError};
 use std::alloc::Global;
 use std::boxed::BoxedSlice;
+use std::marker::PhantomData;
 use std::mem;
 
 impl<T: Default + Drop, const U: usize> GenericArray<T, Const<U>> {
@@ -24,7 +25,10 @@ impl<T: Default + Drop, const U: usize> GenericArray<T, Const<U>> {
         requires fits { FitsInline U }
         ensures { result ≡ items }
     {
-        GenericArray::of_store(store_of_array(items))
+        GenericArray {
+            store: store_of_array(items),
+            of: PhantomData,
+        }
     }
 }
 
