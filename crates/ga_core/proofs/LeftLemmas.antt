@@ -2,10 +2,10 @@
 use Rattle.arrayvec.proofs.IterLemmas.{slice_range_first, slice_range_last}
 use Rattle.ga_views.proofs.PartLemmas.{part-before, part-behind}
 use Rattle.ga_views.specs.Parts.{part_set}
-use Rattle.std.proofs.Common.{◌≡◌, ℕ, ◌+◌, ◌-◌, ◌%◌, ◌<◌, ◌≤◌, List, [], ◌∷◌, ◌++◌, length, drop, take, reverse, sym}
+use Rattle.std.proofs.Common.{◌≡◌, ℕ, ◌+◌, ◌^◌, ◌-◌, ◌%◌, ◌<◌, ◌≤◌, List, [], ◌∷◌, ◌++◌, length, drop, take, reverse, sym}
 use Rattle.std.proofs.Common.{ap, ◌∙◌, arith, get_or, slice_get, slice_set, length-append, length-drop, length-take}
 use Rattle.std.proofs.Common.{Option, None, Some, refl}
-use Rattle.std.proofs.lemmas.List.{drop-drop, drop-take, reverse-append, take-take}
+use Rattle.std.proofs.lemmas.List.{drop-drop, drop-take, reverse-append, take-take, take_all}
 use Rattle.std.proofs.Math.Nat.{mod-eq_of_lt}
 use Rattle.std.specs.Iterator.{YieldsLast}
 use Rattle.std.specs.List.{length_refill, refill, slice_range}
@@ -16,6 +16,13 @@ pub blanks-within : (slot passed room : ℕ) → slot + passed ≤ room → room
 blanks-within slot passed room within fits some =
     let here : slot % 65536 ≡ slot = mod-eq_of_lt (omega (arith, within)) in
     omega (arith, here, within)
+
+-- the place before an index that counts down
+pub index-in : {index count other : ℕ} → 0 < index → index ≤ count → other ≡ count → index - 1 < other
+index-in some within same = omega arith
+
+pub index-falls : (index : ℕ) → 0 < index → index - 1 - 0 < index - 0
+index-falls index some = omega arith
 
 module _ {T : Type 0} where
   -- how many are left
@@ -29,6 +36,36 @@ module _ {T : Type 0} where
       → slice_range items front back ≡ left → 0 < length left → (front < back) × (back ≤ length items)
   left-some items left front back ordered within shown some =
       (omega (arith, left-count items front back ordered within, ap length shown, some), within)
+
+  -- where fewer are passed than are left, there are so many
+  pub left-enough : {n count : ℕ} (left : List T) → n < count → count ≡ length left → n ≤ length left
+  left-enough left few same = omega arith
+
+  -- and one stays behind them
+  pub left-stays : {n count : ℕ} (left behind : List T) → n < count → count ≡ length left → behind ≡ drop n left
+      → 0 < length behind
+  left-stays {n} left behind few same is = omega (arith, length-drop n left, ap length is)
+
+  -- the slot behind those that are passed
+  pub left-ends : (items left : List T) (front back passed n : ℕ) → front ≤ back → back ≤ length items
+      → length items ≡ n → n ≤ 65536 → slice_range items front back ≡ left → passed ≤ length left
+      → front + passed < 2 ^ 64
+  left-ends items left front back passed n ordered within full fits shown enough =
+      omega (arith, left-count items front back ordered within, ap length shown)
+
+  -- so many slots lie before the last of those that are left
+  pub left-begins : (items left : List T) (front back passed : ℕ) → front ≤ back → back ≤ length items
+      → slice_range items front back ≡ left → passed ≤ length left → passed ≤ back
+  left-begins items left front back passed ordered within shown enough =
+      omega (arith, left-count items front back ordered within, ap length shown)
+
+  -- where none is passed, all are left
+  pub left-whole : (left : List T) (passed : ℕ) → passed ≤ 0 → left ≡ take (length left - passed) left
+  left-whole left passed none = sym (take_all (length left - passed) left (omega arith))
+
+  -- all are left at first, from the back too
+  pub left-all : (items left : List T) → items ≡ left → reverse left ≡ reverse (slice_range items 0 (length items))
+  left-all items left same = ap reverse (sym same ∙ sym (take_all (length items - 0) items (omega arith)))
 
   -- where the slots have met, nothing is left
   pub left-none : (items left : List T) (front back : ℕ) → back ≤ front → slice_range items front back ≡ left

@@ -4,6 +4,7 @@ use Rattle.ga_core.proofs.RunLemmas.{ClosureRun-good, FirstErrorRun-error, First
 use Rattle.ga_core.proofs.mapping.try_write_mapped.Goals as goal
 use Rattle.ga_core.specs.Runs.{ClosureRun, FirstErrorRun}
 use Rattle.std.proofs.Common.{Err, Ok, map, refl, subst, sym, take, ◌∙◌}
+use borrow.Author.Rules.{scaled_Fits}
 
 pub f-requires : goal.f-requires
 f-requires g c =
@@ -38,3 +39,9 @@ returns g c =
     (all-in c.loop-index-test.false c.loop-index.auto.slots)
     c.loop-index.invariant.run in
     record { run = FirstErrorRun-good _ _ _ _ _ run }
+
+pub offset_bounds-slots-index : goal.offset_bounds-slots-index
+offset_bounds-slots-index g c = scaled_Fits _ _ _ c.loop-index-test.true c.well_formed.1.0.1
+
+pub offset_bounds-items-index : goal.offset_bounds-items-index
+offset_bounds-items-index g c = scaled_Fits _ _ _ (place-in c.loop-index-test.true c.requires.len) c.well_formed.0.1

@@ -8,6 +8,8 @@ use Rattle.ga_core.specs.Entries.{CallAtPair}
 use Rattle.ga_core.specs.Runs.{ClosureRun}
 use Rattle.std.proofs.Common.{refl, take}
 use Rattle.std.specs.List.{zip}
+use native.Mathlib.Nat.{le_of_lt}
+use borrow.Author.Rules.{scaled_Fits}
 
 pub f-requires : goal.f-requires
 f-requires g c =
@@ -42,3 +44,12 @@ returns g c = record {
       c.loop-index.slots (all-in c.loop-index-test.false c.requires.left)
       (all-in c.loop-index-test.false c.loop-index.auto.slots) c.loop-index.invariant;
 }
+
+pub offset_bounds-slots-index : goal.offset_bounds-slots-index
+offset_bounds-slots-index g c = scaled_Fits _ _ _ c.loop-index-test.true c.well_formed.1.1.0.1
+
+pub offset_bounds-left-index : goal.offset_bounds-left-index
+offset_bounds-left-index g c = le_of_lt (place-in c.loop-index-test.true c.requires.left)
+
+pub offset_bounds-right-index : goal.offset_bounds-right-index
+offset_bounds-right-index g c = le_of_lt (place-in c.loop-index-test.true c.requires.right)

@@ -5,6 +5,7 @@ use Rattle.ga_core.specs.Runs.{FirstErrorRun}
 use Rattle.std.proofs.Common.{◌≡◌, ◌<◌, Ok, arith, length, subst, take}
 use Rattle.std.proofs.lemmas.List.{take_all, take_more_set}
 use Rattle.std.specs.List.{range_with_len}
+use borrow.Author.Rules.{scaled_Fits}
 
 pub f-requires : goal.f-requires
 f-requires g c = may_try_generate-at _ _ _ _ c.requires.callable c.loop-index.index
@@ -33,3 +34,6 @@ returns g c =
           (Ok items) c.loop-index.f) whole
           (FirstErrorRun-good _ _ _ _ _ c.loop-index.invariant));
     }
+
+pub offset_bounds-slots-index : goal.offset_bounds-slots-index
+offset_bounds-slots-index g c = scaled_Fits _ _ _ c.loop-index-test.true c.well_formed.0.1

@@ -1,4 +1,5 @@
 use Rattle.ga_core.proofs.CutLemmas.{nth-past, nth-step}
+use Rattle.ga_core.proofs.LeftLemmas.{left-enough, left-stays}
 use Rattle.ga_core.proofs.array_iter.GenericArrayIter.nth.Goals as goal
 use Rattle.std.proofs.Common.{Some, arith}
 
@@ -15,3 +16,11 @@ returns-else-n-len g c =
       step = nth-past c.args.n c.args.self.now c.drop_left.new.self
           (omega (arith, c.len.ensures, c.if-n-len.false)) c.drop_left.ensures;
     }
+
+pub pass_front-requires : goal.pass_front-requires
+pass_front-requires g c = record { in_bounds = left-enough c.args.self.now c.if-n-len.true c.len.ensures }
+
+pub take_first-requires : goal.take_first-requires
+take_first-requires g c = record {
+  some = left-stays c.args.self.now c.pass_front.new.self c.if-n-len.true c.len.ensures c.pass_front.ensures;
+}

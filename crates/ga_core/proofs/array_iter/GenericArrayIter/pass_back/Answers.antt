@@ -1,4 +1,4 @@
-use Rattle.ga_core.proofs.LeftLemmas.{blanks-within, left-before, left-count, left-kept}
+use Rattle.ga_core.proofs.LeftLemmas.{blanks-within, left-before, left-begins, left-count, left-kept, left-whole}
 use Rattle.ga_core.proofs.array_iter.GenericArrayIter.pass_back.Goals as goal
 use Rattle.ga_views.specs.Parts.{part_set}
 use Rattle.std.proofs.Common.{◌%◌, ◌-◌, ap, arith, length}
@@ -29,3 +29,11 @@ part_mut-requires g c =
           (omega (arith, count, inv.0, inv.1, ap length c.self.view_is, c.requires.in_bounds))
           (omega (arith, inv.2, inv.3)) c.if-passed-gt0.true;
     }
+
+pub overflow_sub-first : goal.overflow_sub-first
+overflow_sub-first g c =
+    let inv = c.self.invariant in
+    left-begins (g.N.ArrayType.Store.items c.self.inside.store) _ _ _ _ inv.0 inv.1 c.self.view_is c.requires.in_bounds
+
+pub returns-else-passed-gt0 : goal.returns-else-passed-gt0
+returns-else-passed-gt0 g c = left-whole c.args.self.now c.args.passed c.if-passed-gt0.false

@@ -1,4 +1,4 @@
-use Rattle.ga_core.proofs.LeftLemmas.{blanks-within, left-behind, left-count, left-kept}
+use Rattle.ga_core.proofs.LeftLemmas.{blanks-within, left-behind, left-count, left-ends, left-kept}
 use Rattle.ga_core.proofs.array_iter.GenericArrayIter.pass_front.Goals as goal
 use Rattle.ga_views.specs.Parts.{part_set}
 use Rattle.std.proofs.Common.{◌%◌, ◌≡◌, ap, arith, drop, length}
@@ -34,3 +34,11 @@ pub returns-else-passed-gt0 : goal.returns-else-passed-gt0
 returns-else-passed-gt0 g c =
     let none : 0 ≡ c.args.passed = omega arith in
     ap (λ k. drop k c.args.self.now) none
+
+pub overflow_add-self : goal.overflow_add-self
+overflow_add-self g c =
+    let inv = c.self.invariant in
+    record {
+      fits = left-ends (g.N.ArrayType.Store.items c.self.inside.store) _ _ _ _ _ inv.0 inv.1 inv.2 inv.3 c.self.view_is
+          c.requires.in_bounds;
+    }
