@@ -89,6 +89,12 @@ module _ {T : Type 0} (E : T → T → Bool) where
       pointwise-cut n xs ys long ∙ (ap (λ b. pointwise E (take n xs) (take n ys) && b) behind
       ∙ and-false (pointwise E (take n xs) (take n ys)))
 
+  -- as many pairs as there are
+  pub pointwise-all : (n : ℕ) (xs ys : List T) → length xs ≤ n → length xs ≡ length ys
+      → pointwise E (take n xs) (take n ys) ≡ pointwise E xs ys
+  pointwise-all n xs ys enough long i =
+      pointwise E (take_all n xs enough i) (take_all n ys (omega arith) i)
+
   -- of no pairs all are equal
   pub none-equal : (xs ys : List T) → slice_get xs 0 ≡ None → length xs ≡ length ys → true ≡ pointwise E xs ys
   none-equal [] [] none long = refl
