@@ -1,7 +1,7 @@
 -- Writing over the slots of a slice.
 use Rattle.ga_views.proofs.PartLemmas.{part-within}
 use Rattle.ga_views.specs.Parts.{part_set}
-use Rattle.std.proofs.Common.{◌≡◌, ◌≤◌, ℕ, List, arith, ◌++◌, length, length-set, drop, take, slice_set, sym, ap, ◌∙◌}
+use Rattle.std.proofs.Common.{◌≡◌, ◌≤◌, ℕ, List, arith, ◌++◌, length, length-set, length-take, drop, take, slice_set, sym, ap, ◌∙◌}
 use Rattle.std.proofs.Math.Seq.{take-append_seam}
 use Rattle.std.specs.List.{refill}
 
@@ -32,3 +32,10 @@ pub front-written : {X : Type 0} (len : ℕ) (items written after : List X) → 
 front-written len items written after within long stands =
     part-within 0 len items written after (omega (arith, within)) stands
     ∙ refill-whole len (take len items) written (sym long)
+
+-- the first slots of a list that has room for as many
+pub front-room : {X : Type 0} {count room : ℕ} (len : ℕ) (items front : List X) → front ≡ take len items → len ≤ count
+    → length items ≡ room → room ≡ count → (len ≤ length items) × (length front ≡ len)
+front-room len items front lends bound full same =
+    let within : len ≤ length items = omega arith in
+    (within, omega (arith, ap length lends, length-take len items, within))

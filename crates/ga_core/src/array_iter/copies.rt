@@ -30,6 +30,9 @@ impl<T: Clone + Default, N: ArrayLength<T>> Clone for GenericArrayIter<T, N> {
     ghost is_infallible = { λ items. All T.is_infallible items };
 
     fn clone(&self) -> Result<Self, alloc::AllocError> {
-        Ok(GenericArrayIter::clone(self)?)
+        match GenericArrayIter::clone(self) {
+            Ok(copy) => Ok(copy),
+            Err(_) => Err(alloc::AllocError),
+        }
     }
 }

@@ -1,7 +1,7 @@
-use Rattle.ga_core.proofs.SlotLemmas.{front-written}
+use Rattle.ga_core.proofs.SlotLemmas.{front-room, front-written}
 use Rattle.ga_core.proofs.array_iter.GenericArrayIter.clone.Goals as goal
 use Rattle.ga_views.specs.Parts.{part_set}
-use Rattle.std.proofs.Common.{◌≡◌, ◌≤◌, ◌∙◌, ap, arith, length, length-take, refl, subst, sym}
+use Rattle.std.proofs.Common.{◌∙◌, ap, length, refl, subst, sym}
 use Rattle.std.specs.List.{AllZip, length_refill}
 
 pub of_store-requires-clause-full : goal.of_store-requires-clause-full
@@ -13,30 +13,22 @@ of_store-requires-clause-full g c =
     ∙ (c.filled-store.ensures.len ∙ g.met.N.ArrayLength.capacity_is))
 
 pub write_clones-requires : goal.write_clones-requires
-write_clones-requires g c =
-    let items = g.N.ArrayType.Store.items c.filled-store.result in
-    record {
-      room = omega (
-        arith,
-        ap length c.part_mut.ensures.value,
-        length-take (length c.as_slice-items.result.now) items,
-        c.as_slice-items.ensures.bound,
-        c.filled-store.ensures.len,
-        g.met.N.ArrayLength.capacity_is,
-      );
-    }
+write_clones-requires g c = record {
+  room = (front-room (length c.as_slice-items.result.now) (g.N.ArrayType.Store.items c.filled-store.result)
+      c.part_mut.result.now c.part_mut.ensures.value c.as_slice-items.ensures.bound c.filled-store.ensures.len
+      g.met.N.ArrayLength.capacity_is).1;
+}
 
 pub returns-clause-items : goal.returns-clause-items
 returns-clause-items g c =
     let items = g.N.ArrayType.Store.items c.filled-store.result in
     let copies = c.write_clones.new.slots in
     let len = length c.as_slice-items.result.now in
-    let within : len ≤ length items =
-    omega (arith, c.as_slice-items.ensures.bound, c.filled-store.ensures.len, g.met.N.ArrayLength.capacity_is) in
-    let long : length copies ≡ len =
-    omega (arith, c.write_clones.auto.slots, ap length c.part_mut.ensures.value, length-take len items, within) in
+    let room = front-room len items c.part_mut.result.now c.part_mut.ensures.value c.as_slice-items.ensures.bound
+    c.filled-store.ensures.len g.met.N.ArrayLength.capacity_is in
     let after = g.N.ArrayType.Store.store_with c.filled-store.result (part_set 0 len items copies) in
-    let stands = front-written len items copies (g.N.ArrayType.Store.items after.0) within long after.1 in
+    let stands = front-written len items copies (g.N.ArrayType.Store.items after.0) room.0
+    (c.write_clones.auto.slots ∙ room.1) after.1 in
     subst (λ list. AllZip g.T.Clone.is_clone list c.of_store.result) c.as_slice-items.ensures.items
     (subst (AllZip g.T.Clone.is_clone c.as_slice-items.result.now) (sym (c.of_store.ensures ∙ stands))
     c.in_ok-write_clones.ensures.items)
