@@ -4,13 +4,10 @@ use Rattle.ga_core.specs.Entries.{FoldAt}
 use Rattle.ga_core.specs.Runs.{ClosureRun, FirstErrorRun, FoldRun}
 use Rattle.ga_core.specs.Tries.{result_and_then, try_map}
 use Rattle.std.proofs.Common.{◌≡◌, ℕ, ◌+◌, ◌<◌, List, [], ◌∷◌, Result, Ok, Err, inl, inr, ap, arith, fold, map, refl}
-use Rattle.std.proofs.Common.{None, Option, Some, length, option_map, slice_get, subst, sym, ◌∙◌}
-use Rattle.std.proofs.lemmas.List.{length-map, map-id}
-use Rattle.std.proofs.lemmas.List.FromFn.{fill_by_all}
+use Rattle.std.proofs.Common.{subst, sym, ◌∙◌}
+use Rattle.std.proofs.lemmas.List.{map-id}
 use Rattle.std.proofs.lemmas.List.Sums.{sum_by-append, sum_by-cons}
-use Rattle.std.proofs.lemmas.Option.{slice_get-map, unwrap_or-slice_get}
-use Rattle.std.specs.List.{range_with_len, sum_by}
-use Rattle.std.specs.Option.{unwrap_or}
+use Rattle.std.specs.List.{sum_by}
 
 module _ {F X Y Z : Type 0} (step : F → X → Y → F → Type 0) (f : F) (view : Y → Z) (h : X → Z) where
   -- the views of what a run answers are h of each input
@@ -23,18 +20,6 @@ module _ {F X Y Z : Type 0} (step : F → X → Y → F → Type 0) (f : F) (vie
       let call = acts x y run.0 run.1 in
       let others = views_of_run xs ys last (subst (λ k. ClosureRun step k xs ys last) call.0 run.2) acts in
       cc (call.1, others)
-
-joined : {T : Type 0} (o : Option T) → unwrap_or (option_map Some o) None ≡ o
-joined None = refl
-joined (Some x) = refl
-
--- what is got at each place of a list is `Some` of its items
-pub gets_all : {T : Type 0} (items : List T) (n : ℕ) → length items ≡ n
-    → map (slice_get items) (range_with_len 0 n) ≡ map Some items
-gets_all items n long =
-    sym (fill_by_all (slice_get items) (map Some items) n None (length-map items Some ∙ long)
-    (λ k within. sym (unwrap_or-slice_get (map Some items) k None)
-    ∙ (ap (λ o. unwrap_or o None) (slice_get-map Some items k) ∙ joined (slice_get items k))))
 
 module _ {F X Y : Type 0} (step : F → X → Y → F → Type 0) (f : F) (h : X → Y)
     (acts : (x : X) (y : Y) (next : F) → step f x y next → (next ≡ f) × (y ≡ h x)) where

@@ -1,6 +1,6 @@
 -- Items moved one by one from the front of a list.
 use Rattle.std.proofs.Common.{◌≡◌, ℕ, zero, suc, ◌+◌, ◌<◌, List, [], ◌∷◌, ◌++◌, take, drop, ap, ◌∙◌, sym, arith}
-use Rattle.std.proofs.Common.{◌≤◌, append_assoc, length, length-take, slice_index_or, slice_set, subst}
+use Rattle.std.proofs.Common.{append_assoc, length, slice_index_or, slice_set, subst}
 use Rattle.std.proofs.lemmas.List.Elements.{All-append, All-cons, All-nil}
 use Rattle.std.proofs.lemmas.List.{drop-drop, drop-set-lt, drop_more, take-append-drop, take_more_set}
 use Rattle.std.specs.List.{All}
@@ -86,11 +86,6 @@ module _ {T : Type 0} where
   take-one_more n items others item here =
       let more : n + 1 ≡ suc n = omega arith in
       ap (λ k. take k items) more ∙ take-suc_next n items others item here
-
-  -- where there is room for all items, there is for one more than were moved
-  pub room-next : {n room count : ℕ} (before items : List T) → count ≡ length before → n < length items
-      → before ≡ take n items → length items ≤ room → count < room
-  room-next {n} before items counted some moved enough = omega (arith, ap length moved, length-take n items)
 
   -- a property of what is left in the slots before, and of what is left in this one
   pub left-next : (P : T → Type 0) (n : ℕ) (left : List T) (blank : T) → n < length left → All P (take n left) → P blank

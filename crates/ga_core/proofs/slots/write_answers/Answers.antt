@@ -5,7 +5,6 @@ use Rattle.ga_core.specs.Runs.{ClosureRun}
 use Rattle.std.proofs.Common.{◌≡◌, arith, length, subst, take}
 use Rattle.std.proofs.lemmas.List.{take_all, take_more_set}
 use Rattle.std.specs.List.{range_with_len}
-use borrow.Author.Rules.{scaled_Fits}
 
 pub f-requires : goal.f-requires
 f-requires g c = may_generate-at _ _ _ _ c.requires.callable c.loop-index.index _ _ (omega arith) c.loop-index.invariant
@@ -25,6 +24,3 @@ returns g c =
           (subst (λ items. ClosureRun (goal.F-step g) c.args.f.now (range_with_len 0 at.index) items at.f) whole
           at.invariant);
     }
-
-pub offset_bounds-slots-index : goal.offset_bounds-slots-index
-offset_bounds-slots-index g c = scaled_Fits _ _ _ c.loop-index-test.true c.well_formed.0.1

@@ -1,6 +1,5 @@
-use Rattle.ga_core.proofs.MoveLemmas.{room-next, pushed-next}
+use Rattle.ga_core.proofs.MoveLemmas.{pushed-next}
 use Rattle.ga_core.proofs.array.conversions.push_items.Goals as goal
-use borrow.Author.Rules.{scaled_Fits}
 use Rattle.std.proofs.Common.{◌<◌, ◌≡◌, ◌≤◌, ◌∙◌, ap, arith, length, slice_index_or, subst, sym}
 use Rattle.std.proofs.lemmas.List.{take_all}
 
@@ -19,10 +18,3 @@ pub returns : goal.returns
 returns g c =
     let whole : length c.args.slots.now ≤ c.loop-slot.slot-index = omega (arith, c.loop-slot-test.false) in
     c.loop-slot.invariant.moved.0 ∙ take_all c.loop-slot.slot-index c.args.slots.now whole
-
-pub offset_bounds-slots-slot-index : goal.offset_bounds-slots-slot-index
-offset_bounds-slots-slot-index g c = scaled_Fits _ _ _ c.loop-slot-test.true c.well_formed.0.1
-
-pub push_reserved-requires : goal.push_reserved-requires
-push_reserved-requires g c = room-next c.loop-slot.items.items c.args.slots.now c.loop-slot.items.ok.0 c.loop-slot-test.true
-    c.loop-slot.invariant.moved.0 c.loop-slot.invariant.room

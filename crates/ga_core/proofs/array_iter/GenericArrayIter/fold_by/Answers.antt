@@ -3,7 +3,6 @@ use Rattle.ga_core.proofs.CallLemmas.{FoldRun-of_items, may_fold-at}
 use Rattle.ga_core.proofs.CutLemmas.{taken-more}
 use Rattle.ga_core.proofs.array_iter.GenericArrayIter.fold_by.Goals as goal
 use Rattle.ga_core.specs.Runs.{FoldRun}
-use borrow.Author.Rules.{scaled_Fits}
 use Rattle.std.proofs.Common.{◌≡◌, ◌∷◌, [], ◌++◌, ◌+◌, drop, sym, ap, ◌∙◌, arith, refl, slice_set, subst}
 use Rattle.std.proofs.lemmas.Fn.{FoldsTo-push}
 use Rattle.std.proofs.lemmas.List.{append-nil, drop-set-lt, drop_all, drop_more}
@@ -50,6 +49,3 @@ returns g c =
     subst (λ items. FoldRun (goal.F-step g) c.args.f.now c.args.init items c.loop-slot.answer c.loop-slot.f)
     (sym (so_far.1 ∙ (ap (λ rest. so_far.0 ++ rest) none ∙ append-nil so_far.0))) so_far.2 in
     record { run = run; acts = λ h acts. answer_of_fold _ _ h acts _ _ _ _ run }
-
-pub offset_bounds-slot-items-slot-index : goal.offset_bounds-slot-items-slot-index
-offset_bounds-slot-items-slot-index g c = scaled_Fits _ _ _ c.loop-slot-test.true c.as_mut_slice-slot-items.type_inv.1
