@@ -1,7 +1,8 @@
 -- Writing over the slots of a slice.
 use Rattle.ga_views.proofs.PartLemmas.{part-within}
 use Rattle.ga_views.specs.Parts.{part_set}
-use Rattle.std.proofs.Common.{◌≡◌, ◌≤◌, ℕ, List, arith, ◌++◌, length, length-set, length-take, drop, take, slice_set, sym, ap, ◌∙◌}
+use Rattle.std.proofs.Common.{◌≡◌, ◌≤◌, ℕ, List, arith, ◌++◌, length, length-set, length-take, drop}
+use Rattle.std.proofs.Common.{take, slice_set, sym, ap, ◌∙◌}
 use Rattle.std.proofs.Math.Seq.{take-append_seam}
 use Rattle.std.specs.List.{refill}
 

@@ -44,7 +44,8 @@ returns g c =
     record { run = run; acts = λ h acts. answer_of_fold _ _ h acts _ _ _ _ run }
 
 pub loop-index-init : goal.loop-index-init
-loop-index-init g c = ([], left-all c.as_mut_slice-items.result.now c.args.self c.as_mut_slice-items.ensures.items, refl)
+loop-index-init g c =
+    ([], left-all c.as_mut_slice-items.result.now c.args.self c.as_mut_slice-items.ensures.items, refl)
 
 pub overflow_step-index : goal.overflow_step-index
 overflow_step-index g c = c.loop-index-test.true
@@ -57,5 +58,6 @@ bounds-items-index g c = index-in c.loop-index-test.true c.loop-index.auto.index
 
 pub offset_bounds-items-index : goal.offset_bounds-items-index
 offset_bounds-items-index g c =
-    scaled_Fits _ (length c.as_mut_slice-items.result.now) _ (index-in c.loop-index-test.true c.loop-index.auto.index refl)
+    scaled_Fits _ (length c.as_mut_slice-items.result.now) _
+    (index-in c.loop-index-test.true c.loop-index.auto.index refl)
     c.as_mut_slice-items.type_inv.1
