@@ -1,30 +1,13 @@
 -- An array all of whose slots were written over, and the run of calls that wrote them.
 use Rattle.ga_core.proofs.SlotLemmas.{refill-over}
 use Rattle.ga_core.specs.Runs.{ClosureRun, FirstErrorRun}
-use Rattle.std.proofs.Common.{◌≡◌, ◌∙◌, Err, List, Ok, Result, ap, length, refl, subst, sym}
+use Rattle.std.proofs.Common.{◌≡◌, List, Result, length, refl, subst, sym}
 use Rattle.std.specs.List.{refill}
-use Rattle.std.specs.Result.{IfOk, OnOk, result_and}
 
 -- the array has what was written, where its slots were lent as they were, and all of them were written
 pub made-is_written : {X : Type 0} {blanks lent written : List X} → lent ≡ blanks → length written ≡ length lent
     → refill (length blanks) blanks written ≡ written
 made-is_written lends long = refill-over _ _ _ _ lends long refl
-
--- the array of what was written, or the error
-pub finished_if-made : {X E : Type 0} (done : Result Unit E) {result : Result (List X) E} {array written : List X}
-    → result ≡ result_and done (Ok array) → array ≡ written → result ≡ result_and done (Ok written)
-finished_if-made done same made = same ∙ ap (λ xs. result_and done (Ok xs)) made
-
--- where all went well, Q holds of the array
-IfOk-and : {X E : Type 0} (done : Result Unit E) (array : X) (Q : X → Type 0) → OnOk done (Q array)
-    → IfOk (result_and done (Ok array)) Q
-IfOk-and (Ok _) array Q holds = holds
-IfOk-and (Err error) array Q holds = tt
-
--- where all went well, Q holds of the array that was written
-pub IfOk-finished_if : {X E : Type 0} (done : Result Unit E) {result : Result (List X) E} (array : List X)
-    (Q : List X → Type 0) → result ≡ result_and done (Ok array) → OnOk done (Q array) → IfOk result Q
-IfOk-finished_if done array Q same holds = subst (λ r. IfOk r Q) (sym same) (IfOk-and done array Q holds)
 
 -- a run over lent items gave what was written, so the run over the items gives the array
 pub ClosureRun-made : {F X Y : Type 0} (step : F → X → Y → F → Type 0) (f last : F) {lent items : List X}

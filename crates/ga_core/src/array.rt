@@ -5,8 +5,7 @@ ghost use Rattle.std.specs.Borrow.{sem};
 ghost use Rattle.std.specs.Iterator.{YieldsFirst, YieldsLast};
 ghost use Rattle.std.specs.Iterator.Adapters.{IterYieldsInOrder, IterYieldsInReverse};
 ghost use Rattle.std.specs.Iterator.Runs.{EveryRun, ItemsMapTo, ItemsMapToReversed, YieldsInOrder, YieldsInReverse};
-ghost use Rattle.std.specs.Prelude.{◌≡◌, ◌^◌, ◌<◌, ◌↔◌, IsTrue, List, Ok, Some, length, slice_get};
-ghost use Rattle.std.specs.Result.{result_and};
+ghost use Rattle.std.specs.Prelude.{◌≡◌, ◌^◌, ◌<◌, ◌↔◌, IsTrue, List, Some, length, slice_get};
 ghost use Rattle.std.specs.Slice.Iter.{iter_mut_rest, iter_mut_steps, iter_mut_steps_back, iter_rest};
 
 mod as_slice;
@@ -77,17 +76,6 @@ impl<T, N: ArrayLength<T>> GenericArray<T, N> {
     {
         let GenericArray { store, of: _ } = self;
         GenericArray::of_store(store)
-    }
-
-    // `finished` of an array over which calls that may fail wrote, or their error.
-    #[inline(always)]
-    pub(crate) fn finished_if<E>(written: Result<(), E>, array: Self) -> Result<Self, E>
-        ensures { result ≡ result_and written (Ok array) }
-    {
-        match written {
-            Ok(()) => Ok(array.finished()),
-            Err(error) => Err(error),
-        }
     }
 
     /// The number of items, which is that of the type.

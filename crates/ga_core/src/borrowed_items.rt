@@ -106,8 +106,10 @@ pub trait BorrowedItems<T, N: Unsigned> {
     {
         let items = self.borrowed();
         let mut made = GenericArray::<U, N>::default();
-        let written = try_write_mapped_ref(items, made.as_mut_slice(), f);
-        GenericArray::finished_if(written, made)
+        match try_write_mapped_ref(items, made.as_mut_slice(), f) {
+            Ok(()) => Ok(made.finished()),
+            Err(error) => Err(error),
+        }
     }
 
     /// The array of what `f` returns at each item and that of `rhs` in its place, called in order.

@@ -62,8 +62,10 @@ impl<T: Default + Drop, N: ArrayLength<T>> GenericArray<T, N> {
             → result ≡ try_map h (range_with_len 0 N.USIZE) }
     {
         let mut array = Self::default();
-        let written = try_write_answers(array.as_mut_slice(), f);
-        GenericArray::finished_if(written, array)
+        match try_write_answers(array.as_mut_slice(), f) {
+            Ok(()) => Ok(array.finished()),
+            Err(error) => Err(error),
+        }
     }
 }
 

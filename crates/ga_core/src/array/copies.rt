@@ -53,8 +53,10 @@ impl<T: Clone + Default, N: ArrayLength<T>> GenericArray<T, N> {
         ensures succeeds { T.is_infallible item → IsOk result }
     {
         let mut array = Self::default();
-        let written = write_copies(array.as_mut_slice(), item);
-        GenericArray::finished_if(written, array)
+        match write_copies(array.as_mut_slice(), item) {
+            Ok(()) => Ok(array.finished()),
+            Err(refused) => Err(refused),
+        }
     }
 
     /// The array of clones of the items, made in order.
@@ -67,8 +69,10 @@ impl<T: Clone + Default, N: ArrayLength<T>> GenericArray<T, N> {
     {
         let items = self.as_slice();
         let mut copy = Self::default();
-        let written = write_clones(copy.as_mut_slice(), items);
-        GenericArray::finished_if(written, copy)
+        match write_clones(copy.as_mut_slice(), items) {
+            Ok(()) => Ok(copy.finished()),
+            Err(refused) => Err(refused),
+        }
     }
 }
 

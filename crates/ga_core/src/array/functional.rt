@@ -76,8 +76,10 @@ impl<T: Default + Drop, N: ArrayLength<T>> GenericArray<T, N> {
         ensures acts { (h : T → Result U E) → ActsAs F.FnMut f.old h → result ≡ try_map h self }
     {
         let mut made = GenericArray::<U, N>::default();
-        let written = try_write_mapped(self.as_mut_slice(), made.as_mut_slice(), f);
-        GenericArray::finished_if(written, made)
+        match try_write_mapped(self.as_mut_slice(), made.as_mut_slice(), f) {
+            Ok(()) => Ok(made.finished()),
+            Err(error) => Err(error),
+        }
     }
 
     /// The array of what `f` returns at each item and that of `rhs` in its place, called in order. Takes

@@ -1,22 +1,16 @@
 use Rattle.ga_core.proofs.CopyLemmas.{Repeats-same}
-use Rattle.ga_core.proofs.MadeLemmas.{IfOk-finished_if, made-is_written}
+use Rattle.ga_core.proofs.MadeLemmas.{made-is_written}
 use Rattle.ga_core.proofs.array.GenericArray.repeat.Goals as goal
 use Rattle.ga_core.specs.Copies.{Repeats}
-use Rattle.std.proofs.Common.{◌≡◌, replicate, subst, sym}
-use Rattle.std.proofs.lemmas.Result.{IfOk-weaker}
-use Rattle.std.specs.Result.{OnOk}
+use Rattle.std.proofs.Common.{◌∙◌, subst, sym}
 
-pub returns-clause-items : goal.returns-clause-items
-returns-clause-items g c =
-    let made = made-is_written c.as_mut_slice.ensures.items c.write_copies-written.auto.slots in
-    let copies = Repeats g.T.Clone.is_clone c.args.item in
-    IfOk-finished_if _ _ (copies g.N.Unsigned.USIZE) c.finished_if.ensures
-    (subst (λ items. OnOk c.write_copies-written.result (copies g.N.Unsigned.USIZE items)) (sym made)
-    (subst (λ n. OnOk c.write_copies-written.result (copies n c.write_copies-written.new.slots))
-    c.as_mut_slice.ensures.len c.write_copies-written.ensures.items))
+pub returns-in-Ok-clause-items : goal.returns-in-Ok-clause-items
+returns-in-Ok-clause-items g c =
+    let made = c.finished.ensures ∙ made-is_written c.as_mut_slice.ensures.items c.write_copies.auto.slots in
+    subst (Repeats g.T.Clone.is_clone c.args.item g.N.Unsigned.USIZE) (sym made)
+    (subst (λ n. Repeats g.T.Clone.is_clone c.args.item n c.write_copies.new.slots) c.as_mut_slice.ensures.len
+    c.in-Ok.ensures.items)
 
-pub returns-clause-same : goal.returns-clause-same
-returns-clause-same g c equal =
-    IfOk-weaker c.finished_if.result (Repeats g.T.Clone.is_clone c.args.item g.N.Unsigned.USIZE)
-    (λ array. array ≡ replicate g.N.Unsigned.USIZE c.args.item)
-    (λ array. Repeats-same g.T.Clone.is_clone c.args.item g.N.Unsigned.USIZE array equal) (returns-clause-items g c)
+pub returns-in-Ok-clause-same : goal.returns-in-Ok-clause-same
+returns-in-Ok-clause-same g c equal =
+    Repeats-same g.T.Clone.is_clone c.args.item g.N.Unsigned.USIZE _ equal (returns-in-Ok-clause-items g c)
