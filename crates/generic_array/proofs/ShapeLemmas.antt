@@ -8,7 +8,8 @@ use Rattle.std.proofs.Math.Seq.{drop-append_seam, take-append_seam}
 use Rattle.generic_array.specs.Rows.{row_at, rows}
 use Rattle.std.proofs.Math.Nat.{mul-le-mul_right, suc-mul}
 use Rattle.std.proofs.lemmas.List.{append-nil, drop-drop, drop_all, drop_more, get_or-set_same, get_or_default}
-use Rattle.std.proofs.lemmas.List.{nil_from_length, take-append-drop, take-set-le, take_all}
+use Rattle.std.proofs.lemmas.List.{nil_from_length, take-append-drop, take-set, take-set-le, take_all}
+use Rattle.std.proofs.lemmas.List.{take_more, take_more_set}
 use Rattle.std.proofs.lemmas.List.FromFn.{map-range_with_len_more}
 use Rattle.std.proofs.lemmas.Nat.{div-mul-add}
 use Rattle.std.proofs.lemmas.List.Concat.{flat_map-cons}
@@ -17,10 +18,6 @@ use Rattle.std.proofs.lemmas.List.Edits.{length-remove}
 use Rattle.std.proofs.lemmas.Slice.{put_mid-rotated}
 use borrow.Rule.Slice.PartMut.{mid_of, put_mid}
 use Rattle.std.specs.List.{All, flat_map, range_with_len, refill, remove, swap, swap_remove}
-
--- one place is left behind all but one
-pub one-behind : (back all at more one : ℕ) → back + at ≡ all → all ≡ more → at ≡ one → more ≡ one + 1 → back ≡ 1
-one-behind back all at more one cut whole here longer = omega arith
 
 -- how many items the rows have that are left after the first of them
 pub area-next : {R : Type 0} (row : R) (these left : List R) → these ≡ row ∷ left → (w at total : ℕ)
@@ -37,8 +34,8 @@ area-room R rows i d w at total here same =
     omega (arith, more)
 
 -- where the row at a place ends
-pub row-end : (place w at n next : ℕ) → at ≡ place * w → n ≡ w → next ≡ at + n → next ≡ (place + 1) * w
-row-end place w at n next begun wide ends =
+pub row-end : (place w at n : ℕ) → at ≡ place * w → n ≡ w → at + n ≡ (place + 1) * w
+row-end place w at n begun wide =
     let more : place * w + w ≡ (place + 1) * w = sym (suc-mul place w) ∙ ap (λ k. k * w) (omega arith) in
     omega (arith, more)
 
@@ -53,26 +50,59 @@ module _ {T : Type 0} where
   row-read place w at n these those wide begun same =
       ap (λ k. take k these) wide ∙ (ap (take w) same ∙ ap (λ k. take w (drop k those)) begun)
 
-  -- what stands in an array whose places were lent in two parts, once both are written
-  pub refill-parts : (items lent was_front was_back front back first rest : List T) → lent ≡ items
-      → lent ≡ was_front ++ was_back → length front ≡ length was_front → length back ≡ length was_back
-      → front ≡ first → back ≡ rest → refill (length items) items (front ++ back) ≡ first ++ rest
-  refill-parts items lent was_front was_back front back first rest whole cut wide long one two =
-      let same : length items ≡ length (was_front ++ was_back) = ap length (sym whole ∙ cut) in
-      refill-whole (length items) items (front ++ back)
-      (omega (arith, same, length-append was_front was_back, length-append front back, wide, long))
-      ∙ (ap (λ l. l ++ back) one ∙ ap (λ l. first ++ l) two)
+  -- a slice from a place on, and what stands where it was written over
+  pub mid-rest : (at : ℕ) (items : List T) → mid_of at (length items - at) items ≡ drop at items
+  mid-rest at items = take_all (length items - at) (drop at items) (omega (arith, length-drop at items))
 
-  -- a list of one item
-  pub set-only : (items : List T) (item : T) → length items ≡ 1 → slice_set items 0 item ≡ item ∷ []
-  set-only [] item long = cc
-  set-only (x ∷ []) item long = refl
-  set-only (x ∷ y ∷ items) item long = absurd (omega (arith, long))
+  pub put-rest : (at : ℕ) (items written : List T) → put_mid at (length items - at) items written ≡ take at items ++ written
+  put-rest at items written = ap (λ l. take at items ++ l)
+      (ap (λ l. written ++ l) (drop_all (length items - at) (drop at items) (omega (arith, length-drop at items)))
+      ∙ append-nil written)
 
-  pub get-only : (items : List T) (d : T) → length items ≡ 1 → items ≡ get_or items 0 d ∷ []
-  get-only [] d long = cc
-  get-only (x ∷ []) d long = refl
-  get-only (x ∷ y ∷ items) d long = absurd (omega (arith, long))
+  -- what stands in an array whose places were lent, once one was written and the others are moved
+  pub written-last : (items lent moved first : List T) (len : ℕ) (item : T) → lent ≡ items → length lent ≡ len + 1
+      → length moved ≡ len → moved ≡ first
+      → refill (length items) items (slice_set (moved ++ drop len lent) len item) ≡ first ++ item ∷ []
+  written-last items lent moved first len item same long fits is =
+      let over = moved ++ drop len lent in
+      let many : length over ≡ len + 1 =
+      omega (arith, long, fits, length-append moved (drop len lent), length-drop len lent) in
+      let all : slice_set over len item ≡ moved ++ item ∷ [] =
+      sym (take_all (len + 1) (slice_set over len item) (omega (arith, many, length-set over len item)))
+      ∙ (take_more_set over len item (omega (arith, many))
+      ∙ ap (λ l. l ++ item ∷ []) (ap (λ n. take n over) (sym fits) ∙ take-append_seam moved (drop len lent))) in
+      refill-whole (length items) items (slice_set over len item)
+      (omega (arith, ap length same, long, many, length-set over len item))
+      ∙ (all ∙ ap (λ l. l ++ item ∷ []) is)
+
+  pub written-first : (items lent moved rest : List T) (item : T) → lent ≡ items → length lent ≡ length moved + 1
+      → moved ≡ rest
+      → refill (length items) items (put_mid 1 (length (slice_set lent 0 item) - 1) (slice_set lent 0 item) moved)
+      ≡ item ∷ rest
+  written-first items lent moved rest item same long is =
+      let all : put_mid 1 (length (slice_set lent 0 item) - 1) (slice_set lent 0 item) moved ≡ item ∷ moved =
+      put-rest 1 (slice_set lent 0 item) moved
+      ∙ ap (λ l. l ++ moved) (take_more_set lent 0 item (omega (arith, long))) in
+      refill-whole (length items) items
+      (put_mid 1 (length (slice_set lent 0 item) - 1) (slice_set lent 0 item) moved)
+      (omega (arith, ap length same, long, ap length all))
+      ∙ (all ∙ ap (λ l. item ∷ l) is)
+
+  -- items, the last or the first of them taken out, and the others moved
+  pub last-cut : (self items made : List T) (len : ℕ) (x d last : T) → items ≡ self → length items ≡ len + 1
+      → made ≡ take len (slice_set items len x) → last ≡ get_or items len d → self ≡ made ++ last ∷ []
+  last-cut self items made len x d last same long cut is =
+      sym same ∙ (sym (take_all (len + 1) items (omega (arith, long)))
+      ∙ (take_more items len d (omega (arith, long))
+      ∙ (ap (λ l. l ++ get_or items len d ∷ []) (sym (cut ∙ take-set items len x))
+      ∙ ap (λ item. made ++ item ∷ []) (sym is))))
+
+  pub first-cut : (self items made : List T) (x d first : T) → items ≡ self → 0 < length items
+      → made ≡ mid_of 1 (length (slice_set items 0 x) - 1) (slice_set items 0 x) → first ≡ get_or items 0 d
+      → self ≡ first ∷ made
+  first-cut self [] made x d first same some cut is = absurd (omega (arith, some))
+  first-cut self (y ∷ ys) made x d first same some cut is =
+      sym same ∙ (ap (λ item. item ∷ ys) (sym is) ∙ ap (λ l. first ∷ l) (sym (cut ∙ mid-rest 1 (x ∷ ys))))
 
   -- the item at a place
   pub slice_get-next : (n : ℕ) (items left : List T) (item : T) → drop n items ≡ item ∷ left
@@ -119,21 +149,13 @@ module _ {T : Type 0} where
       ∙ (ap (λ k. take k ((front ++ moved) ++ rest)) (omega (arith, length-append front moved))
       ∙ (take-append_seam (front ++ moved) rest ∙ ap (λ l. l ++ moved) same)))
 
-  -- what follows the first two of three parts
-  pub drop-parts : (n : ℕ) (front passed rest : List T) → n ≡ length front + length passed
-      → drop n (front ++ (passed ++ rest)) ≡ rest
-  drop-parts n front passed rest long =
-      ap (drop n) (sym (append_assoc front passed rest))
-      ∙ (ap (λ k. drop k ((front ++ passed) ++ rest)) (omega (arith, length-append front passed))
-      ∙ drop-append_seam (front ++ passed) rest)
-
-  -- what follows them is what followed them in a list that ends alike
-  pub rest-left : (at n m : ℕ) (front passed rest behind items : List T) → length front ≡ at → length passed ≡ n → m ≡ n
-      → rest ≡ drop n behind → behind ≡ drop at items
-      → drop (at + m) (front ++ (passed ++ rest)) ≡ drop (at + m) items
-  rest-left at n m front passed rest behind items here wide same cut starts =
-      drop-parts (at + m) front passed rest (omega arith)
-      ∙ (cut ∙ (ap (drop n) starts ∙ (drop-drop n at items ∙ ap (λ k. drop (at + k) items) (sym same))))
+  -- where items behind a place were written over, what follows them is as it was
+  pub rest-left : (at n : ℕ) (front passed behind items : List T) → length front ≡ at → length passed ≡ n
+      → behind ≡ drop at items → drop (at + n) (front ++ (passed ++ drop n behind)) ≡ drop (at + n) items
+  rest-left at n front passed behind items here long starts =
+      ap (drop (at + n)) (sym (append_assoc front passed (drop n behind)))
+      ∙ (ap (λ k. drop k ((front ++ passed) ++ drop n behind)) (omega (arith, length-append front passed))
+      ∙ (drop-append_seam (front ++ passed) (drop n behind) ∙ (ap (drop n) starts ∙ drop-drop n at items)))
 
   -- where nothing is left of a row, what follows begins with the next row
   pub rows-begun : (begun row now : List T) (these left : List (List T)) (whole : List T) → length begun ≡ 0

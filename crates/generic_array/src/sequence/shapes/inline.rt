@@ -19,18 +19,19 @@ impl<T: Default + Drop, N: ArrayLength<T>, M: ArrayLength<T>> Lengthen<T, Generi
     #[inline(always)]
     fn append(mut self, item: T) -> GenericArray<T, M> {
         let mut longer = GenericArray::default();
-        let (first, last) = longer.as_mut_slice().split_at_mut(N::USIZE);
-        move_items(self.as_mut_slice(), first);
-        last[0] = item;
+        let slots = longer.as_mut_slice();
+        let len = N::USIZE;
+        move_items(self.as_mut_slice(), &mut slots[..len]);
+        slots[len] = item;
         longer
     }
 
     #[inline(always)]
     fn prepend(mut self, item: T) -> GenericArray<T, M> {
         let mut longer = GenericArray::default();
-        let (first, others) = longer.as_mut_slice().split_at_mut(1);
-        first[0] = item;
-        move_items(self.as_mut_slice(), others);
+        let slots = longer.as_mut_slice();
+        slots[0] = item;
+        move_items(self.as_mut_slice(), &mut slots[1..]);
         longer
     }
 }
@@ -45,14 +46,16 @@ impl<T: Default + Drop, N: ArrayLength<T>, M: ArrayLength<T>> Shorten<T, Generic
 
     #[inline]
     fn pop_back(mut self) -> (GenericArray<T, M>, T) {
-        let (others, last) = self.as_mut_slice().split_at_mut(M::USIZE);
-        (array_of(others), mem::take(&mut last[0]))
+        let items = self.as_mut_slice();
+        let len = M::USIZE;
+        let last = mem::take(&mut items[len]);
+        (array_of(&mut items[..len]), last)
     }
 
     #[inline]
     fn pop_front(mut self) -> (T, GenericArray<T, M>) {
-        let (first, others) = self.as_mut_slice().split_at_mut(1);
-        (mem::take(&mut first[0]), array_of(others))
+        let items = self.as_mut_slice();
+        (mem::take(&mut items[0]), array_of(&mut items[1..]))
     }
 }
 
@@ -131,9 +134,9 @@ impl<T: Default + Drop, N: ArrayLength<T>> Row<T> for GenericArray<T, N> {
 
     #[inline]
     fn move_over(&mut self, slots: &mut [T]) -> usize {
-        let (first, _) = slots.split_at_mut(N::USIZE);
-        move_items(self.as_mut_slice(), first);
-        N::USIZE
+        let width = N::USIZE;
+        move_items(self.as_mut_slice(), &mut slots[..width]);
+        width
     }
 }
 

@@ -71,8 +71,8 @@ pub(super) fn deal_rows<T: Default + Drop, W: ArrayLength<T>>(
     let mut at = 0;
     for row in grid.iter_mut() {
         let (_, behind) = items.split_at_mut(at);
-        let (first, _) = behind.split_at_mut(W::USIZE);
-        move_items(first, row.as_mut_slice());
-        at += W::USIZE;
+        let width = W::USIZE;
+        move_items(&mut behind[..width], row.as_mut_slice());
+        at += width;
     }
 }

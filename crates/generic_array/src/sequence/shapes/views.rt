@@ -103,8 +103,12 @@ impl<'a, T, N: ArrayLength<T>, K: Unsigned, M: Unsigned> Split<
 
     #[inline]
     fn split(self) -> (GenericArrayMut<'a, T, K>, GenericArrayMut<'a, T, M>) {
-        let (first, second) = self.into_inner().as_mut_slice().split_at_mut(K::USIZE);
-        views_of(first, second)
+        let ViewMut { slice, of, len } = self;
+        halves_of(ViewMut {
+            slice: slice.as_mut_slice(),
+            of,
+            len,
+        })
     }
 }
 

@@ -1,12 +1,11 @@
-use Rattle.generic_array.proofs.ShapeLemmas.{one-behind, refill-parts, set-only}
+use Rattle.generic_array.proofs.ShapeLemmas.{written-last}
 use Rattle.generic_array.proofs.sequence.shapes.inline.GenericArrayLengthen.append.Goals as goal
-use Rattle.std.proofs.Common.{◌∙◌, length-set}
+use Rattle.std.proofs.Common.{◌∙◌, ◌+◌, ap, length, sym}
 
 pub returns : goal.returns
 returns g c =
-    let last = c.split_at_mut-first.result.1.now in
-    refill-parts _ _ _ last _ _ _ _ c.as_mut_slice.ensures.items c.split_at_mut-first.ensures.value
-    c.move_items.auto.slots (length-set last 0 c.args.item)
-    (c.move_items.ensures.moved ∙ c.as_mut_slice-2.ensures.items)
-    (set-only last c.args.item (one-behind _ _ _ _ _ c.split_at_mut-first.ensures.back_len c.as_mut_slice.ensures.len
-    c.USIZE.ensures c.requires.0))
+    written-last c.default-longer.result c.as_mut_slice-slots.result.now c.move_items.new.slots c.args.self
+    c.USIZE-len.result c.args.item c.as_mut_slice-slots.ensures.items
+    (c.as_mut_slice-slots.ensures.len ∙ (c.requires.0 ∙ ap (λ n. n + 1) (sym c.USIZE-len.ensures)))
+    (ap length c.move_items.ensures.moved ∙ (c.as_mut_slice.ensures.len ∙ sym c.USIZE-len.ensures))
+    (c.move_items.ensures.moved ∙ c.as_mut_slice.ensures.items)

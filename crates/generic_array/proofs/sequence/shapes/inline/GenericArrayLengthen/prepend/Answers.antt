@@ -1,11 +1,11 @@
-use Rattle.generic_array.proofs.ShapeLemmas.{refill-parts, set-only}
+use Rattle.generic_array.proofs.ShapeLemmas.{written-first}
 use Rattle.generic_array.proofs.sequence.shapes.inline.GenericArrayLengthen.prepend.Goals as goal
-use Rattle.std.proofs.Common.{◌∙◌, length-set}
+use Rattle.std.proofs.Common.{◌∙◌, ◌+◌, ap, length, sym}
 
 pub returns : goal.returns
 returns g c =
-    let first = c.split_at_mut-first.result.0.now in
-    refill-parts _ _ first _ _ _ _ _ c.as_mut_slice.ensures.items c.split_at_mut-first.ensures.value
-    (length-set first 0 c.args.item) c.move_items.auto.slots
-    (set-only first c.args.item c.split_at_mut-first.ensures.front_len)
-    (c.move_items.ensures.moved ∙ c.as_mut_slice-2.ensures.items)
+    let moved = c.move_items.ensures.moved in
+    written-first c.default-longer.result c.as_mut_slice-slots.result.now c.move_items.new.slots c.args.self c.args.item
+    c.as_mut_slice-slots.ensures.items (c.as_mut_slice-slots.ensures.len
+    ∙ (c.requires.0 ∙ ap (λ n. n + 1) (sym (ap length moved ∙ c.as_mut_slice.ensures.len))))
+    (moved ∙ c.as_mut_slice.ensures.items)

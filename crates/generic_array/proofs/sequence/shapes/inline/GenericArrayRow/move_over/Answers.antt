@@ -7,12 +7,11 @@ returns g c =
     let whole = refill-whole (length c.args.self.now) c.args.self.now c.move_items.new.items
     (omega (arith, c.move_items.auto.items, ap length c.as_mut_slice.ensures.items)) in
     record {
-      moved = ap (λ l. l ++ c.split_at_mut-first.result.1.now)
+      moved = ap (λ l. l ++ drop c.USIZE-width.result c.args.slots.now)
           (c.move_items.ensures.moved ∙ c.as_mut_slice.ensures.items)
-          ∙ ap (λ l. c.args.self.now ++ l) (c.split_at_mut-first.ensures.back
-          ∙ ap (λ n. drop n c.args.slots.now) c.USIZE.ensures);
+          ∙ ap (λ n. c.args.self.now ++ drop n c.args.slots.now) c.USIZE-width.ensures;
       left = subst (λ l. (k : ℕ) (d : g.row.T.Denot) → k < length l → g.T.Default.is_default (get_or l k d))
           (sym whole) c.move_items.ensures.left;
-      count = c.USIZE-2.ensures;
+      count = c.USIZE-width.ensures;
       width = sym (ap length c.as_mut_slice.ensures.items) ∙ c.as_mut_slice.ensures.len;
     }
