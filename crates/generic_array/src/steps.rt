@@ -123,7 +123,9 @@ pub fn run_steps<T: Drop, R, I: TwoEnded<T>, G: FnMut(&[T]) -> R>(
     ensures empty { steps.items ≡ [] → IsOk result }
     ensures room { vec_len replies.old + length steps.items ≤ vec_capacity replies.old → IsOk result }
 {
-    replies.try_reserve(steps.len())?;
+    if let Err(_) = replies.try_reserve(steps.len()) {
+        return Err(AllocError);
+    }
     for step in steps {
         let reply = step_once(iter, step, look);
         replies.push_reserved(reply);
