@@ -1,6 +1,6 @@
 -- The call that gives a length, `N::USIZE()`, as a step of a walk. Assumes `Logic`.
 use Prim.Native.Nat.{ℕ}
-use Rattle.ga_views.proofs.CallWalk.{asked, calls}
+use Rattle.ga_views.proofs.CallStep.{asked, calls}
 use Rattle.ga_views.specs.contracts.length.Unsigned.USIZE as length_of
 use Rattle.ga_views.specs.declared.length.Unsigned as unsigned
 use Rattle.std.proofs.Common.{◌≡◌, ◌^◌, ◌<◌, [], ◌∷◌, ap, List, refl}

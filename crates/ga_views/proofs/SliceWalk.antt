@@ -1,7 +1,7 @@
 -- A walk of a function that takes a slice for writing, and nothing else, and gives it up: all of it but what the
 -- function asks, what it gives and its own steps. Assumes `Logic`.
 use Prim.Native.Nat.{ℕ, suc}
-use Rattle.ga_views.proofs.CallWalk.{asked, calls}
+use Rattle.ga_views.proofs.CallStep.{asked, calls}
 use Rattle.std.proofs.Common.{◌<◌, ◌^◌, [], ◌∷◌, length, List, MutBor}
 use Rattle.std.proofs.raw_atomic.Walks.{leaves, proved}
 use base.Fml.{flft, ftrue, Lft}

@@ -1,7 +1,7 @@
 -- The call that cuts a slice for writing in two, `split_at_mut`, as a step of a walk: the slice, the place and the
 -- tokens go in, and the two parts come out with what is known of them. Assumes `Logic`.
 use Prim.Native.Nat.{ℕ}
-use Rattle.ga_views.proofs.CallWalk.{asked, calls}
+use Rattle.ga_views.proofs.CallStep.{asked, calls}
 use Rattle.std.below.core.specs.contracts.slice.slice+T.split_at_mut as cut_contract
 use Rattle.std.proofs.Common.{◌≡◌, ◌+◌, ◌++◌, ◌≤◌, ◌<◌, ◌^◌, [], ◌∷◌, ◌∙◌, ap, drop as drop_l, length, List, MutBor}
 use Rattle.std.proofs.Common.{refl, take}

@@ -2,7 +2,7 @@
 -- rest end as, one after the other. The borrow checker shows no clause on two parts where one of them is passed on to
 -- a call that makes rows of it, so this proof walks the code by hand. Assumes `Logic`.
 use Prim.Native.Nat.{ℕ}
-use Rattle.ga_views.proofs.CallWalk.{asked, calls}
+use Rattle.ga_views.proofs.CallStep.{asked, calls}
 use Rattle.ga_views.proofs.LengthCall.{calls_length}
 use Rattle.ga_views.proofs.SliceWalk.{gives_up}
 use Rattle.ga_views.proofs.SliceLaws.{Slice, slice_laws}

@@ -2,7 +2,7 @@
 -- clause on a loan that the answer holds in a view, so this proof walks the code by hand. Assumes `Logic`.
 use Prim.Native.Nat.{ℕ}
 use Rattle.ga_views.proofs.SharedLoan.{comes_back, lent_shared, lends_shared}
-use Rattle.ga_views.proofs.CallWalk.{asked, calls}
+use Rattle.ga_views.proofs.CallStep.{asked, calls}
 use Rattle.ga_views.proofs.SliceWalk.{passes}
 use Rattle.ga_views.proofs.SliceLaws.{ArrayView, array_laws}
 use Rattle.ga_views.proofs.view_mut.ViewMut+mut+slice+T+T+N.from_mut_slice.Met as view_met

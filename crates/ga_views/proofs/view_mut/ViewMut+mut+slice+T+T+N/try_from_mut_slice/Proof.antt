@@ -2,7 +2,7 @@
 -- checker shows no clause on a lender that is a slice where the answer is a `Result`, so this proof walks the code by
 -- hand. Assumes `Logic`.
 use Prim.Native.Nat.{ℕ}
-use Rattle.ga_views.proofs.CallWalk.{asked}
+use Rattle.ga_views.proofs.CallStep.{asked}
 use Rattle.ga_views.proofs.LengthCall.{calls_length}
 use Rattle.ga_views.proofs.SliceWalk.{gives_up, passes}
 use Rattle.ga_views.proofs.SliceLaws.{ArrayView, array_laws}
