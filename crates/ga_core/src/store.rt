@@ -80,7 +80,7 @@ pub trait Store<T>: Sized + Drop {
     ///
     /// The caller says how many they are, so that the compiler knows it too.
     #[inline]
-    fn part_mut(&mut self, from: usize, len: usize) -> &mut [T]
+    final fn part_mut(&mut self, from: usize, len: usize) -> &mut [T]
         requires in_bounds { from + len ≤ length (items self.old) }
         ensures* writes_back { sem 𝓛 (Lends Self.row (Array T.row 0) self.entry result
             (λ part. (store_with self.old (part_set from len (items self.old) part)).0)) }
@@ -91,7 +91,7 @@ pub trait Store<T>: Sized + Drop {
 
     /// The item at `index`, for writing.
     #[inline]
-    fn item_mut(&mut self, index: usize) -> &mut T
+    final fn item_mut(&mut self, index: usize) -> &mut T
         requires in_bounds { index < length (items self.old) }
         ensures* writes_back { sem 𝓛 (Lends Self.row T.row self.entry result
             (λ item. (store_with self.old (slice_set (items self.old) index item)).0)) }
