@@ -202,9 +202,9 @@ pub trait FromFallibleIterator<T>: GenericSequence<T> {
     ///
     /// Allocates first: if that fails, returns `FillError::Place` and takes no item. An `Err`
     /// after `Length` values is one item too many. Size hints aren't consulted.
-    fn from_fallible_iter<I: Iterator<Item = Result<T, E>>, E: Drop>(
+    final fn from_fallible_iter<I: Iterator<Item = Result<T, E>>, E: Drop>(
         place: Self::Place,
-        items: I,
+        mut items: I,
     ) -> Result<Self, FillError<E, Self::Error>>
         requires fits { Self.Fits }
         requires can { I.can_next items }
@@ -213,7 +213,10 @@ pub trait FromFallibleIterator<T>: GenericSequence<T> {
             FillsFallibly I.next_gives items Self.Length.USIZE built after) }
         ensures runs { IfOk (fill_answer (built_items Self.items result)) (λ built.
             FillFalliblyRuns I.next_gives items Self.Length.USIZE built) }
-        ensures promised { Self.IsPromised → IsOk (fill_answer (built_items Self.items result)) };
+        ensures promised { Self.IsPromised → IsOk (fill_answer (built_items Self.items result)) }
+    {
+        Self::from_fallible_iter_ref(place, &mut items)
+    }
 
     /// `from_fallible_iter` that borrows the iterator, which can be used again afterwards.
     ///

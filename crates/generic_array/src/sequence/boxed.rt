@@ -74,13 +74,6 @@ impl<T: Drop, N: Unsigned> FallibleGenericSequence<T> for BoxedArray<T, N> {
 }
 
 impl<T: Drop, N: Unsigned> FromFallibleIterator<T> for BoxedArray<T, N> {
-    fn from_fallible_iter<I: Iterator<Item = Result<T, E>>, E: Drop>(
-        place: Global,
-        items: I,
-    ) -> Result<BoxedArray<T, N>, FillError<E, AllocError>> {
-        BoxedArray::try_boxed_from_fallible_iter(place, items)
-    }
-
     fn from_fallible_iter_ref<I: Iterator<Item = Result<T, E>>, E: Drop>(
         place: Global,
         items: &mut I,

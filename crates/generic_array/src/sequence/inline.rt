@@ -86,13 +86,6 @@ fn with_no_place<A, E>(answer: Result<Result<A, E>, LengthError>) -> Result<A, F
 }
 
 impl<T: Default + Drop, N: ArrayLength<T>> FromFallibleIterator<T> for GenericArray<T, N> {
-    fn from_fallible_iter<I: Iterator<Item = Result<T, E>>, E: Drop>(
-        place: (),
-        items: I,
-    ) -> Result<GenericArray<T, N>, FillError<E, Never>> {
-        with_no_place(GenericArray::try_from_fallible_iter(items))
-    }
-
     fn from_fallible_iter_ref<I: Iterator<Item = Result<T, E>>, E: Drop>(
         place: (),
         items: &mut I,
