@@ -27,12 +27,20 @@ pub trait TwoEnded<T> {
     ghost items: { Self → List T };
 
     /// Takes the first item, as `next` does.
-    fn front(&mut self) -> Option<T>
-        ensures step { StepGives (front 0) (items self.old) result (items self.new) };
+    #[inline]
+    final fn front(&mut self) -> Option<T>
+        ensures step { StepGives (front 0) (items self.old) result (items self.new) }
+    {
+        self.front_nth(0)
+    }
 
     /// Takes the last item, as `next_back` does.
-    fn back(&mut self) -> Option<T>
-        ensures step { StepGives (back 0) (items self.old) result (items self.new) };
+    #[inline]
+    final fn back(&mut self) -> Option<T>
+        ensures step { StepGives (back 0) (items self.old) result (items self.new) }
+    {
+        self.back_nth(0)
+    }
 
     /// Drops `n` items from the front, or as many as are left, and takes the next.
     fn front_nth(&mut self, n: usize) -> Option<T>
