@@ -1,7 +1,7 @@
 -- What a loop that fills a block knows where it ends, and what holds where the block was refused.
 use mathlib.Core.Bool.{true≢false}
 use native.Mathlib.Nat.{zero-mul}
-use Rattle.std.proofs.Common.{◌≡◌, ℕ, ◌+◌, ◌<◌, ◌≤◌, Result, Ok, Err, OnErr, false, true, arith, subst, sym, ◌*◌, ◌^◌}
+use Rattle.std.proofs.Common.{◌≡◌, ℕ, ◌+◌, ◌<◌, ◌≤◌, false, true, arith, subst, sym, ◌*◌, ◌^◌}
 
 module _ (made room all left : ℕ) where
   -- where there is room, not all are there
@@ -28,12 +28,6 @@ less_room less room step = omega arith
 pub grown : (made longer room less all : ℕ) → longer ≡ made + 1 → less + 1 ≡ room → made + room ≡ all
     → longer + less ≡ all
 grown made longer room less all more fewer fits = omega arith
-
-module _ {A E : Type 0} (P : Type 0) where
-  -- what holds is so on an error too
-  pub OnErr-holds : (r : Result A E) → P → OnErr r P
-  OnErr-holds (Ok x) holds = tt
-  OnErr-holds (Err e) holds = holds
 
 -- an error isn't a value
 pub not_ok : {P : Type 0} → false ≡ true → P

@@ -218,7 +218,10 @@ impl<T: Clone> BoxedArrayIter<T> {
         ensures items { IfOk result (λ copy. AllZip T.is_clone self.now copy) }
         ensures empty { length self.now ≡ 0 → IsOk result }
     {
-        Ok(Clone::clone(self)?)
+        match Clone::clone(self) {
+            Ok(copy) => Ok(copy),
+            Err(_) => Err(AllocError),
+        }
     }
 }
 
@@ -228,12 +231,14 @@ impl<T: Clone> Clone for BoxedArrayIter<T> {
     ghost is_infallible = { λ left. length left ≡ 0 };
 
     fn clone(&self) -> Result<Self, alloc::AllocError> {
-        let mut clones = match LiveBlock::new(self.items.allocator(), self.len()) {
-            Ok(block) => block,
-            Err(_refused) => return Err(alloc::AllocError),
+        let Ok(mut clones) = LiveBlock::new(self.items.allocator(), self.len()) else {
+            return Err(alloc::AllocError);
         };
         for item in self.as_slice() {
-            clones.put(item.clone()?);
+            let Ok(copy) = item.clone() else {
+                return Err(alloc::AllocError);
+            };
+            clones.put(copy);
         }
         Ok(BoxedArrayIter::of_items(clones))
     }

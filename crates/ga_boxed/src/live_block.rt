@@ -58,7 +58,9 @@ impl<T> LiveBlock<T> {
         if !fits::<T>(size) {
             return Err(AllocError);
         }
-        let (base, cells, deed) = allocate(&alloc, size)?;
+        let Ok((base, cells, deed)) = allocate(&alloc, size) else {
+            return Err(AllocError);
+        };
         Ok(LiveBlock {
             base,
             size,
@@ -218,9 +220,8 @@ impl<T> LiveBlock<T> {
         if !fits::<T>(U) {
             return Err(AllocError);
         }
-        let (base, mut cells, deed) = match allocate(&alloc, U) {
-            Ok(parts) => parts,
-            Err(refused) => return Err(refused.into()),
+        let Ok((base, mut cells, deed)) = allocate(&alloc, U) else {
+            return Err(AllocError);
         };
         cells.put_array(base, items);
         Ok(LiveBlock {

@@ -39,7 +39,9 @@ impl<T, N: Unsigned> BoxedArray<T, N> {
         ensures err { OnErr result (f.new ≡ f.old) }
         ensures empty { N.USIZE ≡ 0 → IsOk result }
     {
-        let mut items = LiveBlock::new(alloc, N::USIZE)?;
+        let Ok(mut items) = LiveBlock::new(alloc, N::USIZE) else {
+            return Err(AllocError);
+        };
         for index in 0..N::USIZE {
             items.put(f(index));
         }
@@ -79,7 +81,9 @@ impl<T: Drop, N: Unsigned> BoxedArray<T, N> {
         ensures err { OnErr result (f.new ≡ f.old) }
         ensures empty { N.USIZE ≡ 0 → IsOk result }
     {
-        let mut good = LiveBlock::new(alloc, N::USIZE)?;
+        let Ok(mut good) = LiveBlock::new(alloc, N::USIZE) else {
+            return Err(AllocError);
+        };
         for index in 0..N::USIZE {
             match f(index) {
                 Ok(item) => good.put(item),
@@ -119,7 +123,9 @@ impl<T: Drop, N: Unsigned> BoxedArray<T, N> {
         ensures err { OnErr result (items.new ≡ items.old) }
         ensures empty { N.USIZE ≡ 0 → IsOk result }
     {
-        let mut taken = LiveBlock::new(alloc, N::USIZE)?;
+        let Ok(mut taken) = LiveBlock::new(alloc, N::USIZE) else {
+            return Err(AllocError);
+        };
         while taken.room() > 0 {
             match items.next() {
                 Some(item) => taken.put(item),
@@ -171,19 +177,18 @@ impl<T: Drop, N: Unsigned> BoxedArray<T, N> {
         ensures err { OnErr (fill_answer result) (items.new ≡ items.old) }
         ensures empty { N.USIZE ≡ 0 → IsOk (fill_answer result) }
     {
-        let mut good = match LiveBlock::new(alloc, N::USIZE) {
-            Ok(block) => block,
-            Err(refused) => return Err(FillError::Place(refused)),
+        let Ok(mut values) = LiveBlock::new(alloc, N::USIZE) else {
+            return Err(FillError::Place(AllocError));
         };
-        while good.room() > 0 {
+        while values.room() > 0 {
             match items.next() {
-                Some(Ok(item)) => good.put(item),
+                Some(Ok(item)) => values.put(item),
                 Some(Err(error)) => return Err(FillError::Item(error)),
                 None => return Err(FillError::Length(LengthError)),
             }
         }
         match items.next() {
-            None => Ok(BoxedArray::of_items(good)),
+            None => Ok(BoxedArray::of_items(values)),
             Some(_surplus) => Err(FillError::Length(LengthError)),
         }
     }

@@ -19,7 +19,9 @@ impl<T: Default + Drop, N: ArrayLength<T>> BoxedArray<T, N> {
         ensures empty { N.USIZE ≡ 0 → IsOk result }
     {
         let slots = array.as_mut_slice();
-        let mut block = LiveBlock::new(alloc, N::USIZE)?;
+        let Ok(mut block) = LiveBlock::new(alloc, N::USIZE) else {
+            return Err(AllocError);
+        };
         for slot in slots.iter_mut() {
             block.put(mem::take(slot));
         }
@@ -36,7 +38,10 @@ impl<T: Drop, const U: usize> BoxedArray<T, Const<U>> {
         ensures ok { IfOk result (λ boxed. boxed ≡ items) }
         ensures empty { U ≡ 0 → IsOk result }
     {
-        Ok(BoxedArray::of_items(LiveBlock::of_native(alloc, items)?))
+        match LiveBlock::of_native(alloc, items) {
+            Ok(block) => Ok(BoxedArray::of_items(block)),
+            Err(refused) => Err(refused),
+        }
     }
 }
 
@@ -87,7 +92,9 @@ impl<T: Drop, N: Unsigned> BoxedArray<T, N> {
             items: mut block,
             of: _,
         } = self;
-        let mut vector = Vec::with_capacity(block.allocator(), N::USIZE)?;
+        let Ok(mut vector) = Vec::with_capacity(block.allocator(), N::USIZE) else {
+            return Err(AllocError);
+        };
         // The count is a constant, so the compiler moves several small items at once.
         for _moved in 0..N::USIZE {
             vector.push_reserved(block.take_first());
@@ -100,6 +107,9 @@ impl<T: Drop, N: Unsigned> BoxedArray<T, N> {
         ensures ok { IfOk result (λ items. boxed_slice_items items ≡ self) }
         ensures empty { N.USIZE ≡ 0 → IsOk result }
     {
-        Ok(self.into_vec()?.into_boxed_slice())
+        match self.into_vec() {
+            Ok(items) => Ok(items.into_boxed_slice()),
+            Err(refused) => Err(refused),
+        }
     }
 }

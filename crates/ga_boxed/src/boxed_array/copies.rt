@@ -44,10 +44,15 @@ impl<T: Clone, N: Unsigned> BoxedArray<T, N> {
             → IfOk result (λ array. array ≡ replicate N.USIZE item) }
         ensures empty { N.USIZE ≡ 0 → IsOk result }
     {
-        let mut items = LiveBlock::new(alloc, N::USIZE)?;
+        let Ok(mut items) = LiveBlock::new(alloc, N::USIZE) else {
+            return Err(AllocError);
+        };
         if N::USIZE > 0 {
             for _clone in 1..N::USIZE {
-                items.put(item.clone()?);
+                let Ok(copy) = item.clone() else {
+                    return Err(AllocError);
+                };
+                items.put(copy);
             }
             items.put(item);
         }

@@ -1,6 +1,4 @@
 use borrow.Author.Rules.{scaled_fits≤}
-use Rattle.std.proofs.lemmas.Result.{IfOk-from_err}
-use Rattle.ga_boxed.proofs.BuildLemmas.{not_ok}
 use Rattle.ga_boxed.proofs.MoveLemmas.{more_room, none_yet, one_more}
 use Rattle.ga_boxed.proofs.boxed_array.BoxedArray.from_inline.Goals as goal
 use Rattle.ga_core.proofs.MoveLemmas.{pushed-next, this-here}
@@ -9,11 +7,11 @@ use Rattle.std.proofs.lemmas.List.{take_all}
 
 pub loop-slot-init : goal.loop-slot-init
 loop-slot-init g c =
-    let block = c.in_ok-block.ensures.block in
+    let block = c.in-Ok.ensures.block in
     let slots = c.as_mut_slice-slots.ensures in
     record {
       moved = (ap (λ b. b.items) block, slots.items);
-      room = none_yet c.in_ok-block.block.room
+      room = none_yet c.in-Ok.block.room
           ∙ (ap (λ b. b.room) block ∙ (c.USIZE.ensures ∙ (sym slots.len ∙ ap length slots.items)));
     }
 
@@ -47,11 +45,8 @@ of_items-requires g c =
           ∙ (sym (ap length slots.items) ∙ slots.len);
     }
 
-pub returns-in_err-block : goal.returns-in_err-block
-returns-in_err-block g c = record {
-  ok = IfOk-from_err c.from_residual.result _ c.from_residual.ensures.0;
-  empty = λ none. not_ok (c.in_err-block.ensures.empty (c.USIZE.ensures ∙ none));
-}
+pub returns-in_default : goal.returns-in_default
+returns-in_default g c = record { ok = tt; empty = λ none. c.in_default.ensures.empty (c.USIZE.ensures ∙ none) }
 
 pub returns : goal.returns
 returns g c =

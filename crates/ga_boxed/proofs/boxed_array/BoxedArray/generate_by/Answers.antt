@@ -1,4 +1,3 @@
-use Rattle.ga_boxed.proofs.BuildLemmas.{OnErr-holds, not_ok}
 use Rattle.ga_boxed.proofs.MoveLemmas.{all_counted, more_room, none_yet, one_more}
 use Rattle.ga_boxed.proofs.boxed_array.BoxedArray.generate_by.Goals as goal
 use Rattle.ga_core.proofs.ActsLemmas.{answers_of_run}
@@ -7,28 +6,24 @@ use Rattle.ga_core.proofs.RunLemmas.{ClosureRun-snoc, below-add_one}
 use Rattle.ga_core.specs.Runs.{ClosureRun}
 use Rattle.std.proofs.Common.{◌≡◌, ◌<◌, ◌+◌, ◌∙◌, [], ap, length, refl, subst, sym}
 use Rattle.std.proofs.lemmas.List.{length_push}
-use Rattle.std.proofs.lemmas.Result.{IfOk-from_err}
 use Rattle.std.specs.List.{range_with_len}
 
-pub returns-in_err-items : goal.returns-in_err-items
-returns-in_err-items g c =
-    let result = c.from_residual.result in
-    let refused = c.from_residual.ensures.0 in
-    record {
-      run = IfOk-from_err result _ refused;
-      acts = IfOk-from_err result _ refused;
-      err = OnErr-holds (c.args.f.now ≡ c.args.f.now) result refl;
-      empty = λ none. not_ok (c.in_err-items.ensures.empty (c.USIZE.ensures ∙ none));
-    }
+pub returns-in_default : goal.returns-in_default
+returns-in_default g c = record {
+  run = tt;
+  acts = tt;
+  err = refl;
+  empty = λ none. c.in_default.ensures.empty (c.USIZE.ensures ∙ none);
+}
 
 pub loop-index-init : goal.loop-index-init
 loop-index-init g c =
-    let block = c.in_ok-items.ensures.block in
+    let block = c.in-Ok.ensures.block in
     record {
       ran = subst (λ items. ClosureRun (goal.F-step g) c.args.f.now [] items c.args.f.now)
           (sym (ap (λ b. b.items) block)) refl;
       long = ap (λ b. length b.items) block;
-      room = none_yet c.in_ok-items.items.room ∙ (ap (λ b. b.room) block ∙ c.USIZE.ensures);
+      room = none_yet c.in-Ok.items.room ∙ (ap (λ b. b.room) block ∙ c.USIZE.ensures);
     }
 
 pub f-requires : goal.f-requires

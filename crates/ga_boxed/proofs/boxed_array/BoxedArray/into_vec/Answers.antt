@@ -1,8 +1,6 @@
-use Rattle.ga_boxed.proofs.BuildLemmas.{not_ok}
 use Rattle.ga_boxed.proofs.MoveLemmas.{all_moved, count_more, moved_more, none_left, none_yet, some_left}
 use Rattle.ga_boxed.proofs.boxed_array.BoxedArray.into_vec.Goals as goal
 use Rattle.std.proofs.Common.{◌≡◌, ℕ, suc, ◌+◌, ◌<◌, ◌≤◌, ◌∙◌, ◌++◌, ap, arith, length, refl}
-use Rattle.std.proofs.lemmas.Result.{IfOk-from_err}
 use Rattle.std.specs.Vec.{vec_capacity, vec_len}
 
 module _ (len left room : ℕ) where
@@ -22,12 +20,12 @@ module _ (len left room : ℕ) where
 pub loop-moved-init : goal.loop-moved-init
 loop-moved-init g c =
     let block = c.self.inside.items in
-    let vector = c.in_ok-vector.vector in
+    let vector = c.in-Ok.vector in
     record {
-      moved = ap (λ l. l ++ block.items) c.in_ok-vector.ensures.items ∙ c.self.view_is;
+      moved = ap (λ l. l ++ block.items) c.in-Ok.ensures.items ∙ c.self.view_is;
       left = none_yet (length block.items) ∙ c.self.invariant;
       room = room-first (vec_len vector) (length block.items) (vec_capacity vector) g.N.Unsigned.USIZE
-          c.in_ok-vector.ensures.len (c.in_ok-vector.ensures.exact ∙ c.USIZE.ensures) c.self.invariant;
+          c.in-Ok.ensures.len (c.in-Ok.ensures.exact ∙ c.USIZE.ensures) c.self.invariant;
     }
 
 pub take_first-requires : goal.take_first-requires
@@ -60,10 +58,10 @@ loop-moved-preserved g c =
           c.push_reserved.ensures.capacity;
     }
 
-pub returns-in_err-vector : goal.returns-in_err-vector
-returns-in_err-vector g c = record {
-  ok = IfOk-from_err c.from_residual.result _ c.from_residual.ensures.0;
-  empty = λ none. not_ok (c.in_err-vector.ensures.succeeds (c.USIZE.ensures ∙ none));
+pub returns-in_default : goal.returns-in_default
+returns-in_default g c = record {
+  ok = tt;
+  empty = λ none. c.in_default.ensures.succeeds (c.USIZE.ensures ∙ none);
 }
 
 pub returns : goal.returns

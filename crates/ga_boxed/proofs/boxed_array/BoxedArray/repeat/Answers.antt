@@ -1,4 +1,4 @@
-use Rattle.ga_boxed.proofs.BuildLemmas.{not_ok, some_asked}
+use Rattle.ga_boxed.proofs.BuildLemmas.{some_asked}
 use Rattle.ga_boxed.proofs.MoveLemmas.{none_yet}
 use Rattle.ga_boxed.proofs.boxed_array.BoxedArray.repeat.Goals as goal
 use Rattle.ga_boxed.proofs.boxed_array.BoxedArray.repeat.Goals.{then-USIZE-gt0+else-loop-clone-test, else-USIZE-gt0}
@@ -8,7 +8,6 @@ use Rattle.std.proofs.Common.{◌≡◌, ℕ, zero, suc, ◌+◌, ◌<◌, ◌�
 use Rattle.std.proofs.Common.{subst, sym}
 use Rattle.std.proofs.lemmas.List.{length_push}
 use Rattle.std.proofs.lemmas.List.Elements.{All-nil, All-push}
-use Rattle.std.proofs.lemmas.Result.{IfOk-from_err}
 use Rattle.std.specs.List.{All}
 
 module _ (made next room all end : ℕ) where
@@ -42,29 +41,23 @@ module _ {T : Type 0} (is_clone : T → T → Type 0) (item : T) where
   Repeats-made zero clones array made long all = absurd (omega (arith, long))
   Repeats-made (suc n) clones array made long all = (clones, made, omega (arith, long), all)
 
-pub returns-in_err-items : goal.returns-in_err-items
-returns-in_err-items g c =
-    let result = c.from_residual.result in
-    let refused = c.from_residual.ensures.0 in
-    record {
-      items = IfOk-from_err result _ refused;
-      same = λ _. IfOk-from_err result _ refused;
-      empty = λ none. not_ok (c.in_err-items.ensures.empty (c.USIZE.ensures ∙ none));
-    }
+pub returns-in_default : goal.returns-in_default
+returns-in_default g c = record {
+  items = tt;
+  same = λ _. tt;
+  empty = λ none. c.in_default.ensures.empty (c.USIZE.ensures ∙ none);
+}
 
-pub returns-in_err-clone : goal.returns-in_err-clone
-returns-in_err-clone g c =
-    let result = c.from_residual-in_err-clone.result in
-    let refused = c.from_residual-in_err-clone.ensures.0 in
-    record {
-      items = IfOk-from_err result _ refused;
-      same = λ _. IfOk-from_err result _ refused;
-      empty = λ none. some_asked 0 c.USIZE-2.result g.N.Unsigned.USIZE c.if-USIZE-gt0.true c.USIZE-2.ensures none;
-    }
+pub returns-in_default-clone : goal.returns-in_default-clone
+returns-in_default-clone g c = record {
+  items = tt;
+  same = λ _. tt;
+  empty = λ none. some_asked 0 c.USIZE-2.result g.N.Unsigned.USIZE c.if-USIZE-gt0.true c.USIZE-2.ensures none;
+}
 
 pub loop-clone-init : goal.loop-clone-init
 loop-clone-init g c =
-    let block = c.in_ok-items.ensures.block in
+    let block = c.in-Ok.ensures.block in
     record {
       long = ap (λ b. length b.items + 1) block;
       room = ap (λ b. length b.items + b.room) block ∙ (none_yet c.USIZE.result ∙ c.USIZE.ensures);
@@ -84,7 +77,7 @@ pub loop-clone-preserved : goal.loop-clone-preserved
 loop-clone-preserved g c =
     let at = c.loop-clone in
     let made = at.items.items in
-    let copy = c.in_ok-clone.field-0 in
+    let copy = c.in-Ok-clone.copy in
     let longer = ap length c.put.ensures.items ∙ length_push made copy in
     let P = g.T.Clone.is_clone c.args.item in
     record {
@@ -92,7 +85,7 @@ loop-clone-preserved g c =
       room = room-more (length made) at.items.room (length c.put.new.self.items) c.put.new.self.room
           g.N.Unsigned.USIZE longer c.put.ensures.room at.invariant.room;
       clones = subst (All P) (sym c.put.ensures.items)
-          (All-push P made copy at.invariant.clones c.in_ok-clone.ensures.cases);
+          (All-push P made copy at.invariant.clones c.in-Ok-clone.ensures.cases);
     }
 
 pub put-requires-then-USIZE-gt0 : goal.put-requires-then-USIZE-gt0
@@ -114,7 +107,7 @@ of_items-requires g c = record {
         c.USIZE-2.result w.loop-clone.invariant.long w.loop-clone-test.false w.loop-clone.auto._clone-end
         w.USIZE-clone-end.ensures w.if-USIZE-gt0.true c.USIZE-2.ensures))
     | else-USIZE-gt0 w ↦
-        ap (λ b. length b.items) (w.items-is ∙ c.in_ok-items.ensures.block)
+        ap (λ b. length b.items) (w.items-is ∙ c.in-Ok.ensures.block)
         ∙ none-asked c.USIZE-2.result g.N.Unsigned.USIZE w.if-USIZE-gt0.false c.USIZE-2.ensures
   ];
 }
@@ -133,7 +126,7 @@ returns g c =
       | else-USIZE-gt0 w ↦
           subst (λ n. Repeats g.T.Clone.is_clone c.args.item n c.of_items.result)
           (none-asked c.USIZE-2.result g.N.Unsigned.USIZE w.if-USIZE-gt0.false c.USIZE-2.ensures)
-          (c.of_items.ensures ∙ ap (λ b. b.items) (w.items-is ∙ c.in_ok-items.ensures.block))
+          (c.of_items.ensures ∙ ap (λ b. b.items) (w.items-is ∙ c.in-Ok.ensures.block))
     ] in
     record {
       items = items;

@@ -10,13 +10,13 @@ use Rattle.std.proofs.iter.Next.{Yields-more}
 use Rattle.std.proofs.lemmas.List.{length_push, map-append}
 use Rattle.std.specs.Iterator.{Yields}
 
-pub returns-in-Err : goal.returns-in-Err
-returns-in-Err g c = record {
+pub returns-in_default : goal.returns-in_default
+returns-in_default g c = record {
   fill = tt;
   runs = tt;
   can_on = tt;
   err = refl;
-  empty = λ none. c.in-Err.ensures.empty (c.USIZE.ensures ∙ none);
+  empty = λ none. c.in_default.ensures.empty (c.USIZE.ensures ∙ none);
 }
 
 pub loop-items-init : goal.loop-items-init
@@ -33,7 +33,7 @@ pub put-requires : goal.put-requires
 put-requires g c = record { room = rw (← c.room.ensures) c.loop-items-test.true }
 
 pub loop-items-smaller : goal.loop-items-smaller
-loop-items-smaller g c = less_room c.put.new.self.room c.loop-items.good.room c.put.ensures.room
+loop-items-smaller g c = less_room c.put.new.self.room c.loop-items.values.room c.put.ensures.room
 
 pub loop-items-preserved : goal.loop-items-preserved
 loop-items-preserved g c =
@@ -42,10 +42,10 @@ loop-items-preserved g c =
     record {
       can = c.in-Some-Ok.ensures.goes.keeps;
       taken = rw (c.put.ensures.items, map-append)
-          (Yields-more g.I.Iterator.next_gives c.args.items.now (map Ok at.good.items) at.items
+          (Yields-more g.I.Iterator.next_gives c.args.items.now (map Ok at.values.items) at.items
           (Ok c.in-Some-Ok.item) _ at.invariant.taken came);
-      room = grown (length at.good.items) (length c.put.new.self.items) at.good.room c.put.new.self.room
-          g.N.Unsigned.USIZE (ap length c.put.ensures.items ∙ length_push at.good.items c.in-Some-Ok.item)
+      room = grown (length at.values.items) (length c.put.new.self.items) at.values.room c.put.new.self.room
+          g.N.Unsigned.USIZE (ap length c.put.ensures.items ∙ length_push at.values.items c.in-Some-Ok.item)
           c.put.ensures.room at.invariant.room;
     }
 
@@ -60,11 +60,11 @@ pub returns-in-Some-Err : goal.returns-in-Some-Err
 returns-in-Some-Err g c =
     let at = c.loop-items in
     let came = rw c.in-Some-Err.field-0-is at c.in-Some-Err.ensures.steps in
-    let few = not_all (length at.good.items) at.good.room g.N.Unsigned.USIZE c.room.result at.invariant.room
+    let few = not_all (length at.values.items) at.values.room g.N.Unsigned.USIZE c.room.result at.invariant.room
     c.room.ensures c.loop-items-test.true in
     let fill : FillsFallibly g.I.Iterator.next_gives {F = LengthError} c.args.items.now g.N.Unsigned.USIZE
     (Ok (Err c.in-Some-Err.error)) c.next.new.self =
-    (at.good.items, Some (Err c.in-Some-Err.error), (at.items, at.invariant.taken, came), (refl, few)) in
+    (at.values.items, Some (Err c.in-Some-Err.error), (at.items, at.invariant.taken, came), (refl, few)) in
     record {
       fill = fill;
       runs = runs g c.args.items.now (Ok (Err c.in-Some-Err.error)) c.next.new.self fill;
@@ -76,11 +76,11 @@ returns-in-Some-Err g c =
 pub returns-in-None : goal.returns-in-None
 returns-in-None g c =
     let at = c.loop-items in
-    let few = not_all (length at.good.items) at.good.room g.N.Unsigned.USIZE c.room.result at.invariant.room
+    let few = not_all (length at.values.items) at.values.room g.N.Unsigned.USIZE c.room.result at.invariant.room
     c.room.ensures c.loop-items-test.true in
     let fill : FillsFallibly g.I.Iterator.next_gives {F = LengthError} c.args.items.now g.N.Unsigned.USIZE
     (Err (record {})) c.next.new.self =
-    (at.good.items, None, (at.items, at.invariant.taken, c.in-None.ensures.steps), few) in
+    (at.values.items, None, (at.items, at.invariant.taken, c.in-None.ensures.steps), few) in
     record {
       fill = fill;
       runs = runs g c.args.items.now (Err (record {})) c.next.new.self fill;
@@ -93,18 +93,18 @@ pub of_items-requires : goal.of_items-requires
 of_items-requires g c =
     let at = c.loop-items in
     record {
-      full = all_there (length at.good.items) at.good.room g.N.Unsigned.USIZE c.room.result at.invariant.room
+      full = all_there (length at.values.items) at.values.room g.N.Unsigned.USIZE c.room.result at.invariant.room
           c.room.ensures c.loop-items-test.false;
     }
 
 pub returns-in-None-next : goal.returns-in-None-next
 returns-in-None-next g c =
     let at = c.loop-items in
-    let all = all_there (length at.good.items) at.good.room g.N.Unsigned.USIZE c.room.result at.invariant.room
+    let all = all_there (length at.values.items) at.values.room g.N.Unsigned.USIZE c.room.result at.invariant.room
     c.room.ensures c.loop-items-test.false in
     let fill : FillsFallibly g.I.Iterator.next_gives {F = LengthError} c.args.items.now g.N.Unsigned.USIZE
     (Ok (Ok c.of_items.result)) c.next-2.new.self = (
-      at.good.items,
+      at.values.items,
       None,
       (at.items, at.invariant.taken, c.in-None-next.ensures.steps),
       (c.of_items.ensures, all, refl),
@@ -120,11 +120,11 @@ returns-in-None-next g c =
 pub returns-in-Some : goal.returns-in-Some
 returns-in-Some g c =
     let at = c.loop-items in
-    let all = all_there (length at.good.items) at.good.room g.N.Unsigned.USIZE c.room.result at.invariant.room
+    let all = all_there (length at.values.items) at.values.room g.N.Unsigned.USIZE c.room.result at.invariant.room
     c.room.ensures c.loop-items-test.false in
     let fill : FillsFallibly g.I.Iterator.next_gives {F = LengthError} c.args.items.now g.N.Unsigned.USIZE
     (Err (record {})) c.next-2.new.self =
-    (at.good.items, Some c.in-Some._surplus, (at.items, at.invariant.taken, c.in-Some.ensures.steps), all) in
+    (at.values.items, Some c.in-Some._surplus, (at.items, at.invariant.taken, c.in-Some.ensures.steps), all) in
     record {
       fill = fill;
       runs = runs g c.args.items.now (Err (record {})) c.next-2.new.self fill;

@@ -1,4 +1,3 @@
-use Rattle.ga_boxed.proofs.BuildLemmas.{OnErr-holds, not_ok}
 use Rattle.ga_boxed.proofs.MoveLemmas.{all_counted, more_room, none_yet, one_more}
 use Rattle.ga_boxed.proofs.boxed_array.BoxedArray.try_generate_by.Goals as goal
 use Rattle.ga_core.proofs.ActsLemmas.{answers_until_error}
@@ -7,28 +6,24 @@ use Rattle.ga_core.proofs.RunLemmas.{ClosureRun-good, FirstErrorRun-at, FirstErr
 use Rattle.ga_core.specs.Runs.{ClosureRun, FirstErrorRun}
 use Rattle.std.proofs.Common.{◌≡◌, ◌<◌, ◌+◌, ◌∙◌, [], Err, Ok, ap, length, map, refl, subst, sym}
 use Rattle.std.proofs.lemmas.List.{length_push}
-use Rattle.std.proofs.lemmas.Result.{IfOk-from_err}
 use Rattle.std.specs.List.{range_with_len}
 
-pub returns-in_err-good : goal.returns-in_err-good
-returns-in_err-good g c =
-    let result = c.from_residual.result in
-    let refused = c.from_residual.ensures.0 in
-    record {
-      run = IfOk-from_err result _ refused;
-      acts = IfOk-from_err result _ refused;
-      err = OnErr-holds (c.args.f.now ≡ c.args.f.now) result refl;
-      empty = λ none. not_ok (c.in_err-good.ensures.empty (c.USIZE.ensures ∙ none));
-    }
+pub returns-in_default : goal.returns-in_default
+returns-in_default g c = record {
+  run = tt;
+  acts = tt;
+  err = refl;
+  empty = λ none. c.in_default.ensures.empty (c.USIZE.ensures ∙ none);
+}
 
 pub loop-index-init : goal.loop-index-init
 loop-index-init g c =
-    let block = c.in_ok-good.ensures.block in
+    let block = c.in-Ok.ensures.block in
     record {
       ran = subst (λ good. ClosureRun (goal.F-step g) c.args.f.now [] (map Ok good) c.args.f.now)
           (sym (ap (λ b. b.items) block)) refl;
       long = ap (λ b. length b.items) block;
-      room = none_yet c.in_ok-good.good.room ∙ (ap (λ b. b.room) block ∙ c.USIZE.ensures);
+      room = none_yet c.in-Ok.good.room ∙ (ap (λ b. b.room) block ∙ c.USIZE.ensures);
     }
 
 pub f-requires : goal.f-requires
@@ -48,11 +43,11 @@ put-requires g c =
 pub loop-index-preserved : goal.loop-index-preserved
 loop-index-preserved g c =
     let at = c.loop-index in
-    let item = c.in-Ok.item in
+    let item = c.in-Ok-f.item in
     record {
       ran = rw (c.put.ensures.items, below-add_one)
           (ClosureRun-good (goal.F-step g) c.args.f.now (range_with_len 0 at.index) at.good.items at.f at.index item
-          c.f.new.self at.invariant.ran c.in-Ok.ensures);
+          c.f.new.self at.invariant.ran c.in-Ok-f.ensures);
       long = ap length c.put.ensures.items ∙ (length_push at.good.items item ∙ ap (λ k. k + 1) at.invariant.long);
       room = one_more at.index at.good.room c.put.new.self.room g.N.Unsigned.USIZE at.invariant.room
           c.put.ensures.room;

@@ -10,7 +10,7 @@ loop-item-init g c =
     let block = c.in-Ok.ensures.block in
     record {
       long = ap (λ b. length b.items) block;
-      room = none_yet c.in-Ok.block.room
+      room = none_yet c.in-Ok.clones.room
           ∙ (ap (λ b. b.room) block ∙ (c.len.ensures ∙ sym (ap length c.as_slice-item-items.ensures)));
       clones = subst (λ made. AllZip g.T.Clone.is_clone [] made) (sym (ap (λ b. b.items) block)) tt;
     }
@@ -27,7 +27,7 @@ pub loop-item-preserved : goal.loop-item-preserved
 loop-item-preserved g c =
     let at = c.loop-item in
     let made = at.clones.items in
-    let copy = c.in_ok-clone.field-0 in
+    let copy = c.in-Ok-clone.copy in
     let items = c.as_slice-item-items.result.now in
     record {
       long = ap length c.put.ensures.items ∙ (length_push made copy ∙ ap (λ k. k + 1) at.invariant.long);
@@ -35,7 +35,7 @@ loop-item-preserved g c =
           c.put.ensures.room;
       clones = rw c.put.ensures.items
           (all_zip_more g.T.Clone.is_clone items made at.item-index c.item-item.result copy c.loop-item-test.true
-          c.item-item.is at.invariant.clones c.in_ok-clone.ensures.cases);
+          c.item-item.is at.invariant.clones c.in-Ok-clone.ensures.cases);
     }
 
 pub returns : goal.returns

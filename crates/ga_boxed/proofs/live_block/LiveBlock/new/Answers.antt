@@ -1,21 +1,20 @@
-use Rattle.ga_boxed.proofs.BuildLemmas.{none_fits, not_ok}
+use Rattle.ga_boxed.proofs.BuildLemmas.{none_fits}
 use Rattle.ga_boxed.proofs.MoveLemmas.{none_yet}
 use Rattle.ga_boxed.proofs.live_block.LiveBlock.new.Goals as goal
 use Rattle.ga_boxed.specs.Live.{live}
 use Rattle.std.proofs.Common.{[], ◌∙◌, ap, length, refl}
-use Rattle.std.proofs.lemmas.Result.{IfOk-from_err}
 
 pub allocate-requires : goal.allocate-requires
 allocate-requires g c = record { fits = c.if-not-fits.ensures.0 refl }
 
 pub invariant_of-result : goal.invariant_of-result
 invariant_of-result g c =
-    let made = c.in_ok-base.ensures in
+    let made = c.in-Ok.ensures in
     record {
       at = made.at;
       passed = made.passed;
-      items = none_yet (length c.in_ok-base.cells.items) ∙ ap length made.items;
-      room = none_yet c.in_ok-base.cells.room ∙ made.room;
+      items = none_yet (length c.in-Ok.cells.items) ∙ ap length made.items;
+      room = none_yet c.in-Ok.cells.room ∙ made.room;
       deed_at = made.deed_at;
       deed_len = made.deed_len;
       deed_alloc = made.deed_alloc;
@@ -27,16 +26,13 @@ returns-then-not-fits g c = record {
   empty = λ none. c.if-not-fits.ensures.1 (none_fits c.args.size _ none);
 }
 
-pub returns-in_err-base : goal.returns-in_err-base
-returns-in_err-base g c = record {
-  block = IfOk-from_err c.from_residual.result _ c.from_residual.ensures.0;
-  empty = λ none. not_ok (c.in_err-base.ensures.empty none);
-}
+pub returns-in_default : goal.returns-in_default
+returns-in_default g c = record { block = tt; empty = c.in_default.ensures.empty }
 
 pub returns : goal.returns
 returns g c =
-    let made = c.in_ok-base.ensures in
+    let made = c.in-Ok.ensures in
     record {
-      block = ap (λ items. live items c.in_ok-base.cells.room) made.items ∙ ap (λ room. live [] room) made.room;
+      block = ap (λ items. live items c.in-Ok.cells.room) made.items ∙ ap (λ room. live [] room) made.room;
       empty = λ none. refl;
     }
