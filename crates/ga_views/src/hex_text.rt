@@ -97,7 +97,9 @@ fn write_pieces<const SIZE: usize, W: Write>(
     let mut left = bytes;
     while count > 0 {
         let (written, behind) = put_piece(left, upper, count, &mut digits);
-        w.write_all(&digits[..written])?;
+        if let Err(error) = w.write_all(&digits[..written]) {
+            return Err(error);
+        }
         count -= written;
         left = behind;
     }
@@ -122,7 +124,9 @@ fn show_pieces<W: fmt::Write>(
         let Ok(text) = str::from_utf8(&digits[..shown]) else {
             unreachable!();
         };
-        f.write_str(text)?;
+        if let Err(error) = f.write_str(text) {
+            return Err(error);
+        }
         count -= shown;
         left = behind;
     }

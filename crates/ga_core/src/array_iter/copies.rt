@@ -19,8 +19,10 @@ impl<T: Clone + Default, N: ArrayLength<T>> GenericArrayIter<T, N> {
     {
         let items = self.as_slice();
         let mut store = N::ArrayType::filled(N::USIZE);
-        write_clones(store.part_mut(0, items.len()), items)?;
-        Ok(GenericArrayIter::of_store(store, items.len()))
+        match write_clones(store.part_mut(0, items.len()), items) {
+            Ok(()) => Ok(GenericArrayIter::of_store(store, items.len())),
+            Err(refused) => Err(refused),
+        }
     }
 }
 

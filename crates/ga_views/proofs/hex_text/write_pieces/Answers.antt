@@ -11,8 +11,8 @@ loop-count-init g c = record {
 }
 
 -- a writer fails only where there are digits to write
-pub returns-in_err-write_all-clause-empty : goal.returns-in_err-write_all-clause-empty
-returns-in_err-write_all-clause-empty g c none = absurd (some-text c.args.upper _ _ c.loop-count.left.now _
+pub returns-in-Err-clause-empty : goal.returns-in-Err-clause-empty
+returns-in-Err-clause-empty g c none = absurd (some-text c.args.upper _ _ c.loop-count.left.now _
     c.loop-count.invariant.text.2 c.loop-count-test.true c.loop-count.invariant.count none)
 
 -- one piece more is written
@@ -26,7 +26,7 @@ loop-count-preserved g c =
       text = (
         so_far.0 ++ written,
         Appends-trans (contents c.args.w.now) (contents c.loop-count.w)
-            (contents c.write_all.new.self) so_far.0 written so_far.1 c.in_ok-write_all.ensures.bytes,
+            (contents c.write_all.new.self) so_far.0 written so_far.1 c.in_default.ensures.bytes,
         text-next _ so_far.0 _ written _ _ so_far.2 put.ensures.rest put.ensures.digits,
       );
       count = put.ensures.left;

@@ -19,8 +19,8 @@ write_clones-requires g c = record {
       g.met.N.ArrayLength.capacity_is).1;
 }
 
-pub returns-clause-items : goal.returns-clause-items
-returns-clause-items g c =
+pub returns-in-Ok-clause-items : goal.returns-in-Ok-clause-items
+returns-in-Ok-clause-items g c =
     let items = g.N.ArrayType.Store.items c.filled-store.result in
     let copies = c.write_clones.new.slots in
     let len = length c.as_slice-items.result.now in
@@ -31,4 +31,4 @@ returns-clause-items g c =
     (c.write_clones.auto.slots ∙ room.1) after.1 in
     subst (λ list. AllZip g.T.Clone.is_clone list c.of_store.result) c.as_slice-items.ensures.items
     (subst (AllZip g.T.Clone.is_clone c.as_slice-items.result.now) (sym (c.of_store.ensures ∙ stands))
-    c.in_ok-write_clones.ensures.items)
+    c.in-Ok.ensures.items)
