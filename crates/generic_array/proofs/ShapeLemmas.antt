@@ -165,6 +165,13 @@ module _ {T : Type 0} where
       ap (λ l. l ++ flat_map (λ r. r) left) starts ∙ (sym (ap (flat_map (λ r. r)) first) ∙ same)
   rows-begun (x ∷ begun) row now these left whole none first starts same = absurd (omega (arith, none))
 
+  -- where nothing is left of it, and no row
+  pub rows-ended : (begun : List T) (these : List (List T)) → length begun ≡ 0 → length these ≡ 0
+      → begun ++ flat_map (λ r. r) these ≡ []
+  rows-ended [] [] none end = refl
+  rows-ended [] (row ∷ these) none end = absurd (omega (arith, end))
+  rows-ended (x ∷ begun) these none end = absurd (omega (arith, none))
+
   -- where no row is left, the places are the rows joined
   pub flat_map-whole : (R : Type 0) (f : R → List T) (rows : List R) (i at w : ℕ) (places whole : List T)
       → length rows ≤ i → at + length (drop i rows) * w ≡ length places

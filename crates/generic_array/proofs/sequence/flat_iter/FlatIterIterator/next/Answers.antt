@@ -1,4 +1,4 @@
-use Rattle.generic_array.proofs.ShapeLemmas.{rows-begun}
+use Rattle.generic_array.proofs.ShapeLemmas.{rows-begun, rows-ended}
 use Rattle.generic_array.proofs.sequence.flat_iter.FlatIterIterator.next.Goals as goal
 use Rattle.std.proofs.Common.{◌∙◌, ◌++◌, ap, arith, length, sym}
 use Rattle.std.specs.List.{flat_map}
@@ -7,9 +7,25 @@ use Rattle.std.specs.Slice.Iter.{iter_rest}
 pub loop-item-init : goal.loop-item-init
 loop-item-init g c = c.self.view_is
 
-pub returns-in-Some-clause-steps : goal.returns-in-Some-clause-steps
-returns-in-Some-clause-steps g c = sym c.loop-item.invariant
-    ∙ ap (λ l. l ++ flat_map (λ row. row) (iter_rest c.loop-item.self-inside.rows)) c.in-Some.ensures.steps
+pub returns-in-Some : goal.returns-in-Some
+returns-in-Some g c =
+    let steps = sym c.loop-item.invariant
+    ∙ ap (λ l. l ++ flat_map (λ row. row) (iter_rest c.loop-item.self-inside.rows)) c.in-Some.ensures.steps in
+    record {
+      steps = steps;
+      goes = record { on = λ _. (tt, tt, omega (arith, ap length steps)); keeps = tt; rests = λ _. tt };
+    }
+
+pub returns-in-None : goal.returns-in-None
+returns-in-None g c =
+    let row = c.in_default.ensures.steps in
+    let rows = c.in-None.ensures.steps in
+    let none = rows-ended (iter_rest c.loop-item.self-inside.row) (iter_rest c.loop-item.self-inside.rows) row.0
+    rows.0 in
+    record {
+      steps = (sym c.loop-item.invariant ∙ none, rw (row.1, rows.1) none);
+      goes = record { on = λ _. tt; keeps = tt; rests = λ _. tt };
+    }
 
 pub loop-item-preserved : goal.loop-item-preserved
 loop-item-preserved g c =
