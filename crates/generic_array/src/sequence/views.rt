@@ -61,6 +61,6 @@ impl<'a, T: Default + Drop, N: ArrayLength<T>> FallibleGenericSequence<T>
         place: (),
         f: &mut F,
     ) -> Result<Result<GenericArray<T, N>, E>, Never> {
-        Ok(GenericArray::try_generate_by(f))
+        <GenericArray<T, N> as FallibleGenericSequence<T>>::try_generate_by(place, f)
     }
 }
