@@ -1,7 +1,7 @@
 -- What a fill from an iterator over known items gives, where they are as many as asked for.
 use Rattle.ga_core.specs.Fill.{FillRuns}
 use Rattle.std.proofs.Common.{◌≡◌, ◌∙◌, ℕ, List, Option, Result, Ok, Err, inl, inr, length, ap, sym, refl, arith}
-use Rattle.std.specs.Iterator.Runs.{EveryRun, ItemsAre, Run}
+use Rattle.std.specs.Iterator.Runs.{EveryRun, ItemsAre}
 use Rattle.std.specs.Result.{IsOk, IfOk}
 
 module _ {S T E R : Type 0} (next_gives : S → Option T → S → Type 0) (items_of : S → List T)

@@ -41,18 +41,6 @@ impl<T, N: Unsigned> Model for BoxedArray<T, N> {
 impl<T, N: Unsigned> BoxedArray<T, N> {
     ghost use Rattle.ga_boxed.specs.Lends.{LendsItems, LendsIter};
 
-    // The array of `N` items. Moves none of them.
-    #[inline]
-    fn of_items(items: LiveBlock<T>) -> Self
-        requires full { length items.items ≡ N.USIZE }
-        ensures { result ≡ items.items }
-    {
-        BoxedArray {
-            items,
-            of: PhantomData,
-        }
-    }
-
     /// All items, in order. O(1).
     #[inline]
     pub fn as_slice(&self) -> &[T]

@@ -12,6 +12,7 @@ use crate::boxed_array::BoxedArray;
 use crate::live_block::LiveBlock;
 use ga_core::{AllocError, FillError, LengthError, Unsigned};
 use std::alloc::Global;
+use std::marker::PhantomData;
 
 impl<T, N: Unsigned> BoxedArray<T, N> {
     /// The array of `f(0)` to `f(N - 1)`, each called once, in this order.
@@ -45,7 +46,10 @@ impl<T, N: Unsigned> BoxedArray<T, N> {
         for index in 0..N::USIZE {
             items.put(f(index));
         }
-        Ok(BoxedArray::of_items(items))
+        Ok(BoxedArray {
+            items,
+            of: PhantomData,
+        })
     }
 }
 
@@ -90,7 +94,10 @@ impl<T: Drop, N: Unsigned> BoxedArray<T, N> {
                 Err(error) => return Ok(Err(error)),
             }
         }
-        Ok(Ok(BoxedArray::of_items(good)))
+        Ok(Ok(BoxedArray {
+            items: good,
+            of: PhantomData,
+        }))
     }
 
     /// The array of all items of `items`, or `LengthError` if they aren't exactly `N`.
@@ -133,7 +140,10 @@ impl<T: Drop, N: Unsigned> BoxedArray<T, N> {
             }
         }
         match items.next() {
-            None => Ok(Ok(BoxedArray::of_items(taken))),
+            None => Ok(Ok(BoxedArray {
+                items: taken,
+                of: PhantomData,
+            })),
             Some(_surplus) => Ok(Err(LengthError)),
         }
     }
@@ -188,7 +198,10 @@ impl<T: Drop, N: Unsigned> BoxedArray<T, N> {
             }
         }
         match items.next() {
-            None => Ok(BoxedArray::of_items(values)),
+            None => Ok(BoxedArray {
+                items: values,
+                of: PhantomData,
+            }),
             Some(_surplus) => Err(FillError::Length(LengthError)),
         }
     }

@@ -7,6 +7,7 @@ use crate::live_block::LiveBlock;
 use ga_core::{AllocError, ArrayLength, Const, GenericArray, LengthError, Unsigned};
 use std::alloc::Global;
 use std::boxed::BoxedSlice;
+use std::marker::PhantomData;
 use std::mem;
 
 impl<T: Default + Drop, N: ArrayLength<T>> BoxedArray<T, N> {
@@ -25,7 +26,10 @@ impl<T: Default + Drop, N: ArrayLength<T>> BoxedArray<T, N> {
         for slot in slots.iter_mut() {
             block.put(mem::take(slot));
         }
-        Ok(BoxedArray::of_items(block))
+        Ok(BoxedArray {
+            items: block,
+            of: PhantomData,
+        })
     }
 }
 
@@ -39,7 +43,10 @@ impl<T: Drop, const U: usize> BoxedArray<T, Const<U>> {
         ensures empty { U ≡ 0 → IsOk result }
     {
         match LiveBlock::of_native(alloc, items) {
-            Ok(block) => Ok(BoxedArray::of_items(block)),
+            Ok(items) => Ok(BoxedArray {
+                items,
+                of: PhantomData,
+            }),
             Err(refused) => Err(refused),
         }
     }

@@ -7,6 +7,7 @@ use crate::boxed_array::BoxedArray;
 use crate::live_block::LiveBlock;
 use ga_core::{AllocError, Unsigned};
 use std::alloc::Global;
+use std::marker::PhantomData;
 
 impl<T: Default, N: Unsigned> BoxedArray<T, N> {
     /// The array of `N` times `T::default()`, called in order.
@@ -56,6 +57,9 @@ impl<T: Clone, N: Unsigned> BoxedArray<T, N> {
             }
             items.put(item);
         }
-        Ok(BoxedArray::of_items(items))
+        Ok(BoxedArray {
+            items,
+            of: PhantomData,
+        })
     }
 }

@@ -35,15 +35,13 @@ loop-slot-preserved g c =
           c.put.ensures.room;
     }
 
-pub of_items-requires : goal.of_items-requires
-of_items-requires g c =
+pub invariant_of-result : goal.invariant_of-result
+invariant_of-result g c =
     let at = c.loop-slot in
     let slots = c.as_mut_slice-slots.ensures in
     let past = subst (λ n. n ≤ at.slot-index) (ap length slots.items) c.loop-slot-test.false in
-    record {
-      full = ap length (at.invariant.moved.0 ∙ take_all at.slot-index c.args.array past)
-          ∙ (sym (ap length slots.items) ∙ slots.len);
-    }
+    ap length (at.invariant.moved.0 ∙ take_all at.slot-index c.args.array past)
+    ∙ (sym (ap length slots.items) ∙ slots.len)
 
 pub returns-in_default : goal.returns-in_default
 returns-in_default g c = record { ok = tt; empty = λ none. c.in_default.ensures.empty (c.USIZE.ensures ∙ none) }
@@ -53,7 +51,7 @@ returns g c =
     let at = c.loop-slot in
     let past = subst (λ n. n ≤ at.slot-index) (ap length c.as_mut_slice-slots.ensures.items) c.loop-slot-test.false in
     record {
-      ok = c.of_items.ensures ∙ (at.invariant.moved.0 ∙ take_all at.slot-index c.args.array past);
+      ok = at.invariant.moved.0 ∙ take_all at.slot-index c.args.array past;
       empty = λ none. refl;
     }
 

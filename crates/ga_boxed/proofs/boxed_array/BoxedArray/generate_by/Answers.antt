@@ -4,7 +4,7 @@ use Rattle.ga_core.proofs.ActsLemmas.{answers_of_run}
 use Rattle.ga_core.proofs.CallLemmas.{may_generate-at}
 use Rattle.ga_core.proofs.RunLemmas.{ClosureRun-snoc, below-add_one}
 use Rattle.ga_core.specs.Runs.{ClosureRun}
-use Rattle.std.proofs.Common.{◌≡◌, ◌<◌, ◌+◌, ◌∙◌, [], ap, length, refl, subst, sym}
+use Rattle.std.proofs.Common.{◌<◌, ◌+◌, ◌∙◌, [], ap, length, refl, subst, sym}
 use Rattle.std.proofs.lemmas.List.{length_push}
 use Rattle.std.specs.List.{range_with_len}
 
@@ -53,28 +53,25 @@ loop-index-preserved g c =
           c.put.ensures.room;
     }
 
-pub of_items-requires : goal.of_items-requires
-of_items-requires g c =
+pub invariant_of-result : goal.invariant_of-result
+invariant_of-result g c =
     let at = c.loop-index in
-    record {
-      full = at.invariant.long
-          ∙ all_counted at.index at.items.room g.N.Unsigned.USIZE c.USIZE-index-end.result c.loop-index-test.false
-          at.auto.index-end c.USIZE-index-end.ensures;
-    }
+    at.invariant.long
+    ∙ all_counted at.index at.items.room g.N.Unsigned.USIZE c.USIZE-index-end.result c.loop-index-test.false
+    at.auto.index-end c.USIZE-index-end.ensures
 
 pub returns : goal.returns
 returns g c =
     let at = c.loop-index in
     let all = all_counted at.index at.items.room g.N.Unsigned.USIZE c.USIZE-index-end.result c.loop-index-test.false
     at.auto.index-end c.USIZE-index-end.ensures in
-    let run : ClosureRun (goal.F-step g) c.args.f.now (range_with_len 0 g.N.Unsigned.USIZE) c.of_items.result at.f =
-    subst (λ n. ClosureRun (goal.F-step g) c.args.f.now (range_with_len 0 n) c.of_items.result at.f) all
-    (subst (λ items. ClosureRun (goal.F-step g) c.args.f.now (range_with_len 0 at.index) items at.f)
-    (sym c.of_items.ensures) at.invariant.ran) in
+    let run : ClosureRun (goal.F-step g) c.args.f.now (range_with_len 0 g.N.Unsigned.USIZE) at.items.items at.f =
+    subst (λ n. ClosureRun (goal.F-step g) c.args.f.now (range_with_len 0 n) at.items.items at.f) all
+    at.invariant.ran in
     record {
       run = run;
       acts = λ h acts. answers_of_run (goal.F-step g) c.args.f.now h acts
-          (range_with_len 0 g.N.Unsigned.USIZE) c.of_items.result at.f run;
+          (range_with_len 0 g.N.Unsigned.USIZE) at.items.items at.f run;
       err = tt;
       empty = λ none. refl;
     }

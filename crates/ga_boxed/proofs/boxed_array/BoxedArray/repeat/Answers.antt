@@ -97,39 +97,39 @@ put-requires-then-USIZE-gt0 g c =
           c.if-USIZE-gt0.true c.USIZE-2.ensures;
     }
 
-pub of_items-requires : goal.of_items-requires
-of_items-requires g c = record {
-  full = elim c.if-USIZE-gt0.branch [
-    | then-USIZE-gt0+else-loop-clone-test w ↦
-        ap (λ b. length b.items) w.items-is
-        ∙ (ap length w.put-then-USIZE-gt0.ensures.items ∙ (length_push w.loop-clone.items.items c.args.item
-        ∙ all-made (length w.loop-clone.items.items) w.loop-clone._clone g.N.Unsigned.USIZE w.USIZE-clone-end.result
-        c.USIZE-2.result w.loop-clone.invariant.long w.loop-clone-test.false w.loop-clone.auto._clone-end
-        w.USIZE-clone-end.ensures w.if-USIZE-gt0.true c.USIZE-2.ensures))
-    | else-USIZE-gt0 w ↦
-        ap (λ b. length b.items) (w.items-is ∙ c.in-Ok.ensures.block)
-        ∙ none-asked c.USIZE-2.result g.N.Unsigned.USIZE w.if-USIZE-gt0.false c.USIZE-2.ensures
-  ];
-}
+pub invariant_of-result : goal.invariant_of-result
+invariant_of-result g c =
+    elim c.if-USIZE-gt0.branch [
+      | then-USIZE-gt0+else-loop-clone-test w ↦
+          ap (λ b. length b.items) w.items-is
+          ∙ (ap length w.put-then-USIZE-gt0.ensures.items ∙ (length_push w.loop-clone.items.items c.args.item
+          ∙ all-made (length w.loop-clone.items.items) w.loop-clone._clone g.N.Unsigned.USIZE w.USIZE-clone-end.result
+          c.USIZE-2.result w.loop-clone.invariant.long w.loop-clone-test.false w.loop-clone.auto._clone-end
+          w.USIZE-clone-end.ensures w.if-USIZE-gt0.true c.USIZE-2.ensures))
+      | else-USIZE-gt0 w ↦
+          ap (λ b. length b.items) (w.items-is ∙ c.in-Ok.ensures.block)
+          ∙ none-asked c.USIZE-2.result g.N.Unsigned.USIZE w.if-USIZE-gt0.false c.USIZE-2.ensures
+    ]
 
 pub returns : goal.returns
 returns g c =
-    let items : Repeats g.T.Clone.is_clone c.args.item g.N.Unsigned.USIZE c.of_items.result =
+    let made = c.if-USIZE-gt0.items.items in
+    let items : Repeats g.T.Clone.is_clone c.args.item g.N.Unsigned.USIZE made =
     elim c.if-USIZE-gt0.branch [
       | then-USIZE-gt0+else-loop-clone-test w ↦
-          Repeats-made g.T.Clone.is_clone c.args.item g.N.Unsigned.USIZE w.loop-clone.items.items c.of_items.result
-          (c.of_items.ensures ∙ (ap (λ b. b.items) w.items-is ∙ w.put-then-USIZE-gt0.ensures.items))
+          Repeats-made g.T.Clone.is_clone c.args.item g.N.Unsigned.USIZE w.loop-clone.items.items made
+          (ap (λ b. b.items) w.items-is ∙ w.put-then-USIZE-gt0.ensures.items)
           (all-made (length w.loop-clone.items.items) w.loop-clone._clone g.N.Unsigned.USIZE w.USIZE-clone-end.result
           c.USIZE-2.result w.loop-clone.invariant.long w.loop-clone-test.false w.loop-clone.auto._clone-end
           w.USIZE-clone-end.ensures w.if-USIZE-gt0.true c.USIZE-2.ensures)
           w.loop-clone.invariant.clones
       | else-USIZE-gt0 w ↦
-          subst (λ n. Repeats g.T.Clone.is_clone c.args.item n c.of_items.result)
+          subst (λ n. Repeats g.T.Clone.is_clone c.args.item n made)
           (none-asked c.USIZE-2.result g.N.Unsigned.USIZE w.if-USIZE-gt0.false c.USIZE-2.ensures)
-          (c.of_items.ensures ∙ ap (λ b. b.items) (w.items-is ∙ c.in-Ok.ensures.block))
+          (ap (λ b. b.items) (w.items-is ∙ c.in-Ok.ensures.block))
     ] in
     record {
       items = items;
-      same = λ equal. Repeats-same g.T.Clone.is_clone c.args.item g.N.Unsigned.USIZE c.of_items.result equal items;
+      same = λ equal. Repeats-same g.T.Clone.is_clone c.args.item g.N.Unsigned.USIZE made equal items;
       empty = λ none. refl;
     }

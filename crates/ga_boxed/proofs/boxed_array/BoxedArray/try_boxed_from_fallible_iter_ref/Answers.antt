@@ -89,13 +89,11 @@ returns-in-None g c =
       empty = λ none. refl;
     }
 
-pub of_items-requires : goal.of_items-requires
-of_items-requires g c =
+pub invariant_of-result : goal.invariant_of-result
+invariant_of-result g c =
     let at = c.loop-items in
-    record {
-      full = all_there (length at.values.items) at.values.room g.N.Unsigned.USIZE c.room.result at.invariant.room
-          c.room.ensures c.loop-items-test.false;
-    }
+    all_there (length at.values.items) at.values.room g.N.Unsigned.USIZE c.room.result at.invariant.room c.room.ensures
+    c.loop-items-test.false
 
 pub returns-in-None-next : goal.returns-in-None-next
 returns-in-None-next g c =
@@ -103,15 +101,15 @@ returns-in-None-next g c =
     let all = all_there (length at.values.items) at.values.room g.N.Unsigned.USIZE c.room.result at.invariant.room
     c.room.ensures c.loop-items-test.false in
     let fill : FillsFallibly g.I.Iterator.next_gives {F = LengthError} c.args.items.now g.N.Unsigned.USIZE
-    (Ok (Ok c.of_items.result)) c.next-2.new.self = (
+    (Ok (Ok at.values.items)) c.next-2.new.self = (
       at.values.items,
       None,
       (at.items, at.invariant.taken, c.in-None-next.ensures.steps),
-      (c.of_items.ensures, all, refl),
+      (refl, all, refl),
     ) in
     record {
       fill = fill;
-      runs = runs g c.args.items.now (Ok (Ok c.of_items.result)) c.next-2.new.self fill;
+      runs = runs g c.args.items.now (Ok (Ok at.values.items)) c.next-2.new.self fill;
       can_on = tt;
       err = tt;
       empty = λ none. refl;

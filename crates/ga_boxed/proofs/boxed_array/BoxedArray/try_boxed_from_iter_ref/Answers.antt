@@ -2,9 +2,9 @@ use Rattle.ga_boxed.proofs.BuildLemmas.{all_there, grown, less_room, not_all}
 use Rattle.ga_boxed.proofs.MoveLemmas.{none_yet}
 use Rattle.ga_boxed.proofs.boxed_array.BoxedArray.try_boxed_from_iter_ref.Goals as goal
 use Rattle.ga_core.proofs.FillLemmas.{Asks-from_fill, FillRuns-from_fill}
-use Rattle.ga_core.specs.Fill.{Asks, FillRuns, Fills}
+use Rattle.ga_core.specs.Fill.{Fills}
 use Rattle.ga_core.specs.declared.LengthError.{LengthError}
-use Rattle.std.proofs.Common.{◌≡◌, ◌+◌, ◌∙◌, Err, None, Ok, Some, ap, length, refl, subst, sym}
+use Rattle.std.proofs.Common.{◌+◌, ◌∙◌, Err, None, Ok, Some, ap, length, refl, subst, sym}
 use Rattle.std.proofs.iter.Next.{Yields-more}
 use Rattle.std.proofs.lemmas.List.{length_push}
 use Rattle.std.specs.Iterator.{Yields}
@@ -64,13 +64,11 @@ returns-in-None g c =
       empty = λ none. refl;
     }
 
-pub of_items-requires : goal.of_items-requires
-of_items-requires g c =
+pub invariant_of-result : goal.invariant_of-result
+invariant_of-result g c =
     let at = c.loop-items in
-    record {
-      full = all_there (length at.taken.items) at.taken.room g.N.Unsigned.USIZE c.room.result at.invariant.room
-          c.room.ensures c.loop-items-test.false;
-    }
+    all_there (length at.taken.items) at.taken.room g.N.Unsigned.USIZE c.room.result at.invariant.room c.room.ensures
+    c.loop-items-test.false
 
 pub returns-in-None-next : goal.returns-in-None-next
 returns-in-None-next g c =
@@ -78,19 +76,19 @@ returns-in-None-next g c =
     let all = all_there (length at.taken.items) at.taken.room g.N.Unsigned.USIZE c.room.result at.invariant.room
     c.room.ensures c.loop-items-test.false in
     let fill : Fills {E = LengthError} g.I.Iterator.next_gives c.args.items.now g.N.Unsigned.USIZE
-    (Ok c.of_items.result) c.next-2.new.self = (
+    (Ok at.taken.items) c.next-2.new.self = (
       at.taken.items,
       None,
       (at.items, at.invariant.taken, c.in-None-next.ensures.steps),
-      (c.of_items.ensures, all, refl),
+      (refl, all, refl),
     )
     in
     record {
       fill = fill;
       runs = FillRuns-from_fill {E = LengthError} g.I.Iterator.next_gives c.args.items.now g.N.Unsigned.USIZE
-          (Ok c.of_items.result) c.next-2.new.self fill;
+          (Ok at.taken.items) c.next-2.new.self fill;
       asks = Asks-from_fill g.I.Iterator.next_gives {E = LengthError} c.args.items.now g.N.Unsigned.USIZE
-          (Ok c.of_items.result) c.next-2.new.self fill;
+          (Ok at.taken.items) c.next-2.new.self fill;
       err = tt;
       empty = λ none. refl;
     }

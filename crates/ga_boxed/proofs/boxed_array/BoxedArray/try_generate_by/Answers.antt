@@ -4,7 +4,7 @@ use Rattle.ga_core.proofs.ActsLemmas.{answers_until_error}
 use Rattle.ga_core.proofs.CallLemmas.{may_try_generate-at}
 use Rattle.ga_core.proofs.RunLemmas.{ClosureRun-good, FirstErrorRun-at, FirstErrorRun-good, below-add_one}
 use Rattle.ga_core.specs.Runs.{ClosureRun, FirstErrorRun}
-use Rattle.std.proofs.Common.{◌≡◌, ◌<◌, ◌+◌, ◌∙◌, [], Err, Ok, ap, length, map, refl, subst, sym}
+use Rattle.std.proofs.Common.{◌<◌, ◌+◌, ◌∙◌, [], Err, Ok, ap, length, map, refl, subst, sym}
 use Rattle.std.proofs.lemmas.List.{length_push}
 use Rattle.std.specs.List.{range_with_len}
 
@@ -69,14 +69,12 @@ returns-in-Err g c =
       empty = λ none. refl;
     }
 
-pub of_items-requires : goal.of_items-requires
-of_items-requires g c =
+pub invariant_of-result : goal.invariant_of-result
+invariant_of-result g c =
     let at = c.loop-index in
-    record {
-      full = at.invariant.long
-          ∙ all_counted at.index at.good.room g.N.Unsigned.USIZE c.USIZE-index-end.result c.loop-index-test.false
-          at.auto.index-end c.USIZE-index-end.ensures;
-    }
+    at.invariant.long
+    ∙ all_counted at.index at.good.room g.N.Unsigned.USIZE c.USIZE-index-end.result c.loop-index-test.false
+    at.auto.index-end c.USIZE-index-end.ensures
 
 pub returns : goal.returns
 returns g c =
@@ -85,15 +83,13 @@ returns g c =
     at.auto.index-end c.USIZE-index-end.ensures in
     let good : FirstErrorRun (goal.F-step g) c.args.f.now (range_with_len 0 at.index) (Ok at.good.items) at.f =
     FirstErrorRun-good (goal.F-step g) c.args.f.now (range_with_len 0 at.index) at.good.items at.f at.invariant.ran in
-    let run : FirstErrorRun (goal.F-step g) c.args.f.now (range_with_len 0 g.N.Unsigned.USIZE) (Ok c.of_items.result)
+    let run : FirstErrorRun (goal.F-step g) c.args.f.now (range_with_len 0 g.N.Unsigned.USIZE) (Ok at.good.items)
     at.f =
-    subst (λ n. FirstErrorRun (goal.F-step g) c.args.f.now (range_with_len 0 n) (Ok c.of_items.result) at.f) all
-    (subst (λ items. FirstErrorRun (goal.F-step g) c.args.f.now (range_with_len 0 at.index) (Ok items) at.f)
-    (sym c.of_items.ensures) good) in
+    subst (λ n. FirstErrorRun (goal.F-step g) c.args.f.now (range_with_len 0 n) (Ok at.good.items) at.f) all good in
     record {
       run = run;
       acts = λ h acts. answers_until_error (goal.F-step g) c.args.f.now h acts
-          (range_with_len 0 g.N.Unsigned.USIZE) (Ok c.of_items.result) at.f run;
+          (range_with_len 0 g.N.Unsigned.USIZE) (Ok at.good.items) at.f run;
       err = tt;
       empty = λ none. refl;
     }
