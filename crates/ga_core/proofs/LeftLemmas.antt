@@ -31,6 +31,21 @@ module _ {T : Type 0} where
   left-count items front back ordered within = omega
       (arith, length-take (back - front) (drop front items), length-drop front items)
 
+  -- where an item is left, so is a slot
+  pub left-some : (items left : List T) (front back : ℕ) → front ≤ back → back ≤ length items
+      → slice_range items front back ≡ left → 0 < length left → (front < back) × (back ≤ length items)
+  left-some items left front back ordered within shown some =
+      (omega (arith, left-count items front back ordered within, ap length shown, some), within)
+
+  -- where fewer are passed than are left, there are so many
+  pub left-enough : {n count : ℕ} (left : List T) → n < count → count ≡ length left → n ≤ length left
+  left-enough left few same = omega arith
+
+  -- and one stays behind them
+  pub left-stays : {n count : ℕ} (left behind : List T) → n < count → count ≡ length left → behind ≡ drop n left
+      → 0 < length behind
+  left-stays {n} left behind few same is = omega (arith, length-drop n left, ap length is)
+
   -- the slot behind those that are passed
   pub left-ends : (items left : List T) (front back passed n : ℕ) → front ≤ back → back ≤ length items
       → length items ≡ n → n ≤ 65536 → slice_range items front back ≡ left → passed ≤ length left
@@ -68,21 +83,23 @@ module _ {T : Type 0} where
       (ordered, omega (arith, long, within), long ∙ full, fits)
 
   -- the first was taken, and a blank stands in its slot
-  pub left-first : (items after left : List T) (front back : ℕ) (item : T) → front < back → back ≤ length items
-      → slice_range items front back ≡ left
+  pub left-first : (items after left : List T) (front back : ℕ) (item : T) → front ≤ back → back ≤ length items
+      → slice_range items front back ≡ left → 0 < length left
       → item ≡ get_or items front item → (blank : T) × (after ≡ slice_set items front blank)
       → left ≡ item ∷ slice_range after (front + 1) back
-  left-first items after left front back item some within shown here written =
-      sym shown ∙ (slice_range_first items front back item written.0 some within here
+  left-first items after left front back item ordered within shown some here written =
+      sym shown ∙ (slice_range_first items front back item written.0
+      (left-some items left front back ordered within shown some).0 within here
       ∙ ap (λ slots. item ∷ slice_range slots (front + 1) back) (sym written.1))
 
   -- the last was taken, and a blank stands in its slot
-  pub left-last : (items after left : List T) (front back : ℕ) (item : T) → front < back → back ≤ length items
-      → slice_range items front back ≡ left
+  pub left-last : (items after left : List T) (front back : ℕ) (item : T) → front ≤ back → back ≤ length items
+      → slice_range items front back ≡ left → 0 < length left
       → item ≡ get_or items (back - 1) item → (blank : T) × (after ≡ slice_set items (back - 1) blank)
       → left ≡ slice_range after front (back - 1) ++ item ∷ []
-  left-last items after left front back item some within shown here written =
-      sym shown ∙ (slice_range_last items front back item written.0 some within here
+  left-last items after left front back item ordered within shown some here written =
+      sym shown ∙ (slice_range_last items front back item written.0
+      (left-some items left front back ordered within shown some).0 within here
       ∙ ap (λ slots. slice_range slots front (back - 1) ++ item ∷ []) (sym written.1))
 
   slice_get-seam : (rest : List T) (item : T) → slice_get (rest ++ item ∷ []) (length rest) ≡ Some item

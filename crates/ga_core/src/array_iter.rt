@@ -2,7 +2,7 @@
 ghost use Rattle.ga_views.specs.Length.{FitsInline};
 ghost use Rattle.std.specs.Borrow.{sem};
 ghost use Rattle.std.specs.Iterator.{YieldsFirst, YieldsLast, item_count};
-ghost use Rattle.std.specs.Prelude.{◌≡◌, ◌<◌, ◌≤◌, length, slice_index_or, slice_set, take};
+ghost use Rattle.std.specs.Prelude.{◌≡◌, ◌<◌, ◌≤◌, [], ◌∷◌, ◌++◌, length, slice_index_or, slice_range, slice_set, take};
 
 mod copies;
 mod folds;
@@ -100,9 +100,7 @@ impl<T: Default + Drop, N: ArrayLength<T>> Iterator for GenericArrayIter<T, N> {
         if self.front >= self.back {
             return None;
         }
-        let first = self.front;
-        self.front = first + 1;
-        Some(take_at(&mut self.store, first))
+        Some(self.take_first())
     }
 
     #[inline]
@@ -122,9 +120,31 @@ impl<T: Default + Drop, N: ArrayLength<T>> DoubleEndedIterator for GenericArrayI
         if self.front >= self.back {
             return None;
         }
+        Some(self.take_last())
+    }
+}
+
+impl<T: Default + Drop, N: ArrayLength<T>> GenericArrayIter<T, N> {
+    // Takes the first item that is left. There is one.
+    #[inline]
+    fn take_first(&mut self) -> T
+        requires some { 0 < length self.old }
+        ensures { self.old ≡ result ∷ self.new }
+    {
+        let first = self.front;
+        self.front = first + 1;
+        take_at(&mut self.store, first)
+    }
+
+    // Takes the last item that is left. There is one.
+    #[inline]
+    fn take_last(&mut self) -> T
+        requires some { 0 < length self.old }
+        ensures { self.old ≡ self.new ++ result ∷ [] }
+    {
         let last = self.back - 1;
         self.back = last;
-        Some(take_at(&mut self.store, last))
+        take_at(&mut self.store, last)
     }
 }
 

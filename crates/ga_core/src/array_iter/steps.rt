@@ -1,6 +1,6 @@
 //! Steps over several items, and the last item and the number of those that are left.
 ghost use Rattle.ga_core.specs.Cut.{StepGives, back, front};
-ghost use Rattle.std.specs.Prelude.{◌≡◌, ◌-◌, ◌≤◌, drop, length, slice_get, take};
+ghost use Rattle.std.specs.Prelude.{◌≡◌, ◌-◌, ◌≤◌, [], drop, length, slice_get, take};
 
 use crate::array_iter::{GenericArrayIter, blank, blank_back};
 use crate::length::ArrayLength;
@@ -14,8 +14,13 @@ impl<T: Default + Drop, N: ArrayLength<T>> GenericArrayIter<T, N> {
     pub fn nth(&mut self, n: usize) -> Option<T>
         ensures step { StepGives (front n) self.old result self.new }
     {
-        self.pass_front(n.min(self.len()));
-        self.next()
+        if n < self.len() {
+            self.pass_front(n);
+            Some(self.take_first())
+        } else {
+            self.drop_left();
+            None
+        }
     }
 
     /// Drops `n` items from the back, the last first, and returns the one before them. If at most `n`
@@ -24,8 +29,14 @@ impl<T: Default + Drop, N: ArrayLength<T>> GenericArrayIter<T, N> {
     pub fn nth_back(&mut self, n: usize) -> Option<T>
         ensures step { StepGives (back n) self.old result self.new }
     {
-        self.pass_back(n.min(self.len()));
-        self.next_back()
+        if n < self.len() {
+            self.pass_back(n);
+            Some(self.take_last())
+        } else {
+            let left = self.len();
+            self.pass_back(left);
+            None
+        }
     }
 
     /// The number of items that are left, which are dropped; nothing else takes time.
@@ -40,6 +51,16 @@ impl<T: Default + Drop, N: ArrayLength<T>> GenericArrayIter<T, N> {
         ensures { result ≡ slice_get self (length self - 1) }
     {
         self.next_back()
+    }
+
+    // Drops all items that are left, in order.
+    #[inline]
+    fn drop_left(&mut self)
+        ensures { self.new ≡ [] }
+    {
+        for _item in 0..self.len() {
+            let _ = self.take_first();
+        }
     }
 
     // Drops the first `passed` items, in order.

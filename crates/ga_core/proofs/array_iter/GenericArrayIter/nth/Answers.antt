@@ -1,14 +1,26 @@
-use Rattle.ga_core.proofs.CutLemmas.{nth-step, passed-within}
+use Rattle.ga_core.proofs.CutLemmas.{nth-past, nth-step}
+use Rattle.ga_core.proofs.LeftLemmas.{left-enough, left-stays}
 use Rattle.ga_core.proofs.array_iter.GenericArrayIter.nth.Goals as goal
-use Rattle.std.proofs.Common.{◌∙◌, ap, length, min}
+use Rattle.std.proofs.Common.{Some, arith}
 
-pub pass_front-requires : goal.pass_front-requires
-pass_front-requires g c = record {
-  in_bounds = passed-within c.args.n c.min.result c.len.result (length c.args.self.now) c.min.ensures c.len.ensures;
+pub returns-then-n-len : goal.returns-then-n-len
+returns-then-n-len g c = record {
+  step = nth-step c.args.n c.args.n c.args.self.now c.pass_front.new.self
+      (Some c.take_first.result) c.take_first.new.self
+      (omega (arith, c.len.ensures)) c.pass_front.ensures c.take_first.ensures;
 }
 
-pub returns : goal.returns
-returns g c = record {
-  step = nth-step c.args.n c.min.result c.args.self.now c.pass_front.new.self c.next.result c.next.new.self
-      (c.min.ensures ∙ ap (min c.args.n) c.len.ensures) c.pass_front.ensures c.next.ensures.steps;
+pub returns-else-n-len : goal.returns-else-n-len
+returns-else-n-len g c =
+    record {
+      step = nth-past c.args.n c.args.self.now c.drop_left.new.self
+          (omega (arith, c.len.ensures, c.if-n-len.false)) c.drop_left.ensures;
+    }
+
+pub pass_front-requires : goal.pass_front-requires
+pass_front-requires g c = record { in_bounds = left-enough c.args.self.now c.if-n-len.true c.len.ensures }
+
+pub take_first-requires : goal.take_first-requires
+take_first-requires g c = record {
+  some = left-stays c.args.self.now c.pass_front.new.self c.if-n-len.true c.len.ensures c.pass_front.ensures;
 }
