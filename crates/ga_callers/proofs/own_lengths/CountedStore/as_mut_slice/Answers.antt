@@ -1,10 +1,9 @@
 use Rattle.ga_callers.proofs.CountedLemmas.{items-written, slots-kept}
 use Rattle.ga_callers.proofs.own_lengths.CountedStore.as_mut_slice.Goals as goal
-use Rattle.std.proofs.Common.{◌∙◌, arith, refl, rules}
+use Rattle.std.proofs.Common.{◌∙◌, arith, refl}
 
 pub part_mut-requires : goal.part_mut-requires
-part_mut-requires g c =
-    (search rules, omega (arith, c.self.invariant.0, c.self.invariant.1))
+part_mut-requires g c = record { in_bounds = omega (arith, c.self.invariant.0, c.self.invariant.1) }
 
 pub invariant_of-self-lent : goal.invariant_of-self-lent
 invariant_of-self-lent g c = λ w.

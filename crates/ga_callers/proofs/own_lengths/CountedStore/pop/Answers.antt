@@ -1,6 +1,6 @@
 use Rattle.ga_callers.proofs.CountedLemmas.{item-popped, slots-kept}
 use Rattle.ga_callers.proofs.own_lengths.CountedStore.pop.Goals as goal
-use Rattle.std.proofs.Common.{◌-◌, ◌∙◌, ap, arith, get_or, rules, sym, take}
+use Rattle.std.proofs.Common.{◌-◌, ◌∙◌, ap, arith, get_or, sym, take}
 
 pub returns-then-self-eq0 : goal.returns-then-self-eq0
 returns-then-self-eq0 g c =
@@ -11,7 +11,9 @@ pub overflow_sub-last : goal.overflow_sub-last
 overflow_sub-last g c = omega (arith, c.if-self-eq0.false)
 
 pub item_mut-requires : goal.item_mut-requires
-item_mut-requires g c = (search rules, omega (arith, c.if-self-eq0.false, c.self.invariant.0, c.self.invariant.1))
+item_mut-requires g c = record {
+  in_bounds = omega (arith, c.if-self-eq0.false, c.self.invariant.0, c.self.invariant.1);
+}
 
 pub invariant_of-self : goal.invariant_of-self
 invariant_of-self g c =

@@ -1,12 +1,12 @@
 use Rattle.ga_callers.proofs.CountedLemmas.{item-pushed, items-counted, slots-kept}
 use Rattle.ga_callers.proofs.own_lengths.CountedStore.push.Goals as goal
-use Rattle.std.proofs.Common.{◌∙◌, [], ◌∷◌, ◌++◌, ap, arith, rules}
+use Rattle.std.proofs.Common.{◌∙◌, [], ◌∷◌, ◌++◌, ap, arith}
 
 pub item_mut-requires : goal.item_mut-requires
 item_mut-requires g c =
     let long = items-counted c.self.inside.slots.items c.args.self.now c.self.inside.count g.row.N c.self.invariant.0
     c.self.invariant.1 c.self.view_is in
-    (search rules, omega (arith, long, c.requires.room, c.self.invariant.1))
+    record { in_bounds = omega (arith, long, c.requires.room, c.self.invariant.1) }
 
 pub overflow_add-self : goal.overflow_add-self
 overflow_add-self g c =
