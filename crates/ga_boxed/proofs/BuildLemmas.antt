@@ -1,4 +1,4 @@
--- What a loop that fills a block knows where it ends, and what holds where the block was refused.
+-- What a loop that fills a block knows where it ends: how many items are there, and how much room is left.
 use mathlib.Core.Bool.{true≢false}
 use native.Mathlib.Nat.{zero-mul}
 use Rattle.std.proofs.Common.{◌≡◌, ℕ, ◌+◌, ◌<◌, ◌≤◌, false, true, arith, subst, sym, ◌*◌, ◌^◌}

@@ -43,8 +43,8 @@ impl<T: Drop, const U: usize> BoxedArray<T, Const<U>> {
         ensures empty { U ≡ 0 → IsOk result }
     {
         match LiveBlock::of_native(alloc, items) {
-            Ok(items) => Ok(BoxedArray {
-                items,
+            Ok(block) => Ok(BoxedArray {
+                items: block,
                 of: PhantomData,
             }),
             Err(refused) => Err(refused),
