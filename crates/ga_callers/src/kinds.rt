@@ -5,12 +5,13 @@ ghost use Rattle.std.specs.Prelude.{◌≡◌, ℕ, ◌∷◌, [], ◌+◌, ◌*
 
 use generic_array::checks::map_total_by;
 use generic_array::functional::{
-    FunctionalSequence, MappedError, MappedGenericSequence, MappedPlace, inverted_zip_by,
-    inverted_zip2_by,
+    FunctionalSequence, MappedError, MappedGenericSequence, MappedPlace, MappedSequence,
+    inverted_zip_by, inverted_zip2_by,
 };
-use generic_array::sequence::{GenericSequence, OwnedSequence};
+use generic_array::sequence::GenericSequence;
 use generic_array::{AllocError, ArrayLength, BoxedArray, GenericArray, GenericArrayRef, U2, U3};
 use std::alloc::Global;
+use std::convert::AsSlice;
 use std::test::Fail;
 
 // The dot product of two sequences, which may be of two kinds, over the traits alone.
@@ -22,6 +23,7 @@ fn dot_of<S, R>(
 where
     S: FunctionalSequence<u32> + MappedGenericSequence<u32, u32> + IntoIterator<Item = u32>,
     R: GenericSequence<u32> + IntoIterator<Item = u32>,
+    MappedSequence<S, u32, u32>: Drop,
     requires lengths { S.Length.USIZE ≡ R.Length.USIZE }
     requires fits { S.Mapped.Fits }
     requires by_value { ((x : ℕ) → S.entry x ≡ x) × ((x : ℕ) → R.entry x ≡ x) }
@@ -29,7 +31,12 @@ where
         (map (λ p. p.0 * p.1 % 2 ^ 32) (zip (S.items left) (R.items right)))) }
 {
     let products = left.zip(place, right, |l: u32, r: u32| l.wrapping_mul(r))?;
-    Ok(products.fold_items(0, |total: u32, x: u32| total.wrapping_add(x)))
+    Ok(
+        products
+            .as_slice()
+            .iter()
+            .fold(0, |total: u32, x: &u32| total.wrapping_add(*x)),
+    )
 }
 
 // A map with a running total, by a closure that one map borrows and then the next.

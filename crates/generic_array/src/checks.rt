@@ -5,8 +5,10 @@ ghost use Rattle.ga_core.specs.Runs.{ClosureRun, FoldRun};
 ghost use Rattle.std.specs.Iterator.{ActsAsOnTwo};
 ghost use Rattle.std.specs.Prelude.{◌≡◌, IfOk, IsOk, List, OnErr, fold, map};
 
-use crate::functional::{FunctionalSequence, MappedError, MappedGenericSequence, MappedPlace};
-use crate::sequence::{OwnedSequence, SequenceItem};
+use crate::functional::{
+    FunctionalSequence, Mapped, MappedError, MappedGenericSequence, MappedPlace, fold_entries,
+};
+use crate::sequence::{GenericSequence, SequenceItem};
 
 /// The fold by `f` over the entries, from `init`: a caller of `fold_by` that knows the traits alone.
 pub fn total_by<T, S: FunctionalSequence<T>, A, F: FnMut(A, SequenceItem<S>) -> A>(
@@ -21,16 +23,22 @@ pub fn total_by<T, S: FunctionalSequence<T>, A, F: FnMut(A, SequenceItem<S>) -> 
     s.fold_by(init, f)
 }
 
-// `fold_items_by`, with a second condition that always holds: of two, the proof of a call says each by
-// itself, which is cheaper.
+// The fold by `g` over the items of what was made, from `init`.
+//
+// The second condition always holds: of two, the proof of a call says each by itself, which is cheaper.
 #[inline(always)]
-fn fold_made<U, M: OwnedSequence<U>, A, G: FnMut(A, U) -> A>(made: M, init: A, g: &mut G) -> A
-    requires callable { MayFold (λ item. item) G.pre G.step g.old init (M.items made) }
+fn fold_made<U, M: GenericSequence<U>, A, G: FnMut(A, U) -> A>(
+    made: M::Sequence,
+    init: A,
+    g: &mut G,
+) -> A
+    requires callable { MayFold (λ item. item) G.pre G.step g.old init (M.Sequence.items made) }
     requires same { init ≡ init }
-    ensures run { FoldRun G.step g.old init (M.items made) result g.new }
-    ensures acts { (k : A → U → A) → ActsAsOnTwo G.FnMut g.old k → result ≡ fold k init (M.items made) }
+    ensures run { FoldRun G.step g.old init (M.Sequence.items made) result g.new }
+    ensures acts { (k : A → U → A) → ActsAsOnTwo G.FnMut g.old k
+        → result ≡ fold k init (M.Sequence.items made) }
 {
-    made.fold_items_by(init, g)
+    fold_entries::<U, <M::Sequence as IntoIterator>::IntoIter, A, G>(made.into_iter(), init, g)
 }
 
 /// Folds the values of `f` at the entries by `g`, starting from `init`.
@@ -64,7 +72,7 @@ pub fn map_total_by<
     ensures promised { S.Mapped.IsPromised → IsOk result }
 {
     match s.map_by(place, f) {
-        Ok(mapped) => Ok(fold_made(mapped, init, g)),
+        Ok(mapped) => Ok(fold_made::<U, Mapped<S, T, U>, A, G>(mapped, init, g)),
         Err(refused) => Err(refused),
     }
 }

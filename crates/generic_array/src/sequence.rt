@@ -1,16 +1,16 @@
 //! What is common to the kinds of sequences, and how each is made.
 ghost use Rattle.ga_core.specs.Views.{items_of_view};
 ghost use Rattle.ga_boxed.specs.FillAnswer.{fill_answer};
-ghost use Rattle.ga_core.specs.Calls.{MayFold, MayGenerate, MayTryGenerate};
+ghost use Rattle.ga_core.specs.Calls.{MayGenerate, MayTryGenerate};
 ghost use Rattle.ga_core.specs.Copies.{Repeats};
 ghost use Rattle.ga_core.specs.Fill.{FillFalliblyRuns, FillsFallibly};
-ghost use Rattle.ga_core.specs.Runs.{ClosureRun, FirstErrorRun, FoldRun};
+ghost use Rattle.ga_core.specs.Runs.{ClosureRun, FirstErrorRun};
 ghost use Rattle.ga_core.specs.Tries.{try_map};
 ghost use Rattle.generic_array.specs.Built.{built_items};
 ghost use Rattle.generic_array.specs.GivenEntries.{GivesEntriesOf};
-ghost use Rattle.std.specs.Iterator.{ActsAs, ActsAsOnTwo};
+ghost use Rattle.std.specs.Iterator.{ActsAs};
 ghost use Rattle.std.specs.List.{range_with_len};
-ghost use Rattle.std.specs.Prelude.{◌≡◌, ℕ, ◌≤◌, ◌↔◌, IfOk, IsOk, IsTrue, OnErr, Result, fold, length, map, replicate};
+ghost use Rattle.std.specs.Prelude.{◌≡◌, ℕ, ◌≤◌, ◌↔◌, IfOk, IsOk, IsTrue, OnErr, Result, length, map, replicate};
 
 mod boxed;
 mod flat_iter;
@@ -19,7 +19,6 @@ mod references;
 mod shapes;
 mod views;
 
-use crate::functional::fold_entries;
 pub use flat_iter::{FlatIter, iter_flat};
 use ga_core::{AllocError, FillError, GenericArrayRef, Unsigned};
 pub use shapes::{Concat, Flatten, Lengthen, Remove, Row, Shorten, Split, Unflatten};
@@ -27,36 +26,6 @@ use std::convert::AsSlice;
 
 /// An entry of a sequence: an item of its `into_iter`.
 pub type SequenceItem<S> = <S as IntoIterator>::Item;
-
-/// A sequence that owns its items: what `generate`, `map` and their kin make. An inline or a boxed
-/// array.
-///
-/// So a function that knows the traits alone can fold what it made.
-pub trait OwnedSequence<T>: Sized + AsSlice<T> + IntoIterator<Item = T> {
-    /// The fold by `f`, from `init`, over the items, from the first to the last.
-    final fn fold_items<A, F: FnMut(A, T) -> A>(self, init: A, mut f: F) -> A
-        requires callable { MayFold (λ item. item) F.pre F.step f init (Self.items self) }
-        ensures run { (last : F) × FoldRun F.step f init (Self.items self) result last }
-        ensures acts { (h : A → T → A) → ActsAsOnTwo F.FnMut f h → result ≡ fold h init (Self.items self) }
-    {
-        self.fold_items_by(init, &mut f)
-    }
-
-    /// `fold_items` that borrows the closure, which can be used again in the state that it
-    /// reached.
-    final fn fold_items_by<A, F: FnMut(A, T) -> A>(self, init: A, f: &mut F) -> A
-        requires callable { MayFold (λ item. item) F.pre F.step f.old init (Self.items self) }
-        ensures run { FoldRun F.step f.old init (Self.items self) result f.new }
-        ensures acts { (h : A → T → A) → ActsAsOnTwo F.FnMut f.old h
-            → result ≡ fold h init (Self.items self) }
-    {
-        fold_entries::<T, Self::IntoIter, A, F>(self.into_iter(), init, f)
-    }
-
-    // `into_iter` gives the items, in order, and then ends.
-    ghost gives_items: { GivesEntriesOf Self.IntoIter.can_next Self.IntoIter.next_gives
-        Self.IntoIter.remaining Self.into_iter_gives Self.items (λ item. item) };
-}
 
 /// A sequence whose length is a type: an inline array, a reference to one, a read-only view or a
 /// boxed array. Contracts see the list of its items, by `items`.
@@ -68,7 +37,7 @@ pub trait GenericSequence<T>: Sized + AsSlice<T> + IntoIterator {
     type Length: Unsigned;
 
     /// What calls that build a sequence of this kind return. It owns its items.
-    type Sequence: OwnedSequence<T>;
+    type Sequence: AsSlice<T> + IntoIterator<Item = T>;
 
     /// The allocator of a sequence that is built, or `()` if none is needed.
     type Place;
@@ -150,6 +119,10 @@ pub trait GenericSequence<T>: Sized + AsSlice<T> + IntoIterator {
     // `into_iter` gives an entry for each item, in order, and then ends.
     ghost gives_entries: { GivesEntriesOf Self.IntoIter.can_next Self.IntoIter.next_gives
         Self.IntoIter.remaining Self.into_iter_gives Self.items entry };
+
+    // `into_iter` of what is built gives its items, in order, and then ends.
+    ghost gives_items: { GivesEntriesOf Self.Sequence.IntoIter.can_next Self.Sequence.IntoIter.next_gives
+        Self.Sequence.IntoIter.remaining Self.Sequence.into_iter_gives Self.Sequence.items (λ item. item) };
 }
 
 /// A sequence that can be made by a closure that may fail.

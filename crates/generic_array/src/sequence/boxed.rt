@@ -1,18 +1,10 @@
 //! The boxed array as a sequence.
 ghost use Rattle.std.specs.Prelude.{◌≡◌, ⊤};
 
-use crate::sequence::{
-    FallibleGenericSequence, FromFallibleIterator, GenericSequence, OwnedSequence,
-};
+use crate::sequence::{FallibleGenericSequence, FromFallibleIterator, GenericSequence};
 use ga_boxed::BoxedArray;
 use ga_core::{AllocError, FillError, GenericArrayRef, Unsigned};
 use std::alloc::Global;
-
-impl<T: Drop, N: Unsigned> OwnedSequence<T> for BoxedArray<T, N> {
-    ghost use Rattle.generic_array.specs.EntryLaws.{left_given};
-
-    ghost gives_items = { λ array items gives. (tt, tt, left_given items array gives.0) };
-}
 
 /// Each length fits. An allocation may fail, unless there is no item.
 impl<T: Drop, N: Unsigned> GenericSequence<T> for BoxedArray<T, N> {
@@ -61,6 +53,8 @@ impl<T: Drop, N: Unsigned> GenericSequence<T> for BoxedArray<T, N> {
     ghost empty_is_promised = { λ empty. empty };
 
     ghost gives_entries = { λ array items gives. (tt, tt, left_given items array gives.0) };
+
+    ghost gives_items = { λ array items gives. (tt, tt, left_given items array gives.0) };
 }
 
 impl<T: Drop, N: Unsigned> FallibleGenericSequence<T> for BoxedArray<T, N> {

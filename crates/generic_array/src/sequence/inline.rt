@@ -3,18 +3,10 @@ ghost use Rattle.ga_boxed.specs.FillAnswer.{fill_answer};
 ghost use Rattle.ga_core.specs.Length.{FitsInline};
 ghost use Rattle.std.specs.Prelude.{◌≡◌, Ok, ⊤};
 
-use crate::sequence::{
-    FallibleGenericSequence, FromFallibleIterator, GenericSequence, OwnedSequence,
-};
+use crate::sequence::{FallibleGenericSequence, FromFallibleIterator, GenericSequence};
 use ga_core::{
     AllocError, ArrayLength, FillError, GenericArray, GenericArrayRef, LengthError, Never,
 };
-
-impl<T: Default + Drop, N: ArrayLength<T>> OwnedSequence<T> for GenericArray<T, N> {
-    ghost use Rattle.generic_array.specs.EntryLaws.{left_given};
-
-    ghost gives_items = { λ array items gives. (tt, tt, left_given items array gives.0) };
-}
 
 /// A length fits up to `MAX_INLINE`. Allocates nothing.
 impl<T: Default + Drop, N: ArrayLength<T>> GenericSequence<T> for GenericArray<T, N> {
@@ -62,6 +54,8 @@ impl<T: Default + Drop, N: ArrayLength<T>> GenericSequence<T> for GenericArray<T
     ghost empty_is_promised = { λ _. tt };
 
     ghost gives_entries = { λ array items gives. (tt, tt, left_given items array gives.0) };
+
+    ghost gives_items = { λ array items gives. (tt, tt, left_given items array gives.0) };
 }
 
 impl<T: Default + Drop, N: ArrayLength<T>> FallibleGenericSequence<T> for GenericArray<T, N> {

@@ -7,7 +7,7 @@ use ga_core::{AllocError, ArrayLength, GenericArray, GenericArrayRef, Never};
 
 /// Its entries are references, and the array stays as it is. What is made of it is an inline array.
 impl<'a, T: Default + Drop, N: ArrayLength<T>> GenericSequence<T> for &'a GenericArray<T, N> {
-    ghost use Rattle.generic_array.specs.EntryLaws.{references_given};
+    ghost use Rattle.generic_array.specs.EntryLaws.{left_given, references_given};
 
     type Length = N;
 
@@ -51,6 +51,8 @@ impl<'a, T: Default + Drop, N: ArrayLength<T>> GenericSequence<T> for &'a Generi
     ghost empty_is_promised = { λ _. tt };
 
     ghost gives_entries = { λ array items gives. (tt, tt, references_given items array.now gives.0) };
+
+    ghost gives_items = { λ array items gives. (tt, tt, left_given items array gives.0) };
 }
 
 impl<'a, T: Default + Drop, N: ArrayLength<T>> FallibleGenericSequence<T>

@@ -8,7 +8,7 @@ use ga_core::{AllocError, ArrayLength, GenericArray, GenericArrayRef, Never};
 /// Its entries are references. What is made of it is an inline array, so its lengths are those of
 /// inline arrays.
 impl<'a, T: Default + Drop, N: ArrayLength<T>> GenericSequence<T> for GenericArrayRef<'a, T, N> {
-    ghost use Rattle.generic_array.specs.EntryLaws.{references_given};
+    ghost use Rattle.generic_array.specs.EntryLaws.{left_given, references_given};
 
     type Length = N;
 
@@ -52,6 +52,8 @@ impl<'a, T: Default + Drop, N: ArrayLength<T>> GenericSequence<T> for GenericArr
     ghost empty_is_promised = { λ _. tt };
 
     ghost gives_entries = { λ view items gives. (tt, tt, references_given items view.slice.now gives.0) };
+
+    ghost gives_items = { λ array items gives. (tt, tt, left_given items array gives.0) };
 }
 
 impl<'a, T: Default + Drop, N: ArrayLength<T>> FallibleGenericSequence<T>
