@@ -1,4 +1,5 @@
--- What a loop that fills a block knows where it ends: how many items are there, and how much room is left.
+-- The numbers of a loop that fills a block: how many items are there, and how much room is left. And that no items fit
+-- whatever their size, and that an error isn't a value.
 use mathlib.Core.Bool.{true≢false}
 use native.Mathlib.Nat.{zero-mul}
 use Rattle.std.proofs.Common.{◌≡◌, ℕ, ◌+◌, ◌<◌, ◌≤◌, false, true, arith, subst, sym, ◌*◌, ◌^◌}

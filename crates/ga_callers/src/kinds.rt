@@ -31,12 +31,8 @@ where
         (map (λ p. p.0 * p.1 % 2 ^ 32) (zip (S.items left) (R.items right)))) }
 {
     let products = left.zip(place, right, |l: u32, r: u32| l.wrapping_mul(r))?;
-    Ok(
-        products
-            .as_slice()
-            .iter()
-            .fold(0, |total: u32, x: &u32| total.wrapping_add(*x)),
-    )
+    let items = products.as_slice().iter();
+    Ok(items.fold(0, |total: u32, x: &u32| total.wrapping_add(*x)))
 }
 
 // A map with a running total, by a closure that one map borrows and then the next.
