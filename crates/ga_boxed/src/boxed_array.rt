@@ -100,7 +100,8 @@ impl<T: Drop, N: Unsigned> IntoIterator for BoxedArray<T, N> {
 
     ghost into_iter_gives = { λ array items. (items ≡ array)
         × YieldsInOrder (YieldsFirst {A = T} (λ left. left)) (λ left. left)
-        × YieldsInReverse (YieldsLast {A = T} (λ left. left)) (λ left. left) };
+        × YieldsInReverse (YieldsLast {A = T} (λ left. left)) (λ left. left)
+        × (length array ≡ N.USIZE) };
 
     #[inline]
     fn into_iter(self) -> BoxedArrayIter<T> {

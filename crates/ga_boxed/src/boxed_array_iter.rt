@@ -1,10 +1,11 @@
 //! The iterator that moves the items out of a boxed array, from both ends.
+ghost use Rattle.ga_core.specs.Copies.{IsExact};
 ghost use Rattle.ga_core.specs.Cut.{StepGives, back, front};
 ghost use Rattle.ga_core.specs.Calls.{MayFold};
 ghost use Rattle.ga_core.specs.Runs.{FoldRun};
 ghost use Rattle.std.specs.Borrow.{sem};
 ghost use Rattle.std.specs.Iterator.{ActsAsOnTwo, YieldsFirst, YieldsLast, item_count};
-ghost use Rattle.std.specs.List.{AllZip};
+ghost use Rattle.std.specs.List.{All, AllZip};
 ghost use Rattle.std.specs.Prelude.{◌≡◌, ◌-◌, ◌<◌, [], ◌∷◌, ◌++◌, IfOk, IsOk, fold, length, reverse, slice_get};
 
 use crate::live_block::LiveBlock;
@@ -111,9 +112,9 @@ impl<T: Drop> BoxedArrayIter<T> {
         ensures step { StepGives (front n) self.old result self.new }
     {
         for _passed in 0..n.min(self.len()) {
-            self.drop_first();
+            let _ = self.items.take_front();
         }
-        self.next()
+        self.items.take_front()
     }
 
     /// Drops `n` items from the back and returns the one before them. If at most `n` items are
@@ -122,9 +123,9 @@ impl<T: Drop> BoxedArrayIter<T> {
         ensures step { StepGives (back n) self.old result self.new }
     {
         for _passed_back in 0..n.min(self.len()) {
-            self.drop_last();
+            let _ = self.items.take_back();
         }
-        self.next_back()
+        self.items.take_back()
     }
 
     /// The last item that is left. The others are dropped; nothing else takes time.
@@ -187,25 +188,6 @@ impl<T: Drop> BoxedArrayIter<T> {
         }
         answer
     }
-
-    // Drops the first item, of which there is one. As it doesn't test for one, the compiler removes a
-    // loop of such calls over items whose drop does nothing.
-    #[inline]
-    fn drop_first(&mut self)
-        requires some { 0 < length self.old }
-        ensures step { (item : T) × (self.old ≡ item ∷ self.new) }
-    {
-        let _ = self.items.take_first();
-    }
-
-    // Drops the last item, of which there is one.
-    #[inline]
-    fn drop_last(&mut self)
-        requires some { 0 < length self.old }
-        ensures step { (item : T) × (self.old ≡ self.new ++ item ∷ []) }
-    {
-        let _ = self.items.take_last();
-    }
 }
 
 impl<T: Clone> BoxedArrayIter<T> {
@@ -216,6 +198,7 @@ impl<T: Clone> BoxedArrayIter<T> {
     /// before it and returns the error.
     pub fn clone(&self) -> Result<Self, AllocError>
         ensures items { IfOk result (λ copy. AllZip T.is_clone self.now copy) }
+        ensures same { All (IsExact T.is_clone) self.now → IfOk result (λ copy. copy ≡ self.now) }
         ensures empty { length self.now ≡ 0 → IsOk result }
     {
         match Clone::clone(self) {

@@ -1,5 +1,5 @@
 -- Copies of one value that equal it, and answers that share a property.
-use Rattle.ga_core.specs.Copies.{ExactlyEach, Repeats}
+use Rattle.ga_core.specs.Copies.{ExactlyEach, IsExact, Repeats}
 use Rattle.ga_core.specs.Runs.{ClosureRun}
 use Rattle.std.proofs.Common.{◌≡◌, ℕ, zero, suc, ◌+◌, ◌-◌, List, [], ◌∷◌, ◌++◌, length, map, replicate, refl, ap, ◌∙◌, arith}
 use Rattle.std.proofs.Common.{◌<◌, ◌≤◌, drop, length-append, length-drop, length-take, slice_index_or, slice_set, sym}
@@ -7,8 +7,9 @@ use Rattle.std.proofs.Common.{take}
 use Rattle.std.proofs.Math.Seq.{set-append_seam}
 use Rattle.std.proofs.lemmas.List.{replicate-append-replicate}
 use Rattle.std.proofs.lemmas.List.FromFn.{length-range_with_len}
+use Rattle.std.proofs.lemmas.List.Elements.{All-head, All-tail}
 use Rattle.std.proofs.lemmas.Simd.{splat_is_map}
-use Rattle.std.specs.List.{All, range_with_len}
+use Rattle.std.specs.List.{All, AllZip, range_with_len}
 
 module _ {T : Type 0} where
   -- one item for each number below n
@@ -34,6 +35,17 @@ module _ {T : Type 0} where
       let more : n + 1 ≡ suc n = omega arith in
       made ∙ (ap (λ front. front ++ item ∷ []) same
       ∙ (replicate-append-replicate n 1 item ∙ ap (λ k. replicate k item) more))
+
+  -- where each clone of an item equals it, clones of the items are the items
+  pub AllZip-same : (is_clone : T → T → Type 0) (items copies : List T) → All (IsExact is_clone) items
+      → AllZip is_clone items copies → copies ≡ items
+  AllZip-same is_clone [] [] exact clones = refl
+  AllZip-same is_clone [] (y ∷ copies) exact clones = absurd clones
+  AllZip-same is_clone (x ∷ items) [] exact clones = absurd clones
+  AllZip-same is_clone (x ∷ items) (y ∷ copies) exact (clone, clones) =
+      ap (λ first. first ∷ copies) (All-head (IsExact is_clone) x items exact y clone)
+      ∙ ap (λ others. x ∷ others)
+      (AllZip-same is_clone items copies (All-tail (IsExact is_clone) x items exact) clones)
 
   -- clones over all slots but the last, and the item over the last
   pub Repeats-written : (is_clone : T → T → Type 0) (item : T) (n : ℕ) (clones rest : List T) → length clones + 1 ≡ n

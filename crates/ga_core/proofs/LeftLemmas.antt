@@ -132,6 +132,21 @@ module _ {T : Type 0} where
   blanked items after blanks slot passed small written = written
       ∙ ap (λ k. refill (length items) items (part_set k passed items blanks)) (mod-eq_of_lt small)
 
+  -- so many at the front were written over and passed
+  pub left-past : (items after left written : List T) (front back passed : ℕ) → front ≤ back → back ≤ length items
+      → slice_range items front back ≡ left → passed ≤ length left
+      → after ≡ refill (length items) items (part_set front passed items written)
+      → slice_range after (front + passed) back ≡ drop passed left
+  left-past items after left written front back passed ordered within shown enough stands =
+      let count : length left ≡ back - front = ap length (sym shown) ∙ left-count items front back ordered within in
+      let same : drop (front + passed) after ≡ drop (front + passed) items =
+      part-behind front passed items written after (omega arith) stands in
+      let rest = back - (front + passed) in
+      let long : back - front ≡ passed + rest = omega arith in
+      ap (take rest) (same ∙ sym (drop-drop passed front items))
+      ∙ (sym (drop-take passed rest (drop front items))
+      ∙ (ap (λ k. drop passed (take k (drop front items))) (sym long) ∙ ap (drop passed) shown))
+
   -- so many were given up at the front, and blanks stand in their slots
   pub left-behind : (items after left blanks : List T) (front back passed : ℕ) → front ≤ back → back ≤ length items
       → length items ≤ 65536 → slice_range items front back ≡ left → passed ≤ length left → 0 < passed
@@ -139,14 +154,8 @@ module _ {T : Type 0} where
       → slice_range after (front + passed) back ≡ drop passed left
   left-behind items after left blanks front back passed ordered within fits shown enough some written =
       let count : length left ≡ back - front = ap length (sym shown) ∙ left-count items front back ordered within in
-      let same : drop (front + passed) after ≡ drop (front + passed) items =
-      part-behind front passed items blanks after (omega arith)
-      (blanked items after blanks front passed (omega arith) written) in
-      let rest = back - (front + passed) in
-      let long : back - front ≡ passed + rest = omega arith in
-      ap (take rest) (same ∙ sym (drop-drop passed front items))
-      ∙ (sym (drop-take passed rest (drop front items))
-      ∙ (ap (λ k. drop passed (take k (drop front items))) (sym long) ∙ ap (drop passed) shown))
+      left-past items after left blanks front back passed ordered within shown enough
+      (blanked items after blanks front passed (omega arith) written)
 
   -- so many were given up at the back
   pub left-before : (items after left blanks : List T) (front back passed : ℕ) → front ≤ back → back ≤ length items

@@ -9,6 +9,10 @@ module _ {T : Type 0} (is_clone : T → T → Type 0) (item : T) where
   Repeats (suc n) array = (clones : List T) × (array ≡ clones ++ item ∷ []) × (length clones ≡ n)
       × All (is_clone item) clones
 
+-- each clone of the item equals it
+abbrev pub IsExact : {T : Type 0} → (T → T → Type 0) → T → Type 0
+IsExact {T} is_clone item = (copy : T) → is_clone item copy → copy ≡ item
+
 module _ {T : Type 0} (P : T → Type 0) where
   -- n items, of each of which P holds: told item by item, so that a search learns all of them at a length that is a
   -- number

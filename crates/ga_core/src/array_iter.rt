@@ -2,13 +2,14 @@
 ghost use Rattle.ga_views.specs.Length.{FitsInline};
 ghost use Rattle.std.specs.Borrow.{sem};
 ghost use Rattle.std.specs.Iterator.{YieldsFirst, YieldsLast, item_count};
-ghost use Rattle.std.specs.Prelude.{◌≡◌, ◌<◌, ◌≤◌, [], ◌∷◌, ◌++◌, length, slice_index_or, slice_range, slice_set, take};
+ghost use Rattle.std.specs.Prelude.{◌≡◌, ◌<◌, ◌≤◌, [], ◌∷◌, ◌++◌, drop, length, slice_index_or, slice_range, slice_set, take};
 
 mod copies;
 mod folds;
 mod steps;
 
 use crate::length::ArrayLength;
+use crate::slots::move_items;
 use crate::store::Store;
 use ga_views::MAX_INLINE;
 use std::marker::{Model, PhantomData};
@@ -146,6 +147,21 @@ impl<T: Default + Drop, N: ArrayLength<T>> GenericArrayIter<T, N> {
         self.back = last;
         take_at(&mut self.store, last)
     }
+
+    /// Moves the first items that are left over those of a slice, which are dropped, in one pass.
+    /// Requires that as many are left as the slice has slots.
+    ///
+    /// The Rust crate has no counterpart: there a loop over `next` writes them.
+    #[inline(always)]
+    pub fn move_to(&mut self, slots: &mut [T])
+        requires enough { length slots.old ≤ length self.old }
+        ensures moved { slots.new ≡ take (length slots.old) self.old }
+        ensures left { self.new ≡ drop (length slots.old) self.old }
+    {
+        let (first, count) = (self.front, slots.len());
+        move_items(self.store.part_mut(first, count), slots);
+        self.front = first + count;
+    }
 }
 
 impl<T, N: ArrayLength<T>> GenericArrayIter<T, N> {
@@ -175,7 +191,7 @@ impl<T: fmt::Debug, N: ArrayLength<T>> fmt::Debug for GenericArrayIter<T, N> {
 // `slot % MAX_INLINE` is the slot: by it the compiler sees that the write reaches nothing before the
 // store.
 #[inline]
-fn take_at<T: Default + Drop, S: Store<T>>(store: &mut S, slot: usize) -> T
+pub(crate) fn take_at<T: Default + Drop, S: Store<T>>(store: &mut S, slot: usize) -> T
     requires fits { FitsInline (length (S.items store.old)) }
     requires in_bounds { slot < length (S.items store.old) }
     ensures item { result ≡ slice_index_or (S.items store.old) slot result }

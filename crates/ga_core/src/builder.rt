@@ -1,9 +1,10 @@
-//! An array that is being built, item by item.
+//! An array that is being built, item by item or from what is left of another.
 ghost use Rattle.ga_core.specs.Fill.{Asks, TakeGoodRuns, TakeRuns, Takes, TakesGood};
 ghost use Rattle.ga_views.specs.Length.{FitsInline};
-ghost use Rattle.std.specs.Prelude.{◌≡◌, ◌≢◌, ◌⊎◌, ◌-◌, ◌<◌, ◌≤◌, ◌↔◌, IfNone, IfOk, IfSome, IsSome, IsTrue, None, OnErr, Some, List, [], ◌∷◌, ◌++◌, length};
+ghost use Rattle.std.specs.Prelude.{◌≡◌, ◌≢◌, ◌⊎◌, ◌+◌, ◌-◌, ◌<◌, ◌≤◌, ◌↔◌, IfNone, IfOk, IfSome, IsSome, IsTrue, None, OnErr, Some, List, [], ◌∷◌, ◌++◌, drop, length, slice_set, take};
 
 use crate::array::GenericArray;
+use crate::array_iter::{GenericArrayIter, take_at};
 use crate::length::ArrayLength;
 use crate::store::Store;
 use ga_views::LengthError;
@@ -14,23 +15,26 @@ use std::marker::{Model, PhantomData};
 /// The counterpart of `ArrayBuilder`. The items are dropped with it, unless it is finished.
 #[derive(Drop)]
 pub struct ArrayBuilder<T, N: ArrayLength<T>> {
+    // The items so far lie in the first slots; the other slots hold defaults. The number stands
+    // before the store, which lets the compiler see that a write to a slot leaves it.
+    position: usize,
     store: N::ArrayType,
     of: PhantomData<T>,
 }
 
 impl<T, N: ArrayLength<T>> Model for ArrayBuilder<T, N> {
     ghost use Rattle.ga_views.specs.Length.{FitsInline};
-    ghost use Rattle.std.specs.Prelude.{◌≤◌, List, length};
+    ghost use Rattle.std.specs.Prelude.{◌≡◌, ◌≤◌, List, length, take};
 
     ghost Value = { List T };
 
-    ghost view = { λ builder. N.ArrayType.items builder.store };
+    ghost view = { λ builder. take builder.position (N.ArrayType.items builder.store) };
 
-    ghost invariant = { λ builder. (length (N.ArrayType.items builder.store) ≤ N.USIZE)
-        × (FitsInline N.USIZE) };
+    ghost invariant = { λ builder. (builder.position ≤ N.USIZE)
+        × (length (N.ArrayType.items builder.store) ≡ N.USIZE) × FitsInline N.USIZE };
 }
 
-impl<T, N: ArrayLength<T>> ArrayBuilder<T, N> {
+impl<T: Default + Drop, N: ArrayLength<T>> ArrayBuilder<T, N> {
     /// A builder without items. Requires `N <= MAX_INLINE`.
     #[inline]
     pub fn new() -> Self
@@ -38,18 +42,63 @@ impl<T, N: ArrayLength<T>> ArrayBuilder<T, N> {
         ensures { result ≡ [] }
     {
         ArrayBuilder {
-            store: Store::empty(),
+            position: 0,
+            store: Store::filled(N::USIZE),
             of: PhantomData,
         }
     }
 
+    /// Appends an item. Requires that the builder isn't full. O(1).
+    #[inline]
+    pub fn push(&mut self, item: T)
+        requires room { length self.old < N.USIZE }
+        ensures { self.new ≡ self.old ++ item ∷ [] }
+    {
+        let slot = self.position;
+        put_at(&mut self.store, slot, item);
+        self.position = slot + 1;
+    }
+
+    /// Takes the last item, or returns `None` if there is none. O(1).
+    #[inline]
+    pub fn pop(&mut self) -> Option<T>
+        ensures variant { IsSome result ↔ (0 < length self.old) }
+        ensures some { IfSome result (λ item. self.old ≡ self.new ++ item ∷ []) }
+        ensures none { IfNone result (self.new ≡ self.old) }
+    {
+        if self.position == 0 {
+            return None;
+        }
+        let last = self.position - 1;
+        self.position = last;
+        Some(take_at(&mut self.store, last))
+    }
+
+    /// Appends the first `count` items that `items` has left, in order, in one pass.
+    ///
+    /// Requires that the builder has room for `count` items, and that as many are left. `extend` does
+    /// the same over any iterator, item by item.
+    #[inline(always)]
+    pub fn take_from<K: ArrayLength<T>>(&mut self, items: &mut GenericArrayIter<T, K>, count: usize)
+        requires room { length self.old + count ≤ N.USIZE }
+        requires enough { count ≤ length items.old }
+        ensures taken { self.new ≡ self.old ++ take count items.old }
+        ensures left { items.new ≡ drop count items.old }
+    {
+        let first = self.position;
+        items.move_to(self.store.part_mut(first, count));
+        self.position = first + count;
+    }
+}
+
+impl<T, N: ArrayLength<T>> ArrayBuilder<T, N> {
     /// How many items there are, which is the index of the next. O(1).
     #[inline]
     pub fn position(&self) -> usize
         ensures len { result ≡ length self.now }
         ensures bound { length self.now ≤ N.USIZE }
     {
-        self.store.as_slice().len()
+        self.position
     }
 
     /// Whether there are `N` items. O(1).
@@ -61,32 +110,13 @@ impl<T, N: ArrayLength<T>> ArrayBuilder<T, N> {
         self.position() == N::USIZE
     }
 
-    /// Appends an item. Requires that the builder isn't full. O(1).
-    #[inline]
-    pub fn push(&mut self, item: T)
-        requires room { length self.old < N.USIZE }
-        ensures { self.new ≡ self.old ++ item ∷ [] }
-    {
-        self.store.push(item);
-    }
-
-    /// Takes the last item, or returns `None` if there is none. O(1).
-    #[inline]
-    pub fn pop(&mut self) -> Option<T>
-        ensures variant { IsSome result ↔ (0 < length self.old) }
-        ensures some { IfSome result (λ item. self.old ≡ self.new ++ item ∷ []) }
-        ensures none { IfNone result (self.new ≡ self.old) }
-    {
-        self.store.pop()
-    }
-
     /// The items so far, in order. O(1).
     #[inline]
     pub fn as_slice(&self) -> &[T]
         ensures items { result.now ≡ self.now }
         ensures bound { length self.now ≤ N.USIZE }
     {
-        self.store.as_slice()
+        &self.store.as_slice()[..self.position]
     }
 
     /// The array of the items. Requires that the builder is full. Moves the items, and allocates
@@ -96,12 +126,16 @@ impl<T, N: ArrayLength<T>> ArrayBuilder<T, N> {
         requires full { length self ≡ N.USIZE }
         ensures { result ≡ self }
     {
-        let ArrayBuilder { store, of: _ } = self;
+        let ArrayBuilder {
+            position: _,
+            store,
+            of: _,
+        } = self;
         GenericArray::of_store(store)
     }
 }
 
-impl<T: Drop, N: ArrayLength<T>> ArrayBuilder<T, N> {
+impl<T: Default + Drop, N: ArrayLength<T>> ArrayBuilder<T, N> {
     /// Appends the items of `items` until the builder is full or the iterator ends.
     ///
     /// Goes on at the builder's position. Calls `next` only while the builder isn't full. Size
@@ -168,4 +202,13 @@ impl<T: Drop, N: ArrayLength<T>> ArrayBuilder<T, N> {
         }
         Err(LengthError)
     }
+}
+
+// Writes `item` over the item of a slot, which is dropped.
+#[inline]
+fn put_at<T: Drop, S: Store<T>>(store: &mut S, slot: usize, item: T)
+    requires { slot < length (S.items store.old) }
+    ensures { S.items store.new ≡ slice_set (S.items store.old) slot item }
+{
+    *store.item_mut(slot) = item;
 }

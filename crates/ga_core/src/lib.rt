@@ -19,8 +19,7 @@ mod length;
 mod mapping;
 mod never;
 mod slices_compared;
-/// Writing over the slots of a slice.
-pub mod slots;
+mod slots;
 mod store;
 
 pub use alloc_error::AllocError;

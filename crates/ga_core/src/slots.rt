@@ -39,10 +39,10 @@ pub(crate) fn try_write_answers<T: Drop, E, F: FnMut(usize) -> Result<T, E>>(
     Ok(())
 }
 
-/// Moves the items of a slice over those of another of the same length, which are dropped, and leaves
-/// defaults. Compiles to a copy where the length is known.
+// Moves the items of a slice over those of another of the same length, which are dropped, and leaves
+// defaults. Compiles to a copy where the length is known.
 #[inline]
-pub fn move_items<T: Default + Drop>(items: &mut [T], slots: &mut [T])
+pub(crate) fn move_items<T: Default + Drop>(items: &mut [T], slots: &mut [T])
     requires len { length items.old ≡ length slots.old }
     ensures moved { slots.new ≡ items.old }
     ensures left { All T.is_default items.new }

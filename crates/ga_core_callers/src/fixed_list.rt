@@ -21,7 +21,7 @@ impl<T, N: ArrayLength<T>> Model for FixedList<T, N> {
     ghost invariant = { λ _. FitsInline N.USIZE };
 }
 
-impl<T, N: ArrayLength<T>> FixedList<T, N> {
+impl<T: Default + Drop, N: ArrayLength<T>> FixedList<T, N> {
     fn new() -> Self
         requires { FitsInline N.USIZE }
         ensures { result ≡ [] }

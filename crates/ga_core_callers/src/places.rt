@@ -5,8 +5,8 @@ ghost use Rattle.std.specs.Option.{option_copied};
 ghost use Rattle.std.specs.Prelude.{◌≡◌, ◌∷◌, [], EachIndex, slice_get, slice_index, slice_set, sum};
 
 use crate::builds::blank;
-use ga_core::slots::move_items;
 use ga_core::{GenericArray, GenericArrayMut, GenericArrayRef, U2, U3, U4};
+use std::mem;
 
 fn second_of(array: &GenericArray<u8, U3>) -> u8
     ensures { slice_get array.now 1 ≡ Some result }
@@ -80,7 +80,7 @@ fn moved_over(key: &mut GenericArray<u8, U3>, place: &mut GenericArray<u8, U3>)
     ensures moved { place.new ≡ key.old }
     ensures wiped { All (λ byte. byte ≡ 0) key.new }
 {
-    move_items(key.as_mut_slice(), place.as_mut_slice());
+    mem::take(key).into_iter().move_to(place.as_mut_slice());
 }
 
 fn last_two_sorted(array: &mut GenericArray<u8, U3>)

@@ -21,7 +21,7 @@ mod views;
 
 pub use flat_iter::{FlatIter, iter_flat};
 use ga_core::{AllocError, FillError, GenericArrayRef, Unsigned};
-pub use shapes::{Concat, Flatten, Lengthen, Remove, Row, Shorten, Split, Unflatten};
+pub use shapes::{Concat, Flatten, Lengthen, Remove, Shorten, Split, Unflatten};
 use std::convert::AsSlice;
 
 /// An entry of a sequence: an item of its `into_iter`.

@@ -1,7 +1,7 @@
 //! Boxed arrays of defaults and of copies of one value.
-ghost use Rattle.ga_core.specs.Copies.{Repeats};
+ghost use Rattle.ga_core.specs.Copies.{ExactlyEach, Repeats};
 ghost use Rattle.std.specs.List.{All};
-ghost use Rattle.std.specs.Prelude.{◌≡◌, IfOk, IsOk, replicate};
+ghost use Rattle.std.specs.Prelude.{◌≡◌, IfOk, IsOk, length, replicate};
 
 use crate::boxed_array::BoxedArray;
 use crate::live_block::LiveBlock;
@@ -15,6 +15,8 @@ impl<T: Default, N: Unsigned> BoxedArray<T, N> {
     /// Allocates the whole block first, and nothing if `N` is 0.
     pub fn default_boxed(alloc: Global) -> Result<Self, AllocError>
         ensures items { IfOk result (λ array. All T.is_default array) }
+        ensures len { IfOk result (λ array. length array ≡ N.USIZE) }
+        ensures each { IfOk result (λ array. ExactlyEach T.is_default N.USIZE array) }
         ensures empty { N.USIZE ≡ 0 → IsOk result }
     {
         Self::generate(alloc, |_| T::default())

@@ -69,7 +69,7 @@ impl<T: Default + Drop, N: ArrayLength<T>> GenericArray<T, N> {
     }
 }
 
-impl<T: Drop, N: ArrayLength<T>> GenericArray<T, N> {
+impl<T: Default + Drop, N: ArrayLength<T>> GenericArray<T, N> {
     /// The array of all items of `items`, or `LengthError` if they aren't exactly `N`.
     ///
     /// Requires `N <= MAX_INLINE`. Takes `N` items and calls `next` once more; size hints aren't

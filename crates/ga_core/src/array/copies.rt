@@ -1,5 +1,5 @@
 //! Arrays of defaults, of copies of one value, and copies of arrays.
-ghost use Rattle.ga_core.specs.Copies.{ExactlyEach, Repeats};
+ghost use Rattle.ga_core.specs.Copies.{ExactlyEach, IsExact, Repeats};
 ghost use Rattle.ga_views.specs.Length.{FitsInline};
 ghost use Rattle.std.specs.List.{All, AllZip};
 ghost use Rattle.std.specs.Prelude.{◌≡◌, ◌≤◌, IfOk, IsOk, length, replicate};
@@ -64,6 +64,7 @@ impl<T: Clone + Default, N: ArrayLength<T>> GenericArray<T, N> {
     /// If a clone fails, drops those made before it and returns the error.
     pub fn clone(&self) -> Result<Self, AllocError>
         ensures items { IfOk result (λ copy. AllZip T.is_clone self.now copy) }
+        ensures same { All (IsExact T.is_clone) self.now → IfOk result (λ copy. copy ≡ self.now) }
         ensures succeeds { All T.is_infallible self.now → IsOk result }
         ensures empty { N.USIZE ≡ 0 → IsOk result }
     {

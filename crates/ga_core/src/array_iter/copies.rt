@@ -1,6 +1,7 @@
 //! Clones of an iterator: of the items that are left.
+ghost use Rattle.ga_core.specs.Copies.{IsExact};
 ghost use Rattle.std.specs.List.{All, AllZip};
-ghost use Rattle.std.specs.Prelude.{IfOk, IsOk};
+ghost use Rattle.std.specs.Prelude.{◌≡◌, IfOk, IsOk};
 
 use crate::alloc_error::AllocError;
 use crate::array_iter::GenericArrayIter;
@@ -15,6 +16,7 @@ impl<T: Clone + Default, N: ArrayLength<T>> GenericArrayIter<T, N> {
     /// If a clone fails, drops those made before it and returns the error.
     pub fn clone(&self) -> Result<Self, AllocError>
         ensures items { IfOk result (λ copy. AllZip T.is_clone self.now copy) }
+        ensures same { All (IsExact T.is_clone) self.now → IfOk result (λ copy. copy ≡ self.now) }
         ensures succeeds { All T.is_infallible self.now → IsOk result }
     {
         let items = self.as_slice();

@@ -71,7 +71,7 @@ fn builder_outcome<T: Numbered + Drop, N: ArrayLength<T>>(builder: ArrayBuilder<
 }
 
 /// `try_from_iter_ref`.
-pub fn inline_fill<T: Numbered + Drop, N: ArrayLength<T>, I: Iterator<Item = T>>(
+pub fn inline_fill<T: Numbered + Default + Drop, N: ArrayLength<T>, I: Iterator<Item = T>>(
     items: &mut I,
 ) -> Outcome
     requires fits { FitsInline N.USIZE }
@@ -91,7 +91,7 @@ pub fn boxed_fill<T: Numbered + Drop, N: Unsigned, I: Iterator<Item = T>>(
 }
 
 /// `extend` of a builder.
-pub fn builder_fill<T: Numbered + Drop, N: ArrayLength<T>, I: Iterator<Item = T>>(
+pub fn builder_fill<T: Numbered + Default + Drop, N: ArrayLength<T>, I: Iterator<Item = T>>(
     mut builder: ArrayBuilder<T, N>,
     items: &mut I,
 ) -> Outcome
@@ -103,7 +103,7 @@ pub fn builder_fill<T: Numbered + Drop, N: ArrayLength<T>, I: Iterator<Item = T>
 
 /// `try_from_fallible_iter_ref`.
 pub fn inline_fallible_fill<
-    T: Numbered + Drop,
+    T: Numbered + Default + Drop,
     N: ArrayLength<T>,
     I: Iterator<Item = Result<T, u32>>,
 >(items: &mut I) -> Outcome
@@ -139,7 +139,7 @@ where
 
 /// `try_extend` of a builder.
 pub fn builder_fallible_fill<
-    T: Numbered + Drop,
+    T: Numbered + Default + Drop,
     N: ArrayLength<T>,
     I: Iterator<Item = Result<T, u32>>,
 >(mut builder: ArrayBuilder<T, N>, items: &mut I) -> Outcome

@@ -4,19 +4,19 @@
 //! Each call of an array moves its items into the result, in one pass, and allocates nothing.
 //! Defaults stand in the slots until then, and in the array that the items came from. Splitting a
 //! view is O(1). The types of the results are parameters, and that their lengths fit together is a
-//! condition. The Rust crate has traits of these names, but `Row`, in its module `sequence`.
+//! condition. The Rust crate has traits of these names in its module `sequence`.
 //!
-//! Each trait but `Row` has its own words for the items of its parts. A function over these traits
+//! Each public trait has its own words for the items of its parts. A function over these traits
 //! alone that goes from one to the next asks by a bound, or by a condition, that the words agree: at
 //! arrays they do by `refl`.
 ghost use Rattle.generic_array.specs.Rows.{rows};
 ghost use Rattle.std.specs.List.{All, flat_map, swap_remove};
 ghost use Rattle.std.specs.Prelude.{◌≡◌, ℕ, ◌+◌, ◌<◌, ◌≤◌, List, [], Some, ◌∷◌, ◌++◌, drop, length, remove, slice_get, take};
 
+use ga_core::{ArrayBuilder, ArrayLength};
 use std::convert::AsSlice;
 
 mod inline;
-mod moves;
 mod views;
 
 /// A sequence to which an item can be added.
@@ -162,19 +162,17 @@ pub trait Remove<T, Output>: Sized {
     }
 }
 
-/// A row: a sequence whose items can be moved over the slots of a slice.
-pub trait Row<T: Default>: Sized + AsSlice<T> {
+// A row of what `flatten` takes: an array, whose items can be moved into a builder. With a bound on
+// `GenericArray<T, W>` in its place no caller of `flatten` proves.
+pub(crate) trait Row<T: Default + Drop>: Sized + AsSlice<T> {
     // How many items a row has.
     ghost WIDTH: { ℕ };
 
-    /// Moves the items over the first of the slots, whose items are dropped, and leaves defaults.
-    /// Returns how many they are.
-    fn move_over(&mut self, slots: &mut [T]) -> usize
-        requires room { WIDTH ≤ length slots.old }
-        ensures moved { slots.new ≡ Self.items self.old ++ drop WIDTH slots.old }
-        ensures left { All T.is_default (Self.items self.new) }
-        ensures count { result ≡ WIDTH }
-        ensures width { length (Self.items self.old) ≡ WIDTH };
+    // Appends the items to those of the builder, which has room for them.
+    fn move_into<M: ArrayLength<T>>(self, joined: &mut ArrayBuilder<T, M>)
+        requires room { length joined.old + WIDTH ≤ M.USIZE }
+        ensures moved { joined.new ≡ joined.old ++ Self.items self }
+        ensures width { length (Self.items self) ≡ WIDTH };
 }
 
 /// A sequence of rows whose items can be joined.

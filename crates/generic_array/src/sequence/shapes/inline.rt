@@ -1,12 +1,14 @@
-//! The shapes of inline arrays.
+//! The shapes of inline arrays. Each moves what an array's iterator has left into builders, or over
+//! rows.
+//!
+//! The iterator is made before the builder: so the compiler knows the builder's position.
 ghost use Rattle.ga_core.specs.Length.{FitsInline};
-ghost use Rattle.std.specs.Prelude.{◌≡◌, ◌+◌, ◌*◌, ◌<◌, map};
+ghost use Rattle.generic_array.specs.Rows.{rows};
+ghost use Rattle.std.specs.List.{swap_remove};
+ghost use Rattle.std.specs.Prelude.{◌≡◌, ◌+◌, ◌*◌, ◌<◌, ◌≤◌, [], ◌∷◌, ◌++◌, drop, get_or, length, map, remove, take};
 
-use crate::sequence::shapes::moves::{array_of, deal_rows, join, swap_out, take_out};
 use crate::sequence::shapes::{Concat, Flatten, Lengthen, Remove, Row, Shorten, Split, Unflatten};
-use ga_core::slots::move_items;
-use ga_core::{ArrayLength, GenericArray};
-use std::mem;
+use ga_core::{ArrayBuilder, ArrayLength, GenericArray, GenericArrayIter};
 
 impl<T: Default + Drop, N: ArrayLength<T>, M: ArrayLength<T>> Lengthen<T, GenericArray<T, M>>
     for GenericArray<T, N> {
@@ -17,22 +19,21 @@ impl<T: Default + Drop, N: ArrayLength<T>, M: ArrayLength<T>> Lengthen<T, Generi
     ghost IsOneLonger = { (M.USIZE ≡ N.USIZE + 1) × FitsInline M.USIZE };
 
     #[inline(always)]
-    fn append(mut self, item: T) -> GenericArray<T, M> {
-        let mut longer = GenericArray::default();
-        let slots = longer.as_mut_slice();
-        let len = N::USIZE;
-        move_items(self.as_mut_slice(), &mut slots[..len]);
-        slots[len] = item;
-        longer
+    fn append(self, item: T) -> GenericArray<T, M> {
+        let mut items = self.into_iter();
+        let mut longer = ArrayBuilder::new();
+        longer.take_from(&mut items, N::USIZE);
+        longer.push(item);
+        longer.finish()
     }
 
     #[inline(always)]
-    fn prepend(mut self, item: T) -> GenericArray<T, M> {
-        let mut longer = GenericArray::default();
-        let slots = longer.as_mut_slice();
-        slots[0] = item;
-        move_items(self.as_mut_slice(), &mut slots[1..]);
-        longer
+    fn prepend(self, item: T) -> GenericArray<T, M> {
+        let mut items = self.into_iter();
+        let mut longer = ArrayBuilder::new();
+        longer.push(item);
+        longer.take_from(&mut items, N::USIZE);
+        longer.finish()
     }
 }
 
@@ -45,17 +46,16 @@ impl<T: Default + Drop, N: ArrayLength<T>, M: ArrayLength<T>> Shorten<T, Generic
     ghost IsOneShorter = { N.USIZE ≡ M.USIZE + 1 };
 
     #[inline]
-    fn pop_back(mut self) -> (GenericArray<T, M>, T) {
-        let items = self.as_mut_slice();
-        let len = M::USIZE;
-        let last = mem::take(&mut items[len]);
-        (array_of(&mut items[..len]), last)
+    fn pop_back(self) -> (GenericArray<T, M>, T) {
+        let mut items = self.into_iter();
+        let last = items.next_back().unwrap();
+        (next_array(&mut items), last)
     }
 
     #[inline]
-    fn pop_front(mut self) -> (T, GenericArray<T, M>) {
-        let items = self.as_mut_slice();
-        (mem::take(&mut items[0]), array_of(&mut items[1..]))
+    fn pop_front(self) -> (T, GenericArray<T, M>) {
+        let mut items = self.into_iter();
+        (items.next().unwrap(), next_array(&mut items))
     }
 }
 
@@ -75,14 +75,12 @@ impl<T: Default + Drop, N: ArrayLength<T>, R: ArrayLength<T>, M: ArrayLength<T>>
     ghost IsSum = { (M.USIZE ≡ N.USIZE + R.USIZE) × FitsInline M.USIZE };
 
     #[inline(always)]
-    fn concat(mut self, mut rest: GenericArray<T, R>) -> GenericArray<T, M> {
-        let mut both = GenericArray::default();
-        join(
-            self.as_mut_slice(),
-            rest.as_mut_slice(),
-            both.as_mut_slice(),
-        );
-        both
+    fn concat(self, rest: GenericArray<T, R>) -> GenericArray<T, M> {
+        let mut items = self.into_iter();
+        let mut both = ArrayBuilder::new();
+        both.take_from(&mut items, N::USIZE);
+        both.take_from(&mut rest.into_iter(), R::USIZE);
+        both.finish()
     }
 }
 
@@ -102,9 +100,9 @@ impl<T: Default + Drop, N: ArrayLength<T>, K: ArrayLength<T>, M: ArrayLength<T>>
     ghost IsSum = { N.USIZE ≡ K.USIZE + M.USIZE };
 
     #[inline]
-    fn split(mut self) -> (GenericArray<T, K>, GenericArray<T, M>) {
-        let (first, second) = self.as_mut_slice().split_at_mut(K::USIZE);
-        (array_of(first), array_of(second))
+    fn split(self) -> (GenericArray<T, K>, GenericArray<T, M>) {
+        let mut items = self.into_iter();
+        (next_array(&mut items), next_array(&mut items))
     }
 }
 
@@ -118,14 +116,17 @@ impl<T: Default + Drop, N: ArrayLength<T>, M: ArrayLength<T>> Remove<T, GenericA
 
     #[inline]
     fn remove(mut self, index: usize) -> (T, GenericArray<T, M>) {
-        let items = self.as_mut_slice();
-        (take_out(items, index), array_of(&mut items[..M::USIZE]))
+        carry_to_end(self.as_mut_slice(), index);
+        let mut items = self.into_iter();
+        let item = items.next_back().unwrap();
+        (item, next_array(&mut items))
     }
 
     #[inline]
     fn swap_remove(mut self, index: usize) -> (T, GenericArray<T, M>) {
-        let items = self.as_mut_slice();
-        (swap_out(items, index), array_of(&mut items[..M::USIZE]))
+        swap_to_end(self.as_mut_slice(), index);
+        let mut items = self.into_iter();
+        (items.next_back().unwrap(), next_array(&mut items))
     }
 }
 
@@ -133,10 +134,8 @@ impl<T: Default + Drop, N: ArrayLength<T>> Row<T> for GenericArray<T, N> {
     ghost WIDTH = { N.USIZE };
 
     #[inline]
-    fn move_over(&mut self, slots: &mut [T]) -> usize {
-        let width = N::USIZE;
-        move_items(self.as_mut_slice(), &mut slots[..width]);
-        width
+    fn move_into<M: ArrayLength<T>>(self, joined: &mut ArrayBuilder<T, M>) {
+        joined.take_from(&mut self.into_iter(), N::USIZE);
     }
 }
 
@@ -155,15 +154,12 @@ impl<T: Default + Drop, I: Row<T> + Default + Drop, R: ArrayLength<I>, M: ArrayL
     ghost IsArea = { (M.USIZE ≡ R.USIZE * I.WIDTH) × FitsInline M.USIZE };
 
     #[inline(always)]
-    fn flatten(mut self) -> GenericArray<T, M> {
-        let mut array = GenericArray::default();
-        let slots = array.as_mut_slice();
-        let mut at = 0;
-        for row in self.as_mut_slice().iter_mut() {
-            let (_, behind) = slots.split_at_mut(at);
-            at += row.move_over(behind);
+    fn flatten(self) -> GenericArray<T, M> {
+        let mut joined = ArrayBuilder::new();
+        for row in self {
+            row.move_into(&mut joined);
         }
-        array
+        joined.finish()
     }
 }
 
@@ -185,9 +181,59 @@ where
     ghost IsArea = { (N.USIZE ≡ R.USIZE * W.USIZE) × (0 < W.USIZE) };
 
     #[inline(always)]
-    fn unflatten(mut self) -> GenericArray<GenericArray<T, W>, R> {
+    fn unflatten(self) -> GenericArray<GenericArray<T, W>, R> {
+        let mut items = self.into_iter();
         let mut rows = GenericArray::<GenericArray<T, W>, R>::default();
-        deal_rows(self.as_mut_slice(), rows.as_mut_slice());
+        deal_rows(&mut items, rows.as_mut_slice());
         rows
+    }
+}
+
+// The array of the first items that are left.
+#[inline]
+fn next_array<T: Default + Drop, N: ArrayLength<T>, M: ArrayLength<T>>(
+    items: &mut GenericArrayIter<T, N>,
+) -> GenericArray<T, M>
+    requires fits { FitsInline M.USIZE }
+    requires enough { M.USIZE ≤ length items.old }
+    ensures first { result ≡ take M.USIZE items.old }
+    ensures left { items.new ≡ drop M.USIZE items.old }
+{
+    let mut array = ArrayBuilder::new();
+    array.take_from(items, M::USIZE);
+    array.finish()
+}
+
+// Carries the item at `index` behind all others, which are left in order.
+#[inline]
+fn carry_to_end<T>(items: &mut [T], index: usize)
+    requires { index < length items.old }
+    ensures { (item : T) → items.new ≡ remove items.old index ++ get_or items.old index item ∷ [] }
+{
+    items[index..].rotate_left(1);
+}
+
+// Swaps the item at `index` with the last.
+#[inline]
+fn swap_to_end<T>(items: &mut [T], index: usize)
+    requires { index < length items.old }
+    ensures { (item : T) → items.new ≡ swap_remove items.old index item ++ get_or items.old index item ∷ [] }
+{
+    let last = items.len() - 1;
+    items.swap(index, last);
+}
+
+// Moves the items that are left over the rows, in order.
+#[inline(always)]
+fn deal_rows<T: Default + Drop, N: ArrayLength<T>, W: ArrayLength<T>>(
+    items: &mut GenericArrayIter<T, N>,
+    grid: &mut [GenericArray<T, W>],
+)
+    requires len { length items.old ≡ length grid.old * W.USIZE }
+    requires some { 0 < W.USIZE }
+    ensures { grid.new ≡ rows W.USIZE items.old }
+{
+    for row in grid.iter_mut() {
+        items.move_to(row.as_mut_slice());
     }
 }

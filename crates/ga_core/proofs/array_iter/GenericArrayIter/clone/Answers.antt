@@ -1,3 +1,4 @@
+use Rattle.ga_core.proofs.CopyLemmas.{AllZip-same}
 use Rattle.ga_core.proofs.SlotLemmas.{front-room, front-written}
 use Rattle.ga_core.proofs.array_iter.GenericArrayIter.clone.Goals as goal
 use Rattle.ga_views.specs.Parts.{part_set}
@@ -19,8 +20,8 @@ write_clones-requires g c = record {
       g.met.N.ArrayLength.capacity_is).1;
 }
 
-pub returns-in-Ok-clause-items : goal.returns-in-Ok-clause-items
-returns-in-Ok-clause-items g c =
+pub returns-in-Ok : goal.returns-in-Ok
+returns-in-Ok g c =
     let items = g.N.ArrayType.Store.items c.filled-store.result in
     let copies = c.write_clones.new.slots in
     let len = length c.as_slice-items.result.now in
@@ -29,6 +30,11 @@ returns-in-Ok-clause-items g c =
     let after = g.N.ArrayType.Store.store_with c.filled-store.result (part_set 0 len items copies) in
     let stands = front-written len items copies (g.N.ArrayType.Store.items after.0) room.0
     (c.write_clones.auto.slots ∙ room.1) after.1 in
-    subst (λ list. AllZip g.T.Clone.is_clone list c.of_store.result) c.as_slice-items.ensures.items
+    let clones = subst (λ list. AllZip g.T.Clone.is_clone list c.of_store.result) c.as_slice-items.ensures.items
     (subst (AllZip g.T.Clone.is_clone c.as_slice-items.result.now) (sym (c.of_store.ensures ∙ stands))
-    c.in-Ok.ensures.items)
+    c.in-Ok.ensures.items) in
+    record {
+      items = clones;
+      same = λ exact. AllZip-same g.T.Clone.is_clone c.args.self.now c.of_store.result exact clones;
+      succeeds = λ _. refl;
+    }

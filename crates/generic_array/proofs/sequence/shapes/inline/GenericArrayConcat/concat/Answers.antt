@@ -1,19 +1,21 @@
-use Rattle.ga_core.proofs.SlotLemmas.{refill-whole}
+use Rattle.generic_array.proofs.ShapeLemmas.{all-taken}
 use Rattle.generic_array.proofs.sequence.shapes.inline.GenericArrayConcat.concat.Goals as goal
-use Rattle.std.proofs.Common.{◌∙◌, ◌++◌, ap, drop, length, sym, take}
-use Rattle.std.proofs.Math.Seq.{drop-append_seam, take-append_seam}
+use Rattle.std.proofs.Common.{◌≡◌, ◌∙◌, ◌++◌, ap, drop, sym, take}
+use Rattle.std.proofs.Math.Seq.{drop-append_seam}
 
-pub returns : goal.returns
-returns g c =
+pub returns-clause-rest : goal.returns-clause-rest
+returns-clause-rest g c =
     let self = c.args.self in
     let rest = c.args.rest in
-    let long = sym c.as_mut_slice.ensures.len ∙ ap length c.as_mut_slice.ensures.items in
-    let joined = refill-whole (length c.default-both.result) c.default-both.result c.join.new.slots
-    (sym (c.join.auto.slots ∙ ap length c.as_mut_slice-3.ensures.items))
-    ∙ (c.join.ensures ∙ (ap (λ l. l ++ c.as_mut_slice-2.result.now) c.as_mut_slice.ensures.items
-    ∙ ap (λ l. self ++ l) c.as_mut_slice-2.ensures.items)) in
-    record {
-      joined = joined;
-      first = ap (take g.N.Unsigned.USIZE) joined ∙ (ap (λ n. take n (self ++ rest)) long ∙ take-append_seam self rest);
-      rest = ap (drop g.N.Unsigned.USIZE) joined ∙ (ap (λ n. drop n (self ++ rest)) long ∙ drop-append_seam self rest);
-    }
+    let given = c.into_iter-items.ensures.into_iter_gives in
+    let given_rest = c.into_iter.ensures.into_iter_gives in
+    let first : c.take_from.new.self ≡ self =
+    c.take_from.ensures.taken ∙ (ap (λ l. l ++ take c.USIZE.result c.into_iter-items.result) c.new-both.ensures
+    ∙ all-taken c.USIZE.result c.into_iter-items.result self given.0 (c.USIZE.ensures ∙ sym given.3)) in
+    let whole : c.finish.result ≡ self ++ rest =
+    c.finish.ensures ∙ (c.take_from-2.ensures.taken
+    ∙ (ap (λ l. l ++ take c.USIZE-2.result c.into_iter.result) first
+    ∙ ap (λ l. self ++ l)
+    (all-taken c.USIZE-2.result c.into_iter.result rest given_rest.0 (c.USIZE-2.ensures ∙ sym given_rest.3)))) in
+    ap (drop g.N.Unsigned.USIZE) whole
+    ∙ (ap (λ n. drop n (self ++ rest)) (sym given.3) ∙ drop-append_seam self rest)

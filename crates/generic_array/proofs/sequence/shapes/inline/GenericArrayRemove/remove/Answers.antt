@@ -1,15 +1,24 @@
+use Rattle.ga_core.proofs.SlotLemmas.{refill-whole}
+use Rattle.generic_array.proofs.ShapeLemmas.{others-left}
 use Rattle.generic_array.proofs.sequence.shapes.inline.GenericArrayRemove.remove.Goals as goal
-use Rattle.std.proofs.Common.{◌≡◌, ◌-◌, ◌∙◌, ap, arith, length, slice_get, sym, take}
-use Rattle.std.specs.List.{remove}
-
-pub returns-clause-item : goal.returns-clause-item
-returns-clause-item g c =
-    ap (λ l. slice_get l c.args.index) (sym c.as_mut_slice-items.ensures.items) ∙ c.take_out.ensures.item
+use Rattle.std.proofs.Common.{◌≡◌, ◌∷◌, [], ◌++◌, ◌∙◌, MatchOption, ap, get_or, length, remove, subst, sym}
 
 pub returns-clause-others : goal.returns-clause-others
 returns-clause-others g c =
-    let items = c.as_mut_slice-items.result.now in
-    let shorter : c.USIZE.result ≡ length items - 1 =
-    omega (arith, c.as_mut_slice-items.ensures.len, c.requires.shorter, c.USIZE.ensures) in
-    c.array_of.ensures ∙ (ap (λ n. take n c.take_out.new.items) shorter
-    ∙ (c.take_out.ensures.others ∙ ap (λ l. remove l c.args.index) c.as_mut_slice-items.ensures.items))
+    let self = c.args.self in
+    let index = c.args.index in
+    let items = c.into_iter-items.result in
+    let left = c.next_back.new.self in
+    let item = c.unwrap-item.result in
+    let given = c.into_iter-items.ensures.into_iter_gives in
+    let taken : items ≡ left ++ item ∷ [] =
+    subst (λ reply. MatchOption reply ((items ≡ []) × (left ≡ [])) (λ x. items ≡ left ++ x ∷ []))
+    c.unwrap-item.ensures c.next_back.ensures.steps in
+    let carried : items ≡ remove self index ++ get_or self index item ∷ [] =
+    given.0 ∙ (refill-whole (length self) self c.carry_to_end.new.items
+    (sym (c.carry_to_end.auto.items ∙ ap length c.as_mut_slice.ensures.items))
+    ∙ (c.carry_to_end.ensures item
+    ∙ ap (λ l. remove l index ++ get_or l index item ∷ []) c.as_mut_slice.ensures.items)) in
+    c.next_array.ensures.first
+    ∙ others-left items (remove self index) left (get_or self index item) item g.M.Unsigned.USIZE carried taken
+    (ap length given.0 ∙ (given.3 ∙ c.requires.shorter))

@@ -8,12 +8,11 @@ use Rattle.std.specs.List.{flat_map}
 pub returns : goal.returns
 returns g c =
     let w = g.W.Unsigned.USIZE in
-    let same = c.as_mut_slice.ensures.items in
-    let long : length c.args.self ≡ g.R.Unsigned.USIZE * w =
-    sym (ap length same) ∙ (c.as_mut_slice.ensures.len ∙ c.requires.0) in
+    let given = c.into_iter-items.ensures.into_iter_gives in
+    let long : length c.args.self ≡ g.R.Unsigned.USIZE * w = given.3 ∙ c.requires.0 in
     let cut = refill-whole (length c.default-rows.result) c.default-rows.result c.deal_rows.new.grid
-    (sym (c.deal_rows.auto.grid ∙ ap length c.as_mut_slice-2.ensures.items))
-    ∙ (c.deal_rows.ensures ∙ ap (rows w) same) in
+    (sym (c.deal_rows.auto.grid ∙ ap length c.as_mut_slice.ensures.items))
+    ∙ (c.deal_rows.ensures ∙ ap (rows w) given.0) in
     record {
       cut = cut;
       joined = ap (flat_map (λ row. row)) cut
