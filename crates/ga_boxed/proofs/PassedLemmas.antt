@@ -1,25 +1,23 @@
--- What a loop that passes over items knows: where fewer were passed over than there are, one is left.
-use Rattle.std.proofs.Common.{◌≡◌, ◌<◌, ◌≤◌, ◌∙◌, ℕ, List, length, min, drop, reverse, ap, arith, length-drop}
-use Rattle.std.proofs.lemmas.List.{length-reverse}
+-- What a loop that passes over items knows, and what a take of a block says of its items.
+use Rattle.ga_boxed.specs.Live.{Live}
+use Rattle.std.proofs.Common.{◌≡◌, ◌≤◌, ◌∷◌, [], ◌++◌, ◌+◌, ◌∙◌, MatchOption, None, Option, Some, ℕ, ap, arith, min}
+use Rattle.std.specs.Iterator.{YieldsFirst, YieldsLast}
 
-module _ (k n len end count : ℕ) where
-  -- before its end not all were passed over
-  pub fewer : k < end → end ≡ min n len → len ≡ count → k < count
-  fewer before least all = omega arith
+-- at its end as many were passed over as are to be, or all
+pub passed_all : (k n len end count : ℕ) → end ≤ k → k ≤ end → end ≡ min n len → len ≡ count → k ≡ min n count
+passed_all k n len end count past within least all = omega arith
 
-  -- at its end as many were passed over as are to be, or all
-  pub passed_all : end ≤ k → k ≤ end → end ≡ min n len → len ≡ count → k ≡ min n count
-  passed_all past within least all = omega arith
+module _ {X : Type 0} (before after : Live X) where
+  -- the first item was taken, or there is none
+  pub first-came : (item : Option X) → MatchOption item ((before.items ≡ []) × (after ≡ before))
+      (λ item. (before.items ≡ item ∷ after.items) × (after.room ≡ before.room))
+      → YieldsFirst (λ left. left) before.items item after.items
+  first-came None (none, same) = (none, ap (λ block. block.items) same ∙ none)
+  first-came (Some item) (here, _) = here
 
-module _ {X : Type 0} (k : ℕ) (items left : List X) where
-  pub one_left : left ≡ drop k items → k < length items → 0 < length left
-  one_left here below = omega (arith, ap length here ∙ length-drop k items)
-
-  -- the same from the back
-  pub one_left-back : reverse left ≡ drop k (reverse items) → k < length items → 0 < length left
-  one_left-back here below = omega (
-    arith,
-    ap length here ∙ length-drop k (reverse items),
-    length-reverse left,
-    length-reverse items,
-  )
+  -- the last item was taken, or there is none
+  pub last-came : (item : Option X) → MatchOption item ((before.items ≡ []) × (after ≡ before))
+      (λ item. (before.items ≡ after.items ++ item ∷ []) × (after.room ≡ before.room + 1))
+      → YieldsLast (λ left. left) before.items item after.items
+  last-came None (none, same) = (none, ap (λ block. block.items) same ∙ none)
+  last-came (Some item) (here, _) = here

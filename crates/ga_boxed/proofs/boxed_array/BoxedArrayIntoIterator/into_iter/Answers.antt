@@ -1,6 +1,6 @@
 use Rattle.ga_core.proofs.IterLemmas.{rest_runs, rest_runs_back}
 use Rattle.ga_boxed.proofs.boxed_array.BoxedArrayIntoIterator.into_iter.Goals as goal
-use Rattle.std.proofs.Common.{◌∙◌, ap}
+use Rattle.std.proofs.Common.{◌∙◌, ap, length, sym}
 
 pub returns : goal.returns
 returns g c = record {
@@ -9,5 +9,6 @@ returns g c = record {
         ∙ (ap (λ block. block.items) c.counted.ensures ∙ c.self.view_is),
     rest_runs,
     rest_runs_back,
+    ap length (sym c.self.view_is) ∙ c.self.invariant,
   );
 }
