@@ -1,15 +1,38 @@
 //! A build succeeds exactly where N items come.
+ghost use Rattle.generic_array.specs.Built.{built_items};
+ghost use Rattle.generic_array.specs.Fill.{Fills, FillsFallibly};
+ghost use Rattle.generic_array.specs.FillAnswer.{fill_answer};
+ghost use Rattle.generic_array.specs.Length.{FitsInline};
 ghost use Rattle.generic_array.specs.Tries.{try_map};
-ghost use Rattle.std.specs.Prelude.{◌≡◌, IfOk, IsOk, Ok, Result, length, map};
+ghost use Rattle.std.specs.Prelude.{◌≡◌, IfOk, IsOk, Ok, OnErr, Result, length, map};
 
 use generic_array::sequence::FromFallibleIterator;
-use generic_array::{FillError, Never};
+use generic_array::{
+    AllocError, ArrayLength, BoxedArray, FillError, GenericArray, LengthError, Never, Unsigned,
+};
+use std::alloc::Global;
 
-/// The sequence of the items that come: `Ok` exactly where these are `Length`, or an error where memory
-/// is refused.
+/// The sequence of the values that an iterator gives, or its first error, of any kind that can be filled.
 ///
-/// Memory for inline arrays is never refused (`IsPromised`).
-pub fn build<T: Drop, S: FromFallibleIterator<T>>(
+/// What was built, what was taken and what is left of the iterator are those of the fill. Memory for inline
+/// arrays is never refused (`IsPromised`); where memory is refused, no item is taken.
+pub fn build<T, E: Drop, S: FromFallibleIterator<T>, I: Iterator<Item = Result<T, E>>>(
+    place: S::Place,
+    items: &mut I,
+) -> Result<S, FillError<E, S::Error>>
+    requires fits { S.Fits }
+    requires can { I.can_next items.old }
+    ensures fill { IfOk (fill_answer (built_items S.items result)) (λ built.
+        FillsFallibly I.next_gives items.old S.Length.USIZE built items.new) }
+    ensures err { OnErr (fill_answer (built_items S.items result)) (items.new ≡ items.old) }
+    ensures promised { S.IsPromised → IsOk (fill_answer (built_items S.items result)) }
+{
+    S::from_fallible_iter_ref(place, items)
+}
+
+/// `build` of good items alone, which a vector holds: `Ok` exactly where these are `Length`, or an error
+/// where memory is refused.
+pub fn build_of_items<T: Drop, S: FromFallibleIterator<T>>(
     place: S::Place,
     items: Vec<T>,
 ) -> Result<S, FillError<Never, S::Error>>
@@ -21,7 +44,7 @@ pub fn build<T: Drop, S: FromFallibleIterator<T>>(
     build_of_results(place, items)
 }
 
-// The items as good results, of which `build` says that they are the items.
+// The items as good results, of which `build_of_items` says that they are the items.
 fn build_of_results<T: Drop, E: Drop, S: FromFallibleIterator<T>>(
     place: S::Place,
     items: Vec<T>,
@@ -38,4 +61,29 @@ fn build_of_results<T: Drop, E: Drop, S: FromFallibleIterator<T>>(
             .into_iter()
             .map(|item: T| -> Result<T, E> { Ok(item) }),
     )
+}
+
+/// The inline array of the items of any iterator, `Ok` exactly where N items come and then the end. At most
+/// N + 1 items are taken.
+pub fn fill_inline<T: Default + Drop, N: ArrayLength<T>, I: Iterator<Item = T>>(
+    items: &mut I,
+) -> Result<GenericArray<T, N>, LengthError>
+    requires fits { FitsInline N.USIZE }
+    requires can { I.can_next items.old }
+    ensures fill { Fills I.next_gives items.old N.USIZE result items.new }
+{
+    GenericArray::try_from_iter_ref(items)
+}
+
+/// `fill_inline` of a boxed array. Where memory is refused, no item is taken.
+pub fn fill_boxed<T: Drop, N: Unsigned, I: Iterator<Item = T>>(
+    alloc: Global,
+    items: &mut I,
+) -> Result<Result<BoxedArray<T, N>, LengthError>, AllocError>
+    requires can { I.can_next items.old }
+    ensures fill { IfOk result (λ built. Fills I.next_gives items.old N.USIZE built items.new) }
+    ensures err { OnErr result (items.new ≡ items.old) }
+    ensures empty { N.USIZE ≡ 0 → IsOk result }
+{
+    BoxedArray::try_boxed_from_iter_ref(alloc, items)
 }

@@ -5,7 +5,7 @@ ghost use Rattle.generic_array.specs.Entries.{CallAt, CallAtPair, FoldAt};
 ghost use Rattle.generic_array.specs.EntryRuns.{MayTryFold, TryFoldRun};
 ghost use Rattle.generic_array.specs.Runs.{ClosureRun, FirstErrorRun, FoldRun};
 ghost use Rattle.std.specs.List.{zip};
-ghost use Rattle.std.specs.Prelude.{◌≡◌, IfOk, IsOk, length};
+ghost use Rattle.std.specs.Prelude.{◌≡◌, IfOk, OnErr};
 
 use generic_array::functional::{
     FunctionalSequence, Mapped, MappedError, MappedGenericSequence, MappedPlace, MappedSequence,
@@ -26,6 +26,7 @@ where
     requires callable { MayMap S.entry F.pre F.step f.old (S.items s) }
     ensures run { IfOk result (λ made.
         ClosureRun (CallAt S.entry F.step) f.old (S.items s) (S.Mapped.Sequence.items made) f.new) }
+    ensures err { OnErr result (f.new ≡ f.old) }
 {
     s.map_by(place, f)
 }
@@ -47,6 +48,7 @@ where
     ensures run { IfOk result (λ made.
         ClosureRun (CallAtPair S.entry Rhs.entry F.step) f.old (zip (S.items s) (Rhs.items rhs))
         (S.Mapped.Sequence.items made) f.new) }
+    ensures err { OnErr result (f.new ≡ f.old) }
 {
     s.zip_by(place, rhs, f)
 }
@@ -77,6 +79,7 @@ where
     ensures run { IfOk result (λ built.
         FirstErrorRun (CallAt S.entry F.step) f.old (S.items s)
         (built_items S.Mapped.Sequence.items built) f.new) }
+    ensures err { OnErr result (f.new ≡ f.old) }
 {
     s.try_map_by(place, f)
 }

@@ -6,10 +6,11 @@ ghost use Rattle.generic_array.specs.Length.{FitsInline};
 ghost use Rattle.generic_array.specs.Rows.{rows};
 ghost use Rattle.std.specs.Fn.{FnOnceReturnsAt, FnOnceReturnsAtPair};
 ghost use Rattle.std.specs.List.{flat_map};
-ghost use Rattle.std.specs.Prelude.{◌≡◌, ◌+◌, ◌*◌, [], ◌∷◌, ◌++◌, drop, if◌then◌else◌, take};
+ghost use Rattle.std.specs.Prelude.{◌≡◌, ◌+◌, ◌*◌, ◌<◌, [], ◌∷◌, ◌++◌, drop, if◌then◌else◌, take};
 
 use generic_array::sequence::{Concat, Flatten, Lengthen, Shorten, Split, Unflatten};
-use generic_array::{ArrayLength, GenericArray, U2};
+use generic_array::{ArrayLength, GenericArray};
+use std::convert::AsSlice;
 
 /// An item put at the back and popped there, or at the front where `at_front`.
 pub fn put_then_pop<
@@ -114,39 +115,44 @@ pub fn concat_then_split<
     (first, second, seen)
 }
 
-/// An array of rows of two bytes. A row of a type that is a parameter can't be named in a bound.
-pub type Pairs<R> = GenericArray<GenericArray<u8, U2>, R>;
-
-/// An array cut into rows and joined.
-pub fn unflatten_then_flatten<
-    N: ArrayLength<u8>,
-    R: ArrayLength<GenericArray<u8, U2>>,
-    A,
-    S: FnOnce(&[GenericArray<u8, U2>]) -> A,
->(array: GenericArray<u8, N>, see: S) -> (GenericArray<u8, N>, A)
-    requires area { N.USIZE ≡ R.USIZE * 2 }
+/// A sequence cut into rows of any width and joined, of whatever sequences these are. That the traits of both
+/// name the same items, rows and width is a condition, which arrays of any length and items meet.
+pub fn unflatten_then_flatten<T, Flat, Rows, A, S>(flat: Flat, see: S) -> (Flat, A)
+where
+    Flat: Unflatten<T, Rows>,
+    Rows: Flatten<T, Flat>,
+    S: FnOnce(&Rows) -> A,
+    requires area { Flat.IsArea }
+    requires rows_area { Rows.IsArea }
+    requires same_rows { (rows : Rows) → Rows.row_items rows ≡ Flat.output_rows rows }
     requires callable { S.IsAlwaysCallable see }
-    ensures array { result.0 ≡ array }
-    ensures between { FnOnceReturnsAt S.FnOnce see (rows 2 array) result.1 }
+    ensures items { Rows.output_items result.0 ≡ Flat.items flat }
+    ensures between { (between : Rows) × (Flat.output_rows between ≡ rows Flat.WIDTH (Flat.items flat))
+        × FnOnceReturnsAt S.FnOnce see between result.1 }
 {
-    let rows: Pairs<R> = array.unflatten();
-    let seen = see(rows.as_slice());
+    let rows = flat.unflatten();
+    let seen = see(&rows);
     (rows.flatten(), seen)
 }
 
-/// Rows joined and cut again.
-pub fn flatten_then_unflatten<
-    N: ArrayLength<u8>,
-    R: ArrayLength<GenericArray<u8, U2>>,
-    A,
-    S: FnOnce(&[u8]) -> A,
->(rows: Pairs<R>, see: S) -> (Pairs<R>, A)
-    requires area { (N.USIZE ≡ R.USIZE * 2) × FitsInline N.USIZE }
+/// Rows joined and cut again, of whatever sequences these are. That the traits of both name the same items
+/// and rows is a condition, which arrays meet.
+pub fn flatten_then_unflatten<T, Flat, Rows, A, S>(rows: Rows, see: S) -> (Rows, A)
+where
+    Flat: Unflatten<T, Rows> + AsSlice<T>,
+    Rows: Flatten<T, Flat>,
+    S: FnOnce(&[T]) -> A,
+    requires area { Rows.IsArea }
+    requires rows_area { Flat.Unflatten.IsArea }
+    requires same_width { Flat.Unflatten.WIDTH ≡ Rows.WIDTH }
+    requires same_items { (flat : Flat) → Flat.Unflatten.items flat ≡ Rows.output_items flat }
+    requires same_slice { (flat : Flat) → Flat.AsSlice.items flat ≡ Rows.output_items flat }
+    requires some { 0 < Rows.WIDTH }
     requires callable { S.IsAlwaysCallable see }
-    ensures rows { result.0 ≡ rows }
-    ensures between { FnOnceReturnsAt S.FnOnce see (flat_map (λ row. row) rows) result.1 }
+    ensures rows { Flat.Unflatten.output_rows result.0 ≡ Rows.row_items rows }
+    ensures between { FnOnceReturnsAt S.FnOnce see (flat_map (λ row. row) (Rows.row_items rows)) result.1 }
 {
-    let array: GenericArray<u8, N> = rows.flatten();
-    let seen = see(array.as_slice());
-    (array.unflatten(), seen)
+    let flat = rows.flatten();
+    let seen = see(flat.as_slice());
+    (flat.unflatten(), seen)
 }

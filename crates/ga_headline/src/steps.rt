@@ -2,7 +2,7 @@
 ghost use Rattle.generic_array.specs.Account.{Account};
 ghost use Rattle.generic_array.specs.Entries.{CallAt, MayCallAt};
 ghost use Rattle.generic_array.specs.Steps.{MaySteps, StepGivesReply, StepsRun};
-ghost use Rattle.std.specs.Prelude.{◌≡◌, List, ◌++◌, IfOk};
+ghost use Rattle.std.specs.Prelude.{◌≡◌, List, ◌++◌, IfOk, OnErr};
 
 use generic_array::AllocError;
 use generic_array::steps::{Reply, Step, TwoEndedSequence, run_steps};
@@ -10,7 +10,7 @@ use generic_array::steps::{Reply, Step, TwoEndedSequence, run_steps};
 /// Runs any steps over the items of a sequence, and returns the iterator over those that are left.
 ///
 /// The steps and the replies are those of the list of the sequence's items. No item is lost or doubled
-/// (`Account`).
+/// (`Account`). Where there is no room for the replies, no step is made.
 pub fn walk<T: Drop, R, S: TwoEndedSequence<T>, G: FnMut(&[T]) -> R>(
     s: S,
     steps: Vec<Step<T>>,
@@ -24,6 +24,7 @@ pub fn walk<T: Drop, R, S: TwoEndedSequence<T>, G: FnMut(&[T]) -> R>(
         × StepsRun (CallAt (λ slice. slice.now) G.step) (S.items s, look.old) steps.items given
         (S.TwoEnded.items left, look.new)
         × Account (S.items s) steps.items given (S.TwoEnded.items left)) }
+    ensures err { OnErr result ((look.new ≡ look.old) × (replies.new.items ≡ replies.old.items)) }
 {
     let mut left = s.into_two_ended();
     run_steps(&mut left, steps, look, replies)?;
