@@ -1,12 +1,13 @@
 //! Boxed arrays: builds, writes and walks, and threads.
 ghost use Rattle.generic_array.specs.FillAnswer.{fill_answer};
+ghost use Rattle.generic_array.specs.Length.{FitsInline};
 ghost use Rattle.std.specs.Prelude.{◌≡◌, ◌%◌, ◌∷◌, [], ◌^◌, ◌<◌, ◌↔◌, ◌⊎◌, IfErr, IfOk, IsOk, Ok, OnOk, length, reverse, slice_set, sum};
 
 use crate::kinds::boxed_one_two_three;
 use ga_core_callers::answers::gives;
 use ga_core_callers::digits::decimal_digit;
 use generic_array::{
-    AllocError, BoxedArray, BoxedArrayIter, FillError, GenericArray, LengthError, LiveBlock, U0,
+    AllocError, ArrayLength, BoxedArray, BoxedArrayIter, FillError, GenericArray, LengthError, LiveBlock, U0,
     U2, U3, U4, Unsigned, box_arr,
 };
 use std::alloc::Global;
@@ -130,10 +131,10 @@ fn total_that_wraps<N: Unsigned>(array: BoxedArray<u32, N>) -> u32
     total
 }
 
-fn reversed(
+fn reversed<N: Unsigned>(
     alloc: Global,
-    array: BoxedArray<u8, U3>,
-) -> Result<Result<BoxedArray<u8, U3>, LengthError>, AllocError>
+    array: BoxedArray<u8, N>,
+) -> Result<Result<BoxedArray<u8, N>, LengthError>, AllocError>
     ensures ok { IfOk result (λ built. IsOk built) }
     ensures items { IfOk result (λ built. IfOk built (λ turned. turned ≡ reverse array)) }
 {
@@ -141,7 +142,8 @@ fn reversed(
 }
 
 /// The items of a block as an inline array.
-fn moved_out(array: BoxedArray<u8, U3>) -> Result<GenericArray<u8, U3>, LengthError>
+fn moved_out<N: ArrayLength<u8>>(array: BoxedArray<u8, N>) -> Result<GenericArray<u8, N>, LengthError>
+    requires { FitsInline N.USIZE }
     ensures { result ≡ Ok array }
 {
     GenericArray::try_from_iter(array.into_iter())

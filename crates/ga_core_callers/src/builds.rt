@@ -3,7 +3,7 @@ ghost use Rattle.std.specs.Prelude.{◌≡◌, ◌<◌, ◌⊎◌, ◌∷◌, []
 
 use crate::answers::{gives, has};
 use crate::digits::decimal_digit;
-use ga_core::{AllocError, ArrayBuilder, GenericArray, LengthError, U2, U3, U4, U7};
+use ga_core::{AllocError, ArrayBuilder, ArrayLength, GenericArray, LengthError, U2, U3, U4, U7};
 
 fn four_of(bytes: &[u8]) -> Result<GenericArray<u8, U4>, LengthError>
     ensures variant { IsOk result ↔ (length bytes.now ≡ 4) }
@@ -83,7 +83,9 @@ fn sevens() -> Result<GenericArray<u8, U3>, AllocError>
     GenericArray::repeat(7)
 }
 
-fn copied(array: &GenericArray<u8, U3>) -> Result<GenericArray<u8, U3>, AllocError>
+fn copied<N: ArrayLength<u8>>(
+    array: &GenericArray<u8, N>,
+) -> Result<GenericArray<u8, N>, AllocError>
     ensures { result ≡ Ok array.now }
 {
     array.clone()

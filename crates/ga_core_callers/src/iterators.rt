@@ -1,9 +1,12 @@
 //! Callers of the iterator by value, each proved.
-ghost use Rattle.std.specs.Prelude.{◌≡◌, ◌^◌, ◌<◌, IfOk, IsOk, reverse, sum};
+ghost use Rattle.ga_core.specs.Length.{FitsInline};
+ghost use Rattle.std.specs.Prelude.{◌≡◌, ◌^◌, ◌<◌, ◌≤◌, IfOk, IsOk, Ok, reverse, sum, take};
 
 use crate::answers::gives;
 use crate::numbers::one_two_three;
-use ga_core::{ArrayLength, GenericArray, LengthError, U3};
+use ga_core::{
+    AllocError, ArrayBuilder, ArrayLength, GenericArray, GenericArrayIter, LengthError, U2, U3,
+};
 
 fn total<N: ArrayLength<u32>>(array: GenericArray<u32, N>) -> u32
     requires fits { sum array < 2 ^ 32 }
@@ -16,15 +19,45 @@ fn total<N: ArrayLength<u32>>(array: GenericArray<u32, N>) -> u32
     total
 }
 
-fn reversed(array: GenericArray<u8, U3>) -> Result<GenericArray<u8, U3>, LengthError>
+fn reversed<N: ArrayLength<u8>>(
+    array: GenericArray<u8, N>,
+) -> Result<GenericArray<u8, N>, LengthError>
     ensures ok { IsOk result }
     ensures items { IfOk result (λ turned. turned ≡ reverse array) }
 {
     GenericArray::try_from_iter(array.into_iter().rev())
 }
 
+fn left_copied<N: ArrayLength<u8>>(
+    left: &GenericArrayIter<u8, N>,
+) -> Result<GenericArrayIter<u8, N>, AllocError>
+    ensures { result ≡ Ok left.now }
+{
+    left.clone()
+}
+
+/// The first items of an array, without a call for each.
+fn front_of<N: ArrayLength<u8>, K: ArrayLength<u8>>(
+    array: GenericArray<u8, N>,
+) -> GenericArray<u8, K>
+    requires len { K.USIZE ≤ N.USIZE }
+    requires fits { FitsInline K.USIZE }
+    ensures { result ≡ take K.USIZE array }
+{
+    let mut items = array.into_iter();
+    let mut front = ArrayBuilder::new();
+    front.take_from(&mut items, K::USIZE);
+    front.finish()
+}
+
 #[test]
 fn callers_get_what_their_contracts_say(rt: HostRuntime) {
     assert!(rt; total(one_two_three()) == 6);
-    assert!(rt; gives(reversed(GenericArray::from([1, 2, 3])), &[3, 2, 1]));
+    assert!(rt; gives(reversed::<U3>(GenericArray::from([1, 2, 3])), &[3, 2, 1]));
+    let mut left = GenericArray::<u8, U3>::from([1, 2, 3]).into_iter();
+    let _first = left.next();
+    assert!(rt;
+        matches!(left_copied::<U3>(&left), Ok(copy) if copy.as_slice() == [2, 3].as_slice())
+    );
+    assert!(rt; front_of::<U3, U2>(GenericArray::from([1, 2, 3])) == GenericArray::from([1, 2]));
 }
