@@ -95,11 +95,16 @@ impl<'a, N: ArrayLength<u8>> RecordBlock<'a, N> {
         None
     }
 
-    /// Writes the bytes of all records, in order, by one `write_all`. Returns the first error of
-    /// the writer, and says nothing of how much was written.
+    /// Writes the bytes of all records, in order, by one `write_all`, and by none if there are no
+    /// records. Returns the first error of the writer, and says nothing of how much was written.
     pub fn write_to<W: Write>(&self, w: &mut W) -> Result<(), io::Error>
-        ensures { OnOk result (Appends (W.contents w.old) (W.contents w.new) (bytes_of self.now)) }
+        ensures written { OnOk result (Appends (W.contents w.old) (W.contents w.new) (bytes_of self.now)) }
+        ensures empty { length (bytes_of self.now) ≡ 0 → IsOk result }
     {
-        w.write_all(self.records.as_slice())
+        let bytes = self.records.as_slice();
+        if bytes.is_empty() {
+            return Ok(());
+        }
+        w.write_all(bytes)
     }
 }
