@@ -14,6 +14,7 @@ pub use Rattle.ga_core.specs.Entries
 pub use Rattle.ga_core.specs.Fill
 pub use Rattle.ga_core.specs.HexText
 pub use Rattle.ga_core.specs.Iteration
+pub use Rattle.ga_core.specs.Lends
 pub use Rattle.ga_core.specs.Length
 pub use Rattle.ga_core.specs.Parts
 pub use Rattle.ga_core.specs.RowIteration

@@ -1,4 +1,5 @@
 //! The shapes of views and of references to arrays.
+ghost use Rattle.ga_core.specs.Lends.{LendsBothParts};
 ghost use Rattle.ga_core.specs.Parts.{LendsHalves};
 ghost use Rattle.ga_core.specs.Views.{items_of_view};
 ghost use Rattle.std.specs.Borrow.{sem};
@@ -60,8 +61,8 @@ impl<'a, T, N: ArrayLength<T>, K: Unsigned, M: Unsigned> Split<
 /// through either is written to the slice, and to no other item. A view's length need not fit
 /// inline. O(1).
 ///
-/// A proof learns the parts, and not what the slice ends as: for that, cut the view's
-/// `as_mut_slice` and make a view of each part.
+/// The checker doesn't read `writes_back` for callers. Where a proof needs what the slice ends as,
+/// cut the view's `as_mut_slice` and make a view of each part.
 impl<'a, T, N: Unsigned, K: Unsigned, M: Unsigned> Split<
     T,
     GenericArrayMut<'a, T, K>,
@@ -78,14 +79,22 @@ impl<'a, T, N: Unsigned, K: Unsigned, M: Unsigned> Split<
     ghost IsSum = { N.USIZE ≡ K.USIZE + M.USIZE };
 
     #[inline]
-    fn split(self) -> (GenericArrayMut<'a, T, K>, GenericArrayMut<'a, T, M>) {
-        halves_of(self)
+    fn split(self) -> (GenericArrayMut<'a, T, K>, GenericArrayMut<'a, T, M>)
+        requires { N.USIZE ≡ K.USIZE + M.USIZE }
+        ensures* writes_back { sem 𝓛 (LendsHalves T.row self.entry.slice result.0.slice result.1.slice) }
+        ensures first { result.0.slice.now ≡ take K.USIZE self.entry.slice.now }
+        ensures second { result.1.slice.now ≡ drop K.USIZE self.entry.slice.now }
+    {
+        let (first, second) = self.into_mut_slice().split_at_mut(K::USIZE);
+        views_of(first, second)
     }
 }
 
-/// Two views of the array's parts for writing, for the lifetime of the borrow. A contract says
-/// which items each part has, and nothing of what is written: for that, cut `as_mut_slice` of the
-/// array.
+/// Two views of the array's parts for writing, for the lifetime of the borrow. What is written
+/// through either is written to the array, and to no other item. O(1).
+///
+/// The checker doesn't read `writes_back` for callers. Where a proof needs what the array ends as,
+/// cut the array's `as_mut_slice` and make a view of each part.
 impl<'a, T, N: ArrayLength<T>, K: Unsigned, M: Unsigned> Split<
     T,
     GenericArrayMut<'a, T, K>,
@@ -102,29 +111,15 @@ impl<'a, T, N: ArrayLength<T>, K: Unsigned, M: Unsigned> Split<
     ghost IsSum = { N.USIZE ≡ K.USIZE + M.USIZE };
 
     #[inline]
-    fn split(self) -> (GenericArrayMut<'a, T, K>, GenericArrayMut<'a, T, M>) {
-        let ViewMut { slice, of, len } = self;
-        halves_of(ViewMut {
-            slice: slice.as_mut_slice(),
-            of,
-            len,
-        })
+    fn split(self) -> (GenericArrayMut<'a, T, K>, GenericArrayMut<'a, T, M>)
+        requires { N.USIZE ≡ K.USIZE + M.USIZE }
+        ensures* writes_back { sem 𝓛 (LendsBothParts T.row N.row N.ArrayType.row N.Unsigned N.ArrayType.Store
+            self.entry.slice result.0.slice result.1.slice) }
+        ensures first { result.0.slice.now ≡ take K.USIZE self.entry.slice.now }
+        ensures second { result.1.slice.now ≡ drop K.USIZE self.entry.slice.now }
+    {
+        GenericArrayMut::<T, N>::from_mut_slice(self.slice.as_mut_slice()).split()
     }
-}
-
-// The halves of a writing view: once both borrows end, the slice is the first half's items and
-// then the second's.
-#[inline]
-fn halves_of<'a, T, N: Unsigned, K: Unsigned, M: Unsigned>(
-    view: GenericArrayMut<'a, T, N>,
-) -> (GenericArrayMut<'a, T, K>, GenericArrayMut<'a, T, M>)
-    requires sum { N.USIZE ≡ K.USIZE + M.USIZE }
-    ensures* writes_back { sem 𝓛 (LendsHalves T.row view.entry.slice result.0.slice result.1.slice) }
-    ensures first { result.0.slice.now ≡ take K.USIZE view.entry.slice.now }
-    ensures second { result.1.slice.now ≡ drop K.USIZE view.entry.slice.now }
-{
-    let (first, second) = view.into_mut_slice().split_at_mut(K::USIZE);
-    views_of(first, second)
 }
 
 // The views of two slices for writing.

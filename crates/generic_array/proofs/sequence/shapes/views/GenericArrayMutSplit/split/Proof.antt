@@ -1,4 +1,4 @@
--- `halves_of` cuts the slice of a view and makes a view of each part, so the slice ends as what the two views' slices
+-- `split` cuts the slice of a view and makes a view of each part, so the slice ends as what the two views' slices
 -- end as, one after the other. The borrow checker shows no clause on two parts where they are passed on to a call
 -- that makes views of them, so this proof walks the code by hand. Assumes `Logic`.
 use Prim.Native.Nat.{ℕ}
@@ -10,10 +10,10 @@ use Rattle.ga_core.proofs.LengthCall.{calls_length}
 use Rattle.ga_core.proofs.SliceLaws.{array_laws, ArrayView, Slice, slice_laws}
 use Rattle.ga_core.proofs.SplitWalk.{cuts}
 use Rattle.ga_core.specs.declared.Unsigned as unsigned
-use Rattle.generic_array.proofs.sequence.shapes.views.halves_of.Code as code
-use Rattle.generic_array.proofs.sequence.shapes.views.halves_of.Statement.{statement}
+use Rattle.generic_array.proofs.sequence.shapes.views.GenericArrayMutSplit.split.Code as code
+use Rattle.generic_array.proofs.sequence.shapes.views.GenericArrayMutSplit.split.Statement.{statement}
 use Rattle.generic_array.proofs.sequence.shapes.views.views_of.Met as made
-use Rattle.generic_array.specs.contracts.sequence.shapes.views.halves_of as F
+use Rattle.generic_array.specs.contracts.sequence.shapes.views.GenericArrayMutSplit.split as F
 use Rattle.generic_array.specs.contracts.sequence.shapes.views.views_of as make_contract
 use Rattle.std.proofs.Common.{◌≡◌, ◌+◌, ◌++◌, ◌≤◌, [], ◌∷◌, ◌∙◌, ap, arith, drop as drop_l, length, List, refl, sym}
 use Rattle.std.proofs.Common.{take}
@@ -83,8 +83,8 @@ module _ (X N K P : RattleType) (gN : unsigned.Ghosts N.Denot) (dN : Dict) (gK :
   abbrev slot : Slot 5
   slot = plain (λ κs. View X κs.0 1 N gN)
 
-pub halves_of_spec : {M : Type 1} → statement M
-halves_of_spec 𝓤 𝓛 𝓜 𝓡 wired X N K P LX LN LK LP gN dN gK dK gP dP boundN boundK boundP =
+pub split_spec : {M : Type 1} → statement M
+split_spec 𝓤 𝓛 𝓜 𝓡 wired X N K P LX LN LK LP gN dN gK dK gP dP boundN boundK boundP =
     let ends = ended X N K P gN dN gK dK gP dP in
     let one = slot X N K P gN dN gK dK gP dP in
     let kept : Stays ends.signature.params ends.kept = (stay_dropped one no, tt) in

@@ -1,0 +1,251 @@
+-- `split` of the view of an array lends the array's slice and cuts the view of that, so the array ends as what the two
+-- views' slices end as, one after the other. The borrow checker shows no clause on two parts of what is lent on, so
+-- this proof walks the code by hand. Assumes `Logic`.
+use Rattle.ga_core.below.ga_views.proofs.view_mut.ViewMut+mut+slice+T+T+N.from_mut_slice.Met as viewed
+use Rattle.ga_core.below.ga_views.specs.contracts.view_mut.ViewMut+mut+slice+T+T+N.from_mut_slice as view_contract
+use Rattle.ga_core.below.ga_views.specs.declared.reborrow.ReborrowSlice as reborrow
+use Rattle.ga_core.proofs.ViewMut.TheLaws as laws
+use Rattle.ga_core.proofs.SliceLaws.{array_laws, ArrayView, Slice}
+use Rattle.ga_core.proofs.SliceWalk.{asks_of, passes}
+use Rattle.ga_core.proofs.array.GenericArray.TheLaws as items_laws
+use Rattle.ga_core.proofs.array.GenericArray.as_mut_slice.Met as lent
+use Rattle.ga_core.specs.Lends.{array_with, LendsBothParts, LendsItems}
+use Rattle.ga_core.specs.Length.{FitsInline}
+use Rattle.ga_core.specs.Parts.{LendsHalves}
+use Rattle.ga_core.specs.contracts.ViewMut as view
+use Rattle.ga_core.specs.contracts.array.GenericArray as items
+use Rattle.ga_core.specs.contracts.array.GenericArray.as_mut_slice as lend_contract
+use Rattle.ga_core.specs.contracts.array.reborrow.RefMutGenericArrayReborrowSlice.TheImpl as impl
+use Rattle.ga_core.specs.declared.Unsigned as unsigned
+use Rattle.ga_core.specs.declared.length.ArrayLength as array_length
+use Rattle.ga_core.specs.declared.store.Store as store
+use Rattle.generic_array.proofs.FollowLemmas.{follows_both_then}
+use Rattle.generic_array.proofs.sequence.shapes.views.GenericArrayMutSplit.split.Met as halved
+use Rattle.generic_array.proofs.sequence.shapes.views.ViewMutRefMutGenericArraySplitGenericArrayMutGenericArrayMut.split.Code as code
+use Rattle.generic_array.proofs.sequence.shapes.views.ViewMutRefMutGenericArraySplitGenericArrayMutGenericArrayMut.split.Statement.{statement}
+use Rattle.generic_array.specs.contracts.sequence.shapes.views.GenericArrayMutSplit.split as halve_contract
+use Rattle.generic_array.specs.contracts.sequence.shapes.views.ViewMutRefMutGenericArraySplitGenericArrayMutGenericArrayMut.split as F
+use Rattle.std.proofs.Common.{◌≡◌, ◌+◌, ◌++◌, [], ◌∷◌, ◌∙◌, ap, drop as drop_l, length, List, refl, take}
+use Rattle.std.proofs.alloc.Calls.{Goes-blank}
+use Rattle.std.proofs.raw_atomic.Walks.{leaves, proved}
+use base.Fml.{flft, ftrue, Lft}
+use base.Logic.{emp, id⊢}
+use contract.BorrowLft.{◌⊑◌}
+use contract.Monad.{fact, fact_i}
+use contract.Running.{tables}
+use denote.Array.{Array}
+use denote.Exit.{no}
+use denote.Laws.{Is, shows}
+use denote.Param.Laws.{field_told, Laws, of_field, param_laws, row_shared, Told}
+use denote.Param.Shared.{mut_ref_shared}
+use denote.Param.{param}
+use denote.RattleType.{owns, RattleType}
+use denote.Ref.{mut_Tells, mut_vals, NamedLft}
+use denote.Signature.{plain, Slot}
+use denote.Steps.{heard, nothing, only, peeks}
+use denote.Struct.Field.{mut_ref_field}
+use denote.Struct.Laws.{mut_ref_laws}
+use denote.Struct.Tuple.{Tuple, tuple_laws}
+use denote.Triple.Call.{calls_at}
+use denote.Triple.Clauses.{Ended, Lasts, lasts}
+use denote.Triple.Spec.{triple_of}
+use denote.Triple.Table.{framed}
+use denote.Triple.Walked.{stay_dropped, Stays, walk_of}
+use mir.Syntax.{Dict, named}
+use mir.Val.{Val}
+use types.ByLocal.{alloc_all, free_all, get, lands_as, look_at, look_in_at, pass_all, sets}
+use types.Kit.{‵, ◌⊛◌, ◌$◌, ◌∵◌, !, await, by, drop, feq_l, fjoin, fpick, fsplit, group, join, later, move, pick, qed}
+use types.Kit.{raw, rewrite, some, split, split3, use0, use1, use2}
+use types.Part.{sub, whole}
+use types.Run.{addr, and_then, enter, fld, from, hop, no_more, returns, stop}
+
+-- the array of A's slots, the reference to it, and the view of that
+module _ (X N A : RattleType) (gL : array_length.Ghosts N.Denot X.Denot A.Denot) (gN : unsigned.Ghosts N.Denot)
+    (gS : store.Ghosts A.Denot X.Denot) (κ : Lft) where
+  abbrev lasting : NamedLft
+  lasting = record { mir = named 0; lft = κ }
+
+  abbrev Items : RattleType
+  Items = items.the_row (param 0 X) (param 1 N) (param 4 A) gN gS
+
+  abbrev Ref : RattleType
+  Ref = (mut_ref_field lasting Items tt).row
+
+  abbrev ghosts : reborrow.Ghosts Ref.Denot X.Denot
+  ghosts = impl.ghosts (param 0 X) (param 1 N) (param 4 A) gL impl.no_dict gN impl.no_dict gS impl.no_dict impl.no_dict
+
+  abbrev View : RattleType
+  View = view.the_row Ref (param 0 X) (param 1 N) ghosts gN
+
+  module _ (LX : Laws X) (LN : Laws N) (LA : Laws A) where
+    abbrev ref_laws : Laws Ref
+    ref_laws = of_field (mut_ref_field lasting Items tt) (mut_ref_laws lasting Items tt) refl
+        (mut_ref_shared lasting Items tt (row_shared Items (items_laws.the_row_laws (param 0 X) (param 1 N) (param 4 A)
+        gN gS (param_laws 0 X LX) (param_laws 1 N LN) (param_laws 4 A LA))))
+
+    abbrev view_laws : Laws View
+    view_laws = laws.the_row_laws Ref (param 0 X) (param 1 N) ghosts gN ref_laws (param_laws 0 X LX) (param_laws 1 N LN)
+
+    abbrev view_told : Told View
+    view_told = laws.the_told Ref (param 0 X) (param 1 N) ghosts gN ref_laws (param_laws 0 X LX) (param_laws 1 N LN)
+        (field_told (mut_ref_field lasting Items tt) (mut_ref_laws lasting Items tt))
+
+-- N, K and P are the types of the lengths of the array and of its two parts
+module _ (X N K P A : RattleType) (gL : array_length.Ghosts N.Denot X.Denot A.Denot) (dL : Dict)
+    (gN : unsigned.Ghosts N.Denot) (dN : Dict) (gS : store.Ghosts A.Denot X.Denot) (dS : Dict)
+    (gK : unsigned.Ghosts K.Denot) (dK : Dict) (gP : unsigned.Ghosts P.Denot) (dP : Dict) (dA : Dict) where
+  abbrev ended : Ended
+  ended = F.ended X N K P A gL dL gN dN gS dS gK dK gP dP dA
+
+  abbrev slot : Slot 6
+  slot = plain (λ κs. View X N A gL gN gS κs.0)
+
+pub split_spec : {M : Type 1} → statement M
+split_spec 𝓤 𝓛 𝓜 𝓡 wired X N K P A LX LN LK LP LA gL dL gN dN gS dS gK dK gP dP dA boundL boundN boundS boundK boundP
+    glue =
+    let ends = ended X N K P A gL dL gN dN gS dS gK dK gP dP dA in
+    let one = slot X N K P A gL dL gN dN gS dS gK dK gP dP dA in
+    let kept : Stays ends.signature.params ends.kept = (stay_dropped one no, tt) in
+    let c = F.clauses X N K P A gL dL gN dN gS dS gK dK gP dP dA 𝓛 𝓜.mem 𝓡.returns in
+    let 𝓣 = tables 𝓤 𝓛.H 𝓜 𝓡 𝓡.env in
+    let E : RattleType = param 0 X in
+    proved 𝓛 ends kept c 𝓜 𝓡 (Goes-blank 𝓛 6 one no (λ κs x f. tt), tt)
+    _ _ (code.unfolded 𝓤 𝓛.H 𝓜 𝓡 wired (X, (N, (K, (P, (A, tt))))) dL dN dS dK dP dA)
+    (λ κs. (λ x. (view_told X N A gL gN gS κs.0 LX LN LA).val x ∷ [], tt))
+    (λ κs. ((view_told X N A gL gN gS κs.0 LX LN LA).tells, tt))
+    (λ κs qs bounds a gh are.
+    let κ : Lft = κs.0 in let κT : Lft = κs.1.0 in let κN : Lft = κs.1.1.0 in let κK : Lft = κs.1.1.1.0 in
+    let κP : Lft = κs.1.1.1.1.0 in let κA : Lft = κs.1.1.1.1.1.0 in
+    let One : RattleType = View X N A gL gN gS κ in let R : RattleType = Ref X N A gL gN gS κ in
+    let L : NamedLft = lasting X N A gL gN gS κ in
+    let Part : RattleType = Slice L 0 X in let Half : RattleType = ArrayView L 0 X 1 N gN in
+    let First : RattleType = ArrayView L 0 X 2 K gK in let Second : RattleType = ArrayView L 0 X 3 P gP in
+    let Answer : RattleType = Tuple (First ∷ Second ∷ []) in
+    let whole_val : Val = (view_told X N A gL gN gS κ LX LN LA).val a.0 in
+    let x = a.0.slice in
+    let W = walk_of 𝓛 ends kept c in
+    let y : W.Ghost = ((κs, qs, bounds, a, (whole_val ∷ [], tt)), tt) in
+    qed 𝓛 (((‵ (flft κ qs.0) ⊛ ‵ (flft κT qs.1.0) ⊛ ‵ (flft κN qs.1.1.0) ⊛ ‵ (flft κK qs.1.1.1.0) ⊛
+    ‵ (flft κP qs.1.1.1.1.0) ⊛ ‵ (flft κA qs.1.1.1.1.1.0) ⊛ ‵ ftrue) ⊛
+    ‵ (owns (One ∷ []) a (whole_val ∷ [], tt))) ∷ raw (fact 𝓤 (κT ⊑ X.lives)) ∷ raw (fact 𝓤 (κN ⊑ N.lives))
+    ∷ raw (fact 𝓤 (κK ⊑ K.lives)) ∷ raw (fact 𝓤 (κP ⊑ P.lives)) ∷ raw (fact 𝓤 (κA ⊑ A.lives))
+    ∷ raw (fact 𝓤 (gN.USIZE ≡ gK.USIZE + gP.USIZE)) ∷ []) ∵
+    move ! (1 ∷ []) $ heard ! _ (λ lT. move ! (1 ∷ []) $ heard ! _ (λ lN. move ! (1 ∷ []) $ heard ! _ (λ lK.
+    move ! (1 ∷ []) $ heard ! _ (λ lP. move ! (1 ∷ []) $ heard ! _ (λ lA. move ! (1 ∷ []) $ heard ! _ (λ sum.
+    let good = ((view_laws X N A gL gN gS κ LX LN LA).lawful 𝓛).typed a.0 (whole_val ∷ []) are.0 in
+    enter ! _ _ _ _ _ $ alloc_all ! (λ l. pass_all ! refl (good.0, tt) $
+    -- the reference is taken out of the view
+    sets ! (addr ! (from ! (fld ! refl (hop ! (look_in_at ! 1 (sub ! 0 refl (whole !))) (stop !))))) refl (tt, tt) $
+    split ! $ move ! (1 ∷ []) $ fsplit ! $ fpick ! (λ vss. fsplit ! $ feq_l ! (λ is_whole. fsplit ! $
+    peeks ! R (Is R) (shows 𝓛 R) x vss.0 (λ is_ref.
+    rewrite ! 0 (λ (vs : List Val). ‵ (R.own_val x vs))
+    (mut_Tells (named 0) κ (Items X N A gL gN gS κ) x vss.0 is_ref) refl $
+    move ! (1 ∷ 2 ∷ []) $ drop ! $ drop ! $
+    -- the array's slice is lent
+    let B = triple_of 𝓛 (lend_contract.signature X N A gL dL gN dN gS dS dA)
+    (lend_contract.spec X N A gL dL gN dN gS dS dA 𝓛 𝓜.mem 𝓡.returns) in
+    let zB : B.Ghost = (
+      (
+        (κ, (κT, (κN, (κA, tt)))),
+        (qs.0, (qs.1.0, (qs.1.1.0, (qs.1.1.1.1.1.0, tt)))),
+        bounds,
+        (x, tt),
+        (mut_vals x, tt),
+      ),
+      tt,
+    ) in
+    nothing ! $ move ! (1 ∷ 0 ∷ []) $ fjoin ! $ move ! (1 ∷ []) $ split3 ! $ move ! (2 ∷ []) $ split3 ! $
+    move ! (2 ∷ []) $ split3 ! $
+    -- [the tokens of P, A; nothing; the tokens of N, K, κ, T; the reference]
+    move ! (5 ∷ 6 ∷ 3 ∷ 1 ∷ 2 ∷ 7 ∷ []) $ group ! 5 $ join ! $
+    nothing ! $ use0 𝓛 (raw (fact 𝓤 (κA ⊑ A.lives))) (fact_i 𝓤 _ (emp 𝓤) lA) $ join ! $
+    use0 𝓛 (raw (fact 𝓤 (κN ⊑ N.lives))) (fact_i 𝓤 _ (emp 𝓤) lN) $ join ! $
+    use0 𝓛 (raw (fact 𝓤 (κT ⊑ X.lives))) (fact_i 𝓤 _ (emp 𝓤) lT) $ join ! $
+    move ! (1 ∷ 0 ∷ []) $ join ! $ use1 𝓛 (raw (B.pre zB)) (id⊢ 𝓤 _) $
+    calls_at ! (framed 𝓤 𝓛.H 𝓜 𝓣) B
+    (lent.met 𝓤 𝓛 𝓜 𝓡 (code.calls-ga_core::array::GenericArray::as_mut_slice 𝓡.env wired) X N A LX LN LA gL dL gN dN gS
+    dS dA boundL boundN boundS glue) zB
+    (and_then ! (get ! refl) (no_more !)) (λ v.
+    use1 𝓛 (later (some (λ (s : Part.Denot). ((‵ (flft κ qs.0) ⊛ ‵ (flft κT qs.1.0) ⊛ ‵ (flft κN qs.1.1.0) ⊛
+    ‵ (flft κA qs.1.1.1.1.1.0) ⊛ ‵ ftrue) ⊛ ‵ (Part.own_val s (v ∷ []))) ⊛
+    some (λ (ws : Lasts (lend_contract.ended X N A gL dL gN dN gS dS dA) zB.0.0 zB.0.3).
+    ‵ (lasts (lend_contract.ended X N A gL dL gN dN gS dS dA) zB.0.0 zB.0.3 ws) ⊛
+    ‵ (LendsItems E (param 1 N) (param 4 A) gN gS x s) ⊛ raw (fact 𝓤 (s.now ≡ x.now)) ⊛
+    raw (fact 𝓤 (length s.now ≡ gN.USIZE)) ⊛ raw (fact 𝓤 (FitsInline gN.USIZE)))))) (id⊢ 𝓤 _) $
+    await ! tt $ pick ! (λ s. split ! $ split ! $ move ! (2 ∷ []) $ pick ! (λ ws. split ! $ drop ! $ split3 ! $
+    move ! (1 ∷ []) $ heard ! _ (λ same. move ! (1 ∷ []) $ split ! $ heard ! _ (λ is_N. drop ! $
+    -- [the array follows; the tokens of κ, T, N, A; the slice; the tokens of P, K]
+    move ! (2 ∷ []) $ peeks ! Part (Is Part) (shows 𝓛 Part) s (v ∷ []) (λ is.
+    lands_as ! (ap only is.0.0) refl (tt, (tt, (record { fits = is.0.1.0 }, tt))) $
+    rewrite ! 0 (λ (vs : List Val). ‵ (Part.own_val s vs)) is.0.0 refl $
+    -- the view of the slice
+    nothing ! $ move ! (1 ∷ 0 ∷ []) $ fjoin ! $ move ! (2 ∷ []) $ split3 ! $ move ! (2 ∷ []) $ split3 ! $
+    move ! (3 ∷ 4 ∷ 0 ∷ 5 ∷ []) $
+    passes X 𝓛 (view_contract.clauses X N gN dN 𝓛 𝓜.mem 𝓡.returns) (κ, (κT, (κN, tt)))
+    (qs.0, (qs.1.0, (qs.1.1.0, tt))) (bounds.0, tt) s tt ! (framed 𝓤 𝓛.H 𝓜 𝓣)
+    (viewed.met 𝓤 𝓛 𝓜 𝓡 (code.calls-ga_views::view_mut::ViewMut+mut+slice+T+T+N::from_mut_slice 𝓡.env wired) X N LX LN
+    gN dN boundN)
+    (asks_of 𝓛 lT lN (fact_i 𝓤 _ (emp 𝓤) is_N)) (and_then ! (get ! refl) (no_more !)) (λ u w.
+    -- [the view; that it is of the slice; the tokens of κ, T, N; the token of A; nothing; the array follows; the tokens
+    -- of P, K]
+    move ! (1 ∷ []) $ heard ! _ (λ of_slice. peeks ! Half (Is Half) (shows 𝓛 Half) w (u ∷ []) (λ is_view.
+    lands_as ! refl refl (((array_laws L 0 X 1 N gN LX LN).lawful 𝓛).typed w (u ∷ []) is_view).0 $
+    -- the view is cut
+    let C = triple_of 𝓛 (halve_contract.signature X N K P gN dN gK dK gP dP)
+    (halve_contract.spec X N K P gN dN gK dK gP dP 𝓛 𝓜.mem 𝓡.returns) in
+    let zC : C.Ghost = (
+      (
+        (κ, (κT, (κN, (κK, (κP, tt))))),
+        (qs.0, (qs.1.0, (qs.1.1.0, (qs.1.1.1.0, (qs.1.1.1.1.0, tt))))),
+        (bounds.0, tt),
+        (w, tt),
+        (u ∷ [], tt),
+      ),
+      tt,
+    ) in
+    nothing ! $ move ! (1 ∷ 0 ∷ []) $ fjoin ! $ move ! (1 ∷ []) $ split3 ! $ move ! (2 ∷ []) $ split ! $
+    -- [the token of N; nothing; the tokens of κ, T; the view; the token of A; nothing; the array follows; the tokens of
+    -- P, K]
+    move ! (2 ∷ 3 ∷ 0 ∷ 9 ∷ 8 ∷ 1 ∷ 4 ∷ []) $ group ! 6 $ join ! $
+    use0 𝓛 (raw (fact 𝓤 (gN.USIZE ≡ gK.USIZE + gP.USIZE))) (fact_i 𝓤 _ (emp 𝓤) sum) $
+    use0 𝓛 (raw (fact 𝓤 (κP ⊑ P.lives))) (fact_i 𝓤 _ (emp 𝓤) lP) $ join ! $
+    use0 𝓛 (raw (fact 𝓤 (κK ⊑ K.lives))) (fact_i 𝓤 _ (emp 𝓤) lK) $ join ! $
+    use0 𝓛 (raw (fact 𝓤 (κN ⊑ N.lives))) (fact_i 𝓤 _ (emp 𝓤) lN) $ join ! $
+    use0 𝓛 (raw (fact 𝓤 (κT ⊑ X.lives))) (fact_i 𝓤 _ (emp 𝓤) lT) $ join ! $
+    move ! (1 ∷ 0 ∷ []) $ join ! $ use1 𝓛 (raw (C.pre zC)) (id⊢ 𝓤 _) $
+    calls_at ! (framed 𝓤 𝓛.H 𝓜 𝓣) C
+    (halved.met 𝓤 𝓛 𝓜 𝓡 (code.calls-generic_array::sequence::shapes::views::GenericArrayMutSplit::split 𝓡.env wired) X N
+    K P LX LN LK LP gN dN gK dK gP dP boundN boundK boundP) zC
+    (and_then ! (get ! refl) (no_more !)) (λ u.
+    use1 𝓛 (later (some (λ (r : Answer.Denot).
+    ((‵ (flft κ qs.0) ⊛ ‵ (flft κT qs.1.0) ⊛ ‵ (flft κN qs.1.1.0) ⊛ ‵ (flft κK qs.1.1.1.0) ⊛
+    ‵ (flft κP qs.1.1.1.1.0) ⊛ ‵ ftrue) ⊛ ‵ (Answer.own_val r (u ∷ []))) ⊛
+    some (λ (ws : Lasts (halve_contract.ended X N K P gN dN gK dK gP dP) zC.0.0 zC.0.3).
+    ‵ (lasts (halve_contract.ended X N K P gN dN gK dK gP dP) zC.0.0 zC.0.3 ws) ⊛
+    ‵ (LendsHalves E w.slice r.0.slice r.1.slice) ⊛
+    raw (fact 𝓤 (r.0.slice.now ≡ take gK.USIZE w.slice.now)) ⊛
+    raw (fact 𝓤 (r.1.slice.now ≡ drop_l gK.USIZE w.slice.now)))))) (id⊢ 𝓤 _) $
+    await ! tt $ pick ! (λ r. split ! $ split ! $ move ! (2 ∷ []) $ pick ! (λ ws. split ! $ drop ! $ split3 ! $
+    move ! (1 ∷ []) $ heard ! _ (λ first_is. move ! (1 ∷ []) $ heard ! _ (λ second_is.
+    -- [the slice follows; the tokens of κ, T, N, K, P; the views; the token of A; nothing; the array follows]
+    move ! (2 ∷ []) $ peeks ! Answer (Is Answer) (shows 𝓛 Answer) r (u ∷ []) (λ views.
+    lands_as ! refl refl (((tuple_laws (First ∷ Second ∷ [])
+    (array_laws L 0 X 2 K gK LX LK, (array_laws L 0 X 3 P gP LX LP, tt))).lawful 𝓛).typed r (u ∷ []) views).0 $
+    returns ! (look_at ! 0 refl) $ free_all ! refl $
+    rewrite ! 1 (λ (s : Part.Denot). ‵ (LendsHalves E s r.0.slice r.1.slice)) of_slice refl $
+    move ! (5 ∷ 1 ∷ []) $ use2 𝓛 (‵ (LendsBothParts E (param 1 N) (param 4 A) gN gS x r.0.slice r.1.slice))
+    (follows_both_then 𝓛 (Items X N A gL gN gS κ) (Array E 0) (Array E 0) (Array E 0)
+    (array_with E (param 1 N) (param 4 A) gN gS x) ◌++◌ x.ghost_name s.ghost_name r.0.slice.ghost_name
+    r.1.slice.ghost_name) $
+    -- [the array follows; the views; the tokens of κ, T, N, K, P; the token of A; nothing]
+    move ! (2 ∷ []) $ split3 ! $ move ! (2 ∷ []) $ split3 ! $ move ! (2 ∷ []) $ split ! $
+    -- [the token of P; nothing; the tokens of N, K, κ, T; the array follows; the views; the token of A; nothing]
+    move ! (4 ∷ 5 ∷ 2 ∷ 3 ∷ 0 ∷ 8 ∷ 1 ∷ []) $ group ! 7 $
+    nothing ! $ move ! (0 ∷ 4 ∷ []) $ fjoin ! $
+    -- [nothing; all tokens; the array follows; the views]
+    use0 𝓛 (raw (fact 𝓤 (r.1.slice.now ≡ drop_l gK.USIZE x.now)))
+    (fact_i 𝓤 _ (emp 𝓤) (second_is ∙ ap (drop_l gK.USIZE) (ap (λ (s : Part.Denot). s.now) of_slice ∙ same))) $
+    use0 𝓛 (raw (fact 𝓤 (r.0.slice.now ≡ take gK.USIZE x.now)))
+    (fact_i 𝓤 _ (emp 𝓤) (first_is ∙ ap (take gK.USIZE) (ap (λ (s : Part.Denot). s.now) of_slice ∙ same))) $
+    move ! (3 ∷ 2 ∷ 5 ∷ 4 ∷ []) $
+    by ! (leaves 𝓛 ends kept c y u r ((tt, tt), tt) (tt, tt))))))))))))))))))))))))))))
