@@ -1,4 +1,4 @@
-//! The order in which `nth_back` drops, and how often a plain zip does.
+//! The order in which `nth` and `nth_back` drop, and how often a plain zip does.
 use crate::tests::counted::{Counted, Counts};
 use crate::tests::items::{boxed_counted_from, counted_from};
 use generic_array::{AllocError, U4, U5};
@@ -36,6 +36,31 @@ fn by_boxed_nth_back(alloc: Global) -> Result<u32, AllocError> {
     let _ = items.nth_back(2);
     let _ = items.nth_back(2);
     Ok(counts.dropped())
+}
+
+/// The same by `nth`, of an inline array: also what it drops past the end.
+fn by_inline_nth() -> u32 {
+    let counts = Counts::new();
+    let mut items = counted_from::<U5>(&counts, 1).into_iter();
+    let _ = items.nth(2);
+    let _ = items.nth(2);
+    counts.dropped()
+}
+
+/// The same of a boxed array.
+fn by_boxed_nth(alloc: Global) -> Result<u32, AllocError> {
+    let counts = Counts::new();
+    let mut items = boxed_counted_from::<U5>(alloc, &counts, 1)?.into_iter();
+    let _ = items.nth(2);
+    let _ = items.nth(2);
+    Ok(counts.dropped())
+}
+
+#[test]
+fn nth_drops_from_the_front(rt: HostRuntime) -> Result<(), Fail> {
+    assert!(rt; by_inline_nth() == 12345);
+    assert!(rt; by_boxed_nth(rt.alloc())? == 12345);
+    Ok(())
 }
 
 #[test]

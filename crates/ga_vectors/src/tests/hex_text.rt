@@ -1,7 +1,7 @@
 //! Hex text: its digits, how far the limit lets them come, and how often the writer is called.
 use crate::tests::sinks::{Manner, Sink};
 use generic_array::AllocError;
-use generic_array::hex_text::write_hex;
+use generic_array::hex_text::{HexText, write_hex};
 use std::alloc::Global;
 use std::test::Fail;
 
@@ -42,5 +42,85 @@ fn is_cut_inside_a_byte(alloc: Global) -> Result<bool, AllocError> {
 #[test]
 fn an_odd_limit_cuts_inside_a_byte(rt: HostRuntime) -> Result<(), Fail> {
     assert!(rt; is_cut_inside_a_byte(rt.alloc())?);
+    Ok(())
+}
+
+/// Whether these are so many digits of bytes 171.
+fn are_digits(text: &[u8], count: usize) -> bool {
+    for (index, digit) in text.iter().enumerate() {
+        let wanted = if index % 2 == 0 { b'a' } else { b'b' };
+        if *digit != wanted {
+            return false;
+        }
+    }
+    text.len() == count
+}
+
+/// So many bytes 171.
+fn bytes_of(alloc: Global, count: usize) -> Result<Vec<u8>, AllocError> {
+    let mut bytes = Vec::with_capacity(alloc, count)?;
+    for _byte in 0..count {
+        bytes.push(171)?;
+    }
+    Ok(bytes)
+}
+
+/// How many digits there are of so many bytes, up to a limit.
+fn digit_count(bytes: usize, limit: Option<usize>) -> usize {
+    let all = bytes.saturating_mul(2);
+    match limit {
+        Some(limit) => all.min(limit),
+        None => all,
+    }
+}
+
+/// Whether so many bytes are written whole, up to a limit.
+fn is_written_up_to(alloc: Global, bytes: usize, limit: Option<usize>) -> Result<bool, AllocError> {
+    let mut text = Vec::new(alloc);
+    let answer = write_hex(bytes_of(alloc, bytes)?.as_slice(), false, limit, &mut text);
+    Ok(answer.is_ok() && are_digits(text.as_slice(), digit_count(bytes, limit)))
+}
+
+#[test]
+fn long_texts_are_written_whole(rt: HostRuntime) -> Result<(), Fail> {
+    // At and about the sizes of a short buffer, of a piece, and of what 16 bits count.
+    for bytes in [
+        63, 64, 65, 127, 128, 129, 1023, 1024, 1025, 2049, 65535, 65536, 65537, 131073,
+    ] {
+        assert!(rt; is_written_up_to(rt.alloc(), bytes, None)?, "{bytes}");
+    }
+    for limit in [
+        127, 128, 129, 2047, 2048, 2049, 65535, 65536, 65537, 131073, 131075,
+    ] {
+        assert!(rt;
+            is_written_up_to(rt.alloc(), 65537, Some(limit))?,
+            "{limit}"
+        );
+    }
+    Ok(())
+}
+
+/// Whether so many bytes are printed whole, up to a precision.
+fn is_printed_up_to(alloc: Global, bytes: usize, precision: usize) -> Result<bool, AllocError> {
+    let bytes = bytes_of(alloc, bytes)?;
+    let shown = HexText {
+        bytes: bytes.as_slice(),
+        upper: false,
+    };
+    let whole = format!(in alloc; "{shown}")?;
+    let cut = format!(in alloc; "{shown:.precision$}")?;
+    let is_whole = are_digits(whole.as_str().as_bytes(), digit_count(bytes.len(), None));
+    let count = digit_count(bytes.len(), Some(precision));
+    Ok(is_whole && are_digits(cut.as_str().as_bytes(), count))
+}
+
+#[test]
+fn long_texts_are_printed_whole(rt: HostRuntime) -> Result<(), Fail> {
+    for bytes in [63, 64, 65, 100, 1025, 65537] {
+        for precision in [127, 128, 129, 130, 2049, 65537] {
+            let is_right = is_printed_up_to(rt.alloc(), bytes, precision)?;
+            assert!(rt; is_right, "{bytes} {precision}");
+        }
+    }
     Ok(())
 }
