@@ -1,7 +1,7 @@
 pub mod BlockLends
+pub mod BoxedIterLends
+pub mod BoxedLends
 pub mod CellsLend
 pub mod CellsOwn
 pub mod FillAnswer
-pub mod IterLends
-pub mod Lends
 pub mod Live

@@ -29,7 +29,7 @@ impl<T> Model for BoxedArrayIter<T> {
 }
 
 impl<T> BoxedArrayIter<T> {
-    ghost use Rattle.ga_boxed.specs.IterLends.{LendsLeft};
+    ghost use Rattle.ga_boxed.specs.BoxedIterLends.{LendsBoxedLeft};
 
     // The iterator over items. Moves none of them.
     #[inline]
@@ -58,7 +58,7 @@ impl<T> BoxedArrayIter<T> {
     /// The items that are left, in order, for writing. O(1).
     #[inline]
     pub fn as_mut_slice(&mut self) -> &mut [T]
-        ensures* writes_back { sem 𝓛 (LendsLeft T.row self.entry result) }
+        ensures* writes_back { sem 𝓛 (LendsBoxedLeft T.row self.entry result) }
         ensures items { result.now ≡ self.old }
     {
         self.items.as_mut_slice()

@@ -33,8 +33,8 @@ module _ (S T N : RattleType) (s : reborrow.Ghosts S.Denot T.Denot) (n : unsigne
 
   module _ (rows : MutBor (the_row S T N s n).Denot) where
     -- once the borrow r ends, the items are those that r shows last
-    abbrev pub LendsItems : MutBor (List T.Denot) → Fml
-    LendsItems r = Lends (the_row S T N s n) (Array T 0) rows r (rows_with rows.now)
+    abbrev pub LendsRowItems : MutBor (List T.Denot) → Fml
+    LendsRowItems r = Lends (the_row S T N s n) (Array T 0) rows r (rows_with rows.now)
 
     -- once the borrow r ends, the row at this index is what r shows last, and the others are as they were
     abbrev pub LendsRow : ℕ → MutBor (List T.Denot) → Fml

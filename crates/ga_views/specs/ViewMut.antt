@@ -39,17 +39,17 @@ module _ (S T N : RattleType) (s : reborrow.Ghosts S.Denot T.Denot) (n : unsigne
 
   module _ (view : MutBor (the_row S T N s n).Denot) where
     -- once the borrow r ends, the items are those that r shows last
-    abbrev pub LendsItems : MutBor (List T.Denot) → Fml
-    LendsItems r = Lends (the_row S T N s n) (Array T 0) view r (view_with view.now)
+    abbrev pub LendsViewItems : MutBor (List T.Denot) → Fml
+    LendsViewItems r = Lends (the_row S T N s n) (Array T 0) view r (view_with view.now)
 
     -- the same where the items went to an `iter_mut`
-    abbrev pub LendsIter : IterMut T.Denot → Fml
-    LendsIter items = follows (the_row S T N s n) (Array T 0) view.ghost_name (iter_mut_name items) (view_with view.now)
+    abbrev pub LendsViewIter : IterMut T.Denot → Fml
+    LendsViewIter items = follows (the_row S T N s n) (Array T 0) view.ghost_name (iter_mut_name items) (view_with view.now)
 
     -- once the borrow r ends, place i has the last value written through r, and the others are as they were
-    abbrev pub LendsItem : ℕ → MutBor T.Denot → Fml
-    LendsItem i r = Lends (the_row S T N s n) T view r (view_with_item view.now i)
+    abbrev pub LendsViewItem : ℕ → MutBor T.Denot → Fml
+    LendsViewItem i r = Lends (the_row S T N s n) T view r (view_with_item view.now i)
 
     -- the same where there is such a place; at `None` all items are as they were
-    abbrev pub LendsItemIf : ℕ → Option (MutBor T.Denot) → Fml
-    LendsItemIf i r = LendsIf (the_row S T N s n) T view r (view_with_item view.now i) view.now
+    abbrev pub LendsViewItemIf : ℕ → Option (MutBor T.Denot) → Fml
+    LendsViewItemIf i r = LendsIf (the_row S T N s n) T view r (view_with_item view.now i) view.now

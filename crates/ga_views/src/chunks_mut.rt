@@ -92,7 +92,7 @@ impl<'a, T, N: Unsigned> ChunksViewMut<&'a mut [T], T, N> {
 }
 
 impl<S: ReborrowSlice<T>, T, N: Unsigned> ChunksViewMut<S, T, N> {
-    ghost use Rattle.ga_views.specs.ChunksViewMut.{LendsItems};
+    ghost use Rattle.ga_views.specs.ChunksViewMut.{LendsRowItems};
 
     /// The rows over a reference to as many items as they have.
     #[inline]
@@ -158,7 +158,7 @@ impl<S: ReborrowSlice<T>, T, N: Unsigned> ChunksViewMut<S, T, N> {
     /// The items of all rows, in order, for writing.
     #[inline]
     pub fn as_mut_slice(&mut self) -> &mut [T]
-        ensures* writes_back { sem 𝓛 (LendsItems S.row T.row N.row S.ReborrowSlice N.Unsigned
+        ensures* writes_back { sem 𝓛 (LendsRowItems S.row T.row N.row S.ReborrowSlice N.Unsigned
             self.entry result) }
         ensures items { result.now ≡ S.items self.old.slice }
         ensures len { length result.now ≡ chunk_count N.USIZE (S.items self.old.slice) * N.USIZE }

@@ -76,7 +76,7 @@ impl<'a, T, N: Unsigned> ViewMut<&'a mut [T], T, N> {
 }
 
 impl<S: ReborrowSlice<T>, T, N: Unsigned> ViewMut<S, T, N> {
-    ghost use Rattle.ga_views.specs.ViewMut.{LendsItems, LendsIter, LendsItem, LendsItemIf};
+    ghost use Rattle.ga_views.specs.ViewMut.{LendsViewItems, LendsViewIter, LendsViewItem, LendsViewItemIf};
 
     /// The view over `items`, a reference to `N` items.
     #[inline]
@@ -118,7 +118,7 @@ impl<S: ReborrowSlice<T>, T, N: Unsigned> ViewMut<S, T, N> {
     /// All items, in order, for writing.
     #[inline]
     pub fn as_mut_slice(&mut self) -> &mut [T]
-        ensures* writes_back { sem 𝓛 (LendsItems S.row T.row N.row S.ReborrowSlice N.Unsigned
+        ensures* writes_back { sem 𝓛 (LendsViewItems S.row T.row N.row S.ReborrowSlice N.Unsigned
             self.entry result) }
         ensures items { result.now ≡ S.items self.old.slice }
         ensures len { length result.now ≡ N.USIZE }
@@ -139,7 +139,7 @@ impl<S: ReborrowSlice<T>, T, N: Unsigned> ViewMut<S, T, N> {
     #[inline]
     fn item_mut(&mut self, index: usize) -> &mut T
         requires in_bounds { index < N.USIZE }
-        ensures* writes_back { sem 𝓛 (LendsItem S.row T.row N.row S.ReborrowSlice N.Unsigned
+        ensures* writes_back { sem 𝓛 (LendsViewItem S.row T.row N.row S.ReborrowSlice N.Unsigned
             self.entry index result) }
         ensures value { result.now ≡ slice_index_or (S.items self.old.slice) index result.now }
     {
@@ -149,7 +149,7 @@ impl<S: ReborrowSlice<T>, T, N: Unsigned> ViewMut<S, T, N> {
     /// The item at `index` for writing, or `None` where `index` isn't below `N`.
     #[inline]
     pub fn get_mut(&mut self, index: usize) -> Option<&mut T>
-        ensures* writes_back { sem 𝓛 (LendsItemIf S.row T.row N.row S.ReborrowSlice N.Unsigned
+        ensures* writes_back { sem 𝓛 (LendsViewItemIf S.row T.row N.row S.ReborrowSlice N.Unsigned
             self.entry index result) }
         ensures variant { IsSome result ↔ (index < N.USIZE) }
         ensures item { option_copied_mut result ≡ slice_get (S.items self.old.slice) index }
@@ -179,7 +179,7 @@ impl<S: ReborrowSlice<T>, T, N: Unsigned> ViewMut<S, T, N> {
     /// The items by reference, in order, for writing.
     #[inline]
     pub fn iter_mut(&mut self) -> slice::IterMut<'_, T>
-        ensures* writes_back { sem 𝓛 (LendsIter S.row T.row N.row S.ReborrowSlice N.Unsigned
+        ensures* writes_back { sem 𝓛 (LendsViewIter S.row T.row N.row S.ReborrowSlice N.Unsigned
             self.entry result) }
         ensures items { IteratesMutOver (S.items self.old.slice) N.USIZE result }
     {
@@ -209,11 +209,11 @@ impl<S: ReborrowSlice<T>, T, N: Unsigned> DerefSlice for ViewMut<S, T, N> {
 }
 
 impl<S: ReborrowSlice<T>, T, N: Unsigned> DerefSliceMut for ViewMut<S, T, N> {
-    ghost use Rattle.ga_views.specs.ViewMut.{LendsItems};
+    ghost use Rattle.ga_views.specs.ViewMut.{LendsViewItems};
 
     #[inline]
     fn deref_mut(&mut self) -> &mut [T]
-        ensures* writes_back { sem 𝓛 (LendsItems S.row T.row N.row S.ReborrowSlice N.Unsigned
+        ensures* writes_back { sem 𝓛 (LendsViewItems S.row T.row N.row S.ReborrowSlice N.Unsigned
             self.entry result) }
         ensures items { result.now ≡ S.items self.old.slice }
         ensures len { length result.now ≡ N.USIZE }

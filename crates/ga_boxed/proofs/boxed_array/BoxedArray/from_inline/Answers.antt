@@ -1,5 +1,5 @@
 use borrow.Author.Rules.{scaled_fits≤}
-use Rattle.ga_boxed.proofs.MoveLemmas.{more_room, none_yet, one_more}
+use Rattle.ga_boxed.proofs.BlockMoveLemmas.{more_room, none_yet, one_more}
 use Rattle.ga_boxed.proofs.boxed_array.BoxedArray.from_inline.Goals as goal
 use Rattle.ga_core.proofs.MoveLemmas.{pushed-next, this-here}
 use Rattle.std.proofs.Common.{ap, length, refl, subst, sym, ◌<◌, ◌∙◌, ◌≤◌}

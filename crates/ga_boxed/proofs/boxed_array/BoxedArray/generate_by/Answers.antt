@@ -1,4 +1,4 @@
-use Rattle.ga_boxed.proofs.MoveLemmas.{all_counted, more_room, none_yet, one_more}
+use Rattle.ga_boxed.proofs.BlockMoveLemmas.{all_counted, more_room, none_yet, one_more}
 use Rattle.ga_boxed.proofs.boxed_array.BoxedArray.generate_by.Goals as goal
 use Rattle.ga_core.proofs.ActsLemmas.{answers_of_run}
 use Rattle.ga_core.proofs.CallLemmas.{may_generate-at}

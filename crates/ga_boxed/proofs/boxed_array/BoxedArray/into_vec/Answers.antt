@@ -1,4 +1,4 @@
-use Rattle.ga_boxed.proofs.MoveLemmas.{all_moved, count_more, moved_more, none_left, none_yet, some_left}
+use Rattle.ga_boxed.proofs.BlockMoveLemmas.{all_moved, count_more, moved_more, none_left, none_yet, some_left}
 use Rattle.ga_boxed.proofs.boxed_array.BoxedArray.into_vec.Goals as goal
 use Rattle.std.proofs.Common.{◌≡◌, ℕ, suc, ◌+◌, ◌<◌, ◌≤◌, ◌∙◌, ◌++◌, ap, arith, length, refl}
 use Rattle.std.specs.Vec.{vec_capacity, vec_len}

@@ -1,5 +1,5 @@
-use Rattle.ga_boxed.proofs.BuildLemmas.{some_asked}
-use Rattle.ga_boxed.proofs.MoveLemmas.{none_yet}
+use Rattle.ga_boxed.proofs.BlockBuildLemmas.{some_asked}
+use Rattle.ga_boxed.proofs.BlockMoveLemmas.{none_yet}
 use Rattle.ga_boxed.proofs.boxed_array.BoxedArray.repeat.Goals as goal
 use Rattle.ga_boxed.proofs.boxed_array.BoxedArray.repeat.Goals.{then-USIZE-gt0+else-loop-clone-test, else-USIZE-gt0}
 use Rattle.ga_core.proofs.CopyLemmas.{Repeats-same}

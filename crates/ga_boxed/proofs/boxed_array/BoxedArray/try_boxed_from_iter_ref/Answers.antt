@@ -1,5 +1,5 @@
-use Rattle.ga_boxed.proofs.BuildLemmas.{all_there, grown, less_room, not_all}
-use Rattle.ga_boxed.proofs.MoveLemmas.{none_yet}
+use Rattle.ga_boxed.proofs.BlockBuildLemmas.{all_there, grown, less_room, not_all}
+use Rattle.ga_boxed.proofs.BlockMoveLemmas.{none_yet}
 use Rattle.ga_boxed.proofs.boxed_array.BoxedArray.try_boxed_from_iter_ref.Goals as goal
 use Rattle.ga_core.proofs.FillLemmas.{Asks-from_fill, FillRuns-from_fill}
 use Rattle.ga_core.specs.Fill.{Fills}

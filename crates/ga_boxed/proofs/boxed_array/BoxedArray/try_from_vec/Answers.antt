@@ -1,4 +1,4 @@
-use Rattle.ga_boxed.proofs.BuildLemmas.{not_ok}
+use Rattle.ga_boxed.proofs.BlockBuildLemmas.{not_ok}
 use Rattle.ga_boxed.proofs.VecLemmas.{filled}
 use Rattle.ga_boxed.proofs.boxed_array.BoxedArray.try_from_vec.Goals as goal
 use Rattle.std.proofs.Common.{◌≢◌, ◌∙◌, length, refl, sym}

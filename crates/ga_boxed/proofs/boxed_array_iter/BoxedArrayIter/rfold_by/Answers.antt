@@ -1,7 +1,7 @@
 use Rattle.ga_core.proofs.ActsLemmas.{answer_of_fold}
 use Rattle.ga_core.proofs.CallLemmas.{FoldRun-of_items, may_fold-at}
 use Rattle.ga_core.proofs.CutLemmas.{next_back-reversed, taken-more}
-use Rattle.ga_boxed.proofs.MoveLemmas.{all_moved, one_gone-back}
+use Rattle.ga_boxed.proofs.BlockMoveLemmas.{all_moved, one_gone-back}
 use Rattle.ga_boxed.proofs.boxed_array_iter.BoxedArrayIter.rfold_by.Goals as goal
 use Rattle.ga_core.specs.Runs.{FoldRun}
 use Rattle.std.proofs.Common.{◌∙◌, ap, length, refl, subst, sym, ◌∷◌, [], ◌++◌, Some, reverse}

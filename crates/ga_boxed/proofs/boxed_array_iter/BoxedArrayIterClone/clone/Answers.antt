@@ -1,4 +1,4 @@
-use Rattle.ga_boxed.proofs.MoveLemmas.{more_room, none_yet, one_more}
+use Rattle.ga_boxed.proofs.BlockMoveLemmas.{more_room, none_yet, one_more}
 use Rattle.ga_boxed.proofs.boxed_array_iter.BoxedArrayIterClone.clone.Goals as goal
 use Rattle.std.proofs.Common.{[], ◌+◌, ◌∙◌, ap, length, refl, subst, sym}
 use Rattle.std.proofs.lemmas.List.{length_push, take_all}

@@ -1,4 +1,4 @@
-use Rattle.ga_boxed.proofs.MoveLemmas.{bounds_meet, none_held}
+use Rattle.ga_boxed.proofs.BlockMoveLemmas.{bounds_meet, none_held}
 use Rattle.ga_boxed.proofs.live_block.LiveBlock.take_back.Goals as goal
 use Rattle.std.proofs.Common.{◌∙◌, ap, refl, sym}
 

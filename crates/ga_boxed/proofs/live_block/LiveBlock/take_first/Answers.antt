@@ -1,4 +1,4 @@
-use Rattle.ga_boxed.proofs.MoveLemmas.{count_more}
+use Rattle.ga_boxed.proofs.BlockMoveLemmas.{count_more}
 use Rattle.ga_boxed.proofs.live_block.LiveBlock.take_first.Goals as goal
 use Rattle.std.proofs.Common.{◌≡◌, ◌≢◌, ◌<◌, ◌+◌, ◌^◌, ◌∙◌, ℕ, List, [], ◌∷◌, ap, arith, length, refl, sym}
 

@@ -28,7 +28,7 @@ use Rattle.ga_boxed.specs.CellsOwn.{cells_lent}
 use Rattle.ga_boxed.specs.contracts.live_block.cells.Cells.slice.Key.{name as #self}
 use Rattle.ga_boxed.proofs.CallWalk.{Call, Had, Walk, by_ref, meets_grown}
 use Rattle.ga_boxed.proofs.ClauseFacts.{facts, has_every}
-use Rattle.ga_boxed.proofs.SliceWalk.{showing, slices}
+use Rattle.ga_boxed.proofs.CellsSliceWalk.{showing, slices}
 use Rattle.ga_boxed.proofs.WalkParts.{Cr, sz}
 use Rattle.ga_boxed.proofs.live_block.cells.Cells.slice.Statement as stated
 use Rattle.ga_boxed.proofs.live_block.cells.Cells.slice.Code as code

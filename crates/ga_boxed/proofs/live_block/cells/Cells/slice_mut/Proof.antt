@@ -38,7 +38,7 @@ use Rattle.ga_boxed.specs.contracts.live_block.cells.Cells.slice_mut.Key.{name a
 use Rattle.ga_boxed.proofs.CallWalk.{Call, Had, Walk, meets_grown}
 use Rattle.ga_boxed.proofs.CellsWalk.{opens_cells, spent, tokens}
 use Rattle.ga_boxed.proofs.ClauseFacts.{facts, has_every}
-use Rattle.ga_boxed.proofs.SliceWalk.{showing, slices}
+use Rattle.ga_boxed.proofs.CellsSliceWalk.{showing, slices}
 use Rattle.ga_boxed.proofs.WalkParts.{Cr, Mark, sz}
 use Rattle.ga_boxed.proofs.live_block.cells.Cells.slice_mut.Statement as stated
 use Rattle.ga_boxed.proofs.live_block.cells.Cells.slice_mut.Code as code

@@ -6,5 +6,5 @@ use Rattle.std.specs.Prelude.{List, length}
 
 module _ (T : RattleType) (items : MutBor (List T.Denot)) where
   -- once the borrow r ends, the items that are left are those that r shows last
-  abbrev pub LendsLeft : MutBor (List T.Denot) → Fml
-  LendsLeft r = Lends (the_row T) (Array T 0) items r (refill (length items.now) items.now)
+  abbrev pub LendsBoxedLeft : MutBor (List T.Denot) → Fml
+  LendsBoxedLeft r = Lends (the_row T) (Array T 0) items r (refill (length items.now) items.now)

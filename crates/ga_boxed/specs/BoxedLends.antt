@@ -9,10 +9,10 @@ use Rattle.std.specs.declared.slice.IterMut.{IterMut}
 
 module _ (T N : RattleType) (n : unsigned.Ghosts N.Denot) (array : MutBor (List T.Denot)) where
   -- once the borrow r ends, the items are those that r shows last
-  abbrev pub LendsItems : MutBor (List T.Denot) → Fml
-  LendsItems r = Lends (the_row T N n) (Array T 0) array r (refill (length array.now) array.now)
+  abbrev pub LendsBoxedItems : MutBor (List T.Denot) → Fml
+  LendsBoxedItems r = Lends (the_row T N n) (Array T 0) array r (refill (length array.now) array.now)
 
   -- the same where the items went to an `iter_mut`
-  abbrev pub LendsIter : IterMut T.Denot → Fml
-  LendsIter items = follows (the_row T N n) (Array T 0) array.ghost_name (iter_mut_name items)
+  abbrev pub LendsBoxedIter : IterMut T.Denot → Fml
+  LendsBoxedIter items = follows (the_row T N n) (Array T 0) array.ghost_name (iter_mut_name items)
       (refill (length array.now) array.now)
