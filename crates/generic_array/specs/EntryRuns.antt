@@ -1,5 +1,5 @@
 -- Runs over a list that a proof finds its way along, and folds that may fail.
-use Rattle.ga_core.specs.Calls.{StaysOnTwo}
+use Rattle.ga_core.specs.Calls.{HoldsAsAtFirst, StaysOnTwo}
 use Rattle.ga_core.specs.Entries.{FoldAt}
 use Rattle.ga_core.specs.Runs.{FirstErrorRun, FoldRun}
 use Rattle.std.specs.Prelude.{◌≡◌, ◌⊎◌, [], List, ◌∷◌, ◌++◌, Result, Ok, Err}
@@ -29,4 +29,5 @@ module _ {F A I T E : Type 0} (entry : I → T) (pre : F → A → I → Type 0)
   abbrev pub MayTryFold : F → A → List T → Type 0
   MayTryFold f init items = (passed : List T) (item : T) (others : List T) (reached : F) (value : A)
       → items ≡ passed ++ item ∷ others → FoldRun (good_step (FoldAt entry step)) f init passed value reached
-      → (at : I) → entry at ≡ item → (pre f value at → StaysOnTwo step f → pre reached value at) → pre reached value at
+      → (at : I) → entry at ≡ item → HoldsAsAtFirst (StaysOnTwo step) (λ g. pre g value at) f reached
+      → pre reached value at
