@@ -1,14 +1,19 @@
 """What the names of clauses and definitions mean, and what of the crates is public and where."""
+import functools
+import pathlib
 import re
 
 from sources import ANGLE, Item, closing, imports_of, items_of, parted
 
-CRATES = "ga_views ga_core ga_boxed generic_array ga_headline ga_records ga_hashes ga_ciphers".split()
+LIBRARIES = "ga_views ga_core ga_boxed generic_array".split()
+CRATES = [*LIBRARIES, *"ga_headline ga_records ga_hashes ga_ciphers ga_uses ga_rows".split()]
+NOTATION = pathlib.Path(__file__).resolve().parent / "pages" / "notation.txt"
 WITH_A_PAGE = ("struct", "enum", "trait")
 ATOM = re.compile(r'"[^"]*"|//.*|[^\s(){},;]+|[\s(){},;]+')
 BINDERS = re.compile(r"λ ([^.]*?)\.(?=\s)|(?:[({;]|\blet)\s*((?:[^\s(){};λ.≡]+ )+?)[:=] ")
-OF_THE_LANGUAGE = set("× → ¬ ⊥ λ : = . .. _ | ↦ ⊔ ℓ κ as by do elim end in let record type Type Unit tt absurd 𝓛 Self self result usize "
-                      "Some None Ok Err true false []".split())
+OF_THE_LANGUAGE = set(
+    "× → ¬ ⊥ λ : = . .. _ | ↦ ⊔ ℓ κ as by do elim end in let record type Type Unit tt absurd "
+    "𝓛 Self self result usize Some None Ok Err true false []".split())
 OF_A_TYPE = {"row", "code", "Denot"}
 OF_A_CLOSURE = {"IsAlwaysCallable"}  # The language gives it; no source declares it.
 UNDER_A_BOUND = {"step": "steps"}  # FnMut's member is spelled so where it is written under a bound.
@@ -22,7 +27,8 @@ def generics(head):
 
 
 def declared(head):
-    """What a head declares: its type parameters and the paths of its `where` with their bounds, and the names of its parameters."""
+    """What a head declares: its type parameters and the paths of its `where` with their bounds, and
+    the names of its parameters."""
     inside, behind = generics(head)
     behind, _, where = re.sub(r"\bwhere\b", "\0", behind).partition("\0")
     bounds = {}
@@ -30,7 +36,13 @@ def declared(head):
         name, _, told = part.removeprefix("const ").partition(": ")
         bounds.setdefault(name.replace("::", "."), []).extend(parted(told, "+"))
     group = re.match(r"\((.*)\)", behind.split("->")[0].strip(), re.S)
-    return bounds, {re.sub(r"^mut |^&.*", "", part.partition(":")[0]) for part in parted(group[1] if group else "")}
+    parameters = parted(group[1] if group else "")
+    return bounds, {re.sub(r"^mut |^&.*", "", part.partition(":")[0]) for part in parameters}
+
+
+def above(trait):
+    """The bounds on a trait itself: those that stand above it."""
+    return parted(generics(trait.head)[1].split("where")[0].removeprefix(":"), "+")
 
 
 def base_name(bound):
@@ -38,152 +50,277 @@ def base_name(bound):
     return (re.findall(r"\w+", re.sub(r"[<(\[].*", "", bound, flags=re.S)) or [""])[-1]
 
 
+def header(impl):
+    """What an impl is of, without its parameters and conditions: a type, or a trait for a type."""
+    behind = generics(impl.head)[1] if impl.head.startswith("impl<") else impl.head[5:]
+    return behind.split("where")[0].strip()
+
+
 class Scope:
     """The names that the terms of an item or of a definition may use."""
 
     def __init__(self, site, item):
-        self.site, self.item, self.bounds, self.local, self.near = site, item, {}, set(), {}
-        self.imports = item.imports if item.kind == "word" else {}
-        for part in (item.module, item.owner, item) if item.kind != "word" else ():
-            bounds, parameters = declared(part.head)
-            self.imports |= imports_of("\n".join(use.head for use in part.of_kind("ghost use")))
-            self.local |= {member.name for member in part.members} if part.kind in ("struct", "enum") else parameters
-            self.near |= {member.name: member for member in part.of_kind("ghost")} if part.kind == "trait" else {}
-            self.bounds |= {"Self": [part.name if part.kind == "trait" else part.of_trait]} if part.kind in ("trait", "impl") else {}
-            self.bounds |= bounds
+        self.site, self.item = site, item
+        self.imports, self.bounds, self.local, self.near = {}, {}, set(), {}
         if item.kind == "word":
-            self.near = site.library.definitions(item.file)
-            patterns = " ".join(re.findall(rf"(?m)^{re.escape(item.name)} (.*?) = ", item.head))
-            self.local = {*re.findall(r"[^\s(){}]+", patterns)} - {*self.imports, *self.near}
-        self.imports = {piece: told for name, told in self.imports.items() for piece in name.split("◌") if piece} | self.imports
+            self.enter_definition(item)
+        else:
+            for part in (item.module, item.owner, item):
+                self.enter(part)
+        for name, told in list(self.imports.items()):
+            pieces = [piece for piece in name.split("◌") if piece]
+            self.imports = {piece: told for piece in pieces} | self.imports
+
+    def enter(self, part):
+        """Takes in what a module, an impl or an item declares and imports."""
+        bounds, parameters = declared(part.head)
+        lines = [use.head for use in part.of_kind("ghost use")]
+        self.imports |= imports_of("\n".join(lines))
+        with_fields = part.kind in ("struct", "enum")
+        self.local |= {member.name for member in part.members} if with_fields else parameters
+        if part.kind == "trait":
+            self.near |= {member.name: member for member in part.of_kind("ghost")}
+        if part.kind in ("trait", "impl"):
+            self.bounds["Self"] = [part.name if part.kind == "trait" else part.of_trait]
+        self.bounds |= bounds
+
+    def enter_definition(self, word):
+        """Takes in what a definition's file imports and defines, and what its equations bind."""
+        self.imports |= word.imports
+        self.near = self.site.library.definitions(word.file)
+        equations = re.findall(rf"(?m)^{re.escape(word.name)} (.*?) = ", word.head)
+        bound = re.findall(r"[^\s(){}]+", " ".join(equations))
+        self.local = set(bound) - {*self.imports, *self.near}
 
     def closure(self, bounds):
         """The traits of bounds and those that stand above them, each once."""
         found, left = [], list(bounds)
         while left:
             name = base_name(left.pop(0))
-            ours = [item for item in self.site.by_name.get(name, []) if item.kind == "trait"]
-            for trait in ours or self.site.library.std_traits(name):
+            for trait in self.site.traits(name, self.item) or self.site.library.std_traits(name):
                 if trait not in found:
                     found.append(trait)
-                    left += parted(generics(trait.head)[1].split("where")[0].removeprefix(":"), "+")
+                    left += above(trait)
         return found
 
     def below(self, prefix, traits, path):
         """What a path below a type means."""
         name, rest = UNDER_A_BOUND.get(path[0], path[0]), path[1:]
-        found = next((member for trait in traits for member in (trait, *trait.of_kind("ghost", "type")) if member.name == name), None)
+        found = next((member for trait in traits
+                      for member in (trait, *trait.of_kind("ghost", "type"))
+                      if member.name == name), None)
         if not found:
-            return "local" if name in OF_A_TYPE | OF_A_CLOSURE or not self.site.library.kit else "unknown", None
+            given = name in OF_A_TYPE | OF_A_CLOSURE or not self.site.library.kit
+            return "local" if given else "unknown", None
         if found.kind == "ghost" or not rest:
             return ("local", None) if found.kind == "type" else ("member", found)
-        deeper = parted(found.head.partition(":")[2], "+") + self.bounds.get(f"{prefix}.{name}", []) if found.kind == "type" else []
-        return self.below(f"{prefix}.{name}" if deeper else prefix, self.closure(deeper) or [found], rest)
+        deeper = []
+        if found.kind == "type":
+            deeper = parted(found.head.partition(":")[2], "+")
+            deeper += self.bounds.get(f"{prefix}.{name}", [])
+        inner = f"{prefix}.{name}" if deeper else prefix
+        return self.below(inner, self.closure(deeper) or [found], rest)
 
     def meaning(self, atom, bound):
-        """What an atom of a term means: "local", "unknown", or "member" or "word" and what it names."""
+        """What an atom of a term means: "local", "unknown", or "member" or "word" and what it
+        names."""
         name, *path = atom.rstrip(".").split(".")
         if path and name in self.bounds and name not in bound:
             return self.below(name, self.closure(self.bounds[name]), path)
-        if name in bound or name in self.local or name in OF_THE_LANGUAGE or re.match(r"[\d\"]|//|$", name):
+        if name in bound or name in self.local or name in OF_THE_LANGUAGE:
+            return "local", None
+        if re.match(r"[\d\"]|//|$", name):
             return "local", None
         if name in self.imports:
-            module, there = self.imports[name]
-            word = self.site.library.word(module, there or (path[0] if path else ""))
-            unseen = not self.site.library.kit and not self.site.library.own(module.split(".")[1])
-            return ("word", word) if word else ("local" if unseen else "unknown", None)
-        near = self.near.get(name) or (self.site.item_named(name, self.item) if self.item.kind != "word" else None)
+            return self.imported(name, path)
+        near = self.near.get(name)
+        if not near and self.item.kind != "word":
+            if name in self.item.module.foreign:
+                return "local", None
+            near = self.site.item_named(name, self.item)
         return ("member", near) if near else ("local" if name in self.bounds else "unknown", None)
+
+    def imported(self, name, path):
+        """What an imported name means, with what stands behind it."""
+        library, (module, there) = self.site.library, self.imports[name]
+        word = library.word(module, there or (path[0] if path else ""))
+        unseen = not library.kit and not library.own(module.split(".")[1])
+        return ("word", word) if word else ("local" if unseen else "unknown", None)
 
     def pieces(self, term):
         """The atoms of a term, each with what it means."""
-        bound = {name for found in BINDERS.findall(term) for name in (found[0] or found[1]).strip("{}").split()}
+        names = [found[0] or found[1] for found in BINDERS.findall(term)]
+        bound = {name for group in names for name in group.strip("{}").split()}
         for atom in ATOM.findall(term):
-            yield atom, *(("local", None) if re.match(r"[\s(){},;]", atom) else self.meaning(atom, bound))
+            nothing = re.match(r"[\s(){},;]", atom)
+            yield atom, *(("local", None) if nothing else self.meaning(atom, bound))
 
 
 class Site:
     """The crates, read and joined."""
 
     def __init__(self, top, library):
-        self.top, self.library, self.items, self.by_name = top, library, [], {}
-        self.crates = {name: self.module(Item("mod", name, "", None, 1), top / "crates" / name / "src" / "lib.rt") for name in CRATES}
+        self.top, self.library, self.items, self.by_name, self.tests = top, library, [], {}, []
+        self.crates = {name: self.crate(name) for name in CRATES}
         for item in self.items:
             item.home = self.home(item)
             if item.home:
-                place = "index.html" if item.kind == "mod" else f"index.html#{item.kind if item.public else 'law'}.{item.name}"
-                item.url = "/".join([*self.path(item.home), f"{item.kind}.{item.name}.html" if item.kind in WITH_A_PAGE else place])
+                item.url = self.url(item)
                 self.by_name.setdefault(item.name, []).append(item)
         self.impls = [item for item in self.items if item.kind == "impl" and self.place(item)]
         for impl in self.impls:
             impl.of.blocks.append(impl)
 
+    @functools.cached_property
+    def notation(self):
+        """The signs and words of std that clauses use most, each with its line."""
+        lines = NOTATION.read_text().split("\n")
+        return dict(line.split("\t") for line in lines if line)
+
+    @functools.cached_property
+    def words(self):
+        """The definitions of the crates, by their files."""
+        files = [file for crate in CRATES for file in self.library.word_files(crate)]
+        return {file: list(self.library.definitions(file).values()) for file in files}
+
+    def crate(self, name):
+        """A crate's root with all that stands below it. A program's is main.rt."""
+        files = [self.top / "crates" / name / "src" / file for file in ("lib.rt", "main.rt")]
+        return self.module(Item("mod", name, "", None, 1), next(filter(pathlib.Path.exists, files)))
+
     def module(self, module, file):
-        """A module with all that stands in its file and below."""
-        inner = "\n".join(re.findall(r"(?m)^//! ?(.*)$", file.read_text()))
+        """A module with all that stands in its file and below, but for tests."""
+        text = file.read_text()
+        inner = "\n".join(re.findall(r"(?m)^//! ?(.*)$", text))
         module.docs, module.title = inner or module.docs, inner.partition("\n")[0].rstrip(".")
-        module.members = list(items_of(file.read_text(), file, module))
+        module.file, module.program = module.file or file, file.name == "main.rt"
+        module.members = list(items_of(text, file, module))
+        self.note_uses(module)
+        self.items += [module] if not module.owner else []
+        self.items += [item for member in module.members for item in (member, *member.members)]
+        folder = file.parent if file.name in ("lib.rt", "main.rt") else file.with_suffix("")
+        for member in module.of_kind("mod"):
+            if "cfg(test)" in member.attributes:
+                self.tests.append(folder / member.name)
+            else:
+                self.module(member, folder / f"{member.name}.rt")
+        return module
+
+    def is_test(self, file):
+        """Whether a file is of a module of tests, or below one."""
+        place = file.with_suffix("")
+        return any(place.is_relative_to(test) for test in self.tests)
+
+    def note_uses(self, module):
+        """Notes what a module exports of the crates, and the names that it has from elsewhere."""
         near = (*CRATES, "crate", "super", *(member.name for member in module.of_kind("mod")))
-        for use, name, (path, there) in [(use, *found) for use in module.of_kind("use") for found in imports_of(use.head).items()]:
+        uses = [(use, *found) for use in module.of_kind("use")
+                for found in imports_of(use.head).items()]
+        for use, name, (path, there) in uses:
             if path.split("::")[0] in near:
                 module.exported += [name] if use.public else []
             elif use.public:
-                module.members.append(Item("foreign", name, f"use {path}::{there}".rstrip(":"), use.file, use.line, use.docs, owner=module))
+                head = f"use {path}::{there}".rstrip(":")
+                foreign = Item("foreign", name, head, use.file, use.line, use.docs, owner=module)
+                module.members.append(foreign)
             else:
                 module.foreign.append(name)
-        self.items += [module] if not module.owner else []
-        self.items += [item for member in module.members for item in (member, *member.members)]
-        for member in module.of_kind("mod"):
-            self.module(member, (file.parent if file.name == "lib.rt" else file.with_suffix("")) / f"{member.name}.rt")
-        return module
 
     def path(self, module):
         """The names of a module and of those above it."""
         return [*self.path(module.owner), module.name] if module.owner else [module.name]
 
+    def url(self, item):
+        """The page of an item, or its place on its module's."""
+        name = f"{item.kind}.{item.name}.html"
+        if item.kind not in WITH_A_PAGE:
+            anchor = f"#{item.kind if item.public else 'law'}.{item.name}"
+            name = "index.html" + anchor * (item.kind != "mod")
+        return "/".join([*self.path(item.home), name])
+
     def home(self, item):
-        """The public module that an item is found in: where it stands, or above a hidden module, which exports what is public there."""
+        """The public module that an item is found in: where it stands, or above a hidden module,
+        which exports what is public there."""
         if item.kind == "mod":
             return item if not item.owner or item.public and self.home(item.owner) else None
-        if item.kind == "fn" and item.owner.kind == "mod" and not any(member.public for member in item.owner.members):
-            return self.home(item.owner)  # A law: nothing can call it, and its module has only such.
+        if self.is_law(item):
+            return self.home(item.owner)
         if not item.public or item.owner.kind != "mod" or item.kind in ("impl", "use", "ghost use"):
             return None
         module = item.owner
         while not self.home(module):
             module = module.owner
+            if module.program and item.name not in module.exported:
+                return None  # The hidden modules of a program say `pub` to each other.
         return module
+
+    def is_law(self, item):
+        """Whether an item is a law: nothing can call it, and its module has only such."""
+        alone = item.kind == "fn" and item.owner.kind == "mod" and not item.owner.program
+        return alone and not any(member.public for member in item.owner.members)
 
     def item_named(self, name, item):
         """The public item that a name of code means at an item, told by the imports of its file."""
         others = self.by_name.get(name, []) if name not in item.module.foreign else []
-        return min(others, key=lambda other: self.path(other.home)[0] != self.path(item.module)[0], default=None)
+        crate = self.path(item.module)[0]
+        return min(others, key=lambda other: self.path(other.home)[0] != crate, default=None)
+
+    def traits(self, name, item):
+        """The traits of ours that a name means at an item: public ones, or else its crate's."""
+        public = [other for other in self.by_name.get(name, []) if other.kind == "trait"]
+        if public or item.kind == "word":
+            return public
+        crate = self.path(item.module)[0]
+        return [other for other in self.items if other.kind == "trait" and other.name == name
+                and self.path(other.module)[0] == crate]
 
     def place(self, impl):
-        """Notes an impl's type, or else its trait, where readers find it, and tells whether they see it."""
-        header = (generics(impl.head)[1] if impl.head.startswith("impl<") else impl.head[5:]).split("where")[0].strip()
-        trait, _, of = header.rpartition(" for ")
-        impl.of_trait, traits = base_name(trait), [item for item in self.by_name.get(base_name(trait), []) if item.kind == "trait"]
-        types = [self.item_named(name, impl) for name in [base_name(of), *re.findall(r"\w+", header)]]
-        types = [item if item and item.kind in WITH_A_PAGE[:2] else None for item in types]
-        impl.trait, impl.of = (traits or [None])[0], types[0] or (traits or [*filter(None, types), None])[0]
+        """Notes an impl's type, or else its trait, where readers find it, and tells whether they
+        see it."""
+        told = header(impl)
+        trait, _, of = told.rpartition(" for ")
+        impl.of_trait = base_name(trait)
+        traits = [item for item in self.by_name.get(impl.of_trait, []) if item.kind == "trait"]
+        names = [base_name(of), *re.findall(r"\w+", told)]
+        found = [self.item_named(name, impl) for name in names]
+        types = [item if item and item.kind in WITH_A_PAGE[:2] else None for item in found]
+        impl.trait = (traits or [None])[0]
+        impl.of = types[0] or (traits or [*filter(None, types), None])[0]
         return impl.of and (trait or any(member.public for member in impl.of_kind("fn")))
 
     def public_members(self, item):
         """What readers see of an item's members."""
         of_all = item.kind in ("trait", "enum") or item.kind == "impl" and item.of_trait
-        return [member for member in item.members if member.kind != "ghost use" and (of_all or member.public or member.kind == "ghost")]
+        return [member for member in item.members if member.kind != "ghost use"
+                and (of_all or member.public or member.kind == "ghost")]
 
     def shown(self):
         """All items that have a place in the reference, with their members."""
         for item in self.items:
             if item.home or item in self.impls:
                 yield item
-                yield from self.public_members(item) if item.kind not in ("mod", "foreign") else ()
+                if item.kind not in ("mod", "foreign"):
+                    yield from self.public_members(item)
 
     def named(self, items):
         """Each name of each term of items: the item, the name, its kind and what it means."""
         for item in items:
             scope = Scope(self, item) if item.clauses else None
             for clause in item.clauses:
-                yield from ((item, *piece) for piece in scope.pieces(clause.term) if piece[1] != "local")
+                pieces = scope.pieces(clause.term)
+                yield from ((item, *piece) for piece in pieces if piece[1] != "local")
+
+    def full_name(self, item):
+        """An item's name behind that of its type or trait, a definition's behind its module."""
+        owner = item.owner
+        owner = owner.of if owner is not None and owner.kind == "impl" else owner
+        if owner is not None and owner.kind in WITH_A_PAGE:
+            return f"{owner.name}::{item.name}"
+        return item.name or item.head.split("\n")[0]
+
+    def line(self, item):
+        """The line that an item or a definition is told by: its notes or docs, or else its type."""
+        said = self.notation.get(item.name.strip("◌")) or item.notes
+        said = " ".join((said or item.docs.partition("\n\n")[0]).split())
+        first = re.sub(r"^((abbrev|unfoldable|pub|ghost) )*", "", item.head.split("\n")[0])
+        return said or first or item.module
