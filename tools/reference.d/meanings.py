@@ -172,9 +172,14 @@ class Site:
             impl.of.blocks.append(impl)
 
     @functools.cached_property
+    def hidden(self):
+        """The traits that only their crates see."""
+        return [item for item in self.items if item.kind == "trait" and not item.home]
+
+    @functools.cached_property
     def notation(self):
         """The signs and words of std that clauses use most, each with its line."""
-        lines = NOTATION.read_text().split("\n")
+        lines = NOTATION.read_text("utf-8").split("\n")
         return dict(line.split("\t") for line in lines if line)
 
     @functools.cached_property
@@ -190,7 +195,7 @@ class Site:
 
     def module(self, module, file):
         """A module with all that stands in its file and below, but for tests."""
-        text = file.read_text()
+        text = file.read_text("utf-8")
         inner = "\n".join(re.findall(r"(?m)^//! ?(.*)$", text))
         module.docs, module.title = inner or module.docs, inner.partition("\n")[0].rstrip(".")
         module.file, module.program = module.file or file, file.name == "main.rt"
@@ -271,7 +276,7 @@ class Site:
         if public or item.kind == "word":
             return public
         crate = self.path(item.module)[0]
-        return [other for other in self.items if other.kind == "trait" and other.name == name
+        return [other for other in self.hidden if other.name == name
                 and self.path(other.module)[0] == crate]
 
     def place(self, impl):

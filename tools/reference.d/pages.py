@@ -142,7 +142,7 @@ class Pages:
     def surface(self):
         """Notes the Rust crate's names at their counterparts, as SURFACE tells them. Gives those
         that have another name here, or none."""
-        text = (self.site.top / "docs" / "SURFACE.md").read_text()
+        text = (self.site.top / "docs" / "SURFACE.md").read_text("utf-8")
         self.surface_text = re.sub(r"\[([^\]]*)\]\([^)]*\)", r"\1", text)
         parts = r"By another name|## Own items(?s:.*)## Left out"
         same, others, left_out = re.split(parts, self.surface_text)
@@ -181,4 +181,5 @@ class Pages:
         self.depth = url.count("/")
         (self.folder / url).parent.mkdir(parents=True, exist_ok=True)
         made = self.templates.get_template(template)
-        (self.folder / url).write_text(made.render(url=url, top="../" * self.depth, **given) + "\n")
+        text = made.render(url=url, top="../" * self.depth, **given)
+        (self.folder / url).write_text(text + "\n", "utf-8")

@@ -13,7 +13,7 @@ import textwrap
 # What a scan stops at: texts, characters and comments, in which brackets mean nothing, then
 # brackets and ends.
 SIGN = re.compile(
-    r'"(?:\\.|[^"\\])*"'
+    r'"(?:\\[\s\S]|[^"\\])*"'
     r"|'(?:\\.[^']*|[^\\'])'"
     r"|//[^\n]*"
     r"|[{}()\[\];]")
@@ -22,6 +22,8 @@ ANGLE = re.compile(r"<|(?<![-=])>")
 CLAUSE = re.compile(r"\b(requires|ensures)(\*?)\s*(\w*)\s*$")
 # What stands before a `{` that begins no body: a ghost member's, or the names of an import.
 NO_BODY = re.compile(r"(?:\bghost \w+\s*[=:]|\}\s*=|::|\.)\s*$")
+# What ends with a `;`, whatever brackets stand in it.
+VALUES = ("const", "static")
 # Comments and attributes above an item.
 ABOVE = re.compile(r"(?:\s*(?://.*|#!?\[(?:[^\[\]]|\[[^\]]*\])*\]))*\s*")
 DERIVE = re.compile(r"#\[derive\(([^)]*)\)\]")
@@ -43,7 +45,7 @@ DEFINED = re.compile(
     r"^(?=(?P<indent> *))"
     r"(?:(?P<block> *module _ .*where)$"
     r"|(?P<head> *(?:(?:abbrev|unfoldable|pub|record|data|axiom) )*"
-    r"(?!--|use |mod |module )(?P<name>[^\s({]+)(?: ?[({].*?[)}])* :(?: .*|$)"
+    r"(?!--|use |mod |module )(?P<name>[^\s({]+)(?:(?:\n *| ?)[({].*?[)}])*(?:\n +| ):(?: .*|$)"
     r"(?:\n(?:(?P=indent)(?: .*|(?P=name)(?: .*|$))| *$))*))")
 
 Clause = collections.namedtuple("Clause", "keyword star name term")
@@ -114,7 +116,7 @@ def imports_of(text):
     return found
 
 
-def head_and_clauses(text, at):
+def head_and_clauses(text, at, kind="fn"):
     """The head of the item at `at`, its clauses, and where its body or its `;` begins."""
     clauses, end, place = [], None, at
     while True:
@@ -123,11 +125,12 @@ def head_and_clauses(text, at):
             raise ValueError("an item has no end")
         place = closing(text, sign.start()) if sign[0] in "([{" else sign.end()
         clause = CLAUSE.search(text, at, sign.start()) if sign[0] == "{" else None
+        body = sign[0] == "{" and kind not in VALUES and not NO_BODY.search(text, at, sign.start())
         if clause:
             term = inspect.cleandoc(text[sign.start() + 1:place - 1].strip())
             clauses.append(Clause(*clause.groups(), term))
             end = clause.start() if end is None else end
-        elif sign[0] == ";" or sign[0] == "{" and not NO_BODY.search(text, at, sign.start()):
+        elif body or sign[0] == ";":
             head = inspect.cleandoc(text[at:sign.start() if end is None else end].strip())
             return re.sub(r"\n\s*\)", "\n)", head), clauses, sign.start()
 
@@ -171,7 +174,7 @@ def items_of(text, file, owner=None, at=0, end=None):
         if not begin:
             raise ValueError(f"{file}: not an item: {text[start:start + 60]!r}")
         kind = begin["kind"].replace("macro_rules!", "macro")
-        head, clauses, stop = head_and_clauses(text, start)
+        head, clauses, stop = head_and_clauses(text, start, kind)
         at = closing(text, stop) if text[stop] == "{" else stop + 1
         line, name = text.count("\n", 0, start) + 1, begin["name"] if kind != "impl" else ""
         docs, notes = docs_and_notes(above[0])
@@ -198,14 +201,14 @@ class Library:
         self.top, self.kit, self.mounts = top, kit, {}
         if kit:
             project = kit / "logic" / "antt-project.json"
-            self.mounts = json.loads(project.read_text())["mounts"]
+            self.mounts = json.loads(project.read_text("utf-8"))["mounts"]
 
     @functools.cached_property
     def std(self):
         """The files of std, each with its text."""
         names = ("core", "std", "std_alloc", "std_io") if self.kit else ()
         files = [file for name in names for file in sorted((self.kit / name / "src").rglob("*.rt"))]
-        return [(file, file.read_text()) for file in files]
+        return [(file, file.read_text("utf-8")) for file in files]
 
     def own(self, crate):
         """Whether a crate is the repository's."""
@@ -227,7 +230,7 @@ class Library:
         file = folder.joinpath(*rest).with_suffix(".antt")
         for count in range(0 if file.exists() else len(rest), 0, -1):
             passing = folder.joinpath(*(rest[:count - 1] or ["Lib"])).with_suffix(".antt")
-            text = passing.read_text() if passing.exists() else ""
+            text = passing.read_text("utf-8") if passing.exists() else ""
             line = rf"(?m)^pub use (\S+\.{re.escape(rest[count - 1])})$"
             if passed := re.search(line, text):
                 return self.module_file(".".join([passed[1], *rest[count:]]))
@@ -248,7 +251,7 @@ class Library:
         crates = self.top / "crates"
         place = file.relative_to(crates if file.is_relative_to(crates) else self.kit)
         module = ".".join(part for part in place.with_suffix("").parts if part != "specs")
-        text, found, blocks = file.read_text(), {}, []
+        text, found, blocks = file.read_text("utf-8"), {}, []
         imports = imports_of(text)
         for part in DEFINED.finditer(text):
             blocks = [block for block in blocks if not block.startswith(part["indent"])]
@@ -271,7 +274,7 @@ class Library:
         if not file:  # The compiler makes such modules, of types and of what is built in.
             made = re.search(r"\.(declared|contracts)\.|^Prim\.", path)
             return Item("word", name, "", None, 0, module=path) if made else None
-        lines = [use[0] for use in USE.finditer(file.read_text()) if use[1]]
+        lines = [use[0] for use in USE.finditer(file.read_text("utf-8")) if use[1]]
         passed, defined = imports_of("\n".join(lines)), self.definitions(file)
         if name in passed and name not in defined:
             return self.word(*passed[name])

@@ -1,0 +1,119 @@
+"""Lays out docs, signatures and terms as lines of some width."""
+import re
+import textwrap
+
+from sources import closing, parted
+
+# Where a long line of code is cut, if it can be: in front of these.
+SIGNS = ("× ", "⊎ ", "→ ", "↔ ", "≡ ", "≢ ", "≤ ", "< ", "++ ", "-> ", "for ")
+# The widest name of a list that has its line beside it.
+COLUMN = 26
+
+
+def indented(lines, by=4):
+    """Lines that begin deeper, but for empty ones."""
+    return [" " * by + line if line else line for line in lines]
+
+
+def wrapped(text, width, deeper=""):
+    """A paragraph as lines, the later ones deeper."""
+    return textwrap.wrap(text, width, subsequent_indent=deeper, break_long_words=False,
+                         break_on_hyphens=False)
+
+
+def depth(line, at):
+    """In how many brackets a place of a line stands. A `<` is one behind a name, and no `->`."""
+    begun, ended = r"[(\[{]|(?<=[\w:])<", r"[)\]}]|(?<=[\w\])>])>"
+    return len(re.findall(begun, line[:at])) - len(re.findall(ended, line[:at]))
+
+
+def cuts(line, width):
+    """The places of a line of code at which it may be cut, the best ones: before a sign, before a
+    bracket that is an argument, or behind a comma; or else at the last space."""
+    begin = len(line) - len(line.lstrip())
+    spaces = [at for at in range(begin + 1, min(width + 1, len(line)))
+              if line[at] == " " and line[at + 1] != "}"]
+    good = [at for at in spaces if line.startswith(SIGNS, at + 1) or line[at - 1] == ","
+            or line[at + 1] == "(" and re.match(r"[\w)]", line[at - 1])]
+    return good or spaces[-1:]
+
+
+def cut(line, width):
+    """A line of code in pieces no wider than this, the later ones deeper. Each ends at the last
+    place that stands in the fewest brackets."""
+    pieces, deeper = [], " " * (len(line) - len(line.lstrip()) + 4)
+    while len(line) > width and (places := cuts(line, width)):
+        best = min(places, key=lambda at: (depth(line, at), -at))
+        pieces.append(line[:best])
+        line = deeper + line[best + 1:]
+    return [*pieces, line]
+
+
+def laid_out(text, width):
+    """The lines of code as they are written, but for those that are too wide."""
+    return [piece for line in text.split("\n") for piece in cut(line, width)]
+
+
+def paragraphs(text):
+    """The parts of docs, each with whether it stays as it is: a paragraph, an item of a list, or a
+    line of code or of a table."""
+    paragraph, in_code = [], False
+    for line in [*text.split("\n"), ""]:
+        alone = in_code or not line or line.startswith(("```", "|", "#"))
+        if paragraph and (alone or line.startswith("- ")):
+            yield " ".join(paragraph), False
+            paragraph = []
+        if line.startswith("```"):
+            in_code = not in_code
+        elif alone:
+            yield "    " * in_code + line, True
+        else:
+            paragraph.append(line.strip())
+
+
+def prose(text, width):
+    """The lines of docs."""
+    if not text.strip():
+        return []
+    lines = []
+    for part, as_it_is in paragraphs(text.strip()):
+        deeper = "  " * part.startswith("- ")
+        lines += cut(part, width) if as_it_is else wrapped(part, width, deeper)
+    return lines[:-1]
+
+
+def columns(pairs, width):
+    """The lines of a list of names and what is said of each, in two parts: the name stands beside
+    what is said where it is short, and above it else."""
+    widest = max((len(name) for name, _ in pairs if len(name) <= COLUMN), default=2)
+    lines = []
+    for name, said in pairs:
+        beside = wrapped(said, width - widest - 2)
+        if len(name) > widest or not beside:
+            lines.append((name, ""))
+            name = ""
+        for line in beside:
+            lines.append((name.ljust(widest + 2), line))
+            name = ""
+    return lines
+
+
+def one_line(head):
+    """A head on one line, without its conditions on types."""
+    line = " ".join(re.sub(r"\bwhere\b.*", "", head, flags=re.S).split())
+    line = re.sub(r",? ([)\]>])", r"\1", re.sub(r"(?<=[(\[]) |(?<=\w<) ", "", line))
+    return line.rstrip("{ ")
+
+
+def signature(head, width):
+    """A function's head on one line. Where that is too long it stands without its type parameters,
+    then without the types of what it takes, then without its end."""
+    line = re.sub(r"^pub |(?:(?<=\()|(?<=, ))mut ", "", one_line(head))
+    if len(line) > width:
+        line = re.sub(r"(fn \w+)<.*?>\(", r"\1<..>(", line, count=1)
+    if len(line) > width and "(" in line:
+        begin = line.index("(")
+        end = closing(line, begin)
+        names = [part.partition(": ")[0] for part in parted(line[begin + 1:end - 1])]
+        line = f"{line[:begin]}({', '.join(names)}){line[end:]}"
+    return line if len(line) <= width else line[:width - 3] + " .."
