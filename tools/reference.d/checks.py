@@ -1,9 +1,11 @@
-"""Checks that the reference has all.
+"""Checks that the reference has all, and that documents show what stands in the crates.
 
 Each check gives what it tried, one after the other: what is wrong, or nothing.
 """
 import collections
 import re
+
+from examples import missing
 
 COUNTED = re.compile(
     r"(?m)^ *pub (?:(?:const|unsafe|final) (?=fn|unsafe))*"
@@ -37,9 +39,20 @@ def undefined(site):
         yield wrong if kind == "unknown" else None
 
 
+def unwritten(site):
+    """Looks for each function of a document in the crates."""
+    texts = [file.read_text("utf-8") for file in sources(site)]
+    documents = [site.top / "README.md", *(site.top / "docs").glob("*.md"),
+                 *(site.top / "crates").glob("*/README.md")]
+    for document in sorted(documents):
+        for name, line, stands in missing(document.read_text("utf-8"), texts):
+            place = f"{document.relative_to(site.top)}:{line}"
+            yield None if stands else f"{place}: {name} stands in no crate"
+
+
 def check(site):
     """Prints what is wrong, and tells whether nothing is."""
-    tried = [found for part in (unread, undefined) for found in part(site)]
+    tried = [found for part in (unread, undefined, unwritten) for found in part(site)]
     failures = [found for found in tried if found]
     passed = len(tried) - len(failures)
     print("".join(f"{failure}\n" for failure in failures), end="")
