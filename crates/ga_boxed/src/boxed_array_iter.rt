@@ -6,7 +6,7 @@ ghost use Rattle.ga_core.specs.Runs.{FoldRun};
 ghost use Rattle.std.specs.Borrow.{sem};
 ghost use Rattle.std.specs.Iterator.{ActsAsOnTwo, YieldsFirst, YieldsLast, item_count};
 ghost use Rattle.std.specs.List.{All, AllZip};
-ghost use Rattle.std.specs.Prelude.{◌≡◌, ◌-◌, ◌<◌, [], ◌∷◌, ◌++◌, IfOk, IsOk, fold, length, reverse, slice_get};
+ghost use Rattle.std.specs.Prelude.{◌≡◌, ◌-◌, IfOk, IsOk, fold, length, reverse, slice_get};
 
 use crate::live_block::LiveBlock;
 use ga_core::AllocError;

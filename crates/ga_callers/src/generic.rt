@@ -3,7 +3,7 @@ ghost use Rattle.generic_array.specs.FillAnswer.{fill_answer};
 ghost use Rattle.generic_array.specs.Built.{built_items};
 ghost use Rattle.generic_array.specs.Calls.{MayMap};
 ghost use Rattle.std.specs.List.{range_with_len};
-ghost use Rattle.std.specs.Prelude.{◌≡◌, ◌+◌, ◌<◌, ◌⊎◌, Err, IfErr, IfOk, IsOk, Ok, OnOk, length, map, refl, replicate};
+ghost use Rattle.std.specs.Prelude.{◌≡◌, ◌+◌, ◌<◌, ◌⊎◌, IfErr, IfOk, IsOk, OnOk, length, map, refl, replicate};
 
 use ga_core_callers::digits::decimal_digit;
 use generic_array::functional::{

@@ -1,7 +1,7 @@
 //! Callers of the shapes, with the items that they get.
 ghost use Rattle.generic_array.specs.Views.{items_of_view};
 ghost use Rattle.std.specs.List.{flat_map, fold};
-ghost use Rattle.std.specs.Prelude.{◌≡◌, ◌+◌, ◌*◌, ◌%◌, ◌^◌, ◌∷◌, [], IfOk};
+ghost use Rattle.std.specs.Prelude.{◌≡◌, ◌+◌, ◌%◌, ◌^◌, ◌∷◌, [], IfOk};
 
 use ga_core_callers::numbers::one_two_three;
 use generic_array::sequence::{

@@ -3,7 +3,7 @@ ghost use Rattle.ga_core_callers.specs.Digits.{digit_of};
 ghost use Rattle.ga_core.specs.Tries.{try_map};
 ghost use Rattle.std.specs.Int.Bits.{bit_xor};
 ghost use Rattle.std.specs.List.{zip};
-ghost use Rattle.std.specs.Prelude.{◌≡◌, ◌+◌, ◌-◌, ◌*◌, ◌∷◌, [], ◌%◌, ◌^◌, map, slice_index};
+ghost use Rattle.std.specs.Prelude.{◌≡◌, ◌+◌, ◌*◌, ◌∷◌, [], ◌%◌, ◌^◌, map, slice_index};
 
 use crate::answers::{gives, has};
 use crate::digits::digit_in;

@@ -1,7 +1,7 @@
 //! Messages of any length, passed on in blocks of one length.
 ghost use Rattle.ga_hashes.specs.BlockBuffer.{HasFed, MayTakeBlocks, TakesBlocks, count_more, padding, with_padding, zero_count};
 ghost use Rattle.ga_core.specs.Length.{FitsInline};
-ghost use Rattle.ga_core.specs.Rows.{chunk_rest, rows};
+ghost use Rattle.ga_core.specs.Rows.{chunk_rest};
 ghost use Rattle.std.specs.List.{flat_map};
 ghost use Rattle.std.specs.Prelude.{◌≡◌, ℕ, ◌+◌, ◌^◌, ◌<◌, ◌≤◌, List, [], ◌++◌, length, replicate};
 

@@ -1,6 +1,6 @@
 //! A caller that feeds by hand, proved.
 ghost use Rattle.ga_hashes.specs.BlockBuffer.{TakesBlocks, with_padding};
-ghost use Rattle.std.specs.Prelude.{◌≡◌, ◌^◌, ◌+◌, ◌<◌, ◌++◌, length};
+ghost use Rattle.std.specs.Prelude.{◌^◌, ◌+◌, ◌<◌, ◌++◌, length};
 
 use ga_hashes::block_buffer::BlockBuffer;
 use generic_array::U64;

@@ -1,5 +1,5 @@
 //! A type and a trait with a length that is a type, as the README of the Rust crate has them.
-ghost use Rattle.std.specs.Prelude.{◌≡◌, length};
+ghost use Rattle.std.specs.Prelude.{◌≡◌};
 
 use generic_array::{ArrayLength, GenericArray, U5};
 

@@ -1,5 +1,5 @@
 //! The boxed array as a sequence.
-ghost use Rattle.std.specs.Prelude.{◌≡◌, ⊤};
+ghost use Rattle.std.specs.Prelude.{⊤};
 
 use crate::sequence::{FallibleGenericSequence, FromFallibleIterator, GenericSequence};
 use ga_boxed::BoxedArray;
