@@ -1,4 +1,5 @@
-"""Checks that the reference has all, and that documents show what stands in the crates.
+"""Checks that the reference has all, that documents show what stands in the crates, and that what
+is imported for clauses is used there.
 
 Each check gives what it tried, one after the other: what is wrong, or nothing.
 """
@@ -6,6 +7,7 @@ import collections
 import re
 
 from examples import missing
+from imports import uses
 
 COUNTED = re.compile(
     r"(?m)^ *pub (?:(?:const|unsafe|final) (?=fn|unsafe))*"
@@ -50,9 +52,17 @@ def unwritten(site):
             yield None if stands else f"{place}: {name} stands in no crate"
 
 
+def unused(site):
+    """Looks for each imported word in the clauses that it is imported for."""
+    for file in sources(site):
+        for name, line, used in uses(file.read_text("utf-8")):
+            place = f"{file.relative_to(site.top)}:{line}"
+            yield None if used else f"{place}: {name} is imported and not used"
+
+
 def check(site):
     """Prints what is wrong, and tells whether nothing is."""
-    tried = [found for part in (unread, undefined, unwritten) for found in part(site)]
+    tried = [found for part in (unread, undefined, unwritten, unused) for found in part(site)]
     failures = [found for found in tried if found]
     passed = len(tried) - len(failures)
     print("".join(f"{failure}\n" for failure in failures), end="")
