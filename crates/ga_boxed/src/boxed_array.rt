@@ -6,10 +6,10 @@ ghost use Rattle.std.specs.Iterator.{YieldsFirst, YieldsLast};
 ghost use Rattle.std.specs.Iterator.Runs.{YieldsInOrder, YieldsInReverse};
 ghost use Rattle.std.specs.Prelude.{◌≡◌, length};
 
-mod as_slice;
 mod builds;
 mod conversions;
 mod copies;
+mod slices;
 
 use crate::boxed_array_iter::BoxedArrayIter;
 use crate::live_block::LiveBlock;

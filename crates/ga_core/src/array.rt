@@ -6,7 +6,6 @@ ghost use Rattle.std.specs.Iterator.{YieldsFirst, YieldsLast};
 ghost use Rattle.std.specs.Iterator.Runs.{YieldsInOrder, YieldsInReverse};
 ghost use Rattle.std.specs.Prelude.{◌≡◌, ◌<◌, ◌↔◌, IsTrue, List, Some, length, slice_get};
 
-mod as_slice;
 mod builds;
 mod comparisons;
 mod conversions;
@@ -17,12 +16,13 @@ mod hex_text;
 mod reborrow;
 mod slices;
 mod tuples;
+mod views;
 
 use crate::array_iter::GenericArrayIter;
 use crate::length::ArrayLength;
 use crate::store::Store;
-pub use as_slice::Len;
 use ga_views::{Const, MAX_INLINE};
+pub use slices::Len;
 use std::marker::{Model, PhantomData};
 use std::ops::{Index, IndexMut};
 use std::slice;
