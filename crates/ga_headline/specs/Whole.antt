@@ -2,7 +2,7 @@
 use Rattle.ga_headline.specs.declared.whole.Stopped.{Stopped}
 use Rattle.ga_headline.specs.declared.whole.Stopped.TheVariants.{Build, Call, NotMapped, NotWalked}
 use Rattle.generic_array.specs.Account.{Account}
-use Rattle.generic_array.specs.Fill.{FillsFallibly}
+use Rattle.generic_array.specs.Fill.{FillFalliblyRuns, FillsFallibly}
 use Rattle.generic_array.specs.FillAnswer.{fill_answer}
 use Rattle.generic_array.specs.Steps.{StepsRun}
 use Rattle.generic_array.specs.declared.FillError.{FillError}
@@ -11,9 +11,15 @@ use Rattle.generic_array.specs.declared.steps.step.Step.{Step}
 use Rattle.std.specs.Prelude.{◌≡◌, ◌⊎◌, ℕ, ◌++◌, IfErr, IfOk, List, Ok, Err, OnErr, Option, Result}
 use Rattle.generic_array.specs.declared.AllocError.{AllocError}
 
+-- a fallible fill of n items came to this, told as `FillsFallibly` and as a run
+pub record Filled {S T E F : Type 0} (next_gives : S → Option (Result T E) → S → Type 0) (before : S) (n : ℕ)
+    (built : Result (Result (List T) E) F) (after : S) : Type 0 where
+  pub fill : FillsFallibly next_gives before n built after
+  pub runs : FillFalliblyRuns next_gives before n built
+
 -- the iterator gave exactly these n good items, and then ended
 abbrev pub Comes : {S T E : Type 0} → (S → Option (Result T E) → S → Type 0) → S → ℕ → List T → S → Type 0
-Comes {S} {T} {E} next_gives before n items after = FillsFallibly next_gives {F = E} before n (Ok (Ok items)) after
+Comes {S} {T} {E} next_gives before n items after = Filled {F = E} next_gives before n (Ok (Ok items)) after
 
 -- a fact for each part that may have stopped
 abbrev pub MatchStopped : {E P D Q : Type 0} → Stopped E P D Q → (FillError E P → Type 0) → (D → Type 0)
@@ -28,7 +34,7 @@ module _ {I T E P U D Q F : Type 0} (next_gives : I → Option (Result T E) → 
   -- where the iterator and the closure of the map are left by a part that stopped
   abbrev pub StoppedAt : Stopped E P D Q → I → F → Type 0
   StoppedAt why after last = MatchStopped why
-      (λ error. IfOk (fill_answer {A = List T} (Err error)) (λ built. FillsFallibly next_gives before n built after)
+      (λ error. IfOk (fill_answer {A = List T} (Err error)) (λ built. Filled next_gives before n built after)
       × OnErr (fill_answer {A = List T} (Err error)) (after ≡ before) × (last ≡ f))
       (λ error. (list : List T) × Comes next_gives before n list after × run f list (Err error) last)
       (λ _. (list : List T) × Comes next_gives before n list after × (last ≡ f))

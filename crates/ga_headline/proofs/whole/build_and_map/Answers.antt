@@ -5,15 +5,16 @@ use Rattle.generic_array.specs.Runs.{FirstErrorRun}
 use Rattle.std.proofs.Common.{◌∙◌, Ok, ap, subst, sym}
 
 pub try_map-requires-clause-callable : goal.try_map-requires-clause-callable
-try_map-requires-clause-callable g c = c.requires.may_call _ _ c.in-Ok.ensures.fill
+try_map-requires-clause-callable g c =
+    c.requires.may_call _ _ (record { fill = c.in-Ok.ensures.fill; runs = c.in-Ok.ensures.runs })
 
 pub returns-in-Ok-Ok : goal.returns-in-Ok-Ok
 returns-in-Ok-Ok g c = record {
   ok = (
     _,
-    c.in-Ok.ensures.fill,
-    subst (λ answer. FirstErrorRun (CallAt g.S.GenericSequence.entry (goal.F-step g))
-        c.args.f.now (g.S.AsSlice.items c.in-Ok.made) answer c.try_map.new.f)
+    record { fill = c.in-Ok.ensures.fill; runs = c.in-Ok.ensures.runs },
+    subst (λ answer. FirstErrorRun (CallAt g.S.GenericSequence.entry (goal.F-step g)) c.args.f.now
+        (g.S.AsSlice.items c.in-Ok.made) answer c.try_map.new.f)
         (ap (built_items g.S.Mapped.Sequence.AsSlice.items) c.in-Ok-Ok.field-0-is ∙ ap Ok (sym c.into_two_ended.ensures))
         c.in-Ok-Ok.ensures.run,
   );
@@ -25,9 +26,15 @@ returns-in-Ok-Err g c = record {
   ok = tt;
   stopped = (
     _,
-    c.in-Ok.ensures.fill,
-    subst (λ answer. FirstErrorRun (CallAt g.S.GenericSequence.entry (goal.F-step g))
-        c.args.f.now (g.S.AsSlice.items c.in-Ok.made) answer c.try_map.new.f)
+    record { fill = c.in-Ok.ensures.fill; runs = c.in-Ok.ensures.runs },
+    subst (λ answer. FirstErrorRun (CallAt g.S.GenericSequence.entry (goal.F-step g)) c.args.f.now
+        (g.S.AsSlice.items c.in-Ok.made) answer c.try_map.new.f)
         (ap (built_items g.S.Mapped.Sequence.AsSlice.items) c.in-Ok-Err.field-0-is) c.in-Ok-Err.ensures.run,
   );
+}
+
+pub returns-in-Err-try_map : goal.returns-in-Err-try_map
+returns-in-Err-try_map g c = record {
+  ok = tt;
+  stopped = (_, record { fill = c.in-Ok.ensures.fill; runs = c.in-Ok.ensures.runs }, c.in-Err-try_map.ensures.err);
 }
