@@ -37,7 +37,7 @@ pub type Walked<S, T, U> = <MappedSequence<S, T, U> as TwoEndedSequence<U>>::Two
 ///
 /// What each part means is told one after the other: the fill, the calls up to the first error, and the
 /// list that is cut from both ends; and so is the state in which the iterator and both closures are left,
-/// wherever the run stops.
+/// wherever the run stops. The closures need be callable only in states that such a run reaches.
 pub fn build_map_walk<T, E, U, D, R, S, I, F, G>(
     place: S::Place,
     items: &mut I,
