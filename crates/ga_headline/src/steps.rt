@@ -1,7 +1,7 @@
 //! Every run of two-ended iterator calls gives what a list cut from both ends gives.
 ghost use Rattle.generic_array.specs.Account.{Account};
 ghost use Rattle.generic_array.specs.Entries.{CallAt, MayCallAt};
-ghost use Rattle.generic_array.specs.Steps.{MaySteps, StepGivesReply, StepsRun};
+ghost use Rattle.generic_array.specs.Steps.{MaySteps, StepsRun};
 ghost use Rattle.std.specs.Prelude.{◌≡◌, List, ◌++◌, IfOk, OnErr};
 
 use generic_array::AllocError;
