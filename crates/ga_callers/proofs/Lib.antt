@@ -1,2 +1,3 @@
 pub mod CountedLemmas
 pub mod JobLemmas
+pub mod LeftLemmas

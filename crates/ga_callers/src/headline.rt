@@ -1,13 +1,17 @@
 //! The headline at each kind of sequence that has it, with exact results.
+ghost use Rattle.ga_headline.specs.Whole.{MatchStopped};
+ghost use Rattle.generic_array.specs.FillAnswer.{fill_answer};
+ghost use Rattle.generic_array.specs.Length.{FitsInline};
 ghost use Rattle.generic_array.specs.Views.{items_of_view};
 ghost use Rattle.generic_array.specs.declared.steps.step.Reply.TheVariants.{Item, Old, Seen};
 ghost use Rattle.generic_array.specs.declared.steps.step.Step.TheVariants.{Look, Next, NextBack, Set};
-ghost use Rattle.std.specs.Prelude.{◌≡◌, ◌+◌, ◌%◌, ◌^◌, [], ◌∷◌, ◌++◌, Err, IfOk, Ok, OnOk, Some, if◌then◌else◌, length, nat_eq, nat_lt};
+ghost use Rattle.generic_array.specs.declared.FillError.TheVariants.{Item as ItemError};
+ghost use Rattle.std.specs.Prelude.{◌≡◌, ◌+◌, ◌*◌, ◌<◌, ◌/◌, ◌%◌, ◌^◌, [], ◌∷◌, ◌++◌, Err, IfErr, IfOk, IsErr, None, ⊤, Ok, OnErr, OnOk, Some, if◌then◌else◌, length, nat_eq, nat_lt};
 
 use crate::kinds::boxed_one_two_three;
 use ga_core_callers::answers::{gives, has};
 use ga_core_callers::numbers::{four_five_six, one_two_three};
-use ga_headline::builds::build;
+use ga_headline::builds::{build, build_of_items, fill_boxed, fill_inline};
 use ga_headline::calls::{fold, map, try_fold, try_map, zip};
 use ga_headline::joined_runs::{folds_join, maps_join, try_folds_join, try_maps_join, zips_join};
 use ga_headline::shapes::{
@@ -15,11 +19,12 @@ use ga_headline::shapes::{
     unflatten_then_flatten,
 };
 use ga_headline::steps::walk;
+use ga_headline::whole::{Stopped, build_map_walk};
 use generic_array::sequence::{GenericSequence, SequenceItem};
 use generic_array::steps::{Reply, Step};
 use generic_array::{
     AllocError, ArrayLength, BoxedArray, BoxedArrayIter, FillError, GenericArray, GenericArrayIter,
-    GenericArrayRef, InlineLength, Never, U0, U2, U3, U4, U5, always, arr,
+    GenericArrayRef, InlineLength, LengthError, Never, U0, U2, U3, U4, U5, always, arr,
 };
 use std::alloc::Global;
 use std::test::Fail;
@@ -33,7 +38,7 @@ fn inline_of<N: ArrayLength<u32> + InlineLength>(
     requires items { items.items ≡ 1 ∷ 2 ∷ 3 ∷ [] }
     ensures { result ≡ Ok (1 ∷ 2 ∷ 3 ∷ []) }
 {
-    build((), items)
+    build_of_items((), items)
 }
 
 fn boxed_of(
@@ -43,7 +48,74 @@ fn boxed_of(
     requires { items.items ≡ 1 ∷ 2 ∷ 3 ∷ [] }
     ensures { IfOk result (λ array. array ≡ 1 ∷ 2 ∷ 3 ∷ []) }
 {
-    build(alloc, items)
+    build_of_items(alloc, items)
+}
+
+// The first error, and what the iterator gives then.
+fn stopped_inline<N: ArrayLength<u32> + InlineLength>(
+    results: Vec<Result<u32, u8>>,
+) -> (
+    Result<GenericArray<u32, N>, FillError<u8, Never>>,
+    Option<Result<u32, u8>>,
+)
+    requires len { N.USIZE ≡ 3 }
+    requires results { results.items ≡ Ok 1 ∷ Err 7 ∷ Ok 3 ∷ [] }
+    ensures built { result.0 ≡ Err (ItemError 7) }
+    ensures next { IfOk (fill_answer result.0) (λ built.
+        IfOk built (λ made. OnErr made (result.1 ≡ Some (Ok 3)))) }
+{
+    let mut results = results.into_iter();
+    let built = build((), &mut results);
+    (built, results.next())
+}
+
+// The array after which nothing comes, or no memory and the first item still to come.
+fn built_boxed(
+    alloc: Global,
+    results: Vec<Result<u32, u8>>,
+) -> (
+    Result<BoxedArray<u32, U2>, FillError<u8, AllocError>>,
+    Option<Result<u32, u8>>,
+)
+    requires { results.items ≡ Ok 1 ∷ Ok 2 ∷ [] }
+    ensures built { IfOk result.0 (λ array. array ≡ 1 ∷ 2 ∷ []) }
+    ensures last { OnOk result.0 (result.1 ≡ None) }
+    ensures refused { OnErr (fill_answer result.0) (result.1 ≡ Some (Ok 1)) }
+{
+    let mut results = results.into_iter();
+    let built = build(alloc, &mut results);
+    (built, results.next())
+}
+
+// No array of two, since three items come, of which the iterator gives the fourth then.
+fn filled_inline<N: ArrayLength<u32> + InlineLength>(
+    items: Vec<u32>,
+) -> (Result<GenericArray<u32, N>, LengthError>, Option<u32>)
+    requires len { N.USIZE ≡ 2 }
+    requires items { items.items ≡ 1 ∷ 2 ∷ 3 ∷ 4 ∷ [] }
+    ensures filled { IsErr result.0 }
+    ensures next { result.1 ≡ Some 4 }
+{
+    let mut items = items.into_iter();
+    let filled = fill_inline(&mut items);
+    (filled, items.next())
+}
+
+fn filled_boxed(
+    alloc: Global,
+    items: Vec<u32>,
+) -> (
+    Result<Result<BoxedArray<u32, U2>, LengthError>, AllocError>,
+    Option<u32>,
+)
+    requires { items.items ≡ 1 ∷ 2 ∷ [] }
+    ensures filled { IfOk result.0 (λ filled. filled ≡ Ok (1 ∷ 2 ∷ [])) }
+    ensures last { OnOk result.0 (result.1 ≡ None) }
+    ensures refused { OnErr result.0 (result.1 ≡ Some 1) }
+{
+    let mut items = items.into_iter();
+    let filled = fill_boxed(alloc, &mut items);
+    (filled, items.next())
 }
 
 // Calls: running totals at each kind, sums of two kinds, and what stops at an item.
@@ -220,6 +292,132 @@ fn walked_boxed(
     walk(array, steps, &mut count_of, replies)
 }
 
+// The whole: half of each number of three, walked over.
+
+/// Half of an even number, or an error of an odd one.
+fn halved(number: u32) -> Result<u32, u32>
+    ensures { result ≡ (if nat_eq (number % 2) 0 then Ok (number / 2) else Err number) }
+{
+    if number % 2 == 0 {
+        Ok(number / 2)
+    } else {
+        Err(number)
+    }
+}
+
+fn whole_inline<N: ArrayLength<u32> + InlineLength>(
+    results: Vec<Result<u32, u8>>,
+    steps: Vec<Step<u32>>,
+    replies: &mut Vec<Reply<u32, usize>>,
+) -> Result<GenericArrayIter<u32, N>, Stopped<u8, Never, u32, Never>>
+    requires len { N.USIZE ≡ 3 }
+    requires results { results.items ≡ Ok 2 ∷ Ok 4 ∷ Ok 6 ∷ [] }
+    requires steps { steps.items ≡ Next ∷ Look ∷ Set 1 9 ∷ NextBack ∷ [] }
+    ensures replies { OnOk result (replies.new.items
+        ≡ replies.old.items ++ Item (Some 1) ∷ Seen 2 ∷ Old 3 ∷ Item (Some 9) ∷ []) }
+    ensures left { IfOk result (λ left. left ≡ 2 ∷ []) }
+{
+    build_map_walk::<u32, u8, u32, u32, usize, GenericArray<u32, N>, _, _, _>(
+        (),
+        &mut results.into_iter(),
+        (),
+        &mut halved,
+        steps,
+        &mut count_of,
+        replies,
+    )
+}
+
+fn whole_boxed(
+    alloc: Global,
+    results: Vec<Result<u32, u8>>,
+    steps: Vec<Step<u32>>,
+    replies: &mut Vec<Reply<u32, usize>>,
+) -> Result<BoxedArrayIter<u32>, Stopped<u8, AllocError, u32, AllocError>>
+    requires results { results.items ≡ Ok 2 ∷ Ok 4 ∷ Ok 6 ∷ [] }
+    requires steps { steps.items ≡ Next ∷ Look ∷ Set 1 9 ∷ NextBack ∷ [] }
+    ensures replies { OnOk result (replies.new.items
+        ≡ replies.old.items ++ Item (Some 1) ∷ Seen 2 ∷ Old 3 ∷ Item (Some 9) ∷ []) }
+    ensures left { IfOk result (λ left. left ≡ 2 ∷ []) }
+{
+    build_map_walk::<u32, u8, u32, u32, usize, BoxedArray<u32, U3>, _, _, _>(
+        alloc,
+        &mut results.into_iter(),
+        alloc,
+        &mut halved,
+        steps,
+        &mut count_of,
+        replies,
+    )
+}
+
+// An odd number among three stops the map, after the build and before the walk.
+fn whole_stopped(
+    alloc: Global,
+    results: Vec<Result<u32, u8>>,
+    steps: Vec<Step<u32>>,
+    replies: &mut Vec<Reply<u32, usize>>,
+) -> Result<BoxedArrayIter<u32>, Stopped<u8, AllocError, u32, AllocError>>
+    requires results { results.items ≡ Ok 2 ∷ Ok 5 ∷ Ok 7 ∷ [] }
+    requires steps { steps.items ≡ Next ∷ Look ∷ Set 1 9 ∷ NextBack ∷ [] }
+    ensures err { IsErr result }
+    ensures why { IfErr result (λ why. MatchStopped why (λ _. ⊤) (λ error. error ≡ 5) (λ _. ⊤) ⊥) }
+    ensures replies { replies.new.items ≡ replies.old.items }
+{
+    build_map_walk::<u32, u8, u32, u32, usize, BoxedArray<u32, U3>, _, _, _>(
+        alloc,
+        &mut results.into_iter(),
+        alloc,
+        &mut halved,
+        steps,
+        &mut count_of,
+        replies,
+    )
+}
+
+// Shapes of rows, at any lengths and items.
+
+// An array cut into rows and joined, and how many rows there were.
+fn cut_and_joined<
+    T: Default + Drop,
+    N: ArrayLength<T>,
+    W: ArrayLength<T>,
+    R: ArrayLength<GenericArray<T, W>>,
+>(array: GenericArray<T, N>) -> (GenericArray<T, N>, usize)
+where
+    GenericArray<T, W>: Default,
+    requires area { N.USIZE ≡ R.USIZE * W.USIZE }
+    requires some { 0 < W.USIZE }
+    ensures array { result.0 ≡ array }
+    ensures count { result.1 ≡ R.USIZE }
+{
+    let _ = array.as_slice();
+    unflatten_then_flatten::<T, GenericArray<T, N>, GenericArray<GenericArray<T, W>, R>, _, _>(
+        array,
+        |rows| rows.as_slice().len(),
+    )
+}
+
+// Rows joined and cut again. The checker doesn't cover a call of this: the test below names the lengths.
+fn joined_and_cut<
+    T: Default + Drop,
+    N: ArrayLength<T>,
+    W: ArrayLength<T>,
+    R: ArrayLength<GenericArray<T, W>>,
+>(rows: GenericArray<GenericArray<T, W>, R>) -> GenericArray<GenericArray<T, W>, R>
+where
+    GenericArray<T, W>: Default,
+    requires area { N.USIZE ≡ R.USIZE * W.USIZE }
+    requires some { 0 < W.USIZE }
+    requires fits { FitsInline N.USIZE }
+    ensures { result ≡ rows }
+{
+    flatten_then_unflatten::<T, GenericArray<T, N>, GenericArray<GenericArray<T, W>, R>, _, _>(
+        rows,
+        |_items| (),
+    ).0
+}
+
 /// The sum of the items.
 fn sum_of(items: &[u32]) -> u32 {
     items.iter().fold(0, |sum, item| sum.wrapping_add(*item))
@@ -230,6 +428,26 @@ fn builds_want_just_their_number(rt: HostRuntime) -> Result<(), Fail> {
     let alloc = rt.alloc();
     assert!(rt; gives(inline_of::<U3>(vec![in alloc; 1, 2, 3]?), &[1, 2, 3]));
     assert!(rt; gives(boxed_of(alloc, vec![in alloc; 1, 2, 3]?), &[1, 2, 3]));
+    Ok(())
+}
+
+#[test]
+fn builds_leave_what_comes_after(rt: HostRuntime) -> Result<(), Fail> {
+    let alloc = rt.alloc();
+    let (built, next) = stopped_inline::<U3>(vec![in alloc; Ok(1), Err(7), Ok(3)]?);
+    assert!(rt; matches!(built, Err(FillError::Item(7))) && matches!(next, Some(Ok(3))));
+    let (built, next) = built_boxed(alloc, vec![in alloc; Ok(1), Ok(2)]?);
+    assert!(rt; gives(built, &[1, 2]) && next.is_none());
+    Ok(())
+}
+
+#[test]
+fn fills_leave_what_comes_after(rt: HostRuntime) -> Result<(), Fail> {
+    let alloc = rt.alloc();
+    let (filled, next) = filled_inline::<U2>(vec![in alloc; 1, 2, 3, 4]?);
+    assert!(rt; filled.is_err() && next == Some(4));
+    let (filled, next) = filled_boxed(alloc, vec![in alloc; 1, 2]?);
+    assert!(rt; gives(filled?, &[1, 2]) && next.is_none());
     Ok(())
 }
 
@@ -307,13 +525,15 @@ fn what_is_split_and_joined_is_as_it_was(rt: HostRuntime) {
 
 #[test]
 fn what_is_cut_into_rows_and_joined_is_as_it_was(rt: HostRuntime) {
-    let (bytes, count) = unflatten_then_flatten::<U4, U2, _, _>(
-        arr![1, 2, 3, 4],
-        |rows| rows.len(),
-    );
-    assert!(rt; count == 2 && has(bytes, &[1, 2, 3, 4]));
-    let rows = arr![arr![1u8, 2], arr![3, 4]];
-    let (rows, count) = flatten_then_unflatten::<U4, U2, _, _>(rows, |items| items.len());
+    let (numbers, count) = cut_and_joined::<u32, U4, U2, U2>(one_to_four());
+    assert!(rt; count == 2 && has(numbers, &[1, 2, 3, 4]));
+    let (rows, count) = flatten_then_unflatten::<
+        u32,
+        GenericArray<u32, U4>,
+        GenericArray<GenericArray<u32, U2>, U2>,
+        _,
+        _,
+    >(arr![arr![1u32, 2], arr![3, 4]], |items| items.len());
     assert!(rt; count == 4 && rows[1].as_slice() == [3, 4].as_slice());
 }
 
@@ -345,5 +565,38 @@ fn steps_cut_a_boxed_array_from_both_ends(rt: HostRuntime) -> Result<(), Fail> {
     let left = walked_boxed(boxed, steps(rt.alloc())?, &mut replies)?;
     assert!(rt; left.as_slice() == [2].as_slice() && are_right(rt.alloc(), replies.as_slice())?);
     assert!(rt; replies.capacity() == 4);
+    Ok(())
+}
+
+#[test]
+fn the_whole_of_an_array(rt: HostRuntime) -> Result<(), Fail> {
+    let mut replies = Vec::new(rt.alloc());
+    let results = vec![in rt.alloc(); Ok(2), Ok(4), Ok(6)]?;
+    match whole_inline::<U3>(results, steps(rt.alloc())?, &mut replies) {
+        Ok(left) => assert!(rt; left.as_slice() == [2].as_slice()),
+        Err(_) => assert!(rt; false),
+    }
+    assert!(rt; are_right(rt.alloc(), replies.as_slice())?);
+    Ok(())
+}
+
+#[test]
+fn the_whole_of_a_boxed_array(rt: HostRuntime) -> Result<(), Fail> {
+    let mut replies = Vec::new(rt.alloc());
+    let results = vec![in rt.alloc(); Ok(2), Ok(4), Ok(6)]?;
+    match whole_boxed(rt.alloc(), results, steps(rt.alloc())?, &mut replies) {
+        Ok(left) => assert!(rt; left.as_slice() == [2].as_slice()),
+        Err(_) => assert!(rt; false),
+    }
+    assert!(rt; are_right(rt.alloc(), replies.as_slice())?);
+    Ok(())
+}
+
+#[test]
+fn the_whole_stops_at_an_error(rt: HostRuntime) -> Result<(), Fail> {
+    let mut replies = Vec::new(rt.alloc());
+    let results = vec![in rt.alloc(); Ok(2), Ok(5), Ok(7)]?;
+    let stopped = whole_stopped(rt.alloc(), results, steps(rt.alloc())?, &mut replies);
+    assert!(rt; matches!(stopped, Err(Stopped::Call(5))) && replies.len() == 0);
     Ok(())
 }

@@ -1,10 +1,10 @@
 //! A build succeeds exactly where N items come.
 ghost use Rattle.generic_array.specs.Built.{built_items};
-ghost use Rattle.generic_array.specs.Fill.{Fills, FillsFallibly};
+ghost use Rattle.generic_array.specs.Fill.{Asks, FillFalliblyRuns, FillRuns, Fills, FillsFallibly};
 ghost use Rattle.generic_array.specs.FillAnswer.{fill_answer};
 ghost use Rattle.generic_array.specs.Length.{FitsInline};
 ghost use Rattle.generic_array.specs.Tries.{try_map};
-ghost use Rattle.std.specs.Prelude.{◌≡◌, IfOk, IsOk, Ok, OnErr, Result, length, map};
+ghost use Rattle.std.specs.Prelude.{◌≡◌, ◌+◌, IfOk, IsOk, Ok, OnErr, OnOk, Result, length, map};
 
 use generic_array::sequence::FromFallibleIterator;
 use generic_array::{
@@ -24,6 +24,8 @@ pub fn build<T, E: Drop, S: FromFallibleIterator<T>, I: Iterator<Item = Result<T
     requires can { I.can_next items.old }
     ensures fill { IfOk (fill_answer (built_items S.items result)) (λ built.
         FillsFallibly I.next_gives items.old S.Length.USIZE built items.new) }
+    ensures runs { IfOk (fill_answer (built_items S.items result)) (λ built.
+        FillFalliblyRuns I.next_gives items.old S.Length.USIZE built) }
     ensures err { OnErr (fill_answer (built_items S.items result)) (items.new ≡ items.old) }
     ensures promised { S.IsPromised → IsOk (fill_answer (built_items S.items result)) }
 {
@@ -71,6 +73,8 @@ pub fn fill_inline<T: Default + Drop, N: ArrayLength<T>, I: Iterator<Item = T>>(
     requires fits { FitsInline N.USIZE }
     requires can { I.can_next items.old }
     ensures fill { Fills I.next_gives items.old N.USIZE result items.new }
+    ensures runs { FillRuns I.next_gives items.old N.USIZE result }
+    ensures asks { Asks I.next_gives items.old (N.USIZE + 1) items.new }
 {
     GenericArray::try_from_iter_ref(items)
 }
@@ -82,6 +86,8 @@ pub fn fill_boxed<T: Drop, N: Unsigned, I: Iterator<Item = T>>(
 ) -> Result<Result<BoxedArray<T, N>, LengthError>, AllocError>
     requires can { I.can_next items.old }
     ensures fill { IfOk result (λ built. Fills I.next_gives items.old N.USIZE built items.new) }
+    ensures runs { IfOk result (λ built. FillRuns I.next_gives items.old N.USIZE built) }
+    ensures asks { OnOk result (Asks I.next_gives items.old (N.USIZE + 1) items.new) }
     ensures err { OnErr result (items.new ≡ items.old) }
     ensures empty { N.USIZE ≡ 0 → IsOk result }
 {

@@ -6,7 +6,8 @@
 //! - a build succeeds exactly where N items come: `builds`;
 //! - closure calls run in order and stop at the first error: `calls`, and over joined lists `joined_runs`;
 //! - shapes undo each other: `shapes`;
-//! - every run of two-ended iterator calls gives what a list cut from both ends gives: `steps`.
+//! - every run of two-ended iterator calls gives what a list cut from both ends gives: `steps`;
+//! - and one call that builds, maps and walks means all three, one after the other: `whole`.
 //!
 //! Each function's contract is a part of this. `headline` of `ga_callers` calls each at every kind that
 //! has it.
@@ -22,3 +23,5 @@ pub mod joined_runs;
 pub mod shapes;
 /// Any run of two-ended calls is a list cut from both ends.
 pub mod steps;
+/// The headline end to end.
+pub mod whole;
