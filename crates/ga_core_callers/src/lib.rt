@@ -1,7 +1,7 @@
 //! Callers of inline arrays, views and rows, each proved: what the contracts of `ga_core` give to those who
 //! use it alone.
 //!
-//! Callers stand under `#[cfg(test)]`. What is public serves the tests of `ga_callers` too.
+//! Callers stand under `#[cfg(test)]`. What is public serves the tests of `ga_callers` or is cited in `specs/`.
 #![tactic(auto)]
 
 /// Comparisons of what callers made.

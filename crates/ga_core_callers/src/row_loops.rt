@@ -1,8 +1,9 @@
 //! Loops that write over each row of a slice.
-ghost use Rattle.ga_core.specs.Rows.{chunk_count, chunk_rest, rows};
-ghost use Rattle.std.specs.Prelude.{◌≡◌, ◌*◌, ◌<◌, length, map, reverse};
+ghost use Rattle.ga_core.specs.Rows.{chunk_count, chunk_rest, row_at, rows};
+ghost use Rattle.std.specs.List.{range_with_len};
+ghost use Rattle.std.specs.Prelude.{◌≡◌, ◌*◌, ◌%◌, ◌<◌, length, map, reverse, slice_set};
 
-use ga_core::{ChunksMut, U0, U2, U3, Unsigned};
+use ga_core::{ChunksMut, U0, U2, U3, U4, Unsigned};
 
 /// Turns each row round, of as many items as whole rows have.
 fn rows_turned<N: Unsigned>(slice: &mut [u8])
@@ -26,6 +27,19 @@ fn whole_rows_turned<N: Unsigned>(slice: &mut [u8])
     rows_turned::<N>(whole);
 }
 
+/// Writes its number in front in each row of four bytes.
+fn rows_numbered(slice: &mut [u8])
+    requires whole { length slice.old ≡ chunk_count 4 slice.old * 4 }
+    ensures { rows 4 slice.new ≡ map (λ r. slice_set (row_at 4 slice.old r) 0 (r % 256))
+        (range_with_len 0 (chunk_count 4 slice.old)) }
+{
+    let count = ChunksMut::<u8, U4>::over(slice).len();
+    for index in 0..count {
+        let mut rows = ChunksMut::<u8, U4>::over(slice);
+        rows.row_mut(index)[0] = (index % 256) as u8;
+    }
+}
+
 #[test]
 fn each_row_is_turned_round(rt: HostRuntime) {
     let mut items = [1, 2, 3, 4, 5, 6, 7, 8];
@@ -34,4 +48,11 @@ fn each_row_is_turned_round(rt: HostRuntime) {
     whole_rows_turned::<U2>(&mut items);
     assert!(rt; items == [2, 3, 6, 1, 4, 5, 8, 7]);
     rows_turned::<U0>(&mut []);
+}
+
+#[test]
+fn each_row_is_numbered(rt: HostRuntime) {
+    let mut items = [9, 1, 2, 3, 9, 4, 5, 6, 9, 7, 8, 9];
+    rows_numbered(&mut items);
+    assert!(rt; items == [0, 1, 2, 3, 1, 4, 5, 6, 2, 7, 8, 9]);
 }
