@@ -3,11 +3,11 @@ use Rattle.ga_views.proofs.PartLemmas.{part-before, part-behind, part-within, re
 use Rattle.ga_views.proofs.RowLemmas.{cut-rest, cut-rows, length-row, length-rows, row-within, rows-dropped, rows-taken}
 use Rattle.ga_views.specs.Parts.{part_set}
 use Rattle.ga_views.specs.Rows.{chunk_count, chunk_rest, row_at, rows}
-use Rattle.std.proofs.Common.{◌≡◌, ℕ, suc, ◌+◌, ◌-◌, ◌*◌, ◌/◌, ◌<◌, ◌≤◌, List, [], ◌∷◌, ◌++◌, ◌∙◌, ap, arith, drop, get_or}
-use Rattle.std.proofs.Common.{append_assoc, length, length-append, length-drop, map, refl, sym, take}
+use Rattle.std.proofs.Common.{◌≡◌, ℕ, suc, ◌+◌, ◌-◌, ◌*◌, ◌/◌, ◌<◌, ◌≤◌, List, [], ◌∷◌, ◌++◌, ◌∙◌, ap, arith}
+use Rattle.std.proofs.Common.{append_assoc, drop, get_or, length, length-append, length-drop, map, refl, sym, take}
 use Rattle.std.proofs.Math.Seq.{drop-append_seam, take-append_seam}
-use Rattle.std.proofs.lemmas.List.{append-nil, drop_all, drop_more, get_or_at, length-map, set-get_or, set_at, set_split}
-use Rattle.std.proofs.lemmas.List.{take-append-drop, take_all}
+use Rattle.std.proofs.lemmas.List.{append-nil, drop_all, drop_more, get_or_at, length-map, set-get_or, set_at}
+use Rattle.std.proofs.lemmas.List.{set_split, take-append-drop, take_all}
 use Rattle.std.proofs.lemmas.List.Edits.{map_over_more}
 use Rattle.std.proofs.lemmas.List.FromFn.{get_or-map-range_with_len, length-map-range_with_len}
 use Rattle.std.proofs.lemmas.List.FromFn.{map-range_with_len_more}
