@@ -27,7 +27,7 @@ fn whole_rows_turned<N: Unsigned>(slice: &mut [u8])
     rows_turned::<N>(whole);
 }
 
-/// Writes its number in front in each row of four bytes.
+/// Writes its number, modulo 256, in front in each row of four bytes.
 fn rows_numbered(slice: &mut [u8])
     requires whole { length slice.old ≡ chunk_count 4 slice.old * 4 }
     ensures { rows 4 slice.new ≡ map (λ r. slice_set (row_at 4 slice.old r) 0 (r % 256))
