@@ -22,6 +22,7 @@ pub use Rattle.ga_views.proofs.ItemLoan
 pub use Rattle.ga_views.proofs.JoinLemmas
 pub use Rattle.ga_views.proofs.LengthCall
 pub use Rattle.ga_views.proofs.RowLemmas
+pub use Rattle.ga_views.proofs.RowSetLemmas
 pub use Rattle.ga_views.proofs.SliceLaws
 pub use Rattle.ga_views.proofs.SliceWalk
 pub use Rattle.ga_views.proofs.SplitWalk

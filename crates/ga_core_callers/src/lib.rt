@@ -1,13 +1,15 @@
 //! Callers of inline arrays, views and rows, each proved: what the contracts of `ga_core` give to those who
 //! use it alone.
 //!
-//! Callers stand under `#[cfg(test)]`. What is public serves the tests of `ga_callers` too.
+//! Callers stand under `#[cfg(test)]`. What is public serves the tests of `ga_callers` or is cited in `specs/`.
 #![tactic(auto)]
 
 /// Comparisons of what callers made.
 pub mod answers;
 /// The digits that callers read from text.
 pub mod digits;
+/// Records read from rows of bytes.
+pub mod records;
 /// Arrays of known numbers.
 #[cfg(test)]
 mod builds;
@@ -19,6 +21,8 @@ mod hex_text;
 mod iterators;
 #[cfg(test)]
 mod keys;
+#[cfg(test)]
+mod nested;
 pub mod numbers;
 #[cfg(test)]
 mod parts;
@@ -26,6 +30,8 @@ mod parts;
 mod places;
 #[cfg(test)]
 mod plain_calls;
+#[cfg(test)]
+mod row_loops;
 #[cfg(test)]
 mod row_walks;
 #[cfg(test)]

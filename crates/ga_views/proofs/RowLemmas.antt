@@ -155,7 +155,7 @@ wide_by len (suc width) k within = omega arith
 
 module _ {X : Type 0} (width : ℕ) where
   -- the rows behind the first k
-  rows-dropped : (k : ℕ) (items : List X) → k ≤ chunk_count width items
+  pub rows-dropped : (k : ℕ) (items : List X) → k ≤ chunk_count width items
       → rows width (drop (k * width) items) ≡ drop k (rows width items)
   rows-dropped zero items within = let none : 0 * width ≡ 0 = omega arith in ap (λ n. rows width (drop n items)) none
   rows-dropped (suc k) items within =
@@ -174,7 +174,7 @@ module _ {X : Type 0} (width : ℕ) where
       ∙ (rows-dropped k (drop width items) left ∙ ap (drop (suc k)) (sym first)))
 
   -- the rows of the items of the first k rows
-  rows-taken : (k : ℕ) (items : List X) → k ≤ chunk_count width items
+  pub rows-taken : (k : ℕ) (items : List X) → k ≤ chunk_count width items
       → rows width (take (k * width) items) ≡ take k (rows width items)
   rows-taken zero items within = let none : 0 * width ≡ 0 = omega arith in
       ap (λ n. rows width (take n items)) none ∙ ap (λ n. map (row_at width []) (range_with_len 0 n)) (zero-div width)
