@@ -1,0 +1,63 @@
+//! Block ciphers, each under its key: blocks of a length that is a type, there and back.
+ghost use Rattle.ga_ciphers.specs.BlockCipher.{IsBlock};
+ghost use Rattle.std.specs.Prelude.{◌≡◌, ℕ, ◌<◌, List};
+
+use generic_array::{ArrayLength, GenericArray};
+
+/// A block cipher under a key. The counterpart of RustCrypto's `BlockEncrypt` and `BlockDecrypt`.
+///
+/// An impl writes the calls that work in place. Those by value come with them: the checker refuses an
+/// impl that takes an array by value, so they are `final`.
+pub trait BlockCipher {
+    /// How many bytes a block has, as a length.
+    type BlockSize: ArrayLength<u8>;
+
+    // What a block is encrypted to.
+    ghost encrypted: { Self → List ℕ → List ℕ };
+
+    // What a block is decrypted to.
+    ghost decrypted: { Self → List ℕ → List ℕ };
+
+    /// Encrypts the block where it lies.
+    fn encrypt_block(&self, block: &mut GenericArray<u8, Self::BlockSize>)
+        ensures { block.new ≡ encrypted self.now block.old };
+
+    /// Decrypts the block where it lies.
+    fn decrypt_block(&self, block: &mut GenericArray<u8, Self::BlockSize>)
+        ensures { block.new ≡ decrypted self.now block.old };
+
+    /// The block, encrypted.
+    final fn encrypt(
+        &self,
+        block: GenericArray<u8, Self::BlockSize>,
+    ) -> GenericArray<u8, Self::BlockSize>
+        ensures { result ≡ encrypted self.now block }
+    {
+        let mut block = block;
+        self.encrypt_block(&mut block);
+        block
+    }
+
+    /// The block, decrypted.
+    final fn decrypt(
+        &self,
+        block: GenericArray<u8, Self::BlockSize>,
+    ) -> GenericArray<u8, Self::BlockSize>
+        ensures { result ≡ decrypted self.now block }
+    {
+        let mut block = block;
+        self.decrypt_block(&mut block);
+        block
+    }
+
+    // Blocks aren't empty.
+    ghost some: { 0 < Self.BlockSize.USIZE };
+
+    // A block is encrypted to a block.
+    ghost keeps: { (cipher : Self) (block : List ℕ) → IsBlock Self.BlockSize.USIZE block
+        → IsBlock Self.BlockSize.USIZE (encrypted cipher block) };
+
+    // Decrypting undoes encrypting.
+    ghost undoes: { (cipher : Self) (block : List ℕ) → IsBlock Self.BlockSize.USIZE block
+        → decrypted cipher (encrypted cipher block) ≡ block };
+}
