@@ -1,2 +1,4 @@
+mod CbcLemmas
 mod ChaCha20Lemmas
 pub mod KeystreamLemmas
+mod XteaLemmas

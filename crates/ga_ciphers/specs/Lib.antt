@@ -1,9 +1,8 @@
-pub mod BlockCipher
+pub mod Cbc
 pub mod ChaCha20
 pub mod CounterMode
 pub mod Keystream
 pub mod Xtea
-pub mod XteaLaws
 pub use Rattle.generic_array.specs.Length
 pub use Rattle.generic_array.specs.Rows
 pub use Rattle.rand_chacha.specs.Block

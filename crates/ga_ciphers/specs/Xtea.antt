@@ -9,10 +9,10 @@ abbrev pub key_words : List ℕ → List ℕ
 key_words key = map (from_be_bytes w32) (rows 4 key)
 
 -- the two halves of a block, and the block of two halves
-abbrev pub halves_of : List ℕ → ℕ × ℕ
+unfoldable pub halves_of : List ℕ → ℕ × ℕ
 halves_of block = let number = from_be_bytes w64 block in (number / 2 ^ 32, number % 2 ^ 32)
 
-abbrev pub block_of : ℕ × ℕ → List ℕ
+unfoldable pub block_of : ℕ × ℕ → List ℕ
 block_of halves = to_be_bytes w64 (halves.0 * 2 ^ 32 + halves.1)
 
 -- the difference of two words, with the borrow dropped

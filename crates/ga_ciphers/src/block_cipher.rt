@@ -1,5 +1,4 @@
 //! Block ciphers, each under its key: blocks of a length that is a type, there and back.
-ghost use Rattle.ga_ciphers.specs.BlockCipher.{IsBlock};
 ghost use Rattle.std.specs.Prelude.{◌≡◌, ℕ, ◌<◌, List};
 
 use generic_array::{ArrayLength, GenericArray};
@@ -18,20 +17,22 @@ pub trait BlockCipher {
     // What a block is decrypted to.
     ghost decrypted: { Self → List ℕ → List ℕ };
 
-    /// Encrypts the block where it lies.
+    /// Encrypts the block where it lies. Decrypting gives it back.
     fn encrypt_block(&self, block: &mut GenericArray<u8, Self::BlockSize>)
-        ensures { block.new ≡ encrypted self.now block.old };
+        ensures block { block.new ≡ encrypted self.now block.old }
+        ensures back { decrypted self.now block.new ≡ block.old };
 
     /// Decrypts the block where it lies.
     fn decrypt_block(&self, block: &mut GenericArray<u8, Self::BlockSize>)
         ensures { block.new ≡ decrypted self.now block.old };
 
-    /// The block, encrypted.
+    /// The block, encrypted. Decrypting gives it back.
     final fn encrypt(
         &self,
         block: GenericArray<u8, Self::BlockSize>,
     ) -> GenericArray<u8, Self::BlockSize>
-        ensures { result ≡ encrypted self.now block }
+        ensures block { result ≡ encrypted self.now block }
+        ensures back { decrypted self.now result ≡ block }
     {
         let mut block = block;
         self.encrypt_block(&mut block);
@@ -52,12 +53,4 @@ pub trait BlockCipher {
 
     // Blocks aren't empty.
     ghost some: { 0 < Self.BlockSize.USIZE };
-
-    // A block is encrypted to a block.
-    ghost keeps: { (cipher : Self) (block : List ℕ) → IsBlock Self.BlockSize.USIZE block
-        → IsBlock Self.BlockSize.USIZE (encrypted cipher block) };
-
-    // Decrypting undoes encrypting.
-    ghost undoes: { (cipher : Self) (block : List ℕ) → IsBlock Self.BlockSize.USIZE block
-        → decrypted cipher (encrypted cipher block) ≡ block };
 }

@@ -4,6 +4,8 @@
 
 /// Block ciphers: their trait.
 pub mod block_cipher;
+/// Cipher block chaining over any block cipher.
+pub mod cbc;
 /// ChaCha20 (RFC 8439).
 pub mod chacha20;
 /// A key stream in blocks, over texts in pieces of any size.

@@ -52,7 +52,6 @@ impl Xtea {
 }
 
 impl BlockCipher for Xtea {
-    ghost use Rattle.ga_ciphers.specs.XteaLaws.{xtea_keeps, xtea_undoes};
     ghost use Rattle.std.proofs.Common.{lit≤};
 
     type BlockSize = U8;
@@ -62,56 +61,62 @@ impl BlockCipher for Xtea {
     ghost decrypted = { xtea_decrypted };
 
     fn encrypt_block(&self, block: &mut GenericArray<u8, U8>) {
-        *block = block_of(cycles(&self.key, halves_of(block)));
+        let (left, right) = halves_of(block.as_slice());
+        let (left, right) = cycles(&self.key, left, right);
+        *block = block_of(left, right);
     }
 
     fn decrypt_block(&self, block: &mut GenericArray<u8, U8>) {
-        *block = block_of(cycles_back(&self.key, halves_of(block)));
+        let (left, right) = halves_of(block.as_slice());
+        let (left, right) = cycles_back(&self.key, left, right);
+        *block = block_of(left, right);
     }
 
     ghost some = { lit≤ tt };
-
-    ghost keeps = { λ key block is. xtea_keeps key block };
-
-    ghost undoes = { xtea_undoes };
 }
 
 // The left and the right half of a block.
-fn halves_of(block: &GenericArray<u8, U8>) -> (u32, u32)
-    ensures { result ≡ halves_of block.now }
+fn halves_of(block: &[u8]) -> (u32, u32)
+    requires { length block.now ≡ 8 }
+    ensures halves { result ≡ halves_of block.now }
+    ensures back { block_of result ≡ block.now }
 {
-    let number = u64::from_be_bytes(GenericArray::from_view(block.view()).into_array());
+    let number = u64::from_be_bytes([
+        block[0], block[1], block[2], block[3], block[4], block[5], block[6], block[7],
+    ]);
     ((number >> 32) as u32, (number % (1 << 32)) as u32)
 }
 
 // The block of two halves.
-fn block_of(halves: (u32, u32)) -> GenericArray<u8, U8>
-    ensures { result ≡ block_of halves }
+fn block_of(left: u32, right: u32) -> GenericArray<u8, U8>
+    ensures block { result ≡ block_of (left, right) }
+    ensures back { halves_of result ≡ (left, right) }
 {
-    let number = u64::from(halves.0) * (1 << 32) + u64::from(halves.1);
+    let number = u64::from(left) * (1 << 32) + u64::from(right);
     GenericArray::from_array(number.to_be_bytes())
 }
 
 // The halves after all cycles.
-fn cycles(key: &[u32; 4], halves: (u32, u32)) -> (u32, u32)
-    ensures { result ≡ cycles key.now 32 halves }
+fn cycles(key: &[u32; 4], left: u32, right: u32) -> (u32, u32)
+    ensures halves { result ≡ cycles key.now 32 (left, right) }
+    ensures back { cycles_back key.now 32 result ≡ (left, right) }
 {
-    let mut now = halves;
+    let mut halves = (left, right);
     'cycles: for number in 0..CYCLES {
-        now = cycle(key, number, now);
+        halves = cycle(key, number, halves);
     }
-    now
+    halves
 }
 
 // The halves before them.
-fn cycles_back(key: &[u32; 4], halves: (u32, u32)) -> (u32, u32)
-    ensures { result ≡ cycles_back key.now 32 halves }
+fn cycles_back(key: &[u32; 4], left: u32, right: u32) -> (u32, u32)
+    ensures { result ≡ cycles_back key.now 32 (left, right) }
 {
-    let mut now = halves;
+    let mut halves = (left, right);
     'cycles: for undone in 0..CYCLES {
-        now = cycle_back(key, CYCLES - 1 - undone, now);
+        halves = cycle_back(key, CYCLES - 1 - undone, halves);
     }
-    now
+    halves
 }
 
 // What a round adds to one half: of the other half, and a word of the key's.

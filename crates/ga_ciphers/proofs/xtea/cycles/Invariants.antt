@@ -4,4 +4,4 @@ use Rattle.std.proofs.Common.{◌≡◌}
 
 -- the halves after the cycles so far
 abbrev pub invariant-cycles : goal.invariant-cycles
-invariant-cycles l = l.now ≡ cycles l.key l.number l.fn.halves
+invariant-cycles l = l.halves ≡ cycles l.key l.number (l.fn.left, l.fn.right)

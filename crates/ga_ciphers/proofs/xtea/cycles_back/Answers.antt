@@ -18,8 +18,8 @@ one_more key undone halves below =
 
 pub cycles-preserved : goal.cycles-preserved
 cycles-preserved c =
-    ap (cycles_back c.args.key.now (32 - (c.cycles.undone + 1))) c.cycle_back-now.ensures
-    ∙ (sym (one_more c.args.key.now c.cycles.undone c.cycles.now c.cycles-test.true) ∙ c.cycles.invariant)
+    ap (cycles_back c.args.key.now (32 - (c.cycles.undone + 1))) c.cycle_back-halves.ensures
+    ∙ (sym (one_more c.args.key.now c.cycles.undone c.cycles.halves c.cycles-test.true) ∙ c.cycles.invariant)
 
 none_left : (key : List ℕ) (undone : ℕ) (halves : ℕ × ℕ) → undone ≡ 32
     → halves ≡ cycles_back key (32 - undone) halves
@@ -29,4 +29,4 @@ none_left key undone halves done = ap (λ n. cycles_back key n halves) (sym (ap 
 pub returns : goal.returns
 returns c =
     let done : c.cycles.undone ≡ 32 = omega arith in
-    none_left c.args.key.now c.cycles.undone c.cycles.now done ∙ c.cycles.invariant
+    none_left c.args.key.now c.cycles.undone c.cycles.halves done ∙ c.cycles.invariant
