@@ -10,6 +10,8 @@ pub mod cbc;
 pub mod chacha20;
 /// A key stream in blocks, over texts in pieces of any size.
 pub mod counter_mode;
+/// Padding for texts that aren't whole blocks.
+pub mod padding;
 /// The error of a key stream that ends.
 pub mod stream_end;
 /// XTEA: blocks of 64 bits.
