@@ -1,12 +1,12 @@
-//! Block ciphers, each under its key: blocks of a length that is a type, there and back.
+//! Block ciphers: blocks of a length that is a type, encrypted and decrypted under a key.
 ghost use Rattle.std.specs.Prelude.{◌≡◌, ℕ, ◌<◌, List};
 
 use generic_array::{ArrayLength, GenericArray};
 
 /// A block cipher under a key. The counterpart of RustCrypto's `BlockEncrypt` and `BlockDecrypt`.
 ///
-/// An impl writes the calls that work in place. Those by value come with them: the checker refuses an
-/// impl that takes an array by value, so they are `final`.
+/// An impl writes the calls that work in place. Those by value come with them, as `final` ones, since
+/// the checker refuses an impl with a call that takes an array by value.
 pub trait BlockCipher {
     /// How many bytes a block has, as a length.
     type BlockSize: ArrayLength<u8>;
@@ -17,7 +17,7 @@ pub trait BlockCipher {
     // What a block is decrypted to.
     ghost decrypted: { Self → List ℕ → List ℕ };
 
-    /// Encrypts the block where it lies. Decrypting gives it back.
+    /// Encrypts the block where it lies. Decrypting gives it back, which each impl proves.
     fn encrypt_block(&self, block: &mut GenericArray<u8, Self::BlockSize>)
         ensures block { block.new ≡ encrypted self.now block.old }
         ensures back { decrypted self.now block.new ≡ block.old };

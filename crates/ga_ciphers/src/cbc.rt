@@ -10,19 +10,22 @@ use crate::block_cipher::BlockCipher;
 use crate::counter_mode::xor;
 use generic_array::{GenericArray, GenericArrayRef, Unsigned};
 
-/// Encrypts the whole blocks of a text where they lie.
+/// Encrypts a text of whole blocks where it lies, from this vector on. `decrypt_blocks` from the same
+/// vector gives it back.
 ///
-/// Then `vector` is the last encrypted block: with it the next call goes on with the text.
-/// RustCrypto's counterpart is `cbc::Encryptor`.
+/// The vector is then the last encrypted block: with it the next call goes on with the text. Allocates
+/// nothing, and copies each block once. RustCrypto's counterpart is `cbc::Encryptor`.
 pub fn encrypt_blocks<C: BlockCipher>(
     cipher: &C,
     vector: &mut GenericArray<u8, C::BlockSize>,
     text: &mut [u8],
 )
     requires whole { length text.old % C.BlockSize.USIZE ≡ 0 }
-    ensures text { text.new ≡ cbc_encrypted (C.encrypted cipher.now) C.BlockSize.USIZE vector.old text.old }
+    ensures text { text.new
+        ≡ cbc_encrypted (C.encrypted cipher.now) C.BlockSize.USIZE vector.old text.old }
     ensures vector { vector.new ≡ drop (length text.new) (vector.old ++ text.new) }
-    ensures back { cbc_decrypted (C.decrypted cipher.now) C.BlockSize.USIZE vector.old text.new ≡ text.old }
+    ensures back { cbc_decrypted (C.decrypted cipher.now) C.BlockSize.USIZE vector.old text.new
+        ≡ text.old }
 {
     let mut done = 0;
     'rows: while done < text.len() {
@@ -31,17 +34,18 @@ pub fn encrypt_blocks<C: BlockCipher>(
     }
 }
 
-/// Decrypts the whole blocks of a text where they lie: the inverse of `encrypt_blocks`.
+/// Decrypts a text of whole blocks where it lies, from this vector on.
 ///
-/// Then `vector` is the last encrypted block: with it the next call goes on with the text.
-/// RustCrypto's counterpart is `cbc::Decryptor`.
+/// The vector is then the last block as it came: with it the next call goes on with the text. Allocates
+/// nothing, and copies each block three times. RustCrypto's counterpart is `cbc::Decryptor`.
 pub fn decrypt_blocks<C: BlockCipher>(
     cipher: &C,
     vector: &mut GenericArray<u8, C::BlockSize>,
     text: &mut [u8],
 )
     requires whole { length text.old % C.BlockSize.USIZE ≡ 0 }
-    ensures text { text.new ≡ cbc_decrypted (C.decrypted cipher.now) C.BlockSize.USIZE vector.old text.old }
+    ensures text { text.new
+        ≡ cbc_decrypted (C.decrypted cipher.now) C.BlockSize.USIZE vector.old text.old }
     ensures vector { vector.new ≡ drop (length text.old) (vector.old ++ text.old) }
 {
     let mut done = 0;
@@ -64,7 +68,8 @@ fn encrypt_at<C: BlockCipher>(
         (under vector.old (slice_range text.old place (place + C.BlockSize.USIZE))) }
     ensures back { C.decrypted cipher.now vector.new
         ≡ under vector.old (slice_range text.old place (place + C.BlockSize.USIZE)) }
-    ensures text { text.new ≡ take place text.old ++ vector.new ++ drop (place + C.BlockSize.USIZE) text.old }
+    ensures text { text.new
+        ≡ take place text.old ++ vector.new ++ drop (place + C.BlockSize.USIZE) text.old }
 {
     let end = place + C::BlockSize::USIZE;
     xor(vector.as_mut_slice(), &text[place..end]);

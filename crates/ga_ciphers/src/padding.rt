@@ -1,14 +1,15 @@
 //! Padding that tells its own length (PKCS #7; RFC 5652, 6.3), for texts that aren't whole blocks.
 //!
-//! Every text is padded, one of whole blocks by a block more.
+//! Every text is padded, one of whole blocks by one more block.
 ghost use Rattle.ga_ciphers.specs.Padding.{IsPadded, padded};
 ghost use Rattle.std.specs.Prelude.{◌≡◌, ℕ, ◌-◌, ◌^◌, ◌<◌, ◌↔◌, IfSome, IsSome, IsTrue, List, length, replicate};
 
 use generic_array::{ArrayLength, GenericArray};
 
-/// The last block of a text: the bytes behind its whole blocks, and the padding.
+/// The last block of a text: `rest`, the bytes behind its whole blocks, and the padding. `unpad` finds
+/// them again.
 ///
-/// RustCrypto's counterpart is `Pkcs7::pad`, over a block that holds the bytes.
+/// Allocates nothing. RustCrypto's counterpart is `Pkcs7::pad`, over a block that holds the bytes.
 pub fn pad<N: ArrayLength<u8>>(rest: &[u8]) -> GenericArray<u8, N>
     requires room { length rest.now < N.USIZE }
     requires fits { N.USIZE < 2 ^ 8 }
@@ -20,10 +21,10 @@ pub fn pad<N: ArrayLength<u8>>(rest: &[u8]) -> GenericArray<u8, N>
     block
 }
 
-/// The bytes before the padding of a last block, or of a whole text; `None` if it doesn't end in one.
+/// Borrows the bytes before the padding of a last block. Returns `None` if it doesn't end in one.
 ///
-/// The time that it takes depends on the bytes: tell nobody who can send texts of his own whether their
-/// padding was wrong. RustCrypto's counterpart is `Pkcs7::unpad`.
+/// How long it takes depends on the bytes: whoever sends texts mustn't learn whether a padding was
+/// wrong. RustCrypto's counterpart is `Pkcs7::unpad`.
 pub fn unpad(block: &[u8]) -> Option<&[u8]>
     ensures variant { IsSome result ↔ IsPadded block.now }
     ensures rest { (rest : List ℕ) (missing : ℕ) → 0 < missing → block.now ≡ padded rest missing

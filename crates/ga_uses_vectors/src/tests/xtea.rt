@@ -1,12 +1,16 @@
 //! Vectors of XTEA, and a text that is padded and chained.
 ghost use Rattle.std.specs.Prelude.{◌≡◌};
 
-use crate::tests::block_cipher::{Turned, block_there_and_back, end_is_found, text_there_and_back};
+use crate::tests::block_cipher::{
+    Turned, block_there_and_back, end_is_found, sealed, text_there_and_back,
+};
 use ga_ciphers::block_cipher::BlockCipher;
 use ga_ciphers::cbc::{decrypt_blocks, encrypt_blocks};
 use ga_ciphers::padding::{pad, unpad};
 use ga_ciphers::xtea::Xtea;
 use generic_array::{GenericArray, U8};
+use std::alloc::{AllocError, Global};
+use std::test::Fail;
 
 const KEY_OF_ZEROS: [u8; 16] = [0; 16];
 
@@ -59,6 +63,13 @@ fn padded(message: &[u8; 21]) -> [u8; 24] {
     text
 }
 
+/// Whether the message, padded and encrypted, is this.
+fn is_sealed_as(alloc: Global, message: &[u8], expected: &[u8]) -> Result<bool, AllocError> {
+    let (cipher, vector) = cipher_and_vector();
+    let text = sealed(alloc, &cipher, &vector, message)?;
+    Ok(text.as_slice() == expected)
+}
+
 /// The text, encrypted in two pieces: the vector goes on.
 fn encrypted_in_pieces(mut text: [u8; 24]) -> [u8; 24] {
     let (cipher, mut vector) = cipher_and_vector();
@@ -85,7 +96,7 @@ fn unchanged(mut text: [u8; 24]) -> [u8; 24]
 }
 
 #[test]
-fn a_text_is_padded_chained_and_found_again(rt: HostRuntime) {
+fn a_text_is_padded_chained_and_found_again(rt: HostRuntime) -> Result<(), Fail> {
     // Worked out by a program that follows the standards, in another language.
     let expected = [
         0x3a, 0x22, 0x2d, 0xfd, 0x57, 0x23, 0x44, 0xc9, 0x2e, 0x1a, 0xe7, 0xb8, 0x78, 0x8d, 0xd3,
@@ -96,6 +107,8 @@ fn a_text_is_padded_chained_and_found_again(rt: HostRuntime) {
     assert!(rt; encrypted_in_pieces(text) == expected);
     assert!(rt; decrypted_in_pieces(expected) == text && unchanged(text) == text);
     assert!(rt; unpad(&text) == Some(&message[..]));
+    assert!(rt; is_sealed_as(rt.alloc(), message, &expected)?);
+    Ok(())
 }
 
 #[test]

@@ -1,7 +1,8 @@
 use Rattle.ga_ciphers.proofs.CbcLemmas.{block_within, decrypted-ended, decrypted-more, decrypted_vector-more}
 use Rattle.ga_ciphers.proofs.CbcLemmas.{left-more, vector-ended, whole_behind}
 use Rattle.ga_ciphers.proofs.cbc.decrypt_blocks.Goals as goal
-use Rattle.std.proofs.Common.{◌≡◌, ◌+◌, ◌-◌, ◌%◌, ◌<◌, ◌≤◌, ap, arith, length, refl, sym, ◌∙◌}
+use Rattle.ga_ciphers.specs.Keystream.{under}
+use Rattle.std.proofs.Common.{◌≡◌, ◌+◌, ◌-◌, ◌%◌, ◌<◌, ◌≤◌, ap, arith, length, refl, slice_range, sym, ◌∙◌}
 
 pub rows-preserved : goal.rows-preserved
 rows-preserved g c =
@@ -20,18 +21,20 @@ rows-preserved g c =
     let made = c.decrypt_at.ensures in
     let goes : next ≡ done + width = ap (λ n. done + n) c.USIZE-done.ensures in
     let long : length new ≡ length now = c.decrypt_at.auto.text in
+    let block = c.decrypt_at.new.vector in
+    let part = under (decrypted (slice_range now done (done + width))) vector in
     let same : length start ≡ length now = omega (arith, c.rows.auto.text) in
     let within : done + width ≤ length now = block_within width (length now) done next so_far.whole c.rows-test.true in
     record {
       done = omega (arith, within, goes, long);
       whole = ap (λ n. (n - next) % width) long
           ∙ whole_behind width (length now) done next so_far.whole c.rows-test.true goes;
-      left = left-more width some encrypted decrypted first vector start now new _ done next goes within made.len
+      left = left-more width some encrypted decrypted first vector start now new part done next goes within made.len
           long so_far.left made.text;
-      vector = decrypted_vector-more width some encrypted decrypted first vector start now new _ done next goes
-          within made.len long so_far.left made.text same so_far.vector _ made.vector;
-      text = decrypted-more width some encrypted decrypted first vector start now new _ done next goes within
-          made.len long so_far.left made.text _ made.vector refl so_far.text;
+      vector = decrypted_vector-more width some encrypted decrypted first vector start now new part done next goes
+          within made.len long so_far.left made.text same so_far.vector block made.vector;
+      text = decrypted-more width some encrypted decrypted first vector start now new part done next goes within
+          made.len long so_far.left made.text block made.vector (refl {a = part}) so_far.text;
     }
 
 pub returns : goal.returns
