@@ -29,12 +29,11 @@ pub trait BlockCipher {
     /// The block, encrypted. Decrypting gives it back.
     final fn encrypt(
         &self,
-        block: GenericArray<u8, Self::BlockSize>,
+        mut block: GenericArray<u8, Self::BlockSize>,
     ) -> GenericArray<u8, Self::BlockSize>
         ensures block { result ≡ encrypted self.now block }
         ensures back { decrypted self.now result ≡ block }
     {
-        let mut block = block;
         self.encrypt_block(&mut block);
         block
     }
@@ -42,11 +41,10 @@ pub trait BlockCipher {
     /// The block, decrypted.
     final fn decrypt(
         &self,
-        block: GenericArray<u8, Self::BlockSize>,
+        mut block: GenericArray<u8, Self::BlockSize>,
     ) -> GenericArray<u8, Self::BlockSize>
         ensures { result ≡ decrypted self.now block }
     {
-        let mut block = block;
         self.decrypt_block(&mut block);
         block
     }
