@@ -1,2 +1,5 @@
+mod CbcLemmas
 mod ChaCha20Lemmas
 pub mod KeystreamLemmas
+mod PaddingLemmas
+mod XteaLemmas

@@ -177,7 +177,7 @@ fn xor_piece(bytes: &mut [u8], from: usize, key: &[u8])
 
 // Replaces the bytes by their xor with a key of as many bytes.
 #[inline]
-fn xor(bytes: &mut [u8], key: &[u8])
+pub(crate) fn xor(bytes: &mut [u8], key: &[u8])
     requires { length bytes.old ≡ length key.now }
     ensures { bytes.new ≡ under bytes.old key.now }
 {

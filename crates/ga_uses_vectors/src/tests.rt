@@ -1,5 +1,6 @@
 //! The tests, a module for each subject.
 mod block_buffer;
+mod block_cipher;
 mod blocks;
 mod chacha20;
 mod counter_mode;
@@ -13,3 +14,4 @@ mod one_time_password;
 mod records;
 mod std_maps;
 mod udp;
+mod xtea;

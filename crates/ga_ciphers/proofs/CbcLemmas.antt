@@ -1,0 +1,201 @@
+-- A turn of the loops over the blocks of a text: the block at a place is written over by a part as long.
+use Rattle.ga_ciphers.proofs.KeystreamLemmas.{under_twice}
+use Rattle.ga_ciphers.specs.Cbc.{cbc_decrypted, cbc_encrypted, decrypted_blocks, encrypted_blocks}
+use Rattle.ga_ciphers.specs.Keystream.{under}
+use Rattle.generic_array.proofs.JoinLemmas.{rows-behind}
+use Rattle.generic_array.proofs.RowLemmas.{rows-few, rows-first}
+use Rattle.std.proofs.Common.{◌≡◌, ℕ, ◌+◌, ◌-◌, ◌%◌, ◌<◌, ◌≤◌, List, [], ◌∷◌, ◌++◌, ap, ap₂, append_assoc, arith}
+use Rattle.std.proofs.Common.{drop, inl, inr, length, length-append, length-drop, length-take, refl, slice_range, sym}
+use Rattle.std.proofs.Common.{take, ◌∙◌}
+use Rattle.std.proofs.Math.Nat.{mod-eq-sub-mod, mod-eq_of_lt}
+use Rattle.std.proofs.Math.Seq.{take-add}
+use Rattle.std.proofs.lemmas.Bool.{cases_lt}
+use Rattle.std.proofs.lemmas.List.{append-nil, drop-drop, drop_all, drop_at, length-take-le, take-append-drop, take_all, take_at}
+use Rattle.std.proofs.lemmas.Nat.{xor_comm}
+
+-- a block lies at each place before the end of whole blocks, and whole blocks behind it
+module _ (width len done next : ℕ) (whole : (len - done) % width ≡ 0) (below : done < len) where
+  pub block_within : done + width ≤ len
+  block_within = elim (cases_lt (len - done) width) as (λ _. done + width ≤ len) [
+    | inl few ↦ absurd (omega (arith, mod-eq_of_lt few, whole))
+    | inr enough ↦ omega arith
+  ]
+
+  pub whole_behind : next ≡ done + width → (len - next) % width ≡ 0
+  whole_behind goes =
+      let enough : width ≤ len - done = omega (arith, block_within) in
+      let left : len - next ≡ len - done - width = omega arith in
+      ap (λ n. n % width) left ∙ (sym (mod-eq-sub-mod enough) ∙ whole)
+
+under-comm : (xs ys : List ℕ) → under xs ys ≡ under ys xs
+under-comm [] [] = refl
+under-comm [] (y ∷ ys) = refl
+under-comm (x ∷ xs) [] = refl
+under-comm (x ∷ xs) (y ∷ ys) = ap₂ ◌∷◌ (xor_comm x y) (under-comm xs ys)
+
+module _ (width : ℕ) (some : 0 < width) (encrypted decrypted : List ℕ → List ℕ) where
+  -- the first block of a text, and the others
+  encrypted-first : (vector text : List ℕ) → width ≤ length text → cbc_encrypted encrypted width vector text
+      ≡ encrypted (under vector (take width text))
+      ++ cbc_encrypted encrypted width (encrypted (under vector (take width text))) (drop width text)
+  encrypted-first vector text enough = ap (encrypted_blocks encrypted vector) (rows-first width text some enough)
+
+  decrypted-behind : (vector block rest : List ℕ) → length block ≡ width
+      → cbc_decrypted decrypted width vector (block ++ rest)
+      ≡ under (decrypted block) vector ++ cbc_decrypted decrypted width block rest
+  decrypted-behind vector block rest full =
+      ap (decrypted_blocks decrypted vector) (rows-behind width some block rest (block ++ rest) refl full)
+
+  decrypted-none : (vector : List ℕ) → cbc_decrypted decrypted width vector [] ≡ []
+  decrypted-none vector = ap (decrypted_blocks decrypted vector) (rows-few width [] some)
+
+  -- at the end of a text nothing is left
+  module _ (first vector start now : List ℕ) (done : ℕ) (ended : done ≡ length now) where
+    all_done : take done now ≡ now
+    all_done = take_all done now (omega arith)
+
+    none_left : drop done now ≡ []
+    none_left = drop_all done now (omega arith)
+
+    pub encrypted-ended :
+        take done now ++ cbc_encrypted encrypted width vector (drop done now) ≡ cbc_encrypted encrypted width first start
+        → now ≡ cbc_encrypted encrypted width first start
+    encrypted-ended so_far =
+        let none : cbc_encrypted encrypted width vector (drop done now) ≡ [] =
+        ap (cbc_encrypted encrypted width vector) none_left
+        ∙ ap (encrypted_blocks encrypted vector) (rows-few width [] some) in
+        sym (append-nil now) ∙ (sym (ap₂ ◌++◌ all_done none) ∙ so_far)
+
+    pub decrypted-ended :
+        take done now ++ cbc_decrypted decrypted width vector (drop done now) ≡ cbc_decrypted decrypted width first start
+        → now ≡ cbc_decrypted decrypted width first start
+    decrypted-ended so_far =
+        let none : cbc_decrypted decrypted width vector (drop done now) ≡ [] =
+        ap (cbc_decrypted decrypted width vector) none_left ∙ decrypted-none vector in
+        sym (append-nil now) ∙ (sym (ap₂ ◌++◌ all_done none) ∙ so_far)
+
+    pub vector-ended : vector ≡ drop done (first ++ take done now) → vector ≡ drop (length now) (first ++ now)
+    vector-ended is = is ∙ ap₂ (λ n xs. drop n (first ++ xs)) ended all_done
+
+    pub back-ended : length start ≡ length now
+        → ((rest : List ℕ) → cbc_decrypted decrypted width first (take done now ++ rest)
+        ≡ take done start ++ cbc_decrypted decrypted width vector rest)
+        → cbc_decrypted decrypted width first now ≡ start
+    back-ended long back =
+        ap (cbc_decrypted decrypted width first) (sym (append-nil now) ∙ ap (λ xs. xs ++ []) (sym all_done))
+        ∙ (back [] ∙ (ap₂ ◌++◌ (take_all done start (omega arith)) (decrypted-none vector) ∙ append-nil start))
+
+  module _ (first vector start now new part : List ℕ) (done next : ℕ) (goes : next ≡ done + width)
+      (within : done + width ≤ length now) (full : length vector ≡ width) (long : length new ≡ length now)
+      (left : drop done now ≡ drop done start)
+      (is : new ≡ take done now ++ part ++ drop (done + width) now) where
+    abbrev pub row : List ℕ
+    row = slice_range now done (done + width)
+
+    row_is : row ≡ take width (drop done now)
+    row_is = let many : done + width - done ≡ width = omega arith in ap (λ n. take n (drop done now)) many
+
+    row_len : length row ≡ width
+    row_len = ap length row_is ∙ length-take-le width (drop done now) (omega (arith, length-drop done now))
+
+    part_len : length part ≡ width
+    part_len = omega (
+      arith,
+      ap length is,
+      length-append (take done now ++ part) (drop (done + width) now),
+      length-append (take done now) part,
+      length-take done now,
+      length-drop (done + width) now,
+      long,
+    )
+
+    front_len : length (take done now ++ part) ≡ next
+    front_len = omega (arith, length-append (take done now) part, length-take done now, part_len)
+
+    front_is : take next new ≡ take done now ++ part
+    front_is = ap (take next) is ∙ take_at (take done now ++ part) (drop (done + width) now) next front_len
+
+    behind_is : drop next new ≡ drop (done + width) now
+    behind_is = ap (drop next) is ∙ drop_at (take done now ++ part) (drop (done + width) now) next front_len
+
+    rest_is : drop next new ≡ drop width (drop done now)
+    rest_is = behind_is ∙ sym (drop-drop width done now)
+
+    pub left-more : drop next new ≡ drop next start
+    left-more = rest_is ∙ (ap (drop width) left ∙ (drop-drop width done start ∙ ap (λ n. drop n start) (sym goes)))
+
+    -- the first bytes of the text as it was
+    start_is : take next start ≡ take done start ++ row
+    start_is = ap (λ n. take n start) goes
+        ∙ (take-add done width start ∙ ap (λ xs. take done start ++ xs) (ap (take width) (sym left) ∙ sym row_is))
+
+    -- the vector is the last block of those before the next place
+    vector_is : (before block : List ℕ) → length before ≡ done → vector ≡ drop done (first ++ before)
+        → block ≡ drop next (first ++ (before ++ block))
+    vector_is before block far same =
+        let front : length (first ++ before) ≡ next = omega (
+          arith,
+          length-append first before,
+          length-drop done (first ++ before),
+          ap length same,
+          full,
+          goes,
+        ) in
+        sym (ap (drop next) (sym (append_assoc first before block)) ∙ drop_at (first ++ before) block next front)
+
+    pub encrypted_vector-more : vector ≡ drop done (first ++ take done now) → part ≡ drop next (first ++ take next new)
+    encrypted_vector-more same =
+        vector_is (take done now) part (omega (arith, length-take done now)) same
+        ∙ ap (λ xs. drop next (first ++ xs)) (sym front_is)
+
+    pub decrypted_vector-more : length start ≡ length now → vector ≡ drop done (first ++ take done start)
+        → (block : List ℕ) → block ≡ row → block ≡ drop next (first ++ take next start)
+    decrypted_vector-more far same block taken =
+        taken ∙ (vector_is (take done start) row (omega (arith, length-take done start)) same
+        ∙ ap (λ xs. drop next (first ++ xs)) (sym start_is))
+
+    pub encrypted-more : part ≡ encrypted (under vector row)
+        → take done now ++ cbc_encrypted encrypted width vector (drop done now) ≡ cbc_encrypted encrypted width first start
+        → take next new ++ cbc_encrypted encrypted width part (drop next new) ≡ cbc_encrypted encrypted width first start
+    encrypted-more made so_far =
+        let block : part ≡ encrypted (under vector (take width (drop done now))) =
+        made ∙ ap (λ xs. encrypted (under vector xs)) row_is in
+        let one : part ++ cbc_encrypted encrypted width part (drop width (drop done now))
+        ≡ cbc_encrypted encrypted width vector (drop done now) =
+        ap (λ xs. xs ++ cbc_encrypted encrypted width xs (drop width (drop done now))) block
+        ∙ sym (encrypted-first vector (drop done now) (omega (arith, length-drop done now))) in
+        ap₂ (λ xs ys. xs ++ cbc_encrypted encrypted width part ys) front_is rest_is
+        ∙ (append_assoc (take done now) part (cbc_encrypted encrypted width part (drop width (drop done now)))
+        ∙ (ap (λ xs. take done now ++ xs) one ∙ so_far))
+
+    pub decrypted-more : (block : List ℕ) → block ≡ row → part ≡ under (decrypted row) vector
+        → take done now ++ cbc_decrypted decrypted width vector (drop done now) ≡ cbc_decrypted decrypted width first start
+        → take next new ++ cbc_decrypted decrypted width block (drop next new) ≡ cbc_decrypted decrypted width first start
+    decrypted-more block taken made so_far =
+        let split : drop done now ≡ row ++ drop width (drop done now) =
+        sym (ap (λ xs. xs ++ drop width (drop done now)) row_is ∙ take-append-drop width (drop done now)) in
+        let one : part ++ cbc_decrypted decrypted width block (drop width (drop done now))
+        ≡ cbc_decrypted decrypted width vector (drop done now) =
+        ap₂ (λ xs b. xs ++ cbc_decrypted decrypted width b (drop width (drop done now))) made taken
+        ∙ sym (ap (cbc_decrypted decrypted width vector) split
+        ∙ decrypted-behind vector row (drop width (drop done now)) row_len) in
+        ap₂ (λ xs ys. xs ++ cbc_decrypted decrypted width block ys) front_is rest_is
+        ∙ (append_assoc (take done now) part (cbc_decrypted decrypted width block (drop width (drop done now)))
+        ∙ (ap (λ xs. take done now ++ xs) one ∙ so_far))
+
+    -- what decrypting makes of the blocks before the place, and of any that follow
+    pub back-more : decrypted part ≡ under vector row
+        → ((rest : List ℕ) → cbc_decrypted decrypted width first (take done now ++ rest)
+        ≡ take done start ++ cbc_decrypted decrypted width vector rest)
+        → (rest : List ℕ) → cbc_decrypted decrypted width first (take next new ++ rest)
+        ≡ take next start ++ cbc_decrypted decrypted width part rest
+    back-more undone back rest =
+        let again : under (decrypted part) vector ≡ row =
+        ap (λ xs. under xs vector) (undone ∙ under-comm vector row) ∙ under_twice row vector (row_len ∙ sym full) in
+        ap (cbc_decrypted decrypted width first)
+        (ap (λ xs. xs ++ rest) front_is ∙ append_assoc (take done now) part rest)
+        ∙ (back (part ++ rest)
+        ∙ (ap (λ xs. take done start ++ xs) (decrypted-behind vector part rest part_len
+        ∙ ap (λ xs. xs ++ cbc_decrypted decrypted width part rest) again)
+        ∙ (sym (append_assoc (take done start) row (cbc_decrypted decrypted width part rest))
+        ∙ ap (λ xs. xs ++ cbc_decrypted decrypted width part rest) (sym start_is))))
