@@ -21,6 +21,8 @@ CASES = [
     Case("walks", "walks", "N", (), EVERY),
     Case("walks", "turned", "N", (), EVERY),
     Case("builds", "builds", "N", (), EVERY),
+    Case("access", "access", "U", (), EVERY),
+    Case("boxed_access", "boxed_access", "N", ALLOC, EVERY),
     Case("comparisons", "comparisons", "N", (), EVERY),
     Case("closures", "closures", "N", (), EVERY),
     Case("boxed_closures", "boxed_closures", "N", ALLOC, EVERY),

@@ -3,7 +3,7 @@ use crate::compare::Case;
 use crate::lengths::{at_length, with_longer, with_number, with_parts};
 use crate::ours::*;
 use crate::{
-    blocks, boxed, builds, closures, comparisons, conversions, flat, hex, rows, shapes, walks,
+    access, blocks, boxed, builds, closures, comparisons, conversions, flat, hex, rows, shapes, walks,
 };
 
 const EVERY: &[u32] = &[0, 1, 2, 3, 4, 5, 6, 7, 8, 9, 10, 11, 12, 13, 14, 15, 16];
@@ -39,6 +39,22 @@ pub const CASES: &[Case] = &[
         share: 1,
         ours: |n, seed| ours_builds(n, seed),
         original: |n, seed| at_length!(n, builds::builds_run, seed),
+        wanted: None,
+    },
+    Case {
+        name: "access to items",
+        lengths: EVERY,
+        share: 1,
+        ours: |n, seed| ours_access(n, seed),
+        original: |n, seed| at_length!(n, access::access_run, seed),
+        wanted: None,
+    },
+    Case {
+        name: "access to boxed items",
+        lengths: EVERY,
+        share: 1,
+        ours: |n, seed| ours_boxed_access(n, seed),
+        original: |n, seed| at_length!(n, access::boxed_access_run, seed),
         wanted: None,
     },
     Case {

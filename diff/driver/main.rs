@@ -1,6 +1,7 @@
 //! Makes random calls of our library and of generic-array, and compares the checksums of all that
 //! they answered and dropped: `diff_driver SEEDS`, `diff_driver forever`, or for one run
 //! `diff_driver CASE LENGTH SEED`.
+mod access;
 mod blocks;
 mod boxed;
 mod boxed_drops;

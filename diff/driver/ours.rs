@@ -3,6 +3,8 @@ unsafe extern "C" {
     pub safe fn ours_walks(n: u32, seed: u64) -> u64;
     pub safe fn ours_turned(n: u32, seed: u64) -> u64;
     pub safe fn ours_builds(n: u32, seed: u64) -> u64;
+    pub safe fn ours_access(n: u32, seed: u64) -> u64;
+    pub safe fn ours_boxed_access(n: u32, seed: u64) -> u64;
     pub safe fn ours_comparisons(n: u32, seed: u64) -> u64;
     pub safe fn ours_closures(n: u32, seed: u64) -> u64;
     pub safe fn ours_boxed_closures(n: u32, seed: u64) -> u64;
