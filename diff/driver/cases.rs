@@ -3,7 +3,7 @@ use crate::compare::Case;
 use crate::lengths::{at_length, with_longer, with_number, with_parts};
 use crate::ours::*;
 use crate::{
-    access, blocks, boxed, builds, closures, comparisons, conversions, flat, hex, rows, shapes, walks,
+    access, blocks, boxed, builds, closures, comparisons, conversions, flat, hex, plain_calls, rows, sequences, shapes, views, walks,
 };
 
 const EVERY: &[u32] = &[0, 1, 2, 3, 4, 5, 6, 7, 8, 9, 10, 11, 12, 13, 14, 15, 16];
@@ -58,6 +58,22 @@ pub const CASES: &[Case] = &[
         wanted: None,
     },
     Case {
+        name: "builds by the traits",
+        lengths: EVERY,
+        share: 1,
+        ours: |n, seed| ours_sequences(n, seed),
+        original: |n, seed| at_length!(n, sequences::sequences_run, seed),
+        wanted: None,
+    },
+    Case {
+        name: "boxed builds by the traits",
+        lengths: EVERY,
+        share: 1,
+        ours: |n, seed| ours_boxed_sequences(n, seed),
+        original: |n, seed| at_length!(n, sequences::boxed_sequences_run, seed),
+        wanted: None,
+    },
+    Case {
         name: "comparisons, hashes, Debug, views",
         lengths: EVERY,
         share: 1,
@@ -79,6 +95,38 @@ pub const CASES: &[Case] = &[
         share: 1,
         ours: |n, seed| ours_boxed_closures(n, seed),
         original: |n, seed| at_length!(n, closures::boxed_closures_run, seed),
+        wanted: None,
+    },
+    Case {
+        name: "views of slices and arrays",
+        lengths: EVERY,
+        share: 1,
+        ours: |n, seed| ours_views(n, seed),
+        original: |n, seed| at_length!(n, views::views_run, seed),
+        wanted: None,
+    },
+    Case {
+        name: "split of references",
+        lengths: EVERY,
+        share: 10,
+        ours: |n, seed| ours_halves(n, seed),
+        original: |n, seed| with_parts!(n, views::halves_run, seed),
+        wanted: None,
+    },
+    Case {
+        name: "plain calls of closures",
+        lengths: EVERY,
+        share: 1,
+        ours: |n, seed| ours_plain_calls(n, seed),
+        original: |n, seed| at_length!(n, plain_calls::plain_calls_run, seed),
+        wanted: None,
+    },
+    Case {
+        name: "calls of closures, references to arrays",
+        lengths: EVERY,
+        share: 1,
+        ours: |n, seed| ours_references(n, seed),
+        original: |n, seed| at_length!(n, plain_calls::references_run, seed),
         wanted: None,
     },
     Case {

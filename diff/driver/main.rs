@@ -20,10 +20,13 @@ mod lengths;
 mod noted;
 mod nth_back;
 mod ours;
+mod plain_calls;
 mod random;
 mod rows;
+mod sequences;
 mod shapes;
 mod sources;
+mod views;
 mod walk_drops;
 mod walks;
 

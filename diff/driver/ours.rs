@@ -21,6 +21,12 @@ unsafe extern "C" {
     pub safe fn ours_boxed_builds(n: u32, seed: u64) -> u64;
     pub safe fn ours_boxed_walks(n: u32, seed: u64) -> u64;
     pub safe fn ours_boxed_turned(n: u32, seed: u64) -> u64;
+    pub safe fn ours_views(n: u32, seed: u64) -> u64;
+    pub safe fn ours_halves(n: u32, seed: u64) -> u64;
+    pub safe fn ours_plain_calls(n: u32, seed: u64) -> u64;
+    pub safe fn ours_references(n: u32, seed: u64) -> u64;
+    pub safe fn ours_sequences(n: u32, seed: u64) -> u64;
+    pub safe fn ours_boxed_sequences(n: u32, seed: u64) -> u64;
     pub safe fn ours_blocks(size: u32, seed: u64) -> u64;
     pub safe fn ours_walk_drops(ordered: u64, n: u32, seed: u64) -> u64;
     pub safe fn ours_build_drops(ordered: u64, n: u32, seed: u64) -> u64;
