@@ -15,6 +15,8 @@ HEX = (0, 1, 2, 3, 5, 8, 16, 20, 32, 64, 511, 512, 1000, 1023, 1024, 1025, 1500,
 # The width of the rows, and their number.
 FLAT = [(1, 4), (2, 3), (3, 2), (4, 4), (12, 3), (5, 0)]
 
+TUPLES = range(1, 13)
+
 ALLOC, NOTED, BOXED_NOTED = ("alloc",), ("ordered", "log"), ("alloc", "ordered", "log")
 
 CASES = [
@@ -69,11 +71,6 @@ pub extern "C" fn ours_size(which: u32) -> usize {{
 }}
 
 #[unsafe(no_mangle)]
-pub extern "C" fn ours_tuples(len: u32, seed: u64) -> u64 {{
-    conversions::tuples_run(len, seed)
-}}
-
-#[unsafe(no_mangle)]
 pub extern "C" fn ours_blocks(alloc: Global, size: u32, seed: u64) -> u64 {{
     blocks::blocks_run(alloc, size as usize, seed)
 }}
@@ -111,6 +108,20 @@ fn flat_{width}_{rows}(seed: u64) -> u64 {{
 }}
 """
 
+TUPLES_HEAD = """//! From tuples and into them, one function a length, written by diff/run.
+use crate::random::{all, array_of};
+use generic_array::{Const, GenericArray};
+"""
+
+TUPLE_RUN = """
+fn turned_{length}(seed: u64) -> u64 {{
+    let array: GenericArray<u64, Const<{length}>> = array_of(seed);
+    let ({names},): ({types},) = array.into();
+    let array: GenericArray<u64, Const<{length}>> = ({turned},).into();
+    all(seed, array.as_slice())
+}}
+"""
+
 TAKES = {"alloc": "alloc: Global, ", "ordered": "ordered: u64, ", "log": ""}
 
 
@@ -142,9 +153,23 @@ def flat_module():
     return FLAT_HEAD + "".join(runs) + export
 
 
+def tuples_module():
+    runs, arms = [], []
+    for length in TUPLES:
+        names = [chr(ord("a") + it) for it in range(length)]
+        turned = names[1:] + names[:1]
+        words = {"names": names, "turned": turned, "types": ["u64"] * length}
+        words = {name: ", ".join(them) for name, them in words.items()}
+        runs.append(TUPLE_RUN.format(length=length, **words))
+        arms.append(f"        {length} => turned_{length}(seed),")
+    export = EXPORT.format(name="tuples", takes="", log="", arms="\n".join(arms))
+    return TUPLES_HEAD + "".join(runs) + export
+
+
 def our_modules():
-    """The modules of ga_diff by name: those of calls/, and the two that are written here."""
+    """The modules of ga_diff by name: those of calls/, and the three that are written here."""
     modules = {it.stem: it.read_text() for it in sorted((HERE / "calls").glob("*.rattle"))}
     used = sorted({case.module for case in CASES} | {"blocks", "texts"})
     head = HEAD.format(modules=", ".join(used))
-    return {**modules, "exports": head + "".join(map(export_of, CASES)), "flat": flat_module()}
+    written = {"flat": flat_module(), "tuples": tuples_module()}
+    return {**modules, "exports": head + "".join(map(export_of, CASES)), **written}

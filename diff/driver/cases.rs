@@ -9,6 +9,7 @@ use crate::{
 const EVERY: &[u32] = &[0, 1, 2, 3, 4, 5, 6, 7, 8, 9, 10, 11, 12, 13, 14, 15, 16];
 const NOT_EMPTY: &[u32] = &[1, 2, 3, 4, 5, 6, 7, 8, 9, 10, 11, 12, 13, 14, 15, 16];
 const FLAT: &[u32] = &[104, 203, 302, 404, 1203, 500];
+const TUPLES: &[u32] = &[1, 2, 3, 4, 5, 6, 7, 8, 9, 10, 11, 12];
 const SIZES: &[u32] = &[0, 1, 2, 3, 5, 8, 20, 64];
 const SHORT_HEX: &[u32] = &[0, 1, 2, 3, 5, 8, 16, 20, 32, 64];
 const LONG_HEX: &[u32] = &[
@@ -211,7 +212,7 @@ pub const CASES: &[Case] = &[
     },
     Case {
         name: "tuples",
-        lengths: &[3, 12],
+        lengths: TUPLES,
         share: 1,
         ours: |n, seed| ours_tuples(n, seed),
         original: |n, seed| conversions::tuples_run(n, seed),
