@@ -45,6 +45,7 @@ CASES = [
     Case("references", "references", "N", (), EVERY),
     Case("sequences", "sequences", "N", (), EVERY),
     Case("sequences", "boxed_sequences", "N", ALLOC, EVERY),
+    Case("builders", "builders", "N", (), EVERY),
     Case("walk_drops", "walk_drops", "N", NOTED, SOME),
     Case("drops", "build_drops", "N", NOTED, SOME),
     Case("drops", "closure_drops", "N", NOTED, SOME),
@@ -68,6 +69,11 @@ pub extern "C" fn ours_error_texts(out: &mut [u8]) -> usize {{
 #[unsafe(no_mangle)]
 pub extern "C" fn ours_size(which: u32) -> usize {{
     texts::size_of_array(which)
+}}
+
+#[unsafe(no_mangle)]
+pub extern "C" fn ours_macros(alloc: Global, len: u32, seed: u64) -> u64 {{
+    macros::macros_run(alloc, len, seed)
 }}
 
 #[unsafe(no_mangle)]
@@ -169,7 +175,7 @@ def tuples_module():
 def our_modules():
     """The modules of ga_diff by name: those of calls/, and the three that are written here."""
     modules = {it.stem: it.read_text() for it in sorted((HERE / "calls").glob("*.rattle"))}
-    used = sorted({case.module for case in CASES} | {"blocks", "texts"})
+    used = sorted({case.module for case in CASES} | {"blocks", "macros", "texts"})
     head = HEAD.format(modules=", ".join(used))
     written = {"flat": flat_module(), "tuples": tuples_module()}
     return {**modules, "exports": head + "".join(map(export_of, CASES)), **written}

@@ -3,7 +3,7 @@ use crate::compare::Case;
 use crate::lengths::{at_length, with_longer, with_number, with_parts};
 use crate::ours::*;
 use crate::{
-    access, blocks, boxed, builds, closures, comparisons, conversions, flat, hex, plain_calls, rows, sequences, shapes, views, walks,
+    access, blocks, boxed, builders, builds, closures, comparisons, conversions, flat, hex, macros, plain_calls, rows, sequences, shapes, views, walks,
 };
 
 const EVERY: &[u32] = &[0, 1, 2, 3, 4, 5, 6, 7, 8, 9, 10, 11, 12, 13, 14, 15, 16];
@@ -75,6 +75,14 @@ pub const CASES: &[Case] = &[
         wanted: None,
     },
     Case {
+        name: "builders beside a vector",
+        lengths: EVERY,
+        share: 1,
+        ours: |n, seed| ours_builders(n, seed),
+        original: |n, seed| at_length!(n, builders::builders_run, seed),
+        wanted: None,
+    },
+    Case {
         name: "comparisons, hashes, Debug, views",
         lengths: EVERY,
         share: 1,
@@ -128,6 +136,14 @@ pub const CASES: &[Case] = &[
         share: 1,
         ours: |n, seed| ours_references(n, seed),
         original: |n, seed| at_length!(n, plain_calls::references_run, seed),
+        wanted: None,
+    },
+    Case {
+        name: "arr!, box_arr!",
+        lengths: &[0, 1, 3, 6],
+        share: 1,
+        ours: |n, seed| ours_macros(n, seed),
+        original: |n, seed| macros::macros_run(n, seed),
         wanted: None,
     },
     Case {
