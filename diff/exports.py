@@ -95,14 +95,30 @@ pub extern "C" fn ours_{name}({takes}n: u32, seed: u64) -> u64 {{
 FLAT_HEAD = """//! Arrays cut into rows and joined, one function a width and number of rows, written by diff/run.
 use crate::random::{all, array_of, mixed};
 use generic_array::sequence::{Flatten, Unflatten, iter_flat};
-use generic_array::{Const, GenericArray};
+use generic_array::{ChunksMut, ChunksRef, Const, GenericArray};
 """
 
 FLAT_RUN = """
+fn cut_{width}_{rows}(seed: u64) -> u64 {{
+    let mut array: GenericArray<u64, Const<{area}>> = array_of(seed);
+    let (mut rows, _rest) = ChunksMut::<u64, Const<{width}>>::chunks_from_slice_mut(
+        array.as_mut_slice(),
+    );
+    if let Some(place) = rows.as_mut_slice().first_mut() {{
+        *place = 100;
+    }}
+    let mut sum = seed;
+    let (rows, _rest) = ChunksRef::<u64, Const<{width}>>::chunks_from_slice(array.as_slice());
+    for row in rows.iter() {{
+        sum = all(sum, row.as_slice());
+    }}
+    sum
+}}
+
 fn flat_{width}_{rows}(seed: u64) -> u64 {{
     let array: GenericArray<u64, Const<{area}>> = array_of(seed);
     let rows: GenericArray<GenericArray<u64, Const<{width}>>, Const<{rows}>> = array.unflatten();
-    let mut sum = seed;
+    let mut sum = cut_{width}_{rows}(seed);
     for row in rows.as_slice() {{
         sum = all(sum, row.as_slice());
     }}

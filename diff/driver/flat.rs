@@ -13,14 +13,25 @@ where
     W: Mul<R, Output = N>,
     Array<N>: Unflatten<u64, N, W, Output = Rows<W, R>>,
     Rows<W, R>: Flatten<u64, W, R, Output = Array<N>>,
+    for<'a> &'a Array<N>: Unflatten<u64, N, W, Output = &'a Rows<W, R>>,
+    for<'a> &'a mut Array<N>: Unflatten<u64, N, W, Output = &'a mut Rows<W, R>>,
     for<'a> &'a Rows<W, R>: Flatten<u64, W, R, Output = &'a Array<N>>,
+    for<'a> &'a mut Rows<W, R>: Flatten<u64, W, R, Output = &'a mut Array<N>>,
 {
-    let rows = array_of::<N>(seed).unflatten();
+    let mut array = array_of::<N>(seed);
+    let cut: &mut Rows<W, R> = (&mut array).unflatten();
+    if let Some(place) = cut.flatten().first_mut() {
+        *place = 100;
+    }
     let mut sum = seed;
+    for row in (&array).unflatten().as_slice() {
+        sum = all(sum, row);
+    }
+    let rows = array_of::<N>(seed).unflatten();
     for row in rows.as_slice() {
         sum = all(sum, row);
     }
-    for item in (&rows).flatten() {
+    for item in (&rows).flatten().as_slice() {
         sum = mixed(sum, *item);
     }
     all(sum, &rows.flatten())
