@@ -130,6 +130,22 @@ fn flat_{width}_{rows}(seed: u64) -> u64 {{
 }}
 """
 
+NATIVES_HEAD = """//! `From` a native array and back, one function a length, written by diff/run.
+use crate::conversions::native_items;
+use crate::random::all;
+use generic_array::{Const, GenericArray};
+"""
+
+# At any length the prover doesn't get through this.
+NATIVE_RUN = """
+fn native_{length}(seed: u64) -> u64 {{
+    let array: GenericArray<u64, Const<{length}>> = native_items::<{length}>(seed).into();
+    let sum = all(seed, array.as_slice());
+    let items: [u64; {length}] = array.into();
+    all(sum, &items)
+}}
+"""
+
 TUPLES_HEAD = """//! From tuples and into them, one function a length, written by diff/run.
 use crate::random::{all, array_of};
 use generic_array::{Const, GenericArray};
@@ -175,6 +191,13 @@ def flat_module():
     return FLAT_HEAD + "".join(runs) + export
 
 
+def natives_module():
+    runs = [NATIVE_RUN.format(length=length) for length in EVERY]
+    arms = [f"        {length} => native_{length}(seed)," for length in EVERY]
+    export = EXPORT.format(name="natives", takes="", log="", arms="\n".join(arms))
+    return NATIVES_HEAD + "".join(runs) + export
+
+
 def tuples_module():
     runs, arms = [], []
     for length in TUPLES:
@@ -189,9 +212,9 @@ def tuples_module():
 
 
 def our_modules():
-    """The modules of ga_diff by name: those of calls/, and the three that are written here."""
+    """The modules of ga_diff by name: those of calls/, and the four that are written here."""
     modules = {it.stem: it.read_text() for it in sorted((HERE / "calls").glob("*.rattle"))}
     used = sorted({case.module for case in CASES} | {"blocks", "macros", "texts"})
     head = HEAD.format(modules=", ".join(used))
-    written = {"flat": flat_module(), "tuples": tuples_module()}
-    return {**modules, "exports": head + "".join(map(export_of, CASES)), **written}
+    exports = {"exports": head + "".join(map(export_of, CASES)), "flat": flat_module()}
+    return {**modules, **exports, "natives": natives_module(), "tuples": tuples_module()}

@@ -227,6 +227,14 @@ pub const CASES: &[Case] = &[
         wanted: None,
     },
     Case {
+        name: "From and into of native arrays",
+        lengths: EVERY,
+        share: 4,
+        ours: |n, seed| ours_natives(n, seed),
+        original: |n, seed| with_number!(n, shapes::natives_run, seed),
+        wanted: None,
+    },
+    Case {
         name: "tuples",
         lengths: TUPLES,
         share: 1,

@@ -29,6 +29,7 @@ unsafe extern "C" {
     pub safe fn ours_boxed_sequences(n: u32, seed: u64) -> u64;
     pub safe fn ours_macros(n: u32, seed: u64) -> u64;
     pub safe fn ours_builders(n: u32, seed: u64) -> u64;
+    pub safe fn ours_natives(n: u32, seed: u64) -> u64;
     pub safe fn ours_blocks(size: u32, seed: u64) -> u64;
     pub safe fn ours_walk_drops(ordered: u64, n: u32, seed: u64) -> u64;
     pub safe fn ours_build_drops(ordered: u64, n: u32, seed: u64) -> u64;

@@ -85,28 +85,35 @@ where
     }
 }
 
-/// From a native array and back, by the calls or by `From`.
+fn native_items<const U: usize>(base: u64) -> [u64; U] {
+    let mut items = [0; U];
+    for (index, place) in items.iter_mut().enumerate() {
+        *place = made(base, index);
+    }
+    items
+}
+
+/// From a native array and back.
 pub fn native_run<N: ArrayLength, const U: usize>(seed: u64) -> u64
 where
     Const<U>: IntoArrayLength<ArrayLength = N>,
 {
-    let mut random = Random::of(seed);
-    let base = random.word();
-    let mut items = [0u64; U];
-    for (index, place) in items.iter_mut().enumerate() {
-        *place = made(base, index);
-    }
-    if random.word() & 1 == 0 {
-        let array: Array<N> = GenericArray::from_array(items);
-        let sum = all(seed, &array);
-        let items: [u64; U] = array.into_array();
-        all(sum, &items)
-    } else {
-        let array: ConstGenericArray<u64, U> = items.into();
-        let sum = all(seed, &array);
-        let items: [u64; U] = array.into();
-        all(sum, &items)
-    }
+    let items = native_items::<U>(Random::of(seed).word());
+    let array: Array<N> = GenericArray::from_array(items);
+    let sum = all(seed, &array);
+    let items: [u64; U] = array.into_array();
+    all(sum, &items)
+}
+
+/// The same by `From`.
+pub fn natives_run<N: ArrayLength, const U: usize>(seed: u64) -> u64
+where
+    Const<U>: IntoArrayLength<ArrayLength = N>,
+{
+    let array: ConstGenericArray<u64, U> = native_items::<U>(seed).into();
+    let sum = all(seed, &array);
+    let items: [u64; U] = array.into();
+    all(sum, &items)
 }
 
 /// Drops of shapes: `L` is one longer than `N`.

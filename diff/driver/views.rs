@@ -49,23 +49,32 @@ fn viewed<N: ArrayLength>(sum: u64, slice: &[u64], at: usize, way: u64) -> u64 {
     }
 }
 
-fn written<N: ArrayLength>(sum: u64, view: &mut Array<N>, at: usize, item: u64, way: u64) -> u64 {
-    match way & 3 {
-        0 => {
+fn tried_mut<N: ArrayLength>(sum: u64, slice: &mut [u64], at: usize, item: u64) -> u64 {
+    match Array::<N>::try_from_mut_slice(slice) {
+        Ok(view) => {
             if let Some(place) = view.get_mut(at) {
                 *place = item;
             }
+            let sum = mixed(all(sum, view), view.len() as u64);
+            put(view, at, item.wrapping_add(1));
+            sum
         }
-        1 => {
+        Err(_) => mixed(sum, 11),
+    }
+}
+
+fn written<N: ArrayLength>(sum: u64, slice: &mut [u64], at: usize, item: u64, way: u64) -> u64 {
+    let view: &mut Array<N> = Array::<N>::from_mut_slice(slice);
+    match way & 3 {
+        0 => {
             for place in view.iter_mut() {
                 *place = place.wrapping_add(item);
             }
         }
-        2 => view.reverse(),
+        1 => view.reverse(),
         _ => put(view.as_mut_slice(), at, item),
     }
-    let sum = all(mixed(sum, view.len() as u64), view);
-    let sum = seen(sum, view.get(at).copied());
+    let sum = seen(all(sum, view), view.get(at).copied());
     put(view, at, item.wrapping_add(1));
     sum
 }
@@ -77,13 +86,10 @@ fn viewed_mut<N: ArrayLength>(
     item: u64,
     way: u64,
 ) -> u64 {
-    if way & 1 == 0 {
-        match Array::<N>::try_from_mut_slice(slice) {
-            Ok(view) => written(sum, view, at, item, way >> 1),
-            Err(_) => mixed(sum, 11),
-        }
+    if way & 4 == 0 {
+        tried_mut::<N>(sum, slice, at, item)
     } else if slice.len() == N::USIZE {
-        written(sum, Array::<N>::from_mut_slice(slice), at, item, way >> 1)
+        written::<N>(sum, slice, at, item, way)
     } else {
         mixed(sum, 12)
     }
