@@ -48,7 +48,7 @@ pub const DROPS: &[Case] = &[
         wanted: None,
     },
     Case {
-        name: "drops of boxed builds, by number",
+        name: "drops of boxed calls and builds, by number",
         lengths: SOME,
         share: 1,
         ours: |n, seed| ours_boxed_build_drops(0, n, seed),
@@ -107,7 +107,7 @@ pub const DROPS: &[Case] = &[
         wanted: None,
     },
     Case {
-        name: "drops of boxed builds, by order",
+        name: "drops of boxed calls and builds, by order",
         lengths: SOME,
         share: 1,
         ours: |n, seed| ours_boxed_build_drops(1, n, seed),
