@@ -130,6 +130,32 @@ fn flat_{width}_{rows}(seed: u64) -> u64 {{
 }}
 """
 
+FLAT_DROPS_HEAD = """//! Drops of arrays cut into rows and joined, one function a width and number of rows, written by
+//! diff/run.
+use crate::noted::{Log, Noted, noted_of};
+use crate::random::mixed;
+use generic_array::sequence::{Flatten, Unflatten};
+use generic_array::{Const, GenericArray};
+"""
+
+FLAT_DROPS_RUN = """
+fn flat_drops_{width}_{rows}<'a>(ordered: u64, seed: u64, log: &'a Log) -> u64 {{
+    let array: GenericArray<Noted<'a>, Const<{area}>> = noted_of(log);
+    let rows: GenericArray<GenericArray<Noted<'a>, Const<{width}>>, Const<{rows}>> =
+        array.unflatten();
+    let sum = mixed(seed, log.told(ordered));
+    if seed & 1 == 0 {{
+        drop(rows);
+        mixed(sum, log.told(ordered))
+    }} else {{
+        let array: GenericArray<Noted<'a>, Const<{area}>> = rows.flatten();
+        let sum = mixed(sum, log.told(ordered));
+        drop(array);
+        mixed(sum, log.told(ordered))
+    }}
+}}
+"""
+
 NATIVES_HEAD = """//! `From` a native array and back, one function a length, written by diff/run.
 use crate::conversions::native_items;
 use crate::random::all;
@@ -162,6 +188,8 @@ fn turned_{length}(seed: u64) -> u64 {{
 
 TAKES = {"alloc": "alloc: Global, ", "ordered": "ordered: u64, ", "log": ""}
 
+NEW_LOG = "    let log = Log::new();\n"
+
 
 def types_of(length):
     """The lengths that stand for the letters of a case: one more, and two parts of it."""
@@ -180,7 +208,7 @@ def call_of(case, length):
 def export_of(case):
     arms = [f"        {length} => {call_of(case, length)}," for length in case.lengths]
     takes = "".join(TAKES[it] for it in case.takes)
-    log = "    let log = Log::new();\n" if "log" in case.takes else ""
+    log = NEW_LOG if "log" in case.takes else ""
     return EXPORT.format(name=case.name, takes=takes, log=log, arms="\n".join(arms))
 
 
@@ -189,6 +217,17 @@ def flat_module():
     arms = [f"        {width * 100 + rows} => flat_{width}_{rows}(seed)," for width, rows in FLAT]
     export = EXPORT.format(name="flat", takes="", log="", arms="\n".join(arms))
     return FLAT_HEAD + "".join(runs) + export
+
+
+def flat_drops_module():
+    runs, arms = [], []
+    for width, rows in FLAT:
+        runs.append(FLAT_DROPS_RUN.format(width=width, rows=rows, area=width * rows))
+        call = f"flat_drops_{width}_{rows}(ordered, seed, &log)"
+        arms.append(f"        {width * 100 + rows} => {call},")
+    how = {"takes": TAKES["ordered"], "log": NEW_LOG}
+    export = EXPORT.format(name="flat_drops", arms="\n".join(arms), **how)
+    return FLAT_DROPS_HEAD + "".join(runs) + export
 
 
 def natives_module():
@@ -212,9 +251,15 @@ def tuples_module():
 
 
 def our_modules():
-    """The modules of ga_diff by name: those of calls/, and the four that are written here."""
+    """The modules of ga_diff by name: those of calls/, and those that are written here."""
     modules = {it.stem: it.read_text() for it in sorted((HERE / "calls").glob("*.rattle"))}
     used = sorted({case.module for case in CASES} | {"blocks", "macros", "texts"})
     head = HEAD.format(modules=", ".join(used))
-    exports = {"exports": head + "".join(map(export_of, CASES)), "flat": flat_module()}
-    return {**modules, **exports, "natives": natives_module(), "tuples": tuples_module()}
+    return {
+        **modules,
+        "exports": head + "".join(map(export_of, CASES)),
+        "flat": flat_module(),
+        "flat_drops": flat_drops_module(),
+        "natives": natives_module(),
+        "tuples": tuples_module(),
+    }

@@ -36,6 +36,7 @@ unsafe extern "C" {
     pub safe fn ours_closure_drops(ordered: u64, n: u32, seed: u64) -> u64;
     pub safe fn ours_shape_drops(ordered: u64, n: u32, seed: u64) -> u64;
     pub safe fn ours_joined_drops(ordered: u64, n: u32, seed: u64) -> u64;
+    pub safe fn ours_flat_drops(ordered: u64, rows: u32, seed: u64) -> u64;
     pub safe fn ours_boxed_build_drops(ordered: u64, n: u32, seed: u64) -> u64;
     pub safe fn ours_boxed_walk_drops(ordered: u64, n: u32, seed: u64) -> u64;
     pub safe fn ours_size(which: u32) -> usize;
