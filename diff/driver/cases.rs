@@ -3,7 +3,8 @@ use crate::compare::Case;
 use crate::lengths::{at_length, with_longer, with_number, with_parts};
 use crate::ours::*;
 use crate::{
-    access, blocks, boxed, builders, builds, closures, comparisons, conversions, flat, hex, macros, plain_calls, rows, sequences, shapes, views, walks,
+    access, blocks, boxed, builders, builds, closures, comparisons, conversions, flat, hex, macros,
+    plain_calls, rows, sequences, shapes, views, walks,
 };
 
 const EVERY: &[u32] = &[0, 1, 2, 3, 4, 5, 6, 7, 8, 9, 10, 11, 12, 13, 14, 15, 16];

@@ -31,7 +31,10 @@ fn boxed_written(seed: u64, len: u32, random: &mut Random) -> u64 {
             all(seed, &*array)
         }
         1 => all(seed, &*box_arr![random.word()]),
-        3 => all(seed, &*box_arr![random.word(), random.word(), random.word()]),
+        3 => all(
+            seed,
+            &*box_arr![random.word(), random.word(), random.word()],
+        ),
         _ => all(seed, &*box_arr![6, 5, random.word(), 3, 2, random.word(),]),
     }
 }

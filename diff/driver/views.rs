@@ -79,13 +79,7 @@ fn written<N: ArrayLength>(sum: u64, slice: &mut [u64], at: usize, item: u64, wa
     sum
 }
 
-fn viewed_mut<N: ArrayLength>(
-    sum: u64,
-    slice: &mut [u64],
-    at: usize,
-    item: u64,
-    way: u64,
-) -> u64 {
+fn viewed_mut<N: ArrayLength>(sum: u64, slice: &mut [u64], at: usize, item: u64, way: u64) -> u64 {
     if way & 4 == 0 {
         tried_mut::<N>(sum, slice, at, item)
     } else if slice.len() == N::USIZE {
