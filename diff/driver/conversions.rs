@@ -14,10 +14,12 @@ pub fn conversions_run<N: ArrayLength>(seed: u64) -> u64 {
     let mut random = Random::of(seed);
     let base = random.word();
     let count = random.near(N::USIZE);
-    match random.word() % 6 {
+    match random.word() & 7 {
         0 | 4 => built_of::<N>(seed, list_of(base, count).try_into()),
         2 => all(seed, &Vec::from(array_of::<N>(base))),
         3 => all(seed, &Box::<[u64]>::from(array_of::<N>(base))),
+        6 => all(seed, &Array::<N>::default()),
+        7 => all(seed, &array_of::<N>(base).clone()),
         _ => built_of::<N>(seed, list_of(base, count).into_boxed_slice().try_into()),
     }
 }

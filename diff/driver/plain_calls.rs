@@ -1,7 +1,8 @@
 //! What our plain calls and those of references stand beside: the same calls of the original.
 use crate::closures::{folding, folding_try, noting, noting_two, told, told_fold, trying};
-use crate::random::{array_of, Array, Random};
+use crate::random::{array_of, mixed, Array, Random};
 use generic_array::functional::FunctionalSequence;
+use generic_array::sequence::{FallibleGenericSequence, GenericSequence};
 use generic_array::ArrayLength;
 
 fn given<N: ArrayLength>(random: &mut Random) -> (Array<N>, Array<N>, u64) {
@@ -37,14 +38,49 @@ pub fn plain_calls_run<N: ArrayLength>(seed: u64) -> u64 {
 pub fn references_run<N: ArrayLength>(seed: u64) -> u64 {
     let mut random = Random::of(seed);
     let (left, right, bad) = given::<N>(&mut random);
-    let way = random.word() % 5;
+    let way = random.word() & 7;
     let mut calls = if way < 3 { seed } else { 0 };
-    if way < 3 {
-        let built = called(way, &left, right, bad, &mut calls);
-        told(seed, calls, built)
-    } else {
-        let answer = folded(way, seed, &left, bad, &mut calls);
-        told_fold(calls, answer)
+    match way {
+        0..=2 => {
+            let built = called(way, &left, right, bad, &mut calls);
+            told(seed, calls, built)
+        }
+        3 | 4 => {
+            let answer = folded(way, seed, &left, bad, &mut calls);
+            told_fold(calls, answer)
+        }
+        _ => {
+            let built = generated(way, seed, bad as usize, &mut calls);
+            told::<N>(seed, calls, built)
+        }
+    }
+}
+
+/// Builds that are called at the type of a reference.
+fn generated<N: ArrayLength>(
+    way: u64,
+    seed: u64,
+    bad: usize,
+    calls: &mut u64,
+) -> Result<Array<N>, u64> {
+    let mut next = |index: usize| {
+        *calls = mixed(*calls, index as u64);
+        *calls
+    };
+    match way {
+        5 => Ok(<&Array<N> as GenericSequence<u64>>::generate(next)),
+        6 => {
+            let Ok(built) = <&Array<N> as FallibleGenericSequence<u64>>::try_generate(|index| {
+                let word = next(index);
+                if index == bad {
+                    Err(word)
+                } else {
+                    Ok(word)
+                }
+            });
+            built
+        }
+        _ => Ok(<&Array<N> as GenericSequence<u64>>::repeat(seed)),
     }
 }
 
