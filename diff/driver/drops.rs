@@ -114,6 +114,23 @@ fn zipped<N: ArrayLength>(ordered: u64, log: &Log) -> u64 {
     sum
 }
 
+fn trait_tried<N: ArrayLength>(log: &Log, bad: u64) {
+    let call = |item: Noted<'_>| {
+        if item.id == bad {
+            Err(bad)
+        } else {
+            Ok(item_of(log, item.id.wrapping_add(100)))
+        }
+    };
+    drop(noted_of::<N>(log).try_map(call));
+}
+
+fn trait_zipped<N: ArrayLength>(log: &Log) {
+    let right = noted_of::<N>(log);
+    let call = |left: Noted<'_>, right: Noted<'_>| item_of(log, mixed(left.id, right.id));
+    drop(noted_of::<N>(log).zip(right, call));
+}
+
 fn folded<N: ArrayLength>(log: &Log) -> u64 {
     let call = |sum, item: Noted<'_>| mixed(sum, item.id);
     FunctionalSequence::fold(noted_of::<N>(log), 0, call)
@@ -139,11 +156,13 @@ pub fn closure_drops_run<N: ArrayLength>(ordered: u64, seed: u64) -> u64 {
     let mut random = Random::of(seed);
     let bad = random.word() % 20;
     let mut sum = seed;
-    match random.word() % 5 {
-        0 => mapped::<N>(log),
+    match random.word() & 7 {
+        0 | 4 => mapped::<N>(log),
         1 => sum = folded::<N>(log),
         2 => sum = tried::<N>(ordered, log, bad),
         3 => sum = zipped::<N>(ordered, log),
+        5 => trait_tried::<N>(log, bad),
+        6 => trait_zipped::<N>(log),
         _ => sum = tried_fold::<N>(log, bad),
     }
     mixed(sum, log.told(ordered))
