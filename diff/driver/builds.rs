@@ -7,6 +7,12 @@ use generic_array::{ArrayLength, GenericArray};
 
 fn filled<N: ArrayLength>(sum: u64, left: usize) -> u64 {
     let mut source = Source::of(left);
+    // At the right length `from_iter` answers the same, and at another it panics.
+    if left == N::USIZE && sum & 1 == 0 {
+        let array: Array<N> = source.by_ref().collect();
+        let sum = seen(all(sum, &array), source.next());
+        return mixed(sum, source.asked);
+    }
     let sum = match Array::<N>::try_from_iter(&mut source) {
         Ok(array) => all(sum, &array),
         Err(_) => mixed(sum, 11),

@@ -3,12 +3,14 @@ use crate::compare::Case;
 use crate::lengths::{at_length, with_longer, with_number, with_parts};
 use crate::ours::*;
 use crate::{
-    blocks, boxed, builds, closures, comparisons, conversions, flat, hex, rows, shapes, walks,
+    access, blocks, boxed, builders, builds, closures, comparisons, conversions, flat, hex, macros,
+    plain_calls, rows, sequences, shapes, views, walks,
 };
 
 const EVERY: &[u32] = &[0, 1, 2, 3, 4, 5, 6, 7, 8, 9, 10, 11, 12, 13, 14, 15, 16];
 const NOT_EMPTY: &[u32] = &[1, 2, 3, 4, 5, 6, 7, 8, 9, 10, 11, 12, 13, 14, 15, 16];
-const FLAT: &[u32] = &[104, 203, 302, 404, 1203, 500];
+pub const FLAT: &[u32] = &[104, 203, 302, 404, 1203, 500];
+const TUPLES: &[u32] = &[1, 2, 3, 4, 5, 6, 7, 8, 9, 10, 11, 12];
 const SIZES: &[u32] = &[0, 1, 2, 3, 5, 8, 20, 64];
 const SHORT_HEX: &[u32] = &[0, 1, 2, 3, 5, 8, 16, 20, 32, 64];
 const LONG_HEX: &[u32] = &[
@@ -42,6 +44,46 @@ pub const CASES: &[Case] = &[
         wanted: None,
     },
     Case {
+        name: "access to items",
+        lengths: EVERY,
+        share: 1,
+        ours: |n, seed| ours_access(n, seed),
+        original: |n, seed| at_length!(n, access::access_run, seed),
+        wanted: None,
+    },
+    Case {
+        name: "access to boxed items",
+        lengths: EVERY,
+        share: 1,
+        ours: |n, seed| ours_boxed_access(n, seed),
+        original: |n, seed| at_length!(n, access::boxed_access_run, seed),
+        wanted: None,
+    },
+    Case {
+        name: "builds by the traits",
+        lengths: EVERY,
+        share: 1,
+        ours: |n, seed| ours_sequences(n, seed),
+        original: |n, seed| at_length!(n, sequences::sequences_run, seed),
+        wanted: None,
+    },
+    Case {
+        name: "boxed builds by the traits",
+        lengths: EVERY,
+        share: 1,
+        ours: |n, seed| ours_boxed_sequences(n, seed),
+        original: |n, seed| at_length!(n, sequences::boxed_sequences_run, seed),
+        wanted: None,
+    },
+    Case {
+        name: "builders beside a vector",
+        lengths: EVERY,
+        share: 1,
+        ours: |n, seed| ours_builders(n, seed),
+        original: |n, seed| at_length!(n, builders::builders_run, seed),
+        wanted: None,
+    },
+    Case {
         name: "comparisons, hashes, Debug, views",
         lengths: EVERY,
         share: 1,
@@ -63,6 +105,46 @@ pub const CASES: &[Case] = &[
         share: 1,
         ours: |n, seed| ours_boxed_closures(n, seed),
         original: |n, seed| at_length!(n, closures::boxed_closures_run, seed),
+        wanted: None,
+    },
+    Case {
+        name: "views of slices and arrays",
+        lengths: EVERY,
+        share: 1,
+        ours: |n, seed| ours_views(n, seed),
+        original: |n, seed| at_length!(n, views::views_run, seed),
+        wanted: None,
+    },
+    Case {
+        name: "split of references",
+        lengths: EVERY,
+        share: 10,
+        ours: |n, seed| ours_halves(n, seed),
+        original: |n, seed| with_parts!(n, views::halves_run, seed),
+        wanted: None,
+    },
+    Case {
+        name: "plain calls of closures",
+        lengths: EVERY,
+        share: 1,
+        ours: |n, seed| ours_plain_calls(n, seed),
+        original: |n, seed| at_length!(n, plain_calls::plain_calls_run, seed),
+        wanted: None,
+    },
+    Case {
+        name: "calls of closures, references to arrays",
+        lengths: EVERY,
+        share: 1,
+        ours: |n, seed| ours_references(n, seed),
+        original: |n, seed| at_length!(n, plain_calls::references_run, seed),
+        wanted: None,
+    },
+    Case {
+        name: "arr!, box_arr!",
+        lengths: &[0, 1, 3, 6],
+        share: 1,
+        ours: |n, seed| ours_macros(n, seed),
+        original: |n, seed| macros::macros_run(n, seed),
         wanted: None,
     },
     Case {
@@ -146,8 +228,16 @@ pub const CASES: &[Case] = &[
         wanted: None,
     },
     Case {
+        name: "From and into of native arrays",
+        lengths: EVERY,
+        share: 4,
+        ours: |n, seed| ours_natives(n, seed),
+        original: |n, seed| with_number!(n, shapes::natives_run, seed),
+        wanted: None,
+    },
+    Case {
         name: "tuples",
-        lengths: &[3, 12],
+        lengths: TUPLES,
         share: 1,
         ours: |n, seed| ours_tuples(n, seed),
         original: |n, seed| conversions::tuples_run(n, seed),

@@ -5,7 +5,7 @@ use generic_array::sequence::GenericSequence;
 use generic_array::ArrayLength;
 
 /// An array and what its calls came to, or the error that ended them.
-fn told<N: ArrayLength>(seed: u64, calls: u64, built: Result<Array<N>, u64>) -> u64 {
+pub fn told<N: ArrayLength>(seed: u64, calls: u64, built: Result<Array<N>, u64>) -> u64 {
     match built {
         Ok(made) => mixed(all(seed, &made), calls),
         Err(error) => mixed(error, calls),
@@ -13,7 +13,7 @@ fn told<N: ArrayLength>(seed: u64, calls: u64, built: Result<Array<N>, u64>) -> 
 }
 
 /// A fold, and the sum of what it was called with.
-fn told_fold(calls: u64, answer: Result<u64, u64>) -> u64 {
+pub fn told_fold(calls: u64, answer: Result<u64, u64>) -> u64 {
     match answer {
         Ok(word) => mixed(word, calls),
         Err(word) => mixed(word, calls.wrapping_add(1)),
@@ -21,14 +21,14 @@ fn told_fold(calls: u64, answer: Result<u64, u64>) -> u64 {
 }
 
 /// A closure that notes its items, and whose answers depend on all before.
-fn noting(calls: &mut u64) -> impl FnMut(u64) -> u64 + '_ {
+pub fn noting(calls: &mut u64) -> impl FnMut(u64) -> u64 + '_ {
     move |item| {
         *calls = mixed(*calls, item);
         *calls
     }
 }
 
-fn noting_two(calls: &mut u64) -> impl FnMut(u64, u64) -> u64 + '_ {
+pub fn noting_two(calls: &mut u64) -> impl FnMut(u64, u64) -> u64 + '_ {
     move |left, right| {
         *calls = mixed(mixed(*calls, left), right);
         *calls
@@ -36,7 +36,7 @@ fn noting_two(calls: &mut u64) -> impl FnMut(u64, u64) -> u64 + '_ {
 }
 
 /// The same, with an error at an item.
-fn trying(calls: &mut u64, bad: u64) -> impl FnMut(u64) -> Result<u64, u64> + '_ {
+pub fn trying(calls: &mut u64, bad: u64) -> impl FnMut(u64) -> Result<u64, u64> + '_ {
     move |item| {
         *calls = mixed(*calls, item);
         if item == bad {
@@ -47,14 +47,14 @@ fn trying(calls: &mut u64, bad: u64) -> impl FnMut(u64) -> Result<u64, u64> + '_
     }
 }
 
-fn folding(calls: &mut u64) -> impl FnMut(u64, u64) -> u64 + '_ {
+pub fn folding(calls: &mut u64) -> impl FnMut(u64, u64) -> u64 + '_ {
     move |sum, item| {
         *calls = calls.wrapping_add(sum);
         mixed(sum, item)
     }
 }
 
-fn folding_try(calls: &mut u64, bad: u64) -> impl FnMut(u64, u64) -> Result<u64, u64> + '_ {
+pub fn folding_try(calls: &mut u64, bad: u64) -> impl FnMut(u64, u64) -> Result<u64, u64> + '_ {
     move |sum, item| {
         *calls = calls.wrapping_add(sum);
         if item == bad {

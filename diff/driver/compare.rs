@@ -1,6 +1,7 @@
 //! The comparison of both sides over the seeds of a case, and what it came to.
 use std::collections::BTreeMap;
 use std::fmt::Debug;
+use std::ops::Range;
 
 /// The checksum of a run, by its length and its seed.
 pub type Run = fn(u32, u64) -> u64;
@@ -22,6 +23,27 @@ pub struct Wanted {
     pub run: Run,
 }
 
+/// What a run came to.
+pub enum Answer {
+    Alike,
+    AsWanted(&'static str),
+    Differ { ours: u64, original: u64 },
+}
+
+impl Case {
+    /// Makes the calls of a run on both sides.
+    pub fn answer(&self, n: u32, seed: u64) -> Answer {
+        let (ours, original) = ((self.ours)(n, seed), (self.original)(n, seed));
+        if ours == original {
+            return Answer::Alike;
+        }
+        match &self.wanted {
+            Some(it) if ours == (it.run)(n, seed) => Answer::AsWanted(it.name),
+            _ => Answer::Differ { ours, original },
+        }
+    }
+}
+
 #[derive(Default)]
 pub struct Tally {
     runs: u64,
@@ -31,6 +53,10 @@ pub struct Tally {
 }
 
 impl Tally {
+    pub fn runs(&self) -> u64 {
+        self.runs
+    }
+
     fn count(&mut self, runs: u64, differ: u64) {
         self.runs += runs;
         self.differ += differ;
@@ -40,36 +66,66 @@ impl Tally {
         *self.wanted.entry(name).or_default() += runs;
     }
 
+    /// Counts a run, and answers whether it differs in a way that isn't wanted.
+    fn count_run(&mut self, answer: &Answer) -> bool {
+        if let Answer::AsWanted(name) = answer {
+            self.count_wanted(name, 1);
+        }
+        let differs = matches!(answer, Answer::Differ { .. });
+        self.count(1, differs.into());
+        differs
+    }
+
     /// Runs a case on both sides, and prints its line.
     pub fn compare(&mut self, case: &Case, seeds: u64) {
-        let (mut runs, mut differ, mut wanted, mut first) = (0, 0, 0, None);
+        let (runs, differ) = (self.runs, self.differ);
+        let (mut wanted, mut first) = (0, None);
         for &n in case.lengths {
-            for number in 0..(seeds / case.share).max(1) {
-                let seed = seed_of(number, n);
-                let ours = (case.ours)(n, seed);
-                runs += 1;
-                if ours == (case.original)(n, seed) {
-                    continue;
-                }
-                let as_wanted = |it: &Wanted| ours == (it.run)(n, seed);
-                if case.wanted.as_ref().is_some_and(as_wanted) {
-                    wanted += 1;
-                } else {
-                    differ += 1;
+            for seed in case.seeds(0..seeds, n) {
+                let answer = case.answer(n, seed);
+                wanted += u64::from(matches!(answer, Answer::AsWanted(_)));
+                if self.count_run(&answer) {
                     first.get_or_insert((n, seed));
                 }
             }
         }
-        self.count(runs, differ);
+        let (runs, differ) = (self.runs - runs, self.differ - differ);
         let mut line = format!("{}: {runs} runs, {differ} differ", case.name);
         if let Some((n, seed)) = first {
             line += &format!(", at first at length {n} with seed {seed}");
         }
         if let Some(it) = &case.wanted {
             line += &format!("; {wanted} as wanted: {}", it.name);
-            self.count_wanted(it.name, wanted);
         }
         println!("{line}");
+    }
+
+    /// Makes the runs of a case that have these numbers, up to the first that differs in a way that
+    /// isn't wanted, whose length and seed it answers.
+    pub fn first_difference(&mut self, case: &Case, numbers: Range<u64>) -> Option<(u32, u64)> {
+        for &n in case.lengths {
+            for seed in case.seeds(numbers.clone(), n) {
+                if self.count_run(&case.answer(n, seed)) {
+                    return Some((n, seed));
+                }
+            }
+        }
+        None
+    }
+
+    /// Makes one run, prints what it came to, and answers whether it is as it should be.
+    pub fn replay(&mut self, case: &Case, n: u32, seed: u64) -> bool {
+        let answer = case.answer(n, seed);
+        let differs = self.count_run(&answer);
+        print!("{}, length {n}, seed {seed}: ", case.name);
+        match answer {
+            Answer::Alike => println!("agree"),
+            Answer::AsWanted(name) => println!("differ as wanted: {name}"),
+            Answer::Differ { ours, original } => {
+                println!("ours is {ours:#018x}, the original's {original:#018x}");
+            }
+        }
+        !differs
     }
 
     /// Counts seeds at which a case can't tell one length from another, as a control: where that
@@ -116,6 +172,15 @@ impl Tally {
         let (runs, differ) = (self.runs, self.differ);
         println!("diff: {runs} runs, {differ} differ, and {wanted} as wanted");
         self.differ == 0
+    }
+}
+
+impl Case {
+    /// The seeds of a case at a length: those of its share of these numbers, and of one at least.
+    fn seeds(&self, numbers: Range<u64>, n: u32) -> impl Iterator<Item = u64> {
+        let count = ((numbers.end - numbers.start) / self.share).max(1);
+        let first = numbers.start;
+        (0..count).map(move |it| seed_of(first.wrapping_add(it), n))
     }
 }
 

@@ -1,6 +1,6 @@
 //! Inline arrays from and to vectors, boxed slices and tuples.
 use crate::random::{all, array_of, list_of, mixed, Array, Random};
-use generic_array::typenum::{U12, U3};
+use generic_array::typenum::*;
 use generic_array::{ArrayLength, LengthError};
 
 fn built_of<N: ArrayLength>(seed: u64, built: Result<Array<N>, LengthError>) -> u64 {
@@ -14,35 +14,38 @@ pub fn conversions_run<N: ArrayLength>(seed: u64) -> u64 {
     let mut random = Random::of(seed);
     let base = random.word();
     let count = random.near(N::USIZE);
-    match random.word() & 3 {
-        0 => built_of::<N>(seed, list_of(base, count).try_into()),
-        1 => built_of::<N>(seed, list_of(base, count).into_boxed_slice().try_into()),
+    match random.word() & 7 {
+        0 | 4 => built_of::<N>(seed, list_of(base, count).try_into()),
         2 => all(seed, &Vec::from(array_of::<N>(base))),
-        _ => all(seed, &Box::<[u64]>::from(array_of::<N>(base))),
+        3 => all(seed, &Box::<[u64]>::from(array_of::<N>(base))),
+        6 => all(seed, &Array::<N>::default()),
+        7 => all(seed, &array_of::<N>(base).clone()),
+        _ => built_of::<N>(seed, list_of(base, count).into_boxed_slice().try_into()),
     }
 }
 
-fn of_three(seed: u64) -> u64 {
-    let mut random = Random::of(seed);
-    let array: Array<U3> = (random.word(), random.word(), random.word()).into();
-    let sum = all(seed, &array);
-    let tuple: (u64, u64, u64) = array.into();
-    mixed(mixed(mixed(sum, tuple.0), tuple.1), tuple.2)
+/// From a tuple of the items and into one, whose items are turned by one place.
+macro_rules! turned {
+    ($seed:expr, $N:ty, $first:ident $(, $next:ident)*) => {{
+        let ($first, $($next,)*) = array_of::<$N>($seed).into();
+        let array: Array<$N> = ($($next,)* $first,).into();
+        all($seed, &array)
+    }};
 }
 
-type Twelve = (u64, u64, u64, u64, u64, u64, u64, u64, u64, u64, u64, u64);
-
-fn of_twelve(seed: u64) -> u64 {
-    let (a, b, c, d, e, f, g, h, i, j, k, l): Twelve = array_of::<U12>(seed).into();
-    let array: Array<U12> = (b, c, d, e, f, g, h, i, j, k, l, a).into();
-    all(seed, &array)
-}
-
-/// From tuples and back.
 pub fn tuples_run(len: u32, seed: u64) -> u64 {
-    if len == 3 {
-        of_three(seed)
-    } else {
-        of_twelve(seed)
+    match len {
+        1 => turned!(seed, U1, a),
+        2 => turned!(seed, U2, a, b),
+        3 => turned!(seed, U3, a, b, c),
+        4 => turned!(seed, U4, a, b, c, d),
+        5 => turned!(seed, U5, a, b, c, d, e),
+        6 => turned!(seed, U6, a, b, c, d, e, f),
+        7 => turned!(seed, U7, a, b, c, d, e, f, g),
+        8 => turned!(seed, U8, a, b, c, d, e, f, g, h),
+        9 => turned!(seed, U9, a, b, c, d, e, f, g, h, i),
+        10 => turned!(seed, U10, a, b, c, d, e, f, g, h, i, j),
+        11 => turned!(seed, U11, a, b, c, d, e, f, g, h, i, j, k),
+        _ => turned!(seed, U12, a, b, c, d, e, f, g, h, i, j, k, l),
     }
 }

@@ -1,8 +1,9 @@
 //! The cases of drops and clones, each by number and in order.
+use crate::cases::FLAT;
 use crate::compare::{Case, Wanted};
 use crate::lengths::{at_length, with_longer, with_parts};
 use crate::ours::*;
-use crate::{boxed_drops, drops, shapes, walk_drops};
+use crate::{boxed_drops, drops, flat, shapes, walk_drops};
 
 const SOME: &[u32] = &[0, 1, 2, 3, 5, 8, 16];
 
@@ -40,6 +41,14 @@ pub const DROPS: &[Case] = &[
         wanted: None,
     },
     Case {
+        name: "drops of flatten, unflatten, by number",
+        lengths: FLAT,
+        share: 10,
+        ours: |n, seed| ours_flat_drops(0, n, seed),
+        original: |n, seed| flat::flat_drops_run(0, n, seed),
+        wanted: None,
+    },
+    Case {
         name: "drops of concat, split, vectors, by number",
         lengths: SOME,
         share: 10,
@@ -48,7 +57,7 @@ pub const DROPS: &[Case] = &[
         wanted: None,
     },
     Case {
-        name: "drops of boxed builds, by number",
+        name: "drops of boxed calls and builds, by number",
         lengths: SOME,
         share: 1,
         ours: |n, seed| ours_boxed_build_drops(0, n, seed),
@@ -99,6 +108,14 @@ pub const DROPS: &[Case] = &[
         wanted: None,
     },
     Case {
+        name: "drops of flatten, unflatten, by order",
+        lengths: FLAT,
+        share: 10,
+        ours: |n, seed| ours_flat_drops(1, n, seed),
+        original: |n, seed| flat::flat_drops_run(1, n, seed),
+        wanted: None,
+    },
+    Case {
         name: "drops of concat, split, vectors, by order",
         lengths: SOME,
         share: 10,
@@ -107,7 +124,7 @@ pub const DROPS: &[Case] = &[
         wanted: None,
     },
     Case {
-        name: "drops of boxed builds, by order",
+        name: "drops of boxed calls and builds, by order",
         lengths: SOME,
         share: 1,
         ours: |n, seed| ours_boxed_build_drops(1, n, seed),

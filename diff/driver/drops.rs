@@ -3,6 +3,7 @@ use crate::noted::{item_of, noted_of, Log, Noted, NotedArray};
 use crate::random::{mixed, Random};
 use crate::sources::{Source, Trials};
 use generic_array::functional::FunctionalSequence;
+use generic_array::internals::ArrayBuilder;
 use generic_array::sequence::{FallibleGenericSequence, GenericSequence};
 use generic_array::ArrayLength;
 
@@ -51,6 +52,25 @@ fn repeated<N: ArrayLength>(ordered: u64, log: &Log) -> u64 {
     sum
 }
 
+/// A builder with some items, which is dropped as it is or finished.
+fn built<N: ArrayLength>(ordered: u64, log: &Log, count: usize) -> u64 {
+    let mut builder: ArrayBuilder<Noted<'_>, N> = ArrayBuilder::new();
+    // The items before the position are written, and no others.
+    let (places, position) = unsafe { builder.iter_position() };
+    for (place, id) in places.zip(0..count as u64) {
+        place.write(item_of(log, id + 1));
+        *position += 1;
+    }
+    let sum = log.told(ordered);
+    if builder.is_full() {
+        // It is full.
+        let array = unsafe { builder.assume_init() };
+        mixed(sum, array.len() as u64)
+    } else {
+        sum
+    }
+}
+
 /// Drops and clones of builds.
 pub fn build_drops_run<N: ArrayLength>(ordered: u64, seed: u64) -> u64 {
     let log = &Log::default();
@@ -58,10 +78,11 @@ pub fn build_drops_run<N: ArrayLength>(ordered: u64, seed: u64) -> u64 {
     let near = random.near(N::USIZE);
     let bad = random.word() % 20;
     let mut sum = seed;
-    match random.word() & 3 {
+    match random.word() % 5 {
         0 => generated_fallibly::<N>(log, bad as usize),
         1 => sum = filled::<N>(ordered, log, near),
         2 => sum = filled_fallibly::<N>(ordered, log, near, bad),
+        3 => sum = built::<N>(ordered, log, near),
         _ => sum = repeated::<N>(ordered, log),
     }
     mixed(sum, log.told(ordered))
@@ -69,6 +90,45 @@ pub fn build_drops_run<N: ArrayLength>(ordered: u64, seed: u64) -> u64 {
 
 fn mapped<N: ArrayLength>(log: &Log) {
     drop(noted_of::<N>(log).map(|item: Noted<'_>| item_of(log, item.id.wrapping_add(100))));
+}
+
+fn tried<N: ArrayLength>(ordered: u64, log: &Log, bad: u64) -> u64 {
+    let call = |item: Noted<'_>| {
+        if item.id == bad {
+            Err(item_of(log, 80))
+        } else {
+            Ok(item_of(log, item.id.wrapping_add(100)))
+        }
+    };
+    let built = noted_of::<N>(log).try_map(call);
+    let sum = log.told(ordered);
+    drop(built);
+    sum
+}
+
+fn zipped<N: ArrayLength>(ordered: u64, log: &Log) -> u64 {
+    let call = |left: Noted<'_>, right: Noted<'_>| item_of(log, mixed(left.id, right.id));
+    let made = noted_of::<N>(log).zip(noted_of::<N>(log), call);
+    let sum = log.told(ordered);
+    drop(made);
+    sum
+}
+
+fn trait_tried<N: ArrayLength>(log: &Log, bad: u64) {
+    let call = |item: Noted<'_>| {
+        if item.id == bad {
+            Err(bad)
+        } else {
+            Ok(item_of(log, item.id.wrapping_add(100)))
+        }
+    };
+    drop(noted_of::<N>(log).try_map(call));
+}
+
+fn trait_zipped<N: ArrayLength>(log: &Log) {
+    let right = noted_of::<N>(log);
+    let call = |left: Noted<'_>, right: Noted<'_>| item_of(log, mixed(left.id, right.id));
+    drop(noted_of::<N>(log).zip(right, call));
 }
 
 fn folded<N: ArrayLength>(log: &Log) -> u64 {
@@ -96,9 +156,13 @@ pub fn closure_drops_run<N: ArrayLength>(ordered: u64, seed: u64) -> u64 {
     let mut random = Random::of(seed);
     let bad = random.word() % 20;
     let mut sum = seed;
-    match random.word() % 3 {
-        0 => mapped::<N>(log),
+    match random.word() & 7 {
+        0 | 4 => mapped::<N>(log),
         1 => sum = folded::<N>(log),
+        2 => sum = tried::<N>(ordered, log, bad),
+        3 => sum = zipped::<N>(ordered, log),
+        5 => trait_tried::<N>(log, bad),
+        6 => trait_zipped::<N>(log),
         _ => sum = tried_fold::<N>(log, bad),
     }
     mixed(sum, log.told(ordered))

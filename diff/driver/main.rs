@@ -1,8 +1,11 @@
 //! Makes random calls of our library and of generic-array, and compares the checksums of all that
-//! they answered and dropped: `diff_driver SEEDS`.
+//! they answered and dropped: `diff_driver SEEDS`, `diff_driver forever`, or for one run
+//! `diff_driver CASE LENGTH SEED`.
+mod access;
 mod blocks;
 mod boxed;
 mod boxed_drops;
+mod builders;
 mod builds;
 mod cases;
 mod closures;
@@ -12,20 +15,25 @@ mod conversions;
 mod drop_cases;
 mod drops;
 mod flat;
+mod forever;
 mod hex;
 mod lengths;
+mod macros;
 mod noted;
 mod nth_back;
 mod ours;
+mod plain_calls;
 mod random;
 mod rows;
+mod sequences;
 mod shapes;
 mod sources;
+mod views;
 mod walk_drops;
 mod walks;
 
 use cases::CASES;
-use compare::Tally;
+use compare::{Case, Tally};
 use drop_cases::DROPS;
 use generic_array::typenum::{U4, U64};
 use generic_array::{AllocError, GenericArray, LengthError};
@@ -59,21 +67,64 @@ fn compare_texts(tally: &mut Tally) {
     tally.compare_once("what errors print", ours::error_texts(), original, None);
 }
 
-fn main() -> ExitCode {
-    let seeds = std::env::args().nth(1).and_then(|it| it.parse().ok());
-    let Some(seeds) = seeds else {
-        eprintln!("diff_driver SEEDS");
-        return ExitCode::from(2);
-    };
-    let mut tally = Tally::default();
-    compare_texts(&mut tally);
-    compare_sizes(&mut tally);
-    for case in CASES.iter().chain(DROPS) {
-        tally.control(case);
-        tally.compare(case, seeds);
-    }
-    match tally.end() {
+fn cases() -> impl Iterator<Item = &'static Case> + Clone {
+    CASES.iter().chain(DROPS)
+}
+
+fn ended(is_right: bool) -> ExitCode {
+    match is_right {
         true => ExitCode::SUCCESS,
         false => ExitCode::FAILURE,
     }
+}
+
+/// Every case with so many seeds for each of its lengths.
+fn compare_all(seeds: u64) -> ExitCode {
+    let mut tally = Tally::default();
+    compare_texts(&mut tally);
+    compare_sizes(&mut tally);
+    for case in cases() {
+        tally.control(case);
+        tally.compare(case, seeds);
+    }
+    ended(tally.end())
+}
+
+fn compare_forever() -> ExitCode {
+    let mut tally = Tally::default();
+    forever::run(&mut tally, cases());
+    ended(tally.end())
+}
+
+/// One run, by the name of its case, its length and its seed.
+fn replay(name: &str, n: u32, seed: u64) -> ExitCode {
+    let Some(case) = cases().find(|it| it.name == name && it.lengths.contains(&n)) else {
+        eprintln!("no case has this name and this length; these are there:");
+        for it in cases() {
+            eprintln!("{}: {:?}", it.name, it.lengths);
+        }
+        return ExitCode::from(2);
+    };
+    ended(Tally::default().replay(case, n, seed))
+}
+
+fn main() -> ExitCode {
+    let words: Vec<String> = std::env::args().skip(1).collect();
+    let words: Vec<&str> = words.iter().map(String::as_str).collect();
+    match words[..] {
+        ["forever"] => return compare_forever(),
+        [seeds] => {
+            if let Ok(seeds) = seeds.parse() {
+                return compare_all(seeds);
+            }
+        }
+        [name, n, seed] => {
+            if let (Ok(n), Ok(seed)) = (n.parse(), seed.parse()) {
+                return replay(name, n, seed);
+            }
+        }
+        _ => {}
+    }
+    eprintln!("diff_driver SEEDS | forever | CASE LENGTH SEED");
+    ExitCode::from(2)
 }

@@ -70,8 +70,28 @@ fn written<N: ArrayLength>(
     for row in rows.iter() {
         sum = all(sum, row);
     }
+    sum = seen_row(seen_row(sum, rows.get(place)), rows.get(place));
+    sum = all(sum, GenericArray::slice_from_chunks(rows));
+    put(GenericArray::slice_from_chunks_mut(rows), at, 500);
     put(rest, at, 400);
     all(sum, rest)
+}
+
+/// Rows that are written in place, after the slice is cut.
+fn written_rows<N: ArrayLength>(
+    seed: u64,
+    slice: &mut [u64],
+    at: usize,
+    place: usize,
+    item: u64,
+) -> u64 {
+    let (rows, rest) = Array::<N>::chunks_from_slice_mut(slice);
+    let mut sum = all(seed, rest);
+    if let Some(row) = rows.get_mut(at) {
+        put(row, place, item);
+        sum = all(sum, row);
+    }
+    sum
 }
 
 pub fn rows_run<N: ArrayLength>(seed: u64) -> u64 {
@@ -82,7 +102,11 @@ pub fn rows_run<N: ArrayLength>(seed: u64) -> u64 {
     let place = random.count();
     let item = random.word();
     let sum = read::<N>(seed, &items[..cut], at);
-    let sum = written::<N>(sum, &mut items[..cut], at, place, item);
+    let sum = if item & 1 == 0 {
+        written::<N>(sum, &mut items[..cut], at, place, item)
+    } else {
+        written_rows::<N>(sum, &mut items[..cut], at, place, item)
+    };
     all(sum, &items)
 }
 

@@ -3,7 +3,7 @@ use crate::noted::{item_of, noted_of, Log, Noted, NotedArray};
 use crate::random::{all, array_of, made, mixed, put, Array, Random};
 use generic_array::sequence::{Concat, Lengthen, Remove, Shorten, Split};
 use generic_array::typenum::Const;
-use generic_array::{ArrayLength, GenericArray, IntoArrayLength, LengthError};
+use generic_array::{ArrayLength, ConstGenericArray, GenericArray, IntoArrayLength, LengthError};
 
 /// One of the four calls at an end: `L` is one longer than `N`.
 pub fn ends_run<N: ArrayLength, L: ArrayLength>(seed: u64) -> u64
@@ -39,10 +39,12 @@ where
     if at >= L::USIZE {
         return seed;
     }
-    let (item, shorter) = if random.word() & 1 == 0 {
-        array.remove(at)
-    } else {
-        array.swap_remove(at)
+    // The place is below the length.
+    let (item, shorter) = match random.word() & 3 {
+        0 => array.remove(at),
+        1 => array.swap_remove(at),
+        2 => unsafe { array.remove_unchecked(at) },
+        _ => unsafe { array.swap_remove_unchecked(at) },
     };
     mixed(all(seed, &shorter), item)
 }
@@ -83,19 +85,34 @@ where
     }
 }
 
+fn native_items<const U: usize>(base: u64) -> [u64; U] {
+    let mut items = [0; U];
+    for (index, place) in items.iter_mut().enumerate() {
+        *place = made(base, index);
+    }
+    items
+}
+
 /// From a native array and back.
 pub fn native_run<N: ArrayLength, const U: usize>(seed: u64) -> u64
 where
     Const<U>: IntoArrayLength<ArrayLength = N>,
 {
-    let base = Random::of(seed).word();
-    let mut items = [0u64; U];
-    for (index, place) in items.iter_mut().enumerate() {
-        *place = made(base, index);
-    }
+    let items = native_items::<U>(Random::of(seed).word());
     let array: Array<N> = GenericArray::from_array(items);
     let sum = all(seed, &array);
     let items: [u64; U] = array.into_array();
+    all(sum, &items)
+}
+
+/// The same by `From`.
+pub fn natives_run<N: ArrayLength, const U: usize>(seed: u64) -> u64
+where
+    Const<U>: IntoArrayLength<ArrayLength = N>,
+{
+    let array: ConstGenericArray<u64, U> = native_items::<U>(seed).into();
+    let sum = all(seed, &array);
+    let items: [u64; U] = array.into();
     all(sum, &items)
 }
 
