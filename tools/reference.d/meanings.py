@@ -82,7 +82,7 @@ class Scope:
             self.near |= {member.name: member for member in part.of_kind("ghost")}
         if part.kind in ("trait", "impl"):
             self.bounds["Self"] = [part.name if part.kind == "trait" else part.of_trait]
-        self.bounds |= bounds
+        self.bounds |= {self.site.path_of(name): told for name, told in bounds.items()}
 
     def enter_definition(self, word):
         """Takes in what a definition's file imports and defines, and what its equations bind."""
@@ -210,6 +210,22 @@ class Site:
             else:
                 self.module(member, folder / f"{member.name}.rt")
         return module
+
+    def path_of(self, name):
+        """The path by which terms name a type: an alias is what it stands for, and what stands
+        behind `<X as Trait>` goes on from X."""
+        if name.startswith("<"):
+            end = closing(name, 0, ANGLE)
+            of = name[1:end - 1].rpartition(" as ")[0]
+            return self.path_of(of) + name[end:].replace("::", ".")
+        head, _, given = name.partition("<")
+        alias = next((item for item in self.by_name.get(head, []) if item.kind == "type"), None)
+        if not alias or not given:
+            return name
+        inside, behind = generics(alias.head)
+        types = dict(zip(parted(inside), parted(given[:-1])))
+        told = behind.partition("=")[2].strip(" ;\n")
+        return self.path_of(re.sub(r"\w+", lambda found: types.get(found[0], found[0]), told))
 
     def is_test(self, file):
         """Whether a file is of a module of tests, or below one."""

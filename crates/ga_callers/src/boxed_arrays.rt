@@ -7,8 +7,8 @@ use crate::kinds::boxed_one_two_three;
 use ga_core_callers::answers::gives;
 use ga_core_callers::digits::decimal_digit;
 use generic_array::{
-    AllocError, ArrayLength, BoxedArray, BoxedArrayIter, FillError, GenericArray, LengthError, LiveBlock, U0,
-    U2, U3, U4, Unsigned, box_arr,
+    AllocError, ArrayLength, BoxedArray, BoxedArrayIter, FillError, GenericArray, LengthError,
+    LiveBlock, U0, U2, U3, U4, Unsigned, box_arr,
 };
 use std::alloc::Global;
 use std::marker::{Send, Sync};
@@ -142,7 +142,9 @@ fn reversed<N: Unsigned>(
 }
 
 /// The items of a block as an inline array.
-fn moved_out<N: ArrayLength<u8>>(array: BoxedArray<u8, N>) -> Result<GenericArray<u8, N>, LengthError>
+fn moved_out<N: ArrayLength<u8>>(
+    array: BoxedArray<u8, N>,
+) -> Result<GenericArray<u8, N>, LengthError>
     requires { FitsInline N.USIZE }
     ensures { result ≡ Ok array }
 {

@@ -4,7 +4,7 @@
 ghost use Rattle.ga_ciphers.specs.Xtea.{change, cycle, cycle_back, first_word, key_words, second_word};
 ghost use Rattle.ga_ciphers.specs.Xtea.{block_of, cycles, cycles_back, halves_of, xtea_decrypted, xtea_encrypted};
 ghost use Rattle.std.specs.Int.{from_be_bytes, w32};
-ghost use Rattle.std.specs.Prelude.{◌≡◌, ◌+◌, ◌<◌, length};
+ghost use Rattle.std.specs.Prelude.{◌≡◌, ◌<◌, length};
 
 use crate::block_cipher::BlockCipher;
 use generic_array::sequence::Unflatten;
