@@ -14,6 +14,7 @@ mod iterators;
 mod lengths;
 mod live_block;
 mod made;
+mod memory;
 mod readme;
 mod record_block;
 mod shapes;
