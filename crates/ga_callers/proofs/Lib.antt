@@ -1,3 +1,0 @@
-pub mod CountedLemmas
-pub mod JobLemmas
-pub mod LeftLemmas

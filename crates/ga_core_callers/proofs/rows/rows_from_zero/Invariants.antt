@@ -1,8 +1,0 @@
-use Rattle.ga_core_callers.proofs.rows.rows_from_zero.Given as goal
-use Rattle.ga_core.specs.Rows.{rows}
-use Rattle.std.proofs.Common.{count_by, slice_index, ◌+◌, ◌==◌, ◌≡◌}
-
--- the count so far and that of the rows that are left are the count of all
-abbrev pub invariant-loop-row : goal.invariant-loop-row
-invariant-loop-row l = l.count + count_by (λ row. slice_index row 0 == 0) l.row-iterator
-    ≡ count_by (λ row. slice_index row 0 == 0) (rows 3 l.fn.chunks.slice.now)

@@ -1,0 +1,13 @@
+use Rattle.ga_core.proofs.RowSetLemmas.{chunk_rest-whole_set, rows-whole, rows-whole_set}
+use Rattle.ga_core_examples.proofs.row_loops.whole_rows_turned.Goals as goal
+use Rattle.std.proofs.Common.{ap, map, reverse, sym, ◌∙◌}
+
+pub returns : goal.returns
+returns g c =
+    let cut = c.whole_and_rest-whole.ensures in
+    let same = c.rows_turned.auto.slice in
+    record {
+      rows = rows-whole_set _ _ _ _ _ cut.parts cut.whole same
+          ∙ (c.rows_turned.ensures ∙ ap (map reverse) (sym (rows-whole _ _ _ _ cut.parts cut.whole)));
+      rest = chunk_rest-whole_set _ _ _ _ _ cut.parts cut.whole same;
+    }

@@ -1,0 +1,45 @@
+//! Examples of inline arrays, views and rows, each proved: what the contracts of `ga_core` give to those who
+//! use it alone.
+//!
+//! Examples stand under `#[cfg(test)]`. What is public serves the other crates of examples or is cited in
+//! `specs/`.
+#![tactic(auto)]
+
+/// Comparisons of what callers made.
+pub mod answers;
+/// The digits that callers read from text.
+pub mod digits;
+/// Records read from rows of bytes.
+#[cfg(test)]
+mod builds;
+#[cfg(test)]
+mod fixed_list;
+#[cfg(test)]
+mod hex_text;
+#[cfg(test)]
+mod iterators;
+#[cfg(test)]
+mod keys;
+#[cfg(test)]
+mod nested;
+pub mod records;
+/// Arrays of known numbers.
+pub mod numbers;
+#[cfg(test)]
+mod parts;
+#[cfg(test)]
+mod places;
+#[cfg(test)]
+mod plain_calls;
+#[cfg(test)]
+mod row_loops;
+#[cfg(test)]
+mod row_walks;
+#[cfg(test)]
+mod rows;
+#[cfg(test)]
+mod slices;
+#[cfg(test)]
+mod view_loans;
+#[cfg(test)]
+mod views;

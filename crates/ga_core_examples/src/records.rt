@@ -1,0 +1,58 @@
+//! Records read from rows of bytes.
+ghost use Rattle.ga_core.specs.Rows.{rows};
+ghost use Rattle.ga_core.specs.Views.{items_of_view};
+ghost use Rattle.ga_core_examples.specs.Records.{record_of};
+ghost use Rattle.std.specs.Prelude.{◌≡◌, IfOk, map};
+
+use ga_core::{ChunksRef, GenericArrayRef, U6};
+use std::alloc::{AllocError, Global};
+
+/// A name of two bytes and a value of four.
+#[derive(Drop)]
+pub struct Record {
+    /// What it is called.
+    pub id: u16,
+    /// What it is worth.
+    pub value: u32,
+}
+
+/// The record in a row.
+#[tactic(auto, unfolding(crate::specs::Records::record_of))]
+pub fn read_record(row: GenericArrayRef<'_, u8, U6>) -> Record
+    ensures { result ≡ record_of (items_of_view row.entry) }
+{
+    Record {
+        id: u16::from_be_bytes([row[0], row[1]]),
+        value: u32::from_be_bytes([row[2], row[3], row[4], row[5]]),
+    }
+}
+
+/// The records in the whole rows of these bytes.
+pub fn read_records(alloc: Global, bytes: &[u8]) -> Result<Vec<Record>, AllocError>
+    ensures { IfOk result (λ records. records.items ≡ map record_of (rows 6 bytes.now)) }
+{
+    let (chunks, _) = ChunksRef::<u8, U6>::chunks_from_slice(bytes);
+    let mut records = Vec::new(alloc);
+    for row in chunks.iter() {
+        records.push(read_record(row))?;
+    }
+    Ok(records)
+}
+
+#[cfg(test)]
+fn are_two_records(records: &[Record]) -> bool {
+    match records {
+        [first, second] => {
+            first.id == 258 && first.value == 5 && second.id == 7 && second.value == 1 << 24
+        }
+        _ => false,
+    }
+}
+
+#[test]
+fn records_are_read_from_whole_rows(rt: HostRuntime) {
+    let read = read_records(rt.alloc(), &[1, 2, 0, 0, 0, 5, 0, 7, 1, 0, 0, 0, 9]);
+    assert!(rt; read.is_ok_and(|records| are_two_records(&records)));
+    let none = read_records(rt.alloc(), &[1, 2, 3]);
+    assert!(rt; none.is_ok_and(|records| records.is_empty()));
+}

@@ -1,0 +1,2 @@
+pub mod CountedLemmas
+pub mod JobLemmas

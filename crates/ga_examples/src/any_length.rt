@@ -1,0 +1,344 @@
+//! Callers of any length, each with its exact result.
+ghost use Rattle.generic_array.specs.Length.{FitsInline};
+ghost use Rattle.generic_array.specs.Tries.{try_map};
+ghost use Rattle.ga_core_examples.specs.Digits.{digit_of};
+ghost use Rattle.generic_array.specs.Calls.{MayMap};
+ghost use Rattle.generic_array.specs.Entries.{ActsOnEntry};
+ghost use Rattle.generic_array.specs.Views.{items_of_view};
+ghost use Rattle.std.specs.Int.Bits.{bit_xor};
+ghost use Rattle.std.specs.List.{range_with_len, zip};
+ghost use Rattle.std.specs.Prelude.{◌≡◌, ℕ, ◌+◌, ◌-◌, ◌*◌, ◌%◌, ◌^◌, ◌++◌, ◌<◌, ◌≤◌, IfOk, Ok, fold, length, map, replicate, reverse, sum};
+
+use crate::kinds::boxed_one_two_three;
+use ga_core_examples::answers::{gives, has};
+use ga_core_examples::digits::digit_in;
+use ga_core_examples::numbers::{four_five_six, one_two_three};
+use generic_array::checks::{map_total_by, total_by};
+use generic_array::functional::{
+    FunctionalSequence, MappedError, MappedGenericSequence, MappedPlace, MappedSequence, MapsInline,
+};
+use generic_array::sequence::{FromFallibleIterator, GenericSequence, SequenceItem};
+use generic_array::{
+    AllocError, ArrayLength, BorrowedItems, BoxedArray, FillError, GenericArray, GenericArrayRef,
+    InlineLength, U3, U4, Unsigned, always,
+};
+use std::alloc::Global;
+use std::test::Fail;
+
+// A mask over every byte, as a digest makes of a key.
+
+fn masked<N: ArrayLength<u8>>(key: GenericArray<u8, N>) -> GenericArray<u8, N>
+    ensures { result ≡ map (λ b. bit_xor b 54) key }
+{
+    key.map_inline(|b: u8| b ^ 0x36)
+}
+
+fn masked_view<N: ArrayLength<u8>>(key: GenericArrayRef<'_, u8, N>, mask: u8) -> GenericArray<u8, N>
+    requires { FitsInline N.USIZE }
+    ensures { result ≡ map (λ b. bit_xor b mask) (items_of_view key.entry) }
+{
+    always(key.map((), |b: &u8| *b ^ mask))
+}
+
+// The key stays where it is.
+fn masked_by_reference<N: ArrayLength<u8> + InlineLength>(
+    key: &GenericArray<u8, N>,
+    mask: u8,
+) -> GenericArray<u8, N>
+    ensures { result ≡ map (λ b. bit_xor b mask) key.now }
+{
+    always(key.map((), |b: &u8| *b ^ mask))
+}
+
+fn masked_boxed<N: Unsigned>(
+    alloc: Global,
+    key: BoxedArray<u8, N>,
+    mask: u8,
+) -> Result<BoxedArray<u8, N>, AllocError>
+    ensures { IfOk result (λ made. made ≡ map (λ b. bit_xor b mask) key) }
+{
+    key.map(alloc, |b: u8| b ^ mask)
+}
+
+// The same over the traits alone: where entries are the items, and where they may be references.
+
+fn masked_sequence<
+    S: FunctionalSequence<u8> + MappedGenericSequence<u8, u8> + IntoIterator<Item = u8>,
+>(
+    key: S,
+    place: MappedPlace<S, u8, u8>,
+    mask: u8,
+) -> Result<MappedSequence<S, u8, u8>, MappedError<S, u8, u8>>
+    requires fits { S.Mapped.Fits }
+    requires by_value { (b : ℕ) → S.entry b ≡ b }
+    ensures { IfOk result (λ made. S.Mapped.Sequence.items made ≡ map (λ b. bit_xor b mask) (S.items key)) }
+{
+    key.map(place, |b: u8| b ^ mask)
+}
+
+fn masked_and_totalled<
+    S: FunctionalSequence<u8> + MappedGenericSequence<u8, u8>,
+    F: FnMut(SequenceItem<S>) -> u8,
+>(key: S, place: MappedPlace<S, u8, u8>, mask: &mut F) -> Result<u8, MappedError<S, u8, u8>>
+    requires fits { S.Mapped.Fits }
+    requires callable { MayMap S.entry F.pre F.step mask.old (S.items key) }
+    requires acts { ActsOnEntry S.entry F.step mask.old (λ b. bit_xor b 54) }
+    ensures { IfOk result (λ total.
+        total ≡ fold (λ total b. (total + b) % 2 ^ 8) 0 (map (λ b. bit_xor b 54) (S.items key))) }
+{
+    map_total_by(
+        key,
+        place,
+        mask,
+        0,
+        &mut |total: u8, b: u8| total.wrapping_add(b),
+    )
+}
+
+// One more than each sum: a chain over any kind of which inline arrays are made.
+fn one_more_than_sums<A, B>(
+    left: A,
+    right: B,
+) -> MappedSequence<MappedSequence<A, u32, u32>, u32, u32>
+where
+    A: MapsInline<u32, u32> + IntoIterator<Item = u32>,
+    B: GenericSequence<u32> + IntoIterator<Item = u32>,
+    MappedSequence<A, u32, u32>: MapsInline<u32, u32>,
+    requires lengths { A.Length.USIZE ≡ B.Length.USIZE }
+    requires fits { A.Mapped.Fits × A.Mapped.Sequence.Mapped.Fits }
+    requires by_value { ((x : ℕ) → A.entry x ≡ x) × ((x : ℕ) → B.entry x ≡ x)
+        × ((x : ℕ) → A.Mapped.Sequence.entry x ≡ x) }
+    ensures { A.Mapped.Sequence.Mapped.Sequence.items result ≡ map (λ sum. (sum + 1) % 2 ^ 32)
+        (map (λ p. (p.0 + p.1) % 2 ^ 32) (zip (A.items left) (B.items right))) }
+{
+    let sums = always(left.zip((), right, |l: u32, r: u32| l.wrapping_add(r)));
+    always(sums.map((), |sum: u32| sum.wrapping_add(1)))
+}
+
+// The same of an inline and a boxed array.
+fn one_more_than_sums_of_both<N: ArrayLength<u32> + InlineLength>(
+    left: GenericArray<u32, N>,
+    right: BoxedArray<u32, N>,
+) -> GenericArray<u32, N>
+    ensures { result ≡ map (λ sum. (sum + 1) % 2 ^ 32) (map (λ p. (p.0 + p.1) % 2 ^ 32) (zip left right)) }
+{
+    one_more_than_sums(left, right)
+}
+
+fn checksum_of_any<S: GenericSequence<u8>>(bytes: &S) -> u8
+where
+    S::Length: ArrayLength<u8>,
+    ensures { result ≡ fold (λ total b. (total + b) % 2 ^ 8) 0 (S.items bytes.now) }
+{
+    bytes
+        .view()
+        .fold(0, |total: u8, b: &u8| total.wrapping_add(*b))
+}
+
+// Sums place by place of two kinds, and the sum of the products.
+
+fn place_sums<N: ArrayLength<u32>>(
+    left: GenericArray<u32, N>,
+    right: GenericArrayRef<'_, u32, N>,
+) -> GenericArray<u32, N>
+    ensures { result ≡ map (λ p. (p.0 + p.1) % 2 ^ 32) (zip left (items_of_view right.entry)) }
+{
+    left.zip_inline_ref(right, |l: &u32, r: &u32| l.wrapping_add(*r))
+}
+
+// Both sides are there afterwards.
+fn sums_and_sides<N: ArrayLength<u32> + InlineLength>(
+    left: GenericArray<u32, N>,
+    right: GenericArray<u32, N>,
+) -> (
+    GenericArray<u32, N>,
+    GenericArray<u32, N>,
+    GenericArray<u32, N>,
+)
+    ensures { result ≡ (map (λ p. (p.0 + p.1) % 2 ^ 32) (zip left right), left, right) }
+{
+    let sums = always((&left).zip((), &right, |l: &u32, r: &u32| l.wrapping_add(*r)));
+    (sums, left, right)
+}
+
+fn scaled_sums<N: ArrayLength<u32>>(
+    alloc: Global,
+    left: BoxedArray<u32, N>,
+    right: GenericArray<u32, N>,
+    scale: u32,
+) -> Result<BoxedArray<u32, N>, AllocError>
+    ensures { IfOk result (λ made. made ≡ map (λ p. (p.0 + p.1 * scale % 2 ^ 32) % 2 ^ 32) (zip left right)) }
+{
+    left.zip(
+        alloc,
+        right,
+        |l: u32, r: u32| l.wrapping_add(r.wrapping_mul(scale)),
+    )
+}
+
+fn dot<N: ArrayLength<u32>>(left: GenericArray<u32, N>, right: GenericArrayRef<'_, u32, N>) -> u32
+    ensures { result ≡ fold (λ total x. (total + x) % 2 ^ 32) 0
+        (map (λ p. p.0 * p.1 % 2 ^ 32) (zip left (items_of_view right.entry))) }
+{
+    let products = left.zip_inline_ref(right, |l: &u32, r: &u32| l.wrapping_mul(*r));
+    products
+        .into_iter()
+        .fold(0, |total: u32, x: u32| total.wrapping_add(x))
+}
+
+// The value of a polynomial at x, with the highest coefficient first, and last.
+
+fn value_from_highest<N: ArrayLength<u32>>(coefficients: GenericArray<u32, N>, x: u32) -> u32
+    ensures { result ≡ fold (λ value c. (value * x % 2 ^ 32 + c) % 2 ^ 32) 0 coefficients }
+{
+    coefficients.into_iter().fold(
+        0,
+        |value: u32, c: u32| value.wrapping_mul(x).wrapping_add(c),
+    )
+}
+
+fn value_from_lowest<N: Unsigned>(coefficients: BoxedArray<u32, N>, x: u32) -> u32
+    ensures { result ≡ fold (λ value c. (value * x % 2 ^ 32 + c) % 2 ^ 32) 0 (reverse coefficients) }
+{
+    coefficients.into_iter().rfold(
+        0,
+        |value: u32, c: u32| value.wrapping_mul(x).wrapping_add(c),
+    )
+}
+
+// The sum, where it fits its type. Its condition is one line of proof.
+
+fn sum_of<N: ArrayLength<u32>>(view: GenericArrayRef<'_, u32, N>) -> u32
+    requires fits { sum (items_of_view view) < 2 ^ 32 }
+    ensures { result ≡ sum (items_of_view view.entry) }
+{
+    total_by(view, 0, &mut |total: u32, item: &u32| total + *item)
+}
+
+// Counting up.
+
+fn counted_up<N: ArrayLength<usize>>(first: usize) -> GenericArray<usize, N>
+    requires { FitsInline N.USIZE }
+    ensures { result ≡ map (λ index. (first + index) % 2 ^ 64) (range_with_len 0 N.USIZE) }
+{
+    GenericArray::generate(|index| first.wrapping_add(index))
+}
+
+fn counted_up_boxed<N: Unsigned>(
+    alloc: Global,
+    first: usize,
+) -> Result<BoxedArray<usize, N>, AllocError>
+    ensures { IfOk result (λ made.
+        made ≡ map (λ index. (first + index) % 2 ^ 64) (range_with_len 0 N.USIZE)) }
+{
+    BoxedArray::generate(alloc, |index| first.wrapping_add(index))
+}
+
+// Digits in some base, or the first byte that is none.
+
+fn digits_of_view<N: ArrayLength<u8>>(
+    text: GenericArrayRef<'_, u8, N>,
+    base: u8,
+) -> Result<GenericArray<u8, N>, u8>
+    requires { FitsInline N.USIZE }
+    ensures { result ≡ try_map (digit_of base) (items_of_view text.entry) }
+{
+    always(text.try_map((), |byte: &u8| digit_in(base, *byte)))
+}
+
+/// The digits of a text, of any kind that has room for just these.
+fn digits_of_text<S: FromFallibleIterator<u8>>(
+    place: S::Place,
+    text: &[u8],
+    base: u8,
+) -> Result<S, FillError<u8, S::Error>>
+    requires fits { S.Fits }
+    ensures len { IfOk result (λ made. length text.now ≡ S.Length.USIZE) }
+    ensures digits { IfOk result (λ made.
+        try_map (λ digit. digit) (map (digit_of base) text.now) ≡ Ok (S.items made)) }
+{
+    S::from_fallible_iter(
+        place,
+        text.iter().copied().map(|byte: u8| digit_in(base, byte)),
+    )
+}
+
+// A number's bytes behind zeros, as a field of fixed width has them.
+
+fn right_aligned<N: ArrayLength<u8>>(number: &[u8]) -> GenericArray<u8, N>
+    requires fits { FitsInline N.USIZE }
+    requires room { length number.now ≤ N.USIZE }
+    ensures { result ≡ replicate (N.USIZE - length number.now) 0 ++ number.now }
+{
+    let mut field = GenericArray::default();
+    let zeros = N::USIZE - number.len();
+    field[zeros..].copy_from_slice(number);
+    field
+}
+
+/// Whether a key of three bytes is masked as each caller of one kind says.
+fn masks_are_right(alloc: Global) -> Result<bool, AllocError> {
+    let boxed = BoxedArray::<u8, U3>::from_array(alloc, [0x36, 0, 0xff])?;
+    if !has(masked_boxed(alloc, boxed, 1)?, &[0x37, 1, 0xfe]) {
+        return Ok(false);
+    }
+    let key = GenericArray::<u8, U3>::from_array([0x36, 0, 0xff]);
+    Ok(
+        has(masked_view(key.view(), 1), &[0x37, 1, 0xfe])
+            && has(masked_by_reference(&key, 1), &[0x37, 1, 0xfe])
+            && has(masked(key), &[0, 0x36, 0xc9]),
+    )
+}
+
+/// Whether sums place by place are those worked out by hand.
+fn sums_are_right(alloc: Global) -> Result<bool, AllocError> {
+    let right = four_five_six();
+    let more = one_more_than_sums_of_both(one_two_three(), boxed_one_two_three(alloc)?);
+    Ok(has(place_sums(one_two_three(), right.view()), &[5, 7, 9]) && has(more, &[3, 5, 7]))
+}
+
+fn sums_stand_beside_both_sides() -> bool {
+    let (sums, left, right) = sums_and_sides(one_two_three(), four_five_six());
+    has(sums, &[5, 7, 9]) && has(left, &[1, 2, 3]) && has(right, &[4, 5, 6])
+}
+
+/// A dot product, a sum, and the values of polynomials.
+fn numbers(alloc: Global) -> Result<[u32; 4], AllocError> {
+    let right = four_five_six();
+    let scaled = scaled_sums(alloc, boxed_one_two_three(alloc)?, one_two_three(), 10)?;
+    Ok([
+        dot(one_two_three(), right.view()),
+        sum_of(right.view()),
+        value_from_highest(one_two_three(), 10),
+        value_from_lowest(scaled, 10),
+    ])
+}
+
+/// Whether text is read and aligned as the callers say.
+fn text_is_right() -> bool {
+    let read = digits_of_view(GenericArrayRef::<u8, U3>::from_slice(b"190"), 10);
+    let refused = match digits_of_view(GenericArrayRef::<u8, U3>::from_slice(b"182"), 8) {
+        Ok(_digits) => false,
+        Err(byte) => byte == b'8',
+    };
+    refused && gives(read, &[1, 9, 0]) && has(right_aligned::<U4>(b"ab"), &[0, 0, 97, 98])
+}
+
+#[test]
+fn masks_of_any_length_are_what_their_contracts_say(rt: HostRuntime) {
+    assert!(rt; masks_are_right(rt.alloc()).expect(&rt, "no memory"));
+}
+
+#[test]
+fn numbers_of_any_length_are_those_worked_out_by_hand(rt: HostRuntime) -> Result<(), Fail> {
+    assert!(rt; sums_are_right(rt.alloc())? && sums_stand_beside_both_sides());
+    assert!(rt; numbers(rt.alloc())? == [32, 15, 123, 3531]);
+    assert!(rt; has(counted_up::<U3>(5), &[5, 6, 7]));
+    assert!(rt; gives(counted_up_boxed::<U3>(rt.alloc(), 7), &[7, 8, 9]));
+    Ok(())
+}
+
+#[test]
+fn text_of_any_length_is_read_and_aligned(rt: HostRuntime) {
+    assert!(rt; text_is_right());
+}

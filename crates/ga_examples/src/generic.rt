@@ -1,0 +1,155 @@
+//! Functions that know the traits alone.
+ghost use Rattle.generic_array.specs.FillAnswer.{fill_answer};
+ghost use Rattle.generic_array.specs.Built.{built_items};
+ghost use Rattle.generic_array.specs.Calls.{MayMap};
+ghost use Rattle.std.specs.List.{range_with_len};
+ghost use Rattle.std.specs.Prelude.{◌≡◌, ◌+◌, ◌<◌, ◌⊎◌, IfErr, IfOk, IsOk, OnOk, length, map, refl, replicate};
+
+use ga_core_examples::digits::decimal_digit;
+use generic_array::functional::{
+    FunctionalSequence, MappedError, MappedGenericSequence, MappedPlace, MappedSequence,
+};
+use generic_array::sequence::{
+    FromFallibleIterator, GenericSequence, Lengthen, SequenceItem, Shorten,
+};
+use generic_array::{AllocError, ArrayLength, FillError, GenericArray};
+use std::convert::AsSlice;
+
+fn length_of<T, S: GenericSequence<T>>(s: &S) -> usize
+    ensures value { result ≡ S.Length.USIZE }
+    ensures items { length (S.items s.now) ≡ S.Length.USIZE }
+{
+    s.view().as_slice().len()
+}
+
+fn sevens<S: GenericSequence<u8>>(place: S::Place) -> Result<S::Sequence, AllocError>
+    requires fits { S.Fits }
+    ensures items { IfOk result (λ made. S.Sequence.items made ≡ replicate S.Length.USIZE 7) }
+    ensures given { S.IsPromised → IsOk result }
+{
+    S::repeat(place, 7)
+}
+
+fn places<S: GenericSequence<usize>>(place: S::Place) -> Result<S::Sequence, S::Error>
+    requires fits { S.Fits }
+    ensures items { IfOk result (λ made.
+        S.Sequence.items made ≡ map (λ place. place) (range_with_len 0 S.Length.USIZE)) }
+    ensures given { S.IsPromised → IsOk result }
+{
+    S::generate(place, |index| index)
+}
+
+/// A sequence to shorten and lengthen again: both traits name the same items, of it and of the shorter.
+trait ShortenAndLengthen<T, Shorter: Lengthen<T, Self>>: Shorten<T, Shorter> {
+    ghost shorter_agrees: { (shorter : Shorter) → Self.shorter_items shorter ≡ Shorter.items shorter };
+
+    ghost longer_agrees: { (longer : Self) → Shorter.longer_items longer ≡ Self.items longer };
+}
+
+impl<T: Default + Drop, N: ArrayLength<T>, M: ArrayLength<T>> ShortenAndLengthen<
+    T,
+    GenericArray<T, M>,
+> for GenericArray<T, N> {
+    ghost shorter_agrees = { λ shorter. refl };
+
+    ghost longer_agrees = { λ longer. refl };
+}
+
+// The last item popped and appended again, of whatever sequences these are.
+fn popped_and_appended<T, S: ShortenAndLengthen<T, L>, L: Lengthen<T, S>>(sequence: S) -> S
+    requires shorter { S.IsOneShorter }
+    requires longer { L.IsOneLonger }
+    ensures { S.items result ≡ S.items sequence }
+{
+    let (others, last) = sequence.pop_back();
+    others.append(last)
+}
+
+fn popped_and_appended_at_any_length<T: Default + Drop, N: ArrayLength<T>, M: ArrayLength<T>>(
+    array: GenericArray<T, N>,
+) -> GenericArray<T, N>
+    requires { N.USIZE ≡ M.USIZE + 1 }
+    ensures { result ≡ array }
+{
+    popped_and_appended::<T, GenericArray<T, N>, GenericArray<T, M>>(array)
+}
+
+fn no_places<S: GenericSequence<usize>>(place: S::Place) -> Result<S::Sequence, S::Error>
+    requires none { S.Length.USIZE ≡ 0 }
+    requires fits { S.Fits }
+    ensures { IsOk result }
+{
+    S::generate(place, |index| index)
+}
+
+fn nothing_mapped<
+    T,
+    U,
+    S: FunctionalSequence<T> + MappedGenericSequence<T, U>,
+    F: FnMut(SequenceItem<S>) -> U,
+>(
+    s: S,
+    place: MappedPlace<S, T, U>,
+    f: &mut F,
+) -> Result<MappedSequence<S, T, U>, MappedError<S, T, U>>
+    requires none { S.Length.USIZE ≡ 0 }
+    requires fits { S.Mapped.Fits }
+    requires callable { MayMap S.entry F.pre F.step f.old (S.items s) }
+    ensures { IsOk result }
+{
+    s.map_by(place, f)
+}
+
+fn digits<S: FromFallibleIterator<u8>>(
+    place: S::Place,
+    text: &[u8],
+) -> Result<S, FillError<u8, S::Error>>
+    requires fits { S.Fits }
+    ensures long { OnOk result (length text.now ≡ S.Length.USIZE) }
+{
+    S::from_fallible_iter(place, text.iter().map(decimal_digit))
+}
+
+/// The digits that the bytes stand for, or why there are none. The iterator is borrowed.
+fn digits_lent<S: FromFallibleIterator<u8>>(
+    place: S::Place,
+    text: &[u8],
+) -> Result<S, FillError<u8, S::Error>>
+    requires fits { S.Fits }
+    ensures other { IfOk (fill_answer (built_items S.items result)) (λ built.
+        IfOk built (λ made. IfErr made (λ byte. (byte < 48) ⊎ (57 < byte)))) }
+    ensures long { OnOk result (length text.now ≡ S.Length.USIZE) }
+{
+    let mut digits = text.iter().map(decimal_digit);
+    S::from_fallible_iter_ref(place, &mut digits)
+}
+
+/// An item of what any kind makes, at any place that there is.
+fn seven_at<S: GenericSequence<u8>>(place: S::Place, index: usize) -> Result<u8, S::Error>
+where
+    S::Sequence: Drop,
+    requires fits { S.Fits }
+    requires in_bounds { index < S.Length.USIZE }
+    ensures promised { S.IsPromised → IsOk result }
+{
+    match S::generate(place, |_index| 7) {
+        Ok(made) => Ok(made.as_slice()[index]),
+        Err(refused) => Err(refused),
+    }
+}
+
+/// The item after the first error, where the iterator is asked on.
+fn next_after_an_error<S: FromFallibleIterator<u8> + Drop, I: Iterator<Item = Result<u8, u8>>>(
+    place: S::Place,
+    items: &mut I,
+) -> Option<Result<u8, u8>>
+where
+    S::Error: Drop,
+    requires fits { S.Fits }
+    requires can { I.can_next items.old }
+{
+    match S::from_fallible_iter_ref(place, items) {
+        Err(FillError::Item(_)) => items.next(),
+        _ => None,
+    }
+}

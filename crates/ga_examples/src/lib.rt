@@ -1,0 +1,25 @@
+//! Examples, each proved: what the contracts of `generic_array` give to those who use it.
+#![tactic(auto)]
+
+#[cfg(test)]
+mod any_length;
+#[cfg(test)]
+mod boxed_arrays;
+#[cfg(test)]
+mod boxed_slices;
+#[cfg(test)]
+mod conversions;
+#[cfg(test)]
+mod generic;
+#[cfg(test)]
+mod headers;
+#[cfg(test)]
+mod kinds;
+#[cfg(test)]
+mod macros;
+#[cfg(test)]
+mod own_lengths;
+#[cfg(test)]
+mod shapes;
+#[cfg(test)]
+mod steps;

@@ -1,0 +1,7 @@
+use Rattle.ga_headline_examples.proofs.LeftLemmas.{left_after_error}
+use Rattle.ga_headline_examples.proofs.builds.stopped_inline.Goals as goal
+use Rattle.std.proofs.Common.{rules}
+
+pub returns-clause-next : goal.returns-clause-next
+returns-clause-next g c = left_after_error (λ array. array) c.into_iter-results.result c.build-built.new.items
+    g.N.Unsigned.USIZE c.build-built.result c.build-built.ensures.fill (λ left. search rules)

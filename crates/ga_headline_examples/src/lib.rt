@@ -1,0 +1,18 @@
+//! Examples of the headline, each proved: every function of `ga_headline` at each kind of sequence that has
+//! it, with exact results.
+#![tactic(auto)]
+
+#[cfg(test)]
+mod arrays;
+#[cfg(test)]
+mod builds;
+#[cfg(test)]
+mod calls;
+#[cfg(test)]
+mod joined_runs;
+#[cfg(test)]
+mod shapes;
+#[cfg(test)]
+mod steps;
+#[cfg(test)]
+mod whole;

@@ -1,0 +1,129 @@
+//! A build, a map and a walk, one after the other: half of each number of three, walked over.
+ghost use Rattle.ga_headline.specs.Whole.{MatchStopped};
+ghost use Rattle.generic_array.specs.declared.steps.step.Reply.TheVariants.{Item, Old, Seen};
+ghost use Rattle.generic_array.specs.declared.steps.step.Step.TheVariants.{Look, Next, NextBack, Set};
+ghost use Rattle.std.specs.Prelude.{◌≡◌, ◌/◌, ◌%◌, [], ◌∷◌, ◌++◌, Err, IfErr, IfOk, IsErr, ⊤, Ok, OnOk, Some, if◌then◌else◌, nat_eq};
+
+use crate::steps::{are_right, count_of, steps};
+use ga_headline::whole::{Stopped, build_map_walk};
+use generic_array::steps::{Reply, Step};
+use generic_array::{
+    AllocError, ArrayLength, BoxedArray, BoxedArrayIter, GenericArray, GenericArrayIter,
+    InlineLength, Never, U3,
+};
+use std::alloc::Global;
+use std::test::Fail;
+
+/// Half of an even number, or an error of an odd one.
+fn halved(number: u32) -> Result<u32, u32>
+    ensures { result ≡ (if nat_eq (number % 2) 0 then Ok (number / 2) else Err number) }
+{
+    if number % 2 == 0 {
+        Ok(number / 2)
+    } else {
+        Err(number)
+    }
+}
+
+fn whole_inline<N: ArrayLength<u32> + InlineLength>(
+    results: Vec<Result<u32, u8>>,
+    steps: Vec<Step<u32>>,
+    replies: &mut Vec<Reply<u32, usize>>,
+) -> Result<GenericArrayIter<u32, N>, Stopped<u8, Never, u32, Never>>
+    requires len { N.USIZE ≡ 3 }
+    requires results { results.items ≡ Ok 2 ∷ Ok 4 ∷ Ok 6 ∷ [] }
+    requires steps { steps.items ≡ Next ∷ Look ∷ Set 1 9 ∷ NextBack ∷ [] }
+    ensures replies { OnOk result (replies.new.items
+        ≡ replies.old.items ++ Item (Some 1) ∷ Seen 2 ∷ Old 3 ∷ Item (Some 9) ∷ []) }
+    ensures left { IfOk result (λ left. left ≡ 2 ∷ []) }
+{
+    build_map_walk::<u32, u8, u32, u32, usize, GenericArray<u32, N>, _, _, _>(
+        (),
+        &mut results.into_iter(),
+        (),
+        &mut halved,
+        steps,
+        &mut count_of,
+        replies,
+    )
+}
+
+fn whole_boxed(
+    alloc: Global,
+    results: Vec<Result<u32, u8>>,
+    steps: Vec<Step<u32>>,
+    replies: &mut Vec<Reply<u32, usize>>,
+) -> Result<BoxedArrayIter<u32>, Stopped<u8, AllocError, u32, AllocError>>
+    requires results { results.items ≡ Ok 2 ∷ Ok 4 ∷ Ok 6 ∷ [] }
+    requires steps { steps.items ≡ Next ∷ Look ∷ Set 1 9 ∷ NextBack ∷ [] }
+    ensures replies { OnOk result (replies.new.items
+        ≡ replies.old.items ++ Item (Some 1) ∷ Seen 2 ∷ Old 3 ∷ Item (Some 9) ∷ []) }
+    ensures left { IfOk result (λ left. left ≡ 2 ∷ []) }
+{
+    build_map_walk::<u32, u8, u32, u32, usize, BoxedArray<u32, U3>, _, _, _>(
+        alloc,
+        &mut results.into_iter(),
+        alloc,
+        &mut halved,
+        steps,
+        &mut count_of,
+        replies,
+    )
+}
+
+// An odd number among three stops the map, after the build and before the walk.
+fn whole_stopped(
+    alloc: Global,
+    results: Vec<Result<u32, u8>>,
+    steps: Vec<Step<u32>>,
+    replies: &mut Vec<Reply<u32, usize>>,
+) -> Result<BoxedArrayIter<u32>, Stopped<u8, AllocError, u32, AllocError>>
+    requires results { results.items ≡ Ok 2 ∷ Ok 5 ∷ Ok 7 ∷ [] }
+    requires steps { steps.items ≡ Next ∷ Look ∷ Set 1 9 ∷ NextBack ∷ [] }
+    ensures err { IsErr result }
+    ensures why { IfErr result (λ why. MatchStopped why (λ _. ⊤) (λ error. error ≡ 5) (λ _. ⊤) ⊥) }
+    ensures replies { replies.new.items ≡ replies.old.items }
+{
+    build_map_walk::<u32, u8, u32, u32, usize, BoxedArray<u32, U3>, _, _, _>(
+        alloc,
+        &mut results.into_iter(),
+        alloc,
+        &mut halved,
+        steps,
+        &mut count_of,
+        replies,
+    )
+}
+
+#[test]
+fn the_whole_of_an_array(rt: HostRuntime) -> Result<(), Fail> {
+    let mut replies = Vec::new(rt.alloc());
+    let results = vec![in rt.alloc(); Ok(2), Ok(4), Ok(6)]?;
+    match whole_inline::<U3>(results, steps(rt.alloc())?, &mut replies) {
+        Ok(left) => assert!(rt; left.as_slice() == [2].as_slice()),
+        Err(_) => assert!(rt; false),
+    }
+    assert!(rt; are_right(rt.alloc(), replies.as_slice())?);
+    Ok(())
+}
+
+#[test]
+fn the_whole_of_a_boxed_array(rt: HostRuntime) -> Result<(), Fail> {
+    let mut replies = Vec::new(rt.alloc());
+    let results = vec![in rt.alloc(); Ok(2), Ok(4), Ok(6)]?;
+    match whole_boxed(rt.alloc(), results, steps(rt.alloc())?, &mut replies) {
+        Ok(left) => assert!(rt; left.as_slice() == [2].as_slice()),
+        Err(_) => assert!(rt; false),
+    }
+    assert!(rt; are_right(rt.alloc(), replies.as_slice())?);
+    Ok(())
+}
+
+#[test]
+fn the_whole_stops_at_an_error(rt: HostRuntime) -> Result<(), Fail> {
+    let mut replies = Vec::new(rt.alloc());
+    let results = vec![in rt.alloc(); Ok(2), Ok(5), Ok(7)]?;
+    let stopped = whole_stopped(rt.alloc(), results, steps(rt.alloc())?, &mut replies);
+    assert!(rt; matches!(stopped, Err(Stopped::Call(5))) && replies.len() == 0);
+    Ok(())
+}
