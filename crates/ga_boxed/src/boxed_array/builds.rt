@@ -109,7 +109,6 @@ impl<T: Drop, N: Unsigned> BoxedArray<T, N> {
         mut items: I,
     ) -> Result<Result<Self, LengthError>, AllocError>
         requires can { I.can_next items }
-        ensures fill { (after : I) × IfOk result (λ built. Fills I.next_gives items N.USIZE built after) }
         ensures runs { IfOk result (λ built. FillRuns I.next_gives items N.USIZE built) }
         ensures empty { N.USIZE ≡ 0 → IsOk result }
     {

@@ -77,7 +77,6 @@ impl<T: Default + Drop, N: ArrayLength<T>> GenericArray<T, N> {
     pub fn try_from_iter<I: Iterator<Item = T>>(mut items: I) -> Result<Self, LengthError>
         requires fits { FitsInline N.USIZE }
         requires can { I.can_next items }
-        ensures fill { (after : I) × Fills I.next_gives items N.USIZE result after }
         ensures runs { FillRuns I.next_gives items N.USIZE result }
     {
         Self::try_from_iter_ref(&mut items)

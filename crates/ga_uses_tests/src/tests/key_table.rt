@@ -1,5 +1,6 @@
-ghost use Rattle.ga_uses.specs.KeyTable.{value_at};
-ghost use Rattle.std.specs.Prelude.{◌≡◌, ◌≢◌, IsTrue};
+//! Keys in a table: put in, taken out, listed from one up to another, and refused memory.
+ghost use Rattle.ga_uses.specs.KeyTable.{entries_from_to, value_at};
+ghost use Rattle.std.specs.Prelude.{◌≡◌, ◌≢◌, IfOk, IsTrue, map};
 
 use crate::tests::std_maps::{put_in_hashes, put_in_tree};
 use ga_uses::key_table::KeyTable;
@@ -20,6 +21,29 @@ fn taken_out<N: ArrayLength<u8>, V: Drop>(
 {
     let _value = table.remove(key);
     table.get(key).is_none()
+}
+
+/// The values of the entries from one key up to another, in order.
+fn values_between<N: ArrayLength<u8>>(
+    alloc: Global,
+    table: &KeyTable<N, u64>,
+    from: &GenericArray<u8, N>,
+    to: &GenericArray<u8, N>,
+) -> Result<Vec<u64>, AllocError>
+    ensures { IfOk result (λ values. values.items
+        ≡ map (λ entry. entry.1) (entries_from_to table.now from.now to.now)) }
+{
+    let entries = table.range(from, to).iter();
+    Ok(entries.map(|entry| entry.1).collect(alloc)?)
+}
+
+/// The values of the entries from one key up to another, of a table of four.
+fn values_of_four(alloc: Global, from: u64, to: u64) -> Result<Vec<u64>, AllocError> {
+    let mut table = KeyTable::new(alloc);
+    for number in [30, 10, 40, 20] {
+        let _none = table.insert(key_of(number), number)?;
+    }
+    values_between(alloc, &table, &key_of(from), &key_of(to))
 }
 
 /// Whether a key of two can be taken out alone.
@@ -80,6 +104,17 @@ fn arrays_are_keys_of_a_table_and_of_the_maps_of_std(rt: HostRuntime) -> Result<
     assert!(rt; sorted_twice(rt.alloc())? == (None, Some(1)));
     assert!(rt; hashed_twice(rt.alloc())? == (None, Some(1)));
     assert!(rt; one_of_two_taken_out(rt.alloc())?);
+    Ok(())
+}
+
+#[test]
+fn entries_are_listed_from_one_key_up_to_another(rt: HostRuntime) -> Result<(), Fail> {
+    let alloc = rt.alloc();
+    assert!(rt; values_of_four(alloc, 10, 30)?.as_slice() == [10, 20].as_slice());
+    assert!(rt; values_of_four(alloc, 11, 99)?.as_slice() == [20, 30, 40].as_slice());
+    assert!(rt;
+        values_of_four(alloc, 41, 99)?.is_empty() && values_of_four(alloc, 30, 10)?.is_empty()
+    );
     Ok(())
 }
 
