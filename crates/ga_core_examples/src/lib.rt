@@ -7,11 +7,10 @@
 
 /// Comparisons of what callers made.
 pub mod answers;
-/// The digits that callers read from text.
-pub mod digits;
-/// Records read from rows of bytes.
 #[cfg(test)]
 mod builds;
+/// The digits that callers read from text.
+pub mod digits;
 #[cfg(test)]
 mod fixed_list;
 #[cfg(test)]
@@ -22,7 +21,6 @@ mod iterators;
 mod keys;
 #[cfg(test)]
 mod nested;
-pub mod records;
 /// Arrays of known numbers.
 pub mod numbers;
 #[cfg(test)]
@@ -31,6 +29,8 @@ mod parts;
 mod places;
 #[cfg(test)]
 mod plain_calls;
+/// Records read from rows of bytes.
+pub mod records;
 #[cfg(test)]
 mod row_loops;
 #[cfg(test)]

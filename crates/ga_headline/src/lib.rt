@@ -9,7 +9,7 @@
 //! - every run of two-ended iterator calls gives what a list cut from both ends gives: `steps`;
 //! - and one call that builds, maps and walks means all three, one after the other: `whole`.
 //!
-//! Each function's contract is a part of this. `ga_headline_examples` calls each at every kind that has it.
+//! Each function's contract is a part of this. `ga_headline_examples` calls each, with exact results.
 #![tactic(auto)]
 
 /// A build succeeds exactly where N items come.

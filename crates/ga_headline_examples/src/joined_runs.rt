@@ -1,6 +1,8 @@
 //! Runs over joined lists, at any kind.
 use ga_core_examples::numbers::one_two_three;
-use ga_headline::joined_runs::{folds_join, maps_join, try_folds_join, try_maps_join, zips_join};
+use ga_headline::joined_runs::{
+    folds_join, maps_join, runs_of_steps_join, try_folds_join, try_maps_join, zips_join,
+};
 use generic_array::sequence::{GenericSequence, SequenceItem};
 
 fn all_join<S: GenericSequence<u32>>(s: &S)
@@ -22,6 +24,7 @@ where
         s,
         &|sum: u32, _item: SequenceItem<S>| -> Result<u32, u32> { Ok(sum) },
     );
+    runs_of_steps_join::<u32, usize, _>(&|items: &[u32]| items.len());
 }
 
 #[test]

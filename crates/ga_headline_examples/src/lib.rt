@@ -1,5 +1,4 @@
-//! Examples of the headline, each proved: every function of `ga_headline` at each kind of sequence that has
-//! it, with exact results.
+//! Examples of the headline, each proved: every function of `ga_headline`, with exact results.
 #![tactic(auto)]
 
 #[cfg(test)]
