@@ -1,5 +1,5 @@
 -- Words and their bytes.
-use Rattle.ga_ciphers.specs.ChaCha20.{bytes_of}
+use Rattle.ga_ciphers.specs.ChaCha20.{bytes_of_words}
 use Rattle.std.proofs.Common.{◌≡◌, ℕ, List, [], ◌∷◌, ◌++◌, ap, map, refl, ◌∙◌}
 use Rattle.std.specs.Int.{to_le_bytes, w32}
 use Rattle.std.specs.List.{flat_map}
@@ -12,6 +12,6 @@ flat_map-map f (x ∷ xs) = ap (λ ys. f x ++ ys) (flat_map-map f xs)
 
 -- rows that are the bytes of words are joined to the bytes of all
 pub bytes-from_rows : (rows : List (List ℕ)) (words bytes : List ℕ) → rows ≡ map (to_le_bytes w32) words
-    → bytes ≡ flat_map (λ row. row) (map (λ row. row) rows) → bytes ≡ bytes_of words
+    → bytes ≡ flat_map (λ row. row) (map (λ row. row) rows) → bytes ≡ bytes_of_words words
 bytes-from_rows rows words bytes each joined = joined
     ∙ (ap (λ r. flat_map (λ row. row) (map (λ row. row) r)) each ∙ flat_map-map (to_le_bytes w32) words)

@@ -1,5 +1,5 @@
 mod CbcLemmas
 mod ChaCha20Lemmas
 pub mod KeystreamLemmas
-mod PaddingLemmas
+mod UnpadLemmas
 mod XteaLemmas

@@ -10,8 +10,8 @@ abbrev pub words_of : List ℕ → List ℕ
 words_of bytes = map (from_le_bytes w32) (rows 4 bytes)
 
 -- and the bytes of words
-abbrev pub bytes_of : List ℕ → List ℕ
-bytes_of words = flat_map (to_le_bytes w32) words
+abbrev pub bytes_of_words : List ℕ → List ℕ
+bytes_of_words words = flat_map (to_le_bytes w32) words
 
 -- the constants, the words of the key, the counter 0, and the words of the nonce (2.3)
 abbrev pub initial_state : List ℕ → List ℕ → List ℕ
@@ -27,4 +27,4 @@ state_at state number = slice_set state 12 number
 abbrev pub chacha20_block : List ℕ → ℕ → List ℕ
 chacha20_block state number =
     let first = state_at state number in
-    bytes_of (map (λ pair. add32 pair.0 pair.1) (zip (double_rounds 10 first) first))
+    bytes_of_words (map (λ pair. add32 pair.0 pair.1) (zip (double_rounds 10 first) first))

@@ -1,7 +1,7 @@
 //! ChaCha20 (RFC 8439): its state, its block function, and its key stream.
 //!
 //! It hides a text, and doesn't tell whether one was changed. No key and nonce may serve two texts.
-ghost use Rattle.ga_ciphers.specs.ChaCha20.{bytes_of, chacha20_block, initial_state, words_of};
+ghost use Rattle.ga_ciphers.specs.ChaCha20.{bytes_of_words, chacha20_block, initial_state, words_of};
 ghost use Rattle.rand_chacha.specs.Block.{column_round, diagonal_round, double_rounds, quarter_round, xor_rotate};
 ghost use Rattle.std.proofs.Common.{lit≤};
 ghost use Rattle.std.specs.Int.{from_le_bytes, to_le_bytes, w32};
@@ -94,7 +94,7 @@ fn words_of<N: ArrayLength<u8>, R: ArrayLength<GenericArray<u8, U4>> + ArrayLeng
 
 // The bytes of words, the low byte of each first.
 fn bytes_of(words: GenericArray<u32, U16>) -> GenericArray<u8, U64>
-    ensures { result ≡ bytes_of words }
+    ensures { result ≡ bytes_of_words words }
 {
     let rows: Fours<U16> = words.map_inline(
         |word: u32| -> GenericArray<u8, U4>

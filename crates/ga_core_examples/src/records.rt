@@ -1,7 +1,7 @@
 //! Records read from rows of bytes.
 ghost use Rattle.ga_core.specs.Rows.{rows};
 ghost use Rattle.ga_core.specs.Views.{items_of_view};
-ghost use Rattle.ga_core_examples.specs.Records.{record_of};
+ghost use Rattle.ga_core_examples.specs.RecordOf.{record_of};
 ghost use Rattle.std.specs.Prelude.{◌≡◌, IfOk, map};
 
 use ga_core::{ChunksRef, GenericArrayRef, U6};

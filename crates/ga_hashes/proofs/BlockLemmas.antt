@@ -1,5 +1,5 @@
 -- Calls at blocks in turn, and messages that are fed.
-use Rattle.ga_hashes.specs.BlockBuffer.{HasFed, MayTake, Takes}
+use Rattle.ga_hashes.specs.BlockBuffer.{HasFed, MayTake, TakesEach}
 use Rattle.ga_core.proofs.JoinLemmas.{chunk_rest-joined, rows-behind, rows-joined}
 use Rattle.ga_core.proofs.CallLemmas.{may_map-at}
 use Rattle.ga_core.proofs.JoinedRuns.{ClosureRun-in_turn, MayMap-first, MayMap-second}
@@ -10,28 +10,28 @@ use Rattle.std.proofs.Common.{◌≡◌, ℕ, ◌<◌, List, [], ◌∷◌, ◌+
 
 module _ {V F : Type 0} (bytes_of : V → List ℕ) (step : F → V → Unit {0} → F → Type 0) where
   -- calls at some blocks, and then at others
-  pub Takes-join : (f : F) (xs ys : List (List ℕ)) (between last : F) → Takes bytes_of step f xs between
-      → Takes bytes_of step between ys last → Takes bytes_of step f (xs ++ ys) last
-  Takes-join f xs ys between last first then = (
+  pub TakesEach-join : (f : F) (xs ys : List (List ℕ)) (between last : F) → TakesEach bytes_of step f xs between
+      → TakesEach bytes_of step between ys last → TakesEach bytes_of step f (xs ++ ys) last
+  TakesEach-join f xs ys between last first then = (
     first.0 ++ then.0,
     ClosureRun-in_turn (CallAt bytes_of step) f xs ys first.0 then.0
         (first.0 ++ then.0) between last refl first.1 then.1,
   )
 
   -- no call at no block
-  pub Takes-none : (f : F) (blocks : List (List ℕ)) → blocks ≡ [] → Takes bytes_of step f blocks f
-  Takes-none f blocks none = subst (λ all. Takes bytes_of step f all f) (sym none) ([], refl)
+  pub TakesEach-none : (f : F) (blocks : List (List ℕ)) → blocks ≡ [] → TakesEach bytes_of step f blocks f
+  TakesEach-none f blocks none = subst (λ all. TakesEach bytes_of step f all f) (sym none) ([], refl)
 
   -- blocks under another name
-  pub Takes-along : (f : F) (blocks others : List (List ℕ)) (last : F) → others ≡ blocks
-      → Takes bytes_of step f blocks last → Takes bytes_of step f others last
-  Takes-along f blocks others last same taken = subst (λ all. Takes bytes_of step f all last) (sym same) taken
+  pub TakesEach-along : (f : F) (blocks others : List (List ℕ)) (last : F) → others ≡ blocks
+      → TakesEach bytes_of step f blocks last → TakesEach bytes_of step f others last
+  TakesEach-along f blocks others last same taken = subst (λ all. TakesEach bytes_of step f all last) (sym same) taken
 
   -- a call at one block, and then at others
-  pub Takes-first : (f : F) (v : V) (others : List (List ℕ)) (between last : F) → step f v tt between
-      → Takes bytes_of step between others last
-      → Takes bytes_of step f (bytes_of v ∷ others) last
-  Takes-first f v others between last call then = (tt ∷ then.0, (between, (v, refl, call), then.1))
+  pub TakesEach-first : (f : F) (v : V) (others : List (List ℕ)) (between last : F) → step f v tt between
+      → TakesEach bytes_of step between others last
+      → TakesEach bytes_of step f (bytes_of v ∷ others) last
+  TakesEach-first f v others between last call then = (tt ∷ then.0, (between, (v, refl, call), then.1))
 
   module _ (pre : F → V → Type 0) (width : ℕ) where
     -- blocks under another name
@@ -47,7 +47,7 @@ module _ {V F : Type 0} (bytes_of : V → List ℕ) (step : F → V → Unit {0}
 
     -- and then at the others
     pub MayTake-behind : (f : F) (xs ys : List (List ℕ)) (between : F) → MayTake bytes_of step pre width f (xs ++ ys)
-        → Takes bytes_of step f xs between
+        → TakesEach bytes_of step f xs between
         → MayTake bytes_of step pre width between ys
     MayTake-behind f xs ys between may taken =
         MayMap-second bytes_of (λ g view. length (bytes_of view) ≡ width
@@ -64,7 +64,7 @@ module _ {V F : Type 0} (bytes_of : V → List ℕ) (step : F → V → Unit {0}
         → MayTake bytes_of step pre width f (bytes_of v ∷ others)
         → MayTake bytes_of step pre width between others
     MayTake-others f v others between call may =
-        MayTake-behind f (bytes_of v ∷ []) others between may (Takes-first f v [] between between call ([], refl))
+        MayTake-behind f (bytes_of v ∷ []) others between may (TakesEach-first f v [] between between call ([], refl))
 
 -- A message that is fed.
 module _ {V F : Type 0} (bytes_of : V → List ℕ) (step : F → V → Unit {0} → F → Type 0) (width : ℕ)
@@ -73,7 +73,7 @@ module _ {V F : Type 0} (bytes_of : V → List ℕ) (step : F → V → Unit {0}
   pub HasFed-few : (f : F) (bytes : List ℕ) → length bytes < width → HasFed bytes_of step width f bytes bytes f
   HasFed-few f bytes few =
       record {
-        blocks = Takes-none bytes_of step f (rows width bytes) (rows-few width bytes few);
+        blocks = TakesEach-none bytes_of step f (rows width bytes) (rows-few width bytes few);
         rest =
             sym (chunk_rest-few width bytes few);
       }
@@ -81,15 +81,15 @@ module _ {V F : Type 0} (bytes_of : V → List ℕ) (step : F → V → Unit {0}
   -- more bytes
   pub HasFed-more : (first f last : F) (message kept bytes left : List ℕ)
       → HasFed bytes_of step width first message kept f
-      → Takes bytes_of step f (rows width (kept ++ bytes)) last → left ≡ chunk_rest width (kept ++ bytes)
+      → TakesEach bytes_of step f (rows width (kept ++ bytes)) last → left ≡ chunk_rest width (kept ++ bytes)
       → HasFed bytes_of step width first (message ++ bytes) left last
   HasFed-more first f last message kept bytes left fed taken rest =
       let same = ap (λ k. rows width message ++ rows width (k ++ bytes)) fed.rest in
       record {
-        blocks = Takes-along bytes_of step first (rows width message ++ rows width (kept ++ bytes))
+        blocks = TakesEach-along bytes_of step first (rows width message ++ rows width (kept ++ bytes))
             (rows width (message ++ bytes)) last
             (rows-joined width some message bytes ∙ sym same)
-            (Takes-join bytes_of step first (rows width message)
+            (TakesEach-join bytes_of step first (rows width message)
             (rows width (kept ++ bytes)) f last fed.blocks taken);
         rest = rest ∙ (ap (λ k. chunk_rest width (k ++ bytes)) fed.rest
             ∙ sym (chunk_rest-joined width some message bytes));
@@ -134,17 +134,17 @@ module _ {V F : Type 0} (bytes_of : V → List ℕ) (step : F → V → Unit {0}
     full-then_callable between call = MayTake-others bytes_of step pre width f v
         (rows width behind) between call may_first
 
-  pub full-taken : (f between last : F) → step f v tt between → Takes bytes_of step between (rows width behind) last
-      → Takes bytes_of step f (rows width all) last
+  pub full-taken : (f between last : F) → step f v tt between → TakesEach bytes_of step between (rows width behind) last
+      → TakesEach bytes_of step f (rows width all) last
   full-taken f between last call then =
-      Takes-along bytes_of step f (bytes_of v ∷ rows width behind) (rows width all) last blocks
-      (Takes-first bytes_of step f v (rows width behind) between last call then)
+      TakesEach-along bytes_of step f (bytes_of v ∷ rows width behind) (rows width all) last blocks
+      (TakesEach-first bytes_of step f v (rows width behind) between last call then)
 
 -- Calls at the blocks passed led from f₀ to f, and those at the blocks that are left may be made.
 pub record BlocksLeft {V F : Type 0} (bytes_of : V → List ℕ) (step : F → V → Unit {0} → F → Type 0) (pre : F → V
     → Type 0) (width : ℕ) (f₀ : F) (all : List (List ℕ)) (f : F) (left : List (List ℕ)) : Type 0 where
   pub may : MayTake bytes_of step pre width f left
-  pub then : (last : F) → Takes bytes_of step f left last → Takes bytes_of step f₀ all last
+  pub then : (last : F) → TakesEach bytes_of step f left last → TakesEach bytes_of step f₀ all last
 
 module _ {V F : Type 0} {bytes_of : V → List ℕ} {step : F → V → Unit {0} → F → Type 0} {pre : F → V → Type 0}
     {width : ℕ} {f₀ : F} {all : List (List ℕ)} {f : F} where
@@ -163,14 +163,14 @@ module _ {V F : Type 0} {bytes_of : V → List ℕ} {step : F → V → Unit {0}
       let may = MayTake-along bytes_of step pre width f left (bytes_of v ∷ others) next state.may in
       record {
         may = MayTake-others bytes_of step pre width f v others g call may;
-        then = λ last taken. state.then last (Takes-along bytes_of step f (bytes_of v ∷ others) left last next
-            (Takes-first bytes_of step f v others g last call taken));
+        then = λ last taken. state.then last (TakesEach-along bytes_of step f (bytes_of v ∷ others) left last next
+            (TakesEach-first bytes_of step f v others g last call taken));
       }
 
   -- no block is left
   pub BlocksLeft-end : (left : List (List ℕ)) → left ≡ [] → BlocksLeft bytes_of step pre width f₀ all f left
-      → Takes bytes_of step f₀ all f
-  BlocksLeft-end left none state = state.then f (Takes-none bytes_of step f left none)
+      → TakesEach bytes_of step f₀ all f
+  BlocksLeft-end left none state = state.then f (TakesEach-none bytes_of step f left none)
 
 module _ {V F : Type 0} {bytes_of : V → List ℕ} {step : F → V → Unit {0} → F → Type 0} {pre : F → V → Type 0}
     {width : ℕ} {f : F} {all : List (List ℕ)} where
@@ -179,5 +179,5 @@ module _ {V F : Type 0} {bytes_of : V → List ℕ} {step : F → V → Unit {0}
       → BlocksLeft bytes_of step pre width f all f left
   BlocksLeft-start left same may = record {
     may = MayTake-along bytes_of step pre width f all left (sym same) may;
-    then = λ last taken. Takes-along bytes_of step f left all last (sym same) taken;
+    then = λ last taken. TakesEach-along bytes_of step f left all last (sym same) taken;
   }

@@ -19,8 +19,8 @@ count_more len bytes = min (len + length bytes) (2 ^ 64 - 1)
 
 module _ {V F : Type 0} (bytes_of : V → List ℕ) (step : F → V → Unit {0} → F → Type 0) where
   -- calls led from the state f to the state last, one at each block in order
-  abbrev pub Takes : F → List (List ℕ) → F → Type 0
-  Takes f blocks last = (answers : List (Unit {0})) × ClosureRun (CallAt bytes_of step) f blocks answers last
+  abbrev pub TakesEach : F → List (List ℕ) → F → Type 0
+  TakesEach f blocks last = (answers : List (Unit {0})) × ClosureRun (CallAt bytes_of step) f blocks answers last
 
   -- f may be called at each of these blocks in turn, which have this width, in each state that the calls before it
   -- lead to
@@ -29,13 +29,13 @@ module _ {V F : Type 0} (bytes_of : V → List ℕ) (step : F → V → Unit {0}
 
   -- a message was fed: calls at its whole blocks led from the state first to the state f, and what fills none is kept
   pub record HasFed (width : ℕ) (first : F) (message kept : List ℕ) (f : F) : Type 0 where
-    pub blocks : Takes first (rows width message) f
+    pub blocks : TakesEach first (rows width message) f
     pub rest : kept ≡ chunk_rest width message
 
 module _ {F : Type 0} (step : F → Bor (List ℕ) → Unit {0} → F → Type 0) where
   -- calls led from the state f to the state last, one at each whole block of a message, which lies in a slice
   abbrev pub TakesBlocks : ℕ → F → List ℕ → F → Type 0
-  TakesBlocks width f message last = Takes (λ slice. slice.now) step f (rows width message) last
+  TakesBlocks width f message last = TakesEach (λ slice. slice.now) step f (rows width message) last
 
   -- f may be called at each of these blocks in turn
   abbrev pub MayTakeBlocks : (F → Bor (List ℕ) → Type 0) → ℕ → F → List ℕ → Type 0

@@ -1,1 +1,1 @@
-pub mod LeftLemmas
+pub mod BehindErrorLemmas

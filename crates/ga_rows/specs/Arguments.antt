@@ -7,12 +7,12 @@ use Rattle.std.specs.Prelude.{ℕ, List, [], ◌∷◌, Option, None, Some, code
 use Rattle.std.specs.Str.{bytes_eq}
 
 -- how many bytes a row has
-abbrev pub bytes_of : Width → ℕ
-bytes_of W1 = 1
-bytes_of W2 = 2
-bytes_of W4 = 4
-bytes_of W8 = 8
-bytes_of W16 = 16
+abbrev pub row_len : Width → ℕ
+row_len W1 = 1
+row_len W2 = 2
+row_len W4 = 4
+row_len W8 = 8
+row_len W16 = 16
 
 -- the mode of this name
 abbrev pub mode_named : List ℕ → Option Mode

@@ -1,7 +1,7 @@
 -- The text of an input: a line for each whole row, and a line for the rest.
 use Rattle.generic_array.specs.HexText.{hex_digits}
 use Rattle.generic_array.specs.Rows.{chunk_rest, rows}
-use Rattle.ga_rows.specs.Arguments.{bytes_of}
+use Rattle.ga_rows.specs.Arguments.{row_len}
 use Rattle.ga_rows.specs.declared.arguments.Mode.{Mode}
 use Rattle.ga_rows.specs.declared.arguments.Mode.TheVariants.{Back, Dec, Hex, Last, Sum}
 use Rattle.ga_rows.specs.declared.arguments.Width.{Width}
@@ -48,4 +48,4 @@ lines_of mode width input = row_lines mode (rows width input) ++ rest_line (chun
 
 -- the same by a width of the program
 abbrev pub text_of : Mode → Width → List ℕ → List ℕ
-text_of mode width input = lines_of mode (bytes_of width) input
+text_of mode width input = lines_of mode (row_len width) input

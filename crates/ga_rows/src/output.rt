@@ -5,7 +5,7 @@ ghost use Rattle.generic_array.specs.Calls.{MayFold};
 ghost use Rattle.generic_array.specs.Entries.{ActsInFold, FoldAt};
 ghost use Rattle.generic_array.specs.Runs.{FoldRun};
 ghost use Rattle.ga_rows.specs.Text.{line, lines, lines_of, rest_line, row_lines, row_text, text_of};
-ghost use Rattle.ga_rows.specs.Arguments.{bytes_of};
+ghost use Rattle.ga_rows.specs.Arguments.{row_len};
 ghost use Rattle.std.specs.Io.KnownBytes.{Appends, append_known};
 ghost use Rattle.std.specs.Prelude.{◌≡◌, ◌≢◌, ◌+◌, ◌<◌, ◌≤◌, ◌↔◌, [], ◌++◌, IfOk, IsOk, IsTrue, OnOk, length, reverse, sum};
 
@@ -31,7 +31,7 @@ const LONGEST_LINE: usize = 5 + 16 * 4 + 1;
 pub fn rows<W: Write>(input: &[u8], mode: Mode, width: Width, w: &mut W) -> Result<bool, io::Error>
     ensures text { OnOk result (Appends (W.contents w.old) (W.contents w.new)
         (text_of mode width input.now)) }
-    ensures rest { IfOk result (λ has_rest. IsTrue has_rest ↔ (chunk_rest (bytes_of width) input.now ≢ [])) }
+    ensures rest { IfOk result (λ has_rest. IsTrue has_rest ↔ (chunk_rest (row_len width) input.now ≢ [])) }
     ensures empty { input.now ≡ [] → IsOk result }
 {
     match width {

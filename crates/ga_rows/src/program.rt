@@ -2,7 +2,7 @@
 ghost use Rattle.generic_array.specs.Rows.{chunk_rest};
 ghost use Rattle.ga_rows.specs.Listed.{ListedAnd, ListedEach};
 ghost use Rattle.ga_rows.specs.Text.{text_of};
-ghost use Rattle.ga_rows.specs.Arguments.{bytes_of, meaning_of_words};
+ghost use Rattle.ga_rows.specs.Arguments.{meaning_of_words, row_len};
 ghost use Rattle.std.specs.Io.KnownBytes.{Appends, IsAtEnd};
 ghost use Rattle.std.specs.IoError.{error_kind};
 ghost use Rattle.std.specs.Iterator.{IsFinite};
@@ -38,10 +38,10 @@ pub fn run_listed<I: Iterator<Item = String>, R: Read, W: Write, E: Write>(
         Appends (W.contents w.old) (W.contents w.new) (text_of meaning.0 meaning.1 input)))) }
     ensures whole { process_status result ≡ 0
         → ListedAnd I.next_gives listed (λ meant. IfSome meant (λ meaning.
-        IfSome (R.remaining r.old) (λ input. chunk_rest (bytes_of meaning.1) input ≡ []))) }
+        IfSome (R.remaining r.old) (λ input. chunk_rest (row_len meaning.1) input ≡ []))) }
     ensures rest { process_status result ≡ 1
         → ListedAnd I.next_gives listed (λ meant. IfSome meant (λ meaning.
-        IfSome (R.remaining r.old) (λ input. chunk_rest (bytes_of meaning.1) input ≢ []))) }
+        IfSome (R.remaining r.old) (λ input. chunk_rest (row_len meaning.1) input ≢ []))) }
     ensures words { process_status result ≡ 2 → ListedAnd I.next_gives listed (λ meant. meant ≡ None) }
     ensures meaningless { ListedEach I.next_gives listed (λ meant. meant ≡ None)
         → (process_status result ≡ 2) ⊎ (process_status result ≡ 3) }
@@ -85,10 +85,10 @@ pub fn run<R: Read, W: Write>(alloc: Global, words: &[String], r: &mut R, w: &mu
         IfSome (R.remaining r.old) (λ input.
         Appends (W.contents w.old) (W.contents w.new) (text_of meaning.0 meaning.1 input))) }
     ensures rest { (result ≡ Status.Rest) → IfSome (meaning_of_words (map string_bytes words.now)) (λ meaning.
-        IfSome (R.remaining r.old) (λ input. chunk_rest (bytes_of meaning.1) input ≢ [])) }
+        IfSome (R.remaining r.old) (λ input. chunk_rest (row_len meaning.1) input ≢ [])) }
     ensures whole { (result ≡ Status.Whole)
         → IfSome (meaning_of_words (map string_bytes words.now)) (λ meaning.
-        IfSome (R.remaining r.old) (λ input. chunk_rest (bytes_of meaning.1) input ≡ [])) }
+        IfSome (R.remaining r.old) (λ input. chunk_rest (row_len meaning.1) input ≡ [])) }
     ensures end { (result ≡ Status.Whole) ⊎ (result ≡ Status.Rest) → IsAtEnd (R.remaining r.new) }
     ensures memory { result ≡ Status.Memory → w.new ≡ w.old }
     ensures fault { result ≡ Status.Fault → (w.new ≡ w.old) ⊎ IsAtEnd (R.remaining r.new) }

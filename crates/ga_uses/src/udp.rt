@@ -20,10 +20,10 @@ pub enum HeaderError {
 }
 
 impl fmt::Display for HeaderError {
-    ghost use Rattle.ga_uses.specs.HeaderError.{text_of};
+    ghost use Rattle.ga_uses.specs.HeaderError.{error_text};
     ghost use Rattle.std.specs.Prelude.{Some};
 
-    ghost output = { λ error. Some (text_of error) };
+    ghost output = { λ error. Some (error_text error) };
 
     fn fmt<W: fmt::Write>(&self, f: &mut fmt::Formatter<W>) -> fmt::Result {
         f.write_str(match self {

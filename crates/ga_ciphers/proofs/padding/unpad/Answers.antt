@@ -1,4 +1,4 @@
-use Rattle.ga_ciphers.proofs.PaddingLemmas.{ends}
+use Rattle.ga_ciphers.proofs.UnpadLemmas.{ends}
 use Rattle.ga_ciphers.proofs.padding.unpad.Goals as goal
 use Rattle.ga_ciphers.specs.Padding.{padded}
 use Rattle.std.proofs.Common.{◌≡◌, ◌-◌, ◌<◌, ap, ap₂, arith, length, refl, replicate, sym, take, ◌++◌, ◌∙◌}

@@ -1,6 +1,6 @@
 use Rattle.ga_core.specs.Rows.{rows}
 use Rattle.ga_core_examples.proofs.records.read_records.Given as goal
-use Rattle.ga_core_examples.specs.Records.{record_of}
+use Rattle.ga_core_examples.specs.RecordOf.{record_of}
 use Rattle.std.proofs.Common.{◌≡◌, ◌++◌, map}
 
 -- the records so far and those of the rows that are left are all

@@ -1,4 +1,4 @@
-use Rattle.ga_headline_examples.proofs.LeftLemmas.{left_after_error}
+use Rattle.ga_headline_examples.proofs.BehindErrorLemmas.{left_after_error}
 use Rattle.ga_headline_examples.proofs.builds.stopped_inline.Goals as goal
 use Rattle.std.proofs.Common.{rules}
 

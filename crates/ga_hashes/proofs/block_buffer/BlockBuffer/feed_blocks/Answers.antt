@@ -1,4 +1,4 @@
-use Rattle.ga_hashes.proofs.BlockLemmas.{MayTake-along, Takes-none, full-callable, full-taken, full-then_callable}
+use Rattle.ga_hashes.proofs.BlockLemmas.{MayTake-along, TakesEach-none, full-callable, full-taken, full-then_callable}
 use Rattle.ga_hashes.proofs.block_buffer.BlockBuffer.feed_blocks.Given as given
 use Rattle.ga_hashes.proofs.block_buffer.BlockBuffer.feed_blocks.Goals as goal
 use Rattle.ga_hashes.proofs.block_buffer.BlockBuffer.feed_blocks.Goals.{After-as_slice}
@@ -22,7 +22,7 @@ pub returns-then-bytes-missing-clause-blocks : goal.returns-then-bytes-missing-c
 returns-then-bytes-missing-clause-blocks g c =
     let width = g.N.Unsigned.USIZE in
     let all = c.args.self.now.kept ++ c.args.bytes.now in
-    Takes-none (λ slice. slice.now) (goal.F-step g) c.args.f.now (rows width all) (rows-few width all (few g c))
+    TakesEach-none (λ slice. slice.now) (goal.F-step g) c.args.f.now (rows width all) (rows-few width all (few g c))
 
 pub returns-then-bytes-missing-clause-kept : goal.returns-then-bytes-missing-clause-kept
 returns-then-bytes-missing-clause-kept g c =

@@ -1,4 +1,4 @@
-use Rattle.ga_hashes.proofs.BlockLemmas.{HasFed-few, HasFed-more, MayTake-more, Takes-along}
+use Rattle.ga_hashes.proofs.BlockLemmas.{HasFed-few, HasFed-more, MayTake-more, TakesEach-along}
 use Rattle.ga_hashes.proofs.PaddingLemmas.{padding-after_mark, padding-in_turn, padding-kept}
 use Rattle.ga_hashes.proofs.block_buffer.BlockBuffer.finish.Given as given
 use Rattle.ga_hashes.proofs.block_buffer.BlockBuffer.finish.Goals as goal
@@ -91,7 +91,7 @@ returns-clause-blocks g c =
     let width = g.N.Unsigned.USIZE in
     let message = (c.args.self.kept ++ 128 ∷ []) ++ replicate c.zero_count-zeros.result 0 in
     let done = c.feed-2.ensures.whole c.args.f.now message (filled g so_far (begun g at.After-zero_count-zeros)) in
-    Takes-along (λ slice. slice.now) (goal.F-step g) c.args.f.now (rows width (message ++ c.to_be_bytes-bits.result))
+    TakesEach-along (λ slice. slice.now) (goal.F-step g) c.args.f.now (rows width (message ++ c.to_be_bytes-bits.result))
     (rows width (c.args.self.kept ++ padding width (length c.args.self.kept) c.args.self.len)) c.feed-2.new.f
     (ap (rows width) (in_turn g so_far)) done.blocks
 
@@ -104,7 +104,7 @@ returns-clause-whole g c first message fed len =
     (omega (arith, few g (goal.at.returns-clause-whole g c).After-zero_count-zeros)) first c.args.f.now c.feed-2.new.f
     message kept last
     (chunk_rest width (kept ++ last)) fed (returns-clause-blocks g c) refl in
-    Takes-along (λ slice. slice.now) (goal.F-step g) first (rows width (message ++ last))
+    TakesEach-along (λ slice. slice.now) (goal.F-step g) first (rows width (message ++ last))
     (rows width (with_padding width message)) c.feed-2.new.f
     (ap (λ p. rows width (message ++ p)) (sym (padding-kept width message kept fed.rest c.args.self.len len)))
     more.blocks
