@@ -64,6 +64,13 @@ fn sums_of_borrowed<N: ArrayLength<u32>>(
     left.zip_inline_ref(right.view(), |l: &u32, r: &u32| l.wrapping_add(*r))
 }
 
+// What was there is written over.
+fn masked_in_place<N: ArrayLength<u8>>(text: &mut GenericArray<u8, N>, mask: &GenericArray<u8, N>)
+    ensures { text.new ≡ map (λ p. bit_xor p.0 p.1) (zip text.old mask.now) }
+{
+    *text = text.zip_inline_ref(mask.view(), |t: &u8, m: &u8| *t ^ *m);
+}
+
 // A closure that reads what it captures under a condition.
 
 fn looked_up<N: ArrayLength<u8>>(
@@ -170,4 +177,7 @@ fn zips_return_what_their_contracts_say(rt: HostRuntime) {
     let left = GenericArray::<u32, U2>::from_array([10, 20]);
     let right = GenericArray::<u32, U2>::from_array([1, 2]);
     assert!(rt; calls_in_order(left, right) == [12, 24, 14, 26]);
+    let mut text = GenericArray::<u8, U2>::from_array([0b1100, 0b1010]);
+    masked_in_place(&mut text, &GenericArray::from_array([0b1010, 0b1010]));
+    assert!(rt; has(text, &[0b0110, 0]));
 }

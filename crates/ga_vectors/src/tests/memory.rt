@@ -244,12 +244,31 @@ fn block_takes(alloc: Global, len: usize) -> bool {
     }
 }
 
+/// Whether a native array goes to a block, as `box_arr!` of items written out has it.
+fn native_goes_to_a_block<const U: usize>(alloc: Global) -> bool {
+    is_all_seven(BoxedArray::<u32, Const<U>>::from_array(alloc, [7; U]), U)
+}
+
+/// Whether arrays and what is left of an iterator are cloned, and an item repeated, inline.
+fn are_copied<N: ArrayLength<u32>>() -> bool
+    requires { FitsInline N.USIZE }
+{
+    let array = from_one::<N>();
+    let copied = counts(array.clone(), N::USIZE);
+    let left = match array.into_iter().clone() {
+        Ok(left) => is_from_one(left.as_slice(), N::USIZE),
+        Err(_) => false,
+    };
+    copied && left && is_all_seven(GenericArray::<u32, N>::repeat(7), N::USIZE)
+}
+
 /// The name of the first call that didn't make what it should.
 fn first_failed<N: ArrayLength<u32>>(alloc: Global) -> Result<Option<&'static str>, AllocError>
     requires { FitsInline N.USIZE }
 {
     let others = [
         ("LiveBlock::new", block_takes(alloc, N::USIZE)),
+        ("clone, repeat", are_copied::<N>()),
         ("conversions of a block", are_converted::<N>(alloc)?),
         ("clone of an iterator", is_cloned::<N>(alloc)?),
         ("map, try_map", are_mapped::<N>(alloc)?),
@@ -274,9 +293,15 @@ fn first_failed<N: ArrayLength<u32>>(alloc: Global) -> Result<Option<&'static st
 #[test]
 fn every_call_finds_ample_memory(rt: HostRuntime) -> Result<(), Fail> {
     let alloc = rt.alloc();
-    assert!(rt; first_failed::<U0>(alloc)?.is_none());
-    assert!(rt; first_failed::<U1>(alloc)?.is_none());
-    assert!(rt; first_failed::<U2>(alloc)?.is_none());
-    assert!(rt; first_failed::<Const<65>>(alloc)?.is_none());
+    let failed = first_failed::<U0>(alloc)?;
+    assert!(rt; failed.is_none(), "{failed:?} at no items");
+    let failed = first_failed::<U1>(alloc)?;
+    assert!(rt; failed.is_none(), "{failed:?} at one item");
+    let failed = first_failed::<U2>(alloc)?;
+    assert!(rt; failed.is_none(), "{failed:?} at two items");
+    let failed = first_failed::<Const<65>>(alloc)?;
+    assert!(rt; failed.is_none(), "{failed:?} at 65 items");
+    assert!(rt; native_goes_to_a_block::<0>(alloc) && native_goes_to_a_block::<1>(alloc));
+    assert!(rt; native_goes_to_a_block::<2>(alloc) && native_goes_to_a_block::<65>(alloc));
     Ok(())
 }

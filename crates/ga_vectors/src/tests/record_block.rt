@@ -4,7 +4,8 @@ ghost use Rattle.generic_array.specs.Views.{items_of_view};
 ghost use Rattle.std.specs.Prelude.{◌≡◌, ◌∷◌, [], IfSome, IsErr, None, Ok, Some, true};
 
 use ga_records::RecordBlock;
-use generic_array::{ArrayLength, GenericArrayRef, LengthError, U2, U3, U4};
+use generic_array::{AllocError, ArrayLength, GenericArrayRef, LengthError, U2, U3, U4};
+use std::alloc::Global;
 use std::io;
 use std::io::{ErrorKind, Write};
 use std::test::Fail;
@@ -133,6 +134,27 @@ fn records_are_written_at_once(rt: HostRuntime) -> Result<(), Fail> {
     let mut counting = Counting::new(false);
     pairs.write_to(&mut counting)?;
     assert!(rt; written.as_slice() == [1, 2, 3, 2].as_slice() && counting.calls == 1);
+    Ok(())
+}
+
+/// Whether so many bytes of records are written whole.
+fn is_written_whole(alloc: Global, len: usize) -> Result<bool, AllocError> {
+    let mut bytes = Vec::new(alloc);
+    for _byte in 0..len {
+        bytes.push(171u8)?;
+    }
+    let mut text = Vec::new(alloc);
+    Ok(match RecordBlock::<'_, U2>::open(bytes.as_slice()) {
+        Ok(block) => block.write_to(&mut text).is_ok() && text.as_slice() == bytes.as_slice(),
+        Err(LengthError) => false,
+    })
+}
+
+#[test]
+fn many_records_are_written_whole(rt: HostRuntime) -> Result<(), Fail> {
+    for len in [2, 62, 64, 66, 128, 1024, 1026, 65534, 65536, 65538, 131072] {
+        assert!(rt; is_written_whole(rt.alloc(), len)?, "{len}");
+    }
     Ok(())
 }
 
