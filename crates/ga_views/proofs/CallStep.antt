@@ -1,19 +1,9 @@
 -- A call of a function as a step of its caller's walk. Assumes `Logic`.
-use Rattle.std.proofs.Common.{[], ◌∷◌, List}
-use base.Fml.{Fml}
-use base.Logic.{emp, ent, sep, SProp}
-use contract.Monad.{fact, fact_i}
+use Rattle.ga_views.proofs.Steps.{await, call, Callee, Calls, Code, Contract, done, drop, emp, ent, Env, fact, fact_i}
+use Rattle.ga_views.proofs.Steps.{FmC, Fml, Item, join, lands, later, List, Logic, Loops, mean, move, Opds, Operand}
+use Rattle.ga_views.proofs.Steps.{pick, Place, Post, qed, raw, runs, sem, sep, Seq, seq, some, split, SProp, Triple}
+use Rattle.ga_views.proofs.Steps.{Ura, use0, use1, Val, !, [], ‵, ◌$◌, ◌∵◌, ◌∷◌, ◌⊛◌}
 use denote.Triple.Call.{calls_at}
-use denote.Triple.Statement.{Contract, Triple}
-use mir.Syntax.{Body as Code, call, Callee, Opd as Operand, Place, seq}
-use mir.Val.{Val}
-use prog.Wp.{Calls, Env, Loops}
-use seplogic.Ra.Ura.{Ura}
-use sound.WpLaws.{FmC}
-use types.Kit.{‵, ◌⊛◌, ◌$◌, ◌∵◌, !, await, done, drop, Item, join, lands, later, mean, move, pick, Post, qed}
-use types.Kit.{raw, runs, Seq, some, split, use0, use1}
-use types.Logic.{Logic, sem}
-use types.Run.{Opds}
 
 -- what a call asks, fact by fact, before what else it asks
 module _ {M : Type 1} {𝓤 : Ura M} (𝓛 : Logic 𝓤) where

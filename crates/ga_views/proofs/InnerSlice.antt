@@ -1,43 +1,17 @@
--- The inner reference of a `&κ mut (&κ' mut [T])` is opened and closed, and a part of its items is lent for all of κ.
--- It then ends with what the part's last value makes of the items.
+-- The inner reference of a `&κ mut (&κ' mut [T])` is opened and closed, and its items are lent on for all of κ. Assumes
+-- `Logic`.
 --     loan_of, slice_lent          what such a function asks and gives, as `LoanWalk` has it
 --     opens_inner, closes_inner    the outer borrow is opened, which gives the cell of the inner reference, at the type
 --                                  that the code names, and closed again
---     lends_part, lends_slice      the part is lent; it is lent as a slice
--- `denote.Through`'s `lends_inner_slice` lends the items, and `types.Follow`'s `takes_part` the part of them. Assumes
--- `Logic`.
-use mathlib.Core.Path.{◌≡◌, refl}
-use mathlib.Core.List.{List, [], ◌∷◌}
-use Prim.Native.Nat.{ℕ}
-use lib.ListN.{length}
-use seplogic.Ra.Ura.{Ura}
-use base.Fml.{Fml, Lft, Incl, GName, Share, fat, fobs, fauth, fbor, fobor, flft}
-use base.Fraction.{full_share}
-use base.Logic.{SProp, ent, sep, ex}
-use base.Stored.{Gv, coded_list}
-use mir.Syntax.{Args, Ty, a_type, named, erased, mut, ty_ref}
-use mir.Val.{Val}
-use contract.BorrowLft.{◌⊑◌}
-use contract.Lifetimes.{Lfts}
-use types.Follow.{takes_part}
-use types.Kit.{Goal, Item, Seq, Soaks, Step, step, ‵, raw, ◌⊛◌, some, later, ◌$◌, ◌∵◌, !, qed, move, drop, use1, use2}
-use types.Kit.{use3, split, split3, group, pick, show, await, rewrite, fsplit3, updating, now, done}
-use types.Logic.{Logic, sem}
-use types.Mut.{open_ref}
-use types.SemTy.{SemTy, Arr, Body}
-use denote.Array.{Array}
-use denote.Builtin.{SliceRefMutOf}
-use denote.Follow.{follows, follows_then}
-use denote.FollowSlice.{heres_id, slice_of}
-use denote.Laws.{Is, shows}
-use denote.Memory.{mem, cell_at, pointee}
-use denote.Param.{layouts, param}
-use denote.RattleType.{RattleType}
-use denote.Ref.{MutBor, MutRef, at_last, mut_vals}
-use denote.Signature.{Slot, plain}
-use denote.Slice.{MutSlice, Room, slice_ty, slice_val, mut_slice_vals}
-use denote.Steps.{opens, closes, peeks}
-use denote.Through.{renamed, lends_inner_slice}
+--     lends_inner                  the items are lent, and the inner reference ends at what they end as
+use Rattle.ga_views.proofs.Steps.{a_type, Args, Arr, Array, at_last, await, Body, cell_at, closes, done, drop, ent}
+use Rattle.ga_views.proofs.Steps.{erased, fat, fauth, fbor, flft, Fml, fobor, fobs, follows, fsplit3, full_share, GName}
+use Rattle.ga_views.proofs.Steps.{Goal, group, Gv, Incl, Is, Item, later, layouts, lends_inner_slice, length, Lft, Lfts}
+use Rattle.ga_views.proofs.Steps.{List, Logic, mem, move, mut, mut_slice_vals, mut_vals, MutBor, MutRef, MutSlice}
+use Rattle.ga_views.proofs.Steps.{named, now, opens, param, peeks, pick, plain, pointee, qed, RattleType, raw, refl}
+use Rattle.ga_views.proofs.Steps.{renamed, rewrite, Room, SemTy, sep, Seq, Share, shows, slice_ty, slice_val}
+use Rattle.ga_views.proofs.Steps.{SliceRefMutOf, Slot, Soaks, some, split3, SProp, Step, step, Ty, ty_ref, updating}
+use Rattle.ga_views.proofs.Steps.{Ura, use1, use3, Val, !, [], ‵, ℕ, ◌$◌, ◌∵◌, ◌∷◌, ◌≡◌, ◌⊑◌, ◌⊛◌}
 use Rattle.ga_views.proofs.LoanWalk.{Loan, Words}
 use Rattle.ga_views.proofs.PartLoan.{Whole}
 use Rattle.ga_views.specs.contracts.reborrow.RefMutSliceReborrowSlice.all_mut as all_mut

@@ -1,29 +1,12 @@
 -- The call that gives a length, `N::USIZE()`, as a step of a walk. Assumes `Logic`.
-use Prim.Native.Nat.{ℕ}
+use Rattle.ga_views.proofs.Steps.{ap, call, Callee, Calls, Code, Contract, Dict, Env, fact, flft, FmC, ftrue, Fun}
+use Rattle.ga_views.proofs.Steps.{heard, id⊢, Is, Item, lands, Lft, List, Logic, Loops, Memory, move, no_more, nothing}
+use Rattle.ga_views.proofs.Steps.{only, peeks, Place, Post, RattleType, raw, refl, regoal, rewrite, Routine, runs, Seq}
+use Rattle.ga_views.proofs.Steps.{seq, Share, shows, SProp, Triple, triple_of, Ura, usize, Val, vint, w64, [], ‵, ℕ}
+use Rattle.ga_views.proofs.Steps.{◌$◌, ◌<◌, ◌^◌, ◌∷◌, ◌≡◌, ◌⊑◌, ◌⊛◌}
 use Rattle.ga_views.proofs.CallStep.{asked, calls}
 use Rattle.ga_views.specs.contracts.length.Unsigned.USIZE as length_of
 use Rattle.ga_views.specs.declared.length.Unsigned as unsigned
-use Rattle.std.proofs.Common.{◌≡◌, ◌^◌, ◌<◌, [], ◌∷◌, ap, List, refl}
-use base.Fml.{flft, ftrue, Lft, Share}
-use base.Logic.{id⊢, SProp}
-use contract.BorrowLft.{◌⊑◌}
-use contract.Monad.{fact, Fun}
-use denote.Builtin.{usize}
-use denote.Laws.{Is, shows}
-use denote.RattleType.{RattleType}
-use denote.Steps.{heard, nothing, only, peeks}
-use denote.Triple.Spec.{triple_of}
-use denote.Triple.Statement.{Contract, Triple}
-use mir.Syntax.{Body as Code, call, Callee, Dict, Place, seq, w64}
-use mir.Val.{Val, vint}
-use prog.Memory.{Memory}
-use prog.Routine.{Routine}
-use prog.Wp.{Calls, Env, Loops}
-use seplogic.Ra.Ura.{Ura}
-use sound.WpLaws.{FmC}
-use types.Kit.{‵, ◌⊛◌, ◌$◌, Item, lands, move, Post, raw, regoal, rewrite, runs, Seq}
-use types.Logic.{Logic}
-use types.Run.{no_more}
 
 module _ (N : RattleType) (g : unsigned.Ghosts N.Denot) (d : Dict) {M : Type 1} {𝓤 : Ura M} (𝓛 : Logic 𝓤)
     (at_mem : Memory → SProp 𝓤) (run : Routine → Fun 𝓤) where

@@ -4,38 +4,21 @@
 --     cut, keeps                       the slice's items in memory are the part and the others, and back
 --     lends_part                       the part is lent for as long as the slice was, and what lent the slice follows
 --                                      it
-use Prim.Native.Nat.{ℕ, ◌+◌, ◌*◌, ◌≤◌}
+use Rattle.ga_views.proofs.Steps.{ap, arith, Arr, Array, at, at_mul, await, Body, cells, coded_list, cut_app, done}
+use Rattle.ga_views.proofs.Steps.{drop, drop_list, ent, ex, fbor, feq_i, feq_l, fjoin, flft, Fml, fobs, follows}
+use Rattle.ga_views.proofs.Steps.{follows_then, fsplit, GName, group, heres, heres_id, Holey, Item, join_app, later}
+use Rattle.ga_views.proofs.Steps.{length, Lft, List, Logic, mem, move, MutBor, MutSlice, named, now, open_ref, pick}
+use Rattle.ga_views.proofs.Steps.{qed, RattleType, raw, refl, rewrite, Room, sem, SemTy, sep, Share, show, slice_of}
+use Rattle.ga_views.proofs.Steps.{slice_val, some, split, split3, SProp, subst, sym, take, takes_part, updating, Ura}
+use Rattle.ga_views.proofs.Steps.{use1, use2, !, [], ‵, ℕ, ◌$◌, ◌*◌, ◌++◌, ◌+◌, ◌∙◌, ◌∵◌, ◌∷◌, ◌≡◌, ◌≤◌, ◌⊛◌}
+use borrow.Rule.Slice.PartMut.{mid_of, post_of, put_mid, same_len_mid}
+use lib.ListN.{take-append-drop}
+use lib.Seq.{length-take-le}
+use native.Mathlib.Nat.{lt_of_le_of_lt, mul-le-mul_right}
 use Rattle.ga_views.proofs.ItemLoan.{spot}
 use Rattle.ga_views.proofs.PartLemmas.{part_filled, part_long}
 use Rattle.ga_views.specs.Parts.{part_set}
 use Rattle.std.specs.List.{refill}
-use base.Fml.{Fml, GName, Lft, Share, fbor, flft, fobs}
-use base.Logic.{SProp, ent, ex, sep}
-use base.Stored.{coded_list}
-use borrow.Rule.Slice.PartMut.{mid_of, post_of, put_mid, same_len_mid}
-use borrow.Table.Elements.{at, at_mul, cut_app, join_app}
-use denote.Array.{Array}
-use denote.Follow.{follows, follows_then}
-use denote.FollowSlice.{heres_id, slice_of}
-use denote.Memory.{mem}
-use denote.RattleType.{RattleType}
-use denote.Ref.{MutBor}
-use denote.Slice.{MutSlice, Room, heres, slice_val}
-use lib.ListN.{drop as drop_list, length, take, take-append-drop}
-use lib.Seq.{length-take-le}
-use mathlib.Core.List.{List, [], ◌∷◌, ◌++◌}
-use mathlib.Core.Path.{◌≡◌, refl, subst, sym, ap, ◌∙◌}
-use mir.Syntax.{named}
-use native.Mathlib.Nat.{lt_of_le_of_lt, mul-le-mul_right}
-use native.Mathlib.Omega.{arith}
-use seplogic.Ra.Ura.{Ura}
-use types.Follow.{takes_part}
-use types.Hole.{Holey}
-use types.Kit.{Item, ‵, raw, ◌⊛◌, ◌$◌, ◌∵◌, !, await, done, drop, feq_i, feq_l, fjoin, fsplit, group, later, move, now}
-use types.Kit.{pick, qed, rewrite, show, some, split, split3, updating, use1, use2}
-use types.Logic.{Logic, sem}
-use types.Mut.{open_ref}
-use types.SemTy.{Arr, Body, SemTy, cells}
 
 -- the slice is d, and the part its `len` items from place `from` on
 module _ {M : Type 1} {𝓤 : Ura M} (𝓛 : Logic 𝓤) (R : RattleType) (d : MutBor (List R.Denot)) (from len : ℕ) where

@@ -1,36 +1,15 @@
 -- A walk of a function that takes a slice for writing, and nothing else, and gives it up: all of it but what the
 -- function asks, what it gives and its own steps. Assumes `Logic`.
-use Prim.Native.Nat.{ℕ, suc}
-use Rattle.ga_views.proofs.CallStep.{asked, calls}
-use Rattle.std.proofs.Common.{◌<◌, ◌^◌, [], ◌∷◌, length, List, MutBor}
-use Rattle.std.proofs.raw_atomic.Walks.{leaves, proved}
-use base.Fml.{flft, ftrue, Lft}
-use base.Logic.{emp, ent, id⊢, sep, SProp}
-use contract.BorrowLft.{◌⊑◌}
-use contract.Lifetimes.{AllOutlive, Lfts, Outlives, Shares}
-use contract.Monad.{fact}
-use contract.Running.{MachineTables, Running, tables}
-use denote.Builtin.{SliceRefMutOf}
-use denote.Exit.{no}
-use denote.Param.{param}
-use denote.RattleType.{owns, RattleType}
-use denote.Signature.{plain, Slot, type_at, types_at}
-use denote.Slice.{mut_slice_Tells, mut_slice_vals, slice_val}
-use denote.Steps.{nothing}
-use denote.Triple.Clauses.{at_exit, Clauses, closing, Ended, Lasts, lasts}
+use Rattle.ga_views.proofs.Steps.{AllOutlive, at_exit, call, Callee, Calls, Clauses, Closed, closing, Code, Contract}
+use Rattle.ga_views.proofs.Steps.{emp, Ended, ent, Env, fact, flft, FmC, Fn, ftrue, Goes-spent_slice, group, has_of}
+use Rattle.ga_views.proofs.Steps.{id⊢, Item, lands, Lasts, lasts, leaves, length, Lft, Lfts, List, Logic, Loops}
+use Rattle.ga_views.proofs.Steps.{MachineTables, Meets, Model, move, mut_slice_Tells, mut_slice_vals, MutBor, named, no}
+use Rattle.ga_views.proofs.Steps.{nothing, Opds, Operand, Outlives, owns, param, Place, plain, Post, proved, RattleType}
+use Rattle.ga_views.proofs.Steps.{raw, Running, runs, sem, sep, Seq, seq, Shares, slice_val, SliceRefMutOf, Slot, SProp}
+use Rattle.ga_views.proofs.Steps.{stay_dropped, Stays, suc, tables, Triple, triple_of, type_at, types_at, Ura, Val}
+use Rattle.ga_views.proofs.Steps.{WpFn, [], ‵, ℕ, ◌$◌, ◌<◌, ◌^◌, ◌∷◌, ◌⊑◌, ◌⊛◌}
 use denote.Triple.Entry.{alive, on_entry}
-use denote.Triple.Spec.{Meets, triple_of}
-use denote.Triple.Statement.{Contract, Triple}
-use denote.Triple.Walked.{Goes-spent_slice, has_of, stay_dropped, Stays}
-use mir.Syntax.{Body as Code, call, Callee, Fn, named, Opd as Operand, Place, seq}
-use mir.Val.{Val}
-use prog.Model.{Model}
-use prog.Wp.{Calls, Closed, Env, Loops, WpFn}
-use seplogic.Ra.Ura.{Ura}
-use sound.WpLaws.{FmC}
-use types.Kit.{‵, ◌⊛◌, ◌$◌, group, Item, lands, move, Post, raw, runs, Seq}
-use types.Logic.{Logic, sem}
-use types.Run.{Opds}
+use Rattle.ga_views.proofs.CallStep.{asked, calls}
 
 -- the slice is lent for the first lifetime of `more` and one, and its items' type is the function's first type
 -- parameter

@@ -2,7 +2,12 @@
 -- The borrow checker shows an `ensures*` only where the body hands on a field or a call's result, so this proof walks
 -- the code by hand: the inner reference is opened and read, which gives the part's place, and then the part is lent
 -- by `PartLoan`'s `lends_part`. Assumes `Logic`.
-use Rattle.std.proofs.Common.{◌≡◌, ℕ, ◌+◌, ◌-◌, ◌*◌, ◌^◌, ◌<◌, ◌≤◌, List, [], ◌∷◌, length, refl, ap, arith}
+use Rattle.ga_views.proofs.Steps.{addr, agg, alloc_all, and_then, ap, arith, at_last, await, bin, by, drop_list, enter}
+use Rattle.ga_views.proofs.Steps.{fld, free_all, get, get_in, hop, is, keep, later, layout, length, load, look_at}
+use Rattle.ga_views.proofs.Steps.{look_in, no_more, of_opd, param, pass_all, pick, qed, RattleType, refl, renamed}
+use Rattle.ga_views.proofs.Steps.{returns, sets, size, size_word, some, split3, stop, sub, take, through, use3, vint}
+use Rattle.ga_views.proofs.Steps.{w64, whole, !, [], ℕ, ◌$◌, ◌*◌, ◌+◌, ◌<◌, ◌^◌, ◌∵◌, ◌∷◌, ◌≡◌, ◌≤◌}
+use Rattle.std.proofs.Common.{◌-◌}
 use Rattle.std.specs.List.{refill}
 use Rattle.ga_views.proofs.PartLoan.{lends_part, lent_part, slice}
 use Rattle.ga_views.proofs.InnerSlice.{closes_inner, Inner, lends_inner, opens_inner, slice_lent}
@@ -11,18 +16,6 @@ use Rattle.ga_views.proofs.LoanWalk.{Had, Loan, lends}
 use Rattle.ga_views.specs.Parts.{part_set}
 use Rattle.ga_views.proofs.reborrow.RefMutSliceReborrowPart.part_mut.Code as code
 use Rattle.ga_views.proofs.reborrow.RefMutSliceReborrowPart.part_mut.Statement.{statement}
-use lib.ListN.{take, drop as drop_list}
-use mir.Syntax.{w64}
-use mir.Val.{vint}
-use prog.Memory.{size}
-use types.ByLocal.{alloc_all, pass_all, free_all, look_at, get, get_in, through, sets, is}
-use types.Kit.{some, later, ◌$◌, ◌∵◌, !, qed, by, keep, split3, use3, await, pick}
-use types.Part.{agg, look_in, sub, whole}
-use types.Run.{stop, fld, hop, addr, and_then, bin, load, no_more, of_opd, size_word, returns, enter}
-use denote.Param.{layout, param}
-use denote.RattleType.{RattleType}
-use denote.Ref.{at_last}
-use denote.Through.{renamed}
 
 abbrev loan : RattleType → Loan
 loan X = slice_lent X 2 (λ κs items ns. (ns.0 + ns.1.0 ≤ length items) ∷ [])

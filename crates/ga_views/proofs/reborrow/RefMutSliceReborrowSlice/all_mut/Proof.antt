@@ -1,24 +1,12 @@
 -- `all_mut` lends all the items of the slice that the inner reference points to, for all of the outer reference's
 -- lifetime. The borrow checker shows an `ensures*` only where the body hands on a field or a call's result, so this
 -- proof walks the code by hand. Assumes `Logic`.
-use mathlib.Core.Path.{◌≡◌, refl, ap}
-use mathlib.Core.List.{List, [], ◌∷◌}
-use Prim.Native.Nat.{ℕ}
-use seplogic.Ra.Ura.{Ura}
-use base.Fml.{Fml}
-use base.Logic.{ent, emp, sep}
-use lib.ListN.{length}
-use types.ByLocal.{alloc_all, pass_all, free_all, look_at, look_in_at, get, through, sets, is}
-use types.Kit.{‵, raw, some, later, ◌$◌, ◌∵◌, !, qed, by, done, feq_i, feq_l, fjoin, fsplit, keep, move, rewrite, use3, split3, pick, await}
-use types.Logic.{Logic, sem}
-use types.Part.{whole, sub, look_in, agg}
-use types.Run.{stop, fld, hop, from, addr, load, of_opd, and_then, no_more, returns, enter}
-use denote.Param.{param}
-use denote.RattleType.{RattleType}
-use denote.Ref.{at_last, MutBor}
-use denote.Slice.{slice_val}
-use denote.Steps.{nothing}
-use denote.Through.{renamed}
+use Rattle.ga_views.proofs.Steps.{addr, agg, alloc_all, and_then, ap, at_last, await, by, done, emp, ent, enter, feq_i}
+use Rattle.ga_views.proofs.Steps.{feq_l, fjoin, fld, Fml, free_all, from, fsplit, get, hop, is, keep, later, length}
+use Rattle.ga_views.proofs.Steps.{List, load, Logic, look_at, look_in, look_in_at, move, MutBor, no_more, nothing}
+use Rattle.ga_views.proofs.Steps.{of_opd, param, pass_all, pick, qed, RattleType, raw, refl, renamed, returns, rewrite}
+use Rattle.ga_views.proofs.Steps.{sem, sep, sets, slice_val, some, split3, stop, sub, through, Ura, use3, whole, !, []}
+use Rattle.ga_views.proofs.Steps.{‵, ℕ, ◌$◌, ◌∵◌, ◌∷◌, ◌≡◌}
 use Rattle.std.specs.List.{refill}
 use Rattle.ga_views.proofs.PartLemmas.{refilled}
 use Rattle.ga_views.proofs.PartLoan.{lends_slice, lent_slice}

@@ -2,25 +2,16 @@
 -- does not follow a result through two references, so this proof walks the code by hand: the
 -- inner reference is opened and its pointer read, which gives the element's place, and then the
 -- element is lent by `ItemLoan`'s `lends_item`.
-use Rattle.std.proofs.Common.{◌≡◌, ◌*◌, ◌^◌, ◌<◌, [], ◌∷◌, length, refl, ap, arith, get_or, set}
+use Rattle.ga_views.proofs.Steps.{addr, alloc_all, ap, arith, at_last, await, bin, by, enter, fld, free_all, get}
+use Rattle.ga_views.proofs.Steps.{get_or, is, keep, later, layout, learn, length, load, look_at, look_in, param}
+use Rattle.ga_views.proofs.Steps.{pass_all, pick, plain, qed, RattleType, refl, RefMutOf, renamed, returns, set, sets}
+use Rattle.ga_views.proofs.Steps.{size, size_word, some, split3, stop, sub, through, use3, vint, w64, whole, !, [], ◌$◌}
+use Rattle.ga_views.proofs.Steps.{◌*◌, ◌<◌, ◌^◌, ◌∵◌, ◌∷◌, ◌≡◌}
 use Rattle.ga_views.proofs.InnerSlice.{closes_inner, Inner, lends_inner, loan_of, opens_inner}
 use Rattle.ga_views.proofs.ItemLoan.{item, lends_item, lent_item, offset_fits, uncapped, uncapped_fits}
 use Rattle.ga_views.proofs.LoanWalk.{Had, Loan, lends}
 use Rattle.ga_views.proofs.reborrow.RefMutSliceReborrowSlice.item_mut.Code as code
 use Rattle.ga_views.proofs.reborrow.RefMutSliceReborrowSlice.item_mut.Statement.{statement}
-use mir.Syntax.{w64}
-use mir.Val.{vint}
-use prog.Memory.{size}
-use types.ByLocal.{alloc_all, pass_all, free_all, look_at, get, through, sets, is}
-use types.Kit.{some, later, ◌$◌, ◌∵◌, !, qed, by, keep, split3, learn, use3, await, pick}
-use types.Part.{look_in, sub, whole}
-use types.Run.{stop, fld, addr, bin, load, size_word, returns, enter}
-use denote.Builtin.{RefMutOf}
-use denote.Param.{layout, param}
-use denote.RattleType.{RattleType}
-use denote.Ref.{at_last}
-use denote.Signature.{plain}
-use denote.Through.{renamed}
 
 abbrev loan : RattleType → Loan
 loan X = loan_of X 1 (RefMutOf (0 ∷ []) tt (plain (λ _. param 0 X)) (λ _. tt)) (param 0 X) (λ κs r. r.ghost_name)
