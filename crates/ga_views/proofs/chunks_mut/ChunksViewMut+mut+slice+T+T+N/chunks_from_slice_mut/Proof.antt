@@ -20,7 +20,7 @@ use Rattle.ga_views.proofs.LengthCall.{calls_length}
 use Rattle.ga_views.proofs.SliceWalk.{gives_up}
 use Rattle.ga_views.proofs.SliceLaws.{Slice, slice_laws}
 use Rattle.ga_views.proofs.SplitWalk.{cuts}
-use Rattle.ga_views.proofs.RowLemmas.{count-whole, rows-of_whole}
+use Rattle.ga_views.proofs.RowLemmas.{rows-of_whole, whole_by}
 use Rattle.ga_views.proofs.chunks_mut.ChunksViewMut.TheLaws as rows_laws
 use Rattle.ga_views.proofs.chunks_mut.ChunksViewMut.over.Met as made
 use Rattle.ga_views.proofs.chunks_mut.ChunksViewMut+mut+slice+T+T+N.chunks_from_slice_mut.Code as code
@@ -178,9 +178,8 @@ chunks_from_slice_mut_spec 𝓤 𝓛 𝓜 𝓡 wired X N LX LN g d bound =
       ),
       tt,
     ) in
-    let long : length first.now ≡ n / width * width = parts.first_len ∙ count in
     let whole_rows : length first.now ≡ chunk_count width first.now * width =
-    long ∙ (sym (ap (λ (i : ℕ). i * width) (count-whole n width)) ∙ sym (ap (λ (i : ℕ). i / width * width) long)) in
+    whole_by (n / width) width (length first.now) (parts.first_len ∙ count) in
     nothing ! $ move ! (2 ∷ 0 ∷ []) $ fjoin ! $ move ! (3 ∷ []) $ split3 ! $ move ! (2 ∷ []) $ drop ! $
     move ! (0 ∷ 1 ∷ 5 ∷ 2 ∷ []) $ group ! 3 $
     calls 𝓛 O zO (λ w u. Rows.own_val w (u ∷ [])) (λ (ws : Unit {0} × Unit {0}). fsep ftrue ftrue)
