@@ -223,3 +223,6 @@ module _ {X : Type 0} (width : ℕ) (items : List X) (whole : length items ≡ c
       let told : rows width items ≡ rows width (take before items) ++ drop before items ∷ [] =
       ap (λ n. map (row_at width items) (range_with_len 0 n)) all ∙ (more ∙ cc (back.1, fewest, first, row)) in
       (told, back.0, omega (arith, ap length told, length-append (rows width (take before items)) (drop before items ∷ [])))
+
+-- how many rows there are, and that each ends within the items
+pub ruleset row_facts = (length-rows, rows-few, row-within)

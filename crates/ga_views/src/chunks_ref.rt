@@ -63,6 +63,7 @@ impl<'a, T, N: Unsigned> ChunksRef<'a, T, N> {
 
     /// The number of rows. O(1).
     #[inline]
+    #[tactic(auto, using(crate::proofs::RowLemmas::row_facts))]
     pub fn len(&self) -> usize
         ensures count { result ≡ chunk_count N.USIZE (items_of_chunks self.now) }
         ensures rows { result ≡ length (rows N.USIZE (items_of_chunks self.now)) }
@@ -75,6 +76,7 @@ impl<'a, T, N: Unsigned> ChunksRef<'a, T, N> {
 
     // Where the row at `index` starts among the items. They lie in a slice, so this fits a `usize`.
     #[inline]
+    #[tactic(auto, using(crate::proofs::RowLemmas::row_facts))]
     pub(crate) fn start_of(self, index: usize) -> usize
         requires in_bounds { index < chunk_count N.USIZE (items_of_chunks self) }
         ensures { result ≡ index * N.USIZE }
