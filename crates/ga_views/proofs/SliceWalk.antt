@@ -1,15 +1,14 @@
 -- A walk of a function that takes a slice for writing, and nothing else, and gives it up: all of it but what the
 -- function asks, what it gives and its own steps. Assumes `Logic`.
-use Rattle.ga_views.proofs.Steps.{AllOutlive, at_exit, call, Callee, Calls, Clauses, Closed, closing, Code, Contract}
-use Rattle.ga_views.proofs.Steps.{emp, Ended, ent, Env, fact, flft, FmC, Fn, ftrue, Goes-spent_slice, group, has_of}
-use Rattle.ga_views.proofs.Steps.{id⊢, Item, lands, Lasts, lasts, leaves, length, Lft, Lfts, List, Logic, Loops}
+use Rattle.ga_views.proofs.Steps.{alive, AllOutlive, at_exit, call, Callee, Calls, Clauses, Closed, closing, Code}
+use Rattle.ga_views.proofs.Steps.{Contract, emp, Ended, ent, Env, fact, flft, FmC, Fn, ftrue, Goes-spent_slice, group}
+use Rattle.ga_views.proofs.Steps.{has_of, id⊢, Item, lands, leaves, length, Lft, Lfts, List, Logic, Loops}
 use Rattle.ga_views.proofs.Steps.{MachineTables, Meets, Model, move, mut_slice_Tells, mut_slice_vals, MutBor, named, no}
-use Rattle.ga_views.proofs.Steps.{nothing, Opds, Operand, Outlives, owns, param, Place, plain, Post, proved, RattleType}
-use Rattle.ga_views.proofs.Steps.{raw, Running, runs, sem, sep, Seq, seq, Shares, slice_val, SliceRefMutOf, Slot, SProp}
-use Rattle.ga_views.proofs.Steps.{stay_dropped, Stays, suc, tables, Triple, triple_of, type_at, types_at, Ura, Val}
+use Rattle.ga_views.proofs.Steps.{nothing, on_entry, Opds, Operand, Outlives, owns, param, Place, plain, Post, proved}
+use Rattle.ga_views.proofs.Steps.{RattleType, raw, Running, runs, sem, sep, Seq, seq, Shares, slice_val, SliceRefMutOf}
+use Rattle.ga_views.proofs.Steps.{Slot, SProp, stay_dropped, Stays, suc, tables, Triple, type_at, types_at, Ura, Val}
 use Rattle.ga_views.proofs.Steps.{WpFn, [], ‵, ℕ, ◌$◌, ◌<◌, ◌^◌, ◌∷◌, ◌⊑◌, ◌⊛◌}
-use denote.Triple.Entry.{alive, on_entry}
-use Rattle.ga_views.proofs.CallStep.{asked, calls}
+use Rattle.ga_views.proofs.CallStep.{asked, Called, calls}
 
 -- the slice is lent for the first lifetime of `more` and one, and its items' type is the function's first type
 -- parameter
@@ -95,7 +94,7 @@ module _ {outlives : List (Outlives 3)} (X : RattleType) {result : Slot 3} {M : 
   Callable = ended 2 outlives X result
 
   abbrev pub Passed : Contract 𝓤
-  Passed = triple_of 𝓛 Callable.signature (closing 𝓛 Callable c)
+  Passed = Called 𝓛 Callable c
 
   module _ (κs : Lfts 3) (qs : Shares 3) (bounds : AllOutlive 3 outlives κs) (s : Items 2 outlives X result)
       (g : (c κs (s, tt)).ghost) where
@@ -119,7 +118,6 @@ module _ {outlives : List (Outlives 3)} (X : RattleType) {result : Slot 3} {M : 
           (runs C Λ G (seq (call f xs p) rest) post)
       passes t framed met asked read then =
           nothing t $ move t (1 ∷ 2 ∷ 3 ∷ 0 ∷ []) $ group t 4 $
-          calls 𝓛 Passed passed_at (λ r v. (type_at result κs).own_val r (v ∷ []))
-          (λ (ws : Lasts Callable κs (s, tt)). lasts Callable κs (s, tt) ws)
+          calls 𝓛 Callable c κs qs bounds (s, tt) (mut_slice_vals s, tt) g
           (λ r. raw ((c κs (s, tt)).ensures g r (at_exit Callable κs (s, tt) (tt, tt)))) t framed met asked (id⊢ 𝓤 _)
           (λ v. id⊢ 𝓤 _) read then

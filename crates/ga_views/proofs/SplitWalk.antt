@@ -2,13 +2,12 @@
 -- tokens go in, and the two parts come out with what is known of them. Assumes `Logic`.
 use Rattle.ga_views.proofs.Steps.{ap, Array, call, Callee, Calls, Code, Contract, drop, drop_list, emp, Env, fact}
 use Rattle.ga_views.proofs.Steps.{fact_i, feq_l, fjoin, flft, FmC, Fml, follows_both, fpick, fsplit, ftrue, Fun, group}
-use Rattle.ga_views.proofs.Steps.{heard, id⊢, Is, Item, lands, Lasts, lasts, length, Lft, List, Logic, Loops, Memory}
-use Rattle.ga_views.proofs.Steps.{move, mut_slice_vals, MutBor, MutSlice, named, nothing, of_list, only, Opds, Operand}
-use Rattle.ga_views.proofs.Steps.{param, peeks, Place, Post, RattleType, raw, refl, regoal, rewrite, Routine, runs, Seq}
-use Rattle.ga_views.proofs.Steps.{seq, Share, shows, slice_val, split, SProp, take, Triple, triple_of, Tuple, Ura}
-use Rattle.ga_views.proofs.Steps.{usize, Val, vint, vstruct, w64, [], ‵, ℕ, ◌$◌, ◌++◌, ◌+◌, ◌<◌, ◌^◌, ◌∙◌, ◌∷◌, ◌≡◌}
-use Rattle.ga_views.proofs.Steps.{◌≤◌, ◌⊑◌, ◌⊛◌}
-use Rattle.ga_views.proofs.CallStep.{asked, calls}
+use Rattle.ga_views.proofs.Steps.{heard, id⊢, Is, Item, lands, length, Lft, List, Logic, Loops, Memory, move}
+use Rattle.ga_views.proofs.Steps.{mut_slice_vals, MutBor, MutSlice, named, nothing, of_list, only, Opds, Operand, param}
+use Rattle.ga_views.proofs.Steps.{peeks, Place, Post, RattleType, raw, refl, regoal, rewrite, Routine, runs, Seq, seq}
+use Rattle.ga_views.proofs.Steps.{Share, shows, slice_val, split, SProp, take, Triple, Ura, usize, Val, vint, vstruct}
+use Rattle.ga_views.proofs.Steps.{w64, [], ‵, ℕ, ◌$◌, ◌++◌, ◌+◌, ◌<◌, ◌^◌, ◌∙◌, ◌∷◌, ◌≡◌, ◌≤◌, ◌⊑◌, ◌⊛◌}
+use Rattle.ga_views.proofs.CallStep.{asked, Called, called_at, calls}
 use Rattle.std.below.core.specs.contracts.slice.slice+T.split_at_mut as cut_contract
 use Rattle.std.specs.List.{SameBelow, TailFrom}
 
@@ -43,7 +42,7 @@ module _ (X : RattleType) where
     open 𝓛 use {H}
 
     abbrev pub Cuts : Contract 𝓤
-    Cuts = triple_of 𝓛 (cut_contract.signature X) (cut_contract.spec X 𝓛 at_mem run)
+    Cuts = Called 𝓛 (cut_contract.ended X) (cut_contract.clauses X 𝓛 at_mem run)
 
     module _ (κ κT : Lft) (q qT : Share) (within : κ ⊑ κT) (s : Items) (place : ℕ) where
       -- the slice is lent for κ, and κT is the lifetime of its items' type
@@ -51,16 +50,8 @@ module _ (X : RattleType) where
       S = MutSlice (named 0) κ E
 
       abbrev pub cut_at : Cuts.Ghost
-      cut_at = (
-        (
-          (κ, (κT, tt)),
-          (q, (qT, tt)),
-          (within, tt),
-          (s, (place, tt)),
-          (mut_slice_vals s, (vint w64 place ∷ [], tt)),
-        ),
-        tt,
-      )
+      cut_at = called_at 𝓛 (cut_contract.ended X) (cut_contract.clauses X 𝓛 at_mem run) (κ, (κT, tt)) (q, (qT, tt))
+          (within, tt) (s, (place, tt)) (mut_slice_vals s, (vint w64 place ∷ [], tt)) tt
 
       module _ {K : Type 0} {Γ : List (Item 𝓤)} {G : Env 𝓤 H} {C : Calls 𝓤 H} {Λ : Loops 𝓤 H} {f : Callee}
           {xs : List Operand} {p : Place} {rest : Code} {post : Post 𝓤 H} where
@@ -77,9 +68,8 @@ module _ (X : RattleType) where
         cuts t framed met lives inside read then =
             nothing t $ move t (2 ∷ 0 ∷ []) $ fjoin t $ move t (1 ∷ 0 ∷ []) $ fjoin t $
             nothing t $ move t (2 ∷ 3 ∷ 0 ∷ 1 ∷ []) $ group t 3 $
-            calls 𝓛 Cuts cut_at (λ (r : S.Denot × S.Denot) u. (Tuple (S ∷ S ∷ [])).own_val r (u ∷ []))
-            (λ (ws : Lasts (cut_contract.ended X) cut_at.0.0 cut_at.0.3).
-            lasts (cut_contract.ended X) cut_at.0.0 cut_at.0.3 ws)
+            calls 𝓛 (cut_contract.ended X) (cut_contract.clauses X 𝓛 at_mem run) (κ, (κT, tt)) (q, (qT, tt))
+            (within, tt) (s, (place, tt)) (mut_slice_vals s, (vint w64 place ∷ [], tt)) tt
             (λ r. raw (fact 𝓤 (s.now ≡ r.0.now ++ r.1.now)) ⊛ raw (fact 𝓤 (length r.0.now ≡ place)) ⊛ raw
             (fact 𝓤 (length r.1.now + place ≡ length s.now)) ⊛
             raw (fact 𝓤 (r.0.now ≡ take place s.now)) ⊛ raw (fact 𝓤 (r.1.now ≡ drop_list place s.now)) ⊛ raw

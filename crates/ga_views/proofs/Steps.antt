@@ -33,6 +33,7 @@ pub use denote.Struct.Struct.{as_fields, within}
 pub use denote.Struct.Tuple.{Tuple, tuple_laws, tuple_type}
 pub use denote.Through.{lends_inner_slice, renamed}
 pub use denote.Triple.Clauses.{at_exit, Clauses, closing, Ended, Lasts, lasts}
+pub use denote.Triple.Entry.{alive, on_entry}
 pub use denote.Triple.Spec.{Meets, triple_of}
 pub use denote.Triple.Statement.{Contract, Triple}
 pub use denote.Triple.Table.{framed}

@@ -12,8 +12,12 @@ slice_bounds-self-count g c = items-within _ _ _ c.self.view_is _ _ (passed-with
 
 pub overflow_mul-passed : goal.overflow_mul-passed
 overflow_mul-passed g c = record {
-  fits = omega (arith, c.self.told, items-within _ _ _ c.self.view_is _ _
-      (passed-within _ _ _ _ c.min.ensures c.len.ensures) (ap (λ width. c.min.result * width) c.USIZE.ensures));
+  fits = omega (
+    arith,
+    c.self.told,
+    items-within _ _ _ c.self.view_is _ _
+        (passed-within _ _ _ _ c.min.ensures c.len.ensures) (ap (λ width. c.min.result * width) c.USIZE.ensures),
+  );
 }
 
 pub invariant_of-self : goal.invariant_of-self

@@ -4,15 +4,15 @@ use Rattle.ga_views.proofs.Steps.{a_type, addr, after, agg, alloc_all, and_then,
 use Rattle.ga_views.proofs.Steps.{at_ret, await, bin, Bor, bounded, branches, by, dcons, dnil, done, drop, emp, ent}
 use Rattle.ga_views.proofs.Steps.{enter, env, exec, fact, fact_i, feq_l, first, fjoin, flft, flt_l, Fn, follows}
 use Rattle.ga_views.proofs.Steps.{follows_by, follows_if, framed, free_all, fres, fsplit, fsplit3, ftrue, get, GName}
-use Rattle.ga_views.proofs.Steps.{Goes-dropped, Goes-spent_ref, group, heard, id⊢, inst_fn, Is, keep, lands_as, lasts}
-use Rattle.ga_views.proofs.Steps.{later, Laws, leaves, length, Lft, List, lit, lit<, live, Logic, look_at, ltb→lt}
+use Rattle.ga_views.proofs.Steps.{Goes-dropped, Goes-spent_ref, group, heard, id⊢, inst_fn, Is, keep, lands_as, later}
+use Rattle.ga_views.proofs.Steps.{Laws, leaves, length, Lft, List, lit, lit<, live, Logic, look_at, ltb→lt}
 use Rattle.ga_views.proofs.Steps.{meet_⊑_right, move, mut_Tells, mut_vals, MutBor, MutRef, MutSlice, named, NamedLft}
 use Rattle.ga_views.proofs.Steps.{nltb→le, no, no_more, nothing, of_list, of_opd, only, owned, owns, param, param_laws}
 use Rattle.ga_views.proofs.Steps.{pass_all, peeks, pick, plain, proved, qed, RattleType, raw, refl, RefMutOf, returns}
 use Rattle.ga_views.proofs.Steps.{rewrite, sem, sets, sets_last, shows, shr_vals, some, split, split3, stay_dropped}
-use Rattle.ga_views.proofs.Steps.{Stays, stop, subst, sym, tables, through, triple_of, true≢false, ty_int, uint_Makes}
-use Rattle.ga_views.proofs.Steps.{uint_Tells, uint_vals, Ura, use0, use1, use2, usize, Val, vint, w64, w8, walk_of, yes}
-use Rattle.ga_views.proofs.Steps.{ !, [], ‵, ℕ, ⊑_trans, ◌$◌, ◌<◌, ◌∙◌, ◌∵◌, ◌∷◌, ◌≡◌, ◌≤◌, ◌⊑◌, ◌⊛◌}
+use Rattle.ga_views.proofs.Steps.{Stays, stop, subst, sym, tables, through, true≢false, ty_int, uint_Makes, uint_Tells}
+use Rattle.ga_views.proofs.Steps.{uint_vals, Ura, use0, use1, use2, usize, Val, vint, w64, w8, walk_of, yes, !, [], ‵}
+use Rattle.ga_views.proofs.Steps.{ℕ, ⊑_trans, ◌$◌, ◌<◌, ◌∙◌, ◌∵◌, ◌∷◌, ◌≡◌, ◌≤◌, ◌⊑◌, ◌⊛◌}
 use Rattle.ga_views.proofs.SharedLoan.{comes_back, lent_shared, lends_shared}
 use Rattle.ga_views.proofs.CallStep.{asked, calls}
 use Rattle.ga_views.proofs.SliceWalk.{passes}
@@ -110,26 +110,12 @@ get_mut_spec 𝓤 𝓛 𝓜 𝓡 wired S T N LS LT LN p pd s sd n nd d metP metS
     let κ' : Lft = t.0 ∷ κ in
     let inside : κ' ⊑ κ = meet_⊑_right (t.0 ∷ []) κ in
     let shown : Bor R.Denot = record { ref_ptr = (b, o); now = self.now } in
-    let L = triple_of 𝓛 (count_of.signature S T N s sd n nd d) (count_of.spec S T N s sd n nd d 𝓛 𝓜.mem 𝓡.returns) in
-    let z : L.Ghost = (
-      (
-        (κ', (κS, (κT, (κN, tt)))),
-        (t.1, (qs.1.0, (qs.1.1.0, (qs.1.1.1.0, tt)))),
-        (
-          ⊑_trans κ' κ κS inside bounds.0,
-          (
-            ⊑_trans κ' κ κT inside bounds.1.0,
-            (⊑_trans κ' κ κN inside bounds.1.1.0, tt),
-          ),
-        ),
-        (shown, tt),
-        (shr_vals shown, tt),
-      ),
-      tt,
-    ) in
     nothing ! $ move ! (1 ∷ 0 ∷ []) $ fjoin ! $ nothing ! $ move ! (2 ∷ 4 ∷ 5 ∷ 6 ∷ 0 ∷ 1 ∷ []) $ group ! 5 $
-    calls 𝓛 L z (λ m v. usize.own_val m (v ∷ []))
-    (λ (ws : Unit {0} × Unit {0}). lasts (count_of.ended S T N s sd n nd d) z.0.0 (shown, tt) ws)
+    calls 𝓛 (count_of.ended S T N s sd n nd d) (count_of.clauses S T N s sd n nd d 𝓛 𝓜.mem 𝓡.returns)
+    (κ', (κS, (κT, (κN, tt)))) (t.1, (qs.1.0, (qs.1.1.0, (qs.1.1.1.0, tt)))) (
+      ⊑_trans κ' κ κS inside bounds.0,
+      (⊑_trans κ' κ κT inside bounds.1.0, (⊑_trans κ' κ κN inside bounds.1.1.0, tt)),
+    ) (shown, tt) (shr_vals shown, tt) tt
     (λ m. raw (fact 𝓤 (m ≡ chunk_count n.USIZE items)) ⊛ raw (fact 𝓤 (m ≡ length (rows_of n.USIZE items)))) !
     (framed 𝓤 𝓛.H 𝓜 𝓣) (len_met.met 𝓤 𝓛 𝓜 𝓡
     (code.calls-ga_views::chunks_mut::ChunksViewMut::len 𝓡.env wired) S T N LS LT LN s sd n nd d metS metN metD)
@@ -147,14 +133,11 @@ get_mut_spec 𝓤 𝓛 𝓜 𝓡 wired S T N LS LT LN p pd s sd n nd d metP metS
     (λ below.
     let lies : i < chunk_count n.USIZE items = subst (λ (k : ℕ). i < k) is_count (ltb→lt i m below) in
     sets ! (addr ! (through ! refl (stop !))) refl (tt, tt) $
-    let G = triple_of 𝓛 (row_of.signature S T N p pd s sd n nd d)
-    (row_of.spec S T N p pd s sd n nd d 𝓛 𝓜.mem 𝓡.returns) in
-    let k : G.Ghost = ((κs, qs, bounds, (self, (i, tt)), (mut_vals self, (vint w64 i ∷ [], tt))), tt) in
     nothing ! $ owned ! usize (Is usize) (uint_Makes 𝓛 w64) i _ (refl, fi) $ fjoin ! $ move ! (1 ∷ 0 ∷ []) $ fjoin ! $
     nothing ! $ move ! (2 ∷ 5 ∷ 3 ∷ 4 ∷ 0 ∷ 1 ∷ []) $ group ! 5 $
     let Slice : RattleType = MutSlice (named 0) κ E in
-    calls 𝓛 G k (λ r v. Slice.own_val r (v ∷ []))
-    (λ (ws : Unit {0} × (Unit {0} × Unit {0})). lasts (row_of.ended S T N p pd s sd n nd d) κs (self, (i, tt)) ws)
+    calls 𝓛 (row_of.ended S T N p pd s sd n nd d) (row_of.clauses S T N p pd s sd n nd d 𝓛 𝓜.mem 𝓡.returns) κs qs
+    bounds (self, (i, tt)) (mut_vals self, (vint w64 i ∷ [], tt)) tt
     (λ r. ‵ (LendsRow (param 0 S) E (param 2 N) s n self i r) ⊛ raw (fact 𝓤 (r.now ≡ row_at n.USIZE items i)) ⊛ raw
     (fact 𝓤 (length r.now ≡ n.USIZE))) ! (framed 𝓤 𝓛.H 𝓜 𝓣) (row_met.met 𝓤 𝓛 𝓜 𝓡
     (code.calls-ga_views::chunks_mut::ChunksViewMut::row_mut 𝓡.env wired) S T N LS LT LN p pd s sd n nd d metP metS
