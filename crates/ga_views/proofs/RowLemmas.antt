@@ -224,5 +224,11 @@ module _ {X : Type 0} (width : ℕ) (items : List X) (whole : length items ≡ c
       ap (λ n. map (row_at width items) (range_with_len 0 n)) all ∙ (more ∙ cc (back.1, fewest, first, row)) in
       (told, back.0, omega (arith, ap length told, length-append (rows width (take before items)) (drop before items ∷ [])))
 
--- how many rows there are, and that each ends within the items
-pub ruleset row_facts = (length-rows, rows-few, row-within)
+-- how many rows there are, which there is at an index, and that it ends within the items
+pub ruleset row_facts = (length-rows, rows-few, row-within, slice_get-rows, slice_get-rows_past)
+
+-- a cut at the end of the whole rows
+pub ruleset cut_facts = (rows-of_whole, whole_by, div-mul-le_self)
+
+-- a row that is split off at an end
+pub ruleset split_facts = (first-split, last-split)

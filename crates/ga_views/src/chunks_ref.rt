@@ -51,6 +51,7 @@ impl<'a, T, N: Unsigned> ChunksRef<'a, T, N> {
     /// The counterpart of `GenericArray::chunks_from_slice`, which panics where `N` is 0 and the
     /// slice isn't empty.
     #[inline]
+    #[tactic(auto, using(crate::proofs::RowLemmas::cut_facts))]
     pub fn chunks_from_slice(slice: &'a [T]) -> (Self, &'a [T])
         requires width { (0 < N.USIZE) ⊎ (length slice.now ≡ 0) }
         ensures rows { rows N.USIZE (items_of_chunks result.0) ≡ rows N.USIZE slice.now }
@@ -86,6 +87,7 @@ impl<'a, T, N: Unsigned> ChunksRef<'a, T, N> {
 
     /// The row at `index`, or `None` if there are at most `index` rows. O(1).
     #[inline]
+    #[tactic(auto, using(crate::proofs::RowLemmas::row_facts))]
     pub fn get(&self, index: usize) -> Option<GenericArrayRef<'a, T, N>>
         ensures variant { IsSome result ↔ (index < chunk_count N.USIZE (items_of_chunks self.now)) }
         ensures row { IfSome result (λ view.
