@@ -229,6 +229,3 @@ pub ruleset row_facts = (length-rows, rows-few, row-within, slice_get-rows, slic
 
 -- a cut at the end of the whole rows
 pub ruleset cut_facts = (rows-of_whole, whole_by, div-mul-le_self)
-
--- a row that is split off at an end
-pub ruleset split_facts = (first-split, last-split)
