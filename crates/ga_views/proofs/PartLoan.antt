@@ -2,8 +2,9 @@
 --     part, place, written, Others     the items of the part, where they lie, the slice with others written over them,
 --                                      and what the part leaves of it in memory
 --     cut, keeps                       the slice's items in memory are the part and the others, and back
---     lends_part                       the part is lent for as long as the slice was, and what lent the slice follows
---                                      it
+--     Whole                            a slice that was lent, with what lent it
+--     lends_slice, lends_part          a part of it is lent for as long as it was, and what lent it follows the part: a
+--                                      part wherever it lies, and one from a place on
 use Rattle.ga_views.proofs.Steps.{ap, arith, Arr, Array, at, at_mul, await, Body, cells, coded_list, cut_app, done}
 use Rattle.ga_views.proofs.Steps.{drop, drop_list, ent, ex, fbor, feq_i, feq_l, fjoin, flft, Fml, fobs, follows}
 use Rattle.ga_views.proofs.Steps.{follows_then, fsplit, GName, group, heres, heres_id, Holey, Item, join_app, later}
