@@ -1,19 +1,11 @@
 -- A call of a function as a step of its caller's walk. Assumes `Logic`.
-use Rattle.std.proofs.Common.{[], ◌∷◌, List}
-use base.Fml.{Fml}
-use base.Logic.{emp, ent, sep, SProp}
-use contract.Monad.{fact, fact_i}
+use Rattle.ga_views.proofs.Steps.{AllOutlive, await, call, Callee, Calls, Clauses, closing, Code, Contract, done, drop}
+use Rattle.ga_views.proofs.Steps.{emp, Ended, ent, Env, fact, fact_i, FmC, Fml, Item, join, lands, Lasts, lasts, later}
+use Rattle.ga_views.proofs.Steps.{Lfts, List, Logic, Loops, mean, move, Opds, Operand, pick, Place, Post, qed}
+use Rattle.ga_views.proofs.Steps.{RattleType, raw, runs, sem, sep, Seq, seq, Shares, some, split, SProp, Triple}
+use Rattle.ga_views.proofs.Steps.{triple_of, type_at, Ura, use0, use1, Val, !, [], ‵, ◌$◌, ◌∵◌, ◌∷◌, ◌⊛◌}
 use denote.Triple.Call.{calls_at}
-use denote.Triple.Statement.{Contract, Triple}
-use mir.Syntax.{Body as Code, call, Callee, Opd as Operand, Place, seq}
-use mir.Val.{Val}
-use prog.Wp.{Calls, Env, Loops}
-use seplogic.Ra.Ura.{Ura}
-use sound.WpLaws.{FmC}
-use types.Kit.{‵, ◌⊛◌, ◌$◌, ◌∵◌, !, await, done, drop, Item, join, lands, later, mean, move, pick, Post, qed}
-use types.Kit.{raw, runs, Seq, some, split, use0, use1}
-use types.Logic.{Logic, sem}
-use types.Run.{Opds}
+use denote.Triple.Entry.{Args, Vals}
 
 -- what a call asks, fact by fact, before what else it asks
 module _ {M : Type 1} {𝓤 : Ura M} (𝓛 : Logic 𝓤) where
@@ -21,23 +13,41 @@ module _ {M : Type 1} {𝓤 : Ura M} (𝓛 : Logic 𝓤) where
   asked {φ} {P} holds others = qed 𝓛 [] ∵ use0 𝓛 (raw P) others $ use0 𝓛 (raw (fact 𝓤 φ)) (fact_i 𝓤 _ (emp 𝓤) holds) $
       join ! $ done !
 
--- a call that takes tokens and what the arguments own, as a step of its caller's walk: it gives the tokens back, and
--- the result with what is promised of it
-module _ {M : Type 1} {𝓤 : Ura M} (𝓛 : Logic 𝓤) (L : Contract 𝓤) (z : L.Ghost) {X W : Type 0} (own : X → Val → Fml)
-    (last : W → Fml) (promised : X → Item 𝓤) where
+-- a call at a function's clauses, of the lifetimes, the tokens' shares, the arguments and their machine values, as a
+-- step of its caller's walk: it takes the tokens and what the arguments own, gives the tokens back, and the result with
+-- what is promised of it
+module _ {M : Type 1} {𝓤 : Ura M} (𝓛 : Logic 𝓤) (T : Ended) (c : Clauses 𝓤 T) where
   open 𝓛 use {H}
 
-  module _ {K : Type 0} {A : Item 𝓤} {O : Fml} {P : SProp 𝓤} {Γ : List (Item 𝓤)} {G : Env 𝓤 H} {C : Calls 𝓤 H}
-      {Λ : Loops 𝓤 H} {f : Callee} {xs : List Operand} {p : Place} {rest : Code} {post : Post 𝓤 H} where
-    pub calls : K → FmC 𝓤 H 𝓛.laws C → Triple 𝓤 (C f) L → ent 𝓤 (emp 𝓤) P
-        → ent 𝓤 (sep 𝓤 (sep 𝓤 (mean 𝓛 A) (sem 𝓛 O)) P) (L.pre z)
-        → ((v : Val) → ent 𝓤 (L.post z v) (mean 𝓛 (later (some (λ (x : X). (A ⊛ ‵ (own x v))
-        ⊛ some (λ (w : W). ‵ (last w) ⊛ promised x)))))) → Opds K 𝓛 (raw (L.pre z) ∷ Γ) G xs (L.args z)
-        → ((v : Val) (x : X) → Seq K 𝓛 (‵ (own x v) ∷ promised x ∷ A ∷ Γ) (lands C Λ G p v rest post))
-        → Seq K 𝓛 (A ∷ ‵ O ∷ Γ) (runs C Λ G (seq (call f xs p) rest) post)
-    calls t framed met asks enters gives read then =
-        join t $ use0 𝓛 (raw P) asks $ move t (1 ∷ 0 ∷ []) $ join t $ use1 𝓛 (raw (L.pre z)) enters $
-        calls_at t framed L met z read (λ v. use1 𝓛 (later (some (λ (x : X). (A ⊛ ‵ (own x v))
-        ⊛ some (λ (w : W). ‵ (last w) ⊛ promised x)))) (gives v) $
-        await t tt $ pick t (λ x. split t $ split t $ move t (2 ∷ []) $ pick t
-        (λ w. split t $ drop t $ move t (2 ∷ 0 ∷ 1 ∷ []) $ then v x)))
+  abbrev pub Called : Contract 𝓤
+  Called = triple_of 𝓛 T.signature (closing 𝓛 T c)
+
+  module _ (κs : Lfts T.signature.lifetimes) (qs : Shares T.signature.lifetimes)
+      (bounds : AllOutlive T.signature.lifetimes T.signature.outlives κs) (a : Args T.signature κs)
+      (vss : Vals T.signature κs) (g : (c κs a).ghost) where
+    abbrev pub called_at : Called.Ghost
+    called_at = ((κs, qs, bounds, a, vss), g)
+
+    abbrev Result : RattleType
+    Result = type_at T.signature.result κs
+
+    -- what the call gives where it returned v, with the tokens A
+    abbrev given : (Result.Denot → Item 𝓤) → Item 𝓤 → Val → Item 𝓤
+    given promised A v = later (some (λ (x : Result.Denot). (A ⊛ ‵ (Result.own_val x (v ∷ [])))
+        ⊛ some (λ (w : Lasts T κs a). ‵ (lasts T κs a w) ⊛ promised x)))
+
+    module _ (promised : Result.Denot → Item 𝓤) {K : Type 0} {A : Item 𝓤} {O : Fml} {P : SProp 𝓤} {Γ : List (Item 𝓤)}
+        {G : Env 𝓤 H} {C : Calls 𝓤 H} {Λ : Loops 𝓤 H} {f : Callee} {xs : List Operand} {p : Place} {rest : Code}
+        {post : Post 𝓤 H} where
+      pub calls : K → FmC 𝓤 H 𝓛.laws C → Triple 𝓤 (C f) Called → ent 𝓤 (emp 𝓤) P
+          → ent 𝓤 (sep 𝓤 (sep 𝓤 (mean 𝓛 A) (sem 𝓛 O)) P) (Called.pre called_at)
+          → ((v : Val) → ent 𝓤 (Called.post called_at v) (mean 𝓛 (given promised A v)))
+          → Opds K 𝓛 (raw (Called.pre called_at) ∷ Γ) G xs (Called.args called_at)
+          → ((v : Val) (x : Result.Denot)
+          → Seq K 𝓛 (‵ (Result.own_val x (v ∷ [])) ∷ promised x ∷ A ∷ Γ) (lands C Λ G p v rest post))
+          → Seq K 𝓛 (A ∷ ‵ O ∷ Γ) (runs C Λ G (seq (call f xs p) rest) post)
+      calls t framed met asks enters gives read then =
+          join t $ use0 𝓛 (raw P) asks $ move t (1 ∷ 0 ∷ []) $ join t $ use1 𝓛 (raw (Called.pre called_at)) enters $
+          calls_at t framed Called met called_at read (λ v. use1 𝓛 (given promised A v) (gives v) $
+          await t tt $ pick t (λ x. split t $ split t $ move t (2 ∷ []) $ pick t
+          (λ w. split t $ drop t $ move t (2 ∷ 0 ∷ 1 ∷ []) $ then v x)))

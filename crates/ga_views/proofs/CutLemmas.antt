@@ -1,12 +1,11 @@
 -- Steps that cut a list from its ends, joined to what std says of `next` and `next_back`.
 use Rattle.ga_views.specs.Cut.{StepGives, back, front}
-use Rattle.std.proofs.Common.{◌≡◌, ℕ, zero, suc, ◌+◌, ◌≤◌, List, [], ◌∷◌, ◌++◌, inl, inr, Option, None, Some}
+use Rattle.std.proofs.Common.{◌≡◌, ℕ, zero, suc, ◌+◌, ◌≤◌, List, [], ◌∷◌, ◌++◌, Option, None, Some}
 use Rattle.std.proofs.Common.{length, min, take, drop, reverse, refl, sym, ap, ◌∙◌, append_assoc, arith}
 use Rattle.std.proofs.Common.{length-drop, slice_get}
-use Rattle.std.proofs.lemmas.List.{drop-drop, length-reverse, reverse-append, reverse-reverse, take-append-drop}
+use Rattle.std.proofs.lemmas.List.{drop-drop, drop_min, length-reverse, reverse-append, reverse-reverse, take-append-drop}
 use Rattle.std.proofs.Math.ListN.{drop_of_length-le}
 use Rattle.std.proofs.Math.Seq.{drop-append_seam}
-use Rattle.std.proofs.lemmas.Bool.{cases_lt}
 use Rattle.std.proofs.lemmas.Option.{slice_get_past}
 use Rattle.std.specs.Iterator.{YieldsFirst, YieldsFirstBy, YieldsLast, YieldsLastBy}
 use Rattle.std.specs.Option.{option_map}
@@ -78,20 +77,10 @@ module _ {T : Type 0} where
       → passed ≡ min n (length items) → left ≡ drop passed items → YieldsFirst (λ all. all) left reply after
       → StepGives (front n) items reply after
   nth-step n passed items left reply after count here step =
-      let gave = next-step left reply after step in
-      elim (cases_lt (length items) n) [
-        | inl beyond ↦
-            let none : left ≡ [] = here ∙ drop_of_length-le items (omega arith) in (
-              gave.0 ∙ (ap (λ all. slice_get all 0) none ∙ sym (slice_get_past items n (omega arith))),
-              gave.1 ∙ (ap (drop 1) none ∙ sym (drop_of_length-le items (omega arith))),
-            )
-        | inr within ↦
-            let all : passed ≡ n = omega arith in
-            let here' : left ≡ drop n items = here ∙ ap (λ k. drop k items) all in (
-              gave.0 ∙ (ap (λ all. slice_get all 0) here' ∙ slice_get-drop n items),
-              gave.1 ∙ (ap (drop 1) here' ∙ drop-drop 1 n items),
-            )
-      ]
+      let place : left ≡ drop n items = here ∙ (ap (λ k. drop k items) count ∙ drop_min n items) in (
+        (next-step left reply after step).0 ∙ (ap (λ all. slice_get all 0) place ∙ slice_get-drop n items),
+        passed-more n items left reply after place step,
+      )
 
   -- where there are no more than n items, the step consumes them
   pub nth-past : (n : ℕ) (items left : List T) → length items ≤ n → left ≡ [] → StepGives (front n) items None left

@@ -1,25 +1,13 @@
--- What is got of a view's items: all, or the one at an index.
-use Rattle.std.proofs.Common.{ap, arith, length, sym, ◌∙◌}
-use Rattle.std.proofs.lemmas.List.{take_all}
+-- What is got of a view's items at an index.
+use Rattle.std.proofs.Common.{arith, length, sym}
 use Rattle.std.proofs.lemmas.Option.{slice_get_past, slice_get_read}
 use Rattle.std.specs.Borrow.{Bor}
 use Rattle.std.specs.Option.{option_copied}
 use Rattle.std.specs.Prelude.{◌≡◌, ℕ, ◌<◌, ◌≤◌, ◌↔◌, IsSome, List, None, Option, Some, refl, slice_get}
-use Rattle.std.specs.Prelude.{slice_index_or, take}
+use Rattle.std.specs.Prelude.{slice_index_or}
 use Rattle.std.specs.Slice.{IsItemAt}
 
 -- the n items of a view, where their number stands under the name m
-module _ {X : Type 0} (items : List X) (n m : ℕ) (full : length items ≡ n) (as_long : m ≡ n) where
-  -- the first m are all
-  pub all-taken : take m items ≡ items
-  all-taken = take_all m items (omega arith)
-
-  pub taken-long : length (take m items) ≡ n
-  taken-long = ap length all-taken ∙ full
-
-  pub taken-within : m ≡ length (take m items)
-  taken-within = as_long ∙ sym taken-long
-
 module _ {X : Type 0} (items : List X) (n i m : ℕ) (full : length items ≡ n) (as_long : m ≡ n) where
   -- below the length, which stands under the name m, it is there
   pub got_some : (x : X) → i < m → x ≡ slice_index_or items i x

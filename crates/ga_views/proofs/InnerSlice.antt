@@ -1,44 +1,19 @@
--- The inner reference of a `&κ mut (&κ' mut [T])` is opened and closed, and a part of its items is lent for all of κ.
--- It then ends with what the part's last value makes of the items.
+-- The inner reference of a `&κ mut (&κ' mut [T])` is opened and closed, and its items are lent on for all of κ. Assumes
+-- `Logic`.
 --     loan_of, slice_lent          what such a function asks and gives, as `LoanWalk` has it
 --     opens_inner, closes_inner    the outer borrow is opened, which gives the cell of the inner reference, at the type
 --                                  that the code names, and closed again
---     lends_part, lends_slice      the part is lent; it is lent as a slice
--- `denote.Through`'s `lends_inner_slice` lends the items, and `types.Follow`'s `takes_part` the part of them. Assumes
--- `Logic`.
-use mathlib.Core.Path.{◌≡◌, refl}
-use mathlib.Core.List.{List, [], ◌∷◌}
-use Prim.Native.Nat.{ℕ}
-use lib.ListN.{length}
-use seplogic.Ra.Ura.{Ura}
-use base.Fml.{Fml, Lft, Incl, GName, Share, fat, fobs, fauth, fbor, fobor, flft}
-use base.Fraction.{full_share}
-use base.Logic.{SProp, ent, sep, ex}
-use base.Stored.{Gv, coded_list}
-use mir.Syntax.{Args, Ty, a_type, named, erased, mut, ty_ref}
-use mir.Val.{Val}
-use contract.BorrowLft.{◌⊑◌}
-use contract.Lifetimes.{Lfts}
-use types.Follow.{takes_part}
-use types.Kit.{Goal, Item, Seq, Soaks, Step, step, ‵, raw, ◌⊛◌, some, later, ◌$◌, ◌∵◌, !, qed, move, drop, use1, use2}
-use types.Kit.{use3, split, split3, group, pick, show, await, rewrite, fsplit3, updating, now, done}
-use types.Logic.{Logic, sem}
-use types.Mut.{open_ref}
-use types.SemTy.{SemTy, Arr, Body}
-use denote.Array.{Array}
-use denote.Builtin.{SliceRefMutOf}
-use denote.Follow.{follows, follows_then}
-use denote.FollowSlice.{heres_id, slice_of}
-use denote.Laws.{Is, shows}
-use denote.Memory.{mem, cell_at, pointee}
-use denote.Param.{layouts, param}
-use denote.RattleType.{RattleType}
-use denote.Ref.{MutBor, MutRef, at_last, mut_vals}
-use denote.Signature.{Slot, plain}
-use denote.Slice.{MutSlice, Room, slice_ty, slice_val, mut_slice_vals}
-use denote.Steps.{opens, closes, peeks}
-use denote.Through.{renamed, lends_inner_slice}
+--     lends_inner                  the items are lent, and the inner reference ends at what they end as
+use Rattle.ga_views.proofs.Steps.{a_type, Args, Arr, Array, at_last, await, Body, cell_at, closes, done, drop, ent}
+use Rattle.ga_views.proofs.Steps.{erased, fat, fauth, fbor, flft, Fml, fobor, fobs, follows, fsplit3, full_share, GName}
+use Rattle.ga_views.proofs.Steps.{Goal, group, Gv, Incl, Is, Item, later, layouts, lends_inner_slice, length, Lft, Lfts}
+use Rattle.ga_views.proofs.Steps.{List, Logic, mem, move, mut, mut_slice_vals, mut_vals, MutBor, MutRef, MutSlice}
+use Rattle.ga_views.proofs.Steps.{named, now, opens, param, peeks, pick, plain, pointee, qed, RattleType, raw, refl}
+use Rattle.ga_views.proofs.Steps.{renamed, rewrite, Room, SemTy, sep, Seq, Share, shows, slice_ty, slice_val}
+use Rattle.ga_views.proofs.Steps.{SliceRefMutOf, Slot, Soaks, some, split3, SProp, Step, step, Ty, ty_ref, updating}
+use Rattle.ga_views.proofs.Steps.{Ura, use1, use3, Val, !, [], ‵, ℕ, ◌$◌, ◌∵◌, ◌∷◌, ◌≡◌, ◌⊑◌, ◌⊛◌}
 use Rattle.ga_views.proofs.LoanWalk.{Loan, Words}
+use Rattle.ga_views.proofs.PartLoan.{Whole}
 use Rattle.ga_views.specs.contracts.reborrow.RefMutSliceReborrowSlice.all_mut as all_mut
 
 -- the type argument of such a function
@@ -127,88 +102,18 @@ abbrev pub Open : {M : Type 1} {𝓤 : Ura M} (𝓛 : Logic 𝓤) (R : RattleTyp
 Open {𝓤 = 𝓤} 𝓛 R κ κ' q x = sep 𝓤 (𝓛.A.obs x.ghost_name ((Inner R κ').coded.code x.now))
     (sep 𝓤 (𝓛.A.bor κ (Body (mem (Inner R κ')) x.ref_ptr.0 x.ref_ptr.1 x.ghost_name)) (𝓛.A.lft κ q))
 
--- the outer reference is x, and the inner one d.
--- The part is a U, which lies at (b, o) as `own` says, and the items are F w with the part at w
-module _ {M : Type 1} {𝓤 : Ura M} (𝓛 : Logic 𝓤) (R U : RattleType) (own : U.Denot → ℕ → ℕ → Fml)
-    (F : U.Denot → List R.Denot) (κ κ' : Lft) (q : Share) (b o : ℕ) (x : MutBor (MutBor (List R.Denot))) where
-  open 𝓛 use {H, A}
-
-  abbrev d : MutBor (List R.Denot)
-  d = x.now
-
-  abbrev γ : GName
-  γ = x.ghost_name
-
-  abbrev Part : SemTy
-  Part = record { rep = U.Denot; coded = U.coded; size = 0; own_at = own }
-
-  abbrev after : U.Denot → MutBor (List R.Denot)
-  after w = at_last d (F w)
-
-  abbrev Lent : U.Denot → GName → SProp 𝓤
-  Lent y δ = sep 𝓤 (A.obs δ (U.coded.code y)) (sep 𝓤 (A.bor κ (Body Part b o δ))
-      (sep 𝓤 (A.lft κ q) (sem 𝓛 (follows (Inner R κ') U γ δ after))))
-
-  pub lends_part : Incl κ κ' → Room R (length d.now) → (y : U.Denot) (Rest : SProp 𝓤)
-      → ent 𝓤 (sem 𝓛 (items_at R d d.now)) (sep 𝓤 (sem 𝓛 (own y b o)) Rest)
-      → ((w : U.Denot) → ent 𝓤 (sep 𝓤 (sem 𝓛 (own w b o)) Rest) (sem 𝓛 (items_at R d (F w))))
-      → ent 𝓤 (Open 𝓛 R κ κ' q x) (H.⇛ (ex 𝓤 (Lent y)))
-  lends_part within rm y Rest cut back =
-      let code = (coded_list R.coded).code in
-      qed 𝓛 (‵ (fobs γ ((Inner R κ').coded.code d)) ∷ ‵ (fbor κ (Body (mem (Inner R κ')) x.ref_ptr.0 x.ref_ptr.1 γ))
-      ∷ ‵ (flft κ q) ∷ []) ∵ updating ! $
-      use3 𝓛 (later (some (λ (δ : GName). ‵ ((MutSlice (named 0) κ R).own_val (renamed d δ) (mut_slice_vals d)) ⊛
-      ‵ (flft κ q) ⊛ ‵ (follows (Inner R κ') (Array R 0) γ δ (at_last d)))))
-      (lends_inner_slice 𝓛 R (named 0) (named 1) κ κ' x within rm q) $
-      await ! tt $ pick ! (λ δ. split3 ! $ fsplit3 ! $ drop ! $
-      rewrite ! 0 (λ (l : List R.Denot). ‵ (fobs δ (code l))) (heres_id R d.now) refl $
-      -- [the items' last value; their borrow; the token; the inner reference follows them]
-      open_ref ! tt (Items R d) $ use1 𝓛 (‵ (own y b o) ⊛ raw Rest) cut $ split ! $ move !
-      (2 ∷ 3 ∷ 4 ∷ 0 ∷ 1 ∷ []) $ group ! 5 $
-      use1 𝓛 (later (some (λ (γ' : GName). ‵ (fobs γ' (U.coded.code y)) ⊛ ‵ (fbor κ (Body Part b o γ')) ⊛ ‵ (flft κ q) ⊛
-      ‵ (follows (Array R 0) U δ γ' F))))
-      (takes_part 𝓛 (Items R d) Part F κ q d.ref_ptr.0 d.ref_ptr.1 b o δ Rest back (code d.now) (code d.now) y) $
-      await ! tt $ pick ! (λ γ'. split3 ! $ move ! (2 ∷ []) $ split ! $ move ! (4 ∷ 1 ∷ []) $
-      use2 𝓛 (‵ (follows (Inner R κ') U γ γ' after)) (follows_then 𝓛 (Inner R κ') (Array R 0) U (at_last d) F γ δ γ') $
-      now ! $ show ! (Lent y) γ' $ move ! (2 ∷ 3 ∷ 1 ∷ 0 ∷ []) $ done !))
-
--- the part is a slice of the items, which lies at `spot`
+-- what lends on a slice, whatever its name, lends on the inner one, which the outer reference follows
 module _ {M : Type 1} {𝓤 : Ura M} (𝓛 : Logic 𝓤) (R : RattleType) (κ κ' : Lft) (q : Share)
-    (x : MutBor (MutBor (List R.Denot))) (spot : ℕ) (part : List R.Denot) (written : List R.Denot → List R.Denot) where
-  open 𝓛 use {H, A}
+    (x : MutBor (MutBor (List R.Denot))) where
+  open 𝓛 use {H}
 
-  abbrev block : ℕ
-  block = x.now.ref_ptr.0
-
-  abbrev pub loan : GName → MutBor (List R.Denot)
-  loan δ = record { ref_ptr = (block, spot); ghost_name = δ; now = part }
-
-  abbrev result : GName → Fml
-  result δ = (MutSlice (named 0) κ R).own_val (loan δ) (slice_val (block, spot) (length part) ∷ [])
-
-  abbrev tied : GName → Fml
-  tied δ = follows (Inner R κ') (Array R 0) x.ghost_name δ (λ ws. at_last x.now (written ws))
-
-  -- the slice that the caller gets, under the name δ, the token, and what the inner reference ends as
-  abbrev pub LentSlice : GName → SProp 𝓤
-  LentSlice δ = sep 𝓤 (sem 𝓛 (result δ)) (sep 𝓤 (A.lft κ q) (sem 𝓛 (tied δ)))
-
-  abbrev pub lent_slice : GName → Item 𝓤
-  lent_slice δ = ‵ (result δ) ⊛ ‵ (flft κ q) ⊛ ‵ (tied δ)
-
-  abbrev pub part_at : List R.Denot → Fml
-  part_at ws = (Arr (mem R) (length part)).own_at ws block spot
-
-  pub lends_slice : Incl κ κ' → Room R (length x.now.now) → Room R (length part) → (Rest : SProp 𝓤)
-      → ent 𝓤 (sem 𝓛 (items_at R x.now x.now.now)) (sep 𝓤 (sem 𝓛 (part_at part)) Rest)
-      → ((ws : List R.Denot) → ent 𝓤 (sep 𝓤 (sem 𝓛 (part_at ws)) Rest) (sem 𝓛 (items_at R x.now (written ws))))
-      → ent 𝓤 (Open 𝓛 R κ κ' q x) (H.⇛ (ex 𝓤 LentSlice))
-  lends_slice within rm fits Rest cut back =
+  pub lends_inner : Incl κ κ' → Room R (length x.now.now) → {P : SProp 𝓤}
+      → ((δ : GName) → ent 𝓤 (Whole 𝓛 (Inner R κ') R (at_last x.now) κ q x.ghost_name (renamed x.now δ)) (H.⇛ P))
+      → ent 𝓤 (Open 𝓛 R κ κ' q x) (H.⇛ P)
+  lends_inner within room {P} then =
       qed 𝓛 (‵ (fobs x.ghost_name ((Inner R κ').coded.code x.now))
       ∷ ‵ (fbor κ (Body (mem (Inner R κ')) x.ref_ptr.0 x.ref_ptr.1 x.ghost_name)) ∷ ‵ (flft κ q) ∷ []) ∵ updating ! $
-      use3 𝓛 (later (some (λ (δ : GName). ‵ (fobs δ ((Array R 0).coded.code part)) ⊛
-      ‵ (fbor κ (Body (Arr (mem R) (length part)) block spot δ)) ⊛ ‵ (flft κ q) ⊛ ‵ (tied δ))))
-      (lends_part 𝓛 R (Array R 0) (Arr (mem R) (length part)).own_at written κ κ' q block spot x within rm part Rest cut
-      back) $
-      await ! tt $ pick ! (λ δ. split3 ! $
-      use2 𝓛 (‵ (result δ)) (slice_of 𝓛 R (named 0) κ block spot δ part fits) $ now ! $ show ! LentSlice δ $ done !)
+      use3 𝓛 (later (some (λ (δ : GName). ‵ ((MutSlice (named 0) κ R).own_val (renamed x.now δ) (mut_slice_vals x.now))
+      ⊛ ‵ (flft κ q) ⊛ ‵ (follows (Inner R κ') (Array R 0) x.ghost_name δ (at_last x.now)))))
+      (lends_inner_slice 𝓛 R (named 0) (named 1) κ κ' x within room q) $ await ! tt $ pick ! (λ δ. split3 ! $
+      fsplit3 ! $ drop ! $ group ! 4 $ use1 𝓛 (later (raw P)) (then δ) $ await ! tt $ now ! $ done !)

@@ -5,33 +5,16 @@
 --     spot                                   where it lies
 --     lends_item                             it is lent for as long as the slice was, and what lent the slice follows
 --                                            it
+use Rattle.ga_views.proofs.Steps.{ap, arith, Arr, Array, at_mul, await, Body, capped, check, coded_list, done, ent, ex}
+use Rattle.ga_views.proofs.Steps.{fbor, feq_i, fjoin3, flft, fobs, follows, follows_then, get_or, given, GName, guard}
+use Rattle.ga_views.proofs.Steps.{heres, heres_id, Holey, Item, later, length, Lft, List, Logic, mem, move, MutBor}
+use Rattle.ga_views.proofs.Steps.{MutRef, named, now, pick, qed, RattleType, refl, rewrite, sem, sep, set, Share, show}
+use Rattle.ga_views.proofs.Steps.{some, split, split3, SProp, subst, suc, sym, updating, Ura, use2, use3, Val, vptr}
+use Rattle.ga_views.proofs.Steps.{zero, !, [], ‵, ℕ, ◌$◌, ◌*◌, ◌+◌, ◌<◌, ◌^◌, ◌∙◌, ◌∵◌, ◌∷◌, ◌≡◌, ◌≤◌, ◌⊛◌}
 use native.Mathlib.Nat.{mul-le-mul_right, suc-mul, zero-mul}
-use native.Mathlib.Omega.{arith}
-use seplogic.Ra.Ura.{Ura}
-use base.Fml.{Lft, GName, Share, fbor, flft, fobs}
-use base.Logic.{SProp, ent, sep, ex, guard}
-use base.Stored.{coded_list}
 use borrow.Rule.Slice.AtParam.{inhabits, twice}
 use borrow.Rule.Slice.Handed.{takes_at}
-use borrow.Table.Elements.{at_mul}
-use mir.Syntax.{named}
-use mir.Val.{Val, vptr}
 use prog.Capped.{capped_is}
-use prog.Memory.{capped}
-use types.Hole.{Holey}
-use types.Kit.{Item, ‵, ◌⊛◌, some, given, later, ◌$◌, ◌∵◌, !, qed, move, use2, use3, split, split3, pick, show, await}
-use types.Kit.{check, rewrite, fjoin3, feq_i, updating, now, done}
-use types.Logic.{Logic, sem}
-use types.SemTy.{Arr, Body}
-use denote.Array.{Array}
-use denote.Follow.{follows, follows_then}
-use denote.FollowSlice.{heres_id}
-use denote.Memory.{mem}
-use denote.RattleType.{RattleType}
-use denote.Ref.{MutBor, MutRef}
-use denote.Slice.{heres}
-use Rattle.std.proofs.Common.{◌≡◌, ◌^◌, ◌<◌, ◌≤◌, [], ◌∷◌, ◌∙◌, ◌+◌, ◌*◌, ap, get_or, length, List, refl, set, subst}
-use Rattle.std.proofs.Common.{suc, sym, zero, ℕ}
 
 -- where the product fits a word, the index is zero or the size fits too
 pub uncapped : (i k : ℕ) → i * k < 2 ^ 64 → i * capped k ≡ i * k

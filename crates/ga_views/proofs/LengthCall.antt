@@ -1,36 +1,16 @@
 -- The call that gives a length, `N::USIZE()`, as a step of a walk. Assumes `Logic`.
-use Prim.Native.Nat.{ℕ}
-use Rattle.ga_views.proofs.CallStep.{asked, calls}
+use Rattle.ga_views.proofs.Steps.{ap, call, Callee, Calls, Code, Dict, Env, fact, flft, FmC, ftrue, Fun, heard, id⊢, Is}
+use Rattle.ga_views.proofs.Steps.{Item, lands, Lft, List, Logic, Loops, Memory, move, no_more, nothing, only, peeks}
+use Rattle.ga_views.proofs.Steps.{Place, Post, RattleType, raw, refl, regoal, rewrite, Routine, runs, Seq, seq, Share}
+use Rattle.ga_views.proofs.Steps.{shows, SProp, Triple, Ura, usize, Val, vint, w64, [], ‵, ℕ, ◌$◌, ◌<◌, ◌^◌, ◌∷◌, ◌≡◌}
+use Rattle.ga_views.proofs.Steps.{◌⊑◌, ◌⊛◌}
+use Rattle.ga_views.proofs.CallStep.{asked, Called, calls}
 use Rattle.ga_views.specs.contracts.length.Unsigned.USIZE as length_of
 use Rattle.ga_views.specs.declared.length.Unsigned as unsigned
-use Rattle.std.proofs.Common.{◌≡◌, ◌^◌, ◌<◌, [], ◌∷◌, ap, List, refl}
-use base.Fml.{flft, ftrue, Lft, Share}
-use base.Logic.{id⊢, SProp}
-use contract.BorrowLft.{◌⊑◌}
-use contract.Monad.{fact, Fun}
-use denote.Builtin.{usize}
-use denote.Laws.{Is, shows}
-use denote.RattleType.{RattleType}
-use denote.Steps.{heard, nothing, only, peeks}
-use denote.Triple.Spec.{triple_of}
-use denote.Triple.Statement.{Contract, Triple}
-use mir.Syntax.{Body as Code, call, Callee, Dict, Place, seq, w64}
-use mir.Val.{Val, vint}
-use prog.Memory.{Memory}
-use prog.Routine.{Routine}
-use prog.Wp.{Calls, Env, Loops}
-use seplogic.Ra.Ura.{Ura}
-use sound.WpLaws.{FmC}
-use types.Kit.{‵, ◌⊛◌, ◌$◌, Item, lands, move, Post, raw, regoal, rewrite, runs, Seq}
-use types.Logic.{Logic}
-use types.Run.{no_more}
 
 module _ (N : RattleType) (g : unsigned.Ghosts N.Denot) (d : Dict) {M : Type 1} {𝓤 : Ura M} (𝓛 : Logic 𝓤)
     (at_mem : Memory → SProp 𝓤) (run : Routine → Fun 𝓤) where
   open 𝓛 use {H}
-
-  abbrev pub Called : Contract 𝓤
-  Called = triple_of 𝓛 (length_of.signature N) (length_of.spec N g d 𝓛 at_mem run)
 
   -- the token of N's lifetime
   abbrev pub token : Lft → Share → Item 𝓤
@@ -38,15 +18,15 @@ module _ (N : RattleType) (g : unsigned.Ghosts N.Denot) (d : Dict) {M : Type 1} 
 
   module _ {K : Type 0} {Γ : List (Item 𝓤)} {E : Env 𝓤 H} {C : Calls 𝓤 H} {Λ : Loops 𝓤 H} {f : Callee} {p : Place}
       {rest : Code} {q : Post 𝓤 H} where
-    pub calls_length : K → FmC 𝓤 H 𝓛.laws C → Triple 𝓤 (C f) Called → (κ : Lft) (share : Share) → κ ⊑ N.lives
+    pub calls_length : K → FmC 𝓤 H 𝓛.laws C → Triple 𝓤 (C f)
+        (Called 𝓛 (length_of.ended N g d) (length_of.clauses N g d 𝓛 at_mem run)) → (κ : Lft) (share : Share) → κ ⊑ N.lives
         → ((m : ℕ) → m ≡ g.USIZE → m < 2 ^ 64 → Seq K 𝓛 (‵ (usize.own_val m (vint w64 m ∷ [])) ∷ token κ share ∷ Γ)
         (lands C Λ E p (vint w64 m) rest q))
         → Seq K 𝓛 (token κ share ∷ Γ) (runs C Λ E (seq (call f [] p) rest) q)
     calls_length t framed met κ share lives then =
-        let z : Called.Ghost = (((κ, tt), (share, tt), tt, tt, tt), tt) in
         nothing t $ move t (1 ∷ 0 ∷ []) $
-        calls 𝓛 Called z (λ m v. usize.own_val m (v ∷ [])) (λ (ws : Unit {0}). ftrue) (λ m. raw (fact 𝓤 (m ≡ g.USIZE)))
-        t framed met (asked 𝓛 lives (id⊢ 𝓤 _)) (id⊢ 𝓤 _) (λ v. id⊢ 𝓤 _) (no_more t) (λ v m.
+        calls 𝓛 (length_of.ended N g d) (length_of.clauses N g d 𝓛 at_mem run) (κ, tt) (share, tt) tt tt tt tt
+        (λ m. raw (fact 𝓤 (m ≡ g.USIZE))) t framed met (asked 𝓛 lives (id⊢ 𝓤 _)) (id⊢ 𝓤 _) (λ v. id⊢ 𝓤 _) (no_more t) (λ v m.
         move t (1 ∷ []) $ heard t _ (λ is_length.
         peeks t usize (Is usize) (shows 𝓛 usize) m (v ∷ []) (λ word.
         rewrite t 0 (λ (vs : List Val). ‵ (usize.own_val m vs)) word.0 refl $

@@ -3,36 +3,16 @@
 --     Loan           what such a function takes, asks and gives
 --     Had, Left      what a walk has at its start, and at its end
 --     lends          the function's contract, from its walk
-use mathlib.Core.List.{List, [], ◌∷◌}
-use mathlib.Core.Path.{refl}
-use Prim.Native.Nat.{ℕ, zero, suc}
-use seplogic.Ra.Ura.{Ura}
-use base.Fml.{Fml, flft}
-use base.Logic.{SProp, ent, sep, emp, id⊢, via, fst∗, snd∗}
-use contract.Lifetimes.{AllOutlive, Lfts, Outlives, Shares, toks}
-use contract.Monad.{fact, fact_use}
-use contract.Running.{MachineTables, Running, tables}
-use mir.Syntax.{Callee, Fn, named, w64}
-use mir.Val.{Val, vptr}
-use prog.Model.{Model}
-use prog.Wp.{Calls, Closed, Loops, WpFn}
-use types.Kit.{Item, ⋆, ‵, raw, ◌⊛◌, ◌$◌, ◌∵◌, !, qed, move, split, join, fsplit, fjoin, frame, keep, suffices, use0}
-use types.Kit.{done}
-use types.Logic.{Logic, sem}
-use denote.Builtin.{usize}
-use denote.Exit.{yes, no}
-use denote.Laws.{Are, Ises, Spells, Tellss, valss}
-use denote.Plain.{uint_vals, uint_Tells}
-use denote.RattleType.{Denots, Valss, flat, owns}
-use denote.Ref.{MutBor, MutRef, mut_vals, mut_Tells}
-use denote.Signature.{Slot, mut_ref_to, plain, types_at}
-use denote.Steps.{nothing}
-use denote.Triple.Clauses.{Clauses, Ended, closing}
-use denote.Triple.End.{Fins, Kepts, all}
-use denote.Triple.Spec.{Meets}
-use denote.Triple.Walked.{AllGo, Goes-dropped, Goes-spent_ref, Stays, ends_at, fits_of, has_of, says, stay_dropped}
-use denote.Triple.Walked.{walk_of}
-use Rattle.std.proofs.raw_atomic.Walks.{proved}
+use Rattle.ga_views.proofs.Steps.{AllGo, AllOutlive, Are, Callee, Calls, Clauses, Closed, closing, Denots, done, emp}
+use Rattle.ga_views.proofs.Steps.{Ended, ends_at, ent, fact, fact_use, fits_of, fjoin, flat, flft, Fml, Fn, frame}
+use Rattle.ga_views.proofs.Steps.{fsplit, fst∗, Goes-dropped, Goes-spent_ref, has_of, id⊢, Ises, Item, join, keep, Lfts}
+use Rattle.ga_views.proofs.Steps.{List, Logic, Loops, MachineTables, Meets, Model, move, mut_ref_to, mut_Tells}
+use Rattle.ga_views.proofs.Steps.{mut_vals, MutBor, MutRef, named, no, nothing, Outlives, owns, plain, proved, qed, raw}
+use Rattle.ga_views.proofs.Steps.{refl, Running, says, sem, sep, Shares, Slot, snd∗, Spells, split, SProp, stay_dropped}
+use Rattle.ga_views.proofs.Steps.{Stays, suc, suffices, tables, Tellss, toks, types_at, uint_Tells, uint_vals, Ura}
+use Rattle.ga_views.proofs.Steps.{use0, usize, Val, Valss, valss, via, vptr, w64, walk_of, WpFn, yes, zero, !, [], ‵, ℕ}
+use Rattle.ga_views.proofs.Steps.{⋆, ◌$◌, ◌∵◌, ◌∷◌, ◌⊛◌}
+use denote.Triple.End.{all, Fins, Kepts}
 
 -- the numbers: nothing is left of them, and nothing is said of them
 module _ (L : ℕ) where

@@ -2,40 +2,24 @@
 --     part, place, written, Others     the items of the part, where they lie, the slice with others written over them,
 --                                      and what the part leaves of it in memory
 --     cut, keeps                       the slice's items in memory are the part and the others, and back
---     lends_part                       the part is lent for as long as the slice was, and what lent the slice follows
---                                      it
-use Prim.Native.Nat.{ℕ, ◌+◌, ◌*◌, ◌≤◌}
+--     Whole                            a slice that was lent, with what lent it
+--     lends_slice, lends_part          a part of it is lent for as long as it was, and what lent it follows the part: a
+--                                      part wherever it lies, and one from a place on
+use Rattle.ga_views.proofs.Steps.{ap, arith, Arr, Array, at, at_mul, await, Body, cells, coded_list, cut_app, done}
+use Rattle.ga_views.proofs.Steps.{drop, drop_list, ent, ex, fbor, feq_i, feq_l, fjoin, flft, Fml, fobs, follows}
+use Rattle.ga_views.proofs.Steps.{follows_then, fsplit, GName, group, heres, heres_id, Holey, Item, join_app, later}
+use Rattle.ga_views.proofs.Steps.{length, Lft, List, Logic, mem, move, MutBor, MutSlice, named, now, open_ref, pick}
+use Rattle.ga_views.proofs.Steps.{qed, RattleType, raw, refl, rewrite, Room, sem, SemTy, sep, Share, show, slice_of}
+use Rattle.ga_views.proofs.Steps.{slice_val, some, split, split3, SProp, subst, sym, take, takes_part, updating, Ura}
+use Rattle.ga_views.proofs.Steps.{use1, use2, !, [], ‵, ℕ, ◌$◌, ◌*◌, ◌++◌, ◌+◌, ◌∙◌, ◌∵◌, ◌∷◌, ◌≡◌, ◌≤◌, ◌⊛◌}
+use borrow.Rule.Slice.PartMut.{mid_of, post_of, put_mid, same_len_mid}
+use lib.ListN.{take-append-drop}
+use lib.Seq.{length-take-le}
+use native.Mathlib.Nat.{lt_of_le_of_lt, mul-le-mul_right}
 use Rattle.ga_views.proofs.ItemLoan.{spot}
 use Rattle.ga_views.proofs.PartLemmas.{part_filled, part_long}
 use Rattle.ga_views.specs.Parts.{part_set}
 use Rattle.std.specs.List.{refill}
-use base.Fml.{Fml, GName, Lft, Share, fbor, flft, fobs}
-use base.Logic.{SProp, ent, ex, sep}
-use base.Stored.{coded_list}
-use borrow.Rule.Slice.PartMut.{mid_of, post_of, put_mid, same_len_mid}
-use borrow.Table.Elements.{at, at_mul, cut_app, join_app}
-use denote.Array.{Array}
-use denote.Follow.{follows, follows_then}
-use denote.FollowSlice.{heres_id, slice_of}
-use denote.Memory.{mem}
-use denote.RattleType.{RattleType}
-use denote.Ref.{MutBor}
-use denote.Slice.{MutSlice, Room, heres, slice_val}
-use lib.ListN.{drop as drop_list, length, take, take-append-drop}
-use lib.Seq.{length-take-le}
-use mathlib.Core.List.{List, [], ◌∷◌, ◌++◌}
-use mathlib.Core.Path.{◌≡◌, refl, sym, ap, ◌∙◌}
-use mir.Syntax.{named}
-use native.Mathlib.Nat.{lt_of_le_of_lt, mul-le-mul_right}
-use native.Mathlib.Omega.{arith}
-use seplogic.Ra.Ura.{Ura}
-use types.Follow.{takes_part}
-use types.Hole.{Holey}
-use types.Kit.{Item, ‵, raw, ◌⊛◌, ◌$◌, ◌∵◌, !, await, done, drop, feq_i, feq_l, fjoin, fsplit, group, later, move, now}
-use types.Kit.{pick, qed, rewrite, show, some, split, split3, updating, use1, use2}
-use types.Logic.{Logic, sem}
-use types.Mut.{open_ref}
-use types.SemTy.{Arr, Body, SemTy, cells}
 
 -- the slice is d, and the part its `len` items from place `from` on
 module _ {M : Type 1} {𝓤 : Ura M} (𝓛 : Logic 𝓤) (R : RattleType) (d : MutBor (List R.Denot)) (from len : ℕ) where
@@ -117,62 +101,82 @@ module _ {M : Type 1} {𝓤 : Ura M} (𝓛 : Logic 𝓤) (R : RattleType) (d : M
 
 -- the slice is s. What lent it, a `From` under the name γ, ends as `after` of the slice's items
 module _ {M : Type 1} {𝓤 : Ura M} (𝓛 : Logic 𝓤) (From R : RattleType) (after : List R.Denot → From.Denot) (κ : Lft)
-    (q : Share) (γ : GName) (s : MutBor (List R.Denot)) (from len : ℕ) where
+    (q : Share) (γ : GName) (s : MutBor (List R.Denot)) where
   open 𝓛 use {H, A}
 
-  abbrev items : List R.Denot
-  items = part 𝓛 R s from len
+  abbrev block : ℕ
+  block = s.ref_ptr.0
 
-  abbrev lies : ℕ
-  lies = place 𝓛 R s from len
+  abbrev all : SemTy
+  all = Arr (mem R) (length s.now)
 
-  -- a reference to the part, by its name
-  abbrev pub slice : GName → MutBor (List R.Denot)
-  slice δ = record { ref_ptr = (s.ref_ptr.0, lies); ghost_name = δ; now = items }
+  -- its last value and its borrow, the token, and what lent it
+  abbrev pub Whole : SProp 𝓤
+  Whole = sep 𝓤 (A.obs s.ghost_name ((coded_list R.coded).code (heres R s.now)))
+      (sep 𝓤 (A.bor κ (Body (Arr (Holey (mem R)) (length s.now)) block s.ref_ptr.1 s.ghost_name))
+      (sep 𝓤 (A.lft κ q) (sem 𝓛 (follows From (Array R 0) γ s.ghost_name after))))
 
-  abbrev ends : List R.Denot → From.Denot
-  ends ws = after (written 𝓛 R s from len ws)
+  -- the part lies at `lies` and has these items; the slice's items are `over` of those that are then written there
+  module _ (lies : ℕ) (items : List R.Denot) (over : List R.Denot → List R.Denot) where
+    abbrev these : SemTy
+    these = Arr (mem R) (length items)
 
-  -- the reference is to k items
-  abbrev pub LentPart : ℕ → GName → SProp 𝓤
-  LentPart k δ = sep 𝓤 (sem 𝓛 ((MutSlice (named 0) κ R).own_val (slice δ) (slice_val (s.ref_ptr.0, lies) k ∷ [])))
-      (sep 𝓤 (A.lft κ q) (sem 𝓛 (follows From (Array R 0) γ δ ends)))
+    -- a reference to the part, by its name
+    abbrev pub loan : GName → MutBor (List R.Denot)
+    loan δ = record { ref_ptr = (block, lies); ghost_name = δ; now = items }
 
-  abbrev pub lent_part : ℕ → GName → Item 𝓤
-  lent_part k δ = ‵ ((MutSlice (named 0) κ R).own_val (slice δ) (slice_val (s.ref_ptr.0, lies) k ∷ [])) ⊛ ‵ (flft κ q) ⊛
-      ‵ (follows From (Array R 0) γ δ ends)
+    -- it is to k items
+    abbrev result : ℕ → GName → Fml
+    result k δ = (MutSlice (named 0) κ R).own_val (loan δ) (slice_val (block, lies) k ∷ [])
 
-  pub lends_part : from + len ≤ length s.now → Room R (length s.now)
-      → ent 𝓤 (sep 𝓤 (A.obs s.ghost_name ((coded_list R.coded).code (heres R s.now)))
-      (sep 𝓤 (A.bor κ (Body (Arr (Holey (mem R)) (length s.now)) s.ref_ptr.0 s.ref_ptr.1 s.ghost_name))
-      (sep 𝓤 (A.lft κ q) (sem 𝓛 (follows From (Array R 0) γ s.ghost_name after)))))
-      (H.⇛ (ex 𝓤 (LentPart len)))
-  lends_part within rm =
-      let block : ℕ = s.ref_ptr.0 in
-      let code = (coded_list R.coded).code in
-      let whole : SemTy = Items 𝓛 R s from len in
-      let these : SemTy = Part 𝓛 R s from len in
-      let others : SProp 𝓤 = Others 𝓛 R s from len in
-      let over : List R.Denot → List R.Denot = written 𝓛 R s from len in
-      qed 𝓛 (‵ (fobs s.ghost_name (code (heres R s.now)))
-      ∷ ‵ (fbor κ (Body (Arr (Holey (mem R)) (length s.now)) block s.ref_ptr.1 s.ghost_name)) ∷ ‵ (flft κ q)
-      ∷ ‵ (follows From (Array R 0) γ s.ghost_name after) ∷ []) ∵
-      updating ! $ rewrite ! 0 (λ (l : List R.Denot). ‵ (fobs s.ghost_name (code l))) (heres_id R s.now) refl $
-      open_ref ! tt whole $ use1 𝓛 (‵ (these.own_at items block lies) ⊛ raw others)
-      (cut 𝓛 R s from len within) $ split ! $
-      -- [the part; the others; the open borrow, in three entries; what lent the slice follows it]
-      move ! (2 ∷ 3 ∷ 4 ∷ 0 ∷ 1 ∷ []) $ group ! 5 $
-      use1 𝓛 (later (some (λ (δ : GName). ‵ (fobs δ (code items)) ⊛ ‵ (fbor κ (Body these block lies δ)) ⊛ ‵ (flft κ q)
-      ⊛ ‵ (follows (Array R 0) (Array R 0) s.ghost_name δ over))))
-      (takes_part 𝓛 whole these over κ q block s.ref_ptr.1 block lies s.ghost_name others (keeps 𝓛 R s from len within)
-      (code s.now) (code s.now) items) $
-      await ! tt $ pick ! (λ δ. split3 ! $ move ! (2 ∷ []) $ split ! $ move ! (4 ∷ 1 ∷ []) $
-      use2 𝓛 (‵ (follows From (Array R 0) γ δ ends))
-      (follows_then 𝓛 From (Array R 0) (Array R 0) after over γ s.ghost_name δ) $
-      -- [what lent the slice follows the part; the token; the part's last value; its borrow]
-      move ! (2 ∷ 3 ∷ []) $
-      use2 𝓛 (‵ ((MutSlice (named 0) κ R).own_val (slice δ) (slice_val (block, lies) (length items) ∷ [])))
-      (slice_of 𝓛 R (named 0) κ block lies δ items (part_room 𝓛 R s from len within rm)) $
-      rewrite ! 0 (λ (k : ℕ). ‵ ((MutSlice (named 0) κ R).own_val (slice δ) (slice_val (block, lies) k ∷ [])))
-      (part_long from len s.now within) refl $
-      now ! $ show ! (LentPart len) δ $ move ! (0 ∷ 2 ∷ 1 ∷ []) $ done !)
+    abbrev tied : GName → Fml
+    tied δ = follows From (Array R 0) γ δ (λ ws. after (over ws))
+
+    -- the reference, the token, and what lent the slice
+    abbrev pub LentSlice : ℕ → GName → SProp 𝓤
+    LentSlice k δ = sep 𝓤 (sem 𝓛 (result k δ)) (sep 𝓤 (A.lft κ q) (sem 𝓛 (tied δ)))
+
+    abbrev pub lent_slice : ℕ → GName → Item 𝓤
+    lent_slice k δ = ‵ (result k δ) ⊛ ‵ (flft κ q) ⊛ ‵ (tied δ)
+
+    pub lends_slice : Room R (length items) → (Rest : SProp 𝓤)
+        → ent 𝓤 (sem 𝓛 (all.own_at s.now block s.ref_ptr.1)) (sep 𝓤 (sem 𝓛 (these.own_at items block lies)) Rest)
+        → ((ws : List R.Denot) → ent 𝓤 (sep 𝓤 (sem 𝓛 (these.own_at ws block lies)) Rest)
+        (sem 𝓛 (all.own_at (over ws) block s.ref_ptr.1)))
+        → ent 𝓤 Whole (H.⇛ (ex 𝓤 (LentSlice (length items))))
+    lends_slice fits Rest cut back =
+        let code = (coded_list R.coded).code in
+        qed 𝓛 (‵ (fobs s.ghost_name (code (heres R s.now)))
+        ∷ ‵ (fbor κ (Body (Arr (Holey (mem R)) (length s.now)) block s.ref_ptr.1 s.ghost_name)) ∷ ‵ (flft κ q)
+        ∷ ‵ (follows From (Array R 0) γ s.ghost_name after) ∷ []) ∵
+        updating ! $ rewrite ! 0 (λ (l : List R.Denot). ‵ (fobs s.ghost_name (code l))) (heres_id R s.now) refl $
+        open_ref ! tt all $ use1 𝓛 (‵ (these.own_at items block lies) ⊛ raw Rest) cut $ split ! $
+        -- [the part; the others; the open borrow, in three entries; what lent the slice follows it]
+        move ! (2 ∷ 3 ∷ 4 ∷ 0 ∷ 1 ∷ []) $ group ! 5 $
+        use1 𝓛 (later (some (λ (δ : GName). ‵ (fobs δ (code items)) ⊛ ‵ (fbor κ (Body these block lies δ)) ⊛
+        ‵ (flft κ q) ⊛ ‵ (follows (Array R 0) (Array R 0) s.ghost_name δ over))))
+        (takes_part 𝓛 all these over κ q block s.ref_ptr.1 block lies s.ghost_name Rest back (code s.now) (code s.now)
+        items) $
+        await ! tt $ pick ! (λ δ. split3 ! $ move ! (2 ∷ []) $ split ! $ move ! (4 ∷ 1 ∷ []) $
+        use2 𝓛 (‵ (tied δ)) (follows_then 𝓛 From (Array R 0) (Array R 0) after over γ s.ghost_name δ) $
+        -- [what lent the slice follows the part; the token; the part's last value; its borrow]
+        move ! (2 ∷ 3 ∷ []) $ use2 𝓛 (‵ (result (length items) δ)) (slice_of 𝓛 R (named 0) κ block lies δ items fits) $
+        now ! $ show ! (LentSlice (length items)) δ $ move ! (0 ∷ 2 ∷ 1 ∷ []) $ done !)
+
+  -- the part is the `len` items from place `from` on
+  module _ (from len : ℕ) where
+    abbrev pub slice : GName → MutBor (List R.Denot)
+    slice = loan (place 𝓛 R s from len) (part 𝓛 R s from len) (written 𝓛 R s from len)
+
+    abbrev pub lent_part : ℕ → GName → Item 𝓤
+    lent_part = lent_slice (place 𝓛 R s from len) (part 𝓛 R s from len) (written 𝓛 R s from len)
+
+    abbrev pub LentPart : ℕ → GName → SProp 𝓤
+    LentPart = LentSlice (place 𝓛 R s from len) (part 𝓛 R s from len) (written 𝓛 R s from len)
+
+    pub lends_part : from + len ≤ length s.now → Room R (length s.now) → ent 𝓤 Whole (H.⇛ (ex 𝓤 (LentPart len)))
+    lends_part within rm =
+        subst (λ (k : ℕ). ent 𝓤 Whole (H.⇛ (ex 𝓤 (LentPart k)))) (part_long from len s.now within)
+        (lends_slice (place 𝓛 R s from len) (part 𝓛 R s from len) (written 𝓛 R s from len)
+        (part_room 𝓛 R s from len within rm) (Others 𝓛 R s from len) (cut 𝓛 R s from len within)
+        (keeps 𝓛 R s from len within))

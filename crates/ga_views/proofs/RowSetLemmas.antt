@@ -1,6 +1,6 @@
 -- The rows of a list in which a row was written over: what a loop over rows for writing cites.
 use Rattle.ga_views.proofs.PartLemmas.{part-before, part-behind, part-within, refilled}
-use Rattle.ga_views.proofs.RowLemmas.{cut-rest, cut-rows, length-row, length-rows, row-within, rows-dropped, rows-taken}
+use Rattle.ga_views.proofs.RowLemmas.{length-row, length-rows, row-within, rows-dropped, rows-of_whole, rows-taken}
 use Rattle.ga_views.specs.Parts.{part_set}
 use Rattle.ga_views.specs.Rows.{chunk_count, chunk_rest, row_at, rows}
 use Rattle.std.proofs.Common.{◌≡◌, ℕ, suc, ◌+◌, ◌-◌, ◌*◌, ◌/◌, ◌<◌, ◌≤◌, List, [], ◌∷◌, ◌++◌, ◌∙◌, ap, arith}
@@ -121,12 +121,12 @@ module _ {X : Type 0} (made : ℕ → List X) (width : ℕ) (old items : List X)
 module _ {X : Type 0} (width : ℕ) (items whole rest : List X) (parts : whole ++ rest ≡ items)
     (full : length whole ≡ chunk_count width items * width) where
   pub rows-whole : rows width items ≡ rows width whole
-  rows-whole = sym (cut-rows width items width (length whole) refl full whole
-      (sym (take-append_seam whole rest) ∙ ap (take (length whole)) parts))
+  rows-whole = sym (rows-of_whole width items) ∙ ap (rows width) (ap (λ n. take n items) (sym full)
+      ∙ (ap (take (length whole)) (sym parts) ∙ take-append_seam whole rest))
 
   chunk_rest-whole : chunk_rest width items ≡ rest
-  chunk_rest-whole = sym (cut-rest width items width (length whole) refl full rest
-      (sym (drop-append_seam whole rest) ∙ ap (drop (length whole)) parts))
+  chunk_rest-whole = ap (λ n. drop n items) (sym full)
+      ∙ (ap (drop (length whole)) (sym parts) ∙ drop-append_seam whole rest)
 
 -- so they are where as many items were written over the first part
 module _ {X : Type 0} (width : ℕ) (items whole rest changed : List X) (parts : whole ++ rest ≡ items)

@@ -1,28 +1,16 @@
 -- A `&κ mut T` is lent as a `&T` for a while, and comes back as it was. Assumes `Logic`.
 --     lends_shared     the `&T`, at a new lifetime within κ, and its token
 --     comes_back       whoever gives that token back has the `&κ mut T` and the token of κ
-use mathlib.Core.Path.{refl}
-use mathlib.Core.List.{List, [], ◌∷◌}
-use Prim.Native.Nat.{ℕ}
-use seplogic.Ra.Ura.{Ura}
-use base.Fml.{Fml, Lft, GName, Share, Incl-refl, flft, fdead, flent}
-use base.Fraction.{full_share}
+use Rattle.ga_views.proofs.Steps.{apply∗, assume, await, close_ref, done, ent, ex, fdead, feq_i, feq_l, fjoin3, flent}
+use Rattle.ga_views.proofs.Steps.{flft, Fml, frame, fsplit3, full_share, GName, Incl-refl, Item, later, Lft, List}
+use Rattle.ga_views.proofs.Steps.{Logic, meet_⊑_left, meet_⊑_right, mem, move, MutRef, named, now, open_ref, part_at}
+use Rattle.ga_views.proofs.Steps.{qed, RattleType, raw, refl, sem, sep, Share, show, ShrRef, split, SProp, updating}
+use Rattle.ga_views.proofs.Steps.{Ura, use1, use2, Val, vptr, wand, !, [], ‵, ℕ, ⊑_trans, ◌$◌, ◌∵◌, ◌∷◌, ◌⊑◌, ◌⊛◌}
 use base.FractionLaws.{common}
-use base.Logic.{SProp, ent, sep, ex, wand, apply∗}
-use base.Share
-use contract.BorrowLft.{◌⊑◌, ⊑_trans, meet_⊑_left, meet_⊑_right}
-use mir.Syntax.{named}
-use mir.Val.{Val, vptr}
-use types.Kit.{Item, ‵, raw, ◌⊛◌, later, ◌$◌, ◌∵◌, !, qed, move, assume, use1, use2, split, frame, show, await, fsplit3}
-use types.Kit.{fjoin3, feq_i, feq_l, updating, now, done}
-use types.Logic.{Logic, sem}
-use types.Mut.{open_ref, close_ref}
-use types.Tokens.{lft_new, lft_end, lft-common, lent_back}
+use types.Tokens.{lent_back, lft-common, lft_end, lft_new}
 use denote.Lend.{lends_shr}
-use denote.Memory.{mem, part_at}
-use denote.RattleType.{RattleType}
-use denote.Ref.{MutRef, ShrRef}
 use denote.Shares.{Shares}
+use base.Share
 
 -- the reference points to (b, o), its name is γ, and what it shows is x
 module _ {M : Type 1} {𝓤 : Ura M} (𝓛 : Logic 𝓤) (R : RattleType) (κ : Lft) (q : Share) (b o : ℕ) (γ : GName)

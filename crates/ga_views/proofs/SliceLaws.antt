@@ -1,18 +1,13 @@
 -- A slice of items for writing, where the items' type is the type parameter i, and the view of such a slice, where
 -- its length is the type parameter j; with their laws.
-use Prim.Native.Nat.{ℕ}
+use Rattle.ga_views.proofs.Steps.{Laws, NamedLft, of_field, param, param_laws, RattleType, refl, row_shared, ℕ}
+use denote.Param.Shared.{mut_slice_shared}
+use denote.Struct.Field.{mut_slice_field}
+use denote.Struct.Laws.{mut_slice_laws}
 use Rattle.ga_views.proofs.view_mut.ViewMut.TheLaws as view_laws
 use Rattle.ga_views.specs.contracts.view_mut.ViewMut as view
 use Rattle.ga_views.specs.contracts.reborrow.RefMutSliceReborrowSlice.TheImpl as impl
 use Rattle.ga_views.specs.declared.length.Unsigned as unsigned
-use Rattle.std.proofs.Common.{refl}
-use denote.Param.{param}
-use denote.Param.Laws.{Laws, of_field, param_laws, row_shared}
-use denote.Param.Shared.{mut_slice_shared}
-use denote.RattleType.{RattleType}
-use denote.Ref.{NamedLft}
-use denote.Struct.Field.{mut_slice_field}
-use denote.Struct.Laws.{mut_slice_laws}
 
 module _ (ℓ : NamedLft) (i : ℕ) (X : RattleType) where
   abbrev R : RattleType

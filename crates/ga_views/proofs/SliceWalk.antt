@@ -1,36 +1,14 @@
 -- A walk of a function that takes a slice for writing, and nothing else, and gives it up: all of it but what the
 -- function asks, what it gives and its own steps. Assumes `Logic`.
-use Prim.Native.Nat.{ℕ, suc}
-use Rattle.ga_views.proofs.CallStep.{asked, calls}
-use Rattle.std.proofs.Common.{◌<◌, ◌^◌, [], ◌∷◌, length, List, MutBor}
-use Rattle.std.proofs.raw_atomic.Walks.{leaves, proved}
-use base.Fml.{flft, ftrue, Lft}
-use base.Logic.{emp, ent, id⊢, sep, SProp}
-use contract.BorrowLft.{◌⊑◌}
-use contract.Lifetimes.{AllOutlive, Lfts, Outlives, Shares}
-use contract.Monad.{fact}
-use contract.Running.{MachineTables, Running, tables}
-use denote.Builtin.{SliceRefMutOf}
-use denote.Exit.{no}
-use denote.Param.{param}
-use denote.RattleType.{owns, RattleType}
-use denote.Signature.{plain, Slot, type_at, types_at}
-use denote.Slice.{mut_slice_Tells, mut_slice_vals, slice_val}
-use denote.Steps.{nothing}
-use denote.Triple.Clauses.{at_exit, Clauses, closing, Ended, Lasts, lasts}
-use denote.Triple.Entry.{alive, on_entry}
-use denote.Triple.Spec.{Meets, triple_of}
-use denote.Triple.Statement.{Contract, Triple}
-use denote.Triple.Walked.{Goes-spent_slice, has_of, stay_dropped, Stays}
-use mir.Syntax.{Body as Code, call, Callee, Fn, named, Opd as Operand, Place, seq}
-use mir.Val.{Val}
-use prog.Model.{Model}
-use prog.Wp.{Calls, Closed, Env, Loops, WpFn}
-use seplogic.Ra.Ura.{Ura}
-use sound.WpLaws.{FmC}
-use types.Kit.{‵, ◌⊛◌, ◌$◌, group, Item, lands, move, Post, raw, runs, Seq}
-use types.Logic.{Logic, sem}
-use types.Run.{Opds}
+use Rattle.ga_views.proofs.Steps.{alive, AllOutlive, at_exit, call, Callee, Calls, Clauses, Closed, closing, Code}
+use Rattle.ga_views.proofs.Steps.{Contract, emp, Ended, ent, Env, fact, flft, FmC, Fn, ftrue, Goes-spent_slice, group}
+use Rattle.ga_views.proofs.Steps.{has_of, id⊢, Item, lands, leaves, length, Lft, Lfts, List, Logic, Loops}
+use Rattle.ga_views.proofs.Steps.{MachineTables, Meets, Model, move, mut_slice_Tells, mut_slice_vals, MutBor, named, no}
+use Rattle.ga_views.proofs.Steps.{nothing, on_entry, Opds, Operand, Outlives, owns, param, Place, plain, Post, proved}
+use Rattle.ga_views.proofs.Steps.{RattleType, raw, Running, runs, sem, sep, Seq, seq, Shares, slice_val, SliceRefMutOf}
+use Rattle.ga_views.proofs.Steps.{Slot, SProp, stay_dropped, Stays, suc, tables, Triple, type_at, types_at, Ura, Val}
+use Rattle.ga_views.proofs.Steps.{WpFn, [], ‵, ℕ, ◌$◌, ◌<◌, ◌^◌, ◌∷◌, ◌⊑◌, ◌⊛◌}
+use Rattle.ga_views.proofs.CallStep.{asked, Called, calls}
 
 -- the slice is lent for the first lifetime of `more` and one, and its items' type is the function's first type
 -- parameter
@@ -116,7 +94,7 @@ module _ {outlives : List (Outlives 3)} (X : RattleType) {result : Slot 3} {M : 
   Callable = ended 2 outlives X result
 
   abbrev pub Passed : Contract 𝓤
-  Passed = triple_of 𝓛 Callable.signature (closing 𝓛 Callable c)
+  Passed = Called 𝓛 Callable c
 
   module _ (κs : Lfts 3) (qs : Shares 3) (bounds : AllOutlive 3 outlives κs) (s : Items 2 outlives X result)
       (g : (c κs (s, tt)).ghost) where
@@ -140,7 +118,6 @@ module _ {outlives : List (Outlives 3)} (X : RattleType) {result : Slot 3} {M : 
           (runs C Λ G (seq (call f xs p) rest) post)
       passes t framed met asked read then =
           nothing t $ move t (1 ∷ 2 ∷ 3 ∷ 0 ∷ []) $ group t 4 $
-          calls 𝓛 Passed passed_at (λ r v. (type_at result κs).own_val r (v ∷ []))
-          (λ (ws : Lasts Callable κs (s, tt)). lasts Callable κs (s, tt) ws)
+          calls 𝓛 Callable c κs qs bounds (s, tt) (mut_slice_vals s, tt) g
           (λ r. raw ((c κs (s, tt)).ensures g r (at_exit Callable κs (s, tt) (tt, tt)))) t framed met asked (id⊢ 𝓤 _)
           (λ v. id⊢ 𝓤 _) read then

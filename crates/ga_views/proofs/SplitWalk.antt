@@ -1,38 +1,15 @@
 -- The call that cuts a slice for writing in two, `split_at_mut`, as a step of a walk: the slice, the place and the
 -- tokens go in, and the two parts come out with what is known of them. Assumes `Logic`.
-use Prim.Native.Nat.{ℕ}
-use Rattle.ga_views.proofs.CallStep.{asked, calls}
+use Rattle.ga_views.proofs.Steps.{ap, Array, call, Callee, Calls, Code, Contract, drop, drop_list, emp, Env, fact}
+use Rattle.ga_views.proofs.Steps.{fact_i, feq_l, fjoin, flft, FmC, Fml, follows_both, fpick, fsplit, ftrue, Fun, group}
+use Rattle.ga_views.proofs.Steps.{heard, id⊢, Is, Item, lands, length, Lft, List, Logic, Loops, Memory, move}
+use Rattle.ga_views.proofs.Steps.{mut_slice_vals, MutBor, MutSlice, named, nothing, of_list, only, Opds, Operand, param}
+use Rattle.ga_views.proofs.Steps.{peeks, Place, Post, RattleType, raw, refl, regoal, rewrite, Routine, runs, Seq, seq}
+use Rattle.ga_views.proofs.Steps.{Share, shows, slice_val, split, SProp, take, Triple, Ura, usize, Val, vint, vstruct}
+use Rattle.ga_views.proofs.Steps.{w64, [], ‵, ℕ, ◌$◌, ◌++◌, ◌+◌, ◌<◌, ◌^◌, ◌∙◌, ◌∷◌, ◌≡◌, ◌≤◌, ◌⊑◌, ◌⊛◌}
+use Rattle.ga_views.proofs.CallStep.{asked, Called, called_at, calls}
 use Rattle.std.below.core.specs.contracts.slice.slice+T.split_at_mut as cut_contract
-use Rattle.std.proofs.Common.{◌≡◌, ◌+◌, ◌++◌, ◌≤◌, ◌<◌, ◌^◌, [], ◌∷◌, ◌∙◌, ap, drop as drop_l, length, List, MutBor}
-use Rattle.std.proofs.Common.{refl, take}
 use Rattle.std.specs.List.{SameBelow, TailFrom}
-use base.Fml.{flft, Fml, ftrue, Lft, Share}
-use base.Logic.{emp, id⊢, SProp}
-use contract.BorrowLft.{◌⊑◌}
-use contract.Monad.{fact, fact_i, Fun}
-use denote.Array.{Array}
-use denote.Builtin.{usize}
-use denote.Follow.{follows_both}
-use denote.Laws.{Is, shows}
-use denote.Param.{param}
-use denote.RattleType.{RattleType}
-use denote.Slice.{mut_slice_vals, MutSlice, slice_val}
-use denote.Steps.{heard, nothing, only, peeks}
-use denote.Struct.Tuple.{Tuple}
-use denote.Triple.Clauses.{Lasts, lasts}
-use denote.Triple.Spec.{triple_of}
-use denote.Triple.Statement.{Contract, Triple}
-use mir.Syntax.{Body as Code, call, Callee, named, Opd as Operand, Place, seq, w64}
-use mir.Val.{of_list, Val, vint, vstruct}
-use prog.Memory.{Memory}
-use prog.Routine.{Routine}
-use prog.Wp.{Calls, Env, Loops}
-use seplogic.Ra.Ura.{Ura}
-use sound.WpLaws.{FmC}
-use types.Kit.{‵, ◌⊛◌, ◌$◌, drop, feq_l, fjoin, fpick, fsplit, group, Item, lands, move, Post}
-use types.Kit.{raw, regoal, rewrite, runs, Seq, split}
-use types.Logic.{Logic}
-use types.Run.{Opds}
 
 module _ (X : RattleType) where
   abbrev E : RattleType
@@ -57,7 +34,7 @@ module _ (X : RattleType) where
     pub first_len : length first.now ≡ place
     pub second_len : length second.now + place ≡ length s.now
     pub first_is : first.now ≡ take place s.now
-    pub second_is : second.now ≡ drop_l place s.now
+    pub second_is : second.now ≡ drop_list place s.now
     pub first_fits : length first.now < 2 ^ 64
     pub second_fits : length second.now < 2 ^ 64
 
@@ -65,7 +42,7 @@ module _ (X : RattleType) where
     open 𝓛 use {H}
 
     abbrev pub Cuts : Contract 𝓤
-    Cuts = triple_of 𝓛 (cut_contract.signature X) (cut_contract.spec X 𝓛 at_mem run)
+    Cuts = Called 𝓛 (cut_contract.ended X) (cut_contract.clauses X 𝓛 at_mem run)
 
     module _ (κ κT : Lft) (q qT : Share) (within : κ ⊑ κT) (s : Items) (place : ℕ) where
       -- the slice is lent for κ, and κT is the lifetime of its items' type
@@ -73,16 +50,8 @@ module _ (X : RattleType) where
       S = MutSlice (named 0) κ E
 
       abbrev pub cut_at : Cuts.Ghost
-      cut_at = (
-        (
-          (κ, (κT, tt)),
-          (q, (qT, tt)),
-          (within, tt),
-          (s, (place, tt)),
-          (mut_slice_vals s, (vint w64 place ∷ [], tt)),
-        ),
-        tt,
-      )
+      cut_at = called_at 𝓛 (cut_contract.ended X) (cut_contract.clauses X 𝓛 at_mem run) (κ, (κT, tt)) (q, (qT, tt))
+          (within, tt) (s, (place, tt)) (mut_slice_vals s, (vint w64 place ∷ [], tt)) tt
 
       module _ {K : Type 0} {Γ : List (Item 𝓤)} {G : Env 𝓤 H} {C : Calls 𝓤 H} {Λ : Loops 𝓤 H} {f : Callee}
           {xs : List Operand} {p : Place} {rest : Code} {post : Post 𝓤 H} where
@@ -99,12 +68,11 @@ module _ (X : RattleType) where
         cuts t framed met lives inside read then =
             nothing t $ move t (2 ∷ 0 ∷ []) $ fjoin t $ move t (1 ∷ 0 ∷ []) $ fjoin t $
             nothing t $ move t (2 ∷ 3 ∷ 0 ∷ 1 ∷ []) $ group t 3 $
-            calls 𝓛 Cuts cut_at (λ (r : S.Denot × S.Denot) u. (Tuple (S ∷ S ∷ [])).own_val r (u ∷ []))
-            (λ (ws : Lasts (cut_contract.ended X) cut_at.0.0 cut_at.0.3).
-            lasts (cut_contract.ended X) cut_at.0.0 cut_at.0.3 ws)
+            calls 𝓛 (cut_contract.ended X) (cut_contract.clauses X 𝓛 at_mem run) (κ, (κT, tt)) (q, (qT, tt))
+            (within, tt) (s, (place, tt)) (mut_slice_vals s, (vint w64 place ∷ [], tt)) tt
             (λ r. raw (fact 𝓤 (s.now ≡ r.0.now ++ r.1.now)) ⊛ raw (fact 𝓤 (length r.0.now ≡ place)) ⊛ raw
             (fact 𝓤 (length r.1.now + place ≡ length s.now)) ⊛
-            raw (fact 𝓤 (r.0.now ≡ take place s.now)) ⊛ raw (fact 𝓤 (r.1.now ≡ drop_l place s.now)) ⊛ raw
+            raw (fact 𝓤 (r.0.now ≡ take place s.now)) ⊛ raw (fact 𝓤 (r.1.now ≡ drop_list place s.now)) ⊛ raw
             (fact 𝓤 (SameBelow s.now r.0.now place × TailFrom s.now r.1.now place)) ⊛
             ‵ (joins s r.0 r.1)) t framed met (asked 𝓛 lives (fact_i 𝓤 _ (emp 𝓤) inside)) (id⊢ 𝓤 _) (λ u. id⊢ 𝓤 _)
             read (λ u r. move t (1 ∷ []) $

@@ -62,6 +62,7 @@ impl<'a, T, N: Unsigned> GenericArrayRef<'a, T, N> {
 
     /// All items, in order.
     #[inline]
+    #[tactic(auto, using(std::proofs::lemmas::List::take_all))]
     pub fn as_slice(&self) -> &[T]
         ensures items { result.now ≡ items_of_view self.now }
         ensures len { length result.now ≡ N.USIZE }
@@ -72,6 +73,7 @@ impl<'a, T, N: Unsigned> GenericArrayRef<'a, T, N> {
 
     /// All items, in order, for the whole borrow that the view was made of.
     #[inline]
+    #[tactic(auto, using(std::proofs::lemmas::List::take_all))]
     pub fn into_slice(self) -> &'a [T]
         ensures items { result.now ≡ items_of_view self.entry }
         ensures len { length result.now ≡ N.USIZE }
@@ -82,6 +84,7 @@ impl<'a, T, N: Unsigned> GenericArrayRef<'a, T, N> {
 
     /// The item at `index`, or `None` where `index` isn't below `N`.
     #[inline]
+    #[tactic(auto, using(crate::proofs::GetLemmas::got))]
     pub fn get(&self, index: usize) -> Option<&T>
         ensures variant { IsSome result ↔ (index < N.USIZE) }
         ensures item { option_copied result ≡ slice_get (items_of_view self.now) index }

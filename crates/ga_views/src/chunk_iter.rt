@@ -50,6 +50,7 @@ impl<'a, T, N: Unsigned> ChunkIter<'a, T, N> {
 
     /// The number of rows that are left.
     #[inline]
+    #[tactic(auto, using(crate::proofs::RowLemmas::row_facts))]
     pub fn len(&self) -> usize
         ensures { result ≡ length self.now }
     {
@@ -128,6 +129,7 @@ impl<'a, T, N: Unsigned> DoubleEndedIterator for ChunkIter<'a, T, N> {
 
 // Whether the slice holds a row of this width, of which there is none where the width is 0.
 #[inline]
+#[tactic(auto, using(crate::proofs::RowLemmas::row_facts))]
 fn has_row<T>(slice: &[T], width: usize) -> bool
     ensures some { result ≡ true → (0 < width) × (width ≤ length slice.now) }
     ensures none { result ≡ false → rows width slice.now ≡ [] }

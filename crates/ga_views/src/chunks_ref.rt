@@ -51,6 +51,7 @@ impl<'a, T, N: Unsigned> ChunksRef<'a, T, N> {
     /// The counterpart of `GenericArray::chunks_from_slice`, which panics where `N` is 0 and the
     /// slice isn't empty.
     #[inline]
+    #[tactic(auto, using(crate::proofs::RowLemmas::cut_facts))]
     pub fn chunks_from_slice(slice: &'a [T]) -> (Self, &'a [T])
         requires width { (0 < N.USIZE) ⊎ (length slice.now ≡ 0) }
         ensures rows { rows N.USIZE (items_of_chunks result.0) ≡ rows N.USIZE slice.now }
@@ -63,6 +64,7 @@ impl<'a, T, N: Unsigned> ChunksRef<'a, T, N> {
 
     /// The number of rows. O(1).
     #[inline]
+    #[tactic(auto, using(crate::proofs::RowLemmas::row_facts))]
     pub fn len(&self) -> usize
         ensures count { result ≡ chunk_count N.USIZE (items_of_chunks self.now) }
         ensures rows { result ≡ length (rows N.USIZE (items_of_chunks self.now)) }
@@ -75,6 +77,7 @@ impl<'a, T, N: Unsigned> ChunksRef<'a, T, N> {
 
     // Where the row at `index` starts among the items. They lie in a slice, so this fits a `usize`.
     #[inline]
+    #[tactic(auto, using(crate::proofs::RowLemmas::row_facts))]
     pub(crate) fn start_of(self, index: usize) -> usize
         requires in_bounds { index < chunk_count N.USIZE (items_of_chunks self) }
         ensures { result ≡ index * N.USIZE }
@@ -84,6 +87,7 @@ impl<'a, T, N: Unsigned> ChunksRef<'a, T, N> {
 
     /// The row at `index`, or `None` if there are at most `index` rows. O(1).
     #[inline]
+    #[tactic(auto, using(crate::proofs::RowLemmas::row_facts))]
     pub fn get(&self, index: usize) -> Option<GenericArrayRef<'a, T, N>>
         ensures variant { IsSome result ↔ (index < chunk_count N.USIZE (items_of_chunks self.now)) }
         ensures row { IfSome result (λ view.

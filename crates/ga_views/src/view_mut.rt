@@ -108,6 +108,7 @@ impl<S: ReborrowSlice<T>, T, N: Unsigned> ViewMut<S, T, N> {
 
     /// All items, in order.
     #[inline]
+    #[tactic(auto, using(std::proofs::lemmas::List::take_all))]
     pub fn as_slice(&self) -> &[T]
         ensures items { result.now ≡ S.items self.now.slice }
         ensures len { length result.now ≡ N.USIZE }
@@ -128,6 +129,7 @@ impl<S: ReborrowSlice<T>, T, N: Unsigned> ViewMut<S, T, N> {
 
     /// The item at `index`, or `None` where `index` isn't below `N`.
     #[inline]
+    #[tactic(auto, using(crate::proofs::GetLemmas::got))]
     pub fn get(&self, index: usize) -> Option<&T>
         ensures variant { IsSome result ↔ (index < N.USIZE) }
         ensures item { option_copied result ≡ slice_get (S.items self.now.slice) index }

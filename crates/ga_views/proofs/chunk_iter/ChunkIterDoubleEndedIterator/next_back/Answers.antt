@@ -1,13 +1,13 @@
-use Rattle.ga_views.proofs.RowLemmas.{last-split, rows-none}
+use Rattle.ga_views.proofs.RowLemmas.{last-split}
 use Rattle.ga_views.proofs.chunk_iter.ChunkIterDoubleEndedIterator.next_back.Given as given
 use Rattle.ga_views.proofs.chunk_iter.ChunkIterDoubleEndedIterator.next_back.Goals as goal
 use Rattle.ga_views.specs.Rows.{chunk_count, rows}
-use Rattle.std.proofs.Common.{[], arith, length, ◌*◌, ◌++◌, ◌<◌, ◌∙◌, ◌∷◌, ◌≡◌}
+use Rattle.std.proofs.Common.{[], arith, length, sym, ◌*◌, ◌++◌, ◌<◌, ◌∙◌, ◌∷◌, ◌≡◌}
 
 -- where no row is held, none is left
 pub returns-then-not-has_row-clause-steps : goal.returns-then-not-has_row-clause-steps
 returns-then-not-has_row-clause-steps g c =
-    let none = rows-none _ _ _ _ c.self.view_is c.USIZE-width.ensures (c.has_row.ensures.none c.if-not-has_row.true) in
+    let none = sym c.self.view_is ∙ (rw c.USIZE-width.ensures at (c.has_row.ensures.none c.if-not-has_row.true)) in
     (none, none)
 
 -- where one is held, the width is within the items
@@ -28,9 +28,13 @@ split : (g : given.Over) (c : goal.After-from_slice g)
     → let left = c.split_at.result.0.now in let width = g.N.Unsigned.USIZE in
     (c.args.self.now ≡ rows width left ++ c.from_slice.result.slice.now ∷ [])
     × (length left ≡ chunk_count width left * width) × (length (rows width left) < length c.args.self.now)
-split g c = last-split _ _ c.self.invariant _ c.self.view_is _ c.USIZE-width.ensures
-    (c.has_row.ensures.some c.if-not-has_row.false) _ _ c.split_at.ensures.front
-    (c.from_slice.ensures ∙ c.split_at.ensures.back)
+split g c = rw (
+  ← c.self.view_is,
+  c.from_slice.ensures ∙ c.split_at.ensures.back,
+  c.split_at.ensures.front,
+  c.USIZE-width.ensures,
+) (last-split _ _ c.self.invariant
+    (rw c.USIZE-width.ensures at (c.has_row.ensures.some c.if-not-has_row.false)))
 
 pub invariant_of-self : goal.invariant_of-self
 invariant_of-self g c = (split g c).1

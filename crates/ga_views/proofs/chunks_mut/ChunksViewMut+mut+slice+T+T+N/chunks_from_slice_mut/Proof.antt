@@ -1,13 +1,26 @@
 -- `chunks_from_slice_mut` cuts the slice behind its whole rows, so the slice ends as what the rows' items and the
 -- rest end as, one after the other. The borrow checker shows no clause on two parts where one of them is passed on to
 -- a call that makes rows of it, so this proof walks the code by hand. Assumes `Logic`.
-use Prim.Native.Nat.{ℕ}
+use Rattle.ga_views.proofs.Steps.{addr, agg, alloc_all, and_then, ap, arg, arg_laws, arith, Array, by, Dict, dnil, done}
+use Rattle.ga_views.proofs.Steps.{drop, drop_list, emp, ent, enter, fact, fact_i, feq_i, fjoin, fld, flft, follows_both}
+use Rattle.ga_views.proofs.Steps.{fpack, framed, free_all, from, fsplit, ftrue, get, get_in, GName, group, heard, hop}
+use Rattle.ga_views.proofs.Steps.{id⊢, impl_of, Is, lands_as, Laws, layout, length, Lft, List, Logic, look_at}
+use Rattle.ga_views.proofs.Steps.{look_in_at, move, mut_slice_vals, MutSlice, named, NamedLft, no, no_more, nothing}
+use Rattle.ga_views.proofs.Steps.{of_list, of_opd, only, owned, owns, param, param_laws, pass_all, peeks, qed}
+use Rattle.ga_views.proofs.Steps.{RattleType, raw, refl, returns, rewrite, sem, sep, sets, shows, slice_val, split}
+use Rattle.ga_views.proofs.Steps.{split3, stop, sub, sym, tables, take, tcons, tnil, Tuple, tuple_laws, tuple_type}
+use Rattle.ga_views.proofs.Steps.{ty_int, ty_ptr, ty_struct, uint_Makes, Ura, use0, use2, usize, Val, Valss, vint}
+use Rattle.ga_views.proofs.Steps.{vstruct, w64, whole, within, yes, !, [], ‵, ℕ, ⊑_meet, ⊑_refl, ⊑_trans, ◌$◌, ◌*◌}
+use Rattle.ga_views.proofs.Steps.{◌++◌, ◌<◌, ◌∙◌, ◌∵◌, ◌∷◌, ◌≡◌, ◌≤◌, ◌⊑◌, ◌⊛◌}
+use Rattle.std.proofs.Common.{◌/◌, ◌⊎◌}
+use denote.Param.NoDrop.{glues}
+use denote.Struct.Declared.{shape}
 use Rattle.ga_views.proofs.CallStep.{asked, calls}
 use Rattle.ga_views.proofs.LengthCall.{calls_length}
 use Rattle.ga_views.proofs.SliceWalk.{gives_up}
 use Rattle.ga_views.proofs.SliceLaws.{Slice, slice_laws}
 use Rattle.ga_views.proofs.SplitWalk.{cuts}
-use Rattle.ga_views.proofs.RowLemmas.{count-whole, rows-of_whole}
+use Rattle.ga_views.proofs.RowLemmas.{rows-of_whole, whole_by}
 use Rattle.ga_views.proofs.chunks_mut.ChunksViewMut.TheLaws as rows_laws
 use Rattle.ga_views.proofs.chunks_mut.ChunksViewMut.over.Met as made
 use Rattle.ga_views.proofs.chunks_mut.ChunksViewMut+mut+slice+T+T+N.chunks_from_slice_mut.Code as code
@@ -21,44 +34,8 @@ use Rattle.ga_views.specs.contracts.chunks_mut.ChunksViewMut+mut+slice+T+T+N.chu
 use Rattle.ga_views.specs.contracts.chunks_ref.len_of_rows as count_contract
 use Rattle.ga_views.specs.contracts.reborrow.RefMutSliceReborrowSlice.TheImpl as impl
 use Rattle.ga_views.specs.declared.length.Unsigned as unsigned
-use Rattle.std.proofs.Common.{◌≡◌, ◌⊎◌, ◌*◌, ◌/◌, ◌++◌, ◌≤◌, ◌<◌, [], ◌∷◌, ◌∙◌, ap, arith, drop as drop_l, length, List}
-use Rattle.std.proofs.Common.{refl, sym, take}
 use Rattle.std.proofs.Math.Nat.{div-mul-le_self}
 use Rattle.std.proofs.slice.slice+T.split_at_mut.Met as cut
-use base.Fml.{flft, fsep, ftrue, GName, Lft}
-use base.Logic.{emp, ent, id⊢, sep}
-use contract.BorrowLft.{◌⊑◌, ⊑_meet, ⊑_refl, ⊑_trans}
-use contract.Monad.{fact, fact_i}
-use contract.Running.{tables}
-use denote.Array.{Array}
-use denote.Builtin.{usize}
-use denote.Exit.{no, yes}
-use denote.Follow.{follows_both}
-use denote.Laws.{Is, shows}
-use denote.Param.{arg, layout, param}
-use denote.Param.Laws.{arg_laws, Laws, param_laws}
-use denote.Param.NoDrop.{glues}
-use denote.Plain.{uint_Makes}
-use denote.RattleType.{owns, RattleType, Valss}
-use denote.Ref.{NamedLft}
-use denote.Slice.{mut_slice_vals, MutSlice, slice_val}
-use denote.Steps.{heard, nothing, only, owned, peeks}
-use denote.Struct.Declared.{shape}
-use denote.Struct.Struct.{within}
-use denote.Struct.Tuple.{Tuple, tuple_laws, tuple_type}
-use denote.Triple.Clauses.{Lasts, lasts}
-use denote.Triple.Spec.{triple_of}
-use denote.Triple.Table.{framed}
-use mir.Syntax.{Dict, dnil, impl as impl_of, named, tcons, tnil, ty_int, ty_ptr, ty_struct}
-use mir.Syntax.{w64}
-use mir.Val.{of_list, Val, vint, vstruct}
-use seplogic.Ra.Ura.{Ura}
-use types.ByLocal.{alloc_all, free_all, get, get_in, lands_as, look_at, look_in_at, pass_all, sets}
-use types.Kit.{‵, ◌⊛◌, ◌$◌, ◌∵◌, !, by, done, drop, feq_i, fjoin, fpack, fsplit, group, move}
-use types.Kit.{qed, raw, rewrite, split, split3, use0, use2}
-use types.Logic.{Logic, sem}
-use types.Part.{agg, sub, whole}
-use types.Run.{addr, and_then, enter, fld, from, hop, no_more, of_opd, returns, stop}
 
 -- two values as a pair
 module _ {M : Type 1} {𝓤 : Ura M} (𝓛 : Logic 𝓤) (R R' : RattleType) where
@@ -132,12 +109,10 @@ chunks_from_slice_mut_spec 𝓤 𝓛 𝓜 𝓡 wired X N LX LN g d bound =
     -- [the width; the token of N; the tokens of κ, T; the slice]
     lands_as ! refl refl (tt, record { fits = fm }) $
     -- how many items lie in whole rows
-    let K = triple_of 𝓛 count_contract.signature (count_contract.spec 𝓛 𝓜.mem 𝓡.returns) in
-    let zK : K.Ghost = ((tt, tt, tt, (n, (m, tt)), (vint w64 n ∷ [], (vint w64 m ∷ [], tt))), tt) in
     owned ! usize _ (uint_Makes 𝓛 w64) n _ (refl, fits) $
     nothing ! $ move ! (2 ∷ 0 ∷ []) $ fjoin ! $ move ! (1 ∷ 0 ∷ []) $ fjoin ! $ nothing ! $
-    calls 𝓛 K zK (λ k v. usize.own_val k (v ∷ []))
-    (λ (ws : Lasts count_contract.ended zK.0.0 zK.0.3). lasts count_contract.ended zK.0.0 zK.0.3 ws)
+    calls 𝓛 count_contract.ended (count_contract.clauses 𝓛 𝓜.mem 𝓡.returns) tt tt tt (n, (m, tt))
+    (vint w64 n ∷ [], (vint w64 m ∷ [], tt)) tt
     (λ k. raw (fact 𝓤 (k ≡ n / m * m))) ! (framed 𝓤 𝓛.H 𝓜 𝓣)
     (counted.met 𝓤 𝓛 𝓜 𝓡 (code.calls-ga_views::chunks_ref::len_of_rows 𝓡.env wired)) (id⊢ 𝓤 _) (id⊢ 𝓤 _)
     (λ v. id⊢ 𝓤 _) (and_then ! (get ! refl) (and_then ! (get ! refl) (no_more !))) (λ v k.
@@ -189,24 +164,12 @@ chunks_from_slice_mut_spec 𝓤 𝓛 𝓜 𝓡 wired X N LX LN g d bound =
     (record { all = lends.all; all_mut = lends.all_mut; item_mut = lends.item_mut }) (record { USIZE = bound.USIZE })
     (glues "ga_views::Destruct++none::drop" 𝓡.env (code.calls-ga_views::Destruct++none::drop 𝓡.env wired) P LP _ 𝓤 𝓛
     𝓜 𝓡) in
-    let O = triple_of 𝓛 (make_contract.signature P I Z gP dP g d drops)
-    (make_contract.spec P I Z gP dP g d drops 𝓛 𝓜.mem 𝓡.returns) in
-    let zO : O.Ghost = (
-      (
-        (κ, (κT, (κN, tt))),
-        (qs.0, (qs.1.0, (qs.1.1.0, tt))),
-        tt,
-        (first, tt),
-        (mut_slice_vals first, tt),
-      ),
-      tt,
-    ) in
-    let long : length first.now ≡ n / width * width = parts.first_len ∙ count in
     let whole_rows : length first.now ≡ chunk_count width first.now * width =
-    long ∙ (sym (ap (λ (i : ℕ). i * width) (count-whole n width)) ∙ sym (ap (λ (i : ℕ). i / width * width) long)) in
+    whole_by (n / width) width (length first.now) (parts.first_len ∙ count) in
     nothing ! $ move ! (2 ∷ 0 ∷ []) $ fjoin ! $ move ! (3 ∷ []) $ split3 ! $ move ! (2 ∷ []) $ drop ! $
     move ! (0 ∷ 1 ∷ 5 ∷ 2 ∷ []) $ group ! 3 $
-    calls 𝓛 O zO (λ w u. Rows.own_val w (u ∷ [])) (λ (ws : Unit {0} × Unit {0}). fsep ftrue ftrue)
+    calls 𝓛 (make_contract.ended P I Z gP dP g d drops) (make_contract.clauses P I Z gP dP g d drops 𝓛 𝓜.mem 𝓡.returns)
+    (κ, (κT, (κN, tt))) (qs.0, (qs.1.0, (qs.1.1.0, tt))) tt (first, tt) (mut_slice_vals first, tt) tt
     (λ w. raw (fact 𝓤 (w.slice ≡ first))) ! (framed 𝓤 𝓛.H 𝓜 𝓣) makes
     (asked 𝓛 lS (asked 𝓛 lT (asked 𝓛 lN (fact_i 𝓤 _ (emp 𝓤) whole_rows)))) (id⊢ 𝓤 _) (λ u. id⊢ 𝓤 _)
     (and_then ! (get ! refl) (no_more !)) (λ u w. move ! (1 ∷ []) $ heard ! _ (λ this.
@@ -231,7 +194,7 @@ chunks_from_slice_mut_spec 𝓤 𝓛 𝓜 𝓡 wired X N LX LN g d bound =
     use0 𝓛 (raw (fact 𝓤 (w.slice.now ++ second.now ≡ s.now)))
     (fact_i 𝓤 _ (emp 𝓤) (ap (λ (items : List E.Denot). items ++ second.now) same ∙ sym parts.whole)) $
     use0 𝓛 (raw (fact 𝓤 (second.now ≡ chunk_rest width s.now)))
-    (fact_i 𝓤 _ (emp 𝓤) (parts.second_is ∙ ap (λ (i : ℕ). drop_l i s.now) count)) $
+    (fact_i 𝓤 _ (emp 𝓤) (parts.second_is ∙ ap (λ (i : ℕ). drop_list i s.now) count)) $
     use0 𝓛 (raw (fact 𝓤 (rows width w.slice.now ≡ rows width s.now)))
     (fact_i 𝓤 _ (emp 𝓤) (ap (rows width) (same ∙ (parts.first_is ∙ ap (λ (i : ℕ). take i s.now) count))
     ∙ rows-of_whole width s.now)) $

@@ -1,6 +1,18 @@
 -- `get_mut` lends the row where there is one, and else gives the rows up as they were. The borrow checker shows no
 -- clause on a loan that the answer holds in a view, so this proof walks the code by hand. Assumes `Logic`.
-use Prim.Native.Nat.{ℕ}
+use Rattle.ga_views.proofs.Steps.{a_type, addr, after, agg, alloc_all, and_then, ap, Args, arith, Array, as_fields}
+use Rattle.ga_views.proofs.Steps.{at_ret, await, bin, Bor, bounded, branches, by, dcons, dnil, done, drop, emp, ent}
+use Rattle.ga_views.proofs.Steps.{enter, env, exec, fact, fact_i, feq_l, first, fjoin, flft, flt_l, Fn, follows}
+use Rattle.ga_views.proofs.Steps.{follows_by, follows_if, framed, free_all, fres, fsplit, fsplit3, ftrue, get, GName}
+use Rattle.ga_views.proofs.Steps.{Goes-dropped, Goes-spent_ref, group, heard, id⊢, inst_fn, Is, keep, lands_as, later}
+use Rattle.ga_views.proofs.Steps.{Laws, leaves, length, Lft, List, lit, lit<, live, Logic, look_at, ltb→lt}
+use Rattle.ga_views.proofs.Steps.{meet_⊑_right, move, mut_Tells, mut_vals, MutBor, MutRef, MutSlice, named, NamedLft}
+use Rattle.ga_views.proofs.Steps.{nltb→le, no, no_more, nothing, of_list, of_opd, only, owned, owns, param, param_laws}
+use Rattle.ga_views.proofs.Steps.{pass_all, peeks, pick, plain, proved, qed, RattleType, raw, refl, RefMutOf, returns}
+use Rattle.ga_views.proofs.Steps.{rewrite, sem, sets, sets_last, shows, shr_vals, some, split, split3, stay_dropped}
+use Rattle.ga_views.proofs.Steps.{Stays, stop, subst, sym, tables, through, true≢false, ty_int, uint_Makes, uint_Tells}
+use Rattle.ga_views.proofs.Steps.{uint_vals, Ura, use0, use1, use2, usize, Val, vint, w64, w8, walk_of, yes, !, [], ‵}
+use Rattle.ga_views.proofs.Steps.{ℕ, ⊑_trans, ◌$◌, ◌<◌, ◌∙◌, ◌∵◌, ◌∷◌, ◌≡◌, ◌≤◌, ◌⊑◌, ◌⊛◌}
 use Rattle.ga_views.proofs.SharedLoan.{comes_back, lent_shared, lends_shared}
 use Rattle.ga_views.proofs.CallStep.{asked, calls}
 use Rattle.ga_views.proofs.SliceWalk.{passes}
@@ -20,50 +32,11 @@ use Rattle.ga_views.specs.contracts.chunks_mut.ChunksViewMut.len as count_of
 use Rattle.ga_views.specs.contracts.chunks_mut.ChunksViewMut.row_mut as row_of
 use Rattle.ga_views.specs.declared.length.Unsigned as unsigned
 use Rattle.ga_views.specs.declared.reborrow.ReborrowSlice as reborrow
-use Rattle.std.proofs.Common.{◌≡◌, ◌<◌, ◌≤◌, [], ◌∷◌, ◌∙◌, ap, arith, length, List, MutBor, refl, subst, sym}
-use Rattle.std.proofs.Common.{true≢false}
 use Rattle.std.proofs.VecSteps.Element.{none_of, Some-of}
-use Rattle.std.proofs.VecSteps.Shapes.{after}
-use Rattle.std.proofs.raw_atomic.Walks.{leaves, proved}
 use Rattle.std.specs.contracts.option.Option as OS
 use Rattle.std.specs.Option.{option_map}
 use Rattle.std.specs.Prelude.{◌↔◌, IfSome, IsSome, None, Some}
-use base.Fml.{flft, fres, ftrue, GName, Lft}
-use base.Logic.{emp, ent, id⊢}
-use contract.BorrowLft.{◌⊑◌, ⊑_trans, meet_⊑_right}
-use contract.Monad.{fact, fact_i}
-use contract.Running.{tables}
-use denote.Array.{Array}
-use denote.Builtin.{RefMutOf, usize}
-use denote.Exit.{no, yes}
-use denote.Follow.{follows, follows_by, follows_if}
-use denote.Laws.{Is, shows}
-use denote.Param.{bounded, param}
-use denote.Param.Laws.{Laws, param_laws}
-use denote.Plain.{uint_Makes, uint_Tells, uint_vals}
-use denote.RattleType.{owns, RattleType}
-use denote.Ref.{Bor, mut_Tells, mut_vals, MutRef, NamedLft, shr_vals}
-use denote.Signature.{plain}
-use denote.Slice.{MutSlice}
-use denote.Steps.{heard, nothing, only, owned, peeks}
-use denote.Struct.Struct.{as_fields}
-use denote.Triple.Clauses.{lasts}
-use denote.Triple.Spec.{triple_of}
-use denote.Triple.Table.{framed}
-use denote.Triple.Walked.{Goes-dropped, Goes-spent_ref, stay_dropped, Stays, walk_of}
-use lib.Dec.{lit<, ltb→lt, nltb→le}
 use mathlib.Core.Option as maybe
-use mir.MapTy.{inst_fn}
-use mir.Syntax.{a_type, Args, dcons, dnil, Fn, named, ty_int, w64, w8}
-use mir.Val.{of_list, Val, vint}
-use seplogic.Ra.Ura.{Ura}
-use types.ByLocal.{alloc_all, env, free_all, get, lands_as, look_at, pass_all, sets, sets_last, through}
-use types.Kit.{‵, ◌⊛◌, ◌$◌, ◌∵◌, !, at_ret, await, by, done, drop, feq_l, fjoin, flt_l, fsplit, fsplit3, group}
-use types.Kit.{keep, later, move, pick, qed, raw, rewrite, some, split, split3, use0, use1, use2}
-use types.Logic.{Logic, sem}
-use types.Match.{live}
-use types.Part.{agg}
-use types.Run.{addr, and_then, bin, branches, enter, exec, first, lit, no_more, of_opd, returns, stop}
 
 -- what the rows end as
 module _ {M : Type 1} {𝓤 : Ura M} (𝓛 : Logic 𝓤) (R U : RattleType) (x : MutBor R.Denot) (F : U.Denot → R.Denot) where
@@ -137,26 +110,12 @@ get_mut_spec 𝓤 𝓛 𝓜 𝓡 wired S T N LS LT LN p pd s sd n nd d metP metS
     let κ' : Lft = t.0 ∷ κ in
     let inside : κ' ⊑ κ = meet_⊑_right (t.0 ∷ []) κ in
     let shown : Bor R.Denot = record { ref_ptr = (b, o); now = self.now } in
-    let L = triple_of 𝓛 (count_of.signature S T N s sd n nd d) (count_of.spec S T N s sd n nd d 𝓛 𝓜.mem 𝓡.returns) in
-    let z : L.Ghost = (
-      (
-        (κ', (κS, (κT, (κN, tt)))),
-        (t.1, (qs.1.0, (qs.1.1.0, (qs.1.1.1.0, tt)))),
-        (
-          ⊑_trans κ' κ κS inside bounds.0,
-          (
-            ⊑_trans κ' κ κT inside bounds.1.0,
-            (⊑_trans κ' κ κN inside bounds.1.1.0, tt),
-          ),
-        ),
-        (shown, tt),
-        (shr_vals shown, tt),
-      ),
-      tt,
-    ) in
     nothing ! $ move ! (1 ∷ 0 ∷ []) $ fjoin ! $ nothing ! $ move ! (2 ∷ 4 ∷ 5 ∷ 6 ∷ 0 ∷ 1 ∷ []) $ group ! 5 $
-    calls 𝓛 L z (λ m v. usize.own_val m (v ∷ []))
-    (λ (ws : Unit {0} × Unit {0}). lasts (count_of.ended S T N s sd n nd d) z.0.0 (shown, tt) ws)
+    calls 𝓛 (count_of.ended S T N s sd n nd d) (count_of.clauses S T N s sd n nd d 𝓛 𝓜.mem 𝓡.returns)
+    (κ', (κS, (κT, (κN, tt)))) (t.1, (qs.1.0, (qs.1.1.0, (qs.1.1.1.0, tt)))) (
+      ⊑_trans κ' κ κS inside bounds.0,
+      (⊑_trans κ' κ κT inside bounds.1.0, (⊑_trans κ' κ κN inside bounds.1.1.0, tt)),
+    ) (shown, tt) (shr_vals shown, tt) tt
     (λ m. raw (fact 𝓤 (m ≡ chunk_count n.USIZE items)) ⊛ raw (fact 𝓤 (m ≡ length (rows_of n.USIZE items)))) !
     (framed 𝓤 𝓛.H 𝓜 𝓣) (len_met.met 𝓤 𝓛 𝓜 𝓡
     (code.calls-ga_views::chunks_mut::ChunksViewMut::len 𝓡.env wired) S T N LS LT LN s sd n nd d metS metN metD)
@@ -174,14 +133,11 @@ get_mut_spec 𝓤 𝓛 𝓜 𝓡 wired S T N LS LT LN p pd s sd n nd d metP metS
     (λ below.
     let lies : i < chunk_count n.USIZE items = subst (λ (k : ℕ). i < k) is_count (ltb→lt i m below) in
     sets ! (addr ! (through ! refl (stop !))) refl (tt, tt) $
-    let G = triple_of 𝓛 (row_of.signature S T N p pd s sd n nd d)
-    (row_of.spec S T N p pd s sd n nd d 𝓛 𝓜.mem 𝓡.returns) in
-    let k : G.Ghost = ((κs, qs, bounds, (self, (i, tt)), (mut_vals self, (vint w64 i ∷ [], tt))), tt) in
     nothing ! $ owned ! usize (Is usize) (uint_Makes 𝓛 w64) i _ (refl, fi) $ fjoin ! $ move ! (1 ∷ 0 ∷ []) $ fjoin ! $
     nothing ! $ move ! (2 ∷ 5 ∷ 3 ∷ 4 ∷ 0 ∷ 1 ∷ []) $ group ! 5 $
     let Slice : RattleType = MutSlice (named 0) κ E in
-    calls 𝓛 G k (λ r v. Slice.own_val r (v ∷ []))
-    (λ (ws : Unit {0} × (Unit {0} × Unit {0})). lasts (row_of.ended S T N p pd s sd n nd d) κs (self, (i, tt)) ws)
+    calls 𝓛 (row_of.ended S T N p pd s sd n nd d) (row_of.clauses S T N p pd s sd n nd d 𝓛 𝓜.mem 𝓡.returns) κs qs
+    bounds (self, (i, tt)) (mut_vals self, (vint w64 i ∷ [], tt)) tt
     (λ r. ‵ (LendsRow (param 0 S) E (param 2 N) s n self i r) ⊛ raw (fact 𝓤 (r.now ≡ row_at n.USIZE items i)) ⊛ raw
     (fact 𝓤 (length r.now ≡ n.USIZE))) ! (framed 𝓤 𝓛.H 𝓜 𝓣) (row_met.met 𝓤 𝓛 𝓜 𝓡
     (code.calls-ga_views::chunks_mut::ChunksViewMut::row_mut 𝓡.env wired) S T N LS LT LN p pd s sd n nd d metP metS

@@ -1,15 +1,15 @@
-use Rattle.ga_views.proofs.RowLemmas.{length-row, part-within, row-named}
+use Rattle.ga_views.proofs.RowLemmas.{length-row, row-within}
 use Rattle.ga_views.proofs.ChunksViewMutLemmas.{same_part, same_rows}
 use Rattle.ga_views.proofs.chunks_mut.ChunksViewMut.row_mut.Goals as goal
 use Rattle.ga_views.specs.ChunksViewMut.{whole-written}
-use Rattle.std.proofs.Common.{◌*◌, ap, length, ◌∙◌}
+use Rattle.ga_views.specs.Rows.{row_at}
+use Rattle.std.proofs.Common.{◌≡◌, ◌*◌, ap, arith, length, ◌∙◌}
 use Rattle.std.specs.Prelude.{refl}
 
 -- the row ends within the items
 pub part_mut-requires : goal.part_mut-requires
 part_mut-requires g c = record {
-  in_bounds = part-within _ (g.S.ReborrowSlice.items c.args.self.now.slice) c.args.index _ _ c.start_of-start.ensures
-      refl c.requires.in_bounds _ c.USIZE.ensures;
+  in_bounds = omega (arith, c.start_of-start.ensures, c.USIZE.ensures, row-within _ _ c.args.index c.requires.in_bounds);
 }
 
 -- no rest is left whatever is written
@@ -24,8 +24,8 @@ pub returns : goal.returns
 returns g c =
     let items = g.S.ReborrowSlice.items c.args.self.now.slice in
     let width = g.N.Unsigned.USIZE in
-    let row = row-named width items c.args.index _ _ _ c.part_mut.result.now c.start_of-start.ensures c.USIZE.ensures
-    refl c.part_mut.ensures.value in (
+    let row : c.part_mut.result.now ≡ row_at width items c.args.index =
+    rw (c.part_mut.ensures.value, c.USIZE.ensures, c.start_of-start.ensures) refl in (
       (
         refl,
         λ written. same_rows c.args.self.now _ _ _ _ (same_part c.args.self.now items written c.start_of-start.result

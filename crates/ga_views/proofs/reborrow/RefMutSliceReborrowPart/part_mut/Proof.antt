@@ -1,49 +1,38 @@
 -- `part_mut` lends a part of the slice that the inner reference points to, for all of the outer reference's lifetime.
 -- The borrow checker shows an `ensures*` only where the body hands on a field or a call's result, so this proof walks
 -- the code by hand: the inner reference is opened and read, which gives the part's place, and then the part is lent
--- by `InnerPart`'s `lends_range`. Assumes `Logic`.
-use Rattle.std.proofs.Common.{◌≡◌, ℕ, ◌+◌, ◌-◌, ◌*◌, ◌^◌, ◌<◌, ◌≤◌, List, [], ◌∷◌, length, refl, ap, arith}
+-- by `PartLoan`'s `lends_part`. Assumes `Logic`.
+use Rattle.ga_views.proofs.Steps.{addr, agg, alloc_all, and_then, ap, arith, at_last, await, bin, by, drop_list, enter}
+use Rattle.ga_views.proofs.Steps.{fld, free_all, get, get_in, hop, is, keep, later, layout, length, load, look_at}
+use Rattle.ga_views.proofs.Steps.{look_in, no_more, of_opd, param, pass_all, pick, qed, RattleType, refl, renamed}
+use Rattle.ga_views.proofs.Steps.{returns, sets, size, size_word, some, split3, stop, sub, take, through, use3, vint}
+use Rattle.ga_views.proofs.Steps.{w64, whole, !, [], ℕ, ◌$◌, ◌*◌, ◌+◌, ◌<◌, ◌^◌, ◌∵◌, ◌∷◌, ◌≡◌, ◌≤◌}
+use Rattle.std.proofs.Common.{◌-◌}
 use Rattle.std.specs.List.{refill}
-use Rattle.ga_views.proofs.InnerPart.{lent, lends_range}
-use Rattle.ga_views.proofs.PartLemmas.{part_long}
-use Rattle.ga_views.proofs.InnerSlice.{closes_inner, opens_inner, slice_lent}
-use Rattle.ga_views.proofs.ItemLoan.{uncapped_fits, offset_fits, spot, uncapped}
-use Rattle.ga_views.proofs.LoanWalk.{Had, Loan, Words, lends}
+use Rattle.ga_views.proofs.PartLoan.{lends_part, lent_part, slice}
+use Rattle.ga_views.proofs.InnerSlice.{closes_inner, Inner, lends_inner, opens_inner, slice_lent}
+use Rattle.ga_views.proofs.ItemLoan.{uncapped_fits, offset_fits, uncapped}
+use Rattle.ga_views.proofs.LoanWalk.{Had, Loan, lends}
 use Rattle.ga_views.specs.Parts.{part_set}
 use Rattle.ga_views.proofs.reborrow.RefMutSliceReborrowPart.part_mut.Code as code
 use Rattle.ga_views.proofs.reborrow.RefMutSliceReborrowPart.part_mut.Statement.{statement}
-use contract.Lifetimes.{Lfts}
-use lib.ListN.{take, drop as drop_list}
-use mir.Syntax.{w64}
-use mir.Val.{vint}
-use prog.Memory.{size}
-use types.ByLocal.{alloc_all, pass_all, free_all, look_at, get, get_in, through, sets, is}
-use types.Kit.{some, later, ◌$◌, ◌∵◌, !, qed, by, keep, split3, use3, await, pick}
-use types.Part.{agg, look_in, sub, whole}
-use types.Run.{stop, fld, hop, addr, and_then, bin, load, no_more, of_opd, size_word, returns, enter}
-use denote.Param.{layout, param}
-use denote.RattleType.{RattleType}
 
-module _ (X : RattleType) where
-  abbrev part : (κs : Lfts 3) → List X.Denot → Words 3 κs 2 → List X.Denot
-  part κs items ns = take ns.1.0 (drop_list ns.0 items)
-
-  abbrev loan : Loan
-  loan = slice_lent X 2 (λ κs items ns. (ns.0 + ns.1.0 ≤ length items) ∷ [])
-      (λ κs items ns part. refill (length items) items (part_set ns.0 ns.1.0 items part)) part
+abbrev loan : RattleType → Loan
+loan X = slice_lent X 2 (λ κs items ns. (ns.0 + ns.1.0 ≤ length items) ∷ [])
+    (λ κs items ns part. refill (length items) items (part_set ns.0 ns.1.0 items part))
+    (λ κs items ns. take ns.1.0 (drop_list ns.0 items))
 
 pub part_mut_spec : {M : Type 1} → statement M
 part_mut_spec 𝓤 𝓛 𝓜 𝓡 wired X laws = lends (loan X) 𝓛 𝓜 𝓡 _ _ (code.unfolded 𝓤 𝓛.H 𝓜 𝓡 wired (X, tt))
     (λ κs qs bounds x ns Post lives asked are exits.
-    let s : ℕ = size (layout X) in let shown : List X.Denot = part X κs x.now.now ns in
-    let long : length shown ≡ ns.1.0 = part_long ns.0 ns.1.0 x.now.now asked.0 in
+    let E : RattleType = param 0 X in let I : RattleType = Inner E κs.1.0 in
+    let s : ℕ = size (layout X) in let fits : ns.1.0 < 2 ^ 64 = are.1.0.1 in
     qed 𝓛 (Had (loan X) 𝓛 κs qs x ns) ∵ enter ! _ _ _ _ _ $ alloc_all !
     (λ l. pass_all ! refl ((tt, tt), ((tt, record { fits = are.0.1 }), ((tt, record { fits = are.1.0.1 }), tt))) $
     opens_inner ! tt (param 0 X) x (λ rm.
     let offset : ns.0 * s < 2 ^ 64 = offset_fits ns.0 (length x.now.now) s (omega (arith, asked.0)) rm.1 in
     let end : ns.0 + ns.1.0 < 2 ^ 64 = omega (arith, rm.0, asked.0) in
-    let fits : length shown < 2 ^ 64 = omega (arith, are.1.0.1) in
-    let width : (ns.0 + ns.1.0) - ns.0 ≡ length shown = omega arith in
+    let width : (ns.0 + ns.1.0) - ns.0 ≡ ns.1.0 = omega arith in
     -- [the inner reference's cell; what it owns; the open borrow, in three entries]
     sets ! (of_opd ! (load ! (through ! refl (fld ! refl (stop !))) (look_in ! 0 (sub ! 1 refl (whole !))))) refl
     (tt, record { fits = rm.0 }) $
@@ -61,8 +50,8 @@ part_mut_spec 𝓤 𝓛 𝓜 𝓡 wired X laws = lends (loan X) 𝓛 𝓜 𝓡 _
     sets ! (agg ! (and_then ! (get ! refl) (and_then ! (get ! refl) (no_more !)))) refl
     (tt, (tt, (record { fits = fits }, tt))) $
     closes_inner ! tt (param 0 X) x $
-    use3 𝓛 (later (some (lent 𝓛 (param 0 X) κs.0 κs.1.0 qs.0 x ns.0 ns.1.0)))
-    (lends_range 𝓛 (param 0 X) κs.0 κs.1.0 qs.0 x ns.0 ns.1.0 asked.0 bounds.0 rm) $ await ! tt $ pick ! (λ δ.
+    use3 𝓛 (later (some (lent_part 𝓛 I E (at_last x.now) κs.0 qs.0 x.ghost_name x.now ns.0 ns.1.0 ns.1.0)))
+    (lends_inner 𝓛 E κs.0 κs.1.0 qs.0 x bounds.0 rm (λ δ. lends_part 𝓛 I E (at_last x.now) κs.0 qs.0 x.ghost_name
+    (renamed x.now δ) ns.0 ns.1.0 asked.0 rm)) $ await ! tt $ pick ! (λ δ.
     returns ! (look_at ! 0 refl) $ free_all ! refl $ keep ! (0 ∷ 1 ∷ []) $ split3 ! $
-    by ! (exits _ (record { ref_ptr = (x.now.ref_ptr.0, spot (param 0 X) x.now ns.0); ghost_name = δ; now = shown })
-    refl)))))
+    by ! (exits _ (slice 𝓛 I E (at_last x.now) κs.0 qs.0 x.ghost_name x.now ns.0 ns.1.0 δ) refl)))))

@@ -1,31 +1,47 @@
 -- `all_mut` lends all the items of the slice that the inner reference points to, for all of the outer reference's
 -- lifetime. The borrow checker shows an `ensures*` only where the body hands on a field or a call's result, so this
 -- proof walks the code by hand. Assumes `Logic`.
-use mathlib.Core.Path.{◌≡◌, refl, ap}
-use mathlib.Core.List.{[], ◌∷◌}
-use lib.ListN.{length}
-use types.ByLocal.{alloc_all, pass_all, free_all, look_at, look_in_at, get, through, sets, is}
-use types.Kit.{some, later, ◌$◌, ◌∵◌, !, qed, by, keep, use3, split3, pick, await}
-use types.Part.{whole, sub, look_in, agg}
-use types.Run.{stop, fld, hop, from, addr, load, of_opd, and_then, no_more, returns, enter}
-use denote.Param.{param}
-use denote.RattleType.{RattleType}
-use denote.Slice.{slice_val}
-use denote.Through.{renamed}
+use Rattle.ga_views.proofs.Steps.{addr, agg, alloc_all, and_then, ap, at_last, await, by, done, emp, ent, enter, feq_i}
+use Rattle.ga_views.proofs.Steps.{feq_l, fjoin, fld, Fml, free_all, from, fsplit, get, hop, is, keep, later, length}
+use Rattle.ga_views.proofs.Steps.{List, load, Logic, look_at, look_in, look_in_at, move, MutBor, no_more, nothing}
+use Rattle.ga_views.proofs.Steps.{of_opd, param, pass_all, pick, qed, RattleType, raw, refl, renamed, returns, rewrite}
+use Rattle.ga_views.proofs.Steps.{sem, sep, sets, slice_val, some, split3, stop, sub, through, Ura, use3, whole, !, []}
+use Rattle.ga_views.proofs.Steps.{‵, ℕ, ◌$◌, ◌∵◌, ◌∷◌, ◌≡◌}
 use Rattle.std.specs.List.{refill}
-use Rattle.ga_views.proofs.InnerItems.{lent, lends_all}
-use Rattle.ga_views.proofs.InnerSlice.{closes_inner, opens_inner, slice_lent}
+use Rattle.ga_views.proofs.PartLemmas.{refilled}
+use Rattle.ga_views.proofs.PartLoan.{lends_slice, lent_slice}
+use Rattle.ga_views.proofs.InnerSlice.{closes_inner, Inner, items_at, lends_inner, opens_inner, slice_lent}
 use Rattle.ga_views.proofs.LoanWalk.{Had, Loan, lends}
 use Rattle.ga_views.proofs.reborrow.RefMutSliceReborrowSlice.all_mut.Statement.{statement}
 use Rattle.ga_views.proofs.reborrow.RefMutSliceReborrowSlice.all_mut.Code as code
 
-abbrev loan : RattleType → Loan
-loan X = slice_lent X 1 (λ κs items ns. (ns.0 ≡ length items) ∷ []) (λ κs items ns. refill (length items) items)
-    (λ κs items ns. items)
+module _ (X : RattleType) where
+  abbrev loan : Loan
+  loan = slice_lent X 1 (λ κs items ns. (ns.0 ≡ length items) ∷ []) (λ κs items ns. refill (length items) items)
+      (λ κs items ns. items)
+
+  -- all the items are lent, so no rest is left
+  module _ {M : Type 1} {𝓤 : Ura M} (𝓛 : Logic 𝓤) (d : MutBor (List X.Denot)) where
+    abbrev written : List X.Denot → List X.Denot
+    written = refill (length d.now) d.now
+
+    abbrev stands : List X.Denot → Fml
+    stands = items_at (param 0 X) d
+
+    every : ent 𝓤 (sem 𝓛 (stands d.now)) (sep 𝓤 (sem 𝓛 (stands d.now)) (emp 𝓤))
+    every = qed 𝓛 (‵ (stands d.now) ∷ []) ∵ nothing ! $ move ! (1 ∷ 0 ∷ []) $ done !
+
+    -- as many items as there were are the refilled list
+    keeps : (ws : List X.Denot) → ent 𝓤 (sep 𝓤 (sem 𝓛 (stands ws)) (emp 𝓤)) (sem 𝓛 (stands (written ws)))
+    keeps ws =
+        qed 𝓛 (‵ (stands ws) ∷ raw (emp 𝓤) ∷ []) ∵ fsplit ! $ feq_l !
+        (λ e. feq_i ! ℕ (length ws) (length d.now) e $ fjoin ! $ rewrite ! 0 (λ (l : List X.Denot). ‵ (stands l))
+        (refilled (length d.now) d.now ws refl e) refl $ keep ! (0 ∷ []) $ done !)
 
 pub all_mut_spec : {M : Type 1} → statement M
 all_mut_spec 𝓤 𝓛 𝓜 𝓡 wired X laws = lends (loan X) 𝓛 𝓜 𝓡 _ _ (code.unfolded 𝓤 𝓛.H 𝓜 𝓡 wired (X, tt))
     (λ κs qs bounds x ns Post lives asked are exits.
+    let E : RattleType = param 0 X in let I : RattleType = Inner E κs.1.0 in
     qed 𝓛 (Had (loan X) 𝓛 κs qs x ns) ∵ enter ! _ _ _ _ _ $ alloc_all !
     (λ l. pass_all ! refl ((tt, tt), ((tt, record { fits = are.0.1 }), tt)) $ opens_inner ! tt (param 0 X) x (λ rm.
     -- [the inner reference's cell; what it owns; the open borrow, in three entries]
@@ -39,7 +55,9 @@ all_mut_spec 𝓤 𝓛 𝓜 𝓡 wired X laws = lends (loan X) 𝓛 𝓜 𝓡 _ 
     sets ! (is ! (agg ! (and_then ! (get ! refl) (and_then ! (get ! refl) (no_more !))))
     (ap (slice_val x.now.ref_ptr) asked.0)) refl (tt, (tt, (record { fits = rm.0 }, tt))) $
     closes_inner ! tt (param 0 X) x $
-    use3 𝓛 (later (some (lent 𝓛 (param 0 X) κs.0 κs.1.0 qs.0 x)))
-    (lends_all 𝓛 (param 0 X) κs.0 κs.1.0 qs.0 x bounds.0 rm) $ await ! tt $ pick ! (λ δ.
+    use3 𝓛 (later (some (lent_slice 𝓛 I E (at_last x.now) κs.0 qs.0 x.ghost_name x.now x.now.ref_ptr.1 x.now.now
+    (written X 𝓛 x.now) (length x.now.now)))) (lends_inner 𝓛 E κs.0 κs.1.0 qs.0 x bounds.0 rm (λ δ. lends_slice 𝓛 I E
+    (at_last x.now) κs.0 qs.0 x.ghost_name (renamed x.now δ) x.now.ref_ptr.1 x.now.now (written X 𝓛 x.now) rm (emp 𝓤)
+    (every X 𝓛 x.now) (keeps X 𝓛 x.now))) $ await ! tt $ pick ! (λ δ.
     returns ! (look_at ! 0 refl) $ free_all ! refl $ keep ! (0 ∷ 1 ∷ []) $ split3 ! $ by !
     (exits (slice_val x.now.ref_ptr (length x.now.now)) (renamed x.now δ) refl)))))

@@ -1,25 +1,17 @@
 -- `item_mut` lends one element of the slice that lies behind the inner reference. The borrow checker
 -- does not follow a result through two references, so this proof walks the code by hand: the
 -- inner reference is opened and its pointer read, which gives the element's place, and then the
--- element is lent by `InnerItem`'s `lends_element`.
-use Rattle.std.proofs.Common.{◌≡◌, ◌*◌, ◌^◌, ◌<◌, [], ◌∷◌, length, refl, ap, arith, get_or, set}
-use Rattle.ga_views.proofs.InnerItem.{lent, lends_element}
-use Rattle.ga_views.proofs.InnerSlice.{closes_inner, loan_of, opens_inner}
-use Rattle.ga_views.proofs.ItemLoan.{uncapped_fits, offset_fits, spot, uncapped}
+-- element is lent by `ItemLoan`'s `lends_item`.
+use Rattle.ga_views.proofs.Steps.{addr, alloc_all, ap, arith, at_last, await, bin, by, enter, fld, free_all, get}
+use Rattle.ga_views.proofs.Steps.{get_or, is, keep, later, layout, learn, length, load, look_at, look_in, param}
+use Rattle.ga_views.proofs.Steps.{pass_all, pick, plain, qed, RattleType, refl, RefMutOf, renamed, returns, set, sets}
+use Rattle.ga_views.proofs.Steps.{size, size_word, some, split3, stop, sub, through, use3, vint, w64, whole, !, [], ◌$◌}
+use Rattle.ga_views.proofs.Steps.{◌*◌, ◌<◌, ◌^◌, ◌∵◌, ◌∷◌, ◌≡◌}
+use Rattle.ga_views.proofs.InnerSlice.{closes_inner, Inner, lends_inner, loan_of, opens_inner}
+use Rattle.ga_views.proofs.ItemLoan.{item, lends_item, lent_item, offset_fits, uncapped, uncapped_fits}
 use Rattle.ga_views.proofs.LoanWalk.{Had, Loan, lends}
 use Rattle.ga_views.proofs.reborrow.RefMutSliceReborrowSlice.item_mut.Code as code
 use Rattle.ga_views.proofs.reborrow.RefMutSliceReborrowSlice.item_mut.Statement.{statement}
-use mir.Syntax.{w64}
-use mir.Val.{vint}
-use prog.Memory.{size}
-use types.ByLocal.{alloc_all, pass_all, free_all, look_at, get, through, sets, is}
-use types.Kit.{some, later, ◌$◌, ◌∵◌, !, qed, by, keep, split3, learn, use3, await, pick}
-use types.Part.{look_in, sub, whole}
-use types.Run.{stop, fld, addr, bin, load, size_word, returns, enter}
-use denote.Builtin.{RefMutOf}
-use denote.Param.{layout, param}
-use denote.RattleType.{RattleType}
-use denote.Signature.{plain}
 
 abbrev loan : RattleType → Loan
 loan X = loan_of X 1 (RefMutOf (0 ∷ []) tt (plain (λ _. param 0 X)) (λ _. tt)) (param 0 X) (λ κs r. r.ghost_name)
@@ -29,6 +21,7 @@ loan X = loan_of X 1 (RefMutOf (0 ∷ []) tt (plain (λ _. param 0 X)) (λ _. tt
 pub item_mut_spec : {M : Type 1} → statement M
 item_mut_spec 𝓤 𝓛 𝓜 𝓡 wired X laws = lends (loan X) 𝓛 𝓜 𝓡 _ _ (code.unfolded 𝓤 𝓛.H 𝓜 𝓡 wired (X, tt))
     (λ κs qs bounds x ns Post lives asked are exits.
+    let E : RattleType = param 0 X in let I : RattleType = Inner E κs.1.0 in
     qed 𝓛 (Had (loan X) 𝓛 κs qs x ns) ∵ enter ! _ _ _ _ _ $ alloc_all !
     (λ l. pass_all ! refl ((tt, tt), ((tt, record { fits = are.0.1 }), tt)) $ opens_inner ! tt (param 0 X) x (λ rm.
     let offset : ns.0 * size (layout X) < 2 ^ 64 =
@@ -40,9 +33,9 @@ item_mut_spec 𝓤 𝓛 𝓜 𝓡 wired X laws = lends (loan X) 𝓛 𝓜 𝓡 _
     (get ! refl) tt) refl (tt, tt) $
     sets ! (addr ! (through ! refl (stop !))) refl (tt, tt) $
     closes_inner ! tt (param 0 X) x $
-    use3 𝓛 (later (some (lent 𝓛 (param 0 X) κs.0 κs.1.0 qs.0 x ns.0)))
-    (lends_element 𝓛 (param 0 X) κs.0 κs.1.0 qs.0 x ns.0 bounds.0 rm asked.0) $ await ! tt $ pick !
+    use3 𝓛 (later (some (lent_item 𝓛 I E (at_last x.now) κs.0 qs.0 x.ghost_name x.now ns.0)))
+    (lends_inner 𝓛 E κs.0 κs.1.0 qs.0 x bounds.0 rm (λ δ. lends_item 𝓛 I E (at_last x.now) κs.0 qs.0 x.ghost_name
+    (renamed x.now δ) ns.0 asked.0)) $ await ! tt $ pick !
     (λ y. learn ! (λ read.
     returns ! (look_at ! 0 refl) $ free_all ! refl $ keep ! (0 ∷ 1 ∷ []) $ split3 ! $
-    by ! (exits _ (record { ref_ptr = (x.now.ref_ptr.0, spot (param 0 X) x.now ns.0); ghost_name = y.0; now = y.1 })
-    read))))))
+    by ! (exits _ (item 𝓛 I E (at_last x.now) κs.0 qs.0 x.ghost_name x.now ns.0 y) read))))))

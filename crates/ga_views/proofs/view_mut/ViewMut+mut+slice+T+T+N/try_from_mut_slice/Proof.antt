@@ -1,7 +1,19 @@
 -- `try_from_mut_slice` makes the view where the length is right, and else gives the slice up as it was. The borrow
 -- checker shows no clause on a lender that is a slice where the answer is a `Result`, so this proof walks the code by
 -- hand. Assumes `Logic`.
-use Prim.Native.Nat.{ℕ}
+use Rattle.ga_views.proofs.Steps.{a_type, addr, after, agg, alloc_all, and_then, ap, Args, Array, as_fields, assume}
+use Rattle.ga_views.proofs.Steps.{at_ret, bin, bounded, branches, by, coded_list, dcons, dnil, done, drop, each, emp}
+use Rattle.ga_views.proofs.Steps.{ent, enter, env, eqb, eqb_refl, eqb→eq, exec, fact, fact_i, fauth, feq, feq_i, fex}
+use Rattle.ga_views.proofs.Steps.{first, fjoin, fld, flft, Fml, Fn, fobs, follows, follows_by, follows_if, fpack}
+use Rattle.ga_views.proofs.Steps.{framed, free_all, fres, from, fsep, fsplit, fsplit3, ftrue, get, get_in, GName, group}
+use Rattle.ga_views.proofs.Steps.{Gv, heard, heres_id, hop, inst_fn, Is, keep, lands_as, length, Lft, Lifetime, List}
+use Rattle.ga_views.proofs.Steps.{lit, lit<, live, Logic, look_at, look_in_at, move, mut_slice_vals, MutBor, MutSlice}
+use Rattle.ga_views.proofs.Steps.{named, NamedLft, no_more, nothing, of_list, of_opd, owns, param, pass_all, peeks, qed}
+use Rattle.ga_views.proofs.Steps.{RattleType, raw, refl, returns, rewrite, sem, sets, sets_last, shows, split, split3}
+use Rattle.ga_views.proofs.Steps.{stop, sub, subst, such_by, sym, T, T_not, tables, true≢false, ty_int, Ura, use0, use1}
+use Rattle.ga_views.proofs.Steps.{Val, vint, vnil, vstruct, w8, wand, whole, !, [], ‵, ℕ, ◌$◌, ◌∙◌, ◌∵◌, ◌∷◌, ◌≡◌, ◌⊑◌}
+use Rattle.ga_views.proofs.Steps.{◌⊛◌}
+use denote.Shadow.{makes_shadow}
 use Rattle.ga_views.proofs.CallStep.{asked}
 use Rattle.ga_views.proofs.LengthCall.{calls_length}
 use Rattle.ga_views.proofs.SliceWalk.{gives_up, passes}
@@ -12,44 +24,12 @@ use Rattle.ga_views.proofs.view_mut.ViewMut+mut+slice+T+T+N.try_from_mut_slice.S
 use Rattle.ga_views.specs.contracts.view_mut.ViewMut+mut+slice+T+T+N.from_mut_slice as callee
 use Rattle.ga_views.specs.contracts.view_mut.ViewMut+mut+slice+T+T+N.try_from_mut_slice as F
 use Rattle.ga_views.specs.contracts.length_error.LengthError as error
-use Rattle.std.proofs.Common.{◌≡◌, [], ◌∷◌, ◌∙◌, ap, length, List, MutBor, refl, subst, sym, true≢false}
 use Rattle.std.proofs.ResultValues.{err_of, ok_of}
-use Rattle.std.proofs.VecSteps.Shapes.{after}
 use Rattle.std.specs.Borrow.{name_if_ok, RestsIfErr}
 use Rattle.std.specs.contracts.result.Result as RS
 use Rattle.std.specs.declared.result.Result.{Result}
 use Rattle.std.specs.declared.result.Result.TheVariants.{Err, Ok}
 use Rattle.std.specs.Prelude.{◌↔◌, IfOk, IsOk, OnErr, OnOk}
-use base.Fml.{fauth, feq, fex, flft, Fml, fobs, fres, fsep, ftrue, GName, Lft}
-use base.Logic.{emp, ent, wand}
-use base.Stored.{coded_list, Gv}
-use contract.BorrowLft.{◌⊑◌}
-use contract.Monad.{fact, fact_i}
-use contract.Running.{tables}
-use denote.Array.{Array}
-use denote.Follow.{follows, follows_by, follows_if, such_by}
-use denote.FollowSlice.{heres_id}
-use denote.Laws.{Is, shows}
-use denote.Param.{bounded, param}
-use denote.RattleType.{owns, RattleType}
-use denote.Ref.{NamedLft}
-use denote.Shadow.{makes_shadow}
-use denote.Slice.{mut_slice_vals, MutSlice}
-use denote.Steps.{heard, nothing, peeks}
-use denote.Struct.Struct.{as_fields}
-use denote.Triple.Table.{framed}
-use lib.Dec.{eqb, eqb_refl, eqb→eq, lit<, T, T_not}
-use mir.MapTy.{inst_fn}
-use mir.Syntax.{a_type, Args, dcons, dnil, Fn, Lifetime, named, ty_int, w8}
-use mir.Val.{of_list, Val, vint, vnil, vstruct}
-use seplogic.Ra.Ura.{Ura}
-use types.ByLocal.{alloc_all, env, free_all, get, get_in, lands_as, look_at, look_in_at, pass_all, sets, sets_last}
-use types.Kit.{‵, ◌⊛◌, ◌$◌, ◌∵◌, !, assume, at_ret, by, done, drop, each, feq_i, fjoin, fpack, fsplit, fsplit3, group}
-use types.Kit.{keep, move, qed, raw, rewrite, split, split3, use0, use1}
-use types.Logic.{Logic, sem}
-use types.Match.{live}
-use types.Part.{agg, sub, whole}
-use types.Run.{addr, and_then, bin, branches, enter, exec, first, fld, from, hop, lit, no_more, of_opd, returns, stop}
 
 -- a slice that is given up stays as it was
 module _ {M : Type 1} {𝓤 : Ura M} (𝓛 : Logic 𝓤) (R : RattleType) (s : MutBor (List R.Denot)) where
