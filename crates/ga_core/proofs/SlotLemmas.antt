@@ -2,15 +2,20 @@
 use Rattle.ga_views.proofs.PartLemmas.{part-within}
 use Rattle.ga_views.specs.Parts.{part_set}
 use Rattle.std.proofs.Common.{◌≡◌, ◌≤◌, ℕ, List, arith, ◌++◌, length, length-set, length-take, drop}
-use Rattle.std.proofs.Common.{take, slice_set, sym, ap, ◌∙◌}
+use Rattle.std.proofs.Common.{take, slice_set, sym, ap, refl, ◌∙◌}
 use Rattle.std.proofs.Math.Seq.{take-append_seam}
-use Rattle.std.specs.List.{refill}
+use Rattle.std.specs.List.{length_refill, refill}
 
 -- all slots are written
 pub refill-whole : {X : Type 0} (n : ℕ) (items written : List X) → n ≡ length written → refill n items written ≡ written
 refill-whole n items written all =
     ap (λ k. take k (written ++ drop (length written) items)) all
     ∙ take-append_seam written (drop (length written) items)
+
+-- there are as many slots after a loan of all
+pub refill-long : {X : Type 0} (items written after : List X) → after ≡ refill (length items) items written
+    → length after ≡ length items
+refill-long items written after stands = ap length stands ∙ sym (length_refill (length items) items written refl)
 
 -- what stands after a loan of all slots, where one was written
 pub refill-set : {X : Type 0} (items slots after : List X) (slot : ℕ) (item : X) → slots ≡ items
