@@ -28,7 +28,7 @@ room-shrinks before after item width room pushed = omega
 module _ {S T U : Type 0} (next_gives : S → Option T → S → Type 0) (shown : List U → List T)
     (as_long : (items : List U) → length (shown items) ≡ length items) (before reached : S) where
   -- what was appended to a builder fills its room, or the iterator ended before
-  module _ {start built : List U} (n : ℕ) (taken : List U) (appended : built ≡ start ++ taken) where
+  module _ (n : ℕ) (start taken : List U) {built : List U} (appended : built ≡ start ++ taken) where
     pub takes-all : length built ≡ n → Yields next_gives before (shown taken) reached
         → Takes next_gives before (n - length start) (shown taken) reached
     takes-all full calls =
@@ -42,7 +42,7 @@ module _ {S T U : Type 0} (next_gives : S → Option T → S → Type 0) (shown 
     takes-to_end few calls = inr (calls, omega (arith, as_long taken, room-left few))
 
   -- What a builder that was empty took, and whether it was full when the iterator ended, is a fill.
-  module _ {E : Type 0} (after : S) (n : ℕ) {start built : List U} (taken : List U) (empty : start ≡ [])
+  module _ (after : S) (n : ℕ) {start built : List U} (taken : List U) (empty : start ≡ [])
       (appended : built ≡ start ++ taken) where
     same : built ≡ taken
     same = appended ∙ ap (λ items. items ++ taken) empty
@@ -53,7 +53,8 @@ module _ {S T U : Type 0} (next_gives : S → Option T → S → Type 0) (shown 
     room : n - length start ≡ n
     room = omega (arith, ap length empty)
 
-    pub fill-ends : (result : Result (List U) E) → Takes next_gives before (n - length start) (shown taken) reached
+    pub fill-ends : {E : Type 0} (result : Result (List U) E)
+        → Takes next_gives before (n - length start) (shown taken) reached
         → IfOk result (λ array. (array ≡ built) × (length built ≡ n) × next_gives reached None after)
         → OnErr result (((length built ≢ n) × (after ≡ reached))
         ⊎ ((length built ≡ n) × ((more : T) × next_gives reached (Some more) after)))
@@ -152,19 +153,18 @@ module _ {S T E : Type 0} (next_gives : S → Option (Result T E) → S → Type
       (stopped next_gives before (map Ok good) (Err error) after calls, refl, (good, holds, refl, short))
 
 module _ {S T E F : Type 0} (next_gives : S → Option (Result T E) → S → Type 0) where
-  good_long : (good : List T) → length (map {B = Result T E} Ok good) ≡ length good
-  good_long good = length-map good Ok
-
   pub FillFalliblyRuns-from_fill : (before : S) (n : ℕ) (result : Result (Result (List T) E) F) (after : S)
       → FillsFallibly next_gives before n result after
       → FillFalliblyRuns next_gives before n result
   FillFalliblyRuns-from_fill before n (Ok (Ok array)) after (good, last, calls, whole) =
       let to_none = subst (λ o. YieldsThen next_gives before (map Ok good) o after) whole.2 calls in
-      let values = (ap (map Ok) (sym whole.0), all_good good ∙ ap Ok (sym whole.0), good_long good ∙ whole.1) in
-      (ended next_gives before (map Ok good) after to_none, refl, refl, values)
+      let long = length-map {B = Result T E} good Ok in
+      (ended next_gives before (map Ok good) after to_none, refl, refl,
+      (ap (map Ok) (sym whole.0), all_good good ∙ ap Ok (sym whole.0), long ∙ whole.1))
   FillFalliblyRuns-from_fill before n (Ok (Err error)) after (good, last, calls, first) =
       let came = subst (λ o. YieldsThen next_gives before (map Ok good) o after) first.0 calls in
       (stopped next_gives before (map Ok good) (Err error) after came, refl, (good, refl, first.1))
   FillFalliblyRuns-from_fill before n (Err refused) after (good, last, calls, short) =
+      let long = length-map {B = Result T E} good Ok in
       FillRuns-from_fill next_gives before n (Err refused) after
-      (map Ok good, last, calls, subst (λ k. MatchOption last (k < n) (λ _. k ≡ n)) (sym (good_long good)) short)
+      (map Ok good, last, calls, subst (λ k. MatchOption last (k < n) (λ _. k ≡ n)) (sym long) short)

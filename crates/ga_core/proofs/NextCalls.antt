@@ -1,8 +1,9 @@
 -- One call more over the items of a slice: at the next item, with its answer written to the slot of the same index.
-use Rattle.ga_core.proofs.MoveLemmas.{cut-here, drop-next, taken-here, take-one_more}
-use Rattle.std.proofs.Common.{◌≡◌, ◌∙◌, ℕ, ◌+◌, ◌<◌, ◌≤◌, List, [], ◌∷◌, ◌++◌, arith, drop, length, refl}
+use Rattle.ga_core.proofs.MoveLemmas.{next-here, take-one_more}
+use Rattle.std.proofs.Common.{◌≡◌, ◌∙◌, ℕ, ◌+◌, ◌<◌, ◌≤◌, List, [], ◌∷◌, ◌++◌, ap, arith, drop, length, refl, sym}
 use Rattle.std.proofs.Common.{slice_index_or, slice_set, subst, take}
-use Rattle.std.proofs.lemmas.List.{drop-set-lt, take_all, take_more_set}
+use Rattle.std.proofs.lemmas.Grind.{drop_more_same}
+use Rattle.std.proofs.lemmas.List.{drop-set-lt, take-append-drop, take_all, take_more_set}
 
 -- a place in a list is one in another that is as long
 pub place-in : {n width other : ℕ} → n < width → other ≡ width → n < other
@@ -20,32 +21,27 @@ pub record WrittenSoFar {F X Y : Type 0} (Run : List X → List Y → F → Type
   pub behind : drop index left ≡ drop index items
 
 module _ {F X Y : Type 0} {Run : List X → List Y → F → Type 0} {n : ℕ} {items left : List X} {slots : List Y}
-    {reached : F} {there item : X} where
+    {reached : F} {item : X} where
   -- the items are those before the index, the item that stands there, and the others
-  pub cut-next : WrittenSoFar Run n items left slots reached → n < length left → there ≡ slice_index_or left n there
-      → item ≡ slice_index_or left n there
+  pub cut-next : WrittenSoFar Run n items left slots reached → n < length left → item ≡ slice_index_or left n item
       → items ≡ take n items ++ item ∷ drop (n + 1) left
-  cut-next so_far some is value = cut-here n items _ item
-      (taken-here n items left there item some is value so_far.behind)
+  cut-next so_far some this = sym (take-append-drop n items)
+      ∙ ap (λ l. take n items ++ l) (next-here n items left item some this so_far.behind)
 
   -- a call at that item was made, and its answer was written
-  written-next : (y : Y) (last : F) (after : List X) → drop (n + 1) after ≡ drop (n + 1) left
+  pub written-next : (y : Y) (last : F) (after : List X) → drop (n + 1) after ≡ drop (n + 1) left
       → WrittenSoFar Run n items left slots reached → n < length left → n < length slots
-      → there ≡ slice_index_or left n there → item ≡ slice_index_or left n there
-      → Run (take n items ++ item ∷ []) (take n slots ++ y ∷ []) last
+      → item ≡ slice_index_or left n item → Run (take n items ++ item ∷ []) (take n slots ++ y ∷ []) last
       → WrittenSoFar Run (n + 1) items after (slice_set slots n y) last
-  written-next y last after same so_far some room is value longer =
-      let here = taken-here n items left there item some is value so_far.behind in
-      record {
-        run = rw (take_more_set slots n y room, take-one_more n items _ item here) longer;
-        behind =
-            same ∙ drop-next n items _ item here;
-      }
+  written-next y last after same so_far some room this longer = record {
+    run = rw (take_more_set slots n y room,
+        take-one_more n items _ item (next-here n items left item some this so_far.behind)) longer;
+    behind = same ∙ drop_more_same left items n so_far.behind;
+  }
 
   -- the same, where the item was taken out of its slot
   pub taken-next : (y : Y) (last : F) (blank : X) → WrittenSoFar Run n items left slots reached → n < length left
-      → n < length slots
-      → there ≡ slice_index_or left n there → item ≡ slice_index_or left n there
+      → n < length slots → item ≡ slice_index_or left n item
       → Run (take n items ++ item ∷ []) (take n slots ++ y ∷ []) last
       → WrittenSoFar Run (n + 1) items (slice_set left n blank) (slice_set slots n y) last
   taken-next y last blank = written-next y last (slice_set left n blank)
@@ -53,8 +49,7 @@ module _ {F X Y : Type 0} {Run : List X → List Y → F → Type 0} {n : ℕ} {
 
   -- the same, where the item was read
   pub read-next : (y : Y) (last : F) → WrittenSoFar Run n items left slots reached → n < length left → n < length slots
-      → there ≡ slice_index_or left n there → item ≡ slice_index_or left n there
-      → Run (take n items ++ item ∷ []) (take n slots ++ y ∷ []) last
+      → item ≡ slice_index_or left n item → Run (take n items ++ item ∷ []) (take n slots ++ y ∷ []) last
       → WrittenSoFar Run (n + 1) items left (slice_set slots n y) last
   read-next y last = written-next y last left refl
 

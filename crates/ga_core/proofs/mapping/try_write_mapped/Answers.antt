@@ -1,4 +1,5 @@
 use Rattle.ga_core.proofs.CallLemmas.{ClosureRun-of_items, may_try_map-at}
+use Rattle.ga_core.proofs.MoveLemmas.{this-here}
 use Rattle.ga_core.proofs.NextCalls.{all-in, cut-next, place-in, run-of_all, taken-next}
 use Rattle.ga_core.proofs.RunLemmas.{ClosureRun-good, FirstErrorRun-error, FirstErrorRun-good}
 use Rattle.ga_core.proofs.mapping.try_write_mapped.Goals as goal
@@ -12,7 +13,7 @@ f-requires g c =
     may_try_map-at (λ item. item) _ _ _ _ c.requires.callable _ c.take.result _
     (take c.loop-index.index c.loop-index.slots) _
     (cut-next c.loop-index.invariant (place-in c.loop-index-test.true (c.loop-index.auto.items ∙ c.requires.len))
-    c.index-items-index.is c.take.ensures.value) run _ refl
+    (this-here c.loop-index.index c.loop-index.items _ _ c.index-items-index.is c.take.ensures.value)) run _ refl
 
 pub loop-index-preserved : goal.loop-index-preserved
 loop-index-preserved g c =
@@ -20,13 +21,13 @@ loop-index-preserved g c =
     c.loop-index.invariant.run c.in-Ok.ensures in
     taken-next c.in-Ok.item c.f.new.self c.take.new.dest c.loop-index.invariant
     (place-in c.loop-index-test.true (c.loop-index.auto.items ∙ c.requires.len))
-    (place-in c.loop-index-test.true c.loop-index.auto.slots) c.index-items-index.is c.take.ensures.value run
+    (place-in c.loop-index-test.true c.loop-index.auto.slots) (this-here c.loop-index.index c.loop-index.items _ _ c.index-items-index.is c.take.ensures.value) run
 
 pub returns-in-Err : goal.returns-in-Err
 returns-in-Err g c =
     let cut = cut-next c.loop-index.invariant
     (place-in c.loop-index-test.true (c.loop-index.auto.items ∙ c.requires.len))
-    c.index-items-index.is c.take.ensures.value in
+    (this-here c.loop-index.index c.loop-index.items _ _ c.index-items-index.is c.take.ensures.value) in
     record {
       run = subst (λ xs. FirstErrorRun (goal.F-step g) c.args.f.now xs (Err c.in-Err.error) c.f.new.self)
           (sym cut) (FirstErrorRun-error _ _ _ _ _ _ _ _ _ c.loop-index.invariant.run c.in-Err.ensures);

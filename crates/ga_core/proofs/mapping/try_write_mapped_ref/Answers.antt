@@ -12,7 +12,7 @@ pub f-requires : goal.f-requires
 f-requires g c = may_try_map-at (λ item. item.now) _ _ _ _ c.requires.callable _ c.index-items-index.result _
     (take c.loop-index.index c.loop-index.slots) _
     (cut-next c.loop-index.invariant (place-in c.loop-index-test.true c.requires.len)
-    c.index-items-index.is c.index-items-index.is)
+    c.index-items-index.is)
     c.loop-index.invariant.run _ refl
 
 pub loop-index-preserved : goal.loop-index-preserved
@@ -21,12 +21,12 @@ loop-index-preserved g c =
     c.in-Ok.item _ c.loop-index.invariant.run (_, refl, c.in-Ok.ensures) in
     read-next {Run = λ items good. ClosureRun (CallAt (λ item. item.now) (goal.F-step g)) c.args.f.now items
     (map Ok good)} c.in-Ok.item c.f.new.self c.loop-index.invariant (place-in c.loop-index-test.true c.requires.len)
-    (place-in c.loop-index-test.true c.loop-index.auto.slots) c.index-items-index.is c.index-items-index.is run
+    (place-in c.loop-index-test.true c.loop-index.auto.slots) c.index-items-index.is run
 
 pub returns-in-Err : goal.returns-in-Err
 returns-in-Err g c =
     let cut = cut-next c.loop-index.invariant (place-in c.loop-index-test.true c.requires.len)
-    c.index-items-index.is c.index-items-index.is in
+    c.index-items-index.is in
     let run = FirstErrorRun-error _ _ _ (take c.loop-index.index c.loop-index.slots) _ c.index-items-index.result _ _ _
     c.loop-index.invariant.run (_, refl, c.in-Err.ensures) in
     record {

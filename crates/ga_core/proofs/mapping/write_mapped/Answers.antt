@@ -1,4 +1,5 @@
 use Rattle.ga_core.proofs.CallLemmas.{ClosureRun-of_items, may_map-at}
+use Rattle.ga_core.proofs.MoveLemmas.{this-here}
 use Rattle.ga_core.proofs.NextCalls.{all-in, cut-next, place-in, run-of_all, taken-next}
 use Rattle.ga_core.proofs.RunLemmas.{ClosureRun-snoc}
 use Rattle.ga_core.proofs.mapping.write_mapped.Goals as goal
@@ -11,14 +12,14 @@ f-requires g c =
     let run = ClosureRun-of_items _ _ _ _ _ c.loop-index.invariant.run in
     may_map-at (λ item. item) _ _ _ _ c.requires.callable _ c.take.result _ _ _
     (cut-next c.loop-index.invariant (place-in c.loop-index-test.true (c.loop-index.auto.items ∙ c.requires.len))
-    c.index-items-index.is c.take.ensures.value) run _ refl
+    (this-here c.loop-index.index c.loop-index.items _ _ c.index-items-index.is c.take.ensures.value)) run _ refl
 
 pub loop-index-preserved : goal.loop-index-preserved
 loop-index-preserved g c =
     let run = ClosureRun-snoc _ _ _ _ _ c.take.result _ _ c.loop-index.invariant.run c.f.ensures in
     taken-next c.f.result c.f.new.self c.take.new.dest c.loop-index.invariant
     (place-in c.loop-index-test.true (c.loop-index.auto.items ∙ c.requires.len))
-    (place-in c.loop-index-test.true c.loop-index.auto.slots) c.index-items-index.is c.take.ensures.value run
+    (place-in c.loop-index-test.true c.loop-index.auto.slots) (this-here c.loop-index.index c.loop-index.items _ _ c.index-items-index.is c.take.ensures.value) run
 
 pub returns : goal.returns
 returns g c = record {

@@ -11,7 +11,7 @@ use borrow.Author.Rules.{scaled_Fits}
 pub f-requires : goal.f-requires
 f-requires g c = may_map-at (λ item. item.now) _ _ _ _ c.requires.callable _ c.index-items-index.result _ _ _
     (cut-next c.loop-index.invariant (place-in c.loop-index-test.true c.requires.len)
-    c.index-items-index.is c.index-items-index.is)
+    c.index-items-index.is)
     c.loop-index.invariant.run _ refl
 
 pub loop-index-preserved : goal.loop-index-preserved
@@ -20,7 +20,7 @@ loop-index-preserved g c =
     (_, refl, c.f.ensures) in
     read-next {Run = ClosureRun (CallAt (λ item. item.now) (goal.F-step g)) c.args.f.now} c.f.result c.f.new.self
     c.loop-index.invariant (place-in c.loop-index-test.true c.requires.len)
-    (place-in c.loop-index-test.true c.loop-index.auto.slots) c.index-items-index.is c.index-items-index.is run
+    (place-in c.loop-index-test.true c.loop-index.auto.slots) c.index-items-index.is run
 
 pub returns : goal.returns
 returns g c = record {

@@ -17,7 +17,8 @@ returns-in-Ok g c =
     let taken = c.in_default.ensures.taken in
     let made : Made g = Ok (Ok c.in-Ok.array) in
     let ends = fill-ends next (map Ok) (λ items. length-map items Ok) c.args.items.now c.try_extend.new.items
-    c.finish_at_end.new.items n taken.0 c.new-builder.ensures taken.1 (Ok c.in-Ok.array) taken.2 c.in-Ok.ensures.ok tt in
+    c.finish_at_end.new.items n taken.0 c.new-builder.ensures taken.1 {E = LengthError} (Ok c.in-Ok.array) taken.2
+    c.in-Ok.ensures.ok tt in
     let fill : FillsFallibly next c.args.items.now n made c.finish_at_end.new.items =
     (taken.0, ends.0, ends.1, ends.2) in
     record { fill = fill; runs = FillFalliblyRuns-from_fill next c.args.items.now n made _ fill; can_on = tt }
