@@ -1,4 +1,5 @@
 //! Tuples of the items of arrays, each by the native array of them and std's `From`.
+#![tactic(auto, using(crate::proofs::TupleLemmas::by_place))]
 ghost use Rattle.std.specs.Prelude.{◌≡◌, ◌∷◌, []};
 
 use crate::array::GenericArray;
