@@ -24,8 +24,7 @@ module _ {T : Type 0} where
 
   -- where a clone equals its source, the copies are equal
   pub Repeats-same : (is_clone : T → T → Type 0) (item : T) (n : ℕ) (array : List T)
-      → ((copy : T) → is_clone item copy → copy ≡ item)
-      → Repeats is_clone item n array → array ≡ replicate n item
+      → ((copy : T) → is_clone item copy → copy ≡ item) → Repeats is_clone item n array → array ≡ replicate n item
   Repeats-same is_clone item zero array equal none = none
   Repeats-same is_clone item (suc n) array equal (clones, made, long, all) =
       let same : clones ≡ replicate n item =
@@ -86,11 +85,7 @@ module _ {T : Type 0} (P : T → Type 0) where
   -- P holds of each of n items
   pub ExactlyEach-all : (n : ℕ) (items : List T) → length items ≡ n → All P items → ExactlyEach P n items
   ExactlyEach-all zero [] long all = refl
-  ExactlyEach-all (suc n) (x ∷ items) long all = (
-    x,
-    items,
-    refl,
-    All-head P x items all,
-    ExactlyEach-all n items (omega (arith, long)) (All-tail P x items all),
-  )
+  ExactlyEach-all (suc n) (x ∷ items) long all =
+      let others = ExactlyEach-all n items (omega (arith, long)) (All-tail P x items all) in
+      (x, items, refl, All-head P x items all, others)
   ExactlyEach-all _ _ long all = absurd (omega (arith, long))

@@ -24,6 +24,11 @@ pub room-shrinks : {T : Type 0} (before after : List T) (item : T) (width : ℕ)
 room-shrinks before after item width room pushed = omega
     (arith, length-append before (item ∷ []), ap length pushed, room)
 
+-- what was appended to a builder that isn't full is less than the room that it had
+pub room-left : {T : Type 0} (n : ℕ) (start taken : List T) {built : List T} → built ≡ start ++ taken
+    → length built < n → length taken < n - length start
+room-left n start taken appended few = omega (arith, length-append start taken, ap length appended, few)
+
 -- What was taken of an iterator, as the lists of items that a builder got show it: as these items, or as good ones.
 module _ {S T U : Type 0} (next_gives : S → Option T → S → Type 0) (shown : List U → List T)
     (as_long : (items : List U) → length (shown items) ≡ length items) (before reached : S) where
@@ -34,12 +39,9 @@ module _ {S T U : Type 0} (next_gives : S → Option T → S → Type 0) (shown 
     takes-all full calls =
         inl (calls, omega (arith, as_long taken, length-append start taken, ap length appended, full))
 
-    pub room-left : length built < n → length taken < n - length start
-    room-left few = omega (arith, length-append start taken, ap length appended, few)
-
     pub takes-to_end : length built < n → YieldsThen next_gives before (shown taken) None reached
         → Takes next_gives before (n - length start) (shown taken) reached
-    takes-to_end few calls = inr (calls, omega (arith, as_long taken, room-left few))
+    takes-to_end few calls = inr (calls, omega (arith, as_long taken, room-left n start taken appended few))
 
   -- What a builder that was empty took, and whether it was full when the iterator ended, is a fill.
   module _ (after : S) (n : ℕ) {start built : List U} (taken : List U) (empty : start ≡ [])
@@ -67,11 +69,9 @@ module _ {S T U : Type 0} (next_gives : S → Option T → S → Type 0) (shown 
     fill-ends (Err error) (inl (calls, all)) _ (inl (other, still)) = absurd (other (sym long ∙ (all ∙ room)))
     fill-ends (Err error) (inl (calls, all)) _ (inr (full, (more, call))) =
         (Some more, (reached, calls, call), sym (ap length same) ∙ full)
-    fill-ends (Err error) (inr (calls, short)) _ (inl (other, still)) = (
-      None,
-      subst (λ s. YieldsThen next_gives before (shown taken) None s) (sym still) calls,
-      omega (arith, as_long taken, room, short),
-    )
+    fill-ends (Err error) (inr (calls, short)) _ (inl (other, still)) =
+        let end = subst (λ s. YieldsThen next_gives before (shown taken) None s) (sym still) calls in
+        (None, end, omega (arith, as_long taken, room, short))
     fill-ends (Err error) (inr (calls, short)) _ (inr (full, more)) = absurd (omega (arith, long, room, short, full))
 
 module _ {S T : Type 0} (next_gives : S → Option T → S → Type 0) where
@@ -154,13 +154,13 @@ module _ {S T E : Type 0} (next_gives : S → Option (Result T E) → S → Type
 
 module _ {S T E F : Type 0} (next_gives : S → Option (Result T E) → S → Type 0) where
   pub FillFalliblyRuns-from_fill : (before : S) (n : ℕ) (result : Result (Result (List T) E) F) (after : S)
-      → FillsFallibly next_gives before n result after
-      → FillFalliblyRuns next_gives before n result
+      → FillsFallibly next_gives before n result after → FillFalliblyRuns next_gives before n result
   FillFalliblyRuns-from_fill before n (Ok (Ok array)) after (good, last, calls, whole) =
       let to_none = subst (λ o. YieldsThen next_gives before (map Ok good) o after) whole.2 calls in
+      let all = ended next_gives before (map Ok good) after to_none in
+      let same = sym whole.0 in
       let long = length-map {B = Result T E} good Ok in
-      (ended next_gives before (map Ok good) after to_none, refl, refl,
-      (ap (map Ok) (sym whole.0), all_good good ∙ ap Ok (sym whole.0), long ∙ whole.1))
+      (all, refl, refl, (ap (map Ok) same, all_good good ∙ ap Ok same, long ∙ whole.1))
   FillFalliblyRuns-from_fill before n (Ok (Err error)) after (good, last, calls, first) =
       let came = subst (λ o. YieldsThen next_gives before (map Ok good) o after) first.0 calls in
       (stopped next_gives before (map Ok good) (Err error) after came, refl, (good, refl, first.1))

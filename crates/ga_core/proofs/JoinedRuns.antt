@@ -31,8 +31,7 @@ module _ {F I T Y : Type 0} (entry : I → T) (pre : F → I → Type 0) (step :
 
   -- and then over the second
   pub MayMap-second : (f : F) (xs ys : List T) (first : List Y) (between : F) → MayMap entry pre step f (xs ++ ys)
-      → ClosureRun (CallAt entry step) f xs first between
-      → MayMap entry pre step between ys
+      → ClosureRun (CallAt entry step) f xs first between → MayMap entry pre step between ys
   MayMap-second f xs ys first between may ran passed x others answers reached whole run item is stays =
       may_map-at entry pre step f (xs ++ ys) may (xs ++ passed) x others (first ++ answers) reached
       (ap (λ all. xs ++ all) whole ∙ sym (append_assoc xs passed (x ∷ others)))

@@ -12,8 +12,7 @@ use Rattle.std.specs.Prelude.{[]}
 
 -- sorted keys ascend strictly once `dedup` has gone over them
 pub strictly_sorted : (sorted left : List (List ℕ)) → IsSorted (slice_cmp nat_cmp) sorted
-    → IsFiltered (DiffersFromLast (pointwise nat_eq)) [] sorted left
-    → IsStrictlySortedBy (slice_cmp nat_cmp) left
+    → IsFiltered (DiffersFromLast (pointwise nat_eq)) [] sorted left → IsStrictlySortedBy (slice_cmp nat_cmp) left
 strictly_sorted sorted left in_order filtered =
     subst (IsStrictlySortedBy (slice_cmp nat_cmp)) (sym (dedup_is (pointwise nat_eq) sorted left filtered))
     (IsStrictlySortedBy-dedup nat_list_cmp_total (lists_ties nat_cmp unsigned_ties) sorted in_order)

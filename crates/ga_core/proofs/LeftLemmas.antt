@@ -19,12 +19,6 @@ pub index-falls : (index : ℕ) → 0 < index → index - 1 - 0 < index - 0
 index-falls index some = omega arith
 
 module _ {T : Type 0} where
-  -- how many are left
-  pub left-count : (items : List T) (front back : ℕ) → front ≤ back → back ≤ length items
-      → length (slice_range items front back) ≡ back - front
-  left-count items front back ordered within = omega
-      (arith, length-take (back - front) (drop front items), length-drop front items)
-
   -- where fewer are passed than are left, one stays behind them
   pub left-stays : {n count : ℕ} (left behind : List T) → n < count → count ≡ length left → behind ≡ drop n left
       → 0 < length behind
@@ -64,8 +58,9 @@ module _ {T : Type 0} where
 module _ {T : Type 0} {front back n : ℕ} (items left : List T)
     (lies : (front ≤ back) × (back ≤ length items) × (length items ≡ n) × (n ≤ 65536))
     (shown : slice_range items front back ≡ left) where
+  -- how many are left
   pub count : length left ≡ back - front
-  count = ap length (sym shown) ∙ left-count items front back lies.0 lies.1
+  count = omega (arith, ap length shown, length-take (back - front) (drop front items), length-drop front items)
 
   -- where the slots have met, nothing is left, and before that something is
   pub left-none : back ≤ front → left ≡ []

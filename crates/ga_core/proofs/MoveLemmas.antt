@@ -19,8 +19,7 @@ module _ {T : Type 0} where
 
   -- the next item of those that are left is the next of all
   pub next-here : (n : ℕ) (items left : List T) (item : T) → n < length left → item ≡ slice_index_or left n item
-      → drop n left ≡ drop n items
-      → drop n items ≡ item ∷ drop (n + 1) left
+      → drop n left ≡ drop n items → drop n items ≡ item ∷ drop (n + 1) left
   next-here n items left item some this behind = sym behind
       ∙ (drop_more left n item some ∙ ap (λ x. x ∷ drop (n + 1) left) (sym this))
 
@@ -30,14 +29,12 @@ module _ {T : Type 0} where
 
   -- one item more moved out of a list, behind those before it
   pub pushed-next : (n : ℕ) (items left before after : List T) (item blank : T) → n < length left
-      → item ≡ slice_index_or left n item
-      → MovedSoFar n items left before → after ≡ before ++ item ∷ []
+      → item ≡ slice_index_or left n item → MovedSoFar n items left before → after ≡ before ++ item ∷ []
       → MovedSoFar (n + 1) items (slice_set left n blank) after
-  pushed-next n items left before after item blank some this moved grows = (
-    grows ∙ (ap (λ l. l ++ item ∷ []) moved.0
-        ∙ sym (take-one_more n items _ item (next-here n items left item some this moved.1))),
-    drop-set-lt (n + 1) left n blank (omega arith) ∙ drop_more_same left items n moved.1,
-  )
+  pushed-next n items left before after item blank some this moved grows =
+      let more = take-one_more n items _ item (next-here n items left item some this moved.1) in
+      let behind = drop-set-lt (n + 1) left n blank (omega arith) ∙ drop_more_same left items n moved.1 in
+      (grows ∙ (ap (λ l. l ++ item ∷ []) moved.0 ∙ sym more), behind)
 
   -- a property of what is left in the slots before, and of what is left in this one
   pub left-next : (P : T → Type 0) (n : ℕ) (left : List T) (blank : T) → n < length left → All P (take n left) → P blank

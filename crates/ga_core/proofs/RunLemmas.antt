@@ -64,8 +64,7 @@ module _ {F X Y E : Type 0} (step : F → X → Result Y E → F → Type 0) whe
 
   -- an error came after good calls
   pub FirstErrorRun-error : (f : F) (xs : List X) (good : List Y) (reached : F) (x : X) (others : List X) (error : E)
-      (last : F)
-      → ClosureRun step f xs (map Ok good) reached → step reached x (Err error) last
+      (last : F) → ClosureRun step f xs (map Ok good) reached → step reached x (Err error) last
       → FirstErrorRun step f (xs ++ x ∷ others) (Err error) last
   FirstErrorRun-error f [] [] reached x others error last run call =
       inl (subst (λ k. step k x (Err error) last) (sym run) call)

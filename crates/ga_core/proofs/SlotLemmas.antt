@@ -26,12 +26,6 @@ refill-set items slots after slot item same written =
     written ∙ (refill-whole (length items) items (slice_set slots slot item) whole
     ∙ ap (λ list. slice_set list slot item) same)
 
--- what stands after a loan of all slots
-pub refill-over : {X : Type 0} (items slots written after : List X) → slots ≡ items → length written ≡ length slots
-    → after ≡ refill (length items) items written → after ≡ written
-refill-over items slots written after same long stands =
-    stands ∙ refill-whole (length items) items written (ap length (sym same) ∙ sym long)
-
 -- what stands in the first slots, where these were written over
 pub front-written : {X : Type 0} (len : ℕ) (items written after : List X) → len ≤ length items → length written ≡ len
     → after ≡ refill (length items) items (part_set 0 len items written) → take len after ≡ written

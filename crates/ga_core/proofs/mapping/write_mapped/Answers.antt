@@ -1,9 +1,8 @@
 use Rattle.ga_core.proofs.CallLemmas.{ClosureRun-of_items, may_map-at}
 use Rattle.ga_core.proofs.MoveLemmas.{this-here}
-use Rattle.ga_core.proofs.NextCalls.{all-in, cut-next, place-in, run-of_all, taken-next}
+use Rattle.ga_core.proofs.NextCalls.{all-in, cut-next, place-in, taken-next, written-all}
 use Rattle.ga_core.proofs.RunLemmas.{ClosureRun-snoc}
 use Rattle.ga_core.proofs.mapping.write_mapped.Goals as goal
-use Rattle.ga_core.specs.Runs.{ClosureRun}
 use Rattle.std.proofs.Common.{refl, ◌∙◌}
 use borrow.Author.Rules.{scaled_Fits}
 
@@ -23,9 +22,8 @@ loop-index-preserved g c =
 
 pub returns : goal.returns
 returns g c = record {
-  run = run-of_all (λ items made. ClosureRun (goal.F-step g) c.args.f.now items made c.loop-index.f) c.loop-index.index
-      _ _ (all-in c.loop-index-test.false c.requires.len) (all-in c.loop-index-test.false c.loop-index.auto.slots)
-      c.loop-index.invariant.run;
+  run = written-all c.loop-index.invariant (all-in c.loop-index-test.false c.requires.len)
+      (all-in c.loop-index-test.false c.loop-index.auto.slots);
 }
 
 pub offset_bounds-slots-index : goal.offset_bounds-slots-index

@@ -1,11 +1,9 @@
 use Rattle.ga_core.proofs.CallLemmas.{may_zip-at}
 use Rattle.ga_core.proofs.MoveLemmas.{this-here}
-use Rattle.ga_core.proofs.NextCalls.{all-in, cut-next, place-in, run-of_all, written-next}
+use Rattle.ga_core.proofs.NextCalls.{all-in, cut-next, place-in, written-all, written-next}
 use Rattle.ga_core.proofs.RunLemmas.{ClosureRun-snoc}
 use Rattle.ga_core.proofs.ZipLemmas.{pair-here, pair-in, pairs-behind, pairs-in}
 use Rattle.ga_core.proofs.mapping.write_zipped.Goals as goal
-use Rattle.ga_core.specs.Entries.{CallAtPair}
-use Rattle.ga_core.specs.Runs.{ClosureRun}
 use Rattle.std.proofs.Common.{refl, ◌∙◌}
 use borrow.Author.Rules.{scaled_Fits}
 
@@ -34,10 +32,9 @@ loop-index-preserved g c =
 
 pub returns : goal.returns
 returns g c = record {
-  run = run-of_all (λ pairs made. ClosureRun (CallAtPair (λ item. item) (λ item. item) (goal.F-step g))
-      c.args.f.now pairs made c.loop-index.f) c.loop-index.index _ _
+  run = written-all c.loop-index.invariant
       (pairs-in c.args.left.now c.args.right.now c.loop-index-test.false c.requires.left)
-      (all-in c.loop-index-test.false c.loop-index.auto.slots) c.loop-index.invariant.run;
+      (all-in c.loop-index-test.false c.loop-index.auto.slots);
 }
 
 pub loop-index-init : goal.loop-index-init

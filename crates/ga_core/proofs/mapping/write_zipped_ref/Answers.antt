@@ -1,5 +1,5 @@
 use Rattle.ga_core.proofs.CallLemmas.{may_zip-at}
-use Rattle.ga_core.proofs.NextCalls.{all-in, cut-next, place-in, read-next, run-of_all}
+use Rattle.ga_core.proofs.NextCalls.{all-in, cut-next, place-in, written-all, written-next}
 use Rattle.ga_core.proofs.RunLemmas.{ClosureRun-snoc}
 use Rattle.ga_core.proofs.ZipLemmas.{pair-here, pair-in, pairs-in}
 use Rattle.ga_core.proofs.mapping.write_zipped_ref.Goals as goal
@@ -20,8 +20,8 @@ f-requires g c =
 pub loop-index-preserved : goal.loop-index-preserved
 loop-index-preserved g c =
     let at = c.loop-index in
-    read-next {Run = ClosureRun (CallAtPair (λ item. item.now) (λ item. item.now) (goal.F-step g)) c.args.f.now}
-    c.f.result c.f.new.self at.invariant (pair-in _ _ c.loop-index-test.true c.requires.left c.requires.right)
+    written-next {Run = ClosureRun (CallAtPair (λ item. item.now) (λ item. item.now) (goal.F-step g)) c.args.f.now}
+    c.f.result c.f.new.self _ refl at.invariant (pair-in _ _ c.loop-index-test.true c.requires.left c.requires.right)
     (place-in c.loop-index-test.true at.auto.slots)
     (pair-here at.index _ _ c.index-left-index.is c.index-right-index.is)
     (ClosureRun-snoc _ _ _ _ _ (c.index-left-index.result, c.index-right-index.result) _ _ at.invariant.run
@@ -29,10 +29,9 @@ loop-index-preserved g c =
 
 pub returns : goal.returns
 returns g c = record {
-  run = run-of_all (λ pairs made. ClosureRun (CallAtPair (λ item. item.now) (λ item. item.now) (goal.F-step g))
-      c.args.f.now pairs made c.loop-index.f) c.loop-index.index _ _
+  run = written-all c.loop-index.invariant
       (pairs-in c.args.left.now c.args.right.now c.loop-index-test.false c.requires.left)
-      (all-in c.loop-index-test.false c.loop-index.auto.slots) c.loop-index.invariant.run;
+      (all-in c.loop-index-test.false c.loop-index.auto.slots);
 }
 
 pub offset_bounds-slots-index : goal.offset_bounds-slots-index

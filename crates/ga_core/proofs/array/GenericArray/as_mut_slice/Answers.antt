@@ -33,5 +33,5 @@ pub invariant_of-self-lent : goal.invariant_of-self-lent
 invariant_of-self-lent g c = λ w.
     let items = g.N.ArrayType.Store.items c.self.inside.store in
     let part = part_set 0 c.USIZE.result items w in
-    (refill-long items part _ (g.N.ArrayType.Store.store_with c.self.inside.store part).1 ∙ c.self.invariant.0,
-    c.self.invariant.1)
+    let long = refill-long items part _ (g.N.ArrayType.Store.store_with c.self.inside.store part).1 in
+    (long ∙ c.self.invariant.0, c.self.invariant.1)

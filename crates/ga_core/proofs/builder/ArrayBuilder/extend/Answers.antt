@@ -8,16 +8,11 @@ pub loop-items-preserved : goal.loop-items-preserved
 loop-items-preserved g c =
     let so_far = c.loop-items.invariant.taken in
     let item = c.in-Some.item in
-    record {
-      can = c.in-Some.ensures.goes.keeps;
-      taken = (
-        so_far.0 ++ item ∷ [],
-        rw c.push.ensures (ap (λ items. items ++ item ∷ []) so_far.1
-            ∙ append_assoc c.args.self.now so_far.0 (item ∷ [])),
-        Yields-more g.I.Iterator.next_gives c.args.items.now so_far.0 c.loop-items.items item c.next.new.self so_far.2
-            c.in-Some.ensures.steps,
-      );
-    }
+    let grown = c.push.ensures ∙ (ap (λ items. items ++ item ∷ []) so_far.1
+    ∙ append_assoc c.args.self.now so_far.0 (item ∷ [])) in
+    let calls = Yields-more g.I.Iterator.next_gives c.args.items.now so_far.0 c.loop-items.items item c.next.new.self
+    so_far.2 c.in-Some.ensures.steps in
+    record { can = c.in-Some.ensures.goes.keeps; taken = (so_far.0 ++ item ∷ [], grown, calls) }
 
 pub returns-in-None : goal.returns-in-None
 returns-in-None g c =

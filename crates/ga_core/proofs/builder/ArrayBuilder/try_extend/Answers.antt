@@ -9,22 +9,17 @@ use Rattle.std.specs.Iterator.{Yields}
 
 pub loop-items-preserved : goal.loop-items-preserved
 loop-items-preserved g c =
+    let next = g.I.Iterator.next_gives in
     let so_far = c.loop-items.invariant.taken in
     let item = c.in-Some-Ok.item in
-    record {
-      can = c.in-Some-Ok.ensures.goes.keeps;
-      taken = (
-        so_far.0 ++ item ∷ [],
-        rw c.push.ensures (ap (λ items. items ++ item ∷ []) so_far.1
-            ∙ append_assoc c.args.self.now so_far.0 (item ∷ [])),
-        subst (λ taken. Yields g.I.Iterator.next_gives c.args.items.now taken c.next.new.self)
-            (sym (map-append Ok so_far.0 (item ∷ [])))
-            (Yields-more g.I.Iterator.next_gives c.args.items.now (map Ok so_far.0) c.loop-items.items
-            (Ok item) c.next.new.self so_far.2
-            (subst (λ reply. g.I.Iterator.next_gives c.loop-items.items (Some reply) c.next.new.self)
-            c.in-Some-Ok.field-0-is c.in-Some-Ok.ensures.steps)),
-      );
-    }
+    let grown = c.push.ensures ∙ (ap (λ items. items ++ item ∷ []) so_far.1
+    ∙ append_assoc c.args.self.now so_far.0 (item ∷ [])) in
+    let call = subst (λ reply. next c.loop-items.items (Some reply) c.next.new.self)
+    c.in-Some-Ok.field-0-is c.in-Some-Ok.ensures.steps in
+    let calls = subst (λ taken. Yields next c.args.items.now taken c.next.new.self)
+    (sym (map-append Ok so_far.0 (item ∷ []))) (Yields-more next c.args.items.now (map Ok so_far.0)
+    c.loop-items.items (Ok item) c.next.new.self so_far.2 call) in
+    record { can = c.in-Some-Ok.ensures.goes.keeps; taken = (so_far.0 ++ item ∷ [], grown, calls) }
 
 pub returns : goal.returns
 returns g c =
@@ -62,12 +57,9 @@ returns-in-Some-Err g c =
     let told = c.loop-items-test.ensures in
     let call = subst (λ reply. next c.loop-items.items (Some reply) c.next.new.self)
     c.in-Some-Err.field-0-is c.in-Some-Err.ensures.steps in
+    let few = room-left _ _ so_far.0 so_far.1 (has-room _ _ told.bound told.full.1) in
     let takes : TakesGood next c.args.items.now (g.N.Unsigned.USIZE - length c.args.self.now) so_far.0
-    (Err c.in-Some-Err.error) c.next.new.self = (
-      (c.loop-items.items, so_far.2, call),
-      room-left next (map Ok) (λ items. length-map items Ok) c.args.items.now c.next.new.self _ _ so_far.0 so_far.1
-          (has-room _ _ told.bound told.full.1),
-    ) in
+    (Err c.in-Some-Err.error) c.next.new.self = ((c.loop-items.items, so_far.2, call), few) in
     record {
       taken = (so_far.0, so_far.1, takes);
       runs = TakeGoodRuns-from_takes next (λ good. c.loop-items.self ≡ c.args.self.now ++ good)
