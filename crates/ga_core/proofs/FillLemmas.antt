@@ -1,11 +1,10 @@
 -- A fill, or what is taken of an iterator, as one run of calls, and as so many calls.
-use mathlib.Core.Bool.{true≢false}
 use Rattle.ga_core.specs.Fill.{Asks, FillFalliblyRuns, FillRuns, Fills, FillsFallibly, TakeGoodRuns, TakeRuns, Takes}
 use Rattle.ga_core.specs.Fill.{TakesGood}
 use Rattle.ga_core.specs.Tries.{result_and_then, try_map}
 use Rattle.std.proofs.Common.{◌≡◌, ◌≢◌, ◌∙◌, ◌⊎◌, ℕ, zero, suc, ◌+◌, ◌-◌, ◌<◌, ◌≤◌, List, [], ◌∷◌, ◌++◌, length}
 use Rattle.std.proofs.Common.{length-append, map, ap, arith, refl, subst, sym, true, false, inl, inr, Option, None}
-use Rattle.std.proofs.Common.{Some, Result, Ok, Err, IfOk, IsOkAnd, MatchOption, MatchResult, OnErr}
+use Rattle.std.proofs.Common.{Some, Result, Ok, Err, IfOk, IsOkAnd, MatchOption, MatchResult, OnErr, true≢false}
 use Rattle.std.proofs.lemmas.List.{length-map}
 use Rattle.std.proofs.iter.Next.{Yields-more}
 use Rattle.std.proofs.iter.runs.Made.{run, to_end, to_item}

@@ -1,5 +1,5 @@
 -- Keys of bytes: their order, and what a sort and `dedup` leave of them.
-use Rattle.std.proofs.Common.{ℕ, List, nat_eq, subst, sym}
+use Rattle.std.proofs.Common.{ℕ, List, nat_eq, subst, sym, nat_cmp, []}
 use Rattle.std.proofs.lemmas.Cmp.{nat_list_cmp_total}
 use Rattle.std.proofs.lemmas.List.Filters.{dedup_is}
 use Rattle.std.proofs.lemmas.List.Kept.{IsStrictlySortedBy-dedup}
@@ -7,8 +7,6 @@ use Rattle.std.specs.Cmp.{unsigned_ties}
 use Rattle.std.specs.Cmp.Lexicographic.{lists_ties, pointwise, slice_cmp}
 use Rattle.std.specs.List.Retain.{DiffersFromLast, IsFiltered}
 use Rattle.std.specs.List.Sorted.{IsSorted, IsStrictlySortedBy}
-use Rattle.std.specs.Ordering.{nat_cmp}
-use Rattle.std.specs.Prelude.{[]}
 
 -- sorted keys ascend strictly once `dedup` has gone over them
 pub strictly_sorted : (sorted left : List (List ℕ)) → IsSorted (slice_cmp nat_cmp) sorted

@@ -1,10 +1,9 @@
 -- Items moved one by one from the front of a list.
-use Rattle.std.proofs.Common.{◌≡◌, ℕ, ◌+◌, ◌<◌, List, [], ◌∷◌, ◌++◌, take, drop, ap, ◌∙◌, sym, arith}
-use Rattle.std.proofs.Common.{length, slice_index_or, slice_set, subst, take-add}
+use Rattle.std.proofs.Common.{◌≡◌, ℕ, ◌+◌, ◌<◌, List, [], ◌∷◌, ◌++◌, take, drop, ap, ◌∙◌, sym, arith, length}
+use Rattle.std.proofs.Common.{slice_index_or, slice_set, subst, take-add, All}
 use Rattle.std.proofs.lemmas.Grind.{drop_more_same}
 use Rattle.std.proofs.lemmas.List.Elements.{All-append, All-cons, All-nil}
 use Rattle.std.proofs.lemmas.List.{drop-set-lt, drop_more, take_more_set}
-use Rattle.std.specs.List.{All}
 
 module _ {T : Type 0} where
   -- the items up to a slot, and the next

@@ -2,7 +2,7 @@
 use Rattle.ga_core.proofs.MoveLemmas.{next-here, take-one_more}
 use Rattle.ga_core.proofs.RunLemmas.{FirstErrorRun-error}
 use Rattle.ga_core.specs.Runs.{ClosureRun, FirstErrorRun}
-use Rattle.std.proofs.Common.{◌≡◌, ◌∙◌, ℕ, ◌+◌, ◌<◌, ◌≤◌, List, [], ◌∷◌, ◌++◌, ap, arith, drop, length, refl, sym}
+use Rattle.std.proofs.Common.{◌≡◌, ◌∙◌, ℕ, ◌+◌, ◌<◌, ◌≤◌, List, [], ◌∷◌, ◌++◌, ap, arith, drop, length, sym}
 use Rattle.std.proofs.Common.{slice_index_or, slice_set, subst, take, Result, Ok, Err, map}
 use Rattle.std.proofs.lemmas.Grind.{drop_more_same}
 use Rattle.std.proofs.lemmas.List.{drop-set-lt, take-append-drop, take_all, take_more_set}

@@ -1,9 +1,8 @@
 -- Two lists of one length, compared pair by pair in parts.
-use Rattle.std.proofs.Common.{◌≡◌, ℕ, zero, suc, ◌+◌, ◌-◌, ◌<◌, ◌≤◌, Bool, true, false, ◌&&◌, List, [], ◌∷◌}
-use Rattle.std.proofs.Common.{Ordering, take, drop, length, ap, sym, ◌∙◌, refl, arith}
-use Rattle.std.proofs.Common.{inl, inr, None, Option, slice_get, slice_index_or}
+use Rattle.std.proofs.Common.{◌≡◌, ℕ, zero, suc, ◌+◌, ◌-◌, ◌<◌, ◌≤◌, Bool, true, false, ◌&&◌, List, [], ◌∷◌, Ordering}
+use Rattle.std.proofs.Common.{take, drop, length, ap, sym, ◌∙◌, refl, arith, inl, inr, None, Option, slice_get}
+use Rattle.std.proofs.Common.{slice_index_or, eqb}
 use Rattle.std.proofs.Math.Bool.{and_assoc, and-false, and-true}
-use Rattle.std.proofs.Math.Dec.{eqb}
 use Rattle.std.proofs.lemmas.Bool.Decides.{eqb_tells}
 use Rattle.std.proofs.lemmas.List.{drop-take, drop_more, take-take, take_all, take_rest}
 use Rattle.std.specs.Cmp.{Equal-is, IsPartialOrder}

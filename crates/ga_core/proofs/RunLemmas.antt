@@ -1,12 +1,11 @@
 -- Lemmas on runs of closures, for the builds of this crate and for callers.
 use Rattle.ga_core.proofs.JoinedRuns.{ClosureRun-join}
 use Rattle.ga_core.specs.Runs.{ClosureRun, FirstErrorRun}
-use Rattle.std.proofs.Common.{◌≡◌, ℕ, zero, suc, ◌+◌, ◌<◌, List, [], ◌∷◌, ◌++◌, Result, Ok, Err, inl, inr, length}
-use Rattle.std.proofs.Common.{map, refl, subst, ap, sym, ◌∙◌, arith}
+use Rattle.std.proofs.Common.{◌≡◌, ℕ, zero, suc, ◌+◌, ◌<◌, List, [], ◌∷◌, ◌++◌, Result, Ok, Err, inl, inr, length, map}
+use Rattle.std.proofs.Common.{refl, subst, ap, sym, ◌∙◌, arith, IfOk}
 use Rattle.std.proofs.lemmas.List.{map-append, map-id}
 use Rattle.std.proofs.lemmas.List.FromFn.{map-range_with_len_more}
 use Rattle.std.specs.List.{range_with_len}
-use Rattle.std.specs.Prelude.{IfOk}
 
 -- the numbers below n + 1 are those below n, and n
 pub below-add_one : (n : ℕ) → range_with_len 0 (n + 1) ≡ range_with_len 0 n ++ n ∷ []

@@ -1,9 +1,7 @@
 -- Pairs of the items of two lists, by their places.
 use Rattle.std.proofs.Common.{◌≡◌, ℕ, zero, suc, ◌+◌, ◌<◌, ◌≤◌, List, [], ◌∷◌, arith, drop, length, refl, sym, ◌∙◌}
-use Rattle.std.proofs.Common.{slice_index_or, slice_set}
-use Rattle.std.proofs.lemmas.List.{drop-set-lt}
+use Rattle.std.proofs.Common.{slice_index_or, slice_set, drop-set-lt, zip}
 use Rattle.std.proofs.lemmas.Slice.Zip.{length-zip}
-use Rattle.std.specs.List.{zip}
 
 module _ {A B : Type 0} where
   zip-nil : (xs : List A) → zip {X = B} xs [] ≡ []

@@ -4,8 +4,7 @@ use Rattle.ga_core.proofs.RunLemmas.{ClosureRun-good, FirstErrorRun-good}
 use Rattle.ga_core.proofs.mapping.try_write_mapped_ref.Goals as goal
 use Rattle.ga_core.specs.Entries.{CallAt}
 use Rattle.ga_core.specs.Runs.{ClosureRun}
-use Rattle.std.proofs.Common.{Ok, map, refl, take}
-use native.Mathlib.Nat.{le_of_lt}
+use Rattle.std.proofs.Common.{Ok, map, refl, take, le_of_lt}
 use borrow.Author.Rules.{scaled_Fits}
 
 pub f-requires : goal.f-requires

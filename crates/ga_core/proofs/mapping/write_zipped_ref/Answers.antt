@@ -5,8 +5,7 @@ use Rattle.ga_core.proofs.ZipLemmas.{pair-here, pair-in, pairs-in}
 use Rattle.ga_core.proofs.mapping.write_zipped_ref.Goals as goal
 use Rattle.ga_core.specs.Entries.{CallAtPair}
 use Rattle.ga_core.specs.Runs.{ClosureRun}
-use Rattle.std.proofs.Common.{refl}
-use native.Mathlib.Nat.{le_of_lt}
+use Rattle.std.proofs.Common.{refl, le_of_lt}
 use borrow.Author.Rules.{scaled_Fits}
 
 pub f-requires : goal.f-requires

@@ -1,9 +1,8 @@
 use Rattle.ga_core.proofs.MoveLemmas.{left-next, pushed-next, this-here}
 use Rattle.ga_core.proofs.NextCalls.{place-in}
 use Rattle.ga_core.proofs.slots.move_items.Goals as goal
-use Rattle.std.proofs.Common.{◌<◌, ◌∙◌, arith, length, subst, sym}
+use Rattle.std.proofs.Common.{◌<◌, ◌∙◌, arith, length, subst, sym, All}
 use Rattle.std.proofs.lemmas.List.{take_all, take_more_set}
-use Rattle.std.specs.List.{All}
 use borrow.Author.Rules.{scaled_Fits}
 
 pub loop-index-preserved : goal.loop-index-preserved

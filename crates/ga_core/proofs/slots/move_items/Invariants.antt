@@ -1,7 +1,6 @@
 use Rattle.ga_core.proofs.MoveLemmas.{MovedSoFar}
 use Rattle.ga_core.proofs.slots.move_items.Given as goal
-use Rattle.std.proofs.Common.{take}
-use Rattle.std.specs.List.{All}
+use Rattle.std.proofs.Common.{take, All}
 
 -- the items up to this slot were moved and left defaults, and the others stand in theirs
 abbrev pub invariant-loop-index : goal.invariant-loop-index

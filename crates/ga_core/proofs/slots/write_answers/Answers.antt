@@ -3,7 +3,7 @@ use Rattle.ga_core.proofs.NextCalls.{run-of_numbers}
 use Rattle.ga_core.proofs.RunLemmas.{ClosureRun-snoc, below-add_one}
 use Rattle.ga_core.proofs.slots.write_answers.Goals as goal
 use Rattle.ga_core.specs.Runs.{ClosureRun}
-use Rattle.std.proofs.Common.{arith, take}
+use Rattle.std.proofs.Common.{arith}
 use Rattle.std.proofs.lemmas.List.{take_more_set}
 
 pub f-requires : goal.f-requires

@@ -3,7 +3,7 @@ use Rattle.ga_core.proofs.array.GenericArray.try_from_fallible_iter_ref.Given as
 use Rattle.ga_core.proofs.array.GenericArray.try_from_fallible_iter_ref.Goals as goal
 use Rattle.ga_core.specs.Fill.{FillsFallibly}
 use Rattle.ga_views.specs.declared.length_error.LengthError.{LengthError}
-use Rattle.std.proofs.Common.{◌-◌, Err, List, Ok, Result, Some, ap, arith, length, map, refl}
+use Rattle.std.proofs.Common.{Err, List, Ok, Result, Some, arith, map, refl}
 use Rattle.std.proofs.lemmas.List.{length-map}
 
 -- what is returned

@@ -1,8 +1,7 @@
 use Rattle.ga_core.proofs.SlotLemmas.{refill-long, refill-set}
 use Rattle.ga_core.proofs.array.GenericArrayIndexMutUsize.index_mut.Goals as goal
-use Rattle.std.proofs.Common.{◌∙◌, ap, arith, refl, slice_set, sym}
+use Rattle.std.proofs.Common.{◌∙◌, ap, arith, refl, slice_set, sym, slice_get}
 use Rattle.std.proofs.lemmas.Option.{slice_get_read}
-use Rattle.std.specs.List.{slice_get}
 
 pub returns : goal.returns
 returns g c =

@@ -1,7 +1,6 @@
-use mathlib.Core.Bool.{true≢false}
 use Rattle.ga_core.proofs.FillLemmas.{Asks-from_takes, TakeRuns-from_takes, has-room, room-shrinks, takes-all, takes-to_end}
 use Rattle.ga_core.proofs.builder.ArrayBuilder.extend.Goals as goal
-use Rattle.std.proofs.Common.{◌≡◌, ◌∷◌, [], ◌++◌, ap, append_assoc, refl, sym, ◌∙◌}
+use Rattle.std.proofs.Common.{◌≡◌, ◌∷◌, [], ◌++◌, ap, append_assoc, refl, sym, ◌∙◌, true≢false}
 use Rattle.std.proofs.iter.Next.{Yields-more}
 
 pub loop-items-preserved : goal.loop-items-preserved

@@ -1,7 +1,6 @@
 use Rattle.ga_core.proofs.SlotLemmas.{refill-long, refill-set}
 use Rattle.ga_core.proofs.array.reborrow.RefMutGenericArrayReborrowSlice.item_mut.Goals as goal
-use Rattle.std.proofs.Common.{◌<◌, ◌∙◌, ap, length, refl, slice_set, subst, sym}
-use Rattle.std.specs.Prelude.{slice_index_or}
+use Rattle.std.proofs.Common.{◌<◌, ◌∙◌, ap, length, refl, slice_set, subst, sym, slice_index_or}
 
 pub returns : goal.returns
 returns g c =
