@@ -2,24 +2,21 @@
 use Rattle.ga_core.specs.Calls.{MayFold}
 use Rattle.ga_core.specs.Entries.{FoldAt}
 use Rattle.ga_core.specs.Runs.{ClosureRun, FirstErrorRun, FoldRun}
-use Rattle.ga_core.specs.Tries.{result_and_then, try_map}
+use Rattle.ga_core.specs.Tries.{try_map}
 use Rattle.std.proofs.Common.{◌≡◌, ℕ, ◌+◌, ◌<◌, List, [], ◌∷◌, Result, Ok, Err, inl, inr, ap, arith, fold, map, refl}
-use Rattle.std.proofs.Common.{subst, sym, ◌∙◌}
-use Rattle.std.proofs.lemmas.List.{map-id}
+use Rattle.std.proofs.Common.{subst, sym, ◌∙◌, map-id, sum_by}
 use Rattle.std.proofs.lemmas.List.Sums.{sum_by-append, sum_by-cons}
-use Rattle.std.specs.List.{sum_by}
 
 module _ {F X Y Z : Type 0} (step : F → X → Y → F → Type 0) (f : F) (view : Y → Z) (h : X → Z) where
   -- the views of what a run answers are h of each input
   pub views_of_run : (xs : List X) (ys : List Y) (last : F) → ClosureRun step f xs ys last
       → ((x : X) (y : Y) (next : F) → step f x y next → (next ≡ f) × (view y ≡ h x)) → map view ys ≡ map h xs
   views_of_run [] [] last run acts = refl
-  views_of_run [] (y ∷ ys) last run acts = absurd run
-  views_of_run (x ∷ xs) [] last run acts = absurd run
   views_of_run (x ∷ xs) (y ∷ ys) last run acts =
       let call = acts x y run.0 run.1 in
       let others = views_of_run xs ys last (subst (λ k. ClosureRun step k xs ys last) call.0 run.2) acts in
       cc (call.1, others)
+  views_of_run _ _ last run acts = absurd run
 
 module _ {F X Y : Type 0} (step : F → X → Y → F → Type 0) (f : F) (h : X → Y)
     (acts : (x : X) (y : Y) (next : F) → step f x y next → (next ≡ f) × (y ≡ h x)) where
@@ -33,26 +30,21 @@ module _ {F X Y E : Type 0} (step : F → X → Result Y E → F → Type 0) (f 
   pub answers_until_error : (xs : List X) (answer : Result (List Y) E) (last : F) → FirstErrorRun step f xs answer last
       → answer ≡ try_map h xs
   answers_until_error [] (Ok []) last run = refl
-  answers_until_error [] (Ok (y ∷ ys)) last run = absurd run
-  answers_until_error [] (Err error) last run = absurd run
-  answers_until_error (x ∷ xs) (Ok []) last run = absurd run
   answers_until_error (x ∷ xs) (Ok (y ∷ ys)) last run =
       let call = acts x (Ok y) run.0 run.1 in
       let others = answers_until_error xs (Ok ys) last
       (subst (λ k. FirstErrorRun step k xs (Ok ys) last) call.0 run.2) in
-      ap (result_and_then (λ zs. Ok (y ∷ zs))) others
-      ∙ ap (result_and_then (λ z. result_and_then (λ zs. Ok (z ∷ zs)) (try_map h xs))) call.1
+      rw (← call.1, ← others)
   answers_until_error (x ∷ xs) (Err error) last run =
       elim run [
-        | inl failed ↦ ap (result_and_then (λ z. result_and_then (λ zs. Ok (z ∷ zs)) (try_map h xs)))
-            (acts x (Err error) last failed).1
+        | inl failed ↦ rw (← (acts x (Err error) last failed).1)
         | inr good ↦
             let call = acts x (Ok good.0) good.1 good.2 in
             let others = answers_until_error xs (Err error) last
             (subst (λ k. FirstErrorRun step k xs (Err error) last) call.0 good.3) in
-            ap (result_and_then (λ zs. Ok (good.0 ∷ zs))) others
-            ∙ ap (result_and_then (λ z. result_and_then (λ zs. Ok (z ∷ zs)) (try_map h xs))) call.1
+            rw (← call.1, ← others)
       ]
+  answers_until_error _ _ last run = absurd run
 
 module _ {F A X : Type 0} (step : F → A → X → A → F → Type 0) (f : F) (h : A → X → A)
     (acts : (a : A) (x : X) (b : A) (next : F) → step f a x b next → (next ≡ f) × (b ≡ h a x)) where

@@ -9,10 +9,9 @@ module _ {F X Y : Type 0} (step : F → X → Y → F → Type 0) where
   -- where no call changes f, a run leaves it as it is
   stays-run : (f : F) → Stays step f → (xs : List X) (ys : List Y) (last : F) → ClosureRun step f xs ys last → last ≡ f
   stays-run f stays [] [] last run = sym run
-  stays-run f stays [] (y ∷ ys) last run = absurd run
-  stays-run f stays (x ∷ xs) [] last run = absurd run
   stays-run f stays (x ∷ xs) (y ∷ ys) last run =
       stays-run f stays xs ys last (subst (λ s. ClosureRun step s xs ys last) (stays x y run.0 run.1) run.2)
+  stays-run f stays _ _ last run = absurd run
 
   -- P holds of the state that a run reaches where it holds of the first and no call changes that
   stays-holds : (P : F → Type 0) (f : F) (xs : List X) (ys : List Y) (last : F) → ClosureRun step f xs ys last → P f
@@ -23,10 +22,9 @@ module _ {F X Y : Type 0} (step : F → X → Y → F → Type 0) where
   pub ClosureRun-of_items : (f : F) (xs : List X) (ys : List Y) (last : F) → ClosureRun step f xs ys last
       → ClosureRun (CallAt (λ x. x) step) f xs ys last
   ClosureRun-of_items f [] [] last run = run
-  ClosureRun-of_items f [] (y ∷ ys) last run = run
-  ClosureRun-of_items f (x ∷ xs) [] last run = run
   ClosureRun-of_items f (x ∷ xs) (y ∷ ys) last run =
       (run.0, (x, refl, run.1), ClosureRun-of_items run.0 xs ys last run.2)
+  ClosureRun-of_items f _ _ last run = absurd run
 
 module _ {F A X : Type 0} (step : F → A → X → A → F → Type 0) where
   -- where no call changes f, a fold leaves it as it is

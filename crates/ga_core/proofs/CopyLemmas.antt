@@ -7,7 +7,7 @@ use Rattle.std.proofs.Common.{take}
 use Rattle.std.proofs.Math.Seq.{set-append_seam}
 use Rattle.std.proofs.lemmas.List.{replicate-append-replicate}
 use Rattle.std.proofs.lemmas.List.FromFn.{length-range_with_len}
-use Rattle.std.proofs.lemmas.List.Elements.{All-head, All-tail}
+use Rattle.std.proofs.lemmas.List.Elements.{All-cons, All-head, All-nil, All-tail}
 use Rattle.std.proofs.lemmas.Simd.{splat_is_map}
 use Rattle.std.specs.List.{All, AllZip, range_with_len}
 
@@ -19,14 +19,12 @@ module _ {T : Type 0} where
   -- a list of equal values
   all_equal : (item : T) (items : List T) → All (λ x. x ≡ item) items → items ≡ replicate (length items) item
   all_equal item [] all = refl
-  all_equal item (x ∷ items) all =
-      ap (λ first. first ∷ items) (all 0 x (omega arith))
-      ∙ ap (λ others. item ∷ others) (all_equal item items (λ k d within. all (suc k) d (omega (arith, within))))
+  all_equal item (x ∷ items) all = λ i. All-head (λ y. y ≡ item) x items all i
+      ∷ all_equal item items (All-tail (λ y. y ≡ item) x items all) i
 
   -- where a clone equals its source, the copies are equal
   pub Repeats-same : (is_clone : T → T → Type 0) (item : T) (n : ℕ) (array : List T)
-      → ((copy : T) → is_clone item copy → copy ≡ item)
-      → Repeats is_clone item n array → array ≡ replicate n item
+      → ((copy : T) → is_clone item copy → copy ≡ item) → Repeats is_clone item n array → array ≡ replicate n item
   Repeats-same is_clone item zero array equal none = none
   Repeats-same is_clone item (suc n) array equal (clones, made, long, all) =
       let same : clones ≡ replicate n item =
@@ -40,23 +38,19 @@ module _ {T : Type 0} where
   pub AllZip-same : (is_clone : T → T → Type 0) (items copies : List T) → All (IsExact is_clone) items
       → AllZip is_clone items copies → copies ≡ items
   AllZip-same is_clone [] [] exact clones = refl
-  AllZip-same is_clone [] (y ∷ copies) exact clones = absurd clones
-  AllZip-same is_clone (x ∷ items) [] exact clones = absurd clones
   AllZip-same is_clone (x ∷ items) (y ∷ copies) exact (clone, clones) =
-      ap (λ first. first ∷ copies) (All-head (IsExact is_clone) x items exact y clone)
-      ∙ ap (λ others. x ∷ others)
-      (AllZip-same is_clone items copies (All-tail (IsExact is_clone) x items exact) clones)
+      λ i. All-head (IsExact is_clone) x items exact y clone i
+      ∷ AllZip-same is_clone items copies (All-tail (IsExact is_clone) x items exact) clones i
+  AllZip-same is_clone _ _ exact clones = absurd clones
 
   -- clones over all slots but the last, and the item over the last
   pub Repeats-written : (is_clone : T → T → Type 0) (item : T) (n : ℕ) (clones rest : List T) → length clones + 1 ≡ n
       → length rest ≡ 1 → All (is_clone item) clones
       → Repeats is_clone item n (slice_set (clones ++ rest) (n - 1) item)
-  Repeats-written is_clone item n clones [] long one all = absurd (omega (arith, one))
-  Repeats-written is_clone item n clones (x ∷ y ∷ rest) long one all = absurd (omega (arith, one))
-  Repeats-written is_clone item zero clones (x ∷ []) long one all = absurd (omega (arith, long))
   Repeats-written is_clone item (suc n) clones (x ∷ []) long one all =
       let last : suc n - 1 ≡ length clones = omega arith in
       (clones, ap (λ k. slice_set (clones ++ x ∷ []) k item) last ∙ set-append_seam clones x [] item, omega arith, all)
+  Repeats-written is_clone item _ clones _ long one all = absurd (omega (arith, long, one))
 
   -- of no slots, none is written
   pub Repeats-none : (is_clone : T → T → Type 0) (item : T) (slots : List T) → length slots ≤ 0
@@ -78,32 +72,20 @@ module _ {T : Type 0} where
       let n = length slots - 1 in
       omega (arith, length-take n slots, length-append clones (drop n slots), length-drop n slots)
 
-  -- P holds of one more item in front
-  all_more : (P : T → Type 0) (item : T) (items : List T) → P item → All P items → All P (item ∷ items)
-  all_more P item items here others zero d within = here
-  all_more P item items here others (suc k) d within = others k d (omega (arith, within))
-
 module _ {F X Y : Type 0} (step : F → X → Y → F → Type 0) (P : Y → Type 0) where
   -- P holds of all answers where it holds of the answer of each call
   pub ClosureRun-all : ((f : F) (x : X) (y : Y) (next : F) → step f x y next → P y)
       → (f : F) (xs : List X) (ys : List Y) (last : F) → ClosureRun step f xs ys last → All P ys
-  ClosureRun-all each f [] [] last run = λ k d within. absurd (omega (arith, within))
-  ClosureRun-all each f [] (y ∷ ys) last run = absurd run
-  ClosureRun-all each f (x ∷ xs) [] last run = absurd run
+  ClosureRun-all each f [] [] last run = All-nil P
   ClosureRun-all each f (x ∷ xs) (y ∷ ys) last run =
-      all_more P y ys (each f x y run.0 run.1) (ClosureRun-all each run.0 xs ys last run.2)
+      All-cons P y ys (each f x y run.0 run.1) (ClosureRun-all each run.0 xs ys last run.2)
+  ClosureRun-all each f _ _ last run = absurd run
 
 module _ {T : Type 0} (P : T → Type 0) where
   -- P holds of each of n items
   pub ExactlyEach-all : (n : ℕ) (items : List T) → length items ≡ n → All P items → ExactlyEach P n items
   ExactlyEach-all zero [] long all = refl
-  ExactlyEach-all zero (x ∷ items) long all = absurd (omega (arith, long))
-  ExactlyEach-all (suc n) [] long all = absurd (omega (arith, long))
-  ExactlyEach-all (suc n) (x ∷ items) long all = (
-    x,
-    items,
-    refl,
-    all 0 x (omega arith),
-    ExactlyEach-all n items (omega (arith, long))
-        (λ k d within. all (suc k) d (omega (arith, within))),
-  )
+  ExactlyEach-all (suc n) (x ∷ items) long all =
+      let others = ExactlyEach-all n items (omega (arith, long)) (All-tail P x items all) in
+      (x, items, refl, All-head P x items all, others)
+  ExactlyEach-all _ _ long all = absurd (omega (arith, long))

@@ -11,10 +11,9 @@ module _ {F X Y : Type 0} (step : F → X → Y → F → Type 0) where
       → ClosureRun step f xs first reached → ClosureRun step reached ys second last
       → ClosureRun step f (xs ++ ys) (first ++ second) last
   ClosureRun-join f [] ys [] second reached last run then = subst (λ k. ClosureRun step k ys second last) (sym run) then
-  ClosureRun-join f [] ys (y ∷ first) second reached last run then = absurd run
-  ClosureRun-join f (x ∷ xs) ys [] second reached last run then = absurd run
   ClosureRun-join f (x ∷ xs) ys (y ∷ first) second reached last run then =
       (run.0, run.1, ClosureRun-join run.0 xs ys first second reached last run.2 then)
+  ClosureRun-join f _ ys _ second reached last run then = absurd run
 
   -- the same, where the results of both are those of the whole
   pub ClosureRun-in_turn : (f : F) (xs ys : List X) (first second all : List Y) (between last : F)
@@ -32,8 +31,7 @@ module _ {F I T Y : Type 0} (entry : I → T) (pre : F → I → Type 0) (step :
 
   -- and then over the second
   pub MayMap-second : (f : F) (xs ys : List T) (first : List Y) (between : F) → MayMap entry pre step f (xs ++ ys)
-      → ClosureRun (CallAt entry step) f xs first between
-      → MayMap entry pre step between ys
+      → ClosureRun (CallAt entry step) f xs first between → MayMap entry pre step between ys
   MayMap-second f xs ys first between may ran passed x others answers reached whole run item is stays =
       may_map-at entry pre step f (xs ++ ys) may (xs ++ passed) x others (first ++ answers) reached
       (ap (λ all. xs ++ all) whole ∙ sym (append_assoc xs passed (x ∷ others)))

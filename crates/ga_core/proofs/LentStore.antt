@@ -114,8 +114,7 @@ module _ (Z X : RattleType) (g : store.Ghosts Z.Denot X.Denot) (d dd : Dict) whe
             → Opds K 𝓛 (raw (Called.pre choice) ∷ Γ) E xs (Called.args choice)
             → ((v : Val) (s : MutBor (List X.Denot)) → Told v s
             → Seq K 𝓛 (seen s ∷ borrow s ∷ ‵ (flft κs.0 qs.0) ∷ ‵ (tied s) ∷ raw (toks 𝓛 2 κs.1 qs.1) ∷ Γ)
-            (lands C Λ E p v rest q))
-            → Seq K 𝓛 (‵ Passed ∷ ‵ (flft κs.0 qs.0) ∷ raw (toks 𝓛 2 κs.1 qs.1) ∷ Γ)
+            (lands C Λ E p v rest q)) → Seq K 𝓛 (‵ Passed ∷ ‵ (flft κs.0 qs.0) ∷ raw (toks 𝓛 2 κs.1 qs.1) ∷ Γ)
             (runs C Λ E (seq (call f xs p) rest) q)
         calls_slice t framed met live operands then =
             nothing t $ move t (1 ∷ 0 ∷ []) $ fjoin t $ move t (1 ∷ 2 ∷ []) $ join t $ join t $

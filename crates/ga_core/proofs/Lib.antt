@@ -1,7 +1,6 @@
 mod LentStore
 mod MadeLemmas
 mod NextCalls
-mod TupleLemmas
 mod ZipLemmas
 pub mod ActsLemmas
 pub mod CallLemmas

@@ -2,15 +2,20 @@
 use Rattle.ga_views.proofs.PartLemmas.{part-within}
 use Rattle.ga_views.specs.Parts.{part_set}
 use Rattle.std.proofs.Common.{◌≡◌, ◌≤◌, ℕ, List, arith, ◌++◌, length, length-set, length-take, drop}
-use Rattle.std.proofs.Common.{take, slice_set, sym, ap, ◌∙◌}
+use Rattle.std.proofs.Common.{take, slice_set, sym, ap, refl, ◌∙◌}
 use Rattle.std.proofs.Math.Seq.{take-append_seam}
-use Rattle.std.specs.List.{refill}
+use Rattle.std.specs.List.{length_refill, refill}
 
 -- all slots are written
 pub refill-whole : {X : Type 0} (n : ℕ) (items written : List X) → n ≡ length written → refill n items written ≡ written
 refill-whole n items written all =
     ap (λ k. take k (written ++ drop (length written) items)) all
     ∙ take-append_seam written (drop (length written) items)
+
+-- there are as many slots after a loan of all
+pub refill-long : {X : Type 0} (items written after : List X) → after ≡ refill (length items) items written
+    → length after ≡ length items
+refill-long items written after stands = ap length stands ∙ sym (length_refill (length items) items written refl)
 
 -- what stands after a loan of all slots, where one was written
 pub refill-set : {X : Type 0} (items slots after : List X) (slot : ℕ) (item : X) → slots ≡ items
@@ -20,12 +25,6 @@ refill-set items slots after slot item same written =
     ap length (sym same) ∙ sym (length-set slots slot item) in
     written ∙ (refill-whole (length items) items (slice_set slots slot item) whole
     ∙ ap (λ list. slice_set list slot item) same)
-
--- what stands after a loan of all slots
-pub refill-over : {X : Type 0} (items slots written after : List X) → slots ≡ items → length written ≡ length slots
-    → after ≡ refill (length items) items written → after ≡ written
-refill-over items slots written after same long stands =
-    stands ∙ refill-whole (length items) items written (ap length (sym same) ∙ sym long)
 
 -- what stands in the first slots, where these were written over
 pub front-written : {X : Type 0} (len : ℕ) (items written after : List X) → len ≤ length items → length written ≡ len

@@ -1,9 +1,9 @@
 use Rattle.ga_core.proofs.CallLemmas.{ClosureRun-of_items, may_try_map-at}
-use Rattle.ga_core.proofs.NextCalls.{all-in, cut-next, place-in, run-of_all, taken-next}
-use Rattle.ga_core.proofs.RunLemmas.{ClosureRun-good, FirstErrorRun-error, FirstErrorRun-good}
+use Rattle.ga_core.proofs.MoveLemmas.{this-here}
+use Rattle.ga_core.proofs.NextCalls.{all-in, cut-next, failed-next, place-in, taken-next, written-all}
+use Rattle.ga_core.proofs.RunLemmas.{ClosureRun-good, FirstErrorRun-good}
 use Rattle.ga_core.proofs.mapping.try_write_mapped.Goals as goal
-use Rattle.ga_core.specs.Runs.{ClosureRun, FirstErrorRun}
-use Rattle.std.proofs.Common.{Err, Ok, map, refl, subst, sym, take, ◌∙◌}
+use Rattle.std.proofs.Common.{refl, take, ◌∙◌}
 use borrow.Author.Rules.{scaled_Fits}
 
 pub f-requires : goal.f-requires
@@ -12,7 +12,7 @@ f-requires g c =
     may_try_map-at (λ item. item) _ _ _ _ c.requires.callable _ c.take.result _
     (take c.loop-index.index c.loop-index.slots) _
     (cut-next c.loop-index.invariant (place-in c.loop-index-test.true (c.loop-index.auto.items ∙ c.requires.len))
-    c.index-items-index.is c.take.ensures.value) run _ refl
+    (this-here c.loop-index.index c.loop-index.items _ _ c.index-items-index.is c.take.ensures.value)) run _ refl
 
 pub loop-index-preserved : goal.loop-index-preserved
 loop-index-preserved g c =
@@ -20,24 +20,19 @@ loop-index-preserved g c =
     c.loop-index.invariant.run c.in-Ok.ensures in
     taken-next c.in-Ok.item c.f.new.self c.take.new.dest c.loop-index.invariant
     (place-in c.loop-index-test.true (c.loop-index.auto.items ∙ c.requires.len))
-    (place-in c.loop-index-test.true c.loop-index.auto.slots) c.index-items-index.is c.take.ensures.value run
+    (place-in c.loop-index-test.true c.loop-index.auto.slots) (this-here c.loop-index.index c.loop-index.items _ _ c.index-items-index.is c.take.ensures.value) run
 
 pub returns-in-Err : goal.returns-in-Err
-returns-in-Err g c =
-    let cut = cut-next c.loop-index.invariant
-    (place-in c.loop-index-test.true (c.loop-index.auto.items ∙ c.requires.len))
-    c.index-items-index.is c.take.ensures.value in
-    record {
-      run = subst (λ xs. FirstErrorRun (goal.F-step g) c.args.f.now xs (Err c.in-Err.error) c.f.new.self)
-          (sym cut) (FirstErrorRun-error _ _ _ _ _ _ _ _ _ c.loop-index.invariant.run c.in-Err.ensures);
-    }
+returns-in-Err g c = record {
+  run = failed-next (goal.F-step g) c.args.f.now c.take.result c.in-Err.error c.f.new.self c.loop-index.invariant
+      (place-in c.loop-index-test.true (c.loop-index.auto.items ∙ c.requires.len))
+      (this-here c.loop-index.index c.loop-index.items _ _ c.index-items-index.is c.take.ensures.value) c.in-Err.ensures;
+}
 
 pub returns : goal.returns
 returns g c =
-    let run = run-of_all (λ items good. ClosureRun (goal.F-step g) c.args.f.now items (map Ok good) c.loop-index.f)
-    c.loop-index.index _ _ (all-in c.loop-index-test.false c.requires.len)
-    (all-in c.loop-index-test.false c.loop-index.auto.slots)
-    c.loop-index.invariant.run in
+    let run = written-all c.loop-index.invariant (all-in c.loop-index-test.false c.requires.len)
+    (all-in c.loop-index-test.false c.loop-index.auto.slots) in
     record { run = FirstErrorRun-good _ _ _ _ _ run }
 
 pub offset_bounds-slots-index : goal.offset_bounds-slots-index

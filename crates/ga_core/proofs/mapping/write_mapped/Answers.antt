@@ -1,8 +1,8 @@
 use Rattle.ga_core.proofs.CallLemmas.{ClosureRun-of_items, may_map-at}
-use Rattle.ga_core.proofs.NextCalls.{all-in, cut-next, place-in, run-of_all, taken-next}
+use Rattle.ga_core.proofs.MoveLemmas.{this-here}
+use Rattle.ga_core.proofs.NextCalls.{all-in, cut-next, place-in, taken-next, written-all}
 use Rattle.ga_core.proofs.RunLemmas.{ClosureRun-snoc}
 use Rattle.ga_core.proofs.mapping.write_mapped.Goals as goal
-use Rattle.ga_core.specs.Runs.{ClosureRun}
 use Rattle.std.proofs.Common.{refl, ◌∙◌}
 use borrow.Author.Rules.{scaled_Fits}
 
@@ -11,20 +11,19 @@ f-requires g c =
     let run = ClosureRun-of_items _ _ _ _ _ c.loop-index.invariant.run in
     may_map-at (λ item. item) _ _ _ _ c.requires.callable _ c.take.result _ _ _
     (cut-next c.loop-index.invariant (place-in c.loop-index-test.true (c.loop-index.auto.items ∙ c.requires.len))
-    c.index-items-index.is c.take.ensures.value) run _ refl
+    (this-here c.loop-index.index c.loop-index.items _ _ c.index-items-index.is c.take.ensures.value)) run _ refl
 
 pub loop-index-preserved : goal.loop-index-preserved
 loop-index-preserved g c =
     let run = ClosureRun-snoc _ _ _ _ _ c.take.result _ _ c.loop-index.invariant.run c.f.ensures in
     taken-next c.f.result c.f.new.self c.take.new.dest c.loop-index.invariant
     (place-in c.loop-index-test.true (c.loop-index.auto.items ∙ c.requires.len))
-    (place-in c.loop-index-test.true c.loop-index.auto.slots) c.index-items-index.is c.take.ensures.value run
+    (place-in c.loop-index-test.true c.loop-index.auto.slots) (this-here c.loop-index.index c.loop-index.items _ _ c.index-items-index.is c.take.ensures.value) run
 
 pub returns : goal.returns
 returns g c = record {
-  run = run-of_all (λ items made. ClosureRun (goal.F-step g) c.args.f.now items made c.loop-index.f) c.loop-index.index
-      _ _ (all-in c.loop-index-test.false c.requires.len) (all-in c.loop-index-test.false c.loop-index.auto.slots)
-      c.loop-index.invariant.run;
+  run = written-all c.loop-index.invariant (all-in c.loop-index-test.false c.requires.len)
+      (all-in c.loop-index-test.false c.loop-index.auto.slots);
 }
 
 pub offset_bounds-slots-index : goal.offset_bounds-slots-index

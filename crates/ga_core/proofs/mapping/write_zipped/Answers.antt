@@ -1,60 +1,44 @@
 use Rattle.ga_core.proofs.CallLemmas.{may_zip-at}
-use Rattle.ga_core.proofs.MoveLemmas.{behind-next, cut-here, taken-here}
-use Rattle.ga_core.proofs.NextCalls.{all-in, place-in}
+use Rattle.ga_core.proofs.MoveLemmas.{this-here}
+use Rattle.ga_core.proofs.NextCalls.{all-in, cut-next, place-in, written-all, written-next}
 use Rattle.ga_core.proofs.RunLemmas.{ClosureRun-snoc}
-use Rattle.ga_core.proofs.ZipLemmas.{pairs-here, run-of_all_pairs, run-of_next_pair}
+use Rattle.ga_core.proofs.ZipLemmas.{pair-here, pair-in, pairs-behind, pairs-in}
 use Rattle.ga_core.proofs.mapping.write_zipped.Goals as goal
-use Rattle.ga_core.specs.Entries.{CallAtPair}
-use Rattle.ga_core.specs.Runs.{ClosureRun}
-use Rattle.std.proofs.Common.{refl, take, ◌∙◌}
-use Rattle.std.specs.List.{zip}
+use Rattle.std.proofs.Common.{refl, ◌∙◌}
 use borrow.Author.Rules.{scaled_Fits}
 
 pub f-requires : goal.f-requires
 f-requires g c =
     let at = c.loop-index in
-    let left = taken-here at.index c.args.left.now at.left c.index-left-index.result c.take.result
-    (place-in c.loop-index-test.true (at.auto.left ∙ c.requires.left)) c.index-left-index.is c.take.ensures.value
-    at.invariant.behind in
-    let right = taken-here at.index c.args.right.now at.right c.index-right-index.result c.take-in-loop-index.result
-    (place-in c.loop-index-test.true (at.auto.right ∙ c.requires.right)) c.index-right-index.is
-    c.take-in-loop-index.ensures.value at.invariant.behind_right in
-    may_zip-at (λ item. item) (λ item. item) _ _ _ _ _ c.requires.callable
-    (take at.index (zip c.args.left.now c.args.right.now)) (c.take.result, c.take-in-loop-index.result) _
-    (take at.index at.slots) at.f
-    (cut-here _ _ _ _ (pairs-here at.index c.args.left.now _ c.args.right.now _ _ _ left right))
+    let pair = pair-here at.index at.left at.right (this-here at.index at.left _ _ c.index-left-index.is c.take.ensures.value)
+    (this-here at.index at.right _ _ c.index-right-index.is c.take-in-loop-index.ensures.value) in
+    let within = pair-in at.left at.right c.loop-index-test.true (at.auto.left ∙ c.requires.left)
+    (at.auto.right ∙ c.requires.right) in
+    may_zip-at (λ item. item) (λ item. item) _ _ _ _ _ c.requires.callable _ _ _ _ _ (cut-next at.invariant within pair)
     at.invariant.run _ _ refl refl
 
 pub loop-index-preserved : goal.loop-index-preserved
 loop-index-preserved g c =
     let at = c.loop-index in
-    let left_in = place-in c.loop-index-test.true (at.auto.left ∙ c.requires.left) in
-    let right_in = place-in c.loop-index-test.true (at.auto.right ∙ c.requires.right) in
-    let left = taken-here at.index c.args.left.now at.left c.index-left-index.result c.take.result
-    left_in c.index-left-index.is c.take.ensures.value at.invariant.behind in
-    let right = taken-here at.index c.args.right.now at.right c.index-right-index.result c.take-in-loop-index.result
-    right_in c.index-right-index.is c.take-in-loop-index.ensures.value at.invariant.behind_right in
-    record {
-      run = run-of_next_pair (λ pairs made. ClosureRun (CallAtPair (λ item. item) (λ item. item) (goal.F-step g))
-          c.args.f.now pairs made c.f.new.self) at.index _ _ _ _ c.take.result c.take-in-loop-index.result at.slots
-          c.f.result left right (place-in c.loop-index-test.true at.auto.slots)
-          (ClosureRun-snoc _ _ _ _ _ (c.take.result, c.take-in-loop-index.result) _ _ at.invariant.run
-          (_, _, refl, refl, c.f.ensures));
-      behind = behind-next at.index c.args.left.now at.left c.take.result c.take.new.dest left_in left;
-      behind_right = behind-next at.index c.args.right.now at.right c.take-in-loop-index.result
-          c.take-in-loop-index.new.dest right_in right;
-    }
+    let pair = pair-here at.index at.left at.right (this-here at.index at.left _ _ c.index-left-index.is c.take.ensures.value)
+    (this-here at.index at.right _ _ c.index-right-index.is c.take-in-loop-index.ensures.value) in
+    let within = pair-in at.left at.right c.loop-index-test.true (at.auto.left ∙ c.requires.left)
+    (at.auto.right ∙ c.requires.right) in
+    written-next c.f.result c.f.new.self _
+    (pairs-behind at.index at.left at.right c.take.new.dest c.take-in-loop-index.new.dest) at.invariant within
+    (place-in c.loop-index-test.true at.auto.slots) pair
+    (ClosureRun-snoc _ _ _ _ _ (c.take.result, c.take-in-loop-index.result) _ _ at.invariant.run
+    (_, _, refl, refl, c.f.ensures))
 
 pub returns : goal.returns
 returns g c = record {
-  run = run-of_all_pairs (λ pairs made. ClosureRun (CallAtPair (λ item. item) (λ item. item) (goal.F-step g))
-      c.args.f.now pairs made c.loop-index.f) c.loop-index.index c.args.left.now c.args.right.now
-      c.loop-index.slots (all-in c.loop-index-test.false c.requires.left)
-      (all-in c.loop-index-test.false c.loop-index.auto.slots) c.loop-index.invariant.run;
+  run = written-all c.loop-index.invariant
+      (pairs-in c.args.left.now c.args.right.now c.loop-index-test.false c.requires.left)
+      (all-in c.loop-index-test.false c.loop-index.auto.slots);
 }
 
 pub loop-index-init : goal.loop-index-init
-loop-index-init g c = record { run = refl; behind = refl; behind_right = refl }
+loop-index-init g c = record { run = refl; behind = refl }
 
 pub bounds-left-index : goal.bounds-left-index
 bounds-left-index g c = place-in c.loop-index-test.true (c.loop-index.auto.left ∙ c.requires.left)

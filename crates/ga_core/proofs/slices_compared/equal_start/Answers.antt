@@ -6,7 +6,7 @@ pub returns-then-not-parts_match-clause-differs : goal.returns-then-not-parts_ma
 returns-then-not-parts_match-clause-differs g c some =
     let start = c.loop-start.start in
     block-differs g.T.PartialEq.eq start (start + c.block_of-block.result - start) c.args.left.now c.args.right.now
-    c.requires.len c.if-not-parts_match.ensures.equal
+    c.if-not-parts_match.ensures.equal
 
 pub loop-start-preserved : goal.loop-start-preserved
 loop-start-preserved g c =
@@ -14,7 +14,7 @@ loop-start-preserved g c =
     let end = at.start + c.block_of-block.result in
     record {
       within = omega arith;
-      equal = block-equal g.T.PartialEq.eq at.start (end - at.start) end c.args.left.now c.args.right.now c.requires.len
+      equal = block-equal g.T.PartialEq.eq at.start (end - at.start) end c.args.left.now c.args.right.now
           (omega arith) at.invariant.equal c.if-not-parts_match.ensures.equal;
     }
 
@@ -22,11 +22,11 @@ pub returns-then-parts_match-clause-equal : goal.returns-then-parts_match-clause
 returns-then-parts_match-clause-equal g c =
     let at = c.loop-start in
     let end = length c.args.left.now in
-    block-equal g.T.PartialEq.eq at.start (end - at.start) end c.args.left.now c.args.right.now c.requires.len
+    block-equal g.T.PartialEq.eq at.start (end - at.start) end c.args.left.now c.args.right.now
     (omega arith) at.invariant.equal c.if-parts_match.ensures.equal
 
 pub returns-else-parts_match-clause-differs : goal.returns-else-parts_match-clause-differs
 returns-else-parts_match-clause-differs g c some =
     let start = c.loop-start.start in
     block-differs g.T.PartialEq.eq start (length c.args.left.now - start) c.args.left.now c.args.right.now
-    c.requires.len c.if-parts_match.ensures.equal
+    c.if-parts_match.ensures.equal

@@ -1,9 +1,8 @@
 use Rattle.ga_core.proofs.CopyLemmas.{Repeats-none, Repeats-written, front-in, front-long, last-in}
 use Rattle.ga_core.proofs.slots.write_copies.Goals as goal
-use Rattle.std.proofs.Common.{◌≡◌, ◌-◌, arith, drop, length, length-drop, length-take, subst, take}
+use Rattle.std.proofs.Common.{◌≡◌, ◌-◌, arith, drop, length, length-drop, length-take, subst, take, All}
 use Rattle.std.proofs.lemmas.List.{take_all, take_more_set}
 use Rattle.std.proofs.lemmas.List.Elements.{All-push}
-use Rattle.std.specs.List.{All}
 use borrow.Author.Count.{falls_down}
 use borrow.Author.Rules.{scaled_Fits}
 

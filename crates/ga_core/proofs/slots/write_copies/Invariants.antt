@@ -1,6 +1,5 @@
 use Rattle.ga_core.proofs.slots.write_copies.Given as goal
-use Rattle.std.proofs.Common.{take}
-use Rattle.std.specs.List.{All}
+use Rattle.std.proofs.Common.{take, All}
 
 -- what is written so far are clones
 abbrev pub invariant-loop-slot : goal.invariant-loop-slot

@@ -1,9 +1,10 @@
+use Rattle.ga_core.proofs.SlotLemmas.{refill-long}
 use Rattle.ga_core.proofs.array.GenericArray.as_mut_slice.Goals as goal
 use Rattle.ga_views.proofs.PartLemmas.{part-all}
 use Rattle.ga_views.specs.Parts.{part_set}
 use Rattle.std.proofs.Common.{◌≡◌, ◌∙◌, ap, length, refl, sym, take}
 use Rattle.std.proofs.Math.Seq.{take-length}
-use Rattle.std.specs.List.{length_refill, refill}
+use Rattle.std.specs.List.{refill}
 
 pub returns : goal.returns
 returns g c =
@@ -31,8 +32,6 @@ returns g c =
 pub invariant_of-self-lent : goal.invariant_of-self-lent
 invariant_of-self-lent g c = λ w.
     let items = g.N.ArrayType.Store.items c.self.inside.store in
-    let part = part_set 0 c.USIZE.result items w in (
-      ap length (g.N.ArrayType.Store.store_with c.self.inside.store part).1
-          ∙ (sym (length_refill (length items) items part refl) ∙ c.self.invariant.0),
-      c.self.invariant.1,
-    )
+    let part = part_set 0 c.USIZE.result items w in
+    let long = refill-long items part _ (g.N.ArrayType.Store.store_with c.self.inside.store part).1 in
+    (long ∙ c.self.invariant.0, c.self.invariant.1)

@@ -22,7 +22,6 @@ use denote.Laws.{Is, shows}
 use denote.Param.Laws.{Laws, param_laws}
 use denote.Param.{param}
 use denote.RattleType.{owns, RattleType}
-use denote.Ref.{NamedLft}
 use denote.Slice.{mut_slice_vals, MutSlice}
 use denote.Steps.{heard, nothing, peeks}
 use denote.Struct.Tuple.{Tuple, tuple_laws}
@@ -35,27 +34,24 @@ use types.Run.{addr, and_then, enter, fld, from, hop, no_more, returns, stop}
 
 -- the slice, and the rows with the rest
 module _ (X N : RattleType) (g : unsigned.Ghosts N.Denot) (κ : Lft) where
-  abbrev R : RattleType
-  R = param 0 X
-
-  abbrev lasting : NamedLft
-  lasting = record { mir = named 0; lft = κ }
-
   abbrev S : RattleType
-  S = MutSlice (named 0) κ R
+  S = MutSlice (named 0) κ (param 0 X)
 
   abbrev Rows : RattleType
-  Rows = rows_of.the_row S R (param 1 N) (impl.ghosts R) g
+  Rows = rows_of.the_row S (param 0 X) (param 1 N) (impl.ghosts (param 0 X)) g
 
   abbrev Answer : RattleType
   Answer = Tuple (Rows ∷ S ∷ [])
 
   module _ (LX : Laws X) (LN : Laws N) where
+    abbrev slices : Laws S
+    slices = slice_laws (record { mir = named 0; lft = κ }) 0 X LX
+
     abbrev answer_laws : Laws Answer
     answer_laws = tuple_laws (Rows ∷ S ∷ []) (
-      rows_laws.the_row_laws S R (param 1 N) (impl.ghosts R) g
-          (slice_laws lasting 0 X LX) (param_laws 0 X LX) (param_laws 1 N LN),
-      (slice_laws lasting 0 X LX, tt),
+      rows_laws.the_row_laws S (param 0 X) (param 1 N) (impl.ghosts (param 0 X)) g slices (param_laws 0 X LX)
+          (param_laws 1 N LN),
+      (slices, tt),
     )
 
 -- A is the type of the slots of N's arrays

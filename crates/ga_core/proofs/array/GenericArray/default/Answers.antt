@@ -1,7 +1,6 @@
 use Rattle.ga_core.proofs.CopyLemmas.{ExactlyEach-all}
 use Rattle.ga_core.proofs.array.GenericArray.default.Goals as goal
-use Rattle.std.proofs.Common.{◌∙◌, ap, length, rules, subst, sym}
-use Rattle.std.specs.List.{All}
+use Rattle.std.proofs.Common.{◌∙◌, ap, length, rules, subst, sym, All}
 
 pub returns : goal.returns
 returns g c =

@@ -1,5 +1,5 @@
 use Rattle.ga_core.proofs.CopyLemmas.{Repeats-same}
-use Rattle.ga_core.proofs.MadeLemmas.{made-is_written}
+use Rattle.ga_core.proofs.MadeLemmas.{made-is_written, made-of}
 use Rattle.ga_core.proofs.array.GenericArray.repeat.Goals as goal
 use Rattle.ga_core.specs.Copies.{Repeats}
 use Rattle.std.proofs.Common.{◌≤◌, ◌∙◌, refl, subst, sym}
@@ -7,9 +7,7 @@ use Rattle.std.proofs.Common.{◌≤◌, ◌∙◌, refl, subst, sym}
 pub returns-in-Ok : goal.returns-in-Ok
 returns-in-Ok g c =
     let made = c.finished.ensures ∙ made-is_written c.as_mut_slice.ensures.items c.write_copies.auto.slots in
-    let items = subst (Repeats g.T.Clone.is_clone c.args.item g.N.Unsigned.USIZE) (sym made)
-    (subst (λ n. Repeats g.T.Clone.is_clone c.args.item n c.write_copies.new.slots) c.as_mut_slice.ensures.len
-    c.in-Ok.ensures.items) in
+    let items = made-of (Repeats g.T.Clone.is_clone c.args.item) c.as_mut_slice.ensures.len made c.in-Ok.ensures.items in
     record {
       items = items;
       same = λ equal. Repeats-same g.T.Clone.is_clone c.args.item g.N.Unsigned.USIZE _ equal items;

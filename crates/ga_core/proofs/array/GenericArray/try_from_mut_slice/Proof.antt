@@ -14,7 +14,7 @@ use Rattle.ga_views.specs.declared.length.Unsigned as unsigned
 use Rattle.std.proofs.Common.{[], ◌∷◌, refl}
 use Rattle.std.proofs.result.Result.TheLaws as result_laws
 use Rattle.std.specs.contracts.result.Result as RS
-use base.Fml.{flft, ftrue, GName, Lft}
+use base.Fml.{flft, ftrue, Lft}
 use base.Logic.{id⊢}
 use contract.BorrowLft.{◌⊑◌}
 use contract.Monad.{fact}
@@ -58,8 +58,7 @@ try_from_mut_slice_spec 𝓤 𝓛 𝓜 𝓡 wired X N A LX LN LA gL dL g d gS dS
     gives_up 3 X 𝓛 (F.clauses X N A gL dL g d gS dS dA 𝓛 𝓜.mem 𝓡.returns) 𝓜 𝓡 _ _
     (code.unfolded 𝓤 𝓛.H 𝓜 𝓡 wired (X, (N, (A, tt))) dL d dS dA) (λ κs qs bounds s gh fits Post leave.
     let κ : Lft = κs.0 in let κT : Lft = κs.1.0 in let κN : Lft = κs.1.1.0 in let κA : Lft = κs.1.1.1.0 in
-    let T : RattleType = S X N g κ in let V : RattleType = View X N g κ in let R : RattleType = Answer X N g κ in
-    let name : V.Denot → GName = λ view. view.slice.ghost_name in
+    let T : RattleType = S X N g κ in let R : RattleType = Answer X N g κ in
     qed 𝓛 (((‵ (flft κ qs.0) ⊛ ‵ (flft κT qs.1.0) ⊛ ‵ (flft κN qs.1.1.0) ⊛ ‵ (flft κA qs.1.1.1.0) ⊛ ‵ ftrue) ⊛
     ‵ (owns (T ∷ []) (s, tt) (mut_slice_vals s, tt)))
     ∷ raw (fact 𝓤 (κT ⊑ X.lives)) ∷ raw (fact 𝓤 (κN ⊑ N.lives)) ∷ raw (fact 𝓤 (κA ⊑ A.lives)) ∷ ‵ ftrue ∷ []) ∵

@@ -1,8 +1,7 @@
-use Rattle.ga_core.proofs.SlotLemmas.{refill-set}
+use Rattle.ga_core.proofs.SlotLemmas.{refill-long, refill-set}
 use Rattle.ga_core.proofs.array.GenericArrayIndexMutUsize.index_mut.Goals as goal
-use Rattle.std.proofs.Common.{◌∙◌, ap, arith, length, length-set, refl, slice_set, sym}
+use Rattle.std.proofs.Common.{◌∙◌, ap, arith, refl, slice_set, sym, slice_get}
 use Rattle.std.proofs.lemmas.Option.{slice_get_read}
-use Rattle.std.specs.List.{slice_get}
 
 pub returns : goal.returns
 returns g c =
@@ -30,5 +29,4 @@ pub invariant_of-self-lent : goal.invariant_of-self-lent
 invariant_of-self-lent g c = λ w.
     let items = g.N.ArrayType.Store.items c.self.inside.store in
     let after = g.N.ArrayType.Store.store_with c.self.inside.store (slice_set items c.args.index w) in
-    let written = refill-set items items (g.N.ArrayType.Store.items after.0) c.args.index w refl after.1 in
-    (ap length written ∙ (length-set items c.args.index w ∙ c.self.invariant.0), c.self.invariant.1)
+    (refill-long items _ _ after.1 ∙ c.self.invariant.0, c.self.invariant.1)

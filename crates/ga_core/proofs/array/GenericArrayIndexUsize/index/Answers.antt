@@ -1,7 +1,6 @@
 use Rattle.ga_core.proofs.array.GenericArrayIndexUsize.index.Goals as goal
-use Rattle.std.proofs.Common.{◌∙◌, ap, sym}
+use Rattle.std.proofs.Common.{◌∙◌, ap, sym, slice_get}
 use Rattle.std.proofs.lemmas.Option.{slice_get_read}
-use Rattle.std.specs.List.{slice_get}
 
 pub returns : goal.returns
 returns g c =

@@ -1,7 +1,6 @@
 use Rattle.ga_core.proofs.MoveLemmas.{pushed-next}
 use Rattle.ga_core.proofs.array.conversions.push_items.Goals as goal
-use Rattle.std.proofs.Common.{◌<◌, ◌≡◌, ◌≤◌, ◌∙◌, ap, arith, length, slice_index_or, subst, sym}
-use Rattle.std.proofs.lemmas.List.{take_all}
+use Rattle.std.proofs.Common.{◌<◌, ◌≡◌, ◌≤◌, ◌∙◌, ap, arith, length, slice_index_or, subst, sym, take_all}
 
 pub loop-slot-preserved : goal.loop-slot-preserved
 loop-slot-preserved g c =

@@ -1,17 +1,17 @@
 use Rattle.ga_core.proofs.CopyLemmas.{AllZip-same}
-use Rattle.ga_core.proofs.SlotLemmas.{front-room, front-written}
+use Rattle.ga_core.proofs.MadeLemmas.{made-of}
+use Rattle.ga_core.proofs.SlotLemmas.{front-room, front-written, refill-long}
 use Rattle.ga_core.proofs.array_iter.GenericArrayIter.clone.Goals as goal
 use Rattle.ga_views.specs.Parts.{part_set}
-use Rattle.std.proofs.Common.{◌∙◌, ap, length, refl, subst, sym}
-use Rattle.std.specs.List.{AllZip, length_refill}
+use Rattle.std.proofs.Common.{◌∙◌, length, refl}
+use Rattle.std.specs.List.{AllZip}
 
 pub of_store-requires-clause-full : goal.of_store-requires-clause-full
 of_store-requires-clause-full g c =
     let items = g.N.ArrayType.Store.items c.filled-store.result in
     let part = part_set 0 (length c.as_slice-items.result.now) items c.write_clones.new.slots in
-    ap length (g.N.ArrayType.Store.store_with c.filled-store.result part).1
-    ∙ (sym (length_refill (length items) items part refl)
-    ∙ (c.filled-store.ensures.len ∙ g.met.N.ArrayLength.capacity_is))
+    refill-long items part _ (g.N.ArrayType.Store.store_with c.filled-store.result part).1
+    ∙ (c.filled-store.ensures.len ∙ g.met.N.ArrayLength.capacity_is)
 
 pub write_clones-requires : goal.write_clones-requires
 write_clones-requires g c = record {
@@ -30,9 +30,8 @@ returns-in-Ok g c =
     let after = g.N.ArrayType.Store.store_with c.filled-store.result (part_set 0 len items copies) in
     let stands = front-written len items copies (g.N.ArrayType.Store.items after.0) room.0
     (c.write_clones.auto.slots ∙ room.1) after.1 in
-    let clones = subst (λ list. AllZip g.T.Clone.is_clone list c.of_store.result) c.as_slice-items.ensures.items
-    (subst (AllZip g.T.Clone.is_clone c.as_slice-items.result.now) (sym (c.of_store.ensures ∙ stands))
-    c.in-Ok.ensures.items) in
+    let clones = made-of (AllZip g.T.Clone.is_clone) c.as_slice-items.ensures.items (c.of_store.ensures ∙ stands)
+    c.in-Ok.ensures.items in
     record {
       items = clones;
       same = λ exact. AllZip-same g.T.Clone.is_clone c.args.self.now c.of_store.result exact clones;

@@ -1,8 +1,6 @@
 use Rattle.ga_core.proofs.LeftLemmas.{left-stays}
 use Rattle.ga_core.proofs.array_iter.GenericArrayIter.drop_left.Goals as goal
-use Rattle.std.proofs.Common.{◌∙◌, ap, arith, drop, sym}
-use Rattle.std.proofs.Math.ListN.{drop_of_length-le}
-use Rattle.std.proofs.lemmas.List.{drop-drop}
+use Rattle.std.proofs.Common.{◌∙◌, ap, arith, drop, sym, drop_of_length-le, drop-drop}
 
 pub loop-item-preserved : goal.loop-item-preserved
 loop-item-preserved g c =

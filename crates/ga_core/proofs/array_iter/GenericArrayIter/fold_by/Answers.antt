@@ -1,7 +1,9 @@
 use Rattle.ga_core.proofs.ActsLemmas.{answer_of_fold}
 use Rattle.ga_core.proofs.CallLemmas.{FoldRun-of_items, may_fold-at}
 use Rattle.ga_core.proofs.CutLemmas.{taken-more}
+use Rattle.ga_core.proofs.array_iter.GenericArrayIter.fold_by.Given as given
 use Rattle.ga_core.proofs.array_iter.GenericArrayIter.fold_by.Goals as goal
+use Rattle.ga_core.proofs.array_iter.GenericArrayIter.fold_by.Goals.{After-take}
 use Rattle.ga_core.specs.Runs.{FoldRun}
 use Rattle.std.proofs.Common.{◌≡◌, ◌∷◌, [], ◌++◌, ◌+◌, drop, sym, ap, ◌∙◌, arith, refl, slice_set, subst}
 use Rattle.std.proofs.lemmas.Fn.{FoldsTo-push}
@@ -10,32 +12,30 @@ use Rattle.std.proofs.lemmas.List.{append-nil, drop-set-lt, drop_all, drop_more}
 pub loop-slot-init : goal.loop-slot-init
 loop-slot-init g c = ([], sym c.as_mut_slice-slot-items.ensures.items, refl)
 
+-- the item that was taken is the next
+next : (g : given.Over) (c : After-take g) → drop c.loop-slot.slot-index c.loop-slot.slot-items
+    ≡ c.take.result ∷ drop (c.loop-slot.slot-index + 1)
+    (slice_set c.loop-slot.slot-items c.loop-slot.slot-index c.take.new.dest)
+next g c =
+    let slots = c.loop-slot.slot-items in
+    let i = c.loop-slot.slot-index in
+    drop_more slots i c.slot-item.result (omega (arith, c.loop-slot-test.true, c.loop-slot.auto.slot-items))
+    ∙ (λ j. sym c.take.ensures.value j ∷ sym (drop-set-lt (i + 1) slots i c.take.new.dest (omega arith)) j)
+
 pub f-answer-requires : goal.f-answer-requires
 f-answer-requires g c =
     let so_far = c.loop-slot.invariant in
-    let slots = c.loop-slot.slot-items in
-    let i = c.loop-slot.slot-index in
-    let step : drop i slots ≡ c.take.result ∷ drop (i + 1) slots =
-    drop_more slots i c.slot-item.result (omega (arith, c.loop-slot-test.true, c.loop-slot.auto.slot-items))
-    ∙ ap (λ x. x ∷ drop (i + 1) slots) (sym c.take.ensures.value) in
-    may_fold-at (λ item. item) _ _ _ _ _ c.requires.callable so_far.0 c.take.result
-    (drop (i + 1) slots) c.loop-slot.f c.loop-slot.answer (so_far.1 ∙ ap (λ rest. so_far.0 ++ rest) step)
+    may_fold-at (λ item. item) _ _ _ _ _ c.requires.callable so_far.0 c.take.result _ c.loop-slot.f c.loop-slot.answer
+    (so_far.1 ∙ ap (λ rest. so_far.0 ++ rest) (next g (goal.at.f-answer-requires g c).After-take))
     (FoldRun-of_items _ _ _ _ _ _ so_far.2) _ refl
 
 pub loop-slot-preserved : goal.loop-slot-preserved
 loop-slot-preserved g c =
-    let so_far = c.loop-slot.invariant in
-    let item = c.take.result in
-    let slots = c.loop-slot.slot-items in
-    let i = c.loop-slot.slot-index in
-    let step : drop i slots ≡ item ∷ drop (i + 1) (slice_set slots i c.take.new.dest) =
-    drop_more slots i c.slot-item.result (omega (arith, c.loop-slot-test.true, c.loop-slot.auto.slot-items))
-    ∙ (ap (λ x. x ∷ drop (i + 1) slots) (sym c.take.ensures.value)
-    ∙ ap (λ rest. item ∷ rest) (sym (drop-set-lt (i + 1) slots i c.take.new.dest (omega arith)))) in (
-      so_far.0 ++ item ∷ [],
-      taken-more c.args.self so_far.0 (drop i slots) item
-          (drop (i + 1) (slice_set slots i c.take.new.dest)) so_far.1 step,
-      FoldsTo-push _ (c.args.f.now, c.args.init) so_far.0 (c.loop-slot.f, c.loop-slot.answer) item
+    let so_far = c.loop-slot.invariant in (
+      so_far.0 ++ c.take.result ∷ [],
+      taken-more c.args.self so_far.0 _ c.take.result _ so_far.1
+          (next g (goal.at.loop-slot-preserved g c).After-take),
+      FoldsTo-push _ (c.args.f.now, c.args.init) so_far.0 (c.loop-slot.f, c.loop-slot.answer) c.take.result
           (c.f-answer.new.self, c.f-answer.result) so_far.2 c.f-answer.ensures,
     )
 

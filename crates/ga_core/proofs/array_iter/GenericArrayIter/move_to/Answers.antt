@@ -5,9 +5,7 @@ use Rattle.std.proofs.Common.{length}
 
 pub returns-clause-left : goal.returns-clause-left
 returns-clause-left g c =
-    let inv = c.self.invariant in
     let items = g.N.ArrayType.Store.items c.self.inside.store in
-    let count = length c.args.slots.now in
-    let part = part_set c.self.inside.front count items c.move_items.new.items in
-    left-past items _ _ c.move_items.new.items _ _ count inv.0 inv.1 c.self.view_is c.requires.enough
+    let part = part_set c.self.inside.front (length c.args.slots.now) items c.move_items.new.items in
+    left-past items _ c.self.invariant c.self.view_is _ c.requires.enough _ c.move_items.new.items
     (g.N.ArrayType.Store.store_with c.self.inside.store part).1

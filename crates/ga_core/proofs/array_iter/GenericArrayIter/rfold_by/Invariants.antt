@@ -1,7 +1,6 @@
 use Rattle.ga_core.proofs.array_iter.GenericArrayIter.rfold_by.Given as goal
 use Rattle.ga_core.specs.Runs.{FoldRun}
-use Rattle.std.proofs.Common.{◌≡◌, List, ◌++◌, reverse}
-use Rattle.std.specs.List.{slice_range}
+use Rattle.std.proofs.Common.{◌≡◌, List, ◌++◌, reverse, slice_range}
 
 -- the calls at the items passed led to the answer and the closure of now; the others stand where they stood
 abbrev pub invariant-loop-index : goal.invariant-loop-index

@@ -14,18 +14,10 @@ returns-in-Ok g c =
     let made = c.finished.ensures ∙ made-is_written c.as_mut_slice.ensures.items c.try_write_mapped_ref.auto.slots in
     let run = FirstErrorRun-made (CallAt (λ item. item.now) (goal.F-step g)) _ _ c.borrowed-items.ensures.items
     (ap Ok made) c.in-Ok.ensures.run in
-    record {
-      run = run;
-      acts = λ h acts. tries_at_entries (λ item. item.now)
-          (goal.F-step g) c.args.f.now h acts _ _ _ run;
-    }
+    record { run = run; acts = λ h acts. tries_at_entries (λ item. item.now) (goal.F-step g) c.args.f.now h acts _ _ _ run }
 
 pub returns-in-Err : goal.returns-in-Err
 returns-in-Err g c =
     let run = FirstErrorRun-made (CallAt (λ item. item.now) (goal.F-step g)) _ _ c.borrowed-items.ensures.items refl
     c.in-Err.ensures.run in
-    record {
-      run = run;
-      acts = λ h acts. tries_at_entries (λ item. item.now)
-          (goal.F-step g) c.args.f.now h acts _ _ _ run;
-    }
+    record { run = run; acts = λ h acts. tries_at_entries (λ item. item.now) (goal.F-step g) c.args.f.now h acts _ _ _ run }

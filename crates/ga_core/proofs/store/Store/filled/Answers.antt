@@ -1,7 +1,6 @@
 use Rattle.ga_core.proofs.store.Store.filled.Goals as goal
-use Rattle.std.proofs.Common.{ap, length, length-append, ◌∙◌, ◌∷◌, [], ◌≡◌, ◌+◌, ◌≤◌, ℕ, arith, subst, sym}
+use Rattle.std.proofs.Common.{ap, length, length-append, ◌∙◌, ◌∷◌, [], ◌≡◌, ◌+◌, ◌≤◌, ℕ, arith, subst, sym, All}
 use Rattle.std.proofs.lemmas.List.Elements.{All-nil, All-push}
-use Rattle.std.specs.List.{All}
 
 pub loop-slot-init : goal.loop-slot-init
 loop-slot-init g c = record {

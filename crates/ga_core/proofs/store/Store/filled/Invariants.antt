@@ -1,6 +1,5 @@
 use Rattle.ga_core.proofs.store.Store.filled.Given as goal
-use Rattle.std.proofs.Common.{◌≡◌, length}
-use Rattle.std.specs.List.{All}
+use Rattle.std.proofs.Common.{◌≡◌, length, All}
 
 -- so many defaults were put
 abbrev pub invariant-loop-slot : goal.invariant-loop-slot

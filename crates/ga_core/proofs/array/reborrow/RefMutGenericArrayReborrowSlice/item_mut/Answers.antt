@@ -1,7 +1,6 @@
-use Rattle.ga_core.proofs.SlotLemmas.{refill-set}
+use Rattle.ga_core.proofs.SlotLemmas.{refill-long, refill-set}
 use Rattle.ga_core.proofs.array.reborrow.RefMutGenericArrayReborrowSlice.item_mut.Goals as goal
-use Rattle.std.proofs.Common.{◌<◌, ◌∙◌, ap, length, length-set, refl, slice_set, subst, sym}
-use Rattle.std.specs.Prelude.{slice_index_or}
+use Rattle.std.proofs.Common.{◌<◌, ◌∙◌, ap, length, refl, slice_set, subst, sym, slice_index_or}
 
 pub returns : goal.returns
 returns g c =
@@ -31,5 +30,4 @@ pub invariant_of-array-lent : goal.invariant_of-array-lent
 invariant_of-array-lent g c = λ w.
     let items = g.N.ArrayType.Store.items c.array.inside.store in
     let after = g.N.ArrayType.Store.store_with c.array.inside.store (slice_set items c.args.index w) in
-    let written = refill-set items items (g.N.ArrayType.Store.items after.0) c.args.index w refl after.1 in
-    (ap length written ∙ (length-set items c.args.index w ∙ c.array.invariant.0), c.array.invariant.1)
+    (refill-long items _ _ after.1 ∙ c.array.invariant.0, c.array.invariant.1)
