@@ -2,8 +2,8 @@
 -- items.
 use Rattle.ga_boxed.specs.Live.{Live}
 use Rattle.ga_core.proofs.CutLemmas.{taken-more}
-use Rattle.std.proofs.Common.{◌≡◌, ◌≢◌, ℕ, suc, ◌+◌, ◌*◌, ◌^◌, ◌<◌, ◌≤◌, List, [], ◌∷◌, ◌++◌, length, ap, sym, ◌∙◌, arith}
-use Rattle.std.proofs.Common.{MatchOption, None, Option, Some, min, pos_of_ne-zero, subst, zero-mul}
+use Rattle.std.proofs.Common.{◌≡◌, ◌≢◌, ℕ, suc, ◌+◌, ◌*◌, ◌^◌, ◌<◌, ◌≤◌, List, [], ◌∷◌, ◌++◌, length, ap, sym, ◌∙◌}
+use Rattle.std.proofs.Common.{arith, MatchOption, None, Option, Some, min, pos_of_ne-zero, subst, zero-mul}
 use Rattle.std.proofs.lemmas.List.{append-nil, length_push, nil_from_length}
 use Rattle.std.specs.Iterator.{YieldsFirst, YieldsLast}
 
@@ -66,19 +66,19 @@ module _ {T : Type 0} (before after : List T) (item : T) (grows : after ≡ befo
   filled_more room less all fewer fits = omega (arith, fewer, fits, ap length grows ∙ length_push before item)
 
 -- the block between its bounds, and as it is seen
-module _ {T : Type 0} (start end : ℕ) (block now : Live T) (seen : block ≡ now) (long : start + length block.items ≡ end)
-  where
-    -- where the bounds meet, no item is held, and only there
-    pub none_held : start ≡ end → now.items ≡ []
-    none_held meet = nil_from_length now.items (omega (arith, long, meet, ap (λ b. length b.items) seen))
+module _ {T : Type 0} (start end : ℕ) (block now : Live T) (seen : block ≡ now)
+    (long : start + length block.items ≡ end) where
+  -- where the bounds meet, no item is held, and only there
+  pub none_held : start ≡ end → now.items ≡ []
+  none_held meet = nil_from_length now.items (omega (arith, long, meet, ap (λ b. length b.items) seen))
 
-    pub some_held : start ≢ end → now.items ≢ []
-    some_held apart none = apart (omega (arith, long, ap (λ b. length b.items) seen, ap length none))
+  pub some_held : start ≢ end → now.items ≢ []
+  some_held apart none = apart (omega (arith, long, ap (λ b. length b.items) seen, ap length none))
 
-    pub bounds_apart : now.items ≢ [] → start < end
-    bounds_apart some =
-        let held : 0 < length now.items = pos_of_ne-zero (λ none. some (nil_from_length now.items none)) in
-        omega (arith, long, held, ap (λ b. length b.items) seen)
+  pub bounds_apart : now.items ≢ [] → start < end
+  bounds_apart some =
+      let held : 0 < length now.items = pos_of_ne-zero (λ none. some (nil_from_length now.items none)) in
+      omega (arith, long, held, ap (λ b. length b.items) seen)
 
 module _ {T : Type 0} where
   -- before the end some are left

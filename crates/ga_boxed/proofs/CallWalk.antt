@@ -11,10 +11,10 @@ use Rattle.ga_boxed.proofs.Steps.{Callee, Fn, named, w64, Val, Memory, Fun, fram
 use Rattle.ga_boxed.proofs.Steps.{Loops, WpFn, AllOutlive, Lfts, Outlives, Shares, toks, Running, tables, Logic, sem}
 use Rattle.ga_boxed.proofs.Steps.{⋆, ‵, raw, Item, ◌$◌, ◌∵◌, !, qed, move, fsplit, fjoin, suffices, use0, done, One}
 use Rattle.ga_boxed.proofs.Steps.{RefOf, usize, Kept, Last, Seen, see, yes, no, Are, Is, Ises, Tells, uint_vals}
-use Rattle.ga_boxed.proofs.Steps.{uint_Tells, Denots, RattleType, Valss, flat, owns, shr_vals, shr_Tells, Signature, Slot, plain}
-use Rattle.ga_boxed.proofs.Steps.{type_at, types_at, nothing, grown, Triple, Clauses, Ended, closing, on_entry, Meets}
-use Rattle.ga_boxed.proofs.Steps.{AllGo, Goes, Goes-dropped, Stay, Stays, fits_of, has_of, stay_dropped, walk_of, Good}
-use Rattle.ga_boxed.proofs.Steps.{El, R, elτ}
+use Rattle.ga_boxed.proofs.Steps.{uint_Tells, Denots, RattleType, Valss, flat, owns, shr_vals, shr_Tells, Signature}
+use Rattle.ga_boxed.proofs.Steps.{Slot, plain, type_at, types_at, nothing, grown, Triple, Clauses, Ended, closing}
+use Rattle.ga_boxed.proofs.Steps.{on_entry, Meets, AllGo, Goes, Goes-dropped, Stay, Stays, fits_of, has_of}
+use Rattle.ga_boxed.proofs.Steps.{stay_dropped, walk_of, Good, El, R, elτ}
 use prog.Routine.{Routine}
 use sound.WpLaws.{FmC}
 use denote.Triple.End.{Fins, Kepts}

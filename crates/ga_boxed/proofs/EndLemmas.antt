@@ -5,10 +5,10 @@
 --     room_out, room_in            the first place of the room
 --     item_out, item_in            the last item
 use Rattle.ga_boxed.proofs.Steps.{◌≡◌, refl, sym, ap, ◌∙◌, ◌≢◌, ℕ, suc, ◌+◌, ◌*◌, arith, List, [], ◌∷◌, ◌++◌, length}
-use Rattle.ga_boxed.proofs.Steps.{length-append, Ura, full_share, ty_array, ent, sep, Fml, fsep, froom, Logic, sem, cells}
-use Rattle.ga_boxed.proofs.Steps.{‵, ◌⊛◌, ◌$◌, ◌∵◌, !, qed, move, drop as skip, use1, use2, split, fsplit, fjoin, rewrite}
-use Rattle.ga_boxed.proofs.Steps.{done, part_at, mem, nothing, El, R, el_x, elτ, add_times, next, room_snoc, as_raw}
-use Rattle.ga_boxed.proofs.Steps.{as_written, empty}
+use Rattle.ga_boxed.proofs.Steps.{length-append, Ura, full_share, ty_array, ent, sep, Fml, fsep, froom, Logic, sem}
+use Rattle.ga_boxed.proofs.Steps.{cells, ‵, ◌⊛◌, ◌$◌, ◌∵◌, !, qed, move, drop as skip, use1, use2, split, fsplit}
+use Rattle.ga_boxed.proofs.Steps.{fjoin, rewrite, done, part_at, mem, nothing, El, R, el_x, elτ, add_times, next}
+use Rattle.ga_boxed.proofs.Steps.{room_snoc, as_raw, as_written, empty}
 use Rattle.ga_boxed.proofs.WalkParts.{sz}
 use borrow.Table.Elements.{at, at_mul, cut_app, join_app}
 
@@ -90,7 +90,8 @@ module _ (E : El) where
       pub room_in : (xs : List (el_x E)) (n : ℕ) → ent 𝓤 (sep 𝓤 (H.room (elτ E) b (End xs)) (sem 𝓛 (Around xs n)))
           (sem 𝓛 (Held xs (n + 1)))
       room_in xs n = qed 𝓛 (‵ (froom (elτ E) b (End xs)) ∷ ‵ (Around xs n) ∷ []) ∵ move ! (1 ∷ []) $ fsplit ! $ move !
-          (1 ∷ []) $ fsplit ! $ move ! (1 ∷ []) $ as_written ! (ty_array (elτ E) n) b (End xs + s) $ move ! (3 ∷ 0 ∷ []) $
+          (1 ∷ []) $ fsplit ! $ move ! (1 ∷ []) $ as_written ! (ty_array (elτ E) n) b (End xs + s) $ move !
+          (3 ∷ 0 ∷ []) $
           use2 𝓛 (‵ (froom (ty_array (elτ E) (suc n)) b (End xs))) (𝓛.laws.room_cons (elτ E) n b (End xs)) $
           as_raw ! (ty_array (elτ E) (suc n)) b (End xs) $
           rewrite ! 0 (λ (j : ℕ). ‵ (Room (End xs) j)) {x = n + 1} (omega arith) refl $ move ! (1 ∷ 0 ∷ []) $ fjoin ! $

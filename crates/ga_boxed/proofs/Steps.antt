@@ -1,8 +1,8 @@
 -- The names that the proofs by hand cite, passed on from one place. Declares nothing.
-pub use Rattle.std.proofs.Common.{Bool, List, T, [], ap, arith, div-le_self, eqb, eqb→eq, false, get_or}
-pub use Rattle.std.proofs.Common.{le-div_iff_mul-le, leb, leb→le, length, length-append, le→leb, lit<, mul-zero, not}
-pub use Rattle.std.proofs.Common.{refl, subst, suc, suc-mul, sym, take, true, zero, zero-mul, ℕ, ◌*◌, ◌++◌, ◌+◌, ◌-◌}
-pub use Rattle.std.proofs.Common.{◌/◌, ◌<◌, ◌^◌, ◌↔◌, ◌∙◌, ◌∷◌, ◌≡◌, ◌≢◌, ◌≤◌}
+pub use Rattle.std.proofs.Common.{Bool, List, T, [], ap, arith, div-le_self, eqb, eqb→eq, false, le-div_iff_mul-le}
+pub use Rattle.std.proofs.Common.{leb, leb→le, length, length-append, le→leb, lit<, mul-zero, not, refl, subst, suc}
+pub use Rattle.std.proofs.Common.{sym, true, zero, zero-mul, ℕ, ◌*◌, ◌++◌, ◌+◌, ◌-◌, ◌/◌, ◌<◌, ◌^◌, ◌↔◌, ◌∙◌, ◌∷◌, ◌≡◌}
+pub use Rattle.std.proofs.Common.{◌≢◌, ◌≤◌}
 pub use Rattle.ga_boxed.specs.CellsOwn.{cells_lent, cells_own, deed_owns, empty, fit}
 pub use Rattle.ga_core.proofs.ItemLoan.{uncapped, uncapped_fits}
 pub use Rattle.std.proofs.Flags.{T_true}

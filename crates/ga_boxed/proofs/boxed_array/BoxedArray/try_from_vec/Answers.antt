@@ -8,7 +8,12 @@ pub returns-then-len-USIZE : goal.returns-then-len-USIZE
 returns-then-len-USIZE g c =
     let wrong : length c.args.items.items ≢ g.N.Unsigned.USIZE = λ long.
     c.if-len-USIZE.true (c.len.ensures ∙ (c.args.items.ok.0 ∙ (long ∙ sym c.USIZE.ensures))) in
-    record { variant = (λ ok. absurd (true≢false (sym ok)), λ long. absurd (wrong long)); ok = tt; other = λ _. refl; empty = λ _. refl }
+    record {
+      variant = (λ ok. absurd (true≢false (sym ok)), λ long. absurd (wrong long));
+      ok = tt;
+      other = λ _. refl;
+      empty = λ _. refl;
+    }
 
 pub returns : goal.returns
 returns g c =

@@ -57,7 +57,8 @@ returns-in-Err g c =
     c.in-Err.ensures in
     record {
       run = run;
-      acts = λ h acts. answers_until_error (goal.F-step g) c.args.f.now h acts below (Err c.in-Err.error) c.f.new.self run;
+      acts = λ h acts. answers_until_error (goal.F-step g) c.args.f.now h acts below (Err c.in-Err.error) c.f.new.self
+          run;
       err = tt;
       empty = λ none. refl;
     }

@@ -8,8 +8,8 @@ use Rattle.ga_boxed.proofs.Steps.{returns, enter, alloc_all, pass_all, free_all,
 use Rattle.ga_boxed.proofs.Steps.{take_at, give_at, Array, no, all_rest, RattleType, part_at, ArrayAt, param, number}
 use Rattle.ga_boxed.proofs.Steps.{layout, layouts, Laws, param_laws, array_at_laws, Ptr, block_ptr, mut_vals, unit}
 use Rattle.ga_boxed.proofs.Steps.{plain, part_in, as_written, after, Good, word, word-Good, El, R, el_x, elτ}
-use Rattle.ga_boxed.proofs.Steps.{cells_own, empty, subst, zero-mul, ent, ftrue, fsep, feq, sem, cells, use0}
-use Rattle.ga_boxed.proofs.Steps.{feq_l, done, Entries, all_last, mem, nothing}
+use Rattle.ga_boxed.proofs.Steps.{cells_own, empty, subst, zero-mul, ent, ftrue, fsep, feq, sem, cells, use0, feq_l}
+use Rattle.ga_boxed.proofs.Steps.{done, Entries, all_last, mem, nothing}
 use Rattle.ga_boxed.proofs.BlockRoom.{no_room, to_block}
 use denote.ArrayMemory.{Array-apart}
 use denote.Index.{row, whole_in}
