@@ -6,41 +6,18 @@
 --     Walk, meets       its walk, which is given what it asks and how it ends, and its contract from that
 --     meets_grown       the same with the lifetimes of type parameters
 --     Linked, linked    what a walk may call
-use mathlib.Core.Path.{◌≡◌, refl}
-use Prim.Native.Nat.{ℕ, suc, ◌<◌, ◌^◌}
-use mathlib.Core.List.{List, [], ◌∷◌, ◌++◌}
-use seplogic.Ra.Ura.{Ura}
-use base.Logic.{SProp, ent, emp, id⊢, via}
-use mir.Syntax.{Callee, Fn, named, w64}
-use mir.Val.{Val}
-use prog.Memory.{Memory}
+use Rattle.ga_boxed.proofs.Steps.{◌≡◌, refl, ℕ, suc, ◌<◌, ◌^◌, List, [], ◌∷◌, ◌++◌, Ura, SProp, ent, emp, id⊢, via}
+use Rattle.ga_boxed.proofs.Steps.{Callee, Fn, named, w64, Val, Memory, Fun, framed as all_framed, Model, Calls, Closed}
+use Rattle.ga_boxed.proofs.Steps.{Loops, WpFn, AllOutlive, Lfts, Outlives, Shares, toks, Running, tables, Logic, sem}
+use Rattle.ga_boxed.proofs.Steps.{⋆, ‵, raw, Item, ◌$◌, ◌∵◌, !, qed, move, fsplit, fjoin, suffices, use0, done, One}
+use Rattle.ga_boxed.proofs.Steps.{RefOf, usize, Kept, Last, Seen, see, yes, no, Are, Is, Ises, Tells, uint_vals}
+use Rattle.ga_boxed.proofs.Steps.{uint_Tells, Denots, RattleType, Valss, flat, owns, shr_vals, shr_Tells, Signature}
+use Rattle.ga_boxed.proofs.Steps.{Slot, plain, type_at, types_at, nothing, grown, Triple, Clauses, Ended, closing}
+use Rattle.ga_boxed.proofs.Steps.{on_entry, Meets, AllGo, Goes, Goes-dropped, Stay, Stays, fits_of, has_of}
+use Rattle.ga_boxed.proofs.Steps.{stay_dropped, walk_of, Good, El, R, elτ}
 use prog.Routine.{Routine}
-use contract.Monad.{Fun}
 use sound.WpLaws.{FmC}
-use denote.Triple.Table.{framed as all_framed}
-use prog.Model.{Model}
-use prog.Wp.{Calls, Closed, Loops, WpFn}
-use contract.Lifetimes.{AllOutlive, Lfts, Outlives, Shares, toks}
-use contract.Running.{Running, tables}
-use types.Logic.{Logic, sem}
-use types.Kit.{⋆, ‵, raw, Item, ◌$◌, ◌∵◌, !, qed, move, fsplit, fjoin, suffices, use0, done}
-use denote.Builtin.{One, RefOf, usize}
-use denote.Exit.{Kept, Last, Seen, see, yes, no}
-use denote.Laws.{Are, Is, Ises, Tells}
-use denote.Plain.{uint_vals, uint_Tells}
-use denote.RattleType.{Denots, RattleType, Valss, flat, owns}
-use denote.Ref.{shr_vals, shr_Tells}
-use denote.Signature.{Slot, plain, type_at, types_at}
-use denote.Steps.{nothing}
-use denote.Triple.Carry.{grown}
-use denote.Triple.Statement.{Triple}
-use denote.Triple.Clauses.{Clauses, Ended, closing}
 use denote.Triple.End.{Fins, Kepts}
-use denote.Triple.Entry.{on_entry}
-use denote.Triple.Spec.{Meets}
-use denote.Triple.Walked.{AllGo, Goes, Goes-dropped, Stay, Stays, fits_of, has_of, stay_dropped, walk_of}
-use Rattle.std.proofs.RcSteps.{Good}
-use Rattle.std.proofs.mem.Param.{El, R, elτ}
 use Rattle.std.proofs.raw_atomic.Walks.{leaves, proved_at}
 use Rattle.ga_boxed.proofs.ClauseFacts.{Every, facts, learns}
 use Rattle.ga_boxed.proofs.WalkParts.{at_values, grows, is_one}
@@ -177,17 +154,11 @@ pub record Call (n : ℕ) : Type 3 where
       → (type_at out κs).Denot → Seen ((me.slot.row κs).exit me.kept) → SProp 𝓤
 
 module _ {n : ℕ} (c : Call n) where
+  abbrev signature : Signature
+  signature = record { lifetimes = n; outlives = c.outlives; params = c.me.slot ∷ slots c.behind; result = c.out }
+
   abbrev pub ended : Ended
-  ended = record {
-    signature = record {
-      lifetimes = n;
-      outlives = c.outlives;
-      params = c.me.slot ∷ slots c.behind;
-      result =
-          c.out;
-    };
-    kept = (c.me.kept, kepts c.behind);
-  }
+  ended = record { signature = signature; kept = (c.me.kept, kepts c.behind) }
 
   abbrev hs : Stays ended.signature.params ended.kept
   hs = (c.me.stay, dropped c.behind)

@@ -1,22 +1,10 @@
 -- A `&` to the cells is made where one to an item is. Assumes `Logic`.
-use Prim.Native.Nat.{ℕ, ◌*◌, ◌+◌}
-use Rattle.ga_boxed.specs.CellsOwn.{cells_lent, cells_own, fit}
-use Rattle.std.specs.Mem.{type_size}
-use base.Fml.{Incl, Lft, ftrue, ffalse}
-use denote.Memory.{mem, shared_of}
-use denote.Param.Laws.{Laws}
-use denote.RattleType.{RattleType, RowLaws}
-use denote.RawPtr.{Ptr, block_ptr, null_ptr}
+use Rattle.ga_boxed.proofs.Steps.{ℕ, ◌*◌, ◌+◌, cells_lent, cells_own, fit, type_size, Incl, Lft, ftrue, ffalse, mem}
+use Rattle.ga_boxed.proofs.Steps.{shared_of, Laws, RattleType, RowLaws, Ptr, block_ptr, null_ptr, beside_shr_laws}
+use Rattle.ga_boxed.proofs.Steps.{said_shr_laws, elements_shared, elements_shr_laws, Lends, Lends-both, Lends-false}
+use Rattle.ga_boxed.proofs.Steps.{Lends-first, Lends-nothing, Lends-said, length, List, [], ◌∷◌, Ura, Logic, cells}
 use denote.Shares.{Shares-less}
 use denote.Sharing.{ShrLaws, said}
-use denote.SharingLaws.{beside_shr_laws, said_shr_laws}
-use denote.Slice.{elements_shared, elements_shr_laws}
-use denote.Struct.Lending.{Lends, Lends-both, Lends-false, Lends-first, Lends-nothing, Lends-said}
-use lib.ListN.{length}
-use mathlib.Core.List.{List, [], ◌∷◌}
-use seplogic.Ra.Ura.{Ura}
-use types.Logic.{Logic}
-use types.SemTy.{cells}
 
 pub cells_lent_laws : (R : RattleType) → RowLaws R → (p : Ptr) (m : ℕ) (xs : List R.Denot) (n : ℕ)
     → ShrLaws (cells_lent R p m xs n)

@@ -1,32 +1,14 @@
 -- The code of `slice` and `slice_mut`, which is the same but for `mut`. It makes a slice's machine value, and its walk
 -- is given how the items are lent. Assumes `Logic`.
-use mathlib.Core.Path.{◌≡◌, refl, ap}
-use Prim.Native.Nat.{ℕ, ◌+◌, ◌*◌, ◌<◌, ◌^◌}
-use mathlib.Core.List.{List, [], ◌∷◌}
-use lib.ListN.{length}
-use seplogic.Ra.Ura.{Ura}
-use base.Fraction.{full_share}
-use base.Fml.{fat}
-use base.Logic.{SProp, ent}
-use mir.Syntax.{Fn, Mutability, Ty, aggregate, assign, block, copy, erased, field, local, mul, named, offset, op2}
-use mir.Syntax.{place, return, rv_opd, seq, size_of, ty_int, ty_ptr, ty_ref, unsigned, value_local, w64}
-use mir.Val.{Val, vint, vptr}
-use prog.Wp.{Calls, Env, Loops, WpFn}
-use types.Logic.{Logic}
-use types.Kit.{Go, Goal, Item, Seq, Soaks, ‵, at_ret, mean, ◌$◌, ◌∵◌, !, qed, by, keep, rewrite}
-use types.Part.{agg, sub, whole}
-use types.Run.{and_then, bin, blocks, enter, exec, first, fld, no_more, of_opd, returns, size_word, stop}
-use types.ByLocal.{alloc_all, env, free_all, get, get_in, give_at, is, look_at, pass_all, sets, sets_last, take_at}
-use contract.Lifetimes.{Lfts}
-use denote.Exit.{no}
-use denote.Signature.{Slot, type_at}
-use denote.Param.{layout}
-use denote.RawPtr.{Ptr, block_ptr}
-use denote.Slice.{slice_ty, slice_val}
-use Rattle.std.proofs.RcSteps.{word, word-Good}
-use Rattle.std.proofs.VecSteps.Shapes.{after}
-use Rattle.std.proofs.mem.Param.{El, elτ}
-use Rattle.ga_core.proofs.ItemLoan.{uncapped, uncapped_fits}
+use Rattle.ga_boxed.proofs.Steps.{◌≡◌, refl, ap, ℕ, ◌+◌, ◌*◌, ◌<◌, ◌^◌, List, [], ◌∷◌, length, Ura, full_share, fat}
+use Rattle.ga_boxed.proofs.Steps.{SProp, ent, Fn, Mutability, Ty, aggregate, assign, block, copy, erased, field, local}
+use Rattle.ga_boxed.proofs.Steps.{mul, named, offset, op2, place, return, rv_opd, seq, size_of, ty_int, ty_ptr, ty_ref}
+use Rattle.ga_boxed.proofs.Steps.{unsigned, value_local, w64, Val, vint, vptr, Calls, Env, Loops, WpFn, Logic, Go}
+use Rattle.ga_boxed.proofs.Steps.{Goal, Item, Seq, Soaks, ‵, at_ret, mean, ◌$◌, ◌∵◌, !, qed, by, keep, rewrite, agg}
+use Rattle.ga_boxed.proofs.Steps.{sub, whole, and_then, bin, blocks, enter, exec, first, fld, no_more, of_opd, returns}
+use Rattle.ga_boxed.proofs.Steps.{size_word, stop, alloc_all, env, free_all, get, get_in, give_at, is, look_at}
+use Rattle.ga_boxed.proofs.Steps.{pass_all, sets, sets_last, take_at, Lfts, no, Slot, type_at, layout, Ptr, block_ptr}
+use Rattle.ga_boxed.proofs.Steps.{slice_ty, slice_val, word, word-Good, after, El, elτ, uncapped, uncapped_fits}
 use Rattle.ga_boxed.proofs.CallWalk.{Call, Self, number}
 use Rattle.ga_boxed.proofs.CellsWalk.{the_base}
 use Rattle.ga_boxed.proofs.WalkParts.{Bs, Cr, sz}

@@ -1,36 +1,18 @@
 -- The calls of `Cells` that are given the base: their parameters, and how `self` is opened and closed. Assumes `Logic`.
 --     the_base          the base.        by_mut, spent      `&mut self`
 --     opens_cells, closes_cells      the borrow of `self` is opened, and closed on other cells
-use mathlib.Core.Path.{◌≡◌, refl, sym}
-use Prim.Native.Nat.{ℕ, ◌+◌, ◌*◌, ◌<◌, ◌^◌}
-use mathlib.Core.List.{List, [], ◌∷◌}
-use lib.ListN.{length}
-use seplogic.Ra.Ura.{Ura}
-use base.Fraction.{full_share}
+use Rattle.ga_boxed.proofs.Steps.{◌≡◌, refl, sym, ℕ, ◌+◌, ◌*◌, ◌<◌, ◌^◌, List, [], ◌∷◌, length, Ura, full_share, flft}
+use Rattle.ga_boxed.proofs.Steps.{fobor, fobs, fauth, fst∗, emp, never, id⊢, named, Val, Lfts, Shares, toks, Logic, ‵}
+use Rattle.ga_boxed.proofs.Steps.{raw, ◌$◌, move, drop, join, rewrite, fsplit, fsplit3, fjoin, fjoin3, Goal, Item, Seq}
+use Rattle.ga_boxed.proofs.Steps.{Soaks, Step, step, feq_i, flt_i, flt_l, use1, RefMutOf, Kept, yes, no, mem, cell_at}
+use Rattle.ga_boxed.proofs.Steps.{block_ptr, Ptr, in_a_block, MutBor, MutRef, mut_vals, mut_Tells, Slot, plain, closes}
+use Rattle.ga_boxed.proofs.Steps.{nothing, opens, Goes, Goes-dropped, Goes-ref, Goes-spent_ref, Stay, stay_dropped}
+use Rattle.ga_boxed.proofs.Steps.{stay_ref, El, R, cells_own}
 use base.Stored.{Gv}
-use base.Fml.{flft, fobor, fobs, fauth}
-use base.Logic.{fst∗, emp, never, id⊢}
-use mir.Syntax.{named}
-use mir.Val.{Val}
-use contract.Lifetimes.{Lfts, Shares, toks}
-use types.Logic.{Logic}
 use types.SemTy.{Body as Borrowed}
-use types.Kit.{‵, raw, ◌$◌, move, drop, join, rewrite, fsplit, fsplit3, fjoin, fjoin3}
-use types.Kit.{Goal, Item, Seq, Soaks, Step, step, feq_i, flt_i, flt_l, use1}
-use denote.Builtin.{RefMutOf}
-use denote.Exit.{Kept, yes, no}
-use denote.Memory.{mem, cell_at}
-use denote.RawPtr.{block_ptr, Ptr, in_a_block}
-use denote.Ref.{MutBor, MutRef, mut_vals, mut_Tells}
-use denote.Signature.{Slot, plain}
-use denote.Steps.{closes, nothing, opens}
-use denote.Triple.Walked.{Goes, Goes-dropped, Goes-ref, Goes-spent_ref, Stay}
-use denote.Triple.Walked.{stay_dropped, stay_ref}
-use Rattle.std.proofs.mem.Param.{El, R}
 use Rattle.ga_boxed.proofs.CallWalk.{told_by, Behind, Self}
 use Rattle.ga_boxed.proofs.EndLemmas.{Held}
 use Rattle.ga_boxed.proofs.WalkParts.{Bs, Cr, Mark, base_Tells, base_vals, sz}
-use Rattle.ga_boxed.specs.CellsOwn.{cells_own}
 
 module _ (E : El) where
   abbrev pub the_base : {n : ℕ} → Behind n

@@ -1,26 +1,13 @@
 -- The parts of a block may cross threads as its items and its allocator may. Assumes nothing.
-use Prim.Native.Nat.{ℕ, ◌+◌, ◌*◌}
-use Rattle.ga_boxed.specs.CellsOwn.{cells_lent, cells_own}
+use Rattle.ga_boxed.proofs.Steps.{ℕ, ◌+◌, ◌*◌, cells_lent, cells_own, type_size, has_block, owns_if, Ghosts, Fml}
+use Rattle.ga_boxed.proofs.Steps.{full_share, Exit, hidden, leaves, unchanged, under, mem, RattleType, Ptr, block_ptr}
+use Rattle.ga_boxed.proofs.Steps.{null_ptr, elements_shared, fields, shape, to, exits_of, Bool, false, true, List, []}
+use Rattle.ga_boxed.proofs.Steps.{◌∷◌, cells}
 use Rattle.ga_boxed.specs.contracts.live_block.cells.Cells as Cells
 use Rattle.ga_boxed.specs.contracts.live_block.cells.Deed as Deed
-use Rattle.std.specs.Mem.{type_size}
-use Rattle.std.specs.Vec.Ownership.{has_block, owns_if}
-use Rattle.std.specs.declared.alloc.Allocator.{Ghosts}
-use base.Fml.{Fml}
-use base.Fraction.{full_share}
 use base.Shift.{Keyless}
-use denote.Exit.{Exit, hidden, leaves, unchanged, under}
-use denote.Memory.{mem}
 use denote.Param.Send.{AllSend, Common, Frees, IsSend, IsSync, Quiet, owning_send, part_keyless, sendable, struct_send}
 use denote.Param.Send.{struct_sync}
-use denote.RattleType.{RattleType}
-use denote.RawPtr.{Ptr, block_ptr, null_ptr}
-use denote.Slice.{elements_shared}
-use denote.Struct.Owning.{fields, shape, to}
-use denote.Struct.Struct.{exits_of}
-use mathlib.Core.Bool.{Bool, false, true}
-use mathlib.Core.List.{List, [], ◌∷◌}
-use types.SemTy.{cells}
 
 quiet : {D X : Type 0} (to : D → X) (e : Exit X) → Quiet e → Quiet (hidden (under to e))
 quiet to unchanged q = λ x w. tt
@@ -64,8 +51,8 @@ module _ (R : RattleType) where
       }
 
   module _ (A : RattleType) (g : Ghosts A.Denot) where
-    pub Deed-send : Frees g g.dealloc_token → IsSend (Deed.the_row R A g)
-    Deed-send f =
+    pub Deed-send : IsSend A → Frees g g.dealloc_token → IsSend (Deed.the_row R A g)
+    Deed-send s f =
         let O = Deed.the_type R A g in let all : AllSend (fields O) = (search sendable, tt) in
         owning_send O all (λ d. if_so (has_block d.len) _ (f.frees d.alloc _ d.at))
         (λ k. quiet (to O) (exits_of k (fields O)) ((struct_send (shape O) all).leaving k))

@@ -1,6 +1,5 @@
 pub mod AnswerLemmas
-pub mod BlockBuildLemmas
-pub mod BlockMoveLemmas
+pub mod BlockLemmas
 pub mod BlockRoom
 pub mod CallWalk
 pub mod CellsSharing
@@ -9,9 +8,7 @@ pub mod CellsWalk
 pub mod ClauseFacts
 pub mod Crosses
 pub mod EndLemmas
-pub mod FrontLemmas
-pub mod NativeLemmas
-pub mod PassedLemmas
+pub mod Steps
 pub mod TakeWalk
 pub mod VecLemmas
 pub mod WalkParts

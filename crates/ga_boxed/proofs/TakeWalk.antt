@@ -1,39 +1,15 @@
 -- The walk of `take_first` and `take_last`, which are the same code: all of it but how the item is cut from the cells,
 -- and what is left of these. Assumes `Logic`.
-use mathlib.Core.Logic.{◌≢◌}
-use mathlib.Core.Path.{◌≡◌, refl, subst, ◌∙◌}
-use Prim.Native.Nat.{ℕ, ◌+◌, ◌*◌, ◌<◌, ◌^◌}
-use native.Mathlib.Omega.{arith}
-use mathlib.Core.List.{List, [], ◌∷◌, ◌++◌}
-use lib.ListN.{length}
-use seplogic.Ra.Ura.{Ura}
-use base.Fraction.{full_share}
-use base.Fml.{Fml, fat, froom}
-use base.Logic.{ent, sep}
-use mir.Syntax.{Callee, Fn, Ty, assign, block, copy, deref, field, local, mul, named, offset, op2, place, return}
-use mir.Syntax.{rv_opd, seq, size_of, ty_int, ty_ptr, ty_ref, unsigned, value_local, w64, mut}
-use mir.Val.{vint}
-use prog.Model.{Model}
-use contract.Running.{Running, tables}
-use denote.Triple.Carry.{grown}
-use denote.Triple.Clauses.{closing}
-use denote.Triple.Statement.{Triple}
-use prog.Wp.{Closed, Calls, Env, Loops}
-use types.Logic.{Logic, sem}
-use types.Kit.{‵, ◌⊛◌, at_ret, ◌$◌, ◌∵◌, !, qed, by, move, keep, use1, use2, split, rewrite}
-use types.Part.{whole, sub}
-use types.Run.{bin, size_lit, look, stop, fld, load, of_opd, first, blocks, exec, returns, enter}
-use types.ByLocal.{alloc_all, pass_all, free_all, look_at, get, get_in, take_at, give_at, through, sets, sets_last, env}
-use denote.Exit.{no}
-use denote.Memory.{part_at}
-use denote.Param.{layout}
-use denote.RawPtr.{Ptr}
-use denote.Ref.{mut_vals}
-use denote.Signature.{plain}
-use Rattle.std.proofs.RcSteps.{word, word-Good}
-use Rattle.std.proofs.VecSteps.Shapes.{after}
-use Rattle.std.proofs.mem.Param.{El, R, el_x, elτ}
-use Rattle.std.proofs.ptr.Rows.{times_below, one_below}
+use Rattle.ga_boxed.proofs.Steps.{◌≢◌, ◌≡◌, refl, subst, ◌∙◌, ℕ, ◌+◌, ◌*◌, ◌<◌, ◌^◌, arith, List, [], ◌∷◌, ◌++◌}
+use Rattle.ga_boxed.proofs.Steps.{length, Ura, full_share, Fml, fat, froom, ent, sep, Callee, Fn, Ty, assign, block}
+use Rattle.ga_boxed.proofs.Steps.{copy, deref, field, local, mul, named, offset, op2, place, return, rv_opd, seq}
+use Rattle.ga_boxed.proofs.Steps.{size_of, ty_int, ty_ptr, ty_ref, unsigned, value_local, w64, mut, vint, Model}
+use Rattle.ga_boxed.proofs.Steps.{Running, tables, grown, closing, Triple, Closed, Calls, Env, Loops, Logic, sem, ‵}
+use Rattle.ga_boxed.proofs.Steps.{◌⊛◌, at_ret, ◌$◌, ◌∵◌, !, qed, by, move, keep, use1, use2, split, rewrite, whole}
+use Rattle.ga_boxed.proofs.Steps.{sub, bin, size_lit, look, stop, fld, load, of_opd, first, blocks, exec, returns}
+use Rattle.ga_boxed.proofs.Steps.{enter, alloc_all, pass_all, free_all, look_at, get, get_in, take_at, give_at}
+use Rattle.ga_boxed.proofs.Steps.{through, sets, sets_last, env, no, part_at, layout, Ptr, mut_vals, plain, word}
+use Rattle.ga_boxed.proofs.Steps.{word-Good, after, El, R, el_x, elτ, times_below, one_below}
 use Rattle.ga_boxed.proofs.CallWalk.{Call, Had, Walk, clauses, ended, number, meets_grown}
 use Rattle.ga_boxed.proofs.CellsWalk.{by_mut, closes_cells, opens_cells, the_base}
 use Rattle.ga_boxed.proofs.ClauseFacts.{Every, facts, has_every}

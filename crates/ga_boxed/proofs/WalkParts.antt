@@ -1,53 +1,22 @@
 -- What the walks share: a value of one pointer, one of no bytes, a tuple of three, an item as a machine value and in
 -- memory, and how a walk begins and ends. Assumes `Logic`.
-use mathlib.Core.Path.{◌≡◌, refl, subst, sym, ap, ◌∙◌}
-use Prim.Native.Nat.{ℕ, ◌*◌, ◌<◌, ◌^◌}
-use mathlib.Core.List.{List, [], ◌∷◌}
-use seplogic.Ra.Ura.{Ura}
-use mir.Val.{Val, vstruct, vcons, vnil}
-use base.Logic.{id⊢, ent, sep, emp}
-use prog.Model.{Model}
-use contract.Lifetimes.{Lfts, Shares, toks}
-use contract.Monad.{Fun}
-use contract.Running.{Running}
-use types.Logic.{Logic, sem}
-use types.Kit.{raw, join, Item, Goal, Seq, Step, step, ‵, ◌$◌, ◌∵◌, !, qed, move, fjoin, fpack, feq_i, done, some}
-use types.Kit.{◌⊛◌, use1, pick, split}
-use denote.Param.Laws.{Laws}
-use denote.RattleType.{RattleType, Valss}
-use denote.RawPtr.{Ptr, RawPtr, ptr_val, rawptr_vals, rawptr_Tells}
+use Rattle.ga_boxed.proofs.Steps.{◌≡◌, refl, subst, sym, ap, ◌∙◌, ℕ, ◌*◌, ◌<◌, ◌^◌, List, [], ◌∷◌, Ura, Val, vstruct}
+use Rattle.ga_boxed.proofs.Steps.{vcons, vnil, id⊢, ent, sep, emp, Model, Lfts, Shares, toks, Fun, Running, Logic, sem}
+use Rattle.ga_boxed.proofs.Steps.{raw, join, Item, Goal, Seq, Step, step, ‵, ◌$◌, ◌∵◌, !, qed, move, fjoin, fpack}
+use Rattle.ga_boxed.proofs.Steps.{feq_i, done, some, ◌⊛◌, use1, pick, split, Laws, RattleType, Valss, Ptr, RawPtr}
+use Rattle.ga_boxed.proofs.Steps.{ptr_val, rawptr_vals, rawptr_Tells, nothing, peeks, Shape, Struct, Struct-Tells}
+use Rattle.ga_boxed.proofs.Steps.{within, shape, Tuple, tuple_type, grown, spared, Clauses, Ended, closing, Vals}
+use Rattle.ga_boxed.proofs.Steps.{Meets, Triple, run_framed, Stays, walk_of, type_size, El, R, el_x, elτ, lawful, one}
+use Rattle.ga_boxed.proofs.Steps.{word, Good, full_share, Ghosts, Dict, Callee, Ty, Args, a_type, ty_array, dcons}
+use Rattle.ga_boxed.proofs.Steps.{dnil, fat, flft, ftrue, Is, Tells, shows, param, bounded, part_at, part_out, size}
+use Rattle.ga_boxed.proofs.Steps.{align, capped, capped_is, Al}
 use denote.Shadow.{makes_shadow}
-use denote.Steps.{nothing, peeks}
-use denote.Struct.Struct.{Shape, Struct, Struct-Tells, within}
-use denote.Struct.Owning.{shape}
 use denote.Struct.Declared as Declared
-use denote.Struct.Tuple.{Tuple, tuple_type}
-use denote.Triple.Carry.{grown, spared}
-use denote.Triple.Clauses.{Clauses, Ended, closing}
-use denote.Triple.Entry.{Vals}
-use denote.Triple.Spec.{Meets}
-use denote.Triple.Statement.{Triple}
-use denote.Triple.Table.{run_framed}
-use denote.Triple.Walked.{Stays, walk_of}
-use Rattle.std.specs.Mem.{type_size}
-use Rattle.std.proofs.mem.Param.{El, R, el_x, elτ, lawful, one}
-use Rattle.std.proofs.RcSteps.{word, Good}
 use Rattle.ga_boxed.specs.contracts.live_block.cells.Cells as C-type
 use Rattle.ga_boxed.specs.contracts.live_block.cells.Base as B-type
 use Rattle.ga_boxed.specs.contracts.live_block.cells.Deed as D-type
-use base.Fraction.{full_share}
-use Rattle.std.specs.declared.alloc.Allocator.{Ghosts}
-use mir.Syntax.{Dict, Callee, Ty, Args, a_type, ty_array, dcons, dnil}
-use base.Fml.{fat, flft, ftrue}
-use denote.Laws.{Is, Tells, shows}
-use denote.Param.{param, bounded}
-use denote.Memory.{part_at}
-use borrow.Table.OneValue.{part_out}
 use mir.Raw.{raw as bare}
-use prog.Memory.{size, align, capped}
-use prog.Capped.{capped_is}
 use prog.RawLaws.{size-raw, align-raw}
-use Rattle.std.proofs.alloc.Calls.{Al}
 
 module _ (E : El) where
   -- the type that a block of n slots is asked for

@@ -1,5 +1,5 @@
 //! What touches the block's pointer. Each of these functions is as small as its proof allows.
-ghost use Rattle.std.specs.Prelude.{◌≡◌, ◌≢◌, ◌<◌, ◌+◌, ◌-◌, ◌*◌, ◌^◌, ◌∷◌, ◌++◌, [], ◌↔◌, ℕ, List, ⊤, IfOk, IsOk, IsTrue, length};
+ghost use Rattle.std.specs.Prelude.{◌≡◌, ◌≢◌, ◌<◌, ◌+◌, ◌*◌, ◌^◌, ◌∷◌, ◌++◌, [], ◌↔◌, ℕ, List, ⊤, IfOk, IsOk, IsTrue, length};
 ghost use Rattle.std.specs.Borrow.{sem};
 ghost use Rattle.std.specs.Mem.{type_size};
 ghost use base.Fml.{ftrue};
@@ -162,11 +162,11 @@ impl<T> Cells<T> {
     pub(crate) fn put(&mut self, base: Base<T>, index: usize, item: T)
         requires at { base.ptr ≡ self.old.at }
         requires index { index ≡ self.old.passed + length self.old.items }
-        requires some { self.old.room ≢ 0 }
+        requires some { 0 < self.old.room }
         ensures at { self.new.at ≡ self.old.at }
         ensures passed { self.new.passed ≡ self.old.passed }
         ensures items { self.new.items ≡ self.old.items ++ item ∷ [] }
-        ensures room { self.new.room ≡ self.old.room - 1 }
+        ensures room { self.new.room + 1 ≡ self.old.room }
     {
         unsafe { base.ptr.add(index).write(item) }
     }

@@ -1,5 +1,5 @@
 use borrow.Author.Rules.{scaled_fits≤}
-use Rattle.ga_boxed.proofs.BlockMoveLemmas.{more_room, none_yet, one_more}
+use Rattle.ga_boxed.proofs.BlockLemmas.{more_room, none_yet, one_more}
 use Rattle.ga_boxed.proofs.boxed_array.BoxedArray.from_inline.Goals as goal
 use Rattle.ga_core.proofs.MoveLemmas.{pushed-next, this-here}
 use Rattle.std.proofs.Common.{ap, length, refl, subst, sym, ◌<◌, ◌∙◌, ◌≤◌}
@@ -16,12 +16,10 @@ loop-slot-init g c =
     }
 
 pub put-requires : goal.put-requires
-put-requires g c =
-    let at = c.loop-slot in
-    record {
-      room = more_room at.slot-index at.block.room (length c.args.array) (length c.as_mut_slice-slots.result.now)
-          at.invariant.room c.loop-slot-test.true (ap length c.as_mut_slice-slots.ensures.items);
-    }
+put-requires g c = record {
+  room = more_room _ _ _ _ c.loop-slot.invariant.room c.loop-slot-test.true
+      (ap length c.as_mut_slice-slots.ensures.items);
+}
 
 pub loop-slot-preserved : goal.loop-slot-preserved
 loop-slot-preserved g c =
@@ -31,8 +29,7 @@ loop-slot-preserved g c =
           c.take.new.dest (subst (λ n. at.slot-index < n) (sym at.auto.slots) c.loop-slot-test.true)
           (this-here at.slot-index at.slots c.slot-item.result c.take.result c.slot-item.is c.take.ensures.value)
           at.invariant.moved c.put.ensures.items;
-      room = one_more at.slot-index at.block.room c.put.new.self.room (length c.args.array) at.invariant.room
-          c.put.ensures.room;
+      room = one_more _ _ _ _ at.invariant.room c.put.ensures.room;
     }
 
 pub invariant_of-result : goal.invariant_of-result

@@ -1,11 +1,10 @@
-use Rattle.ga_boxed.proofs.BlockMoveLemmas.{all_counted, more_room, none_yet, one_more}
+use Rattle.ga_boxed.proofs.BlockLemmas.{all_counted, long_more, more_room, none_yet, one_more}
 use Rattle.ga_boxed.proofs.boxed_array.BoxedArray.generate_by.Goals as goal
 use Rattle.ga_core.proofs.ActsLemmas.{answers_of_run}
 use Rattle.ga_core.proofs.CallLemmas.{may_generate-at}
 use Rattle.ga_core.proofs.RunLemmas.{ClosureRun-snoc, below-add_one}
 use Rattle.ga_core.specs.Runs.{ClosureRun}
-use Rattle.std.proofs.Common.{◌<◌, ◌+◌, ◌∙◌, [], ap, length, refl, subst, sym}
-use Rattle.std.proofs.lemmas.List.{length_push}
+use Rattle.std.proofs.Common.{◌<◌, ◌∙◌, [], ap, length, refl, subst, sym}
 use Rattle.std.specs.List.{range_with_len}
 
 pub returns-in_default : goal.returns-in_default
@@ -33,12 +32,9 @@ f-requires g c =
     at.items.items at.f (subst (λ n. at.index < n) c.USIZE-index-end.ensures c.loop-index-test.true) at.invariant.ran
 
 pub put-requires : goal.put-requires
-put-requires g c =
-    let at = c.loop-index in
-    record {
-      room = more_room at.index at.items.room g.N.Unsigned.USIZE c.USIZE-index-end.result at.invariant.room
-          c.loop-index-test.true c.USIZE-index-end.ensures;
-    }
+put-requires g c = record {
+  room = more_room _ _ _ _ c.loop-index.invariant.room c.loop-index-test.true c.USIZE-index-end.ensures;
+}
 
 pub loop-index-preserved : goal.loop-index-preserved
 loop-index-preserved g c =
@@ -47,31 +43,26 @@ loop-index-preserved g c =
       ran = rw (c.put.ensures.items, below-add_one)
           (ClosureRun-snoc (goal.F-step g) c.args.f.now (range_with_len 0 at.index) at.items.items at.f at.index
           c.f.result c.f.new.self at.invariant.ran c.f.ensures);
-      long = ap length c.put.ensures.items
-          ∙ (length_push at.items.items c.f.result ∙ ap (λ k. k + 1) at.invariant.long);
-      room = one_more at.index at.items.room c.put.new.self.room g.N.Unsigned.USIZE at.invariant.room
-          c.put.ensures.room;
+      long = long_more _ _ _ c.put.ensures.items _ at.invariant.long;
+      room = one_more _ _ _ _ at.invariant.room c.put.ensures.room;
     }
 
 pub invariant_of-result : goal.invariant_of-result
 invariant_of-result g c =
     let at = c.loop-index in
-    at.invariant.long
-    ∙ all_counted at.index at.items.room g.N.Unsigned.USIZE c.USIZE-index-end.result c.loop-index-test.false
-    at.auto.index-end c.USIZE-index-end.ensures
+    at.invariant.long ∙ all_counted _ _ _ c.loop-index-test.false at.auto.index-end c.USIZE-index-end.ensures
 
 pub returns : goal.returns
 returns g c =
     let at = c.loop-index in
-    let all = all_counted at.index at.items.room g.N.Unsigned.USIZE c.USIZE-index-end.result c.loop-index-test.false
-    at.auto.index-end c.USIZE-index-end.ensures in
-    let run : ClosureRun (goal.F-step g) c.args.f.now (range_with_len 0 g.N.Unsigned.USIZE) at.items.items at.f =
-    subst (λ n. ClosureRun (goal.F-step g) c.args.f.now (range_with_len 0 n) at.items.items at.f) all
+    let below = range_with_len 0 g.N.Unsigned.USIZE in
+    let run : ClosureRun (goal.F-step g) c.args.f.now below at.items.items at.f =
+    subst (λ n. ClosureRun (goal.F-step g) c.args.f.now (range_with_len 0 n) at.items.items at.f)
+    (all_counted _ _ _ c.loop-index-test.false at.auto.index-end c.USIZE-index-end.ensures)
     at.invariant.ran in
     record {
       run = run;
-      acts = λ h acts. answers_of_run (goal.F-step g) c.args.f.now h acts
-          (range_with_len 0 g.N.Unsigned.USIZE) at.items.items at.f run;
+      acts = λ h acts. answers_of_run (goal.F-step g) c.args.f.now h acts below at.items.items at.f run;
       err = tt;
       empty = λ none. refl;
     }

@@ -1,5 +1,4 @@
-use Rattle.ga_boxed.proofs.BlockBuildLemmas.{all_there, grown, less_room, not_all}
-use Rattle.ga_boxed.proofs.BlockMoveLemmas.{none_yet}
+use Rattle.ga_boxed.proofs.BlockLemmas.{all_there, filled_more, less_room, none_yet, not_all}
 use Rattle.ga_boxed.proofs.boxed_array.BoxedArray.try_boxed_from_fallible_iter_ref.Given as given
 use Rattle.ga_boxed.proofs.boxed_array.BoxedArray.try_boxed_from_fallible_iter_ref.Goals as goal
 use Rattle.ga_core.proofs.FillLemmas.{FillFalliblyRuns-from_fill}
@@ -7,7 +6,7 @@ use Rattle.ga_core.specs.Fill.{FillFalliblyRuns, FillsFallibly}
 use Rattle.ga_core.specs.declared.LengthError.{LengthError}
 use Rattle.std.proofs.Common.{◌+◌, ◌∙◌, Err, List, None, Ok, Result, Some, ap, length, map, refl, subst, sym}
 use Rattle.std.proofs.iter.Next.{Yields-more}
-use Rattle.std.proofs.lemmas.List.{length_push, map-append}
+use Rattle.std.proofs.lemmas.List.{map-append}
 use Rattle.std.specs.Iterator.{Yields}
 
 pub returns-in_default : goal.returns-in_default
@@ -33,7 +32,7 @@ pub put-requires : goal.put-requires
 put-requires g c = record { room = rw (← c.room.ensures) c.loop-items-test.true }
 
 pub loop-items-smaller : goal.loop-items-smaller
-loop-items-smaller g c = less_room c.put.new.self.room c.loop-items.values.room c.put.ensures.room
+loop-items-smaller g c = less_room _ _ c.put.ensures.room
 
 pub loop-items-preserved : goal.loop-items-preserved
 loop-items-preserved g c =
@@ -44,89 +43,52 @@ loop-items-preserved g c =
       taken = rw (c.put.ensures.items, map-append)
           (Yields-more g.I.Iterator.next_gives c.args.items.now (map Ok at.values.items) at.items
           (Ok c.in-Some-Ok.item) _ at.invariant.taken came);
-      room = grown (length at.values.items) (length c.put.new.self.items) at.values.room c.put.new.self.room
-          g.N.Unsigned.USIZE (ap length c.put.ensures.items ∙ length_push at.values.items c.in-Some-Ok.item)
-          c.put.ensures.room at.invariant.room;
+      room = filled_more _ _ _ c.put.ensures.items _ _ _ c.put.ensures.room at.invariant.room;
     }
 
--- the calls of each answer
-runs : (g : given.Over) (items : g.row.I.Denot)
-    (answer : Result (Result (List g.row.T.Denot) g.row.E.Denot) LengthError) (left : g.row.I.Denot)
-    → FillsFallibly g.I.Iterator.next_gives items g.N.Unsigned.USIZE answer left
-    → FillFalliblyRuns g.I.Iterator.next_gives items g.N.Unsigned.USIZE answer
-runs g items = FillFalliblyRuns-from_fill g.I.Iterator.next_gives items g.N.Unsigned.USIZE
+-- what a fill says of its calls
+told : (g : given.Over) (items : g.row.I.Denot) (built : Result (Result (List g.row.T.Denot) g.row.E.Denot) LengthError)
+    (left : g.row.I.Denot)
+    → let next = g.I.Iterator.next_gives in let n = g.N.Unsigned.USIZE in FillsFallibly next items n built left
+    → FillsFallibly next items n built left × FillFalliblyRuns next items n built
+told g items built left fill =
+    (fill, FillFalliblyRuns-from_fill g.I.Iterator.next_gives items g.N.Unsigned.USIZE built left fill)
 
 pub returns-in-Some-Err : goal.returns-in-Some-Err
 returns-in-Some-Err g c =
     let at = c.loop-items in
+    let error = c.in-Some-Err.error in
     let came = rw c.in-Some-Err.field-0-is at c.in-Some-Err.ensures.steps in
-    let few = not_all (length at.values.items) at.values.room g.N.Unsigned.USIZE c.room.result at.invariant.room
-    c.room.ensures c.loop-items-test.true in
-    let fill : FillsFallibly g.I.Iterator.next_gives {F = LengthError} c.args.items.now g.N.Unsigned.USIZE
-    (Ok (Err c.in-Some-Err.error)) c.next.new.self =
-    (at.values.items, Some (Err c.in-Some-Err.error), (at.items, at.invariant.taken, came), (refl, few)) in
-    record {
-      fill = fill;
-      runs = runs g c.args.items.now (Ok (Err c.in-Some-Err.error)) c.next.new.self fill;
-      can_on = c.in-Some-Err.ensures.goes.keeps;
-      err = tt;
-      empty = λ none. refl;
-    }
+    let few = not_all _ _ _ _ at.invariant.room c.room.ensures c.loop-items-test.true in
+    let fill = told g c.args.items.now (Ok (Err error)) c.next.new.self
+    (at.values.items, Some (Err error), (at.items, at.invariant.taken, came), (refl, few)) in
+    let can = c.in-Some-Err.ensures.goes.keeps in
+    record { fill = fill.0; runs = fill.1; can_on = can; err = tt; empty = λ none. refl }
 
 pub returns-in-None : goal.returns-in-None
 returns-in-None g c =
     let at = c.loop-items in
-    let few = not_all (length at.values.items) at.values.room g.N.Unsigned.USIZE c.room.result at.invariant.room
-    c.room.ensures c.loop-items-test.true in
-    let fill : FillsFallibly g.I.Iterator.next_gives {F = LengthError} c.args.items.now g.N.Unsigned.USIZE
-    (Err (record {})) c.next.new.self =
+    let few = not_all _ _ _ _ at.invariant.room c.room.ensures c.loop-items-test.true in
+    let fill = told g c.args.items.now (Err (record {})) c.next.new.self
     (at.values.items, None, (at.items, at.invariant.taken, c.in-None.ensures.steps), few) in
-    record {
-      fill = fill;
-      runs = runs g c.args.items.now (Err (record {})) c.next.new.self fill;
-      can_on = tt;
-      err = tt;
-      empty = λ none. refl;
-    }
+    record { fill = fill.0; runs = fill.1; can_on = tt; err = tt; empty = λ none. refl }
 
 pub invariant_of-result : goal.invariant_of-result
 invariant_of-result g c =
-    let at = c.loop-items in
-    all_there (length at.values.items) at.values.room g.N.Unsigned.USIZE c.room.result at.invariant.room c.room.ensures
-    c.loop-items-test.false
+    all_there _ _ _ _ c.loop-items.invariant.room c.room.ensures c.loop-items-test.false
 
 pub returns-in-None-next : goal.returns-in-None-next
 returns-in-None-next g c =
     let at = c.loop-items in
-    let all = all_there (length at.values.items) at.values.room g.N.Unsigned.USIZE c.room.result at.invariant.room
-    c.room.ensures c.loop-items-test.false in
-    let fill : FillsFallibly g.I.Iterator.next_gives {F = LengthError} c.args.items.now g.N.Unsigned.USIZE
-    (Ok (Ok at.values.items)) c.next-2.new.self = (
-      at.values.items,
-      None,
-      (at.items, at.invariant.taken, c.in-None-next.ensures.steps),
-      (refl, all, refl),
-    ) in
-    record {
-      fill = fill;
-      runs = runs g c.args.items.now (Ok (Ok at.values.items)) c.next-2.new.self fill;
-      can_on = tt;
-      err = tt;
-      empty = λ none. refl;
-    }
+    let all = all_there _ _ _ _ at.invariant.room c.room.ensures c.loop-items-test.false in
+    let fill = told g c.args.items.now (Ok (Ok at.values.items)) c.next-2.new.self
+    (at.values.items, None, (at.items, at.invariant.taken, c.in-None-next.ensures.steps), (refl, all, refl)) in
+    record { fill = fill.0; runs = fill.1; can_on = tt; err = tt; empty = λ none. refl }
 
 pub returns-in-Some : goal.returns-in-Some
 returns-in-Some g c =
     let at = c.loop-items in
-    let all = all_there (length at.values.items) at.values.room g.N.Unsigned.USIZE c.room.result at.invariant.room
-    c.room.ensures c.loop-items-test.false in
-    let fill : FillsFallibly g.I.Iterator.next_gives {F = LengthError} c.args.items.now g.N.Unsigned.USIZE
-    (Err (record {})) c.next-2.new.self =
+    let all = all_there _ _ _ _ at.invariant.room c.room.ensures c.loop-items-test.false in
+    let fill = told g c.args.items.now (Err (record {})) c.next-2.new.self
     (at.values.items, Some c.in-Some._surplus, (at.items, at.invariant.taken, c.in-Some.ensures.steps), all) in
-    record {
-      fill = fill;
-      runs = runs g c.args.items.now (Err (record {})) c.next-2.new.self fill;
-      can_on = tt;
-      err = tt;
-      empty = λ none. refl;
-    }
+    record { fill = fill.0; runs = fill.1; can_on = tt; err = tt; empty = λ none. refl }

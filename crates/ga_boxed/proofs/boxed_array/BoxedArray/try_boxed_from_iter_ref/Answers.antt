@@ -1,12 +1,11 @@
-use Rattle.ga_boxed.proofs.BlockBuildLemmas.{all_there, grown, less_room, not_all}
-use Rattle.ga_boxed.proofs.BlockMoveLemmas.{none_yet}
+use Rattle.ga_boxed.proofs.BlockLemmas.{all_there, filled_more, less_room, none_yet, not_all}
+use Rattle.ga_boxed.proofs.boxed_array.BoxedArray.try_boxed_from_iter_ref.Given as given
 use Rattle.ga_boxed.proofs.boxed_array.BoxedArray.try_boxed_from_iter_ref.Goals as goal
 use Rattle.ga_core.proofs.FillLemmas.{Asks-from_fill, FillRuns-from_fill}
-use Rattle.ga_core.specs.Fill.{Fills}
+use Rattle.ga_core.specs.Fill.{Asks, FillRuns, Fills}
 use Rattle.ga_core.specs.declared.LengthError.{LengthError}
-use Rattle.std.proofs.Common.{◌+◌, ◌∙◌, Err, None, Ok, Some, ap, length, refl, subst, sym}
+use Rattle.std.proofs.Common.{◌+◌, ◌∙◌, Err, List, None, Ok, Result, Some, ap, length, refl, subst, sym}
 use Rattle.std.proofs.iter.Next.{Yields-more}
-use Rattle.std.proofs.lemmas.List.{length_push}
 use Rattle.std.specs.Iterator.{Yields}
 
 pub returns-in_default : goal.returns-in_default
@@ -32,7 +31,7 @@ pub put-requires : goal.put-requires
 put-requires g c = record { room = rw (← c.room.ensures) c.loop-items-test.true }
 
 pub loop-items-smaller : goal.loop-items-smaller
-loop-items-smaller g c = less_room c.put.new.self.room c.loop-items.taken.room c.put.ensures.room
+loop-items-smaller g c = less_room _ _ c.put.ensures.room
 
 pub loop-items-preserved : goal.loop-items-preserved
 loop-items-preserved g c =
@@ -42,71 +41,42 @@ loop-items-preserved g c =
       taken = rw c.put.ensures.items
           (Yields-more g.I.Iterator.next_gives c.args.items.now at.taken.items at.items c.in-Some.item _
           at.invariant.taken c.in-Some.ensures.steps);
-      room = grown (length at.taken.items) (length c.put.new.self.items) at.taken.room c.put.new.self.room
-          g.N.Unsigned.USIZE (ap length c.put.ensures.items ∙ length_push at.taken.items c.in-Some.item)
-          c.put.ensures.room at.invariant.room;
+      room = filled_more _ _ _ c.put.ensures.items _ _ _ c.put.ensures.room at.invariant.room;
     }
+
+-- what a fill says of its calls
+told : (g : given.Over) (items : g.row.I.Denot) (built : Result (List g.row.T.Denot) LengthError) (left : g.row.I.Denot)
+    → let next = g.I.Iterator.next_gives in let n = g.N.Unsigned.USIZE in Fills next items n built left
+    → Fills next items n built left × FillRuns next items n built × Asks next items (n + 1) left
+told g items built left fill =
+    let next = g.I.Iterator.next_gives in
+    let n = g.N.Unsigned.USIZE in
+    (fill, FillRuns-from_fill next items n built left fill, Asks-from_fill next items n built left fill)
 
 pub returns-in-None : goal.returns-in-None
 returns-in-None g c =
     let at = c.loop-items in
-    let few = not_all (length at.taken.items) at.taken.room g.N.Unsigned.USIZE c.room.result at.invariant.room
-    c.room.ensures c.loop-items-test.true in
-    let fill : Fills {E = LengthError} g.I.Iterator.next_gives c.args.items.now g.N.Unsigned.USIZE (Err (record {}))
-    c.next.new.self = (at.taken.items, None, (at.items, at.invariant.taken, c.in-None.ensures.steps), few) in
-    record {
-      fill = fill;
-      runs = FillRuns-from_fill {E = LengthError} g.I.Iterator.next_gives c.args.items.now g.N.Unsigned.USIZE
-          (Err (record {})) c.next.new.self fill;
-      asks = Asks-from_fill g.I.Iterator.next_gives {E = LengthError} c.args.items.now g.N.Unsigned.USIZE
-          (Err (record {})) c.next.new.self fill;
-      err = tt;
-      empty = λ none. refl;
-    }
+    let few = not_all _ _ _ _ at.invariant.room c.room.ensures c.loop-items-test.true in
+    let fill = told g c.args.items.now (Err (record {})) c.next.new.self
+    (at.taken.items, None, (at.items, at.invariant.taken, c.in-None.ensures.steps), few) in
+    record { fill = fill.0; runs = fill.1; asks = fill.2; err = tt; empty = λ none. refl }
 
 pub invariant_of-result : goal.invariant_of-result
 invariant_of-result g c =
-    let at = c.loop-items in
-    all_there (length at.taken.items) at.taken.room g.N.Unsigned.USIZE c.room.result at.invariant.room c.room.ensures
-    c.loop-items-test.false
+    all_there _ _ _ _ c.loop-items.invariant.room c.room.ensures c.loop-items-test.false
 
 pub returns-in-None-next : goal.returns-in-None-next
 returns-in-None-next g c =
     let at = c.loop-items in
-    let all = all_there (length at.taken.items) at.taken.room g.N.Unsigned.USIZE c.room.result at.invariant.room
-    c.room.ensures c.loop-items-test.false in
-    let fill : Fills {E = LengthError} g.I.Iterator.next_gives c.args.items.now g.N.Unsigned.USIZE
-    (Ok at.taken.items) c.next-2.new.self = (
-      at.taken.items,
-      None,
-      (at.items, at.invariant.taken, c.in-None-next.ensures.steps),
-      (refl, all, refl),
-    )
-    in
-    record {
-      fill = fill;
-      runs = FillRuns-from_fill {E = LengthError} g.I.Iterator.next_gives c.args.items.now g.N.Unsigned.USIZE
-          (Ok at.taken.items) c.next-2.new.self fill;
-      asks = Asks-from_fill g.I.Iterator.next_gives {E = LengthError} c.args.items.now g.N.Unsigned.USIZE
-          (Ok at.taken.items) c.next-2.new.self fill;
-      err = tt;
-      empty = λ none. refl;
-    }
+    let all = all_there _ _ _ _ at.invariant.room c.room.ensures c.loop-items-test.false in
+    let fill = told g c.args.items.now (Ok at.taken.items) c.next-2.new.self
+    (at.taken.items, None, (at.items, at.invariant.taken, c.in-None-next.ensures.steps), (refl, all, refl)) in
+    record { fill = fill.0; runs = fill.1; asks = fill.2; err = tt; empty = λ none. refl }
 
 pub returns-in-Some-next : goal.returns-in-Some-next
 returns-in-Some-next g c =
     let at = c.loop-items in
-    let all = all_there (length at.taken.items) at.taken.room g.N.Unsigned.USIZE c.room.result at.invariant.room
-    c.room.ensures c.loop-items-test.false in
-    let fill : Fills {E = LengthError} g.I.Iterator.next_gives c.args.items.now g.N.Unsigned.USIZE (Err (record {}))
-    c.next-2.new.self =
+    let all = all_there _ _ _ _ at.invariant.room c.room.ensures c.loop-items-test.false in
+    let fill = told g c.args.items.now (Err (record {})) c.next-2.new.self
     (at.taken.items, Some c.in-Some-next._surplus, (at.items, at.invariant.taken, c.in-Some-next.ensures.steps), all) in
-    record {
-      fill = fill;
-      runs = FillRuns-from_fill {E = LengthError} g.I.Iterator.next_gives c.args.items.now g.N.Unsigned.USIZE
-          (Err (record {})) c.next-2.new.self fill;
-      asks = Asks-from_fill g.I.Iterator.next_gives {E = LengthError} c.args.items.now g.N.Unsigned.USIZE
-          (Err (record {})) c.next-2.new.self fill;
-      err = tt;
-      empty = λ none. refl;
-    }
+    record { fill = fill.0; runs = fill.1; asks = fill.2; err = tt; empty = λ none. refl }

@@ -1,7 +1,6 @@
-use Rattle.ga_boxed.proofs.BlockBuildLemmas.{not_ok}
 use Rattle.ga_boxed.proofs.VecLemmas.{filled}
 use Rattle.ga_boxed.proofs.boxed_array.BoxedArray.try_from_vec.Goals as goal
-use Rattle.std.proofs.Common.{◌≢◌, ◌∙◌, length, refl, sym}
+use Rattle.std.proofs.Common.{◌≢◌, ◌∙◌, length, refl, sym, true≢false}
 use Rattle.std.proofs.lemmas.Result.{IfOk-weaker}
 use Rattle.std.specs.Vec.Iter.{into_iter_items, into_iter_steps}
 
@@ -9,7 +8,12 @@ pub returns-then-len-USIZE : goal.returns-then-len-USIZE
 returns-then-len-USIZE g c =
     let wrong : length c.args.items.items ≢ g.N.Unsigned.USIZE = λ long.
     c.if-len-USIZE.true (c.len.ensures ∙ (c.args.items.ok.0 ∙ (long ∙ sym c.USIZE.ensures))) in
-    record { variant = (not_ok, λ long. absurd (wrong long)); ok = tt; other = λ _. refl; empty = λ _. refl }
+    record {
+      variant = (λ ok. absurd (true≢false (sym ok)), λ long. absurd (wrong long));
+      ok = tt;
+      other = λ _. refl;
+      empty = λ _. refl;
+    }
 
 pub returns : goal.returns
 returns g c =

@@ -1,6 +1,6 @@
 use Rattle.ga_core.proofs.CutLemmas.{nth-step, passed-more}
 use Rattle.ga_boxed.proofs.boxed_array_iter.BoxedArrayIter.nth.Goals as goal
-use Rattle.ga_boxed.proofs.PassedLemmas.{first-came, passed_all}
+use Rattle.ga_boxed.proofs.BlockLemmas.{first-came, passed_all}
 use Rattle.std.proofs.Common.{length}
 
 pub loop-passed-init : goal.loop-passed-init

@@ -1,7 +1,7 @@
-use Rattle.ga_boxed.proofs.BlockMoveLemmas.{more_room, none_yet, one_more}
+use Rattle.ga_boxed.proofs.BlockLemmas.{long_more, more_room, none_yet, one_more}
 use Rattle.ga_boxed.proofs.boxed_array_iter.BoxedArrayIterClone.clone.Goals as goal
-use Rattle.std.proofs.Common.{[], ◌+◌, ◌∙◌, ap, length, refl, subst, sym}
-use Rattle.std.proofs.lemmas.List.{length_push, take_all}
+use Rattle.std.proofs.Common.{[], ◌∙◌, ap, length, refl, subst, sym}
+use Rattle.std.proofs.lemmas.List.{take_all}
 use Rattle.std.proofs.lemmas.List.Elements.{all_zip_more}
 use Rattle.std.specs.List.{AllZip}
 
@@ -16,26 +16,18 @@ loop-item-init g c =
     }
 
 pub put-requires : goal.put-requires
-put-requires g c =
-    let at = c.loop-item in
-    let items = length c.as_slice-item-items.result.now in
-    record {
-      room = more_room at.item-index at.clones.room items items at.invariant.room c.loop-item-test.true refl;
-    }
+put-requires g c = record { room = more_room _ _ _ _ c.loop-item.invariant.room c.loop-item-test.true refl }
 
 pub loop-item-preserved : goal.loop-item-preserved
 loop-item-preserved g c =
     let at = c.loop-item in
-    let made = at.clones.items in
-    let copy = c.in-Ok-clone.copy in
-    let items = c.as_slice-item-items.result.now in
     record {
-      long = ap length c.put.ensures.items ∙ (length_push made copy ∙ ap (λ k. k + 1) at.invariant.long);
-      room = one_more at.item-index at.clones.room c.put.new.self.room (length items) at.invariant.room
-          c.put.ensures.room;
+      long = long_more _ _ _ c.put.ensures.items _ at.invariant.long;
+      room = one_more _ _ _ _ at.invariant.room c.put.ensures.room;
       clones = rw c.put.ensures.items
-          (all_zip_more g.T.Clone.is_clone items made at.item-index c.item-item.result copy c.loop-item-test.true
-          c.item-item.is at.invariant.clones c.in-Ok-clone.ensures.cases);
+          (all_zip_more g.T.Clone.is_clone c.as_slice-item-items.result.now at.clones.items at.item-index
+          c.item-item.result c.in-Ok-clone.copy c.loop-item-test.true c.item-item.is at.invariant.clones
+          c.in-Ok-clone.ensures.cases);
     }
 
 pub returns : goal.returns

@@ -6,13 +6,12 @@ use Rattle.std.specs.List.{length_refill, refill}
 -- what is written back are as many items
 pub invariant_of-self-lent : goal.invariant_of-self-lent
 invariant_of-self-lent g c w =
-    let self = c.self.inside in
     let held = c.self.invariant in
-    let items = self.cells.items in
+    let items = c.self.inside.cells.items in
     record {
       at = held.at;
       passed = held.passed;
-      items = ap (λ n. self.start + n) (sym (length_refill (length items) items w refl)) ∙ held.items;
+      items = ap (λ n. c.self.inside.start + n) (sym (length_refill (length items) items w refl)) ∙ held.items;
       room = held.room;
       deed_at = held.deed_at;
       deed_len = held.deed_len;

@@ -1,5 +1,5 @@
-use Rattle.ga_boxed.proofs.BlockBuildLemmas.{none_fits}
-use Rattle.ga_boxed.proofs.BlockMoveLemmas.{none_yet}
+use Rattle.ga_boxed.proofs.BlockLemmas.{none_fits}
+use Rattle.ga_boxed.proofs.BlockLemmas.{none_yet}
 use Rattle.ga_boxed.proofs.live_block.LiveBlock.new.Goals as goal
 use Rattle.ga_boxed.specs.Live.{live}
 use Rattle.std.proofs.Common.{[], ◌∙◌, ap, length, refl}

@@ -1,12 +1,10 @@
-use Rattle.ga_boxed.proofs.BlockMoveLemmas.{count_more}
+use Rattle.ga_boxed.proofs.BlockLemmas.{bounds_apart, count_more}
 use Rattle.ga_boxed.proofs.live_block.LiveBlock.take_first.Goals as goal
-use Rattle.std.proofs.Common.{◌≡◌, ◌≢◌, ◌<◌, ◌+◌, ◌^◌, ◌∙◌, ℕ, List, [], ◌∷◌, ap, arith, length, refl, sym}
+use Rattle.std.proofs.Common.{ℕ, ◌+◌, ◌<◌, ◌^◌, ◌∙◌, ap, arith, length, sym}
 
 -- behind the first item no bound is passed
-first-passed : {T : Type 0} (start end : ℕ) (items : List T) → start + length items ≡ end → items ≢ []
-    → end < 2 ^ 64 → start + 1 < 2 ^ 64
-first-passed start end [] long some fits = absurd (some refl)
-first-passed start end (x ∷ items) long some fits = omega (arith, long)
+first-passed : (start end : ℕ) → start < end → end < 2 ^ 64 → start + 1 < 2 ^ 64
+first-passed start end apart fits = omega arith
 
 pub take_first-requires : goal.take_first-requires
 take_first-requires g c = record {
@@ -17,15 +15,13 @@ take_first-requires g c = record {
 
 pub invariant_of-self : goal.invariant_of-self
 invariant_of-self g c =
-    let self = c.self.inside in
     let held = c.self.invariant in
     let took = c.take_first.ensures in
     record {
       at = took.at ∙ held.at;
       passed = took.passed ∙ ap (λ k. k + 1) held.passed;
-      items = count_more self.start (length self.cells.items) (length c.take_first.new.self.items) self.end
-          (ap length took.items) held.items;
-      room = ap (λ k. self.end + k) took.room ∙ held.room;
+      items = count_more _ _ _ _ (ap length took.items) held.items;
+      room = ap (λ k. c.self.inside.end + k) took.room ∙ held.room;
       deed_at = held.deed_at;
       deed_len = held.deed_len;
       deed_alloc = held.deed_alloc;
@@ -41,8 +37,5 @@ returns g c =
 
 pub overflow_add-self : goal.overflow_add-self
 overflow_add-self g c =
-    let self = c.self.inside in
-    record {
-      fits = first-passed self.start self.end self.cells.items c.self.invariant.items
-          (λ none. c.requires.some (sym (ap (λ b. b.items) c.self.view_is) ∙ none)) c.self.ranges.1.1.1.0.1;
-    }
+    let apart = bounds_apart _ _ _ _ c.self.view_is c.self.invariant.items c.requires.some in
+    record { fits = first-passed _ _ apart c.self.ranges.1.1.1.0.1 }

@@ -1,54 +1,24 @@
 -- `allocate` owns the new block as room, or for no slots nothing, with the right to free it. Assumes `Logic`.
-use mathlib.Core.Path.{◌≡◌, refl, sym, ap}
-use mathlib.Core.Bool.{Bool, true, false}
-use Prim.Native.Nat.{ℕ, ◌*◌, ◌<◌, ◌^◌}
-use native.Mathlib.Omega.{arith}
-use mathlib.Core.List.{List, [], ◌∷◌}
-use lib.Dec.{eqb→eq, lit<}
-use seplogic.Ra.Ura.{Ura}
-use mir.Syntax.{Fn, Body, w64}
-use mir.MapTy.{inst_fn}
-use mir.Val.{Val, vptr, vint, vstruct, vcons, vnil}
-use base.Logic.{ent, sep}
-use base.Fml.{Incl-trans, flft}
-use prog.Memory.{align, capped}
-use prog.Capped.{capped_fits}
-use prog.Wp.{Env, Wp, after_seq, at_return}
-use types.Logic.{Logic, sem}
-use contract.BorrowLft.{◌⊑◌}
-use types.Kit.{Post as After, any_q, ⋆, ‵, raw, ◌⊛◌, later, await, at_ret, ◌$◌, ◌∵◌, !, qed, by, move, keep, use0, use1}
-use types.Kit.{use2, use3, split, rewrite, fsplit, fjoin}
+use Rattle.ga_boxed.proofs.Steps.{◌≡◌, refl, sym, ap, Bool, true, false, ℕ, ◌*◌, ◌<◌, ◌^◌, arith, List, [], ◌∷◌}
+use Rattle.ga_boxed.proofs.Steps.{eqb→eq, lit<, Ura, Fn, Body, w64, inst_fn, Val, vptr, vint, vstruct, vcons, vnil}
+use Rattle.ga_boxed.proofs.Steps.{ent, sep, Incl-trans, flft, align, capped, capped_fits, Env, Wp, after_seq}
+use Rattle.ga_boxed.proofs.Steps.{at_return, Logic, sem, ◌⊑◌, Post as After, any_q, ⋆, ‵, raw, ◌⊛◌, later, await}
+use Rattle.ga_boxed.proofs.Steps.{at_ret, ◌$◌, ◌∵◌, !, qed, by, move, keep, use0, use1, use2, use3, split, rewrite}
+use Rattle.ga_boxed.proofs.Steps.{fsplit, fjoin, whole, agg, addr, align_word, and_then, bin, branches, enter, exec}
+use Rattle.ga_boxed.proofs.Steps.{first, fld, from, lit, no_more, of_opd, returns, returns_within, size_word, skips}
+use Rattle.ga_boxed.proofs.Steps.{stop, switches_on, alloc_all, pass_all, free_all, look_at, get, get_in, get_tag}
+use Rattle.ga_boxed.proofs.Steps.{lands_as, sets, sets_last, is, env, yes, Is, RattleType, layout, Ptr, block_ptr}
+use Rattle.ga_boxed.proofs.Steps.{plain, nothing, owned, Struct, Struct-Makes, Tuple, calls_at, Triple, has_block}
+use Rattle.ga_boxed.proofs.Steps.{owns_if, Al, token, Answer-typed, takes_key, Takes, at_takes, Answered, Takes-goes}
+use Rattle.ga_boxed.proofs.Steps.{Takes-gives, answers, El, R, elτ, uncapped, uncapped_fits, T_true, Good, first_Good}
+use Rattle.ga_boxed.proofs.Steps.{is_not, word, word-Good, after, arm_body, head, cells_own, deed_owns}
 use types.Match.{live, vrt, in_variant}
-use types.Part.{whole, agg}
-use types.Run.{addr, align_word, and_then, bin, branches, enter, exec, first, fld, from, lit, no_more, of_opd, returns}
-use types.Run.{returns_within, size_word, skips, stop, switches_on}
-use types.ByLocal.{alloc_all, pass_all, free_all, look_at, get, get_in, get_tag, lands_as, sets, sets_last, is, env}
-use denote.Exit.{yes}
-use denote.Laws.{Is}
-use denote.RattleType.{RattleType}
-use denote.Param.{layout}
-use denote.RawPtr.{Ptr, block_ptr}
-use denote.Signature.{plain}
-use denote.Steps.{nothing, owned}
-use denote.Struct.Struct.{Struct, Struct-Makes}
 use denote.Struct.Declared as Declared
-use denote.Struct.Tuple.{Tuple}
-use denote.Triple.Call.{calls_at}
-use denote.Triple.Statement.{Triple}
 use Rattle.std.specs.Prelude.{Err, IfOk, IsOk, Ok}
-use Rattle.std.specs.Vec.Ownership.{has_block, owns_if}
 use Rattle.std.specs.contracts.result.Result as RS
 use Rattle.std.specs.contracts.alloc.AllocError as AE
-use Rattle.std.proofs.alloc.Calls.{Al, token, Answer-typed, takes_key, Takes, at_takes, Answered, Takes-goes}
-use Rattle.std.proofs.alloc.Calls.{Takes-gives, answers}
-use Rattle.std.proofs.mem.Param.{El, R, elτ}
 use Rattle.ga_boxed.proofs.WalkParts.{block_ty, block_size, block_align, args, P}
-use Rattle.ga_core.proofs.ItemLoan.{uncapped, uncapped_fits}
-use Rattle.std.proofs.Flags.{T_true}
-use Rattle.std.proofs.RcSteps.{Good, first_Good, is_not, word, word-Good}
 use Rattle.std.proofs.ResultValues.{ok_of, err_of}
-use Rattle.std.proofs.VecSteps.Shapes.{after, arm_body, head}
-use Rattle.ga_boxed.specs.CellsOwn.{cells_own, deed_owns}
 use Rattle.ga_boxed.specs.contracts.live_block.cells.allocate as F
 use Rattle.ga_boxed.specs.contracts.live_block.cells.allocate.Key.{name as #self}
 use Rattle.ga_boxed.proofs.CallWalk.{Call, Had, Walk, by_ref, meets, number, Linked, linked}

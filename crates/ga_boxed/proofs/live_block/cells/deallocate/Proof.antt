@@ -1,47 +1,17 @@
 -- `deallocate` makes the block of its empty slots, and hands it back with the allocator's token, or for no slots lets
 -- go of it. Assumes `Logic`.
-use mathlib.Core.Path.{◌≡◌, refl, sym, ap, subst, ◌∙◌}
-use mathlib.Core.Bool.{Bool}
-use Prim.Native.Nat.{ℕ, ◌*◌, ◌+◌, ◌<◌, ◌^◌}
-use native.Mathlib.Omega.{arith}
-use mathlib.Core.List.{List, [], ◌∷◌}
-use lib.Dec.{T}
-use seplogic.Ra.Ura.{Ura}
-use mir.Syntax.{Fn, ty_unit, w64}
-use mir.MapTy.{inst_fn}
-use mir.Val.{Val, WT, has_ty, vptr, vint, vunit}
-use base.Logic.{emp, ent, never, id⊢}
-use base.Fml.{Incl-trans, froom, flft}
-use prog.Memory.{align, capped}
-use prog.Capped.{capped_fits}
-use prog.Wp.{Env}
-use types.Logic.{Logic}
-use contract.BorrowLft.{◌⊑◌}
-use types.Kit.{⋆, ‵, raw, given, later, await, learn, at_ret, ◌$◌, ◌∵◌, !, qed, by, move, keep, use1}
-use types.Kit.{group, rewrite, fsplit, fsplit3, feq_i}
-use types.Part.{whole, sub}
-use types.Run.{align_word, and_then, bin, blocks, branches, enter, exec, first, fld, lit, no_more, of_opd, returns}
-use types.Run.{size_word, skips, stop, unit_lit}
-use types.ByLocal.{alloc_all, pass_all, free_all, look_at, get, get_in, lands_last, sets, is, env}
-use denote.Exit.{yes, no}
-use denote.RattleType.{RattleType}
-use denote.Laws.{Is}
-use denote.RawPtr.{Ptr, block_ptr, ptr_val, in_a_block}
-use denote.Builtin.{unit}
-use denote.Signature.{plain}
-use denote.Steps.{nothing}
-use denote.Triple.Call.{calls_at_last}
-use denote.Triple.Statement.{Triple}
-use denote.Triple.Walked.{Goes, stay_dropped}
-use Rattle.std.specs.Vec.Ownership.{has_block, owns_if}
-use Rattle.std.proofs.alloc.Calls.{Al, Goes-blank, token, gives_key, Gives, at_gives, Gives-goes, Gives-Gives}
-use Rattle.std.proofs.mem.Param.{El, R, elτ}
+use Rattle.ga_boxed.proofs.Steps.{◌≡◌, refl, sym, ap, subst, ◌∙◌, Bool, ℕ, ◌*◌, ◌+◌, ◌<◌, ◌^◌, arith, List, [], ◌∷◌, T}
+use Rattle.ga_boxed.proofs.Steps.{Ura, Fn, ty_unit, w64, inst_fn, Val, WT, has_ty, vptr, vint, vunit, emp, ent, never}
+use Rattle.ga_boxed.proofs.Steps.{id⊢, Incl-trans, froom, flft, align, capped, capped_fits, Env, Logic, ◌⊑◌, ⋆, ‵, raw}
+use Rattle.ga_boxed.proofs.Steps.{given, later, await, learn, at_ret, ◌$◌, ◌∵◌, !, qed, by, move, keep, use1, group}
+use Rattle.ga_boxed.proofs.Steps.{rewrite, fsplit, fsplit3, feq_i, whole, sub, align_word, and_then, bin, blocks}
+use Rattle.ga_boxed.proofs.Steps.{branches, enter, exec, first, fld, lit, no_more, of_opd, returns, size_word, skips}
+use Rattle.ga_boxed.proofs.Steps.{stop, unit_lit, alloc_all, pass_all, free_all, look_at, get, get_in, lands_last}
+use Rattle.ga_boxed.proofs.Steps.{sets, is, env, yes, no, RattleType, Is, Ptr, block_ptr, ptr_val, in_a_block, unit}
+use Rattle.ga_boxed.proofs.Steps.{plain, nothing, calls_at_last, Triple, Goes, stay_dropped, has_block, owns_if, Al}
+use Rattle.ga_boxed.proofs.Steps.{Goes-blank, token, gives_key, Gives, at_gives, Gives-goes, Gives-Gives, El, R, elτ}
+use Rattle.ga_boxed.proofs.Steps.{uncapped, uncapped_fits, T_true, word, word-Good, after, cells_own, deed_owns}
 use Rattle.ga_boxed.proofs.WalkParts.{block_ty, block_size, block_align, args, P}
-use Rattle.ga_core.proofs.ItemLoan.{uncapped, uncapped_fits}
-use Rattle.std.proofs.Flags.{T_true}
-use Rattle.std.proofs.RcSteps.{word, word-Good}
-use Rattle.std.proofs.VecSteps.Shapes.{after}
-use Rattle.ga_boxed.specs.CellsOwn.{cells_own, deed_owns}
 use Rattle.ga_boxed.specs.contracts.live_block.cells.deallocate as F
 use Rattle.ga_boxed.specs.contracts.live_block.cells.deallocate.Key.{name as #self}
 use Rattle.ga_boxed.proofs.CallWalk.{told_by, Behind, Call, Had, Walk, by_ref, meets, number, Linked, linked}

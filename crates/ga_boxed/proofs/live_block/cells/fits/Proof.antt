@@ -1,35 +1,14 @@
 -- `fits` says exactly whether the slots take fewer than 2 ^ 63 bytes, for every element type. Assumes `Logic`.
-use mathlib.Core.Bool.{Bool, true, not}
-use mathlib.Core.Logic.{◌↔◌}
-use mathlib.Core.Path.{◌≡◌, refl, sym, subst}
-use Prim.Native.Nat.{ℕ, zero, suc, ◌*◌, ◌/◌, ◌≤◌, ◌<◌, ◌^◌}
-use native.Mathlib.Nat.{zero-mul, mul-zero, div-le_self, le-div_iff_mul-le}
-use native.Mathlib.Omega.{arith}
-use mathlib.Core.List.{List, [], ◌∷◌}
-use lib.Dec.{T, eqb, leb, eqb→eq, leb→le, le→leb, lit<}
-use seplogic.Ra.Ura.{Ura}
-use mir.MapTy.{inst_fn}
-use mir.Syntax.{Fn, w64}
-use mir.Val.{Fits, Val, vbool, vint}
-use base.Logic.{ent, emp, guard_i, via}
-use prog.Capped.{capped_fits, capped_is, capped_small}
-use prog.Memory.{capped}
-use prog.Wp.{Env, Calls, Loops}
-use types.Logic.{Logic}
-use contract.Running.{tables}
-use types.Kit.{drop, flt_l, fsplit, at_ret, ◌$◌, ◌∵◌, !, qed, by, keep, feq_i}
-use types.Run.{lit, true_lit, of_opd, bin, first, skips, branches, exec, returns, returns_within, enter, size_word}
-use types.ByLocal.{alloc_all, pass_all, free_all, look_at, get, sets, env}
-use denote.Builtin.{bool, usize}
-use denote.Exit.{yes}
-use denote.Plain.{uint_vals, uint_Tells}
-use denote.Signature.{plain}
-use denote.Steps.{nothing}
-use denote.Triple.Walked.{stay_dropped, Goes-dropped}
-use Rattle.std.proofs.mem.Param.{El, args}
-use Rattle.std.proofs.ptr.Rows.{one_below}
-use Rattle.std.proofs.Flags.{T_true}
-use Rattle.std.proofs.VecSteps.Shapes.{after}
+use Rattle.ga_boxed.proofs.Steps.{Bool, true, not, ◌↔◌, ◌≡◌, refl, sym, subst, ℕ, zero, suc, ◌*◌, ◌/◌, ◌≤◌, ◌<◌, ◌^◌}
+use Rattle.ga_boxed.proofs.Steps.{mul-zero, div-le_self, le-div_iff_mul-le, arith, List, [], ◌∷◌, T, eqb, leb, eqb→eq}
+use Rattle.ga_boxed.proofs.Steps.{leb→le, le→leb, lit<, uncapped, Ura, inst_fn, Fn, w64, Fits, Val, vbool, vint, ent}
+use Rattle.ga_boxed.proofs.Steps.{emp, guard_i, via, capped_fits, capped_is, capped_small, capped, Env, Calls, Loops}
+use Rattle.ga_boxed.proofs.Steps.{Logic, tables, drop, flt_l, fsplit, at_ret, ◌$◌, ◌∵◌, !, qed, by, keep, feq_i, lit}
+use Rattle.ga_boxed.proofs.Steps.{true_lit, of_opd, bin, first, skips, branches, exec, returns, returns_within, enter}
+use Rattle.ga_boxed.proofs.Steps.{size_word, alloc_all, pass_all, free_all, look_at, get, sets, env, bool, usize, yes}
+use Rattle.ga_boxed.proofs.Steps.{uint_vals, uint_Tells, plain, nothing, stay_dropped, Goes-dropped, El, args}
+use Rattle.ga_boxed.proofs.Steps.{one_below, T_true, after}
+use Rattle.ga_boxed.proofs.BlockLemmas.{none_fits}
 use Rattle.ga_boxed.proofs.CallWalk.{Call, Had, Walk, meets_grown}
 use Rattle.ga_boxed.proofs.ClauseFacts.{facts, has_every}
 use Rattle.ga_boxed.proofs.WalkParts.{sz}
@@ -40,22 +19,16 @@ use Rattle.ga_boxed.specs.contracts.live_block.cells.fits.Key.{name as #self}
 abbrev most : ℕ
 most = 9223372036854775807
 
-no_bytes : (k : ℕ) → 0 * k < 2 ^ 63
-no_bytes k = subst (λ (j : ℕ). j < 2 ^ 63) (sym (zero-mul k)) (lit< tt)
-
--- a size and its cap, which differ only where a word can't hold the size, leave room for the same counts
-times_capped : (c k : ℕ) → (c * capped k < 2 ^ 63) ↔ (c * k < 2 ^ 63)
-times_capped zero k = (λ _. no_bytes k, λ _. no_bytes (capped k))
-times_capped (suc c) k =
-    let same : k < 2 ^ 63 → capped k ≡ k = λ small. capped_is k (omega arith) in (
-      λ h. subst (λ (j : ℕ). suc c * j < 2 ^ 63) (same
-          (capped_small k (one_below (suc c) (capped k) (2 ^ 63) (omega arith) h))) h,
-      λ h. subst (λ (j : ℕ). suc c * j < 2 ^ 63) (sym (same (one_below (suc c) k (2 ^ 63) (omega arith) h))) h,
-    )
+-- counts that the cap of a size leaves room for, the size does
+of_capped : (c k : ℕ) → c * capped k < 2 ^ 63 → c * k < 2 ^ 63
+of_capped zero k h = none_fits 0 k refl
+of_capped (suc c) k h =
+    let small : k < 2 ^ 63 = capped_small k (one_below (suc c) (capped k) (2 ^ 63) (omega arith) h) in
+    subst (λ (j : ℕ). suc c * j < 2 ^ 63) (capped_is k (omega arith)) h
 
 of_no_size : (c k : ℕ) → T (eqb (capped k) 0) → c * k < 2 ^ 63
-of_no_size c k t = (times_capped c k).0 (subst (λ (j : ℕ). c * j < 2 ^ 63) (sym (eqb→eq (capped k) 0 t))
-    (subst (λ (j : ℕ). j < 2 ^ 63) (sym (mul-zero c)) (lit< tt)))
+of_no_size c k t =
+    of_capped c k (subst (λ (j : ℕ). c * j < 2 ^ 63) (sym (eqb→eq (capped k) 0 t)) (omega (arith, mul-zero c)))
 
 some_size : (k : ℕ) → T (not (eqb k 0)) → 0 < k
 some_size zero t = absurd t
@@ -65,8 +38,8 @@ of_size : (c k : ℕ) → 0 < capped k → (leb c (most / capped k) ≡ true) �
 of_size c k some =
     let iff = le-div_iff_mul-le {k = capped k} {x = c} {y = most} some in (
       λ e. let low : c * capped k ≤ most = iff.0 (leb→le c (most / capped k) (subst T (sym e) tt)) in
-          (times_capped c k).0 (omega arith),
-      λ h. let low : c * capped k < 2 ^ 63 = (times_capped c k).1 h in
+          of_capped c k (omega arith),
+      λ h. let same : c * capped k ≡ c * k = uncapped c k (omega arith) in
           T_true _ (le→leb c (most / capped k) (iff.1 (omega arith))),
     )
 

@@ -1,17 +1,10 @@
 -- A `&` to the cells reaches each item. Assumes `Logic`.
+use Rattle.ga_boxed.proofs.Steps.{Incl-trans, meet_⊑_left, Laws, copy_shared, RattleType, RawPtr, field_copy, of_Lends}
+use Rattle.ga_boxed.proofs.Steps.{[], ◌++◌}
 use Rattle.std.specs.contracts.marker.PhantomData as marker
 use Rattle.ga_boxed.proofs.CellsSharing.{Lends-cells, cells_lent_laws}
 use Rattle.ga_boxed.proofs.live_block.cells.Cells.TheLaw.Statement.{statement}
 use Rattle.ga_boxed.specs.contracts.live_block.cells.Cells as C
-use base.Fml.{Incl-trans}
-use contract.BorrowLft.{meet_⊑_left}
-use denote.Param.Laws.{Laws}
-use denote.Param.Shared.{copy_shared}
-use denote.RattleType.{RattleType}
-use denote.RawPtr.{RawPtr}
-use denote.Struct.Laws.{field_copy}
-use denote.Struct.Lending.{of_Lends}
-use mathlib.Core.List.{[], ◌++◌}
 
 pub shares : (R : RattleType) (L : Laws R) → statement R L
 shares R L = of_Lends (C.struct R) (C.the_codes R.Denot R.coded (marker.the_row RawPtr).coded) (C.the_heap R)

@@ -1,43 +1,17 @@
 -- `put` fills the slot behind the items. Assumes `Logic`.
-use mathlib.Core.Path.{◌≡◌, refl, sym, ap, subst, ◌∙◌}
-use mathlib.Core.Logic.{◌≢◌}
-use Prim.Native.Nat.{ℕ, ◌+◌, ◌-◌, ◌*◌, ◌<◌, ◌^◌}
-use native.Mathlib.Omega.{arith}
-use mathlib.Core.List.{List, [], ◌∷◌, ◌++◌}
-use borrow.Table.OneValue.{part_in}
-use seplogic.Ra.Ura.{Ura}
-use base.Fraction.{full_share}
-use mir.Syntax.{Fn, w64}
-use mir.MapTy.{inst_fn}
-use mir.Val.{Val, vint, vunit}
-use base.Fml.{fat, froom}
-use prog.Wp.{Env, Calls, Loops}
-use types.Logic.{Logic}
-use contract.Running.{tables}
-use types.Kit.{‵, ◌⊛◌, at_ret, ◌$◌, ◌∵◌, !, qed, by, move, keep, use1, use2, split, rewrite, fsplit}
-use types.Kit.{feq_i}
-use types.Part.{whole, sub}
-use types.Run.{init, stop, fld, unit_lit, of_opd, assigns_last, first, blocks, exec, returns, enter}
-use types.ByLocal.{alloc_all, pass_all, free_all, look_at, get, get_in, through, sets, env}
-use denote.Memory.{part_at}
-use denote.Param.{layout}
-use denote.RawPtr.{Ptr}
-use denote.Ref.{mut_vals}
-use denote.Exit.{no}
-use denote.Builtin.{unit}
-use denote.Signature.{plain}
-use Rattle.std.proofs.VecSteps.Shapes.{after}
-use Rattle.std.proofs.RcSteps.{word, word-Good}
-use lib.ListN.{length, length-append}
-use types.Run.{bin, size_lit}
-use types.ByLocal.{take_at, give_at}
-use Rattle.std.proofs.mem.Param.{El, R, args, el_x, elτ}
-use Rattle.std.proofs.ptr.Rows.{times_below, one_below}
+use Rattle.ga_boxed.proofs.Steps.{◌≡◌, refl, sym, ap, subst, ◌∙◌, ℕ, ◌+◌, ◌-◌, ◌*◌, ◌<◌, ◌^◌, arith, List, [], ◌∷◌}
+use Rattle.ga_boxed.proofs.Steps.{◌++◌, part_in, Ura, full_share, Fn, w64, inst_fn, Val, vint, vunit, fat, froom, Env}
+use Rattle.ga_boxed.proofs.Steps.{Calls, Loops, Logic, tables, ‵, ◌⊛◌, at_ret, ◌$◌, ◌∵◌, !, qed, by, move, keep, use1}
+use Rattle.ga_boxed.proofs.Steps.{use2, split, rewrite, fsplit, feq_i, whole, sub, init, stop, fld, unit_lit, of_opd}
+use Rattle.ga_boxed.proofs.Steps.{assigns_last, first, blocks, exec, returns, enter, alloc_all, pass_all, free_all}
+use Rattle.ga_boxed.proofs.Steps.{look_at, get, get_in, through, sets, env, part_at, layout, Ptr, mut_vals, no, unit}
+use Rattle.ga_boxed.proofs.Steps.{plain, after, word, word-Good, length, length-append, bin, size_lit, take_at}
+use Rattle.ga_boxed.proofs.Steps.{give_at, El, R, args, el_x, elτ, times_below, one_below}
 use Rattle.ga_boxed.proofs.CallWalk.{Call, Had, Walk, an_item, number, meets_grown}
 use Rattle.ga_boxed.proofs.CellsWalk.{by_mut, closes_cells, opens_cells, the_base}
 use Rattle.ga_boxed.proofs.ClauseFacts.{facts, has_every}
 use Rattle.ga_boxed.proofs.WalkParts.{Cr, Bs, sz}
-use Rattle.ga_boxed.proofs.EndLemmas.{positive, Around, Held, room_out, item_in}
+use Rattle.ga_boxed.proofs.EndLemmas.{Around, Held, room_out, item_in}
 use Rattle.ga_boxed.specs.contracts.live_block.cells.Cells.put.Key.{name as #self}
 use Rattle.ga_boxed.proofs.live_block.cells.Cells.put.Statement as stated
 use Rattle.ga_boxed.proofs.live_block.cells.Cells.put.Code as code
@@ -48,7 +22,7 @@ module _ (E : El) where
 
   abbrev Gives : (Cr E).Denot → el_x E → (Cr E).Denot → List (Type 0)
   Gives d item new = (new.at ≡ d.at) ∷ (new.passed ≡ d.passed) ∷ (new.items ≡ d.items ++ item ∷ [])
-      ∷ (new.room ≡ d.room - 1) ∷ []
+      ∷ (new.room + 1 ≡ d.room) ∷ []
 
   abbrev call : Call 1
   call = record {
@@ -57,7 +31,7 @@ module _ (E : El) where
     behind = the_base E ∷ number no ∷ an_item E ∷ [];
     out = plain (λ _. unit);
     asks = λ κs x a. let d = x.now in
-        (a.0.ptr ≡ d.at) ∷ (a.1.0 ≡ d.passed + length d.items) ∷ (d.room ≢ 0) ∷ [];
+        (a.0.ptr ≡ d.at) ∷ (a.1.0 ≡ d.passed + length d.items) ∷ (0 < d.room) ∷ [];
     gives = λ M 𝓤 𝓛 κs x a r w. facts 𝓤 (Gives x.now a.1.1.0 w.now);
   }
 
@@ -66,20 +40,11 @@ module _ (E : El) {M : Type 1} {𝓤 : Ura M} (𝓛 : Logic 𝓤) (C : Calls �
 
   walk : Walk (call E) 𝓛 C Λ (function E)
   walk κs qs bounds x a w Post asked fine exits =
-      let base_is = asked.0 in let index_is = asked.1.0 in let not_none = asked.1.1 in let base = a.0 in
-      let index = a.1.0 in
-      let item = a.1.1.0 in let v_item = w.1.1.0 in let d = x.now in
-      let xs = d.items in let all = d.passed + length xs + d.room in let behind : index ≡ d.passed + length xs =
-      index_is in
-      let some : 0 < d.room = positive d.room not_none in
-      let new : (Cr E).Denot = record {
-        mark = d.mark;
-        at = d.at;
-        passed = d.passed;
-        items = xs ++ item ∷ [];
-        room =
-            d.room - 1;
-      } in
+      let base_is = asked.0 in let behind = asked.1.0 in let some = asked.1.1 in let base = a.0 in let index = a.1.0 in
+      let item = a.1.1.0 in let v_item = w.1.1.0 in let d = x.now in let xs = d.items in
+      let all = d.passed + length xs + d.room in
+      let new : (Cr E).Denot = record d { items = xs ++ item ∷ []; room = d.room - 1 } in
+      let fewer : d.room - 1 + 1 ≡ d.room = omega arith in
       let same : all ≡ d.passed + length new.items + new.room = omega (arith, length-append xs (item ∷ [])) in
       qed 𝓛 (Had (call E) 𝓛 κs qs x a w) ∵ move ! (2 ∷ []) $ fsplit ! $ move ! (1 ∷ []) $ fsplit ! $ move !
       (1 ∷ []) $ fsplit ! $ keep ! (4 ∷ 5 ∷ 0 ∷ []) $
@@ -96,7 +61,7 @@ module _ (E : El) {M : Type 1} {𝓤 : Ura M} (𝓛 : Logic 𝓤) (C : Calls �
       (tt, record { fits = far }) $
       sets ! (bin ! (get_in ! (fld ! refl (stop !)) (sub ! 0 refl (whole !))) (get ! refl) tt) refl (tt, tt) $
       use1 𝓛 (‵ (froom (elτ E) b ((d.passed + length xs) * s + o)) ⊛ ‵ (Around E 𝓛 b o d.passed xs new.room))
-      (room_out E 𝓛 b o d.passed xs d.room not_none) $ split ! $ rewrite ! 0
+      (room_out E 𝓛 b o d.passed xs d.room new.room fewer) $ split ! $ rewrite ! 0
       (λ (k : ℕ). ‵ (froom (elτ E) b k)) here refl $
       -- [the room; the other slots; the mark; its cell; the open borrow; obs; auth; what the item owns]
       sets ! (of_opd ! (get ! refl)) refl fine.1.1.0 $ assigns_last ! (of_opd ! (get ! refl)) (through ! refl (stop !))
@@ -108,7 +73,7 @@ module _ (E : El) {M : Type 1} {𝓤 : Ura M} (𝓛 : Logic 𝓤) (C : Calls �
       use2 𝓛 (‵ (Held E 𝓛 b o d.passed new.items new.room)) (item_in E 𝓛 b o d.passed xs item new.room) $
       closes_cells ! tt E κs qs x new vs b o e (subst (λ k. k * s < 2 ^ 63) same small) $
       returns ! (look_at ! 0 refl) $ free_all ! refl $ keep ! (0 ∷ 1 ∷ []) $
-      has_every ! (Gives E d item new) (refl, (refl, (refl, refl))) $
+      has_every ! (Gives E d item new) (refl, (refl, (refl, fewer))) $
       feq_i ! (List Val) (vunit ∷ []) (vunit ∷ []) refl $ move ! (2 ∷ 3 ∷ 0 ∷ 1 ∷ []) $
       by ! (exits vunit tt new (tt, (tt, (tt, tt))) tt)))
 

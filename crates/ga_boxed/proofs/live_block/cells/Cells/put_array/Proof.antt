@@ -1,43 +1,18 @@
 -- `put_array` writes an array over the room of as many slots. Assumes `Logic`.
-use mathlib.Core.Path.{◌≡◌, refl, ◌∙◌}
-use Prim.Native.Nat.{ℕ, ◌+◌, ◌*◌, ◌<◌, ◌^◌}
-use native.Mathlib.Omega.{arith}
-use mathlib.Core.List.{List, [], ◌∷◌, ◌++◌}
-use lib.ListN.{length}
-use seplogic.Ra.Ura.{Ura}
-use base.Fraction.{full_share}
-use mir.Syntax.{Ty, Fn, Args, ty_array, a_type, a_number}
-use mir.MapTy.{inst_fn}
-use mir.Val.{Val, vunit}
-use base.Logic.{via}
-use base.Fml.{fat}
-use prog.Memory.{size}
-use prog.Wp.{Env, Calls, Loops}
-use types.Logic.{Logic}
-use contract.Running.{tables}
-use types.Kit.{flt_i, flt_l, ‵, given, at_ret, ◌$◌, ◌∵◌, !, qed, by, move, keep, use1, use2, learn, rewrite}
-use types.Kit.{fsplit, fjoin, feq_i}
-use types.Part.{whole, sub}
-use types.Run.{init, stop, hop, from, fld, unit_lit, of_opd, assigns_last, first, blocks, exec, returns, enter}
-use types.ByLocal.{alloc_all, pass_all, free_all, look_at, look_in_at, get, sets, env, take_at, give_at}
-use denote.Array.{Array}
-use denote.Exit.{no, all_rest}
-use denote.RattleType.{RattleType}
-use denote.Memory.{part_at}
-use denote.Param.{ArrayAt, param, number, layout, layouts}
-use denote.Param.Laws.{Laws, param_laws, array_at_laws}
-use denote.RawPtr.{Ptr, block_ptr}
-use denote.Ref.{mut_vals}
-use denote.Builtin.{unit}
-use denote.Signature.{plain}
-use borrow.Table.OneValue.{part_in}
-use Rattle.std.proofs.RawLayout.{as_written}
-use Rattle.std.proofs.VecSteps.Shapes.{after}
-use Rattle.std.proofs.RcSteps.{Good, word, word-Good}
-use Rattle.std.proofs.mem.Param.{El, R, el_x, elτ}
-use Rattle.ga_boxed.specs.CellsOwn.{cells_own, empty}
-use Rattle.ga_boxed.proofs.BlockRoom.{to_block}
-use Rattle.ga_boxed.proofs.NativeLemmas.{all_items, nothing_left}
+use Rattle.ga_boxed.proofs.Steps.{◌≡◌, refl, ◌∙◌, ℕ, ◌+◌, ◌*◌, ◌<◌, ◌^◌, arith, List, [], ◌∷◌, ◌++◌, length, Ura}
+use Rattle.ga_boxed.proofs.Steps.{full_share, Ty, Fn, Args, ty_array, a_type, a_number, inst_fn, Val, vunit, via, fat}
+use Rattle.ga_boxed.proofs.Steps.{size, Env, Calls, Loops, Logic, tables, flt_i, flt_l, ‵, given, at_ret, ◌$◌, ◌∵◌, ! }
+use Rattle.ga_boxed.proofs.Steps.{qed, by, move, keep, use1, use2, learn, rewrite, fsplit, fjoin, feq_i, whole, sub}
+use Rattle.ga_boxed.proofs.Steps.{init, stop, hop, from, fld, unit_lit, of_opd, assigns_last, first, blocks, exec}
+use Rattle.ga_boxed.proofs.Steps.{returns, enter, alloc_all, pass_all, free_all, look_at, look_in_at, get, sets, env}
+use Rattle.ga_boxed.proofs.Steps.{take_at, give_at, Array, no, all_rest, RattleType, part_at, ArrayAt, param, number}
+use Rattle.ga_boxed.proofs.Steps.{layout, layouts, Laws, param_laws, array_at_laws, Ptr, block_ptr, mut_vals, unit}
+use Rattle.ga_boxed.proofs.Steps.{plain, part_in, as_written, after, Good, word, word-Good, El, R, el_x, elτ}
+use Rattle.ga_boxed.proofs.Steps.{cells_own, empty, subst, zero-mul, ent, ftrue, fsep, feq, sem, cells, use0, feq_l}
+use Rattle.ga_boxed.proofs.Steps.{done, Entries, all_last, mem, nothing}
+use Rattle.ga_boxed.proofs.BlockRoom.{no_room, to_block}
+use denote.ArrayMemory.{Array-apart}
+use denote.Index.{row, whole_in}
 use Rattle.ga_boxed.proofs.CallWalk.{Behind, Call, Had, Walk, meets_grown}
 use Rattle.ga_boxed.proofs.CellsWalk.{by_mut, closes_cells, opens_cells, the_base}
 use Rattle.ga_boxed.proofs.ClauseFacts.{facts, has_every}
@@ -45,6 +20,32 @@ use Rattle.ga_boxed.proofs.WalkParts.{Cr, Bs, sz, is_one}
 use Rattle.ga_boxed.specs.contracts.live_block.cells.Cells.put_array.Key.{name as #self}
 use Rattle.ga_boxed.proofs.live_block.cells.Cells.put_array.Statement as stated
 use Rattle.ga_boxed.proofs.live_block.cells.Cells.put_array.Code as code
+
+module _ {M : Type 1} {𝓤 : Ura M} (𝓛 : Logic 𝓤) where
+  -- an array that was passed leaves nothing behind
+  nothing_left : {X : Type 0} (xs : List X) (fs : Entries (λ _. Unit {0}) xs)
+      → ent 𝓤 (sem 𝓛 ftrue) (sem 𝓛 (all_last (λ _. Unit {0}) (λ _ _. ftrue) xs fs))
+  nothing_left [] fs = qed 𝓛 (‵ ftrue ∷ []) ∵ done !
+  nothing_left (x ∷ xs) fs = qed 𝓛 (‵ ftrue ∷ []) ∵ use1 𝓛 (‵ (all_last (λ _. Unit {0}) (λ _ _. ftrue) xs fs.1))
+      (nothing_left xs fs.1) $ nothing ! $ fjoin ! $ done !
+
+  module _ (E : El) (b o : ℕ) where
+    abbrev s : ℕ
+    s = sz E
+
+    -- an array is the items of cells that have no other slot
+    all_items : (n : ℕ) (xs : List (el_x E)) → n * s < 2 ^ 63
+        → ent 𝓤 (sem 𝓛 (part_at (Array (R E) n) full_share xs b o)) (sem 𝓛 (cells_own (R E) (block_ptr b o) 0 xs 0))
+    all_items n xs small =
+        qed 𝓛 (‵ (part_at (Array (R E) n) full_share xs b o) ∷ []) ∵
+        use1 𝓛 (‵ (fsep (feq ℕ (length xs) n) (row (R E) full_share xs b o)))
+        (Array-apart 𝓛 (R E) full_share tt n xs b o) $ fsplit ! $ feq_l ! (λ long.
+        use1 𝓛 (‵ (cells (mem (R E)) xs b o)) (whole_in 𝓛 (R E) xs b o) $
+        rewrite ! 0 (λ (k : ℕ). ‵ (cells (mem (R E)) xs b k)) {x = 0 * s + o} (omega (arith, zero-mul s)) refl $
+        use0 𝓛 (‵ (empty (R E) b ((0 + length xs) * s + o) 0)) (no_room E 𝓛 b o ((0 + length xs) * s + o)) $
+        use0 𝓛 (‵ (empty (R E) b o 0)) (no_room E 𝓛 b o o) $ fjoin ! $ move ! (1 ∷ 0 ∷ []) $ fjoin ! $
+        flt_i ! ((0 + length xs + 0) * s) (2 ^ 63) (let all : n ≡ 0 + length xs + 0 = omega arith in
+        subst (λ k. k * s < 2 ^ 63) all small) $ fjoin ! $ done !)
 
 module _ (E : El) (n : ℕ) where
   abbrev args : Args

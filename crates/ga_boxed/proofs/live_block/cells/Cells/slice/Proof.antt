@@ -1,30 +1,10 @@
 -- `slice` shows the items that the cells lend. Assumes `Logic`.
-use mathlib.Core.Path.{◌≡◌, refl, sym, ap, ◌∙◌}
-use Prim.Native.Nat.{ℕ, ◌+◌, ◌*◌, ◌≤◌, ◌<◌, ◌^◌}
-use native.Mathlib.Omega.{arith}
-use mathlib.Core.List.{List, [], ◌∷◌}
-use seplogic.Ra.Ura.{Ura}
-use mir.Syntax.{Fn, imm}
-use mir.MapTy.{inst_fn}
-use mir.Val.{Val}
-use base.Logic.{never, id⊢}
-use prog.Wp.{Calls, Loops}
-use types.Logic.{Logic}
-use contract.Running.{tables}
-use contract.Lifetimes.{toks}
-use types.Kit.{raw, group, ‵, ◌⊛◌, ◌$◌, ◌∵◌, !, qed, by, move, keep, drop, split, rewrite, fsplit, fjoin, feq_i}
-use types.Kit.{flt_l, flt_i}
-use denote.RawPtr.{in_a_block}
-use denote.Ref.{Bor, shr_vals}
-use denote.Slice.{slice_val, elements_shared}
-use denote.Builtin.{SliceRefOf}
-use denote.Signature.{plain}
+use Rattle.ga_boxed.proofs.Steps.{◌≡◌, refl, sym, ap, ◌∙◌, ℕ, ◌+◌, ◌*◌, ◌≤◌, ◌<◌, ◌^◌, arith, List, [], ◌∷◌, Ura, Fn}
+use Rattle.ga_boxed.proofs.Steps.{imm, inst_fn, Val, never, id⊢, Calls, Loops, Logic, tables, toks, raw, group, ‵, ◌⊛◌}
+use Rattle.ga_boxed.proofs.Steps.{◌$◌, ◌∵◌, !, qed, by, move, keep, drop, split, rewrite, fsplit, fjoin, feq_i, flt_l}
+use Rattle.ga_boxed.proofs.Steps.{flt_i, in_a_block, Bor, shr_vals, slice_val, elements_shared, SliceRefOf, plain}
+use Rattle.ga_boxed.proofs.Steps.{nothing, length, El, R, args, el_x, times_below, cells_lent}
 use denote.Opens.{hide, unhide}
-use denote.Steps.{nothing}
-use lib.ListN.{length}
-use Rattle.std.proofs.mem.Param.{El, R, args, el_x}
-use Rattle.std.proofs.ptr.Rows.{times_below}
-use Rattle.ga_boxed.specs.CellsOwn.{cells_lent}
 use Rattle.ga_boxed.specs.contracts.live_block.cells.Cells.slice.Key.{name as #self}
 use Rattle.ga_boxed.proofs.CallWalk.{Call, Had, Walk, by_ref, meets_grown}
 use Rattle.ga_boxed.proofs.ClauseFacts.{facts, has_every}

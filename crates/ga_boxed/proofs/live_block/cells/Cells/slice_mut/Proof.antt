@@ -1,39 +1,18 @@
 -- `slice_mut` lends the items, and the cells follow them. Assumes `Logic`.
-use mathlib.Core.Path.{◌≡◌, refl, sym, ap, subst, ◌∙◌}
-use Prim.Native.Nat.{ℕ, ◌+◌, ◌*◌, ◌≤◌, ◌<◌, ◌^◌}
-use native.Mathlib.Omega.{arith}
-use mathlib.Core.List.{List, [], ◌∷◌}
-use seplogic.Ra.Ura.{Ura}
-use base.Fraction.{full_share}
-use mir.Syntax.{Fn, named, mut}
-use mir.MapTy.{inst_fn}
-use mir.Val.{Val}
-use base.Logic.{ent, sep, id⊢}
-use base.Fml.{GName, Fml, fsep, flft}
-use prog.Wp.{Calls, Loops}
-use types.Logic.{Logic, sem}
-use contract.Running.{tables}
-use contract.Lifetimes.{toks}
-use types.Kit.{raw, split3, ‵, ◌⊛◌, some, later, await, pick, ◌$◌, ◌∵◌, !, qed, by, move, keep, use1, split, join}
-use types.Kit.{raw, group, rewrite, fsplit, fsplit3, fjoin, fjoin3, fpack, flt_i, done}
-use types.SemTy.{cells}
-use denote.Array.{Array}
+use Rattle.ga_boxed.proofs.Steps.{◌≡◌, refl, sym, ap, subst, ◌∙◌, ℕ, ◌+◌, ◌*◌, ◌≤◌, ◌<◌, ◌^◌, arith, List, [], ◌∷◌}
+use Rattle.ga_boxed.proofs.Steps.{Ura, full_share, Fn, named, mut, inst_fn, Val, ent, sep, id⊢, GName, Fml, fsep, flft}
+use Rattle.ga_boxed.proofs.Steps.{Calls, Loops, Logic, sem, tables, toks, raw, split3, ‵, ◌⊛◌, some, later, await}
+use Rattle.ga_boxed.proofs.Steps.{pick, ◌$◌, ◌∵◌, !, qed, by, move, keep, use1, split, join, group, rewrite, fsplit}
+use Rattle.ga_boxed.proofs.Steps.{fsplit3, fjoin, fjoin3, fpack, flt_i, done, cells, Array, mem, cell_at, Ptr}
+use Rattle.ga_boxed.proofs.Steps.{block_ptr, MutBor, MutRef, mut_vals, MutSlice, slice_val, SliceRefMutOf, plain}
+use Rattle.ga_boxed.proofs.Steps.{nothing, length, El, R, args, el_x, times_below, cells_own, empty}
 use denote.Follow.{follows}
 use denote.FollowSlice.{Elements, lends_Elements}
-use denote.Memory.{mem, cell_at, part_of}
-use denote.RawPtr.{Ptr, block_ptr}
-use denote.Ref.{MutBor, MutRef, mut_vals}
-use denote.Slice.{MutSlice, slice_val}
-use denote.Builtin.{SliceRefMutOf}
-use denote.Signature.{plain}
-use denote.Steps.{nothing}
-use lib.ListN.{length, drop as drop_l}
+use denote.Memory.{part_of}
+use lib.ListN.{drop as drop_l}
 use lib.Seq.{take_at as take_front}
 use Rattle.std.specs.List.{refill}
-use Rattle.std.proofs.mem.Param.{El, R, args, el_x}
-use Rattle.std.proofs.ptr.Rows.{times_below}
 use Rattle.ga_boxed.specs.CellsLend.{with_items}
-use Rattle.ga_boxed.specs.CellsOwn.{cells_own, empty}
 use Rattle.ga_boxed.specs.contracts.live_block.cells.Cells.slice_mut.Key.{name as #self}
 use Rattle.ga_boxed.proofs.CallWalk.{Call, Had, Walk, meets_grown}
 use Rattle.ga_boxed.proofs.CellsWalk.{opens_cells, spent, tokens}

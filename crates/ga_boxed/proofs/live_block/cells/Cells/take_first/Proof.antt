@@ -1,26 +1,12 @@
 -- `take_first` moves the first item out, and its slot is one more that is passed. Assumes `Logic`.
-use mathlib.Core.Logic.{◌≢◌}
-use mathlib.Core.Path.{◌≡◌, refl, sym, ap}
-use Prim.Native.Nat.{ℕ, suc, ◌+◌, ◌*◌}
-use native.Mathlib.Omega.{arith}
-use mathlib.Core.List.{List, [], ◌∷◌}
-use lib.ListN.{length}
-use seplogic.Ra.Ura.{Ura}
-use base.Fml.{Fml, froom, fsep}
-use mir.MapTy.{inst_fn}
-use types.Logic.{Logic}
-use types.Kit.{‵, ◌$◌, ◌∵◌, !, qed, move, use2, rewrite, fsplit, fsplit3, fjoin, done}
-use types.SemTy.{cells}
-use denote.Memory.{mem, part_at}
-use base.Fraction.{full_share}
-use Rattle.std.proofs.mem.Param.{El, R, args, el_x, elτ}
-use Rattle.ga_boxed.proofs.EndLemmas.{Held}
-use Rattle.ga_boxed.proofs.FrontLemmas.{uncons, place_after, empty_snoc}
+use Rattle.ga_boxed.proofs.Steps.{◌≢◌, ◌≡◌, refl, sym, ap, ℕ, suc, ◌+◌, ◌*◌, arith, List, [], ◌∷◌, length, Ura, Fml}
+use Rattle.ga_boxed.proofs.Steps.{froom, fsep, inst_fn, Logic, ‵, ◌$◌, ◌∵◌, !, qed, move, use2, rewrite, fsplit}
+use Rattle.ga_boxed.proofs.Steps.{fsplit3, fjoin, done, cells, mem, part_at, full_share, El, R, args, el_x, elτ, empty}
+use Rattle.ga_boxed.proofs.EndLemmas.{Held, empty_snoc, place_after, split_first}
 use Rattle.ga_boxed.proofs.TakeWalk.{Giving, Placing, Taken, meets_taking}
 use Rattle.ga_boxed.proofs.WalkParts.{Cr, sz}
 use Rattle.ga_boxed.proofs.live_block.cells.Cells.take_first.Code as code
 use Rattle.ga_boxed.proofs.live_block.cells.Cells.take_first.Statement as stated
-use Rattle.ga_boxed.specs.CellsOwn.{empty}
 use Rattle.ga_boxed.specs.contracts.live_block.cells.Cells.take_first.Key.{name as #self}
 
 module _ (E : El) where
@@ -33,7 +19,7 @@ module _ (E : El) where
   taken : {M : Type 1} {𝓤 : Ura M} (𝓛 : Logic 𝓤) (d : (Cr E).Denot) (index : ℕ) → Stands d index → d.items ≢ []
       → Taken E 𝓛 Gives d index
   taken 𝓛 d index stands some =
-      let s = sz E in let m = d.passed in let n = d.room in let cut = uncons d.items some in
+      let s = sz E in let m = d.passed in let n = d.room in let cut = split_first d.items some in
       let x = cut.0 in let xs = cut.1.0 in
       let others : ℕ → ℕ → Fml = λ b o. fsep (cells (mem (R E)) xs b (m * s + o + s))
       (fsep (empty (R E) b o m) (empty (R E) b ((m + suc (length xs)) * s + o) n)) in

@@ -1,18 +1,7 @@
 -- `take_last` moves the last item out, and its slot is room. Assumes `Logic`.
-use mathlib.Core.Logic.{◌≢◌}
-use mathlib.Core.Path.{◌≡◌, refl, sym, ap}
-use Prim.Native.Nat.{ℕ, ◌+◌, ◌-◌, ◌*◌}
-use native.Mathlib.Omega.{arith}
-use mathlib.Core.List.{List, [], ◌∷◌, ◌++◌}
-use lib.ListN.{length, take}
-use seplogic.Ra.Ura.{Ura}
-use base.Fraction.{full_share}
-use base.Fml.{froom}
-use mir.MapTy.{inst_fn}
-use types.Logic.{Logic}
-use types.Kit.{‵, ◌⊛◌, ◌$◌, ◌∵◌, !, qed, use1, use2, split, rewrite, done}
-use denote.Memory.{part_at}
-use Rattle.std.proofs.mem.Param.{El, R, args, el_x, elτ}
+use Rattle.ga_boxed.proofs.Steps.{◌≢◌, ◌≡◌, refl, sym, ap, ℕ, ◌+◌, ◌*◌, arith, List, [], ◌∷◌, ◌++◌, length, Ura}
+use Rattle.ga_boxed.proofs.Steps.{full_share, froom, inst_fn, Logic, ‵, ◌⊛◌, ◌$◌, ◌∵◌, !, qed, use1, use2, split}
+use Rattle.ga_boxed.proofs.Steps.{rewrite, done, part_at, El, R, args, el_x, elτ, length-append, ◌∙◌}
 use Rattle.ga_boxed.proofs.EndLemmas.{split_last, Around, Held, room_in, item_out}
 use Rattle.ga_boxed.proofs.TakeWalk.{Giving, Placing, Taken, meets_taking}
 use Rattle.ga_boxed.proofs.WalkParts.{Cr, sz}
@@ -32,19 +21,20 @@ module _ (E : El) where
       → Taken E 𝓛 Gives d index
   taken 𝓛 d index stands some =
       let s = sz E in let m = d.passed in let xs = d.items in let n = d.room in let last = split_last xs some in
-      let x = last.0 in let ys = take (length xs - 1) xs in let less : length ys + 1 ≡ length xs = last.2 in
+      let x = last.0 in let ys = last.1.0 in let cut : xs ≡ ys ++ x ∷ [] = last.1.1 in
+      let less : length ys + 1 ≡ length xs = sym (ap length cut ∙ length-append ys (x ∷ [])) in
       let here : (o : ℕ) → (m + length ys) * s + o ≡ index * s + o = λ o.
       let behind : m + length ys ≡ index = omega (arith, stands, less) in ap (λ k. k * s + o) behind in
       record {
         item = x;
         new = record { mark = d.mark; at = d.at; passed = m; items = ys; room = n + 1 };
-        given = (refl, (refl, (last.1, refl)));
+        given = (refl, (refl, (cut, refl)));
         at = refl;
         within = omega arith;
         all = omega arith;
         Others = λ b o. Around E 𝓛 b o m ys n;
         out = λ b o. qed 𝓛 (‵ (Held E 𝓛 b o m xs n) ∷ []) ∵
-            rewrite ! 0 (λ (l : List (el_x E)). ‵ (Held E 𝓛 b o m l n)) last.1 refl $
+            rewrite ! 0 (λ (l : List (el_x E)). ‵ (Held E 𝓛 b o m l n)) cut refl $
             use1 𝓛 (‵ (part_at (R E) full_share x b ((m + length ys) * s + o)) ⊛ ‵ (Around E 𝓛 b o m ys n))
             (item_out E 𝓛 b o m ys x n) $ split ! $ rewrite ! 0
             (λ (k : ℕ). ‵ (part_at (R E) full_share x b k)) (here o) refl $ done !;

@@ -1,15 +1,9 @@
 -- A `&` to a deed holds nothing. Assumes `Logic`.
+use Rattle.ga_boxed.proofs.Steps.{Ghosts, Laws, copy_shared, RattleType, RawPtr, nothing_shr_laws, field_copy}
+use Rattle.ga_boxed.proofs.Steps.{Lends-nothing, of_Lends}
 use Rattle.std.specs.contracts.marker.PhantomData as marker
-use Rattle.std.specs.declared.alloc.Allocator.{Ghosts}
 use Rattle.ga_boxed.proofs.live_block.cells.Deed.TheLaw.Statement.{statement}
 use Rattle.ga_boxed.specs.contracts.live_block.cells.Deed as C
-use denote.Param.Laws.{Laws}
-use denote.Param.Shared.{copy_shared}
-use denote.RattleType.{RattleType}
-use denote.RawPtr.{RawPtr}
-use denote.SharingLaws.{nothing_shr_laws}
-use denote.Struct.Laws.{field_copy}
-use denote.Struct.Lending.{Lends-nothing, of_Lends}
 
 pub shares : (K A : RattleType) (g : Ghosts A.Denot) (L : Laws K) (P : Laws A) → statement K A g L P
 shares K A g L P =

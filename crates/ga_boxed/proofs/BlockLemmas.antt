@@ -1,0 +1,120 @@
+-- What a loop that puts items into a block, takes them out of one or passes over them knows of their count and of the
+-- items.
+use Rattle.ga_boxed.specs.Live.{Live}
+use Rattle.ga_core.proofs.CutLemmas.{taken-more}
+use Rattle.std.proofs.Common.{◌≡◌, ◌≢◌, ℕ, suc, ◌+◌, ◌*◌, ◌^◌, ◌<◌, ◌≤◌, List, [], ◌∷◌, ◌++◌, length, ap, sym, ◌∙◌}
+use Rattle.std.proofs.Common.{arith, MatchOption, None, Option, Some, min, pos_of_ne-zero, subst, zero-mul}
+use Rattle.std.proofs.lemmas.List.{append-nil, length_push, nil_from_length}
+use Rattle.std.specs.Iterator.{YieldsFirst, YieldsLast}
+
+-- none of any size fit
+pub none_fits : (n size : ℕ) → n ≡ 0 → n * size < 2 ^ 63
+none_fits n size none = subst (λ k. k * size < 2 ^ 63) (sym none) (omega (arith, zero-mul size))
+
+-- at the start, the room is for all
+pub none_yet : (n : ℕ) → 0 + n ≡ n
+none_yet n = omega arith
+
+-- one more was counted, and one fewer is left
+pub count_more : (count left others all : ℕ) → left ≡ suc others → count + left ≡ all → count + 1 + others ≡ all
+count_more count left others all some so_far = omega arith
+
+-- one fewer is less
+pub less_room : (less room : ℕ) → less + 1 ≡ room → less < room
+less_room less room step = omega arith
+
+module _ (i k n end : ℕ) where
+  -- before the end there is room for one more
+  pub more_room : i + k ≡ n → i < end → end ≡ n → 0 < k
+  more_room so_far below all = omega arith
+
+  -- at the end there is none
+  pub none_left : i + k ≡ n → end ≤ i → end ≡ n → k ≡ 0
+  none_left so_far past all = omega arith
+
+-- the count has come to the end
+pub all_counted : (i n end : ℕ) → end ≤ i → i ≤ end → end ≡ n → i ≡ n
+all_counted i n end past within all = omega arith
+
+-- one more is there, and room for one fewer
+pub one_more : (i k j n : ℕ) → i + k ≡ n → j + 1 ≡ k → i + 1 + j ≡ n
+one_more i k j n so_far fewer = omega arith
+
+-- as many were passed over as are to be, or all
+pub passed_all : (k n len end count : ℕ) → end ≤ k → k ≤ end → end ≡ min n len → len ≡ count → k ≡ min n count
+passed_all k n len end count past within least all = omega arith
+
+module _ (made room all left : ℕ) where
+  -- where there is room, not all are there
+  pub not_all : made + room ≡ all → left ≡ room → 0 < left → made < all
+  not_all fits same some = omega arith
+
+  -- where there is none, all are there
+  pub all_there : made + room ≡ all → left ≡ room → left ≤ 0 → made ≡ all
+  all_there fits same none = omega arith
+
+module _ {T : Type 0} (before after : List T) (item : T) (grows : after ≡ before ++ item ∷ []) where
+  -- one more is there
+  pub long_more : (n : ℕ) → length before ≡ n → length after ≡ n + 1
+  long_more n long = ap length grows ∙ (length_push before item ∙ ap (λ k. k + 1) long)
+
+  pub end_more : (start end : ℕ) → start + length before ≡ end → start + length after ≡ end + 1
+  end_more start end long = omega (arith, long, ap length grows ∙ length_push before item)
+
+  -- and room for one fewer
+  pub filled_more : (room less all : ℕ) → less + 1 ≡ room → length before + room ≡ all → length after + less ≡ all
+  filled_more room less all fewer fits = omega (arith, fewer, fits, ap length grows ∙ length_push before item)
+
+-- the block between its bounds, and as it is seen
+module _ {T : Type 0} (start end : ℕ) (block now : Live T) (seen : block ≡ now)
+    (long : start + length block.items ≡ end) where
+  -- where the bounds meet, no item is held, and only there
+  pub none_held : start ≡ end → now.items ≡ []
+  none_held meet = nil_from_length now.items (omega (arith, long, meet, ap (λ b. length b.items) seen))
+
+  pub some_held : start ≢ end → now.items ≢ []
+  some_held apart none = apart (omega (arith, long, ap (λ b. length b.items) seen, ap length none))
+
+  pub bounds_apart : now.items ≢ [] → start < end
+  bounds_apart some =
+      let held : 0 < length now.items = pos_of_ne-zero (λ none. some (nil_from_length now.items none)) in
+      omega (arith, long, held, ap (λ b. length b.items) seen)
+
+module _ {T : Type 0} where
+  -- before the end some are left
+  pub some_left : (i n end : ℕ) (left : List T) → i + length left ≡ n → i < end → end ≡ n → left ≢ []
+  some_left i n end left so_far below all none = omega (arith, ap length none)
+
+  -- one fewer is left, from either end
+  pub one_gone : (left : List T) (item : T) (others : List T) → left ≡ item ∷ others → length others < length left
+  one_gone left item others step = omega (arith, ap length step)
+
+  pub one_gone-back : (left : List T) (item : T) (others : List T) → left ≡ others ++ item ∷ []
+      → length others < length left
+  one_gone-back left item others step = omega (arith, ap length step ∙ length_push others item)
+
+  -- where none is left, all were moved
+  pub all_moved : (moved left all : List T) → moved ++ left ≡ all → length left ≡ 0 → moved ≡ all
+  all_moved moved left all so_far none =
+      sym (append-nil moved) ∙ (ap (λ l. moved ++ l) (sym (nil_from_length left none)) ∙ so_far)
+
+  -- one more was moved
+  pub moved_more : (before after left others all : List T) (item : T) → after ≡ before ++ item ∷ []
+      → before ++ left ≡ all → left ≡ item ∷ others → after ++ others ≡ all
+  moved_more before after left others all item grows so_far step =
+      ap (λ l. l ++ others) grows ∙ sym (taken-more all before left item others (sym so_far) step)
+
+module _ {X : Type 0} (before after : Live X) where
+  -- the first item was taken, or there is none
+  pub first-came : (item : Option X) → MatchOption item ((before.items ≡ []) × (after ≡ before))
+      (λ item. (before.items ≡ item ∷ after.items) × (after.room ≡ before.room))
+      → YieldsFirst (λ left. left) before.items item after.items
+  first-came None (none, same) = (none, ap (λ block. block.items) same ∙ none)
+  first-came (Some item) (here, _) = here
+
+  -- the last item was taken, or there is none
+  pub last-came : (item : Option X) → MatchOption item ((before.items ≡ []) × (after ≡ before))
+      (λ item. (before.items ≡ after.items ++ item ∷ []) × (after.room ≡ before.room + 1))
+      → YieldsLast (λ left. left) before.items item after.items
+  last-came None (none, same) = (none, ap (λ block. block.items) same ∙ none)
+  last-came (Some item) (here, _) = here
