@@ -75,9 +75,14 @@ module _ {S I T F A B : Type 0} {can : S → Type 0} {steps : S → Option I →
         record {
           may = may;
           ends = ends;
-          callable = (asked.0, given.0, given.2, λ passed x others reached c whole run.
-              asked.3 (asked.0 item ∷ passed) x others reached c (given.1 ∙ ap (λ l. asked.0 item ∷ l) whole)
-              ((g, b), (item, refl, call), run));
+          callable = (
+            asked.0,
+            given.0,
+            given.2,
+            λ passed x others reached c whole run.
+                asked.3 (asked.0 item ∷ passed) x others reached c (given.1 ∙ ap (λ l. asked.0 item ∷ l) whole)
+                ((g, b), (item, refl, call), run),
+          );
           joins = λ entry values gives.
               let so_far = loop.joins entry values gives in
               let left = next_given steps entry s so_far.0 item t so_far.1 next in

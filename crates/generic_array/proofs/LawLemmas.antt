@@ -62,15 +62,15 @@ module _ {F X Y E : Type 0} (step : F → X → Result Y E → F → Type 0) whe
     λ run. elim run [
       | inl call ↦ inl (inl call)
       | inr more ↦ elim ((FirstErrorRun-joined_error more.1 xs ys error last).0 more.3) [
-          | inl here ↦ inl (inr (more.0, more.1, more.2, here))
-          | inr later ↦ inr (more.0 ∷ later.0, later.1, (more.1, more.2, later.2), later.3)
-        ]
+        | inl here ↦ inl (inr (more.0, more.1, more.2, here))
+        | inr later ↦ inr (more.0 ∷ later.0, later.1, (more.1, more.2, later.2), later.3)
+      ]
     ],
     λ parts. elim parts [
       | inl here ↦ elim here [
-          | inl call ↦ inl call
-          | inr more ↦ inr (more.0, more.1, more.2, (FirstErrorRun-joined_error more.1 xs ys error last).1 (inl more.3))
-        ]
+        | inl call ↦ inl call
+        | inr more ↦ inr (more.0, more.1, more.2, (FirstErrorRun-joined_error more.1 xs ys error last).1 (inl more.3))
+      ]
       | inr later ↦ error-behind f (x ∷ xs) ys later.0 later.1 error last later.2 later.3
     ],
   )
@@ -109,19 +109,20 @@ module _ {F A X E : Type 0} (step : F → A → X → Result A E → F → Type 
     λ run. elim run [
       | inl call ↦ inl (inl call)
       | inr more ↦ elim ((TryFoldRun-joined_error more.1 more.0 xs ys error last).0 more.3) [
-          | inl here ↦ inl (inr (more.0, more.1, more.2, here))
-          | inr later ↦ inr (later.0, later.1, (more.0, more.1, more.2, later.2), later.3)
-        ]
+        | inl here ↦ inl (inr (more.0, more.1, more.2, here))
+        | inr later ↦ inr (later.0, later.1, (more.0, more.1, more.2, later.2), later.3)
+      ]
     ],
     λ parts. elim parts [
       | inl here ↦ elim here [
-          | inl call ↦ inl call
-          | inr more ↦ inr (more.0, more.1, more.2,
-              (TryFoldRun-joined_error more.1 more.0 xs ys error last).1 (inl more.3))
-        ]
+        | inl call ↦ inl call
+        | inr more ↦
+            let whole = (TryFoldRun-joined_error more.1 more.0 xs ys error last).1 (inl more.3) in
+            inr (more.0, more.1, more.2, whole)
+      ]
       | inr later ↦
           let run = later.2 in
-          inr (run.0, run.1, run.2,
-          (TryFoldRun-joined_error run.1 run.0 xs ys error last).1 (inr (later.0, later.1, run.3, later.3)))
+          let whole = (TryFoldRun-joined_error run.1 run.0 xs ys error last).1 (inr (later.0, later.1, run.3, later.3)) in
+          inr (run.0, run.1, run.2, whole)
     ],
   )

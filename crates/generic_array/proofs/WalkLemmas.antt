@@ -86,8 +86,8 @@ module _ {S I T C F K Y E : Type 0} (steps : S → Option I → S → Type 0) (c
   walk-answer (Err error) (x ∷ values) c (k ∷ ks) d gives (inr more) all =
       let read = reads c k (Ok more.0) more.1 more.2 in
       let here = gives.1 read.0.0 (it more.1) read.0.1 in
-      inr (more.0, fn more.1, (read.0.0, here.0, read.0.2),
-      walk-answer (Err error) values more.1 ks d here.1 more.3 (omega (arith, all)))
+      let then = walk-answer (Err error) values more.1 ks d here.1 more.3 (omega (arith, all)) in
+      inr (more.0, fn more.1, (read.0.0, here.0, read.0.2), then)
   walk-answer _ [] c (k ∷ ks) d gives run all = absurd (omega (arith, all))
   walk-answer _ (x ∷ values) c [] d gives run all = absurd (omega (arith, all))
   walk-answer _ _ c _ d gives run all = absurd run
@@ -111,9 +111,11 @@ module _ {S R I J T B C F K Y : Type 0} (steps : S → Option I → S → Type 0
   pairs-callable [] bs c ks ys d gives may also run below along = absurd (omega (arith, below))
   pairs-callable (x ∷ xs) [] c ks ys d gives may also run below along = absurd (omega (arith, gives.2))
   pairs-callable (x ∷ xs) (b ∷ bs) c [] [] d gives may also run below along =
+      let l = gives.0 in
+      let r = gives.1 in
+      let here = along [] (x, b) (zip xs bs) [] (fn c) refl refl in
       subst (λ e. MayCallAtNextPair can steps other_can others pre (it e) (jt e) (fn e)) run
-      (may, also, gives.0.0, gives.1.0, λ item t beside u next then. along [] (x, b) (zip xs bs) [] (fn c) refl refl
-      item beside (gives.0.1 item t next).0 (gives.1.1 beside u then).0)
+      (may, also, l.0, r.0, λ item t beside u next then. here item beside (l.1 item t next).0 (r.1 beside u then).0)
   pairs-callable (x ∷ xs) (b ∷ bs) c (k ∷ ks) (y ∷ ys) d gives may also run below along =
       let read = reads c k y run.0 run.1 in
       let here = gives.0.1 read.0.0 (it run.0) read.0.2 in
@@ -137,8 +139,8 @@ module _ {S R I J T B C F K Y : Type 0} (steps : S → Option I → S → Type 0
       let read = reads c k y run.0 run.1 in
       let here = gives.0.1 read.0.0 (it run.0) read.0.2 in
       let there = gives.1.1 read.0.1 (jt run.0) read.0.3 in
-      (fn run.0, (read.0.0, read.0.1, here.0, there.0, read.0.4),
-      zip-whole xs bs run.0 ks ys d (here.1, there.1, omega (arith, gives.2)) run.2 (omega (arith, all)))
+      let then = zip-whole xs bs run.0 ks ys d (here.1, there.1, omega (arith, gives.2)) run.2 (omega (arith, all)) in
+      (fn run.0, (read.0.0, read.0.1, here.0, there.0, read.0.4), then)
   zip-whole [] [] c [] (y ∷ ys) d gives run all = absurd run
   zip-whole (x ∷ xs) (b ∷ bs) c (k ∷ ks) [] d gives run all = absurd run
   zip-whole _ _ c _ _ d gives run all = absurd (omega (arith, all, gives.2))

@@ -8,8 +8,8 @@ pub loop-entry-init : goal.loop-entry-init
 loop-entry-init g c =
     let same : c.into_iter-entry-iterator.result ≡ c.args.entries = search rules in
     let asked = c.requires.callable in
-    FoldLoop-entry _ same (asked.0, asked.1, asked.2, may_try_fold-at asked.0 (goal.F-pre g) (goal.F-step g)
-    c.args.f.now c.args.init asked.1 asked.3)
+    let along = may_try_fold-at asked.0 (goal.F-pre g) (goal.F-step g) c.args.f.now c.args.init asked.1 asked.3 in
+    FoldLoop-entry _ same (asked.0, asked.1, asked.2, along)
 
 pub f-requires : goal.f-requires
 f-requires g c = FoldLoop-callable c.loop-entry.invariant c.in-Some.entry c.next.new.self c.in-Some.ensures.steps

@@ -39,17 +39,10 @@ pub move_to-requires : goal.move_to-requires
 move_to-requires g c =
     let w = g.W.Unsigned.USIZE in
     let place = c.loop-row.row-index in
-    record {
-      enough = omega (
-        arith,
-        mul-le-mul_right {m = suc place} {n = length c.args.grid.now} w (omega (arith, c.loop-row-test.true)),
-        suc-mul place w,
-        c.requires.len,
-        c.as_mut_slice.ensures.len,
-        ap length c.loop-row.invariant.left,
-        length-drop (place * w) c.args.items.now,
-      );
-    }
+    let more = mul-le-mul_right {m = suc place} {n = length c.args.grid.now} w (omega (arith, c.loop-row-test.true)) in
+    let left = ap length c.loop-row.invariant.left in
+    let behind = length-drop (place * w) c.args.items.now in
+    record { enough = omega (arith, more, suc-mul place w, c.requires.len, c.as_mut_slice.ensures.len, left, behind) }
 
 pub loop-row-smaller : goal.loop-row-smaller
 loop-row-smaller g c = omega (arith, c.loop-row-test.true)

@@ -144,23 +144,16 @@ split_spec 𝓤 𝓛 𝓜 𝓡 wired X N K P LX LN LK LP gN dN gK dK gP dP bound
     (and_then ! (get ! refl) (and_then ! (get ! refl) (no_more !))) (λ first second parts.
     -- [the second part; the first part; what follows; the tokens of κ, T; the token of N, with nothing; the tokens of
     -- K, P]
-    lands_as ! refl refl (
-      tt,
-      (
-        (tt, (record { fits = parts.first_fits }, tt)),
-        ((tt, (record { fits = parts.second_fits }, tt)), tt),
-      ),
-    ) $
-    sets ! (of_opd ! (get_in ! (fld ! refl (stop !)) (sub ! 0 refl (whole !)))) refl
-    (tt, (tt, (record { fits = parts.first_fits }, tt))) $
-    sets ! (of_opd ! (get_in ! (fld ! refl (stop !)) (sub ! 1 refl (whole !)))) refl
-    (tt, (tt, (record { fits = parts.second_fits }, tt))) $
+    let f₁ = parts.first_fits in let f₂ = parts.second_fits in
+    lands_as ! refl refl (tt, ((tt, (record { fits = f₁ }, tt)), ((tt, (record { fits = f₂ }, tt)), tt))) $
+    sets ! (of_opd ! (get_in ! (fld ! refl (stop !)) (sub ! 0 refl (whole !)))) refl (tt, (tt, (record { fits = f₁ }, tt))) $
+    sets ! (of_opd ! (get_in ! (fld ! refl (stop !)) (sub ! 1 refl (whole !)))) refl (tt, (tt, (record { fits = f₂ }, tt))) $
     sets ! (addr ! (from ! (fld ! refl (hop ! (look_in_at ! 2 (sub ! 0 refl (whole !))) (stop !))))) refl (tt, tt) $
     sets ! (agg ! (and_then ! (get ! refl) (and_then ! (get_in ! (fld ! refl (stop !)) (sub ! 1 refl (whole !)))
-    (no_more !)))) refl (tt, (tt, (record { fits = parts.first_fits }, tt))) $
+    (no_more !)))) refl (tt, (tt, (record { fits = f₁ }, tt))) $
     sets ! (addr ! (from ! (fld ! refl (hop ! (look_in_at ! 3 (sub ! 0 refl (whole !))) (stop !))))) refl (tt, tt) $
     sets ! (agg ! (and_then ! (get ! refl) (and_then ! (get_in ! (fld ! refl (stop !)) (sub ! 1 refl (whole !)))
-    (no_more !)))) refl (tt, (tt, (record { fits = parts.second_fits }, tt))) $
+    (no_more !)))) refl (tt, (tt, (record { fits = f₂ }, tt))) $
     -- the views are made
     let B = triple_of 𝓛 (make_contract.signature X K P gK dK gP dP)
     (make_contract.spec X K P gK dK gP dP 𝓛 𝓜.mem 𝓡.returns) in
