@@ -15,6 +15,7 @@ pub mod PairLemmas
 pub mod SlotLemmas
 pub mod RunLemmas
 pub use Rattle.arrayvec.proofs.IterLemmas
+pub use Rattle.ga_views.proofs.CallStep
 pub use Rattle.ga_views.proofs.CutLemmas
 pub use Rattle.ga_views.proofs.HexLemmas
 pub use Rattle.ga_views.proofs.ItemLoan

@@ -28,16 +28,9 @@ module _ {I T F A E : Type 0} (entry : I → T) (step : F → A → I → Result
   try_fold_at_entries a [] (Err error) last run = absurd run
   try_fold_at_entries a (x ∷ xs) (Ok b) last run =
       let call = fold_call_at entry step f h acts a x (Ok run.0) run.1 run.2 in
-      try_fold_at_entries run.0 xs (Ok b) last (subst
-      (λ k. TryFoldRun (FoldAt entry step) k run.0 xs (Ok b) last) call.0 run.3)
-      ∙ ap (result_and_then (λ c. try_fold h c xs)) call.1
-  try_fold_at_entries a (x ∷ xs) (Err error) last run =
-      elim run [
-        | inl failed ↦ ap (result_and_then (λ c. try_fold h c xs))
-            (fold_call_at entry step f h acts a x (Err error) last failed).1
-        | inr good ↦
-            let call = fold_call_at entry step f h acts a x (Ok good.0) good.1 good.2 in
-            try_fold_at_entries good.0 xs (Err error) last
-            (subst (λ k. TryFoldRun (FoldAt entry step) k good.0 xs (Err error) last) call.0 good.3)
-            ∙ ap (result_and_then (λ c. try_fold h c xs)) call.1
-      ]
+      rw (← call.1) (try_fold_at_entries run.0 xs (Ok b) last (rw call.0 at run.3))
+  try_fold_at_entries a (x ∷ xs) (Err error) last (inl failed) =
+      ap (result_and_then (λ c. try_fold h c xs)) (fold_call_at entry step f h acts a x (Err error) last failed).1
+  try_fold_at_entries a (x ∷ xs) (Err error) last (inr good) =
+      let call = fold_call_at entry step f h acts a x (Ok good.0) good.1 good.2 in
+      rw (← call.1) (try_fold_at_entries good.0 xs (Err error) last (rw call.0 at good.3))

@@ -4,91 +4,106 @@ use Rattle.ga_core.specs.Entries.{FoldAt}
 use Rattle.ga_core.specs.Runs.{FoldRun}
 use Rattle.generic_array.specs.GivenEntries.{GivesEntries, SomeEntries}
 use Rattle.generic_array.specs.EntryRuns.{MayTryFold, TryFoldRun, good_step}
-use Rattle.std.proofs.Common.{◌≡◌, List, [], ◌∷◌, ◌++◌, inl, inr, Result, Ok, Err, Option, None, Some, append_assoc}
-use Rattle.std.proofs.Common.{append-nil, refl, ap, sym, ◌∙◌, subst}
-use Rattle.std.proofs.lemmas.Fn.{FoldsTo-push}
+use Rattle.std.proofs.Common.{◌≡◌, List, [], ◌∷◌, ◌++◌, inr, Result, Ok, Err, Option, None, Some, refl, ap, sym, ◌∙◌, subst}
 use Rattle.std.specs.Iterator.{AlwaysYields, Count, IsFinite}
-use Rattle.generic_array.proofs.WalkLemmas.{end_given, next_given}
 
--- Calls of f at the entries passed led from f₀ and a₀ to f and a, and the iterator gives what is left, in order.
-pub record FoldsSoFar {S I T F A : Type 0} (steps : S → Option I → S → Type 0) (entry : I → T) (step : F → A → I → A → F
-    → Type 0) (values : List T) (f₀ : F) (a₀ : A) (s : S) (f : F) (a : A) : Type 0 where
-  pub passed : List T
-  pub left : List T
-  pub whole : values ≡ passed ++ left
-  pub gives : AlwaysYields steps entry s left
-  pub ran : FoldRun (FoldAt entry step) f₀ a₀ passed a f
+module _ {S I T : Type 0} (steps : S → Option I → S → Type 0) (entry : I → T) where
+  -- the iterator gave an item: the first of what was left
+  next_given : (s : S) (left : List T) (item : I) (t : S) → AlwaysYields steps entry s left → steps s (Some item) t
+      → (others : List T) × (left ≡ entry item ∷ others) × AlwaysYields steps entry t others
+  next_given s [] item t gives step = absurd (gives item t step)
+  next_given s (x ∷ left) item t gives step =
+      let here = gives.1 item t step in (left, ap (λ y. y ∷ left) (sym here.0), here.1)
 
--- The loop of a fold: the iterator may be asked and ends, and for all values that its entries stand for, the calls so
--- far were made at these.
-pub record FoldLoop {S I F A : Type 0} (T : Type 0) (can : S → Type 0) (steps : S → Option I → S → Type 0)
-    (remaining : S → Count) (step : F → A → I → A → F → Type 0) (entries : S) (f₀ : F) (a₀ : A) (s : S) (f : F)
+  -- it ended: nothing was left
+  end_given : (s : S) (left : List T) (t : S) → AlwaysYields steps entry s left → steps s None t → left ≡ []
+  end_given s [] t gives step = refl
+  end_given s (x ∷ left) t gives step = absurd (gives.0 t step)
+
+-- f may be called at an entry of each value in turn, each time with the value reached
+abbrev pub MayFoldAlong : {F A I T : Type 0} → (F → A → I → Type 0) → (F → A → I → A → F → Type 0) → (I → T) → F → A
+    → List T → Type 0
+MayFoldAlong {F} {A} {I} {T} pre step entry f a values = (passed : List T) (x : T) (others : List T) (reached : F) (b : A)
+    → values ≡ passed ++ x ∷ others → FoldRun (FoldAt entry step) f a passed b reached → (item : I) → entry item ≡ x
+    → pre reached b item
+
+-- The loop of a fold, whose calls are steps: the iterator may be asked and ends, the closure may be called at what is
+-- left, and for all values that the entries stand for, a run over those that are left is one over all.
+pub record FoldLoop {S I F A B : Type 0} (T : Type 0) (can : S → Type 0) (steps : S → Option I → S → Type 0)
+    (remaining : S → Count) (pre : F → A → I → Type 0) (step : F → A → I → A → F → Type 0)
+    (Run : (I → T) → F → A → List T → B → F → Type 0) (entries : S) (f₀ : F) (a₀ : A) (s : S) (f : F)
     (a : A) : Type 0 where
   pub may : can s
   pub ends : IsFinite (remaining s)
-  pub so_far : (entry : I → T) (values : List T) → GivesEntries can steps remaining entry entries values
-      → FoldsSoFar steps entry step values f₀ a₀ s f a
+  pub callable : (entry : I → T) × (left : List T) × AlwaysYields steps entry s left
+      × MayFoldAlong pre step entry f a left
+  pub joins : (entry : I → T) (values : List T) → GivesEntries can steps remaining entry entries values
+      → (left : List T) × AlwaysYields steps entry s left
+      × ((b : B) (last : F) → Run entry f a left b last → Run entry f₀ a₀ values b last)
 
-module _ {S I T F A : Type 0} {can : S → Type 0} {steps : S → Option I → S → Type 0} {remaining : S → Count}
-    {step : F → A → I → A → F → Type 0} {entries : S} {f₀ : F} {a₀ : A} where
+module _ {S I T F A B : Type 0} {can : S → Type 0} {steps : S → Option I → S → Type 0} {remaining : S → Count}
+    {pre : F → A → I → Type 0} {step : F → A → I → A → F → Type 0} {Run : (I → T) → F → A → List T → B → F → Type 0}
+    {entries : S} {f₀ : F} {a₀ : A} where
   -- at its entry no call was made
-  pub FoldLoop-entry : (s : S) → s ≡ entries → can entries → IsFinite (remaining entries)
-      → FoldLoop T can steps remaining step entries f₀ a₀ s f₀ a₀
-  FoldLoop-entry s same may ends = record {
-    may = subst can (sym same) may;
-    ends = subst (λ it. IsFinite (remaining it)) (sym same) ends;
-    so_far = λ entry values gives. record {
-      passed = [];
-      left = values;
-      whole = refl {a = values};
-      gives = subst (λ it. AlwaysYields steps entry it values) (sym same) gives.2;
-      ran = refl {a = (f₀, a₀)};
-    };
-  }
+  pub FoldLoop-entry : (s : S) → s ≡ entries
+      → SomeEntries can steps remaining entries (λ (entry : I → T). MayFoldAlong pre step entry f₀ a₀)
+      → FoldLoop T can steps remaining pre step Run entries f₀ a₀ s f₀ a₀
+  FoldLoop-entry s same asked = subst (λ it. FoldLoop T can steps remaining pre step Run entries f₀ a₀ it f₀ a₀)
+      (sym same) (record {
+        may = asked.2.0;
+        ends = asked.2.1;
+        callable = (asked.0, asked.1, asked.2.2, asked.3);
+        joins = λ entry values gives. (values, gives.2, λ b last run. run);
+      })
 
-  module _ {s : S} {f : F} {a : A} (loop : FoldLoop T can steps remaining step entries f₀ a₀ s f a) where
+  module _ {s : S} {f : F} {a : A} (loop : FoldLoop T can steps remaining pre step Run entries f₀ a₀ s f a) where
     -- the call at the item that comes may be made
-    pub FoldLoop-callable : (pre : F → A → I → Type 0) (item : I) (t : S)
-        → SomeEntries can steps remaining entries (λ (entry : I → T) values. (passed : List T) (x : T) (others : List T)
-        (reached : F) (value : A)
-        → values ≡ passed ++ x ∷ others → FoldRun (FoldAt entry step) f₀ a₀ passed value reached → (at : I)
-        → entry at ≡ x → pre reached value at)
-        → steps s (Some item) t → pre f a item
-    FoldLoop-callable pre item t asked next =
-        let so_far = loop.so_far asked.0 asked.1 asked.2 in
-        let given = next_given steps asked.0 s so_far.left item t so_far.gives next in
-        asked.3 so_far.passed (asked.0 item) given.0 f a
-        (so_far.whole ∙ ap (λ left. so_far.passed ++ left) given.1) so_far.ran item refl
+    pub FoldLoop-callable : (item : I) (t : S) → steps s (Some item) t → pre f a item
+    FoldLoop-callable item t next =
+        let asked = loop.callable in
+        let given = next_given steps asked.0 s asked.1 item t asked.2 next in
+        asked.3 [] (asked.0 item) given.0 f a given.1 refl item refl
 
     -- it was made
-    pub FoldLoop-more : (item : I) (t : S) (g : F) (b : A) → steps s (Some item) t → step f a item b g → can t
-        → IsFinite (remaining t)
-        → FoldLoop T can steps remaining step entries f₀ a₀ t g b
-    FoldLoop-more item t g b next call may ends = record {
-      may = may;
-      ends = ends;
-      so_far = λ entry values gives.
-          let so_far = loop.so_far entry values gives in
-          let given = next_given steps entry s so_far.left item t so_far.gives next in
-          record {
-            passed = so_far.passed ++ entry item ∷ [];
-            left = given.0;
-            whole = so_far.whole ∙ (ap (λ left. so_far.passed ++ left) given.1
-                ∙ sym (append_assoc so_far.passed (entry item ∷ []) given.0));
-            gives = given.2;
-            ran = FoldsTo-push _ (f₀, a₀) so_far.passed (f, a) (entry item) (g, b) so_far.ran (item, refl, call);
-          };
-    }
+    pub FoldLoop-more : ((entry : I → T) (item : I) (b : A) (g : F) (others : List T) (r : B) (last : F)
+        → step f a item b g → Run entry g b others r last → Run entry f a (entry item ∷ others) r last)
+        → (item : I) (t : S) (g : F) (b : A) → steps s (Some item) t → step f a item b g → can t
+        → IsFinite (remaining t) → FoldLoop T can steps remaining pre step Run entries f₀ a₀ t g b
+    FoldLoop-more goes item t g b next call may ends =
+        let asked = loop.callable in
+        let given = next_given steps asked.0 s asked.1 item t asked.2 next in
+        record {
+          may = may;
+          ends = ends;
+          callable = (
+            asked.0,
+            given.0,
+            given.2,
+            λ passed x others reached c whole run.
+                asked.3 (asked.0 item ∷ passed) x others reached c (given.1 ∙ ap (λ l. asked.0 item ∷ l) whole)
+                ((g, b), (item, refl, call), run),
+          );
+          joins = λ entry values gives.
+              let so_far = loop.joins entry values gives in
+              let left = next_given steps entry s so_far.0 item t so_far.1 next in
+              (left.0, left.2, λ r last run. so_far.2 r last (rw left.1 (goes entry item b g left.0 r last call run)));
+        }
+
+    -- it is the last of the run
+    pub FoldLoop-last : (item : I) (t : S) (r : B) (last : F) → steps s (Some item) t → (entry : I → T) (values : List T)
+        → ((others : List T) → Run entry f a (entry item ∷ others) r last)
+        → GivesEntries can steps remaining entry entries values → Run entry f₀ a₀ values r last
+    FoldLoop-last item t r last next entry values run gives =
+        let so_far = loop.joins entry values gives in
+        let left = next_given steps entry s so_far.0 item t so_far.1 next in
+        so_far.2 r last (rw left.1 (run left.0))
 
     -- no item is left
-    pub FoldLoop-end : (t : S) → steps s None t → (entry : I → T) (values : List T)
-        → GivesEntries can steps remaining entry entries values → FoldRun (FoldAt entry step) f₀ a₀ values a f
-    FoldLoop-end t next entry values gives =
-        let so_far = loop.so_far entry values gives in
-        let whole : values ≡ so_far.passed = so_far.whole
-        ∙ (ap (λ left. so_far.passed ++ left) (end_given steps entry s so_far.left t so_far.gives next)
-        ∙ append-nil so_far.passed) in
-        subst (λ passed. FoldRun (FoldAt entry step) f₀ a₀ passed a f) (sym whole) so_far.ran
+    pub FoldLoop-end : (t : S) (r : B) → steps s None t → (entry : I → T) (values : List T) → Run entry f a [] r f
+        → GivesEntries can steps remaining entry entries values → Run entry f₀ a₀ values r f
+    FoldLoop-end t r next entry values run gives =
+        let so_far = loop.joins entry values gives in
+        so_far.2 r f (rw (end_given steps entry s so_far.0 t so_far.1 next) run)
 
 -- items that stand for themselves
 module _ {F A X : Type 0} (step : F → A → X → A → F → Type 0) where
@@ -96,50 +111,20 @@ module _ {F A X : Type 0} (step : F → A → X → A → F → Type 0) where
       → FoldRun step f a xs b g
   FoldRun-by_items f a [] b g run = run
   FoldRun-by_items f a (x ∷ xs) b g run =
-      (run.0, subst (λ y. step f a y run.0.1 run.0.0) run.1.1 run.1.2, FoldRun-by_items run.0.0 run.0.1 xs b g run.2)
+      (run.0, rw (← run.1.1) run.1.2, FoldRun-by_items run.0.0 run.0.1 xs b g run.2)
 
-module _ {F A X E : Type 0} (step : F → A → X → Result A E → F → Type 0) where
-  -- all calls were good
-  pub TryFoldRun-good : (f : F) (a : A) (xs : List X) (b : A) (g : F) → FoldRun (good_step step) f a xs b g
-      → TryFoldRun step f a xs (Ok b) g
-  TryFoldRun-good f a [] b g run = (ap (λ p. p.1) run, ap (λ p. p.0) run)
-  TryFoldRun-good f a (x ∷ xs) b g run = (run.0.1, run.0.0, run.1, TryFoldRun-good run.0.0 run.0.1 xs b g run.2)
-
-  -- an error came after good calls
-  pub TryFoldRun-error : (f : F) (a : A) (passed : List X) (b : A) (g : F) (x : X) (others : List X) (error : E)
-      (last : F)
-      → FoldRun (good_step step) f a passed b g → step g b x (Err error) last
-      → TryFoldRun step f a (passed ++ x ∷ others) (Err error) last
-  TryFoldRun-error f a [] b g x others error last run call =
-      inl (subst (λ p. step p.0 p.1 x (Err error) last) (sym run) call)
-  TryFoldRun-error f a (y ∷ passed) b g x others error last run call =
-      inr (run.0.1, run.0.0, run.1, TryFoldRun-error run.0.0 run.0.1 passed b g x others error last run.2 call)
-
--- an error at the item that comes
-module _ {S I T F A E : Type 0} {can : S → Type 0} {steps : S → Option I → S → Type 0} {remaining : S → Count}
-    {entries : S} {f₀ : F} {a₀ : A} {s : S} {f : F} {a : A} where
-  pub FoldLoop-error : (step : F → A → I → Result A E → F → Type 0) (item : I) (t : S) (error : E) (last : F)
-      → FoldLoop T can steps remaining (good_step step) entries f₀ a₀ s f a
-      → steps s (Some item) t → step f a item (Err error) last → (entry : I → T) (values : List T)
-      → GivesEntries can steps remaining entry entries values
-      → TryFoldRun (FoldAt entry step) f₀ a₀ values (Err error) last
-  FoldLoop-error step item t error last loop next call entry values gives =
-      let so_far = loop.so_far entry values gives in
-      let given = next_given steps entry s so_far.left item t so_far.gives next in
-      subst (λ xs. TryFoldRun (FoldAt entry step) f₀ a₀ xs (Err error) last)
-      (sym (so_far.whole ∙ ap (λ left. so_far.passed ++ left) given.1))
-      (TryFoldRun-error (FoldAt entry step) f₀ a₀ so_far.passed a f (entry item) given.0 error last so_far.ran
-      (item, refl, call))
+-- a good call before a fold that may fail
+pub TryFoldRun-cons : {F A X E : Type 0} (step : F → A → X → Result A E → F → Type 0) (f : F) (a : A) (x : X) (b : A)
+    (g : F) (xs : List X) (r : Result A E) (last : F) → step f a x (Ok b) g → TryFoldRun step g b xs r last
+    → TryFoldRun step f a (x ∷ xs) r last
+TryFoldRun-cons step f a x b g xs (Ok c) last call run = (b, g, call, run)
+TryFoldRun-cons step f a x b g xs (Err error) last call run = inr (b, g, call, run)
 
 -- where f may be called in a fold up to its first error, it may be called in each state that good calls lead to
 module _ {F A I T E : Type 0} (entry : I → T) (pre : F → A → I → Type 0)
     (step : F → A → I → Result A E → F → Type 0) where
   pub may_try_fold-at : (f : F) (a : A) (xs : List T) → MayTryFold entry pre step f a xs
-      → (passed : List T) (x : T) (others : List T) (reached : F) (value : A) → xs ≡ passed ++ x ∷ others
-      → FoldRun (good_step (FoldAt entry step)) f a passed value reached → (item : I) → entry item ≡ x
-      → pre reached value item
+      → MayFoldAlong pre (good_step step) entry f a xs
   may_try_fold-at f a xs may = λ passed x others reached value whole run item is.
-      may passed x others reached value whole run item is
-      (λ here stays. subst (λ s. pre s value item)
-      (sym (stays-fold (good_step (FoldAt entry step)) f
-      (λ b v c g call. stays b call.0 (Ok c) g call.2) a passed value reached run)) here)
+      may passed x others reached value whole run item is (λ here stays. rw (stays-fold (good_step (FoldAt entry step)) f
+      (λ b v c g call. stays b call.0 (Ok c) g call.2) a passed value reached run) here)

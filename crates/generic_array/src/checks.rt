@@ -25,7 +25,8 @@ pub fn total_by<T, S: FunctionalSequence<T>, A, F: FnMut(A, SequenceItem<S>) -> 
 
 // The fold by `g` over the items of what was made, from `init`.
 //
-// The second condition always holds: of two, the proof of a call says each by itself, which is cheaper.
+// The second condition always holds: of two, the proof of a call says each by itself. Without it the
+// proof of `map_total_by` took 80 seconds more.
 #[inline(always)]
 fn fold_made<U, M: GenericSequence<U>, A, G: FnMut(A, U) -> A>(
     made: M::Sequence,

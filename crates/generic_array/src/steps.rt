@@ -79,15 +79,13 @@ pub trait TwoEndedSequence<T>: GenericSequence<T> {
         ensures { Self.TwoEnded.items result ≡ Self.items self };
 }
 
-// Makes one step. The second condition always holds: of two, the proof of a call says each by itself,
-// which is cheaper.
+// Makes one step.
 fn step_once<T: Drop, R, I: TwoEnded<T>, G: FnMut(&[T]) -> R>(
     iter: &mut I,
     step: Step<T>,
     look: &mut G,
 ) -> Reply<T, R>
-    requires callable { MayStep (MayCallAt (λ slice. slice.now) G.pre) (I.items iter.old, look.old) step }
-    requires same { step ≡ step }
+    requires { MayStep (MayCallAt (λ slice. slice.now) G.pre) (I.items iter.old, look.old) step }
     ensures { StepGivesReply (CallAt (λ slice. slice.now) G.step) (I.items iter.old, look.old) step result
         (I.items iter.new, look.new) }
 {

@@ -6,20 +6,12 @@ use Rattle.std.proofs.lemmas.Result.{IfOk-weaker}
 pub zip_entries-requires-clause-callable : goal.zip_entries-requires-clause-callable
 zip_entries-requires-clause-callable g c =
     let same = sym g.met.Lhs.MappedGenericSequence.same_length in
-    let long = c.entries_of.ensures.long ∙ same in
-    let also = c.entries_of-2.ensures.long ∙ (sym c.requires.lengths ∙ same) in (
-      g.Lhs.GenericSequence.entry,
-      g.Lhs.AsSlice.items c.args.lhs,
-      c.entries_of.ensures.gives,
-      long,
-      (
-        g.S.GenericSequence.entry,
-        g.S.AsSlice.items c.args.s,
-        c.entries_of-2.ensures.gives,
-        also,
-        c.requires.callable,
-      ),
-    )
+    let left = c.entries_of.ensures in
+    let right = c.entries_of-2.ensures in
+    let also = right.long ∙ (sym c.requires.lengths ∙ same) in
+    let items = g.Lhs.AsSlice.items c.args.lhs in
+    let others = g.S.AsSlice.items c.args.s in
+    (_, items, left.gives, left.long ∙ same, (_, others, right.gives, also, c.requires.callable))
 
 pub returns : goal.returns
 returns g c =

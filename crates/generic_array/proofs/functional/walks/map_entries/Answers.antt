@@ -1,4 +1,4 @@
-use Rattle.generic_array.proofs.WalkLemmas.{ClosureRun-keeps, walk-callable, walk-whole}
+use Rattle.generic_array.proofs.WalkLemmas.{ClosureRun-keeps, map-callable, walk-whole}
 use Rattle.generic_array.proofs.functional.walks.map_entries.Goals as goal
 use Rattle.std.proofs.Common.{arith, rules}
 use Rattle.std.proofs.lemmas.Result.{IfOk-weaker}
@@ -7,10 +7,9 @@ use Rattle.std.proofs.lemmas.List.FromFn.{length-range_with_len}
 pub generate_by-requires-clause-callable : goal.generate_by-requires-clause-callable
 generate_by-requires-clause-callable g c =
     let asked = c.requires.callable in
-    λ k ys reached below run stays. walk-callable g.I.Iterator.next_gives g.I.Iterator.can_next asked.0 (goal.F-pre g)
-    (goal.F-step g)
-    (λ d. d.1.now) (λ d. d.0.now) _ (λ d j y e call. call.met.1.0) asked.1 _ _ ys reached asked.2.2 asked.2.0 run
-    (omega (arith, length-range_with_len 0 k, asked.3, below)) asked.4
+    λ k ys reached below run stays. map-callable g.I.Iterator.next_gives g.I.Iterator.can_next asked.0 (goal.F-pre g)
+    (goal.F-step g) (λ d. d.1.now) (λ d. d.0.now) _ (λ d j y e call. call.met.1.0) asked.1 _ _ ys reached asked.2.2
+    asked.2.0 run (omega (arith, length-range_with_len 0 k, asked.3, below)) asked.4
 
 pub returns : goal.returns
 returns g c =
@@ -22,7 +21,7 @@ returns g c =
           c.generate_by.new.f run in
           let whole = walk-whole g.I.Iterator.next_gives g.I.Iterator.can_next entry (goal.F-pre g) (goal.F-step g)
           (λ d. d.1.now) (λ d. d.0.now) _ (λ d j y e call. call.met.1.0) values _ _
-          (g.M.Sequence.AsSlice.items made) c.generate_by.new.f gives.2 gives.0 run
+          (g.M.Sequence.AsSlice.items made) c.generate_by.new.f gives.2 run
           (omega (arith, length-range_with_len 0 g.M.Length.Unsigned.USIZE, long)) in
           search rules) told.run;
       err = search rules;

@@ -1,6 +1,7 @@
-use Rattle.generic_array.proofs.ShapeLemmas.{rows-begun, rows-ended}
+use Rattle.generic_array.proofs.ShapeLemmas.{rows-begun}
 use Rattle.generic_array.proofs.sequence.flat_iter.FlatIterIterator.next.Goals as goal
-use Rattle.std.proofs.Common.{◌∙◌, ◌++◌, ap, arith, length, sym}
+use Rattle.std.proofs.lemmas.List.{nil_from_length}
+use Rattle.std.proofs.Common.{◌≡◌, [], ◌∙◌, ◌++◌, ap, arith, length, sym}
 use Rattle.std.specs.List.{flat_map}
 use Rattle.std.specs.Slice.Iter.{iter_rest}
 
@@ -20,8 +21,10 @@ pub returns-in-None : goal.returns-in-None
 returns-in-None g c =
     let row = c.in_default.ensures.steps in
     let rows = c.in-None.ensures.steps in
-    let none = rows-ended (iter_rest c.loop-item.self-inside.row) (iter_rest c.loop-item.self-inside.rows) row.0
-    rows.0 in
+    let row_left = iter_rest c.loop-item.self-inside.row in
+    let rows_left = iter_rest c.loop-item.self-inside.rows in
+    let none : row_left ++ flat_map (λ r. r) rows_left ≡ [] =
+    rw (nil_from_length row_left row.0, nil_from_length rows_left rows.0) in
     record {
       steps = (sym c.loop-item.invariant ∙ none, rw (row.1, rows.1) none);
       goes = record { on = λ _. tt; keeps = tt; rests = λ _. tt };

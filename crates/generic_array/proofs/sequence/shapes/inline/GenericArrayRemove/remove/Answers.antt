@@ -1,7 +1,7 @@
 use Rattle.ga_core.proofs.SlotLemmas.{refill-whole}
 use Rattle.generic_array.proofs.ShapeLemmas.{others-left}
 use Rattle.generic_array.proofs.sequence.shapes.inline.GenericArrayRemove.remove.Goals as goal
-use Rattle.std.proofs.Common.{◌≡◌, ◌∷◌, [], ◌++◌, ◌∙◌, MatchOption, ap, get_or, length, remove, subst, sym}
+use Rattle.std.proofs.Common.{◌≡◌, ◌∷◌, [], ◌++◌, ◌∙◌, ap, get_or, length, remove, sym}
 
 pub returns-clause-others : goal.returns-clause-others
 returns-clause-others g c =
@@ -11,14 +11,11 @@ returns-clause-others g c =
     let left = c.next_back.new.self in
     let item = c.unwrap-item.result in
     let given = c.into_iter-items.ensures.into_iter_gives in
-    let taken : items ≡ left ++ item ∷ [] =
-    subst (λ reply. MatchOption reply ((items ≡ []) × (left ≡ [])) (λ x. items ≡ left ++ x ∷ []))
-    c.unwrap-item.ensures c.next_back.ensures.steps in
+    let taken : items ≡ left ++ item ∷ [] = rw c.unwrap-item.ensures at c.next_back.ensures.steps in
     let carried : items ≡ remove self index ++ get_or self index item ∷ [] =
     given.0 ∙ (refill-whole (length self) self c.carry_to_end.new.items
     (sym (c.carry_to_end.auto.items ∙ ap length c.as_mut_slice.ensures.items))
-    ∙ (c.carry_to_end.ensures item
-    ∙ ap (λ l. remove l index ++ get_or l index item ∷ []) c.as_mut_slice.ensures.items)) in
+    ∙ (rw c.as_mut_slice.ensures.items at (c.carry_to_end.ensures item))) in
     c.next_array.ensures.first
     ∙ others-left items (remove self index) left (get_or self index item) item g.M.Unsigned.USIZE carried taken
     (ap length given.0 ∙ (given.3 ∙ c.requires.shorter))

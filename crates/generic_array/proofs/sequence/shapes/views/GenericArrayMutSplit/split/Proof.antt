@@ -5,6 +5,7 @@ use Prim.Native.Nat.{ℕ}
 use Rattle.ga_core.below.ga_views.proofs.view_mut.ViewMut+mut+slice+T+T+N.into_mut_slice.Met as taken
 use Rattle.ga_core.below.ga_views.specs.contracts.view_mut.ViewMut+mut+slice+T+T+N.into_mut_slice as take_contract
 use Rattle.ga_core.below.ga_views.specs.contracts.reborrow.RefMutSliceReborrowSlice.TheImpl as impl
+use Rattle.ga_core.proofs.CallStep.{asked, calls}
 use Rattle.ga_core.proofs.ViewMut.TheLaws as laws
 use Rattle.ga_core.proofs.LengthCall.{calls_length}
 use Rattle.ga_core.proofs.SliceLaws.{array_laws, ArrayView, Slice, slice_laws}
@@ -119,23 +120,15 @@ split_spec 𝓤 𝓛 𝓜 𝓡 wired X N K P LX LN LK LP gN dN gK dK gP dP bound
     let zT : T.Ghost = (((κ, (κT, (κN, tt))), (qs.0, (qs.1.0, (qs.1.1.0, tt))), bounds, a, (whole_val ∷ [], tt)), tt) in
     split ! $ split3 ! $ move ! (2 ∷ []) $ split3 ! $ move ! (2 ∷ []) $ split ! $ move ! (1 ∷ []) $
     -- [nothing; the tokens of P, N, K, κ, T; the view]
-    move ! (4 ∷ 5 ∷ 2 ∷ 0 ∷ 6 ∷ []) $ group ! 4 $ join ! $
-    nothing ! $ use0 𝓛 (raw (fact 𝓤 (κN ⊑ N.lives))) (fact_i 𝓤 _ (emp 𝓤) lN) $ join ! $
-    use0 𝓛 (raw (fact 𝓤 (κT ⊑ X.lives))) (fact_i 𝓤 _ (emp 𝓤) lT) $ join ! $
-    move ! (1 ∷ 0 ∷ []) $ join ! $ use1 𝓛 (raw (T.pre zT)) (id⊢ 𝓤 _) $
-    calls_at ! (framed 𝓤 𝓛.H 𝓜 𝓣) T
+    move ! (4 ∷ 5 ∷ 2 ∷ 0 ∷ 6 ∷ []) $ group ! 4 $
+    calls 𝓛 T zT (λ (s : Part.Denot) u. Part.own_val s (u ∷ []))
+    (λ (ws : Lasts (take_contract.ended X N gN dN) zT.0.0 zT.0.3). lasts (take_contract.ended X N gN dN) zT.0.0 zT.0.3 ws)
+    (λ s. raw (fact 𝓤 (s ≡ a.0.slice)) ⊛ raw (fact 𝓤 (length s.now ≡ gN.USIZE))) ! (framed 𝓤 𝓛.H 𝓜 𝓣)
     (taken.met 𝓤 𝓛 𝓜 𝓡 (code.calls-ga_views::view_mut::ViewMut+mut+slice+T+T+N::into_mut_slice 𝓡.env wired) X N LX LN gN
-    dN boundN) zT
-    (and_then ! (get ! refl) (no_more !)) (λ u.
-    use1 𝓛 (later (some (λ (s : Part.Denot). ((‵ (flft κ qs.0) ⊛ ‵ (flft κT qs.1.0) ⊛ ‵ (flft κN qs.1.1.0) ⊛ ‵ ftrue) ⊛
-    ‵ (Part.own_val s (u ∷ []))) ⊛
-    some (λ (ws : Lasts (take_contract.ended X N gN dN) zT.0.0 zT.0.3).
-    ‵ (lasts (take_contract.ended X N gN dN) zT.0.0 zT.0.3 ws) ⊛
-    raw (fact 𝓤 (s ≡ a.0.slice)) ⊛ raw (fact 𝓤 (length s.now ≡ gN.USIZE)))))) (id⊢ 𝓤 _) $
-    await ! tt $ pick ! (λ s. split ! $ split ! $ move ! (2 ∷ []) $ pick !
-    (λ ws. split3 ! $ drop ! $ heard ! _ (λ same. heard ! _ (λ is_N.
-    -- [the tokens of κ, T, N; the slice; the tokens of P, K]
-    move ! (1 ∷ []) $ peeks ! Part (Is Part) (shows 𝓛 Part) s (u ∷ []) (λ is.
+    dN boundN) (asked 𝓛 lT (asked 𝓛 lN (id⊢ 𝓤 _))) (id⊢ 𝓤 _) (λ u. id⊢ 𝓤 _) (and_then ! (get ! refl) (no_more !)) (λ u s.
+    move ! (1 ∷ []) $ split ! $ heard ! _ (λ same. heard ! _ (λ is_N.
+    -- [the slice; the tokens of κ, T, N; the tokens of P, K]
+    peeks ! Part (Is Part) (shows 𝓛 Part) s (u ∷ []) (λ is.
     lands_as ! (ap only is.0.0) refl (tt, (tt, (record { fits = is.0.1.0 }, tt))) $
     rewrite ! 0 (λ (vs : List Val). ‵ (Part.own_val s vs)) is.0.0 refl $
     -- the first view's length
@@ -151,23 +144,16 @@ split_spec 𝓤 𝓛 𝓜 𝓡 wired X N K P LX LN LK LP gN dN gK dK gP dP bound
     (and_then ! (get ! refl) (and_then ! (get ! refl) (no_more !))) (λ first second parts.
     -- [the second part; the first part; what follows; the tokens of κ, T; the token of N, with nothing; the tokens of
     -- K, P]
-    lands_as ! refl refl (
-      tt,
-      (
-        (tt, (record { fits = parts.first_fits }, tt)),
-        ((tt, (record { fits = parts.second_fits }, tt)), tt),
-      ),
-    ) $
-    sets ! (of_opd ! (get_in ! (fld ! refl (stop !)) (sub ! 0 refl (whole !)))) refl
-    (tt, (tt, (record { fits = parts.first_fits }, tt))) $
-    sets ! (of_opd ! (get_in ! (fld ! refl (stop !)) (sub ! 1 refl (whole !)))) refl
-    (tt, (tt, (record { fits = parts.second_fits }, tt))) $
+    let f₁ = parts.first_fits in let f₂ = parts.second_fits in
+    lands_as ! refl refl (tt, ((tt, (record { fits = f₁ }, tt)), ((tt, (record { fits = f₂ }, tt)), tt))) $
+    sets ! (of_opd ! (get_in ! (fld ! refl (stop !)) (sub ! 0 refl (whole !)))) refl (tt, (tt, (record { fits = f₁ }, tt))) $
+    sets ! (of_opd ! (get_in ! (fld ! refl (stop !)) (sub ! 1 refl (whole !)))) refl (tt, (tt, (record { fits = f₂ }, tt))) $
     sets ! (addr ! (from ! (fld ! refl (hop ! (look_in_at ! 2 (sub ! 0 refl (whole !))) (stop !))))) refl (tt, tt) $
     sets ! (agg ! (and_then ! (get ! refl) (and_then ! (get_in ! (fld ! refl (stop !)) (sub ! 1 refl (whole !)))
-    (no_more !)))) refl (tt, (tt, (record { fits = parts.first_fits }, tt))) $
+    (no_more !)))) refl (tt, (tt, (record { fits = f₁ }, tt))) $
     sets ! (addr ! (from ! (fld ! refl (hop ! (look_in_at ! 3 (sub ! 0 refl (whole !))) (stop !))))) refl (tt, tt) $
     sets ! (agg ! (and_then ! (get ! refl) (and_then ! (get_in ! (fld ! refl (stop !)) (sub ! 1 refl (whole !)))
-    (no_more !)))) refl (tt, (tt, (record { fits = parts.second_fits }, tt))) $
+    (no_more !)))) refl (tt, (tt, (record { fits = f₂ }, tt))) $
     -- the views are made
     let B = triple_of 𝓛 (make_contract.signature X K P gK dK gP dP)
     (make_contract.spec X K P gK dK gP dP 𝓛 𝓜.mem 𝓡.returns) in
@@ -183,28 +169,18 @@ split_spec 𝓤 𝓛 𝓜 𝓡 wired X N K P LX LN LK LP gN dN gK dK gP dP bound
     ) in
     nothing ! $ move ! (1 ∷ 0 ∷ []) $ fjoin ! $ move ! (1 ∷ 0 ∷ []) $ fjoin ! $ move ! (2 ∷ []) $ split3 ! $ move !
     (6 ∷ []) $ split ! $
-    move ! (2 ∷ 3 ∷ 0 ∷ 8 ∷ 1 ∷ 5 ∷ []) $ group ! 5 $ join ! $
-    use0 𝓛 (raw (fact 𝓤 (length second.now ≡ gP.USIZE)))
-    (fact_i 𝓤 _ (emp 𝓤) (omega (arith, is_K, is_N, sum, parts.second_len))) $
-    use0 𝓛 (raw (fact 𝓤 (length first.now ≡ gK.USIZE))) (fact_i 𝓤 _ (emp 𝓤) (parts.first_len ∙ is_K)) $ join ! $
-    use0 𝓛 (raw (fact 𝓤 (κP ⊑ P.lives))) (fact_i 𝓤 _ (emp 𝓤) lP) $ join ! $
-    use0 𝓛 (raw (fact 𝓤 (κK ⊑ K.lives))) (fact_i 𝓤 _ (emp 𝓤) lK) $ join ! $
-    use0 𝓛 (raw (fact 𝓤 (κT ⊑ X.lives))) (fact_i 𝓤 _ (emp 𝓤) lT) $ join ! $
-    move ! (1 ∷ 0 ∷ []) $ join ! $ use1 𝓛 (raw (B.pre zB)) (id⊢ 𝓤 _) $
-    calls_at ! (framed 𝓤 𝓛.H 𝓜 𝓣) B
+    move ! (2 ∷ 3 ∷ 0 ∷ 8 ∷ 1 ∷ 5 ∷ []) $ group ! 5 $
+    calls 𝓛 B zB (λ (w : Answer.Denot) u. Answer.own_val w (u ∷ []))
+    (λ (ws : Lasts (make_contract.ended X K P gK dK gP dP) zB.0.0 zB.0.3).
+    lasts (make_contract.ended X K P gK dK gP dP) zB.0.0 zB.0.3 ws)
+    (λ w. raw (fact 𝓤 (w.0.slice ≡ first)) ⊛ raw (fact 𝓤 (w.1.slice ≡ second))) ! (framed 𝓤 𝓛.H 𝓜 𝓣)
     (made.met 𝓤 𝓛 𝓜 𝓡 (code.calls-generic_array::sequence::shapes::views::views_of 𝓡.env wired) X K P LX LK LP gK dK gP
-    dP boundK boundP) zB
-    (and_then ! (get ! refl) (and_then ! (get ! refl) (no_more !))) (λ u.
-    use1 𝓛 (later (some (λ (w : Answer.Denot).
-    ((‵ (flft κ qs.0) ⊛ ‵ (flft κT qs.1.0) ⊛ ‵ (flft κK qs.1.1.1.0) ⊛ ‵ (flft κP qs.1.1.1.1.0) ⊛ ‵ ftrue) ⊛
-    ‵ (Answer.own_val w (u ∷ []))) ⊛
-    some (λ (ws : Lasts (make_contract.ended X K P gK dK gP dP) zB.0.0 zB.0.3).
-    ‵ (lasts (make_contract.ended X K P gK dK gP dP) zB.0.0 zB.0.3 ws) ⊛
-    raw (fact 𝓤 (w.0.slice ≡ first)) ⊛ raw (fact 𝓤 (w.1.slice ≡ second)))))) (id⊢ 𝓤 _) $
-    await ! tt $ pick ! (λ w. split ! $ split ! $ move ! (2 ∷ []) $ pick !
-    (λ ws. split3 ! $ drop ! $ heard ! _ (λ of_first. heard ! _ (λ of_second.
-    -- [the tokens of κ, T, K, P; the views; nothing; what follows; the token of N]
-    move ! (1 ∷ []) $ peeks ! Answer (Is Answer) (shows 𝓛 Answer) w (u ∷ []) (λ views.
+    dP boundK boundP) (asked 𝓛 lT (asked 𝓛 lK (asked 𝓛 lP (asked 𝓛 (parts.first_len ∙ is_K) (fact_i 𝓤 _ (emp 𝓤)
+    (omega (arith, is_K, is_N, sum, parts.second_len))))))) (id⊢ 𝓤 _) (λ u. id⊢ 𝓤 _)
+    (and_then ! (get ! refl) (and_then ! (get ! refl) (no_more !))) (λ u w.
+    move ! (1 ∷ []) $ split ! $ heard ! _ (λ of_first. heard ! _ (λ of_second.
+    -- [the views; the tokens of κ, T, K, P; nothing; what follows; the token of N]
+    peeks ! Answer (Is Answer) (shows 𝓛 Answer) w (u ∷ []) (λ views.
     lands_as ! refl refl (((tuple_laws (First ∷ Second ∷ [])
     (view_laws X κ 2 K gK LX LK, (view_laws X κ 3 P gP LX LP, tt))).lawful 𝓛).typed w (u ∷ []) views).0 $
     returns ! (look_at ! 0 refl) $ free_all ! refl $
@@ -222,4 +198,4 @@ split_spec 𝓤 𝓛 𝓜 𝓡 wired X N K P LX LN LK LP gN dN gK dK gP dP bound
     (fact_i 𝓤 _ (emp 𝓤) (ap (λ (x : Part.Denot). x.now) of_first ∙ parts.first_is ∙ (λ i. take (is_K i) (same i).now)))
     $
     move ! (3 ∷ 2 ∷ 4 ∷ 5 ∷ []) $
-    by ! (leaves 𝓛 ends kept c y u w ((tt, tt), tt) (tt, tt)))))))))))))))))))))))
+    by ! (leaves 𝓛 ends kept c y u w ((tt, tt), tt) (tt, tt)))))))))))))))))))

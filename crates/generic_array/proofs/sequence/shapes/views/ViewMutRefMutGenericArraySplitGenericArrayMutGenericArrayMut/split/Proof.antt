@@ -4,6 +4,7 @@
 use Rattle.ga_core.below.ga_views.proofs.view_mut.ViewMut+mut+slice+T+T+N.from_mut_slice.Met as viewed
 use Rattle.ga_core.below.ga_views.specs.contracts.view_mut.ViewMut+mut+slice+T+T+N.from_mut_slice as view_contract
 use Rattle.ga_core.below.ga_views.specs.declared.reborrow.ReborrowSlice as reborrow
+use Rattle.ga_core.proofs.CallStep.{asked, calls}
 use Rattle.ga_core.proofs.ViewMut.TheLaws as laws
 use Rattle.ga_core.proofs.SliceLaws.{array_laws, ArrayView, Slice}
 use Rattle.ga_core.proofs.SliceWalk.{asks_of, passes}
@@ -157,25 +158,19 @@ split_spec 𝓤 𝓛 𝓜 𝓡 wired X N K P A LX LN LK LP LA gL dL gN dN gS dS 
     nothing ! $ move ! (1 ∷ 0 ∷ []) $ fjoin ! $ move ! (1 ∷ []) $ split3 ! $ move ! (2 ∷ []) $ split3 ! $
     move ! (2 ∷ []) $ split3 ! $
     -- [the tokens of P, A; nothing; the tokens of N, K, κ, T; the reference]
-    move ! (5 ∷ 6 ∷ 3 ∷ 1 ∷ 2 ∷ 7 ∷ []) $ group ! 5 $ join ! $
-    nothing ! $ use0 𝓛 (raw (fact 𝓤 (κA ⊑ A.lives))) (fact_i 𝓤 _ (emp 𝓤) lA) $ join ! $
-    use0 𝓛 (raw (fact 𝓤 (κN ⊑ N.lives))) (fact_i 𝓤 _ (emp 𝓤) lN) $ join ! $
-    use0 𝓛 (raw (fact 𝓤 (κT ⊑ X.lives))) (fact_i 𝓤 _ (emp 𝓤) lT) $ join ! $
-    move ! (1 ∷ 0 ∷ []) $ join ! $ use1 𝓛 (raw (B.pre zB)) (id⊢ 𝓤 _) $
-    calls_at ! (framed 𝓤 𝓛.H 𝓜 𝓣) B
+    move ! (5 ∷ 6 ∷ 3 ∷ 1 ∷ 2 ∷ 7 ∷ []) $ group ! 5 $
+    calls 𝓛 B zB (λ (s : Part.Denot) v. Part.own_val s (v ∷ []))
+    (λ (ws : Lasts (lend_contract.ended X N A gL dL gN dN gS dS dA) zB.0.0 zB.0.3).
+    lasts (lend_contract.ended X N A gL dL gN dN gS dS dA) zB.0.0 zB.0.3 ws)
+    (λ s. ‵ (LendsItems E (param 1 N) (param 4 A) gN gS x s) ⊛ raw (fact 𝓤 (s.now ≡ x.now)) ⊛
+    raw (fact 𝓤 (length s.now ≡ gN.USIZE)) ⊛ raw (fact 𝓤 (FitsInline gN.USIZE))) ! (framed 𝓤 𝓛.H 𝓜 𝓣)
     (lent.met 𝓤 𝓛 𝓜 𝓡 (code.calls-ga_core::array::GenericArray::as_mut_slice 𝓡.env wired) X N A LX LN LA gL dL gN dN gS
-    dS dA boundL boundN boundS glue) zB
-    (and_then ! (get ! refl) (no_more !)) (λ v.
-    use1 𝓛 (later (some (λ (s : Part.Denot). ((‵ (flft κ qs.0) ⊛ ‵ (flft κT qs.1.0) ⊛ ‵ (flft κN qs.1.1.0) ⊛
-    ‵ (flft κA qs.1.1.1.1.1.0) ⊛ ‵ ftrue) ⊛ ‵ (Part.own_val s (v ∷ []))) ⊛
-    some (λ (ws : Lasts (lend_contract.ended X N A gL dL gN dN gS dS dA) zB.0.0 zB.0.3).
-    ‵ (lasts (lend_contract.ended X N A gL dL gN dN gS dS dA) zB.0.0 zB.0.3 ws) ⊛
-    ‵ (LendsItems E (param 1 N) (param 4 A) gN gS x s) ⊛ raw (fact 𝓤 (s.now ≡ x.now)) ⊛
-    raw (fact 𝓤 (length s.now ≡ gN.USIZE)) ⊛ raw (fact 𝓤 (FitsInline gN.USIZE)))))) (id⊢ 𝓤 _) $
-    await ! tt $ pick ! (λ s. split ! $ split ! $ move ! (2 ∷ []) $ pick ! (λ ws. split ! $ drop ! $ split3 ! $
-    move ! (1 ∷ []) $ heard ! _ (λ same. move ! (1 ∷ []) $ split ! $ heard ! _ (λ is_N. drop ! $
-    -- [the array follows; the tokens of κ, T, N, A; the slice; the tokens of P, K]
-    move ! (2 ∷ []) $ peeks ! Part (Is Part) (shows 𝓛 Part) s (v ∷ []) (λ is.
+    dS dA boundL boundN boundS glue) (asked 𝓛 lT (asked 𝓛 lN (asked 𝓛 lA (id⊢ 𝓤 _)))) (id⊢ 𝓤 _) (λ v. id⊢ 𝓤 _)
+    (and_then ! (get ! refl) (no_more !)) (λ v s.
+    move ! (1 ∷ []) $ split3 ! $ move ! (1 ∷ []) $ heard ! _ (λ same. move ! (1 ∷ []) $ split ! $ heard ! _ (λ is_N.
+    drop ! $
+    -- [the array follows; the slice; the tokens of κ, T, N, A; the tokens of P, K]
+    move ! (1 ∷ []) $ peeks ! Part (Is Part) (shows 𝓛 Part) s (v ∷ []) (λ is.
     lands_as ! (ap only is.0.0) refl (tt, (tt, (record { fits = is.0.1.0 }, tt))) $
     rewrite ! 0 (λ (vs : List Val). ‵ (Part.own_val s vs)) is.0.0 refl $
     -- the view of the slice
@@ -206,29 +201,19 @@ split_spec 𝓤 𝓛 𝓜 𝓡 wired X N K P A LX LN LK LP LA gL dL gN dN gS dS 
     nothing ! $ move ! (1 ∷ 0 ∷ []) $ fjoin ! $ move ! (1 ∷ []) $ split3 ! $ move ! (2 ∷ []) $ split ! $
     -- [the token of N; nothing; the tokens of κ, T; the view; the token of A; nothing; the array follows; the tokens of
     -- P, K]
-    move ! (2 ∷ 3 ∷ 0 ∷ 9 ∷ 8 ∷ 1 ∷ 4 ∷ []) $ group ! 6 $ join ! $
-    use0 𝓛 (raw (fact 𝓤 (gN.USIZE ≡ gK.USIZE + gP.USIZE))) (fact_i 𝓤 _ (emp 𝓤) sum) $
-    use0 𝓛 (raw (fact 𝓤 (κP ⊑ P.lives))) (fact_i 𝓤 _ (emp 𝓤) lP) $ join ! $
-    use0 𝓛 (raw (fact 𝓤 (κK ⊑ K.lives))) (fact_i 𝓤 _ (emp 𝓤) lK) $ join ! $
-    use0 𝓛 (raw (fact 𝓤 (κN ⊑ N.lives))) (fact_i 𝓤 _ (emp 𝓤) lN) $ join ! $
-    use0 𝓛 (raw (fact 𝓤 (κT ⊑ X.lives))) (fact_i 𝓤 _ (emp 𝓤) lT) $ join ! $
-    move ! (1 ∷ 0 ∷ []) $ join ! $ use1 𝓛 (raw (C.pre zC)) (id⊢ 𝓤 _) $
-    calls_at ! (framed 𝓤 𝓛.H 𝓜 𝓣) C
+    move ! (2 ∷ 3 ∷ 0 ∷ 9 ∷ 8 ∷ 1 ∷ 4 ∷ []) $ group ! 6 $
+    calls 𝓛 C zC (λ (r : Answer.Denot) u. Answer.own_val r (u ∷ []))
+    (λ (ws : Lasts (halve_contract.ended X N K P gN dN gK dK gP dP) zC.0.0 zC.0.3).
+    lasts (halve_contract.ended X N K P gN dN gK dK gP dP) zC.0.0 zC.0.3 ws)
+    (λ r. ‵ (LendsHalves E w.slice r.0.slice r.1.slice) ⊛ raw (fact 𝓤 (r.0.slice.now ≡ take gK.USIZE w.slice.now)) ⊛
+    raw (fact 𝓤 (r.1.slice.now ≡ drop_l gK.USIZE w.slice.now))) ! (framed 𝓤 𝓛.H 𝓜 𝓣)
     (halved.met 𝓤 𝓛 𝓜 𝓡 (code.calls-generic_array::sequence::shapes::views::GenericArrayMutSplit::split 𝓡.env wired) X N
-    K P LX LN LK LP gN dN gK dK gP dP boundN boundK boundP) zC
-    (and_then ! (get ! refl) (no_more !)) (λ u.
-    use1 𝓛 (later (some (λ (r : Answer.Denot).
-    ((‵ (flft κ qs.0) ⊛ ‵ (flft κT qs.1.0) ⊛ ‵ (flft κN qs.1.1.0) ⊛ ‵ (flft κK qs.1.1.1.0) ⊛
-    ‵ (flft κP qs.1.1.1.1.0) ⊛ ‵ ftrue) ⊛ ‵ (Answer.own_val r (u ∷ []))) ⊛
-    some (λ (ws : Lasts (halve_contract.ended X N K P gN dN gK dK gP dP) zC.0.0 zC.0.3).
-    ‵ (lasts (halve_contract.ended X N K P gN dN gK dK gP dP) zC.0.0 zC.0.3 ws) ⊛
-    ‵ (LendsHalves E w.slice r.0.slice r.1.slice) ⊛
-    raw (fact 𝓤 (r.0.slice.now ≡ take gK.USIZE w.slice.now)) ⊛
-    raw (fact 𝓤 (r.1.slice.now ≡ drop_l gK.USIZE w.slice.now)))))) (id⊢ 𝓤 _) $
-    await ! tt $ pick ! (λ r. split ! $ split ! $ move ! (2 ∷ []) $ pick ! (λ ws. split ! $ drop ! $ split3 ! $
-    move ! (1 ∷ []) $ heard ! _ (λ first_is. move ! (1 ∷ []) $ heard ! _ (λ second_is.
-    -- [the slice follows; the tokens of κ, T, N, K, P; the views; the token of A; nothing; the array follows]
-    move ! (2 ∷ []) $ peeks ! Answer (Is Answer) (shows 𝓛 Answer) r (u ∷ []) (λ views.
+    K P LX LN LK LP gN dN gK dK gP dP boundN boundK boundP)
+    (asked 𝓛 lT (asked 𝓛 lN (asked 𝓛 lK (asked 𝓛 lP (fact_i 𝓤 _ (emp 𝓤) sum))))) (id⊢ 𝓤 _) (λ u. id⊢ 𝓤 _)
+    (and_then ! (get ! refl) (no_more !)) (λ u r.
+    move ! (1 ∷ []) $ split3 ! $ move ! (1 ∷ []) $ heard ! _ (λ first_is. move ! (1 ∷ []) $ heard ! _ (λ second_is.
+    -- [the slice follows; the views; the tokens of κ, T, N, K, P; the token of A; nothing; the array follows]
+    move ! (1 ∷ []) $ peeks ! Answer (Is Answer) (shows 𝓛 Answer) r (u ∷ []) (λ views.
     lands_as ! refl refl (((tuple_laws (First ∷ Second ∷ [])
     (array_laws L 0 X 2 K gK LX LK, (array_laws L 0 X 3 P gP LX LP, tt))).lawful 𝓛).typed r (u ∷ []) views).0 $
     returns ! (look_at ! 0 refl) $ free_all ! refl $
@@ -248,4 +233,4 @@ split_spec 𝓤 𝓛 𝓜 𝓡 wired X N K P A LX LN LK LP LA gL dL gN dN gS dS 
     use0 𝓛 (raw (fact 𝓤 (r.0.slice.now ≡ take gK.USIZE x.now)))
     (fact_i 𝓤 _ (emp 𝓤) (first_is ∙ ap (take gK.USIZE) (ap (λ (s : Part.Denot). s.now) of_slice ∙ same))) $
     move ! (3 ∷ 2 ∷ 5 ∷ 4 ∷ []) $
-    by ! (leaves 𝓛 ends kept c y u r ((tt, tt), tt) (tt, tt))))))))))))))))))))))))))))
+    by ! (leaves 𝓛 ends kept c y u r ((tt, tt), tt) (tt, tt))))))))))))))))))))))))
