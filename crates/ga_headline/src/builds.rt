@@ -26,6 +26,8 @@ pub fn build<T, E: Drop, S: FromFallibleIterator<T>, I: Iterator<Item = Result<T
         FillsFallibly I.next_gives items.old S.Length.USIZE built items.new) }
     ensures runs { IfOk (fill_answer (built_items S.items result)) (λ built.
         FillFalliblyRuns I.next_gives items.old S.Length.USIZE built) }
+    ensures can_on { IfOk (fill_answer (built_items S.items result)) (λ built.
+        IfOk built (λ made. OnErr made (I.can_next items.new))) }
     ensures err { OnErr (fill_answer (built_items S.items result)) (items.new ≡ items.old) }
     ensures promised { S.IsPromised → IsOk (fill_answer (built_items S.items result)) }
 {

@@ -5,7 +5,7 @@ ghost use Rattle.generic_array.specs.Entries.{CallAt, CallAtPair, FoldAt};
 ghost use Rattle.generic_array.specs.EntryRuns.{MayTryFold, TryFoldRun};
 ghost use Rattle.generic_array.specs.Runs.{ClosureRun, FirstErrorRun, FoldRun};
 ghost use Rattle.std.specs.List.{zip};
-ghost use Rattle.std.specs.Prelude.{◌≡◌, IfOk, OnErr};
+ghost use Rattle.std.specs.Prelude.{◌≡◌, IfOk, IsOk, OnErr};
 
 use generic_array::functional::{
     FunctionalSequence, Mapped, MappedError, MappedGenericSequence, MappedPlace, MappedSequence,
@@ -27,6 +27,7 @@ where
     ensures run { IfOk result (λ made.
         ClosureRun (CallAt S.entry F.step) f.old (S.items s) (S.Mapped.Sequence.items made) f.new) }
     ensures err { OnErr result (f.new ≡ f.old) }
+    ensures promised { S.Mapped.IsPromised → IsOk result }
 {
     s.map_by(place, f)
 }
@@ -49,6 +50,7 @@ where
         ClosureRun (CallAtPair S.entry Rhs.entry F.step) f.old (zip (S.items s) (Rhs.items rhs))
         (S.Mapped.Sequence.items made) f.new) }
     ensures err { OnErr result (f.new ≡ f.old) }
+    ensures promised { S.Mapped.IsPromised → IsOk result }
 {
     s.zip_by(place, rhs, f)
 }
@@ -80,6 +82,7 @@ where
         FirstErrorRun (CallAt S.entry F.step) f.old (S.items s)
         (built_items S.Mapped.Sequence.items built) f.new) }
     ensures err { OnErr result (f.new ≡ f.old) }
+    ensures promised { S.Mapped.IsPromised → IsOk result }
 {
     s.try_map_by(place, f)
 }

@@ -2,7 +2,8 @@
 ghost use Rattle.generic_array.specs.Account.{Account};
 ghost use Rattle.generic_array.specs.Entries.{CallAt, MayCallAt};
 ghost use Rattle.generic_array.specs.Steps.{MaySteps, StepsRun};
-ghost use Rattle.std.specs.Prelude.{◌≡◌, List, ◌++◌, IfOk, OnErr};
+ghost use Rattle.std.specs.Prelude.{◌≡◌, ◌+◌, ◌≤◌, List, [], ◌++◌, IfOk, IsOk, OnErr, length};
+ghost use Rattle.std.specs.Vec.{vec_capacity, vec_len};
 
 use generic_array::AllocError;
 use generic_array::steps::{Reply, Step, TwoEndedSequence, run_steps};
@@ -25,6 +26,8 @@ pub fn walk<T: Drop, R, S: TwoEndedSequence<T>, G: FnMut(&[T]) -> R>(
         (S.TwoEnded.items left, look.new)
         × Account (S.items s) steps.items given (S.TwoEnded.items left)) }
     ensures err { OnErr result ((look.new ≡ look.old) × (replies.new.items ≡ replies.old.items)) }
+    ensures empty { steps.items ≡ [] → IsOk result }
+    ensures room { vec_len replies.old + length steps.items ≤ vec_capacity replies.old → IsOk result }
 {
     let mut left = s.into_two_ended();
     run_steps(&mut left, steps, look, replies)?;

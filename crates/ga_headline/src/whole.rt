@@ -1,11 +1,12 @@
 //! The headline end to end: a sequence is built, mapped and walked over, of any kind that has all three.
-ghost use Rattle.ga_headline.specs.Whole.{BuiltAndMapped, Comes, StoppedAt, WalkedOn};
+ghost use Rattle.ga_headline.specs.Whole.{BuiltAndMapped, Comes, KeepsPromises, StoppedAt, WalkedOn};
 ghost use Rattle.generic_array.specs.Account.{Account};
 ghost use Rattle.generic_array.specs.Calls.{MayTryMap};
 ghost use Rattle.generic_array.specs.Entries.{CallAt, MayCallAt};
 ghost use Rattle.generic_array.specs.Runs.{FirstErrorRun};
 ghost use Rattle.generic_array.specs.Steps.{MaySteps, StepsRun};
-ghost use Rattle.std.specs.Prelude.{◌≡◌, List, ◌++◌, IfErr, IfOk, Ok, OnErr};
+ghost use Rattle.std.specs.Prelude.{◌≡◌, ◌+◌, ◌≤◌, List, ◌++◌, IfErr, IfOk, Ok, OnErr, length};
+ghost use Rattle.std.specs.Vec.{vec_capacity, vec_len};
 
 use crate::builds::build;
 use crate::calls::try_map;
@@ -77,6 +78,8 @@ where
     ensures stopped { IfErr result (λ why. StoppedAt I.next_gives S.Length.USIZE
         (FirstErrorRun (CallAt S.entry F.step)) items.old f.old why items.new f.new) }
     ensures unwalked { OnErr result ((look.new ≡ look.old) × (replies.new.items ≡ replies.old.items)) }
+    ensures promised { IfErr result (λ why. KeepsPromises S.IsPromised S.Mapped.IsPromised
+        (vec_len replies.old + length steps.items ≤ vec_capacity replies.old) why) }
 {
     walk_on(
         build_and_map::<T, E, U, D, S, I, F>(place, items, mapped_place, f),
@@ -106,8 +109,8 @@ where
     requires can { I.can_next items.old }
     requires may_call { (list : List T) (after : I) → Comes I.next_gives items.old S.Length.USIZE list after
         → MayTryMap S.entry F.pre F.step f.old list }
-    ensures { BuiltAndMapped I.next_gives S.Length.USIZE (FirstErrorRun (CallAt S.entry F.step))
-        S.Mapped.Sequence.TwoEnded.items items.old f.old result items.new f.new }
+    ensures { BuiltAndMapped I.next_gives S.Length.USIZE S.IsPromised S.Mapped.IsPromised
+        (FirstErrorRun (CallAt S.entry F.step)) S.Mapped.Sequence.TwoEnded.items items.old f.old result items.new f.new }
 {
     let made: S = match build(place, items) {
         Ok(made) => made,
@@ -133,7 +136,8 @@ where
     G: FnMut(&[U]) -> R,
     requires { IfOk reached (λ begun. MaySteps (MayCallAt (λ slice. slice.now) G.pre)
         (CallAt (λ slice. slice.now) G.step) (W.items begun, look.old) steps.items) }
-    ensures { WalkedOn (CallAt (λ slice. slice.now) G.step) W.items reached look.old steps.items
+    ensures { WalkedOn (CallAt (λ slice. slice.now) G.step) W.items
+        (vec_len replies.old + length steps.items ≤ vec_capacity replies.old) reached look.old steps.items
         replies.old.items result look.new replies.new.items }
 {
     match reached {

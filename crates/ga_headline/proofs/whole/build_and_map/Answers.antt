@@ -3,6 +3,7 @@ use Rattle.generic_array.specs.Built.{built_items}
 use Rattle.generic_array.specs.Entries.{CallAt}
 use Rattle.generic_array.specs.Runs.{FirstErrorRun}
 use Rattle.std.proofs.Common.{◌∙◌, Ok, ap, subst, sym}
+use Rattle.std.proofs.lemmas.Bool.{false≢true}
 
 pub try_map-requires-clause-callable : goal.try_map-requires-clause-callable
 try_map-requires-clause-callable g c =
@@ -19,6 +20,7 @@ returns-in-Ok-Ok g c = record {
         c.in-Ok-Ok.ensures.run,
   );
   stopped = tt;
+  promised = tt;
 }
 
 pub returns-in-Ok-Err : goal.returns-in-Ok-Err
@@ -31,10 +33,12 @@ returns-in-Ok-Err g c = record {
         (g.S.AsSlice.items c.in-Ok.made) answer c.try_map.new.f)
         (ap (built_items g.S.Mapped.Sequence.AsSlice.items) c.in-Ok-Err.field-0-is) c.in-Ok-Err.ensures.run,
   );
+  promised = tt;
 }
 
 pub returns-in-Err-try_map : goal.returns-in-Err-try_map
 returns-in-Err-try_map g c = record {
   ok = tt;
   stopped = (_, record { fill = c.in-Ok.ensures.fill; runs = c.in-Ok.ensures.runs }, c.in-Err-try_map.ensures.err);
+  promised = λ sure. false≢true (c.in-Err-try_map.ensures.promised sure);
 }

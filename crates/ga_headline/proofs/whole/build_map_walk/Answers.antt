@@ -1,4 +1,4 @@
-use Rattle.ga_headline.proofs.WholeLemmas.{at_reached, whole_ok, whole_stopped}
+use Rattle.ga_headline.proofs.WholeLemmas.{at_reached, whole_keeps, whole_ok, whole_stopped}
 use Rattle.ga_headline.proofs.whole.build_map_walk.Goals as goal
 use Rattle.generic_array.specs.Entries.{CallAt, MayCallAt}
 use Rattle.generic_array.specs.Steps.{MaySteps}
@@ -12,6 +12,7 @@ walk_on-requires g c =
 pub returns : goal.returns
 returns g c = record {
   ok = whole_ok c.build_and_map.result c.walk_on.result c.build_and_map.ensures c.walk_on.ensures;
-  stopped = whole_stopped c.build_and_map.result c.walk_on.result c.build_and_map.ensures c.walk_on.ensures.stopped;
+  stopped = whole_stopped c.build_and_map.result c.walk_on.result c.build_and_map.ensures c.walk_on.ensures;
   unwalked = c.walk_on.ensures.unwalked;
+  promised = whole_keeps c.build_and_map.result c.walk_on.result c.build_and_map.ensures c.walk_on.ensures;
 }
