@@ -41,8 +41,7 @@ use denote.Struct.Field.{mut_slice_field}
 use denote.Struct.Laws.{mut_slice_laws}
 use denote.Struct.Tuple.{Tuple, tuple_laws}
 use denote.Triple.Call.{calls_at}
-use denote.Triple.Clauses.{Ended, Lasts, lasts}
-use denote.Triple.Spec.{triple_of}
+use denote.Triple.Clauses.{Ended}
 use denote.Triple.Table.{framed}
 use denote.Triple.Walked.{stay_dropped, Stays, walk_of}
 use mir.Syntax.{Dict, named}
@@ -116,13 +115,11 @@ split_spec 𝓤 𝓛 𝓜 𝓡 wired X N K P LX LN LK LP gN dN gK dK gP dP bound
     enter ! _ _ _ _ _ $ alloc_all ! (λ l. pass_all ! refl (good.0, tt) $
     sets ! (of_opd ! (get ! refl)) refl good.0 $
     -- the slice is taken out of the view
-    let T = triple_of 𝓛 (take_contract.signature X N gN dN) (take_contract.spec X N gN dN 𝓛 𝓜.mem 𝓡.returns) in
-    let zT : T.Ghost = (((κ, (κT, (κN, tt))), (qs.0, (qs.1.0, (qs.1.1.0, tt))), bounds, a, (whole_val ∷ [], tt)), tt) in
     split ! $ split3 ! $ move ! (2 ∷ []) $ split3 ! $ move ! (2 ∷ []) $ split ! $ move ! (1 ∷ []) $
     -- [nothing; the tokens of P, N, K, κ, T; the view]
     move ! (4 ∷ 5 ∷ 2 ∷ 0 ∷ 6 ∷ []) $ group ! 4 $
-    calls 𝓛 T zT (λ (s : Part.Denot) u. Part.own_val s (u ∷ []))
-    (λ (ws : Lasts (take_contract.ended X N gN dN) zT.0.0 zT.0.3). lasts (take_contract.ended X N gN dN) zT.0.0 zT.0.3 ws)
+    calls 𝓛 (take_contract.ended X N gN dN) (take_contract.clauses X N gN dN 𝓛 𝓜.mem 𝓡.returns) (κ, (κT, (κN, tt)))
+    (qs.0, (qs.1.0, (qs.1.1.0, tt))) bounds a (whole_val ∷ [], tt) tt
     (λ s. raw (fact 𝓤 (s ≡ a.0.slice)) ⊛ raw (fact 𝓤 (length s.now ≡ gN.USIZE))) ! (framed 𝓤 𝓛.H 𝓜 𝓣)
     (taken.met 𝓤 𝓛 𝓜 𝓡 (code.calls-ga_views::view_mut::ViewMut+mut+slice+T+T+N::into_mut_slice 𝓡.env wired) X N LX LN gN
     dN boundN) (asked 𝓛 lT (asked 𝓛 lN (id⊢ 𝓤 _))) (id⊢ 𝓤 _) (λ u. id⊢ 𝓤 _) (and_then ! (get ! refl) (no_more !)) (λ u s.
@@ -155,24 +152,12 @@ split_spec 𝓤 𝓛 𝓜 𝓡 wired X N K P LX LN LK LP gN dN gK dK gP dP bound
     sets ! (agg ! (and_then ! (get ! refl) (and_then ! (get_in ! (fld ! refl (stop !)) (sub ! 1 refl (whole !)))
     (no_more !)))) refl (tt, (tt, (record { fits = f₂ }, tt))) $
     -- the views are made
-    let B = triple_of 𝓛 (make_contract.signature X K P gK dK gP dP)
-    (make_contract.spec X K P gK dK gP dP 𝓛 𝓜.mem 𝓡.returns) in
-    let zB : B.Ghost = (
-      (
-        (κ, (κT, (κK, (κP, tt)))),
-        (qs.0, (qs.1.0, (qs.1.1.1.0, (qs.1.1.1.1.0, tt)))),
-        bounds,
-        (first, (second, tt)),
-        (mut_slice_vals first, (mut_slice_vals second, tt)),
-      ),
-      tt,
-    ) in
     nothing ! $ move ! (1 ∷ 0 ∷ []) $ fjoin ! $ move ! (1 ∷ 0 ∷ []) $ fjoin ! $ move ! (2 ∷ []) $ split3 ! $ move !
     (6 ∷ []) $ split ! $
     move ! (2 ∷ 3 ∷ 0 ∷ 8 ∷ 1 ∷ 5 ∷ []) $ group ! 5 $
-    calls 𝓛 B zB (λ (w : Answer.Denot) u. Answer.own_val w (u ∷ []))
-    (λ (ws : Lasts (make_contract.ended X K P gK dK gP dP) zB.0.0 zB.0.3).
-    lasts (make_contract.ended X K P gK dK gP dP) zB.0.0 zB.0.3 ws)
+    calls 𝓛 (make_contract.ended X K P gK dK gP dP) (make_contract.clauses X K P gK dK gP dP 𝓛 𝓜.mem 𝓡.returns)
+    (κ, (κT, (κK, (κP, tt)))) (qs.0, (qs.1.0, (qs.1.1.1.0, (qs.1.1.1.1.0, tt)))) bounds (first, (second, tt))
+    (mut_slice_vals first, (mut_slice_vals second, tt)) tt
     (λ w. raw (fact 𝓤 (w.0.slice ≡ first)) ⊛ raw (fact 𝓤 (w.1.slice ≡ second))) ! (framed 𝓤 𝓛.H 𝓜 𝓣)
     (made.met 𝓤 𝓛 𝓜 𝓡 (code.calls-generic_array::sequence::shapes::views::views_of 𝓡.env wired) X K P LX LK LP gK dK gP
     dP boundK boundP) (asked 𝓛 lT (asked 𝓛 lK (asked 𝓛 lP (asked 𝓛 (parts.first_len ∙ is_K) (fact_i 𝓤 _ (emp 𝓤)

@@ -48,8 +48,7 @@ use denote.Struct.Field.{mut_ref_field}
 use denote.Struct.Laws.{mut_ref_laws}
 use denote.Struct.Tuple.{Tuple, tuple_laws}
 use denote.Triple.Call.{calls_at}
-use denote.Triple.Clauses.{Ended, Lasts, lasts}
-use denote.Triple.Spec.{triple_of}
+use denote.Triple.Clauses.{Ended}
 use denote.Triple.Table.{framed}
 use denote.Triple.Walked.{stay_dropped, Stays, walk_of}
 use mir.Syntax.{Dict, named}
@@ -143,25 +142,13 @@ split_spec 𝓤 𝓛 𝓜 𝓡 wired X N K P A LX LN LK LP LA gL dL gN dN gS dS 
     (mut_Tells (named 0) κ (Items X N A gL gN gS κ) x vss.0 is_ref) refl $
     move ! (1 ∷ 2 ∷ []) $ drop ! $ drop ! $
     -- the array's slice is lent
-    let B = triple_of 𝓛 (lend_contract.signature X N A gL dL gN dN gS dS dA)
-    (lend_contract.spec X N A gL dL gN dN gS dS dA 𝓛 𝓜.mem 𝓡.returns) in
-    let zB : B.Ghost = (
-      (
-        (κ, (κT, (κN, (κA, tt)))),
-        (qs.0, (qs.1.0, (qs.1.1.0, (qs.1.1.1.1.1.0, tt)))),
-        bounds,
-        (x, tt),
-        (mut_vals x, tt),
-      ),
-      tt,
-    ) in
     nothing ! $ move ! (1 ∷ 0 ∷ []) $ fjoin ! $ move ! (1 ∷ []) $ split3 ! $ move ! (2 ∷ []) $ split3 ! $
     move ! (2 ∷ []) $ split3 ! $
     -- [the tokens of P, A; nothing; the tokens of N, K, κ, T; the reference]
     move ! (5 ∷ 6 ∷ 3 ∷ 1 ∷ 2 ∷ 7 ∷ []) $ group ! 5 $
-    calls 𝓛 B zB (λ (s : Part.Denot) v. Part.own_val s (v ∷ []))
-    (λ (ws : Lasts (lend_contract.ended X N A gL dL gN dN gS dS dA) zB.0.0 zB.0.3).
-    lasts (lend_contract.ended X N A gL dL gN dN gS dS dA) zB.0.0 zB.0.3 ws)
+    calls 𝓛 (lend_contract.ended X N A gL dL gN dN gS dS dA)
+    (lend_contract.clauses X N A gL dL gN dN gS dS dA 𝓛 𝓜.mem 𝓡.returns) (κ, (κT, (κN, (κA, tt))))
+    (qs.0, (qs.1.0, (qs.1.1.0, (qs.1.1.1.1.1.0, tt)))) bounds (x, tt) (mut_vals x, tt) tt
     (λ s. ‵ (LendsItems E (param 1 N) (param 4 A) gN gS x s) ⊛ raw (fact 𝓤 (s.now ≡ x.now)) ⊛
     raw (fact 𝓤 (length s.now ≡ gN.USIZE)) ⊛ raw (fact 𝓤 (FitsInline gN.USIZE))) ! (framed 𝓤 𝓛.H 𝓜 𝓣)
     (lent.met 𝓤 𝓛 𝓜 𝓡 (code.calls-ga_core::array::GenericArray::as_mut_slice 𝓡.env wired) X N A LX LN LA gL dL gN dN gS
@@ -186,25 +173,13 @@ split_spec 𝓤 𝓛 𝓜 𝓡 wired X N K P A LX LN LK LP LA gL dL gN dN gS dS 
     move ! (1 ∷ []) $ heard ! _ (λ of_slice. peeks ! Half (Is Half) (shows 𝓛 Half) w (u ∷ []) (λ is_view.
     lands_as ! refl refl (((array_laws L 0 X 1 N gN LX LN).lawful 𝓛).typed w (u ∷ []) is_view).0 $
     -- the view is cut
-    let C = triple_of 𝓛 (halve_contract.signature X N K P gN dN gK dK gP dP)
-    (halve_contract.spec X N K P gN dN gK dK gP dP 𝓛 𝓜.mem 𝓡.returns) in
-    let zC : C.Ghost = (
-      (
-        (κ, (κT, (κN, (κK, (κP, tt))))),
-        (qs.0, (qs.1.0, (qs.1.1.0, (qs.1.1.1.0, (qs.1.1.1.1.0, tt))))),
-        (bounds.0, tt),
-        (w, tt),
-        (u ∷ [], tt),
-      ),
-      tt,
-    ) in
     nothing ! $ move ! (1 ∷ 0 ∷ []) $ fjoin ! $ move ! (1 ∷ []) $ split3 ! $ move ! (2 ∷ []) $ split ! $
     -- [the token of N; nothing; the tokens of κ, T; the view; the token of A; nothing; the array follows; the tokens of
     -- P, K]
     move ! (2 ∷ 3 ∷ 0 ∷ 9 ∷ 8 ∷ 1 ∷ 4 ∷ []) $ group ! 6 $
-    calls 𝓛 C zC (λ (r : Answer.Denot) u. Answer.own_val r (u ∷ []))
-    (λ (ws : Lasts (halve_contract.ended X N K P gN dN gK dK gP dP) zC.0.0 zC.0.3).
-    lasts (halve_contract.ended X N K P gN dN gK dK gP dP) zC.0.0 zC.0.3 ws)
+    calls 𝓛 (halve_contract.ended X N K P gN dN gK dK gP dP)
+    (halve_contract.clauses X N K P gN dN gK dK gP dP 𝓛 𝓜.mem 𝓡.returns) (κ, (κT, (κN, (κK, (κP, tt)))))
+    (qs.0, (qs.1.0, (qs.1.1.0, (qs.1.1.1.0, (qs.1.1.1.1.0, tt))))) (bounds.0, tt) (w, tt) (u ∷ [], tt) tt
     (λ r. ‵ (LendsHalves E w.slice r.0.slice r.1.slice) ⊛ raw (fact 𝓤 (r.0.slice.now ≡ take gK.USIZE w.slice.now)) ⊛
     raw (fact 𝓤 (r.1.slice.now ≡ drop_l gK.USIZE w.slice.now))) ! (framed 𝓤 𝓛.H 𝓜 𝓣)
     (halved.met 𝓤 𝓛 𝓜 𝓡 (code.calls-generic_array::sequence::shapes::views::GenericArrayMutSplit::split 𝓡.env wired) X N
