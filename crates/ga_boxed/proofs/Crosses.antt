@@ -51,8 +51,9 @@ module _ (R : RattleType) where
       }
 
   module _ (A : RattleType) (g : Ghosts A.Denot) where
+    -- that the allocator may be sent is asked of each impl, and not needed here
     pub Deed-send : IsSend A → Frees g g.dealloc_token → IsSend (Deed.the_row R A g)
-    Deed-send s f =
+    Deed-send _ f =
         let O = Deed.the_type R A g in let all : AllSend (fields O) = (search sendable, tt) in
         owning_send O all (λ d. if_so (has_block d.len) _ (f.frees d.alloc _ d.at))
         (λ k. quiet (to O) (exits_of k (fields O)) ((struct_send (shape O) all).leaving k))
