@@ -5,7 +5,7 @@ use Rattle.ga_core.specs.Entries.{ActsInFold, FoldAt}
 use Rattle.ga_core.specs.Runs.{FoldRun}
 use Rattle.ga_core.specs.Tries.{result_and_then, try_fold}
 use Rattle.generic_array.specs.EntryRuns.{TryFoldRun}
-use Rattle.std.proofs.Common.{◌≡◌, List, [], ◌∷◌, Result, Ok, Err, inl, inr, ap, fold, subst, sym, ◌∙◌}
+use Rattle.std.proofs.Common.{◌≡◌, List, [], ◌∷◌, Result, Ok, Err, inl, inr, ap, fold, sym, ◌∙◌}
 
 module _ {I T F A B : Type 0} (entry : I → T) (step : F → A → I → B → F → Type 0) (f : F) (h : A → T → B)
     (acts : ActsInFold entry step f h) where

@@ -72,17 +72,13 @@ module _ {S I T F A B : Type 0} {can : S → Type 0} {steps : S → Option I →
     FoldLoop-more goes item t g b next call may ends =
         let asked = loop.callable in
         let given = next_given steps asked.0 s asked.1 item t asked.2 next in
+        let along : MayFoldAlong pre step asked.0 g b given.0 = λ passed x others reached c whole run.
+        asked.3 (asked.0 item ∷ passed) x others reached c (given.1 ∙ ap (λ l. asked.0 item ∷ l) whole)
+        ((g, b), (item, refl, call), run) in
         record {
           may = may;
           ends = ends;
-          callable = (
-            asked.0,
-            given.0,
-            given.2,
-            λ passed x others reached c whole run.
-                asked.3 (asked.0 item ∷ passed) x others reached c (given.1 ∙ ap (λ l. asked.0 item ∷ l) whole)
-                ((g, b), (item, refl, call), run),
-          );
+          callable = (asked.0, given.0, given.2, along);
           joins = λ entry values gives.
               let so_far = loop.joins entry values gives in
               let left = next_given steps entry s so_far.0 item t so_far.1 next in

@@ -1,6 +1,5 @@
 -- Laws of runs over joined lists, proved.
 use Rattle.ga_core.proofs.JoinedRuns.{ClosureRun-in_turn}
-use Rattle.generic_array.specs.EntryRuns.{TryFoldRun}
 use Rattle.ga_core.specs.Runs.{ClosureRun, FirstErrorRun}
 use Rattle.generic_array.specs.Laws.{ErrorRunsJoin, FoldsJoin, FoldsToErrorJoin, GoodFoldsJoin, GoodRunsJoin, RunInParts}
 use Rattle.generic_array.specs.Laws.{RunsJoin}

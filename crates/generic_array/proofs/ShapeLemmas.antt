@@ -1,6 +1,6 @@
 -- Items taken out of a list, and rows of it joined and cut.
-use Rattle.std.proofs.Common.{◌≡◌, ℕ, zero, suc, ◌+◌, ◌*◌, ◌/◌, ◌<◌, ◌≤◌, List, [], ◌∷◌, ◌++◌, take, drop}
-use Rattle.std.proofs.Common.{refl, ap, ◌∙◌, sym, arith, length, length-append, length-drop, map}
+use Rattle.std.proofs.Common.{◌≡◌, ℕ, zero, suc, ◌+◌, ◌*◌, ◌/◌, ◌<◌, List, [], ◌∷◌, ◌++◌, take, drop}
+use Rattle.std.proofs.Common.{ap, ◌∙◌, sym, arith, length, length-append, length-drop, map}
 use Rattle.ga_core.proofs.RowLemmas.{rows-few, rows-first}
 use Rattle.std.proofs.Math.Seq.{drop-append_seam, take-append_seam}
 use Rattle.generic_array.specs.Rows.{row_at, rows}

@@ -1,18 +1,15 @@
 -- Walks over what a sequence gives, and the calls along them.
-use Rattle.ga_core.proofs.RunLemmas.{FirstErrorRun-length}
 use Rattle.ga_core.proofs.CallLemmas.{may_map-at, may_try_map-at, may_zip-at}
 use Rattle.ga_core.specs.Calls.{MayMap, MayTryMap, MayZip}
 use Rattle.ga_core.specs.Entries.{CallAt, CallAtPair, MayCallAt}
 use Rattle.ga_core.specs.Runs.{ClosureRun, FirstErrorRun}
 use Rattle.generic_array.specs.GivenEntries.{CallAtNext, CallAtNextPair, MayCallAtNext, MayCallAtNextPair}
 use Rattle.generic_array.specs.EntryRuns.{FirstErrorRan}
-use Rattle.std.proofs.Common.{◌≡◌, ℕ, ◌<◌, List, [], ◌∷◌, ◌++◌, length, arith, inl, inr, map, Result, Ok, Err, Option, None}
-use Rattle.std.proofs.Common.{Some, refl, ap, sym, ◌∙◌, subst}
+use Rattle.std.proofs.Common.{◌≡◌, ◌<◌, List, [], ◌∷◌, ◌++◌, length, arith, inl, inr, map, Result, Ok, Err, Option}
+use Rattle.std.proofs.Common.{refl, ap, sym, ◌∙◌, subst}
 use Rattle.std.specs.Iterator.{AlwaysYields}
 use Rattle.std.proofs.lemmas.List.{map-id}
-use Rattle.std.proofs.lemmas.List.FromFn.{length-range_with_len}
-use Rattle.std.specs.List.{range_with_len, zip}
-use Rattle.std.specs.Prelude.{IfOk}
+use Rattle.std.specs.List.{zip}
 
 -- A closure that takes the next item at each call and answers what f answers at it: c is its state, `it c` the
 -- iterator's and `fn c` that of f.
@@ -170,10 +167,3 @@ module _ {C K Y E A : Type 0} (calls : C → K → Result Y E → C → Type 0) 
 abbrev pub calls_of : {C K Y E : Type 0} {calls : C → K → Result Y E → C → Type 0} {c : C} {ks : List K}
     {answer : Result (List Y) E} {d : C} → FirstErrorRan calls c ks answer d → C → K → Result Y E → C → Type 0
 calls_of {calls = calls} ran = calls
-
--- good calls at the numbers below n gave n answers
-pub FirstErrorRun-below_length : {F Y E : Type 0} (step : F → ℕ → Result Y E → F → Type 0) (f : F) (n : ℕ)
-    (answer : Result (List Y) E) (last : F)
-    → FirstErrorRun step f (range_with_len 0 n) answer last → IfOk answer (λ ys. length ys ≡ n)
-FirstErrorRun-below_length step f n answer last run =
-    FirstErrorRun-length step f (range_with_len 0 n) answer last n (length-range_with_len 0 n) run

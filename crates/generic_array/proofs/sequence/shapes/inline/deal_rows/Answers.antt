@@ -2,11 +2,11 @@ use Rattle.ga_core.proofs.SlotLemmas.{refill-whole}
 use Rattle.generic_array.proofs.ShapeLemmas.{rows-whole}
 use Rattle.generic_array.proofs.sequence.shapes.inline.deal_rows.Goals as goal
 use Rattle.generic_array.specs.Rows.{row_at}
-use Rattle.std.proofs.Common.{◌≡◌, ◌+◌, ◌*◌, ◌≤◌, ◌∙◌, ap, arith, drop, get_or, length, length-drop, map, refl, suc, sym, take}
+use Rattle.std.proofs.Common.{◌≡◌, ◌+◌, ◌*◌, ◌≤◌, ◌∙◌, ap, arith, drop, get_or, length, length-drop, refl, suc, sym, take}
 use Rattle.std.proofs.Math.Nat.{mul-le-mul_right, suc-mul}
 use Rattle.std.proofs.lemmas.List.{drop-drop, take_all, take_more_set}
 use Rattle.std.proofs.lemmas.List.FromFn.{map-range_with_len_more}
-use Rattle.std.specs.List.{range_with_len, refill}
+use Rattle.std.specs.List.{refill}
 
 pub loop-row-preserved : goal.loop-row-preserved
 loop-row-preserved g c =

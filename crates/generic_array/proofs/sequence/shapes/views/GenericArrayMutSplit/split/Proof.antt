@@ -40,15 +40,14 @@ use denote.Steps.{heard, nothing, only, peeks}
 use denote.Struct.Field.{mut_slice_field}
 use denote.Struct.Laws.{mut_slice_laws}
 use denote.Struct.Tuple.{Tuple, tuple_laws}
-use denote.Triple.Call.{calls_at}
 use denote.Triple.Clauses.{Ended}
 use denote.Triple.Table.{framed}
 use denote.Triple.Walked.{stay_dropped, Stays, walk_of}
 use mir.Syntax.{Dict, named}
 use mir.Val.{Val}
 use types.ByLocal.{alloc_all, free_all, get, get_in, lands_as, look_at, look_in_at, pass_all, sets}
-use types.Kit.{‵, ◌⊛◌, ◌$◌, ◌∵◌, !, await, by, drop, fjoin, group, join, later, move, pick, qed, raw, rewrite, some}
-use types.Kit.{split, split3, use0, use1}
+use types.Kit.{‵, ◌⊛◌, ◌$◌, ◌∵◌, !, by, drop, fjoin, group, join, move, qed, raw, rewrite}
+use types.Kit.{split, split3, use0}
 use types.Part.{agg, sub, whole}
 use types.Run.{addr, and_then, enter, fld, from, hop, no_more, of_opd, returns, stop}
 

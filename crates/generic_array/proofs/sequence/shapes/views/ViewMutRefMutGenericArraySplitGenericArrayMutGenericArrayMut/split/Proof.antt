@@ -47,15 +47,14 @@ use denote.Steps.{heard, nothing, only, peeks}
 use denote.Struct.Field.{mut_ref_field}
 use denote.Struct.Laws.{mut_ref_laws}
 use denote.Struct.Tuple.{Tuple, tuple_laws}
-use denote.Triple.Call.{calls_at}
 use denote.Triple.Clauses.{Ended}
 use denote.Triple.Table.{framed}
 use denote.Triple.Walked.{stay_dropped, Stays, walk_of}
 use mir.Syntax.{Dict, named}
 use mir.Val.{Val}
 use types.ByLocal.{alloc_all, free_all, get, lands_as, look_at, look_in_at, pass_all, sets}
-use types.Kit.{‵, ◌⊛◌, ◌$◌, ◌∵◌, !, await, by, drop, feq_l, fjoin, fpick, fsplit, group, join, later, move, pick, qed}
-use types.Kit.{raw, rewrite, some, split, split3, use0, use1, use2}
+use types.Kit.{‵, ◌⊛◌, ◌$◌, ◌∵◌, !, by, drop, feq_l, fjoin, fpick, fsplit, group, move, qed}
+use types.Kit.{raw, rewrite, split, split3, use0, use2}
 use types.Part.{sub, whole}
 use types.Run.{addr, and_then, enter, fld, from, hop, no_more, returns, stop}
 
