@@ -4,10 +4,9 @@ use Rattle.ga_headline.specs.declared.whole.Stopped.{Stopped}
 use Rattle.ga_headline.specs.declared.whole.Stopped.TheVariants.{NotWalked}
 use Rattle.generic_array.specs.Account.{Account}
 use Rattle.generic_array.specs.Steps.{StepsRun}
-use Rattle.generic_array.specs.declared.AllocError.{AllocError}
 use Rattle.generic_array.specs.declared.steps.step.Reply.{Reply}
 use Rattle.generic_array.specs.declared.steps.step.Step.{Step}
-use Rattle.std.proofs.Common.{◌≡◌, ◌⊎◌, ℕ, ◌++◌, List, Option, Result, Ok, Err, inl, inr, subst, sym}
+use Rattle.std.proofs.Common.{◌≡◌, ℕ, ◌++◌, List, Option, Result, Ok, Err, inl, inr, subst, sym}
 use Rattle.std.specs.Prelude.{IfErr, IfOk, ⊤}
 
 -- what stopped before the walk lacked no room
@@ -56,11 +55,11 @@ module _ {I T E P U D Q F W BuildPromised MapPromised : Type 0} {next_gives : I 
         → IfErr result (λ why. StoppedAt next_gives n run before f why after last)
     whole_stopped reached (Ok left) built walked = tt
     whole_stopped reached (Err why) built walked = elim (walked.stopped) [
-        inl same ↦ subst (λ r. IfErr r (λ why. StoppedAt next_gives n run before f why after last)) same built.stopped
+      | inl same ↦ subst (λ r. IfErr r (λ why. StoppedAt next_gives n run before f why after last)) same built.stopped
       | inr (begun, refused, same, is, full) ↦
-        let (list, comes, mapped) = built_from reached begun same built in
-        subst (λ (w : Stopped E P D Q). StoppedAt next_gives n run before f w after last) (sym is)
-        (list, items begun, comes, mapped)
+          let (list, comes, mapped) = built_from reached begun same built in
+          subst (λ (w : Stopped E P D Q). StoppedAt next_gives n run before f w after last) (sym is)
+          (list, items begun, comes, mapped)
     ]
 
     -- the whole keeps the promises of its parts
@@ -70,8 +69,8 @@ module _ {I T E P U D Q F W BuildPromised MapPromised : Type 0} {next_gives : I 
         → IfErr result (λ why. KeepsPromises BuildPromised MapPromised Room why)
     whole_keeps reached (Ok left) built walked = tt
     whole_keeps reached (Err why) built walked = elim (walked.stopped) [
-        inl same ↦ keeps_room BuildPromised MapPromised Room why
-        (subst (λ r. IfErr r (λ why. KeepsPromises BuildPromised MapPromised ⊤ why)) same built.promised)
+      | inl same ↦ keeps_room BuildPromised MapPromised Room why
+          (subst (λ r. IfErr r (λ why. KeepsPromises BuildPromised MapPromised ⊤ why)) same built.promised)
       | inr (begun, refused, same, is, full) ↦
-        subst (λ (w : Stopped E P D Q). KeepsPromises BuildPromised MapPromised Room w) (sym is) full
+          subst (λ (w : Stopped E P D Q). KeepsPromises BuildPromised MapPromised Room w) (sym is) full
     ]
