@@ -1,6 +1,7 @@
 mod LentStore
 mod MadeLemmas
 mod NextCalls
+mod TupleLemmas
 mod ZipLemmas
 pub mod ActsLemmas
 pub mod CallLemmas

@@ -1,6 +1,4 @@
 //! Tuples of the items of arrays, each by the native array of them and std's `From`.
-#![tactic(auto, using(std::proofs::lemmas::List::drop_more, std::proofs::lemmas::List::drop_all))]
-
 ghost use Rattle.std.specs.Prelude.{◌≡◌, ◌∷◌, []};
 
 use crate::array::GenericArray;
