@@ -3,6 +3,7 @@
 //!
 //! Each call is a line of a table, and each table is played at every length of the test.
 ghost use Rattle.generic_array.specs.Length.{FitsInline};
+ghost use Rattle.std.specs.Prelude.{◌≤◌};
 
 use crate::tests::items::{boxed_from_one, from_one, number};
 use generic_array::checks::map_total_by;
@@ -245,7 +246,9 @@ fn block_takes(alloc: Global, len: usize) -> bool {
 }
 
 /// Whether a native array goes to a block, as `box_arr!` of items written out has it.
-fn native_goes_to_a_block<const U: usize>(alloc: Global) -> bool {
+fn native_goes_to_a_block<const U: usize>(alloc: Global) -> bool
+    requires { U ≤ 65 }
+{
     is_all_seven(BoxedArray::<u32, Const<U>>::from_array(alloc, [7; U]), U)
 }
 
