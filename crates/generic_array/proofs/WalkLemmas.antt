@@ -69,7 +69,7 @@ module _ {S I T C F K Y E : Type 0} (steps : S → Option I → S → Type 0) (c
       reads Ok values c ks good d gives may run more (may_try_map-at entry pre step (fn c) values callable)
 
   -- the run that came to the answer is the run over all entries
-  pub walk-answer : (answer : Result (List Y) E) (values : List T) (c : C) (ks : List K) (d : C)
+  walk-answer : (answer : Result (List Y) E) (values : List T) (c : C) (ks : List K) (d : C)
       → AlwaysYields steps entry (it c) values → FirstErrorRun calls c ks answer d → length ks ≡ length values
       → FirstErrorRun (CallAt entry step) (fn c) values answer (fn d)
   walk-answer (Ok []) [] c [] d gives run all = ap fn run
@@ -153,7 +153,7 @@ module _ {C K Y A : Type 0} (calls : C → K → Y → C → Type 0) (part : C �
 module _ {C K Y E A : Type 0} (calls : C → K → Result Y E → C → Type 0) (part : C → A)
     (keeps : (c : C) (k : K) (y : Result Y E) (d : C) → calls c k y d → part d ≡ part c) where
   -- so does a run up to an answer
-  pub FirstErrorRun-keeps : (answer : Result (List Y) E) (c : C) (ks : List K) (d : C)
+  FirstErrorRun-keeps : (answer : Result (List Y) E) (c : C) (ks : List K) (d : C)
       → FirstErrorRun calls c ks answer d → part d ≡ part c
   FirstErrorRun-keeps (Ok []) c [] d run = ap part (sym run)
   FirstErrorRun-keeps (Ok (y ∷ good)) c (k ∷ ks) d run =
@@ -163,7 +163,18 @@ module _ {C K Y E A : Type 0} (calls : C → K → Result Y E → C → Type 0) 
       FirstErrorRun-keeps (Err error) more.1 ks d more.3 ∙ keeps c k (Ok more.0) more.1 more.2
   FirstErrorRun-keeps _ c _ d run = absurd run
 
--- the calls of a run that is told as a record
-abbrev pub calls_of : {C K Y E : Type 0} {calls : C → K → Result Y E → C → Type 0} {c : C} {ks : List K}
-    {answer : Result (List Y) E} {d : C} → FirstErrorRan calls c ks answer d → C → K → Result Y E → C → Type 0
-calls_of {calls = calls} ran = calls
+-- the same of a run that is told as a record, from which the calls are found
+module _ {C K Y E : Type 0} {calls : C → K → Result Y E → C → Type 0} {c : C} {ks : List K} {answer : Result (List Y) E}
+    {d : C} (ran : FirstErrorRan calls c ks answer d) where
+  pub FirstErrorRan-keeps : {A : Type 0} (part : C → A)
+      → ((f : C) (k : K) (y : Result Y E) (g : C) → calls f k y g → part g ≡ part f) → part d ≡ part c
+  FirstErrorRan-keeps part keeps = FirstErrorRun-keeps calls part keeps answer c ks d ran.run
+
+  pub walk-ran : {S I T F : Type 0} (steps : S → Option I → S → Type 0) (can : S → Type 0) (entry : I → T)
+      (pre : F → I → Type 0) (step : F → I → Result Y E → F → Type 0) (it : C → S) (fn : C → F)
+      → ((f : C) (k : K) (y : Result Y E) (g : C) → calls f k y g
+      → CallAtNext can steps step (it f) (fn f) y (it g) (fn g))
+      → (values : List T) → AlwaysYields steps entry (it c) values → length ks ≡ length values
+      → FirstErrorRun (CallAt entry step) (fn c) values answer (fn d)
+  walk-ran steps can entry pre step it fn reads values gives =
+      walk-answer steps can entry pre step it fn calls reads answer values c ks d gives ran.run

@@ -1,4 +1,4 @@
-use Rattle.generic_array.proofs.WalkLemmas.{FirstErrorRun-keeps, calls_of, try_map-callable, walk-answer}
+use Rattle.generic_array.proofs.WalkLemmas.{FirstErrorRan-keeps, try_map-callable, walk-ran}
 use Rattle.generic_array.proofs.functional.walks.try_map_entries.Goals as goal
 use Rattle.std.proofs.Common.{arith, rules}
 use Rattle.std.proofs.lemmas.List.FromFn.{length-range_with_len}
@@ -17,11 +17,10 @@ returns g c =
     record {
       len = told.len;
       run = IfOk-weaker c.try_build.result _ _ (λ built ran entry values gives long.
-          let kept = FirstErrorRun-keeps (calls_of ran) (λ d. d.0.ghost_name) (λ d j y e call. call.met.1.1) _ _ _
-          c.try_build.new.g ran.run in
-          let lifted = walk-answer g.I.Iterator.next_gives g.I.Iterator.can_next entry (goal.F-pre g) (goal.F-step g)
-          (λ d. d.1.now) (λ d. d.0.now) (calls_of ran) (λ d j y e call. call.met.1.0) _ values _ _ c.try_build.new.g
-          gives.2 ran.run (omega (arith, length-range_with_len 0 g.M.Length.Unsigned.USIZE, long)) in
+          let kept = FirstErrorRan-keeps ran (λ d. d.0.ghost_name) (λ d j y e call. call.met.1.1) in
+          let lifted = walk-ran ran g.I.Iterator.next_gives g.I.Iterator.can_next entry (goal.F-pre g) (goal.F-step g)
+          (λ d. d.1.now) (λ d. d.0.now) (λ d j y e call. call.met.1.0) values gives.2
+          (omega (arith, length-range_with_len 0 g.M.Length.Unsigned.USIZE, long)) in
           search rules) told.run;
       err = search rules;
       promised = told.promised;
