@@ -17,7 +17,7 @@ pub struct Record {
 }
 
 /// The record in a row.
-#[tactic(auto, unfolding(crate::specs::Records::record_of))]
+#[tactic(auto, unfolding(crate::specs::RecordOf::record_of))]
 pub fn read_record(row: GenericArrayRef<'_, u8, U6>) -> Record
     ensures { result ≡ record_of (items_of_view row.entry) }
 {
