@@ -9,7 +9,10 @@ use generic_array::functional::{
     inverted_zip_by, inverted_zip2_by,
 };
 use generic_array::sequence::GenericSequence;
-use generic_array::{AllocError, ArrayLength, BoxedArray, GenericArray, GenericArrayRef, U2, U3};
+use generic_array::{
+    AllocError, ArrayLength, BoxedArray, GenericArray, GenericArrayRef, InlineLength, U2, U3,
+    always,
+};
 use std::alloc::Global;
 use std::convert::AsSlice;
 use std::test::Fail;
@@ -33,6 +36,16 @@ where
     let products = left.zip(place, right, |l: u32, r: u32| l.wrapping_mul(r))?;
     let items = products.as_slice().iter();
     Ok(items.fold(0, |total: u32, x: &u32| total.wrapping_add(*x)))
+}
+
+// The first of each two items of two views, where the type of the items is open.
+fn firsts_of_views<T: Copy + Default + Drop, N: ArrayLength<T> + InlineLength>(
+    left: GenericArrayRef<'_, T, N>,
+    right: GenericArrayRef<'_, T, N>,
+) -> GenericArray<T, N>
+    ensures { result ≡ map (λ p. p.0) (zip (items_of_view left.entry) (items_of_view right.entry)) }
+{
+    always(left.zip((), right, |l: &T, _r: &T| *l))
 }
 
 // A map with a running total, by a closure that one map borrows and then the next.

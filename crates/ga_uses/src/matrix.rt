@@ -10,7 +10,8 @@ use std::marker::Model;
 
 /// A row of `C` numbers.
 ///
-/// A type of its own, since the checker doesn't cover a struct whose bound names an array of arrays.
+/// A type of its own, since the checker doesn't cover a struct whose bound names an array of arrays of a
+/// named type.
 #[derive(Drop)]
 pub struct Row<C: ArrayLength<u64>> {
     /// The numbers, from the first column to the last.
