@@ -3,5 +3,5 @@ pub mod BoxedIterLends
 pub mod BoxedLends
 pub mod CellsLend
 pub mod CellsOwn
-pub mod FillAnswer
 pub mod Live
+pub mod Placed

@@ -1,7 +1,6 @@
 //! Boxed arrays: builds, writes and walks, and threads.
-ghost use Rattle.generic_array.specs.FillAnswer.{fill_answer};
 ghost use Rattle.generic_array.specs.Length.{FitsInline};
-ghost use Rattle.std.specs.Prelude.{◌≡◌, ◌%◌, ◌∷◌, [], ◌^◌, ◌<◌, ◌↔◌, ◌⊎◌, IfErr, IfOk, IsOk, Ok, OnOk, length, reverse, slice_set, sum};
+ghost use Rattle.std.specs.Prelude.{◌≡◌, ℕ, ◌%◌, ◌∷◌, [], ◌^◌, ◌<◌, ◌↔◌, ◌⊎◌, IfErr, IfOk, IsOk, Ok, OnOk, length, reverse, slice_set, sum};
 
 use crate::kinds::boxed_one_two_three;
 use ga_core_examples::answers::gives;
@@ -85,8 +84,7 @@ fn four_digits_lent(
     alloc: Global,
     text: &[u8],
 ) -> Result<BoxedArray<u8, U4>, FillError<u8, AllocError>>
-    ensures other { IfOk (fill_answer result) (λ built.
-        IfOk built (λ made. IfErr made (λ byte. (byte < 48) ⊎ (57 < byte)))) }
+    ensures other { (byte : ℕ) → result ≡ Err (FillError.Item byte) → (byte < 48) ⊎ (57 < byte) }
     ensures long { OnOk result (length text.now ≡ 4) }
 {
     let mut digits = text.iter().map(decimal_digit);

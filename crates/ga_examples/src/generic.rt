@@ -1,9 +1,7 @@
 //! Functions that know the traits alone.
-ghost use Rattle.generic_array.specs.FillAnswer.{fill_answer};
-ghost use Rattle.generic_array.specs.Built.{built_items};
 ghost use Rattle.generic_array.specs.Calls.{MayMap};
 ghost use Rattle.std.specs.List.{range_with_len};
-ghost use Rattle.std.specs.Prelude.{◌≡◌, ◌+◌, ◌<◌, ◌⊎◌, IfErr, IfOk, IsOk, OnOk, length, map, refl, replicate};
+ghost use Rattle.std.specs.Prelude.{◌≡◌, ℕ, ◌+◌, ◌<◌, ◌⊎◌, IfOk, IsOk, OnOk, length, map, refl, replicate};
 
 use ga_core_examples::digits::decimal_digit;
 use generic_array::functional::{
@@ -116,8 +114,7 @@ fn digits_lent<S: FromFallibleIterator<u8>>(
     text: &[u8],
 ) -> Result<S, FillError<u8, S::Error>>
     requires fits { S.Fits }
-    ensures other { IfOk (fill_answer (built_items S.items result)) (λ built.
-        IfOk built (λ made. IfErr made (λ byte. (byte < 48) ⊎ (57 < byte)))) }
+    ensures other { (byte : ℕ) → result ≡ Err (FillError.Item byte) → (byte < 48) ⊎ (57 < byte) }
     ensures long { OnOk result (length text.now ≡ S.Length.USIZE) }
 {
     let mut digits = text.iter().map(decimal_digit);

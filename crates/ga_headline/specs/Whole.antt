@@ -3,7 +3,7 @@ use Rattle.ga_headline.specs.declared.whole.Stopped.{Stopped}
 use Rattle.ga_headline.specs.declared.whole.Stopped.TheVariants.{Build, Call, NotMapped, NotWalked}
 use Rattle.generic_array.specs.Account.{Account}
 use Rattle.generic_array.specs.Fill.{FillFalliblyRuns, FillsFallibly}
-use Rattle.generic_array.specs.FillAnswer.{fill_answer}
+use Rattle.generic_array.specs.Placed.{IfPlaced}
 use Rattle.generic_array.specs.Steps.{StepsRun}
 use Rattle.generic_array.specs.declared.AllocError.{AllocError}
 use Rattle.generic_array.specs.declared.FillError.{FillError}
@@ -42,8 +42,8 @@ module _ {I T E P U D Q F : Type 0} (next_gives : I → Option (Result T E) → 
   -- what led to the stop, and how the iterator and the closure of the map were left
   abbrev pub StoppedAt : Stopped E P D Q → I → F → Type 0
   StoppedAt why after last = MatchStopped why
-      (λ error. IfOk (fill_answer {A = List T} (Err error)) (λ built. Filled next_gives before n built after)
-      × OnErr (fill_answer {A = List T} (Err error)) (after ≡ before) × (last ≡ f))
+      (λ error. IfPlaced {A = List T} (Err error) (λ built. Filled next_gives before n built after)
+      × ((refused : P) → error ≡ Place refused → after ≡ before) × (last ≡ f))
       (λ error. (list : List T) × Comes next_gives before n list after × run f list (Err error) last)
       (λ _. (list : List T) × Comes next_gives before n list after × (last ≡ f))
       ((list : List T) × (values : List U) × Comes next_gives before n list after × run f list (Ok values) last)

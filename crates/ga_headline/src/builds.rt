@@ -1,8 +1,8 @@
 //! A build succeeds exactly where N items come.
 ghost use Rattle.generic_array.specs.Built.{built_items};
 ghost use Rattle.generic_array.specs.Fill.{Asks, FillFalliblyRuns, FillRuns, Fills, FillsFallibly};
-ghost use Rattle.generic_array.specs.FillAnswer.{fill_answer};
 ghost use Rattle.generic_array.specs.Length.{FitsInline};
+ghost use Rattle.generic_array.specs.Placed.{IfPlaced, IsPlaced};
 ghost use Rattle.generic_array.specs.Tries.{try_map};
 ghost use Rattle.std.specs.Prelude.{◌≡◌, ◌+◌, IfOk, IsOk, Ok, OnErr, OnOk, Result, length, map};
 
@@ -22,14 +22,13 @@ pub fn build<T, E: Drop, S: FromFallibleIterator<T>, I: Iterator<Item = Result<T
 ) -> Result<S, FillError<E, S::Error>>
     requires fits { S.Fits }
     requires can { I.can_next items.old }
-    ensures fill { IfOk (fill_answer (built_items S.items result)) (λ built.
+    ensures fill { IfPlaced (built_items S.items result) (λ built.
         FillsFallibly I.next_gives items.old S.Length.USIZE built items.new) }
-    ensures runs { IfOk (fill_answer (built_items S.items result)) (λ built.
+    ensures runs { IfPlaced (built_items S.items result) (λ built.
         FillFalliblyRuns I.next_gives items.old S.Length.USIZE built) }
-    ensures can_on { IfOk (fill_answer (built_items S.items result)) (λ built.
-        IfOk built (λ made. OnErr made (I.can_next items.new))) }
-    ensures err { OnErr (fill_answer (built_items S.items result)) (items.new ≡ items.old) }
-    ensures promised { S.IsPromised → IsOk (fill_answer (built_items S.items result)) }
+    ensures can_on { (error : E) → result ≡ Err (FillError.Item error) → I.can_next items.new }
+    ensures err { (refused : S.Error) → result ≡ Err (FillError.Place refused) → items.new ≡ items.old }
+    ensures promised { S.IsPromised → IsPlaced result }
 {
     S::from_fallible_iter_ref(place, items)
 }

@@ -1,12 +1,11 @@
 -- What is left of a vector's iterator behind the first error.
 use Rattle.generic_array.specs.Built.{built_items}
 use Rattle.generic_array.specs.Fill.{FillsFallibly}
-use Rattle.generic_array.specs.FillAnswer.{fill_answer}
+use Rattle.generic_array.specs.Placed.{IfPlaced}
 use Rattle.generic_array.specs.declared.FillError.{FillError}
-use Rattle.generic_array.specs.declared.FillError.TheVariants.{Item, Length, Place}
+use Rattle.generic_array.specs.declared.FillError.TheVariants.{Item}
 use Rattle.std.proofs.Common.{◌≡◌, ℕ, ◌∙◌, List, [], ◌∷◌, ◌++◌, Option, Result, Ok, Err, ap, map, refl, subst, sym}
 use Rattle.std.specs.Iterator.{Yields}
-use Rattle.std.specs.Prelude.{IfOk, OnErr}
 use Rattle.std.specs.Vec.Iter.{into_iter_items, into_iter_steps}
 use Rattle.std.specs.declared.vec.IntoIter.{IntoIter}
 
@@ -31,13 +30,12 @@ module _ {T E : Type 0} where
   -- a build that an error stopped leaves what stands behind it
   pub left_after_error : {A M P Then : Type 0} (items : M → List T) (from left : IntoIter (Result T E) A) (n : ℕ)
       (result : Result M (FillError E P))
-      → IfOk (fill_answer (built_items items result)) (λ built. FillsFallibly into_iter_steps from n built left)
+      → IfPlaced (built_items items result) (λ built. FillsFallibly into_iter_steps from n built left)
       → (into_iter_items left ≡ after_error (into_iter_items from) → Then)
-      → IfOk (fill_answer result) (λ built. IfOk built (λ made. OnErr made Then))
-  left_after_error items from left n (Ok made) fill next = tt
-  left_after_error items from left n (Err (Place refused)) fill next = tt
-  left_after_error items from left n (Err (Length other)) fill next = tt
-  left_after_error items from left n (Err (Item error)) (good, last, (before, given, gave), (is, few)) next =
-      let stopped = subst (λ (answer : Option (Result T E)). into_iter_steps before answer left) is gave in
+      → (error : E) → result ≡ Err (Item error) → Then
+  left_after_error items from left n result fill next error is =
+      let (good, last, (before, given, gave), (stops, few)) =
+      subst (λ r. IfPlaced (built_items items r) (λ built. FillsFallibly into_iter_steps from n built left)) is fill in
+      let stopped = subst (λ (answer : Option (Result T E)). into_iter_steps before answer left) stops gave in
       next (sym (ap after_error (given_first from (map Ok good) before given
       ∙ ap (λ results. map Ok good ++ results) stopped.0) ∙ after_error-good good error (into_iter_items left)))

@@ -1,7 +1,5 @@
 //! Builds and fills of iterators, inline and boxed, and what each leaves of its iterator.
-ghost use Rattle.generic_array.specs.FillAnswer.{fill_answer};
-ghost use Rattle.generic_array.specs.declared.FillError.TheVariants.{Item as ItemError};
-ghost use Rattle.std.specs.Prelude.{◌≡◌, [], ◌∷◌, Err, IfOk, IsErr, None, Ok, OnErr, OnOk, Some};
+ghost use Rattle.std.specs.Prelude.{◌≡◌, ℕ, [], ◌∷◌, Err, IfOk, IsErr, None, Ok, OnErr, OnOk, Some};
 
 use ga_core_examples::answers::gives;
 use ga_headline::builds::{build, build_of_items, fill_boxed, fill_inline};
@@ -41,9 +39,8 @@ fn stopped_inline<N: ArrayLength<u32> + InlineLength>(
 )
     requires len { N.USIZE ≡ 3 }
     requires results { results.items ≡ Ok 1 ∷ Err 7 ∷ Ok 3 ∷ [] }
-    ensures built { result.0 ≡ Err (ItemError 7) }
-    ensures next { IfOk (fill_answer result.0) (λ built.
-        IfOk built (λ made. OnErr made (result.1 ≡ Some (Ok 3)))) }
+    ensures built { result.0 ≡ Err (FillError.Item 7) }
+    ensures next { (byte : ℕ) → result.0 ≡ Err (FillError.Item byte) → result.1 ≡ Some (Ok 3) }
 {
     let mut results = results.into_iter();
     let built = build((), &mut results);
@@ -61,7 +58,7 @@ fn built_boxed(
     requires { results.items ≡ Ok 1 ∷ Ok 2 ∷ [] }
     ensures built { IfOk result.0 (λ array. array ≡ 1 ∷ 2 ∷ []) }
     ensures last { OnOk result.0 (result.1 ≡ None) }
-    ensures refused { OnErr (fill_answer result.0) (result.1 ≡ Some (Ok 1)) }
+    ensures refused { (refused : AllocError) → result.0 ≡ Err (FillError.Place refused) → result.1 ≡ Some (Ok 1) }
 {
     let mut results = results.into_iter();
     let built = build(alloc, &mut results);

@@ -5,8 +5,8 @@ pub mod EntryRuns
 pub mod GivenEntries
 pub mod Laws
 pub mod Steps
-pub use Rattle.ga_boxed.specs.FillAnswer
 pub use Rattle.ga_boxed.specs.Live
+pub use Rattle.ga_boxed.specs.Placed
 pub use Rattle.ga_core.specs.Calls
 pub use Rattle.ga_core.specs.Copies
 pub use Rattle.ga_core.specs.Cut

@@ -1,6 +1,6 @@
 //! What is common to the kinds of sequences, and how each is made.
 ghost use Rattle.ga_core.specs.Views.{items_of_view};
-ghost use Rattle.ga_boxed.specs.FillAnswer.{fill_answer};
+ghost use Rattle.ga_boxed.specs.Placed.{IfPlaced, IsPlaced};
 ghost use Rattle.ga_core.specs.Calls.{MayGenerate, MayTryGenerate};
 ghost use Rattle.ga_core.specs.Copies.{Repeats};
 ghost use Rattle.ga_core.specs.Fill.{FillFalliblyRuns, FillsFallibly};
@@ -181,12 +181,11 @@ pub trait FromFallibleIterator<T>: GenericSequence<T> {
     ) -> Result<Self, FillError<E, Self::Error>>
         requires fits { Self.Fits }
         requires can { I.can_next items }
-        ensures fill { (after : I)
-            × IfOk (fill_answer (built_items Self.items result)) (λ built.
+        ensures fill { (after : I) × IfPlaced (built_items Self.items result) (λ built.
             FillsFallibly I.next_gives items Self.Length.USIZE built after) }
-        ensures runs { IfOk (fill_answer (built_items Self.items result)) (λ built.
+        ensures runs { IfPlaced (built_items Self.items result) (λ built.
             FillFalliblyRuns I.next_gives items Self.Length.USIZE built) }
-        ensures promised { Self.IsPromised → IsOk (fill_answer (built_items Self.items result)) }
+        ensures promised { Self.IsPromised → IsPlaced result }
     {
         Self::from_fallible_iter_ref(place, &mut items)
     }
@@ -201,12 +200,12 @@ pub trait FromFallibleIterator<T>: GenericSequence<T> {
     ) -> Result<Self, FillError<E, Self::Error>>
         requires fits { Self.Fits }
         requires can { I.can_next items.old }
-        ensures fill { IfOk (fill_answer (built_items Self.items result)) (λ built.
+        ensures fill { IfPlaced (built_items Self.items result) (λ built.
             FillsFallibly I.next_gives items.old Self.Length.USIZE built items.new) }
-        ensures runs { IfOk (fill_answer (built_items Self.items result)) (λ built.
+        ensures runs { IfPlaced (built_items Self.items result) (λ built.
             FillFalliblyRuns I.next_gives items.old Self.Length.USIZE built) }
-        ensures can_on { IfOk (fill_answer (built_items Self.items result)) (λ built.
-            IfOk built (λ made. OnErr made (I.can_next items.new))) }
-        ensures err { OnErr (fill_answer (built_items Self.items result)) (items.new ≡ items.old) }
-        ensures promised { Self.IsPromised → IsOk (fill_answer (built_items Self.items result)) };
+        ensures can_on { (error : E) → result ≡ Err (FillError.Item error) → I.can_next items.new }
+        ensures err { (refused : Self.Error) → result ≡ Err (FillError.Place refused)
+            → items.new ≡ items.old }
+        ensures promised { Self.IsPromised → IsPlaced result };
 }

@@ -1,5 +1,5 @@
 //! Boxed arrays built from a closure or an iterator. Memory comes first in each.
-ghost use Rattle.ga_boxed.specs.FillAnswer.{fill_answer};
+ghost use Rattle.ga_boxed.specs.Placed.{IfPlaced, IsPlaced};
 ghost use Rattle.ga_core.specs.Calls.{MayGenerate, MayTryGenerate};
 ghost use Rattle.ga_core.specs.Fill.{Asks, FillFalliblyRuns, FillRuns, Fills, FillsFallibly};
 ghost use Rattle.ga_core.specs.Runs.{ClosureRun, FirstErrorRun};
@@ -159,10 +159,9 @@ impl<T: Drop, N: Unsigned> BoxedArray<T, N> {
     ) -> Result<Self, FillError<E, AllocError>>
         requires can { I.can_next items }
         ensures fill { (after : I)
-            × IfOk (fill_answer result) (λ built. FillsFallibly I.next_gives items N.USIZE built after) }
-        ensures runs { IfOk (fill_answer result) (λ built.
-            FillFalliblyRuns I.next_gives items N.USIZE built) }
-        ensures empty { N.USIZE ≡ 0 → IsOk (fill_answer result) }
+            × IfPlaced result (λ built. FillsFallibly I.next_gives items N.USIZE built after) }
+        ensures runs { IfPlaced result (λ built. FillFalliblyRuns I.next_gives items N.USIZE built) }
+        ensures empty { N.USIZE ≡ 0 → IsPlaced result }
     {
         Self::try_boxed_from_fallible_iter_ref(alloc, &mut items)
     }
@@ -177,14 +176,13 @@ impl<T: Drop, N: Unsigned> BoxedArray<T, N> {
         items: &mut I,
     ) -> Result<Self, FillError<E, AllocError>>
         requires can { I.can_next items.old }
-        ensures fill { IfOk (fill_answer result) (λ built.
+        ensures fill { IfPlaced result (λ built.
             FillsFallibly I.next_gives items.old N.USIZE built items.new) }
-        ensures runs { IfOk (fill_answer result) (λ built.
-            FillFalliblyRuns I.next_gives items.old N.USIZE built) }
-        ensures can_on { IfOk (fill_answer result) (λ built.
-            IfOk built (λ made. OnErr made (I.can_next items.new))) }
-        ensures err { OnErr (fill_answer result) (items.new ≡ items.old) }
-        ensures empty { N.USIZE ≡ 0 → IsOk (fill_answer result) }
+        ensures runs { IfPlaced result (λ built. FillFalliblyRuns I.next_gives items.old N.USIZE built) }
+        ensures can_on { (error : E) → result ≡ Err (FillError.Item error) → I.can_next items.new }
+        ensures err { (refused : AllocError) → result ≡ Err (FillError.Place refused)
+            → items.new ≡ items.old }
+        ensures empty { N.USIZE ≡ 0 → IsPlaced result }
     {
         let Ok(mut values) = LiveBlock::new(alloc, N::USIZE) else {
             return Err(FillError::Place(AllocError));

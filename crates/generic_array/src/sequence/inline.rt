@@ -1,7 +1,7 @@
 //! The inline array as a sequence.
-ghost use Rattle.ga_boxed.specs.FillAnswer.{fill_answer};
+ghost use Rattle.ga_boxed.specs.Placed.{IfPlaced, IsPlaced};
 ghost use Rattle.ga_core.specs.Length.{FitsInline};
-ghost use Rattle.std.specs.Prelude.{◌≡◌, Ok, ⊤};
+ghost use Rattle.std.specs.Prelude.{◌≡◌, ⊤};
 
 use crate::sequence::{FallibleGenericSequence, FromFallibleIterator, GenericSequence};
 use ga_core::{
@@ -70,7 +70,8 @@ impl<T: Default + Drop, N: ArrayLength<T>> FallibleGenericSequence<T> for Generi
 
 // The result of a fallible fill that needs no allocator.
 fn with_no_place<A, E>(answer: Result<Result<A, E>, LengthError>) -> Result<A, FillError<E, Never>>
-    ensures { fill_answer result ≡ Ok answer }
+    ensures same { IfPlaced result (λ built. built ≡ answer) }
+    ensures placed { IsPlaced result }
 {
     match answer {
         Ok(Ok(array)) => Ok(array),

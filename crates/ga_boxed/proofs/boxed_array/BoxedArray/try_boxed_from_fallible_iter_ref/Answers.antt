@@ -13,9 +13,9 @@ pub returns-in_default : goal.returns-in_default
 returns-in_default g c = record {
   fill = tt;
   runs = tt;
-  can_on = tt;
-  err = refl;
-  empty = λ none. c.in_default.ensures.empty (c.USIZE.ensures ∙ none);
+  can_on = λ error is. cc is;
+  err = λ refused is. refl;
+  empty = λ none. cc (c.in_default.ensures.empty (c.USIZE.ensures ∙ none));
 }
 
 pub loop-items-init : goal.loop-items-init
@@ -63,7 +63,7 @@ returns-in-Some-Err g c =
     let fill = told g c.args.items.now (Ok (Err error)) c.next.new.self
     (at.values.items, Some (Err error), (at.items, at.invariant.taken, came), (refl, few)) in
     let can = c.in-Some-Err.ensures.goes.keeps in
-    record { fill = fill.0; runs = fill.1; can_on = can; err = tt; empty = λ none. refl }
+    record { fill = fill.0; runs = fill.1; can_on = λ error is. can; err = λ refused is. cc is; empty = λ none. tt }
 
 pub returns-in-None : goal.returns-in-None
 returns-in-None g c =
@@ -71,7 +71,7 @@ returns-in-None g c =
     let few = not_all _ _ _ _ at.invariant.room c.room.ensures c.loop-items-test.true in
     let fill = told g c.args.items.now (Err (record {})) c.next.new.self
     (at.values.items, None, (at.items, at.invariant.taken, c.in-None.ensures.steps), few) in
-    record { fill = fill.0; runs = fill.1; can_on = tt; err = tt; empty = λ none. refl }
+    record { fill = fill.0; runs = fill.1; can_on = λ error is. cc is; err = λ refused is. cc is; empty = λ none. tt }
 
 pub invariant_of-result : goal.invariant_of-result
 invariant_of-result g c =
@@ -83,7 +83,7 @@ returns-in-None-next g c =
     let all = all_there _ _ _ _ at.invariant.room c.room.ensures c.loop-items-test.false in
     let fill = told g c.args.items.now (Ok (Ok at.values.items)) c.next-2.new.self
     (at.values.items, None, (at.items, at.invariant.taken, c.in-None-next.ensures.steps), (refl, all, refl)) in
-    record { fill = fill.0; runs = fill.1; can_on = tt; err = tt; empty = λ none. refl }
+    record { fill = fill.0; runs = fill.1; can_on = λ error is. cc is; err = λ refused is. cc is; empty = λ none. tt }
 
 pub returns-in-Some : goal.returns-in-Some
 returns-in-Some g c =
@@ -91,4 +91,4 @@ returns-in-Some g c =
     let all = all_there _ _ _ _ at.invariant.room c.room.ensures c.loop-items-test.false in
     let fill = told g c.args.items.now (Err (record {})) c.next-2.new.self
     (at.values.items, Some c.in-Some._surplus, (at.items, at.invariant.taken, c.in-Some.ensures.steps), all) in
-    record { fill = fill.0; runs = fill.1; can_on = tt; err = tt; empty = λ none. refl }
+    record { fill = fill.0; runs = fill.1; can_on = λ error is. cc is; err = λ refused is. cc is; empty = λ none. tt }
