@@ -1,8 +1,8 @@
 -- A `Cells` that holds no item is made of nothing or of a block's room, and gives that room back. Assumes `Logic`.
-use Rattle.ga_boxed.proofs.Steps.{◌≡◌, refl, subst, ℕ, ◌+◌, ◌*◌, ◌<◌, ◌^◌, arith, zero-mul, [], ◌∷◌, Ura, ty_array}
-use Rattle.ga_boxed.proofs.Steps.{ent, emp, guard, froom, Logic, sem, ‵, ◌$◌, ◌∵◌, !, qed, move, drop as skip, use0}
-use Rattle.ga_boxed.proofs.Steps.{use2, rewrite, fsplit, fjoin, flt_i, flt_l, check, done, block_ptr, nothing, El, R}
-use Rattle.ga_boxed.proofs.Steps.{elτ, as_raw, as_written, cells_own, empty, via}
+use Rattle.ga_boxed.proofs.CellsWalkNames.{◌≡◌, refl, subst, ℕ, ◌+◌, ◌*◌, ◌<◌, ◌^◌, arith, zero-mul, [], ◌∷◌, Ura, ty_array}
+use Rattle.ga_boxed.proofs.CellsWalkNames.{ent, emp, guard, froom, Logic, sem, ‵, ◌$◌, ◌∵◌, !, qed, move, drop as skip, use0}
+use Rattle.ga_boxed.proofs.CellsWalkNames.{use2, rewrite, fsplit, fjoin, flt_i, flt_l, check, done, block_ptr, nothing, El, R}
+use Rattle.ga_boxed.proofs.CellsWalkNames.{elτ, as_raw, as_written, cells_own, empty, via}
 use Rattle.ga_boxed.proofs.BlockLemmas.{none_fits}
 use Rattle.ga_boxed.proofs.WalkParts.{block_ty, sz}
 use Rattle.std.proofs.ptr.Rows.{glued}

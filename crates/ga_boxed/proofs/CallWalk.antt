@@ -6,15 +6,15 @@
 --     Walk, meets       its walk, which is given what it asks and how it ends, and its contract from that
 --     meets_grown       the same with the lifetimes of type parameters
 --     Linked, linked    what a walk may call
-use Rattle.ga_boxed.proofs.Steps.{◌≡◌, refl, ℕ, suc, ◌<◌, ◌^◌, List, [], ◌∷◌, ◌++◌, Ura, SProp, ent, emp, id⊢, via}
-use Rattle.ga_boxed.proofs.Steps.{Callee, Fn, named, w64, Val, Memory, Fun, framed as all_framed, Model, Calls, Closed}
-use Rattle.ga_boxed.proofs.Steps.{Loops, WpFn, AllOutlive, Lfts, Outlives, Shares, toks, Running, tables, Logic, sem}
-use Rattle.ga_boxed.proofs.Steps.{⋆, ‵, raw, Item, ◌$◌, ◌∵◌, !, qed, move, fsplit, fjoin, suffices, use0, done, One}
-use Rattle.ga_boxed.proofs.Steps.{RefOf, usize, Kept, Last, Seen, see, yes, no, Are, Is, Ises, Tells, uint_vals}
-use Rattle.ga_boxed.proofs.Steps.{uint_Tells, Denots, RattleType, Valss, flat, owns, shr_vals, shr_Tells, Signature}
-use Rattle.ga_boxed.proofs.Steps.{Slot, plain, type_at, types_at, nothing, grown, Triple, Clauses, Ended, closing}
-use Rattle.ga_boxed.proofs.Steps.{on_entry, Meets, AllGo, Goes, Goes-dropped, Stay, Stays, fits_of, has_of}
-use Rattle.ga_boxed.proofs.Steps.{stay_dropped, walk_of, Good, El, R, elτ}
+use Rattle.ga_boxed.proofs.CellsWalkNames.{◌≡◌, refl, ℕ, suc, ◌<◌, ◌^◌, List, [], ◌∷◌, ◌++◌, Ura, SProp, ent, emp, id⊢, via}
+use Rattle.ga_boxed.proofs.CellsWalkNames.{Callee, Fn, named, w64, Val, Memory, Fun, framed as all_framed, Model, Calls, Closed}
+use Rattle.ga_boxed.proofs.CellsWalkNames.{Loops, WpFn, AllOutlive, Lfts, Outlives, Shares, toks, Running, tables, Logic, sem}
+use Rattle.ga_boxed.proofs.CellsWalkNames.{⋆, ‵, raw, Item, ◌$◌, ◌∵◌, !, qed, move, fsplit, fjoin, suffices, use0, done, One}
+use Rattle.ga_boxed.proofs.CellsWalkNames.{RefOf, usize, Kept, Last, Seen, see, yes, no, Are, Is, Ises, Tells, uint_vals}
+use Rattle.ga_boxed.proofs.CellsWalkNames.{uint_Tells, Denots, RattleType, Valss, flat, owns, shr_vals, shr_Tells, Signature}
+use Rattle.ga_boxed.proofs.CellsWalkNames.{Slot, plain, type_at, types_at, nothing, grown, Triple, Clauses, Ended, closing}
+use Rattle.ga_boxed.proofs.CellsWalkNames.{on_entry, Meets, AllGo, Goes, Goes-dropped, Stay, Stays, fits_of, has_of}
+use Rattle.ga_boxed.proofs.CellsWalkNames.{stay_dropped, walk_of, Good, El, R, elτ}
 use prog.Routine.{Routine}
 use sound.WpLaws.{FmC}
 use denote.Triple.End.{Fins, Kepts}

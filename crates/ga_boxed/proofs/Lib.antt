@@ -5,10 +5,10 @@ pub mod CallWalk
 pub mod CellsSharing
 pub mod CellsSliceWalk
 pub mod CellsWalk
+pub mod CellsWalkNames
 pub mod ClauseFacts
 pub mod Crosses
 pub mod EndLemmas
-pub mod Steps
 pub mod TakeWalk
 pub mod VecLemmas
 pub mod WalkParts

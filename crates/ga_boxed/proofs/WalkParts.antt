@@ -1,15 +1,15 @@
 -- What the walks share: a value of one pointer, one of no bytes, a tuple of three, an item as a machine value and in
 -- memory, and how a walk begins and ends. Assumes `Logic`.
-use Rattle.ga_boxed.proofs.Steps.{◌≡◌, refl, subst, sym, ap, ◌∙◌, ℕ, ◌*◌, ◌<◌, ◌^◌, List, [], ◌∷◌, Ura, Val, vstruct}
-use Rattle.ga_boxed.proofs.Steps.{vcons, vnil, id⊢, ent, sep, emp, Model, Lfts, Shares, toks, Fun, Running, Logic, sem}
-use Rattle.ga_boxed.proofs.Steps.{raw, join, Item, Goal, Seq, Step, step, ‵, ◌$◌, ◌∵◌, !, qed, move, fjoin, fpack}
-use Rattle.ga_boxed.proofs.Steps.{feq_i, done, some, ◌⊛◌, use1, pick, split, Laws, RattleType, Valss, Ptr, RawPtr}
-use Rattle.ga_boxed.proofs.Steps.{ptr_val, rawptr_vals, rawptr_Tells, nothing, peeks, Shape, Struct, Struct-Tells}
-use Rattle.ga_boxed.proofs.Steps.{within, shape, Tuple, tuple_type, grown, spared, Clauses, Ended, closing, Vals}
-use Rattle.ga_boxed.proofs.Steps.{Meets, Triple, run_framed, Stays, walk_of, type_size, El, R, el_x, elτ, lawful, one}
-use Rattle.ga_boxed.proofs.Steps.{word, Good, full_share, Ghosts, Dict, Callee, Ty, Args, a_type, ty_array, dcons}
-use Rattle.ga_boxed.proofs.Steps.{dnil, fat, flft, ftrue, Is, Tells, shows, param, bounded, part_at, part_out, size}
-use Rattle.ga_boxed.proofs.Steps.{align, capped, capped_is, Al}
+use Rattle.ga_boxed.proofs.CellsWalkNames.{◌≡◌, refl, subst, sym, ap, ◌∙◌, ℕ, ◌*◌, ◌<◌, ◌^◌, List, [], ◌∷◌, Ura, Val, vstruct}
+use Rattle.ga_boxed.proofs.CellsWalkNames.{vcons, vnil, id⊢, ent, sep, emp, Model, Lfts, Shares, toks, Fun, Running, Logic, sem}
+use Rattle.ga_boxed.proofs.CellsWalkNames.{raw, join, Item, Goal, Seq, Step, step, ‵, ◌$◌, ◌∵◌, !, qed, move, fjoin, fpack}
+use Rattle.ga_boxed.proofs.CellsWalkNames.{feq_i, done, some, ◌⊛◌, use1, pick, split, Laws, RattleType, Valss, Ptr, RawPtr}
+use Rattle.ga_boxed.proofs.CellsWalkNames.{ptr_val, rawptr_vals, rawptr_Tells, nothing, peeks, Shape, Struct, Struct-Tells}
+use Rattle.ga_boxed.proofs.CellsWalkNames.{within, shape, Tuple, tuple_type, grown, spared, Clauses, Ended, closing, Vals}
+use Rattle.ga_boxed.proofs.CellsWalkNames.{Meets, Triple, run_framed, Stays, walk_of, type_size, El, R, el_x, elτ, lawful, one}
+use Rattle.ga_boxed.proofs.CellsWalkNames.{word, Good, full_share, Ghosts, Dict, Callee, Ty, Args, a_type, ty_array, dcons}
+use Rattle.ga_boxed.proofs.CellsWalkNames.{dnil, fat, flft, ftrue, Is, Tells, shows, param, bounded, part_at, part_out, size}
+use Rattle.ga_boxed.proofs.CellsWalkNames.{align, capped, capped_is, Al}
 use denote.Shadow.{makes_shadow}
 use denote.Struct.Declared as Declared
 use Rattle.ga_boxed.specs.contracts.live_block.cells.Cells as C-type

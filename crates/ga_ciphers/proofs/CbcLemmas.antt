@@ -121,8 +121,8 @@ module _ (width : ℕ) (some : 0 < width) (encrypted decrypted : List ℕ → Li
     rest_is : drop next new ≡ drop width (drop done now)
     rest_is = behind_is ∙ sym (drop-drop width done now)
 
-    pub left-more : drop next new ≡ drop next start
-    left-more = rest_is ∙ (ap (drop width) left ∙ (drop-drop width done start ∙ ap (λ n. drop n start) (sym goes)))
+    pub left-after : drop next new ≡ drop next start
+    left-after = rest_is ∙ (ap (drop width) left ∙ (drop-drop width done start ∙ ap (λ n. drop n start) (sym goes)))
 
     -- the first bytes of the text as it was
     start_is : take next start ≡ take done start ++ row

@@ -13,8 +13,8 @@ pub mod KeyLemmas
 pub mod LeftLemmas
 pub mod MoveLemmas
 pub mod PairLemmas
-pub mod SlotLemmas
 pub mod RunLemmas
+pub mod SlotLemmas
 pub use Rattle.arrayvec.proofs.IterLemmas
 pub use Rattle.ga_views.proofs.CallStep
 pub use Rattle.ga_views.proofs.CutLemmas

@@ -1,4 +1,4 @@
-pub mod BlockLemmas
+pub mod BufferLemmas
 pub mod HkdfLemmas
 pub mod PaddingLemmas
 pub mod PieceLemmas

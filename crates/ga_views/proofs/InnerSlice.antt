@@ -4,14 +4,14 @@
 --     opens_inner, closes_inner    the outer borrow is opened, which gives the cell of the inner reference, at the type
 --                                  that the code names, and closed again
 --     lends_inner                  the items are lent, and the inner reference ends at what they end as
-use Rattle.ga_views.proofs.Steps.{a_type, Args, Arr, Array, at_last, await, Body, cell_at, closes, done, drop, ent}
-use Rattle.ga_views.proofs.Steps.{erased, fat, fauth, fbor, flft, Fml, fobor, fobs, follows, fsplit3, full_share, GName}
-use Rattle.ga_views.proofs.Steps.{Goal, group, Gv, Incl, Is, Item, later, layouts, lends_inner_slice, length, Lft, Lfts}
-use Rattle.ga_views.proofs.Steps.{List, Logic, mem, move, mut, mut_slice_vals, mut_vals, MutBor, MutRef, MutSlice}
-use Rattle.ga_views.proofs.Steps.{named, now, opens, param, peeks, pick, plain, pointee, qed, RattleType, raw, refl}
-use Rattle.ga_views.proofs.Steps.{renamed, rewrite, Room, SemTy, sep, Seq, Share, shows, slice_ty, slice_val}
-use Rattle.ga_views.proofs.Steps.{SliceRefMutOf, Slot, Soaks, some, split3, SProp, Step, step, Ty, ty_ref, updating}
-use Rattle.ga_views.proofs.Steps.{Ura, use1, use3, Val, !, [], ‵, ℕ, ◌$◌, ◌∵◌, ◌∷◌, ◌≡◌, ◌⊑◌, ◌⊛◌}
+use Rattle.ga_views.proofs.WalkNames.{a_type, Args, Arr, Array, at_last, await, Body, cell_at, closes, done, drop, ent}
+use Rattle.ga_views.proofs.WalkNames.{erased, fat, fauth, fbor, flft, Fml, fobor, fobs, follows, fsplit3, full_share, GName}
+use Rattle.ga_views.proofs.WalkNames.{Goal, group, Gv, Incl, Is, Item, later, layouts, lends_inner_slice, length, Lft, Lfts}
+use Rattle.ga_views.proofs.WalkNames.{List, Logic, mem, move, mut, mut_slice_vals, mut_vals, MutBor, MutRef, MutSlice}
+use Rattle.ga_views.proofs.WalkNames.{named, now, opens, param, peeks, pick, plain, pointee, qed, RattleType, raw, refl}
+use Rattle.ga_views.proofs.WalkNames.{renamed, rewrite, Room, SemTy, sep, Seq, Share, shows, slice_ty, slice_val}
+use Rattle.ga_views.proofs.WalkNames.{SliceRefMutOf, Slot, Soaks, some, split3, SProp, Step, step, Ty, ty_ref, updating}
+use Rattle.ga_views.proofs.WalkNames.{Ura, use1, use3, Val, !, [], ‵, ℕ, ◌$◌, ◌∵◌, ◌∷◌, ◌≡◌, ◌⊑◌, ◌⊛◌}
 use Rattle.ga_views.proofs.LoanWalk.{Loan, Words}
 use Rattle.ga_views.proofs.PartLoan.{Whole}
 use Rattle.ga_views.specs.contracts.reborrow.RefMutSliceReborrowSlice.all_mut as all_mut

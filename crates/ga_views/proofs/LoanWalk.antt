@@ -3,15 +3,15 @@
 --     Loan           what such a function takes, asks and gives
 --     Had, Left      what a walk has at its start, and at its end
 --     lends          the function's contract, from its walk
-use Rattle.ga_views.proofs.Steps.{AllGo, AllOutlive, Are, Callee, Calls, Clauses, Closed, closing, Denots, done, emp}
-use Rattle.ga_views.proofs.Steps.{Ended, ends_at, ent, fact, fact_use, fits_of, fjoin, flat, flft, Fml, Fn, frame}
-use Rattle.ga_views.proofs.Steps.{fsplit, fst∗, Goes-dropped, Goes-spent_ref, has_of, id⊢, Ises, Item, join, keep, Lfts}
-use Rattle.ga_views.proofs.Steps.{List, Logic, Loops, MachineTables, Meets, Model, move, mut_ref_to, mut_Tells}
-use Rattle.ga_views.proofs.Steps.{mut_vals, MutBor, MutRef, named, no, nothing, Outlives, owns, plain, proved, qed, raw}
-use Rattle.ga_views.proofs.Steps.{refl, Running, says, sem, sep, Shares, Slot, snd∗, Spells, split, SProp, stay_dropped}
-use Rattle.ga_views.proofs.Steps.{Stays, suc, suffices, tables, Tellss, toks, types_at, uint_Tells, uint_vals, Ura}
-use Rattle.ga_views.proofs.Steps.{use0, usize, Val, Valss, valss, via, vptr, w64, walk_of, WpFn, yes, zero, !, [], ‵, ℕ}
-use Rattle.ga_views.proofs.Steps.{⋆, ◌$◌, ◌∵◌, ◌∷◌, ◌⊛◌}
+use Rattle.ga_views.proofs.WalkNames.{AllGo, AllOutlive, Are, Callee, Calls, Clauses, Closed, closing, Denots, done, emp}
+use Rattle.ga_views.proofs.WalkNames.{Ended, ends_at, ent, fact, fact_use, fits_of, fjoin, flat, flft, Fml, Fn, frame}
+use Rattle.ga_views.proofs.WalkNames.{fsplit, fst∗, Goes-dropped, Goes-spent_ref, has_of, id⊢, Ises, Item, join, keep, Lfts}
+use Rattle.ga_views.proofs.WalkNames.{List, Logic, Loops, MachineTables, Meets, Model, move, mut_ref_to, mut_Tells}
+use Rattle.ga_views.proofs.WalkNames.{mut_vals, MutBor, MutRef, named, no, nothing, Outlives, owns, plain, proved, qed, raw}
+use Rattle.ga_views.proofs.WalkNames.{refl, Running, says, sem, sep, Shares, Slot, snd∗, Spells, split, SProp, stay_dropped}
+use Rattle.ga_views.proofs.WalkNames.{Stays, suc, suffices, tables, Tellss, toks, types_at, uint_Tells, uint_vals, Ura}
+use Rattle.ga_views.proofs.WalkNames.{use0, usize, Val, Valss, valss, via, vptr, w64, walk_of, WpFn, yes, zero, !, [], ‵, ℕ}
+use Rattle.ga_views.proofs.WalkNames.{⋆, ◌$◌, ◌∵◌, ◌∷◌, ◌⊛◌}
 use denote.Triple.End.{all, Fins, Kepts}
 
 -- the numbers: nothing is left of them, and nothing is said of them

@@ -1,13 +1,13 @@
 -- A walk of a function that takes a slice for writing, and nothing else, and gives it up: all of it but what the
 -- function asks, what it gives and its own steps. Assumes `Logic`.
-use Rattle.ga_views.proofs.Steps.{alive, AllOutlive, at_exit, call, Callee, Calls, Clauses, Closed, closing, Code}
-use Rattle.ga_views.proofs.Steps.{Contract, emp, Ended, ent, Env, fact, flft, FmC, Fn, ftrue, Goes-spent_slice, group}
-use Rattle.ga_views.proofs.Steps.{has_of, id⊢, Item, lands, leaves, length, Lft, Lfts, List, Logic, Loops}
-use Rattle.ga_views.proofs.Steps.{MachineTables, Meets, Model, move, mut_slice_Tells, mut_slice_vals, MutBor, named, no}
-use Rattle.ga_views.proofs.Steps.{nothing, on_entry, Opds, Operand, Outlives, owns, param, Place, plain, Post, proved}
-use Rattle.ga_views.proofs.Steps.{RattleType, raw, Running, runs, sem, sep, Seq, seq, Shares, slice_val, SliceRefMutOf}
-use Rattle.ga_views.proofs.Steps.{Slot, SProp, stay_dropped, Stays, suc, tables, Triple, type_at, types_at, Ura, Val}
-use Rattle.ga_views.proofs.Steps.{WpFn, [], ‵, ℕ, ◌$◌, ◌<◌, ◌^◌, ◌∷◌, ◌⊑◌, ◌⊛◌}
+use Rattle.ga_views.proofs.WalkNames.{alive, AllOutlive, at_exit, call, Callee, Calls, Clauses, Closed, closing, Code}
+use Rattle.ga_views.proofs.WalkNames.{Contract, emp, Ended, ent, Env, fact, flft, FmC, Fn, ftrue, Goes-spent_slice, group}
+use Rattle.ga_views.proofs.WalkNames.{has_of, id⊢, Item, lands, leaves, length, Lft, Lfts, List, Logic, Loops}
+use Rattle.ga_views.proofs.WalkNames.{MachineTables, Meets, Model, move, mut_slice_Tells, mut_slice_vals, MutBor, named, no}
+use Rattle.ga_views.proofs.WalkNames.{nothing, on_entry, Opds, Operand, Outlives, owns, param, Place, plain, Post, proved}
+use Rattle.ga_views.proofs.WalkNames.{RattleType, raw, Running, runs, sem, sep, Seq, seq, Shares, slice_val, SliceRefMutOf}
+use Rattle.ga_views.proofs.WalkNames.{Slot, SProp, stay_dropped, Stays, suc, tables, Triple, type_at, types_at, Ura, Val}
+use Rattle.ga_views.proofs.WalkNames.{WpFn, [], ‵, ℕ, ◌$◌, ◌<◌, ◌^◌, ◌∷◌, ◌⊑◌, ◌⊛◌}
 use Rattle.ga_views.proofs.CallStep.{asked, Called, calls}
 
 -- the slice is lent for the first lifetime of `more` and one, and its items' type is the function's first type

@@ -33,9 +33,9 @@ module _ {T : Type 0} where
       rw starts (rw (nil_from_length begun none, first) at same)
 
   -- where the items fill the rows, these are all
-  pub rows-whole : (w r : ℕ) (items : List T) → 0 < w → length items ≡ r * w
+  pub map-row_at : (w r : ℕ) (items : List T) → 0 < w → length items ≡ r * w
       → map (row_at w items) (range_with_len 0 r) ≡ rows w items
-  rows-whole w r items some whole =
+  map-row_at w r items some whole =
       let count : length items / w ≡ r = ap (λ n. n / w) (omega (arith, whole)) ∙ div-mul-add r w 0 some in
       ap (λ n. map (row_at w items) (range_with_len 0 n)) (sym count)
 

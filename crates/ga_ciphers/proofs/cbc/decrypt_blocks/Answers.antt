@@ -1,5 +1,5 @@
 use Rattle.ga_ciphers.proofs.CbcLemmas.{block_within, decrypted-ended, decrypted-more, decrypted_vector-more}
-use Rattle.ga_ciphers.proofs.CbcLemmas.{left-more, vector-ended, whole_behind}
+use Rattle.ga_ciphers.proofs.CbcLemmas.{left-after, vector-ended, whole_behind}
 use Rattle.ga_ciphers.proofs.cbc.decrypt_blocks.Goals as goal
 use Rattle.ga_ciphers.specs.Keystream.{under}
 use Rattle.std.proofs.Common.{◌≡◌, ◌+◌, ◌-◌, ◌%◌, ◌<◌, ◌≤◌, ap, arith, length, refl, slice_range, sym, ◌∙◌}
@@ -29,7 +29,7 @@ rows-preserved g c =
       done = omega (arith, within, goes, long);
       whole = ap (λ n. (n - next) % width) long
           ∙ whole_behind width (length now) done next so_far.whole c.rows-test.true goes;
-      left = left-more width some encrypted decrypted first vector start now new part done next goes within made.len
+      left = left-after width some encrypted decrypted first vector start now new part done next goes within made.len
           long so_far.left made.text;
       vector = decrypted_vector-more width some encrypted decrypted first vector start now new part done next goes
           within made.len long so_far.left made.text same so_far.vector block made.vector;

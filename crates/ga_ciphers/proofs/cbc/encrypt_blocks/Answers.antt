@@ -1,5 +1,5 @@
 use Rattle.ga_ciphers.proofs.CbcLemmas.{back-ended, back-more, block_within, encrypted-ended, encrypted-more}
-use Rattle.ga_ciphers.proofs.CbcLemmas.{encrypted_vector-more, left-more, vector-ended, whole_behind}
+use Rattle.ga_ciphers.proofs.CbcLemmas.{encrypted_vector-more, left-after, vector-ended, whole_behind}
 use Rattle.ga_ciphers.proofs.cbc.encrypt_blocks.Goals as goal
 use Rattle.std.proofs.Common.{◌≡◌, ◌+◌, ◌-◌, ◌%◌, ◌<◌, ◌≤◌, ap, arith, length, ◌∙◌}
 
@@ -26,7 +26,7 @@ rows-preserved g c =
       done = omega (arith, within, goes, long);
       whole = ap (λ n. (n - next) % width) long
           ∙ whole_behind width (length now) done next so_far.whole c.rows-test.true goes;
-      left = left-more width some encrypted decrypted first vector start now new part done next goes within made.len
+      left = left-after width some encrypted decrypted first vector start now new part done next goes within made.len
           long so_far.left made.text;
       vector = encrypted_vector-more width some encrypted decrypted first vector start now new part done next goes
           within made.len long so_far.left made.text so_far.vector;

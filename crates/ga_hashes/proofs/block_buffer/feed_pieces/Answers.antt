@@ -1,4 +1,4 @@
-use Rattle.ga_hashes.proofs.BlockLemmas.{MayTake-more}
+use Rattle.ga_hashes.proofs.BufferLemmas.{MayTake-more}
 use Rattle.ga_hashes.proofs.PieceLemmas.{pieces-cut, pieces-more}
 use Rattle.ga_hashes.proofs.block_buffer.feed_pieces.Goals as goal
 use Rattle.ga_hashes.specs.BlockBuffer.{HasFed}

@@ -1,4 +1,4 @@
-use Rattle.ga_hashes.proofs.BlockLemmas.{BlocksLeft-callable, BlocksLeft-end, BlocksLeft-more, BlocksLeft-start}
+use Rattle.ga_hashes.proofs.BufferLemmas.{BlocksLeft-callable, BlocksLeft-end, BlocksLeft-more, BlocksLeft-start}
 use Rattle.ga_hashes.proofs.block_buffer.hand_on_rows.Given as given
 use Rattle.ga_hashes.proofs.block_buffer.hand_on_rows.Goals as goal
 use Rattle.std.proofs.Common.{◌≡◌, ◌∷◌, ap, rules, sym, ◌∙◌}

@@ -1,4 +1,4 @@
-use Rattle.ga_hashes.proofs.BlockLemmas.{BlocksLeft}
+use Rattle.ga_hashes.proofs.BufferLemmas.{BlocksLeft}
 use Rattle.ga_hashes.proofs.block_buffer.hand_on_rows.Given as goal
 use Rattle.ga_core.specs.Rows.{rows}
 

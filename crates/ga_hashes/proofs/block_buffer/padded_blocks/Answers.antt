@@ -1,4 +1,4 @@
-use Rattle.ga_hashes.proofs.BlockLemmas.{MayTake-along, MayTake-front, MayTake-more}
+use Rattle.ga_hashes.proofs.BufferLemmas.{MayTake-along, MayTake-front, MayTake-more}
 use Rattle.ga_hashes.proofs.PaddingLemmas.{padding-kept, with_padding-whole}
 use Rattle.ga_hashes.proofs.block_buffer.padded_blocks.Goals as goal
 use Rattle.ga_hashes.specs.BlockBuffer.{with_padding, padding}

@@ -1,17 +1,17 @@
 -- `allocate` owns the new block as room, or for no slots nothing, with the right to free it. Assumes `Logic`.
-use Rattle.ga_boxed.proofs.Steps.{◌≡◌, refl, sym, ap, Bool, true, false, ℕ, ◌*◌, ◌<◌, ◌^◌, arith, List, [], ◌∷◌}
-use Rattle.ga_boxed.proofs.Steps.{eqb→eq, lit<, Ura, Fn, Body, w64, inst_fn, Val, vptr, vint, vstruct, vcons, vnil}
-use Rattle.ga_boxed.proofs.Steps.{ent, sep, Incl-trans, flft, align, capped, capped_fits, Env, Wp, after_seq}
-use Rattle.ga_boxed.proofs.Steps.{at_return, Logic, sem, ◌⊑◌, Post as After, any_q, ⋆, ‵, raw, ◌⊛◌, later, await}
-use Rattle.ga_boxed.proofs.Steps.{at_ret, ◌$◌, ◌∵◌, !, qed, by, move, keep, use0, use1, use2, use3, split, rewrite}
-use Rattle.ga_boxed.proofs.Steps.{fsplit, fjoin, whole, agg, addr, align_word, and_then, bin, branches, enter, exec}
-use Rattle.ga_boxed.proofs.Steps.{first, fld, from, lit, no_more, of_opd, returns, returns_within, size_word, skips}
-use Rattle.ga_boxed.proofs.Steps.{stop, switches_on, alloc_all, pass_all, free_all, look_at, get, get_in, get_tag}
-use Rattle.ga_boxed.proofs.Steps.{lands_as, sets, sets_last, is, env, yes, Is, RattleType, layout, Ptr, block_ptr}
-use Rattle.ga_boxed.proofs.Steps.{plain, nothing, owned, Struct, Struct-Makes, Tuple, calls_at, Triple, has_block}
-use Rattle.ga_boxed.proofs.Steps.{owns_if, Al, token, Answer-typed, takes_key, Takes, at_takes, Answered, Takes-goes}
-use Rattle.ga_boxed.proofs.Steps.{Takes-gives, answers, El, R, elτ, uncapped, uncapped_fits, T_true, Good, first_Good}
-use Rattle.ga_boxed.proofs.Steps.{is_not, word, word-Good, after, arm_body, head, cells_own, deed_owns}
+use Rattle.ga_boxed.proofs.CellsWalkNames.{◌≡◌, refl, sym, ap, Bool, true, false, ℕ, ◌*◌, ◌<◌, ◌^◌, arith, List, [], ◌∷◌}
+use Rattle.ga_boxed.proofs.CellsWalkNames.{eqb→eq, lit<, Ura, Fn, Body, w64, inst_fn, Val, vptr, vint, vstruct, vcons, vnil}
+use Rattle.ga_boxed.proofs.CellsWalkNames.{ent, sep, Incl-trans, flft, align, capped, capped_fits, Env, Wp, after_seq}
+use Rattle.ga_boxed.proofs.CellsWalkNames.{at_return, Logic, sem, ◌⊑◌, Post as After, any_q, ⋆, ‵, raw, ◌⊛◌, later, await}
+use Rattle.ga_boxed.proofs.CellsWalkNames.{at_ret, ◌$◌, ◌∵◌, !, qed, by, move, keep, use0, use1, use2, use3, split, rewrite}
+use Rattle.ga_boxed.proofs.CellsWalkNames.{fsplit, fjoin, whole, agg, addr, align_word, and_then, bin, branches, enter, exec}
+use Rattle.ga_boxed.proofs.CellsWalkNames.{first, fld, from, lit, no_more, of_opd, returns, returns_within, size_word, skips}
+use Rattle.ga_boxed.proofs.CellsWalkNames.{stop, switches_on, alloc_all, pass_all, free_all, look_at, get, get_in, get_tag}
+use Rattle.ga_boxed.proofs.CellsWalkNames.{lands_as, sets, sets_last, is, env, yes, Is, RattleType, layout, Ptr, block_ptr}
+use Rattle.ga_boxed.proofs.CellsWalkNames.{plain, nothing, owned, Struct, Struct-Makes, Tuple, calls_at, Triple, has_block}
+use Rattle.ga_boxed.proofs.CellsWalkNames.{owns_if, Al, token, Answer-typed, takes_key, Takes, at_takes, Answered, Takes-goes}
+use Rattle.ga_boxed.proofs.CellsWalkNames.{Takes-gives, answers, El, R, elτ, uncapped, uncapped_fits, T_true, Good, first_Good}
+use Rattle.ga_boxed.proofs.CellsWalkNames.{is_not, word, word-Good, after, arm_body, head, cells_own, deed_owns}
 use types.Match.{live, vrt, in_variant}
 use denote.Struct.Declared as Declared
 use Rattle.std.specs.Prelude.{Err, IfOk, IsOk, Ok}

@@ -1,13 +1,13 @@
 -- `fits` says exactly whether the slots take fewer than 2 ^ 63 bytes, for every element type. Assumes `Logic`.
-use Rattle.ga_boxed.proofs.Steps.{Bool, true, not, ◌↔◌, ◌≡◌, refl, sym, subst, ℕ, zero, suc, ◌*◌, ◌/◌, ◌≤◌, ◌<◌, ◌^◌}
-use Rattle.ga_boxed.proofs.Steps.{mul-zero, div-le_self, le-div_iff_mul-le, arith, List, [], ◌∷◌, T, eqb, leb, eqb→eq}
-use Rattle.ga_boxed.proofs.Steps.{leb→le, le→leb, lit<, uncapped, Ura, inst_fn, Fn, w64, Fits, Val, vbool, vint, ent}
-use Rattle.ga_boxed.proofs.Steps.{emp, guard_i, via, capped_fits, capped_is, capped_small, capped, Env, Calls, Loops}
-use Rattle.ga_boxed.proofs.Steps.{Logic, tables, drop, flt_l, fsplit, at_ret, ◌$◌, ◌∵◌, !, qed, by, keep, feq_i, lit}
-use Rattle.ga_boxed.proofs.Steps.{true_lit, of_opd, bin, first, skips, branches, exec, returns, returns_within, enter}
-use Rattle.ga_boxed.proofs.Steps.{size_word, alloc_all, pass_all, free_all, look_at, get, sets, env, bool, usize, yes}
-use Rattle.ga_boxed.proofs.Steps.{uint_vals, uint_Tells, plain, nothing, stay_dropped, Goes-dropped, El, args}
-use Rattle.ga_boxed.proofs.Steps.{one_below, T_true, after}
+use Rattle.ga_boxed.proofs.CellsWalkNames.{Bool, true, not, ◌↔◌, ◌≡◌, refl, sym, subst, ℕ, zero, suc, ◌*◌, ◌/◌, ◌≤◌, ◌<◌, ◌^◌}
+use Rattle.ga_boxed.proofs.CellsWalkNames.{mul-zero, div-le_self, le-div_iff_mul-le, arith, List, [], ◌∷◌, T, eqb, leb, eqb→eq}
+use Rattle.ga_boxed.proofs.CellsWalkNames.{leb→le, le→leb, lit<, uncapped, Ura, inst_fn, Fn, w64, Fits, Val, vbool, vint, ent}
+use Rattle.ga_boxed.proofs.CellsWalkNames.{emp, guard_i, via, capped_fits, capped_is, capped_small, capped, Env, Calls, Loops}
+use Rattle.ga_boxed.proofs.CellsWalkNames.{Logic, tables, drop, flt_l, fsplit, at_ret, ◌$◌, ◌∵◌, !, qed, by, keep, feq_i, lit}
+use Rattle.ga_boxed.proofs.CellsWalkNames.{true_lit, of_opd, bin, first, skips, branches, exec, returns, returns_within, enter}
+use Rattle.ga_boxed.proofs.CellsWalkNames.{size_word, alloc_all, pass_all, free_all, look_at, get, sets, env, bool, usize, yes}
+use Rattle.ga_boxed.proofs.CellsWalkNames.{uint_vals, uint_Tells, plain, nothing, stay_dropped, Goes-dropped, El, args}
+use Rattle.ga_boxed.proofs.CellsWalkNames.{one_below, T_true, after}
 use Rattle.ga_boxed.proofs.BlockLemmas.{none_fits}
 use Rattle.ga_boxed.proofs.CallWalk.{Call, Had, Walk, meets_grown}
 use Rattle.ga_boxed.proofs.ClauseFacts.{facts, has_every}

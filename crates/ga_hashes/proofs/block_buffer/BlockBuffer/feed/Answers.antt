@@ -1,4 +1,4 @@
-use Rattle.ga_hashes.proofs.BlockLemmas.{HasFed-more}
+use Rattle.ga_hashes.proofs.BufferLemmas.{HasFed-more}
 use Rattle.ga_hashes.proofs.block_buffer.BlockBuffer.feed.Goals as goal
 
 pub returns-clause-whole : goal.returns-clause-whole

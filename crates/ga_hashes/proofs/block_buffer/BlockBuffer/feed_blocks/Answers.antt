@@ -1,4 +1,4 @@
-use Rattle.ga_hashes.proofs.BlockLemmas.{MayTake-along, TakesEach-none, full-callable, full-taken, full-then_callable}
+use Rattle.ga_hashes.proofs.BufferLemmas.{MayTake-along, TakesEach-none, full-callable, full-taken, full-then_callable}
 use Rattle.ga_hashes.proofs.block_buffer.BlockBuffer.feed_blocks.Given as given
 use Rattle.ga_hashes.proofs.block_buffer.BlockBuffer.feed_blocks.Goals as goal
 use Rattle.ga_hashes.proofs.block_buffer.BlockBuffer.feed_blocks.Goals.{After-as_slice}

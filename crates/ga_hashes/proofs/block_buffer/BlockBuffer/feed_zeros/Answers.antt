@@ -1,4 +1,4 @@
-use Rattle.ga_hashes.proofs.BlockLemmas.{MayTake-along}
+use Rattle.ga_hashes.proofs.BufferLemmas.{MayTake-along}
 use Rattle.ga_hashes.proofs.block_buffer.BlockBuffer.feed_zeros.Goals as goal
 use Rattle.ga_hashes.specs.BlockBuffer.{HasFed}
 use Rattle.ga_core.specs.Rows.{rows}

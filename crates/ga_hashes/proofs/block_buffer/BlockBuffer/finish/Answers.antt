@@ -1,4 +1,4 @@
-use Rattle.ga_hashes.proofs.BlockLemmas.{HasFed-few, HasFed-more, MayTake-more, TakesEach-along}
+use Rattle.ga_hashes.proofs.BufferLemmas.{HasFed-few, HasFed-more, MayTake-more, TakesEach-along}
 use Rattle.ga_hashes.proofs.PaddingLemmas.{padding-after_mark, padding-in_turn, padding-kept}
 use Rattle.ga_hashes.proofs.block_buffer.BlockBuffer.finish.Given as given
 use Rattle.ga_hashes.proofs.block_buffer.BlockBuffer.finish.Goals as goal

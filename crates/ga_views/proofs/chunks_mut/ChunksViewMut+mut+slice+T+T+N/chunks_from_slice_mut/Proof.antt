@@ -1,17 +1,17 @@
 -- `chunks_from_slice_mut` cuts the slice behind its whole rows, so the slice ends as what the rows' items and the
 -- rest end as, one after the other. The borrow checker shows no clause on two parts where one of them is passed on to
 -- a call that makes rows of it, so this proof walks the code by hand. Assumes `Logic`.
-use Rattle.ga_views.proofs.Steps.{addr, agg, alloc_all, and_then, ap, arg, arg_laws, arith, Array, by, Dict, dnil, done}
-use Rattle.ga_views.proofs.Steps.{drop, drop_list, emp, ent, enter, fact, fact_i, feq_i, fjoin, fld, flft, follows_both}
-use Rattle.ga_views.proofs.Steps.{fpack, framed, free_all, from, fsplit, ftrue, get, get_in, GName, group, heard, hop}
-use Rattle.ga_views.proofs.Steps.{id⊢, impl_of, Is, lands_as, Laws, layout, length, Lft, List, Logic, look_at}
-use Rattle.ga_views.proofs.Steps.{look_in_at, move, mut_slice_vals, MutSlice, named, NamedLft, no, no_more, nothing}
-use Rattle.ga_views.proofs.Steps.{of_list, of_opd, only, owned, owns, param, param_laws, pass_all, peeks, qed}
-use Rattle.ga_views.proofs.Steps.{RattleType, raw, refl, returns, rewrite, sem, sep, sets, shows, slice_val, split}
-use Rattle.ga_views.proofs.Steps.{split3, stop, sub, sym, tables, take, tcons, tnil, Tuple, tuple_laws, tuple_type}
-use Rattle.ga_views.proofs.Steps.{ty_int, ty_ptr, ty_struct, uint_Makes, Ura, use0, use2, usize, Val, Valss, vint}
-use Rattle.ga_views.proofs.Steps.{vstruct, w64, whole, within, yes, !, [], ‵, ℕ, ⊑_meet, ⊑_refl, ⊑_trans, ◌$◌, ◌*◌}
-use Rattle.ga_views.proofs.Steps.{◌++◌, ◌<◌, ◌∙◌, ◌∵◌, ◌∷◌, ◌≡◌, ◌≤◌, ◌⊑◌, ◌⊛◌}
+use Rattle.ga_views.proofs.WalkNames.{addr, agg, alloc_all, and_then, ap, arg, arg_laws, arith, Array, by, Dict, dnil, done}
+use Rattle.ga_views.proofs.WalkNames.{drop, drop_list, emp, ent, enter, fact, fact_i, feq_i, fjoin, fld, flft, follows_both}
+use Rattle.ga_views.proofs.WalkNames.{fpack, framed, free_all, from, fsplit, ftrue, get, get_in, GName, group, heard, hop}
+use Rattle.ga_views.proofs.WalkNames.{id⊢, impl_of, Is, lands_as, Laws, layout, length, Lft, List, Logic, look_at}
+use Rattle.ga_views.proofs.WalkNames.{look_in_at, move, mut_slice_vals, MutSlice, named, NamedLft, no, no_more, nothing}
+use Rattle.ga_views.proofs.WalkNames.{of_list, of_opd, only, owned, owns, param, param_laws, pass_all, peeks, qed}
+use Rattle.ga_views.proofs.WalkNames.{RattleType, raw, refl, returns, rewrite, sem, sep, sets, shows, slice_val, split}
+use Rattle.ga_views.proofs.WalkNames.{split3, stop, sub, sym, tables, take, tcons, tnil, Tuple, tuple_laws, tuple_type}
+use Rattle.ga_views.proofs.WalkNames.{ty_int, ty_ptr, ty_struct, uint_Makes, Ura, use0, use2, usize, Val, Valss, vint}
+use Rattle.ga_views.proofs.WalkNames.{vstruct, w64, whole, within, yes, !, [], ‵, ℕ, ⊑_meet, ⊑_refl, ⊑_trans, ◌$◌, ◌*◌}
+use Rattle.ga_views.proofs.WalkNames.{◌++◌, ◌<◌, ◌∙◌, ◌∵◌, ◌∷◌, ◌≡◌, ◌≤◌, ◌⊑◌, ◌⊛◌}
 use Rattle.std.proofs.Common.{◌/◌, ◌⊎◌}
 use denote.Param.NoDrop.{glues}
 use denote.Struct.Declared.{shape}

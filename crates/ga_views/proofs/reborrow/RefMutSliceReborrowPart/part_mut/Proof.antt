@@ -2,11 +2,11 @@
 -- The borrow checker shows an `ensures*` only where the body hands on a field or a call's result, so this proof walks
 -- the code by hand: the inner reference is opened and read, which gives the part's place, and then the part is lent
 -- by `PartLoan`'s `lends_part`. Assumes `Logic`.
-use Rattle.ga_views.proofs.Steps.{addr, agg, alloc_all, and_then, ap, arith, at_last, await, bin, by, drop_list, enter}
-use Rattle.ga_views.proofs.Steps.{fld, free_all, get, get_in, hop, is, keep, later, layout, length, load, look_at}
-use Rattle.ga_views.proofs.Steps.{look_in, no_more, of_opd, param, pass_all, pick, qed, RattleType, refl, renamed}
-use Rattle.ga_views.proofs.Steps.{returns, sets, size, size_word, some, split3, stop, sub, take, through, use3, vint}
-use Rattle.ga_views.proofs.Steps.{w64, whole, !, [], ℕ, ◌$◌, ◌*◌, ◌+◌, ◌<◌, ◌^◌, ◌∵◌, ◌∷◌, ◌≡◌, ◌≤◌}
+use Rattle.ga_views.proofs.WalkNames.{addr, agg, alloc_all, and_then, ap, arith, at_last, await, bin, by, drop_list, enter}
+use Rattle.ga_views.proofs.WalkNames.{fld, free_all, get, get_in, hop, is, keep, later, layout, length, load, look_at}
+use Rattle.ga_views.proofs.WalkNames.{look_in, no_more, of_opd, param, pass_all, pick, qed, RattleType, refl, renamed}
+use Rattle.ga_views.proofs.WalkNames.{returns, sets, size, size_word, some, split3, stop, sub, take, through, use3, vint}
+use Rattle.ga_views.proofs.WalkNames.{w64, whole, !, [], ℕ, ◌$◌, ◌*◌, ◌+◌, ◌<◌, ◌^◌, ◌∵◌, ◌∷◌, ◌≡◌, ◌≤◌}
 use Rattle.std.proofs.Common.{◌-◌}
 use Rattle.std.specs.List.{refill}
 use Rattle.ga_views.proofs.PartLoan.{lends_part, lent_part, slice}

@@ -1,12 +1,12 @@
 -- `all_mut` lends all the items of the slice that the inner reference points to, for all of the outer reference's
 -- lifetime. The borrow checker shows an `ensures*` only where the body hands on a field or a call's result, so this
 -- proof walks the code by hand. Assumes `Logic`.
-use Rattle.ga_views.proofs.Steps.{addr, agg, alloc_all, and_then, ap, at_last, await, by, done, emp, ent, enter, feq_i}
-use Rattle.ga_views.proofs.Steps.{feq_l, fjoin, fld, Fml, free_all, from, fsplit, get, hop, is, keep, later, length}
-use Rattle.ga_views.proofs.Steps.{List, load, Logic, look_at, look_in, look_in_at, move, MutBor, no_more, nothing}
-use Rattle.ga_views.proofs.Steps.{of_opd, param, pass_all, pick, qed, RattleType, raw, refl, renamed, returns, rewrite}
-use Rattle.ga_views.proofs.Steps.{sem, sep, sets, slice_val, some, split3, stop, sub, through, Ura, use3, whole, !, []}
-use Rattle.ga_views.proofs.Steps.{‵, ℕ, ◌$◌, ◌∵◌, ◌∷◌, ◌≡◌}
+use Rattle.ga_views.proofs.WalkNames.{addr, agg, alloc_all, and_then, ap, at_last, await, by, done, emp, ent, enter, feq_i}
+use Rattle.ga_views.proofs.WalkNames.{feq_l, fjoin, fld, Fml, free_all, from, fsplit, get, hop, is, keep, later, length}
+use Rattle.ga_views.proofs.WalkNames.{List, load, Logic, look_at, look_in, look_in_at, move, MutBor, no_more, nothing}
+use Rattle.ga_views.proofs.WalkNames.{of_opd, param, pass_all, pick, qed, RattleType, raw, refl, renamed, returns, rewrite}
+use Rattle.ga_views.proofs.WalkNames.{sem, sep, sets, slice_val, some, split3, stop, sub, through, Ura, use3, whole, !, []}
+use Rattle.ga_views.proofs.WalkNames.{‵, ℕ, ◌$◌, ◌∵◌, ◌∷◌, ◌≡◌}
 use Rattle.std.specs.List.{refill}
 use Rattle.ga_views.proofs.PartLemmas.{refilled}
 use Rattle.ga_views.proofs.PartLoan.{lends_slice, lent_slice}

@@ -1,12 +1,12 @@
 -- `put` fills the slot behind the items. Assumes `Logic`.
-use Rattle.ga_boxed.proofs.Steps.{◌≡◌, refl, sym, ap, subst, ◌∙◌, ℕ, ◌+◌, ◌-◌, ◌*◌, ◌<◌, ◌^◌, arith, List, [], ◌∷◌}
-use Rattle.ga_boxed.proofs.Steps.{◌++◌, part_in, Ura, full_share, Fn, w64, inst_fn, Val, vint, vunit, fat, froom, Env}
-use Rattle.ga_boxed.proofs.Steps.{Calls, Loops, Logic, tables, ‵, ◌⊛◌, at_ret, ◌$◌, ◌∵◌, !, qed, by, move, keep, use1}
-use Rattle.ga_boxed.proofs.Steps.{use2, split, rewrite, fsplit, feq_i, whole, sub, init, stop, fld, unit_lit, of_opd}
-use Rattle.ga_boxed.proofs.Steps.{assigns_last, first, blocks, exec, returns, enter, alloc_all, pass_all, free_all}
-use Rattle.ga_boxed.proofs.Steps.{look_at, get, get_in, through, sets, env, part_at, layout, Ptr, mut_vals, no, unit}
-use Rattle.ga_boxed.proofs.Steps.{plain, after, word, word-Good, length, length-append, bin, size_lit, take_at}
-use Rattle.ga_boxed.proofs.Steps.{give_at, El, R, args, el_x, elτ, times_below, one_below}
+use Rattle.ga_boxed.proofs.CellsWalkNames.{◌≡◌, refl, sym, ap, subst, ◌∙◌, ℕ, ◌+◌, ◌-◌, ◌*◌, ◌<◌, ◌^◌, arith, List, [], ◌∷◌}
+use Rattle.ga_boxed.proofs.CellsWalkNames.{◌++◌, part_in, Ura, full_share, Fn, w64, inst_fn, Val, vint, vunit, fat, froom, Env}
+use Rattle.ga_boxed.proofs.CellsWalkNames.{Calls, Loops, Logic, tables, ‵, ◌⊛◌, at_ret, ◌$◌, ◌∵◌, !, qed, by, move, keep, use1}
+use Rattle.ga_boxed.proofs.CellsWalkNames.{use2, split, rewrite, fsplit, feq_i, whole, sub, init, stop, fld, unit_lit, of_opd}
+use Rattle.ga_boxed.proofs.CellsWalkNames.{assigns_last, first, blocks, exec, returns, enter, alloc_all, pass_all, free_all}
+use Rattle.ga_boxed.proofs.CellsWalkNames.{look_at, get, get_in, through, sets, env, part_at, layout, Ptr, mut_vals, no, unit}
+use Rattle.ga_boxed.proofs.CellsWalkNames.{plain, after, word, word-Good, length, length-append, bin, size_lit, take_at}
+use Rattle.ga_boxed.proofs.CellsWalkNames.{give_at, El, R, args, el_x, elτ, times_below, one_below}
 use Rattle.ga_boxed.proofs.CallWalk.{Call, Had, Walk, an_item, number, meets_grown}
 use Rattle.ga_boxed.proofs.CellsWalk.{by_mut, closes_cells, opens_cells, the_base}
 use Rattle.ga_boxed.proofs.ClauseFacts.{facts, has_every}

@@ -1,9 +1,9 @@
 -- `slice` shows the items that the cells lend. Assumes `Logic`.
-use Rattle.ga_boxed.proofs.Steps.{◌≡◌, refl, sym, ap, ◌∙◌, ℕ, ◌+◌, ◌*◌, ◌≤◌, ◌<◌, ◌^◌, arith, List, [], ◌∷◌, Ura, Fn}
-use Rattle.ga_boxed.proofs.Steps.{imm, inst_fn, Val, never, id⊢, Calls, Loops, Logic, tables, toks, raw, group, ‵, ◌⊛◌}
-use Rattle.ga_boxed.proofs.Steps.{◌$◌, ◌∵◌, !, qed, by, move, keep, drop, split, rewrite, fsplit, fjoin, feq_i, flt_l}
-use Rattle.ga_boxed.proofs.Steps.{flt_i, in_a_block, Bor, shr_vals, slice_val, elements_shared, SliceRefOf, plain}
-use Rattle.ga_boxed.proofs.Steps.{nothing, length, El, R, args, el_x, times_below, cells_lent}
+use Rattle.ga_boxed.proofs.CellsWalkNames.{◌≡◌, refl, sym, ap, ◌∙◌, ℕ, ◌+◌, ◌*◌, ◌≤◌, ◌<◌, ◌^◌, arith, List, [], ◌∷◌, Ura, Fn}
+use Rattle.ga_boxed.proofs.CellsWalkNames.{imm, inst_fn, Val, never, id⊢, Calls, Loops, Logic, tables, toks, raw, group, ‵, ◌⊛◌}
+use Rattle.ga_boxed.proofs.CellsWalkNames.{◌$◌, ◌∵◌, !, qed, by, move, keep, drop, split, rewrite, fsplit, fjoin, feq_i, flt_l}
+use Rattle.ga_boxed.proofs.CellsWalkNames.{flt_i, in_a_block, Bor, shr_vals, slice_val, elements_shared, SliceRefOf, plain}
+use Rattle.ga_boxed.proofs.CellsWalkNames.{nothing, length, El, R, args, el_x, times_below, cells_lent}
 use denote.Opens.{hide, unhide}
 use Rattle.ga_boxed.specs.contracts.live_block.cells.Cells.slice.Key.{name as #self}
 use Rattle.ga_boxed.proofs.CallWalk.{Call, Had, Walk, by_ref, meets_grown}

@@ -1,11 +1,11 @@
 -- `slice_mut` lends the items, and the cells follow them. Assumes `Logic`.
-use Rattle.ga_boxed.proofs.Steps.{◌≡◌, refl, sym, ap, subst, ◌∙◌, ℕ, ◌+◌, ◌*◌, ◌≤◌, ◌<◌, ◌^◌, arith, List, [], ◌∷◌}
-use Rattle.ga_boxed.proofs.Steps.{Ura, full_share, Fn, named, mut, inst_fn, Val, ent, sep, id⊢, GName, Fml, fsep, flft}
-use Rattle.ga_boxed.proofs.Steps.{Calls, Loops, Logic, sem, tables, toks, raw, split3, ‵, ◌⊛◌, some, later, await}
-use Rattle.ga_boxed.proofs.Steps.{pick, ◌$◌, ◌∵◌, !, qed, by, move, keep, use1, split, join, group, rewrite, fsplit}
-use Rattle.ga_boxed.proofs.Steps.{fsplit3, fjoin, fjoin3, fpack, flt_i, done, cells, Array, mem, cell_at, Ptr}
-use Rattle.ga_boxed.proofs.Steps.{block_ptr, MutBor, MutRef, mut_vals, MutSlice, slice_val, SliceRefMutOf, plain}
-use Rattle.ga_boxed.proofs.Steps.{nothing, length, El, R, args, el_x, times_below, cells_own, empty}
+use Rattle.ga_boxed.proofs.CellsWalkNames.{◌≡◌, refl, sym, ap, subst, ◌∙◌, ℕ, ◌+◌, ◌*◌, ◌≤◌, ◌<◌, ◌^◌, arith, List, [], ◌∷◌}
+use Rattle.ga_boxed.proofs.CellsWalkNames.{Ura, full_share, Fn, named, mut, inst_fn, Val, ent, sep, id⊢, GName, Fml, fsep, flft}
+use Rattle.ga_boxed.proofs.CellsWalkNames.{Calls, Loops, Logic, sem, tables, toks, raw, split3, ‵, ◌⊛◌, some, later, await}
+use Rattle.ga_boxed.proofs.CellsWalkNames.{pick, ◌$◌, ◌∵◌, !, qed, by, move, keep, use1, split, join, group, rewrite, fsplit}
+use Rattle.ga_boxed.proofs.CellsWalkNames.{fsplit3, fjoin, fjoin3, fpack, flt_i, done, cells, Array, mem, cell_at, Ptr}
+use Rattle.ga_boxed.proofs.CellsWalkNames.{block_ptr, MutBor, MutRef, mut_vals, MutSlice, slice_val, SliceRefMutOf, plain}
+use Rattle.ga_boxed.proofs.CellsWalkNames.{nothing, length, El, R, args, el_x, times_below, cells_own, empty}
 use denote.Follow.{follows}
 use denote.FollowSlice.{Elements, lends_Elements}
 use denote.Memory.{part_of}

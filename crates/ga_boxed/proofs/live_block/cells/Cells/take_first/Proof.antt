@@ -1,7 +1,7 @@
 -- `take_first` moves the first item out, and its slot is one more that is passed. Assumes `Logic`.
-use Rattle.ga_boxed.proofs.Steps.{◌≢◌, ◌≡◌, refl, sym, ap, ℕ, suc, ◌+◌, ◌*◌, arith, List, [], ◌∷◌, length, Ura, Fml}
-use Rattle.ga_boxed.proofs.Steps.{froom, fsep, inst_fn, Logic, ‵, ◌$◌, ◌∵◌, !, qed, move, use2, rewrite, fsplit}
-use Rattle.ga_boxed.proofs.Steps.{fsplit3, fjoin, done, cells, mem, part_at, full_share, El, R, args, el_x, elτ, empty}
+use Rattle.ga_boxed.proofs.CellsWalkNames.{◌≢◌, ◌≡◌, refl, sym, ap, ℕ, suc, ◌+◌, ◌*◌, arith, List, [], ◌∷◌, length, Ura, Fml}
+use Rattle.ga_boxed.proofs.CellsWalkNames.{froom, fsep, inst_fn, Logic, ‵, ◌$◌, ◌∵◌, !, qed, move, use2, rewrite, fsplit}
+use Rattle.ga_boxed.proofs.CellsWalkNames.{fsplit3, fjoin, done, cells, mem, part_at, full_share, El, R, args, el_x, elτ, empty}
 use Rattle.ga_boxed.proofs.EndLemmas.{Held, empty_snoc, place_after, split_first}
 use Rattle.ga_boxed.proofs.TakeWalk.{Giving, Placing, Taken, meets_taking}
 use Rattle.ga_boxed.proofs.WalkParts.{Cr, sz}

@@ -1,7 +1,7 @@
 -- `take_last` moves the last item out, and its slot is room. Assumes `Logic`.
-use Rattle.ga_boxed.proofs.Steps.{◌≢◌, ◌≡◌, refl, sym, ap, ℕ, ◌+◌, ◌*◌, arith, List, [], ◌∷◌, ◌++◌, length, Ura}
-use Rattle.ga_boxed.proofs.Steps.{full_share, froom, inst_fn, Logic, ‵, ◌⊛◌, ◌$◌, ◌∵◌, !, qed, use1, use2, split}
-use Rattle.ga_boxed.proofs.Steps.{rewrite, done, part_at, El, R, args, el_x, elτ, length-append, ◌∙◌}
+use Rattle.ga_boxed.proofs.CellsWalkNames.{◌≢◌, ◌≡◌, refl, sym, ap, ℕ, ◌+◌, ◌*◌, arith, List, [], ◌∷◌, ◌++◌, length, Ura}
+use Rattle.ga_boxed.proofs.CellsWalkNames.{full_share, froom, inst_fn, Logic, ‵, ◌⊛◌, ◌$◌, ◌∵◌, !, qed, use1, use2, split}
+use Rattle.ga_boxed.proofs.CellsWalkNames.{rewrite, done, part_at, El, R, args, el_x, elτ, length-append, ◌∙◌}
 use Rattle.ga_boxed.proofs.EndLemmas.{split_last, Around, Held, room_in, item_out}
 use Rattle.ga_boxed.proofs.TakeWalk.{Giving, Placing, Taken, meets_taking}
 use Rattle.ga_boxed.proofs.WalkParts.{Cr, sz}

@@ -1,5 +1,5 @@
 use Rattle.ga_core.proofs.SlotLemmas.{refill-whole}
-use Rattle.generic_array.proofs.ShapeLemmas.{rows-whole}
+use Rattle.generic_array.proofs.ShapeLemmas.{map-row_at}
 use Rattle.generic_array.proofs.sequence.shapes.inline.deal_rows.Goals as goal
 use Rattle.generic_array.specs.Rows.{row_at}
 use Rattle.std.proofs.Common.{◌≡◌, ◌+◌, ◌*◌, ◌≤◌, ◌∙◌, ap, arith, drop, get_or, length, length-drop, refl, suc, sym, take}
@@ -54,4 +54,4 @@ returns g c =
     let all : place ≡ length c.args.grid.now =
     omega (arith, past, c.loop-row.auto.grid, c.loop-row.auto.row-index-end) in
     sym (take_all place c.loop-row.grid past) ∙ (c.loop-row.invariant.made
-    ∙ rw all (rows-whole g.W.Unsigned.USIZE (length c.args.grid.now) c.args.items.now c.requires.some c.requires.len))
+    ∙ rw all (map-row_at g.W.Unsigned.USIZE (length c.args.grid.now) c.args.items.now c.requires.some c.requires.len))
