@@ -1,2 +1,1 @@
 pub mod CountedLemmas
-pub mod JobLemmas

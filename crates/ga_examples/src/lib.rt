@@ -21,5 +21,3 @@ mod macros;
 mod own_lengths;
 #[cfg(test)]
 mod shapes;
-#[cfg(test)]
-mod steps;

@@ -1,4 +1,4 @@
-//! Examples of the headline, each proved: every function of `ga_headline`, with exact results.
+//! Examples of the headline, each proved: every function of `ga_headline`, with exact results, and runs of steps.
 #![tactic(auto)]
 
 #[cfg(test)]
@@ -9,6 +9,8 @@ mod builds;
 mod calls;
 #[cfg(test)]
 mod joined_runs;
+#[cfg(test)]
+mod runs_of_steps;
 #[cfg(test)]
 mod shapes;
 #[cfg(test)]

@@ -14,7 +14,6 @@ mod iterators;
 mod lengths;
 mod live_block;
 mod made;
-mod memory;
 mod readme;
 mod record_block;
 mod shapes;

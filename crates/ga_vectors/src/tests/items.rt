@@ -9,7 +9,7 @@ use std::convert::AsSlice;
 pub type TooMany = Const<18446744073709551615>;
 
 /// The number of an item, from 1. It is a digit.
-pub fn number(index: usize) -> u32 {
+fn number(index: usize) -> u32 {
     (index % 9) as u32 + 1
 }
 

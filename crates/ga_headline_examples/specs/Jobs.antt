@@ -1,19 +1,16 @@
 -- A deque of jobs: who got which.
 use Rattle.generic_array.specs.declared.steps.step.Reply.{Reply}
-use Rattle.generic_array.specs.declared.steps.step.Reply.TheVariants.{Item, Old, Outside, Seen}
+use Rattle.generic_array.specs.declared.steps.step.Reply.TheVariants.{Item}
 use Rattle.generic_array.specs.declared.steps.step.Step.{Step}
-use Rattle.generic_array.specs.declared.steps.step.Step.TheVariants.{Look, Next, NextBack, Nth, NthBack, Set}
-use Rattle.std.specs.Prelude.{⊤, List, [], ◌∷◌, ◌++◌, None, Some}
+use Rattle.generic_array.specs.declared.steps.step.Step.TheVariants.{Next, NextBack}
+use Rattle.std.specs.Prelude.{⊤, List, [], ◌∷◌, ◌++◌, Some}
 
 module _ {J : Type 0} where
   -- the step takes one job, from the front or from the back
   abbrev pub IsTurn : Step J → Type 0
   IsTurn Next = ⊤
   IsTurn NextBack = ⊤
-  IsTurn (Nth n) = ⊥
-  IsTurn (NthBack n) = ⊥
-  IsTurn Look = ⊥
-  IsTurn (Set i job) = ⊥
+  IsTurn _ = ⊥
 
   abbrev pub AreTurns : List (Step J) → Type 0
   AreTurns [] = ⊤
@@ -23,28 +20,17 @@ module _ {J : Type 0} where
     -- the job that a reply hands out
     abbrev pub job_of : Reply J R → List J
     job_of (Item (Some job)) = job ∷ []
-    job_of (Item None) = []
-    job_of (Seen seen) = []
-    job_of (Old job) = []
-    job_of (Outside job) = []
+    job_of _ = []
 
     -- the job that a reply hands out to who takes from the front
     abbrev pub own_job : Step J → Reply J R → List J
     own_job Next reply = job_of reply
-    own_job NextBack reply = []
-    own_job (Nth n) reply = []
-    own_job (NthBack n) reply = []
-    own_job Look reply = []
-    own_job (Set i job) reply = []
+    own_job _ reply = []
 
     -- and to who takes from the back
     abbrev pub stolen_job : Step J → Reply J R → List J
-    stolen_job Next reply = []
     stolen_job NextBack reply = job_of reply
-    stolen_job (Nth n) reply = []
-    stolen_job (NthBack n) reply = []
-    stolen_job Look reply = []
-    stolen_job (Set i job) reply = []
+    stolen_job _ reply = []
 
     -- the jobs that the replies hand out to one of them, in order
     abbrev pub jobs_by : (Step J → Reply J R → List J) → List (Step J) → List (Reply J R) → List J

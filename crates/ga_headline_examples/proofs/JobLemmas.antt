@@ -1,11 +1,11 @@
 -- Each job of a deque goes to one taker, or is left.
 use Rattle.generic_array.specs.Account.{Account, HasNoSet, gone_back, gone_front}
-use Rattle.ga_examples.specs.Jobs.{AreTurns, job_of, jobs_by, own_job, stolen_job}
+use Rattle.ga_headline_examples.specs.Jobs.{AreTurns, job_of, jobs_by, own_job, stolen_job}
 use Rattle.generic_array.specs.Steps.{StepsRun}
 use Rattle.generic_array.specs.declared.steps.step.Reply.{Reply}
 use Rattle.generic_array.specs.declared.steps.step.Reply.TheVariants.{Item}
 use Rattle.generic_array.specs.declared.steps.step.Step.{Step}
-use Rattle.generic_array.specs.declared.steps.step.Step.TheVariants.{Look, Next, NextBack, Nth, NthBack, Set}
+use Rattle.generic_array.specs.declared.steps.step.Step.TheVariants.{Next, NextBack}
 use Rattle.std.proofs.Common.{◌≡◌, List, [], ◌∷◌, ◌++◌, subst, take, reverse, refl, ap, slice_get}
 
 module _ {J R G : Type 0} (look : G → List J → R → G → Type 0) where
@@ -31,10 +31,7 @@ module _ {J R G : Type 0} (look : G → List J → R → G → Type 0) where
       let others = subst (λ left. AreHandedOut left steps replies) run.1.1
       (handed_out steps run.0 replies last turns.1 run.2) in
       (others.0, cc (others.1, first-job (reverse before.0), ap job_of run.1.0.0), others.2)
-  handed_out (Nth n ∷ steps) before (reply ∷ replies) last turns run = absurd turns.0
-  handed_out (NthBack n ∷ steps) before (reply ∷ replies) last turns run = absurd turns.0
-  handed_out (Look ∷ steps) before (reply ∷ replies) last turns run = absurd turns.0
-  handed_out (Set i job ∷ steps) before (reply ∷ replies) last turns run = absurd turns.0
+  handed_out (_ ∷ steps) before (reply ∷ replies) last turns run = absurd turns.0
 
   pub jobs-shared : (steps : List (Step J)) (before : List J × G) (replies : List (Reply J R)) (last : List J × G)
       → AreTurns steps → StepsRun look before steps replies last

@@ -1,5 +1,5 @@
 //! Jobs in a deque: their owner takes them from the front, a thief from the back.
-ghost use Rattle.ga_examples.specs.Jobs.{AreTurns, jobs_by, own_job, stolen_job};
+ghost use Rattle.ga_headline_examples.specs.Jobs.{AreTurns, jobs_by, own_job, stolen_job};
 ghost use Rattle.generic_array.specs.declared.steps.step.Reply.TheVariants.{Item};
 ghost use Rattle.std.specs.Prelude.{◌≡◌, [], ◌∷◌, ◌++◌, IfOk, OnOk, Some, reverse};
 

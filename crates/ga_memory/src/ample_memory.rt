@@ -5,7 +5,6 @@
 ghost use Rattle.generic_array.specs.Length.{FitsInline};
 ghost use Rattle.std.specs.Prelude.{◌≤◌};
 
-use crate::tests::items::{boxed_from_one, from_one, number};
 use generic_array::checks::map_total_by;
 use generic_array::functional::{FunctionalSequence, inverted_zip2};
 use generic_array::sequence::{FallibleGenericSequence, FromFallibleIterator, GenericSequence};
@@ -15,6 +14,23 @@ use generic_array::{
 use std::alloc::Global;
 use std::convert::AsSlice;
 use std::test::Fail;
+
+/// The number of an item, from 1. It is a digit.
+fn number(index: usize) -> u32 {
+    (index % 9) as u32 + 1
+}
+
+/// The array of 1 to N.
+fn from_one<N: ArrayLength<u32>>() -> GenericArray<u32, N>
+    requires { FitsInline N.USIZE }
+{
+    GenericArray::generate(number)
+}
+
+/// The same in a block.
+fn boxed_from_one<N: Unsigned>(alloc: Global) -> Result<BoxedArray<u32, N>, AllocError> {
+    BoxedArray::generate(alloc, number)
+}
 
 /// A call's name, and whether it made what it should.
 type Played = (&'static str, bool);
@@ -66,9 +82,9 @@ fn good(item: u32) -> Result<u32, u32> {
     Ok(item)
 }
 
-/// The number at an index, as the good result of a call that may fail.
+/// The number of an item, as the good result of a call that may fail.
 fn good_number(index: usize) -> Result<u32, u32> {
-    Ok((index % 9) as u32 + 1)
+    Ok(number(index))
 }
 
 /// The calls that leave an inline array, or make a block of one.

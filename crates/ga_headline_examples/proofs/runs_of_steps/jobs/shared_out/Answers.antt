@@ -1,6 +1,6 @@
-use Rattle.ga_examples.proofs.JobLemmas.{jobs-shared}
+use Rattle.ga_headline_examples.proofs.JobLemmas.{jobs-shared}
 use Rattle.generic_array.proofs.StepLemmas.{MaySteps-always}
-use Rattle.ga_examples.proofs.steps.jobs.shared_out.Goals as goal
+use Rattle.ga_headline_examples.proofs.runs_of_steps.jobs.shared_out.Goals as goal
 use Rattle.std.proofs.Common.{◌≡◌, rules}
 
 pub run_steps-requires : goal.run_steps-requires
