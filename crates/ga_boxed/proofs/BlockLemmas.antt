@@ -16,8 +16,8 @@ pub none_yet : (n : ℕ) → 0 + n ≡ n
 none_yet n = omega arith
 
 -- one more was counted, and one fewer is left
-pub count_more : (count left others all : ℕ) → left ≡ suc others → count + left ≡ all → count + 1 + others ≡ all
-count_more count left others all some so_far = omega arith
+pub one_counted : (count left others all : ℕ) → left ≡ suc others → count + left ≡ all → count + 1 + others ≡ all
+one_counted count left others all some so_far = omega arith
 
 -- one fewer is less
 pub less_room : (less room : ℕ) → less + 1 ≡ room → less < room

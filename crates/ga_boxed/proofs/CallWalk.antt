@@ -19,7 +19,7 @@ use prog.Routine.{Routine}
 use sound.WpLaws.{FmC}
 use denote.Triple.End.{Fins, Kepts}
 use Rattle.std.proofs.raw_atomic.Walks.{leaves, proved_at}
-use Rattle.ga_boxed.proofs.ClauseFacts.{Every, facts, learns}
+use Rattle.ga_boxed.proofs.ClauseFacts.{AllFacts, facts, learns}
 use Rattle.ga_boxed.proofs.WalkParts.{at_values, grows, is_one}
 
 -- `Word` is what its machine values have besides
@@ -192,7 +192,7 @@ module _ {n : ℕ} (c : Call n) where
 
     abbrev pub Walk : Calls 𝓤 H → Loops 𝓤 H → Fn → Type 2
     Walk C Λ e = (κs : Lfts n) (qs : Shares n) → AllOutlive n c.outlives κs → (x : (c.me.slot.row κs).Denot)
-        (a : Args κs c.behind) (w : Words c.behind) (Post : Val → SProp 𝓤) → Every (c.asks κs x a)
+        (a : Args κs c.behind) (w : Words c.behind) (Post : Val → SProp 𝓤) → AllFacts (c.asks κs x a)
         → Fines κs c.behind a w → Ends κs qs x a Post → ent 𝓤 (⋆ 𝓛 (Had κs qs x a w))
         (WpFn 𝓤 H C Λ e (c.me.vals κs x ++ flat (rows κs c.behind) (vals_of κs c.behind a w)) Post)
 

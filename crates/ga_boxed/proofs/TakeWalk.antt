@@ -12,7 +12,7 @@ use Rattle.ga_boxed.proofs.CellsWalkNames.{through, sets, sets_last, env, no, pa
 use Rattle.ga_boxed.proofs.CellsWalkNames.{word-Good, after, El, R, el_x, elτ, times_below, one_below}
 use Rattle.ga_boxed.proofs.CallWalk.{Call, Had, Walk, clauses, ended, number, meets_grown}
 use Rattle.ga_boxed.proofs.CellsWalk.{by_mut, closes_cells, opens_cells, the_base}
-use Rattle.ga_boxed.proofs.ClauseFacts.{Every, facts, has_every}
+use Rattle.ga_boxed.proofs.ClauseFacts.{AllFacts, facts, has_every}
 use Rattle.ga_boxed.proofs.EndLemmas.{Held}
 use Rattle.ga_boxed.proofs.WalkParts.{Bs, Cr, sz, value_out}
 
@@ -39,7 +39,7 @@ module _ (E : El) where
   pub record Taken {M : Type 1} {𝓤 : Ura M} (𝓛 : Logic 𝓤) (gives : Giving) (d : (Cr E).Denot) (index : ℕ) : Type 1 where
     pub item : el_x E
     pub new : (Cr E).Denot
-    pub given : Every (gives d item new)
+    pub given : AllFacts (gives d item new)
     pub at : new.at ≡ d.at
     pub within : index < d.passed + length d.items + d.room
     pub all : d.passed + length d.items + d.room ≡ new.passed + length new.items + new.room

@@ -1,4 +1,4 @@
--- What a block ends as, where its items are lent for writing.
+-- What a block ends as, where its items are borrowed for writing.
 use Rattle.ga_boxed.specs.Live.{Live, live}
 use Rattle.ga_boxed.specs.contracts.live_block.LiveBlock.{the_row}
 use Rattle.std.specs.Borrow.{Array, Fml, Lends, MutBor, RattleType}

@@ -1,4 +1,4 @@
--- What an iterator over a boxed array ends as, where its items are lent for writing.
+-- What an iterator over a boxed array ends as, where its items are borrowed for writing.
 use Rattle.ga_boxed.specs.contracts.boxed_array_iter.BoxedArrayIter.{the_row}
 use Rattle.std.specs.Borrow.{Array, Fml, Lends, MutBor, RattleType}
 use Rattle.std.specs.List.{refill}

@@ -1,4 +1,4 @@
--- What the cells end as, where their items are lent for writing.
+-- What the cells end as, where their items are borrowed for writing.
 use Rattle.ga_boxed.specs.contracts.live_block.cells.Cells.{the_row}
 use Rattle.ga_boxed.specs.declared.live_block.cells.Cells.{Cells}
 use Rattle.std.specs.Borrow.{Array, Fml, Lends, MutBor, RattleType}

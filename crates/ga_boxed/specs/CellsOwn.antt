@@ -1,4 +1,4 @@
--- What the parts of a block own and lend, at items of the row R.
+-- What the parts of a block own and share, at items of the row R.
 use Rattle.std.specs.Mem.{type_size}
 use Rattle.std.specs.Prelude.{List, length, ℕ, ◌*◌, ◌+◌, ◌^◌}
 use Rattle.std.specs.Vec.Ownership.{has_block, owns_if}

@@ -60,7 +60,7 @@ impl<T, N: Unsigned> BoxedArray<T, N> {
         self.items.all_mut(N::USIZE)
     }
 
-    /// The number of items, which is `N`.
+    /// The number of items, which is `N`. O(1).
     pub fn len(&self) -> usize
         ensures { result ≡ N.USIZE }
     {
@@ -83,7 +83,7 @@ impl<T, N: Unsigned> BoxedArray<T, N> {
         self.as_mut_slice().iter_mut()
     }
 
-    /// The read-only view of the items.
+    /// The read-only view of the items. O(1).
     #[inline]
     pub fn view(&self) -> GenericArrayRef<'_, T, N>
         ensures { items_of_view result ≡ self.now }
@@ -92,7 +92,7 @@ impl<T, N: Unsigned> BoxedArray<T, N> {
     }
 }
 
-/// The items by value, from either end. Moves the block and no single item, and asks for no memory.
+/// The items by value, from either end. Moves the block, but no item, and allocates nothing.
 impl<T: Drop, N: Unsigned> IntoIterator for BoxedArray<T, N> {
     type Item = T;
 

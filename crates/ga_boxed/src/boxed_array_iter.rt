@@ -117,7 +117,7 @@ impl<T: Drop> BoxedArrayIter<T> {
         self.items.take_front()
     }
 
-    /// Drops `n` items from the back and returns the one before them. If at most `n` items are
+    /// Drops `n` items from the back, the last first, and returns the one before them. If at most `n` items are
     /// left, drops them all and returns `None`. O(n).
     pub fn nth_back(&mut self, n: usize) -> Option<T>
         ensures step { StepGives (back n) self.old result self.new }
@@ -128,14 +128,14 @@ impl<T: Drop> BoxedArrayIter<T> {
         self.items.take_back()
     }
 
-    /// The last item that is left. The others are dropped; nothing else takes time.
+    /// The last item that is left. Drops the others, in O(n).
     pub fn last(mut self) -> Option<T>
         ensures { result ≡ slice_get self (length self - 1) }
     {
         self.next_back()
     }
 
-    /// The number of items that are left, which are dropped; nothing else takes time.
+    /// The number of items that are left. Drops them, in O(n).
     pub fn count(self) -> usize
         ensures { result ≡ length self }
     {

@@ -13,7 +13,7 @@ use std::marker::Model;
 /// A block for a number of items that is fixed when it is made. Contracts see it as the list of the
 /// items that it holds, and its room: the number of items that can be put behind them.
 ///
-/// The slots before `start` were left by items taken from the front, and are not used again.
+/// The slots of items taken from the front are not used again.
 pub struct LiveBlock<T> {
     base: Base<T>,
     size: usize,
@@ -104,7 +104,7 @@ impl<T> LiveBlock<T> {
         self
     }
 
-    /// Puts an item behind the others, into room that is there.
+    /// Puts an item behind the others, into room that is there. O(1).
     #[inline]
     pub fn put(&mut self, item: T)
         requires room { 0 < self.old.room }
@@ -116,7 +116,7 @@ impl<T> LiveBlock<T> {
         self.cells.put(self.base, end, item);
     }
 
-    // Takes the first item. Requires that there is one. Its slot isn't used again.
+    // Takes the first item. Its slot isn't used again.
     #[inline]
     pub(crate) fn take_first(&mut self) -> T
         requires some { self.old.items ≢ [] }
@@ -128,7 +128,7 @@ impl<T> LiveBlock<T> {
         self.cells.take_first(self.base, first)
     }
 
-    /// Takes the first item. Its slot isn't used again.
+    /// Takes the first item. Its slot isn't used again. O(1).
     #[inline]
     pub fn take_front(&mut self) -> Option<T>
         ensures { MatchOption result
@@ -141,7 +141,7 @@ impl<T> LiveBlock<T> {
         Some(self.take_first())
     }
 
-    // Takes the last item. Requires that there is one. Its slot is room for another.
+    // Takes the last item. Its slot is room for another.
     #[inline]
     pub(crate) fn take_last(&mut self) -> T
         requires some { self.old.items ≢ [] }
@@ -153,7 +153,7 @@ impl<T> LiveBlock<T> {
         self.cells.take_last(self.base, last)
     }
 
-    /// Takes the last item. Its slot is room for another.
+    /// Takes the last item. Its slot is room for another. O(1).
     #[inline]
     pub fn take_back(&mut self) -> Option<T>
         ensures { MatchOption result

@@ -68,7 +68,7 @@ module _ {S T E : Type 0} (next_gives : S → Option (Result T E) → S → Type
       (λ error. SomeRun next_gives before (λ run. (good : List T) × P good × (run.items ≡ map Ok good ++ Err error ∷ [])
       × (length good < room)))
 
-  -- what `FillsFallibly` says, but for a wrong length that the items taken were good, as one run of calls: the form
+  -- what `FillsFallibly` says, but not that the items before a wrong length were good, as one run of calls: the form
   -- that proofs follow along a chain of std's iterators
   abbrev pub FillFalliblyRuns : {F : Type 0} → S → ℕ → Result (Result (List T) E) F → Type 0
   FillFalliblyRuns before n result = MatchResult result

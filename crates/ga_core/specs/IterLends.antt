@@ -1,4 +1,4 @@
--- What an iterator over an array ends as, where its items are lent for writing.
+-- What an iterator over an array ends as, where its items are borrowed for writing.
 use Rattle.ga_core.specs.contracts.array_iter.GenericArrayIter.{the_row}
 use Rattle.ga_core.specs.declared.store.Store as store
 use Rattle.ga_views.specs.declared.length.Unsigned as unsigned

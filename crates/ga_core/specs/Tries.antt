@@ -13,8 +13,7 @@ module _ {X Y E : Type 0} (h : X → Result Y E) where
   try_map (x ∷ xs) = result_and_then (λ y. result_and_then (λ ys. Ok (y ∷ ys)) (try_map xs)) (h x)
 
 module _ {A X E : Type 0} (h : A → X → Result A E) where
-  -- the last result of h, called with a and the first item and then with its own result and each other item, or its
-  -- first error
+  -- the last value of h folded along the items from a, or its first error
   abbrev pub try_fold : A → List X → Result A E
   try_fold a [] = Ok a
   try_fold a (x ∷ xs) = result_and_then (λ b. try_fold b xs) (h a x)

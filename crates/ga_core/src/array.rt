@@ -29,8 +29,8 @@ use std::slice;
 
 /// An array of exactly `N` items of `T`, kept inline. Contracts see it as the list of its items.
 ///
-/// The counterpart of `GenericArray`. The elements have a `Default`, and the length is at most
-/// `MAX_INLINE`.
+/// The counterpart of `GenericArray`. Items have a `Default`: most builds fill all slots with it first, and
+/// an item that is moved out leaves one behind. The length is at most `MAX_INLINE`.
 #[derive(Drop)]
 pub struct GenericArray<T, N: ArrayLength<T>> {
     store: N::ArrayType,
@@ -83,7 +83,7 @@ impl<T, N: ArrayLength<T>> GenericArray<T, N> {
         N::USIZE
     }
 
-    /// Whether the length is one that an inline array may have, as the calls that make one ask.
+    /// Whether `N <= MAX_INLINE`, which inline builds require.
     #[inline]
     pub const fn fits() -> bool
         ensures { IsTrue result ↔ (FitsInline N.USIZE) }
@@ -156,7 +156,7 @@ impl<T, N: ArrayLength<T>> IndexMut<usize> for GenericArray<T, N> {
         requires { index < N.USIZE }
         ensures* writes_back { sem 𝓛 (LendsItem T.row N.row N.ArrayType.row N.Unsigned N.ArrayType.Store
             self.entry index result) }
-        ensures value { slice_get self.old index ≡ Some result.now }
+        ensures item { slice_get self.old index ≡ Some result.now }
     {
         self.store.item_mut(index)
     }

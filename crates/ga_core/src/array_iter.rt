@@ -148,8 +148,8 @@ impl<T: Default + Drop, N: ArrayLength<T>> GenericArrayIter<T, N> {
         take_at(&mut self.store, last)
     }
 
-    /// Moves the first items that are left over those of a slice, which are dropped, in one pass.
-    /// Requires that as many are left as the slice has slots.
+    /// Moves items from the front into `slots`, one for each slot, in one pass. Drops what the slots
+    /// held. Requires that so many items are left.
     ///
     /// The Rust crate has no counterpart: there a loop over `next` writes them.
     #[inline(always)]

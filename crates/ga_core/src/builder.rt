@@ -35,7 +35,7 @@ impl<T, N: ArrayLength<T>> Model for ArrayBuilder<T, N> {
 }
 
 impl<T: Default + Drop, N: ArrayLength<T>> ArrayBuilder<T, N> {
-    /// A builder without items. Requires `N <= MAX_INLINE`.
+    /// A builder without items. Requires `N <= MAX_INLINE`. Fills its `N` slots with defaults.
     #[inline]
     pub fn new() -> Self
         requires fits { FitsInline N.USIZE }
@@ -76,8 +76,8 @@ impl<T: Default + Drop, N: ArrayLength<T>> ArrayBuilder<T, N> {
 
     /// Appends the first `count` items that `items` has left, in order, in one pass.
     ///
-    /// Requires that the builder has room for `count` items, and that as many are left. `extend` does
-    /// the same over any iterator, item by item.
+    /// Requires that the builder has room for `count` items, and that as many are left. `extend` takes
+    /// from any iterator, item by item.
     #[inline(always)]
     pub fn take_from<K: ArrayLength<T>>(&mut self, items: &mut GenericArrayIter<T, K>, count: usize)
         requires room { length self.old + count ≤ N.USIZE }

@@ -5,10 +5,12 @@ ghost use Rattle.std.specs.Prelude.{◌≡◌, ◌-◌, ◌<◌, ◌≤◌, drop
 use std::cmp::Ordering;
 use std::mem;
 
-// The bytes between two tests: shorter blocks take more instructions, and the loop over longer ones isn't unrolled for words.
+// The bytes between two tests: shorter blocks take more instructions, and the loop over longer ones
+// isn't unrolled for words.
 const BLOCK_BYTES: usize = 512;
 
-// Items of more bytes are left to std's comparison: their `eq` may be costly, and a block goes on past a difference.
+// Items of more bytes are left to std's comparison: their `eq` may be costly, and a block goes on past
+// a difference.
 const MOST_BYTES: usize = 8;
 
 // `==` of the slices.
@@ -70,8 +72,8 @@ fn order_start<T: PartialEq>(left: &[T], right: &[T]) -> usize
     }
 }
 
-// How many items at the start are equal: all, or those before the first block that is not. Never inlined, since at a
-// known length the loop over the blocks would be unrolled too, into kilobytes.
+// How many items at the start are equal: all, or those before the first block that is not. Never
+// inlined, since at a known length the loop over the blocks would be unrolled too, into kilobytes.
 #[inline(never)]
 fn equal_start<T: PartialEq>(left: &[T], right: &[T]) -> usize
     requires len { length left.now ≡ length right.now }
@@ -101,7 +103,8 @@ fn equal_start<T: PartialEq>(left: &[T], right: &[T]) -> usize
     }
 }
 
-// How many items of this type a block has.
+// How many items of this type a block has: at least one, for which the prover wants the second test,
+// though no caller has items of more bytes.
 #[inline]
 fn block_of<T>(item: &T) -> usize
     ensures some { 0 < result }

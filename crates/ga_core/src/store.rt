@@ -39,7 +39,7 @@ pub trait Store<T>: Sized + Drop {
     /// Takes the item at `index` and moves the later ones down by one slot.
     fn remove_at(&mut self, index: usize) -> T
         requires in_bounds { index < length (items self.old) }
-        ensures value { result ≡ slice_index_or (items self.old) index result }
+        ensures item { result ≡ slice_index_or (items self.old) index result }
         ensures others { items self.new ≡ remove (items self.old) index };
 
     /// The items, in order.
@@ -54,7 +54,7 @@ pub trait Store<T>: Sized + Drop {
     fn as_mut_slice(&mut self) -> &mut [T]
         ensures* writes_back { sem 𝓛 (Lends Self.row (Array T.row 0)
             self.entry result (λ written. (store_with self.old written).0)) }
-        ensures value { result.now ≡ items self.old };
+        ensures items { result.now ≡ items self.old };
 
     /// A full store of defaults, each made once, in order. `capacity` is the store's own, which is at
     /// most `MAX_INLINE`.
@@ -84,7 +84,7 @@ pub trait Store<T>: Sized + Drop {
         requires in_bounds { from + len ≤ length (items self.old) }
         ensures* writes_back { sem 𝓛 (Lends Self.row (Array T.row 0) self.entry result
             (λ part. (store_with self.old (part_set from len (items self.old) part)).0)) }
-        ensures value { result.now ≡ take len (drop from (items self.old)) }
+        ensures items { result.now ≡ take len (drop from (items self.old)) }
     {
         &mut self.as_mut_slice()[from..from + len]
     }
@@ -95,7 +95,7 @@ pub trait Store<T>: Sized + Drop {
         requires in_bounds { index < length (items self.old) }
         ensures* writes_back { sem 𝓛 (Lends Self.row T.row self.entry result
             (λ item. (store_with self.old (slice_set (items self.old) index item)).0)) }
-        ensures value { result.now ≡ slice_index_or (items self.old) index result.now }
+        ensures item { result.now ≡ slice_index_or (items self.old) index result.now }
     {
         &mut self.as_mut_slice()[index]
     }

@@ -4,7 +4,7 @@ ghost use Rattle.generic_array.specs.Fill.{Asks, FillFalliblyRuns, FillRuns, Fil
 ghost use Rattle.generic_array.specs.Length.{FitsInline};
 ghost use Rattle.generic_array.specs.Placed.{IfPlaced, IsPlaced};
 ghost use Rattle.generic_array.specs.Tries.{try_map};
-ghost use Rattle.std.specs.Prelude.{◌≡◌, ◌+◌, IfOk, IsOk, Ok, OnErr, OnOk, Result, length, map};
+ghost use Rattle.std.specs.Prelude.{◌≡◌, ◌≢◌, ◌+◌, IfOk, IsOk, Ok, OnErr, OnOk, Result, length, map};
 
 use generic_array::sequence::FromFallibleIterator;
 use generic_array::{
@@ -12,10 +12,10 @@ use generic_array::{
 };
 use std::alloc::Global;
 
-/// The sequence of the values that an iterator gives, or its first error, of any kind that can be filled.
+/// The sequence of the `Length` values that an iterator gives, of any kind that can be filled, or why there
+/// is none (`FillError`).
 ///
-/// What was built, what was taken and what is left of the iterator are those of the fill. Memory for inline
-/// arrays is never refused (`IsPromised`); where memory is refused, no item is taken.
+/// The clauses are those of `from_fallible_iter_ref`. Where memory is refused, no item is taken.
 pub fn build<T, E: Drop, S: FromFallibleIterator<T>, I: Iterator<Item = Result<T, E>>>(
     place: S::Place,
     items: &mut I,
@@ -33,8 +33,8 @@ pub fn build<T, E: Drop, S: FromFallibleIterator<T>, I: Iterator<Item = Result<T
     S::from_fallible_iter_ref(place, items)
 }
 
-/// `build` of good items alone, which a vector holds: `Ok` exactly where these are `Length`, or an error
-/// where memory is refused.
+/// `build` of good items alone, which a vector holds: `Ok` if and only if they are `Length` and memory isn't
+/// refused, and `FillError::Length` only if they are another number.
 pub fn build_of_items<T: Drop, S: FromFallibleIterator<T>>(
     place: S::Place,
     items: Vec<T>,
@@ -43,11 +43,13 @@ pub fn build_of_items<T: Drop, S: FromFallibleIterator<T>>(
     ensures only { IfOk result (λ made. length items.items ≡ S.Length.USIZE) }
     ensures items { IfOk result (λ made. S.items made ≡ items.items) }
     ensures exactly { S.IsPromised → length items.items ≡ S.Length.USIZE → IsOk result }
+    ensures other { (error : LengthError) → result ≡ Err (FillError.Length error)
+        → length items.items ≢ S.Length.USIZE }
 {
     build_of_results(place, items)
 }
 
-// The items as good results, of which `build_of_items` says that they are the items.
+// `build_of_items` at any error type. It says the items by `try_map`, as the run along std's `map` does.
 fn build_of_results<T: Drop, E: Drop, S: FromFallibleIterator<T>>(
     place: S::Place,
     items: Vec<T>,
@@ -57,6 +59,8 @@ fn build_of_results<T: Drop, E: Drop, S: FromFallibleIterator<T>>(
     ensures good { IfOk result (λ made.
         try_map (λ (item : Result T E). item) (map Ok items.items) ≡ Ok (S.items made)) }
     ensures exactly { S.IsPromised → length items.items ≡ S.Length.USIZE → IsOk result }
+    ensures other { (error : LengthError) → result ≡ Err (FillError.Length error)
+        → length items.items ≢ S.Length.USIZE }
 {
     S::from_fallible_iter(
         place,

@@ -1,7 +1,7 @@
 //! What the library promises, in one place.
 //!
-//! For every element type and length that its store holds, every closure with state and every finite
-//! iterator, inline, boxed and borrowed sequences mean, through one interface, lists of exactly N values:
+//! Inline, boxed and borrowed sequences mean, through one interface, lists of exactly N items. This holds of
+//! every item type and length that the kind allows, every closure with state and every iterator:
 //!
 //! - a build succeeds exactly where N items come: `builds`;
 //! - closure calls run in order and stop at the first error: `calls`, and over joined lists `joined_runs`;

@@ -20,7 +20,8 @@ pub fn put_then_pop<
     R,
     S: FnOnce(&[T]) -> R,
 >(array: GenericArray<T, N>, item: T, at_front: bool, see: S) -> (GenericArray<T, N>, T, R)
-    requires one_longer { (M.USIZE ≡ N.USIZE + 1) × FitsInline M.USIZE }
+    requires one_longer { M.USIZE ≡ N.USIZE + 1 }
+    requires fits { FitsInline M.USIZE }
     requires callable { S.IsAlwaysCallable see }
     ensures array { result.0 ≡ array }
     ensures item { result.1 ≡ item }
@@ -103,7 +104,8 @@ pub fn concat_then_split<
     second: GenericArray<T, M>,
     see: S,
 ) -> (GenericArray<T, K>, GenericArray<T, M>, R)
-    requires sum { (N.USIZE ≡ K.USIZE + M.USIZE) × FitsInline N.USIZE }
+    requires sum { N.USIZE ≡ K.USIZE + M.USIZE }
+    requires fits { FitsInline N.USIZE }
     requires callable { S.IsAlwaysCallable see }
     ensures first { result.0 ≡ first }
     ensures second { result.1 ≡ second }
@@ -115,8 +117,8 @@ pub fn concat_then_split<
     (first, second, seen)
 }
 
-/// A sequence cut into rows of any width and joined, of whatever sequences these are. That the traits of both
-/// name the same items, rows and width is a condition, which arrays of any length and items meet.
+/// A sequence cut into rows of any width and joined, of whatever sequences these are. Requires that both
+/// traits name the same rows, as those of arrays do.
 pub fn unflatten_then_flatten<T, Flat, Rows, A, S>(flat: Flat, see: S) -> (Flat, A)
 where
     Flat: Unflatten<T, Rows>,
@@ -135,15 +137,15 @@ where
     (rows.flatten(), seen)
 }
 
-/// Rows joined and cut again, of whatever sequences these are. That the traits of both name the same items
-/// and rows is a condition, which arrays meet.
+/// Rows joined and cut again, of whatever sequences these are. Requires that the traits name the same width
+/// and items, as those of arrays do.
 pub fn flatten_then_unflatten<T, Flat, Rows, A, S>(rows: Rows, see: S) -> (Rows, A)
 where
     Flat: Unflatten<T, Rows> + AsSlice<T>,
     Rows: Flatten<T, Flat>,
     S: FnOnce(&[T]) -> A,
-    requires area { Rows.IsArea }
-    requires rows_area { Flat.Unflatten.IsArea }
+    requires rows_area { Rows.IsArea }
+    requires area { Flat.Unflatten.IsArea }
     requires same_width { Flat.Unflatten.WIDTH ≡ Rows.WIDTH }
     requires same_items { (flat : Flat) → Flat.Unflatten.items flat ≡ Rows.output_items flat }
     requires same_slice { (flat : Flat) → Flat.AsSlice.items flat ≡ Rows.output_items flat }

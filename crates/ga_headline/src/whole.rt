@@ -36,9 +36,9 @@ pub type Walked<S, T, U> = <MappedSequence<S, T, U> as TwoEndedSequence<U>>::Two
 /// Builds a sequence of what an iterator gives, maps it by a closure that may fail, and runs steps over
 /// what was made.
 ///
-/// What each part means is told one after the other: the fill, the calls up to the first error, and the
-/// list that is cut from both ends; and so is the state in which the iterator and both closures are left,
-/// wherever the run stops. The closures need be callable only in states that such a run reaches.
+/// The clauses say the parts in order: the fill, the calls up to the first error, and the list that is cut
+/// from both ends. They say how the iterator and both closures are left, wherever the run stops. The
+/// closures need be callable only in states that such a run reaches.
 pub fn build_map_walk<T, E, U, D, R, S, I, F, G>(
     place: S::Place,
     items: &mut I,
@@ -61,9 +61,9 @@ where
     requires fits { S.Fits }
     requires mapped_fits { S.Mapped.Fits }
     requires can { I.can_next items.old }
-    requires may_call { (list : List T) (after : I) → Comes I.next_gives items.old S.Length.USIZE list after
+    requires callable { (list : List T) (after : I) → Comes I.next_gives items.old S.Length.USIZE list after
         → MayTryMap S.entry F.pre F.step f.old list }
-    requires may_look { (list : List T) (after : I) (values : List U) (reached : F)
+    requires then_callable { (list : List T) (after : I) (values : List U) (reached : F)
         → Comes I.next_gives items.old S.Length.USIZE list after
         → FirstErrorRun (CallAt S.entry F.step) f.old list (Ok values) reached
         → MaySteps (MayCallAt (λ slice. slice.now) G.pre) (CallAt (λ slice. slice.now) G.step)
@@ -107,7 +107,7 @@ where
     requires fits { S.Fits }
     requires mapped_fits { S.Mapped.Fits }
     requires can { I.can_next items.old }
-    requires may_call { (list : List T) (after : I) → Comes I.next_gives items.old S.Length.USIZE list after
+    requires callable { (list : List T) (after : I) → Comes I.next_gives items.old S.Length.USIZE list after
         → MayTryMap S.entry F.pre F.step f.old list }
     ensures { BuiltAndMapped I.next_gives S.Length.USIZE S.IsPromised S.Mapped.IsPromised
         (FirstErrorRun (CallAt S.entry F.step)) S.Mapped.Sequence.TwoEnded.items items.old f.old result items.new f.new }

@@ -29,7 +29,7 @@ module _ (X : RattleType) where
       vstruct (of_list (slice_val first.ref_ptr (length first.now) ∷ slice_val second.ref_ptr (length second.now) ∷ []))
 
   -- what is known of the two parts of a slice that is cut at a place
-  pub record Cut (s : Items) (place : ℕ) (first second : Items) : Type 0 where
+  pub record TwoParts (s : Items) (place : ℕ) (first second : Items) : Type 0 where
     pub whole : s.now ≡ first.now ++ second.now
     pub first_len : length first.now ≡ place
     pub second_len : length second.now + place ≡ length s.now
@@ -59,7 +59,7 @@ module _ (X : RattleType) where
         -- the tokens
         pub cuts : K → FmC 𝓤 H 𝓛.laws C → Triple 𝓤 (C f) Cuts → κT ⊑ X.lives → place ≤ length s.now
             → Opds K 𝓛 (raw (Cuts.pre cut_at) ∷ Γ) G xs (Cuts.args cut_at)
-            → ((first second : Items) → Cut s place first second
+            → ((first second : Items) → TwoParts s place first second
             → Seq K 𝓛 (‵ (S.own_val second (mut_slice_vals second)) ∷ ‵ (S.own_val first (mut_slice_vals first))
             ∷ ‵ (joins s first second) ∷ (‵ (flft κ q) ⊛ ‵ (flft κT qT) ⊛ ‵ ftrue) ∷ Γ)
             (lands C Λ G p (parts_val first second) rest post))

@@ -1,4 +1,4 @@
--- What rows for writing end as, where their items are lent on.
+-- What rows for writing end as, where their items are borrowed for writing.
 use Rattle.ga_views.specs.Parts.{part_set}
 use Rattle.ga_views.specs.Rows.{chunk_count}
 use Rattle.ga_views.specs.contracts.chunks_mut.ChunksViewMut.{the_row}

@@ -1,4 +1,4 @@
--- What a writing view ends as, where its items are lent on.
+-- What a writing view ends as, where its items are borrowed for writing.
 use Rattle.ga_views.specs.contracts.view_mut.ViewMut.{the_row}
 use Rattle.ga_views.specs.declared.length.Unsigned as unsigned
 use Rattle.ga_views.specs.declared.reborrow.ReborrowSlice as reborrow

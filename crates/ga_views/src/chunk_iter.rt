@@ -34,7 +34,7 @@ impl<'a, T, N: Unsigned> Model for ChunkIter<'a, T, N> {
 }
 
 impl<'a, T, N: Unsigned> ChunkIter<'a, T, N> {
-    // The rows of a slice of as many items as they have.
+    // The rows of a slice that has no rest.
     #[inline]
     pub(crate) fn over(slice: &'a [T]) -> Self
         requires whole { length slice.now ≡ chunk_count N.USIZE slice.now * N.USIZE }

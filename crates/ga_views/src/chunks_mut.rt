@@ -41,7 +41,7 @@ impl<'a, T, N: Unsigned> ChunksViewMut<&'a mut [T], T, N> {
     /// the slice isn't empty.
     ///
     /// The checker doesn't read `writes_back` for callers. Where a proof needs what the slice ends
-    /// as, cut it by `split_at_mut` and make the rows by `over`.
+    /// as, cut it by `whole_and_rest` and make the rows by `over`.
     #[inline]
     pub fn chunks_from_slice_mut(slice: &'a mut [T]) -> (Self, &'a mut [T])
         requires width { (0 < N.USIZE) ⊎ (length slice.old ≡ 0) }
@@ -94,7 +94,8 @@ impl<'a, T, N: Unsigned> ChunksViewMut<&'a mut [T], T, N> {
 impl<S: ReborrowSlice<T>, T, N: Unsigned> ChunksViewMut<S, T, N> {
     ghost use Rattle.ga_views.specs.ChunksViewMut.{LendsRowItems};
 
-    /// The rows over a reference to as many items as they have.
+    /// The rows over a reference to whole rows: requires that no items are left behind them. With `N = 0`
+    /// there are none. O(1).
     #[inline]
     pub fn over(items: S) -> Self
         requires whole { length (S.items items) ≡ chunk_count N.USIZE (S.items items) * N.USIZE }
@@ -184,8 +185,10 @@ impl<S: ReborrowPart<T>, T, N: Unsigned> ChunksViewMut<S, T, N> {
         self.slice.part_mut(start, N::USIZE)
     }
 
-    /// The row at `index` for writing, or `None` where `index` isn't below the number of rows. Constant
-    /// time.
+    /// The row at `index` for writing, or `None` if there are at most `index` rows. O(1).
+    ///
+    /// The checker doesn't read `writes_back` for callers. Where a proof needs what is written, call
+    /// `row_mut`.
     #[inline]
     pub fn get_mut(&mut self, index: usize) -> Option<GenericArrayMut<'_, T, N>>
         ensures* writes_back { sem 𝓛 (LendsRowIf S.row T.row N.row S.ReborrowSlice N.Unsigned

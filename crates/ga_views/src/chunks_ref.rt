@@ -33,7 +33,7 @@ impl<'a, T, N: Unsigned> Copy for ChunksRef<'a, T, N> {}
 impl<'a, T, N: Unsigned> ChunksRef<'a, T, N> {
     ghost use Rattle.ga_views.specs.Views.{items_of_chunks, items_of_view};
 
-    // The rows of a slice of as many items as they have.
+    // The rows of a slice that has no rest.
     #[inline]
     pub(crate) fn over(slice: &'a [T]) -> Self
         requires whole { length slice.now ≡ chunk_count N.USIZE slice.now * N.USIZE }

@@ -67,8 +67,8 @@ impl fmt::Display for HexText<'_> {
     }
 }
 
-// As `write_hex`, in pieces of 1,024 bytes. A caller's frame has no room for such a piece, since
-// this isn't inlined.
+// As `write_hex`, in pieces of 1,024 bytes. Not inlined, so that no caller's frame holds the buffer of
+// 2 KiB.
 #[inline(never)]
 fn put_long<W: Write>(bytes: &[u8], upper: bool, limit: Option<usize>, w: &mut W) -> io::Result<()>
     ensures text { OnOk result (Appends (W.contents w.old) (W.contents w.new)

@@ -4,8 +4,8 @@ ghost use Rattle.std.specs.Prelude.{ℕ};
 
 /// The most items that an inline array may have.
 ///
-/// Every call that makes one has it as a condition that its length is at most this; the length
-/// of a view has no such bound.
+/// A build requires that its length is at most this, or has the bound `InlineLength`. The length of
+/// a view has no such bound.
 pub const MAX_INLINE: usize = 65_536;
 
 /// A length that is a type. The counterpart of `typenum::Unsigned`, of which only `USIZE` is kept.
@@ -28,7 +28,7 @@ pub trait InlineLength: Unsigned {
 
 /// The length `N`. The counterpart of `typenum::Const`, which here is the length itself.
 ///
-/// What is derived here is there so that it can be derived for a type that has a length as a parameter.
+/// The derives let a type with a length as a parameter derive them too.
 #[derive(Clone, Copy, Debug, Default, PartialEq, Eq, PartialOrd, Ord, Hash)]
 pub struct Const<const N: usize>;
 

@@ -33,7 +33,7 @@ pub trait ReborrowSlice<T>: Drop {
         requires len { len ≡ length (items self.old) }
         ensures* writes_back { sem 𝓛 (Lends Self.row (Array T.row 0)
             self.entry result (λ written. (slice_with self.old written).0)) }
-        ensures value { result.now ≡ items self.old };
+        ensures items { result.now ≡ items self.old };
 
     // The slice with this item at the index, and the others as they are.
     ghost slice_with_item: { (slice : Self) (index : ℕ) (item : T) → (after : Self)
@@ -48,7 +48,7 @@ pub trait ReborrowSlice<T>: Drop {
         requires in_bounds { index < length (items self.old) }
         ensures* writes_back { sem 𝓛 (Lends Self.row T.row
             self.entry result (λ item. (slice_with_item self.old index item).0)) }
-        ensures value { result.now ≡ slice_index_or (items self.old) index result.now };
+        ensures item { result.now ≡ slice_index_or (items self.old) index result.now };
 }
 
 /// A reference of which a part of the slice can be borrowed for writing: `&mut [T]`.
@@ -59,7 +59,7 @@ pub trait ReborrowPart<T>: ReborrowSlice<T> {
         ensures* writes_back { sem 𝓛 (Lends Self.row (Array T.row 0)
             self.entry result (λ part.
             (Self.slice_with self.old (part_set from len (Self.items self.old) part)).0)) }
-        ensures value { result.now ≡ take len (drop from (Self.items self.old)) };
+        ensures items { result.now ≡ take len (drop from (Self.items self.old)) };
 }
 
 impl<'a, T> ReborrowSlice<T> for &'a mut [T] {

@@ -137,13 +137,13 @@ impl<S: ReborrowSlice<T>, T, N: Unsigned> ViewMut<S, T, N> {
         self.as_slice().get(index)
     }
 
-    // A loan that `get_mut` can hand on as it is.
+    // A borrow that `get_mut` can return as it is.
     #[inline]
     fn item_mut(&mut self, index: usize) -> &mut T
         requires in_bounds { index < N.USIZE }
         ensures* writes_back { sem 𝓛 (LendsViewItem S.row T.row N.row S.ReborrowSlice N.Unsigned
             self.entry index result) }
-        ensures value { result.now ≡ slice_index_or (S.items self.old.slice) index result.now }
+        ensures item { result.now ≡ slice_index_or (S.items self.old.slice) index result.now }
     {
         self.slice.item_mut(index)
     }

@@ -15,28 +15,22 @@ module _ {F X Y : Type 0} (step : F → X → Y → F → Type 0) where
       → ClosureRun step f (xs ++ ys) answers last ↔ RunInParts f xs ys answers last
 
 module _ {F X Y E : Type 0} (step : F → X → Result Y E → F → Type 0) where
-  -- good calls over the first list, and over the second from the state that they reached, with their results joined
-  abbrev pub GoodRunInParts : F → List X → List X → List Y → F → Type 0
-  GoodRunInParts f xs ys answers last = (first : List Y) × (second : List Y) × (reached : F)
-      × (answers ≡ first ++ second) × FirstErrorRun step f xs (Ok first) reached
-      × FirstErrorRun step reached ys (Ok second) last
-
-  -- the first error in the first list, with no call at the second, or good calls over the first and then the first
-  -- error in the second
-  abbrev pub ErrorRunInParts : F → List X → List X → E → F → Type 0
-  ErrorRunInParts f xs ys error last = FirstErrorRun step f xs (Err error) last
-      ⊎ ((first : List Y) × (reached : F) × FirstErrorRun step f xs (Ok first) reached
-      × FirstErrorRun step reached ys (Err error) last)
-
-  -- the good runs over joined lists are those in parts
+  -- the good runs over joined lists are good calls over the first, and over the second from the state that they
+  -- reached, with their results joined
   abbrev pub GoodRunsJoin : Type 0
   GoodRunsJoin = (f : F) (xs ys : List X) (answers : List Y) (last : F)
-      → FirstErrorRun step f (xs ++ ys) (Ok answers) last ↔ GoodRunInParts f xs ys answers last
+      → FirstErrorRun step f (xs ++ ys) (Ok answers) last
+      ↔ ((first : List Y) × (second : List Y) × (reached : F) × (answers ≡ first ++ second)
+      × FirstErrorRun step f xs (Ok first) reached × FirstErrorRun step reached ys (Ok second) last)
 
-  -- so are the runs to an error
+  -- the first error comes in the first list, with no call at the second, or good calls over the first lead to it in
+  -- the second
   abbrev pub ErrorRunsJoin : Type 0
   ErrorRunsJoin = (f : F) (xs ys : List X) (error : E) (last : F)
-      → FirstErrorRun step f (xs ++ ys) (Err error) last ↔ ErrorRunInParts f xs ys error last
+      → FirstErrorRun step f (xs ++ ys) (Err error) last
+      ↔ (FirstErrorRun step f xs (Err error) last
+      ⊎ ((first : List Y) × (reached : F) × FirstErrorRun step f xs (Ok first) reached
+      × FirstErrorRun step reached ys (Err error) last))
 
 module _ {F A X : Type 0} (step : F → A → X → A → F → Type 0) where
   -- a fold over joined lists is one over the second from what the one over the first came to

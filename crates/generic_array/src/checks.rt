@@ -61,12 +61,12 @@ pub fn map_total_by<
 ) -> Result<A, MappedError<S, T, U>>
     requires fits { S.Mapped.Fits }
     requires callable { MayMap S.entry F.pre F.step f.old (S.items s) }
-    requires then_callable { (answers : List U) (reached : F)
-        → ClosureRun (CallAt S.entry F.step) f.old (S.items s) answers reached
-        → MayFold (λ item. item) G.pre G.step g.old init answers }
-    ensures run { IfOk result (λ total. (answers : List U)
-        × ClosureRun (CallAt S.entry F.step) f.old (S.items s) answers f.new
-        × FoldRun G.step g.old init answers total g.new) }
+    requires then_callable { (values : List U) (reached : F)
+        → ClosureRun (CallAt S.entry F.step) f.old (S.items s) values reached
+        → MayFold (λ item. item) G.pre G.step g.old init values }
+    ensures run { IfOk result (λ total. (values : List U)
+        × ClosureRun (CallAt S.entry F.step) f.old (S.items s) values f.new
+        × FoldRun G.step g.old init values total g.new) }
     ensures acts { IfOk result (λ total. (h : T → U) (k : A → U → A) → ActsOnEntry S.entry F.step f.old h
         → ActsAsOnTwo G.FnMut g.old k → total ≡ fold k init (map h (S.items s))) }
     ensures err { OnErr result ((f.new ≡ f.old) × (g.new ≡ g.old)) }

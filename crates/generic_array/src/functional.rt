@@ -1,6 +1,6 @@
 //! Calls of a closure at all entries of a sequence, from the first to the last.
 //!
-//! Each is inlined always: a call that isn't copies an array that it passes on by value.
+//! Each is inlined always: a call that isn't inlined copies an array that it passes on by value.
 ghost use Rattle.ga_core.specs.Calls.{MayFold, MayMap, MayTryMap, MayZip};
 ghost use Rattle.ga_core.specs.Entries.{ActsInFold, ActsOnEntries, ActsOnEntry, CallAt, CallAtPair, FoldAt};
 ghost use Rattle.ga_core.specs.Runs.{ClosureRun, FirstErrorRun, FoldRun};
@@ -158,7 +158,7 @@ pub trait FunctionalSequence<T>: GenericSequence<T> {
     }
 
     /// The sequence of the values of `f` at each entry and that of `rhs` at the same index, called
-    /// in order. It is of the kind of `self`.
+    /// in order. It is of the kind that a map of `self` makes.
     ///
     /// Requires that the lengths are equal. `rhs` may be of another kind.
     #[inline(always)]

@@ -2,7 +2,7 @@
 ghost use Rattle.ga_core.specs.Views.{items_of_view};
 ghost use Rattle.ga_boxed.specs.Placed.{IfPlaced, IsPlaced};
 ghost use Rattle.ga_core.specs.Calls.{MayGenerate, MayTryGenerate};
-ghost use Rattle.ga_core.specs.Copies.{Repeats};
+ghost use Rattle.ga_core.specs.Copies.{IsExact, Repeats};
 ghost use Rattle.ga_core.specs.Fill.{FillFalliblyRuns, FillsFallibly};
 ghost use Rattle.ga_core.specs.Runs.{ClosureRun, FirstErrorRun};
 ghost use Rattle.ga_core.specs.Tries.{try_map};
@@ -30,8 +30,8 @@ pub type SequenceItem<S> = <S as IntoIterator>::Item;
 /// A sequence whose length is a type: an inline array, a reference to one, a read-only view or a
 /// boxed array. Contracts see the list of its items, by `items`.
 ///
-/// `into_iter` returns an entry for each item, in order: the item, or of a view or a reference to an
-/// array a reference to it.
+/// `into_iter` returns an entry for each item, in order: the item itself; in a view or a reference to an
+/// array, a reference to it.
 pub trait GenericSequence<T>: Sized + AsSlice<T> + IntoIterator {
     /// How many items there are.
     type Length: Unsigned;
@@ -54,8 +54,7 @@ pub trait GenericSequence<T>: Sized + AsSlice<T> + IntoIterator {
     // Allocating a sequence of this kind and length never fails.
     ghost IsPromised: { Type 0 };
 
-    /// Whether the length is one that a sequence of this kind may have, as the calls that make one
-    /// ask.
+    /// Whether a sequence of this kind may have this length, which calls that build one require.
     fn fits() -> bool
         ensures { IsTrue result ↔ Fits };
 
@@ -98,8 +97,7 @@ pub trait GenericSequence<T>: Sized + AsSlice<T> + IntoIterator {
         ensures err { OnErr result (f.new ≡ f.old) }
         ensures promised { IsPromised → IsOk result };
 
-    /// The sequence of `Length` values equal to `item`: clones of it, made in order, and at last
-    /// `item` itself.
+    /// The sequence of `Length` values: clones of `item`, made in order, and `item` itself last.
     ///
     /// If the allocation or a clone fails, drops the clones made before and returns the error.
     fn repeat(place: Self::Place, item: T) -> Result<Self::Sequence, AllocError>
@@ -108,7 +106,7 @@ pub trait GenericSequence<T>: Sized + AsSlice<T> + IntoIterator {
         requires fits { Fits }
         ensures items { IfOk result (λ made.
             Repeats T.is_clone item Self.Length.USIZE (Self.Sequence.items made)) }
-        ensures same { ((copy : T) → T.is_clone item copy → copy ≡ item)
+        ensures same { IsExact T.is_clone item
             → IfOk result (λ made. Self.Sequence.items made ≡ replicate Self.Length.USIZE item) }
         ensures few { IsPromised → Self.Length.USIZE ≤ 1 → IsOk result }
         ensures succeeds { IsPromised → T.is_infallible item → IsOk result };

@@ -1,6 +1,6 @@
 //! Runs of steps over the iterators by value: items taken from both ends, looked at and replaced.
 //!
-//! A run means a list that is cut from both ends. Each step has its reply and leaves a list
+//! A run does to the items what it would do to a list that is cut from both ends. Each step has its reply and leaves a list
 //! (`StepGivesReply`), a run is these one after the other, and the account of a run (`Account`) says that
 //! no item is lost or doubled.
 ghost use Rattle.ga_core.specs.Cut.{StepGives, back, front};
@@ -21,7 +21,7 @@ use std::mem;
 pub use step::{Reply, Step};
 
 /// An iterator by value whose items can be taken from both ends, seen and replaced: `GenericArrayIter`
-/// and `BoxedArrayIter`. No call asks for memory.
+/// and `BoxedArrayIter`. No call allocates.
 pub trait TwoEnded<T> {
     // The items that are left, in order.
     ghost items: { Self → List T };
@@ -42,11 +42,12 @@ pub trait TwoEnded<T> {
         self.back_nth(0)
     }
 
-    /// Drops `n` items from the front, or as many as are left, and takes the next.
+    /// Drops `n` items from the front, or as many as are left, and takes the next. O(n).
     fn front_nth(&mut self, n: usize) -> Option<T>
         ensures step { StepGives (front n) (items self.old) result (items self.new) };
 
     /// Drops `n` items from the back, or as many as are left, and takes the last of those before them.
+    /// O(n).
     fn back_nth(&mut self, n: usize) -> Option<T>
         ensures step { StepGives (back n) (items self.old) result (items self.new) };
 
@@ -54,7 +55,7 @@ pub trait TwoEnded<T> {
     fn live(&self) -> &[T]
         ensures { result.now ≡ items self.now };
 
-    // The iterator once these items were written over those that are left, as many as they are.
+    // The iterator with these items written over those that are left.
     ghost left_with: { (left : Self) (written : List T) → (after : Self)
         × (items after ≡ refill (length (items left)) (items left) written) };
 
@@ -62,7 +63,7 @@ pub trait TwoEnded<T> {
     fn live_mut(&mut self) -> &mut [T]
         ensures* writes_back { sem 𝓛 (Lends Self.row (Array T.row 0)
             self.entry result (λ written. (left_with self.old written).0)) }
-        ensures value { result.now ≡ items self.old };
+        ensures items { result.now ≡ items self.old };
 }
 
 /// A sequence that owns its items, and whose iterator by value has two ends: an inline or a boxed

@@ -53,18 +53,16 @@ impl<T: Drop, const U: usize> BoxedArray<T, Const<U>> {
 }
 
 impl<T: Drop, N: Unsigned> BoxedArray<T, N> {
-    /// The array of the items of a vector, or `LengthError` if it doesn't have `N` items, which is
-    /// looked at before the allocation. Either error drops the vector. Allocates nothing if `N` is
-    /// 0.
+    /// The array of the items of a vector, or `LengthError` if they aren't exactly `N`. Compares the
+    /// lengths before it allocates. Either error drops the vector. Allocates nothing if `N` is 0.
     ///
-    /// The counterpart of `GenericArray::try_from_vec`. Moves each item once, to a block of their
-    /// number.
+    /// The counterpart of `GenericArray::try_from_vec`. Moves each item once, to a block for `N`.
     pub fn try_from_vec(
         alloc: Global,
         items: Vec<T>,
     ) -> Result<Result<Self, LengthError>, AllocError>
-        ensures variant { IfOk result (λ answer. IsOk answer ↔ (length items.items ≡ N.USIZE)) }
-        ensures ok { IfOk result (λ answer. IfOk answer (λ array. array ≡ items.items)) }
+        ensures variant { IfOk result (λ built. IsOk built ↔ (length items.items ≡ N.USIZE)) }
+        ensures ok { IfOk result (λ built. IfOk built (λ array. array ≡ items.items)) }
         ensures other { length items.items ≢ N.USIZE → IsOk result }
         ensures empty { N.USIZE ≡ 0 → IsOk result }
     {
@@ -74,13 +72,14 @@ impl<T: Drop, N: Unsigned> BoxedArray<T, N> {
         Self::try_boxed_from_iter(alloc, items.into_iter())
     }
 
-    /// The same of a boxed slice. The counterpart of `GenericArray::try_from_boxed_slice`.
+    /// `try_from_vec` of a boxed slice. The counterpart of `GenericArray::try_from_boxed_slice`.
     pub fn try_from_boxed_slice(
         alloc: Global,
         items: BoxedSlice<T, Global>,
     ) -> Result<Result<Self, LengthError>, AllocError>
-        ensures variant { IfOk result (λ answer. IsOk answer ↔ (length (boxed_slice_items items) ≡ N.USIZE)) }
-        ensures ok { IfOk result (λ answer. IfOk answer (λ array. array ≡ boxed_slice_items items)) }
+        ensures variant { IfOk result (λ built.
+            IsOk built ↔ (length (boxed_slice_items items) ≡ N.USIZE)) }
+        ensures ok { IfOk result (λ built. IfOk built (λ array. array ≡ boxed_slice_items items)) }
         ensures other { length (boxed_slice_items items) ≢ N.USIZE → IsOk result }
         ensures empty { N.USIZE ≡ 0 → IsOk result }
     {

@@ -1,5 +1,5 @@
 //! Boxed arrays of defaults and of copies of one value.
-ghost use Rattle.ga_core.specs.Copies.{ExactlyEach, Repeats};
+ghost use Rattle.ga_core.specs.Copies.{ExactlyEach, IsExact, Repeats};
 ghost use Rattle.std.specs.List.{All};
 ghost use Rattle.std.specs.Prelude.{◌≡◌, IfOk, IsOk, length, replicate};
 
@@ -26,7 +26,7 @@ impl<T: Default, N: Unsigned> BoxedArray<T, N> {
 impl<T: Copy, N: Unsigned> BoxedArray<T, N> {
     /// The array of `N` times `item`. `box_arr!(alloc, [item; N])` stands on it.
     ///
-    /// Asks for the whole block first, and for none where `N` is 0.
+    /// Allocates the whole block first, and nothing if `N` is 0.
     pub fn of_copies(alloc: Global, item: T) -> Result<Self, AllocError>
         ensures items { IfOk result (λ array. array ≡ replicate N.USIZE item) }
         ensures empty { N.USIZE ≡ 0 → IsOk result }
@@ -36,14 +36,13 @@ impl<T: Copy, N: Unsigned> BoxedArray<T, N> {
 }
 
 impl<T: Clone, N: Unsigned> BoxedArray<T, N> {
-    /// The array of `N` values equal to `item`: clones of it, made in order, and at last `item`
-    /// itself.
+    /// The array of `N` values: clones of `item`, made in order, and `item` itself last.
     ///
     /// Allocates the whole block first, and nothing if `N` is 0. If a clone fails, drops those
     /// made before it and returns the error.
     pub fn repeat(alloc: Global, item: T) -> Result<Self, AllocError>
         ensures items { IfOk result (λ array. Repeats T.is_clone item N.USIZE array) }
-        ensures same { ((copy : T) → T.is_clone item copy → copy ≡ item)
+        ensures same { IsExact T.is_clone item
             → IfOk result (λ array. array ≡ replicate N.USIZE item) }
         ensures empty { N.USIZE ≡ 0 → IsOk result }
     {

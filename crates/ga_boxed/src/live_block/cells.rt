@@ -231,7 +231,7 @@ impl<T> Cells<T> {
         requires index { index ≡ self.old.passed }
         requires len { len ≡ length self.old.items }
         ensures* writes_back { sem 𝓛 (lends_items T.row self.entry result) }
-        ensures value { result.now ≡ self.old.items }
+        ensures items { result.now ≡ self.old.items }
     {
         unsafe { slice::from_raw_parts_mut(base.ptr.add(index), len) }
     }

@@ -72,8 +72,8 @@ impl<T: Default + Drop, N: ArrayLength<T>> GenericArray<T, N> {
 impl<T: Default + Drop, N: ArrayLength<T>> GenericArray<T, N> {
     /// The array of all items of `items`, or `LengthError` if they aren't exactly `N`.
     ///
-    /// Requires `N <= MAX_INLINE`. Takes `N` items and calls `next` once more; size hints aren't
-    /// consulted. Allocates nothing.
+    /// Requires `N <= MAX_INLINE`. Takes at most `N + 1` items, as the clauses of `try_from_iter_ref`
+    /// say. Size hints aren't consulted. Allocates nothing.
     pub fn try_from_iter<I: Iterator<Item = T>>(mut items: I) -> Result<Self, LengthError>
         requires fits { FitsInline N.USIZE }
         requires can { I.can_next items }
@@ -97,8 +97,9 @@ impl<T: Default + Drop, N: ArrayLength<T>> GenericArray<T, N> {
         builder.finish_at_end(items)
     }
 
-    /// Returns the first `Err` among the first `N` items, without asking for another; otherwise
-    /// the array of the `N` values, or `LengthError` if there are more or fewer.
+    /// Returns the first `Err` among the first `N` items as `Ok(Err(error))`, without asking for
+    /// another; otherwise the array of the `N` values as `Ok(Ok(array))`, or `Err(LengthError)` if
+    /// there are more or fewer.
     ///
     /// Requires `N <= MAX_INLINE`. An `Err` after `N` values is one item too many. Size hints
     /// aren't consulted. Allocates nothing.

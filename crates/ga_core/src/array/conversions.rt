@@ -47,7 +47,8 @@ impl<T: Copy + Default + Drop, N: ArrayLength<T>> GenericArray<T, N> {
         array.finished()
     }
 
-    /// The native array of the items, of as many. The counterpart of `GenericArray::into_array`.
+    /// The native array of the items. Requires that `U` is `N`. The counterpart of
+    /// `GenericArray::into_array`.
     ///
     /// Copies the items once.
     #[inline]
@@ -79,7 +80,7 @@ impl<T: Default + Drop, N: ArrayLength<T>> GenericArray<T, N> {
         Ok(array.finished())
     }
 
-    /// The same of a boxed slice. The counterpart of `TryFrom<Box<[T]>>`.
+    /// `try_from_vec` of a boxed slice. The counterpart of `TryFrom<Box<[T]>>`.
     pub fn try_from_boxed_slice(items: BoxedSlice<T, Global>) -> Result<Self, LengthError>
         requires fits { FitsInline N.USIZE }
         ensures variant { IsOk result ↔ (length (boxed_slice_items items) ≡ N.USIZE) }

@@ -14,8 +14,8 @@ use std::alloc;
 impl<T: Default + Drop, N: ArrayLength<T>> GenericArray<T, N> {
     /// The array of `N` times `T::default()`, called in order. Requires `N <= MAX_INLINE`.
     ///
-    /// For every length; the trait `Default`, which items of arrays need, is there for every
-    /// `InlineLength`.
+    /// For every length that fits. The trait `Default`, which items of arrays need, is there for
+    /// every `InlineLength`.
     pub fn default() -> Self
         requires fits { FitsInline N.USIZE }
         ensures items { All T.is_default result }
@@ -38,8 +38,7 @@ impl<T: Copy + Default + Drop, N: ArrayLength<T>> GenericArray<T, N> {
 }
 
 impl<T: Clone + Default, N: ArrayLength<T>> GenericArray<T, N> {
-    /// The array of `N` values equal to `item`: clones of it, made in order, and at last `item`
-    /// itself.
+    /// The array of `N` values: clones of `item`, made in order, and `item` itself last.
     ///
     /// Requires `N <= MAX_INLINE`. If a clone fails, drops those made before it and returns the
     /// error; for a length of 0 or 1 none is made. The counterpart of `GenericSequence::repeat`.
@@ -47,7 +46,7 @@ impl<T: Clone + Default, N: ArrayLength<T>> GenericArray<T, N> {
     pub fn repeat(item: T) -> Result<Self, AllocError>
         requires fits { FitsInline N.USIZE }
         ensures items { IfOk result (λ array. Repeats T.is_clone item N.USIZE array) }
-        ensures same { ((copy : T) → T.is_clone item copy → copy ≡ item)
+        ensures same { IsExact T.is_clone item
             → IfOk result (λ array. array ≡ replicate N.USIZE item) }
         ensures few { N.USIZE ≤ 1 → IsOk result }
         ensures succeeds { T.is_infallible item → IsOk result }

@@ -10,8 +10,8 @@ use std::io;
 use std::io::Write;
 
 impl<N: ArrayLength<u8>> GenericArray<u8, N> {
-    /// Writes the bytes as hex text with `0123456789abcdef`, no more than `limit` digits where that is
-    /// fewer: see `hex_text::write_hex`. The counterpart of `fmt::LowerHex`.
+    /// Writes the bytes as hex text with `0123456789abcdef`, at most `limit` digits: see
+    /// `hex_text::write_hex`. The counterpart of `fmt::LowerHex`.
     pub fn write_lower_hex<W: Write>(&self, w: &mut W, limit: Option<usize>) -> io::Result<()>
         ensures text { OnOk result (Appends (W.contents w.old) (W.contents w.new)
             (hex_text false limit self.now)) }
@@ -20,7 +20,7 @@ impl<N: ArrayLength<u8>> GenericArray<u8, N> {
         write_hex(self.as_slice(), false, limit, w)
     }
 
-    /// The same with `0123456789ABCDEF`. The counterpart of `fmt::UpperHex`.
+    /// `write_lower_hex` with `0123456789ABCDEF`. The counterpart of `fmt::UpperHex`.
     pub fn write_upper_hex<W: Write>(&self, w: &mut W, limit: Option<usize>) -> io::Result<()>
         ensures text { OnOk result (Appends (W.contents w.old) (W.contents w.new)
             (hex_text true limit self.now)) }
@@ -41,7 +41,7 @@ impl<N: ArrayLength<u8>> GenericArray<u8, N> {
         }
     }
 
-    /// The same with `0123456789ABCDEF`. The counterpart of `fmt::UpperHex`.
+    /// `lower_hex` with `0123456789ABCDEF`. The counterpart of `fmt::UpperHex`.
     pub fn upper_hex(&self) -> HexText<'_>
         ensures bytes { result.bytes.now ≡ self.now }
         ensures upper { result.upper ≡ true }

@@ -13,7 +13,7 @@ use ga_views::{ChunksMut, ChunksRef, GenericArrayMut, GenericArrayRef, LengthErr
 use std::marker::PhantomData;
 
 impl<T, N: ArrayLength<T>> GenericArray<T, N> {
-    /// The read-only view of the items.
+    /// The read-only view of the items. O(1).
     #[inline]
     pub fn view(&self) -> GenericArrayRef<'_, T, N>
         ensures items { items_of_view result ≡ self.now }
@@ -22,7 +22,8 @@ impl<T, N: ArrayLength<T>> GenericArray<T, N> {
         GenericArrayRef::from_slice(self.as_slice())
     }
 
-    /// The view of the items for writing: a `GenericArrayMut` that stands on the array itself.
+    /// The view of the items for writing: a `ViewMut` over the array itself, which is another type than
+    /// `GenericArrayMut`. O(1).
     ///
     /// In a generic function, before a loop, write `let view = &mut array.view_mut();`: the
     /// checker doesn't accept calls in the loop on a view that isn't borrowed.
@@ -98,7 +99,7 @@ impl<T, N: ArrayLength<T>> GenericArray<T, N> {
         ChunksRef::chunks_from_slice(slice)
     }
 
-    /// The same for writing. A proof doesn't learn what the slice ends as: see
+    /// `chunks_from_slice` for writing. A proof doesn't learn what the slice ends as: see
     /// `ChunksMut::chunks_from_slice_mut`.
     #[inline]
     pub fn chunks_from_slice_mut(slice: &mut [T]) -> (ChunksMut<'_, T, N>, &mut [T])
@@ -111,8 +112,8 @@ impl<T, N: ArrayLength<T>> GenericArray<T, N> {
         ChunksMut::chunks_from_slice_mut(slice)
     }
 
-    /// `Some` of a reference to each item, in order. There where the length is also one of arrays of
-    /// such options, which have a default.
+    /// `Some` of a reference to each item, in order: options, since items have a `Default` and
+    /// references don't. O(N).
     pub fn each_ref<'a>(&'a self) -> GenericArray<Option<&'a T>, N>
     where
         N: ArrayLength<Option<&'a T>>,

@@ -39,14 +39,14 @@ impl<T: Default + Drop, N: ArrayLength<T>> GenericArrayIter<T, N> {
         }
     }
 
-    /// The number of items that are left, which are dropped; nothing else takes time.
+    /// The number of items that are left. Drops all `N` slots.
     pub fn count(self) -> usize
         ensures { result ≡ length self }
     {
         self.len()
     }
 
-    /// The last item that is left. The others are dropped; nothing else takes time.
+    /// The last item that is left. Drops all `N` slots.
     pub fn last(mut self) -> Option<T>
         ensures { result ≡ slice_get self (length self - 1) }
     {
@@ -69,6 +69,7 @@ impl<T: Default + Drop, N: ArrayLength<T>> GenericArrayIter<T, N> {
         requires in_bounds { passed ≤ length self.old }
         ensures { self.new ≡ drop passed self.old }
     {
+        // With none to pass, `front` may lie behind the last slot.
         if passed > 0 {
             // The remainder is the slot itself: see `take_at`.
             let first = self.front % MAX_INLINE;
@@ -83,6 +84,7 @@ impl<T: Default + Drop, N: ArrayLength<T>> GenericArrayIter<T, N> {
         requires in_bounds { passed ≤ length self.old }
         ensures { self.new ≡ take (length self.old - passed) self.old }
     {
+        // As in `pass_front`.
         if passed > 0 {
             let first = self.back - passed;
             self.back = first;

@@ -72,7 +72,7 @@ pub(super) fn try_fold_entries<T, I: Iterator + Drop, A, E, F: FnMut(A, I::Item)
     Ok(answer)
 }
 
-// The next entry. Requires that there is one.
+// The next entry.
 #[inline]
 fn next_of<I: Iterator>(entries: &mut I) -> I::Item
     requires can { I.can_next entries.old }

@@ -1,7 +1,8 @@
 //! Arrays made of the items of others: one longer or shorter, split, joined, without an item, or
 //! as rows.
 //!
-//! Each call of an array moves its items into the result, in one pass, and allocates nothing.
+//! Each call of an array moves each item into the result once, `flatten` twice, and allocates nothing;
+//! `remove` first moves the items behind `index`.
 //! Defaults stand in the slots until then, and in the array that the items came from. Splitting a
 //! view is O(1). The types of the results are parameters, and that their lengths fit together is a
 //! condition. The Rust crate has traits of these names in its module `sequence`.
@@ -19,7 +20,8 @@ use std::convert::AsSlice;
 mod inline;
 mod views;
 
-/// A sequence to which an item can be added.
+/// A sequence to which an item can be added. The counterpart of `Lengthen`. O(N) of an array, and allocates
+/// nothing.
 pub trait Lengthen<T, Longer>: Sized {
     // The items.
     ghost items: { Self → List T };
@@ -30,18 +32,19 @@ pub trait Lengthen<T, Longer>: Sized {
     // A longer sequence has one item more, and its length fits.
     ghost IsOneLonger: { Type 0 };
 
-    /// The items, and then `item`. A condition is that `Longer` has a place more, and fits.
+    /// The items, and then `item`. Requires that `Longer` has one slot more, and that its length fits.
     fn append(self, item: T) -> Longer
         requires { IsOneLonger }
         ensures { longer_items result ≡ items self ++ item ∷ [] };
 
-    /// `item`, and then the items. A condition is that `Longer` has a place more, and fits.
+    /// `item`, and then the items. Requires that `Longer` has one slot more, and that its length fits.
     fn prepend(self, item: T) -> Longer
         requires { IsOneLonger }
         ensures { longer_items result ≡ item ∷ items self };
 }
 
-/// A sequence from which an end can be taken.
+/// A sequence from which an end can be taken. The counterpart of `Shorten`. O(N) of an array, and
+/// allocates nothing.
 pub trait Shorten<T, Shorter>: Sized {
     // The items.
     ghost items: { Self → List T };
@@ -52,18 +55,19 @@ pub trait Shorten<T, Shorter>: Sized {
     // A shorter sequence has one item less.
     ghost IsOneShorter: { Type 0 };
 
-    /// All items but the last, and the last. A condition is that `Shorter` has a place less.
+    /// All items but the last, and the last. Requires that `Shorter` has one slot fewer.
     fn pop_back(self) -> (Shorter, T)
         requires { IsOneShorter }
         ensures { items self ≡ shorter_items result.0 ++ result.1 ∷ [] };
 
-    /// The first item, and all others. A condition is that `Shorter` has a place less.
+    /// The first item, and all others. Requires that `Shorter` has one slot fewer.
     fn pop_front(self) -> (T, Shorter)
         requires { IsOneShorter }
         ensures { items self ≡ result.0 ∷ shorter_items result.1 };
 }
 
-/// A sequence that can be joined with one that follows it.
+/// A sequence that can be joined with one that follows it. The counterpart of `Concat`. O(N) of arrays,
+/// and allocates nothing.
 pub trait Concat<T, Rest, Output>: Sized {
     // The items.
     ghost items: { Self → List T };
@@ -80,8 +84,8 @@ pub trait Concat<T, Rest, Output>: Sized {
     // What is made has room for exactly both, and its length fits.
     ghost IsSum: { Type 0 };
 
-    /// The items, and then those of `rest`. A condition is that `Output` has as many slots as both,
-    /// and fits.
+    /// The items, and then those of `rest`. Requires that `Output` has as many slots as both, and that
+    /// its length fits.
     fn concat(self, rest: Rest) -> Output
         requires { IsSum }
         ensures joined { output_items result ≡ items self ++ rest_items rest }
@@ -89,7 +93,8 @@ pub trait Concat<T, Rest, Output>: Sized {
         ensures rest { drop LEN (output_items result) ≡ rest_items rest };
 }
 
-/// A sequence that can be cut in two.
+/// A sequence that can be cut in two. The counterpart of `Split`. O(N) of an array, O(1) of a view, and
+/// allocates nothing.
 pub trait Split<T, First, Second>: Sized {
     // The items.
     ghost items: { Self → List T };
@@ -106,15 +111,16 @@ pub trait Split<T, First, Second>: Sized {
     // The lengths of the parts add up to that of the sequence.
     ghost IsSum: { Type 0 };
 
-    /// The first items, as many as the type of the first part tells, and all others. A condition is
-    /// that the lengths of the parts add up to that of the sequence.
+    /// The first items, as many as the type of the first part tells, and all others. Requires that the
+    /// lengths of the parts add up to that of the sequence.
     fn split(self) -> (First, Second)
         requires { IsSum }
         ensures first { first_items result.0 ≡ take PLACE (items self) }
         ensures second { second_items result.1 ≡ drop PLACE (items self) };
 }
 
-/// A sequence from which the item at a place can be taken.
+/// A sequence from which the item at an index can be taken. The counterpart of `Remove`. O(N) of an array,
+/// and allocates nothing.
 pub trait Remove<T, Output>: Sized {
     // The items.
     ghost items: { Self → List T };
@@ -125,10 +131,10 @@ pub trait Remove<T, Output>: Sized {
     // What is left has one item less.
     ghost IsOneShorter: { Type 0 };
 
-    /// The item at `index`, and all others in order. Conditions are that `Output` has a place less,
-    /// and that `index` is below the length, where the Rust crate panics.
+    /// The item at `index`, and all others in order. Requires that `Output` has one slot fewer, and that
+    /// `index` is below the length, where the Rust crate panics.
     fn remove(self, index: usize) -> (T, Output)
-        requires shorter { IsOneShorter }
+        requires one_shorter { IsOneShorter }
         requires in_bounds { index < length (items self) }
         ensures item { slice_get (items self) index ≡ Some result.0 }
         ensures others { output_items result.1 ≡ remove (items self) index };
@@ -136,14 +142,15 @@ pub trait Remove<T, Output>: Sized {
     /// The item at `index`, and all others in order but the last, which takes the place of the item
     /// that was taken. The conditions are those of `remove`.
     fn swap_remove(self, index: usize) -> (T, Output)
-        requires shorter { IsOneShorter }
+        requires one_shorter { IsOneShorter }
         requires in_bounds { index < length (items self) }
         ensures item { slice_get (items self) index ≡ Some result.0 }
         ensures others { output_items result.1 ≡ swap_remove (items self) index result.0 };
 
-    /// `remove`, whose condition is proved where it is called.
+    /// `remove` by the name of the Rust crate's unsafe call. The conditions are the same, so this one is
+    /// safe.
     final fn remove_unchecked(self, index: usize) -> (T, Output)
-        requires shorter { IsOneShorter }
+        requires one_shorter { IsOneShorter }
         requires in_bounds { index < length (items self) }
         ensures item { slice_get (items self) index ≡ Some result.0 }
         ensures others { output_items result.1 ≡ remove (items self) index }
@@ -151,9 +158,9 @@ pub trait Remove<T, Output>: Sized {
         self.remove(index)
     }
 
-    /// `swap_remove`, whose condition is proved where it is called.
+    /// `swap_remove` by the name of the Rust crate's unsafe call, and as safe.
     final fn swap_remove_unchecked(self, index: usize) -> (T, Output)
-        requires shorter { IsOneShorter }
+        requires one_shorter { IsOneShorter }
         requires in_bounds { index < length (items self) }
         ensures item { slice_get (items self) index ≡ Some result.0 }
         ensures others { output_items result.1 ≡ swap_remove (items self) index result.0 }

@@ -14,7 +14,7 @@ pub enum Step<T> {
     NthBack(usize),
     /// Shows the closure all items that are left, in order, and takes none.
     Look,
-    /// Puts the item in this place of those that are left, counted from 0 at their front.
+    /// Replaces the item at this index of those that are left, counted from the front.
     Set(usize, T),
 }
 
@@ -24,10 +24,10 @@ pub enum Reply<T, R> {
     /// To `Next`, `NextBack`, `Nth` and `NthBack`: the item that was taken, or `None` where too few were
     /// left.
     Item(Option<T>),
-    /// Of `Look`: what the closure returned.
+    /// To `Look`: what the closure returned.
     Seen(R),
-    /// To `Set`: the item that stood in the place.
+    /// To `Set`: the item that was replaced.
     Old(T),
-    /// To `Set` where there is no such place: the item that was to be put there. Nothing has changed.
+    /// To `Set` where there is no such index: the item that was to be put there. Nothing has changed.
     Outside(T),
 }

@@ -7,7 +7,7 @@ use Rattle.std.proofs.lemmas.Bool.{false≢true}
 
 pub try_map-requires-clause-callable : goal.try_map-requires-clause-callable
 try_map-requires-clause-callable g c =
-    c.requires.may_call _ _ (record { fill = c.in-Ok.ensures.fill; runs = c.in-Ok.ensures.runs })
+    c.requires.callable _ _ (record { fill = c.in-Ok.ensures.fill; runs = c.in-Ok.ensures.runs })
 
 pub returns-in-Ok-Ok : goal.returns-in-Ok-Ok
 returns-in-Ok-Ok g c = record {

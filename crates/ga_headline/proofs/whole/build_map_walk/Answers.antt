@@ -7,7 +7,7 @@ pub walk_on-requires : goal.walk_on-requires
 walk_on-requires g c =
     at_reached (λ values. MaySteps (MayCallAt (λ slice. slice.now) (goal.G-pre g))
     (CallAt (λ slice. slice.now) (goal.G-step g)) (values, c.args.look.now) c.args.steps.items)
-    c.build_and_map.result c.build_and_map.ensures c.requires.may_look
+    c.build_and_map.result c.build_and_map.ensures c.requires.then_callable
 
 pub returns : goal.returns
 returns g c = record {

@@ -1,4 +1,4 @@
-use Rattle.ga_boxed.proofs.BlockLemmas.{all_moved, count_more, moved_more, none_left, none_yet, some_left}
+use Rattle.ga_boxed.proofs.BlockLemmas.{all_moved, one_counted, moved_more, none_left, none_yet, some_left}
 use Rattle.ga_boxed.proofs.boxed_array.BoxedArray.into_vec.Goals as goal
 use Rattle.std.proofs.Common.{◌≡◌, ℕ, suc, ◌+◌, ◌<◌, ◌≤◌, ◌∙◌, ◌++◌, ap, arith, length, refl}
 
@@ -42,7 +42,7 @@ loop-moved-preserved g c =
     let pushed = c.push_reserved.ensures in
     record {
       moved = moved_more _ _ _ _ _ _ pushed.items at.invariant.moved step;
-      left = count_more _ _ _ _ (ap length step) at.invariant.left;
+      left = one_counted _ _ _ _ (ap length step) at.invariant.left;
       room = room-more _ _ _ _ (ap length step) at.invariant.room _ _ pushed.len pushed.capacity;
     }
 

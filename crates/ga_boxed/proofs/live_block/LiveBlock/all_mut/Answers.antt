@@ -30,6 +30,6 @@ returns g c = (
   (refl, λ w. ap (λ b. live (refill (length b.items) b.items w) b.room) c.self.view_is),
   record {
     writes_back = tt;
-    items = c.slice_mut.ensures.value ∙ ap (λ b. b.items) c.self.view_is;
+    items = c.slice_mut.ensures.items ∙ ap (λ b. b.items) c.self.view_is;
   },
 )

@@ -1,4 +1,4 @@
-use Rattle.ga_boxed.proofs.BlockLemmas.{bounds_apart, count_more}
+use Rattle.ga_boxed.proofs.BlockLemmas.{bounds_apart, one_counted}
 use Rattle.ga_boxed.proofs.live_block.LiveBlock.take_first.Goals as goal
 use Rattle.std.proofs.Common.{ℕ, ◌+◌, ◌<◌, ◌^◌, ◌∙◌, ap, arith, length, sym}
 
@@ -20,7 +20,7 @@ invariant_of-self g c =
     record {
       at = took.at ∙ held.at;
       passed = took.passed ∙ ap (λ k. k + 1) held.passed;
-      items = count_more _ _ _ _ (ap length took.items) held.items;
+      items = one_counted _ _ _ _ (ap length took.items) held.items;
       room = ap (λ k. c.self.inside.end + k) took.room ∙ held.room;
       deed_at = held.deed_at;
       deed_len = held.deed_len;

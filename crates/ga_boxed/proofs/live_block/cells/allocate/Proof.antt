@@ -22,7 +22,7 @@ use Rattle.std.proofs.ResultValues.{ok_of, err_of}
 use Rattle.ga_boxed.specs.contracts.live_block.cells.allocate as F
 use Rattle.ga_boxed.specs.contracts.live_block.cells.allocate.Key.{name as #self}
 use Rattle.ga_boxed.proofs.CallWalk.{Call, Had, Walk, by_ref, meets, number, Linked, linked}
-use Rattle.ga_boxed.proofs.ClauseFacts.{Every, facts, has_every}
+use Rattle.ga_boxed.proofs.ClauseFacts.{AllFacts, facts, has_every}
 use Rattle.ga_boxed.proofs.BlockRoom.{all_empty, none_empty}
 use Rattle.ga_boxed.proofs.WalkParts.{Bs, Cr, Dd, Mark, others, al_of, mark, mark_made, sz, tokens_in, tokens_out}
 use Rattle.ga_boxed.proofs.WalkParts.{three_of, three_val, word_made}
@@ -97,7 +97,7 @@ module _ (E : El) (Z : Al) {M : Type 1} {𝓤 : Ura M} (𝓛 : Logic 𝓤) (link
       let short = bounds.0 in let within = asked.1.0 in let small = asked.1.1 in let fits = fine.0 in
       let rb = x.ref_ptr.0 in let ro = x.ref_ptr.1 in let a = x.now in let len = ns.0 in
       let κ = κs.0 in let q = qs.0 in let s = sz E in let bytes : len * s < 2 ^ 64 = omega (arith, small) in
-      let exits : (r : (Out E Z).Denot) (v : Val) → Every (Gives E Z a len r)
+      let exits : (r : (Out E Z).Denot) (v : Val) → AllFacts (Gives E Z a len r)
       → ent 𝓤 (⋆ 𝓛 (‵ ((Out E Z).own_val r (v ∷ [])) ∷ ‵ (flft κ q) ∷ others κs qs ∷ [])) (Post v) = λ r v g.
       qed 𝓛 (‵ ((Out E Z).own_val r (v ∷ [])) ∷ ‵ (flft κ q) ∷ others κs qs ∷ []) ∵
       has_every ! (Gives E Z a len r) g $ move ! (2 ∷ 3 ∷ []) $ tokens_in ! κs qs $ nothing ! $

@@ -12,7 +12,7 @@ returns g c =
     let count = c.USIZE.result in
     let long : count ≡ length items = c.USIZE.ensures ∙ sym c.self.invariant.0 in
     let shown : c.part_mut.result.now ≡ c.args.self.now =
-    c.part_mut.ensures.value ∙ (ap (λ k. take k items) long ∙ (take-length items ∙ c.self.view_is)) in (
+    c.part_mut.ensures.items ∙ (ap (λ k. take k items) long ∙ (take-length items ∙ c.self.view_is)) in (
       (
         refl,
         λ w.

@@ -16,9 +16,9 @@ returns g c =
       ),
       record {
         writes_back = tt;
-        value = sym (ap (λ items. slice_get items index) c.self.view_is)
+        item = sym (ap (λ items. slice_get items index) c.self.view_is)
             ∙ slice_get_read items g.N.Unsigned.USIZE index c.item_mut.result.now
-            (sym c.self.invariant.0) c.requires c.item_mut.ensures.value;
+            (sym c.self.invariant.0) c.requires c.item_mut.ensures.item;
       },
     )
 

@@ -26,5 +26,5 @@ returns g c =
             ∙ (ap (λ l. refill len l w) c.self.view_is
             ∙ ap (λ k. refill k c.args.self.now w) (sym (count items _ lies c.self.view_is))),
       ),
-      record { writes_back = tt; items = c.part_mut.ensures.value ∙ c.self.view_is },
+      record { writes_back = tt; items = c.part_mut.ensures.items ∙ c.self.view_is },
     )

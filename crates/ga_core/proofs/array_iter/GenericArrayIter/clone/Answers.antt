@@ -16,7 +16,7 @@ of_store-requires-clause-full g c =
 pub write_clones-requires : goal.write_clones-requires
 write_clones-requires g c = record {
   room = (front-room (length c.as_slice-items.result.now) (g.N.ArrayType.Store.items c.filled-store.result)
-      c.part_mut.result.now c.part_mut.ensures.value c.as_slice-items.ensures.bound c.filled-store.ensures.len
+      c.part_mut.result.now c.part_mut.ensures.items c.as_slice-items.ensures.bound c.filled-store.ensures.len
       g.met.N.ArrayLength.capacity_is).1;
 }
 
@@ -25,7 +25,7 @@ returns-in-Ok g c =
     let items = g.N.ArrayType.Store.items c.filled-store.result in
     let copies = c.write_clones.new.slots in
     let len = length c.as_slice-items.result.now in
-    let room = front-room len items c.part_mut.result.now c.part_mut.ensures.value c.as_slice-items.ensures.bound
+    let room = front-room len items c.part_mut.result.now c.part_mut.ensures.items c.as_slice-items.ensures.bound
     c.filled-store.ensures.len g.met.N.ArrayLength.capacity_is in
     let after = g.N.ArrayType.Store.store_with c.filled-store.result (part_set 0 len items copies) in
     let stands = front-written len items copies (g.N.ArrayType.Store.items after.0) room.0

@@ -16,5 +16,5 @@ returns g c = (
     λ w. items-written c.self.inside.slots.items c.args.self.now w c.self.inside.count g.row.N c.self.invariant.0
         c.self.invariant.1 c.self.view_is,
   ),
-  record { writes_back = tt; value = c.part_mut.ensures.value ∙ c.self.view_is },
+  record { writes_back = tt; items = c.part_mut.ensures.items ∙ c.self.view_is },
 )

@@ -27,4 +27,4 @@ returns g c =
     sym c.self.view_is
     ∙ item-popped slots count (count - 1) c.take.result c.take.new.dest (omega (arith, c.if-self-eq0.false))
     (omega (arith, c.self.invariant.0, c.self.invariant.1))
-    (read ∙ (c.item_mut.ensures.value ∙ ap (get_or slots (count - 1)) (sym read)))
+    (read ∙ (c.item_mut.ensures.item ∙ ap (get_or slots (count - 1)) (sym read)))

@@ -19,7 +19,7 @@ returns g c = (
   (refl, λ written. same_rows c.args.self.now _ _ _ _ refl),
   record {
     writes_back = _;
-    items = c.all_mut.ensures.value;
-    len = ap length c.all_mut.ensures.value ∙ c.args.self.now.whole;
+    items = c.all_mut.ensures.items;
+    len = ap length c.all_mut.ensures.items ∙ c.args.self.now.whole;
   },
 )

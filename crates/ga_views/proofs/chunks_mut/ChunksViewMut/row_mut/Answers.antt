@@ -25,7 +25,7 @@ returns g c =
     let items = g.S.ReborrowSlice.items c.args.self.now.slice in
     let width = g.N.Unsigned.USIZE in
     let row : c.part_mut.result.now ≡ row_at width items c.args.index =
-    rw (c.part_mut.ensures.value, c.USIZE.ensures, c.start_of-start.ensures) refl in (
+    rw (c.part_mut.ensures.items, c.USIZE.ensures, c.start_of-start.ensures) refl in (
       (
         refl,
         λ written. same_rows c.args.self.now _ _ _ _ (same_part c.args.self.now items written c.start_of-start.result

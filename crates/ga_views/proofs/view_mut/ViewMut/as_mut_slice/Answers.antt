@@ -9,9 +9,9 @@ returns g c = (
   (refl, λ written. same_full _ _),
   record {
     writes_back = _;
-    items = c.all_mut.ensures.value;
+    items = c.all_mut.ensures.items;
     len =
-        ap length c.all_mut.ensures.value ∙ c.args.self.now.full;
+        ap length c.all_mut.ensures.items ∙ c.args.self.now.full;
   },
 )
 

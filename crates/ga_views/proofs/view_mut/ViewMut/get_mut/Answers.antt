@@ -6,7 +6,7 @@ use Rattle.std.specs.Prelude.{refl}
 pub returns-then-index-USIZE : goal.returns-then-index-USIZE
 returns-then-index-USIZE g c =
     let there = got_some _ _ _ _ c.args.self.now.full c.USIZE.ensures c.item_mut.result.now c.if-index-USIZE.true
-    c.item_mut.ensures.value in
+    c.item_mut.ensures.item in
     (refl, record { writes_back = tt; variant = there.0; item = there.1 })
 
 -- from the length on, none is

@@ -16,7 +16,7 @@ returns g c =
       ),
       record {
         writes_back = tt;
-        value = c.item_mut.ensures.value
+        item = c.item_mut.ensures.item
             ∙ ap (λ items. slice_index_or items index c.item_mut.result.now) c.array.view_is;
       },
     )

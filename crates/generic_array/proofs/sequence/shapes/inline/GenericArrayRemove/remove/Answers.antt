@@ -18,4 +18,4 @@ returns-clause-others g c =
     ∙ (rw c.as_mut_slice.ensures.items at (c.carry_to_end.ensures item))) in
     c.next_array.ensures.first
     ∙ others-left items (remove self index) left (get_or self index item) item g.M.Unsigned.USIZE carried taken
-    (ap length given.0 ∙ (given.3 ∙ c.requires.shorter))
+    (ap length given.0 ∙ (given.3 ∙ c.requires.one_shorter))
