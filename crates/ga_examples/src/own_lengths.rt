@@ -7,7 +7,9 @@ ghost use Rattle.std.specs.Prelude.{◌≡◌, ◌-◌, ◌/◌, ◌<◌, [], �
 use arrayvec::ArrayVec;
 use ga_core_examples::answers::has;
 use generic_array::sequence::Concat;
-use generic_array::{ArrayLength, GenericArray, LengthError, Store, U10, Unsigned};
+use generic_array::{
+    ArrayLength, GenericArray, InlineLength, LengthError, Store, U2, U10, Unsigned,
+};
 use std::io::Write;
 use std::marker::Model;
 use std::mem;
@@ -27,6 +29,12 @@ impl<T: Default + Drop> ArrayLength<T> for Week {
     type ArrayType = ArrayVec<T, 7>;
 
     ghost capacity_is = { refl };
+}
+
+impl InlineLength for Week {
+    ghost use Rattle.std.proofs.Math.Dec.{lit≤};
+
+    ghost fits = { lit≤ tt };
 }
 
 /// The sides of a triangle.
@@ -136,6 +144,13 @@ fn joined(left: GenericArray<u8, Week>, right: GenericArray<u8, Sides>) -> Gener
     ensures { result ≡ left ++ right }
 {
     left.concat(right)
+}
+
+/// Two weeks without hours: a week has a `Default`, since its length is an `InlineLength`.
+fn no_hours() -> GenericArray<GenericArray<u8, Week>, U2>
+    ensures { length result ≡ 2 }
+{
+    GenericArray::default()
 }
 
 fn are_same<N: ArrayLength<u8>>(left: &GenericArray<u8, N>, right: &GenericArray<u8, N>) -> bool
