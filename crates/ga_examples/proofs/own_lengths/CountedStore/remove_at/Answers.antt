@@ -60,8 +60,8 @@ pub invariant_of-self : goal.invariant_of-self
 invariant_of-self g c =
     (omega (arith, c.self.invariant.0), c.push.ensures.len ∙ (c.remove-item.ensures.len ∙ c.self.invariant.1))
 
-pub returns-clause-value : goal.returns-clause-value
-returns-clause-value g c =
+pub returns-clause-item : goal.returns-clause-item
+returns-clause-item g c =
     let slots = c.self.inside.slots.items in
     let count = c.self.inside.count in
     let i = c.args.index in
