@@ -1,11 +1,11 @@
 //! Builds and fills of iterators, inline and boxed, and what each leaves of its iterator.
-ghost use Rattle.std.specs.Prelude.{◌≡◌, ℕ, [], ◌∷◌, Err, IfOk, IsErr, None, Ok, OnErr, OnOk, Some};
+ghost use Rattle.std.specs.Prelude.{◌≡◌, ℕ, [], ◌∷◌, Err, IfOk, IsErr, None, Ok, OnErr, OnOk, Some, length};
 
 use ga_core_examples::answers::gives;
 use ga_headline::builds::{build, build_of_items, fill_boxed, fill_inline};
 use generic_array::{
     AllocError, ArrayLength, BoxedArray, FillError, GenericArray, InlineLength, LengthError, Never,
-    U2, U3,
+    U2, U3, Unsigned,
 };
 use std::alloc::Global;
 use std::test::Fail;
@@ -28,6 +28,25 @@ fn boxed_of(
     ensures { IfOk result (λ array. array ≡ 1 ∷ 2 ∷ 3 ∷ []) }
 {
     build_of_items(alloc, items)
+}
+
+// The block of all items, of any number. As many are asked for, so nothing but memory can be lacking.
+fn boxed_of_all<N: Unsigned>(
+    alloc: Global,
+    items: Vec<u32>,
+) -> Result<BoxedArray<u32, N>, AllocError>
+    requires { length items.items ≡ N.USIZE }
+    ensures { IfOk result (λ array. array ≡ items.items) }
+{
+    let built: Result<BoxedArray<u32, N>, FillError<Never, AllocError>> = build_of_items(
+        alloc, items,
+    );
+    match built {
+        Ok(array) => Ok(array),
+        Err(FillError::Place(refused)) => Err(refused),
+        Err(FillError::Length(_other)) => unreachable!(),
+        Err(FillError::Item(never)) => match never {},
+    }
 }
 
 // The first error, and what the iterator gives then.
@@ -101,6 +120,7 @@ fn builds_want_just_their_number(rt: HostRuntime) -> Result<(), Fail> {
     let alloc = rt.alloc();
     assert!(rt; gives(inline_of::<U3>(vec![in alloc; 1, 2, 3]?), &[1, 2, 3]));
     assert!(rt; gives(boxed_of(alloc, vec![in alloc; 1, 2, 3]?), &[1, 2, 3]));
+    assert!(rt; gives(boxed_of_all::<U2>(alloc, vec![in alloc; 4, 5]?), &[4, 5]));
     Ok(())
 }
 
