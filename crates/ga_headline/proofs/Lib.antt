@@ -1,2 +1,1 @@
 pub mod BuildLemmas
-pub mod WholeLemmas

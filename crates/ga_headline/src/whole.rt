@@ -1,5 +1,6 @@
-//! The headline end to end: a sequence is built, mapped and walked over, of any kind that has all three.
-ghost use Rattle.ga_headline.specs.Whole.{BuiltAndMapped, Comes, KeepsPromises, StoppedAt, WalkedOn};
+//! The headline end to end: a sequence is mapped and walked over, of any kind, and one that can be filled is
+//! built before.
+ghost use Rattle.ga_headline.specs.Whole.{Comes, KeepsPromises, MapKeepsPromises, MapStoppedAt, StoppedAt};
 ghost use Rattle.generic_array.specs.Account.{Account};
 ghost use Rattle.generic_array.specs.Calls.{MayTryMap};
 ghost use Rattle.generic_array.specs.Entries.{CallAt, MayCallAt};
@@ -14,14 +15,15 @@ use generic_array::functional::{
     FunctionalSequence, Mapped, MappedError, MappedGenericSequence, MappedPlace, MappedSequence,
 };
 use generic_array::sequence::{FallibleGenericSequence, FromFallibleIterator, SequenceItem};
-use generic_array::steps::{Reply, Step, TwoEnded, TwoEndedSequence, run_steps};
-use generic_array::{AllocError, FillError};
+use generic_array::steps::{Reply, Step, TwoEndedSequence, run_steps};
+use generic_array::{AllocError, FillError, Never};
 
-/// Which of the three parts of `build_map_walk` stopped, and why.
+/// Which part of `map_walk` or `build_map_walk` stopped, and why. `B` is the error of the build, and
+/// `Never` where there is none.
 #[derive(Drop)]
-pub enum Stopped<E, P, D, Q> {
+pub enum Stopped<B, D, Q> {
     /// The build: an item's error, another number of items, or no memory.
-    Build(FillError<E, P>),
+    Build(B),
     /// The map: the closure's first error.
     Call(D),
     /// The map: no memory, before any call.
@@ -33,12 +35,66 @@ pub enum Stopped<E, P, D, Q> {
 /// The iterator by value over what a map of `S` to `U` makes.
 pub type Walked<S, T, U> = <MappedSequence<S, T, U> as TwoEndedSequence<U>>::TwoEnded;
 
+/// Maps a sequence of any kind, inline, boxed or borrowed, by a closure that may fail, and runs steps over
+/// what was made.
+///
+/// The clauses say both parts in order: the calls up to the first error, and the list that is cut from both
+/// ends. They say how both closures are left, wherever the run stops. `look` need be callable only in
+/// states that such a run reaches.
+pub fn map_walk<T, U, D, R, S, F, G>(
+    s: S,
+    mapped_place: MappedPlace<S, T, U>,
+    f: &mut F,
+    steps: Vec<Step<U>>,
+    look: &mut G,
+    replies: &mut Vec<Reply<U, R>>,
+) -> Result<Walked<S, T, U>, Stopped<Never, D, MappedError<S, T, U>>>
+where
+    U: Drop,
+    S: FunctionalSequence<T> + MappedGenericSequence<T, U>,
+    Mapped<S, T, U>: FallibleGenericSequence<U>,
+    MappedSequence<S, T, U>: TwoEndedSequence<U>,
+    F: FnMut(SequenceItem<S>) -> Result<U, D>,
+    G: FnMut(&[U]) -> R,
+    requires mapped_fits { S.Mapped.Fits }
+    requires callable { MayTryMap S.entry F.pre F.step f.old (S.items s) }
+    requires then_callable { (values : List U) (reached : F)
+        → FirstErrorRun (CallAt S.entry F.step) f.old (S.items s) (Ok values) reached
+        → MaySteps (MayCallAt (λ slice. slice.now) G.pre) (CallAt (λ slice. slice.now) G.step)
+        (values, look.old) steps.items }
+    ensures ok { IfOk result (λ left. (values : List U) × (given : List (Reply U R))
+        × FirstErrorRun (CallAt S.entry F.step) f.old (S.items s) (Ok values) f.new
+        × (replies.new.items ≡ replies.old.items ++ given)
+        × StepsRun (CallAt (λ slice. slice.now) G.step) (values, look.old) steps.items given
+        (S.Mapped.Sequence.TwoEnded.items left, look.new)
+        × Account values steps.items given (S.Mapped.Sequence.TwoEnded.items left)) }
+    ensures stopped { IfErr result (λ why.
+        MapStoppedAt (FirstErrorRun (CallAt S.entry F.step)) f.old (S.items s) why f.new) }
+    ensures unwalked { OnErr result ((look.new ≡ look.old) × (replies.new.items ≡ replies.old.items)) }
+    ensures promised { IfErr result (λ why. MapKeepsPromises S.Mapped.IsPromised
+        (vec_len replies.old + length steps.items ≤ vec_capacity replies.old) why) }
+    ensures kept { vec_capacity replies.old ≤ vec_capacity replies.new }
+{
+    match try_map(s, mapped_place, f) {
+        // `walk` of what was made, written out: the checker gives up on the call with all these bounds.
+        Ok(Ok(mapped)) => {
+            let mut left = mapped.into_two_ended();
+            match run_steps(&mut left, steps, look, replies) {
+                Ok(()) => Ok(left),
+                Err(refused) => Err(Stopped::NotWalked(refused)),
+            }
+        }
+        Ok(Err(error)) => Err(Stopped::Call(error)),
+        Err(refused) => Err(Stopped::NotMapped(refused)),
+    }
+}
+
 /// Builds a sequence of what an iterator gives, maps it by a closure that may fail, and runs steps over
 /// what was made.
 ///
-/// The clauses say the parts in order: the fill, the calls up to the first error, and the list that is cut
-/// from both ends. They say how the iterator and both closures are left, wherever the run stops. The
-/// closures need be callable only in states that such a run reaches.
+/// A build and `map_walk`. The clauses say the parts in order: the fill, the calls up to the first error,
+/// and the list that is cut from both ends. They say how the iterator and both closures are left, wherever
+/// the run stops. The closures need be callable only in states that such a run reaches.
 pub fn build_map_walk<T, E, U, D, R, S, I, F, G>(
     place: S::Place,
     items: &mut I,
@@ -47,7 +103,7 @@ pub fn build_map_walk<T, E, U, D, R, S, I, F, G>(
     steps: Vec<Step<U>>,
     look: &mut G,
     replies: &mut Vec<Reply<U, R>>,
-) -> Result<Walked<S, T, U>, Stopped<E, S::Error, D, MappedError<S, T, U>>>
+) -> Result<Walked<S, T, U>, Stopped<FillError<E, S::Error>, D, MappedError<S, T, U>>>
 where
     E: Drop,
     U: Drop,
@@ -80,74 +136,16 @@ where
     ensures unwalked { OnErr result ((look.new ≡ look.old) × (replies.new.items ≡ replies.old.items)) }
     ensures promised { IfErr result (λ why. KeepsPromises S.IsPromised S.Mapped.IsPromised
         (vec_len replies.old + length steps.items ≤ vec_capacity replies.old) why) }
-{
-    walk_on(
-        build_and_map::<T, E, U, D, S, I, F>(place, items, mapped_place, f),
-        steps,
-        look,
-        replies,
-    )
-}
-
-// The first two parts: a sequence is built, and mapped by a closure that may fail.
-fn build_and_map<T, E, U, D, S, I, F>(
-    place: S::Place,
-    items: &mut I,
-    mapped_place: MappedPlace<S, T, U>,
-    f: &mut F,
-) -> Result<Walked<S, T, U>, Stopped<E, S::Error, D, MappedError<S, T, U>>>
-where
-    E: Drop,
-    S: FromFallibleIterator<T> + FunctionalSequence<T> + MappedGenericSequence<T, U>,
-    Mapped<S, T, U>: FallibleGenericSequence<U>,
-    MappedSequence<S, T, U>: TwoEndedSequence<U>,
-    MappedPlace<S, T, U>: Drop,
-    I: Iterator<Item = Result<T, E>>,
-    F: FnMut(SequenceItem<S>) -> Result<U, D>,
-    requires fits { S.Fits }
-    requires mapped_fits { S.Mapped.Fits }
-    requires can { I.can_next items.old }
-    requires callable { (list : List T) (after : I) → Comes I.next_gives items.old S.Length.USIZE list after
-        → MayTryMap S.entry F.pre F.step f.old list }
-    ensures { BuiltAndMapped I.next_gives S.Length.USIZE S.IsPromised S.Mapped.IsPromised
-        (FirstErrorRun (CallAt S.entry F.step)) S.Mapped.Sequence.TwoEnded.items items.old f.old result items.new f.new }
+    ensures kept { vec_capacity replies.old ≤ vec_capacity replies.new }
 {
     let made: S = match build(place, items) {
         Ok(made) => made,
         Err(error) => return Err(Stopped::Build(error)),
     };
-    match try_map(made, mapped_place, f) {
-        Ok(Ok(mapped)) => Ok(mapped.into_two_ended()),
-        Ok(Err(error)) => Err(Stopped::Call(error)),
-        Err(refused) => Err(Stopped::NotMapped(refused)),
-    }
-}
-
-// The last part: the steps, where there is an iterator. It knows nothing of the sequences before.
-fn walk_on<U, R, G, W, E, P, D, Q>(
-    reached: Result<W, Stopped<E, P, D, Q>>,
-    steps: Vec<Step<U>>,
-    look: &mut G,
-    replies: &mut Vec<Reply<U, R>>,
-) -> Result<W, Stopped<E, P, D, Q>>
-where
-    U: Drop,
-    W: TwoEnded<U> + Drop,
-    G: FnMut(&[U]) -> R,
-    requires { IfOk reached (λ begun. MaySteps (MayCallAt (λ slice. slice.now) G.pre)
-        (CallAt (λ slice. slice.now) G.step) (W.items begun, look.old) steps.items) }
-    ensures { WalkedOn (CallAt (λ slice. slice.now) G.step) W.items
-        (vec_len replies.old + length steps.items ≤ vec_capacity replies.old) reached look.old steps.items
-        replies.old.items result look.new replies.new.items }
-{
-    match reached {
-        Ok(begun) => {
-            let mut left = begun;
-            match run_steps(&mut left, steps, look, replies) {
-                Ok(()) => Ok(left),
-                Err(refused) => Err(Stopped::NotWalked(refused)),
-            }
-        }
-        Err(why) => Err(why),
+    match map_walk(made, mapped_place, f, steps, look, replies) {
+        Ok(left) => Ok(left),
+        Err(Stopped::Call(error)) => Err(Stopped::Call(error)),
+        Err(Stopped::NotMapped(refused)) => Err(Stopped::NotMapped(refused)),
+        Err(Stopped::NotWalked(refused)) => Err(Stopped::NotWalked(refused)),
     }
 }

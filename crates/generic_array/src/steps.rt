@@ -129,6 +129,7 @@ pub fn run_steps<T: Drop, R, I: TwoEnded<T>, G: FnMut(&[T]) -> R>(
         × (replies.new.items ≡ replies.old.items)) }
     ensures empty { steps.items ≡ [] → IsOk result }
     ensures room { vec_len replies.old + length steps.items ≤ vec_capacity replies.old → IsOk result }
+    ensures kept { vec_capacity replies.old ≤ vec_capacity replies.new }
 {
     if let Err(_) = replies.try_reserve(steps.len()) {
         return Err(AllocError);

@@ -1,6 +1,7 @@
 use Rattle.ga_rows.proofs.TextLemmas.{lines-all, lines-more, lines-none, none-has_room}
 use Rattle.ga_rows.proofs.output.put_from_first.Goals as goal
 use Rattle.ga_rows.proofs.output.put_from_first.Goals.{else-not-has_room, then-not-has_room+in_ok-hand_over}
+use Rattle.generic_array.specs.Views.{items_of_view}
 use Rattle.std.proofs.Common.{◌∙◌, ap, arith, length, refl, rules}
 use Rattle.std.proofs.KnownBytes.{Keeps-refl, append_known-grown}
 
@@ -11,7 +12,7 @@ loop-row-init g c =
 
 pub loop-row-preserved : goal.loop-row-preserved
 loop-row-preserved g c = record {
-  text = lines-more c.args.mode _ _ c.next.new.self c.in-Some.row.slice.now _ _ _ c.loop-row.invariant.text
+  text = lines-more c.args.mode _ _ c.next.new.self (items_of_view c.in-Some.row) _ _ _ c.loop-row.invariant.text
       c.in-Some.ensures.steps (elim c.if-not-has_room.branch [
         | then-not-has_room+in_ok-hand_over w ↦ search rules
         | else-not-has_room w ↦ append_known-grown _ _ _ _ _ (search (rules, Keeps-refl)) c.in_ok-put_row.ensures

@@ -2,6 +2,7 @@ use Rattle.ga_rows.proofs.TextLemmas.{lines-all, lines-more_back, lines-none, no
 use Rattle.ga_rows.proofs.output.put_from_last.Goals as goal
 use Rattle.ga_rows.proofs.output.put_from_last.Goals.{else-not-has_room, then-not-has_room+in_ok-hand_over}
 use Rattle.ga_rows.specs.declared.arguments.Mode.TheVariants.{Last}
+use Rattle.generic_array.specs.Views.{items_of_view}
 use Rattle.std.proofs.Common.{◌∙◌, ap, refl, reverse, rules}
 use Rattle.std.proofs.KnownBytes.{Keeps-refl, append_known-grown}
 use Rattle.std.specs.Iterator.Adapters.{rev_source}
@@ -16,7 +17,7 @@ pub loop-row-preserved : goal.loop-row-preserved
 loop-row-preserved g c =
     let left = rev_source c.loop-row.row-iterator in
     let after = rev_source c.next.new.self in
-    let row = c.in-Some.row.slice.now in
+    let row = items_of_view c.in-Some.row in
     record {
       text = lines-more_back Last _ left after row _ _ _ c.loop-row.invariant.text c.in-Some.ensures.steps
           (elim c.if-not-has_room.branch [
@@ -38,4 +39,4 @@ returns-clause-text g c =
 
 pub returns-in_err-put_row-clause-empty : goal.returns-in_err-put_row-clause-empty
 returns-in_err-put_row-clause-empty g c = λ none. absurd (no-last (rev_source c.loop-row.row-iterator)
-    (rev_source c.next.new.self) c.in-Some.row.slice.now (c.loop-row.invariant.empty none).0 c.in-Some.ensures.steps)
+    (rev_source c.next.new.self) (items_of_view c.in-Some.row) (c.loop-row.invariant.empty none).0 c.in-Some.ensures.steps)

@@ -1,6 +1,7 @@
 use Rattle.ga_uses.proofs.UdpLemmas.{summed}
 use Rattle.ga_uses.proofs.udp.checksum.Goals as goal
 use Rattle.ga_uses.specs.Udp.{complement_of, sum_with_carry}
+use Rattle.generic_array.specs.Views.{items_of_view, length-items_of_view}
 use Rattle.std.proofs.Common.{◌∙◌, ap, refl, rules}
 
 -- the closure adds a word, and the pieces one after the other are the bytes that are summed
@@ -19,4 +20,5 @@ returns c =
       c.into_slice.ensures.items,
       c.into_slice-2.ensures.items,
     )
-    (summed from.slice.now to.slice.now c.args.payload.now _ _ _ from.full to.full refl))
+    (summed (items_of_view from) (items_of_view to) c.args.payload.now _ _ _ (length-items_of_view from)
+    (length-items_of_view to) refl))

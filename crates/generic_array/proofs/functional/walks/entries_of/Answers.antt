@@ -1,4 +1,5 @@
 use Rattle.generic_array.proofs.functional.walks.entries_of.Goals as goal
+use Rattle.generic_array.specs.Views.{length-items_of_view}
 use Rattle.std.proofs.Common.{◌∙◌, ap, length, sym}
 
 pub returns-clause-gives : goal.returns-clause-gives
@@ -6,4 +7,4 @@ returns-clause-gives g c = g.met.S.GenericSequence.gives_entries c.args.s c.into
     c.into_iter.ensures.into_iter_gives
 
 pub returns-clause-long : goal.returns-clause-long
-returns-clause-long g c = ap length (sym c.view.ensures) ∙ c.view.result.full
+returns-clause-long g c = ap length (sym c.view.ensures) ∙ length-items_of_view c.view.result
