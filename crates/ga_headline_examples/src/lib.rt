@@ -10,6 +10,8 @@ mod calls;
 #[cfg(test)]
 mod joined_runs;
 #[cfg(test)]
+mod lists;
+#[cfg(test)]
 mod runs_of_steps;
 #[cfg(test)]
 mod shapes;

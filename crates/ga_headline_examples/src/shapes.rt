@@ -1,13 +1,16 @@
 //! Shapes and their inverses, at any lengths and items.
 ghost use Rattle.generic_array.specs.Length.{FitsInline};
-ghost use Rattle.std.specs.Prelude.{◌≡◌, ◌*◌, ◌<◌};
+ghost use Rattle.generic_array.specs.Views.{items_of_view};
+ghost use Rattle.std.specs.Prelude.{◌≡◌, ◌+◌, ◌*◌, ◌<◌, ◌++◌, List, length};
 
 use ga_core_examples::answers::has;
 use ga_headline::shapes::{
     concat_then_split, flatten_then_unflatten, pop_then_put, put_then_pop, split_then_concat,
-    unflatten_then_flatten,
+    split_view, unflatten_then_flatten,
 };
-use generic_array::{ArrayLength, GenericArray, U0, U2, U3, U4, U5, arr};
+use generic_array::{
+    ArrayLength, GenericArray, GenericArrayRef, U0, U2, U3, U4, U5, Unsigned, arr,
+};
 
 // An array cut into rows and joined, and how many rows there were.
 fn cut_and_joined<
@@ -50,6 +53,17 @@ where
     ).0
 }
 
+// The last M items of a view, told by what the parts joined are.
+fn last_of<'a, T, N: Unsigned, K: Unsigned, M: Unsigned>(
+    view: GenericArrayRef<'a, T, N>,
+) -> GenericArrayRef<'a, T, M>
+    requires sum { N.USIZE ≡ K.USIZE + M.USIZE }
+    ensures { (first : List T) × (items_of_view view.entry ≡ first ++ items_of_view result) }
+{
+    let (_first, last): (GenericArrayRef<'a, T, K>, GenericArrayRef<'a, T, M>) = split_view(view);
+    last
+}
+
 /// The sum of the items.
 fn sum_of(items: &[u32]) -> u32 {
     items.iter().fold(0, |sum, item| sum.wrapping_add(*item))
@@ -89,6 +103,27 @@ fn what_is_split_and_joined_is_as_it_was(rt: HostRuntime) {
         sum_of,
     );
     assert!(rt; sum == 10 && has(none, &[]) && has(array, &[1, 2, 3, 4]));
+}
+
+// What may be called with just the items that it is shown: an index that these have.
+#[test]
+fn what_is_shown_may_be_asked_for(rt: HostRuntime) {
+    let (_, _, fourth) = put_then_pop::<u32, U3, U4, _, _>(
+        arr![1, 2, 3],
+        9,
+        false,
+        |items: &[u32]| -> u32
+            requires { 3 < length items.now }
+        { items[3] },
+    );
+    assert!(rt; fourth == 9);
+}
+
+#[test]
+fn a_view_is_its_parts(rt: HostRuntime) {
+    let array = one_to_four();
+    let last: GenericArrayRef<u32, U2> = last_of::<u32, U4, U2, U2>(array.view());
+    assert!(rt; last.as_slice() == [3, 4].as_slice());
 }
 
 #[test]

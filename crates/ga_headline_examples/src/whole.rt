@@ -1,15 +1,16 @@
-//! A build, a map and a walk, one after the other: half of each number of three, walked over.
+//! A map and a walk, and a build before both: half of each number of three, walked over.
 ghost use Rattle.ga_headline.specs.Whole.{MatchStopped};
+ghost use Rattle.generic_array.specs.Views.{items_of_view};
 ghost use Rattle.generic_array.specs.declared.steps.step.Reply.TheVariants.{Item, Old, Seen};
 ghost use Rattle.generic_array.specs.declared.steps.step.Step.TheVariants.{Look, Next, NextBack, Set};
 ghost use Rattle.std.specs.Prelude.{◌≡◌, ◌/◌, ◌%◌, [], ◌∷◌, ◌++◌, Err, IfErr, IfOk, IsErr, ⊤, Ok, OnOk, Some, if◌then◌else◌, nat_eq};
 
 use crate::steps::{are_right, count_of, steps};
-use ga_headline::whole::{Stopped, build_map_walk};
+use ga_headline::whole::{Stopped, build_map_walk, map_walk};
 use generic_array::steps::{Reply, Step};
 use generic_array::{
-    AllocError, ArrayLength, BoxedArray, BoxedArrayIter, GenericArray, GenericArrayIter,
-    InlineLength, Never, U3,
+    AllocError, ArrayLength, BoxedArray, BoxedArrayIter, FillError, GenericArray, GenericArrayIter,
+    GenericArrayRef, InlineLength, Never, U3,
 };
 use std::alloc::Global;
 use std::test::Fail;
@@ -25,11 +26,33 @@ fn halved(number: u32) -> Result<u32, u32>
     }
 }
 
+// The items of a view are read, and the walk takes what was made of them.
+fn walked_over_view<N: ArrayLength<u32> + InlineLength>(
+    view: GenericArrayRef<'_, u32, N>,
+    steps: Vec<Step<u32>>,
+    replies: &mut Vec<Reply<u32, usize>>,
+) -> Result<GenericArrayIter<u32, N>, Stopped<Never, u32, Never>>
+    requires view { items_of_view view ≡ 2 ∷ 4 ∷ 6 ∷ [] }
+    requires steps { steps.items ≡ Next ∷ Look ∷ Set 1 9 ∷ NextBack ∷ [] }
+    ensures replies { OnOk result (replies.new.items
+        ≡ replies.old.items ++ Item (Some 1) ∷ Seen 2 ∷ Old 3 ∷ Item (Some 9) ∷ []) }
+    ensures left { IfOk result (λ left. left ≡ 2 ∷ []) }
+{
+    map_walk(
+        view,
+        (),
+        &mut |item: &u32| halved(*item),
+        steps,
+        &mut count_of,
+        replies,
+    )
+}
+
 fn whole_inline<N: ArrayLength<u32> + InlineLength>(
     results: Vec<Result<u32, u8>>,
     steps: Vec<Step<u32>>,
     replies: &mut Vec<Reply<u32, usize>>,
-) -> Result<GenericArrayIter<u32, N>, Stopped<u8, Never, u32, Never>>
+) -> Result<GenericArrayIter<u32, N>, Stopped<FillError<u8, Never>, u32, Never>>
     requires len { N.USIZE ≡ 3 }
     requires results { results.items ≡ Ok 2 ∷ Ok 4 ∷ Ok 6 ∷ [] }
     requires steps { steps.items ≡ Next ∷ Look ∷ Set 1 9 ∷ NextBack ∷ [] }
@@ -53,7 +76,7 @@ fn whole_boxed(
     results: Vec<Result<u32, u8>>,
     steps: Vec<Step<u32>>,
     replies: &mut Vec<Reply<u32, usize>>,
-) -> Result<BoxedArrayIter<u32>, Stopped<u8, AllocError, u32, AllocError>>
+) -> Result<BoxedArrayIter<u32>, Stopped<FillError<u8, AllocError>, u32, AllocError>>
     requires results { results.items ≡ Ok 2 ∷ Ok 4 ∷ Ok 6 ∷ [] }
     requires steps { steps.items ≡ Next ∷ Look ∷ Set 1 9 ∷ NextBack ∷ [] }
     ensures replies { OnOk result (replies.new.items
@@ -77,7 +100,7 @@ fn whole_stopped(
     results: Vec<Result<u32, u8>>,
     steps: Vec<Step<u32>>,
     replies: &mut Vec<Reply<u32, usize>>,
-) -> Result<BoxedArrayIter<u32>, Stopped<u8, AllocError, u32, AllocError>>
+) -> Result<BoxedArrayIter<u32>, Stopped<FillError<u8, AllocError>, u32, AllocError>>
     requires results { results.items ≡ Ok 2 ∷ Ok 5 ∷ Ok 7 ∷ [] }
     requires steps { steps.items ≡ Next ∷ Look ∷ Set 1 9 ∷ NextBack ∷ [] }
     ensures err { IsErr result }
@@ -93,6 +116,18 @@ fn whole_stopped(
         &mut count_of,
         replies,
     )
+}
+
+#[test]
+fn a_view_is_mapped_and_walked_over(rt: HostRuntime) -> Result<(), Fail> {
+    let mut replies = Vec::new(rt.alloc());
+    let view = GenericArrayRef::<u32, U3>::from_slice(&[2, 4, 6]);
+    match walked_over_view(view, steps(rt.alloc())?, &mut replies) {
+        Ok(left) => assert!(rt; left.as_slice() == [2].as_slice()),
+        Err(_) => assert!(rt; false),
+    }
+    assert!(rt; are_right(rt.alloc(), replies.as_slice())?);
+    Ok(())
 }
 
 #[test]

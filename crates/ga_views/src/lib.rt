@@ -21,7 +21,7 @@ mod view_mut;
 
 pub use array_ref::GenericArrayRef;
 pub use chunk_iter::ChunkIter;
-pub use chunks_mut::ChunksMut;
+pub use chunks_mut::{ChunksMut, ChunksViewMut};
 pub use chunks_ref::ChunksRef;
 pub use length::{Const, InlineLength, MAX_INLINE, Unsigned};
 pub use length_error::LengthError;

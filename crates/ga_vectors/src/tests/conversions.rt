@@ -1,7 +1,9 @@
 //! Items that go from one kind of array to another, through vectors, boxed slices and tuples.
 use crate::tests::compared::holds;
 use crate::tests::items::has;
-use generic_array::{AllocError, BoxedArray, Const, GenericArray, U0, U2, U3, U12, arr, box_arr};
+use generic_array::{
+    AllocError, BoxedArray, Const, GenericArray, U0, U1, U2, U3, U12, arr, box_arr,
+};
 use std::alloc::Global;
 use std::test::Fail;
 
@@ -18,6 +20,10 @@ fn tuples_become_arrays_and_come_back(rt: HostRuntime) {
     assert!(rt; pair.as_slice() == [7, 8].as_slice());
     let pair: (u8, u8) = pair.into();
     assert!(rt; pair == (7, 8));
+    let one: GenericArray<u8, U1> = (7,).into();
+    assert!(rt; one.as_slice() == [7].as_slice());
+    let one: (u8,) = one.into();
+    assert!(rt; one == (7,));
 }
 
 #[test]

@@ -2,8 +2,13 @@
 //! `ga_faults`.
 use crate::tests::items::{from_one, next_digit};
 use generic_array::checks::map_total_by;
-use generic_array::functional::{inverted_zip, inverted_zip2};
-use generic_array::{ArrayLength, GenericArray, GenericArrayRef, InlineLength, U2, U3, always};
+use generic_array::functional::{FunctionalSequence, inverted_zip, inverted_zip2};
+use generic_array::{
+    AllocError, ArrayLength, BoxedArray, GenericArray, GenericArrayRef, InlineLength, U2, U3,
+    always,
+};
+use std::alloc::Global;
+use std::test::Fail;
 
 fn doubled(item: u32) -> u32 {
     item.wrapping_mul(2)
@@ -23,6 +28,57 @@ fn totals<N: ArrayLength<u32> + InlineLength>(array: GenericArray<u32, N>) -> [u
 #[test]
 fn a_map_is_folded_in_order(rt: HostRuntime) {
     assert!(rt; totals(from_one::<U3>()) == [246, 246]);
+}
+
+/// Twice the item, but an error for 2.
+fn doubled_but_two(item: &u32) -> Result<u32, u32> {
+    if *item == 2 {
+        Err(*item)
+    } else {
+        Ok(item.wrapping_mul(2))
+    }
+}
+
+/// The error of a map of a view, if there is one, and the number of calls.
+fn mapped_up_to_two<N: ArrayLength<u32> + InlineLength>(
+    view: GenericArrayRef<'_, u32, N>,
+) -> (Option<u32>, usize) {
+    let mut calls = 0usize;
+    let mapped = always(view.try_map_by(
+        (),
+        &mut |item: &u32| {
+            calls = calls.wrapping_add(1);
+            doubled_but_two(item)
+        },
+    ));
+    (mapped.err(), calls)
+}
+
+#[test]
+fn a_map_of_a_view_stops_at_an_error(rt: HostRuntime) {
+    assert!(rt; mapped_up_to_two(from_one::<U3>().view()) == (Some(2), 2));
+}
+
+/// The second items less the first, of an inline array and a boxed one, and of the boxed with the inline.
+fn less<N: ArrayLength<u32> + InlineLength>(
+    alloc: Global,
+    inline: [GenericArray<u32, N>; 2],
+    boxed: [BoxedArray<u32, N>; 2],
+) -> Result<(GenericArray<u32, N>, BoxedArray<u32, N>), AllocError> {
+    let ([first, second], [third, fourth]) = (inline, boxed);
+    let made_inline = always(first.zip((), third, |l: u32, r: u32| r.wrapping_sub(l)));
+    Ok((made_inline, fourth.zip(alloc, second, u32::wrapping_sub)?))
+}
+
+#[test]
+fn a_zip_of_two_kinds_is_of_the_first(rt: HostRuntime) -> Result<(), Fail> {
+    let boxed = [
+        BoxedArray::from_array(rt.alloc(), [3, 5])?,
+        BoxedArray::from_array(rt.alloc(), [3, 5])?,
+    ];
+    let (made_inline, made_boxed) = less(rt.alloc(), [two(1, 2), two(1, 2)], boxed)?;
+    assert!(rt; made_inline == two(2, 3) && made_boxed.as_slice() == [2, 3].as_slice());
+    Ok(())
 }
 
 /// The array of these two items.

@@ -24,8 +24,26 @@ fn written() -> (Option<u32>, usize) {
     (items.next(), items.len())
 }
 
+/// What is known of an iterator behind the first of three: how many are left, told three ways, and the last.
+fn known_behind_the_first() -> ((usize, Option<usize>), usize, usize, Option<u32>) {
+    let mut items = from_one::<U3>().into_iter();
+    let _ = items.next();
+    let mut others = from_one::<U3>().into_iter();
+    let _ = others.next();
+    (items.size_hint(), items.len(), items.count(), others.last())
+}
+
+/// What a step far past either end gives, and how many items are left then.
+fn past_the_ends() -> [(Option<u32>, usize); 2] {
+    let (mut items, mut others) = (from_one::<U3>().into_iter(), from_one::<U3>().into_iter());
+    let (back, front) = (items.nth_back(3), others.nth(usize::MAX));
+    [(back, items.len()), (front, others.len())]
+}
+
 #[test]
 fn steps_from_both_ends_meet_inline(rt: HostRuntime) {
+    assert!(rt; known_behind_the_first() == ((2, Some(2)), 2, 2, Some(3)));
+    assert!(rt; past_the_ends() == [(None, 0), (None, 0)]);
     assert!(rt; steps() == ([Some(5), Some(2), Some(4), None, None], 34));
     assert!(rt; written() == (Some(9), 2));
     assert!(rt; from_one::<U3>().into_iter().fold(0, next_digit) == 123);
