@@ -39,19 +39,19 @@ unfolding encode_with
 encode_with-append t [] others = refl
 encode_with-append t (b ∷ rest) others = rw (encode_with-append t rest others) refl
 
--- what is taken of two lists is taken of the first as far as that goes
-take-append_min : (count n : ℕ) (xs ys : List ℕ) → n ≡ min count (length xs)
-    → take count (xs ++ ys) ≡ take n xs ++ take (count - n) ys
-take-append_min count n xs ys is =
+-- what is taken of two lists is taken of the first as far as that goes, and then of the second
+take-append : (count : ℕ) (xs ys : List ℕ) → take count (xs ++ ys) ≡ take count xs
+    ++ take (count - length (take count xs)) ys
+take-append count xs ys =
+    let taken = length-take count xs in
     elim (cases_lt count (length xs)) [
       | inl short ↦
-          let all : n ≡ count = omega arith in
-          let none : count - count ≡ 0 = omega arith in
-          rw (all, none, take-append-le count xs ys (omega arith)) (sym (append-nil (take count xs)))
+          let none : count - length (take count xs) ≡ 0 = omega (arith, taken) in
+          rw (none, take-append-le count xs ys (omega arith)) (sym (append-nil (take count xs)))
       | inr long ↦
-          let more : count ≡ length xs + (count - n) = omega arith in
-          ap (λ k. take k (xs ++ ys)) more
-          ∙ (take-append-add xs ys (count - n) ∙ ap (λ l. l ++ take (count - n) ys) (sym (take_all n xs (omega arith))))
+          let all : take count xs ≡ xs = take_all count xs (omega arith) in
+          let more : count ≡ length xs + (count - length xs) = omega arith in
+          rw all (ap (λ n. take n (xs ++ ys)) more ∙ take-append-add xs ys (count - length xs))
     ]
 
 -- a text whose bytes pass the test is ASCII
@@ -64,10 +64,6 @@ IsAscii-table : (upper : Bool) → IsAscii (if upper then upper_digits else lowe
 IsAscii-table true = IsAscii-from_test upper_digits refl
 IsAscii-table false = IsAscii-from_test lower_digits refl
 
--- a piece of half as many bytes as there is room for digits has room for its digits
-pub piece-room : (piece left room : ℕ) → piece ≡ min left (room / 2) → (taken : ℕ) → taken ≡ piece → 2 * taken ≤ room
-piece-room piece left room half taken same = omega arith
-
 module _ (upper : Bool) where
   -- two digits for each byte
   pub length-hex_digits : (bytes : List ℕ) → length (hex_digits upper bytes) ≡ 2 * length bytes
@@ -77,46 +73,39 @@ module _ (upper : Bool) where
   pub IsUtf8-hex_digits : (n : ℕ) (bytes : List ℕ) → IsUtf8 (take n (hex_digits upper bytes))
   IsUtf8-hex_digits n bytes = IsUtf8-from_ascii _ (IsAscii-take _ n (IsAscii-encode_with _ bytes (IsAscii-table upper)))
 
-  -- bytes in two parts, the digits of the first, and how many of them are to be written
-  module _ (count n : ℕ) (bytes piece behind text : List ℕ) (parts : bytes ≡ piece ++ behind)
-      (digits : text ≡ hex_digits upper piece) (few : n ≡ min count (length text)) where
-    all-digits : hex_digits upper bytes ≡ text ++ hex_digits upper behind
-    all-digits = ap (hex_digits upper) parts
-        ∙ (encode_with-append _ piece behind ∙ ap (λ front. front ++ hex_digits upper behind) (sym digits))
+  -- bytes in two parts, and the text of the first: of so many digits, as many as it has
+  module _ (count : ℕ) (left piece behind text : List ℕ) (parts : left ≡ piece ++ behind)
+      (is : text ≡ take count (hex_digits upper piece)) where
+    text-long : length text ≡ min count (2 * length piece)
+    text-long = omega (
+      arith,
+      ap length is,
+      length-take count (hex_digits upper piece),
+      length-hex_digits piece,
+    )
 
-    -- so many of the digits, whatever stands behind those of the first part, are the first of all
-    pub piece-digits : (others : List ℕ) → take n (text ++ others) ≡ take n (hex_digits upper bytes)
-    piece-digits others =
-        take-append-le n text others (omega arith)
-        ∙ (sym (take-append-le n text (hex_digits upper behind) (omega arith)) ∙ ap (take n) (sym all-digits))
+    -- what was written and what was to be written of all are that, the text, and the others of the second part
+    pub piece-next : (whole done : List ℕ) → whole ≡ done ++ take count (hex_digits upper left)
+        → whole ≡ (done ++ text) ++ take (count - length text) (hex_digits upper behind)
+    piece-next whole done told =
+        let all = ap (hex_digits upper) parts ∙ encode_with-append _ piece behind in
+        let cut = ap (take count) all ∙ take-append count (hex_digits upper piece) (hex_digits upper behind) in
+        let front = ap (λ t. t ++ take (count - length t) (hex_digits upper behind)) (sym is) in
+        told ∙ (ap (λ l. done ++ l) (cut ∙ front) ∙ sym (append_assoc done text _))
 
-    -- what is to be written of all is these and, of the second part, the others
-    pub piece-rest : take count (hex_digits upper bytes) ≡ take n (hex_digits upper bytes)
-        ++ take (count - n) (hex_digits upper behind)
-    piece-rest =
-        ap (take count) all-digits
-        ∙ (take-append_min count n text (hex_digits upper behind) few
-        ∙ ap (λ front. front ++ take (count - n) (hex_digits upper behind))
-        (sym (take-append-le n text (hex_digits upper behind) (omega arith)) ∙ ap (take n) (sym all-digits)))
+    -- the text has a digit where there are bytes and room for two digits
+    pub piece-some : (cut room : ℕ) → 0 < count → count ≤ 2 * length left → 2 ≤ room
+        → cut ≡ min (length left) (room / 2) → length piece ≡ cut → 0 < length text
+    piece-some cut room some enough wide half long = omega (arith, text-long)
 
-    -- they lie within the text and what stands behind it
-    pub piece-within : (others : List ℕ) → n ≤ length (text ++ others)
-    piece-within others = omega (arith, length-append text others)
+    -- and the second part has as many as are left
+    pub piece-left : count ≤ 2 * length left → count - length text ≤ 2 * length behind
+    piece-left enough = omega (arith, text-long, ap length parts, length-append piece behind)
 
-    -- there is one where there are bytes and room for two digits
-    pub piece-some : (cut room : ℕ) → 0 < count → count ≤ 2 * length bytes → 2 ≤ room
-        → cut ≡ min (length bytes) (room / 2) → length piece ≡ cut → 0 < n
-    piece-some cut room some enough wide half long = omega (arith, ap length digits, length-hex_digits piece)
-
-    -- and the second part has as many
-    pub piece-left : count ≤ 2 * length bytes → count - n ≤ 2 * length behind
-    piece-left enough =
-        omega (arith, ap length parts, length-append piece behind, ap length digits, length-hex_digits piece)
-
-  -- where digits are to be written, the text isn't empty
-  pub some-text : (whole done bytes : List ℕ) (count : ℕ) → whole ≡ done ++ take count (hex_digits upper bytes)
-      → 0 < count → count ≤ 2 * length bytes → whole ≡ [] → ⊥
-  some-text whole done bytes count told some enough none = omega (
+  -- where the text is empty, no digits are left to write
+  pub no-digits : (whole done bytes : List ℕ) (count : ℕ) → whole ≡ done ++ take count (hex_digits upper bytes)
+      → count ≤ 2 * length bytes → whole ≡ [] → count ≡ 0
+  no-digits whole done bytes count told enough none = omega (
     arith,
     ap length (sym none ∙ told),
     length-append done (take count (hex_digits upper bytes)),
@@ -139,9 +128,3 @@ module _ (upper : Bool) where
         ],
         omega arith,
       )
-
--- the whole text is what was written, this piece of what was to be written and the rest of that
-pub text-next : (whole done left piece front rest : List ℕ) → whole ≡ done ++ left → left ≡ front ++ rest
-    → piece ≡ front → whole ≡ (done ++ piece) ++ rest
-text-next whole done left piece front rest told parts same =
-    told ∙ (ap (λ l. done ++ l) (parts ∙ ap (λ l. l ++ rest) (sym same)) ∙ sym (append_assoc done piece rest))

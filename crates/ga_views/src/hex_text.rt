@@ -96,11 +96,12 @@ fn write_pieces<const SIZE: usize, W: Write>(
     let mut count = count_digits(bytes, limit);
     let mut left = bytes;
     while count > 0 {
-        let (written, behind) = put_piece(left, upper, count, &mut digits);
-        if let Err(error) = w.write_all(&digits[..written]) {
+        let (piece, behind) = left.split_at(left.len().min(SIZE / 2));
+        let text = put_piece(piece, upper, count, &mut digits);
+        if let Err(error) = w.write_all(text) {
             return Err(error);
         }
-        count -= written;
+        count -= text.len();
         left = behind;
     }
     Ok(())
@@ -113,21 +114,23 @@ fn show_pieces<W: fmt::Write>(
     limit: Option<usize>,
     f: &mut fmt::Formatter<W>,
 ) -> fmt::Result
-    ensures { WritesStyledOnOk W.write_str_gives f.old result
+    ensures text { WritesStyledOnOk W.write_str_gives f.old result
         (hex_text upper limit bytes.now) f.new }
+    ensures empty { hex_text upper limit bytes.now ≡ [] → IsOk result }
 {
     let mut digits = [0; SHORT_TEXT];
     let mut count = count_digits(bytes, limit);
     let mut left = bytes;
     while count > 0 {
-        let (shown, behind) = put_piece(left, upper, count, &mut digits);
-        let Ok(text) = str::from_utf8(&digits[..shown]) else {
+        let (piece, behind) = left.split_at(left.len().min(SHORT_TEXT / 2));
+        let text = put_piece(piece, upper, count, &mut digits);
+        let Ok(shown) = str::from_utf8(text) else {
             unreachable!();
         };
-        if let Err(error) = f.write_str(text) {
+        if let Err(error) = f.write_str(shown) {
             return Err(error);
         }
-        count -= shown;
+        count -= text.len();
         left = behind;
     }
     Ok(())
@@ -146,26 +149,16 @@ fn count_digits(bytes: &[u8], limit: Option<usize>) -> usize
     }
 }
 
-// Puts the first digits of the bytes that are left into a buffer: as many as it holds, and no more than
-// `count`. Returns how many are to be written, and the bytes behind.
+// Puts the digits of a piece into the buffer, and returns the first `count` of them, or all if they are
+// fewer.
 #[inline(always)]
-fn put_piece<'a>(left: &'a [u8], upper: bool, count: usize, digits: &mut [u8]) -> (usize, &'a [u8])
-    requires some { 0 < count }
-    requires enough { count ≤ 2 * length left.now }
-    requires room { 2 ≤ length digits.old }
-    ensures digits { take result.0 digits.new ≡ take result.0 (hex_digits upper left.now) }
-    ensures rest { take count (hex_digits upper left.now) ≡ take result.0 (hex_digits upper left.now)
-        ++ take (count - result.0) (hex_digits upper result.1.now) }
-    ensures within { result.0 ≤ length digits.new }
-    ensures some { 0 < result.0 }
-    ensures few { result.0 ≤ count }
-    ensures left { count - result.0 ≤ 2 * length result.1.now }
+fn put_piece<'a>(piece: &[u8], upper: bool, count: usize, digits: &'a mut [u8]) -> &'a [u8]
+    requires { 2 * length piece.now ≤ length digits.old }
+    ensures { result.now ≡ take count (hex_digits upper piece.now) }
 {
-    let (piece, behind) = left.split_at(left.len().min(digits.len() / 2));
     let text = &mut digits[..2 * piece.len()];
     put_digits(piece, upper, text);
-    let written = count.min(text.len());
-    (written, behind)
+    &text[..count.min(text.len())]
 }
 
 // Puts the digits of the bytes over a text of twice their length.

@@ -11,7 +11,7 @@ ghost use Rattle.std.specs.Prelude.{◌≡◌, ℕ, ◌*◌, ◌<◌, IfOk, List
 
 use crate::{arr, box_arr};
 use ga_boxed::BoxedArray;
-use ga_core::{AllocError, ArrayLength, GenericArray, U3, Unsigned};
+use ga_core::{AllocError, ArrayLength, GenericArray, U1, U2, U3, Unsigned};
 use std::alloc::Global;
 
 // What was put at an end is what is taken from there, and the other items are as they were. What was taken and
@@ -68,6 +68,12 @@ fn arr_of_items<T: Default + Drop>(first: T, second: T, third: T) -> GenericArra
     arr![first, second, third]
 }
 
+fn arr_of_two_items<T: Default + Drop>(first: T, second: T) -> GenericArray<T, U2>
+    ensures { result ≡ first ∷ second ∷ [] }
+{
+    arr![first, second]
+}
+
 // Of items of a named type: of an open one the checker asks that the native array behind the macro fits in
 // memory.
 fn box_arr_of_items(
@@ -79,6 +85,16 @@ fn box_arr_of_items(
     ensures { IfOk result (λ boxed. boxed ≡ first ∷ second ∷ third ∷ []) }
 {
     box_arr!(alloc, [first, second, third])
+}
+
+fn box_arr_of_two_items(
+    alloc: Global,
+    first: u64,
+    second: u64,
+) -> Result<BoxedArray<u64, U2>, AllocError>
+    ensures { IfOk result (λ boxed. boxed ≡ first ∷ second ∷ []) }
+{
+    box_arr!(alloc, [first, second])
 }
 
 // There are as many copies as the length says.
@@ -103,6 +119,12 @@ fn arr_of_a_number<T: Copy + Default + Drop>(item: T) -> GenericArray<T, U3>
     ensures { result ≡ replicate 3 item }
 {
     arr![item; 3]
+}
+
+fn arr_of_one_copy<T: Copy + Default + Drop>(item: T) -> GenericArray<T, U1>
+    ensures { result ≡ item ∷ [] }
+{
+    arr![item; 1]
 }
 
 fn box_arr_of_a_number<T: Copy>(alloc: Global, item: T) -> Result<BoxedArray<T, U3>, AllocError>

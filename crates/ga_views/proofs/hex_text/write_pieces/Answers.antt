@@ -1,33 +1,36 @@
-use Rattle.ga_views.proofs.HexLemmas.{some-text, text-next}
+use Rattle.ga_views.proofs.HexLemmas.{no-digits, piece-left, piece-next, piece-some}
 use Rattle.ga_views.proofs.hex_text.write_pieces.Goals as goal
-use Rattle.std.proofs.Common.{[], take, ◌++◌}
-use Rattle.std.proofs.KnownBytes.{Appends-nil, Appends-trans}
-
--- at the start all of the text is to be written
-pub loop-count-init : goal.loop-count-init
-loop-count-init g c = record {
-  text = ([], Appends-nil _, c.count_digits-count.ensures.text c.args.upper);
-  count = c.count_digits-count.ensures.few;
-}
+use Rattle.std.proofs.Common.{◌++◌, arith}
+use Rattle.std.proofs.KnownBytes.{Appends-trans}
 
 -- a writer fails only where there are digits to write
 pub returns-in-Err-clause-empty : goal.returns-in-Err-clause-empty
-returns-in-Err-clause-empty g c none = absurd (some-text c.args.upper _ _ c.loop-count.left.now _
-    c.loop-count.invariant.text.2 c.loop-count-test.true c.loop-count.invariant.count none)
+returns-in-Err-clause-empty g c none =
+    let zero = no-digits c.args.upper _ _ c.loop-count.left.now _ c.loop-count.invariant.text.2
+    c.loop-count.invariant.count none in
+    absurd (omega (arith, zero, c.loop-count-test.true))
+
+pub loop-count-smaller : goal.loop-count-smaller
+loop-count-smaller g c =
+    let parts = c.split_at.ensures.by_index.0 in
+    let some = piece-some c.args.upper _ _ _ _ _ parts c.put_piece-text.ensures _ _ c.loop-count-test.true
+    c.loop-count.invariant.count c.requires.some c.min.ensures c.split_at.ensures.front_len in
+    omega (arith, some)
 
 -- one piece more is written
 pub loop-count-preserved : goal.loop-count-preserved
 loop-count-preserved g c =
     let contents = g.W.Write.contents in
     let so_far = c.loop-count.invariant.text in
-    let put = c.put_piece-written in
-    let written = take put.result.0 put.new.digits in
+    let parts = c.split_at.ensures.by_index.0 in
+    let is = c.put_piece-text.ensures in
+    let text = c.put_piece-text.result.now in
     record {
       text = (
-        so_far.0 ++ written,
+        so_far.0 ++ text,
         Appends-trans (contents c.args.w.now) (contents c.loop-count.w)
-            (contents c.write_all.new.self) so_far.0 written so_far.1 c.in_default.ensures.bytes,
-        text-next _ so_far.0 _ written _ _ so_far.2 put.ensures.rest put.ensures.digits,
+            (contents c.write_all.new.self) so_far.0 text so_far.1 c.in_default.ensures.bytes,
+        piece-next c.args.upper _ _ _ _ _ parts is _ so_far.0 so_far.2,
       );
-      count = put.ensures.left;
+      count = piece-left c.args.upper _ _ _ _ _ parts is c.loop-count.invariant.count;
     }
