@@ -1,5 +1,5 @@
-//! Stream ciphers with lengths that are types, as a user of `generic_array` builds them: by the
-//! library's public names and contracts alone.
+//! Ciphers with lengths that are types, as a user of `generic_array` builds them: by the library's
+//! public names and contracts alone.
 #![tactic(auto)]
 
 /// Block ciphers: their trait.
