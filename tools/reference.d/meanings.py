@@ -51,9 +51,11 @@ def base_name(bound):
 
 
 def header(impl):
-    """What an impl is of, without its parameters and conditions: a type, or a trait for a type."""
-    behind = generics(impl.head)[1] if impl.head.startswith("impl<") else impl.head[5:]
-    return behind.split("where")[0].strip()
+    """What an impl is of, on one line, without its parameters and conditions: a type, or a trait
+    for a type."""
+    head = impl.head[impl.head.index("impl"):]
+    behind = generics(head)[1] if head.startswith("impl<") else head[5:]
+    return " ".join(re.split(r"\bwhere\b", behind)[0].split())
 
 
 class Scope:
