@@ -341,9 +341,13 @@ class Site:
             return f"{owner.name}::{item.name}"
         return item.name or item.head.split("\n")[0]
 
+    def said(self, item):
+        """What is said of an item or a definition in a line, if anything is."""
+        said = self.notation.get(item.name.strip("◌")) or item.notes
+        return " ".join((said or item.docs.partition("\n\n")[0]).split())
+
     def line(self, item):
         """The line that an item or a definition is told by: its notes or docs, or else its type."""
-        said = self.notation.get(item.name.strip("◌")) or item.notes
-        said = " ".join((said or item.docs.partition("\n\n")[0]).split())
+        said = self.said(item)
         first = re.sub(r"^((abbrev|unfoldable|pub|ghost) )*", "", item.head.split("\n")[0])
         return said or first or item.module
