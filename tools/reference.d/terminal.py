@@ -11,8 +11,9 @@ from items import Items
 from layout import indented, laid_out, one_line, prose
 from lookup import impl_of, parts_of
 from meanings import header
+from promise import TITLE, carriers
 from rust import names_in
-from text import first_sentence
+from text import BOLD, FAINT, first_sentence
 
 MOST_OTHERS, MOST_HERE = 8, 6
 
@@ -56,6 +57,18 @@ class Answers(Items):
         more = len(names) - MOST_OTHERS
         told = [*list(names)[:MOST_OTHERS], *([f"and {more} more"] if more > 0 else ())]
         return self.part(told, "Called so too")
+
+    def promise(self):
+        """What the library promises: each sentence, with the clauses of those that carry it."""
+        lines = self.said(TITLE)
+        for sentence, items in carriers(self.names):
+            lines += [self.paint(sentence, BOLD), ""]
+            for item in filter(None, items):
+                words = self.cited([item])[0].values()
+                place = self.paint(self.names.place(item), FAINT)
+                lines += [f"    {self.names.full_name(item)}  {place}",
+                          *indented(self.clauses(item.clauses, words))]
+        return lines
 
     def asked(self, name, asked):
         """All that is shown for a name."""
@@ -101,6 +114,11 @@ def unknown(names, name):
 def text_for(names):
     """What shows names as wide as the terminal."""
     return Answers(names, shutil.get_terminal_size().columns, coloured())
+
+
+def show_promise(names):
+    """Shows what the library promises."""
+    printed("\n".join(text_for(names).promise()).rstrip("\n"))
 
 
 def show(names, name):
