@@ -1,5 +1,5 @@
-"""Tells what stands beside an item: the conditions of each kind, the clause to use, the imports that
-its clauses need, and whose name a name is where two are in scope."""
+"""Tells what stands beside an item: the conditions of each kind, the clause to use, the imports
+that its clauses need, and whose name a name is where two are in scope."""
 import re
 
 from layout import one_line
@@ -7,6 +7,8 @@ from meanings import Scope, base_name, header
 from sources import imports_of
 from std_words import modules_of
 
+# The kinds of sequences, in their order.
+KINDS = ("GenericArray", "&'a GenericArray", "BoxedArray", "GenericArrayRef")
 # Which of several clauses a caller uses, by the names that stand together; the first that fit.
 ADVICE = (
     ({"run", "acts"}, "`acts` for a closure that leaves its state as it is, `run` for any other."),
@@ -16,8 +18,8 @@ ADVICE = (
                        "`fill`."),
     ({"taken", "runs"}, "`runs` for an iterator made of std's adapters, and for all that is known "
                         "`taken`."),
-    ({"runs", "runs_back"}, "`runs` for a walk from the front, `runs_back` from the back, `rows` or "
-                            "`records` from both."),
+    ({"runs", "runs_back"}, "`runs` for a walk from the front, `runs_back` from the back, and for "
+                            "one from both ends the first."),
 )
 
 
@@ -33,6 +35,11 @@ def printed(site, item):
     members = [member for other in of for impl in other.blocks if impl.of_trait == "Display"
                for member in impl.of_kind("fn") if impl.of_kind("ghost")]
     return site.full_name(members[0]) if members else ""
+
+
+def kind_of(head):
+    """Where the kind of an impl's type stands among the kinds."""
+    return next((at for at, kind in enumerate(KINDS) if f" for {kind}<" in head), len(KINDS))
 
 
 def kinds(site, item):
@@ -53,8 +60,8 @@ def kinds(site, item):
             key = tuple(" ".join(ghost.head.split()) for ghost in ghosts)
             if ghosts:
                 found.setdefault(key, (ghosts, []))[1].append(one_line(header(impl)))
-    inline_first = sorted(found.values(), key=lambda kind: " for BoxedArray" in kind[1][0])
-    return [(heads, ghosts) for ghosts, heads in inline_first]
+    kinds = [(sorted(heads, key=kind_of), ghosts) for ghosts, heads in found.values()]
+    return sorted(kinds, key=lambda kind: kind_of(kind[0][0]))
 
 
 def imports(site, items):

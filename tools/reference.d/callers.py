@@ -15,6 +15,8 @@ BEFORE = re.compile(r"(?P<dot>\.)\s*$|(?P<path>\w+)(?:::<[^()]*>|<[^()]*>)?::$")
 # What a method is called on: a name, or what another call made.
 NAMED = re.compile(r"(?<![.\w])(?P<name>\w+)\s*$")
 MADE = re.compile(r"(?P<name>\w+)(?:::<[^()]*>)?\((?:[^()]|\([^()]*\))*\)\??\s*$")
+# How a caller is called that shows what happens where there is nothing.
+EMPTY = re.compile(r"no_|none|nothing")
 # What stands in front of a type's name, and what a call with `?` takes off.
 BORROWED, WRAPPED = re.compile(r"&?(?:'\w+ )?(?:mut )?"), re.compile(r"(?:Result|Option)<")
 
@@ -37,17 +39,20 @@ class Callers:
 
     @functools.cached_property
     def functions(self):
-        """The functions of the examples that aren't tests: first those that the documents show, then
-        those with clauses, those of any length or type, and the shorter ones."""
+        """The functions of the examples that aren't tests: first those that the documents show,
+        then those with clauses, those that aren't about nothing, those of any length or type, and
+        the shorter ones."""
         shown = "".join(file.read_text("utf-8") for file in (self.site.top / "docs").glob("*.md"))
         shown, found = set(re.findall(r"\bfn (\w+)", shown)), []
         for file in sorted((self.site.top / "crates").glob(f"{EXAMPLES}/src/**/*.rt")):
             text = file.read_text("utf-8")
             place = file.relative_to(self.site.top / "crates").with_suffix("")
             place = "/".join(part for part in place.parts if part != "src")
-            items = [item for item in items_of(text, file) if item.kind == "fn"]
-            found += [Function(place, item, text) for item in items if "test" not in item.attributes]
+            items = [item for item in items_of(text, file)
+                     if item.kind == "fn" and "test" not in item.attributes]
+            found += [Function(place, item, text) for item in items]
         return sorted(found, key=lambda each: (each.name not in shown, not each.has_clauses,
+                                               bool(EMPTY.match(each.name)),
                                                not any(each.bounds.values()), len(each.body)))
 
     @functools.cached_property
@@ -61,7 +66,8 @@ class Callers:
 
     def owners(self, type_name, function):
         """The names of the type and the traits that a name of a type stands for in a function."""
-        names, left = {type_name}, [base_name(bound) for bound in function.bounds.get(type_name, [])]
+        names = {type_name}
+        left = [base_name(bound) for bound in function.bounds.get(type_name, [])]
         for item in self.site.by_name.get(type_name, []):
             names |= {impl.of_trait for impl in item.blocks if impl.of_trait}
         while left:
@@ -77,7 +83,7 @@ class Callers:
                    for impl in item.blocks if not impl.of_trait for member in impl.members)
 
     def returned(self, item):
-        """The name of the type that a function returns, of a `Result` or an `Option` that inside."""
+        """The name of the type that a function returns: of a `Result` or an `Option`, inside."""
         told = WRAPPED.sub("", item.head.rpartition("->")[2].strip())
         own = item.owner.of if item.owner.kind == "impl" else item.owner
         return own.name if re.match(r"Self\b(?!::)", told) else base_name(told)
@@ -118,6 +124,8 @@ class Callers:
     @functools.lru_cache(None)
     def of(self, item):
         """A caller of an item, or None."""
+        if item.kind not in ("fn", "macro"):
+            return None
         mark = "!" if item.kind == "macro" else r"(?:::<[^()]*>)?\("
         calls = re.compile(rf"\b{re.escape(item.name)}{mark}")
         for function in self.functions:

@@ -42,8 +42,8 @@ def unread(site):
 
 
 def unplaced(site):
-    """Compares the impls that were read with a plain count of a file's text, and looks for the place
-    of each that is of a public type or trait."""
+    """Compares the impls that were read with a plain count of a file's text, and looks for the
+    place of each that is of a public type or trait."""
     placed, read = set(site.impls), collections.Counter(
         item.file for item in site.items if item.kind == "impl")
     files = [file for crate in site.crates for file in sources(site, crate)]

@@ -1,5 +1,5 @@
-"""Checks that names lead where they should: those of the Rust crate to what stands here, and ours to
-the document that lists them."""
+"""Checks that names lead where they should: those of the Rust crate to what stands here, and ours
+to the document that lists them."""
 import pathlib
 import re
 
@@ -57,10 +57,11 @@ def public_names(site):
 
 
 def unnamed(site):
-    """Looks for each public item in the documents that list them. A length is listed with others."""
+    """Looks for each public item in the documents that list them. Lengths are listed together."""
     listed, endings = listed_names(site.top)
     for item in public_names(site):
         name = item.name
         by_rule = name.endswith(endings) or re.fullmatch(r"U\d+", name) or site.is_law(item)
         place = f"{item.file.relative_to(site.top)}:{item.line}"
-        yield None if by_rule or name in listed else f"{place}: no document lists {site.full_name(item)}"
+        wrong = f"{place}: no document lists {site.full_name(item)}"
+        yield None if by_rule or name in listed else wrong

@@ -3,7 +3,7 @@ import re
 
 from layout import indented, laid_out, one_line, prose
 from lookup import impl_of
-from meanings import WITH_A_PAGE, base_name, header
+from meanings import WITH_A_PAGE, base_name, declared, header
 from std_words import modules_of
 from text import Text, first_sentence
 
@@ -73,7 +73,9 @@ class Items(Text):
             calls += [call for call in self.names.named([owner, name]) if call.clauses]
         for call in calls:
             cited = self.cited([call])[0].values()
-            lines += self.clauses(call.clauses, cited, f"Known, by {self.site.full_name(call)}")
+            _, passed = declared(call.head)
+            told = f"Known, by {self.site.full_name(call)}({', '.join(passed)})"
+            lines += self.clauses(call.clauses, cited, told)
         return [*lines, *self.words(self.cited(calls)), *self.imports(calls), *self.beside(item)]
 
     def type(self, item):
@@ -123,8 +125,8 @@ class Items(Text):
         told = (f"In `crates.txt`: `yours: {crate}` to name it and to cite what `{crate}` says of "
                 f"it; `yours: {crate} {library}` to import from `{library}` itself, as a trait of "
                 "it or a word of its specs.")
-        passed = re.findall(rf"(?m)^pub use Rattle\.{library}\.specs\.(\w+)$",
-                            (self.site.top / "crates" / crate / "specs/Lib.antt").read_text("utf-8"))
+        specs = (self.site.top / "crates" / crate / "specs" / "Lib.antt").read_text("utf-8")
+        passed = re.findall(rf"(?m)^pub use Rattle\.{library}\.specs\.(\w+)$", specs)
         passed = [name for name in passed if name == item.name] or passed
         uses = [f"ghost use Rattle.{crate}.specs.{name}.{{..}};" for name in passed]
         return [*self.call(item), *self.said(told), *self.part(self.painted(uses), "Its words")]

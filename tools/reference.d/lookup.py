@@ -9,8 +9,9 @@ import re
 import rust
 from beside import names_of_two
 from callers import Callers
-from meanings import LIBRARIES, WITH_A_PAGE, base_name, header
-from sources import ANGLE, Item, closing, imports_of
+from meanings import LIBRARIES, header
+from paths import Paths
+from sources import ANGLE, closing, imports_of
 from std_words import StdWords
 
 MOST_NEAR, MOST_ROWS = 8, 4
@@ -18,11 +19,19 @@ MOST_NEAR, MOST_ROWS = 8, 4
 OTHER_NAMES = pathlib.Path(__file__).resolve().parent / "other_names.txt"
 # In which order the members of types stand where several have a name.
 FIRST = ("GenericArray", "BoxedArray", "GenericArrayRef", "GenericArrayMut", "GenericArrayIter")
+# What a name means: the items that come first, the others, and the rows of the documents that tell
+# of it. Where no item comes first, these do.
+Asked = collections.namedtuple("Asked", "first others rows")
 
 
 def is_place(name):
     """Whether a name is that of a file with a line."""
     return bool(re.search(r"\.(rt|antt):\d+$", name))
+
+
+def is_word(name):
+    """Whether a name is that of a word with its module."""
+    return ".specs." in name
 
 
 def parts_of(name):
@@ -35,12 +44,6 @@ def parts_of(name):
         name = name[:at] + name[closing(name, at, ANGLE):]
     name = re.sub(r"[(){}!&\s]", "", name)
     return [part.strip("◌") for part in re.split(r"::|\.", name) if part] or [name]
-
-
-def is_named(path, parts):
-    """Whether a path has the parts of a name in this order, with the last one as its end."""
-    left = iter(path[:-1])
-    return path[-1] == parts[-1] and all(part in left for part in parts[:-1])
 
 
 def impl_of(item):
@@ -64,104 +67,15 @@ def is_of_foreign_type(item):
     return bool(impl_of(item)) and impl_of(item).of.kind == "trait"
 
 
-# What a name means: the items that come first, the others, and the rows of the documents that tell
-# of it. Where no item comes first, these do.
-Asked = collections.namedtuple("Asked", "first others rows")
-
-
-class Names:
-    """The names of all that readers see: each item or definition with the paths that lead to it."""
+class Names(Paths):
+    """What names mean: items and definitions, and what the documents tell."""
 
     def __init__(self, site):
-        self.site, self.paths, self.aliases = site, {}, {}
+        super().__init__(site)
         self.rows, self.std = rust.rows(site.top), StdWords(site.library)
         self.callers, self.twice = Callers(site), names_of_two(site)
         lines = [line.partition("\t") for line in OTHER_NAMES.read_text("utf-8").splitlines()]
         self.other_names = {name: meant for names, _, meant in lines for name in names.split()}
-        for item in site.items:
-            if item.home and item.name:
-                self.add(item, self.path(item), [*site.path(item.module), item.name])
-        for module in [item for item in site.items if item.kind == "mod"]:
-            for name in module.exported:
-                if item := site.item_named(name, module):
-                    self.add(item, [*site.path(module), name])
-        self.note_aliases()
-        for item in list(self.paths):
-            if item.kind in WITH_A_PAGE:
-                self.add_members(item)
-        self.add_foreign_traits()
-        for trait in site.hidden:
-            self.add(trait, self.path(trait))
-        for word in [word for words in self.site.words.values() for word in words]:
-            self.add(word, self.path(word))
-
-    def add(self, item, *paths):
-        """Notes paths that lead to an item."""
-        known = self.paths.setdefault(item, [])
-        for path in paths:
-            plain = [part.strip("◌") for part in path]
-            known += [plain] if plain not in known else []
-
-    def note_aliases(self):
-        """Notes which types have a name of their own: a member of one is found by either name."""
-        for item in list(self.paths):
-            if item.kind == "type" and "=" in item.head:
-                of = self.site.item_named(base_name(item.head.partition("=")[2]), item)
-                if of and of.kind in WITH_A_PAGE:
-                    self.aliases.setdefault(of, []).append(item)
-
-    def add_members(self, item):
-        """Notes the members of a type or a trait, and those of its impls. One of a trait of others is
-        found by that trait too."""
-        owners = (item, *self.aliases.get(item, ()))
-        paths = [path for owner in owners for path in self.paths[owner]]
-        for owner in (item, *item.blocks):
-            foreign = [owner.of_trait] if owner.of_trait and not owner.trait else []
-            for member in self.site.public_members(owner):
-                if member.name:
-                    self.add(member, *([*path, *foreign, member.name] for path in paths))
-
-    def add_foreign_traits(self):
-        """Notes the traits of others that our types have, each with its impls as its blocks."""
-        found = {}
-        for impl in self.site.impls:
-            if impl.of_trait and not self.site.traits(impl.of_trait, impl):
-                found.setdefault(impl.of_trait, []).append(impl)
-        for name, blocks in found.items():
-            imported = [imports_of(use.head).get(name, ("", ""))
-                        for impl in blocks for use in impl.module.of_kind("use")]
-            module, there = next((told for told in imported if told[0]), (name, ""))
-            path = [*module.split("::"), *([there] if there else ())]
-            item = Item("foreign trait", name, f"trait {name}", blocks[0].file, blocks[0].line,
-                        module=blocks[0].module, path=path, blocks=blocks)
-            self.add(item, path)
-
-    def path(self, item):
-        """The path by which an item is told: from the public module that it is found in."""
-        if item.kind == "word":
-            crate, *rest = item.module.removeprefix("Rattle.").split(".")
-            return [crate, "specs", *rest, item.name]
-        if item.kind == "mod":
-            return self.site.path(item)
-        if item.kind == "foreign trait":
-            return item.path
-        owner = item.owner.of if item.owner.kind == "impl" else item.owner
-        home = item.home or item.module
-        outer = self.path(owner) if owner.kind in WITH_A_PAGE else self.site.path(home)
-        return [*outer, item.name]
-
-    def full_name(self, item):
-        """The path of an item as it is written in Rust, or of a definition as in an import."""
-        if item.kind == "word":
-            return f"{item.module.removeprefix('Rattle.').replace('.', '.specs.', 1)}.{item.name}"
-        return "::".join(self.path(item)) + "!" * (item.kind == "macro")
-
-    def place(self, item):
-        """The file and the line of an item."""
-        if not item.file:
-            return "built in"
-        own = item.file.is_relative_to(self.site.top)
-        return f"{item.file.relative_to(self.site.top) if own else item.file}:{item.line}"
 
     def says_nothing_new(self, item):
         """Whether a member of an impl only does what its trait says."""
@@ -173,8 +87,8 @@ class Names:
         return self.path(item)[0] in LIBRARIES or item.kind == "foreign trait"
 
     def rank(self, item):
-        """What an item comes behind: a part of another behind a whole one, and what stands above the
-        library behind the library."""
+        """What an item comes behind: a part of another behind a whole one, and what stands above
+        the library behind the library."""
         in_parts = is_detail(item) and item.owner.kind != "trait"
         return not self.is_of_library(item), in_parts and not self.is_of_library(item), in_parts
 
@@ -188,10 +102,12 @@ class Names:
     def asked(self, name):
         """What a name means, sorted by what a reader most likely means: items of the library, then
         what the documents tell, words of std, and what stands above the library."""
-        items = sorted(self.found(name), key=self.order)
+        items = sorted(self.named(parts_of(name)) if is_word(name) else self.found(name),
+                       key=self.order)
         words = [] if is_place(name) else self.of_std(name)
         other = self.other_name(parts_of(name)[-1])
-        rows = self.rows_of(name) or (self.rows_of(other) if other else [])
+        rows = [] if is_word(name) else self.rows_of(name)
+        rows = rows or (self.rows_of(other) if other else [])
         if other and not items and not rows:
             return self.asked(other)
         near = [word for word in words if word.module in ("std.Prelude", self.module_used(word))]
@@ -217,8 +133,8 @@ class Names:
             ".specs.", ".", 1)
 
     def found(self, name):
-        """The items that a name may mean. A place, as `array.rt:39`, means what begins there. A name
-        that leads nowhere means what has its end as a name."""
+        """The items that a name may mean. A place, as `array.rt:39`, means what begins there. A
+        name that leads nowhere means what has its end as a name."""
         if is_place(name):
             return [item for item in self.paths if f"/{self.place(item)}".endswith(f"/{name}")]
         parts = parts_of(name)
@@ -231,20 +147,6 @@ class Names:
             references = name.startswith("&")
             found = [item for item in found if is_of_reference(item) == references] or found
         return [item for item in found if not is_detail(item)] or found
-
-    @functools.cached_property
-    def by_end(self):
-        """The items by the ends of their paths, each with those paths."""
-        found = {}
-        for item, paths in self.paths.items():
-            for path in paths:
-                found.setdefault(path[-1], {}).setdefault(item, []).append(path)
-        return found
-
-    def named(self, parts):
-        """The items to which a path leads that has these parts."""
-        return [item for item, paths in self.by_end.get(parts[-1], {}).items()
-                if any(is_named(path, parts) for path in paths)]
 
     def inherited(self, parts):
         """The members of traits that a type has by an impl that doesn't write them."""
@@ -274,10 +176,14 @@ class Names:
         return imports_of("\n".join(lines))
 
     def of_std(self, name):
-        """The words of other libraries that have a name: as of where the crates import it, or else of
-        where a crate can."""
+        """The words of other libraries that have a name: as of where the crates import it, or else
+        of where a crate can."""
         *above, last = parts_of(name)
-        if above and ".specs." not in name:
+        if is_word(name):
+            module = f"Rattle.{name.removeprefix('Rattle.').rpartition('.')[0]}"
+            found = self.std.word(module, last)
+            return [self.as_imported(module, found)] if found and found.file else []
+        if above:
             return []
         module, there = self.imported.get(last, ("", ""))
         word = self.site.library.word(module, there) if there else None

@@ -37,7 +37,7 @@ def declared(head):
         bounds.setdefault(name.replace("::", "."), []).extend(parted(told, "+"))
     group = re.match(r"\((.*)\)", behind.split("->")[0].strip(), re.S)
     parameters = parted(group[1] if group else "")
-    return bounds, {re.sub(r"^mut |^&.*", "", part.partition(":")[0]) for part in parameters}
+    return bounds, [re.sub(r"^mut |^&.*", "", part.partition(":")[0]) for part in parameters]
 
 
 def above(trait):
@@ -79,7 +79,7 @@ class Scope:
         lines = [use.head for use in part.of_kind("ghost use")]
         self.imports |= imports_of("\n".join(lines))
         with_fields = part.kind in ("struct", "enum")
-        self.local |= {member.name for member in part.members} if with_fields else parameters
+        self.local |= {member.name for member in part.members} if with_fields else {*parameters}
         if part.kind == "trait":
             self.near |= {member.name: member for member in part.of_kind("ghost")}
         if part.kind in ("trait", "impl"):

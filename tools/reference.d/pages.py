@@ -18,8 +18,8 @@ TEMPLATES = pathlib.Path(__file__).resolve().parent / "pages"
 KEYWORDS = set("pub const fn struct enum trait type impl for where mut dyn final self Self as ref "
                "unsafe macro_rules".split())
 # The pages that stand once, and what they need beside them.
-FILES = ("words/std.html", "words/index.html", "rust.html", "promise.html", "index.html", "names.js",
-         "search.js", "pictures.js", "style.css")
+FILES = ("words/std.html", "words/index.html", "rust.html", "promise.html", "index.html",
+         "names.js", "search.js", "pictures.js", "style.css")
 # A definition that the compiler makes of a type.
 DECLARED = re.compile(
     r"Rattle\.(\w+)\.specs\.(?:declared|contracts)\.(?:.*\.)?(\w+?)(?:\.TheVariants)?$")
@@ -146,8 +146,9 @@ class Pages:
         return next((self.places[full] for full in names if full in self.places), None)
 
     def note_rust(self):
-        """Notes the Rust crate's names at their counterparts, as the documents tell them. Gives those
-        that have another name here, or none: each with its counterpart, if any, and its row."""
+        """Notes the Rust crate's names at their counterparts, as the documents tell them. Gives
+        those that have another name here, or none: each with its counterpart, if any, and what its
+        row says."""
         for row in rust.rows(self.site.top):
             ours = [item for code in row.names_here if (item := self.meant(code, "GenericArray"))]
             called = [item for item in ours if item.kind == "fn"] or ours

@@ -1,8 +1,8 @@
 """Finds proofs and definitions above `ga_views` that name a private field of a view.
 
 Of views that only read, `slice` and `full` are private; of those that write, `slice` is public. No
-type is read here: `slice` and `full` name a field where they stand behind a value, and not where they
-stand behind what has names of its own, as a function's variables or a call's clauses.
+type is read here: `slice` and `full` name a field where they stand behind a value, and not where
+they stand behind what has names of its own, as a function's variables or a call's clauses.
 """
 import functools
 import re
@@ -10,11 +10,12 @@ import re
 from sources import items_of
 
 BASE = "ga_views"
-FIELD = re.compile(r"(?<![\w.])(?P<path>[^\s(){},;.\"]+(?:\.[^\s(){},;.\"]+)*)\.(?P<field>slice|full)"
-                   r"(?!\.\d)(?![\w-])")
-# What has names of its own: a function's variables, what stands in a loop or a branch, the clauses of
-# a call, and the values that a call leaves.
-SCOPE = re.compile(r"(?:[cgl]|args|fn|auto|new|old|entry|ensures|requires|invariant|(?:loop|in)-.*)$")
+NAME = r"[^\s(){},;.\"]+"
+FIELD = re.compile(rf"(?<![\w.])(?P<path>{NAME}(?:\.{NAME})*)\.(?:slice|full)(?!\.\d)(?![\w-])")
+# What has names of its own: a function's variables, what stands in a loop or a branch, the clauses
+# of a call, and the values that a call leaves.
+SCOPE = re.compile(
+    r"(?:[cgl]|args|fn|auto|new|old|entry|ensures|requires|invariant|(?:loop|in)-.*)$")
 LINE = re.compile(r"--.*|^ *(?:pub )?use .*", re.M)
 WRITING = re.compile(r"GenericArrayMut|ViewMut|ChunksMut|ChunksViewMut")
 
@@ -68,6 +69,7 @@ def private_fields(site):
             for file in sorted((crate / folder).rglob("*.antt")):
                 found = list(named(file.read_text("utf-8")))
                 writing = bool(found) and is_of_writing(crate, file)
-                wrong = [f"{file.relative_to(site.top)}:{line}: {field} is a private field of a view"
+                place = file.relative_to(site.top)
+                wrong = [f"{place}:{line}: {field} is a private field of a view"
                          for field, line in found if not writing]
                 yield from wrong or [None]

@@ -16,8 +16,8 @@ FENCED = re.compile(r"(?ms)^```.*?^```$")
 BLOCK = re.compile(r"(?m)(?:^.*\S.*\n?)+")
 RULE = re.compile(r"[-:| ]*---[-:| ]*$")
 # By which trait text prints a value, told by what stands in the braces.
-FORMATS = {"x": "LowerHex", "X": "UpperHex", "?": "Debug"}
-FORMAT = re.compile(r"\{\w*:[^{}]*?([xX?])\}")
+FORMATS = {"x": "LowerHex", "X": "UpperHex", "?": "Debug", "": "Display"}
+FORMAT = re.compile(r"\{\w*(?::[^{}]*?)?([xX?]?)\}")
 
 
 class Row:
@@ -37,7 +37,8 @@ class Row:
     @property
     def is_title(self):
         """Whether the row only begins a module."""
-        return bool(self.section) and self.section == self.theirs and not self.ours + "".join(self.told)
+        begins = bool(self.section) and self.section == self.theirs
+        return begins and not self.ours and not self.told
 
     def mentions(self, parts):
         """Whether what is told has code that ends in a name."""
@@ -50,8 +51,8 @@ class Row:
         return [] if self.left_out else CODE.findall(self.ours or self.theirs)
 
     def fit(self, parts):
-        """How well the row fits a name's parts: 0 where it doesn't, least where one of its names has
-        the last in front, and more for each other that it tells."""
+        """How well the row fits a name's parts: 0 where it doesn't, least where one of its names
+        has the last in front, and more for each other that it tells."""
         last = parts[-1]
         ends = any(name[-1] == last for name in self.names)
         best = 2 * ends or last[:1].isupper() and any(last in name for name in self.names)

@@ -123,12 +123,13 @@ class Text:
         text = [f"ghost use {module}.{{{', '.join(names)}}};" for module, names in lines]
         written = [line for line in text for line in laid_out(line, self.width - 4)]
         lower = {self.site.path(item.module)[0] for item in items if item.module} & {*below}
-        over = [f"A crate over `{name}` alone: from `Rattle.{name}.specs`." for name in sorted(lower)]
+        over = [f"A crate over `{name}` alone: from `Rattle.{name}.specs`."
+                for name in sorted(lower)]
         return self.part([*self.painted(written), *over], "Imports")
 
     def beside(self, item):
-        """A caller of an item, which of its clauses to use, and what tells how its result prints."""
-        caller = self.names.callers.of(item) if item.kind in ("fn", "macro") else None
+        """A caller of an item, which clauses to use, and what tells how its result prints."""
+        caller = self.names.callers.of(item)
         told, printed = beside.advice(item), beside.printed(self.site, item)
         lines = [f"A caller: `{caller.name}` of `{caller.place}`."] if caller else []
         lines += [f"Of the clauses, {told}"] if told else []
