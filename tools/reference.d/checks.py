@@ -6,12 +6,20 @@ Each check gives what it tried, one after the other: what is wrong, or nothing.
 import collections
 import re
 
+from checks_of_names import misled, unnamed
 from examples import missing
 from imports import uses
+from lookup import Names
+from meanings import header
+from private_fields import private_fields
+from promise import unkept
 
 COUNTED = re.compile(
     r"(?m)^ *pub (?:(?:const|unsafe|final) (?=fn|unsafe))*"
     r"(fn|struct|enum|trait|type|const|mod) (\w+)")
+
+
+IMPL = re.compile(r"(?m)^ *(?:unsafe )?impl\b")
 
 
 def sources(site, crates="*"):
@@ -31,6 +39,24 @@ def unread(site):
         yield from (counted & read).total() * [None]
         for kind, name in counted - read:
             yield f"{file.relative_to(site.top)}: {kind} {name} isn't read"
+
+
+def unplaced(site):
+    """Compares the impls that were read with a plain count of a file's text, and looks for the
+    place of each that is of a public type or trait."""
+    placed, read = set(site.impls), collections.Counter(
+        item.file for item in site.items if item.kind == "impl")
+    files = [file for crate in site.crates for file in sources(site, crate)]
+    for file in [file for file in files if not site.is_test(file)]:
+        counted = len(IMPL.findall(file.read_text("utf-8")))
+        wrong = f"{file.relative_to(site.top)}: {read[file]} of {counted} impls are read"
+        yield wrong if counted != read[file] else None
+    for impl in [item for item in site.items if item.kind == "impl"]:
+        shown = any(word in site.by_name for word in re.findall(r"\w+", header(impl)))
+        empty = not impl.of_trait and not site.public_members(impl)
+        place = f"{impl.file.relative_to(site.top)}:{impl.line}"
+        lost = shown and not empty and impl not in placed
+        yield f"{place}: no page has {header(impl)}" if lost else None
 
 
 def undefined(site):
@@ -62,7 +88,10 @@ def unused(site):
 
 def check(site):
     """Prints what is wrong, and tells whether nothing is."""
-    tried = [found for part in (unread, undefined, unwritten, unused) for found in part(site)]
+    of_sites = (unread, unplaced, undefined, unwritten, unused, unnamed, private_fields)
+    names = Names(site)
+    tried = [found for part in of_sites for found in part(site)]
+    tried += [found for part in (misled, unkept) for found in part(names)]
     failures = [found for found in tried if found]
     passed = len(tried) - len(failures)
     print("".join(f"{failure}\n" for failure in failures), end="")

@@ -1,12 +1,27 @@
-"""Finds items and definitions by names as a reader writes them."""
+"""Finds items, definitions and what documents tell, by names as a reader writes them."""
+import collections
 import copy
 import difflib
+import functools
+import pathlib
 import re
 
-from meanings import WITH_A_PAGE, base_name, header
+import rust
+from beside import names_of_two
+from callers import Callers
+from meanings import LIBRARIES, header
+from paths import Paths
 from sources import ANGLE, closing, imports_of
+from std_words import StdWords
 
-MOST_NEAR = 8
+MOST_NEAR, MOST_ROWS = 8, 4
+# The names that are looked up by those of others: of typenum, and of std.
+OTHER_NAMES = pathlib.Path(__file__).resolve().parent / "other_names.txt"
+# In which order the members of types stand where several have a name.
+FIRST = ("GenericArray", "BoxedArray", "GenericArrayRef", "GenericArrayMut", "GenericArrayIter")
+# What a name means: the items that come first, the others, and the rows of the documents that tell
+# of it. Where no item comes first, these do.
+Asked = collections.namedtuple("Asked", "first others rows")
 
 
 def is_place(name):
@@ -14,20 +29,21 @@ def is_place(name):
     return bool(re.search(r"\.(rt|antt):\d+$", name))
 
 
+def is_word(name):
+    """Whether a name is that of a word with its module."""
+    return ".specs." in name
+
+
 def parts_of(name):
     """The parts of a name, without type parameters and brackets: `GenericArray<u8, U4>::split()`
-    has the two that `GenericArray::split` has."""
+    has the two that `GenericArray::split` has. A format has its trait's name."""
+    if sign := rust.FORMAT.fullmatch(name):
+        return [rust.FORMATS[sign[1]]]
     name = name.removeprefix("Rattle.").replace("::<", "<")
     while (at := name.find("<")) > 0 and name.count("<") == name.count(">"):
         name = name[:at] + name[closing(name, at, ANGLE):]
     name = re.sub(r"[(){}!&\s]", "", name)
     return [part.strip("◌") for part in re.split(r"::|\.", name) if part] or [name]
-
-
-def is_named(path, parts):
-    """Whether a path has the parts of a name in this order, with the last one as its end."""
-    left = iter(path[:-1])
-    return path[-1] == parts[-1] and all(part in left for part in parts[:-1])
 
 
 def impl_of(item):
@@ -51,102 +67,135 @@ def is_of_foreign_type(item):
     return bool(impl_of(item)) and impl_of(item).of.kind == "trait"
 
 
-class Names:
-    """The names of all that readers see: each item or definition with the paths that lead to it."""
+class Names(Paths):
+    """What names mean: items and definitions, and what the documents tell."""
 
     def __init__(self, site):
-        self.site, self.paths, self.aliases = site, {}, {}
-        for item in site.items:
-            if item.home and item.name:
-                self.add(item, self.path(item), [*site.path(item.module), item.name])
-        for module in [item for item in site.items if item.kind == "mod"]:
-            for name in module.exported:
-                if item := site.item_named(name, module):
-                    self.add(item, [*site.path(module), name])
-        self.note_aliases()
-        for item in list(self.paths):
-            if item.kind in WITH_A_PAGE:
-                self.add_members(item)
-        for word in [word for words in site.words.values() for word in words]:
-            self.add(word, self.path(word))
-
-    def add(self, item, *paths):
-        """Notes paths that lead to an item."""
-        known = self.paths.setdefault(item, [])
-        for path in paths:
-            plain = [part.strip("◌") for part in path]
-            known += [plain] if plain not in known else []
-
-    def note_aliases(self):
-        """Notes which types have a name of their own: a member of one is found by either name."""
-        for item in list(self.paths):
-            if item.kind == "type" and "=" in item.head:
-                of = self.site.item_named(base_name(item.head.partition("=")[2]), item)
-                if of and of.kind in WITH_A_PAGE:
-                    self.aliases.setdefault(of, []).append(item)
-
-    def add_members(self, item):
-        """Notes the members of a type or a trait, and those of its impls."""
-        owners = (item, *self.aliases.get(item, ()))
-        paths = [path for owner in owners for path in self.paths[owner]]
-        for owner in (item, *item.blocks):
-            for member in self.site.public_members(owner):
-                if member.name:
-                    self.add(member, *([*path, member.name] for path in paths))
-
-    def path(self, item):
-        """The path by which an item is told: from the public module that it is found in."""
-        if item.kind == "word":
-            crate, *rest = item.module.removeprefix("Rattle.").split(".")
-            return [crate, "specs", *rest, item.name]
-        if item.kind == "mod":
-            return self.site.path(item)
-        owner = item.owner.of if item.owner.kind == "impl" else item.owner
-        outer = self.path(owner) if owner.kind in WITH_A_PAGE else self.site.path(item.home)
-        return [*outer, item.name]
-
-    def full_name(self, item):
-        """The path of an item as it is written in Rust, or of a definition as in an import."""
-        if item.kind == "word":
-            return f"{item.module.removeprefix('Rattle.').replace('.', '.specs.', 1)}.{item.name}"
-        return "::".join(self.path(item)) + "!" * (item.kind == "macro")
-
-    def place(self, item):
-        """The file and the line of an item."""
-        own = item.file.is_relative_to(self.site.top)
-        return f"{item.file.relative_to(self.site.top) if own else item.file}:{item.line}"
+        super().__init__(site)
+        self.rows, self.std = rust.rows(site.top), StdWords(site.library)
+        self.callers, self.twice = Callers(site), names_of_two(site)
+        lines = [line.partition("\t") for line in OTHER_NAMES.read_text("utf-8").splitlines()]
+        self.other_names = {name: meant for names, _, meant in lines for name in names.split()}
 
     def says_nothing_new(self, item):
         """Whether a member of an impl only does what its trait says."""
         of_ours = impl_of(item) and impl_of(item).trait
         return bool(of_ours) and not item.clauses and not item.docs
 
+    def is_of_library(self, item):
+        """Whether an item stands in a library of the port, or is a trait that its types have."""
+        return self.path(item)[0] in LIBRARIES or item.kind == "foreign trait"
+
+    def rank(self, item):
+        """What an item comes behind: a part of another behind a whole one, and what stands above
+        the library behind the library."""
+        in_parts = is_detail(item) and item.owner.kind != "trait"
+        return not self.is_of_library(item), in_parts and not self.is_of_library(item), in_parts
+
+    def order(self, item):
+        """Where an item stands among those that a name means."""
+        owner = self.path(item)[-2:][0]
+        of_trait = item.kind == "fn" and item.owner.kind == "trait"
+        place = FIRST.index(owner) if owner in FIRST else len(FIRST)
+        return self.rank(item), item.kind == "word", 0.5 if of_trait else place
+
+    def asked(self, name):
+        """What a name means, sorted by what a reader most likely means: items of the library, then
+        what the documents tell, words of std, and what stands above the library."""
+        items = sorted(self.named(parts_of(name)) if is_word(name) else self.found(name),
+                       key=self.order)
+        words = [] if is_place(name) else self.of_std(name)
+        other = self.other_name(parts_of(name)[-1])
+        rows = [] if is_word(name) else self.rows_of(name)
+        rows = rows or (self.rows_of(other) if other else [])
+        if other and not items and not rows:
+            return self.asked(other)
+        near = [word for word in words if word.module in ("std.Prelude", self.module_used(word))]
+        exact = any(parts_of(name) in row.names for row in rows) and not self.named(parts_of(name))
+        if not items or not self.is_of_library(items[0]) or exact and "::" in name:
+            if rows:
+                return Asked([], [*(item for item in items if not is_detail(item)), *near], rows)
+            if words:
+                return Asked(words, items, rows)
+        first = [item for item in items if self.rank(item) == self.rank(items[0])]
+        traits = [item.owner for item in first if item.kind == "fn"]
+        first = [item for item in first if not impl_of(item) or impl_of(item).trait not in traits]
+        return Asked(first, [item for item in (*items, *near) if item not in first], rows)
+
+    def other_name(self, name):
+        """The name that a name of typenum or of std is looked up by, or nothing."""
+        length = re.fullmatch(r"[UPN]\d+", name)
+        return "typenum" if length else self.other_names.get(name)
+
+    def module_used(self, word):
+        """The module by which the crates import a word of others."""
+        return self.imported.get(word.name, ("",))[0].removeprefix("Rattle.").replace(
+            ".specs.", ".", 1)
+
     def found(self, name):
-        """All that a name may mean. A place, as `array.rt:39`, means what begins there."""
+        """The items that a name may mean. A place, as `array.rt:39`, means what begins there. A
+        name that leads nowhere means what has its end as a name."""
         if is_place(name):
             return [item for item in self.paths if f"/{self.place(item)}".endswith(f"/{name}")]
         parts = parts_of(name)
-        found = [item for item, paths in self.paths.items()
-                 if any(is_named(path, parts) for path in paths)]
-        found = found or self.of_std(name)
+        found = (self.named(parts) or self.inherited(parts)
+                 or len(parts) > 1 and self.named(parts[-1:]) or [])
         found = [item for item in found if not is_of_foreign_type(item)] or found
-        if len(parts) == 1:
+        if len(parts) == 1 or not self.named(parts):
             found = [item for item in found if not self.says_nothing_new(item)] or found
         else:
             references = name.startswith("&")
             found = [item for item in found if is_of_reference(item) == references] or found
         return [item for item in found if not is_detail(item)] or found
 
-    def of_std(self, name):
-        """The word of std that the crates import by a name, if any, as of where they find it."""
-        lines = "\n".join(use.head for use in self.site.items if use.kind == "ghost use")
-        module, there = imports_of(lines).get(name, ("", ""))
-        word = self.site.library.word(module, there) if there else None
-        if not word or not word.file:
+    def inherited(self, parts):
+        """The members of traits that a type has by an impl that doesn't write them."""
+        if len(parts) < 2:
             return []
+        owners = [item for item in self.named(parts[-2:-1]) if item.kind in ("struct", "enum")]
+        traits = [impl.trait for owner in owners for impl in owner.blocks if impl.trait]
+        return [member for trait in dict.fromkeys(traits) for member in trait.of_kind("fn")
+                if member.name == parts[-1]]
+
+    def rows_of(self, name):
+        """The rows of the documents that tell of a name, those first that tell most of it: rows for
+        the name, or else for what it is a part of, or else what names it. A module's row that says
+        nothing stands for the rows below it."""
+        parts = parts_of(name)
+        fits = sorted(((row.fit(parts), row) for row in self.rows), key=lambda fit: -fit[0])
+        rows = [row for fit, row in fits if fit > 1] or [row for fit, row in fits if fit]
+        rows = rows or [row for row in self.rows if row.mentions(parts)]
+        if len(rows) == 1 and rows[0].is_title:
+            rows = [row for row in self.rows if row.section == rows[0].section and row != rows[0]]
+        return rows[:MOST_ROWS]
+
+    @functools.cached_property
+    def imported(self):
+        """The words that the crates import, each with its module and its name there."""
+        lines = [use.head for use in self.site.items if use.kind == "ghost use"]
+        return imports_of("\n".join(lines))
+
+    def of_std(self, name):
+        """The words of other libraries that have a name: as of where the crates import it, or else
+        of where a crate can."""
+        *above, last = parts_of(name)
+        if is_word(name):
+            module = f"Rattle.{name.removeprefix('Rattle.').rpartition('.')[0]}"
+            found = self.std.word(module, last)
+            return [self.as_imported(module, found)] if found and found.file else []
+        if above:
+            return []
+        module, there = self.imported.get(last, ("", ""))
+        word = self.site.library.word(module, there) if there else None
+        own = word and word.file and word.file.is_relative_to(self.site.top)
+        found = [(module, word)] if word and word.file and not own else self.std.found(last)
+        return [self.as_imported(*word) for word in found]
+
+    def as_imported(self, module, word):
+        """A word of std, as of the module that it is imported from."""
         word = copy.copy(word)
         word.module = module.removeprefix("Rattle.").replace(".specs.", ".", 1)
-        return [word]
+        return word
 
     def near(self, name):
         """Names that look like one that nothing has, the likeliest first."""
@@ -154,21 +203,11 @@ class Names:
         wanted, last = "::".join(parts).lower(), parts[-1].lower()
         alike = {}
         for item in self.paths:
-            told = self.site.full_name(item) if len(parts) > 1 else item.name
+            told = self.full_name(item) if item.kind == "foreign trait" else (
+                self.site.full_name(item) if len(parts) > 1 else item.name)
             end = item.name.lower()
             likeness = difflib.SequenceMatcher(None, last, end).ratio()
             if likeness > 0.55 or last in end and len(last) > 2:
                 likeness += difflib.SequenceMatcher(None, wanted, told.lower()).ratio()
                 alike[told] = max(likeness, alike.get(told, 0))
         return sorted(alike, key=lambda told: -alike[told])[:MOST_NEAR]
-
-    def counterpart(self, name):
-        """What SURFACE says of a name of the Rust crate that isn't ours, or nothing."""
-        text = (self.site.top / "docs" / "SURFACE.md").read_text("utf-8")
-        others = text.partition("By another name")[2].partition("## Own items")[0]
-        left_out = text.partition("## Left out")[2]
-        for bullet in re.findall(r"(?m)^- (.*\n(?:  .*\n)*)", others):
-            theirs = re.findall(r"`([^`]+)`", bullet.partition(": ")[0])
-            if any(parts_of(their)[-1:] == parts_of(name)[-1:] for their in theirs):
-                return " ".join(bullet.split())
-        return f"`{name}` is left out." if f"`{parts_of(name)[-1]}`" in left_out else ""

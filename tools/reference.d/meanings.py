@@ -37,7 +37,7 @@ def declared(head):
         bounds.setdefault(name.replace("::", "."), []).extend(parted(told, "+"))
     group = re.match(r"\((.*)\)", behind.split("->")[0].strip(), re.S)
     parameters = parted(group[1] if group else "")
-    return bounds, {re.sub(r"^mut |^&.*", "", part.partition(":")[0]) for part in parameters}
+    return bounds, [re.sub(r"^mut |^&.*", "", part.partition(":")[0]) for part in parameters]
 
 
 def above(trait):
@@ -51,9 +51,11 @@ def base_name(bound):
 
 
 def header(impl):
-    """What an impl is of, without its parameters and conditions: a type, or a trait for a type."""
-    behind = generics(impl.head)[1] if impl.head.startswith("impl<") else impl.head[5:]
-    return behind.split("where")[0].strip()
+    """What an impl is of, on one line, without its parameters and conditions: a type, or a trait
+    for a type."""
+    head = impl.head[impl.head.index("impl"):]
+    behind = generics(head)[1] if head.startswith("impl<") else head[5:]
+    return " ".join(re.split(r"\bwhere\b", behind)[0].split())
 
 
 class Scope:
@@ -77,7 +79,7 @@ class Scope:
         lines = [use.head for use in part.of_kind("ghost use")]
         self.imports |= imports_of("\n".join(lines))
         with_fields = part.kind in ("struct", "enum")
-        self.local |= {member.name for member in part.members} if with_fields else parameters
+        self.local |= {member.name for member in part.members} if with_fields else {*parameters}
         if part.kind == "trait":
             self.near |= {member.name: member for member in part.of_kind("ghost")}
         if part.kind in ("trait", "impl"):
@@ -339,9 +341,13 @@ class Site:
             return f"{owner.name}::{item.name}"
         return item.name or item.head.split("\n")[0]
 
+    def said(self, item):
+        """What is said of an item or a definition in a line, if anything is."""
+        said = self.notation.get(item.name.strip("◌")) or item.notes
+        return " ".join((said or item.docs.partition("\n\n")[0]).split())
+
     def line(self, item):
         """The line that an item or a definition is told by: its notes or docs, or else its type."""
-        said = self.notation.get(item.name.strip("◌")) or item.notes
-        said = " ".join((said or item.docs.partition("\n\n")[0]).split())
+        said = self.said(item)
         first = re.sub(r"^((abbrev|unfoldable|pub|ghost) )*", "", item.head.split("\n")[0])
         return said or first or item.module

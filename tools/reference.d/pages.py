@@ -9,14 +9,17 @@ import markdown
 from jinja2 import Environment, FileSystemLoader, StrictUndefined
 from markupsafe import Markup
 
+import rust
+from lookup import Names
 from meanings import WITH_A_PAGE, Scope
+from promise import TITLE, carriers
 
 TEMPLATES = pathlib.Path(__file__).resolve().parent / "pages"
 KEYWORDS = set("pub const fn struct enum trait type impl for where mut dyn final self Self as ref "
                "unsafe macro_rules".split())
 # The pages that stand once, and what they need beside them.
-FILES = ("words/std.html", "words/index.html", "rust.html", "index.html", "names.js", "search.js",
-         "pictures.js", "style.css")
+FILES = ("words/std.html", "words/index.html", "rust.html", "promise.html", "index.html",
+         "names.js", "search.js", "pictures.js", "style.css")
 # A definition that the compiler makes of a type.
 DECLARED = re.compile(
     r"Rattle\.(\w+)\.specs\.(?:declared|contracts)\.(?:.*\.)?(\w+?)(?:\.TheVariants)?$")
@@ -37,7 +40,10 @@ class Pages:
         self.note_users()
         placed = [item for item in [*self.own_words, *site.shown()] if item.url]
         self.places = {site.full_name(item): item for item in placed}
-        self.rust_names = list(self.surface())
+        self.rust_names = list(self.note_rust())
+        self.rust_text = "\n".join(self.told_of_rust())
+        self.names = Names(site)
+        self.promise, self.promise_title = carriers(self.names), TITLE
         self.templates = Environment(loader=FileSystemLoader(TEMPLATES), trim_blocks=True,
                                      lstrip_blocks=True, undefined=StrictUndefined,
                                      autoescape=lambda name: name.endswith(".html"))
@@ -139,32 +145,27 @@ class Pages:
         names = (*(f"{owner}::{name}" for owner in owners), name)
         return next((self.places[full] for full in names if full in self.places), None)
 
-    def surface(self):
-        """Notes the Rust crate's names at their counterparts, as SURFACE tells them. Gives those
-        that have another name here, or none."""
-        text = (self.site.top / "docs" / "SURFACE.md").read_text("utf-8")
-        self.surface_text = re.sub(r"\[([^\]]*)\]\([^)]*\)", r"\1", text)
-        parts = r"By another name|## Own items(?s:.*)## Left out"
-        same, others, left_out = re.split(parts, self.surface_text)
-        for bullet in re.findall(r"(?m)^- (.*\n(?:  .*\n)*)", same + "\n" + others):
-            yield from self.counterparts(bullet, bullet in same)
-        yield from ((name, None, "left out") for name in re.findall(r"`([^`]+)`", left_out))
+    def note_rust(self):
+        """Notes the Rust crate's names at their counterparts, as the documents tell them. Gives
+        those that have another name here, or none: each with its counterpart, if any, and what its
+        row says."""
+        for row in rust.rows(self.site.top):
+            ours = [item for code in row.names_here if (item := self.meant(code, "GenericArray"))]
+            called = [item for item in ours if item.kind == "fn"] or ours
+            for code in rust.CODE.findall(row.theirs):
+                same = self.meant(code, row.section.strip("`"), "GenericArray")
+                for item in [same] if same and not row.left_out else called:
+                    item.rust.append(code)
+                if not same or same.name != code:
+                    target = None if row.left_out else next(iter(called), None)
+                    yield code, target, " ".join([row.ours, *row.told]).replace("`", "")
 
-    def counterparts(self, bullet, same):
-        """Notes the Rust crate's names of a line of SURFACE at the items that it names. Gives those
-        names that aren't ours."""
-        owner, found, (theirs, _, ours) = "GenericArray", [], bullet.partition(": ")
-        for name in re.findall(r"`([^`]+)`", bullet):
-            item = self.meant(name, owner)
-            owner = item.name if item and item.kind in WITH_A_PAGE else owner
-            found += [item] if item and (same or f"`{name}`" in ours) else []
-        theirs = re.sub(r" (between|of|to) .*", "", theirs, flags=re.S)
-        names = [] if same else re.findall(r"`([^`]+)`", theirs)
-        found = [item for item in found if item.kind == "fn" and names] or found
-        for item in found:
-            item.rust += names or [self.site.full_name(item)]
-        line = " ".join(ours.replace("`", "").split())
-        yield from ((name, found[0] if found else None, line) for name in names)
+    def told_of_rust(self):
+        """The documents that list the Rust crate's names, without their links to files."""
+        for name in ("DIFFERENCES.md", "SURFACE.md"):
+            file = self.site.top / "docs" / name
+            text = file.read_text("utf-8") if file.exists() else ""
+            yield re.sub(r"\[([^\]]*)\]\([^)]*\)", r"\1", text)
 
     def write(self):
         """Writes all pages, and what stands beside them."""

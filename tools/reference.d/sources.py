@@ -38,6 +38,8 @@ START = re.compile(
 USE = re.compile(
     r"(?m)^\s*(?:unfoldable )?(pub )?(?:ghost )?use ([^\s;{]+?)"
     r"(?:(?:\.|::)\{([^}]*)\})?(?: as ([\w-]+))?;?\s*$")
+# What a macro's form becomes: a call of a type's function.
+MADE = re.compile(r"\$crate::(\w+)(?:::<[^;]*>)?::(\w+)\(")
 # A definition with the notes above it and all lines below that are deeper or begin with its name;
 # or the beginning of a module block.
 DEFINED = re.compile(
@@ -111,6 +113,8 @@ def imports_of(text):
         for name in filter(None, map(str.strip, names.split(","))):
             there, _, here = name.partition(" as ")
             found[here or there] = module, there
+        if "self" in names.split(", "):
+            found[re.split("[.:]", module)[-1]] = module, ""
         if not names:
             found[alias or re.split("[.:]", module)[-1]] = module, ""
     return found
@@ -188,7 +192,7 @@ def items_of(text, file, owner=None, at=0, end=None):
         elif kind in ("struct", "enum"):
             item.members = list(fields(body, item, text.count("\n", 0, stop) + 1))
         elif kind == "macro":
-            item.head = macro_head(name, body)
+            item.head, item.made = macro_head(name, body), MADE.findall(body)
         yield item
         above = ABOVE.match(text, at, end)
 

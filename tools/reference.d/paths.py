@@ -1,0 +1,120 @@
+"""The paths by which readers name items and definitions."""
+import functools
+
+from meanings import WITH_A_PAGE, base_name
+from sources import Item, imports_of
+
+
+def is_named(path, parts):
+    """Whether a path has the parts of a name in this order, with the last one as its end."""
+    left = iter(path[:-1])
+    return path[-1] == parts[-1] and all(part in left for part in parts[:-1])
+
+
+class Paths:
+    """All that readers see: each item or definition with the paths that lead to it."""
+
+    def __init__(self, site):
+        self.site, self.paths, self.aliases = site, {}, {}
+        self.add_items()
+        self.note_aliases()
+        for item in list(self.paths):
+            if item.kind in WITH_A_PAGE:
+                self.add_members(item)
+        self.add_foreign_traits()
+        for trait in site.hidden:
+            self.add(trait, self.path(trait))
+        for word in [word for words in site.words.values() for word in words]:
+            self.add(word, self.path(word))
+
+    def add_items(self):
+        """Notes the public items, also by the modules that export them."""
+        for item in self.site.items:
+            if item.home and item.name:
+                self.add(item, self.path(item), [*self.site.path(item.module), item.name])
+        for module in [item for item in self.site.items if item.kind == "mod"]:
+            for name in module.exported:
+                if item := self.site.item_named(name, module):
+                    self.add(item, [*self.site.path(module), name])
+
+    def add(self, item, *paths):
+        """Notes paths that lead to an item."""
+        known = self.paths.setdefault(item, [])
+        for path in paths:
+            plain = [part.strip("◌") for part in path]
+            known += [plain] if plain not in known else []
+
+    def note_aliases(self):
+        """Notes which types have a name of their own: a member of one is found by either name."""
+        for item in list(self.paths):
+            if item.kind == "type" and "=" in item.head:
+                of = self.site.item_named(base_name(item.head.partition("=")[2]), item)
+                if of and of.kind in WITH_A_PAGE:
+                    self.aliases.setdefault(of, []).append(item)
+
+    def add_members(self, item):
+        """Notes the members of a type or a trait, and those of its impls. One of a trait of others
+        is found by that trait too."""
+        owners = (item, *self.aliases.get(item, ()))
+        paths = [path for owner in owners for path in self.paths[owner]]
+        for owner in (item, *item.blocks):
+            foreign = [owner.of_trait] if owner.of_trait and not owner.trait else []
+            for member in self.site.public_members(owner):
+                if member.name:
+                    self.add(member, *([*path, *foreign, member.name] for path in paths))
+
+    def add_foreign_traits(self):
+        """Notes the traits of others that our types have, each with its impls as its blocks."""
+        found = {}
+        for impl in self.site.impls:
+            if impl.of_trait and not self.site.traits(impl.of_trait, impl):
+                found.setdefault(impl.of_trait, []).append(impl)
+        for name, blocks in found.items():
+            imported = [imports_of(use.head).get(name, ("", ""))
+                        for impl in blocks for use in impl.module.of_kind("use")]
+            module, there = next((told for told in imported if told[0]), (name, ""))
+            path = [*module.split("::"), *([there] if there else ())]
+            item = Item("foreign trait", name, f"trait {name}", blocks[0].file, blocks[0].line,
+                        module=blocks[0].module, path=path, blocks=blocks)
+            self.add(item, path)
+
+    def path(self, item):
+        """The path by which an item is told: from the public module that it is found in."""
+        if item.kind == "word":
+            crate, *rest = item.module.removeprefix("Rattle.").split(".")
+            return [crate, "specs", *rest, item.name]
+        if item.kind == "mod":
+            return self.site.path(item)
+        if item.kind == "foreign trait":
+            return item.path
+        owner = item.owner.of if item.owner.kind == "impl" else item.owner
+        home = item.home or item.module
+        outer = self.path(owner) if owner.kind in WITH_A_PAGE else self.site.path(home)
+        return [*outer, item.name]
+
+    def full_name(self, item):
+        """The path of an item as it is written in Rust, or of a definition as in an import."""
+        if item.kind == "word":
+            return f"{item.module.removeprefix('Rattle.').replace('.', '.specs.', 1)}.{item.name}"
+        return "::".join(self.path(item)) + "!" * (item.kind == "macro")
+
+    def place(self, item):
+        """The file and the line of an item."""
+        if not item.file:
+            return "built in"
+        own = item.file.is_relative_to(self.site.top)
+        return f"{item.file.relative_to(self.site.top) if own else item.file}:{item.line}"
+
+    @functools.cached_property
+    def by_end(self):
+        """The items by the ends of their paths, each with those paths."""
+        found = {}
+        for item, paths in self.paths.items():
+            for path in paths:
+                found.setdefault(path[-1], {}).setdefault(item, []).append(path)
+        return found
+
+    def named(self, parts):
+        """The items to which a path leads that has these parts."""
+        return [item for item, paths in self.by_end.get(parts[-1], {}).items()
+                if any(is_named(path, parts) for path in paths)]
