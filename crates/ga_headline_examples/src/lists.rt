@@ -1,6 +1,6 @@
 //! What a sequence shows, of each kind and any length.
 ghost use Rattle.generic_array.specs.Views.{items_of_view};
-ghost use Rattle.std.specs.Prelude.{◌≡◌, length, sum};
+ghost use Rattle.std.specs.Prelude.{◌≡◌, length};
 
 use crate::arrays::boxed_one_two_three;
 use ga_core_examples::numbers::one_two_three;

@@ -2,7 +2,7 @@
 ghost use Rattle.ga_views.specs.HexText.{hex_digits, hex_text};
 ghost use Rattle.std.specs.Fmt.{WritesStyledOnOk, spec_precision};
 ghost use Rattle.std.specs.Io.KnownBytes.{Appends};
-ghost use Rattle.std.specs.Prelude.{◌≡◌, ◌-◌, ◌*◌, ◌<◌, ◌≤◌, ◌++◌, [], Bool, IsOk, OnOk, Some, length, take};
+ghost use Rattle.std.specs.Prelude.{◌≡◌, ◌*◌, ◌≤◌, [], Bool, IsOk, OnOk, Some, length, take};
 
 use hex::encode_to_slice;
 use std::io::Write;
