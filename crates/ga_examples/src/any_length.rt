@@ -28,7 +28,7 @@ use std::test::Fail;
 // A mask over every byte, as a digest makes of a key.
 
 fn masked<N: ArrayLength<u8>>(key: GenericArray<u8, N>) -> GenericArray<u8, N>
-    ensures { result ≡ map (λ b. bit_xor b 54) key }
+    ensures { result ≡ map (λ b. bit_xor b 0x36) key }
 {
     key.map_inline(|b: u8| b ^ 0x36)
 }
@@ -82,9 +82,9 @@ fn masked_and_totalled<
 >(key: S, place: MappedPlace<S, u8, u8>, mask: &mut F) -> Result<u8, MappedError<S, u8, u8>>
     requires fits { S.Mapped.Fits }
     requires callable { MayMap S.entry F.pre F.step mask.old (S.items key) }
-    requires acts { ActsOnEntry S.entry F.step mask.old (λ b. bit_xor b 54) }
+    requires acts { ActsOnEntry S.entry F.step mask.old (λ b. bit_xor b 0x36) }
     ensures { IfOk result (λ total.
-        total ≡ fold (λ total b. (total + b) % 2 ^ 8) 0 (map (λ b. bit_xor b 54) (S.items key))) }
+        total ≡ fold (λ total b. (total + b) % 2 ^ 8) 0 (map (λ b. bit_xor b 0x36) (S.items key))) }
 {
     map_total_by(
         key,

@@ -135,7 +135,7 @@ fn of_bytes<N: ArrayLength<u8>>(bytes: &[u8]) -> Result<GenericArray<u8, N>, Len
 }
 
 fn masked<N: ArrayLength<u8>>(key: GenericArray<u8, N>) -> GenericArray<u8, N>
-    ensures { result ≡ map (λ b. bit_xor b 54) key }
+    ensures { result ≡ map (λ b. bit_xor b 0x36) key }
 {
     key.map_inline(|b: u8| b ^ 0x36)
 }
