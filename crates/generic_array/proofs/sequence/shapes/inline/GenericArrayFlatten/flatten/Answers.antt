@@ -4,6 +4,8 @@ use Rattle.generic_array.specs.Rows.{rows}
 use Rattle.std.proofs.Common.{◌≡◌, ◌*◌, ◌∷◌, [], ◌∙◌, ap, append-nil, append_assoc, arith, length, length-append, map, sym}
 use Rattle.std.proofs.Math.Nat.{suc-mul}
 use Rattle.std.proofs.lemmas.List.Elements.{All-cons, All-nil}
+use Rattle.std.proofs.lemmas.List.Folds.{flat_map-map}
+use Rattle.std.specs.List.{flat_map}
 
 pub loop-row-preserved : goal.loop-row-preserved
 loop-row-preserved g c =
@@ -36,3 +38,9 @@ returns-clause-cut g c = λ some.
     let joined = sym (append-nil c.loop-row.joined) ∙ (rw ended at c.loop-row.invariant.same) in
     ap (rows w) (c.finish.ensures ∙ joined) ∙ rows-of_joined w some (map g.I.AsSlice.items c.args.self)
     (c.loop-row.invariant.wide (rw ended (All-nil (λ r. length r ≡ w))))
+
+pub returns-clause-made : goal.returns-clause-made
+returns-clause-made g c = λ f xs made.
+    let ended : c.loop-row.row-iterator ≡ [] = c.in-None.ensures.steps.0 in
+    let joined = sym (append-nil c.loop-row.joined) ∙ (rw ended at c.loop-row.invariant.same) in
+    c.finish.ensures ∙ (joined ∙ (ap (flat_map (λ row. row)) made ∙ flat_map-map (λ row. row) f xs))
