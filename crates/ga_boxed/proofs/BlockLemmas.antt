@@ -2,21 +2,10 @@
 -- items.
 use Rattle.ga_boxed.specs.Live.{Live}
 use Rattle.ga_core.proofs.CutLemmas.{taken-more}
-use Rattle.ga_core.proofs.MoveLemmas.{next-here, take-one_more}
 use Rattle.std.proofs.Common.{◌≡◌, ◌≢◌, ℕ, suc, ◌+◌, ◌*◌, ◌^◌, ◌<◌, ◌≤◌, List, [], ◌∷◌, ◌++◌, length, ap, sym, ◌∙◌}
-use Rattle.std.proofs.Common.{drop, refl, slice_index_or, take}
 use Rattle.std.proofs.Common.{arith, MatchOption, None, Option, Some, min, pos_of_ne-zero, subst, zero-mul}
-use Rattle.std.proofs.lemmas.List.{append-nil, length_push, nil_from_length, take-append-drop}
+use Rattle.std.proofs.lemmas.List.{append-nil, length_push, nil_from_length}
 use Rattle.std.specs.Iterator.{YieldsFirst, YieldsLast}
-
-module _ {T : Type 0} (n : ℕ) (items : List T) (item : T) (some : n < length items) (this : item ≡ slice_index_or items n item) where
-  -- the items before one, that one, and those behind it
-  pub cut_here : items ≡ take n items ++ item ∷ drop (n + 1) items
-  cut_here = sym (take-append-drop n items) ∙ ap (λ l. take n items ++ l) (next-here n items items item some this refl)
-
-  -- the items up to one, and that one
-  pub one_further : take (n + 1) items ≡ take n items ++ item ∷ []
-  one_further = take-one_more n items _ item (next-here n items items item some this refl)
 
 -- none of any size fit
 pub none_fits : (n size : ℕ) → n ≡ 0 → n * size < 2 ^ 63

@@ -64,7 +64,7 @@ module _ {X : Type 0} (width : ℕ) (some : 0 < width) where
       rw (rows-first width items some (omega (arith, whole, more)), joined-of_rows count (drop width items) left)
       (take-append-drop width items)
 
--- What is made of each item, joined, is the rows of what is made, joined. A caller of flatten behind a map names this.
-pub joined_rows : {X T : Type 0} (f : X → List T) (xs : List X)
+-- what a function makes of each item, joined, is all that it makes as rows, joined
+pub flat_map_by_rows : {X T : Type 0} (f : X → List T) (xs : List X)
     → flat_map f xs ≡ flat_map (λ (row : List T). row) (map f xs)
-joined_rows f xs = sym (flat_map-map (λ row. row) f xs)
+flat_map_by_rows f xs = sym (flat_map-map (λ row. row) f xs)

@@ -1,11 +1,12 @@
 //! Calls of a closure at borrowed items, in plain types: what is made is a boxed array. Memory comes
 //! first in each.
-ghost use Rattle.ga_core.specs.Calls.{MayMap, MayZip};
+ghost use Rattle.ga_core.specs.Calls.{MayMap, MayTryMap, MayZip};
 ghost use Rattle.ga_core.specs.Entries.{ActsOnEntries, ActsOnEntry, CallAt, CallAtPair};
-ghost use Rattle.ga_core.specs.Runs.{ClosureRun};
+ghost use Rattle.ga_core.specs.Runs.{ClosureRun, FirstErrorRun};
+ghost use Rattle.ga_core.specs.Tries.{try_map};
 ghost use Rattle.ga_core.specs.Views.{items_of_view};
 ghost use Rattle.std.specs.List.{zip};
-ghost use Rattle.std.specs.Prelude.{◌≡◌, IfOk, IsOk, OnErr, map};
+ghost use Rattle.std.specs.Prelude.{◌≡◌, IfOk, IsOk, OnErr, Result, map};
 
 use crate::boxed_array::BoxedArray;
 use crate::live_block::LiveBlock;
@@ -14,10 +15,10 @@ use std::alloc::Global;
 use std::marker::PhantomData;
 
 impl<T, N: Unsigned> BoxedArray<T, N> {
-    /// The boxed array of what `f` returns at each item, which is borrowed, called in order.
+    /// The boxed array of what `f` returns at each item by reference, called in order.
     ///
-    /// Allocates the whole block first: if that fails, `f` is never called. Allocates nothing if
-    /// `N` is 0.
+    /// Allocates the whole block first: if that fails, `f` is never called. Allocates nothing if `N` is 0.
+    /// The counterpart of `map` of `&GenericArray<T, N>`, which makes an inline array.
     pub fn map_ref<U, F: FnMut(&T) -> U>(
         &self,
         alloc: Global,
@@ -47,12 +48,11 @@ impl<T, N: Unsigned> BoxedArray<T, N> {
         ensures err { OnErr result (f.new ≡ f.old) }
         ensures empty { N.USIZE ≡ 0 → IsOk result }
     {
-        let given = self.as_slice();
         let Ok(mut items) = LiveBlock::new(alloc, N::USIZE) else {
             return Err(AllocError);
         };
-        for index in 0..N::USIZE {
-            items.put(f(&given[index]));
+        for item in self.as_slice() {
+            items.put(f(item));
         }
         Ok(BoxedArray {
             items,
@@ -60,11 +60,58 @@ impl<T, N: Unsigned> BoxedArray<T, N> {
         })
     }
 
-    /// The boxed array of what `f` returns at each item and that of `rhs` in its place, which are
-    /// borrowed, called in order. With an array on the right, pass its view.
+    /// `map_ref` with a closure that may fail: the boxed array of its values, or its first error.
     ///
-    /// Allocates the whole block first: if that fails, `f` is never called. Allocates nothing if
-    /// `N` is 0.
+    /// No call follows an error, and the values made before it are dropped.
+    pub fn try_map_ref<U: Drop, F: FnMut(&T) -> Result<U, E>, E>(
+        &self,
+        alloc: Global,
+        mut f: F,
+    ) -> Result<Result<BoxedArray<U, N>, E>, AllocError>
+        requires callable { MayTryMap (λ item. item.now) F.pre F.step f self.now }
+        ensures run { (last : F) × IfOk result (λ built.
+            FirstErrorRun (CallAt (λ item. item.now) F.step) f self.now built last) }
+        ensures acts { IfOk result (λ built. (h : T → Result U E)
+            → ActsOnEntry (λ item. item.now) F.step f h → built ≡ try_map h self.now) }
+        ensures empty { N.USIZE ≡ 0 → IsOk result }
+    {
+        self.try_map_ref_by(alloc, &mut f)
+    }
+
+    /// `try_map_ref` that borrows the closure, which can be used again in the state that it reached.
+    pub fn try_map_ref_by<U: Drop, F: FnMut(&T) -> Result<U, E>, E>(
+        &self,
+        alloc: Global,
+        f: &mut F,
+    ) -> Result<Result<BoxedArray<U, N>, E>, AllocError>
+        requires callable { MayTryMap (λ item. item.now) F.pre F.step f.old self.now }
+        ensures run { IfOk result (λ built.
+            FirstErrorRun (CallAt (λ item. item.now) F.step) f.old self.now built f.new) }
+        ensures acts { IfOk result (λ built. (h : T → Result U E)
+            → ActsOnEntry (λ item. item.now) F.step f.old h → built ≡ try_map h self.now) }
+        ensures err { OnErr result (f.new ≡ f.old) }
+        ensures empty { N.USIZE ≡ 0 → IsOk result }
+    {
+        let Ok(mut good) = LiveBlock::new(alloc, N::USIZE) else {
+            return Err(AllocError);
+        };
+        for item in self.as_slice() {
+            match f(item) {
+                Ok(value) => good.put(value),
+                Err(error) => return Ok(Err(error)),
+            }
+        }
+        Ok(Ok(BoxedArray {
+            items: good,
+            of: PhantomData,
+        }))
+    }
+
+    /// The boxed array of what `f` returns at each item and that of `rhs` in its place, both by reference,
+    /// called in order. With an array on the right, pass its view.
+    ///
+    /// Allocates the whole block first: if that fails, `f` is never called. Allocates nothing if `N` is 0.
+    /// The counterpart of `zip` of `&GenericArray<T, N>`, which makes an inline array.
     pub fn zip_ref<B, U, F: FnMut(&T, &B) -> U>(
         &self,
         alloc: Global,
@@ -102,11 +149,10 @@ impl<T, N: Unsigned> BoxedArray<T, N> {
         ensures err { OnErr result (f.new ≡ f.old) }
         ensures empty { N.USIZE ≡ 0 → IsOk result }
     {
-        let left = self.as_slice();
-        let right = rhs.as_slice();
         let Ok(mut items) = LiveBlock::new(alloc, N::USIZE) else {
             return Err(AllocError);
         };
+        let (left, right) = (self.as_slice(), rhs.as_slice());
         for index in 0..N::USIZE {
             items.put(f(&left[index], &right[index]));
         }

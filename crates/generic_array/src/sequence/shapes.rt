@@ -203,7 +203,7 @@ pub trait Flatten<T, Output>: Sized {
         ensures joined { output_items result ≡ flat_map (λ row. row) (row_items self) }
         ensures widths { All (λ row. length row ≡ WIDTH) (row_items self) }
         ensures cut { 0 < WIDTH → rows WIDTH (output_items result) ≡ row_items self }
-        ensures made { (f : T → List T) (xs : List T) → row_items self ≡ map f xs
+        ensures mapped { (f : T → List T) (xs : List T) → row_items self ≡ map f xs
             → output_items result ≡ flat_map f xs };
 }
 

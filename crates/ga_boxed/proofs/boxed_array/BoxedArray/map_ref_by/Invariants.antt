@@ -4,9 +4,10 @@ use Rattle.ga_core.specs.Runs.{ClosureRun}
 use Rattle.std.proofs.Common.{◌≡◌, ◌+◌, length, take}
 
 -- the calls so far gave what is stored, and there is room for the others
-abbrev pub invariant-loop-index : goal.invariant-loop-index
-invariant-loop-index g l = record {
-  ran : ClosureRun (CallAt (λ item. item.now) (goal.F-step g)) l.initial.f (take l.index l.given) l.items.items l.f;
-  long : length l.items.items ≡ l.index;
-  room : l.index + l.items.room ≡ g.N.Unsigned.USIZE;
+abbrev pub invariant-loop-item : goal.invariant-loop-item
+invariant-loop-item g l = record {
+  ran : ClosureRun (CallAt (λ item. item.now) (goal.F-step g)) l.initial.f (take l.item-index l.item-items)
+      l.items.items l.f;
+  long : length l.items.items ≡ l.item-index;
+  room : l.item-index + l.items.room ≡ g.N.Unsigned.USIZE;
 }

@@ -1,6 +1,7 @@
-use Rattle.ga_boxed.proofs.BlockLemmas.{cut_here, long_more, one_further, one_more}
+use Rattle.ga_boxed.proofs.BlockLemmas.{long_more, one_more}
 use Rattle.ga_boxed.proofs.boxed_array.BoxedArray.zip_ref_by.Goals as goal
 use Rattle.ga_core.proofs.CallLemmas.{may_zip-at}
+use Rattle.ga_core.proofs.CutLemmas.{cut-at, take-one}
 use Rattle.ga_core.proofs.EntryActs.{answers_at_pairs}
 use Rattle.ga_core.proofs.RunLemmas.{ClosureRun-snoc}
 use Rattle.ga_core.proofs.ZipLemmas.{pair-here, pair-in, pairs-in, same-pairs}
@@ -18,7 +19,7 @@ f-requires g c =
     may_zip-at (λ item. item.now) (λ item. item.now) _ _ _ _ _ c.requires.callable (take at.index (zip left right))
     (c.index-left-index.result, c.index-right-index.result) _ _ _
     (sym (same-pairs c.as_slice-left.ensures.items c.as_slice-right.ensures.items)
-    ∙ cut_here at.index (zip left right) _ (pair-in left right below c.as_slice-left.ensures.len c.as_slice-right.ensures.len)
+    ∙ cut-at at.index (zip left right) _ (pair-in left right below c.as_slice-left.ensures.len c.as_slice-right.ensures.len)
     (pair-here at.index left right c.index-left-index.is c.index-right-index.is)) at.invariant.ran _ _ refl refl
 
 pub loop-index-preserved : goal.loop-index-preserved
@@ -30,7 +31,7 @@ loop-index-preserved g c =
     record {
       ran = rw (
         c.put.ensures.items,
-        one_further at.index (zip left right)
+        take-one at.index (zip left right)
             (c.index-left-index.result, c.index-right-index.result)
             (pair-in left right below c.as_slice-left.ensures.len c.as_slice-right.ensures.len)
             (pair-here at.index left right c.index-left-index.is c.index-right-index.is),
