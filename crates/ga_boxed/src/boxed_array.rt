@@ -9,6 +9,7 @@ ghost use Rattle.std.specs.Prelude.{◌≡◌, length};
 mod builds;
 mod conversions;
 mod copies;
+mod functional;
 mod slices;
 
 use crate::boxed_array_iter::BoxedArrayIter;

@@ -2,9 +2,6 @@ mod LentStore
 mod MadeLemmas
 mod NextCalls
 mod TupleLemmas
-mod ZipLemmas
-pub mod ActsLemmas
-pub mod CallLemmas
 pub mod CopyLemmas
 pub mod EntryActs
 pub mod FillLemmas
@@ -15,7 +12,10 @@ pub mod MoveLemmas
 pub mod PairLemmas
 pub mod RunLemmas
 pub mod SlotLemmas
+pub mod ZipLemmas
 pub use Rattle.arrayvec.proofs.IterLemmas
+pub use Rattle.ga_views.proofs.ActsLemmas
+pub use Rattle.ga_views.proofs.CallLemmas
 pub use Rattle.ga_views.proofs.CallStep
 pub use Rattle.ga_views.proofs.CutLemmas
 pub use Rattle.ga_views.proofs.HexLemmas

@@ -52,6 +52,16 @@ pub(crate) fn move_items<T: Default + Drop>(items: &mut [T], slots: &mut [T])
     }
 }
 
+// Writes defaults over the items of the slots, which are dropped, in order.
+#[inline]
+pub(crate) fn write_defaults<T: Default + Drop>(slots: &mut [T])
+    ensures { All T.is_default slots.new }
+{
+    for slot in slots.iter_mut() {
+        *slot = T::default();
+    }
+}
+
 // Writes clones of the items over as many slots, in order, up to the first clone that fails.
 #[inline]
 pub(crate) fn write_clones<T: Clone>(slots: &mut [T], items: &[T]) -> Result<(), AllocError>

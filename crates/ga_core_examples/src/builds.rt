@@ -1,9 +1,14 @@
 //! Builds, fills and copies.
-ghost use Rattle.std.specs.Prelude.{◌≡◌, ◌<◌, ◌⊎◌, ◌∷◌, [], ◌↔◌, Err, IfErr, IfOk, IsOk, IsTrue, Ok, OnErr, OnOk, ◌≢◌, length};
+ghost use Rattle.ga_core.specs.Length.{FitsInline};
+ghost use Rattle.std.specs.Int.Bits.{bit_xor};
+ghost use Rattle.std.specs.List.{range_with_len};
+ghost use Rattle.std.specs.Prelude.{◌≡◌, ◌+◌, ◌<◌, ◌≤◌, ◌⊎◌, ◌∷◌, [], ◌↔◌, Err, IfErr, IfOk, IsOk, IsTrue, Ok, OnErr, OnOk, ◌≢◌, length, map, slice_index};
 
 use crate::answers::{gives, has};
 use crate::digits::decimal_digit;
-use ga_core::{AllocError, ArrayBuilder, ArrayLength, GenericArray, LengthError, U2, U3, U4, U7};
+use ga_core::{
+    AllocError, ArrayBuilder, ArrayLength, Const, GenericArray, LengthError, U2, U3, U4, U7,
+};
 
 fn four_of(bytes: &[u8]) -> Result<GenericArray<u8, U4>, LengthError>
     ensures variant { IsOk result ↔ (length bytes.now ≡ 4) }
@@ -16,6 +21,41 @@ fn doubled() -> GenericArray<usize, U4>
     ensures { result ≡ 0 ∷ 2 ∷ 4 ∷ 6 ∷ [] }
 {
     GenericArray::generate(|index| 2 * index)
+}
+
+// A long known length: through a function of any length, and by a proof of one line.
+
+fn masked_places<N: ArrayLength<u8>>(mask: u8) -> GenericArray<u8, N>
+    requires { N.USIZE ≤ 256 }
+    ensures { result ≡ map (λ index. bit_xor index mask) (range_with_len 0 N.USIZE) }
+{
+    GenericArray::generate(|index| index as u8 ^ mask)
+}
+
+fn packet(mask: u8) -> GenericArray<u8, Const<188>>
+    ensures { result ≡ map (λ index. bit_xor index mask) (range_with_len 0 188) }
+{
+    masked_places(mask)
+}
+
+fn packet_at_once(mask: u8) -> GenericArray<u8, Const<188>>
+    ensures { result ≡ map (λ index. bit_xor index mask) (range_with_len 0 188) }
+{
+    GenericArray::generate(|index| index as u8 ^ mask)
+}
+
+/// The sum of each three neighbours, by a closure that reads a slice and says where it may.
+fn sums_of_three<N: ArrayLength<u32>>(bytes: &[u8]) -> GenericArray<u32, N>
+    requires fits { FitsInline N.USIZE }
+    requires len { length bytes.now ≡ N.USIZE + 2 }
+    ensures { result ≡ map (λ i. slice_index bytes.now i + slice_index bytes.now (i + 1)
+        + slice_index bytes.now (i + 2)) (range_with_len 0 N.USIZE) }
+{
+    GenericArray::generate(
+        |i: usize| -> u32
+            requires { i + 2 < length bytes.now }
+        { u32::from(bytes[i]) + u32::from(bytes[i + 1]) + u32::from(bytes[i + 2]) },
+    )
 }
 
 fn built() -> GenericArray<u8, U2>
@@ -114,6 +154,12 @@ fn builds() -> [bool; 6] {
         gives(copied(&blank()), &[0, 0, 0]),
         are_same(&blank(), &blank()),
     ]
+}
+
+#[test]
+fn builds_of_any_length_answer_what_their_contracts_say(rt: HostRuntime) {
+    assert!(rt; has(sums_of_three::<U2>(&[1, 2, 3, 4]), &[6, 9]));
+    assert!(rt; packet(7)[187] == 188 && packet(7).as_slice() == packet_at_once(7).as_slice());
 }
 
 #[test]

@@ -11,14 +11,11 @@ struct FixedList<T, N: ArrayLength<T>> {
 }
 
 impl<T, N: ArrayLength<T>> Model for FixedList<T, N> {
-    ghost use Rattle.ga_core.specs.Length.{FitsInline};
     ghost use Rattle.std.specs.Prelude.{List};
 
     ghost Value = { List T };
 
     ghost view = { λ list. list.items };
-
-    ghost invariant = { λ _. FitsInline N.USIZE };
 }
 
 impl<T: Default + Drop, N: ArrayLength<T>> FixedList<T, N> {
@@ -66,8 +63,7 @@ impl<T: Default + Drop, N: ArrayLength<T>> FixedList<T, N> {
     fn clear(&mut self)
         ensures { self.new ≡ [] }
     {
-        let items = &mut self.items;
-        *items = ArrayBuilder::new();
+        self.items.clear();
     }
 }
 

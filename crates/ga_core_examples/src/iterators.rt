@@ -1,6 +1,6 @@
 //! Callers of the iterator by value, each proved.
 ghost use Rattle.ga_core.specs.Length.{FitsInline};
-ghost use Rattle.std.specs.Prelude.{◌≡◌, ◌^◌, ◌<◌, ◌≤◌, IfOk, IsOk, Ok, reverse, sum, take};
+ghost use Rattle.std.specs.Prelude.{◌≡◌, ◌+◌, ◌%◌, ◌^◌, ◌<◌, ◌≤◌, IfOk, IsOk, Ok, fold, max, reverse, sum, take};
 
 use crate::answers::gives;
 use crate::numbers::one_two_three;
@@ -48,6 +48,38 @@ fn front_of<N: ArrayLength<u8>, K: ArrayLength<u8>>(
     let mut front = ArrayBuilder::new();
     front.take_from(&mut items, K::USIZE);
     front.finish()
+}
+
+// Folds by a named function, and by a closure where the compiler's own call says nothing as a path.
+
+fn greatest<N: ArrayLength<u32>>(lanes: GenericArray<u32, N>) -> u32
+    ensures { result ≡ fold (λ best lane. max best lane) 0 lanes }
+{
+    lanes.into_iter().fold(0, u32::max)
+}
+
+fn plus(total: u32, lane: u32) -> u32
+    ensures { result ≡ (total + lane) % 2 ^ 32 }
+{
+    total.wrapping_add(lane)
+}
+
+fn wrapped_sum<N: ArrayLength<u32>>(lanes: GenericArray<u32, N>) -> u32
+    ensures { result ≡ fold (λ total lane. (total + lane) % 2 ^ 32) 0 lanes }
+{
+    lanes.into_iter().fold(0, plus)
+}
+
+fn wrapped_sum_by_a_closure<N: ArrayLength<u32>>(lanes: GenericArray<u32, N>) -> u32
+    ensures { result ≡ fold (λ total lane. (total + lane) % 2 ^ 32) 0 lanes }
+{
+    lanes.into_iter().fold(0, |total: u32, lane: u32| total.wrapping_add(lane))
+}
+
+#[test]
+fn callers_fold_by_functions_and_closures(rt: HostRuntime) {
+    assert!(rt; greatest(one_two_three()) == 3 && wrapped_sum(one_two_three()) == 6);
+    assert!(rt; wrapped_sum_by_a_closure(one_two_three()) == 6);
 }
 
 #[test]

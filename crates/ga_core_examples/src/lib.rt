@@ -8,6 +8,8 @@
 /// Comparisons of what callers made.
 pub mod answers;
 #[cfg(test)]
+mod builders;
+#[cfg(test)]
 mod builds;
 /// The digits that callers read from text.
 pub mod digits;

@@ -1,8 +1,9 @@
 //! Views of slices, read and written.
 ghost use Rattle.ga_core.specs.Views.{items_of_view};
-ghost use Rattle.std.specs.Prelude.{◌≡◌, ◌≢◌, ◌==◌, IfOk, IsOk, length, position, reverse, slice_set, sum};
+ghost use Rattle.std.specs.Prelude.{◌≡◌, ◌≢◌, ◌==◌, ◌+◌, ◌%◌, ◌^◌, ◌∷◌, [], IfOk, IsOk, fold, length, max, position, reverse, slice_set, sum};
 
-use ga_core::{Const, GenericArrayMut, GenericArrayRef, U2, U3};
+use crate::numbers::one_two_three;
+use ga_core::{ArrayLength, Const, GenericArray, GenericArrayMut, GenericArrayRef, U2, U3, Unsigned};
 use std::alloc::AllocError;
 
 fn second_written(slice: &mut [u8])
@@ -62,6 +63,42 @@ fn shown_by_a_clone<'a>(view: &GenericArrayRef<'a, u8, U2>) -> Result<&'a [u8], 
 {
     let copy = view.clone()?;
     Ok(copy.into_slice())
+}
+
+// Folds of views, whose length need not fit inline.
+
+fn greatest_of<N: Unsigned>(row: GenericArrayRef<'_, u32, N>) -> u32
+    ensures { result ≡ fold (λ best item. max best item) 0 (items_of_view row.entry) }
+{
+    row.fold(0, |best: u32, item: &u32| best.max(*item))
+}
+
+fn greatest_and_sum<N: ArrayLength<u32>>(lanes: &GenericArray<u32, N>) -> (u32, u32)
+    ensures greatest { result.0 ≡ fold (λ best lane. max best lane) 0 lanes.now }
+    ensures sum { result.1 ≡ fold (λ total lane. (total + lane) % 2 ^ 32) 0 lanes.now }
+{
+    let greatest = greatest_of(lanes.view());
+    let sum = lanes.view().fold(0, |total: u32, lane: &u32| total.wrapping_add(*lane));
+    (greatest, sum)
+}
+
+/// The digits of two views as one number, and the number of calls, by a closure that both folds borrow.
+fn digits_of_both(
+    left: GenericArrayRef<'_, u32, U2>,
+    right: GenericArrayRef<'_, u32, U2>,
+) -> (u32, u32)
+    requires left { items_of_view left ≡ 1 ∷ 2 ∷ [] }
+    requires right { items_of_view right ≡ 3 ∷ 4 ∷ [] }
+    ensures { result ≡ (1234, 4) }
+{
+    let mut calls = 0u32;
+    let mut next = |digits: u32, digit: &u32| {
+        calls = calls.wrapping_add(1);
+        digits.wrapping_mul(10).wrapping_add(*digit)
+    };
+    let first = left.fold_by(0, &mut next);
+    let all = right.fold_by(first, &mut next);
+    (all, calls)
 }
 
 /// Writes 6 in the second place of a slice of two.
@@ -125,4 +162,18 @@ fn a_view_shows_its_slice(rt: HostRuntime) {
     let view: GenericArrayRef<u8, U2> = GenericArrayRef::from_slice(&items);
     assert!(rt; items_are_right(view));
     assert!(rt; shown_by_a_clone(&view) == Ok([4, 6].as_slice()));
+}
+
+#[test]
+fn a_view_of_any_length_is_folded(rt: HostRuntime) {
+    assert!(rt; greatest_and_sum(&one_two_three()) == (3, 6));
+    let (left, right) = ([1u32, 2], [3u32, 4]);
+    let digits = digits_of_both(
+        GenericArrayRef::from_slice(&left),
+        GenericArrayRef::from_slice(&right),
+    );
+    assert!(rt; digits == (1234, 4));
+    let many = [7u32; 65_537];
+    let row: GenericArrayRef<u32, Const<65_537>> = GenericArrayRef::from_slice(&many);
+    assert!(rt; greatest_of(row) == 7);
 }

@@ -126,8 +126,6 @@ fn one_more_than_sums_of_both<N: ArrayLength<u32> + InlineLength>(
 }
 
 fn checksum_of_any<S: GenericSequence<u8>>(bytes: &S) -> u8
-where
-    S::Length: ArrayLength<u8>,
     ensures { result ≡ fold (λ total b. (total + b) % 2 ^ 8) 0 (S.items bytes.now) }
 {
     bytes

@@ -6,9 +6,13 @@ mod any_length;
 #[cfg(test)]
 mod boxed_arrays;
 #[cfg(test)]
+mod boxed_calls;
+#[cfg(test)]
 mod boxed_slices;
 #[cfg(test)]
 mod conversions;
+#[cfg(test)]
+mod flattened;
 #[cfg(test)]
 mod generic;
 #[cfg(test)]

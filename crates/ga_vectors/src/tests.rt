@@ -1,5 +1,6 @@
 //! The tests, a module for each subject, and what they share.
 mod arrays;
+mod boxed;
 mod builder;
 mod compared;
 mod conversions;

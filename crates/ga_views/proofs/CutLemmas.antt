@@ -1,9 +1,10 @@
 -- Steps that cut a list from its ends, joined to what std says of `next` and `next_back`.
 use Rattle.ga_views.specs.Cut.{StepGives, back, front}
-use Rattle.std.proofs.Common.{◌≡◌, ℕ, zero, suc, ◌+◌, ◌≤◌, List, [], ◌∷◌, ◌++◌, Option, None, Some}
+use Rattle.std.proofs.Common.{◌≡◌, ℕ, zero, suc, ◌+◌, ◌<◌, ◌≤◌, List, [], ◌∷◌, ◌++◌, Option, None, Some}
 use Rattle.std.proofs.Common.{length, min, take, drop, reverse, refl, sym, ap, ◌∙◌, append_assoc, arith}
-use Rattle.std.proofs.Common.{length-drop, slice_get}
-use Rattle.std.proofs.lemmas.List.{drop-drop, drop_min, length-reverse, reverse-append, reverse-reverse, take-append-drop}
+use Rattle.std.proofs.Common.{length-drop, slice_get, slice_index_or}
+use Rattle.std.proofs.lemmas.List.{drop-drop, drop_min, drop_more, length-reverse, reverse-append, reverse-reverse, take-append-drop}
+use Rattle.std.proofs.lemmas.List.{take_more}
 use Rattle.std.proofs.Math.ListN.{drop_of_length-le}
 use Rattle.std.proofs.Math.Seq.{drop-append_seam}
 use Rattle.std.proofs.lemmas.Option.{slice_get_past}
@@ -37,6 +38,16 @@ module _ {T : Type 0} where
       → YieldsLastBy view (λ all. all) items reply left → YieldsLast (λ all. all) items (option_map view reply) left
   last-by view items None left step = step
   last-by view items (Some item) left step = step
+
+  module _ (n : ℕ) (items : List T) (item : T) (some : n < length items) (this : item ≡ slice_index_or items n item) where
+    -- the items before one, that one, and those behind it
+    pub cut-at : items ≡ take n items ++ item ∷ drop (n + 1) items
+    cut-at = sym (take-append-drop n items)
+        ∙ ap (λ left. take n items ++ left) (drop_more items n item some ∙ ap (λ x. x ∷ drop (n + 1) items) (sym this))
+
+    -- the items before one, and that one
+    pub take-one : take (n + 1) items ≡ take n items ++ item ∷ []
+    take-one = take_more items n item some ∙ ap (λ x. take n items ++ x ∷ []) (sym this)
 
   -- all but the last are, from the back, what lies behind the first
   pub reverse-take : (items : List T) (kept passed : ℕ) → length items ≡ kept + passed

@@ -1,10 +1,14 @@
+pub mod Calls
 pub mod ViewMut
 pub mod Cut
+pub mod Entries
 pub mod HexText
 pub mod Iteration
 pub mod Length
 pub mod Parts
 pub mod RowIteration
 pub mod Rows
+pub mod Runs
+pub mod Tries
 pub mod ChunksViewMut
 pub mod Views

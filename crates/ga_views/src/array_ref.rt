@@ -1,7 +1,10 @@
 //! The read-only view of a slice.
+ghost use Rattle.ga_views.specs.Calls.{MayFold};
+ghost use Rattle.ga_views.specs.Entries.{ActsInFold, FoldAt};
 ghost use Rattle.ga_views.specs.Iteration.{IteratesOver};
+ghost use Rattle.ga_views.specs.Runs.{FoldRun};
 ghost use Rattle.std.specs.Option.{option_copied};
-ghost use Rattle.std.specs.Prelude.{◌≡◌, ◌<◌, ◌↔◌, IfOk, IsOk, IsSome, length, slice_get, ⊤};
+ghost use Rattle.std.specs.Prelude.{◌≡◌, ◌<◌, ◌↔◌, IfOk, IsOk, IsSome, fold, length, slice_get, ⊤};
 
 use crate::{LengthError, Unsigned};
 use std::alloc::AllocError;
@@ -105,6 +108,37 @@ impl<'a, T, N: Unsigned> GenericArrayRef<'a, T, N> {
         ensures { IteratesOver (items_of_view self.now) N.USIZE result }
     {
         self.as_slice().iter()
+    }
+
+    /// Folds the items into one value, in order, starting from `init`. One call of `f` for each.
+    ///
+    /// The counterpart of `fold` of `&GenericArray<T, N>`, at any length. `f` can't keep a reference to an
+    /// item: `into_iter().fold` takes a closure that does.
+    #[inline]
+    pub fn fold<A, F: FnMut(A, &T) -> A>(self, init: A, mut f: F) -> A
+        requires callable { MayFold (λ item. item.now) F.pre F.step f init (items_of_view self) }
+        ensures run { (last : F)
+            × FoldRun (FoldAt (λ item. item.now) F.step) f init (items_of_view self.entry) result last }
+        ensures acts { (h : A → T → A) → ActsInFold (λ item. item.now) F.step f h
+            → result ≡ fold h init (items_of_view self.entry) }
+    {
+        self.fold_by(init, &mut f)
+    }
+
+    /// `fold` that borrows the closure, which can be used again in the state that it reached.
+    #[inline]
+    pub fn fold_by<A, F: FnMut(A, &T) -> A>(self, init: A, f: &mut F) -> A
+        requires callable { MayFold (λ item. item.now) F.pre F.step f.old init (items_of_view self) }
+        ensures run { FoldRun (FoldAt (λ item. item.now) F.step) f.old init (items_of_view self.entry)
+            result f.new }
+        ensures acts { (h : A → T → A) → ActsInFold (λ item. item.now) F.step f.old h
+            → result ≡ fold h init (items_of_view self.entry) }
+    {
+        let mut answer = init;
+        for item in self.as_slice() {
+            answer = f(answer, item);
+        }
+        answer
     }
 }
 

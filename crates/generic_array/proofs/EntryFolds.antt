@@ -1,23 +1,10 @@
--- What folds over entries come to, where the closure acts as a function: each call answers h, and leaves the closure
--- as it is.
-use Rattle.ga_core.proofs.ActsLemmas.{answer_of_fold}
+-- What folds over entries come to that stop at the first error, where the closure acts as a function: each call answers
+-- h, and leaves the closure as it is.
+use Rattle.ga_core.proofs.ActsLemmas.{fold_call_at}
 use Rattle.ga_core.specs.Entries.{ActsInFold, FoldAt}
-use Rattle.ga_core.specs.Runs.{FoldRun}
 use Rattle.ga_core.specs.Tries.{result_and_then, try_fold}
 use Rattle.generic_array.specs.EntryRuns.{TryFoldRun}
-use Rattle.std.proofs.Common.{◌≡◌, List, [], ◌∷◌, Result, Ok, Err, inl, inr, ap, fold, sym, ◌∙◌}
-
-module _ {I T F A B : Type 0} (entry : I → T) (step : F → A → I → B → F → Type 0) (f : F) (h : A → T → B)
-    (acts : ActsInFold entry step f h) where
-  fold_call_at : (a : A) (x : T) (b : B) (next : F) → FoldAt entry step f a x b next → (next ≡ f) × (b ≡ h a x)
-  fold_call_at a x b next call = let o = acts a call.0 b next call.2 in (o.0, o.1 ∙ ap (h a) call.1)
-
-module _ {I T F A : Type 0} (entry : I → T) (step : F → A → I → A → F → Type 0) (f : F) (h : A → T → A)
-    (acts : ActsInFold entry step f h) where
-  -- a fold is the fold of h
-  pub fold_at_entries : (a : A) (xs : List T) (b : A) (last : F) → FoldRun (FoldAt entry step) f a xs b last
-      → b ≡ fold h a xs
-  fold_at_entries = answer_of_fold (FoldAt entry step) f h (fold_call_at entry step f h acts)
+use Rattle.std.proofs.Common.{◌≡◌, List, [], ◌∷◌, Result, Ok, Err, inl, inr, ap, sym}
 
 module _ {I T F A E : Type 0} (entry : I → T) (step : F → A → I → Result A E → F → Type 0) (f : F)
     (h : A → T → Result A E) (acts : ActsInFold entry step f h) where

@@ -8,6 +8,7 @@ use Rattle.std.proofs.Math.Nat.{suc-mul}
 use Rattle.std.proofs.lemmas.List.{nil_from_length, take-append-drop, take-append-le, take_all}
 use Rattle.std.proofs.lemmas.Nat.{div-mul-add}
 use Rattle.std.proofs.lemmas.List.Elements.{All-head, All-tail}
+use Rattle.std.proofs.lemmas.List.Folds.{flat_map-map}
 use Rattle.std.specs.List.{All, flat_map, range_with_len}
 
 module _ {T : Type 0} where
@@ -62,3 +63,8 @@ module _ {X : Type 0} (width : ℕ) (some : 0 < width) where
       let left : length (drop width items) ≡ count * width = omega (arith, whole, more, length-drop width items) in
       rw (rows-first width items some (omega (arith, whole, more)), joined-of_rows count (drop width items) left)
       (take-append-drop width items)
+
+-- what a function makes of each item, joined, is all that it makes as rows, joined
+pub flat_map_by_rows : {X T : Type 0} (f : X → List T) (xs : List X)
+    → flat_map f xs ≡ flat_map (λ (row : List T). row) (map f xs)
+flat_map_by_rows f xs = sym (flat_map-map (λ row. row) f xs)

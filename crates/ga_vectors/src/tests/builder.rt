@@ -1,6 +1,9 @@
 //! Builders at concrete types.
-use crate::tests::items::digits;
-use generic_array::{ArrayBuilder, U3, U4};
+ghost use Rattle.std.specs.Prelude.{◌≡◌, ◌+◌, ◌≤◌, [], length};
+
+use crate::tests::items::{Held, digits};
+use generic_array::{ArrayBuilder, ArrayLength, U3, U4};
+use std::rc::Rc;
 
 /// The position of a builder after two bytes.
 fn after_two_bytes() -> usize {
@@ -40,4 +43,77 @@ fn builders_go_on_at_their_position(rt: HostRuntime) {
     assert!(rt; after_two_bytes() == 2);
     assert!(rt; extended() == [1234, 5]);
     assert!(rt; extended_up_to_an_error() == [7, 1, 2]);
+}
+
+// Edits as of a vector.
+
+/// What edits leave of 1 to 3, as digits, and the item that was taken.
+fn edited<N: ArrayLength<u32>>(list: &mut ArrayBuilder<u32, N>) -> [u32; 4]
+    requires room { N.USIZE ≡ 4 }
+    requires empty { list.old ≡ [] }
+{
+    list.extend_from_slice(&[1, 2, 3]);
+    list.insert(1, 9);
+    let inserted = digits(list.as_slice());
+    let taken = list.remove(2);
+    let removed = digits(list.as_slice());
+    list.insert(3, 7);
+    [inserted, taken, removed, digits(list.as_slice())]
+}
+
+/// What is left of 1 to 4 at each cut, as digits, and once the list was cleared and filled again.
+fn cut<N: ArrayLength<u32>>(list: &mut ArrayBuilder<u32, N>) -> [u32; 4]
+    requires { length list.old ≤ N.USIZE }
+{
+    list.truncate(5);
+    let whole = digits(list.as_slice());
+    list.truncate(2);
+    let front = digits(list.as_slice());
+    list.truncate(0);
+    let none = digits(list.as_slice());
+    list.clear();
+    [whole, front, none, digits(list.as_slice())]
+}
+
+/// Whether clones of numbers are appended to those that are there.
+fn are_cloned<N: ArrayLength<u32>>(list: &mut ArrayBuilder<u32, N>) -> bool
+    requires { length list.old + 2 ≤ N.USIZE }
+{
+    list.extend_from_clones(&[5, 6]).is_ok() && list.as_slice().ends_with(&[5, 6])
+}
+
+#[test]
+fn builders_are_edited_as_vectors_are(rt: HostRuntime) {
+    let mut list: ArrayBuilder<u32, U4> = ArrayBuilder::new();
+    assert!(rt; edited(&mut list) == [1923, 2, 193, 1937]);
+    assert!(rt; cut(&mut list) == [1937, 19, 0, 0]);
+    assert!(rt; are_cloned(&mut list) && list.position() == 2);
+}
+
+/// How many there are of the one: with four items, once one was taken out, cut to one, and cleared.
+fn dropped_by_cuts<N: ArrayLength<Held>>(
+    list: &mut ArrayBuilder<Held, N>,
+    one: &Rc<()>,
+) -> [usize; 4]
+    requires { length list.old + 4 ≤ N.USIZE }
+{
+    list.push(Held::of(one));
+    list.push(Held::of(one));
+    list.push(Held::of(one));
+    list.insert(0, Held::of(one));
+    let four = Rc::strong_count(one);
+    let _taken = list.remove(0);
+    let taken = Rc::strong_count(one);
+    list.truncate(1);
+    let cut = Rc::strong_count(one);
+    list.clear();
+    [four, taken, cut, Rc::strong_count(one)]
+}
+
+#[test]
+fn items_that_are_cut_off_are_dropped_at_once(rt: HostRuntime) {
+    let one = Rc::new(rt.alloc(), ()).expect(&rt, "no memory");
+    let mut list: ArrayBuilder<Held, U4> = ArrayBuilder::new();
+    assert!(rt; dropped_by_cuts(&mut list, &one) == [5, 5, 3, 2]);
+    assert!(rt; Rc::strong_count(&one) == 1);
 }

@@ -4,6 +4,7 @@ ghost use Rattle.generic_array.specs.Length.{FitsInline};
 use generic_array::{AllocError, ArrayLength, BoxedArray, Const, GenericArray, Unsigned};
 use std::alloc::Global;
 use std::convert::AsSlice;
+use std::rc::Rc;
 
 /// A length of which no block can be had, not even of the smallest items.
 pub type TooMany = Const<18446744073709551615>;
@@ -44,5 +45,16 @@ pub fn has<T: PartialEq, S: AsSlice<T> + Drop, E: Drop>(made: Result<S, E>, item
     match made {
         Ok(made) => made.as_slice() == items,
         Err(_refused) => false,
+    }
+}
+
+/// An item that counts how many of its kind there are. One made by `default` counts nothing.
+#[derive(Default, Drop)]
+pub struct Held(Option<Rc<()>>);
+
+impl Held {
+    /// One more of the kind.
+    pub fn of(one: &Rc<()>) -> Self {
+        Held(one.clone().ok())
     }
 }

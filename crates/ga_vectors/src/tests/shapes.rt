@@ -2,7 +2,7 @@
 ghost use Rattle.generic_array.specs.Length.{FitsInline};
 ghost use Rattle.std.specs.Prelude.{◌≡◌, ◌*◌, ◌<◌, length};
 
-use crate::tests::items::from_one;
+use crate::tests::items::{Held, from_one};
 use generic_array::sequence::{
     Concat, Flatten, Lengthen, Remove, Shorten, Split, Unflatten, iter_flat,
 };
@@ -10,16 +10,6 @@ use generic_array::{
     ArrayLength, GenericArray, GenericArrayMut, InlineLength, U0, U1, U2, U3, U4, U5, U6,
 };
 use std::rc::Rc;
-
-/// An item that counts how many of its kind there are. One made by `default` counts nothing.
-#[derive(Default, Drop)]
-struct Held(Option<Rc<()>>);
-
-impl Held {
-    fn of(one: &Rc<()>) -> Self {
-        Held(one.clone().ok())
-    }
-}
 
 /// Six items beside the one that they are of.
 fn six_of(one: &Rc<()>) -> GenericArray<Held, U6> {

@@ -12,7 +12,7 @@
 //! arrays they do by `refl`.
 ghost use Rattle.generic_array.specs.Rows.{rows};
 ghost use Rattle.std.specs.List.{All, flat_map, swap_remove};
-ghost use Rattle.std.specs.Prelude.{◌≡◌, ℕ, ◌+◌, ◌<◌, ◌≤◌, List, [], Some, ◌∷◌, ◌++◌, drop, length, remove, slice_get, take};
+ghost use Rattle.std.specs.Prelude.{◌≡◌, ℕ, ◌+◌, ◌<◌, ◌≤◌, List, [], Some, ◌∷◌, ◌++◌, drop, length, map, remove, slice_get, take};
 
 use ga_core::{ArrayBuilder, ArrayLength};
 use std::convert::AsSlice;
@@ -202,7 +202,9 @@ pub trait Flatten<T, Output>: Sized {
         requires { IsArea }
         ensures joined { output_items result ≡ flat_map (λ row. row) (row_items self) }
         ensures widths { All (λ row. length row ≡ WIDTH) (row_items self) }
-        ensures cut { 0 < WIDTH → rows WIDTH (output_items result) ≡ row_items self };
+        ensures cut { 0 < WIDTH → rows WIDTH (output_items result) ≡ row_items self }
+        ensures mapped { (f : T → List T) (xs : List T) → row_items self ≡ map f xs
+            → output_items result ≡ flat_map f xs };
 }
 
 /// A sequence that can be cut into rows of one width.

@@ -4,6 +4,8 @@ use Rattle.generic_array.specs.Rows.{rows}
 use Rattle.std.proofs.Common.{◌≡◌, ◌*◌, ◌∷◌, [], ◌∙◌, ap, append-nil, append_assoc, arith, length, length-append, map, sym}
 use Rattle.std.proofs.Math.Nat.{suc-mul}
 use Rattle.std.proofs.lemmas.List.Elements.{All-cons, All-nil}
+use Rattle.std.proofs.lemmas.List.Folds.{flat_map-map}
+use Rattle.std.specs.List.{flat_map}
 
 pub loop-row-preserved : goal.loop-row-preserved
 loop-row-preserved g c =
@@ -29,10 +31,18 @@ loop-row-preserved g c =
       );
     }
 
+pub returns-clause-joined : goal.returns-clause-joined
+returns-clause-joined g c =
+    let ended : c.loop-row.row-iterator ≡ [] = c.in-None.ensures.steps.0 in
+    c.finish.ensures ∙ (sym (append-nil c.loop-row.joined) ∙ (rw ended at c.loop-row.invariant.same))
+
 pub returns-clause-cut : goal.returns-clause-cut
 returns-clause-cut g c = λ some.
     let w = g.I.Row.WIDTH in
     let ended : c.loop-row.row-iterator ≡ [] = c.in-None.ensures.steps.0 in
-    let joined = sym (append-nil c.loop-row.joined) ∙ (rw ended at c.loop-row.invariant.same) in
-    ap (rows w) (c.finish.ensures ∙ joined) ∙ rows-of_joined w some (map g.I.AsSlice.items c.args.self)
+    ap (rows w) (returns-clause-joined g c) ∙ rows-of_joined w some (map g.I.AsSlice.items c.args.self)
     (c.loop-row.invariant.wide (rw ended (All-nil (λ r. length r ≡ w))))
+
+pub returns-clause-mapped : goal.returns-clause-mapped
+returns-clause-mapped g c = λ f xs mapped. returns-clause-joined g c
+    ∙ (ap (flat_map (λ row. row)) mapped ∙ flat_map-map (λ row. row) f xs)

@@ -1,7 +1,7 @@
 -- Where a closure may be called in turn, it may be called in each state that its calls lead to.
-use Rattle.ga_core.specs.Calls.{MayFold, MayGenerate, MayMap, MayTryGenerate, MayTryMap, MayZip, Stays}
-use Rattle.ga_core.specs.Entries.{CallAt, CallAtPair, FoldAt}
-use Rattle.ga_core.specs.Runs.{ClosureRun, FoldRun}
+use Rattle.ga_views.specs.Calls.{MayFold, MayGenerate, MayMap, MayTryGenerate, MayTryMap, MayZip, Stays}
+use Rattle.ga_views.specs.Entries.{CallAt, CallAtPair, FoldAt}
+use Rattle.ga_views.specs.Runs.{ClosureRun, FoldRun}
 use Rattle.std.proofs.Common.{◌≡◌, ℕ, ◌<◌, List, [], ◌∷◌, ◌++◌, Ok, Result, ap, map, refl, subst, sym}
 use Rattle.std.specs.List.{range_with_len, zip}
 

@@ -1,7 +1,7 @@
 -- Where a closure may be called: at each number below n or each item of a list in turn, in each state that the calls
 -- before lead to. Each word ends in a premise that a caller gets, `HoldsAsAtFirst`.
-use Rattle.ga_core.specs.Entries.{CallAt, CallAtPair, FoldAt}
-use Rattle.ga_core.specs.Runs.{ClosureRun, FoldRun}
+use Rattle.ga_views.specs.Entries.{CallAt, CallAtPair, FoldAt}
+use Rattle.ga_views.specs.Runs.{ClosureRun, FoldRun}
 use Rattle.std.specs.List.{range_with_len, zip}
 use Rattle.std.specs.Prelude.{◌≡◌, ℕ, ◌<◌, List, ◌∷◌, ◌++◌, map, Result, Ok}
 

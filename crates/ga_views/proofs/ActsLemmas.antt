@@ -1,8 +1,8 @@
 -- What runs of a closure come to, where it acts as a function: each call answers h, and leaves the closure as it is.
-use Rattle.ga_core.specs.Calls.{MayFold}
-use Rattle.ga_core.specs.Entries.{FoldAt}
-use Rattle.ga_core.specs.Runs.{ClosureRun, FirstErrorRun, FoldRun}
-use Rattle.ga_core.specs.Tries.{try_map}
+use Rattle.ga_views.specs.Calls.{MayFold}
+use Rattle.ga_views.specs.Entries.{ActsInFold, FoldAt}
+use Rattle.ga_views.specs.Runs.{ClosureRun, FirstErrorRun, FoldRun}
+use Rattle.ga_views.specs.Tries.{try_map}
 use Rattle.std.proofs.Common.{◌≡◌, ℕ, ◌+◌, ◌<◌, List, [], ◌∷◌, Result, Ok, Err, inl, inr, ap, arith, fold, map, refl}
 use Rattle.std.proofs.Common.{subst, sym, ◌∙◌, map-id, sum_by}
 use Rattle.std.proofs.lemmas.List.Sums.{sum_by-append, sum_by-cons}
@@ -55,6 +55,19 @@ module _ {F A X : Type 0} (step : F → A → X → A → F → Type 0) (f : F) 
       let call = acts a x run.0.1 run.0.0 run.1 in
       let others = answer_of_fold run.0.1 xs b last (subst (λ k. FoldRun step k run.0.1 xs b last) call.0 run.2) in
       others ∙ ap (λ c. fold h c xs) call.1
+
+module _ {I T F A B : Type 0} (entry : I → T) (step : F → A → I → B → F → Type 0) (f : F) (h : A → T → B)
+    (acts : ActsInFold entry step f h) where
+  -- a call at an entry answers h of what the entry stands for
+  pub fold_call_at : (a : A) (x : T) (b : B) (next : F) → FoldAt entry step f a x b next → (next ≡ f) × (b ≡ h a x)
+  fold_call_at a x b next call = let o = acts a call.0 b next call.2 in (o.0, o.1 ∙ ap (h a) call.1)
+
+module _ {I T F A : Type 0} (entry : I → T) (step : F → A → I → A → F → Type 0) (f : F) (h : A → T → A)
+    (acts : ActsInFold entry step f h) where
+  -- a fold over entries is the fold of h
+  pub fold_at_entries : (a : A) (xs : List T) (b : A) (last : F) → FoldRun (FoldAt entry step) f a xs b last
+      → b ≡ fold h a xs
+  fold_at_entries = answer_of_fold (FoldAt entry step) f h (fold_call_at entry step f h acts)
 
 module _ {F X : Type 0} (value : X → ℕ) (step : F → ℕ → X → ℕ → F → Type 0) where
   -- each call adds a value, so a fold adds their sum

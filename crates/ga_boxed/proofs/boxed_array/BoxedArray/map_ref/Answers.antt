@@ -1,0 +1,4 @@
+use Rattle.ga_boxed.proofs.boxed_array.BoxedArray.map_ref.Goals as goal
+
+pub returns-clause-run : goal.returns-clause-run
+returns-clause-run g c = (c.map_ref_by.new.f, c.map_ref_by.ensures.run)

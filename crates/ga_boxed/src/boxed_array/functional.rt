@@ -1,0 +1,164 @@
+//! Calls of a closure at borrowed items, in plain types: what is made is a boxed array. Memory comes
+//! first in each.
+ghost use Rattle.ga_core.specs.Calls.{MayMap, MayTryMap, MayZip};
+ghost use Rattle.ga_core.specs.Entries.{ActsOnEntries, ActsOnEntry, CallAt, CallAtPair};
+ghost use Rattle.ga_core.specs.Runs.{ClosureRun, FirstErrorRun};
+ghost use Rattle.ga_core.specs.Tries.{try_map};
+ghost use Rattle.ga_core.specs.Views.{items_of_view};
+ghost use Rattle.std.specs.List.{zip};
+ghost use Rattle.std.specs.Prelude.{◌≡◌, IfOk, IsOk, OnErr, Result, map};
+
+use crate::boxed_array::BoxedArray;
+use crate::live_block::LiveBlock;
+use ga_core::{AllocError, GenericArrayRef, Unsigned};
+use std::alloc::Global;
+use std::marker::PhantomData;
+
+impl<T, N: Unsigned> BoxedArray<T, N> {
+    /// The boxed array of what `f` returns at each item by reference, called in order.
+    ///
+    /// Allocates the whole block first: if that fails, `f` is never called. Allocates nothing if `N` is 0.
+    /// The counterpart of `map` of `&GenericArray<T, N>`, which makes an inline array.
+    pub fn map_ref<U, F: FnMut(&T) -> U>(
+        &self,
+        alloc: Global,
+        mut f: F,
+    ) -> Result<BoxedArray<U, N>, AllocError>
+        requires callable { MayMap (λ item. item.now) F.pre F.step f self.now }
+        ensures run { (last : F) × IfOk result (λ made.
+            ClosureRun (CallAt (λ item. item.now) F.step) f self.now made last) }
+        ensures acts { IfOk result (λ made. (h : T → U) → ActsOnEntry (λ item. item.now) F.step f h
+            → made ≡ map h self.now) }
+        ensures empty { N.USIZE ≡ 0 → IsOk result }
+    {
+        self.map_ref_by(alloc, &mut f)
+    }
+
+    /// `map_ref` that borrows the closure, which can be used again in the state that it reached.
+    pub fn map_ref_by<U, F: FnMut(&T) -> U>(
+        &self,
+        alloc: Global,
+        f: &mut F,
+    ) -> Result<BoxedArray<U, N>, AllocError>
+        requires callable { MayMap (λ item. item.now) F.pre F.step f.old self.now }
+        ensures run { IfOk result (λ made.
+            ClosureRun (CallAt (λ item. item.now) F.step) f.old self.now made f.new) }
+        ensures acts { IfOk result (λ made. (h : T → U) → ActsOnEntry (λ item. item.now) F.step f.old h
+            → made ≡ map h self.now) }
+        ensures err { OnErr result (f.new ≡ f.old) }
+        ensures empty { N.USIZE ≡ 0 → IsOk result }
+    {
+        let Ok(mut items) = LiveBlock::new(alloc, N::USIZE) else {
+            return Err(AllocError);
+        };
+        for item in self.as_slice() {
+            items.put(f(item));
+        }
+        Ok(BoxedArray {
+            items,
+            of: PhantomData,
+        })
+    }
+
+    /// `map_ref` with a closure that may fail: the boxed array of its values, or its first error.
+    ///
+    /// No call follows an error, and the values made before it are dropped.
+    pub fn try_map_ref<U: Drop, F: FnMut(&T) -> Result<U, E>, E>(
+        &self,
+        alloc: Global,
+        mut f: F,
+    ) -> Result<Result<BoxedArray<U, N>, E>, AllocError>
+        requires callable { MayTryMap (λ item. item.now) F.pre F.step f self.now }
+        ensures run { (last : F) × IfOk result (λ built.
+            FirstErrorRun (CallAt (λ item. item.now) F.step) f self.now built last) }
+        ensures acts { IfOk result (λ built. (h : T → Result U E)
+            → ActsOnEntry (λ item. item.now) F.step f h → built ≡ try_map h self.now) }
+        ensures empty { N.USIZE ≡ 0 → IsOk result }
+    {
+        self.try_map_ref_by(alloc, &mut f)
+    }
+
+    /// `try_map_ref` that borrows the closure, which can be used again in the state that it reached.
+    pub fn try_map_ref_by<U: Drop, F: FnMut(&T) -> Result<U, E>, E>(
+        &self,
+        alloc: Global,
+        f: &mut F,
+    ) -> Result<Result<BoxedArray<U, N>, E>, AllocError>
+        requires callable { MayTryMap (λ item. item.now) F.pre F.step f.old self.now }
+        ensures run { IfOk result (λ built.
+            FirstErrorRun (CallAt (λ item. item.now) F.step) f.old self.now built f.new) }
+        ensures acts { IfOk result (λ built. (h : T → Result U E)
+            → ActsOnEntry (λ item. item.now) F.step f.old h → built ≡ try_map h self.now) }
+        ensures err { OnErr result (f.new ≡ f.old) }
+        ensures empty { N.USIZE ≡ 0 → IsOk result }
+    {
+        let Ok(mut good) = LiveBlock::new(alloc, N::USIZE) else {
+            return Err(AllocError);
+        };
+        for item in self.as_slice() {
+            match f(item) {
+                Ok(value) => good.put(value),
+                Err(error) => return Ok(Err(error)),
+            }
+        }
+        Ok(Ok(BoxedArray {
+            items: good,
+            of: PhantomData,
+        }))
+    }
+
+    /// The boxed array of what `f` returns at each item and that of `rhs` in its place, both by reference,
+    /// called in order. With an array on the right, pass its view.
+    ///
+    /// Allocates the whole block first: if that fails, `f` is never called. Allocates nothing if `N` is 0.
+    /// The counterpart of `zip` of `&GenericArray<T, N>`, which makes an inline array.
+    pub fn zip_ref<B, U, F: FnMut(&T, &B) -> U>(
+        &self,
+        alloc: Global,
+        rhs: GenericArrayRef<'_, B, N>,
+        mut f: F,
+    ) -> Result<BoxedArray<U, N>, AllocError>
+        requires callable { MayZip (λ item. item.now) (λ item. item.now) F.pre F.step f self.now
+            (items_of_view rhs) }
+        ensures run { (last : F) × IfOk result (λ made.
+            ClosureRun (CallAtPair (λ item. item.now) (λ item. item.now) F.step) f
+            (zip self.now (items_of_view rhs.entry)) made last) }
+        ensures acts { IfOk result (λ made. (h : T × B → U)
+            → ActsOnEntries (λ item. item.now) (λ item. item.now) F.step f h
+            → made ≡ map h (zip self.now (items_of_view rhs.entry))) }
+        ensures empty { N.USIZE ≡ 0 → IsOk result }
+    {
+        self.zip_ref_by(alloc, rhs, &mut f)
+    }
+
+    /// `zip_ref` that borrows the closure, which can be used again in the state that it reached.
+    pub fn zip_ref_by<B, U, F: FnMut(&T, &B) -> U>(
+        &self,
+        alloc: Global,
+        rhs: GenericArrayRef<'_, B, N>,
+        f: &mut F,
+    ) -> Result<BoxedArray<U, N>, AllocError>
+        requires callable { MayZip (λ item. item.now) (λ item. item.now) F.pre F.step f.old self.now
+            (items_of_view rhs) }
+        ensures run { IfOk result (λ made.
+            ClosureRun (CallAtPair (λ item. item.now) (λ item. item.now) F.step) f.old
+            (zip self.now (items_of_view rhs.entry)) made f.new) }
+        ensures acts { IfOk result (λ made. (h : T × B → U)
+            → ActsOnEntries (λ item. item.now) (λ item. item.now) F.step f.old h
+            → made ≡ map h (zip self.now (items_of_view rhs.entry))) }
+        ensures err { OnErr result (f.new ≡ f.old) }
+        ensures empty { N.USIZE ≡ 0 → IsOk result }
+    {
+        let Ok(mut items) = LiveBlock::new(alloc, N::USIZE) else {
+            return Err(AllocError);
+        };
+        let (left, right) = (self.as_slice(), rhs.as_slice());
+        for index in 0..N::USIZE {
+            items.put(f(&left[index], &right[index]));
+        }
+        Ok(BoxedArray {
+            items,
+            of: PhantomData,
+        })
+    }
+}
