@@ -1,4 +1,3 @@
-mod LentStore
 mod MadeLemmas
 mod NextCalls
 mod TupleLemmas
@@ -15,15 +14,10 @@ pub mod MoveLemmas
 pub mod PairLemmas
 pub mod RunLemmas
 pub mod SlotLemmas
+pub mod walks
 pub use Rattle.arrayvec.proofs.IterLemmas
-pub use Rattle.ga_views.proofs.CallStep
 pub use Rattle.ga_views.proofs.CutLemmas
 pub use Rattle.ga_views.proofs.HexLemmas
-pub use Rattle.ga_views.proofs.ItemLoan
 pub use Rattle.ga_views.proofs.JoinLemmas
-pub use Rattle.ga_views.proofs.LengthCall
 pub use Rattle.ga_views.proofs.RowLemmas
 pub use Rattle.ga_views.proofs.RowSetLemmas
-pub use Rattle.ga_views.proofs.SliceLaws
-pub use Rattle.ga_views.proofs.SliceWalk
-pub use Rattle.ga_views.proofs.SplitWalk
