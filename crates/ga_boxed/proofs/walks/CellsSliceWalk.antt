@@ -1,15 +1,14 @@
 -- The code of `slice` and `slice_mut`, which is the same but for `mut`. It makes a slice's machine value, and its walk
 -- is given how the items are lent. Assumes `Logic`.
-use Rattle.ga_boxed.proofs.walks.Names.{◌≡◌, refl, ap, ℕ, ◌+◌, ◌*◌, ◌<◌, ◌^◌, List, [], ◌∷◌, length, Ura, full_share}
-use Rattle.ga_boxed.proofs.walks.Names.{fat, SProp, ent, Fn, Mutability, Ty, aggregate, assign, block, copy, erased}
-use Rattle.ga_boxed.proofs.walks.Names.{field, local, mul, named, offset, op2, place, return, rv_opd, seq, size_of}
-use Rattle.ga_boxed.proofs.walks.Names.{ty_int, ty_ptr, ty_ref, unsigned, value_local, w64, Val, vint, vptr, Calls, Env}
-use Rattle.ga_boxed.proofs.walks.Names.{Loops, WpFn, Logic, Go, Goal, Item, Seq, Soaks, ‵, at_ret, mean, ◌$◌, ◌∵◌, ! }
-use Rattle.ga_boxed.proofs.walks.Names.{qed, by, keep, rewrite, agg, sub, whole, and_then, bin, blocks, enter, exec}
-use Rattle.ga_boxed.proofs.walks.Names.{first, fld, no_more, of_opd, returns, size_word, stop, alloc_all, env, free_all}
-use Rattle.ga_boxed.proofs.walks.Names.{get, get_in, give_at, is, look_at, pass_all, sets, sets_last, take_at, Lfts, no}
-use Rattle.ga_boxed.proofs.walks.Names.{Slot, type_at, layout, Ptr, block_ptr, slice_ty, slice_val, word, word-Good}
-use Rattle.ga_boxed.proofs.walks.Names.{after, El, elτ, uncapped, uncapped_fits}
+use Rattle.ga_boxed.proofs.walks.Names
+use Names.{◌≡◌, refl, ap, ℕ, ◌+◌, ◌*◌, ◌<◌, ◌^◌, List, [], ◌∷◌, length, Ura, full_share, fat, SProp, ent, Fn}
+use Names.{Mutability, Ty, aggregate, assign, block, copy, erased, field, local, mul, named, offset, op2, place, return}
+use Names.{rv_opd, seq, size_of, ty_int, ty_ptr, ty_ref, unsigned, value_local, w64, Val, vint, vptr, Calls, Env, Loops}
+use Names.{WpFn, Logic, Go, Goal, Item, Seq, Soaks, ‵, at_ret, mean, ◌$◌, ◌∵◌, !, qed, by, keep, rewrite, agg, sub}
+use Names.{whole, and_then, bin, blocks, enter, exec, first, fld, no_more, of_opd, returns, size_word, stop, alloc_all}
+use Names.{env, free_all, get, get_in, give_at, is, look_at, pass_all, sets, sets_last, take_at, Lfts, no, Slot}
+use Names.{type_at, layout, Ptr, block_ptr, slice_ty, slice_val, word, word-Good, after, El, elτ, uncapped}
+use Names.{uncapped_fits}
 use Rattle.ga_boxed.proofs.walks.CallWalk.{Call, Self, number}
 use Rattle.ga_boxed.proofs.walks.CellsWalk.{the_base}
 use Rattle.ga_boxed.proofs.walks.WalkParts.{Bs, Cr, sz}

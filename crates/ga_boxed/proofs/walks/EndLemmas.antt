@@ -4,11 +4,11 @@
 --     place_after, empty_snoc      the place of the first item is one more that is empty
 --     room_out, room_in            the first place of the room
 --     item_out, item_in            the last item
-use Rattle.ga_boxed.proofs.walks.Names.{◌≡◌, refl, sym, ap, ◌∙◌, ◌≢◌, ℕ, suc, ◌+◌, ◌*◌, arith, List, [], ◌∷◌, ◌++◌}
-use Rattle.ga_boxed.proofs.walks.Names.{length, length-append, Ura, full_share, ty_array, ent, sep, Fml, fsep, froom}
-use Rattle.ga_boxed.proofs.walks.Names.{Logic, sem, cells, ‵, ◌⊛◌, ◌$◌, ◌∵◌, !, qed, move, drop as skip, use1, use2}
-use Rattle.ga_boxed.proofs.walks.Names.{split, fsplit, fjoin, rewrite, done, part_at, mem, nothing, El, R, el_x, elτ}
-use Rattle.ga_boxed.proofs.walks.Names.{add_times, next, room_snoc, as_raw, as_written, empty}
+use Rattle.ga_boxed.proofs.walks.Names
+use Names.{◌≡◌, refl, sym, ap, ◌∙◌, ◌≢◌, ℕ, suc, ◌+◌, ◌*◌, arith, List, [], ◌∷◌, ◌++◌, length, length-append, Ura}
+use Names.{full_share, ty_array, ent, sep, Fml, fsep, froom, Logic, sem, cells, ‵, ◌⊛◌, ◌$◌, ◌∵◌, !, qed, move}
+use Names.{drop as skip, use1, use2, split, fsplit, fjoin, rewrite, done, part_at, mem, nothing, El, R, el_x, elτ}
+use Names.{add_times, next, room_snoc, as_raw, as_written, empty}
 use Rattle.ga_boxed.proofs.walks.WalkParts.{sz}
 use borrow.Table.Elements.{at, at_mul, cut_app, join_app}
 

@@ -1,16 +1,14 @@
 -- The walk of `take_first` and `take_last`, which are the same code: all of it but how the item is cut from the cells,
 -- and what is left of these. Assumes `Logic`.
-use Rattle.ga_boxed.proofs.walks.Names.{◌≢◌, ◌≡◌, refl, subst, ◌∙◌, ℕ, ◌+◌, ◌*◌, ◌<◌, ◌^◌, arith, List, [], ◌∷◌, ◌++◌}
-use Rattle.ga_boxed.proofs.walks.Names.{length, Ura, full_share, Fml, fat, froom, ent, sep, Callee, Fn, Ty, assign}
-use Rattle.ga_boxed.proofs.walks.Names.{block, copy, deref, field, local, mul, named, offset, op2, place, return}
-use Rattle.ga_boxed.proofs.walks.Names.{rv_opd, seq, size_of, ty_int, ty_ptr, ty_ref, unsigned, value_local, w64, mut}
-use Rattle.ga_boxed.proofs.walks.Names.{vint, Model, Running, tables, grown, closing, Triple, Closed, Calls, Env, Loops}
-use Rattle.ga_boxed.proofs.walks.Names.{Logic, sem, ‵, ◌⊛◌, at_ret, ◌$◌, ◌∵◌, !, qed, by, move, keep, use1, use2, split}
-use Rattle.ga_boxed.proofs.walks.Names.{rewrite, whole, sub, bin, size_lit, look, stop, fld, load, of_opd, first}
-use Rattle.ga_boxed.proofs.walks.Names.{blocks, exec, returns, enter, alloc_all, pass_all, free_all, look_at, get}
-use Rattle.ga_boxed.proofs.walks.Names.{get_in, take_at, give_at, through, sets, sets_last, env, no, part_at, layout}
-use Rattle.ga_boxed.proofs.walks.Names.{Ptr, mut_vals, plain, word, word-Good, after, El, R, el_x, elτ, times_below}
-use Rattle.ga_boxed.proofs.walks.Names.{one_below}
+use Rattle.ga_boxed.proofs.walks.Names
+use Names.{◌≢◌, ◌≡◌, refl, subst, ◌∙◌, ℕ, ◌+◌, ◌*◌, ◌<◌, ◌^◌, arith, List, [], ◌∷◌, ◌++◌, length, Ura, full_share, Fml}
+use Names.{fat, froom, ent, sep, Callee, Fn, Ty, assign, block, copy, deref, field, local, mul, named, offset, op2}
+use Names.{place, return, rv_opd, seq, size_of, ty_int, ty_ptr, ty_ref, unsigned, value_local, w64, mut, vint, Model}
+use Names.{Running, tables, grown, closing, Triple, Closed, Calls, Env, Loops, Logic, sem, ‵, ◌⊛◌, at_ret, ◌$◌, ◌∵◌, ! }
+use Names.{qed, by, move, keep, use1, use2, split, rewrite, whole, sub, bin, size_lit, look, stop, fld, load, of_opd}
+use Names.{first, blocks, exec, returns, enter, alloc_all, pass_all, free_all, look_at, get, get_in, take_at, give_at}
+use Names.{through, sets, sets_last, env, no, part_at, layout, Ptr, mut_vals, plain, word, word-Good, after, El, R}
+use Names.{el_x, elτ, times_below, one_below}
 use Rattle.ga_boxed.proofs.walks.CallWalk.{Call, Had, Walk, clauses, ended, number, meets_grown}
 use Rattle.ga_boxed.proofs.walks.CellsWalk.{by_mut, closes_cells, opens_cells, the_base}
 use Rattle.ga_boxed.proofs.walks.ClauseFacts.{AllFacts, facts, has_every}

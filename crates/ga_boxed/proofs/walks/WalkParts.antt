@@ -1,15 +1,14 @@
 -- What the walks share: a value of one pointer, one of no bytes, a tuple of three, an item as a machine value and in
 -- memory, and how a walk begins and ends. Assumes `Logic`.
 use Rattle.ga_boxed.proofs.walks.CallWalk.{Behind}
-use Rattle.ga_boxed.proofs.walks.Names.{no, plain, Goes-dropped, ◌≡◌, refl, ap, ◌∙◌, ℕ, ◌*◌, ◌<◌, ◌^◌, List, [], ◌∷◌}
-use Rattle.ga_boxed.proofs.walks.Names.{Ura, Val, vstruct, vcons, vnil, id⊢, ent, sep, emp, Lfts, Shares, toks, Logic}
-use Rattle.ga_boxed.proofs.walks.Names.{sem, raw, join, Item, Goal, Seq, Step, step, ‵, ◌$◌, ◌∵◌, !, qed, move, fjoin}
-use Rattle.ga_boxed.proofs.walks.Names.{fpack, feq_i, done, some, ◌⊛◌, use1, pick, split, Laws, RattleType, Valss, Ptr}
-use Rattle.ga_boxed.proofs.walks.Names.{RawPtr, ptr_val, rawptr_vals, rawptr_Tells, nothing, peeks, Shape, Struct}
-use Rattle.ga_boxed.proofs.walks.Names.{Struct-Tells, within, shape, Tuple, tuple_type, type_size, El, R, el_x, elτ}
-use Rattle.ga_boxed.proofs.walks.Names.{lawful, one, word, Good, full_share, Ghosts, Dict, Ty, Args, a_type, ty_array}
-use Rattle.ga_boxed.proofs.walks.Names.{dcons, dnil, fat, flft, ftrue, Is, Tells, shows, param, bounded, part_at}
-use Rattle.ga_boxed.proofs.walks.Names.{part_out, size, align, capped, capped_is, Al}
+use Rattle.ga_boxed.proofs.walks.Names
+use Names.{no, plain, Goes-dropped, ◌≡◌, refl, ap, ◌∙◌, ℕ, ◌*◌, ◌<◌, ◌^◌, List, [], ◌∷◌, Ura, Val, vstruct, vcons, vnil}
+use Names.{id⊢, ent, sep, emp, Lfts, Shares, toks, Logic, sem, raw, join, Item, Goal, Seq, Step, step, ‵, ◌$◌, ◌∵◌, ! }
+use Names.{qed, move, fjoin, fpack, feq_i, done, some, ◌⊛◌, use1, pick, split, Laws, RattleType, Valss, Ptr, RawPtr}
+use Names.{ptr_val, rawptr_vals, rawptr_Tells, nothing, peeks, Shape, Struct, Struct-Tells, within, shape, Tuple}
+use Names.{tuple_type, type_size, El, R, el_x, elτ, lawful, one, word, Good, full_share, Ghosts, Dict, Ty, Args, a_type}
+use Names.{ty_array, dcons, dnil, fat, flft, ftrue, Is, Tells, shows, param, bounded, part_at, part_out, size, align}
+use Names.{capped, capped_is, Al}
 use denote.Shadow.{makes_shadow}
 use mir.Raw.{raw as bare}
 use prog.RawLaws.{size-raw, align-raw}

@@ -7,14 +7,13 @@
 --     meets_grown       the same with the lifetimes of type parameters
 --     Linked, linked    what a walk may call
 use Rattle.ga_views.proofs.walks.ClauseFacts.{AllFacts, facts, learns}
-use Rattle.ga_views.proofs.walks.Names.{◌≡◌, refl, subst, sym, ℕ, suc, ◌<◌, ◌^◌, List, [], ◌∷◌, ◌++◌, Ura, SProp, ent}
-use Rattle.ga_views.proofs.walks.Names.{emp, id⊢, via, Callee, Fn, named, w64, Val, Memory, Fun, Model, Calls, Closed}
-use Rattle.ga_views.proofs.walks.Names.{Loops, WpFn, AllOutlive, Lfts, Outlives, Shares, toks, Running, tables, Logic}
-use Rattle.ga_views.proofs.walks.Names.{sem, ⋆, ‵, raw, Item, ◌$◌, ◌∵◌, !, qed, move, fsplit, fjoin, suffices, use0}
-use Rattle.ga_views.proofs.walks.Names.{done, usize, yes, Are, Is, Ises, uint_vals, uint_Tells, Denots, RattleType}
-use Rattle.ga_views.proofs.walks.Names.{Valss, flat, owns, shr_vals, Slot, plain, type_at, types_at, nothing, Triple}
-use Rattle.ga_views.proofs.walks.Names.{Clauses, Ended, closing, on_entry, Meets, AllGo, Goes-dropped, Stays, fits_of}
-use Rattle.ga_views.proofs.walks.Names.{has_of, stay_dropped, walk_of, Routine, FmC, leaves, framed as all_framed}
+use Rattle.ga_views.proofs.walks.Names
+use Names.{◌≡◌, refl, subst, sym, ℕ, suc, ◌<◌, ◌^◌, List, [], ◌∷◌, ◌++◌, Ura, SProp, ent, emp, id⊢, via, Callee, Fn}
+use Names.{named, w64, Val, Memory, Fun, Model, Calls, Closed, Loops, WpFn, AllOutlive, Lfts, Outlives, Shares, toks}
+use Names.{Running, tables, Logic, sem, ⋆, ‵, raw, Item, ◌$◌, ◌∵◌, !, qed, move, fsplit, fjoin, suffices, use0, done}
+use Names.{usize, yes, Are, Is, Ises, uint_vals, uint_Tells, Denots, RattleType, Valss, flat, owns, shr_vals, Slot}
+use Names.{plain, type_at, types_at, nothing, Triple, Clauses, Ended, closing, on_entry, Meets, AllGo, Goes-dropped}
+use Names.{Stays, fits_of, has_of, stay_dropped, walk_of, Routine, FmC, leaves, framed as all_framed}
 use Rattle.std.proofs.raw_atomic.Walks.{proved_at}
 use denote.Builtin.{One, RefOf}
 use denote.Exit.{Kept, Last, Seen, see}

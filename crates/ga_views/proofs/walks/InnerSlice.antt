@@ -4,15 +4,13 @@
 --     opens_inner, closes_inner    the outer borrow is opened, which gives the cell of the inner reference, at the type
 --                                  that the code names, and closed again
 --     lends_inner                  the items are lent, and the inner reference ends at what they end as
-use Rattle.ga_views.proofs.walks.Names.{a_type, Args, Arr, Array, at_last, await, Body, cell_at, closes, done, drop}
-use Rattle.ga_views.proofs.walks.Names.{ent, erased, fat, fauth, fbor, flft, Fml, fobor, fobs, follows, fsplit3}
-use Rattle.ga_views.proofs.walks.Names.{full_share, GName, Goal, group, Gv, Incl, Is, Item, later, layouts}
-use Rattle.ga_views.proofs.walks.Names.{lends_inner_slice, length, Lft, Lfts, List, Logic, mem, move, mut}
-use Rattle.ga_views.proofs.walks.Names.{mut_slice_vals, mut_vals, MutBor, MutRef, MutSlice, named, now, opens, param}
-use Rattle.ga_views.proofs.walks.Names.{peeks, pick, plain, pointee, qed, RattleType, raw, refl, renamed, rewrite, Room}
-use Rattle.ga_views.proofs.walks.Names.{SemTy, sep, Seq, Share, shows, slice_ty, slice_val, SliceRefMutOf, Slot, Soaks}
-use Rattle.ga_views.proofs.walks.Names.{some, split3, SProp, Step, step, Ty, ty_ref, updating, Ura, use1, use3, Val, ! }
-use Rattle.ga_views.proofs.walks.Names.{[], ‵, ℕ, ◌$◌, ◌∵◌, ◌∷◌, ◌≡◌, ◌⊑◌, ◌⊛◌}
+use Rattle.ga_views.proofs.walks.Names
+use Names.{a_type, Args, Arr, Array, at_last, await, Body, cell_at, closes, done, drop, ent, erased, fat, fauth, fbor}
+use Names.{flft, Fml, fobor, fobs, follows, fsplit3, full_share, GName, Goal, group, Gv, Incl, Is, Item, later, layouts}
+use Names.{lends_inner_slice, length, Lft, Lfts, List, Logic, mem, move, mut, mut_slice_vals, mut_vals, MutBor, MutRef}
+use Names.{MutSlice, named, now, opens, param, peeks, pick, plain, pointee, qed, RattleType, raw, refl, renamed}
+use Names.{rewrite, Room, SemTy, sep, Seq, Share, shows, slice_ty, slice_val, SliceRefMutOf, Slot, Soaks, some, split3}
+use Names.{SProp, Step, step, Ty, ty_ref, updating, Ura, use1, use3, Val, !, [], ‵, ℕ, ◌$◌, ◌∵◌, ◌∷◌, ◌≡◌, ◌⊑◌, ◌⊛◌}
 use Rattle.ga_views.proofs.walks.LoanWalk.{Loan, Words}
 use Rattle.ga_views.proofs.walks.PartLoan.{Whole}
 use Rattle.ga_views.specs.contracts.reborrow.RefMutSliceReborrowSlice.all_mut as all_mut

@@ -6,12 +6,11 @@
 use Rattle.ga_views.proofs.walks.CallWalk.{Args, Behind, Call, Fines, Had as Had_by_call, Lasts, Words as Besides}
 use Rattle.ga_views.proofs.walks.CallWalk.{clauses, ended, flat_of, meets, number}
 use Rattle.ga_views.proofs.walks.ClauseFacts.{AllFacts, has_every}
-use Rattle.ga_views.proofs.walks.Names.{AllOutlive, by, Callee, Calls, Closed, closing, ent, fact, flft, Fml, Fn}
-use Rattle.ga_views.proofs.walks.Names.{Goes-spent_ref, id⊢, Item, join, keep, Lfts, List, Logic, Loops, Meets, Model}
-use Rattle.ga_views.proofs.walks.Names.{move, mut_ref_to, mut_Tells, mut_vals, MutBor, MutRef, named, no, nothing}
-use Rattle.ga_views.proofs.walks.Names.{Outlives, qed, raw, Running, sem, sep, Shares, Slot, split, SProp, stay_dropped}
-use Rattle.ga_views.proofs.walks.Names.{suc, tables, toks, Ura, use1, Val, vptr, WpFn, yes, zero, !, [], ‵, ℕ, ⋆, ◌$◌}
-use Rattle.ga_views.proofs.walks.Names.{◌∵◌, ◌∷◌, ◌⊛◌}
+use Rattle.ga_views.proofs.walks.Names
+use Names.{AllOutlive, by, Callee, Calls, Closed, closing, ent, fact, flft, Fml, Fn, Goes-spent_ref, id⊢, Item, join}
+use Names.{keep, Lfts, List, Logic, Loops, Meets, Model, move, mut_ref_to, mut_Tells, mut_vals, MutBor, MutRef, named}
+use Names.{no, nothing, Outlives, qed, raw, Running, sem, sep, Shares, Slot, split, SProp, stay_dropped, suc, tables}
+use Names.{toks, Ura, use1, Val, vptr, WpFn, yes, zero, !, [], ‵, ℕ, ⋆, ◌$◌, ◌∵◌, ◌∷◌, ◌⊛◌}
 
 abbrev pub words : {L : ℕ} → ℕ → List (Behind L)
 words zero = []

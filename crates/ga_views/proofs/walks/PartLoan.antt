@@ -5,14 +5,13 @@
 --     Whole                            a slice that was lent, with what lent it
 --     lends_slice, lends_part          a part of it is lent for as long as it was, and what lent it follows the part: a
 --                                      part wherever it lies, and one from a place on
-use Rattle.ga_views.proofs.walks.Names.{ap, arith, Arr, Array, at, at_mul, await, Body, cells, coded_list, cut_app}
-use Rattle.ga_views.proofs.walks.Names.{done, drop, drop_list, ent, ex, fbor, feq_i, feq_l, fjoin, flft, Fml, fobs}
-use Rattle.ga_views.proofs.walks.Names.{follows, follows_then, fsplit, GName, group, heres, heres_id, Holey, Item}
-use Rattle.ga_views.proofs.walks.Names.{join_app, later, length, Lft, List, Logic, mem, move, MutBor, MutSlice, named}
-use Rattle.ga_views.proofs.walks.Names.{now, open_ref, pick, qed, RattleType, raw, refl, rewrite, Room, sem, SemTy, sep}
-use Rattle.ga_views.proofs.walks.Names.{Share, show, slice_of, slice_val, some, split, split3, SProp, subst, sym, take}
-use Rattle.ga_views.proofs.walks.Names.{takes_part, updating, Ura, use1, use2, !, [], ‵, ℕ, ◌$◌, ◌*◌, ◌++◌, ◌+◌, ◌∙◌}
-use Rattle.ga_views.proofs.walks.Names.{◌∵◌, ◌∷◌, ◌≡◌, ◌≤◌, ◌⊛◌}
+use Rattle.ga_views.proofs.walks.Names
+use Names.{ap, arith, Arr, Array, at, at_mul, await, Body, cells, coded_list, cut_app, done, drop, drop_list, ent, ex}
+use Names.{fbor, feq_i, feq_l, fjoin, flft, Fml, fobs, follows, follows_then, fsplit, GName, group, heres, heres_id}
+use Names.{Holey, Item, join_app, later, length, Lft, List, Logic, mem, move, MutBor, MutSlice, named, now, open_ref}
+use Names.{pick, qed, RattleType, raw, refl, rewrite, Room, sem, SemTy, sep, Share, show, slice_of, slice_val, some}
+use Names.{split, split3, SProp, subst, sym, take, takes_part, updating, Ura, use1, use2, !, [], ‵, ℕ, ◌$◌, ◌*◌, ◌++◌}
+use Names.{◌+◌, ◌∙◌, ◌∵◌, ◌∷◌, ◌≡◌, ◌≤◌, ◌⊛◌}
 use borrow.Rule.Slice.PartMut.{mid_of, post_of, put_mid, same_len_mid}
 use lib.ListN.{take-append-drop}
 use lib.Seq.{length-take-le}

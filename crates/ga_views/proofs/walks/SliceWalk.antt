@@ -1,13 +1,12 @@
 -- A walk of a function that takes a slice for writing, and nothing else, and gives it up: all of it but what the
 -- function asks, what it gives and its own steps. Assumes `Logic`.
-use Rattle.ga_views.proofs.walks.Names.{alive, AllOutlive, at_exit, call, Callee, Calls, Clauses, Closed, closing, Code}
-use Rattle.ga_views.proofs.walks.Names.{Contract, emp, Ended, ent, Env, fact, flft, FmC, Fn, ftrue, Goes-spent_slice}
-use Rattle.ga_views.proofs.walks.Names.{group, has_of, id⊢, Item, lands, leaves, length, Lft, Lfts, List, Logic, Loops}
-use Rattle.ga_views.proofs.walks.Names.{MachineTables, Meets, Model, move, mut_slice_Tells, mut_slice_vals, MutBor}
-use Rattle.ga_views.proofs.walks.Names.{named, no, nothing, on_entry, Opds, Operand, Outlives, owns, param, Place}
-use Rattle.ga_views.proofs.walks.Names.{plain, Post, proved, RattleType, raw, Running, runs, sem, sep, Seq, seq, Shares}
-use Rattle.ga_views.proofs.walks.Names.{slice_val, SliceRefMutOf, Slot, SProp, stay_dropped, Stays, suc, tables, Triple}
-use Rattle.ga_views.proofs.walks.Names.{type_at, types_at, Ura, Val, WpFn, [], ‵, ℕ, ◌$◌, ◌<◌, ◌^◌, ◌∷◌, ◌⊑◌, ◌⊛◌}
+use Rattle.ga_views.proofs.walks.Names
+use Names.{alive, AllOutlive, at_exit, call, Callee, Calls, Clauses, Closed, closing, Code, Contract, emp, Ended, ent}
+use Names.{Env, fact, flft, FmC, Fn, ftrue, Goes-spent_slice, group, has_of, id⊢, Item, lands, leaves, length, Lft}
+use Names.{Lfts, List, Logic, Loops, MachineTables, Meets, Model, move, mut_slice_Tells, mut_slice_vals, MutBor, named}
+use Names.{no, nothing, on_entry, Opds, Operand, Outlives, owns, param, Place, plain, Post, proved, RattleType, raw}
+use Names.{Running, runs, sem, sep, Seq, seq, Shares, slice_val, SliceRefMutOf, Slot, SProp, stay_dropped, Stays, suc}
+use Names.{tables, Triple, type_at, types_at, Ura, Val, WpFn, [], ‵, ℕ, ◌$◌, ◌<◌, ◌^◌, ◌∷◌, ◌⊑◌, ◌⊛◌}
 use Rattle.ga_views.proofs.walks.CallStep.{asked, Called, calls}
 
 -- the slice is lent for the first lifetime of `more` and one, and its items' type is the function's first type

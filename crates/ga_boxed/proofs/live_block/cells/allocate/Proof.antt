@@ -1,18 +1,15 @@
 -- `allocate` owns the new block as room, or for no slots nothing, with the right to free it. Assumes `Logic`.
-use Rattle.ga_boxed.proofs.walks.Names.{◌≡◌, refl, sym, ap, Bool, true, false, ℕ, ◌*◌, ◌<◌, ◌^◌, arith, List, [], ◌∷◌}
-use Rattle.ga_boxed.proofs.walks.Names.{eqb→eq, lit<, Ura, Fn, Body, w64, inst_fn, Val, vptr, vint, vstruct, vcons}
-use Rattle.ga_boxed.proofs.walks.Names.{vnil, ent, sep, Incl-trans, flft, align, capped, capped_fits, Env, Wp}
-use Rattle.ga_boxed.proofs.walks.Names.{after_seq, at_return, Logic, sem, ◌⊑◌, Post as After, any_q, ⋆, ‵, raw, ◌⊛◌}
-use Rattle.ga_boxed.proofs.walks.Names.{later, await, at_ret, ◌$◌, ◌∵◌, !, qed, by, move, keep, use0, use1, use2, use3}
-use Rattle.ga_boxed.proofs.walks.Names.{split, rewrite, fsplit, fjoin, whole, agg, addr, align_word, and_then, bin}
-use Rattle.ga_boxed.proofs.walks.Names.{branches, enter, exec, first, fld, from, lit, no_more, of_opd, returns}
-use Rattle.ga_boxed.proofs.walks.Names.{returns_within, size_word, skips, stop, switches_on, alloc_all, pass_all}
-use Rattle.ga_boxed.proofs.walks.Names.{free_all, look_at, get, get_in, get_tag, lands_as, sets, sets_last, is, env}
-use Rattle.ga_boxed.proofs.walks.Names.{yes, Is, RattleType, layout, Ptr, block_ptr, plain, nothing, owned, Struct}
-use Rattle.ga_boxed.proofs.walks.Names.{Struct-Makes, Tuple, calls_at, Triple, has_block, owns_if, Al, token}
-use Rattle.ga_boxed.proofs.walks.Names.{Answer-typed, takes_key, Takes, at_takes, Answered, Takes-goes, Takes-gives}
-use Rattle.ga_boxed.proofs.walks.Names.{answers, El, R, elτ, uncapped, uncapped_fits, T_true, Good, first_Good, is_not}
-use Rattle.ga_boxed.proofs.walks.Names.{word, word-Good, after, arm_body, head, cells_own, deed_owns}
+use Rattle.ga_boxed.proofs.walks.Names
+use Names.{◌≡◌, refl, sym, ap, Bool, true, false, ℕ, ◌*◌, ◌<◌, ◌^◌, arith, List, [], ◌∷◌, eqb→eq, lit<, Ura, Fn, Body}
+use Names.{w64, inst_fn, Val, vptr, vint, vstruct, vcons, vnil, ent, sep, Incl-trans, flft, align, capped, capped_fits}
+use Names.{Env, Wp, after_seq, at_return, Logic, sem, ◌⊑◌, Post as After, any_q, ⋆, ‵, raw, ◌⊛◌, later, await, at_ret}
+use Names.{◌$◌, ◌∵◌, !, qed, by, move, keep, use0, use1, use2, use3, split, rewrite, fsplit, fjoin, whole, agg, addr}
+use Names.{align_word, and_then, bin, branches, enter, exec, first, fld, from, lit, no_more, of_opd, returns}
+use Names.{returns_within, size_word, skips, stop, switches_on, alloc_all, pass_all, free_all, look_at, get, get_in}
+use Names.{get_tag, lands_as, sets, sets_last, is, env, yes, Is, RattleType, layout, Ptr, block_ptr, plain, nothing}
+use Names.{owned, Struct, Struct-Makes, Tuple, calls_at, Triple, has_block, owns_if, Al, token, Answer-typed, takes_key}
+use Names.{Takes, at_takes, Answered, Takes-goes, Takes-gives, answers, El, R, elτ, uncapped, uncapped_fits, T_true}
+use Names.{Good, first_Good, is_not, word, word-Good, after, arm_body, head, cells_own, deed_owns}
 use types.Match.{live, vrt, in_variant}
 use denote.Struct.Declared as Declared
 use Rattle.std.specs.Prelude.{Err, IfOk, IsOk, Ok}

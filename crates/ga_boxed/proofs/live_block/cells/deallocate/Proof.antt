@@ -1,17 +1,15 @@
 -- `deallocate` makes the block of its empty slots, and hands it back with the allocator's token, or for no slots lets
 -- go of it. Assumes `Logic`.
-use Rattle.ga_boxed.proofs.walks.Names.{◌≡◌, refl, sym, ap, subst, ◌∙◌, Bool, ℕ, ◌*◌, ◌+◌, ◌<◌, ◌^◌, arith, List, []}
-use Rattle.ga_boxed.proofs.walks.Names.{◌∷◌, T, Ura, Fn, ty_unit, w64, inst_fn, Val, WT, has_ty, vptr, vint, vunit, emp}
-use Rattle.ga_boxed.proofs.walks.Names.{ent, never, id⊢, Incl-trans, froom, flft, align, capped, capped_fits, Env}
-use Rattle.ga_boxed.proofs.walks.Names.{Logic, ◌⊑◌, ⋆, ‵, raw, given, later, await, learn, at_ret, ◌$◌, ◌∵◌, !, qed, by}
-use Rattle.ga_boxed.proofs.walks.Names.{move, keep, use1, group, rewrite, fsplit, fsplit3, feq_i, whole, sub}
-use Rattle.ga_boxed.proofs.walks.Names.{align_word, and_then, bin, blocks, branches, enter, exec, first, fld, lit}
-use Rattle.ga_boxed.proofs.walks.Names.{no_more, of_opd, returns, size_word, skips, stop, unit_lit, alloc_all, pass_all}
-use Rattle.ga_boxed.proofs.walks.Names.{free_all, look_at, get, get_in, lands_last, sets, is, env, yes, no, RattleType}
-use Rattle.ga_boxed.proofs.walks.Names.{Is, Ptr, block_ptr, ptr_val, in_a_block, unit, plain, nothing, calls_at_last}
-use Rattle.ga_boxed.proofs.walks.Names.{Triple, Goes, stay_dropped, has_block, owns_if, Al, Goes-blank, token}
-use Rattle.ga_boxed.proofs.walks.Names.{gives_key, Gives, at_gives, Gives-goes, Gives-Gives, El, R, elτ, uncapped}
-use Rattle.ga_boxed.proofs.walks.Names.{uncapped_fits, T_true, word, word-Good, after, cells_own, deed_owns}
+use Rattle.ga_boxed.proofs.walks.Names
+use Names.{◌≡◌, refl, sym, ap, subst, ◌∙◌, Bool, ℕ, ◌*◌, ◌+◌, ◌<◌, ◌^◌, arith, List, [], ◌∷◌, T, Ura, Fn, ty_unit, w64}
+use Names.{inst_fn, Val, WT, has_ty, vptr, vint, vunit, emp, ent, never, id⊢, Incl-trans, froom, flft, align, capped}
+use Names.{capped_fits, Env, Logic, ◌⊑◌, ⋆, ‵, raw, given, later, await, learn, at_ret, ◌$◌, ◌∵◌, !, qed, by, move}
+use Names.{keep, use1, group, rewrite, fsplit, fsplit3, feq_i, whole, sub, align_word, and_then, bin, blocks, branches}
+use Names.{enter, exec, first, fld, lit, no_more, of_opd, returns, size_word, skips, stop, unit_lit, alloc_all}
+use Names.{pass_all, free_all, look_at, get, get_in, lands_last, sets, is, env, yes, no, RattleType, Is, Ptr, block_ptr}
+use Names.{ptr_val, in_a_block, unit, plain, nothing, calls_at_last, Triple, Goes, stay_dropped, has_block, owns_if, Al}
+use Names.{Goes-blank, token, gives_key, Gives, at_gives, Gives-goes, Gives-Gives, El, R, elτ, uncapped, uncapped_fits}
+use Names.{T_true, word, word-Good, after, cells_own, deed_owns}
 use Rattle.ga_boxed.proofs.walks.WalkParts.{block_ty, block_size, block_align, args, P, Bs, Cr, Dd, mark, mark_Tells}
 use Rattle.ga_boxed.proofs.walks.WalkParts.{others, al_of, sz, tokens_in, tokens_out}
 use Rattle.ga_boxed.specs.contracts.live_block.cells.deallocate as F

@@ -1,17 +1,16 @@
 -- `chunks_from_slice_mut` cuts the slice behind its whole rows, so the slice ends as what the rows' items and the
 -- rest end as, one after the other. The borrow checker shows no clause on two parts where one of them is passed on to
 -- a call that makes rows of it, so this proof walks the code by hand. Assumes `Logic`.
-use Rattle.ga_views.proofs.walks.Names.{addr, agg, alloc_all, and_then, ap, arg, arg_laws, arith, Array, by, Dict, dnil}
-use Rattle.ga_views.proofs.walks.Names.{done, drop, drop_list, emp, ent, enter, fact, fact_i, feq_i, fjoin, fld, flft}
-use Rattle.ga_views.proofs.walks.Names.{follows_both, fpack, framed, free_all, from, fsplit, ftrue, get, get_in, GName}
-use Rattle.ga_views.proofs.walks.Names.{group, heard, hop, id⊢, impl_of, Is, lands_as, Laws, layout, length, Lft, List}
-use Rattle.ga_views.proofs.walks.Names.{Logic, look_at, look_in_at, move, mut_slice_vals, MutSlice, named, NamedLft, no}
-use Rattle.ga_views.proofs.walks.Names.{no_more, nothing, of_list, of_opd, only, owned, owns, param, param_laws}
-use Rattle.ga_views.proofs.walks.Names.{pass_all, peeks, qed, RattleType, raw, refl, returns, rewrite, sem, sep, sets}
-use Rattle.ga_views.proofs.walks.Names.{shows, slice_val, split, split3, stop, sub, sym, tables, take, tcons, tnil}
-use Rattle.ga_views.proofs.walks.Names.{Tuple, tuple_laws, tuple_type, ty_int, ty_ptr, ty_struct, uint_Makes, Ura, use0}
-use Rattle.ga_views.proofs.walks.Names.{use2, usize, Val, Valss, vint, vstruct, w64, whole, within, yes, !, [], ‵, ℕ}
-use Rattle.ga_views.proofs.walks.Names.{⊑_meet, ⊑_refl, ⊑_trans, ◌$◌, ◌*◌, ◌++◌, ◌<◌, ◌∙◌, ◌∵◌, ◌∷◌, ◌≡◌, ◌≤◌, ◌⊑◌, ◌⊛◌}
+use Rattle.ga_views.proofs.walks.Names
+use Names.{addr, agg, alloc_all, and_then, ap, arg, arg_laws, arith, Array, by, Dict, dnil, done, drop, drop_list, emp}
+use Names.{ent, enter, fact, fact_i, feq_i, fjoin, fld, flft, follows_both, fpack, framed, free_all, from, fsplit}
+use Names.{ftrue, get, get_in, GName, group, heard, hop, id⊢, impl_of, Is, lands_as, Laws, layout, length, Lft, List}
+use Names.{Logic, look_at, look_in_at, move, mut_slice_vals, MutSlice, named, NamedLft, no, no_more, nothing, of_list}
+use Names.{of_opd, only, owned, owns, param, param_laws, pass_all, peeks, qed, RattleType, raw, refl, returns, rewrite}
+use Names.{sem, sep, sets, shows, slice_val, split, split3, stop, sub, sym, tables, take, tcons, tnil, Tuple}
+use Names.{tuple_laws, tuple_type, ty_int, ty_ptr, ty_struct, uint_Makes, Ura, use0, use2, usize, Val, Valss, vint}
+use Names.{vstruct, w64, whole, within, yes, !, [], ‵, ℕ, ⊑_meet, ⊑_refl, ⊑_trans, ◌$◌, ◌*◌, ◌++◌, ◌<◌, ◌∙◌, ◌∵◌, ◌∷◌}
+use Names.{◌≡◌, ◌≤◌, ◌⊑◌, ◌⊛◌}
 use Rattle.std.proofs.Common.{◌/◌, ◌⊎◌}
 use denote.Param.NoDrop.{glues}
 use denote.Struct.Declared.{shape}

@@ -1,19 +1,16 @@
 -- `get_mut` lends the row where there is one, and else gives the rows up as they were. The borrow checker shows no
 -- clause on a loan that the answer holds in a view, so this proof walks the code by hand. Assumes `Logic`.
-use Rattle.ga_views.proofs.walks.Names.{a_type, addr, after, agg, alloc_all, and_then, ap, Args, arith, Array}
-use Rattle.ga_views.proofs.walks.Names.{as_fields, at_ret, await, bin, Bor, bounded, branches, by, dcons, dnil, done}
-use Rattle.ga_views.proofs.walks.Names.{drop, emp, ent, enter, env, exec, fact, fact_i, feq_l, first, fjoin, flft}
-use Rattle.ga_views.proofs.walks.Names.{flt_l, Fn, follows, follows_by, follows_if, framed, free_all, fres, fsplit}
-use Rattle.ga_views.proofs.walks.Names.{fsplit3, ftrue, get, GName, Goes-dropped, Goes-spent_ref, group, heard, id⊢}
-use Rattle.ga_views.proofs.walks.Names.{inst_fn, Is, keep, lands_as, later, Laws, leaves, length, Lft, List, lit, lit<}
-use Rattle.ga_views.proofs.walks.Names.{live, Logic, look_at, ltb→lt, meet_⊑_right, move, mut_Tells, mut_vals, MutBor}
-use Rattle.ga_views.proofs.walks.Names.{MutRef, MutSlice, named, NamedLft, nltb→le, no, no_more, nothing, of_list}
-use Rattle.ga_views.proofs.walks.Names.{of_opd, only, owned, owns, param, param_laws, pass_all, peeks, pick, plain}
-use Rattle.ga_views.proofs.walks.Names.{proved, qed, RattleType, raw, refl, RefMutOf, returns, rewrite, sem, sets}
-use Rattle.ga_views.proofs.walks.Names.{sets_last, shows, shr_vals, some, split, split3, stay_dropped, Stays, stop}
-use Rattle.ga_views.proofs.walks.Names.{subst, sym, tables, through, true≢false, ty_int, uint_Makes, uint_Tells}
-use Rattle.ga_views.proofs.walks.Names.{uint_vals, Ura, use0, use1, use2, usize, Val, vint, w64, w8, walk_of, yes, ! }
-use Rattle.ga_views.proofs.walks.Names.{[], ‵, ℕ, ⊑_trans, ◌$◌, ◌<◌, ◌∙◌, ◌∵◌, ◌∷◌, ◌≡◌, ◌≤◌, ◌⊑◌, ◌⊛◌}
+use Rattle.ga_views.proofs.walks.Names
+use Names.{a_type, addr, after, agg, alloc_all, and_then, ap, Args, arith, Array, as_fields, at_ret, await, bin, Bor}
+use Names.{bounded, branches, by, dcons, dnil, done, drop, emp, ent, enter, env, exec, fact, fact_i, feq_l, first}
+use Names.{fjoin, flft, flt_l, Fn, follows, follows_by, follows_if, framed, free_all, fres, fsplit, fsplit3, ftrue, get}
+use Names.{GName, Goes-dropped, Goes-spent_ref, group, heard, id⊢, inst_fn, Is, keep, lands_as, later, Laws, leaves}
+use Names.{length, Lft, List, lit, lit<, live, Logic, look_at, ltb→lt, meet_⊑_right, move, mut_Tells, mut_vals, MutBor}
+use Names.{MutRef, MutSlice, named, NamedLft, nltb→le, no, no_more, nothing, of_list, of_opd, only, owned, owns, param}
+use Names.{param_laws, pass_all, peeks, pick, plain, proved, qed, RattleType, raw, refl, RefMutOf, returns, rewrite}
+use Names.{sem, sets, sets_last, shows, shr_vals, some, split, split3, stay_dropped, Stays, stop, subst, sym, tables}
+use Names.{through, true≢false, ty_int, uint_Makes, uint_Tells, uint_vals, Ura, use0, use1, use2, usize, Val, vint, w64}
+use Names.{w8, walk_of, yes, !, [], ‵, ℕ, ⊑_trans, ◌$◌, ◌<◌, ◌∙◌, ◌∵◌, ◌∷◌, ◌≡◌, ◌≤◌, ◌⊑◌, ◌⊛◌}
 use Rattle.ga_views.proofs.walks.SharedLoan.{comes_back, lent_shared, lends_shared}
 use Rattle.ga_views.proofs.walks.CallStep.{asked, calls}
 use Rattle.ga_views.proofs.walks.SliceWalk.{passes}

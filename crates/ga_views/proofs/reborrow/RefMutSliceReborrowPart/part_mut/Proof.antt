@@ -2,11 +2,11 @@
 -- The borrow checker shows an `ensures*` only where the body hands on a field or a call's result, so this proof walks
 -- the code by hand: the inner reference is opened and read, which gives the part's place, and then the part is lent
 -- by `PartLoan`'s `lends_part`. Assumes `Logic`.
-use Rattle.ga_views.proofs.walks.Names.{addr, agg, alloc_all, and_then, ap, arith, at_last, await, bin, by, drop_list}
-use Rattle.ga_views.proofs.walks.Names.{enter, fld, free_all, get, get_in, hop, is, keep, later, layout, length, load}
-use Rattle.ga_views.proofs.walks.Names.{look_at, look_in, no_more, of_opd, param, pass_all, pick, qed, RattleType, refl}
-use Rattle.ga_views.proofs.walks.Names.{renamed, returns, sets, size, size_word, some, split3, stop, sub, take, through}
-use Rattle.ga_views.proofs.walks.Names.{use3, vint, w64, whole, !, [], ℕ, ◌$◌, ◌*◌, ◌+◌, ◌<◌, ◌^◌, ◌∵◌, ◌∷◌, ◌≡◌, ◌≤◌}
+use Rattle.ga_views.proofs.walks.Names
+use Names.{addr, agg, alloc_all, and_then, ap, arith, at_last, await, bin, by, drop_list, enter, fld, free_all, get}
+use Names.{get_in, hop, is, keep, later, layout, length, load, look_at, look_in, no_more, of_opd, param, pass_all, pick}
+use Names.{qed, RattleType, refl, renamed, returns, sets, size, size_word, some, split3, stop, sub, take, through, use3}
+use Names.{vint, w64, whole, !, [], ℕ, ◌$◌, ◌*◌, ◌+◌, ◌<◌, ◌^◌, ◌∵◌, ◌∷◌, ◌≡◌, ◌≤◌}
 use Rattle.std.proofs.Common.{◌-◌}
 use Rattle.std.specs.List.{refill}
 use Rattle.ga_views.proofs.walks.PartLoan.{lends_part, lent_part, slice}

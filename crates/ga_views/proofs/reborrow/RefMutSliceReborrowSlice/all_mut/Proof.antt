@@ -1,12 +1,12 @@
 -- `all_mut` lends all the items of the slice that the inner reference points to, for all of the outer reference's
 -- lifetime. The borrow checker shows an `ensures*` only where the body hands on a field or a call's result, so this
 -- proof walks the code by hand. Assumes `Logic`.
-use Rattle.ga_views.proofs.walks.Names.{addr, agg, alloc_all, and_then, ap, at_last, await, by, done, emp, ent, enter}
-use Rattle.ga_views.proofs.walks.Names.{feq_i, feq_l, fjoin, fld, Fml, free_all, from, fsplit, get, hop, is, keep}
-use Rattle.ga_views.proofs.walks.Names.{later, length, List, load, Logic, look_at, look_in, look_in_at, move, MutBor}
-use Rattle.ga_views.proofs.walks.Names.{no_more, nothing, of_opd, param, pass_all, pick, qed, RattleType, raw, refl}
-use Rattle.ga_views.proofs.walks.Names.{renamed, returns, rewrite, sem, sep, sets, slice_val, some, split3, stop, sub}
-use Rattle.ga_views.proofs.walks.Names.{through, Ura, use3, whole, !, [], ‵, ℕ, ◌$◌, ◌∵◌, ◌∷◌, ◌≡◌}
+use Rattle.ga_views.proofs.walks.Names
+use Names.{addr, agg, alloc_all, and_then, ap, at_last, await, by, done, emp, ent, enter, feq_i, feq_l, fjoin, fld, Fml}
+use Names.{free_all, from, fsplit, get, hop, is, keep, later, length, List, load, Logic, look_at, look_in, look_in_at}
+use Names.{move, MutBor, no_more, nothing, of_opd, param, pass_all, pick, qed, RattleType, raw, refl, renamed, returns}
+use Names.{rewrite, sem, sep, sets, slice_val, some, split3, stop, sub, through, Ura, use3, whole, !, [], ‵, ℕ, ◌$◌}
+use Names.{◌∵◌, ◌∷◌, ◌≡◌}
 use Rattle.std.specs.List.{refill}
 use Rattle.ga_views.proofs.PartLemmas.{refilled}
 use Rattle.ga_views.proofs.walks.PartLoan.{lends_slice, lent_slice}

@@ -2,11 +2,11 @@
 -- does not follow a result through two references, so this proof walks the code by hand: the
 -- inner reference is opened and its pointer read, which gives the element's place, and then the
 -- element is lent by `ItemLoan`'s `lends_item`.
-use Rattle.ga_views.proofs.walks.Names.{addr, alloc_all, ap, arith, at_last, await, bin, by, enter, fld, free_all, get}
-use Rattle.ga_views.proofs.walks.Names.{get_or, is, keep, later, layout, learn, length, load, look_at, look_in, param}
-use Rattle.ga_views.proofs.walks.Names.{pass_all, pick, plain, qed, RattleType, refl, RefMutOf, renamed, returns, set}
-use Rattle.ga_views.proofs.walks.Names.{sets, size, size_word, some, split3, stop, sub, through, use3, vint, w64, whole}
-use Rattle.ga_views.proofs.walks.Names.{ !, [], ◌$◌, ◌*◌, ◌<◌, ◌^◌, ◌∵◌, ◌∷◌, ◌≡◌}
+use Rattle.ga_views.proofs.walks.Names
+use Names.{addr, alloc_all, ap, arith, at_last, await, bin, by, enter, fld, free_all, get, get_or, is, keep, later}
+use Names.{layout, learn, length, load, look_at, look_in, param, pass_all, pick, plain, qed, RattleType, refl, RefMutOf}
+use Names.{renamed, returns, set, sets, size, size_word, some, split3, stop, sub, through, use3, vint, w64, whole, ! }
+use Names.{[], ◌$◌, ◌*◌, ◌<◌, ◌^◌, ◌∵◌, ◌∷◌, ◌≡◌}
 use Rattle.ga_views.proofs.walks.InnerSlice.{closes_inner, Inner, lends_inner, loan_of, opens_inner}
 use Rattle.ga_views.proofs.walks.ItemLoan.{item, lends_item, lent_item, offset_fits, uncapped, uncapped_fits}
 use Rattle.ga_views.proofs.walks.LoanWalk.{Had, Loan, lends}

@@ -1,19 +1,16 @@
 -- `try_from_mut_slice` makes the view where the length is right, and else gives the slice up as it was. The borrow
 -- checker shows no clause on a lender that is a slice where the answer is a `Result`, so this proof walks the code by
 -- hand. Assumes `Logic`.
-use Rattle.ga_views.proofs.walks.Names.{a_type, addr, after, agg, alloc_all, and_then, ap, Args, Array, as_fields}
-use Rattle.ga_views.proofs.walks.Names.{assume, at_ret, bin, bounded, branches, by, coded_list, dcons, dnil, done, drop}
-use Rattle.ga_views.proofs.walks.Names.{each, emp, ent, enter, env, eqb, eqb_refl, eqb→eq, exec, fact, fact_i, fauth}
-use Rattle.ga_views.proofs.walks.Names.{feq, feq_i, fex, first, fjoin, fld, flft, Fml, Fn, fobs, follows, follows_by}
-use Rattle.ga_views.proofs.walks.Names.{follows_if, fpack, framed, free_all, fres, from, fsep, fsplit, fsplit3, ftrue}
-use Rattle.ga_views.proofs.walks.Names.{get, get_in, GName, group, Gv, heard, heres_id, hop, inst_fn, Is, keep}
-use Rattle.ga_views.proofs.walks.Names.{lands_as, length, Lft, Lifetime, List, lit, lit<, live, Logic, look_at}
-use Rattle.ga_views.proofs.walks.Names.{look_in_at, move, mut_slice_vals, MutBor, MutSlice, named, NamedLft, no_more}
-use Rattle.ga_views.proofs.walks.Names.{nothing, of_list, of_opd, owns, param, pass_all, peeks, qed, RattleType, raw}
-use Rattle.ga_views.proofs.walks.Names.{refl, returns, rewrite, sem, sets, sets_last, shows, split, split3, stop, sub}
-use Rattle.ga_views.proofs.walks.Names.{subst, such_by, sym, T, T_not, tables, true≢false, ty_int, Ura, use0, use1, Val}
-use Rattle.ga_views.proofs.walks.Names.{vint, vnil, vstruct, w8, wand, whole, !, [], ‵, ℕ, ◌$◌, ◌∙◌, ◌∵◌, ◌∷◌, ◌≡◌, ◌⊑◌}
-use Rattle.ga_views.proofs.walks.Names.{◌⊛◌}
+use Rattle.ga_views.proofs.walks.Names
+use Names.{a_type, addr, after, agg, alloc_all, and_then, ap, Args, Array, as_fields, assume, at_ret, bin, bounded}
+use Names.{branches, by, coded_list, dcons, dnil, done, drop, each, emp, ent, enter, env, eqb, eqb_refl, eqb→eq, exec}
+use Names.{fact, fact_i, fauth, feq, feq_i, fex, first, fjoin, fld, flft, Fml, Fn, fobs, follows, follows_by}
+use Names.{follows_if, fpack, framed, free_all, fres, from, fsep, fsplit, fsplit3, ftrue, get, get_in, GName, group, Gv}
+use Names.{heard, heres_id, hop, inst_fn, Is, keep, lands_as, length, Lft, Lifetime, List, lit, lit<, live, Logic}
+use Names.{look_at, look_in_at, move, mut_slice_vals, MutBor, MutSlice, named, NamedLft, no_more, nothing, of_list}
+use Names.{of_opd, owns, param, pass_all, peeks, qed, RattleType, raw, refl, returns, rewrite, sem, sets, sets_last}
+use Names.{shows, split, split3, stop, sub, subst, such_by, sym, T, T_not, tables, true≢false, ty_int, Ura, use0, use1}
+use Names.{Val, vint, vnil, vstruct, w8, wand, whole, !, [], ‵, ℕ, ◌$◌, ◌∙◌, ◌∵◌, ◌∷◌, ◌≡◌, ◌⊑◌, ◌⊛◌}
 use denote.Shadow.{makes_shadow}
 use Rattle.ga_views.proofs.walks.CallStep.{asked}
 use Rattle.ga_views.proofs.walks.LengthCall.{calls_length}

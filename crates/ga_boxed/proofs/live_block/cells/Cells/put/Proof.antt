@@ -1,13 +1,11 @@
 -- `put` fills the slot behind the items. Assumes `Logic`.
-use Rattle.ga_boxed.proofs.walks.Names.{◌≡◌, refl, sym, ap, subst, ◌∙◌, ℕ, ◌+◌, ◌-◌, ◌*◌, ◌<◌, ◌^◌, arith, List, []}
-use Rattle.ga_boxed.proofs.walks.Names.{◌∷◌, ◌++◌, part_in, Ura, full_share, Fn, w64, inst_fn, Val, vint, vunit, fat}
-use Rattle.ga_boxed.proofs.walks.Names.{froom, Env, Calls, Loops, Logic, tables, ‵, ◌⊛◌, at_ret, ◌$◌, ◌∵◌, !, qed, by}
-use Rattle.ga_boxed.proofs.walks.Names.{move, keep, use1, use2, split, rewrite, fsplit, feq_i, whole, sub, init, stop}
-use Rattle.ga_boxed.proofs.walks.Names.{fld, unit_lit, of_opd, assigns_last, first, blocks, exec, returns, enter}
-use Rattle.ga_boxed.proofs.walks.Names.{alloc_all, pass_all, free_all, look_at, get, get_in, through, sets, env}
-use Rattle.ga_boxed.proofs.walks.Names.{part_at, layout, Ptr, mut_vals, no, unit, plain, after, word, word-Good, length}
-use Rattle.ga_boxed.proofs.walks.Names.{length-append, bin, size_lit, take_at, give_at, El, R, args, el_x, elτ}
-use Rattle.ga_boxed.proofs.walks.Names.{times_below, one_below}
+use Rattle.ga_boxed.proofs.walks.Names
+use Names.{◌≡◌, refl, sym, ap, subst, ◌∙◌, ℕ, ◌+◌, ◌-◌, ◌*◌, ◌<◌, ◌^◌, arith, List, [], ◌∷◌, ◌++◌, part_in, Ura}
+use Names.{full_share, Fn, w64, inst_fn, Val, vint, vunit, fat, froom, Env, Calls, Loops, Logic, tables, ‵, ◌⊛◌, at_ret}
+use Names.{◌$◌, ◌∵◌, !, qed, by, move, keep, use1, use2, split, rewrite, fsplit, feq_i, whole, sub, init, stop, fld}
+use Names.{unit_lit, of_opd, assigns_last, first, blocks, exec, returns, enter, alloc_all, pass_all, free_all, look_at}
+use Names.{get, get_in, through, sets, env, part_at, layout, Ptr, mut_vals, no, unit, plain, after, word, word-Good}
+use Names.{length, length-append, bin, size_lit, take_at, give_at, El, R, args, el_x, elτ, times_below, one_below}
 use Rattle.ga_boxed.proofs.walks.CallWalk.{Call, Had, Walk, number, meets_grown}
 use Rattle.ga_boxed.proofs.walks.CellsWalk.{by_mut, closes_cells, opens_cells, the_base}
 use Rattle.ga_boxed.proofs.walks.ClauseFacts.{facts, has_every}

@@ -1,16 +1,14 @@
 -- `put_array` writes an array over the room of as many slots. Assumes `Logic`.
-use Rattle.ga_boxed.proofs.walks.Names.{◌≡◌, refl, ◌∙◌, ℕ, ◌+◌, ◌*◌, ◌<◌, ◌^◌, arith, List, [], ◌∷◌, ◌++◌, length, Ura}
-use Rattle.ga_boxed.proofs.walks.Names.{full_share, Ty, Fn, Args, ty_array, a_type, a_number, inst_fn, Val, vunit, via}
-use Rattle.ga_boxed.proofs.walks.Names.{fat, size, Env, Calls, Loops, Logic, tables, flt_i, flt_l, ‵, given, at_ret}
-use Rattle.ga_boxed.proofs.walks.Names.{◌$◌, ◌∵◌, !, qed, by, move, keep, use1, use2, learn, rewrite, fsplit, fjoin}
-use Rattle.ga_boxed.proofs.walks.Names.{feq_i, whole, sub, init, stop, hop, from, fld, unit_lit, of_opd, assigns_last}
-use Rattle.ga_boxed.proofs.walks.Names.{first, blocks, exec, returns, enter, alloc_all, pass_all, free_all, look_at}
-use Rattle.ga_boxed.proofs.walks.Names.{look_in_at, get, sets, env, take_at, give_at, Array, no, all_rest, RattleType}
-use Rattle.ga_boxed.proofs.walks.Names.{part_at, ArrayAt, param, number, layout, layouts, Laws, param_laws}
-use Rattle.ga_boxed.proofs.walks.Names.{array_at_laws, Ptr, block_ptr, mut_vals, unit, plain, part_in, as_written}
-use Rattle.ga_boxed.proofs.walks.Names.{after, Good, word, word-Good, El, R, el_x, elτ, cells_own, empty, subst}
-use Rattle.ga_boxed.proofs.walks.Names.{zero-mul, ent, ftrue, fsep, feq, sem, cells, use0, feq_l, done, Entries}
-use Rattle.ga_boxed.proofs.walks.Names.{all_last, mem, nothing}
+use Rattle.ga_boxed.proofs.walks.Names
+use Names.{◌≡◌, refl, ◌∙◌, ℕ, ◌+◌, ◌*◌, ◌<◌, ◌^◌, arith, List, [], ◌∷◌, ◌++◌, length, Ura, full_share, Ty, Fn, Args}
+use Names.{ty_array, a_type, a_number, inst_fn, Val, vunit, via, fat, size, Env, Calls, Loops, Logic, tables, flt_i}
+use Names.{flt_l, ‵, given, at_ret, ◌$◌, ◌∵◌, !, qed, by, move, keep, use1, use2, learn, rewrite, fsplit, fjoin, feq_i}
+use Names.{whole, sub, init, stop, hop, from, fld, unit_lit, of_opd, assigns_last, first, blocks, exec, returns, enter}
+use Names.{alloc_all, pass_all, free_all, look_at, look_in_at, get, sets, env, take_at, give_at, Array, no, all_rest}
+use Names.{RattleType, part_at, ArrayAt, param, number, layout, layouts, Laws, param_laws, array_at_laws, Ptr}
+use Names.{block_ptr, mut_vals, unit, plain, part_in, as_written, after, Good, word, word-Good, El, R, el_x, elτ}
+use Names.{cells_own, empty, subst, zero-mul, ent, ftrue, fsep, feq, sem, cells, use0, feq_l, done, Entries, all_last}
+use Names.{mem, nothing}
 use Rattle.ga_boxed.proofs.walks.BlockRoom.{no_room, to_block}
 use denote.ArrayMemory.{Array-apart}
 use denote.Index.{row, whole_in}

@@ -1,10 +1,9 @@
 -- `slice` shows the items that the cells lend. Assumes `Logic`.
-use Rattle.ga_boxed.proofs.walks.Names.{◌≡◌, refl, sym, ap, ◌∙◌, ℕ, ◌+◌, ◌*◌, ◌≤◌, ◌<◌, ◌^◌, arith, List, [], ◌∷◌, Ura}
-use Rattle.ga_boxed.proofs.walks.Names.{Fn, imm, inst_fn, Val, never, id⊢, Calls, Loops, Logic, tables, toks, raw}
-use Rattle.ga_boxed.proofs.walks.Names.{group, ‵, ◌⊛◌, ◌$◌, ◌∵◌, !, qed, by, move, keep, drop, split, rewrite, fsplit}
-use Rattle.ga_boxed.proofs.walks.Names.{fjoin, feq_i, flt_l, flt_i, in_a_block, Bor, shr_vals, slice_val}
-use Rattle.ga_boxed.proofs.walks.Names.{elements_shared, SliceRefOf, plain, nothing, length, El, R, args, el_x}
-use Rattle.ga_boxed.proofs.walks.Names.{times_below, cells_lent}
+use Rattle.ga_boxed.proofs.walks.Names
+use Names.{◌≡◌, refl, sym, ap, ◌∙◌, ℕ, ◌+◌, ◌*◌, ◌≤◌, ◌<◌, ◌^◌, arith, List, [], ◌∷◌, Ura, Fn, imm, inst_fn, Val, never}
+use Names.{id⊢, Calls, Loops, Logic, tables, toks, raw, group, ‵, ◌⊛◌, ◌$◌, ◌∵◌, !, qed, by, move, keep, drop, split}
+use Names.{rewrite, fsplit, fjoin, feq_i, flt_l, flt_i, in_a_block, Bor, shr_vals, slice_val, elements_shared}
+use Names.{SliceRefOf, plain, nothing, length, El, R, args, el_x, times_below, cells_lent}
 use denote.Opens.{hide, unhide}
 use Rattle.ga_boxed.specs.contracts.live_block.cells.Cells.slice.Key.{name as #self}
 use Rattle.ga_boxed.proofs.walks.CallWalk.{Call, Had, Walk, by_ref, meets_grown}

@@ -1,12 +1,11 @@
 -- `slice_mut` lends the items, and the cells follow them. Assumes `Logic`.
-use Rattle.ga_boxed.proofs.walks.Names.{◌≡◌, refl, sym, ap, subst, ◌∙◌, ℕ, ◌+◌, ◌*◌, ◌≤◌, ◌<◌, ◌^◌, arith, List, []}
-use Rattle.ga_boxed.proofs.walks.Names.{◌∷◌, Ura, full_share, Fn, named, mut, inst_fn, Val, ent, sep, id⊢, GName, Fml}
-use Rattle.ga_boxed.proofs.walks.Names.{fsep, flft, Calls, Loops, Logic, sem, tables, toks, raw, split3, ‵, ◌⊛◌, some}
-use Rattle.ga_boxed.proofs.walks.Names.{later, await, pick, ◌$◌, ◌∵◌, !, qed, by, move, keep, use1, split, join, group}
-use Rattle.ga_boxed.proofs.walks.Names.{rewrite, fsplit, fsplit3, fjoin, fjoin3, fpack, flt_i, done, cells, Array, mem}
-use Rattle.ga_boxed.proofs.walks.Names.{cell_at, Ptr, block_ptr, MutBor, MutRef, mut_vals, MutSlice, slice_val}
-use Rattle.ga_boxed.proofs.walks.Names.{SliceRefMutOf, plain, nothing, length, El, R, args, el_x, times_below}
-use Rattle.ga_boxed.proofs.walks.Names.{cells_own, empty}
+use Rattle.ga_boxed.proofs.walks.Names
+use Names.{◌≡◌, refl, sym, ap, subst, ◌∙◌, ℕ, ◌+◌, ◌*◌, ◌≤◌, ◌<◌, ◌^◌, arith, List, [], ◌∷◌, Ura, full_share, Fn, named}
+use Names.{mut, inst_fn, Val, ent, sep, id⊢, GName, Fml, fsep, flft, Calls, Loops, Logic, sem, tables, toks, raw}
+use Names.{split3, ‵, ◌⊛◌, some, later, await, pick, ◌$◌, ◌∵◌, !, qed, by, move, keep, use1, split, join, group}
+use Names.{rewrite, fsplit, fsplit3, fjoin, fjoin3, fpack, flt_i, done, cells, Array, mem, cell_at, Ptr, block_ptr}
+use Names.{MutBor, MutRef, mut_vals, MutSlice, slice_val, SliceRefMutOf, plain, nothing, length, El, R, args, el_x}
+use Names.{times_below, cells_own, empty}
 use denote.Follow.{follows}
 use denote.FollowSlice.{Elements, lends_Elements}
 use denote.Memory.{part_of}

@@ -1,7 +1,8 @@
 -- `take_last` moves the last item out, and its slot is room. Assumes `Logic`.
-use Rattle.ga_boxed.proofs.walks.Names.{◌≢◌, ◌≡◌, refl, sym, ap, ℕ, ◌+◌, ◌*◌, arith, List, [], ◌∷◌, ◌++◌, length, Ura}
-use Rattle.ga_boxed.proofs.walks.Names.{full_share, froom, inst_fn, Logic, ‵, ◌⊛◌, ◌$◌, ◌∵◌, !, qed, use1, use2, split}
-use Rattle.ga_boxed.proofs.walks.Names.{rewrite, done, part_at, El, R, args, el_x, elτ, length-append, ◌∙◌}
+use Rattle.ga_boxed.proofs.walks.Names
+use Names.{◌≢◌, ◌≡◌, refl, sym, ap, ℕ, ◌+◌, ◌*◌, arith, List, [], ◌∷◌, ◌++◌, length, Ura, full_share, froom, inst_fn}
+use Names.{Logic, ‵, ◌⊛◌, ◌$◌, ◌∵◌, !, qed, use1, use2, split, rewrite, done, part_at, El, R, args, el_x, elτ}
+use Names.{length-append, ◌∙◌}
 use Rattle.ga_boxed.proofs.walks.EndLemmas.{split_last, Around, Held, room_in, item_out}
 use Rattle.ga_boxed.proofs.walks.TakeWalk.{Giving, Placing, Taken, meets_taking}
 use Rattle.ga_boxed.proofs.walks.WalkParts.{Cr, sz}
