@@ -1,14 +1,4 @@
 pub mod AnswerLemmas
 pub mod BlockLemmas
-pub mod BlockRoom
-pub mod CallWalk
-pub mod CellsSharing
-pub mod CellsSliceWalk
-pub mod CellsWalk
-pub mod CellsWalkNames
-pub mod ClauseFacts
-pub mod Crosses
-pub mod EndLemmas
-pub mod TakeWalk
 pub mod VecLemmas
-pub mod WalkParts
+pub mod walks

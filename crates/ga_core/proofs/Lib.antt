@@ -1,4 +1,3 @@
-mod LentStore
 mod MadeLemmas
 mod NextCalls
 mod TupleLemmas
@@ -13,17 +12,12 @@ pub mod PairLemmas
 pub mod RunLemmas
 pub mod SlotLemmas
 pub mod ZipLemmas
+pub mod walks
 pub use Rattle.arrayvec.proofs.IterLemmas
 pub use Rattle.ga_views.proofs.ActsLemmas
 pub use Rattle.ga_views.proofs.CallLemmas
-pub use Rattle.ga_views.proofs.CallStep
 pub use Rattle.ga_views.proofs.CutLemmas
 pub use Rattle.ga_views.proofs.HexLemmas
-pub use Rattle.ga_views.proofs.ItemLoan
 pub use Rattle.ga_views.proofs.JoinLemmas
-pub use Rattle.ga_views.proofs.LengthCall
 pub use Rattle.ga_views.proofs.RowLemmas
 pub use Rattle.ga_views.proofs.RowSetLemmas
-pub use Rattle.ga_views.proofs.SliceLaws
-pub use Rattle.ga_views.proofs.SliceWalk
-pub use Rattle.ga_views.proofs.SplitWalk

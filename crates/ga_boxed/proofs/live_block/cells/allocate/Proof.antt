@@ -1,31 +1,28 @@
 -- `allocate` owns the new block as room, or for no slots nothing, with the right to free it. Assumes `Logic`.
-use Rattle.ga_boxed.proofs.CellsWalkNames.{◌≡◌, refl, sym, ap, Bool, true, false, ℕ, ◌*◌, ◌<◌, ◌^◌, arith, List, [], ◌∷◌}
-use Rattle.ga_boxed.proofs.CellsWalkNames.{eqb→eq, lit<, Ura, Fn, Body, w64, inst_fn, Val, vptr, vint, vstruct, vcons, vnil}
-use Rattle.ga_boxed.proofs.CellsWalkNames.{ent, sep, Incl-trans, flft, align, capped, capped_fits, Env, Wp, after_seq}
-use Rattle.ga_boxed.proofs.CellsWalkNames.{at_return, Logic, sem, ◌⊑◌, Post as After, any_q, ⋆, ‵, raw, ◌⊛◌, later, await}
-use Rattle.ga_boxed.proofs.CellsWalkNames.{at_ret, ◌$◌, ◌∵◌, !, qed, by, move, keep, use0, use1, use2, use3, split, rewrite}
-use Rattle.ga_boxed.proofs.CellsWalkNames.{fsplit, fjoin, whole, agg, addr, align_word, and_then, bin, branches, enter, exec}
-use Rattle.ga_boxed.proofs.CellsWalkNames.{first, fld, from, lit, no_more, of_opd, returns, returns_within, size_word, skips}
-use Rattle.ga_boxed.proofs.CellsWalkNames.{stop, switches_on, alloc_all, pass_all, free_all, look_at, get, get_in, get_tag}
-use Rattle.ga_boxed.proofs.CellsWalkNames.{lands_as, sets, sets_last, is, env, yes, Is, RattleType, layout, Ptr, block_ptr}
-use Rattle.ga_boxed.proofs.CellsWalkNames.{plain, nothing, owned, Struct, Struct-Makes, Tuple, calls_at, Triple, has_block}
-use Rattle.ga_boxed.proofs.CellsWalkNames.{owns_if, Al, token, Answer-typed, takes_key, Takes, at_takes, Answered, Takes-goes}
-use Rattle.ga_boxed.proofs.CellsWalkNames.{Takes-gives, answers, El, R, elτ, uncapped, uncapped_fits, T_true, Good, first_Good}
-use Rattle.ga_boxed.proofs.CellsWalkNames.{is_not, word, word-Good, after, arm_body, head, cells_own, deed_owns}
+use Rattle.ga_boxed.proofs.walks.Names
+use Names.{◌≡◌, refl, sym, ap, Bool, true, false, ℕ, ◌*◌, ◌<◌, ◌^◌, arith, List, [], ◌∷◌, eqb→eq, lit<, Ura, Fn, Body}
+use Names.{w64, inst_fn, Val, vptr, vint, vstruct, vcons, vnil, ent, sep, Incl-trans, flft, align, capped, capped_fits}
+use Names.{Env, Wp, after_seq, at_return, Logic, sem, ◌⊑◌, Post as After, any_q, ⋆, ‵, raw, ◌⊛◌, later, await, at_ret}
+use Names.{◌$◌, ◌∵◌, !, qed, by, move, keep, use0, use1, use2, use3, split, rewrite, fsplit, fjoin, whole, agg, addr}
+use Names.{align_word, and_then, bin, branches, enter, exec, first, fld, from, lit, no_more, of_opd, returns}
+use Names.{returns_within, size_word, skips, stop, switches_on, alloc_all, pass_all, free_all, look_at, get, get_in}
+use Names.{get_tag, lands_as, sets, sets_last, is, env, yes, Is, RattleType, layout, Ptr, block_ptr, plain, nothing}
+use Names.{owned, Struct, Struct-Makes, Tuple, calls_at, Triple, has_block, owns_if, Al, token, Answer-typed, takes_key}
+use Names.{Takes, at_takes, Answered, Takes-goes, Takes-gives, answers, El, R, elτ, uncapped, uncapped_fits, T_true}
+use Names.{Good, first_Good, is_not, word, word-Good, after, arm_body, head, cells_own, deed_owns}
 use types.Match.{live, vrt, in_variant}
 use denote.Struct.Declared as Declared
 use Rattle.std.specs.Prelude.{Err, IfOk, IsOk, Ok}
 use Rattle.std.specs.contracts.result.Result as RS
 use Rattle.std.specs.contracts.alloc.AllocError as AE
-use Rattle.ga_boxed.proofs.WalkParts.{block_ty, block_size, block_align, args, P}
+use Rattle.ga_boxed.proofs.walks.WalkParts.{block_ty, block_size, block_align, args, P, Bs, Cr, Dd, Mark, others, al_of}
+use Rattle.ga_boxed.proofs.walks.WalkParts.{mark, mark_made, sz, tokens_in, tokens_out, three_of, three_val, word_made}
 use Rattle.std.proofs.ResultValues.{ok_of, err_of}
 use Rattle.ga_boxed.specs.contracts.live_block.cells.allocate as F
 use Rattle.ga_boxed.specs.contracts.live_block.cells.allocate.Key.{name as #self}
-use Rattle.ga_boxed.proofs.CallWalk.{Call, Had, Walk, by_ref, meets, number, Linked, linked}
-use Rattle.ga_boxed.proofs.ClauseFacts.{AllFacts, facts, has_every}
-use Rattle.ga_boxed.proofs.BlockRoom.{all_empty, none_empty}
-use Rattle.ga_boxed.proofs.WalkParts.{Bs, Cr, Dd, Mark, others, al_of, mark, mark_made, sz, tokens_in, tokens_out}
-use Rattle.ga_boxed.proofs.WalkParts.{three_of, three_val, word_made}
+use Rattle.ga_boxed.proofs.walks.CallWalk.{Call, Had, Walk, by_ref, meets, number, Linked, linked}
+use Rattle.ga_boxed.proofs.walks.ClauseFacts.{AllFacts, facts, has_every}
+use Rattle.ga_boxed.proofs.walks.BlockRoom.{all_empty, none_empty}
 use Rattle.ga_boxed.proofs.live_block.cells.allocate.Statement as stated
 use Rattle.ga_boxed.proofs.live_block.cells.allocate.Code as code
 

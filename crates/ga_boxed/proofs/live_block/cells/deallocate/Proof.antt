@@ -1,23 +1,22 @@
 -- `deallocate` makes the block of its empty slots, and hands it back with the allocator's token, or for no slots lets
 -- go of it. Assumes `Logic`.
-use Rattle.ga_boxed.proofs.CellsWalkNames.{◌≡◌, refl, sym, ap, subst, ◌∙◌, Bool, ℕ, ◌*◌, ◌+◌, ◌<◌, ◌^◌, arith, List, [], ◌∷◌, T}
-use Rattle.ga_boxed.proofs.CellsWalkNames.{Ura, Fn, ty_unit, w64, inst_fn, Val, WT, has_ty, vptr, vint, vunit, emp, ent, never}
-use Rattle.ga_boxed.proofs.CellsWalkNames.{id⊢, Incl-trans, froom, flft, align, capped, capped_fits, Env, Logic, ◌⊑◌, ⋆, ‵, raw}
-use Rattle.ga_boxed.proofs.CellsWalkNames.{given, later, await, learn, at_ret, ◌$◌, ◌∵◌, !, qed, by, move, keep, use1, group}
-use Rattle.ga_boxed.proofs.CellsWalkNames.{rewrite, fsplit, fsplit3, feq_i, whole, sub, align_word, and_then, bin, blocks}
-use Rattle.ga_boxed.proofs.CellsWalkNames.{branches, enter, exec, first, fld, lit, no_more, of_opd, returns, size_word, skips}
-use Rattle.ga_boxed.proofs.CellsWalkNames.{stop, unit_lit, alloc_all, pass_all, free_all, look_at, get, get_in, lands_last}
-use Rattle.ga_boxed.proofs.CellsWalkNames.{sets, is, env, yes, no, RattleType, Is, Ptr, block_ptr, ptr_val, in_a_block, unit}
-use Rattle.ga_boxed.proofs.CellsWalkNames.{plain, nothing, calls_at_last, Triple, Goes, stay_dropped, has_block, owns_if, Al}
-use Rattle.ga_boxed.proofs.CellsWalkNames.{Goes-blank, token, gives_key, Gives, at_gives, Gives-goes, Gives-Gives, El, R, elτ}
-use Rattle.ga_boxed.proofs.CellsWalkNames.{uncapped, uncapped_fits, T_true, word, word-Good, after, cells_own, deed_owns}
-use Rattle.ga_boxed.proofs.WalkParts.{block_ty, block_size, block_align, args, P}
+use Rattle.ga_boxed.proofs.walks.Names
+use Names.{◌≡◌, refl, sym, ap, subst, ◌∙◌, Bool, ℕ, ◌*◌, ◌+◌, ◌<◌, ◌^◌, arith, List, [], ◌∷◌, T, Ura, Fn, ty_unit, w64}
+use Names.{inst_fn, Val, WT, has_ty, vptr, vint, vunit, emp, ent, never, id⊢, Incl-trans, froom, flft, align, capped}
+use Names.{capped_fits, Env, Logic, ◌⊑◌, ⋆, ‵, raw, given, later, await, learn, at_ret, ◌$◌, ◌∵◌, !, qed, by, move}
+use Names.{keep, use1, group, rewrite, fsplit, fsplit3, feq_i, whole, sub, align_word, and_then, bin, blocks, branches}
+use Names.{enter, exec, first, fld, lit, no_more, of_opd, returns, size_word, skips, stop, unit_lit, alloc_all}
+use Names.{pass_all, free_all, look_at, get, get_in, lands_last, sets, is, env, yes, no, RattleType, Is, Ptr, block_ptr}
+use Names.{ptr_val, in_a_block, unit, plain, nothing, calls_at_last, Triple, Goes, stay_dropped, has_block, owns_if, Al}
+use Names.{Goes-blank, token, gives_key, Gives, at_gives, Gives-goes, Gives-Gives, El, R, elτ, uncapped, uncapped_fits}
+use Names.{T_true, word, word-Good, after, cells_own, deed_owns}
+use Rattle.ga_boxed.proofs.walks.WalkParts.{block_ty, block_size, block_align, args, P, Bs, Cr, Dd, mark, mark_Tells}
+use Rattle.ga_boxed.proofs.walks.WalkParts.{others, al_of, sz, tokens_in, tokens_out}
 use Rattle.ga_boxed.specs.contracts.live_block.cells.deallocate as F
 use Rattle.ga_boxed.specs.contracts.live_block.cells.deallocate.Key.{name as #self}
-use Rattle.ga_boxed.proofs.CallWalk.{told_by, Behind, Call, Had, Walk, by_ref, meets, number, Linked, linked}
-use Rattle.ga_boxed.proofs.CellsWalk.{the_base}
-use Rattle.ga_boxed.proofs.BlockRoom.{to_block}
-use Rattle.ga_boxed.proofs.WalkParts.{Bs, Cr, Dd, mark, mark_Tells, others, al_of, sz, tokens_in, tokens_out}
+use Rattle.ga_boxed.proofs.walks.CallWalk.{told_by, Behind, Call, Had, Walk, by_ref, meets, number, Linked, linked}
+use Rattle.ga_boxed.proofs.walks.CellsWalk.{the_base}
+use Rattle.ga_boxed.proofs.walks.BlockRoom.{to_block}
 use Rattle.ga_boxed.proofs.live_block.cells.deallocate.Statement as stated
 use Rattle.ga_boxed.proofs.live_block.cells.deallocate.Code as code
 

@@ -1,17 +1,16 @@
 -- `fits` says exactly whether the slots take fewer than 2 ^ 63 bytes, for every element type. Assumes `Logic`.
-use Rattle.ga_boxed.proofs.CellsWalkNames.{Bool, true, not, ◌↔◌, ◌≡◌, refl, sym, subst, ℕ, zero, suc, ◌*◌, ◌/◌, ◌≤◌, ◌<◌, ◌^◌}
-use Rattle.ga_boxed.proofs.CellsWalkNames.{mul-zero, div-le_self, le-div_iff_mul-le, arith, List, [], ◌∷◌, T, eqb, leb, eqb→eq}
-use Rattle.ga_boxed.proofs.CellsWalkNames.{leb→le, le→leb, lit<, uncapped, Ura, inst_fn, Fn, w64, Fits, Val, vbool, vint, ent}
-use Rattle.ga_boxed.proofs.CellsWalkNames.{emp, guard_i, via, capped_fits, capped_is, capped_small, capped, Env, Calls, Loops}
-use Rattle.ga_boxed.proofs.CellsWalkNames.{Logic, tables, drop, flt_l, fsplit, at_ret, ◌$◌, ◌∵◌, !, qed, by, keep, feq_i, lit}
-use Rattle.ga_boxed.proofs.CellsWalkNames.{true_lit, of_opd, bin, first, skips, branches, exec, returns, returns_within, enter}
-use Rattle.ga_boxed.proofs.CellsWalkNames.{size_word, alloc_all, pass_all, free_all, look_at, get, sets, env, bool, usize, yes}
-use Rattle.ga_boxed.proofs.CellsWalkNames.{uint_vals, uint_Tells, plain, nothing, stay_dropped, Goes-dropped, El, args}
-use Rattle.ga_boxed.proofs.CellsWalkNames.{one_below, T_true, after}
+use Rattle.ga_boxed.proofs.walks.Names
+use Names.{Bool, true, not, ◌↔◌, ◌≡◌, refl, sym, subst, ℕ, zero, suc, ◌*◌, ◌/◌, ◌≤◌, ◌<◌, ◌^◌, mul-zero, div-le_self}
+use Names.{le-div_iff_mul-le, arith, List, [], ◌∷◌, T, eqb, leb, eqb→eq, leb→le, le→leb, lit<, uncapped, Ura, inst_fn}
+use Names.{Fn, w64, Fits, Val, vbool, vint, ent, emp, guard_i, via, capped_fits, capped_is, capped_small, capped, Env}
+use Names.{Calls, Loops, Logic, tables, drop, flt_l, fsplit, at_ret, ◌$◌, ◌∵◌, !, qed, by, keep, feq_i, lit, true_lit}
+use Names.{of_opd, bin, first, skips, branches, exec, returns, returns_within, enter, size_word, alloc_all, pass_all}
+use Names.{free_all, look_at, get, sets, env, bool, usize, yes, uint_vals, uint_Tells, plain, nothing, stay_dropped}
+use Names.{Goes-dropped, El, args, one_below, T_true, after}
 use Rattle.ga_boxed.proofs.BlockLemmas.{none_fits}
-use Rattle.ga_boxed.proofs.CallWalk.{Call, Had, Walk, meets_grown}
-use Rattle.ga_boxed.proofs.ClauseFacts.{facts, has_every}
-use Rattle.ga_boxed.proofs.WalkParts.{sz}
+use Rattle.ga_boxed.proofs.walks.CallWalk.{Call, Had, Walk, meets_grown}
+use Rattle.ga_boxed.proofs.walks.ClauseFacts.{facts, has_every}
+use Rattle.ga_boxed.proofs.walks.WalkParts.{sz}
 use Rattle.ga_boxed.proofs.live_block.cells.fits.Code as code
 use Rattle.ga_boxed.proofs.live_block.cells.fits.Statement as stated
 use Rattle.ga_boxed.specs.contracts.live_block.cells.fits.Key.{name as #self}

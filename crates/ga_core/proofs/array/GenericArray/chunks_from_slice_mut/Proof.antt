@@ -4,8 +4,8 @@
 use Rattle.ga_core.proofs.array.GenericArray.chunks_from_slice_mut.Code as code
 use Rattle.ga_core.proofs.array.GenericArray.chunks_from_slice_mut.Statement.{statement}
 use Rattle.ga_core.specs.contracts.array.GenericArray.chunks_from_slice_mut as F
-use Rattle.ga_views.proofs.SliceWalk.{asks_of, gives_up, passes}
-use Rattle.ga_views.proofs.SliceLaws.{slice_laws}
+use Rattle.ga_views.proofs.walks.SliceWalk.{asks_of, gives_up, passes}
+use Rattle.ga_views.proofs.walks.SliceLaws.{slice_laws}
 use Rattle.ga_views.proofs.chunks_mut.ChunksViewMut+mut+slice+T+T+N.chunks_from_slice_mut.Met as made
 use Rattle.ga_views.proofs.chunks_mut.ChunksViewMut.TheLaws as rows_laws
 use Rattle.ga_views.specs.contracts.chunks_mut.ChunksViewMut as rows_of

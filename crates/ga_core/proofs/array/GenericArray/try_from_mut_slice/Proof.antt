@@ -4,8 +4,8 @@
 use Rattle.ga_core.proofs.array.GenericArray.try_from_mut_slice.Code as code
 use Rattle.ga_core.proofs.array.GenericArray.try_from_mut_slice.Statement.{statement}
 use Rattle.ga_core.specs.contracts.array.GenericArray.try_from_mut_slice as F
-use Rattle.ga_views.proofs.SliceWalk.{asks_of, gives_up, passes}
-use Rattle.ga_views.proofs.SliceLaws.{array_laws, ArrayView}
+use Rattle.ga_views.proofs.walks.SliceWalk.{asks_of, gives_up, passes}
+use Rattle.ga_views.proofs.walks.SliceLaws.{array_laws, ArrayView}
 use Rattle.ga_views.proofs.view_mut.ViewMut+mut+slice+T+T+N.try_from_mut_slice.Met as made
 use Rattle.ga_views.proofs.length_error.LengthError.TheLaws as error_laws
 use Rattle.ga_views.specs.contracts.view_mut.ViewMut+mut+slice+T+T+N.try_from_mut_slice as make_contract

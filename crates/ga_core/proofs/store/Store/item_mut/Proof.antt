@@ -1,12 +1,12 @@
 -- `item_mut` lends one item of the slice that `as_mut_slice` lends, and the store follows the item. The borrow
 -- checker does not follow a loan through a slice to its lender, so this proof walks the code by hand: the slice's
 -- pointer gives the item's slot, and then the item is lent, by `ItemLoan`'s `lends_item`. Assumes `Logic`.
-use Rattle.ga_core.proofs.LentStore.{calls_slice, loan_of, R, S}
+use Rattle.ga_core.proofs.walks.LentStore.{calls_slice, loan_of, R, S}
 use Rattle.ga_core.proofs.store.Store.item_mut.Code as code
 use Rattle.ga_core.proofs.store.Store.item_mut.Statement.{statement}
 use Rattle.ga_core.specs.declared.store.Store as store
-use Rattle.ga_views.proofs.ItemLoan.{uncapped_fits, lends_item, lent_item, offset_fits, spot, uncapped}
-use Rattle.ga_views.proofs.LoanWalk.{Had, lends, Loan}
+use Rattle.ga_views.proofs.walks.ItemLoan.{uncapped_fits, lends_item, lent_item, offset_fits, spot, uncapped}
+use Rattle.ga_views.proofs.walks.LoanWalk.{Had, lends, Loan}
 use Rattle.std.proofs.Common.{◌≡◌, ◌^◌, ◌<◌, [], ◌∷◌, ◌∙◌, ◌*◌, ap, arith, get_or, length, List, refl, set, ℕ}
 use contract.Running.{tables}
 use denote.Builtin.{RefMutOf}
@@ -31,17 +31,17 @@ loan Z X g d dd = loan_of Z X g d dd 1 (RefMutOf (0 ∷ []) tt (plain (λ _. R Z
 pub item_mut_spec : {M : Type 1} → statement M
 item_mut_spec 𝓤 𝓛 𝓜 𝓡 wired Z X LZ LX g d dd met metD =
     lends (loan Z X g d dd) 𝓛 𝓜 𝓡 _ _ (code.unfolded 𝓤 𝓛.H 𝓜 𝓡 wired (Z, (X, tt)) d dd)
-    (λ κs qs bounds x ns Post lives asked are exits.
+    (λ κs qs bounds x ns w Post asked fine exits.
     let E : RattleType = R Z X g d dd in let Store : RattleType = S Z X g d dd in
     let i : ℕ = ns.0 in
     qed 𝓛 (Had (loan Z X g d dd) 𝓛 κs qs x ns) ∵ enter ! _ _ _ _ _ $ alloc_all !
-    (λ l. pass_all ! refl ((tt, tt), ((tt, record { fits = are.0.1 }), tt)) $
+    (λ l. pass_all ! refl ((tt, tt), ((tt, record { fits = fine.0 }), tt)) $
     sets ! (addr ! (through ! refl (stop !))) refl (tt, tt) $
     calls_slice Z X g d dd 𝓛 𝓜.mem 𝓡.returns κs qs bounds x ! (framed 𝓤 𝓛.H 𝓜 (tables 𝓤 𝓛.H 𝓜 𝓡 𝓡.env))
-    (met.as_mut_slice dd) lives
+    (met.as_mut_slice dd) asked.0 asked.1.0
     (and_then ! (get ! refl) (no_more !)) (λ v s told.
     let width : ℕ = size (layout X) in
-    let within : i < length s.now = omega (arith, asked.0, ap length told.2) in
+    let within : i < length s.now = omega (arith, asked.1.1, ap length told.2) in
     let offset : i * width < 2 ^ 64 = offset_fits i (length s.now) width (omega (arith, within)) told.1.1 in
     let after : List X.Denot → Store.Denot = λ written. (g.store_with x.now written).0 in
     lands_as ! told.0 refl (tt, (tt, (record { fits = told.1.0 }, tt))) $

@@ -1,14 +1,14 @@
 -- `part_mut` lends a part of the slice that `as_mut_slice` lends, and the store follows the part. The borrow checker
 -- does not follow a loan through a slice to its lender, so this proof walks the code by hand: the slice's pointer
 -- gives the part's place, and then the part is lent, by `PartLoan`'s `lends_part`. Assumes `Logic`.
-use Rattle.ga_core.proofs.LentStore.{calls_slice, loan_of, R, S}
+use Rattle.ga_core.proofs.walks.LentStore.{calls_slice, loan_of, R, S}
 use Rattle.ga_core.proofs.store.Store.part_mut.Code as code
 use Rattle.ga_core.proofs.store.Store.part_mut.Statement.{statement}
 use Rattle.ga_core.specs.declared.store.Store as store
-use Rattle.ga_views.proofs.ItemLoan.{offset_fits, uncapped, uncapped_fits}
-use Rattle.ga_views.proofs.LoanWalk.{Had, lends, Loan}
+use Rattle.ga_views.proofs.walks.ItemLoan.{offset_fits, uncapped, uncapped_fits}
+use Rattle.ga_views.proofs.walks.LoanWalk.{Had, lends, Loan}
 use Rattle.ga_views.proofs.PartLemmas.{part_fills}
-use Rattle.ga_views.proofs.PartLoan.{lends_part, lent_part, slice}
+use Rattle.ga_views.proofs.walks.PartLoan.{lends_part, lent_part, slice}
 use Rattle.ga_views.specs.Parts.{part_set}
 use Rattle.std.proofs.Common.{◌≡◌, ◌^◌, ◌<◌, ◌≤◌, [], ◌∷◌, ◌∙◌, ◌*◌, ◌+◌, ◌-◌, ap, arith, drop as drop_list, length}
 use Rattle.std.proofs.Common.{List, refl, take, ℕ}
@@ -36,17 +36,17 @@ loan Z X g d dd = loan_of Z X g d dd 2 (SliceRefMutOf (0 ∷ []) tt (plain (λ _
 pub part_mut_spec : {M : Type 1} → statement M
 part_mut_spec 𝓤 𝓛 𝓜 𝓡 wired Z X LZ LX g d dd met metD =
     lends (loan Z X g d dd) 𝓛 𝓜 𝓡 _ _ (code.unfolded 𝓤 𝓛.H 𝓜 𝓡 wired (Z, (X, tt)) d dd)
-    (λ κs qs bounds x ns Post lives asked are exits.
+    (λ κs qs bounds x ns w Post asked fine exits.
     let E : RattleType = R Z X g d dd in let Store : RattleType = S Z X g d dd in
     let from : ℕ = ns.0 in let len : ℕ = ns.1.0 in
     qed 𝓛 (Had (loan Z X g d dd) 𝓛 κs qs x ns) ∵ enter ! _ _ _ _ _ $ alloc_all !
-    (λ l. pass_all ! refl ((tt, tt), ((tt, record { fits = are.0.1 }), ((tt, record { fits = are.1.0.1 }), tt))) $
+    (λ l. pass_all ! refl ((tt, tt), ((tt, record { fits = fine.0 }), ((tt, record { fits = fine.1.0 }), tt))) $
     sets ! (addr ! (through ! refl (stop !))) refl (tt, tt) $
     calls_slice Z X g d dd 𝓛 𝓜.mem 𝓡.returns κs qs bounds x ! (framed 𝓤 𝓛.H 𝓜 (tables 𝓤 𝓛.H 𝓜 𝓡 𝓡.env))
-    (met.as_mut_slice dd) lives
+    (met.as_mut_slice dd) asked.0 asked.1.0
     (and_then ! (get ! refl) (no_more !)) (λ v s told.
     let width : ℕ = size (layout X) in
-    let within : from + len ≤ length s.now = omega (arith, asked.0, ap length told.2) in
+    let within : from + len ≤ length s.now = omega (arith, asked.1.1, ap length told.2) in
     let offset : from * width < 2 ^ 64 = offset_fits from (length s.now) width (omega (arith, within)) told.1.1 in
     let end : from + len < 2 ^ 64 = omega (arith, within, told.1.0) in
     let long : from + len - from ≡ len = omega arith in
@@ -57,10 +57,10 @@ part_mut_spec 𝓤 𝓛 𝓜 𝓡 wired Z X LZ LX g d dd met metD =
     (ap (vint w64) (uncapped from width offset))) refl (tt, record { fits = offset }) $
     sets ! (bin ! (get_in ! (fld ! refl (stop !)) (sub ! 0 refl (whole !))) (get ! refl) tt) refl (tt, tt) $
     sets ! (is ! (bin ! (get ! refl) (get ! refl) (omega arith)) (ap (vint w64) long)) refl
-    (tt, record { fits = are.1.0.1 }) $
+    (tt, record { fits = fine.1.0 }) $
     sets ! (addr ! (through ! refl (stop !))) refl (tt, tt) $
     sets ! (agg ! (and_then ! (get ! refl) (and_then ! (get ! refl) (no_more !)))) refl
-    (tt, (tt, (record { fits = are.1.0.1 }, tt))) $
+    (tt, (tt, (record { fits = fine.1.0 }, tt))) $
     -- [the slice's last value; its borrow; the token; the store follows the slice; the other tokens]
     group ! 4 $ use1 𝓛 (later (some (lent_part 𝓛 Store E after κs.0 qs.0 x.ghost_name s from len len)))
     (lends_part 𝓛 Store E after κs.0 qs.0 x.ghost_name s from len within told.1) $ await ! tt $ pick !

@@ -1,25 +1,24 @@
 -- `chunks_from_slice_mut` cuts the slice behind its whole rows, so the slice ends as what the rows' items and the
 -- rest end as, one after the other. The borrow checker shows no clause on two parts where one of them is passed on to
 -- a call that makes rows of it, so this proof walks the code by hand. Assumes `Logic`.
-use Rattle.ga_views.proofs.WalkNames.{addr, agg, alloc_all, and_then, ap, arg, arg_laws, arith, Array, by, Dict, dnil, done}
-use Rattle.ga_views.proofs.WalkNames.{drop, drop_list, emp, ent, enter, fact, fact_i, feq_i, fjoin, fld, flft, follows_both}
-use Rattle.ga_views.proofs.WalkNames.{fpack, framed, free_all, from, fsplit, ftrue, get, get_in, GName, group, heard, hop}
-use Rattle.ga_views.proofs.WalkNames.{id⊢, impl_of, Is, lands_as, Laws, layout, length, Lft, List, Logic, look_at}
-use Rattle.ga_views.proofs.WalkNames.{look_in_at, move, mut_slice_vals, MutSlice, named, NamedLft, no, no_more, nothing}
-use Rattle.ga_views.proofs.WalkNames.{of_list, of_opd, only, owned, owns, param, param_laws, pass_all, peeks, qed}
-use Rattle.ga_views.proofs.WalkNames.{RattleType, raw, refl, returns, rewrite, sem, sep, sets, shows, slice_val, split}
-use Rattle.ga_views.proofs.WalkNames.{split3, stop, sub, sym, tables, take, tcons, tnil, Tuple, tuple_laws, tuple_type}
-use Rattle.ga_views.proofs.WalkNames.{ty_int, ty_ptr, ty_struct, uint_Makes, Ura, use0, use2, usize, Val, Valss, vint}
-use Rattle.ga_views.proofs.WalkNames.{vstruct, w64, whole, within, yes, !, [], ‵, ℕ, ⊑_meet, ⊑_refl, ⊑_trans, ◌$◌, ◌*◌}
-use Rattle.ga_views.proofs.WalkNames.{◌++◌, ◌<◌, ◌∙◌, ◌∵◌, ◌∷◌, ◌≡◌, ◌≤◌, ◌⊑◌, ◌⊛◌}
+use Rattle.ga_views.proofs.walks.Names
+use Names.{addr, agg, alloc_all, and_then, ap, arg, arg_laws, arith, Array, by, Dict, dnil, done, drop, drop_list, emp}
+use Names.{ent, enter, fact, fact_i, feq_i, fjoin, fld, flft, follows_both, fpack, framed, free_all, from, fsplit}
+use Names.{ftrue, get, get_in, GName, group, heard, hop, id⊢, impl_of, Is, lands_as, Laws, layout, length, Lft, List}
+use Names.{Logic, look_at, look_in_at, move, mut_slice_vals, MutSlice, named, NamedLft, no, no_more, nothing, of_list}
+use Names.{of_opd, only, owned, owns, param, param_laws, pass_all, peeks, qed, RattleType, raw, refl, returns, rewrite}
+use Names.{sem, sep, sets, shows, slice_val, split, split3, stop, sub, sym, tables, take, tcons, tnil, Tuple}
+use Names.{tuple_laws, tuple_type, ty_int, ty_ptr, ty_struct, uint_Makes, Ura, use0, use2, usize, Val, Valss, vint}
+use Names.{vstruct, w64, whole, within, yes, !, [], ‵, ℕ, ⊑_meet, ⊑_refl, ⊑_trans, ◌$◌, ◌*◌, ◌++◌, ◌<◌, ◌∙◌, ◌∵◌, ◌∷◌}
+use Names.{◌≡◌, ◌≤◌, ◌⊑◌, ◌⊛◌}
 use Rattle.std.proofs.Common.{◌/◌, ◌⊎◌}
 use denote.Param.NoDrop.{glues}
 use denote.Struct.Declared.{shape}
-use Rattle.ga_views.proofs.CallStep.{asked, calls}
-use Rattle.ga_views.proofs.LengthCall.{calls_length}
-use Rattle.ga_views.proofs.SliceWalk.{gives_up}
-use Rattle.ga_views.proofs.SliceLaws.{Slice, slice_laws}
-use Rattle.ga_views.proofs.SplitWalk.{cuts}
+use Rattle.ga_views.proofs.walks.CallStep.{asked, calls}
+use Rattle.ga_views.proofs.walks.LengthCall.{calls_length}
+use Rattle.ga_views.proofs.walks.SliceWalk.{gives_up}
+use Rattle.ga_views.proofs.walks.SliceLaws.{Slice, slice_laws}
+use Rattle.ga_views.proofs.walks.SplitWalk.{cuts}
 use Rattle.ga_views.proofs.RowLemmas.{rows-of_whole, whole_by}
 use Rattle.ga_views.proofs.chunks_mut.ChunksViewMut.TheLaws as rows_laws
 use Rattle.ga_views.proofs.chunks_mut.ChunksViewMut.over.Met as made

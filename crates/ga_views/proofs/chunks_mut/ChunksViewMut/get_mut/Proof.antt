@@ -1,22 +1,20 @@
 -- `get_mut` lends the row where there is one, and else gives the rows up as they were. The borrow checker shows no
 -- clause on a loan that the answer holds in a view, so this proof walks the code by hand. Assumes `Logic`.
-use Rattle.ga_views.proofs.WalkNames.{a_type, addr, after, agg, alloc_all, and_then, ap, Args, arith, Array, as_fields}
-use Rattle.ga_views.proofs.WalkNames.{at_ret, await, bin, Bor, bounded, branches, by, dcons, dnil, done, drop, emp, ent}
-use Rattle.ga_views.proofs.WalkNames.{enter, env, exec, fact, fact_i, feq_l, first, fjoin, flft, flt_l, Fn, follows}
-use Rattle.ga_views.proofs.WalkNames.{follows_by, follows_if, framed, free_all, fres, fsplit, fsplit3, ftrue, get, GName}
-use Rattle.ga_views.proofs.WalkNames.{Goes-dropped, Goes-spent_ref, group, heard, id⊢, inst_fn, Is, keep, lands_as, later}
-use Rattle.ga_views.proofs.WalkNames.{Laws, leaves, length, Lft, List, lit, lit<, live, Logic, look_at, ltb→lt}
-use Rattle.ga_views.proofs.WalkNames.{meet_⊑_right, move, mut_Tells, mut_vals, MutBor, MutRef, MutSlice, named, NamedLft}
-use Rattle.ga_views.proofs.WalkNames.{nltb→le, no, no_more, nothing, of_list, of_opd, only, owned, owns, param, param_laws}
-use Rattle.ga_views.proofs.WalkNames.{pass_all, peeks, pick, plain, proved, qed, RattleType, raw, refl, RefMutOf, returns}
-use Rattle.ga_views.proofs.WalkNames.{rewrite, sem, sets, sets_last, shows, shr_vals, some, split, split3, stay_dropped}
-use Rattle.ga_views.proofs.WalkNames.{Stays, stop, subst, sym, tables, through, true≢false, ty_int, uint_Makes, uint_Tells}
-use Rattle.ga_views.proofs.WalkNames.{uint_vals, Ura, use0, use1, use2, usize, Val, vint, w64, w8, walk_of, yes, !, [], ‵}
-use Rattle.ga_views.proofs.WalkNames.{ℕ, ⊑_trans, ◌$◌, ◌<◌, ◌∙◌, ◌∵◌, ◌∷◌, ◌≡◌, ◌≤◌, ◌⊑◌, ◌⊛◌}
-use Rattle.ga_views.proofs.SharedLoan.{comes_back, lent_shared, lends_shared}
-use Rattle.ga_views.proofs.CallStep.{asked, calls}
-use Rattle.ga_views.proofs.SliceWalk.{passes}
-use Rattle.ga_views.proofs.SliceLaws.{ArrayView, array_laws}
+use Rattle.ga_views.proofs.walks.Names
+use Names.{a_type, addr, after, agg, alloc_all, and_then, ap, Args, arith, Array, as_fields, at_ret, await, bin, Bor}
+use Names.{bounded, branches, by, dcons, dnil, done, drop, emp, ent, enter, env, exec, fact, fact_i, feq_l, first}
+use Names.{fjoin, flft, flt_l, Fn, follows, follows_by, follows_if, framed, free_all, fres, fsplit, fsplit3, ftrue, get}
+use Names.{GName, Goes-dropped, Goes-spent_ref, group, heard, id⊢, inst_fn, Is, keep, lands_as, later, Laws, leaves}
+use Names.{length, Lft, List, lit, lit<, live, Logic, look_at, ltb→lt, meet_⊑_right, move, mut_Tells, mut_vals, MutBor}
+use Names.{MutRef, MutSlice, named, NamedLft, nltb→le, no, no_more, nothing, of_list, of_opd, only, owned, owns, param}
+use Names.{param_laws, pass_all, peeks, pick, plain, proved, qed, RattleType, raw, refl, RefMutOf, returns, rewrite}
+use Names.{sem, sets, sets_last, shows, shr_vals, some, split, split3, stay_dropped, Stays, stop, subst, sym, tables}
+use Names.{through, true≢false, ty_int, uint_Makes, uint_Tells, uint_vals, Ura, use0, use1, use2, usize, Val, vint, w64}
+use Names.{w8, walk_of, yes, !, [], ‵, ℕ, ⊑_trans, ◌$◌, ◌<◌, ◌∙◌, ◌∵◌, ◌∷◌, ◌≡◌, ◌≤◌, ◌⊑◌, ◌⊛◌}
+use Rattle.ga_views.proofs.walks.SharedLoan.{comes_back, lent_shared, lends_shared}
+use Rattle.ga_views.proofs.walks.CallStep.{asked, calls}
+use Rattle.ga_views.proofs.walks.SliceWalk.{passes}
+use Rattle.ga_views.proofs.walks.SliceLaws.{ArrayView, array_laws}
 use Rattle.ga_views.proofs.view_mut.ViewMut+mut+slice+T+T+N.from_mut_slice.Met as view_met
 use Rattle.ga_views.proofs.chunks_mut.ChunksViewMut.TheLaws as rows_laws
 use Rattle.ga_views.proofs.chunks_mut.ChunksViewMut.get_mut.Code as code

@@ -1,23 +1,21 @@
 -- `try_from_mut_slice` makes the view where the length is right, and else gives the slice up as it was. The borrow
 -- checker shows no clause on a lender that is a slice where the answer is a `Result`, so this proof walks the code by
 -- hand. Assumes `Logic`.
-use Rattle.ga_views.proofs.WalkNames.{a_type, addr, after, agg, alloc_all, and_then, ap, Args, Array, as_fields, assume}
-use Rattle.ga_views.proofs.WalkNames.{at_ret, bin, bounded, branches, by, coded_list, dcons, dnil, done, drop, each, emp}
-use Rattle.ga_views.proofs.WalkNames.{ent, enter, env, eqb, eqb_refl, eqb→eq, exec, fact, fact_i, fauth, feq, feq_i, fex}
-use Rattle.ga_views.proofs.WalkNames.{first, fjoin, fld, flft, Fml, Fn, fobs, follows, follows_by, follows_if, fpack}
-use Rattle.ga_views.proofs.WalkNames.{framed, free_all, fres, from, fsep, fsplit, fsplit3, ftrue, get, get_in, GName, group}
-use Rattle.ga_views.proofs.WalkNames.{Gv, heard, heres_id, hop, inst_fn, Is, keep, lands_as, length, Lft, Lifetime, List}
-use Rattle.ga_views.proofs.WalkNames.{lit, lit<, live, Logic, look_at, look_in_at, move, mut_slice_vals, MutBor, MutSlice}
-use Rattle.ga_views.proofs.WalkNames.{named, NamedLft, no_more, nothing, of_list, of_opd, owns, param, pass_all, peeks, qed}
-use Rattle.ga_views.proofs.WalkNames.{RattleType, raw, refl, returns, rewrite, sem, sets, sets_last, shows, split, split3}
-use Rattle.ga_views.proofs.WalkNames.{stop, sub, subst, such_by, sym, T, T_not, tables, true≢false, ty_int, Ura, use0, use1}
-use Rattle.ga_views.proofs.WalkNames.{Val, vint, vnil, vstruct, w8, wand, whole, !, [], ‵, ℕ, ◌$◌, ◌∙◌, ◌∵◌, ◌∷◌, ◌≡◌, ◌⊑◌}
-use Rattle.ga_views.proofs.WalkNames.{◌⊛◌}
+use Rattle.ga_views.proofs.walks.Names
+use Names.{a_type, addr, after, agg, alloc_all, and_then, ap, Args, Array, as_fields, assume, at_ret, bin, bounded}
+use Names.{branches, by, coded_list, dcons, dnil, done, drop, each, emp, ent, enter, env, eqb, eqb_refl, eqb→eq, exec}
+use Names.{fact, fact_i, fauth, feq, feq_i, fex, first, fjoin, fld, flft, Fml, Fn, fobs, follows, follows_by}
+use Names.{follows_if, fpack, framed, free_all, fres, from, fsep, fsplit, fsplit3, ftrue, get, get_in, GName, group, Gv}
+use Names.{heard, heres_id, hop, inst_fn, Is, keep, lands_as, length, Lft, Lifetime, List, lit, lit<, live, Logic}
+use Names.{look_at, look_in_at, move, mut_slice_vals, MutBor, MutSlice, named, NamedLft, no_more, nothing, of_list}
+use Names.{of_opd, owns, param, pass_all, peeks, qed, RattleType, raw, refl, returns, rewrite, sem, sets, sets_last}
+use Names.{shows, split, split3, stop, sub, subst, such_by, sym, T, T_not, tables, true≢false, ty_int, Ura, use0, use1}
+use Names.{Val, vint, vnil, vstruct, w8, wand, whole, !, [], ‵, ℕ, ◌$◌, ◌∙◌, ◌∵◌, ◌∷◌, ◌≡◌, ◌⊑◌, ◌⊛◌}
 use denote.Shadow.{makes_shadow}
-use Rattle.ga_views.proofs.CallStep.{asked}
-use Rattle.ga_views.proofs.LengthCall.{calls_length}
-use Rattle.ga_views.proofs.SliceWalk.{gives_up, passes}
-use Rattle.ga_views.proofs.SliceLaws.{ArrayView, array_laws}
+use Rattle.ga_views.proofs.walks.CallStep.{asked}
+use Rattle.ga_views.proofs.walks.LengthCall.{calls_length}
+use Rattle.ga_views.proofs.walks.SliceWalk.{gives_up, passes}
+use Rattle.ga_views.proofs.walks.SliceLaws.{ArrayView, array_laws}
 use Rattle.ga_views.proofs.view_mut.ViewMut+mut+slice+T+T+N.from_mut_slice.Met as theirs
 use Rattle.ga_views.proofs.view_mut.ViewMut+mut+slice+T+T+N.try_from_mut_slice.Code as code
 use Rattle.ga_views.proofs.view_mut.ViewMut+mut+slice+T+T+N.try_from_mut_slice.Statement.{statement}

@@ -1,8 +1,8 @@
 -- A `&` to the cells reaches each item. Assumes `Logic`.
-use Rattle.ga_boxed.proofs.CellsWalkNames.{Incl-trans, meet_⊑_left, Laws, copy_shared, RattleType, RawPtr, field_copy, of_Lends}
-use Rattle.ga_boxed.proofs.CellsWalkNames.{[], ◌++◌}
+use Rattle.ga_boxed.proofs.walks.Names.{Incl-trans, meet_⊑_left, Laws, copy_shared, RattleType, RawPtr, field_copy}
+use Rattle.ga_boxed.proofs.walks.Names.{of_Lends, [], ◌++◌}
 use Rattle.std.specs.contracts.marker.PhantomData as marker
-use Rattle.ga_boxed.proofs.CellsSharing.{Lends-cells, cells_lent_laws}
+use Rattle.ga_boxed.proofs.walks.CellsSharing.{Lends-cells, cells_lent_laws}
 use Rattle.ga_boxed.proofs.live_block.cells.Cells.TheLaw.Statement.{statement}
 use Rattle.ga_boxed.specs.contracts.live_block.cells.Cells as C
 

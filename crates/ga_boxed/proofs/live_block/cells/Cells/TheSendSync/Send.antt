@@ -1,1 +1,1 @@
-pub use Rattle.ga_boxed.proofs.Crosses.{Cells-send as send}
+pub use Rattle.ga_boxed.proofs.walks.Crosses.{Cells-send as send}

@@ -1,1 +1,1 @@
-pub use Rattle.ga_boxed.proofs.Crosses.{Cells-sync as sync}
+pub use Rattle.ga_boxed.proofs.walks.Crosses.{Cells-sync as sync}

@@ -1,17 +1,16 @@
 -- `put` fills the slot behind the items. Assumes `Logic`.
-use Rattle.ga_boxed.proofs.CellsWalkNames.{◌≡◌, refl, sym, ap, subst, ◌∙◌, ℕ, ◌+◌, ◌-◌, ◌*◌, ◌<◌, ◌^◌, arith, List, [], ◌∷◌}
-use Rattle.ga_boxed.proofs.CellsWalkNames.{◌++◌, part_in, Ura, full_share, Fn, w64, inst_fn, Val, vint, vunit, fat, froom, Env}
-use Rattle.ga_boxed.proofs.CellsWalkNames.{Calls, Loops, Logic, tables, ‵, ◌⊛◌, at_ret, ◌$◌, ◌∵◌, !, qed, by, move, keep, use1}
-use Rattle.ga_boxed.proofs.CellsWalkNames.{use2, split, rewrite, fsplit, feq_i, whole, sub, init, stop, fld, unit_lit, of_opd}
-use Rattle.ga_boxed.proofs.CellsWalkNames.{assigns_last, first, blocks, exec, returns, enter, alloc_all, pass_all, free_all}
-use Rattle.ga_boxed.proofs.CellsWalkNames.{look_at, get, get_in, through, sets, env, part_at, layout, Ptr, mut_vals, no, unit}
-use Rattle.ga_boxed.proofs.CellsWalkNames.{plain, after, word, word-Good, length, length-append, bin, size_lit, take_at}
-use Rattle.ga_boxed.proofs.CellsWalkNames.{give_at, El, R, args, el_x, elτ, times_below, one_below}
-use Rattle.ga_boxed.proofs.CallWalk.{Call, Had, Walk, an_item, number, meets_grown}
-use Rattle.ga_boxed.proofs.CellsWalk.{by_mut, closes_cells, opens_cells, the_base}
-use Rattle.ga_boxed.proofs.ClauseFacts.{facts, has_every}
-use Rattle.ga_boxed.proofs.WalkParts.{Cr, Bs, sz}
-use Rattle.ga_boxed.proofs.EndLemmas.{Around, Held, room_out, item_in}
+use Rattle.ga_boxed.proofs.walks.Names
+use Names.{◌≡◌, refl, sym, ap, subst, ◌∙◌, ℕ, ◌+◌, ◌-◌, ◌*◌, ◌<◌, ◌^◌, arith, List, [], ◌∷◌, ◌++◌, part_in, Ura}
+use Names.{full_share, Fn, w64, inst_fn, Val, vint, vunit, fat, froom, Env, Calls, Loops, Logic, tables, ‵, ◌⊛◌, at_ret}
+use Names.{◌$◌, ◌∵◌, !, qed, by, move, keep, use1, use2, split, rewrite, fsplit, feq_i, whole, sub, init, stop, fld}
+use Names.{unit_lit, of_opd, assigns_last, first, blocks, exec, returns, enter, alloc_all, pass_all, free_all, look_at}
+use Names.{get, get_in, through, sets, env, part_at, layout, Ptr, mut_vals, no, unit, plain, after, word, word-Good}
+use Names.{length, length-append, bin, size_lit, take_at, give_at, El, R, args, el_x, elτ, times_below, one_below}
+use Rattle.ga_boxed.proofs.walks.CallWalk.{Call, Had, Walk, number, meets_grown}
+use Rattle.ga_boxed.proofs.walks.CellsWalk.{by_mut, closes_cells, opens_cells, the_base}
+use Rattle.ga_boxed.proofs.walks.ClauseFacts.{facts, has_every}
+use Rattle.ga_boxed.proofs.walks.WalkParts.{an_item, Cr, Bs, sz}
+use Rattle.ga_boxed.proofs.walks.EndLemmas.{Around, Held, room_out, item_in}
 use Rattle.ga_boxed.specs.contracts.live_block.cells.Cells.put.Key.{name as #self}
 use Rattle.ga_boxed.proofs.live_block.cells.Cells.put.Statement as stated
 use Rattle.ga_boxed.proofs.live_block.cells.Cells.put.Code as code

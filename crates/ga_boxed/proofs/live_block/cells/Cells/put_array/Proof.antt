@@ -1,22 +1,21 @@
 -- `put_array` writes an array over the room of as many slots. Assumes `Logic`.
-use Rattle.ga_boxed.proofs.CellsWalkNames.{◌≡◌, refl, ◌∙◌, ℕ, ◌+◌, ◌*◌, ◌<◌, ◌^◌, arith, List, [], ◌∷◌, ◌++◌, length, Ura}
-use Rattle.ga_boxed.proofs.CellsWalkNames.{full_share, Ty, Fn, Args, ty_array, a_type, a_number, inst_fn, Val, vunit, via, fat}
-use Rattle.ga_boxed.proofs.CellsWalkNames.{size, Env, Calls, Loops, Logic, tables, flt_i, flt_l, ‵, given, at_ret, ◌$◌, ◌∵◌, ! }
-use Rattle.ga_boxed.proofs.CellsWalkNames.{qed, by, move, keep, use1, use2, learn, rewrite, fsplit, fjoin, feq_i, whole, sub}
-use Rattle.ga_boxed.proofs.CellsWalkNames.{init, stop, hop, from, fld, unit_lit, of_opd, assigns_last, first, blocks, exec}
-use Rattle.ga_boxed.proofs.CellsWalkNames.{returns, enter, alloc_all, pass_all, free_all, look_at, look_in_at, get, sets, env}
-use Rattle.ga_boxed.proofs.CellsWalkNames.{take_at, give_at, Array, no, all_rest, RattleType, part_at, ArrayAt, param, number}
-use Rattle.ga_boxed.proofs.CellsWalkNames.{layout, layouts, Laws, param_laws, array_at_laws, Ptr, block_ptr, mut_vals, unit}
-use Rattle.ga_boxed.proofs.CellsWalkNames.{plain, part_in, as_written, after, Good, word, word-Good, El, R, el_x, elτ}
-use Rattle.ga_boxed.proofs.CellsWalkNames.{cells_own, empty, subst, zero-mul, ent, ftrue, fsep, feq, sem, cells, use0, feq_l}
-use Rattle.ga_boxed.proofs.CellsWalkNames.{done, Entries, all_last, mem, nothing}
-use Rattle.ga_boxed.proofs.BlockRoom.{no_room, to_block}
+use Rattle.ga_boxed.proofs.walks.Names
+use Names.{◌≡◌, refl, ◌∙◌, ℕ, ◌+◌, ◌*◌, ◌<◌, ◌^◌, arith, List, [], ◌∷◌, ◌++◌, length, Ura, full_share, Ty, Fn, Args}
+use Names.{ty_array, a_type, a_number, inst_fn, Val, vunit, via, fat, size, Env, Calls, Loops, Logic, tables, flt_i}
+use Names.{flt_l, ‵, given, at_ret, ◌$◌, ◌∵◌, !, qed, by, move, keep, use1, use2, learn, rewrite, fsplit, fjoin, feq_i}
+use Names.{whole, sub, init, stop, hop, from, fld, unit_lit, of_opd, assigns_last, first, blocks, exec, returns, enter}
+use Names.{alloc_all, pass_all, free_all, look_at, look_in_at, get, sets, env, take_at, give_at, Array, no, all_rest}
+use Names.{RattleType, part_at, ArrayAt, param, number, layout, layouts, Laws, param_laws, array_at_laws, Ptr}
+use Names.{block_ptr, mut_vals, unit, plain, part_in, as_written, after, Good, word, word-Good, El, R, el_x, elτ}
+use Names.{cells_own, empty, subst, zero-mul, ent, ftrue, fsep, feq, sem, cells, use0, feq_l, done, Entries, all_last}
+use Names.{mem, nothing}
+use Rattle.ga_boxed.proofs.walks.BlockRoom.{no_room, to_block}
 use denote.ArrayMemory.{Array-apart}
 use denote.Index.{row, whole_in}
-use Rattle.ga_boxed.proofs.CallWalk.{Behind, Call, Had, Walk, meets_grown}
-use Rattle.ga_boxed.proofs.CellsWalk.{by_mut, closes_cells, opens_cells, the_base}
-use Rattle.ga_boxed.proofs.ClauseFacts.{facts, has_every}
-use Rattle.ga_boxed.proofs.WalkParts.{Cr, Bs, sz, is_one}
+use Rattle.ga_boxed.proofs.walks.CallWalk.{Behind, Call, Had, Walk, meets_grown}
+use Rattle.ga_boxed.proofs.walks.CellsWalk.{by_mut, closes_cells, opens_cells, the_base}
+use Rattle.ga_boxed.proofs.walks.ClauseFacts.{facts, has_every}
+use Rattle.ga_boxed.proofs.walks.WalkParts.{Cr, Bs, sz, is_one}
 use Rattle.ga_boxed.specs.contracts.live_block.cells.Cells.put_array.Key.{name as #self}
 use Rattle.ga_boxed.proofs.live_block.cells.Cells.put_array.Statement as stated
 use Rattle.ga_boxed.proofs.live_block.cells.Cells.put_array.Code as code

@@ -1,15 +1,15 @@
 -- `slice` shows the items that the cells lend. Assumes `Logic`.
-use Rattle.ga_boxed.proofs.CellsWalkNames.{◌≡◌, refl, sym, ap, ◌∙◌, ℕ, ◌+◌, ◌*◌, ◌≤◌, ◌<◌, ◌^◌, arith, List, [], ◌∷◌, Ura, Fn}
-use Rattle.ga_boxed.proofs.CellsWalkNames.{imm, inst_fn, Val, never, id⊢, Calls, Loops, Logic, tables, toks, raw, group, ‵, ◌⊛◌}
-use Rattle.ga_boxed.proofs.CellsWalkNames.{◌$◌, ◌∵◌, !, qed, by, move, keep, drop, split, rewrite, fsplit, fjoin, feq_i, flt_l}
-use Rattle.ga_boxed.proofs.CellsWalkNames.{flt_i, in_a_block, Bor, shr_vals, slice_val, elements_shared, SliceRefOf, plain}
-use Rattle.ga_boxed.proofs.CellsWalkNames.{nothing, length, El, R, args, el_x, times_below, cells_lent}
+use Rattle.ga_boxed.proofs.walks.Names
+use Names.{◌≡◌, refl, sym, ap, ◌∙◌, ℕ, ◌+◌, ◌*◌, ◌≤◌, ◌<◌, ◌^◌, arith, List, [], ◌∷◌, Ura, Fn, imm, inst_fn, Val, never}
+use Names.{id⊢, Calls, Loops, Logic, tables, toks, raw, group, ‵, ◌⊛◌, ◌$◌, ◌∵◌, !, qed, by, move, keep, drop, split}
+use Names.{rewrite, fsplit, fjoin, feq_i, flt_l, flt_i, in_a_block, Bor, shr_vals, slice_val, elements_shared}
+use Names.{SliceRefOf, plain, nothing, length, El, R, args, el_x, times_below, cells_lent}
 use denote.Opens.{hide, unhide}
 use Rattle.ga_boxed.specs.contracts.live_block.cells.Cells.slice.Key.{name as #self}
-use Rattle.ga_boxed.proofs.CallWalk.{Call, Had, Walk, by_ref, meets_grown}
-use Rattle.ga_boxed.proofs.ClauseFacts.{facts, has_every}
-use Rattle.ga_boxed.proofs.CellsSliceWalk.{showing, slices}
-use Rattle.ga_boxed.proofs.WalkParts.{Cr, sz}
+use Rattle.ga_boxed.proofs.walks.CallWalk.{Call, Had, Walk, by_ref, meets_grown}
+use Rattle.ga_boxed.proofs.walks.ClauseFacts.{facts, has_every}
+use Rattle.ga_boxed.proofs.walks.CellsSliceWalk.{showing, slices}
+use Rattle.ga_boxed.proofs.walks.WalkParts.{Cr, sz}
 use Rattle.ga_boxed.proofs.live_block.cells.Cells.slice.Statement as stated
 use Rattle.ga_boxed.proofs.live_block.cells.Cells.slice.Code as code
 

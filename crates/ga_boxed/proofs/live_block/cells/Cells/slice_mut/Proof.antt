@@ -1,11 +1,11 @@
 -- `slice_mut` lends the items, and the cells follow them. Assumes `Logic`.
-use Rattle.ga_boxed.proofs.CellsWalkNames.{◌≡◌, refl, sym, ap, subst, ◌∙◌, ℕ, ◌+◌, ◌*◌, ◌≤◌, ◌<◌, ◌^◌, arith, List, [], ◌∷◌}
-use Rattle.ga_boxed.proofs.CellsWalkNames.{Ura, full_share, Fn, named, mut, inst_fn, Val, ent, sep, id⊢, GName, Fml, fsep, flft}
-use Rattle.ga_boxed.proofs.CellsWalkNames.{Calls, Loops, Logic, sem, tables, toks, raw, split3, ‵, ◌⊛◌, some, later, await}
-use Rattle.ga_boxed.proofs.CellsWalkNames.{pick, ◌$◌, ◌∵◌, !, qed, by, move, keep, use1, split, join, group, rewrite, fsplit}
-use Rattle.ga_boxed.proofs.CellsWalkNames.{fsplit3, fjoin, fjoin3, fpack, flt_i, done, cells, Array, mem, cell_at, Ptr}
-use Rattle.ga_boxed.proofs.CellsWalkNames.{block_ptr, MutBor, MutRef, mut_vals, MutSlice, slice_val, SliceRefMutOf, plain}
-use Rattle.ga_boxed.proofs.CellsWalkNames.{nothing, length, El, R, args, el_x, times_below, cells_own, empty}
+use Rattle.ga_boxed.proofs.walks.Names
+use Names.{◌≡◌, refl, sym, ap, subst, ◌∙◌, ℕ, ◌+◌, ◌*◌, ◌≤◌, ◌<◌, ◌^◌, arith, List, [], ◌∷◌, Ura, full_share, Fn, named}
+use Names.{mut, inst_fn, Val, ent, sep, id⊢, GName, Fml, fsep, flft, Calls, Loops, Logic, sem, tables, toks, raw}
+use Names.{split3, ‵, ◌⊛◌, some, later, await, pick, ◌$◌, ◌∵◌, !, qed, by, move, keep, use1, split, join, group}
+use Names.{rewrite, fsplit, fsplit3, fjoin, fjoin3, fpack, flt_i, done, cells, Array, mem, cell_at, Ptr, block_ptr}
+use Names.{MutBor, MutRef, mut_vals, MutSlice, slice_val, SliceRefMutOf, plain, nothing, length, El, R, args, el_x}
+use Names.{times_below, cells_own, empty}
 use denote.Follow.{follows}
 use denote.FollowSlice.{Elements, lends_Elements}
 use denote.Memory.{part_of}
@@ -14,11 +14,11 @@ use lib.Seq.{take_at as take_front}
 use Rattle.std.specs.List.{refill}
 use Rattle.ga_boxed.specs.CellsLend.{with_items}
 use Rattle.ga_boxed.specs.contracts.live_block.cells.Cells.slice_mut.Key.{name as #self}
-use Rattle.ga_boxed.proofs.CallWalk.{Call, Had, Walk, meets_grown}
-use Rattle.ga_boxed.proofs.CellsWalk.{opens_cells, spent, tokens}
-use Rattle.ga_boxed.proofs.ClauseFacts.{facts, has_every}
-use Rattle.ga_boxed.proofs.CellsSliceWalk.{showing, slices}
-use Rattle.ga_boxed.proofs.WalkParts.{Cr, Mark, sz}
+use Rattle.ga_boxed.proofs.walks.CallWalk.{Call, Had, Walk, meets_grown}
+use Rattle.ga_boxed.proofs.walks.CellsWalk.{opens_cells, spent, tokens}
+use Rattle.ga_boxed.proofs.walks.ClauseFacts.{facts, has_every}
+use Rattle.ga_boxed.proofs.walks.CellsSliceWalk.{showing, slices}
+use Rattle.ga_boxed.proofs.walks.WalkParts.{Cr, Mark, sz}
 use Rattle.ga_boxed.proofs.live_block.cells.Cells.slice_mut.Statement as stated
 use Rattle.ga_boxed.proofs.live_block.cells.Cells.slice_mut.Code as code
 

@@ -1,10 +1,11 @@
 -- `take_last` moves the last item out, and its slot is room. Assumes `Logic`.
-use Rattle.ga_boxed.proofs.CellsWalkNames.{◌≢◌, ◌≡◌, refl, sym, ap, ℕ, ◌+◌, ◌*◌, arith, List, [], ◌∷◌, ◌++◌, length, Ura}
-use Rattle.ga_boxed.proofs.CellsWalkNames.{full_share, froom, inst_fn, Logic, ‵, ◌⊛◌, ◌$◌, ◌∵◌, !, qed, use1, use2, split}
-use Rattle.ga_boxed.proofs.CellsWalkNames.{rewrite, done, part_at, El, R, args, el_x, elτ, length-append, ◌∙◌}
-use Rattle.ga_boxed.proofs.EndLemmas.{split_last, Around, Held, room_in, item_out}
-use Rattle.ga_boxed.proofs.TakeWalk.{Giving, Placing, Taken, meets_taking}
-use Rattle.ga_boxed.proofs.WalkParts.{Cr, sz}
+use Rattle.ga_boxed.proofs.walks.Names
+use Names.{◌≢◌, ◌≡◌, refl, sym, ap, ℕ, ◌+◌, ◌*◌, arith, List, [], ◌∷◌, ◌++◌, length, Ura, full_share, froom, inst_fn}
+use Names.{Logic, ‵, ◌⊛◌, ◌$◌, ◌∵◌, !, qed, use1, use2, split, rewrite, done, part_at, El, R, args, el_x, elτ}
+use Names.{length-append, ◌∙◌}
+use Rattle.ga_boxed.proofs.walks.EndLemmas.{split_last, Around, Held, room_in, item_out}
+use Rattle.ga_boxed.proofs.walks.TakeWalk.{Giving, Placing, Taken, meets_taking}
+use Rattle.ga_boxed.proofs.walks.WalkParts.{Cr, sz}
 use Rattle.ga_boxed.specs.contracts.live_block.cells.Cells.take_last.Key.{name as #self}
 use Rattle.ga_boxed.proofs.live_block.cells.Cells.take_last.Statement as stated
 use Rattle.ga_boxed.proofs.live_block.cells.Cells.take_last.Code as code

@@ -1,6 +1,6 @@
 -- A `&` to a deed holds nothing. Assumes `Logic`.
-use Rattle.ga_boxed.proofs.CellsWalkNames.{Ghosts, Laws, copy_shared, RattleType, RawPtr, nothing_shr_laws, field_copy}
-use Rattle.ga_boxed.proofs.CellsWalkNames.{Lends-nothing, of_Lends}
+use Rattle.ga_boxed.proofs.walks.Names.{Ghosts, Laws, copy_shared, RattleType, RawPtr, nothing_shr_laws, field_copy}
+use Rattle.ga_boxed.proofs.walks.Names.{Lends-nothing, of_Lends}
 use Rattle.std.specs.contracts.marker.PhantomData as marker
 use Rattle.ga_boxed.proofs.live_block.cells.Deed.TheLaw.Statement.{statement}
 use Rattle.ga_boxed.specs.contracts.live_block.cells.Deed as C

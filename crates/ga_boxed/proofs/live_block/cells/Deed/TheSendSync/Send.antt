@@ -1,1 +1,1 @@
-pub use Rattle.ga_boxed.proofs.Crosses.{Deed-send as send}
+pub use Rattle.ga_boxed.proofs.walks.Crosses.{Deed-send as send}

@@ -1,1 +1,1 @@
-pub use Rattle.ga_boxed.proofs.Crosses.{Deed-sync as sync}
+pub use Rattle.ga_boxed.proofs.walks.Crosses.{Deed-sync as sync}

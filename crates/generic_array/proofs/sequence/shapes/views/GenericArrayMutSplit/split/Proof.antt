@@ -5,11 +5,11 @@ use Prim.Native.Nat.{ℕ}
 use Rattle.ga_core.below.ga_views.proofs.view_mut.ViewMut+mut+slice+T+T+N.into_mut_slice.Met as taken
 use Rattle.ga_core.below.ga_views.specs.contracts.view_mut.ViewMut+mut+slice+T+T+N.into_mut_slice as take_contract
 use Rattle.ga_core.below.ga_views.specs.contracts.reborrow.RefMutSliceReborrowSlice.TheImpl as impl
-use Rattle.ga_core.proofs.CallStep.{asked, calls}
+use Rattle.ga_core.proofs.walks.CallStep.{asked, calls}
 use Rattle.ga_core.proofs.ViewMut.TheLaws as laws
-use Rattle.ga_core.proofs.LengthCall.{calls_length}
-use Rattle.ga_core.proofs.SliceLaws.{array_laws, ArrayView, Slice, slice_laws}
-use Rattle.ga_core.proofs.SplitWalk.{cuts}
+use Rattle.ga_core.proofs.walks.LengthCall.{calls_length}
+use Rattle.ga_core.proofs.walks.SliceLaws.{array_laws, ArrayView, Slice, slice_laws}
+use Rattle.ga_core.proofs.walks.SplitWalk.{cuts}
 use Rattle.ga_core.specs.declared.Unsigned as unsigned
 use Rattle.generic_array.proofs.sequence.shapes.views.GenericArrayMutSplit.split.Code as code
 use Rattle.generic_array.proofs.sequence.shapes.views.GenericArrayMutSplit.split.Statement.{statement}
@@ -46,8 +46,7 @@ use denote.Triple.Walked.{stay_dropped, Stays, walk_of}
 use mir.Syntax.{Dict, named}
 use mir.Val.{Val}
 use types.ByLocal.{alloc_all, free_all, get, get_in, lands_as, look_at, look_in_at, pass_all, sets}
-use types.Kit.{‵, ◌⊛◌, ◌$◌, ◌∵◌, !, by, drop, fjoin, group, join, move, qed, raw, rewrite}
-use types.Kit.{split, split3, use0}
+use types.Kit.{‵, ◌⊛◌, ◌$◌, ◌∵◌, !, by, drop, fjoin, group, join, move, qed, raw, rewrite, split, split3, use0}
 use types.Part.{agg, sub, whole}
 use types.Run.{addr, and_then, enter, fld, from, hop, no_more, of_opd, returns, stop}
 

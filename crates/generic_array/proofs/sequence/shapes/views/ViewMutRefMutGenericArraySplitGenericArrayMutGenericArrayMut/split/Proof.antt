@@ -4,10 +4,10 @@
 use Rattle.ga_core.below.ga_views.proofs.view_mut.ViewMut+mut+slice+T+T+N.from_mut_slice.Met as viewed
 use Rattle.ga_core.below.ga_views.specs.contracts.view_mut.ViewMut+mut+slice+T+T+N.from_mut_slice as view_contract
 use Rattle.ga_core.below.ga_views.specs.declared.reborrow.ReborrowSlice as reborrow
-use Rattle.ga_core.proofs.CallStep.{asked, calls}
+use Rattle.ga_core.proofs.walks.CallStep.{asked, calls}
 use Rattle.ga_core.proofs.ViewMut.TheLaws as laws
-use Rattle.ga_core.proofs.SliceLaws.{array_laws, ArrayView, Slice}
-use Rattle.ga_core.proofs.SliceWalk.{asks_of, passes}
+use Rattle.ga_core.proofs.walks.SliceLaws.{array_laws, ArrayView, Slice}
+use Rattle.ga_core.proofs.walks.SliceWalk.{asks_of, passes}
 use Rattle.ga_core.proofs.array.GenericArray.TheLaws as items_laws
 use Rattle.ga_core.proofs.array.GenericArray.as_mut_slice.Met as lent
 use Rattle.ga_core.specs.Lends.{array_with, LendsBothParts, LendsItems}
@@ -20,7 +20,7 @@ use Rattle.ga_core.specs.contracts.array.reborrow.RefMutGenericArrayReborrowSlic
 use Rattle.ga_core.specs.declared.Unsigned as unsigned
 use Rattle.ga_core.specs.declared.length.ArrayLength as array_length
 use Rattle.ga_core.specs.declared.store.Store as store
-use Rattle.generic_array.proofs.FollowLemmas.{follows_both_then}
+use Rattle.ga_core.proofs.walks.FollowLemmas.{follows_both_then}
 use Rattle.generic_array.proofs.sequence.shapes.views.GenericArrayMutSplit.split.Met as halved
 use Rattle.generic_array.proofs.sequence.shapes.views.ViewMutRefMutGenericArraySplitGenericArrayMutGenericArrayMut.split.Code as code
 use Rattle.generic_array.proofs.sequence.shapes.views.ViewMutRefMutGenericArraySplitGenericArrayMutGenericArrayMut.split.Statement.{statement}
@@ -53,8 +53,8 @@ use denote.Triple.Walked.{stay_dropped, Stays, walk_of}
 use mir.Syntax.{Dict, named}
 use mir.Val.{Val}
 use types.ByLocal.{alloc_all, free_all, get, lands_as, look_at, look_in_at, pass_all, sets}
-use types.Kit.{‵, ◌⊛◌, ◌$◌, ◌∵◌, !, by, drop, feq_l, fjoin, fpick, fsplit, group, move, qed}
-use types.Kit.{raw, rewrite, split, split3, use0, use2}
+use types.Kit.{‵, ◌⊛◌, ◌$◌, ◌∵◌, !, by, drop, feq_l, fjoin, fpick, fsplit, group, move, qed, raw, rewrite, split}
+use types.Kit.{split3, use0, use2}
 use types.Part.{sub, whole}
 use types.Run.{addr, and_then, enter, fld, from, hop, no_more, returns, stop}
 

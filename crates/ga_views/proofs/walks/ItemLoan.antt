@@ -5,12 +5,12 @@
 --     spot                                   where it lies
 --     lends_item                             it is lent for as long as the slice was, and what lent the slice follows
 --                                            it
-use Rattle.ga_views.proofs.WalkNames.{ap, arith, Arr, Array, at_mul, await, Body, capped, check, coded_list, done, ent, ex}
-use Rattle.ga_views.proofs.WalkNames.{fbor, feq_i, fjoin3, flft, fobs, follows, follows_then, get_or, given, GName, guard}
-use Rattle.ga_views.proofs.WalkNames.{heres, heres_id, Holey, Item, later, length, Lft, List, Logic, mem, move, MutBor}
-use Rattle.ga_views.proofs.WalkNames.{MutRef, named, now, pick, qed, RattleType, refl, rewrite, sem, sep, set, Share, show}
-use Rattle.ga_views.proofs.WalkNames.{some, split, split3, SProp, subst, suc, sym, updating, Ura, use2, use3, Val, vptr}
-use Rattle.ga_views.proofs.WalkNames.{zero, !, [], ‵, ℕ, ◌$◌, ◌*◌, ◌+◌, ◌<◌, ◌^◌, ◌∙◌, ◌∵◌, ◌∷◌, ◌≡◌, ◌≤◌, ◌⊛◌}
+use Rattle.ga_views.proofs.walks.Names
+use Names.{ap, arith, Arr, Array, at_mul, await, Body, capped, check, coded_list, done, ent, ex, fbor, feq_i, fjoin3}
+use Names.{flft, fobs, follows, follows_then, get_or, given, GName, guard, heres, heres_id, Holey, Item, later, length}
+use Names.{Lft, List, Logic, mem, move, MutBor, MutRef, named, now, pick, qed, RattleType, refl, rewrite, sem, sep, set}
+use Names.{Share, show, some, split, split3, SProp, subst, suc, sym, updating, Ura, use2, use3, Val, vptr, zero, !, []}
+use Names.{‵, ℕ, ◌$◌, ◌*◌, ◌+◌, ◌<◌, ◌^◌, ◌∙◌, ◌∵◌, ◌∷◌, ◌≡◌, ◌≤◌, ◌⊛◌}
 use native.Mathlib.Nat.{mul-le-mul_right, suc-mul, zero-mul}
 use borrow.Rule.Slice.AtParam.{inhabits, twice}
 use borrow.Rule.Slice.Handed.{takes_at}

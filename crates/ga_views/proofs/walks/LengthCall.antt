@@ -1,10 +1,10 @@
 -- The call that gives a length, `N::USIZE()`, as a step of a walk. Assumes `Logic`.
-use Rattle.ga_views.proofs.WalkNames.{ap, call, Callee, Calls, Code, Dict, Env, fact, flft, FmC, ftrue, Fun, heard, id⊢, Is}
-use Rattle.ga_views.proofs.WalkNames.{Item, lands, Lft, List, Logic, Loops, Memory, move, no_more, nothing, only, peeks}
-use Rattle.ga_views.proofs.WalkNames.{Place, Post, RattleType, raw, refl, regoal, rewrite, Routine, runs, Seq, seq, Share}
-use Rattle.ga_views.proofs.WalkNames.{shows, SProp, Triple, Ura, usize, Val, vint, w64, [], ‵, ℕ, ◌$◌, ◌<◌, ◌^◌, ◌∷◌, ◌≡◌}
-use Rattle.ga_views.proofs.WalkNames.{◌⊑◌, ◌⊛◌}
-use Rattle.ga_views.proofs.CallStep.{asked, Called, calls}
+use Rattle.ga_views.proofs.walks.Names
+use Names.{ap, call, Callee, Calls, Code, Dict, Env, fact, flft, FmC, ftrue, Fun, heard, id⊢, Is, Item, lands, Lft}
+use Names.{List, Logic, Loops, Memory, move, no_more, nothing, only, peeks, Place, Post, RattleType, raw, refl, regoal}
+use Names.{rewrite, Routine, runs, Seq, seq, Share, shows, SProp, Triple, Ura, usize, Val, vint, w64, [], ‵, ℕ, ◌$◌}
+use Names.{◌<◌, ◌^◌, ◌∷◌, ◌≡◌, ◌⊑◌, ◌⊛◌}
+use Rattle.ga_views.proofs.walks.CallStep.{asked, Called, calls}
 use Rattle.ga_views.specs.contracts.length.Unsigned.USIZE as length_of
 use Rattle.ga_views.specs.declared.length.Unsigned as unsigned
 

@@ -19,7 +19,7 @@ pub use denote.Exit.{no, yes}
 pub use denote.Follow.{follows, follows_both, follows_if, follows_then}
 unfoldable pub use denote.Follow.{follows_by, such_by}
 pub use denote.FollowSlice.{heres_id, slice_of}
-pub use denote.Laws.{Are, Is, Ises, shows, Spells, Tellss, valss}
+pub use denote.Laws.{Are, Is, Ises, shows}
 pub use denote.Memory.{cell_at, mem, part_at, pointee}
 pub use denote.Param.{arg, bounded, layout, layouts, param}
 pub use denote.Param.Laws.{arg_laws, Laws, of_field, param_laws, row_shared}
@@ -37,8 +37,8 @@ pub use denote.Triple.Entry.{alive, on_entry}
 pub use denote.Triple.Spec.{Meets, triple_of}
 pub use denote.Triple.Statement.{Contract, Triple}
 pub use denote.Triple.Table.{framed}
-pub use denote.Triple.Walked.{AllGo, ends_at, fits_of, Goes-dropped, Goes-spent_ref, Goes-spent_slice, has_of, says}
-pub use denote.Triple.Walked.{stay_dropped, Stays, walk_of}
+pub use denote.Triple.Walked.{AllGo, fits_of, Goes-dropped, Goes-spent_ref, Goes-spent_slice, has_of, stay_dropped}
+pub use denote.Triple.Walked.{Stays, walk_of}
 pub use lib.Dec.{eqb, eqb_refl, eqb→eq, lit<, ltb→lt, nltb→le, T, T_not}
 pub use mir.MapTy.{inst_fn}
 pub use mir.Syntax.{a_type, Args, Body as Code, call, Callee, dcons, Dict, dnil, erased, Fn, impl as impl_of, Lifetime}

@@ -1,11 +1,11 @@
 -- A `&κ mut T` is lent as a `&T` for a while, and comes back as it was. Assumes `Logic`.
 --     lends_shared     the `&T`, at a new lifetime within κ, and its token
 --     comes_back       whoever gives that token back has the `&κ mut T` and the token of κ
-use Rattle.ga_views.proofs.WalkNames.{apply∗, assume, await, close_ref, done, ent, ex, fdead, feq_i, feq_l, fjoin3, flent}
-use Rattle.ga_views.proofs.WalkNames.{flft, Fml, frame, fsplit3, full_share, GName, Incl-refl, Item, later, Lft, List}
-use Rattle.ga_views.proofs.WalkNames.{Logic, meet_⊑_left, meet_⊑_right, mem, move, MutRef, named, now, open_ref, part_at}
-use Rattle.ga_views.proofs.WalkNames.{qed, RattleType, raw, refl, sem, sep, Share, show, ShrRef, split, SProp, updating}
-use Rattle.ga_views.proofs.WalkNames.{Ura, use1, use2, Val, vptr, wand, !, [], ‵, ℕ, ⊑_trans, ◌$◌, ◌∵◌, ◌∷◌, ◌⊑◌, ◌⊛◌}
+use Rattle.ga_views.proofs.walks.Names
+use Names.{apply∗, assume, await, close_ref, done, ent, ex, fdead, feq_i, feq_l, fjoin3, flent, flft, Fml, frame}
+use Names.{fsplit3, full_share, GName, Incl-refl, Item, later, Lft, List, Logic, meet_⊑_left, meet_⊑_right, mem, move}
+use Names.{MutRef, named, now, open_ref, part_at, qed, RattleType, raw, refl, sem, sep, Share, show, ShrRef, split}
+use Names.{SProp, updating, Ura, use1, use2, Val, vptr, wand, !, [], ‵, ℕ, ⊑_trans, ◌$◌, ◌∵◌, ◌∷◌, ◌⊑◌, ◌⊛◌}
 use base.FractionLaws.{common}
 use types.Tokens.{lent_back, lft-common, lft_end, lft_new}
 use denote.Lend.{lends_shr}

@@ -7,7 +7,7 @@
 -- Assumes `Logic`.
 use Rattle.ga_core.specs.contracts.store.Store.as_mut_slice as callee
 use Rattle.ga_core.specs.declared.store.Store as store
-use Rattle.ga_views.proofs.LoanWalk.{Every, Loan, Words}
+use Rattle.ga_views.proofs.walks.LoanWalk.{Loan, Words}
 use Rattle.std.proofs.Common.{◌≡◌, [], ◌∷◌, ap, length, List, MutBor, ℕ}
 use base.Fml.{fbor, flft, Fml, fobs, fsep, ftrue, GName}
 use base.Logic.{emp, id⊢, SProp}
@@ -52,10 +52,6 @@ module _ (Z X : RattleType) (g : store.Ghosts Z.Denot X.Denot) (d dd : Dict) whe
   abbrev pub R : RattleType
   R = param 1 X
 
-  -- what is asked of the lifetimes
-  abbrev pub lives : Lfts 3 → List (Type 0)
-  lives κs = (κs.1.0 ⊑ Z.lives) ∷ (κs.1.1.0 ⊑ X.lives) ∷ []
-
   -- a U is lent by a function that takes k numbers, the store ends with `written` of its last value, and `shown` is
   -- said of the result
   abbrev pub loan_of : (k : ℕ) (result : Slot 3) (U : RattleType) → ((κs : Lfts 3) → (result.row κs).Denot → GName)
@@ -68,8 +64,7 @@ module _ (Z X : RattleType) (g : store.Ghosts Z.Denot X.Denot) (d dd : Dict) whe
     lent = plain (λ _. S);
     result = result;
     numbers = k;
-    lives = lives;
-    asks = λ κs store ns. asks κs (g.items store) ns ∷ [];
+    asks = λ κs store ns. (κs.1.0 ⊑ Z.lives) ∷ (κs.1.1.0 ⊑ X.lives) ∷ asks κs (g.items store) ns ∷ [];
     ties = λ κs x ns r. follows S U x.ghost_name (name κs r)
         (λ w. (g.store_with x.now (written κs (g.items x.now) ns w)).0);
     gives = λ κs store ns r. shown κs (g.items store) ns r;
@@ -110,16 +105,16 @@ module _ (Z X : RattleType) (g : store.Ghosts Z.Denot X.Denot) (d dd : Dict) whe
 
       module _ {K : Type 0} {Γ : List (Item 𝓤)} {E : Env 𝓤 H} {C : Calls 𝓤 H} {Λ : Loops 𝓤 H} {f : Callee}
           {xs : List Opd} {p : Place} {rest : Code} {q : Post 𝓤 H} where
-        pub calls_slice : K → FmC 𝓤 H 𝓛.laws C → Triple 𝓤 (C f) Called → Every (lives κs)
+        pub calls_slice : K → FmC 𝓤 H 𝓛.laws C → Triple 𝓤 (C f) Called → κs.1.0 ⊑ Z.lives → κs.1.1.0 ⊑ X.lives
             → Opds K 𝓛 (raw (Called.pre choice) ∷ Γ) E xs (Called.args choice)
             → ((v : Val) (s : MutBor (List X.Denot)) → Told v s
             → Seq K 𝓛 (seen s ∷ borrow s ∷ ‵ (flft κs.0 qs.0) ∷ ‵ (tied s) ∷ raw (toks 𝓛 2 κs.1 qs.1) ∷ Γ)
             (lands C Λ E p v rest q)) → Seq K 𝓛 (‵ Passed ∷ ‵ (flft κs.0 qs.0) ∷ raw (toks 𝓛 2 κs.1 qs.1) ∷ Γ)
             (runs C Λ E (seq (call f xs p) rest) q)
-        calls_slice t framed met live operands then =
+        calls_slice t framed met long longer operands then =
             nothing t $ move t (1 ∷ 0 ∷ []) $ fjoin t $ move t (1 ∷ 2 ∷ []) $ join t $ join t $
-            nothing t $ use0 𝓛 (raw (fact 𝓤 (κs.1.1.0 ⊑ X.lives))) (fact_i 𝓤 _ (emp 𝓤) live.1.0) $ join t $
-            use0 𝓛 (raw (fact 𝓤 (κs.1.0 ⊑ Z.lives))) (fact_i 𝓤 _ (emp 𝓤) live.0) $ join t $
+            nothing t $ use0 𝓛 (raw (fact 𝓤 (κs.1.1.0 ⊑ X.lives))) (fact_i 𝓤 _ (emp 𝓤) longer) $ join t $
+            use0 𝓛 (raw (fact 𝓤 (κs.1.0 ⊑ Z.lives))) (fact_i 𝓤 _ (emp 𝓤) long) $ join t $
             move t (1 ∷ 0 ∷ []) $ join t $ use1 𝓛 (raw (Called.pre choice)) (id⊢ 𝓤 _) $
             calls_at t framed Called met choice operands (λ v.
             use1 𝓛 (later (some (λ (s : MutBor (List X.Denot)).

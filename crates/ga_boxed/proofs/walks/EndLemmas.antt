@@ -4,12 +4,12 @@
 --     place_after, empty_snoc      the place of the first item is one more that is empty
 --     room_out, room_in            the first place of the room
 --     item_out, item_in            the last item
-use Rattle.ga_boxed.proofs.CellsWalkNames.{◌≡◌, refl, sym, ap, ◌∙◌, ◌≢◌, ℕ, suc, ◌+◌, ◌*◌, arith, List, [], ◌∷◌, ◌++◌, length}
-use Rattle.ga_boxed.proofs.CellsWalkNames.{length-append, Ura, full_share, ty_array, ent, sep, Fml, fsep, froom, Logic, sem}
-use Rattle.ga_boxed.proofs.CellsWalkNames.{cells, ‵, ◌⊛◌, ◌$◌, ◌∵◌, !, qed, move, drop as skip, use1, use2, split, fsplit}
-use Rattle.ga_boxed.proofs.CellsWalkNames.{fjoin, rewrite, done, part_at, mem, nothing, El, R, el_x, elτ, add_times, next}
-use Rattle.ga_boxed.proofs.CellsWalkNames.{room_snoc, as_raw, as_written, empty}
-use Rattle.ga_boxed.proofs.WalkParts.{sz}
+use Rattle.ga_boxed.proofs.walks.Names
+use Names.{◌≡◌, refl, sym, ap, ◌∙◌, ◌≢◌, ℕ, suc, ◌+◌, ◌*◌, arith, List, [], ◌∷◌, ◌++◌, length, length-append, Ura}
+use Names.{full_share, ty_array, ent, sep, Fml, fsep, froom, Logic, sem, cells, ‵, ◌⊛◌, ◌$◌, ◌∵◌, !, qed, move}
+use Names.{drop as skip, use1, use2, split, fsplit, fjoin, rewrite, done, part_at, mem, nothing, El, R, el_x, elτ}
+use Names.{add_times, next, room_snoc, as_raw, as_written, empty}
+use Rattle.ga_boxed.proofs.walks.WalkParts.{sz}
 use borrow.Table.Elements.{at, at_mul, cut_app, join_app}
 
 module _ {X : Type 0} where

@@ -1,6 +1,6 @@
 -- A slice of items for writing, where the items' type is the type parameter i, and the view of such a slice, where
 -- its length is the type parameter j; with their laws.
-use Rattle.ga_views.proofs.WalkNames.{Laws, NamedLft, of_field, param, param_laws, RattleType, refl, row_shared, ℕ}
+use Rattle.ga_views.proofs.walks.Names.{Laws, NamedLft, of_field, param, param_laws, RattleType, refl, row_shared, ℕ}
 use denote.Param.Shared.{mut_slice_shared}
 use denote.Struct.Field.{mut_slice_field}
 use denote.Struct.Laws.{mut_slice_laws}

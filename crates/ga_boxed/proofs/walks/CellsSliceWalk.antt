@@ -1,17 +1,17 @@
 -- The code of `slice` and `slice_mut`, which is the same but for `mut`. It makes a slice's machine value, and its walk
 -- is given how the items are lent. Assumes `Logic`.
-use Rattle.ga_boxed.proofs.CellsWalkNames.{◌≡◌, refl, ap, ℕ, ◌+◌, ◌*◌, ◌<◌, ◌^◌, List, [], ◌∷◌, length, Ura, full_share, fat}
-use Rattle.ga_boxed.proofs.CellsWalkNames.{SProp, ent, Fn, Mutability, Ty, aggregate, assign, block, copy, erased, field, local}
-use Rattle.ga_boxed.proofs.CellsWalkNames.{mul, named, offset, op2, place, return, rv_opd, seq, size_of, ty_int, ty_ptr, ty_ref}
-use Rattle.ga_boxed.proofs.CellsWalkNames.{unsigned, value_local, w64, Val, vint, vptr, Calls, Env, Loops, WpFn, Logic, Go}
-use Rattle.ga_boxed.proofs.CellsWalkNames.{Goal, Item, Seq, Soaks, ‵, at_ret, mean, ◌$◌, ◌∵◌, !, qed, by, keep, rewrite, agg}
-use Rattle.ga_boxed.proofs.CellsWalkNames.{sub, whole, and_then, bin, blocks, enter, exec, first, fld, no_more, of_opd, returns}
-use Rattle.ga_boxed.proofs.CellsWalkNames.{size_word, stop, alloc_all, env, free_all, get, get_in, give_at, is, look_at}
-use Rattle.ga_boxed.proofs.CellsWalkNames.{pass_all, sets, sets_last, take_at, Lfts, no, Slot, type_at, layout, Ptr, block_ptr}
-use Rattle.ga_boxed.proofs.CellsWalkNames.{slice_ty, slice_val, word, word-Good, after, El, elτ, uncapped, uncapped_fits}
-use Rattle.ga_boxed.proofs.CallWalk.{Call, Self, number}
-use Rattle.ga_boxed.proofs.CellsWalk.{the_base}
-use Rattle.ga_boxed.proofs.WalkParts.{Bs, Cr, sz}
+use Rattle.ga_boxed.proofs.walks.Names
+use Names.{◌≡◌, refl, ap, ℕ, ◌+◌, ◌*◌, ◌<◌, ◌^◌, List, [], ◌∷◌, length, Ura, full_share, fat, SProp, ent, Fn}
+use Names.{Mutability, Ty, aggregate, assign, block, copy, erased, field, local, mul, named, offset, op2, place, return}
+use Names.{rv_opd, seq, size_of, ty_int, ty_ptr, ty_ref, unsigned, value_local, w64, Val, vint, vptr, Calls, Env, Loops}
+use Names.{WpFn, Logic, Go, Goal, Item, Seq, Soaks, ‵, at_ret, mean, ◌$◌, ◌∵◌, !, qed, by, keep, rewrite, agg, sub}
+use Names.{whole, and_then, bin, blocks, enter, exec, first, fld, no_more, of_opd, returns, size_word, stop, alloc_all}
+use Names.{env, free_all, get, get_in, give_at, is, look_at, pass_all, sets, sets_last, take_at, Lfts, no, Slot}
+use Names.{type_at, layout, Ptr, block_ptr, slice_ty, slice_val, word, word-Good, after, El, elτ, uncapped}
+use Names.{uncapped_fits}
+use Rattle.ga_boxed.proofs.walks.CallWalk.{Call, Self, number}
+use Rattle.ga_boxed.proofs.walks.CellsWalk.{the_base}
+use Rattle.ga_boxed.proofs.walks.WalkParts.{Bs, Cr, sz}
 
 module _ (E : El) where
   -- what is promised of the first parameter and the result

@@ -1,22 +1,21 @@
 -- What the walks share: a value of one pointer, one of no bytes, a tuple of three, an item as a machine value and in
 -- memory, and how a walk begins and ends. Assumes `Logic`.
-use Rattle.ga_boxed.proofs.CellsWalkNames.{◌≡◌, refl, subst, sym, ap, ◌∙◌, ℕ, ◌*◌, ◌<◌, ◌^◌, List, [], ◌∷◌, Ura, Val, vstruct}
-use Rattle.ga_boxed.proofs.CellsWalkNames.{vcons, vnil, id⊢, ent, sep, emp, Model, Lfts, Shares, toks, Fun, Running, Logic, sem}
-use Rattle.ga_boxed.proofs.CellsWalkNames.{raw, join, Item, Goal, Seq, Step, step, ‵, ◌$◌, ◌∵◌, !, qed, move, fjoin, fpack}
-use Rattle.ga_boxed.proofs.CellsWalkNames.{feq_i, done, some, ◌⊛◌, use1, pick, split, Laws, RattleType, Valss, Ptr, RawPtr}
-use Rattle.ga_boxed.proofs.CellsWalkNames.{ptr_val, rawptr_vals, rawptr_Tells, nothing, peeks, Shape, Struct, Struct-Tells}
-use Rattle.ga_boxed.proofs.CellsWalkNames.{within, shape, Tuple, tuple_type, grown, spared, Clauses, Ended, closing, Vals}
-use Rattle.ga_boxed.proofs.CellsWalkNames.{Meets, Triple, run_framed, Stays, walk_of, type_size, El, R, el_x, elτ, lawful, one}
-use Rattle.ga_boxed.proofs.CellsWalkNames.{word, Good, full_share, Ghosts, Dict, Callee, Ty, Args, a_type, ty_array, dcons}
-use Rattle.ga_boxed.proofs.CellsWalkNames.{dnil, fat, flft, ftrue, Is, Tells, shows, param, bounded, part_at, part_out, size}
-use Rattle.ga_boxed.proofs.CellsWalkNames.{align, capped, capped_is, Al}
+use Rattle.ga_boxed.proofs.walks.CallWalk.{Behind}
+use Rattle.ga_boxed.proofs.walks.Names
+use Names.{no, plain, Goes-dropped, ◌≡◌, refl, ap, ◌∙◌, ℕ, ◌*◌, ◌<◌, ◌^◌, List, [], ◌∷◌, Ura, Val, vstruct, vcons, vnil}
+use Names.{id⊢, ent, sep, emp, Lfts, Shares, toks, Logic, sem, raw, join, Item, Goal, Seq, Step, step, ‵, ◌$◌, ◌∵◌, ! }
+use Names.{qed, move, fjoin, fpack, feq_i, done, some, ◌⊛◌, use1, pick, split, Laws, RattleType, Valss, Ptr, RawPtr}
+use Names.{ptr_val, rawptr_vals, rawptr_Tells, nothing, peeks, Shape, Struct, Struct-Tells, within, shape, Tuple}
+use Names.{tuple_type, type_size, El, R, el_x, elτ, lawful, one, word, Good, full_share, Ghosts, Dict, Ty, Args, a_type}
+use Names.{ty_array, dcons, dnil, fat, flft, ftrue, Is, Tells, shows, param, bounded, part_at, part_out, size, align}
+use Names.{capped, capped_is, Al}
 use denote.Shadow.{makes_shadow}
+use mir.Raw.{raw as bare}
+use prog.RawLaws.{size-raw, align-raw}
 use denote.Struct.Declared as Declared
 use Rattle.ga_boxed.specs.contracts.live_block.cells.Cells as C-type
 use Rattle.ga_boxed.specs.contracts.live_block.cells.Base as B-type
 use Rattle.ga_boxed.specs.contracts.live_block.cells.Deed as D-type
-use mir.Raw.{raw as bare}
-use prog.RawLaws.{size-raw, align-raw}
 
 module _ (E : El) where
   -- the type that a block of n slots is asked for
@@ -118,6 +117,17 @@ pub is_one : (E : El) {M : Type 1} {𝓤 : Ura M} (𝓛 : Logic 𝓤) (x : el_x 
     → (v : Val) × (vs ≡ v ∷ []) × Good (elτ E) v
 is_one E 𝓛 x vs is = one E vs ((lawful E 𝓛).typed x vs is)
 
+abbrev pub an_item : {n : ℕ} → El → Behind n
+an_item {n} E = record {
+  row = R E;
+  kept = no;
+  Word = Val;
+  vals = λ _ v. v ∷ [];
+  Fine = λ _ v. Good (elτ E) v;
+  told = is_one E;
+  ends = λ 𝓛. Goes-dropped 𝓛 n (plain (λ _. R E)) no (λ κs x f. refl);
+}
+
 -- the tokens of the lifetimes of the two type parameters
 abbrev pub others : {M : Type 1} {𝓤 : Ura M} → Lfts 3 → Shares 3 → Item 𝓤
 others κs qs = ‵ (flft κs.1.0 qs.1.0) ⊛ ‵ (flft κs.1.1.0 qs.1.1.0) ⊛ ‵ ftrue
@@ -130,22 +140,3 @@ module _ {M : Type 1} {𝓤 : Ura M} {𝓛 : Logic 𝓤} {K : Type 0} {Γ : List
   pub tokens_in : K → (κs : Lfts 3) (qs : Shares 3)
       → Step K 𝓛 (raw (toks 𝓛 3 κs qs) ∷ Γ) G (‵ (flft κs.0 qs.0) ∷ others κs qs ∷ Γ) G
   tokens_in t κs qs = step (λ s. join t $ use1 𝓛 (raw (toks 𝓛 3 κs qs)) (id⊢ 𝓤 _) $ s)
-
--- what is met over a function's own lifetimes is met with one more for each type parameter
-module _ {M : Type 1} {𝓤 : Ura M} (𝓛 : Logic 𝓤) (𝓜 : Model 𝓤 𝓛.H) (𝓡 : Running 𝓤 𝓛.H 𝓜) (T : Ended)
-    (c : Clauses 𝓤 T) where
-  pub grows : (m : ℕ) (ℓs : Lfts m) (k : Callee) → Meets 𝓛 T.signature (𝓡.run (𝓡.env k)) (closing 𝓛 T c)
-      → Triple 𝓤 (𝓡.run (𝓡.env k)) (grown 𝓛 T.signature m ℓs (closing 𝓛 T c))
-  grows m ℓs k = spared 𝓛 T.signature (𝓡.run (𝓡.env k)) (run_framed 𝓤 𝓛.H 𝓜 𝓡 (𝓡.env k)) m ℓs (closing 𝓛 T c)
-
--- in a walk the parameters' machine values are written out
-pub at_values : {M : Type 1} {𝓤 : Ura M} (𝓛 : Logic 𝓤) (T : Ended) (hs : Stays T.signature.params T.kept)
-    (c : Clauses 𝓤 T) (run : Fun 𝓤) (y : (walk_of 𝓛 T hs c).Ghost) (vss : Vals T.signature y.0.0) → y.0.4 ≡ vss
-    → ent 𝓤 ((walk_of 𝓛 T hs c).pre ((y.0.0, y.0.1, y.0.2, y.0.3, vss), y.1))
-    (run ((walk_of 𝓛 T hs c).args ((y.0.0, y.0.1, y.0.2, y.0.3, vss), y.1))
-    ((walk_of 𝓛 T hs c).post ((y.0.0, y.0.1, y.0.2, y.0.3, vss), y.1)))
-    → ent 𝓤 ((walk_of 𝓛 T hs c).pre y) (run ((walk_of 𝓛 T hs c).args y) ((walk_of 𝓛 T hs c).post y))
-at_values {𝓤 = 𝓤} 𝓛 T hs c run y vss e =
-    subst (λ (us : Vals T.signature y.0.0). let z : (walk_of 𝓛 T hs c).Ghost =
-    ((y.0.0, y.0.1, y.0.2, y.0.3, us), y.1) in ent 𝓤 ((walk_of 𝓛 T hs c).pre z)
-    (run ((walk_of 𝓛 T hs c).args z) ((walk_of 𝓛 T hs c).post z))) (sym e)

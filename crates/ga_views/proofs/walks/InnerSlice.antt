@@ -4,16 +4,15 @@
 --     opens_inner, closes_inner    the outer borrow is opened, which gives the cell of the inner reference, at the type
 --                                  that the code names, and closed again
 --     lends_inner                  the items are lent, and the inner reference ends at what they end as
-use Rattle.ga_views.proofs.WalkNames.{a_type, Args, Arr, Array, at_last, await, Body, cell_at, closes, done, drop, ent}
-use Rattle.ga_views.proofs.WalkNames.{erased, fat, fauth, fbor, flft, Fml, fobor, fobs, follows, fsplit3, full_share, GName}
-use Rattle.ga_views.proofs.WalkNames.{Goal, group, Gv, Incl, Is, Item, later, layouts, lends_inner_slice, length, Lft, Lfts}
-use Rattle.ga_views.proofs.WalkNames.{List, Logic, mem, move, mut, mut_slice_vals, mut_vals, MutBor, MutRef, MutSlice}
-use Rattle.ga_views.proofs.WalkNames.{named, now, opens, param, peeks, pick, plain, pointee, qed, RattleType, raw, refl}
-use Rattle.ga_views.proofs.WalkNames.{renamed, rewrite, Room, SemTy, sep, Seq, Share, shows, slice_ty, slice_val}
-use Rattle.ga_views.proofs.WalkNames.{SliceRefMutOf, Slot, Soaks, some, split3, SProp, Step, step, Ty, ty_ref, updating}
-use Rattle.ga_views.proofs.WalkNames.{Ura, use1, use3, Val, !, [], ‵, ℕ, ◌$◌, ◌∵◌, ◌∷◌, ◌≡◌, ◌⊑◌, ◌⊛◌}
-use Rattle.ga_views.proofs.LoanWalk.{Loan, Words}
-use Rattle.ga_views.proofs.PartLoan.{Whole}
+use Rattle.ga_views.proofs.walks.Names
+use Names.{a_type, Args, Arr, Array, at_last, await, Body, cell_at, closes, done, drop, ent, erased, fat, fauth, fbor}
+use Names.{flft, Fml, fobor, fobs, follows, fsplit3, full_share, GName, Goal, group, Gv, Incl, Is, Item, later, layouts}
+use Names.{lends_inner_slice, length, Lft, Lfts, List, Logic, mem, move, mut, mut_slice_vals, mut_vals, MutBor, MutRef}
+use Names.{MutSlice, named, now, opens, param, peeks, pick, plain, pointee, qed, RattleType, raw, refl, renamed}
+use Names.{rewrite, Room, SemTy, sep, Seq, Share, shows, slice_ty, slice_val, SliceRefMutOf, Slot, Soaks, some, split3}
+use Names.{SProp, Step, step, Ty, ty_ref, updating, Ura, use1, use3, Val, !, [], ‵, ℕ, ◌$◌, ◌∵◌, ◌∷◌, ◌≡◌, ◌⊑◌, ◌⊛◌}
+use Rattle.ga_views.proofs.walks.LoanWalk.{Loan, Words}
+use Rattle.ga_views.proofs.walks.PartLoan.{Whole}
 use Rattle.ga_views.specs.contracts.reborrow.RefMutSliceReborrowSlice.all_mut as all_mut
 
 -- the type argument of such a function
@@ -36,8 +35,7 @@ module _ (X : RattleType) (n : ℕ) where
     lent = SliceRefMutOf (1 ∷ []) tt (plain (λ _. R)) (λ _. tt);
     result = result;
     numbers = n;
-    lives = λ κs. (κs.1.1.0 ⊑ X.lives) ∷ [];
-    asks = λ κs d ns. asks κs d.now ns;
+    asks = λ κs d ns. (κs.1.1.0 ⊑ X.lives) ∷ asks κs d.now ns;
     ties = λ κs x ns r. follows (MutSlice (named 1) κs.1.0 R) U x.ghost_name (name κs r)
         (λ w. at_last x.now (written κs x.now.now ns w));
     gives = λ κs d ns r. shown κs d.now ns r;

@@ -1,26 +1,30 @@
 -- A call of whose parameters none but the first is had at the end: all of its walk but what it asks, what it gives and
 -- its own steps. Assumes `Logic`.
---     Behind            a parameter behind the first.        told_by, number, an_item
+--     Behind            a parameter behind the first.        told_by, number
 --     Self              the first parameter.        by_ref
 --     Call              such a call: its signature and its clauses
 --     Walk, meets       its walk, which is given what it asks and how it ends, and its contract from that
 --     meets_grown       the same with the lifetimes of type parameters
 --     Linked, linked    what a walk may call
-use Rattle.ga_boxed.proofs.CellsWalkNames.{◌≡◌, refl, ℕ, suc, ◌<◌, ◌^◌, List, [], ◌∷◌, ◌++◌, Ura, SProp, ent, emp, id⊢, via}
-use Rattle.ga_boxed.proofs.CellsWalkNames.{Callee, Fn, named, w64, Val, Memory, Fun, framed as all_framed, Model, Calls, Closed}
-use Rattle.ga_boxed.proofs.CellsWalkNames.{Loops, WpFn, AllOutlive, Lfts, Outlives, Shares, toks, Running, tables, Logic, sem}
-use Rattle.ga_boxed.proofs.CellsWalkNames.{⋆, ‵, raw, Item, ◌$◌, ◌∵◌, !, qed, move, fsplit, fjoin, suffices, use0, done, One}
-use Rattle.ga_boxed.proofs.CellsWalkNames.{RefOf, usize, Kept, Last, Seen, see, yes, no, Are, Is, Ises, Tells, uint_vals}
-use Rattle.ga_boxed.proofs.CellsWalkNames.{uint_Tells, Denots, RattleType, Valss, flat, owns, shr_vals, shr_Tells, Signature}
-use Rattle.ga_boxed.proofs.CellsWalkNames.{Slot, plain, type_at, types_at, nothing, grown, Triple, Clauses, Ended, closing}
-use Rattle.ga_boxed.proofs.CellsWalkNames.{on_entry, Meets, AllGo, Goes, Goes-dropped, Stay, Stays, fits_of, has_of}
-use Rattle.ga_boxed.proofs.CellsWalkNames.{stay_dropped, walk_of, Good, El, R, elτ}
-use prog.Routine.{Routine}
-use sound.WpLaws.{FmC}
+use Rattle.ga_views.proofs.walks.ClauseFacts.{AllFacts, facts, learns}
+use Rattle.ga_views.proofs.walks.Names
+use Names.{◌≡◌, refl, subst, sym, ℕ, suc, ◌<◌, ◌^◌, List, [], ◌∷◌, ◌++◌, Ura, SProp, ent, emp, id⊢, via, Callee, Fn}
+use Names.{named, w64, Val, Memory, Fun, Model, Calls, Closed, Loops, WpFn, AllOutlive, Lfts, Outlives, Shares, toks}
+use Names.{Running, tables, Logic, sem, ⋆, ‵, raw, Item, ◌$◌, ◌∵◌, !, qed, move, fsplit, fjoin, suffices, use0, done}
+use Names.{usize, yes, Are, Is, Ises, uint_vals, uint_Tells, Denots, RattleType, Valss, flat, owns, shr_vals, Slot}
+use Names.{plain, type_at, types_at, nothing, Triple, Clauses, Ended, closing, on_entry, Meets, AllGo, Goes-dropped}
+use Names.{Stays, fits_of, has_of, stay_dropped, walk_of, Routine, FmC, leaves, framed as all_framed}
+use Rattle.std.proofs.raw_atomic.Walks.{proved_at}
+use denote.Builtin.{One, RefOf}
+use denote.Exit.{Kept, Last, Seen, see}
+use denote.Laws.{Tells}
+use denote.Ref.{shr_Tells}
+use denote.Signature.{Signature}
+use denote.Triple.Carry.{grown, spared}
 use denote.Triple.End.{Fins, Kepts}
-use Rattle.std.proofs.raw_atomic.Walks.{leaves, proved_at}
-use Rattle.ga_boxed.proofs.ClauseFacts.{AllFacts, facts, learns}
-use Rattle.ga_boxed.proofs.WalkParts.{at_values, grows, is_one}
+use denote.Triple.Entry.{Vals}
+use denote.Triple.Table.{run_framed}
+use denote.Triple.Walked.{Goes, Stay}
 
 -- `Word` is what its machine values have besides
 pub record Behind (n : ℕ) : Type 3 where
@@ -52,17 +56,6 @@ told_by S k vals Fine told ends = record {
 abbrev pub number : {n : ℕ} → Kept → Behind n
 number {n} k = told_by usize k (uint_vals w64) (λ m. m < 2 ^ 64) (λ m vs is. (uint_Tells w64 m vs is, is.1))
     (λ M 𝓤 𝓛. Goes-dropped 𝓛 n (plain (λ _. usize)) k (λ κs x f. refl))
-
-abbrev pub an_item : {n : ℕ} → El → Behind n
-an_item {n} E = record {
-  row = R E;
-  kept = no;
-  Word = Val;
-  vals = λ _ v. v ∷ [];
-  Fine = λ _ v. Good (elτ E) v;
-  told = is_one E;
-  ends = λ 𝓛. Goes-dropped 𝓛 n (plain (λ _. R E)) no (λ κs x f. refl);
-}
 
 -- a walk begins with what it owns, and ends with what is still had of it
 pub record Self (n : ℕ) : Type 3 where
@@ -113,12 +106,15 @@ module _ {n : ℕ} where
     abbrev pub Args : List (Behind n) → Type 0
     Args ps = Denots (rows ps)
 
-    abbrev Lasts : (ps : List (Behind n)) → Args ps → Type 0
+    abbrev pub Lasts : (ps : List (Behind n)) → Args ps → Type 0
     Lasts ps = Fins κs (slots ps) (kepts ps)
 
     abbrev vals_of : (ps : List (Behind n)) → Args ps → Words ps → Valss (rows ps)
     vals_of [] a w = tt
     vals_of (p ∷ ps) a w = (p.vals a.0 w.0, vals_of ps a.1 w.1)
+
+    abbrev pub flat_of : (ps : List (Behind n)) (a : Args ps) → Words ps → List Val
+    flat_of ps a w = flat (rows ps) (vals_of ps a w)
 
     abbrev pub Fines : (ps : List (Behind n)) → Args ps → Words ps → Type 0
     Fines [] a w = Unit {0}
@@ -153,6 +149,18 @@ pub record Call (n : ℕ) : Type 3 where
   pub gives : (M : Type 1) (𝓤 : Ura M) → Logic 𝓤 → (κs : Lfts n) → (me.slot.row κs).Denot → Args κs behind
       → (type_at out κs).Denot → Seen ((me.slot.row κs).exit me.kept) → SProp 𝓤
 
+-- in a walk the parameters' machine values are written out
+pub at_values : {M : Type 1} {𝓤 : Ura M} (𝓛 : Logic 𝓤) (T : Ended) (hs : Stays T.signature.params T.kept)
+    (c : Clauses 𝓤 T) (run : Fun 𝓤) (y : (walk_of 𝓛 T hs c).Ghost) (vss : Vals T.signature y.0.0) → y.0.4 ≡ vss
+    → ent 𝓤 ((walk_of 𝓛 T hs c).pre ((y.0.0, y.0.1, y.0.2, y.0.3, vss), y.1))
+    (run ((walk_of 𝓛 T hs c).args ((y.0.0, y.0.1, y.0.2, y.0.3, vss), y.1))
+    ((walk_of 𝓛 T hs c).post ((y.0.0, y.0.1, y.0.2, y.0.3, vss), y.1)))
+    → ent 𝓤 ((walk_of 𝓛 T hs c).pre y) (run ((walk_of 𝓛 T hs c).args y) ((walk_of 𝓛 T hs c).post y))
+at_values {𝓤 = 𝓤} 𝓛 T hs c run y vss e =
+    subst (λ (us : Vals T.signature y.0.0). let z : (walk_of 𝓛 T hs c).Ghost =
+    ((y.0.0, y.0.1, y.0.2, y.0.3, us), y.1) in ent 𝓤 ((walk_of 𝓛 T hs c).pre z)
+    (run ((walk_of 𝓛 T hs c).args z) ((walk_of 𝓛 T hs c).post z))) (sym e)
+
 module _ {n : ℕ} (c : Call n) where
   abbrev signature : Signature
   signature = record { lifetimes = n; outlives = c.outlives; params = c.me.slot ∷ slots c.behind; result = c.out }
@@ -180,7 +188,7 @@ module _ {n : ℕ} (c : Call n) where
           ∷ ‵ (owns (rows κs c.behind) a (vals_of κs c.behind a w)) ∷ []
 
       -- what there is to be at its end
-      abbrev Left : Val → (type_at c.out κs).Denot → Last ((c.me.slot.row κs).exit c.me.kept) x → List (Item 𝓤)
+      abbrev pub Left : Val → (type_at c.out κs).Denot → Last ((c.me.slot.row κs).exit c.me.kept) x → List (Item 𝓤)
       Left v r new = ‵ (c.me.stay.has κs x new (c.me.vals κs x)) ∷ raw (toks 𝓛 n κs qs)
           ∷ ‵ ((type_at c.out κs).own_val r (v ∷ []))
           ∷ raw (c.gives M 𝓤 𝓛 κs x a r (see ((c.me.slot.row κs).exit c.me.kept) x new)) ∷ []
@@ -194,7 +202,7 @@ module _ {n : ℕ} (c : Call n) where
     Walk C Λ e = (κs : Lfts n) (qs : Shares n) → AllOutlive n c.outlives κs → (x : (c.me.slot.row κs).Denot)
         (a : Args κs c.behind) (w : Words c.behind) (Post : Val → SProp 𝓤) → AllFacts (c.asks κs x a)
         → Fines κs c.behind a w → Ends κs qs x a Post → ent 𝓤 (⋆ 𝓛 (Had κs qs x a w))
-        (WpFn 𝓤 H C Λ e (c.me.vals κs x ++ flat (rows κs c.behind) (vals_of κs c.behind a w)) Post)
+        (WpFn 𝓤 H C Λ e (c.me.vals κs x ++ flat_of κs c.behind a w) Post)
 
     module _ (κs : Lfts n) (qs : Shares n) (bounds : AllOutlive n c.outlives κs) (x : (c.me.slot.row κs).Denot)
         (a : Args κs c.behind) (w : Words c.behind) where
@@ -233,7 +241,8 @@ pub meets_grown : {n : ℕ} (c : Call n) {M : Type 1} {𝓤 : Ura M} (𝓛 : Log
     Closed 𝓤 𝓛.H 𝓣.C 𝓣.Λ k e → Walk c 𝓛 𝓣.C 𝓣.Λ e
     → Triple 𝓤 (𝓡.run (𝓡.env k)) (grown 𝓛 (ended c).signature m ℓs (closing 𝓛 (ended c) (clauses c 𝓛)))
 meets_grown c 𝓛 𝓜 𝓡 m ℓs k e closed walk =
-    grows 𝓛 𝓜 𝓡 (ended c) (clauses c 𝓛) m ℓs k (meets c 𝓛 𝓜 𝓡 k e closed walk)
+    spared 𝓛 (ended c).signature (𝓡.run (𝓡.env k)) (run_framed _ 𝓛.H 𝓜 𝓡 (𝓡.env k)) m ℓs
+    (closing 𝓛 (ended c) (clauses c 𝓛)) (meets c 𝓛 𝓜 𝓡 k e closed walk)
 
 -- what a walk may call, with what the callees' contracts speak of
 pub record Linked {M : Type 1} {𝓤 : Ura M} (𝓛 : Logic 𝓤) : Type 2 where

@@ -1,8 +1,8 @@
 -- The parts of a block may cross threads as its items and its allocator may. Assumes nothing.
-use Rattle.ga_boxed.proofs.CellsWalkNames.{ℕ, ◌+◌, ◌*◌, cells_lent, cells_own, type_size, has_block, owns_if, Ghosts, Fml}
-use Rattle.ga_boxed.proofs.CellsWalkNames.{full_share, Exit, hidden, leaves, unchanged, under, mem, RattleType, Ptr, block_ptr}
-use Rattle.ga_boxed.proofs.CellsWalkNames.{null_ptr, elements_shared, fields, shape, to, exits_of, Bool, false, true, List, []}
-use Rattle.ga_boxed.proofs.CellsWalkNames.{◌∷◌, cells}
+use Rattle.ga_boxed.proofs.walks.Names
+use Names.{ℕ, ◌+◌, ◌*◌, cells_lent, cells_own, type_size, has_block, owns_if, Ghosts, Fml, full_share, Exit, hidden}
+use Names.{leaves, unchanged, under, mem, RattleType, Ptr, block_ptr, null_ptr, elements_shared, fields, shape, to}
+use Names.{exits_of, Bool, false, true, List, [], ◌∷◌, cells}
 use Rattle.ga_boxed.specs.contracts.live_block.cells.Cells as Cells
 use Rattle.ga_boxed.specs.contracts.live_block.cells.Deed as Deed
 use base.Shift.{Keyless}

@@ -1,10 +1,10 @@
 -- A `Cells` that holds no item is made of nothing or of a block's room, and gives that room back. Assumes `Logic`.
-use Rattle.ga_boxed.proofs.CellsWalkNames.{◌≡◌, refl, subst, ℕ, ◌+◌, ◌*◌, ◌<◌, ◌^◌, arith, zero-mul, [], ◌∷◌, Ura, ty_array}
-use Rattle.ga_boxed.proofs.CellsWalkNames.{ent, emp, guard, froom, Logic, sem, ‵, ◌$◌, ◌∵◌, !, qed, move, drop as skip, use0}
-use Rattle.ga_boxed.proofs.CellsWalkNames.{use2, rewrite, fsplit, fjoin, flt_i, flt_l, check, done, block_ptr, nothing, El, R}
-use Rattle.ga_boxed.proofs.CellsWalkNames.{elτ, as_raw, as_written, cells_own, empty, via}
+use Rattle.ga_boxed.proofs.walks.Names
+use Names.{◌≡◌, refl, subst, ℕ, ◌+◌, ◌*◌, ◌<◌, ◌^◌, arith, zero-mul, [], ◌∷◌, Ura, ty_array, ent, emp, guard, froom}
+use Names.{Logic, sem, ‵, ◌$◌, ◌∵◌, !, qed, move, drop as skip, use0, use2, rewrite, fsplit, fjoin, flt_i, flt_l, check}
+use Names.{done, block_ptr, nothing, El, R, elτ, as_raw, as_written, cells_own, empty, via}
 use Rattle.ga_boxed.proofs.BlockLemmas.{none_fits}
-use Rattle.ga_boxed.proofs.WalkParts.{block_ty, sz}
+use Rattle.ga_boxed.proofs.walks.WalkParts.{block_ty, sz}
 use Rattle.std.proofs.ptr.Rows.{glued}
 
 module _ (E : El) {M : Type 1} {𝓤 : Ura M} (𝓛 : Logic 𝓤) (b o : ℕ) where

@@ -1,9 +1,9 @@
 -- A call of a function as a step of its caller's walk. Assumes `Logic`.
-use Rattle.ga_views.proofs.WalkNames.{AllOutlive, await, call, Callee, Calls, Clauses, closing, Code, Contract, done, drop}
-use Rattle.ga_views.proofs.WalkNames.{emp, Ended, ent, Env, fact, fact_i, FmC, Fml, Item, join, lands, Lasts, lasts, later}
-use Rattle.ga_views.proofs.WalkNames.{Lfts, List, Logic, Loops, mean, move, Opds, Operand, pick, Place, Post, qed}
-use Rattle.ga_views.proofs.WalkNames.{RattleType, raw, runs, sem, sep, Seq, seq, Shares, some, split, SProp, Triple}
-use Rattle.ga_views.proofs.WalkNames.{triple_of, type_at, Ura, use0, use1, Val, !, [], ‵, ◌$◌, ◌∵◌, ◌∷◌, ◌⊛◌}
+use Rattle.ga_views.proofs.walks.Names
+use Names.{AllOutlive, await, call, Callee, Calls, Clauses, closing, Code, Contract, done, drop, emp, Ended, ent, Env}
+use Names.{fact, fact_i, FmC, Fml, Item, join, lands, Lasts, lasts, later, Lfts, List, Logic, Loops, mean, move, Opds}
+use Names.{Operand, pick, Place, Post, qed, RattleType, raw, runs, sem, sep, Seq, seq, Shares, some, split, SProp}
+use Names.{Triple, triple_of, type_at, Ura, use0, use1, Val, !, [], ‵, ◌$◌, ◌∵◌, ◌∷◌, ◌⊛◌}
 use denote.Triple.Call.{calls_at}
 use denote.Triple.Entry.{Args, Vals}
 

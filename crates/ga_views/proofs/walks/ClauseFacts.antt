@@ -4,8 +4,9 @@
 --     facts          the facts as a contract has them
 --     learns         P ∗ facts as a hypothesis: they are learned
 --     has_every      they are shown, as an entry
-use Rattle.ga_boxed.proofs.CellsWalkNames.{List, [], ◌∷◌, Ura, SProp, ent, sep, emp, id⊢, via, mono_l, fst∗, snd∗, emp∗, Logic}
-use Rattle.ga_boxed.proofs.CellsWalkNames.{Goal, Item, raw, Step, step, use0, ◌$◌, fact, fact_i, fact_use}
+use Rattle.ga_views.proofs.walks.Names.{List, [], ◌∷◌, Ura, SProp, ent, sep, emp, id⊢, via, fst∗, snd∗, Logic, Goal}
+use Rattle.ga_views.proofs.walks.Names.{Item, raw, Step, step, use0, ◌$◌, fact, fact_i, fact_use}
+use base.Logic.{emp∗, mono_l}
 
 abbrev pub AllFacts : List (Type 0) → Type 0
 AllFacts [] = Unit {0}

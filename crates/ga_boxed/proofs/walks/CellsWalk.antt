@@ -1,18 +1,17 @@
 -- The calls of `Cells` that are given the base: their parameters, and how `self` is opened and closed. Assumes `Logic`.
 --     the_base          the base.        by_mut, spent      `&mut self`
 --     opens_cells, closes_cells      the borrow of `self` is opened, and closed on other cells
-use Rattle.ga_boxed.proofs.CellsWalkNames.{◌≡◌, refl, sym, ℕ, ◌+◌, ◌*◌, ◌<◌, ◌^◌, List, [], ◌∷◌, length, Ura, full_share, flft}
-use Rattle.ga_boxed.proofs.CellsWalkNames.{fobor, fobs, fauth, fst∗, emp, never, id⊢, named, Val, Lfts, Shares, toks, Logic, ‵}
-use Rattle.ga_boxed.proofs.CellsWalkNames.{raw, ◌$◌, move, drop, join, rewrite, fsplit, fsplit3, fjoin, fjoin3, Goal, Item, Seq}
-use Rattle.ga_boxed.proofs.CellsWalkNames.{Soaks, Step, step, feq_i, flt_i, flt_l, use1, RefMutOf, Kept, yes, no, mem, cell_at}
-use Rattle.ga_boxed.proofs.CellsWalkNames.{block_ptr, Ptr, in_a_block, MutBor, MutRef, mut_vals, mut_Tells, Slot, plain, closes}
-use Rattle.ga_boxed.proofs.CellsWalkNames.{nothing, opens, Goes, Goes-dropped, Goes-ref, Goes-spent_ref, Stay, stay_dropped}
-use Rattle.ga_boxed.proofs.CellsWalkNames.{stay_ref, El, R, cells_own}
+use Rattle.ga_boxed.proofs.walks.Names
+use Names.{◌≡◌, refl, sym, ℕ, ◌+◌, ◌*◌, ◌<◌, ◌^◌, List, [], ◌∷◌, length, Ura, full_share, flft, fobor, fobs, fauth}
+use Names.{fst∗, emp, never, id⊢, named, Val, Lfts, Shares, toks, Logic, ‵, raw, ◌$◌, move, drop, join, rewrite, fsplit}
+use Names.{fsplit3, fjoin, fjoin3, Goal, Item, Seq, Soaks, Step, step, feq_i, flt_i, flt_l, use1, RefMutOf, Kept, yes}
+use Names.{no, mem, cell_at, block_ptr, Ptr, in_a_block, MutBor, MutRef, mut_vals, mut_Tells, Slot, plain, closes}
+use Names.{nothing, opens, Goes, Goes-dropped, Goes-ref, Goes-spent_ref, Stay, stay_dropped, stay_ref, El, R, cells_own}
 use base.Stored.{Gv}
 use types.SemTy.{Body as Borrowed}
-use Rattle.ga_boxed.proofs.CallWalk.{told_by, Behind, Self}
-use Rattle.ga_boxed.proofs.EndLemmas.{Held}
-use Rattle.ga_boxed.proofs.WalkParts.{Bs, Cr, Mark, base_Tells, base_vals, sz}
+use Rattle.ga_boxed.proofs.walks.CallWalk.{told_by, Behind, Self}
+use Rattle.ga_boxed.proofs.walks.EndLemmas.{Held}
+use Rattle.ga_boxed.proofs.walks.WalkParts.{Bs, Cr, Mark, base_Tells, base_vals, sz}
 
 module _ (E : El) where
   abbrev pub the_base : {n : ℕ} → Behind n

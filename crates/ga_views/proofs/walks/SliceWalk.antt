@@ -1,14 +1,13 @@
 -- A walk of a function that takes a slice for writing, and nothing else, and gives it up: all of it but what the
 -- function asks, what it gives and its own steps. Assumes `Logic`.
-use Rattle.ga_views.proofs.WalkNames.{alive, AllOutlive, at_exit, call, Callee, Calls, Clauses, Closed, closing, Code}
-use Rattle.ga_views.proofs.WalkNames.{Contract, emp, Ended, ent, Env, fact, flft, FmC, Fn, ftrue, Goes-spent_slice, group}
-use Rattle.ga_views.proofs.WalkNames.{has_of, id⊢, Item, lands, leaves, length, Lft, Lfts, List, Logic, Loops}
-use Rattle.ga_views.proofs.WalkNames.{MachineTables, Meets, Model, move, mut_slice_Tells, mut_slice_vals, MutBor, named, no}
-use Rattle.ga_views.proofs.WalkNames.{nothing, on_entry, Opds, Operand, Outlives, owns, param, Place, plain, Post, proved}
-use Rattle.ga_views.proofs.WalkNames.{RattleType, raw, Running, runs, sem, sep, Seq, seq, Shares, slice_val, SliceRefMutOf}
-use Rattle.ga_views.proofs.WalkNames.{Slot, SProp, stay_dropped, Stays, suc, tables, Triple, type_at, types_at, Ura, Val}
-use Rattle.ga_views.proofs.WalkNames.{WpFn, [], ‵, ℕ, ◌$◌, ◌<◌, ◌^◌, ◌∷◌, ◌⊑◌, ◌⊛◌}
-use Rattle.ga_views.proofs.CallStep.{asked, Called, calls}
+use Rattle.ga_views.proofs.walks.Names
+use Names.{alive, AllOutlive, at_exit, call, Callee, Calls, Clauses, Closed, closing, Code, Contract, emp, Ended, ent}
+use Names.{Env, fact, flft, FmC, Fn, ftrue, Goes-spent_slice, group, has_of, id⊢, Item, lands, leaves, length, Lft}
+use Names.{Lfts, List, Logic, Loops, MachineTables, Meets, Model, move, mut_slice_Tells, mut_slice_vals, MutBor, named}
+use Names.{no, nothing, on_entry, Opds, Operand, Outlives, owns, param, Place, plain, Post, proved, RattleType, raw}
+use Names.{Running, runs, sem, sep, Seq, seq, Shares, slice_val, SliceRefMutOf, Slot, SProp, stay_dropped, Stays, suc}
+use Names.{tables, Triple, type_at, types_at, Ura, Val, WpFn, [], ‵, ℕ, ◌$◌, ◌<◌, ◌^◌, ◌∷◌, ◌⊑◌, ◌⊛◌}
+use Rattle.ga_views.proofs.walks.CallStep.{asked, Called, calls}
 
 -- the slice is lent for the first lifetime of `more` and one, and its items' type is the function's first type
 -- parameter

@@ -5,18 +5,18 @@
 --     Whole                            a slice that was lent, with what lent it
 --     lends_slice, lends_part          a part of it is lent for as long as it was, and what lent it follows the part: a
 --                                      part wherever it lies, and one from a place on
-use Rattle.ga_views.proofs.WalkNames.{ap, arith, Arr, Array, at, at_mul, await, Body, cells, coded_list, cut_app, done}
-use Rattle.ga_views.proofs.WalkNames.{drop, drop_list, ent, ex, fbor, feq_i, feq_l, fjoin, flft, Fml, fobs, follows}
-use Rattle.ga_views.proofs.WalkNames.{follows_then, fsplit, GName, group, heres, heres_id, Holey, Item, join_app, later}
-use Rattle.ga_views.proofs.WalkNames.{length, Lft, List, Logic, mem, move, MutBor, MutSlice, named, now, open_ref, pick}
-use Rattle.ga_views.proofs.WalkNames.{qed, RattleType, raw, refl, rewrite, Room, sem, SemTy, sep, Share, show, slice_of}
-use Rattle.ga_views.proofs.WalkNames.{slice_val, some, split, split3, SProp, subst, sym, take, takes_part, updating, Ura}
-use Rattle.ga_views.proofs.WalkNames.{use1, use2, !, [], ‵, ℕ, ◌$◌, ◌*◌, ◌++◌, ◌+◌, ◌∙◌, ◌∵◌, ◌∷◌, ◌≡◌, ◌≤◌, ◌⊛◌}
+use Rattle.ga_views.proofs.walks.Names
+use Names.{ap, arith, Arr, Array, at, at_mul, await, Body, cells, coded_list, cut_app, done, drop, drop_list, ent, ex}
+use Names.{fbor, feq_i, feq_l, fjoin, flft, Fml, fobs, follows, follows_then, fsplit, GName, group, heres, heres_id}
+use Names.{Holey, Item, join_app, later, length, Lft, List, Logic, mem, move, MutBor, MutSlice, named, now, open_ref}
+use Names.{pick, qed, RattleType, raw, refl, rewrite, Room, sem, SemTy, sep, Share, show, slice_of, slice_val, some}
+use Names.{split, split3, SProp, subst, sym, take, takes_part, updating, Ura, use1, use2, !, [], ‵, ℕ, ◌$◌, ◌*◌, ◌++◌}
+use Names.{◌+◌, ◌∙◌, ◌∵◌, ◌∷◌, ◌≡◌, ◌≤◌, ◌⊛◌}
 use borrow.Rule.Slice.PartMut.{mid_of, post_of, put_mid, same_len_mid}
 use lib.ListN.{take-append-drop}
 use lib.Seq.{length-take-le}
 use native.Mathlib.Nat.{lt_of_le_of_lt, mul-le-mul_right}
-use Rattle.ga_views.proofs.ItemLoan.{spot}
+use Rattle.ga_views.proofs.walks.ItemLoan.{spot}
 use Rattle.ga_views.proofs.PartLemmas.{part_filled, part_long}
 use Rattle.ga_views.specs.Parts.{part_set}
 use Rattle.std.specs.List.{refill}

@@ -1,20 +1,19 @@
 -- The walk of `take_first` and `take_last`, which are the same code: all of it but how the item is cut from the cells,
 -- and what is left of these. Assumes `Logic`.
-use Rattle.ga_boxed.proofs.CellsWalkNames.{◌≢◌, ◌≡◌, refl, subst, ◌∙◌, ℕ, ◌+◌, ◌*◌, ◌<◌, ◌^◌, arith, List, [], ◌∷◌, ◌++◌}
-use Rattle.ga_boxed.proofs.CellsWalkNames.{length, Ura, full_share, Fml, fat, froom, ent, sep, Callee, Fn, Ty, assign, block}
-use Rattle.ga_boxed.proofs.CellsWalkNames.{copy, deref, field, local, mul, named, offset, op2, place, return, rv_opd, seq}
-use Rattle.ga_boxed.proofs.CellsWalkNames.{size_of, ty_int, ty_ptr, ty_ref, unsigned, value_local, w64, mut, vint, Model}
-use Rattle.ga_boxed.proofs.CellsWalkNames.{Running, tables, grown, closing, Triple, Closed, Calls, Env, Loops, Logic, sem, ‵}
-use Rattle.ga_boxed.proofs.CellsWalkNames.{◌⊛◌, at_ret, ◌$◌, ◌∵◌, !, qed, by, move, keep, use1, use2, split, rewrite, whole}
-use Rattle.ga_boxed.proofs.CellsWalkNames.{sub, bin, size_lit, look, stop, fld, load, of_opd, first, blocks, exec, returns}
-use Rattle.ga_boxed.proofs.CellsWalkNames.{enter, alloc_all, pass_all, free_all, look_at, get, get_in, take_at, give_at}
-use Rattle.ga_boxed.proofs.CellsWalkNames.{through, sets, sets_last, env, no, part_at, layout, Ptr, mut_vals, plain, word}
-use Rattle.ga_boxed.proofs.CellsWalkNames.{word-Good, after, El, R, el_x, elτ, times_below, one_below}
-use Rattle.ga_boxed.proofs.CallWalk.{Call, Had, Walk, clauses, ended, number, meets_grown}
-use Rattle.ga_boxed.proofs.CellsWalk.{by_mut, closes_cells, opens_cells, the_base}
-use Rattle.ga_boxed.proofs.ClauseFacts.{AllFacts, facts, has_every}
-use Rattle.ga_boxed.proofs.EndLemmas.{Held}
-use Rattle.ga_boxed.proofs.WalkParts.{Bs, Cr, sz, value_out}
+use Rattle.ga_boxed.proofs.walks.Names
+use Names.{◌≢◌, ◌≡◌, refl, subst, ◌∙◌, ℕ, ◌+◌, ◌*◌, ◌<◌, ◌^◌, arith, List, [], ◌∷◌, ◌++◌, length, Ura, full_share, Fml}
+use Names.{fat, froom, ent, sep, Callee, Fn, Ty, assign, block, copy, deref, field, local, mul, named, offset, op2}
+use Names.{place, return, rv_opd, seq, size_of, ty_int, ty_ptr, ty_ref, unsigned, value_local, w64, mut, vint, Model}
+use Names.{Running, tables, grown, closing, Triple, Closed, Calls, Env, Loops, Logic, sem, ‵, ◌⊛◌, at_ret, ◌$◌, ◌∵◌, ! }
+use Names.{qed, by, move, keep, use1, use2, split, rewrite, whole, sub, bin, size_lit, look, stop, fld, load, of_opd}
+use Names.{first, blocks, exec, returns, enter, alloc_all, pass_all, free_all, look_at, get, get_in, take_at, give_at}
+use Names.{through, sets, sets_last, env, no, part_at, layout, Ptr, mut_vals, plain, word, word-Good, after, El, R}
+use Names.{el_x, elτ, times_below, one_below}
+use Rattle.ga_boxed.proofs.walks.CallWalk.{Call, Had, Walk, clauses, ended, number, meets_grown}
+use Rattle.ga_boxed.proofs.walks.CellsWalk.{by_mut, closes_cells, opens_cells, the_base}
+use Rattle.ga_boxed.proofs.walks.ClauseFacts.{AllFacts, facts, has_every}
+use Rattle.ga_boxed.proofs.walks.EndLemmas.{Held}
+use Rattle.ga_boxed.proofs.walks.WalkParts.{Bs, Cr, sz, value_out}
 
 module _ (E : El) where
   -- where the item stands in the cells

@@ -1,13 +1,13 @@
 -- The call that cuts a slice for writing in two, `split_at_mut`, as a step of a walk: the slice, the place and the
 -- tokens go in, and the two parts come out with what is known of them. Assumes `Logic`.
-use Rattle.ga_views.proofs.WalkNames.{ap, Array, call, Callee, Calls, Code, Contract, drop, drop_list, emp, Env, fact}
-use Rattle.ga_views.proofs.WalkNames.{fact_i, feq_l, fjoin, flft, FmC, Fml, follows_both, fpick, fsplit, ftrue, Fun, group}
-use Rattle.ga_views.proofs.WalkNames.{heard, id⊢, Is, Item, lands, length, Lft, List, Logic, Loops, Memory, move}
-use Rattle.ga_views.proofs.WalkNames.{mut_slice_vals, MutBor, MutSlice, named, nothing, of_list, only, Opds, Operand, param}
-use Rattle.ga_views.proofs.WalkNames.{peeks, Place, Post, RattleType, raw, refl, regoal, rewrite, Routine, runs, Seq, seq}
-use Rattle.ga_views.proofs.WalkNames.{Share, shows, slice_val, split, SProp, take, Triple, Ura, usize, Val, vint, vstruct}
-use Rattle.ga_views.proofs.WalkNames.{w64, [], ‵, ℕ, ◌$◌, ◌++◌, ◌+◌, ◌<◌, ◌^◌, ◌∙◌, ◌∷◌, ◌≡◌, ◌≤◌, ◌⊑◌, ◌⊛◌}
-use Rattle.ga_views.proofs.CallStep.{asked, Called, called_at, calls}
+use Rattle.ga_views.proofs.walks.Names
+use Names.{ap, Array, call, Callee, Calls, Code, Contract, drop, drop_list, emp, Env, fact, fact_i, feq_l, fjoin, flft}
+use Names.{FmC, Fml, follows_both, fpick, fsplit, ftrue, Fun, group, heard, id⊢, Is, Item, lands, length, Lft, List}
+use Names.{Logic, Loops, Memory, move, mut_slice_vals, MutBor, MutSlice, named, nothing, of_list, only, Opds, Operand}
+use Names.{param, peeks, Place, Post, RattleType, raw, refl, regoal, rewrite, Routine, runs, Seq, seq, Share, shows}
+use Names.{slice_val, split, SProp, take, Triple, Ura, usize, Val, vint, vstruct, w64, [], ‵, ℕ, ◌$◌, ◌++◌, ◌+◌, ◌<◌}
+use Names.{◌^◌, ◌∙◌, ◌∷◌, ◌≡◌, ◌≤◌, ◌⊑◌, ◌⊛◌}
+use Rattle.ga_views.proofs.walks.CallStep.{asked, Called, called_at, calls}
 use Rattle.std.below.core.specs.contracts.slice.slice+T.split_at_mut as cut_contract
 use Rattle.std.specs.List.{SameBelow, TailFrom}
 

@@ -1,8 +1,9 @@
 -- A `&` to the cells is made where one to an item is. Assumes `Logic`.
-use Rattle.ga_boxed.proofs.CellsWalkNames.{ℕ, ◌*◌, ◌+◌, cells_lent, cells_own, fit, type_size, Incl, Lft, ftrue, ffalse, mem}
-use Rattle.ga_boxed.proofs.CellsWalkNames.{shared_of, Laws, RattleType, RowLaws, Ptr, block_ptr, null_ptr, beside_shr_laws}
-use Rattle.ga_boxed.proofs.CellsWalkNames.{said_shr_laws, elements_shared, elements_shr_laws, Lends, Lends-both, Lends-false}
-use Rattle.ga_boxed.proofs.CellsWalkNames.{Lends-first, Lends-nothing, Lends-said, length, List, [], ◌∷◌, Ura, Logic, cells}
+use Rattle.ga_boxed.proofs.walks.Names
+use Names.{ℕ, ◌*◌, ◌+◌, cells_lent, cells_own, fit, type_size, Incl, Lft, ftrue, ffalse, mem, shared_of, Laws}
+use Names.{RattleType, RowLaws, Ptr, block_ptr, null_ptr, beside_shr_laws, said_shr_laws, elements_shared}
+use Names.{elements_shr_laws, Lends, Lends-both, Lends-false, Lends-first, Lends-nothing, Lends-said, length, List, []}
+use Names.{◌∷◌, Ura, Logic, cells}
 use denote.Shares.{Shares-less}
 use denote.Sharing.{ShrLaws, said}
 
