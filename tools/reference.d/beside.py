@@ -37,6 +37,12 @@ def printed(site, item):
     return site.full_name(members[0]) if members else ""
 
 
+def becomes(names, item):
+    """The calls that a macro's forms become, of those that say something."""
+    made = dict.fromkeys(item.made if item.kind == "macro" else ())
+    return [call for owner, name in made for call in names.named([owner, name]) if call.clauses]
+
+
 def kind_of(head):
     """Where the kind of an impl's type stands among the kinds."""
     return next((at for at, kind in enumerate(KINDS) if f" for {kind}<" in head), len(KINDS))

@@ -1,6 +1,7 @@
 """Shows an item or a definition whole, as lines of text."""
 import re
 
+from beside import becomes, spelled
 from layout import indented, laid_out, one_line, prose
 from lookup import impl_of
 from meanings import WITH_A_PAGE, base_name, declared, header
@@ -41,7 +42,7 @@ class Items(Text):
         impl = impl_of(item)
         clauses = [clause for clause in item.clauses if clause.keyword != "ghost"]
         cited = self.cited([item])
-        return [*self.code(impl.head if impl else ""), *self.head(item, cited[0].values()),
+        return [*(self.head(impl) if impl else ()), *self.head(item, cited[0].values()),
                 *self.docs(item), *self.clauses(clauses, cited[0].values()),
                 *self.conditions(item), *self.words(cited), *self.imports([item]),
                 *self.beside(item)]
@@ -60,7 +61,7 @@ class Items(Text):
         with_docs = [part for part in (item, *of_all, *own, *above) if part.docs]
         with_notes = [part for part in (*own, *above) if part.notes]
         written = [line for ghost in ghosts for line in laid_out(ghost.head, self.width - 4)]
-        return [*self.code(item.owner.head), *self.head(item, words[0].values()),
+        return [*self.head(item.owner), *self.head(item, words[0].values()),
                 *self.docs((with_docs or with_notes or own)[0]),
                 *self.clauses(told.clauses if item.kind == "fn" else (), words[0].values()),
                 *self.part(self.painted(written, words[0].values()), "Here"),
@@ -68,9 +69,7 @@ class Items(Text):
 
     def macro(self, item):
         """A macro: its docs, and what is known of the calls that its forms become."""
-        lines, calls = [*self.code(item.head), *self.docs(item)], []
-        for owner, name in dict.fromkeys(item.made):
-            calls += [call for call in self.names.named([owner, name]) if call.clauses]
+        lines, calls = [*self.code(item.head), *self.docs(item)], becomes(self.names, item)
         for call in calls:
             cited = self.cited([call])[0].values()
             _, passed = declared(call.head)
@@ -104,7 +103,8 @@ class Items(Text):
 
     def foreign_trait(self, item):
         """A trait of others: its impls for our types, and the calls that these have."""
-        heads = dict.fromkeys(one_line(header(impl)) for impl in item.blocks)
+        heads = dict.fromkeys(spelled(self.names, impl, one_line(header(impl)))
+                              for impl in item.blocks)
         calls = [self.site.full_name(member) for impl in item.blocks
                  for member in self.site.public_members(impl) if member.kind == "fn"]
         calls = ", ".join(f"`{call}`" for call in dict.fromkeys(calls))

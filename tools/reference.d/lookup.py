@@ -87,10 +87,9 @@ class Names(Paths):
         return self.path(item)[0] in LIBRARIES or item.kind == "foreign trait"
 
     def rank(self, item):
-        """What an item comes behind: a part of another behind a whole one, and what stands above
-        the library behind the library."""
-        in_parts = is_detail(item) and item.owner.kind != "trait"
-        return not self.is_of_library(item), in_parts and not self.is_of_library(item), in_parts
+        """What an item comes behind: what stands above the library behind the library, and a part
+        of another behind a whole one."""
+        return not self.is_of_library(item), is_detail(item) and item.owner.kind != "trait"
 
     def order(self, item):
         """Where an item stands among those that a name means."""
@@ -102,17 +101,12 @@ class Names(Paths):
     def asked(self, name):
         """What a name means, sorted by what a reader most likely means: items of the library, then
         what the documents tell, words of std, and what stands above the library."""
-        items = sorted(self.named(parts_of(name)) if is_word(name) else self.found(name),
-                       key=self.order)
-        words = [] if is_place(name) else self.of_std(name)
+        items, rows, words = self.items_of(name), self.told_of(name), self.of_std(name)
         other = self.other_name(parts_of(name)[-1])
-        rows = [] if is_word(name) else self.rows_of(name)
-        rows = rows or (self.rows_of(other) if other else [])
         if other and not items and not rows:
             return self.asked(other)
         near = [word for word in words if word.module in ("std.Prelude", self.module_used(word))]
-        exact = any(parts_of(name) in row.names for row in rows) and not self.named(parts_of(name))
-        if not items or not self.is_of_library(items[0]) or exact and "::" in name:
+        if not items or not self.is_of_library(items[0]) or self.is_of_rust(name, rows):
             if rows:
                 return Asked([], [*(item for item in items if not is_detail(item)), *near], rows)
             if words:
@@ -121,6 +115,26 @@ class Names(Paths):
         traits = [item.owner for item in first if item.kind == "fn"]
         first = [item for item in first if not impl_of(item) or impl_of(item).trait not in traits]
         return Asked(first, [item for item in (*items, *near) if item not in first], rows)
+
+    def items_of(self, name):
+        """The items that a name may mean, in their order. A name of typenum or of std means none of
+        what stands above the library."""
+        found = self.named(parts_of(name)) if is_word(name) else self.found(name)
+        last = parts_of(name)[-1]
+        if self.other_name(last) or last in self.other_names.values():
+            found = [item for item in found if self.is_of_library(item)]
+        return sorted(found, key=self.order)
+
+    def told_of(self, name):
+        """The rows of the documents for a name, or else for the one that it is looked up by."""
+        other = self.other_name(parts_of(name)[-1])
+        rows = [] if is_word(name) else self.rows_of(name)
+        return rows or (self.rows_of(other) if other else [])
+
+    def is_of_rust(self, name, rows):
+        """Whether a name with its path is one of a row's, and leads to no item."""
+        parts = parts_of(name)
+        return len(parts) > 1 and not self.named(parts) and any(parts in row.names for row in rows)
 
     def other_name(self, name):
         """The name that a name of typenum or of std is looked up by, or nothing."""
@@ -179,6 +193,8 @@ class Names(Paths):
         """The words of other libraries that have a name: as of where the crates import it, or else
         of where a crate can."""
         *above, last = parts_of(name)
+        if is_place(name):
+            return []
         if is_word(name):
             module = f"Rattle.{name.removeprefix('Rattle.').rpartition('.')[0]}"
             found = self.std.word(module, last)

@@ -10,6 +10,7 @@ from jinja2 import Environment, FileSystemLoader, StrictUndefined
 from markupsafe import Markup
 
 import rust
+from beside import becomes
 from lookup import Names
 from meanings import WITH_A_PAGE, Scope
 from promise import TITLE, carriers
@@ -159,6 +160,10 @@ class Pages:
                 if not same or same.name != code:
                     target = None if row.left_out else next(iter(called), None)
                     yield code, target, " ".join([row.ours, *row.told]).replace("`", "")
+
+    def becomes(self, item):
+        """The calls that a macro's forms become, of those that say something."""
+        return becomes(self.names, item)
 
     def told_of_rust(self):
         """The documents that list the Rust crate's names, without their links to files."""

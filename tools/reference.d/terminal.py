@@ -7,6 +7,7 @@ import signal
 import subprocess
 import sys
 
+from beside import spelled
 from items import Items
 from layout import indented, laid_out, one_line, prose
 from lookup import impl_of, parts_of
@@ -26,7 +27,8 @@ class Answers(Items):
         lines = [f"{len(found)} have the name {name}. Name one in full, or by its place:", ""]
         for item in found:
             impl = impl_of(item)
-            of = laid_out(one_line(header(impl)), self.width - 4) if impl else []
+            head = spelled(self.names, impl, one_line(header(impl))) if impl else ""
+            of = laid_out(head, self.width - 4) if impl else []
             lines += [*self.title(item)[:-1], *indented(of)]
         return [*lines, ""]
 
