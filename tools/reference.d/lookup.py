@@ -178,7 +178,8 @@ class Names(Paths):
         parts = parts_of(name)
         fits = sorted(((row.fit(parts), row) for row in self.rows), key=lambda fit: -fit[0])
         rows = [row for fit, row in fits if fit > 1] or [row for fit, row in fits if fit]
-        rows = rows or [row for row in self.rows if row.mentions(parts)]
+        rows = rows or sorted([row for row in self.rows if row.mentions(parts)],
+                              key=lambda row: -row.around(parts))
         if len(rows) == 1 and rows[0].is_title:
             rows = [row for row in self.rows if row.section == rows[0].section and row != rows[0]]
         return rows[:MOST_ROWS]

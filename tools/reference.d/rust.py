@@ -56,8 +56,11 @@ class Row:
         last = parts[-1]
         ends = any(name[-1] == last for name in self.names)
         best = 2 * ends or last[:1].isupper() and any(last in name for name in self.names)
-        around = f"{self.section} {self.theirs}"
-        return best and best + sum(part in around for part in parts[:-1])
+        return best and best + self.around(parts)
+
+    def around(self, parts):
+        """How many parts of a name but the last stand in front of the row, or where it stands."""
+        return sum(part in f"{self.section} {self.theirs}" for part in parts[:-1])
 
 
 def names_in(code):

@@ -37,7 +37,8 @@ class Answers(Items):
         lines = []
         for row in rows:
             text = "; ".join([row.ours.rstrip(".") or "the same name", *row.told]).rstrip(".")
-            lines += prose(f"- {row.theirs}: {text} ({row.place})", self.width - 4)
+            place = f"{row.place}, under {row.section}" if row.section else row.place
+            lines += prose(f"- {row.theirs}: {text} ({place})", self.width - 4)
         return self.part(lines, title)
 
     def here(self, name, rows):
