@@ -101,7 +101,8 @@ class Names(Paths):
     def asked(self, name):
         """What a name means, sorted by what a reader most likely means: items of the library, then
         what the documents tell, words of std, and what stands above the library."""
-        items, rows, words = self.items_of(name), self.told_of(name), self.of_std(name)
+        items, words = self.items_of(name), self.of_std(name)
+        rows = self.told_of(name, bool(items))
         other = self.other_name(parts_of(name)[-1])
         if other and not items and not rows:
             return self.asked(other)
@@ -111,10 +112,16 @@ class Names(Paths):
                 return Asked([], [*(item for item in items if not is_detail(item)), *near], rows)
             if words:
                 return Asked(words, items, rows)
-        first = [item for item in items if self.rank(item) == self.rank(items[0])]
-        traits = [item.owner for item in first if item.kind == "fn"]
-        first = [item for item in first if not impl_of(item) or impl_of(item).trait not in traits]
+        first = self.first_of(items)
         return Asked(first, [item for item in (*items, *near) if item not in first], rows)
+
+    def first_of(self, items):
+        """Those of items in their order that come first: no word beside an item, and no member of
+        an impl beside that of its trait."""
+        first = [item for item in items if self.rank(item) == self.rank(items[0])]
+        first = [item for item in first if item.kind != "word"] or first
+        traits = [item.owner for item in first if item.kind == "fn"]
+        return [item for item in first if not impl_of(item) or impl_of(item).trait not in traits]
 
     def items_of(self, name):
         """The items that a name may mean, in their order. A name of typenum or of std means none of
@@ -125,11 +132,17 @@ class Names(Paths):
             found = [item for item in found if self.is_of_library(item)]
         return sorted(found, key=self.order)
 
-    def told_of(self, name):
-        """The rows of the documents for a name, or else for the one that it is looked up by."""
+    def told_of(self, name, is_ours):
+        """The rows of the documents for a name, or else for the one that it is looked up by. For a
+        name of ours also what it stands for, and for another one what names it."""
         other = self.other_name(parts_of(name)[-1])
-        rows = [] if is_word(name) else self.rows_of(name)
-        return rows or (self.rows_of(other) if other else [])
+        for asked in (() if is_word(name) else (name, other) if other else (name,)):
+            parts = parts_of(asked)
+            told = [row for row in self.rows
+                    if (row.stands_for(parts) if is_ours else row.mentions(parts))]
+            if rows := self.rows_of(parts) or sorted(told, key=lambda row: -row.around(parts)):
+                return rows[:MOST_ROWS]
+        return []
 
     def is_of_rust(self, name, rows):
         """Whether a name with its path is one of a row's, and leads to no item."""
@@ -171,18 +184,15 @@ class Names(Paths):
         return [member for trait in dict.fromkeys(traits) for member in trait.of_kind("fn")
                 if member.name == parts[-1]]
 
-    def rows_of(self, name):
-        """The rows of the documents that tell of a name, those first that tell most of it: rows for
-        the name, or else for what it is a part of, or else what names it. A module's row that says
-        nothing stands for the rows below it."""
-        parts = parts_of(name)
+    def rows_of(self, parts):
+        """The rows of the documents that have a name in front, those first that tell most of it, or
+        else those that have it as a part of one. A module's row that says nothing stands for the
+        rows below it."""
         fits = sorted(((row.fit(parts), row) for row in self.rows), key=lambda fit: -fit[0])
         rows = [row for fit, row in fits if fit > 1] or [row for fit, row in fits if fit]
-        rows = rows or sorted([row for row in self.rows if row.mentions(parts)],
-                              key=lambda row: -row.around(parts))
         if len(rows) == 1 and rows[0].is_title:
             rows = [row for row in self.rows if row.section == rows[0].section and row != rows[0]]
-        return rows[:MOST_ROWS]
+        return rows
 
     @functools.cached_property
     def imported(self):

@@ -45,6 +45,11 @@ class Row:
         codes = CODE.findall(" ".join([self.ours, *self.told]))
         return any(name[-1] == parts[-1] for code in codes for name in names_in(code))
 
+    def stands_for(self, parts):
+        """Whether what stands here has this name in front."""
+        first = CODE.match(self.ours)
+        return bool(first) and any(name[-1] == parts[-1] for name in names_in(first[1]))
+
     @property
     def names_here(self):
         """The names of what stands here, as code."""

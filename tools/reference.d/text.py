@@ -72,8 +72,10 @@ class Text:
 
     def signatures(self, title, items):
         """A list of functions, a line each."""
-        lines = [signature(beside.spelled(self.names, item, item.head), self.width - 4)
-                 for item in items]
+        room = self.width - 4
+        whole = [signature(beside.spelled(self.names, item, item.head), room) for item in items]
+        lines = [signature(item.head, room) if line.endswith(" ..") else line
+                 for item, line in zip(items, whole)]
         return self.part(self.painted(lines), title)
 
     def clauses(self, clauses, words, title=""):
