@@ -11,8 +11,8 @@ RUST_NAMES = pathlib.Path(__file__).resolve().parent / "rust_names.txt"
 TELLS = "tells "
 # The crates of the port.
 PORT = (*LIBRARIES, "ga_records", "ga_rows")
-# The documents that list what is public, of which there may be one.
-LISTS = ("DIFFERENCES.md", "SURFACE.md")
+# The document that lists what is public.
+LIST = "DIFFERENCES.md"
 # A rule by which a document names many at once: names that end so are named.
 ENDINGS = re.compile(r"\bends in ((?:`_\w+`(?:, | or | and )?)+)")
 
@@ -37,10 +37,9 @@ def misled(names):
 
 
 def listed_names(top):
-    """The names that the documents list, and the ends of names that they list by a rule."""
-    files = [top / "docs" / name for name in LISTS]
-    text = " ".join(file.read_text("utf-8") for file in files if file.exists())
-    text = " ".join(text.split())
+    """The names that the document lists, and the ends of names that it lists by a rule."""
+    file = top / "docs" / LIST
+    text = " ".join(file.read_text("utf-8").split()) if file.exists() else ""
     listed = {part for code in CODE.findall(text) for parts in names_in(code) for part in parts}
     endings = [end for rule in ENDINGS.findall(text) for end in CODE.findall(rule)]
     return listed, tuple(endings)
@@ -57,11 +56,11 @@ def public_names(site):
 
 
 def unnamed(site):
-    """Looks for each public item in the documents that list them. Lengths are listed together."""
+    """Looks for each public item in the document that lists them. Lengths are listed together."""
     listed, endings = listed_names(site.top)
     for item in public_names(site):
         name = item.name
         by_rule = name.endswith(endings) or re.fullmatch(r"U\d+", name) or site.is_law(item)
         place = f"{item.file.relative_to(site.top)}:{item.line}"
-        wrong = f"{place}: no document lists {site.full_name(item)}"
+        wrong = f"{place}: {LIST} doesn't list {site.full_name(item)}"
         yield None if by_rule or name in listed else wrong

@@ -42,7 +42,7 @@ class Pages:
         placed = [item for item in [*self.own_words, *site.shown()] if item.url]
         self.places = {site.full_name(item): item for item in placed}
         self.rust_names = list(self.note_rust())
-        self.rust_text = "\n".join(self.told_of_rust())
+        self.rust_text = self.told_of_rust()
         self.names = Names(site)
         self.promise, self.promise_title = carriers(self.names), TITLE
         self.templates = Environment(loader=FileSystemLoader(TEMPLATES), trim_blocks=True,
@@ -166,11 +166,9 @@ class Pages:
         return becomes(self.names, item)
 
     def told_of_rust(self):
-        """The documents that list the Rust crate's names, without their links to files."""
-        for name in ("DIFFERENCES.md", "SURFACE.md"):
-            file = self.site.top / "docs" / name
-            text = file.read_text("utf-8") if file.exists() else ""
-            yield re.sub(r"\[([^\]]*)\]\([^)]*\)", r"\1", text)
+        """The document that lists the Rust crate's names, without its links to files."""
+        text = (self.site.top / "docs" / rust.DOCUMENTS[0]).read_text("utf-8")
+        return re.sub(r"\[([^\]]*)\]\([^)]*\)", r"\1", text)
 
     def write(self):
         """Writes all pages, and what stands beside them."""

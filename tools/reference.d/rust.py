@@ -1,13 +1,12 @@
 """Reads what the documents say of the Rust crate's names: the rows of their tables and lists.
 
-A row has the Rust crate's names in front, then what stands here. Where a table's cell for that is
-empty, it is the same name. What a document lists as left out is a row too.
+A row has the Rust crate's names in front, then what stands here, then what else is told. Where a
+table's cell for what stands here is empty, it is the same name.
 """
 import re
 
-DOCUMENTS = ("DIFFERENCES.md", "SURFACE.md", "CALLING.md")
-LEFT_OUT, SAME, OWN = "left out", "By the same name", "Own"
-THERE = "the Rust crate"
+DOCUMENTS = ("DIFFERENCES.md", "CALLING.md")
+LEFT_OUT, OWN = "left out", "Own items"
 CODE = re.compile(r"`([^`]+)`")
 # What parts a line's cells, and its names from what is said of them: none of it stands in code.
 IN_CODE = r"(?=(?:[^`]*`[^`]*`)*[^`]*$)"
@@ -92,45 +91,34 @@ def blocks(text):
 def table(place, line, lines):
     """The rows of a table. One whose first cell is bold begins a module."""
     titles = [title.strip() for title in BAR.split(lines[0])]
-    here = titles.index("here") if "here" in titles else 1
     section = ""
     for number, row in enumerate(lines[2:], line + 2):
         cells = [cell.strip() for cell in BAR.split(row)]
         cells += [""] * (len(titles) - len(cells))
-        section = cells[0].strip("*") if cells[0].startswith("**") else section
-        theirs, ours = cells[0].strip("*"), cells[here]
-        told = [f"in the Rust crate: {cell}" if title == THERE and cell else cell
-                for title, cell in list(zip(titles, cells))[1:] if title != titles[here]]
-        if not CODE.search(theirs) and told:
-            theirs, told = f"{theirs}, {told[0]}", told[1:]
-        yield Row(f"{place}:{number}", section, theirs, ours, told)
+        theirs, ours, *told = cells
+        section = theirs.strip("*") if theirs.startswith("**") else section
+        yield Row(f"{place}:{number}", section, theirs.strip("*"), ours, told)
 
 
-def listed(place, line, lines, before):
-    """The rows of a list: what is told of the names in front of a colon, or, where the line before
-    says so, names that are the same. A line that begins with another word has no names in front."""
+def listed(place, line, lines):
+    """The rows of a list: what is told of the names that begin a line, behind a colon."""
     for bullet in re.split(r"\n(?=- )", "\n".join(lines)):
         theirs, *said = COLON.split(" ".join(bullet[2:].split()), maxsplit=1)
-        if before.startswith(SAME) or said and theirs.startswith(("`", "The module `")):
-            yield Row(f"{place}:{line}", "", theirs, "".join(said), [])
+        if said and theirs.startswith("`"):
+            yield Row(f"{place}:{line}", "", theirs, said[0], [])
         line += bullet.count("\n") + 1
 
 
 def rows_of(place, text):
-    """The rows of a document."""
-    title = before = ""
+    """The rows of a document. What it lists of our own items are none."""
+    title = ""
     for line, lines in blocks(text):
         if lines[0].startswith("#"):
             title = lines[0].strip("# ")
         elif len(lines) > 1 and RULE.match(lines[1]):
             yield from table(place, line, lines)
-        elif lines[0].startswith("- ") and not title.startswith(OWN):
-            yield from listed(place, line, lines, before)
-        elif title.lower() == LEFT_OUT:
-            for code in CODE.finditer("\n".join(lines)):
-                number = line + "\n".join(lines).count("\n", 0, code.start())
-                yield Row(f"{place}:{number}", "", code[0], LEFT_OUT, [])
-        before = lines[0]
+        elif lines[0].startswith("- ") and title != OWN:
+            yield from listed(place, line, lines)
 
 
 def rows(top):
