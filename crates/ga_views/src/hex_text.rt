@@ -123,14 +123,14 @@ fn show_pieces<W: fmt::Write>(
     let mut left = bytes;
     while count > 0 {
         let (piece, behind) = left.split_at(left.len().min(SHORT_TEXT / 2));
-        let text = put_piece(piece, upper, count, &mut digits);
-        let Ok(shown) = str::from_utf8(text) else {
+        let shown = put_piece(piece, upper, count, &mut digits);
+        let Ok(text) = str::from_utf8(shown) else {
             unreachable!();
         };
-        if let Err(error) = f.write_str(shown) {
+        if let Err(error) = f.write_str(text) {
             return Err(error);
         }
-        count -= text.len();
+        count -= shown.len();
         left = behind;
     }
     Ok(())

@@ -17,7 +17,7 @@ loop-count-init g c =
 -- digits are text
 pub unreachable-requires : goal.unreachable-requires
 unreachable-requires g c =
-    c.in_default.ensures.cases.0 (rw c.put_piece-text.ensures
+    c.in_default.ensures.cases.0 (rw c.put_piece-shown.ensures
     (IsUtf8-hex_digits c.args.upper c.loop-count.count c.split_at.result.0.now))
 
 -- a formatter fails only where there are digits to write
@@ -27,7 +27,7 @@ returns-in-Err-clause-empty g c = λ none. absurd (omega (arith, c.loop-count.in
 pub loop-count-smaller : goal.loop-count-smaller
 loop-count-smaller g c =
     let parts = c.split_at.ensures.by_index.0 in
-    let some = piece-some c.args.upper _ _ _ _ _ parts c.put_piece-text.ensures _ 128 c.loop-count-test.true
+    let some = piece-some c.args.upper _ _ _ _ _ parts c.put_piece-shown.ensures _ 128 c.loop-count-test.true
     c.loop-count.invariant.count (omega arith) c.min.ensures c.split_at.ensures.front_len in
     omega (arith, some)
 
@@ -35,8 +35,8 @@ loop-count-smaller g c =
 pub loop-count-preserved : goal.loop-count-preserved
 loop-count-preserved g c =
     let parts = c.split_at.ensures.by_index.0 in
-    let is = c.put_piece-text.ensures in
-    let text = c.put_piece-text.result.now in
+    let is = c.put_piece-shown.ensures in
+    let text = c.put_piece-shown.result.now in
     record {
       text = λ flush.
           let before = c.loop-count.invariant.text flush in (
