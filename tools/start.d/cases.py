@@ -40,14 +40,11 @@ BAD_CALLS = [
     ("an update of nothing", "--update new", "no crates that tools/start copied"),
     ("an update of a crate", "--update started mine", "--update takes a FOLDER alone"),
 ]
-# The rest of a path, in a crate that is copied: what a later checkout does to it.
-CHANGED, BY_BOTH, DELETED, REMOVED, ADDED = (
-    "crates/ga_core/src/lib.rt",
-    "crates/ga_views/src/lib.rt",
-    "crates/ga_core/src/array.rt",
-    "crates/ga_core/specs/Lib.antt",
-    "crates/ga_core/src/later.rt",
-)
+# Files that are copied: what a later checkout changes, removes and adds, what it and the user
+# change, and what the user deletes.
+CHANGED, REMOVED = "crates/ga_core/src/lib.rt", "crates/ga_core/specs/Lib.antt"
+ADDED, BY_BOTH = "crates/ga_core/src/later.rt", "crates/ga_views/src/lib.rt"
+DELETED = "crates/ga_core/src/array.rt"
 UPDATED = f"""crates/ga_core: 1 changed, 1 new, 1 removed
 crates/ga_later: 2 new
 crates.txt: the line of ga_later is new
@@ -59,7 +56,7 @@ KEPT = "".join(UPDATED.splitlines(keepends=True)[-2:])
 
 
 def call(words, folder, top=TOP, **env):
-    """Calls tools/start of a checkout. Returns its status, what it printed and what it complained."""
+    """Calls tools/start of a checkout. Returns its status, and what it wrote to either stream."""
     command = [sys.executable, top / "tools" / "start", *words]
     env = {**os.environ, **env}
     done = subprocess.run(command, cwd=folder, env=env, capture_output=True, text=True)
@@ -115,20 +112,18 @@ def refusals(tally, folder):
 def there_before(tally, folder):
     """Starts a crate in a repository that is there: what was there stays."""
     was = {
-        "crates.txt": "# Ours.\nfirst:   hex # by hand",
+        LIST: "# Ours.\nfirst:   hex # by hand",
         "crates/first/src/lib.rt": "#![tactic(auto)]\n",
         "HANDLES": "Handles allowed: Threads.\n",
         ".gitignore": "*.swp\n",
     }
     write(folder, was)
-    status, _, err = call([folder, "mine", "--on", "ga_core"], TOP)
+    status, out, err = call([folder, "mine"], TOP)
+    lines = [was[LIST], *(OURS[it] for it in needed("ga_core")), "mine: ga_core", ""]
+    wanted = {**was, LIST: "\n".join(lines), ".gitignore": "*.swp\nout/\n"}
     now = contents(folder)
-    lost = [it for it in was if not (now.get(it) or b"").startswith(was[it].encode())]
-    lost += [it for it in ("crates/first/src/lib.rt", "HANDLES") if now[it] != was[it].encode()]
-    listed = "# Ours.\nfirst:   hex # by hand\nga_views: hex\nga_core: ga_views arrayvec\nmine: ga_core\n"
-    wrong = f"{err!r}, lost {lost}" if status or lost else ""
-    tally.case("a repository that is there keeps its files", wrong)
-    tally.case("its list has more lines", "" if now[LIST] == listed.encode() else f"{now[LIST]}")
+    wrong = [it for it in wanted if now.get(it) != wanted[it].encode()]
+    tally.case("a repository that is there keeps its files", out + err if status else wrong)
 
 
 def later_checkout(folder):
@@ -162,10 +157,10 @@ def updates(tally, folder):
     is_told = not status and out.startswith(UPDATED) and out.count("\n") == UPDATED.count("\n") + 1
     tally.case("an update says what changed, and what is kept", "" if is_told else out + err)
     now, new = contents(repository), contents(later)
-    wrong = [it for it in (CHANGED, ADDED, REMOVED) if now.get(it) != new.get(it)]
-    wrong += [it for it in (DELETED,) if it in now] + [it for it in now if before.get(it) != now[it]
-              and it.startswith("crates/mine")]
-    wrong += [BY_BOTH] if now[BY_BOTH] != b"// Mine.\n" else []
+    wanted = {it: new.get(it) for it in (CHANGED, ADDED, REMOVED)}
+    wanted |= {DELETED: None, BY_BOTH: b"// Mine.\n"}
+    wanted |= {it: before[it] for it in before if it.startswith("crates/mine")}
+    wrong = [it for it in wanted if now.get(it) != wanted[it]]
     tally.case("an update copies the rest", f"{wrong}" if wrong else "")
     status, out, err = call(["--update", repository], folder, later)
     is_told = not status and out.startswith(KEPT) and out.count("\n") == KEPT.count("\n") + 1
