@@ -54,11 +54,13 @@ def needed(*names):
     return [it for it in OURS if it in found]
 
 
-def lacking(names):
-    """The libraries that these crates need and the kit doesn't have."""
+def check_kit(names):
+    """Stops where these crates need a library that the kit doesn't have."""
     wanted = {it for name in names for it in libraries_of(name) if it not in OURS}
     libraries = pathlib.Path(rtlib().KIT) / "rlibs"
-    return sorted(it for it in wanted if not (libraries / f"{it}.rlib").is_dir())
+    lacking = sorted(it for it in wanted if not (libraries / f"{it}.rlib").is_dir())
+    if lacking:
+        raise Unfit(f"{', '.join(names)}: the kit has no library {', '.join(lacking)}")
 
 
 def texts_of(names):

@@ -4,7 +4,7 @@ import pathlib
 import re
 
 from crates import (
-    LIST, ON, OURS, TOP, commit, lacking, listed, needed, of_crates, read_record, sums_of,
+    LIST, ON, OURS, TOP, check_kit, commit, listed, needed, of_crates, read_record, sums_of,
     texts_of, write_record,
 )
 from kit import Unfit, rtlib
@@ -77,8 +77,7 @@ def start(folder, name, on):
     if (folder / "crates" / name).exists() or name in listed(folder):
         raise Unfit(f"{folder}/crates/{name} is there already")
     names = needed(on)
-    if lacking(names):
-        raise Unfit(f"the kit has no library {', '.join(lacking(names))}, which {on} needs")
+    check_kit(names)
     record = read_record(folder)
     new = new_crates(folder, names, record)
     texts = texts_of(new)

@@ -2,8 +2,8 @@
 import collections
 
 from crates import (
-    LIST, OURS, commit, listed, needed, of_crates, plain, read_record, rows_of, sums_of, texts_of,
-    write_record,
+    LIST, OURS, check_kit, commit, listed, needed, of_crates, plain, read_record, rows_of, sums_of,
+    texts_of, write_record,
 )
 from kit import Unfit
 
@@ -80,6 +80,7 @@ def update(folder):
         raise Unfit(f"{folder} has no crates that tools/start copied")
     gone = sorted(record["crates"].keys() - OURS.keys())
     names = needed(*(record["crates"].keys() & OURS.keys()))
+    check_kit(names)
     texts, left = texts_of(names), of_crates(record["files"], gone)
     sums = {path: it for path, it in record["files"].items() if path not in left}
     files = update_files(folder, sums, texts)
