@@ -165,3 +165,8 @@ def updates(tally, folder):
     status, out, err = call(["--update", repository], folder, later)
     is_told = not status and out.startswith(KEPT) and out.count("\n") == KEPT.count("\n") + 1
     tally.case("the next update names what is kept again", "" if is_told else out + err)
+    write(later, {LIST: (later / LIST).read_text().replace("hex", "lost")})
+    status, out, err = call([folder / "new", "mine"], folder, later)
+    is_told = status and not out and err.endswith("the kit has no library lost\n")
+    is_told = is_told and not (folder / "new").exists()
+    tally.case("refused: a kit that lacks a library", "" if is_told else out + err)
