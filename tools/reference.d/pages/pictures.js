@@ -6,38 +6,92 @@ function drawn(kind, given, ...parts) {
   return made;
 }
 
-// The crates in rows, each above those that it stands on. A line that follows from others is left out.
-function standing(picture, text, pages) {
+// What each crate of the list stands on, without what follows from the others.
+function standsOn(text) {
   const below = new Map([...text.matchAll(/^(\w+): (.*)$/gm)].map(([, name, names]) => [name, names.split(" ")]));
   const all = name => new Set((below.get(name) ?? []).flatMap(other => [other, ...all(other)]));
-  const needs = new Map([...below].map(([name, others]) => [name, others.filter(one => !others.some(other => all(other).has(one)))]));
+  return new Map([...below].map(([name, others]) => [name, others.filter(one => !others.some(other => all(other).has(one)))]));
+}
+
+// How high each crate and each library stands: above all that it stands on, a library right below its lowest user.
+function levels(needs) {
   const level = new Map();
-  for (const name of below.keys()) level.set(name, 1 + Math.max(0, ...needs.get(name).map(other => level.get(other) ?? 0)));
-  const users = name => [...needs].filter(([, others]) => others.includes(name)).map(([user]) => user);
-  for (const name of new Set([...below.values()].flat())) {
-    if (!level.has(name)) level.set(name, Math.min(...users(name).map(user => level.get(user))) - 1);
+  for (const [name, others] of needs) level.set(name, 1 + Math.max(0, ...others.map(other => level.get(other) ?? 0)));
+  for (const name of new Set([...needs.values()].flat())) {
+    const users = [...needs.keys()].filter(user => needs.get(user).includes(name));
+    if (!level.has(name)) level.set(name, Math.min(...users.map(user => level.get(user))) - 1);
   }
-  const rows = [...new Set(level.values())].sort((left, right) => right - left);
-  const place = new Map();
-  rows.forEach((row, number) => {
-    const names = [...level.keys()].filter(name => level.get(name) === row);
-    const middle = name => users(name).reduce((sum, user) => sum + place.get(user)[0], 0) / (users(name).length || 1);
-    names.sort((left, right) => middle(left) - middle(right));
-    names.forEach((name, at) => place.set(name, [(at + 0.5) * 400 / names.length, 20 + 62 * number]));
-  });
-  picture.setAttribute("viewBox", `0 0 400 ${62 * rows.length - 20}`);
-  for (const [name, others] of needs) {
-    for (const other of others) {
-      const [x, y] = place.get(name), [toX, toY] = place.get(other);
-      picture.append(drawn("path", { d: `M${x} ${y + 17} C${x} ${y + 42} ${toX} ${toY - 42} ${toX} ${toY - 17}` }));
+  return level;
+}
+
+// How tall a box is, how far the rows, and what stands in a row, are apart, and the room that a line takes in a row.
+const TALL = 36, ROWS = 34, GAP = 10, LANE = 4;
+const mean = numbers => numbers.reduce((sum, number) => sum + number, 0) / numbers.length;
+
+// Gives each item of a row its place: below the lines that lead to it, or evenly where one has none. No two overlap.
+function spread(items, width) {
+  items.sort((left, right) => (left.wanted ?? 0) - (right.wanted ?? 0));
+  const free = width - items.reduce((sum, { wide }) => sum + wide, 0), isEven = items.some(({ wanted }) => wanted === undefined);
+  let begin = isEven ? free / items.length / 2 : 1, end = width - 1;
+  for (const item of items) {
+    item.x = isEven ? begin + item.wide / 2 : Math.max(item.wanted, begin + item.wide / 2);
+    begin = item.x + item.wide / 2 + (isEven ? free / items.length : GAP);
+  }
+  for (const item of items.toReversed()) {
+    item.x = Math.min(item.x, end - item.wide / 2);
+    end = item.x - item.wide / 2 - GAP;
+  }
+}
+
+// The names in as few rows as fit the width beside these many lines, every other one in the same row.
+function inRows(names, wide, lines, width) {
+  for (let count = 1; ; count++) {
+    const rows = Array.from({ length: count }, (_, row) => names.filter((_, at) => at % count === row));
+    const room = width - lines * (LANE + GAP);
+    if (count === names.length || rows.every(row => row.reduce((sum, name) => sum + wide.get(name) + GAP, 0) <= room)) return rows;
+  }
+}
+
+// The crates in rows, each above those that it stands on. Lines to one crate from far above go down as one, beside the boxes.
+function standing(picture, text, pages) {
+  const needs = standsOn(text), level = levels(needs), width = picture.getBoundingClientRect().width;
+  picture.replaceChildren();
+  const boxes = new Map([...level.keys()].map(name => [name, boxed(picture, name, needs.has(name), pages[name])]));
+  const wide = new Map([...boxes].map(([name, box]) => [name, box.wide]));
+  const above = new Map(), wanted = name => above.has(name) ? mean(above.get(name)) : undefined;
+  let y = 1;
+  for (const height of new Set([...level.values()].sort((left, right) => right - left))) {
+    const names = [...level.keys()].filter(name => level.get(name) === height).sort((left, right) => (wanted(left) ?? 0) - (wanted(right) ?? 0));
+    const lines = new Set([...above.keys(), ...names.flatMap(name => needs.get(name) ?? [])]).size;
+    for (const row of inRows(names, wide, lines, width)) {
+      const lanes = [...above.keys()].filter(name => !row.includes(name));
+      const items = [...row, ...lanes].map(name => ({ name, wanted: wanted(name), isLane: !row.includes(name), wide: row.includes(name) ? wide.get(name) : LANE }));
+      spread(items, width);
+      for (const { name, x, isLane } of items) {
+        const bends = (above.get(name) ?? []).map(from => `M${from} ${y - ROWS} C${from} ${y - ROWS / 3} ${x} ${y - ROWS * 2 / 3} ${x} ${y}`);
+        picture.prepend(drawn("path", { d: [...bends, isLane ? `M${x} ${y} V${y + TALL}` : ""].join(" ") }));
+        above.delete(name);
+        if (isLane) above.set(name, [x]);
+        else boxes.get(name).drawn.setAttribute("transform", `translate(${x} ${y})`);
+      }
+      for (const { name, x, isLane } of items) {
+        for (const other of isLane ? [] : needs.get(name) ?? []) above.set(other, [...above.get(other) ?? [], x]);
+      }
+      y += TALL + ROWS;
     }
   }
-  for (const [name, [x, y]] of place) {
-    const halves = name.match(/^.*_|[^_]+$/g);
-    const box = drawn("rect", { x: x - 27, y: y - 17, width: 54, height: 34, rx: 5, class: pages[name] ? "shown" : below.has(name) ? "ours" : "foreign" });
-    const lines = halves.map((half, at) => drawn("text", { x, y: y + 4 + 13 * at - 6.5 * (halves.length - 1) }, half));
-    picture.append(pages[name] ? drawn("a", { href: pages[name] }, box, ...lines) : drawn("g", {}, box, ...lines));
-  }
+  picture.setAttribute("height", y - ROWS + 1);
+}
+
+// A crate's box, as wide as the two halves of its name need, with its top's middle where the picture begins.
+function boxed(picture, name, isOurs, page) {
+  const halves = name.match(/^.*_|[^_]+$/g);
+  const lines = halves.map((half, at) => drawn("text", { y: TALL / 2 + 4 + 13 * at - 6.5 * (halves.length - 1) }, half));
+  const made = page ? drawn("a", { href: page }, ...lines) : drawn("g", {}, ...lines);
+  picture.append(made);
+  const wide = Math.ceil(Math.max(...lines.map(line => line.getComputedTextLength()))) + 12;
+  made.prepend(drawn("rect", { x: -wide / 2, y: 0, width: wide, height: TALL, rx: 5, class: page ? "shown" : isOurs ? "ours" : "foreign" }));
+  return { wide, drawn: made };
 }
 
 // The place of a ratio on an axis from 0.03 to 6, in percent.
@@ -78,5 +132,7 @@ function speeds(board, text) {
 }
 
 const told = name => JSON.parse(document.getElementById(name).textContent);
-standing(document.getElementById("standing"), told("given")["crates.txt"], told("pages"));
+const drawStanding = () => standing(document.getElementById("standing"), told("given")["crates.txt"], told("pages"));
+drawStanding();
+addEventListener("resize", drawStanding);
 speeds(document.getElementById("speeds"), told("given")["bench/table.txt"]);
