@@ -86,6 +86,7 @@ PARTS = [
         third=NATIVE,
     ),
     small("arrays", "comparisons", ARRAY, "eq, cmp", third=NATIVE),
+    small("lists", "lists", ARRAY, "list_joined, list_cloned, list_edit, list_cut"),
     small(
         "closures",
         "closures",
@@ -106,7 +107,8 @@ PARTS = [
         "closures, boxed",
         "closures",
         "map_boxed - boxed_generate, zip_boxed - boxed_generate - boxed_generate,"
-        " fold_boxed - boxed_generate",
+        " fold_boxed - boxed_generate, map_ref_boxed, try_map_ref_boxed, zip_ref_boxed,"
+        " fold_ref_boxed",
     ),
     shapes("longer", "append - generate, prepend - generate"),
     shapes(

@@ -54,6 +54,84 @@ pub fn fold_boxed_of(seed: u64, reps: u64) -> u64 {
     sum
 }
 
+// A borrowed box is mapped and zipped to a box by a build of its indexes: `map` of a reference makes an array.
+
+#[inline(never)]
+fn mapped_ref(array: &Boxed) -> Boxed {
+    Boxed::generate(|index| Item::make(array[index].word().rotate_left(3), 1))
+}
+
+pub fn map_ref_boxed_of(seed: u64, reps: u64) -> u64 {
+    let mut sum = seed;
+    let mut array = boxed(sum);
+    for _rep in 0..reps {
+        poke(sum, array.as_mut_slice());
+        let made = mapped_ref(&array);
+        sum = touch_items(sum, made.as_slice(), LENGTH);
+    }
+    sum
+}
+
+#[inline(never)]
+fn tried_ref(array: &Boxed, bad: u64) -> Result<Result<Boxed, u64>, generic_array::AllocError> {
+    <Boxed as FallibleGenericSequence<Item>>::try_generate(|index| {
+        let word = array[index].word();
+        if word == bad {
+            Err(word)
+        } else {
+            Ok(Item::make(word, 1))
+        }
+    })
+}
+
+pub fn try_map_ref_boxed_of(seed: u64, reps: u64) -> u64 {
+    let mut sum = seed;
+    let mut array = boxed(sum);
+    for _rep in 0..reps {
+        poke(sum, array.as_mut_slice());
+        match tried_ref(&array, sum ^ 0x0F00_0000_0000_0000) {
+            Ok(Ok(made)) => sum = touch_items(sum, made.as_slice(), LENGTH),
+            Ok(Err(_)) => sum = 1,
+            Err(_) => sum = 2,
+        }
+    }
+    sum
+}
+
+#[inline(never)]
+fn zipped_ref(left: &Boxed, right: &Boxed) -> Boxed {
+    Boxed::generate(|index| Item::make(left[index].word() ^ right[index].word(), 2))
+}
+
+pub fn zip_ref_boxed_of(seed: u64, reps: u64) -> u64 {
+    let mut sum = seed;
+    let mut left = boxed(sum);
+    let right = boxed(sum >> 3);
+    for _rep in 0..reps {
+        poke(sum, left.as_mut_slice());
+        let made = zipped_ref(&left, &right);
+        sum = touch_items(sum, made.as_slice(), LENGTH);
+    }
+    sum
+}
+
+#[inline(never)]
+fn summed_ref(array: &Boxed) -> u64 {
+    FunctionalSequence::fold(&**array, 0u64, |sum: u64, item: &Item| {
+        sum.rotate_left(5) ^ item.word()
+    })
+}
+
+pub fn fold_ref_boxed_of(seed: u64, reps: u64) -> u64 {
+    let mut sum = seed;
+    let mut array = boxed(sum);
+    for _rep in 0..reps {
+        poke(sum, array.as_mut_slice());
+        sum = mixed(sum, summed_ref(&array));
+    }
+    sum
+}
+
 pub fn boxed_generate_of(seed: u64, reps: u64) -> u64 {
     let mut sum = seed;
     for _rep in 0..reps {

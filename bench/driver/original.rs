@@ -30,6 +30,7 @@ macro_rules! arrays {
             include!("shapes.rs");
             include!("conversions.rs");
             include!("rows.rs");
+            include!("lists.rs");
         }
     };
 }

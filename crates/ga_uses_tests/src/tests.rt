@@ -10,6 +10,7 @@ mod hkdf;
 mod hmac;
 mod key_table;
 mod matrix;
+mod merkle;
 mod one_time_password;
 mod std_maps;
 mod udp;
