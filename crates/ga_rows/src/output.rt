@@ -1,9 +1,6 @@
 //! Writing the rows of an input.
 ghost use Rattle.generic_array.specs.Views.{items_of_chunks, items_of_view};
 ghost use Rattle.generic_array.specs.Rows.{chunk_rest, rows};
-ghost use Rattle.generic_array.specs.Calls.{MayFold};
-ghost use Rattle.generic_array.specs.Entries.{ActsInFold, FoldAt};
-ghost use Rattle.generic_array.specs.Runs.{FoldRun};
 ghost use Rattle.ga_rows.specs.Text.{line, lines, lines_of, rest_line, row_lines, row_text, text_of};
 ghost use Rattle.ga_rows.specs.Arguments.{row_len};
 ghost use Rattle.std.specs.Io.KnownBytes.{Appends, append_known};
@@ -12,9 +9,7 @@ ghost use Rattle.std.specs.Prelude.{◌≡◌, ◌≢◌, ◌+◌, ◌<◌, ◌�
 use crate::arguments::{Mode, Width};
 use crate::buffer::{PIECE_SIZE, Piece};
 use generic_array::checks::total_by;
-use generic_array::functional::FunctionalSequence;
 use generic_array::hex_text::write_hex;
-use generic_array::sequence::SequenceItem;
 use generic_array::{ArrayLength, ChunksRef, GenericArrayRef, U1, U2, U4, U8, U16};
 use std::io;
 use std::io::Write;
@@ -161,22 +156,7 @@ fn sum_of<N: ArrayLength<u8>>(row: GenericArrayRef<'_, u8, N>) -> u16
     ensures value { result ≡ sum (items_of_view row.entry) }
     ensures small { sum (items_of_view row.entry) < 10000 }
 {
-    sum_by(row, &mut |sum: u16, byte: &u8| sum + u16::from(*byte))
-}
-
-// `total_by` of bytes. It stands over any kind of sequence, and has a second condition: of two, the proof of a call
-// says each by itself, which is cheaper.
-#[inline]
-fn sum_by<S: FunctionalSequence<u8>, F: FnMut(u16, SequenceItem<S>) -> u16>(
-    s: S,
-    add: &mut F,
-) -> u16
-    requires callable { MayFold S.entry F.pre F.step add.old 0 (S.items s) }
-    requires adds { ActsInFold S.entry F.step add.old (λ sum byte. sum + byte) }
-    ensures run { FoldRun (FoldAt S.entry F.step) add.old 0 (S.items s) result add.new }
-    ensures value { result ≡ sum (S.items s) }
-{
-    total_by(s, 0, add)
+    total_by(row, 0, &mut |sum: u16, byte: &u8| sum + u16::from(*byte))
 }
 
 // Puts the line of the bytes that fill no row behind the piece, if there are any.
