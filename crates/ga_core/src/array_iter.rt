@@ -9,7 +9,7 @@ mod folds;
 mod steps;
 
 use crate::length::ArrayLength;
-use crate::slots::move_items;
+use crate::slots::{are_many, move_items};
 use crate::store::Store;
 use ga_views::MAX_INLINE;
 use std::marker::{Model, PhantomData};
@@ -146,6 +146,38 @@ impl<T: Default + Drop, N: ArrayLength<T>> GenericArrayIter<T, N> {
         let last = self.back - 1;
         self.back = last;
         take_at(&mut self.store, last)
+    }
+
+    // `move_to` slots of a store `S`, which has `room` for items: in one piece where they are all of
+    // either store.
+    #[inline(always)]
+    pub(crate) fn move_into<S: Store<T>>(&mut self, slots: &mut [T], room: usize)
+        requires room { room ≡ S.CAPACITY }
+        requires enough { length slots.old ≤ length self.old }
+        ensures moved { slots.new ≡ take (length slots.old) self.old }
+        ensures left { self.new ≡ drop (length slots.old) self.old }
+    {
+        let count = slots.len();
+        if count == room && are_many(slots) {
+            self.exchange::<S>(slots);
+        } else if count == N::USIZE && are_many(slots) {
+            self.exchange::<N::ArrayType>(slots);
+        } else {
+            self.move_to(slots);
+        }
+    }
+
+    // `move_to` slots for as many items as the store `S` has room for, which leaves what they held.
+    #[inline(always)]
+    pub(crate) fn exchange<S: Store<T>>(&mut self, slots: &mut [T])
+        requires all { length slots.old ≡ S.CAPACITY }
+        requires enough { length slots.old ≤ length self.old }
+        ensures moved { slots.new ≡ take (length slots.old) self.old }
+        ensures left { self.new ≡ drop (length slots.old) self.old }
+    {
+        let (first, count) = (self.front, slots.len());
+        S::swap_slices(self.store.part_mut(first, count), slots);
+        self.front = first + count;
     }
 
     /// Moves items from the front into `slots`, one for each slot, in one pass. Drops what the slots

@@ -39,7 +39,8 @@ impl<T, N: ArrayLength<T>> Model for ArrayBuilder<T, N> {
 
 impl<T: Default + Drop, N: ArrayLength<T>> ArrayBuilder<T, N> {
     /// A builder without items. Requires `N <= MAX_INLINE`. Fills its `N` slots with defaults.
-    #[inline]
+    // Inlined always, so that the compiler knows the position.
+    #[inline(always)]
     pub fn new() -> Self
         requires fits { FitsInline N.USIZE }
         ensures { result ≡ [] }
@@ -77,7 +78,8 @@ impl<T: Default + Drop, N: ArrayLength<T>> ArrayBuilder<T, N> {
         Some(take_at(&mut self.store, last))
     }
 
-    /// Appends the first `count` items that `items` has left, in order, in one pass.
+    /// Appends the first `count` items that `items` has left, in order, in one pass: in one piece where
+    /// they are all of the builder or all of the array, else item by item.
     ///
     /// Requires that the builder has room for `count` items, and that as many are left. `extend` takes
     /// from any iterator, item by item.
@@ -89,7 +91,7 @@ impl<T: Default + Drop, N: ArrayLength<T>> ArrayBuilder<T, N> {
         ensures left { items.new ≡ drop count items.old }
     {
         let first = self.position;
-        items.move_to(self.store.part_mut(first, count));
+        items.move_into::<N::ArrayType>(self.store.part_mut(first, count), N::USIZE);
         self.position = first + count;
     }
 

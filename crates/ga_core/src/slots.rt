@@ -9,6 +9,11 @@ ghost use Rattle.std.specs.Result.{result_and};
 use crate::alloc_error::AllocError;
 use std::mem;
 
+// So few items are moved one by one, where they take more than a word.
+const FEW: usize = 8;
+
+const WORD: usize = 8;
+
 // Writes `f(0)`, `f(1)` and so on over the slots, each called once, in this order.
 #[inline]
 pub(crate) fn write_answers<T: Drop, F: FnMut(usize) -> T>(slots: &mut [T], f: &mut F)
@@ -60,6 +65,30 @@ pub(crate) fn write_defaults<T: Default + Drop>(slots: &mut [T])
     for slot in slots.iter_mut() {
         *slot = T::default();
     }
+}
+
+// Whether items are moved in one piece. Of a few, the compiler keeps each in a register.
+#[inline(always)]
+pub(crate) fn are_many<T>(items: &[T]) -> bool {
+    items.len() > FEW || mem::size_of_val(items) <= WORD
+}
+
+// Exchanges the items of two slices of `N`, in one piece: without a loop, the compiler leaves out
+// copies.
+#[inline(always)]
+pub(crate) fn swap_arrays<T, const N: usize>(left: &mut [T], right: &mut [T])
+    requires left { length left.old ≡ N }
+    requires right { length right.old ≡ N }
+    ensures left { left.new ≡ right.old }
+    ensures right { right.new ≡ left.old }
+{
+    let Some(first) = left.as_mut_array::<N>() else {
+        unreachable!();
+    };
+    let Some(second) = right.as_mut_array::<N>() else {
+        unreachable!();
+    };
+    mem::swap(first, second);
 }
 
 // Writes clones of the items over as many slots, in order, up to the first clone that fails.

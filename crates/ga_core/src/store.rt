@@ -6,13 +6,13 @@ ghost use Rattle.std.specs.Iterator.{YieldsLast};
 ghost use Rattle.std.specs.List.{All, refill};
 ghost use Rattle.std.specs.Prelude.{◌≡◌, ℕ, ◌+◌, ◌<◌, ◌≤◌, List, [], ◌∷◌, ◌++◌, drop, length, remove, slice_index_or, slice_set, take};
 
-use crate::slots::move_items;
+use crate::slots::{move_items, swap_arrays};
 use arrayvec::ArrayVec;
 use std::default::MadeWith;
 
 /// A list with a capacity, kept in the value itself. It never asks for memory.
 ///
-/// Who writes one gives the six calls without a body. The other three stand on them.
+/// Who writes one gives the six calls without a body. The others stand on them.
 pub trait Store<T>: Sized + Drop {
     // The items, in order.
     ghost items: { Self → List T };
@@ -74,6 +74,19 @@ pub trait Store<T>: Sized + Drop {
             store.push(T::default());
         }
         store
+    }
+
+    /// Exchanges the items of two slices, each of as many items as a store has room for.
+    ///
+    /// The body here goes item by item. A store whose capacity is a constant can move them in one
+    /// piece.
+    fn swap_slices(left: &mut [T], right: &mut [T])
+        requires left { length left.old ≡ CAPACITY }
+        requires right { length right.old ≡ CAPACITY }
+        ensures left { left.new ≡ right.old }
+        ensures right { right.new ≡ left.old }
+    {
+        left.swap_with_slice(right);
     }
 
     /// `len` items from place `from` on, for writing. What is written stands in the store afterwards.
@@ -150,6 +163,11 @@ impl<T: MadeWith<()> + Drop, const N: usize> Store<T> for ArrayVec<T, N> {
         T: Default,
     {
         ArrayVec::from_array_in((), Default::default())
+    }
+
+    #[inline(always)]
+    fn swap_slices(left: &mut [T], right: &mut [T]) {
+        swap_arrays::<T, N>(left, right);
     }
 }
 
