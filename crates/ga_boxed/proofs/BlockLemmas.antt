@@ -11,17 +11,9 @@ use Rattle.std.specs.Iterator.{YieldsFirst, YieldsLast}
 pub none_fits : (n size : ℕ) → n ≡ 0 → n * size < 2 ^ 63
 none_fits n size none = subst (λ k. k * size < 2 ^ 63) (sym none) (omega (arith, zero-mul size))
 
--- at the start, the room is for all
-pub none_yet : (n : ℕ) → 0 + n ≡ n
-none_yet n = omega arith
-
 -- one more was counted, and one fewer is left
 pub one_counted : (count left others all : ℕ) → left ≡ suc others → count + left ≡ all → count + 1 + others ≡ all
 one_counted count left others all some so_far = omega arith
-
--- one fewer is less
-pub less_room : (less room : ℕ) → less + 1 ≡ room → less < room
-less_room less room step = omega arith
 
 module _ (i k n end : ℕ) where
   -- before the end there is room for one more
@@ -58,9 +50,6 @@ module _ {T : Type 0} (before after : List T) (item : T) (grows : after ≡ befo
   pub long_more : (n : ℕ) → length before ≡ n → length after ≡ n + 1
   long_more n long = ap length grows ∙ (length_push before item ∙ ap (λ k. k + 1) long)
 
-  pub end_more : (start end : ℕ) → start + length before ≡ end → start + length after ≡ end + 1
-  end_more start end long = omega (arith, long, ap length grows ∙ length_push before item)
-
   -- and room for one fewer
   pub filled_more : (room less all : ℕ) → less + 1 ≡ room → length before + room ≡ all → length after + less ≡ all
   filled_more room less all fewer fits = omega (arith, fewer, fits, ap length grows ∙ length_push before item)
@@ -84,14 +73,6 @@ module _ {T : Type 0} where
   -- before the end some are left
   pub some_left : (i n end : ℕ) (left : List T) → i + length left ≡ n → i < end → end ≡ n → left ≢ []
   some_left i n end left so_far below all none = omega (arith, ap length none)
-
-  -- one fewer is left, from either end
-  pub one_gone : (left : List T) (item : T) (others : List T) → left ≡ item ∷ others → length others < length left
-  one_gone left item others step = omega (arith, ap length step)
-
-  pub one_gone-back : (left : List T) (item : T) (others : List T) → left ≡ others ++ item ∷ []
-      → length others < length left
-  one_gone-back left item others step = omega (arith, ap length step ∙ length_push others item)
 
   -- where none is left, all were moved
   pub all_moved : (moved left all : List T) → moved ++ left ≡ all → length left ≡ 0 → moved ≡ all

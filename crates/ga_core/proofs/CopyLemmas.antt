@@ -1,9 +1,8 @@
 -- Copies of one value that equal it, and answers that share a property.
 use Rattle.ga_core.specs.Copies.{ExactlyEach, IsExact, Repeats}
 use Rattle.ga_core.specs.Runs.{ClosureRun}
-use Rattle.std.proofs.Common.{◌≡◌, ℕ, zero, suc, ◌+◌, ◌-◌, List, [], ◌∷◌, ◌++◌, length, map, replicate, refl, ap, ◌∙◌, arith}
-use Rattle.std.proofs.Common.{◌<◌, ◌≤◌, drop, length-append, length-drop, length-take, slice_index_or, slice_set, sym}
-use Rattle.std.proofs.Common.{take}
+use Rattle.std.proofs.Common.{◌≡◌, ℕ, zero, suc, ◌+◌, ◌-◌, List, [], ◌∷◌, ◌++◌, length, map, replicate, refl, ap, ◌∙◌}
+use Rattle.std.proofs.Common.{arith, ◌≤◌, slice_index_or, slice_set, sym}
 use Rattle.std.proofs.Math.Seq.{set-append_seam}
 use Rattle.std.proofs.lemmas.List.{replicate-append-replicate}
 use Rattle.std.proofs.lemmas.List.FromFn.{length-range_with_len}
@@ -57,20 +56,6 @@ module _ {T : Type 0} where
       → Repeats is_clone item (length slots) slots
   Repeats-none is_clone item [] none = refl
   Repeats-none is_clone item (x ∷ slots) none = absurd (omega (arith, none))
-
-  -- all slots but the last
-  pub front-long : (slots : List T) → length slots - 1 ≡ length (take (length slots - 1) slots)
-  front-long slots = omega (arith, length-take (length slots - 1) slots)
-
-  pub front-in : {index : ℕ} (slots : List T) → index < length (take (length slots - 1) slots) → index < length slots
-  front-in slots some = omega (arith, length-take (length slots - 1) slots)
-
-  -- the last, behind clones over the others
-  pub last-in : (slots clones : List T) → 0 < length slots → length clones ≡ length (take (length slots - 1) slots)
-      → length slots - 1 < length (clones ++ drop (length slots - 1) slots)
-  last-in slots clones some long =
-      let n = length slots - 1 in
-      omega (arith, length-take n slots, length-append clones (drop n slots), length-drop n slots)
 
 module _ {F X Y : Type 0} (step : F → X → Y → F → Type 0) (P : Y → Type 0) where
   -- P holds of all answers where it holds of the answer of each call

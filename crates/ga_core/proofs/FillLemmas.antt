@@ -17,12 +17,6 @@ has-room n width within short =
     let other : n ≢ width = λ full. true≢false (sym (short full)) in
     omega (arith, within)
 
--- an item more leaves less room
-pub room-shrinks : {T : Type 0} (before after : List T) (item : T) (width : ℕ) → length before < width
-    → after ≡ before ++ item ∷ [] → width - length after < width - length before
-room-shrinks before after item width room pushed = omega
-    (arith, length-append before (item ∷ []), ap length pushed, room)
-
 -- what was appended to a builder that isn't full is less than the room that it had
 pub room-left : {T : Type 0} (n : ℕ) (start taken : List T) {built : List T} → built ≡ start ++ taken
     → length built < n → length taken < n - length start

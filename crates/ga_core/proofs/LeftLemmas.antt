@@ -3,19 +3,12 @@ use Rattle.arrayvec.proofs.IterLemmas.{slice_range_first, slice_range_last}
 use Rattle.ga_core.proofs.SlotLemmas.{refill-long}
 use Rattle.ga_views.proofs.PartLemmas.{part-before, part-behind}
 use Rattle.ga_views.specs.Parts.{part_set}
-use Rattle.std.proofs.Common.{◌≡◌, ℕ, ◌+◌, ◌^◌, ◌-◌, ◌%◌, ◌<◌, ◌≤◌, List, [], ◌∷◌, ◌++◌, length, drop, take, reverse}
-use Rattle.std.proofs.Common.{ap, ◌∙◌, arith, get_or, slice_get, slice_set, length-append, length-drop, length-take}
-use Rattle.std.proofs.Common.{Option, None, Some, refl, sym, mod-eq_of_lt}
+use Rattle.std.proofs.Common.{◌≡◌, ℕ, ◌+◌, ◌-◌, ◌%◌, ◌<◌, ◌≤◌, List, [], ◌∷◌, ◌++◌, length, drop, take, reverse, ap}
+use Rattle.std.proofs.Common.{◌∙◌, arith, get_or, slice_get, slice_set, length-append, length-drop, length-take, Option}
+use Rattle.std.proofs.Common.{None, Some, refl, sym, mod-eq_of_lt}
 use Rattle.std.proofs.lemmas.List.{drop-drop, drop-take, reverse-append, take-take, take_all}
 use Rattle.std.specs.Iterator.{YieldsLast}
 use Rattle.std.specs.List.{refill, slice_range}
-
--- the place before an index that counts down
-pub index-in : {index count other : ℕ} → 0 < index → index ≤ count → other ≡ count → index - 1 < other
-index-in some within same = omega arith
-
-pub index-falls : (index : ℕ) → 0 < index → index - 1 - 0 < index - 0
-index-falls index some = omega arith
 
 module _ {T : Type 0} where
   -- where fewer are passed than are left, one stays behind them
@@ -26,10 +19,6 @@ module _ {T : Type 0} where
   -- where none is passed, all are left
   pub left-whole : (left : List T) (passed : ℕ) → passed ≤ 0 → left ≡ take (length left - passed) left
   left-whole left passed none = sym (take_all (length left - passed) left (omega arith))
-
-  -- all are left at first, from the back too
-  pub left-all : (items left : List T) → items ≡ left → reverse left ≡ reverse (slice_range items 0 (length items))
-  left-all items left same = ap reverse (sym same ∙ sym (take_all (length items - 0) items (omega arith)))
 
   slice_get-seam : (rest : List T) (item : T) → slice_get (rest ++ item ∷ []) (length rest) ≡ Some item
   slice_get-seam [] item = refl
@@ -98,13 +87,6 @@ module _ {T : Type 0} {front back n : ℕ} (items left : List T)
       (ordered, omega (arith, long, within), long ∙ lies.2, lies.3)
 
   module _ (passed : ℕ) (enough : passed ≤ length left) where
-    -- the slots behind those that are passed, and before as many from the back
-    pub left-room : (front + passed ≤ back) × (front + passed < 2 ^ 64) × (passed ≤ back) × (front ≤ back - passed)
-        × (back - passed ≤ length items)
-    left-room =
-        let within : front + passed ≤ back = omega (arith, count) in
-        (within, omega arith, omega arith, omega arith, omega arith)
-
     -- so many at the front were written over and passed
     pub left-past : (after written : List T) → after ≡ refill (length items) items (part_set front passed items written)
         → slice_range after (front + passed) back ≡ drop passed left

@@ -4,7 +4,6 @@ use Rattle.ga_core.proofs.NextCalls.{all-in, cut-next, place-in, taken-next, wri
 use Rattle.ga_core.proofs.RunLemmas.{ClosureRun-snoc}
 use Rattle.ga_core.proofs.mapping.write_mapped.Goals as goal
 use Rattle.std.proofs.Common.{refl, ◌∙◌}
-use borrow.Author.Rules.{scaled_Fits}
 
 pub f-requires : goal.f-requires
 f-requires g c =
@@ -25,9 +24,3 @@ returns g c = record {
   run = written-all c.loop-index.invariant (all-in c.loop-index-test.false c.requires.len)
       (all-in c.loop-index-test.false c.loop-index.auto.slots);
 }
-
-pub offset_bounds-slots-index : goal.offset_bounds-slots-index
-offset_bounds-slots-index g c = scaled_Fits _ _ _ c.loop-index-test.true c.well_formed.1.0.1
-
-pub offset_bounds-items-index : goal.offset_bounds-items-index
-offset_bounds-items-index g c = scaled_Fits _ _ _ (place-in c.loop-index-test.true c.requires.len) c.well_formed.0.1

@@ -4,8 +4,7 @@ use Rattle.ga_core.proofs.RunLemmas.{ClosureRun-snoc}
 use Rattle.ga_core.proofs.mapping.write_mapped_ref.Goals as goal
 use Rattle.ga_core.specs.Entries.{CallAt}
 use Rattle.ga_core.specs.Runs.{ClosureRun}
-use Rattle.std.proofs.Common.{refl, le_of_lt}
-use borrow.Author.Rules.{scaled_Fits}
+use Rattle.std.proofs.Common.{refl}
 
 pub f-requires : goal.f-requires
 f-requires g c = may_map-at (λ item. item.now) _ _ _ _ c.requires.callable _ c.index-items-index.result _ _ _
@@ -25,9 +24,3 @@ returns g c = record {
   run = written-all c.loop-index.invariant (all-in c.loop-index-test.false c.requires.len)
       (all-in c.loop-index-test.false c.loop-index.auto.slots);
 }
-
-pub offset_bounds-slots-index : goal.offset_bounds-slots-index
-offset_bounds-slots-index g c = scaled_Fits _ _ _ c.loop-index-test.true c.well_formed.1.0.1
-
-pub offset_bounds-items-index : goal.offset_bounds-items-index
-offset_bounds-items-index g c = le_of_lt (place-in c.loop-index-test.true c.requires.len)

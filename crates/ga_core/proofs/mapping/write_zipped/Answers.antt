@@ -5,7 +5,6 @@ use Rattle.ga_core.proofs.RunLemmas.{ClosureRun-snoc}
 use Rattle.ga_core.proofs.ZipLemmas.{pair-here, pair-in, pairs-behind, pairs-in}
 use Rattle.ga_core.proofs.mapping.write_zipped.Goals as goal
 use Rattle.std.proofs.Common.{refl, ◌∙◌}
-use borrow.Author.Rules.{scaled_Fits}
 
 pub f-requires : goal.f-requires
 f-requires g c =
@@ -36,21 +35,3 @@ returns g c = record {
       (pairs-in c.args.left.now c.args.right.now c.loop-index-test.false c.requires.left)
       (all-in c.loop-index-test.false c.loop-index.auto.slots);
 }
-
-pub loop-index-init : goal.loop-index-init
-loop-index-init g c = record { run = refl; behind = refl }
-
-pub bounds-left-index : goal.bounds-left-index
-bounds-left-index g c = place-in c.loop-index-test.true (c.loop-index.auto.left ∙ c.requires.left)
-
-pub bounds-right-index : goal.bounds-right-index
-bounds-right-index g c = place-in c.loop-index-test.true (c.loop-index.auto.right ∙ c.requires.right)
-
-pub offset_bounds-slots-index : goal.offset_bounds-slots-index
-offset_bounds-slots-index g c = scaled_Fits _ _ _ c.loop-index-test.true c.well_formed.1.1.0.1
-
-pub offset_bounds-left-index : goal.offset_bounds-left-index
-offset_bounds-left-index g c = scaled_Fits _ _ _ (place-in c.loop-index-test.true c.requires.left) c.well_formed.0.1
-
-pub offset_bounds-right-index : goal.offset_bounds-right-index
-offset_bounds-right-index g c = scaled_Fits _ _ _ (place-in c.loop-index-test.true c.requires.right) c.well_formed.1.0.1

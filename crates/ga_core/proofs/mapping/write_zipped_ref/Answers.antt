@@ -5,8 +5,7 @@ use Rattle.ga_core.proofs.ZipLemmas.{pair-here, pair-in, pairs-in}
 use Rattle.ga_core.proofs.mapping.write_zipped_ref.Goals as goal
 use Rattle.ga_core.specs.Entries.{CallAtPair}
 use Rattle.ga_core.specs.Runs.{ClosureRun}
-use Rattle.std.proofs.Common.{refl, le_of_lt}
-use borrow.Author.Rules.{scaled_Fits}
+use Rattle.std.proofs.Common.{refl}
 
 pub f-requires : goal.f-requires
 f-requires g c =
@@ -32,12 +31,3 @@ returns g c = record {
       (pairs-in c.args.left.now c.args.right.now c.loop-index-test.false c.requires.left)
       (all-in c.loop-index-test.false c.loop-index.auto.slots);
 }
-
-pub offset_bounds-slots-index : goal.offset_bounds-slots-index
-offset_bounds-slots-index g c = scaled_Fits _ _ _ c.loop-index-test.true c.well_formed.1.1.0.1
-
-pub offset_bounds-left-index : goal.offset_bounds-left-index
-offset_bounds-left-index g c = le_of_lt (place-in c.loop-index-test.true c.requires.left)
-
-pub offset_bounds-right-index : goal.offset_bounds-right-index
-offset_bounds-right-index g c = le_of_lt (place-in c.loop-index-test.true c.requires.right)

@@ -1,9 +1,7 @@
 use Rattle.ga_core.proofs.MoveLemmas.{left-next, pushed-next, this-here}
-use Rattle.ga_core.proofs.NextCalls.{place-in}
 use Rattle.ga_core.proofs.slots.move_items.Goals as goal
 use Rattle.std.proofs.Common.{◌<◌, ◌∙◌, arith, length, subst, sym, All}
 use Rattle.std.proofs.lemmas.List.{take_all, take_more_set}
-use borrow.Author.Rules.{scaled_Fits}
 
 pub loop-index-preserved : goal.loop-index-preserved
 loop-index-preserved g c =
@@ -32,9 +30,3 @@ returns-clause-left g c =
     subst (All g.T.Default.is_default)
     (take_all at.index at.items (omega (arith, c.loop-index-test.false, at.auto.items, c.requires.len)))
     at.invariant.left
-
-pub offset_bounds-slots-index : goal.offset_bounds-slots-index
-offset_bounds-slots-index g c = scaled_Fits _ _ _ c.loop-index-test.true c.well_formed.1.0.1
-
-pub offset_bounds-items-index : goal.offset_bounds-items-index
-offset_bounds-items-index g c = scaled_Fits _ _ _ (place-in c.loop-index-test.true c.requires.len) c.well_formed.0.1

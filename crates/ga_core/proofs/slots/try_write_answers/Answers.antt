@@ -5,7 +5,6 @@ use Rattle.ga_core.proofs.slots.try_write_answers.Goals as goal
 use Rattle.ga_core.specs.Runs.{ClosureRun}
 use Rattle.std.proofs.Common.{◌<◌, Ok, arith, length, map, take}
 use Rattle.std.proofs.lemmas.List.{take_more_set}
-use borrow.Author.Rules.{scaled_Fits}
 
 pub f-requires : goal.f-requires
 f-requires g c = may_try_generate-at _ _ _ _ c.requires.callable c.loop-index.index
@@ -26,6 +25,3 @@ returns g c =
     let run = run-of_numbers (λ numbers good. ClosureRun (goal.F-step g) c.args.f.now numbers (map Ok good) c.loop-index.f)
     c.loop-index.slots c.loop-index-test.false c.loop-index.auto.index-end c.loop-index.auto.slots c.loop-index.invariant in
     record { run = FirstErrorRun-good _ _ _ _ _ run }
-
-pub offset_bounds-slots-index : goal.offset_bounds-slots-index
-offset_bounds-slots-index g c = scaled_Fits _ _ _ c.loop-index-test.true c.well_formed.0.1

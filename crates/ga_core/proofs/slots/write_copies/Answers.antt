@@ -1,10 +1,8 @@
-use Rattle.ga_core.proofs.CopyLemmas.{Repeats-none, Repeats-written, front-in, front-long, last-in}
+use Rattle.ga_core.proofs.CopyLemmas.{Repeats-none, Repeats-written}
 use Rattle.ga_core.proofs.slots.write_copies.Goals as goal
 use Rattle.std.proofs.Common.{◌≡◌, ◌-◌, arith, drop, length, length-drop, length-take, subst, take, All}
 use Rattle.std.proofs.lemmas.List.{take_all, take_more_set}
 use Rattle.std.proofs.lemmas.List.Elements.{All-push}
-use borrow.Author.Count.{falls_down}
-use borrow.Author.Rules.{scaled_Fits}
 
 pub returns-after-loop-slot-clause-items : goal.returns-after-loop-slot-clause-items
 returns-after-loop-slot-clause-items g c =
@@ -29,20 +27,6 @@ returns-in-Err g c = record {
   few = λ few. absurd (omega (arith, few, length-take (length c.args.slots.now - 1) c.args.slots.now));
   succeeds = λ fine. absurd (c.in-Err.ensures.cases fine);
 }
-
-pub slice_bounds-slot-items-end-then-count-gt0 : goal.slice_bounds-slot-items-end-then-count-gt0
-slice_bounds-slot-items-end-then-count-gt0 g c = front-long c.args.slots.now
-
-pub offset_bounds-slot-items-slot-index : goal.offset_bounds-slot-items-slot-index
-offset_bounds-slot-items-slot-index g c =
-    scaled_Fits _ _ _ (front-in c.args.slots.now c.loop-slot-test.true) c.well_formed.0.1
-
-pub offset_bounds-slots-last : goal.offset_bounds-slots-last
-offset_bounds-slots-last g c = scaled_Fits _ _ _ (falls_down _ c.if-count-gt0.true) c.well_formed.0.1
-
-pub bounds-slots-last : goal.bounds-slots-last
-bounds-slots-last g c =
-    last-in c.args.slots.now c.loop-slot.slot-items c.if-count-gt0.true c.loop-slot.auto.slot-items
 
 pub returns-else-count-gt0-clause-items : goal.returns-else-count-gt0-clause-items
 returns-else-count-gt0-clause-items g c =

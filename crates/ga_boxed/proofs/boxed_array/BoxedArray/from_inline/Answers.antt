@@ -1,19 +1,8 @@
-use borrow.Author.Rules.{scaled_fits≤}
-use Rattle.ga_boxed.proofs.BlockLemmas.{more_room, none_yet, one_more}
+use Rattle.ga_boxed.proofs.BlockLemmas.{more_room, one_more}
 use Rattle.ga_boxed.proofs.boxed_array.BoxedArray.from_inline.Goals as goal
 use Rattle.ga_core.proofs.MoveLemmas.{pushed-next, this-here}
 use Rattle.std.proofs.Common.{ap, length, refl, subst, sym, ◌<◌, ◌∙◌, ◌≤◌}
 use Rattle.std.proofs.lemmas.List.{take_all}
-
-pub loop-slot-init : goal.loop-slot-init
-loop-slot-init g c =
-    let block = c.in-Ok.ensures.block in
-    let slots = c.as_mut_slice-slots.ensures in
-    record {
-      moved = (ap (λ b. b.items) block, slots.items);
-      room = none_yet c.in-Ok.block.room
-          ∙ (ap (λ b. b.room) block ∙ (c.USIZE.ensures ∙ (sym slots.len ∙ ap length slots.items)));
-    }
 
 pub put-requires : goal.put-requires
 put-requires g c = record {
@@ -32,14 +21,6 @@ loop-slot-preserved g c =
       room = one_more _ _ _ _ at.invariant.room c.put.ensures.room;
     }
 
-pub invariant_of-result : goal.invariant_of-result
-invariant_of-result g c =
-    let at = c.loop-slot in
-    let slots = c.as_mut_slice-slots.ensures in
-    let past = subst (λ n. n ≤ at.slot-index) (ap length slots.items) c.loop-slot-test.false in
-    ap length (at.invariant.moved.0 ∙ take_all at.slot-index c.args.array past)
-    ∙ (sym (ap length slots.items) ∙ slots.len)
-
 pub returns-in_default : goal.returns-in_default
 returns-in_default g c = record { ok = tt; empty = λ none. c.in_default.ensures.empty (c.USIZE.ensures ∙ none) }
 
@@ -51,9 +32,3 @@ returns g c =
       ok = at.invariant.moved.0 ∙ take_all at.slot-index c.args.array past;
       empty = λ none. refl;
     }
-
-pub offset_bounds-slots-slot-index : goal.offset_bounds-slots-slot-index
-offset_bounds-slots-slot-index g c =
-    let at = c.loop-slot in
-    let slots = c.as_mut_slice-slots in
-    scaled_fits≤ at.slot-index (length slots.result.now) _ at.auto.slot-index-end slots.type_inv.1

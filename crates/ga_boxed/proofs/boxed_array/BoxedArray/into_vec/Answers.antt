@@ -1,30 +1,15 @@
-use Rattle.ga_boxed.proofs.BlockLemmas.{all_moved, one_counted, moved_more, none_left, none_yet, some_left}
+use Rattle.ga_boxed.proofs.BlockLemmas.{all_moved, one_counted, moved_more, none_left, some_left}
 use Rattle.ga_boxed.proofs.boxed_array.BoxedArray.into_vec.Goals as goal
-use Rattle.std.proofs.Common.{◌≡◌, ℕ, suc, ◌+◌, ◌<◌, ◌≤◌, ◌∙◌, ◌++◌, ap, arith, length, refl}
+use Rattle.std.proofs.Common.{◌≡◌, ℕ, suc, ◌+◌, ◌<◌, ◌≤◌, ◌∙◌, ap, arith, length, refl}
 
-module _ (len left room : ℕ) where
-  -- an empty vector has room for all
-  room-first : (all : ℕ) → len ≡ 0 → room ≡ all → left ≡ all → len + left ≤ room
-  room-first all none exact long = omega arith
+module _ (len left room others : ℕ) (some : left ≡ suc others) (fits : len + left ≤ room) where
+  -- where one is left, there is room for it
+  room-next : len < room
+  room-next = omega (arith, some, fits)
 
-  module _ (others : ℕ) (some : left ≡ suc others) (fits : len + left ≤ room) where
-    -- where one is left, there is room for it
-    room-next : len < room
-    room-next = omega (arith, some, fits)
-
-    -- and then for the others
-    room-more : (longer kept : ℕ) → longer ≡ len + 1 → kept ≡ room → longer + others ≤ kept
-    room-more longer kept grows keeps = omega (arith, some, fits)
-
-pub loop-moved-init : goal.loop-moved-init
-loop-moved-init g c =
-    let block = c.self.inside.items in
-    let exact = c.in-Ok.ensures.exact ∙ c.USIZE.ensures in
-    record {
-      moved = ap (λ l. l ++ block.items) c.in-Ok.ensures.items ∙ c.self.view_is;
-      left = none_yet (length block.items) ∙ c.self.invariant;
-      room = room-first _ _ _ _ c.in-Ok.ensures.len exact c.self.invariant;
-    }
+  -- and then for the others
+  room-more : (longer kept : ℕ) → longer ≡ len + 1 → kept ≡ room → longer + others ≤ kept
+  room-more longer kept grows keeps = omega (arith, some, fits)
 
 pub take_first-requires : goal.take_first-requires
 take_first-requires g c = record {

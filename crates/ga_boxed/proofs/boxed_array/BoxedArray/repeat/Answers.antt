@@ -1,4 +1,4 @@
-use Rattle.ga_boxed.proofs.BlockLemmas.{filled_more, long_more, none_yet}
+use Rattle.ga_boxed.proofs.BlockLemmas.{filled_more, long_more}
 use Rattle.ga_boxed.proofs.boxed_array.BoxedArray.repeat.Given as given
 use Rattle.ga_boxed.proofs.boxed_array.BoxedArray.repeat.Goals as goal
 use Rattle.ga_boxed.proofs.boxed_array.BoxedArray.repeat.Goals.{then-USIZE-gt0+else-loop-clone-test, else-USIZE-gt0}
@@ -7,7 +7,7 @@ use Rattle.ga_core.specs.Copies.{Repeats}
 use Rattle.std.proofs.Common.{◌≡◌, ℕ, zero, suc, ◌+◌, ◌<◌, ◌≤◌, List, [], ◌∷◌, ◌++◌, ◌∙◌, ap, arith, length, refl}
 use Rattle.std.proofs.Common.{subst, sym}
 use Rattle.std.proofs.lemmas.List.{length_push}
-use Rattle.std.proofs.lemmas.List.Elements.{All-nil, All-push}
+use Rattle.std.proofs.lemmas.List.Elements.{All-push}
 use Rattle.std.specs.List.{All}
 
 -- so many clones are made, and this is the number of the next
@@ -54,16 +54,6 @@ returns-in_default g c = record {
 pub returns-in_default-clone : goal.returns-in_default-clone
 returns-in_default-clone g c =
     record { items = tt; same = λ _. tt; empty = some-asked _ _ c.USIZE-2.ensures c.if-USIZE-gt0.true }
-
-pub loop-clone-init : goal.loop-clone-init
-loop-clone-init g c =
-    let block = c.in-Ok.ensures.block in
-    record {
-      long = ap (λ b. length b.items + 1) block;
-      room = ap (λ b. length b.items + b.room) block ∙ (none_yet c.USIZE.result ∙ c.USIZE.ensures);
-      clones = subst (All (g.T.Clone.is_clone c.args.item)) (sym (ap (λ b. b.items) block))
-          (All-nil (g.T.Clone.is_clone c.args.item));
-    }
 
 pub put-requires : goal.put-requires
 put-requires g c =

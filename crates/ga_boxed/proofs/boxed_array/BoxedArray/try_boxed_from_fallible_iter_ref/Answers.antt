@@ -1,13 +1,12 @@
-use Rattle.ga_boxed.proofs.BlockLemmas.{all_there, filled_more, less_room, none_yet, not_all}
+use Rattle.ga_boxed.proofs.BlockLemmas.{all_there, filled_more, not_all}
 use Rattle.ga_boxed.proofs.boxed_array.BoxedArray.try_boxed_from_fallible_iter_ref.Given as given
 use Rattle.ga_boxed.proofs.boxed_array.BoxedArray.try_boxed_from_fallible_iter_ref.Goals as goal
 use Rattle.ga_core.proofs.FillLemmas.{FillFalliblyRuns-from_fill}
 use Rattle.ga_core.specs.Fill.{FillFalliblyRuns, FillsFallibly}
 use Rattle.ga_core.specs.declared.LengthError.{LengthError}
-use Rattle.std.proofs.Common.{◌+◌, ◌∙◌, Err, List, None, Ok, Result, Some, ap, length, map, refl, subst, sym}
+use Rattle.std.proofs.Common.{◌∙◌, Err, List, None, Ok, Result, Some, map, refl}
 use Rattle.std.proofs.iter.Next.{Yields-more}
 use Rattle.std.proofs.lemmas.List.{map-append}
-use Rattle.std.specs.Iterator.{Yields}
 
 pub returns-in_default : goal.returns-in_default
 returns-in_default g c = record {
@@ -18,21 +17,8 @@ returns-in_default g c = record {
   empty = λ none. cc (c.in_default.ensures.empty (c.USIZE.ensures ∙ none));
 }
 
-pub loop-items-init : goal.loop-items-init
-loop-items-init g c =
-    let block = c.in-Ok.ensures.block in
-    record {
-      can = c.requires.can;
-      taken = subst (λ good. Yields g.I.Iterator.next_gives c.args.items.now (map Ok good) c.args.items.now)
-          (sym (ap (λ b. b.items) block)) refl;
-      room = ap (λ b. length b.items + b.room) block ∙ (none_yet c.USIZE.result ∙ c.USIZE.ensures);
-    }
-
 pub put-requires : goal.put-requires
 put-requires g c = record { room = rw (← c.room.ensures) c.loop-items-test.true }
-
-pub loop-items-smaller : goal.loop-items-smaller
-loop-items-smaller g c = less_room _ _ c.put.ensures.room
 
 pub loop-items-preserved : goal.loop-items-preserved
 loop-items-preserved g c =
@@ -72,10 +58,6 @@ returns-in-None g c =
     let fill = told g c.args.items.now (Err (record {})) c.next.new.self
     (at.values.items, None, (at.items, at.invariant.taken, c.in-None.ensures.steps), few) in
     record { fill = fill.0; runs = fill.1; can_on = λ error is. cc is; err = λ refused is. cc is; empty = λ none. tt }
-
-pub invariant_of-result : goal.invariant_of-result
-invariant_of-result g c =
-    all_there _ _ _ _ c.loop-items.invariant.room c.room.ensures c.loop-items-test.false
 
 pub returns-in-None-next : goal.returns-in-None-next
 returns-in-None-next g c =

@@ -1,12 +1,11 @@
-use Rattle.ga_boxed.proofs.BlockLemmas.{all_there, filled_more, less_room, none_yet, not_all}
+use Rattle.ga_boxed.proofs.BlockLemmas.{all_there, filled_more, not_all}
 use Rattle.ga_boxed.proofs.boxed_array.BoxedArray.try_boxed_from_iter_ref.Given as given
 use Rattle.ga_boxed.proofs.boxed_array.BoxedArray.try_boxed_from_iter_ref.Goals as goal
 use Rattle.ga_core.proofs.FillLemmas.{Asks-from_fill, FillRuns-from_fill}
 use Rattle.ga_core.specs.Fill.{Asks, FillRuns, Fills}
 use Rattle.ga_core.specs.declared.LengthError.{LengthError}
-use Rattle.std.proofs.Common.{◌+◌, ◌∙◌, Err, List, None, Ok, Result, Some, ap, length, refl, subst, sym}
+use Rattle.std.proofs.Common.{◌+◌, ◌∙◌, Err, List, None, Ok, Result, Some, refl}
 use Rattle.std.proofs.iter.Next.{Yields-more}
-use Rattle.std.specs.Iterator.{Yields}
 
 pub returns-in_default : goal.returns-in_default
 returns-in_default g c = record {
@@ -17,21 +16,8 @@ returns-in_default g c = record {
   empty = λ none. c.in_default.ensures.empty (c.USIZE.ensures ∙ none);
 }
 
-pub loop-items-init : goal.loop-items-init
-loop-items-init g c =
-    let block = c.in-Ok.ensures.block in
-    record {
-      can = c.requires.can;
-      taken = subst (λ taken. Yields g.I.Iterator.next_gives c.args.items.now taken c.args.items.now)
-          (sym (ap (λ b. b.items) block)) refl;
-      room = ap (λ b. length b.items + b.room) block ∙ (none_yet c.USIZE.result ∙ c.USIZE.ensures);
-    }
-
 pub put-requires : goal.put-requires
 put-requires g c = record { room = rw (← c.room.ensures) c.loop-items-test.true }
-
-pub loop-items-smaller : goal.loop-items-smaller
-loop-items-smaller g c = less_room _ _ c.put.ensures.room
 
 pub loop-items-preserved : goal.loop-items-preserved
 loop-items-preserved g c =
@@ -60,10 +46,6 @@ returns-in-None g c =
     let fill = told g c.args.items.now (Err (record {})) c.next.new.self
     (at.taken.items, None, (at.items, at.invariant.taken, c.in-None.ensures.steps), few) in
     record { fill = fill.0; runs = fill.1; asks = fill.2; err = tt; empty = λ none. refl }
-
-pub invariant_of-result : goal.invariant_of-result
-invariant_of-result g c =
-    all_there _ _ _ _ c.loop-items.invariant.room c.room.ensures c.loop-items-test.false
 
 pub returns-in-None-next : goal.returns-in-None-next
 returns-in-None-next g c =

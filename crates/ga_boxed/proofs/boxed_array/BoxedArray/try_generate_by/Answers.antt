@@ -1,10 +1,10 @@
-use Rattle.ga_boxed.proofs.BlockLemmas.{all_counted, long_more, more_room, none_yet, one_more}
+use Rattle.ga_boxed.proofs.BlockLemmas.{all_counted, long_more, more_room, one_more}
 use Rattle.ga_boxed.proofs.boxed_array.BoxedArray.try_generate_by.Goals as goal
 use Rattle.ga_core.proofs.ActsLemmas.{answers_until_error}
 use Rattle.ga_core.proofs.CallLemmas.{may_try_generate-at}
 use Rattle.ga_core.proofs.RunLemmas.{ClosureRun-good, FirstErrorRun-at, FirstErrorRun-good, below-add_one}
-use Rattle.ga_core.specs.Runs.{ClosureRun, FirstErrorRun}
-use Rattle.std.proofs.Common.{◌<◌, ◌∙◌, [], Err, Ok, ap, length, map, refl, subst, sym}
+use Rattle.ga_core.specs.Runs.{FirstErrorRun}
+use Rattle.std.proofs.Common.{◌<◌, ◌∙◌, Err, Ok, refl, subst}
 use Rattle.std.specs.List.{range_with_len}
 
 pub returns-in_default : goal.returns-in_default
@@ -14,16 +14,6 @@ returns-in_default g c = record {
   err = refl;
   empty = λ none. c.in_default.ensures.empty (c.USIZE.ensures ∙ none);
 }
-
-pub loop-index-init : goal.loop-index-init
-loop-index-init g c =
-    let block = c.in-Ok.ensures.block in
-    record {
-      ran = subst (λ good. ClosureRun (goal.F-step g) c.args.f.now [] (map Ok good) c.args.f.now)
-          (sym (ap (λ b. b.items) block)) refl;
-      long = ap (λ b. length b.items) block;
-      room = none_yet c.in-Ok.good.room ∙ (ap (λ b. b.room) block ∙ c.USIZE.ensures);
-    }
 
 pub f-requires : goal.f-requires
 f-requires g c =
@@ -62,11 +52,6 @@ returns-in-Err g c =
       err = tt;
       empty = λ none. refl;
     }
-
-pub invariant_of-result : goal.invariant_of-result
-invariant_of-result g c =
-    let at = c.loop-index in
-    at.invariant.long ∙ all_counted _ _ _ c.loop-index-test.false at.auto.index-end c.USIZE-index-end.ensures
 
 pub returns : goal.returns
 returns g c =

@@ -3,9 +3,6 @@ use Rattle.ga_boxed.proofs.boxed_array_iter.BoxedArrayIter.nth.Goals as goal
 use Rattle.ga_boxed.proofs.BlockLemmas.{first-came, passed_all}
 use Rattle.std.proofs.Common.{length}
 
-pub loop-passed-init : goal.loop-passed-init
-loop-passed-init g c = c.self.view_is
-
 pub loop-passed-preserved : goal.loop-passed-preserved
 loop-passed-preserved g c =
     let at = c.loop-passed in

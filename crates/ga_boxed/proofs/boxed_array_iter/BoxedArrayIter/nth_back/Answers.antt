@@ -1,10 +1,7 @@
 use Rattle.ga_core.proofs.CutLemmas.{next_back-reversed, nth_back-step, passed-more}
 use Rattle.ga_boxed.proofs.boxed_array_iter.BoxedArrayIter.nth_back.Goals as goal
 use Rattle.ga_boxed.proofs.BlockLemmas.{last-came, passed_all}
-use Rattle.std.proofs.Common.{ap, length, reverse}
-
-pub loop-passed_back-init : goal.loop-passed_back-init
-loop-passed_back-init g c = ap reverse c.self.view_is
+use Rattle.std.proofs.Common.{length, reverse}
 
 pub loop-passed_back-preserved : goal.loop-passed_back-preserved
 loop-passed_back-preserved g c =

@@ -1,7 +1,7 @@
 use Rattle.ga_core.proofs.ActsLemmas.{answer_of_fold}
 use Rattle.ga_core.proofs.CallLemmas.{FoldRun-of_items, may_fold-at}
 use Rattle.ga_core.proofs.CutLemmas.{next_back-reversed, taken-more}
-use Rattle.ga_boxed.proofs.BlockLemmas.{all_moved, one_gone-back}
+use Rattle.ga_boxed.proofs.BlockLemmas.{all_moved}
 use Rattle.ga_boxed.proofs.boxed_array_iter.BoxedArrayIter.rfold_by.Goals as goal
 use Rattle.ga_core.specs.Runs.{FoldRun}
 use Rattle.std.proofs.Common.{◌∙◌, ap, length, refl, subst, sym, ◌∷◌, [], ◌++◌, Some, reverse}
@@ -43,9 +43,3 @@ returns g c =
       acts = λ h acts. answer_of_fold (goal.F-step g) c.args.f.now h acts c.args.init (reverse c.args.self) at.answer
           at.f run;
     }
-
-pub loop-item-smaller : goal.loop-item-smaller
-loop-item-smaller g c = one_gone-back _ _ _ c.in-Some.ensures.steps
-
-pub loop-item-init : goal.loop-item-init
-loop-item-init g c = ([], refl, refl)

@@ -1,19 +1,9 @@
-use Rattle.ga_boxed.proofs.BlockLemmas.{long_more, more_room, none_yet, one_more}
+use Rattle.ga_boxed.proofs.BlockLemmas.{long_more, more_room, one_more}
 use Rattle.ga_boxed.proofs.boxed_array_iter.BoxedArrayIterClone.clone.Goals as goal
-use Rattle.std.proofs.Common.{[], ◌∙◌, ap, length, refl, subst, sym}
+use Rattle.std.proofs.Common.{◌∙◌, refl, subst, sym}
 use Rattle.std.proofs.lemmas.List.{take_all}
 use Rattle.std.proofs.lemmas.List.Elements.{all_zip_more}
 use Rattle.std.specs.List.{AllZip}
-
-pub loop-item-init : goal.loop-item-init
-loop-item-init g c =
-    let block = c.in-Ok.ensures.block in
-    record {
-      long = ap (λ b. length b.items) block;
-      room = none_yet c.in-Ok.clones.room
-          ∙ (ap (λ b. b.room) block ∙ (c.len.ensures ∙ sym (ap length c.as_slice-item-items.ensures)));
-      clones = subst (λ made. AllZip g.T.Clone.is_clone [] made) (sym (ap (λ b. b.items) block)) tt;
-    }
 
 pub put-requires : goal.put-requires
 put-requires g c = record { room = more_room _ _ _ _ c.loop-item.invariant.room c.loop-item-test.true refl }

@@ -1,24 +1,10 @@
 use Rattle.ga_boxed.proofs.BlockLemmas.{none_fits}
-use Rattle.ga_boxed.proofs.BlockLemmas.{none_yet}
 use Rattle.ga_boxed.proofs.live_block.LiveBlock.new.Goals as goal
 use Rattle.ga_boxed.specs.Live.{live}
-use Rattle.std.proofs.Common.{[], ◌∙◌, ap, length, refl}
+use Rattle.std.proofs.Common.{[], ◌∙◌, ap, refl}
 
 pub allocate-requires : goal.allocate-requires
 allocate-requires g c = record { fits = c.if-not-fits.ensures.0 refl }
-
-pub invariant_of-result : goal.invariant_of-result
-invariant_of-result g c =
-    let made = c.in-Ok.ensures in
-    record {
-      at = made.at;
-      passed = made.passed;
-      items = none_yet (length c.in-Ok.cells.items) ∙ ap length made.items;
-      room = none_yet c.in-Ok.cells.room ∙ made.room;
-      deed_at = made.deed_at;
-      deed_len = made.deed_len;
-      deed_alloc = made.deed_alloc;
-    }
 
 pub returns-then-not-fits : goal.returns-then-not-fits
 returns-then-not-fits g c = record {

@@ -1,4 +1,3 @@
-use Rattle.ga_boxed.proofs.BlockLemmas.{end_more, one_more}
 use Rattle.ga_boxed.proofs.live_block.LiveBlock.put.Goals as goal
 use Rattle.std.proofs.Common.{◌+◌, ◌<◌, ◌∙◌, [], ◌∷◌, ◌++◌, ap, length, subst, sym}
 
@@ -10,20 +9,6 @@ put-requires g c =
       at = sym held.at;
       index = sym (ap (λ passed. passed + length self.cells.items) held.passed ∙ held.items);
       some = subst (λ room. 0 < room) (sym (ap (λ b. b.room) c.self.view_is)) c.requires.room;
-    }
-
-pub invariant_of-self : goal.invariant_of-self
-invariant_of-self g c =
-    let held = c.self.invariant in
-    let put = c.put.ensures in
-    record {
-      at = put.at ∙ held.at;
-      passed = put.passed ∙ held.passed;
-      items = end_more _ _ _ put.items _ _ held.items;
-      room = one_more _ _ _ _ held.room put.room;
-      deed_at = held.deed_at;
-      deed_len = held.deed_len;
-      deed_alloc = held.deed_alloc;
     }
 
 pub returns : goal.returns

@@ -9,9 +9,6 @@ use Rattle.std.proofs.Common.{◌≡◌, ◌∷◌, [], ◌++◌, ◌+◌, drop,
 use Rattle.std.proofs.lemmas.Fn.{FoldsTo-push}
 use Rattle.std.proofs.lemmas.List.{append-nil, drop-set-lt, drop_all, drop_more}
 
-pub loop-slot-init : goal.loop-slot-init
-loop-slot-init g c = ([], sym c.as_mut_slice-slot-items.ensures.items, refl)
-
 -- the item that was taken is the next
 next : (g : given.Over) (c : After-take g) → drop c.loop-slot.slot-index c.loop-slot.slot-items
     ≡ c.take.result ∷ drop (c.loop-slot.slot-index + 1)

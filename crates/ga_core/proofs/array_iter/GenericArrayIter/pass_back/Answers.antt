@@ -1,4 +1,4 @@
-use Rattle.ga_core.proofs.LeftLemmas.{blanks-last, left-before, left-kept, left-room, left-whole}
+use Rattle.ga_core.proofs.LeftLemmas.{blanks-last, left-before, left-whole}
 use Rattle.ga_core.proofs.array_iter.GenericArrayIter.pass_back.Goals as goal
 use Rattle.ga_views.specs.Parts.{part_set}
 use Rattle.std.proofs.Common.{◌%◌, ◌-◌}
@@ -10,21 +10,10 @@ returns-then-passed-gt0 g c =
     left-before items _ c.self.invariant c.self.view_is c.args.passed c.requires.in_bounds c.if-passed-gt0.true
     _ c.blank_back.new.items (g.N.ArrayType.Store.store_with c.self.inside.store part).1
 
-pub invariant_of-self : goal.invariant_of-self
-invariant_of-self g c =
-    let items = g.N.ArrayType.Store.items c.self.inside.store in
-    let part = part_set ((c.self.inside.back - c.args.passed) % 65536) c.args.passed items c.blank_back.new.items in
-    let room = left-room items _ c.self.invariant c.self.view_is c.args.passed c.requires.in_bounds in
-    left-kept items _ c.self.invariant c.self.view_is _ part room.3 room.4
-    (g.N.ArrayType.Store.store_with c.self.inside.store part).1
-
 pub part_mut-requires : goal.part_mut-requires
 part_mut-requires g c = record {
   in_bounds = blanks-last _ _ c.self.invariant c.self.view_is _ c.requires.in_bounds c.if-passed-gt0.true;
 }
-
-pub overflow_sub-first : goal.overflow_sub-first
-overflow_sub-first g c = (left-room _ _ c.self.invariant c.self.view_is _ c.requires.in_bounds).2
 
 pub returns-else-passed-gt0 : goal.returns-else-passed-gt0
 returns-else-passed-gt0 g c = left-whole c.args.self.now c.args.passed c.if-passed-gt0.false

@@ -1,13 +1,12 @@
 use Rattle.ga_core.proofs.ActsLemmas.{answer_of_fold}
 use Rattle.ga_core.proofs.CallLemmas.{FoldRun-of_items, may_fold-at}
 use Rattle.ga_core.proofs.CutLemmas.{taken-more}
-use Rattle.ga_core.proofs.LeftLemmas.{index-falls, index-in, left-all, left-last_reversed}
+use Rattle.ga_core.proofs.LeftLemmas.{left-last_reversed}
 use Rattle.ga_core.proofs.array_iter.GenericArrayIter.rfold_by.Given as given
 use Rattle.ga_core.proofs.array_iter.GenericArrayIter.rfold_by.Goals as goal
 use Rattle.ga_core.proofs.array_iter.GenericArrayIter.rfold_by.Goals.{After-take}
 use Rattle.ga_core.specs.Runs.{FoldRun}
 use Rattle.std.proofs.Common.{◌≡◌, ◌∷◌, [], ◌++◌, ◌-◌, ◌∙◌, ap, arith, length, refl, reverse, rules, slice_set}
-use borrow.Author.Rules.{scaled_Fits}
 use Rattle.std.proofs.lemmas.Fn.{FoldsTo-push}
 use Rattle.std.specs.List.{slice_range}
 
@@ -42,22 +41,3 @@ returns g c =
     let run : FoldRun (goal.F-step g) c.args.f.now c.args.init
     (reverse c.args.self) c.loop-index.answer c.loop-index.f = search rules in
     record { run = run; acts = λ h acts. answer_of_fold _ _ h acts _ _ _ _ run }
-
-pub loop-index-init : goal.loop-index-init
-loop-index-init g c =
-    ([], left-all c.as_mut_slice-items.result.now c.args.self c.as_mut_slice-items.ensures.items, refl)
-
-pub overflow_step-index : goal.overflow_step-index
-overflow_step-index g c = c.loop-index-test.true
-
-pub loop-index-smaller : goal.loop-index-smaller
-loop-index-smaller g c = index-falls c.loop-index.index c.loop-index-test.true
-
-pub bounds-items-index : goal.bounds-items-index
-bounds-items-index g c = index-in c.loop-index-test.true c.loop-index.auto.index c.loop-index.auto.items
-
-pub offset_bounds-items-index : goal.offset_bounds-items-index
-offset_bounds-items-index g c =
-    scaled_Fits _ (length c.as_mut_slice-items.result.now) _
-    (index-in c.loop-index-test.true c.loop-index.auto.index refl)
-    c.as_mut_slice-items.type_inv.1

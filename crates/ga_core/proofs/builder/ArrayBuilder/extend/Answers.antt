@@ -1,4 +1,4 @@
-use Rattle.ga_core.proofs.FillLemmas.{Asks-from_takes, TakeRuns-from_takes, has-room, room-shrinks, takes-all, takes-to_end}
+use Rattle.ga_core.proofs.FillLemmas.{Asks-from_takes, TakeRuns-from_takes, has-room, takes-all, takes-to_end}
 use Rattle.ga_core.proofs.builder.ArrayBuilder.extend.Goals as goal
 use Rattle.std.proofs.Common.{◌≡◌, ◌∷◌, [], ◌++◌, ap, append_assoc, refl, sym, ◌∙◌, true≢false}
 use Rattle.std.proofs.iter.Next.{Yields-more}
@@ -42,8 +42,3 @@ returns g c =
 
 pub push-requires : goal.push-requires
 push-requires g c = record { room = has-room _ _ c.loop-items-test.ensures.bound c.loop-items-test.ensures.full.1 }
-
-pub loop-items-smaller : goal.loop-items-smaller
-loop-items-smaller g c =
-    let told = c.loop-items-test.ensures in
-    room-shrinks _ _ _ _ (has-room _ _ told.bound told.full.1) c.push.ensures

@@ -1,8 +1,9 @@
 use mathlib.Core.Bool.{true≢false}
-use Rattle.ga_core.proofs.FillLemmas.{TakeGoodRuns-from_takes, has-room, room-left, room-shrinks, takes-all, takes-to_end}
+use Rattle.ga_core.proofs.FillLemmas.{TakeGoodRuns-from_takes, has-room, room-left, takes-all, takes-to_end}
 use Rattle.ga_core.proofs.builder.ArrayBuilder.try_extend.Goals as goal
 use Rattle.ga_core.specs.Fill.{TakesGood}
-use Rattle.std.proofs.Common.{◌≡◌, ◌∷◌, [], ◌++◌, ◌-◌, Err, Ok, Some, ap, append_assoc, length, map, refl, subst, sym, ◌∙◌}
+use Rattle.std.proofs.Common.{◌≡◌, ◌∷◌, [], ◌++◌, ◌-◌, Err, Ok, Some, ap, append_assoc, length, map, refl, subst, sym}
+use Rattle.std.proofs.Common.{◌∙◌}
 use Rattle.std.proofs.iter.Next.{Yields-more}
 use Rattle.std.proofs.lemmas.List.{length-map, map-append}
 use Rattle.std.specs.Iterator.{Yields}
@@ -70,8 +71,3 @@ returns-in-Some-Err g c =
 
 pub push-requires : goal.push-requires
 push-requires g c = record { room = has-room _ _ c.loop-items-test.ensures.bound c.loop-items-test.ensures.full.1 }
-
-pub loop-items-smaller : goal.loop-items-smaller
-loop-items-smaller g c =
-    let told = c.loop-items-test.ensures in
-    room-shrinks _ _ _ _ (has-room _ _ told.bound told.full.1) c.push.ensures

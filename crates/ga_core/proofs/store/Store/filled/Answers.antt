@@ -1,12 +1,6 @@
 use Rattle.ga_core.proofs.store.Store.filled.Goals as goal
 use Rattle.std.proofs.Common.{ap, length, length-append, ◌∙◌, ◌∷◌, [], ◌≡◌, ◌+◌, ◌≤◌, ℕ, arith, subst, sym, All}
-use Rattle.std.proofs.lemmas.List.Elements.{All-nil, All-push}
-
-pub loop-slot-init : goal.loop-slot-init
-loop-slot-init g c = record {
-  items = subst (All g.T.Default.is_default) (sym c.empty-store.ensures) (All-nil g.T.Default.is_default);
-  long = ap length c.empty-store.ensures;
-}
+use Rattle.std.proofs.lemmas.List.Elements.{All-push}
 
 pub loop-slot-preserved : goal.loop-slot-preserved
 loop-slot-preserved g c =

@@ -10,10 +10,6 @@ returns-then-not-has_row-clause-steps g c =
     let none = sym c.self.view_is ∙ (rw c.USIZE-width.ensures at (c.has_row.ensures.none c.if-not-has_row.true)) in
     (none, none)
 
--- where one is held, the width is within the items
-pub overflow_sub-self-inside : goal.overflow_sub-self-inside
-overflow_sub-self-inside g c = (c.has_row.ensures.some c.if-not-has_row.false).1
-
 pub from_slice-requires : goal.from_slice-requires
 from_slice-requires g c = record {
   len = omega (
@@ -35,9 +31,6 @@ split g c = rw (
   c.USIZE-width.ensures,
 ) (last-split _ _ c.self.invariant
     (rw c.USIZE-width.ensures at (c.has_row.ensures.some c.if-not-has_row.false)))
-
-pub invariant_of-self : goal.invariant_of-self
-invariant_of-self g c = (split g c).1
 
 pub returns-clause-steps : goal.returns-clause-steps
 returns-clause-steps g c = (split g c).0

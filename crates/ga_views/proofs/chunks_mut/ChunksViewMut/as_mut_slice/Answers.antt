@@ -1,18 +1,10 @@
 use Rattle.ga_views.proofs.ChunksViewMutLemmas.{same_rows}
 use Rattle.ga_views.proofs.chunks_mut.ChunksViewMut.as_mut_slice.Goals as goal
-use Rattle.ga_views.specs.ChunksViewMut.{whole-written}
 use Rattle.std.proofs.Common.{ap, length, ◌∙◌}
 use Rattle.std.specs.Prelude.{refl}
 
 pub all_mut-requires : goal.all_mut-requires
 all_mut-requires g c = record { len = ap length c.all-len.ensures }
-
--- no rest is left whatever is written
-pub invariant_of-self-lent : goal.invariant_of-self-lent
-invariant_of-self-lent g c = λ written. (
-  whole-written g.row.S g.row.T g.row.N g.S.ReborrowSlice g.N.Unsigned c.args.self.now written,
-  tt,
-)
 
 pub returns : goal.returns
 returns g c = (

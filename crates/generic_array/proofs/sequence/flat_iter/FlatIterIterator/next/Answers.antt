@@ -5,9 +5,6 @@ use Rattle.std.proofs.Common.{◌≡◌, [], ◌∙◌, ◌++◌, ap, arith, len
 use Rattle.std.specs.List.{flat_map}
 use Rattle.std.specs.Slice.Iter.{iter_rest}
 
-pub loop-item-init : goal.loop-item-init
-loop-item-init g c = c.self.view_is
-
 pub returns-in-Some : goal.returns-in-Some
 returns-in-Some g c =
     let steps = sym c.loop-item.invariant
@@ -36,6 +33,3 @@ loop-item-preserved g c =
     (iter_rest c.loop-item.self-inside.rows)
     (iter_rest c.next-in-loop-item.new.self) c.args.self.now c.in_default.ensures.steps.0 c.in-Some-next.ensures.steps
     c.iter-self-inside.ensures.0 c.loop-item.invariant
-
-pub loop-item-smaller : goal.loop-item-smaller
-loop-item-smaller g c = omega (arith, ap length c.in-Some-next.ensures.steps)

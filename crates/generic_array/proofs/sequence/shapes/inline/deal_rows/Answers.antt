@@ -2,7 +2,7 @@ use Rattle.ga_core.proofs.SlotLemmas.{refill-whole}
 use Rattle.generic_array.proofs.ShapeLemmas.{map-row_at}
 use Rattle.generic_array.proofs.sequence.shapes.inline.deal_rows.Goals as goal
 use Rattle.generic_array.specs.Rows.{row_at}
-use Rattle.std.proofs.Common.{◌≡◌, ◌+◌, ◌*◌, ◌≤◌, ◌∙◌, ap, arith, drop, get_or, length, length-drop, refl, suc, sym, take}
+use Rattle.std.proofs.Common.{◌≡◌, ◌+◌, ◌*◌, ◌≤◌, ◌∙◌, ap, arith, drop, get_or, length, length-drop, suc, sym, take}
 use Rattle.std.proofs.Math.Nat.{mul-le-mul_right, suc-mul}
 use Rattle.std.proofs.lemmas.List.{drop-drop, take_all, take_more_set}
 use Rattle.std.proofs.lemmas.List.FromFn.{map-range_with_len_more}
@@ -30,11 +30,6 @@ loop-row-preserved g c =
           ∙ (ap (drop w) behind ∙ (drop-drop w (place * w) items ∙ ap (λ k. drop k items) next)));
     }
 
-pub loop-row-init : goal.loop-row-init
-loop-row-init g c =
-    let none : 0 ≡ 0 * g.W.Unsigned.USIZE = omega arith in
-    record { made = refl; left = ap (λ k. drop k c.args.items.now) none }
-
 pub move_to-requires : goal.move_to-requires
 move_to-requires g c =
     let w = g.W.Unsigned.USIZE in
@@ -43,9 +38,6 @@ move_to-requires g c =
     let left = ap length c.loop-row.invariant.left in
     let behind = length-drop (place * w) c.args.items.now in
     record { enough = omega (arith, more, suc-mul place w, c.requires.len, c.as_mut_slice.ensures.len, left, behind) }
-
-pub loop-row-smaller : goal.loop-row-smaller
-loop-row-smaller g c = omega (arith, c.loop-row-test.true)
 
 pub returns : goal.returns
 returns g c =
