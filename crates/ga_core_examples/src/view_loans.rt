@@ -98,7 +98,6 @@ fn array_set_through_a_literal(array: &mut GenericArray<u8, U2>)
     let mut view: GenericArrayMut<u8, U2> = ViewMut {
         slice: items,
         of: PhantomData,
-        len: PhantomData,
     };
     view.as_mut_slice()[1] = 6;
 }
@@ -108,11 +107,7 @@ fn slice_set_behind_a_pattern(slice: &mut [u8])
     ensures { slice.new ≡ slice_set slice.old 1 6 }
 {
     let view: GenericArrayMut<u8, U2> = GenericArrayMut::from_mut_slice(slice);
-    let ViewMut {
-        slice: items,
-        of: _,
-        len: _,
-    } = view;
+    let ViewMut { slice: items, of: _ } = view;
     items[1] = 6;
 }
 

@@ -25,10 +25,8 @@ pub type ChunksMut<'a, T, N> = ChunksViewMut<&'a mut [T], T, N>;
 pub struct ChunksViewMut<S: ReborrowSlice<T>, T, N: Unsigned> {
     /// The reference to the items.
     pub slice: S,
-    /// The type of the items.
-    pub of: PhantomData<T>,
-    /// The length of a row.
-    pub len: PhantomData<N>,
+    /// The type of the items, and the length of a row.
+    pub of: PhantomData<(T, N)>,
     // The rows leave no rest.
     ghost whole: { length (S.items slice) ≡ chunk_count N.USIZE (S.items slice) * N.USIZE },
 }
@@ -82,11 +80,7 @@ impl<'a, T, N: Unsigned> ChunksViewMut<&'a mut [T], T, N> {
         ensures items { result ≡ self.entry.slice }
         ensures len { length result.now ≡ chunk_count N.USIZE result.now * N.USIZE }
     {
-        let ChunksViewMut {
-            slice,
-            of: _,
-            len: _,
-        } = self;
+        let ChunksViewMut { slice, of: _ } = self;
         slice
     }
 }
@@ -104,7 +98,6 @@ impl<S: ReborrowSlice<T>, T, N: Unsigned> ChunksViewMut<S, T, N> {
         ChunksViewMut {
             slice: items,
             of: PhantomData,
-            len: PhantomData,
         }
     }
 

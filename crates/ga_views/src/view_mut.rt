@@ -26,10 +26,8 @@ pub type GenericArrayMut<'a, T, N> = ViewMut<&'a mut [T], T, N>;
 pub struct ViewMut<S: ReborrowSlice<T>, T, N: Unsigned> {
     /// The reference to the items.
     pub slice: S,
-    /// The type of the items.
-    pub of: PhantomData<T>,
-    /// The length.
-    pub len: PhantomData<N>,
+    /// The type of the items, and the length.
+    pub of: PhantomData<(T, N)>,
     ghost full: { length (S.items slice) ≡ N.USIZE },
 }
 
@@ -87,7 +85,6 @@ impl<S: ReborrowSlice<T>, T, N: Unsigned> ViewMut<S, T, N> {
         ViewMut {
             slice: items,
             of: PhantomData,
-            len: PhantomData,
         }
     }
 
@@ -98,11 +95,7 @@ impl<S: ReborrowSlice<T>, T, N: Unsigned> ViewMut<S, T, N> {
         ensures inner { result ≡ self.slice }
         ensures len { length (S.items result) ≡ N.USIZE }
     {
-        let ViewMut {
-            slice,
-            of: _,
-            len: _,
-        } = self;
+        let ViewMut { slice, of: _ } = self;
         slice
     }
 

@@ -32,11 +32,11 @@ impl<T, N: ArrayLength<T>> GenericArray<T, N> {
         ensures slice { result.slice ≡ self.entry }
         ensures fits { FitsInline N.USIZE }
     {
-        // With the array's own field, its invariant is known: there are `N` items.
+        // For the prover alone: reading a field tells the array's invariant, that there are `N` items.
+        let _ = self.of;
         ViewMut {
-            of: self.of,
-            len: PhantomData,
             slice: self,
+            of: PhantomData,
         }
     }
 
