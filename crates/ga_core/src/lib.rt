@@ -9,25 +9,22 @@
 //! `generic_array`.
 #![tactic(auto)]
 
-mod alloc_error;
 mod array;
 mod array_iter;
 mod borrowed_items;
 mod builder;
-mod fill_error;
+mod errors;
 mod length;
 mod mapping;
-mod never;
 mod slices_compared;
 mod slots;
 mod store;
 
-pub use alloc_error::AllocError;
 pub use array::{ConstGenericArray, GenericArray, Len};
 pub use array_iter::GenericArrayIter;
 pub use borrowed_items::BorrowedItems;
 pub use builder::ArrayBuilder;
-pub use fill_error::FillError;
+pub use errors::{AllocError, FillError, Never, always};
 pub use ga_views::{
     ChunkIter, ChunksMut, ChunksRef, ChunksViewMut, Const, GenericArrayMut, GenericArrayRef,
     InlineLength, LengthError, MAX_INLINE, U0, U1, U2, U3, U4, U5, U6, U7, U8, U9, U10, U11, U12,
@@ -37,5 +34,4 @@ pub use ga_views::{
     U2048, Unsigned, ViewMut, hex_text, reborrow,
 };
 pub use length::{ArrayLength, ConstArrayLength, IntoArrayLength};
-pub use never::{Never, always};
 pub use store::Store;

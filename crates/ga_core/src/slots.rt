@@ -6,7 +6,7 @@ ghost use Rattle.std.specs.List.{All, AllZip, range_with_len};
 ghost use Rattle.std.specs.Prelude.{◌≡◌, ◌≤◌, IsOk, Ok, OnOk, length};
 ghost use Rattle.std.specs.Result.{result_and};
 
-use crate::alloc_error::AllocError;
+use crate::errors::AllocError;
 use std::mem;
 
 // So few items are moved one by one, where they take more than a word.

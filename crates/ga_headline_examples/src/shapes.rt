@@ -26,6 +26,7 @@ where
     ensures array { result.0 ≡ array }
     ensures count { result.1 ≡ R.USIZE }
 {
+    // For the prover alone: the slice tells that there are `N` items.
     let _ = array.as_slice();
     unflatten_then_flatten::<T, GenericArray<T, N>, GenericArray<GenericArray<T, W>, R>, _, _>(
         array,

@@ -6,7 +6,7 @@ ghost use Rattle.std.specs.Iterator.{ActsAsOnTwo};
 ghost use Rattle.std.specs.Prelude.{◌≡◌, IfOk, IsOk, List, OnErr, fold, map};
 
 use crate::functional::{
-    FunctionalSequence, Mapped, MappedError, MappedGenericSequence, MappedPlace, fold_entries,
+    FunctionalSequence, Mapped, MappedError, MappedGenericSequence, MappedPlace, fold_made,
 };
 use crate::sequence::{GenericSequence, SequenceItem};
 
@@ -21,25 +21,6 @@ pub fn total_by<T, S: FunctionalSequence<T>, A, F: FnMut(A, SequenceItem<S>) -> 
     ensures acts { (h : A → T → A) → ActsInFold S.entry F.step f.old h → result ≡ fold h init (S.items s) }
 {
     s.fold_by(init, f)
-}
-
-// The fold by `g` over the items of what was made, from `init`.
-//
-// The second condition always holds: of two, the proof of a call says each by itself. Without it the
-// proof of `map_total_by` took 80 seconds more.
-#[inline(always)]
-fn fold_made<U, M: GenericSequence<U>, A, G: FnMut(A, U) -> A>(
-    made: M::Sequence,
-    init: A,
-    g: &mut G,
-) -> A
-    requires callable { MayFold (λ item. item) G.pre G.step g.old init (M.Sequence.items made) }
-    requires same { init ≡ init }
-    ensures run { FoldRun G.step g.old init (M.Sequence.items made) result g.new }
-    ensures acts { (k : A → U → A) → ActsAsOnTwo G.FnMut g.old k
-        → result ≡ fold k init (M.Sequence.items made) }
-{
-    fold_entries::<U, <M::Sequence as IntoIterator>::IntoIter, A, G>(made.into_iter(), init, g)
 }
 
 /// Folds the values of `f` at the entries by `g`, starting from `init`.

@@ -17,8 +17,8 @@ mod walks;
 use crate::sequence::{FallibleGenericSequence, GenericSequence};
 use ga_core::Never;
 pub use inverted::{inverted_zip, inverted_zip_by, inverted_zip2, inverted_zip2_by};
-pub(crate) use walks::fold_entries;
-use walks::{entries_of, map_entries, try_fold_entries, try_map_entries};
+pub(crate) use walks::fold_made;
+use walks::{entries_of, fold_entries, map_entries, try_fold_entries, try_map_entries};
 
 /// The kind of sequence that a map to `U` makes.
 pub type Mapped<S, T, U> = <S as MappedGenericSequence<T, U>>::Mapped;

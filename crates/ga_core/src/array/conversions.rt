@@ -4,7 +4,7 @@ ghost use Rattle.ga_views.specs.Length.{FitsInline};
 ghost use Rattle.std.specs.Box.{boxed_slice_items};
 ghost use Rattle.std.specs.Prelude.{◌≡◌, ◌≤◌, ◌↔◌, IfOk, IsOk, [], length, vec_capacity};
 
-use crate::alloc_error::AllocError;
+use crate::errors::AllocError;
 use crate::array::GenericArray;
 use crate::length::ArrayLength;
 use crate::slots::move_items;

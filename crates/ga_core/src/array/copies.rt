@@ -4,7 +4,7 @@ ghost use Rattle.ga_views.specs.Length.{FitsInline};
 ghost use Rattle.std.specs.List.{All, AllZip};
 ghost use Rattle.std.specs.Prelude.{◌≡◌, ◌≤◌, IfOk, IsOk, length, replicate};
 
-use crate::alloc_error::AllocError;
+use crate::errors::AllocError;
 use crate::array::GenericArray;
 use crate::length::ArrayLength;
 use crate::slots::{write_clones, write_copies};

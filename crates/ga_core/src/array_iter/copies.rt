@@ -3,7 +3,7 @@ ghost use Rattle.ga_core.specs.Copies.{IsExact};
 ghost use Rattle.std.specs.List.{All, AllZip};
 ghost use Rattle.std.specs.Prelude.{◌≡◌, IfOk, IsOk};
 
-use crate::alloc_error::AllocError;
+use crate::errors::AllocError;
 use crate::array_iter::GenericArrayIter;
 use crate::length::ArrayLength;
 use crate::slots::write_clones;

@@ -2,6 +2,9 @@
 //!
 //! The iterator is a type parameter of its own: a closure that holds a sequence's associated
 //! iterator isn't covered by the checker.
+//!
+//! A condition `same` always holds. Of two conditions the proof of a call says each by itself, and a
+//! lone one as a whole, which takes longer the more type parameters there are.
 ghost use Rattle.ga_core.specs.Calls.{MayFold, MayMap, MayTryGenerate, MayTryMap, MayZip};
 ghost use Rattle.ga_core.specs.Entries.{CallAt, CallAtPair, FoldAt};
 ghost use Rattle.ga_core.specs.Runs.{ClosureRun, FirstErrorRun, FoldRun};
@@ -9,7 +12,8 @@ ghost use Rattle.generic_array.specs.Built.{Builds, built_items};
 ghost use Rattle.generic_array.specs.GivenEntries.{AllEntries, AllEntriesOf, CallAtNext, CallAtNextPair, GivesEntries, MayCallAtNext, MayCallAtNextPair, SomeEntries, SomeEntriesOf};
 ghost use Rattle.generic_array.specs.EntryRuns.{FirstErrorRan, MayTryFold, TryFoldRun};
 ghost use Rattle.std.specs.List.{range_with_len, zip};
-ghost use Rattle.std.specs.Prelude.{◌≡◌, IfOk, None, Some, length};
+ghost use Rattle.std.specs.Iterator.{ActsAsOnTwo};
+ghost use Rattle.std.specs.Prelude.{◌≡◌, IfOk, None, Some, fold, length};
 
 use crate::sequence::{FallibleGenericSequence, GenericSequence};
 
@@ -20,17 +24,15 @@ pub(super) fn entries_of<T, S: GenericSequence<T>>(s: S) -> S::IntoIter
         result (S.items s) }
     ensures long { length (S.items s) ≡ S.Length.USIZE }
 {
-    // The view knows the length.
+    // For the prover alone: the view's ghost field says how many entries there are, and nothing else does.
     let _ = s.view();
     s.into_iter()
 }
 
 // Folds the entries into one value by `f`, in order, starting from `init`.
-//
-// The second condition always holds: of two, the proof of a call says each by itself. Without it the
-// proof of `fold_by` took 4 seconds more.
+// `same` stands here for the prover alone: without it the proof of `fold_by` takes 4 seconds more.
 #[inline(always)]
-pub(crate) fn fold_entries<T, I: Iterator + Drop, A, F: FnMut(A, I::Item) -> A>(
+pub(super) fn fold_entries<T, I: Iterator + Drop, A, F: FnMut(A, I::Item) -> A>(
     entries: I,
     init: A,
     f: &mut F,
@@ -48,8 +50,8 @@ pub(crate) fn fold_entries<T, I: Iterator + Drop, A, F: FnMut(A, I::Item) -> A>(
     answer
 }
 
-// `fold_entries` of a closure that may fail: its first error, after which no call is made. It has two
-// conditions for the same reason: without the second the proof of `try_fold_by` took 6 seconds more.
+// `fold_entries` of a closure that may fail: its first error, after which no call is made.
+// `same` stands here for the prover alone: without it the proof of `try_fold_by` takes 6 seconds more.
 #[inline(always)]
 pub(super) fn try_fold_entries<T, I: Iterator + Drop, A, E, F: FnMut(A, I::Item) -> Result<A, E>>(
     entries: I,
@@ -70,6 +72,23 @@ pub(super) fn try_fold_entries<T, I: Iterator + Drop, A, E, F: FnMut(A, I::Item)
         }
     }
     Ok(answer)
+}
+
+// The fold by `g` over the items of what was made, from `init`.
+// `same` stands here for the prover alone: without it the proof of `map_total_by` takes 80 seconds more.
+#[inline(always)]
+pub(crate) fn fold_made<U, M: GenericSequence<U>, A, G: FnMut(A, U) -> A>(
+    made: M::Sequence,
+    init: A,
+    g: &mut G,
+) -> A
+    requires callable { MayFold (λ item. item) G.pre G.step g.old init (M.Sequence.items made) }
+    requires same { init ≡ init }
+    ensures run { FoldRun G.step g.old init (M.Sequence.items made) result g.new }
+    ensures acts { (k : A → U → A) → ActsAsOnTwo G.FnMut g.old k
+        → result ≡ fold k init (M.Sequence.items made) }
+{
+    fold_entries::<U, <M::Sequence as IntoIterator>::IntoIter, A, G>(made.into_iter(), init, g)
 }
 
 // The next entry.
@@ -113,7 +132,7 @@ pub(super) fn map_entries<T, I: Iterator + Drop, U, M: GenericSequence<U>, F: Fn
     )
 }
 
-// `try_generate_by`, whose run is told as a record, since a proof then finds the closure's step.
+// `try_generate_by`. For the prover alone: it tells the run as a record, from which a proof finds the closure's step.
 #[inline(always)]
 fn try_build<U, E, M: FallibleGenericSequence<U>, G: FnMut(usize) -> Result<U, E>>(
     place: M::Place,

@@ -1,6 +1,6 @@
 use Rattle.ga_core.proofs.ActsLemmas.{answer_of_fold}
 use Rattle.generic_array.proofs.FoldLemmas.{FoldRun-by_items}
-use Rattle.generic_array.proofs.checks.fold_made.Goals as goal
+use Rattle.generic_array.proofs.functional.walks.fold_made.Goals as goal
 
 pub fold_entries-requires-clause-callable : goal.fold_entries-requires-clause-callable
 fold_entries-requires-clause-callable g c =
