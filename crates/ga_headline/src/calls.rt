@@ -1,9 +1,8 @@
 //! Closure calls run in order and stop at the first error.
 ghost use Rattle.generic_array.specs.Built.{built_items};
-ghost use Rattle.generic_array.specs.Calls.{MayFold, MayMap, MayTryMap, MayZip};
+ghost use Rattle.generic_array.specs.Calls.{MayFold, MayMap, MayTryFold, MayTryMap, MayZip};
 ghost use Rattle.generic_array.specs.Entries.{CallAt, CallAtPair, FoldAt};
-ghost use Rattle.generic_array.specs.EntryRuns.{MayTryFold, TryFoldRun};
-ghost use Rattle.generic_array.specs.Runs.{ClosureRun, FirstErrorRun, FoldRun};
+ghost use Rattle.generic_array.specs.Runs.{ClosureRun, FirstErrorRun, FoldRun, TryFoldRun};
 ghost use Rattle.std.specs.List.{zip};
 ghost use Rattle.std.specs.Prelude.{◌≡◌, IfOk, IsOk, OnErr};
 

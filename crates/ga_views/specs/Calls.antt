@@ -1,7 +1,7 @@
 -- Where a closure may be called: at each number below n or each item of a list in turn, in each state that the calls
 -- before lead to. Each word ends in a premise that a caller gets, `HoldsAsAtFirst`.
 use Rattle.ga_views.specs.Entries.{CallAt, CallAtPair, FoldAt}
-use Rattle.ga_views.specs.Runs.{ClosureRun, FoldRun}
+use Rattle.ga_views.specs.Runs.{ClosureRun, FoldRun, good_step}
 use Rattle.std.specs.List.{range_with_len, zip}
 use Rattle.std.specs.Prelude.{◌≡◌, ℕ, ◌<◌, List, ◌∷◌, ◌++◌, map, Result, Ok}
 
@@ -60,5 +60,14 @@ module _ {F A I T : Type 0} (entry : I → T) (pre : F → A → I → Type 0) w
   abbrev pub MayFold : (F → A → I → A → F → Type 0) → F → A → List T → Type 0
   MayFold step f init items = (passed : List T) (item : T) (others : List T) (reached : F) (value : A)
       → items ≡ passed ++ item ∷ others → FoldRun (FoldAt entry step) f init passed value reached
+      → (at : I) → entry at ≡ item → HoldsAsAtFirst (StaysOnTwo step) (λ g. pre g value at) f reached
+      → pre reached value at
+
+module _ {F A I T E : Type 0} (entry : I → T) (pre : F → A → I → Type 0)
+    (step : F → A → I → Result A E → F → Type 0) where
+  -- f may be called at an entry of each item in turn, each time with the value reached, as long as its calls are good
+  abbrev pub MayTryFold : F → A → List T → Type 0
+  MayTryFold f init items = (passed : List T) (item : T) (others : List T) (reached : F) (value : A)
+      → items ≡ passed ++ item ∷ others → FoldRun (good_step (FoldAt entry step)) f init passed value reached
       → (at : I) → entry at ≡ item → HoldsAsAtFirst (StaysOnTwo step) (λ g. pre g value at) f reached
       → pre reached value at

@@ -2,8 +2,8 @@
 -- h, and leaves the closure as it is.
 use Rattle.ga_core.proofs.ActsLemmas.{fold_call_at}
 use Rattle.ga_core.specs.Entries.{ActsInFold, FoldAt}
+use Rattle.ga_core.specs.Runs.{TryFoldRun}
 use Rattle.ga_core.specs.Tries.{result_and_then, try_fold}
-use Rattle.generic_array.specs.EntryRuns.{TryFoldRun}
 use Rattle.std.proofs.Common.{◌≡◌, List, [], ◌∷◌, Result, Ok, Err, inl, inr, ap, sym}
 
 module _ {I T F A E : Type 0} (entry : I → T) (step : F → A → I → Result A E → F → Type 0) (f : F)

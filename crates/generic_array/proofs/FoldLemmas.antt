@@ -1,9 +1,9 @@
 -- The loop of a fold over what a sequence gives, and what its calls come to.
+use Rattle.ga_core.specs.Calls.{MayTryFold}
 use Rattle.ga_core.proofs.CallLemmas.{stays-fold}
 use Rattle.ga_core.specs.Entries.{FoldAt}
-use Rattle.ga_core.specs.Runs.{FoldRun}
+use Rattle.ga_core.specs.Runs.{FoldRun, TryFoldRun, good_step}
 use Rattle.generic_array.specs.GivenEntries.{GivesEntries, SomeEntries}
-use Rattle.generic_array.specs.EntryRuns.{MayTryFold, TryFoldRun, good_step}
 use Rattle.std.proofs.Common.{◌≡◌, List, [], ◌∷◌, ◌++◌, inr, Result, Ok, Err, Option, None, Some, refl, ap, sym, ◌∙◌, subst}
 use Rattle.std.specs.Iterator.{AlwaysYields, Count, IsFinite}
 

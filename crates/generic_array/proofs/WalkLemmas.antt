@@ -2,9 +2,8 @@
 use Rattle.ga_core.proofs.CallLemmas.{may_map-at, may_try_map-at, may_zip-at}
 use Rattle.ga_core.specs.Calls.{MayMap, MayTryMap, MayZip}
 use Rattle.ga_core.specs.Entries.{CallAt, CallAtPair, MayCallAt}
-use Rattle.ga_core.specs.Runs.{ClosureRun, FirstErrorRun}
+use Rattle.ga_core.specs.Runs.{ClosureRun, FirstErrorRan, FirstErrorRun}
 use Rattle.generic_array.specs.GivenEntries.{CallAtNext, CallAtNextPair, MayCallAtNext, MayCallAtNextPair}
-use Rattle.generic_array.specs.EntryRuns.{FirstErrorRan}
 use Rattle.std.proofs.Common.{◌≡◌, ◌<◌, List, [], ◌∷◌, ◌++◌, length, arith, inl, inr, map, Result, Ok, Err, Option}
 use Rattle.std.proofs.Common.{refl, ap, sym, ◌∙◌, subst}
 use Rattle.std.specs.Iterator.{AlwaysYields}

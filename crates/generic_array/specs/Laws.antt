@@ -1,6 +1,5 @@
 -- Laws of runs over joined lists.
-use Rattle.generic_array.specs.EntryRuns.{TryFoldRun}
-use Rattle.ga_core.specs.Runs.{ClosureRun, FirstErrorRun, FoldRun}
+use Rattle.ga_core.specs.Runs.{ClosureRun, FirstErrorRun, FoldRun, TryFoldRun}
 use Rattle.std.specs.Prelude.{◌≡◌, ◌⊎◌, ◌↔◌, List, ◌++◌, Result, Ok, Err}
 
 module _ {F X Y : Type 0} (step : F → X → Y → F → Type 0) where

@@ -1,7 +1,6 @@
 pub mod Account
 pub mod Built
 pub mod EntryLaws
-pub mod EntryRuns
 pub mod GivenEntries
 pub mod Laws
 pub mod Steps

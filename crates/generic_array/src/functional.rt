@@ -1,12 +1,11 @@
 //! Calls of a closure at all entries of a sequence, from the first to the last.
 //!
 //! Each is inlined always: a call that isn't inlined copies an array that it passes on by value.
-ghost use Rattle.ga_core.specs.Calls.{MayFold, MayMap, MayTryMap, MayZip};
+ghost use Rattle.ga_core.specs.Calls.{MayFold, MayMap, MayTryFold, MayTryMap, MayZip};
 ghost use Rattle.ga_core.specs.Entries.{ActsInFold, ActsOnEntries, ActsOnEntry, CallAt, CallAtPair, FoldAt};
-ghost use Rattle.ga_core.specs.Runs.{ClosureRun, FirstErrorRun, FoldRun};
+ghost use Rattle.ga_core.specs.Runs.{ClosureRun, FirstErrorRun, FoldRun, TryFoldRun};
 ghost use Rattle.ga_core.specs.Tries.{try_fold, try_map};
 ghost use Rattle.generic_array.specs.Built.{built_items};
-ghost use Rattle.generic_array.specs.EntryRuns.{MayTryFold, TryFoldRun};
 ghost use Rattle.std.specs.List.{zip};
 ghost use Rattle.std.specs.Prelude.{◌≡◌, IfOk, IsOk, OnErr, Result, fold, length, map};
 

@@ -5,12 +5,11 @@
 //!
 //! A condition `same` always holds. Of two conditions the proof of a call says each by itself, and a
 //! lone one as a whole, which takes longer the more type parameters there are.
-ghost use Rattle.ga_core.specs.Calls.{MayFold, MayMap, MayTryGenerate, MayTryMap, MayZip};
+ghost use Rattle.ga_core.specs.Calls.{MayFold, MayMap, MayTryFold, MayTryGenerate, MayTryMap, MayZip};
 ghost use Rattle.ga_core.specs.Entries.{CallAt, CallAtPair, FoldAt};
-ghost use Rattle.ga_core.specs.Runs.{ClosureRun, FirstErrorRun, FoldRun};
+ghost use Rattle.ga_core.specs.Runs.{ClosureRun, FirstErrorRan, FirstErrorRun, FoldRun, TryFoldRun};
 ghost use Rattle.generic_array.specs.Built.{Builds, built_items};
 ghost use Rattle.generic_array.specs.GivenEntries.{AllEntries, AllEntriesOf, CallAtNext, CallAtNextPair, GivesEntries, MayCallAtNext, MayCallAtNextPair, SomeEntries, SomeEntriesOf};
-ghost use Rattle.generic_array.specs.EntryRuns.{FirstErrorRan, MayTryFold, TryFoldRun};
 ghost use Rattle.std.specs.List.{range_with_len, zip};
 ghost use Rattle.std.specs.Iterator.{ActsAsOnTwo};
 ghost use Rattle.std.specs.Prelude.{◌≡◌, IfOk, None, Some, fold, length};

@@ -1,7 +1,7 @@
+use Rattle.ga_core.specs.Runs.{TryFoldRun, good_step}
 use Rattle.ga_core.specs.Entries.{FoldAt}
 use Rattle.generic_array.proofs.FoldLemmas.{FoldLoop}
 use Rattle.generic_array.proofs.functional.walks.try_fold_entries.Given as goal
-use Rattle.generic_array.specs.EntryRuns.{TryFoldRun, good_step}
 
 abbrev pub invariant-loop-entry : goal.invariant-loop-entry
 invariant-loop-entry g l =
