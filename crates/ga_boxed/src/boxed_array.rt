@@ -107,6 +107,6 @@ impl<T: Drop, N: Unsigned> IntoIterator for BoxedArray<T, N> {
     #[inline]
     fn into_iter(self) -> BoxedArrayIter<T> {
         let BoxedArray { items, of: _ } = self;
-        BoxedArrayIter::of_items(items.counted(N::USIZE))
+        BoxedArrayIter::from_block(items.counted(N::USIZE))
     }
 }

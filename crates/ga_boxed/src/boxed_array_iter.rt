@@ -33,7 +33,7 @@ impl<T> BoxedArrayIter<T> {
 
     // The iterator over items. Moves none of them.
     #[inline]
-    pub(crate) fn of_items(items: LiveBlock<T>) -> Self
+    pub(crate) fn from_block(items: LiveBlock<T>) -> Self
         ensures { result ≡ items.items }
     {
         BoxedArrayIter { items }
@@ -223,6 +223,6 @@ impl<T: Clone> Clone for BoxedArrayIter<T> {
             };
             clones.put(copy);
         }
-        Ok(BoxedArrayIter::of_items(clones))
+        Ok(BoxedArrayIter::from_block(clones))
     }
 }

@@ -208,7 +208,7 @@ impl<T> LiveBlock<T> {
 
     // A block of the items of a native array, which are moved in one piece. If the allocation
     // fails, drops them.
-    pub(crate) fn of_native<const U: usize>(
+    pub(crate) fn from_array<const U: usize>(
         alloc: Global,
         items: [T; U],
     ) -> Result<Self, AllocError>

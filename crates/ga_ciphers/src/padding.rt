@@ -16,7 +16,7 @@ pub fn pad<N: ArrayLength<u8>>(rest: &[u8]) -> GenericArray<u8, N>
     ensures { result ≡ padded rest.now (N.USIZE - length rest.now) }
 {
     let missing = N::USIZE - rest.len();
-    let mut block = GenericArray::of_copies(missing as u8);
+    let mut block = GenericArray::from_copies(missing as u8);
     block[0..rest.len()].copy_from_slice(rest);
     block
 }

@@ -2,7 +2,7 @@
 -- for, and leaves the closure as it is.
 use Rattle.ga_core.proofs.ActsLemmas.{answers_of_run, answers_until_error}
 use Rattle.ga_core.specs.Entries.{ActsOnEntries, ActsOnEntry, CallAt, CallAtPair}
-use Rattle.ga_core.specs.Runs.{ClosureRun, FirstErrorRun}
+use Rattle.ga_core.specs.Runs.{ClosureRun, TryClosureRun}
 use Rattle.ga_core.specs.Tries.{try_map}
 use Rattle.std.proofs.Common.{◌≡◌, List, Result, ap, map, ◌∙◌}
 
@@ -32,5 +32,5 @@ module _ {I T F Y E : Type 0} (entry : I → T) (step : F → I → Result Y E �
     (acts : ActsOnEntry entry step f h) where
   -- a run up to the first error answers all good answers of h, or its first error
   pub tries_at_entries : (xs : List T) (answer : Result (List Y) E) (last : F)
-      → FirstErrorRun (CallAt entry step) f xs answer last → answer ≡ try_map h xs
+      → TryClosureRun (CallAt entry step) f xs answer last → answer ≡ try_map h xs
   tries_at_entries = answers_until_error (CallAt entry step) f h (call_at entry step f h acts)

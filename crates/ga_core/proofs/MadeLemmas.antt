@@ -1,6 +1,6 @@
 -- An array all of whose slots were written over, and the run of calls that wrote them.
 use Rattle.ga_core.proofs.SlotLemmas.{refill-whole}
-use Rattle.ga_core.specs.Runs.{ClosureRun, FirstErrorRun}
+use Rattle.ga_core.specs.Runs.{ClosureRun, TryClosureRun}
 use Rattle.std.proofs.Common.{◌≡◌, ◌∙◌, List, Result, ap, length, subst, sym}
 use Rattle.std.specs.List.{refill}
 
@@ -23,7 +23,7 @@ pub ClosureRun-made : {F X Y : Type 0} (step : F → X → Y → F → Type 0) (
 ClosureRun-made step f last = made-of (λ xs ys. ClosureRun step f xs ys last)
 
 -- the same for a run up to the first error
-pub FirstErrorRun-made : {F X Y E : Type 0} (step : F → X → Result Y E → F → Type 0) (f last : F) {lent items : List X}
+pub TryClosureRun-made : {F X Y E : Type 0} (step : F → X → Result Y E → F → Type 0) (f last : F) {lent items : List X}
     {given answer : Result (List Y) E} → lent ≡ items → answer ≡ given
-    → FirstErrorRun step f lent given last → FirstErrorRun step f items answer last
-FirstErrorRun-made step f last = made-of (λ xs answer. FirstErrorRun step f xs answer last)
+    → TryClosureRun step f lent given last → TryClosureRun step f items answer last
+TryClosureRun-made step f last = made-of (λ xs answer. TryClosureRun step f xs answer last)

@@ -1,7 +1,7 @@
 -- One call more over the items of a slice: at the next item, with its answer written to the slot of the same index.
 use Rattle.ga_core.proofs.MoveLemmas.{next-here, take-one_more}
-use Rattle.ga_core.proofs.RunLemmas.{FirstErrorRun-error}
-use Rattle.ga_core.specs.Runs.{ClosureRun, FirstErrorRun}
+use Rattle.ga_core.proofs.RunLemmas.{TryClosureRun-error}
+use Rattle.ga_core.specs.Runs.{ClosureRun, TryClosureRun}
 use Rattle.std.proofs.Common.{◌≡◌, ◌∙◌, ℕ, ◌+◌, ◌<◌, ◌≤◌, List, [], ◌∷◌, ◌++◌, ap, arith, drop, length, sym}
 use Rattle.std.proofs.Common.{slice_index_or, slice_set, subst, take, Result, Ok, Err, map}
 use Rattle.std.proofs.lemmas.Grind.{drop_more_same}
@@ -75,7 +75,7 @@ module _ {F X Y E : Type 0} (step : F → X → Result Y E → F → Type 0) (f 
   pub failed-next : (item : X) (error : E) (last : F)
       → WrittenSoFar (λ xs good. ClosureRun step f xs (map Ok good)) n items left slots reached → n < length left
       → item ≡ slice_index_or left n item → step reached item (Err error) last
-      → FirstErrorRun step f items (Err error) last
+      → TryClosureRun step f items (Err error) last
   failed-next item error last so_far some this call =
-      subst (λ xs. FirstErrorRun step f xs (Err error) last) (sym (cut-next so_far some this))
-      (FirstErrorRun-error step f (take n items) (take n slots) reached item (drop (n + 1) left) error last so_far.run call)
+      subst (λ xs. TryClosureRun step f xs (Err error) last) (sym (cut-next so_far some this))
+      (TryClosureRun-error step f (take n items) (take n slots) reached item (drop (n + 1) left) error last so_far.run call)

@@ -1,6 +1,6 @@
 -- Lemmas on runs of closures, for the builds of this crate and for callers.
 use Rattle.ga_core.proofs.JoinedRuns.{ClosureRun-join}
-use Rattle.ga_core.specs.Runs.{ClosureRun, FirstErrorRun}
+use Rattle.ga_core.specs.Runs.{ClosureRun, TryClosureRun}
 use Rattle.std.proofs.Common.{◌≡◌, ℕ, zero, suc, ◌+◌, ◌<◌, List, [], ◌∷◌, ◌++◌, Result, Ok, Err, inl, inr, length, map}
 use Rattle.std.proofs.Common.{refl, subst, ap, sym, ◌∙◌, arith, IfOk}
 use Rattle.std.proofs.lemmas.List.{map-append, map-id}
@@ -46,37 +46,37 @@ module _ {F X Y E : Type 0} (step : F → X → Result Y E → F → Type 0) whe
       (ClosureRun-snoc step f xs (map Ok good) reached x (Ok item) last run call)
 
   -- all calls were good
-  pub FirstErrorRun-good : (f : F) (xs : List X) (good : List Y) (last : F) → ClosureRun step f xs (map Ok good) last
-      → FirstErrorRun step f xs (Ok good) last
-  FirstErrorRun-good f [] [] last run = run
-  FirstErrorRun-good f (x ∷ xs) (y ∷ good) last run = (run.0, run.1, FirstErrorRun-good run.0 xs good last run.2)
-  FirstErrorRun-good f _ _ last run = absurd run
+  pub TryClosureRun-good : (f : F) (xs : List X) (good : List Y) (last : F) → ClosureRun step f xs (map Ok good) last
+      → TryClosureRun step f xs (Ok good) last
+  TryClosureRun-good f [] [] last run = run
+  TryClosureRun-good f (x ∷ xs) (y ∷ good) last run = (run.0, run.1, TryClosureRun-good run.0 xs good last run.2)
+  TryClosureRun-good f _ _ last run = absurd run
 
   -- where all calls were good, there is one answer for each input
-  pub FirstErrorRun-length : (f : F) (xs : List X) (answer : Result (List Y) E) (last : F) (n : ℕ) → length xs ≡ n
-      → FirstErrorRun step f xs answer last → IfOk answer (λ ys. length ys ≡ n)
-  FirstErrorRun-length f [] (Ok []) last n all run = all
-  FirstErrorRun-length f (x ∷ xs) (Ok (y ∷ ys)) last n all run =
-      ap suc (FirstErrorRun-length run.0 xs (Ok ys) last (length xs) refl run.2) ∙ all
-  FirstErrorRun-length f xs (Err error) last n all run = tt
-  FirstErrorRun-length f _ (Ok _) last n all run = absurd run
+  pub TryClosureRun-length : (f : F) (xs : List X) (answer : Result (List Y) E) (last : F) (n : ℕ) → length xs ≡ n
+      → TryClosureRun step f xs answer last → IfOk answer (λ ys. length ys ≡ n)
+  TryClosureRun-length f [] (Ok []) last n all run = all
+  TryClosureRun-length f (x ∷ xs) (Ok (y ∷ ys)) last n all run =
+      ap suc (TryClosureRun-length run.0 xs (Ok ys) last (length xs) refl run.2) ∙ all
+  TryClosureRun-length f xs (Err error) last n all run = tt
+  TryClosureRun-length f _ (Ok _) last n all run = absurd run
 
   -- an error came after good calls
-  pub FirstErrorRun-error : (f : F) (xs : List X) (good : List Y) (reached : F) (x : X) (others : List X) (error : E)
+  pub TryClosureRun-error : (f : F) (xs : List X) (good : List Y) (reached : F) (x : X) (others : List X) (error : E)
       (last : F) → ClosureRun step f xs (map Ok good) reached → step reached x (Err error) last
-      → FirstErrorRun step f (xs ++ x ∷ others) (Err error) last
-  FirstErrorRun-error f [] [] reached x others error last run call =
+      → TryClosureRun step f (xs ++ x ∷ others) (Err error) last
+  TryClosureRun-error f [] [] reached x others error last run call =
       inl (subst (λ k. step k x (Err error) last) (sym run) call)
-  FirstErrorRun-error f (w ∷ xs) (y ∷ good) reached x others error last run call =
-      inr (y, run.0, run.1, FirstErrorRun-error run.0 xs good reached x others error last run.2 call)
-  FirstErrorRun-error f _ _ reached x others error last run call = absurd run
+  TryClosureRun-error f (w ∷ xs) (y ∷ good) reached x others error last run call =
+      inr (y, run.0, run.1, TryClosureRun-error run.0 xs good reached x others error last run.2 call)
+  TryClosureRun-error f _ _ reached x others error last run call = absurd run
 
 module _ {F Y E : Type 0} (step : F → ℕ → Result Y E → F → Type 0) where
   -- good calls at the numbers below k, and an error at k
-  pub FirstErrorRun-at : (f : F) (k n : ℕ) (good : List Y) (reached : F) (error : E) (last : F) → k < n
+  pub TryClosureRun-at : (f : F) (k n : ℕ) (good : List Y) (reached : F) (error : E) (last : F) → k < n
       → ClosureRun step f (range_with_len 0 k) (map Ok good) reached → step reached k (Err error) last
-      → FirstErrorRun step f (range_with_len 0 n) (Err error) last
-  FirstErrorRun-at f k n good reached error last below run call =
+      → TryClosureRun step f (range_with_len 0 n) (Err error) last
+  TryClosureRun-at f k n good reached error last below run call =
       let cut = range_with_len-cut k n 0 k below (omega arith) in
-      subst (λ inputs. FirstErrorRun step f inputs (Err error) last) (sym cut.1)
-      (FirstErrorRun-error step f (range_with_len 0 k) good reached k cut.0 error last run call)
+      subst (λ inputs. TryClosureRun step f inputs (Err error) last) (sym cut.1)
+      (TryClosureRun-error step f (range_with_len 0 k) good reached k cut.0 error last run call)

@@ -53,7 +53,7 @@ impl<T, N: ArrayLength<T>> GenericArray<T, N> {
 
     // The array of the items of a full store.
     #[inline(always)]
-    pub(crate) fn of_store(store: N::ArrayType) -> Self
+    pub(crate) fn from_store(store: N::ArrayType) -> Self
         requires full { length (N.ArrayType.items store) ≡ N.USIZE }
         requires fits { FitsInline N.USIZE }
         ensures { result ≡ N.ArrayType.items store }
@@ -69,11 +69,11 @@ impl<T, N: ArrayLength<T>> GenericArray<T, N> {
     // Taken apart and put together again, it is copied once on its way through inlined functions; a
     // variable that is returned is copied in each.
     #[inline(always)]
-    pub(crate) fn finished(self) -> Self
+    pub(crate) fn repacked(self) -> Self
         ensures { result ≡ self }
     {
         let GenericArray { store, of: _ } = self;
-        GenericArray::of_store(store)
+        GenericArray::from_store(store)
     }
 
     /// The number of items, which is that of the type.
@@ -176,6 +176,6 @@ impl<T: Default + Drop, N: ArrayLength<T>> IntoIterator for GenericArray<T, N> {
     #[inline]
     fn into_iter(self) -> GenericArrayIter<T, N> {
         let GenericArray { store, of: _ } = self;
-        GenericArrayIter::of_store(store, N::USIZE)
+        GenericArrayIter::from_store(store, N::USIZE)
     }
 }

@@ -46,7 +46,7 @@ impl<T, N: ArrayLength<T>> Model for GenericArrayIter<T, N> {
 impl<T, N: ArrayLength<T>> GenericArrayIter<T, N> {
     // The iterator over the first `count` items of a full store.
     #[inline]
-    pub(crate) fn of_store(store: N::ArrayType, count: usize) -> Self
+    pub(crate) fn from_store(store: N::ArrayType, count: usize) -> Self
         requires count { count ≤ N.USIZE }
         requires full { length (N.ArrayType.items store) ≡ N.USIZE }
         requires fits { FitsInline N.USIZE }

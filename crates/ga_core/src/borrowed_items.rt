@@ -2,7 +2,7 @@
 ghost use Rattle.ga_views.specs.Views.{items_of_view};
 ghost use Rattle.ga_core.specs.Calls.{MayMap, MayTryMap, MayZip};
 ghost use Rattle.ga_core.specs.Entries.{ActsOnEntries, ActsOnEntry, CallAt, CallAtPair};
-ghost use Rattle.ga_core.specs.Runs.{ClosureRun, FirstErrorRun};
+ghost use Rattle.ga_core.specs.Runs.{ClosureRun, TryClosureRun};
 ghost use Rattle.ga_core.specs.Tries.{try_map};
 ghost use Rattle.ga_views.specs.Length.{FitsInline};
 ghost use Rattle.std.specs.List.{zip};
@@ -25,7 +25,7 @@ pub trait BorrowedItems<T, N: Unsigned> {
     ghost Fits: { Type 0 };
 
     /// The items as a slice. O(1).
-    fn borrowed(&self) -> &[T]
+    fn as_slice(&self) -> &[T]
         requires { Fits }
         ensures items { result.now ≡ items self.now }
         ensures len { length result.now ≡ N.USIZE }
@@ -63,10 +63,10 @@ pub trait BorrowedItems<T, N: Unsigned> {
         ensures acts { (h : T → U) → ActsOnEntry (λ item. item.now) F.step f.old h
             → result ≡ map h (items self.now) }
     {
-        let items = self.borrowed();
+        let items = self.as_slice();
         let mut made = GenericArray::<U, N>::default();
         write_mapped_ref(items, made.as_mut_slice(), f);
-        made.finished()
+        made.repacked()
     }
 
     /// `map_inline_ref` with a closure that may fail: the array of what it returns, or its first error.
@@ -82,7 +82,7 @@ pub trait BorrowedItems<T, N: Unsigned> {
         requires fits { Fits }
         requires callable { MayTryMap (λ item. item.now) F.pre F.step f (items self.now) }
         ensures run { (last : F)
-            × FirstErrorRun (CallAt (λ item. item.now) F.step) f (items self.now) result last }
+            × TryClosureRun (CallAt (λ item. item.now) F.step) f (items self.now) result last }
         ensures acts { (h : T → Result U E) → ActsOnEntry (λ item. item.now) F.step f h
             → result ≡ try_map h (items self.now) }
     {
@@ -100,14 +100,14 @@ pub trait BorrowedItems<T, N: Unsigned> {
         requires fits { Fits }
         requires callable { MayTryMap (λ item. item.now) F.pre F.step f.old
             (items self.now) }
-        ensures run { FirstErrorRun (CallAt (λ item. item.now) F.step) f.old (items self.now) result f.new }
+        ensures run { TryClosureRun (CallAt (λ item. item.now) F.step) f.old (items self.now) result f.new }
         ensures acts { (h : T → Result U E) → ActsOnEntry (λ item. item.now) F.step f.old h
             → result ≡ try_map h (items self.now) }
     {
-        let items = self.borrowed();
+        let items = self.as_slice();
         let mut made = GenericArray::<U, N>::default();
         match try_write_mapped_ref(items, made.as_mut_slice(), f) {
-            Ok(()) => Ok(made.finished()),
+            Ok(()) => Ok(made.repacked()),
             Err(error) => Err(error),
         }
     }
@@ -152,10 +152,10 @@ pub trait BorrowedItems<T, N: Unsigned> {
         ensures acts { (h : T × B → U) → ActsOnEntries (λ item. item.now) (λ item. item.now) F.step f.old h
             → result ≡ map h (zip (items self.now) (items_of_view rhs.entry)) }
     {
-        let items = self.borrowed();
+        let items = self.as_slice();
         let mut made = GenericArray::<U, N>::default();
         write_zipped_ref(items, rhs.as_slice(), made.as_mut_slice(), f);
-        made.finished()
+        made.repacked()
     }
 }
 
@@ -166,8 +166,8 @@ impl<'a, T, N: Unsigned> BorrowedItems<T, N> for GenericArrayRef<'a, T, N> {
     ghost Fits = { FitsInline N.USIZE };
 
     #[inline(always)]
-    fn borrowed(&self) -> &[T] {
-        self.as_slice()
+    fn as_slice(&self) -> &[T] {
+        GenericArrayRef::as_slice(self)
     }
 }
 
@@ -177,7 +177,7 @@ impl<T, N: ArrayLength<T>> BorrowedItems<T, N> for GenericArray<T, N> {
     ghost Fits = { ⊤ };
 
     #[inline(always)]
-    fn borrowed(&self) -> &[T] {
-        self.as_slice()
+    fn as_slice(&self) -> &[T] {
+        GenericArray::as_slice(self)
     }
 }

@@ -242,7 +242,7 @@ impl<T, N: ArrayLength<T>> ArrayBuilder<T, N> {
             store,
             of: _,
         } = self;
-        GenericArray::of_store(store)
+        GenericArray::from_store(store)
     }
 }
 

@@ -1,7 +1,7 @@
 //! What a closure returns at the items of slices, written over the slots of another slice, in order.
 ghost use Rattle.ga_core.specs.Calls.{MayMap, MayTryMap, MayZip};
 ghost use Rattle.ga_core.specs.Entries.{CallAt, CallAtPair};
-ghost use Rattle.ga_core.specs.Runs.{ClosureRun, FirstErrorRun};
+ghost use Rattle.ga_core.specs.Runs.{ClosureRun, TryClosureRun};
 ghost use Rattle.std.specs.List.{zip};
 ghost use Rattle.std.specs.Prelude.{◌≡◌, Ok, length};
 ghost use Rattle.std.specs.Result.{result_and};
@@ -33,7 +33,7 @@ pub(crate) fn try_write_mapped<T: Default + Drop, U: Drop, E, F: FnMut(T) -> Res
 ) -> Result<(), E>
     requires len { length items.old ≡ length slots.old }
     requires callable { MayTryMap (λ item. item) F.pre F.step f.old items.old }
-    ensures run { FirstErrorRun F.step f.old items.old (result_and result (Ok slots.new)) f.new }
+    ensures run { TryClosureRun F.step f.old items.old (result_and result (Ok slots.new)) f.new }
 {
     for (index, slot) in slots.iter_mut().enumerate() {
         match f(mem::take(&mut items[index])) {
@@ -69,7 +69,7 @@ pub(crate) fn try_write_mapped_ref<T, U: Drop, E, F: FnMut(&T) -> Result<U, E>>(
 ) -> Result<(), E>
     requires len { length items.now ≡ length slots.old }
     requires callable { MayTryMap (λ item. item.now) F.pre F.step f.old items.now }
-    ensures run { FirstErrorRun (CallAt (λ item. item.now) F.step) f.old items.now
+    ensures run { TryClosureRun (CallAt (λ item. item.now) F.step) f.old items.now
         (result_and result (Ok slots.new)) f.new }
 {
     for (index, slot) in slots.iter_mut().enumerate() {

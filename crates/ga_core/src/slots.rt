@@ -1,7 +1,7 @@
 //! Writing over the slots of a slice, in order.
 ghost use Rattle.ga_core.specs.Calls.{MayGenerate, MayTryGenerate};
 ghost use Rattle.ga_core.specs.Copies.{Repeats};
-ghost use Rattle.ga_core.specs.Runs.{ClosureRun, FirstErrorRun};
+ghost use Rattle.ga_core.specs.Runs.{ClosureRun, TryClosureRun};
 ghost use Rattle.std.specs.List.{All, AllZip, range_with_len};
 ghost use Rattle.std.specs.Prelude.{◌≡◌, ◌≤◌, IsOk, Ok, OnOk, length};
 ghost use Rattle.std.specs.Result.{result_and};
@@ -32,7 +32,7 @@ pub(crate) fn try_write_answers<T: Drop, E, F: FnMut(usize) -> Result<T, E>>(
     f: &mut F,
 ) -> Result<(), E>
     requires callable { MayTryGenerate F.pre F.step f.old (length slots.old) }
-    ensures run { FirstErrorRun F.step f.old (range_with_len 0 (length slots.old))
+    ensures run { TryClosureRun F.step f.old (range_with_len 0 (length slots.old))
         (result_and result (Ok slots.new)) f.new }
 {
     for (index, slot) in slots.iter_mut().enumerate() {

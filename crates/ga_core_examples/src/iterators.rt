@@ -73,7 +73,9 @@ fn wrapped_sum<N: ArrayLength<u32>>(lanes: GenericArray<u32, N>) -> u32
 fn wrapped_sum_by_a_closure<N: ArrayLength<u32>>(lanes: GenericArray<u32, N>) -> u32
     ensures { result ≡ fold (λ total lane. (total + lane) % 2 ^ 32) 0 lanes }
 {
-    lanes.into_iter().fold(0, |total: u32, lane: u32| total.wrapping_add(lane))
+    lanes
+        .into_iter()
+        .fold(0, |total: u32, lane: u32| total.wrapping_add(lane))
 }
 
 #[test]

@@ -54,7 +54,7 @@ fn second_item_got_of_the_view(array: &mut GenericArray<u8, U2>)
 fn four_and_six() -> GenericArray<u8, U2>
     ensures { result ≡ 4 ∷ 6 ∷ [] }
 {
-    let mut array: GenericArray<u8, U2> = GenericArray::of_copies(4);
+    let mut array: GenericArray<u8, U2> = GenericArray::from_copies(4);
     let mut view = array.view_mut();
     let items = view.as_mut_slice();
     items[1] = 6;

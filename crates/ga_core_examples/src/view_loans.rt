@@ -107,7 +107,10 @@ fn slice_set_behind_a_pattern(slice: &mut [u8])
     ensures { slice.new ≡ slice_set slice.old 1 6 }
 {
     let view: GenericArrayMut<u8, U2> = GenericArrayMut::from_mut_slice(slice);
-    let ViewMut { slice: items, of: _ } = view;
+    let ViewMut {
+        slice: items,
+        of: _,
+    } = view;
     items[1] = 6;
 }
 

@@ -2,7 +2,7 @@
 ghost use Rattle.generic_array.specs.Built.{built_items};
 ghost use Rattle.generic_array.specs.Calls.{MayFold, MayMap, MayTryFold, MayTryMap, MayZip};
 ghost use Rattle.generic_array.specs.Entries.{CallAt, CallAtPair, FoldAt};
-ghost use Rattle.generic_array.specs.Runs.{ClosureRun, FirstErrorRun, FoldRun, TryFoldRun};
+ghost use Rattle.generic_array.specs.Runs.{ClosureRun, TryClosureRun, FoldRun, TryFoldRun};
 ghost use Rattle.std.specs.List.{zip};
 ghost use Rattle.std.specs.Prelude.{◌≡◌, IfOk, IsOk, OnErr};
 
@@ -78,7 +78,7 @@ where
     requires fits { S.Mapped.Fits }
     requires callable { MayTryMap S.entry F.pre F.step f.old (S.items s) }
     ensures run { IfOk result (λ built.
-        FirstErrorRun (CallAt S.entry F.step) f.old (S.items s)
+        TryClosureRun (CallAt S.entry F.step) f.old (S.items s)
         (built_items S.Mapped.Sequence.items built) f.new) }
     ensures err { OnErr result (f.new ≡ f.old) }
     ensures promised { S.Mapped.IsPromised → IsOk result }

@@ -4,7 +4,7 @@ ghost use Rattle.ga_headline.specs.Whole.{Comes, KeepsPromises, MapKeepsPromises
 ghost use Rattle.generic_array.specs.Account.{Account};
 ghost use Rattle.generic_array.specs.Calls.{MayTryMap};
 ghost use Rattle.generic_array.specs.Entries.{CallAt, MayCallAt};
-ghost use Rattle.generic_array.specs.Runs.{FirstErrorRun};
+ghost use Rattle.generic_array.specs.Runs.{TryClosureRun};
 ghost use Rattle.generic_array.specs.Steps.{MaySteps, StepsRun};
 ghost use Rattle.std.specs.Prelude.{◌≡◌, ◌+◌, ◌≤◌, List, ◌++◌, IfErr, IfOk, Ok, OnErr, length};
 ghost use Rattle.std.specs.Vec.{vec_capacity, vec_len};
@@ -59,17 +59,17 @@ where
     requires mapped_fits { S.Mapped.Fits }
     requires callable { MayTryMap S.entry F.pre F.step f.old (S.items s) }
     requires then_callable { (values : List U) (reached : F)
-        → FirstErrorRun (CallAt S.entry F.step) f.old (S.items s) (Ok values) reached
+        → TryClosureRun (CallAt S.entry F.step) f.old (S.items s) (Ok values) reached
         → MaySteps (MayCallAt (λ slice. slice.now) G.pre) (CallAt (λ slice. slice.now) G.step)
         (values, look.old) steps.items }
     ensures ok { IfOk result (λ left. (values : List U) × (given : List (Reply U R))
-        × FirstErrorRun (CallAt S.entry F.step) f.old (S.items s) (Ok values) f.new
+        × TryClosureRun (CallAt S.entry F.step) f.old (S.items s) (Ok values) f.new
         × (replies.new.items ≡ replies.old.items ++ given)
         × StepsRun (CallAt (λ slice. slice.now) G.step) (values, look.old) steps.items given
         (S.Mapped.Sequence.TwoEnded.items left, look.new)
         × Account values steps.items given (S.Mapped.Sequence.TwoEnded.items left)) }
     ensures stopped { IfErr result (λ why.
-        MapStoppedAt (FirstErrorRun (CallAt S.entry F.step)) f.old (S.items s) why f.new) }
+        MapStoppedAt (TryClosureRun (CallAt S.entry F.step)) f.old (S.items s) why f.new) }
     ensures unwalked { OnErr result ((look.new ≡ look.old) × (replies.new.items ≡ replies.old.items)) }
     ensures promised { IfErr result (λ why. MapKeepsPromises S.Mapped.IsPromised
         (vec_len replies.old + length steps.items ≤ vec_capacity replies.old) why) }
@@ -121,18 +121,18 @@ where
         → MayTryMap S.entry F.pre F.step f.old list }
     requires then_callable { (list : List T) (after : I) (values : List U) (reached : F)
         → Comes I.next_gives items.old S.Length.USIZE list after
-        → FirstErrorRun (CallAt S.entry F.step) f.old list (Ok values) reached
+        → TryClosureRun (CallAt S.entry F.step) f.old list (Ok values) reached
         → MaySteps (MayCallAt (λ slice. slice.now) G.pre) (CallAt (λ slice. slice.now) G.step)
         (values, look.old) steps.items }
     ensures ok { IfOk result (λ left. (list : List T) × (values : List U) × (given : List (Reply U R))
         × Comes I.next_gives items.old S.Length.USIZE list items.new
-        × FirstErrorRun (CallAt S.entry F.step) f.old list (Ok values) f.new
+        × TryClosureRun (CallAt S.entry F.step) f.old list (Ok values) f.new
         × (replies.new.items ≡ replies.old.items ++ given)
         × StepsRun (CallAt (λ slice. slice.now) G.step) (values, look.old) steps.items given
         (S.Mapped.Sequence.TwoEnded.items left, look.new)
         × Account values steps.items given (S.Mapped.Sequence.TwoEnded.items left)) }
     ensures stopped { IfErr result (λ why. StoppedAt I.next_gives S.Length.USIZE
-        (FirstErrorRun (CallAt S.entry F.step)) items.old f.old why items.new f.new) }
+        (TryClosureRun (CallAt S.entry F.step)) items.old f.old why items.new f.new) }
     ensures unwalked { OnErr result ((look.new ≡ look.old) × (replies.new.items ≡ replies.old.items)) }
     ensures promised { IfErr result (λ why. KeepsPromises S.IsPromised S.Mapped.IsPromised
         (vec_len replies.old + length steps.items ≤ vec_capacity replies.old) why) }

@@ -132,8 +132,8 @@ fn of_builds<N: Unsigned>(alloc: Global) -> [Played; 5] {
             is_all_zero(BoxedArray::<u32, N>::default_boxed(alloc), len),
         ),
         (
-            "of_copies",
-            is_all_seven(BoxedArray::<u32, N>::of_copies(alloc, 7), len),
+            "from_copies",
+            is_all_seven(BoxedArray::<u32, N>::from_copies(alloc, 7), len),
         ),
         (
             "repeat",

@@ -61,7 +61,7 @@ pub fn run_listed<I: Iterator<Item = String>, R: Read, W: Write, E: Write>(
             Ok(words) => run(alloc, words.as_slice(), r, w),
             Err(status) => status,
         },
-        Err(fault) => Status::of_listing(fault.kind()),
+        Err(fault) => Status::from_listing(fault.kind()),
     };
     if let Some(message) = status.message() {
         let _ = e.writeln(message);

@@ -48,7 +48,7 @@ impl Status {
     }
 
     /// What it means that the words could not be listed.
-    pub fn of_listing(kind: ErrorKind) -> Status
+    pub fn from_listing(kind: ErrorKind) -> Status
         ensures memory { (result ≡ Status.Memory) ↔ (kind ≡ ErrorKind.OutOfMemory) }
         ensures fault { (result ≡ Status.Fault) ↔ (kind ≢ ErrorKind.OutOfMemory) }
     {

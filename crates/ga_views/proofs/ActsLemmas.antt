@@ -1,7 +1,7 @@
 -- What runs of a closure come to, where it acts as a function: each call answers h, and leaves the closure as it is.
 use Rattle.ga_views.specs.Calls.{MayFold}
 use Rattle.ga_views.specs.Entries.{ActsInFold, FoldAt}
-use Rattle.ga_views.specs.Runs.{ClosureRun, FirstErrorRun, FoldRun}
+use Rattle.ga_views.specs.Runs.{ClosureRun, TryClosureRun, FoldRun}
 use Rattle.ga_views.specs.Tries.{try_map}
 use Rattle.std.proofs.Common.{◌≡◌, ℕ, ◌+◌, ◌<◌, List, [], ◌∷◌, Result, Ok, Err, inl, inr, ap, arith, fold, map, refl}
 use Rattle.std.proofs.Common.{subst, sym, ◌∙◌, map-id, sum_by}
@@ -27,13 +27,13 @@ module _ {F X Y : Type 0} (step : F → X → Y → F → Type 0) (f : F) (h : X
 module _ {F X Y E : Type 0} (step : F → X → Result Y E → F → Type 0) (f : F) (h : X → Result Y E)
     (acts : (x : X) (y : Result Y E) (next : F) → step f x y next → (next ≡ f) × (y ≡ h x)) where
   -- a run up to the first error answers all good answers of h, or its first error
-  pub answers_until_error : (xs : List X) (answer : Result (List Y) E) (last : F) → FirstErrorRun step f xs answer last
+  pub answers_until_error : (xs : List X) (answer : Result (List Y) E) (last : F) → TryClosureRun step f xs answer last
       → answer ≡ try_map h xs
   answers_until_error [] (Ok []) last run = refl
   answers_until_error (x ∷ xs) (Ok (y ∷ ys)) last run =
       let call = acts x (Ok y) run.0 run.1 in
       let others = answers_until_error xs (Ok ys) last
-      (subst (λ k. FirstErrorRun step k xs (Ok ys) last) call.0 run.2) in
+      (subst (λ k. TryClosureRun step k xs (Ok ys) last) call.0 run.2) in
       rw (← call.1, ← others)
   answers_until_error (x ∷ xs) (Err error) last run =
       elim run [
@@ -41,7 +41,7 @@ module _ {F X Y E : Type 0} (step : F → X → Result Y E → F → Type 0) (f 
         | inr good ↦
             let call = acts x (Ok good.0) good.1 good.2 in
             let others = answers_until_error xs (Err error) last
-            (subst (λ k. FirstErrorRun step k xs (Err error) last) call.0 good.3) in
+            (subst (λ k. TryClosureRun step k xs (Err error) last) call.0 good.3) in
             rw (← call.1, ← others)
       ]
   answers_until_error _ _ last run = absurd run

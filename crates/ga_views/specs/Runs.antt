@@ -13,19 +13,19 @@ module _ {F X Y : Type 0} (step : F → X → Y → F → Type 0) where
 module _ {F X Y E : Type 0} (step : F → X → Result Y E → F → Type 0) where
   -- Calls led from the state f to the state last, one at each input in order: all were good, and gave the results, or
   -- the first error came, and no call was made after it.
-  abbrev pub FirstErrorRun : F → List X → Result (List Y) E → F → Type 0
-  FirstErrorRun f [] (Ok []) last = f ≡ last
-  FirstErrorRun f [] (Ok (y ∷ ys)) last = ⊥
-  FirstErrorRun f [] (Err error) last = ⊥
-  FirstErrorRun f (x ∷ xs) (Ok []) last = ⊥
-  FirstErrorRun f (x ∷ xs) (Ok (y ∷ ys)) last = (next : F) × step f x (Ok y) next × FirstErrorRun next xs (Ok ys) last
-  FirstErrorRun f (x ∷ xs) (Err error) last = step f x (Err error) last
-      ⊎ ((y : Y) × (next : F) × step f x (Ok y) next × FirstErrorRun next xs (Err error) last)
+  abbrev pub TryClosureRun : F → List X → Result (List Y) E → F → Type 0
+  TryClosureRun f [] (Ok []) last = f ≡ last
+  TryClosureRun f [] (Ok (y ∷ ys)) last = ⊥
+  TryClosureRun f [] (Err error) last = ⊥
+  TryClosureRun f (x ∷ xs) (Ok []) last = ⊥
+  TryClosureRun f (x ∷ xs) (Ok (y ∷ ys)) last = (next : F) × step f x (Ok y) next × TryClosureRun next xs (Ok ys) last
+  TryClosureRun f (x ∷ xs) (Err error) last = step f x (Err error) last
+      ⊎ ((y : Y) × (next : F) × step f x (Ok y) next × TryClosureRun next xs (Err error) last)
 
--- `FirstErrorRun` as a record, from which a proof finds the step
-pub record FirstErrorRan {F X Y E : Type 0} (step : F → X → Result Y E → F → Type 0) (f : F) (xs : List X)
+-- `TryClosureRun` as a record, from which a proof finds the step
+pub record TryClosureRan {F X Y E : Type 0} (step : F → X → Result Y E → F → Type 0) (f : F) (xs : List X)
     (answer : Result (List Y) E) (last : F) : Type 0 where
-  pub run : FirstErrorRun step f xs answer last
+  pub run : TryClosureRun step f xs answer last
 
 module _ {F A X : Type 0} (step : F → A → X → A → F → Type 0) where
   -- calls led from the state f to the state last, one at each item in order, each with what the one before returned,

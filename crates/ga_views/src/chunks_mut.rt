@@ -106,7 +106,7 @@ impl<S: ReborrowSlice<T>, T, N: Unsigned> ChunksViewMut<S, T, N> {
     pub fn view(&self) -> ChunksRef<'_, T, N>
         ensures { items_of_chunks result ≡ S.items self.now.slice }
     {
-        ChunksRef::over(self.slice.all())
+        ChunksRef::over(self.slice.as_slice())
     }
 
     /// The number of rows. O(1).
@@ -137,7 +137,7 @@ impl<S: ReborrowSlice<T>, T, N: Unsigned> ChunksViewMut<S, T, N> {
         ensures runs { RowsInOrder T N N.Unsigned }
         ensures runs_back { RowsInReverse T N N.Unsigned }
     {
-        ChunkIter::over(self.slice.all())
+        ChunkIter::over(self.slice.as_slice())
     }
 
     /// The items of all rows, in order.
@@ -146,7 +146,7 @@ impl<S: ReborrowSlice<T>, T, N: Unsigned> ChunksViewMut<S, T, N> {
         ensures items { result.now ≡ S.items self.now.slice }
         ensures len { length result.now ≡ chunk_count N.USIZE (S.items self.now.slice) * N.USIZE }
     {
-        self.slice.all()
+        self.slice.as_slice()
     }
 
     /// The items of all rows, in order, for writing.
@@ -157,8 +157,8 @@ impl<S: ReborrowSlice<T>, T, N: Unsigned> ChunksViewMut<S, T, N> {
         ensures items { result.now ≡ S.items self.old.slice }
         ensures len { length result.now ≡ chunk_count N.USIZE (S.items self.old.slice) * N.USIZE }
     {
-        let len = self.slice.all().len();
-        self.slice.all_mut(len)
+        let len = self.slice.as_slice().len();
+        self.slice.as_mut_slice(len)
     }
 }
 

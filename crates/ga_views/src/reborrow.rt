@@ -17,7 +17,7 @@ pub trait ReborrowSlice<T>: Drop {
     ghost stays: { Self → Self → Type 0 };
 
     /// The items, in order.
-    fn all(&self) -> &[T]
+    fn as_slice(&self) -> &[T]
         ensures { result.now ≡ items self.now };
 
     // The slice with these items written over its own, as many as it has.
@@ -29,7 +29,7 @@ pub trait ReborrowSlice<T>: Drop {
 
     /// The items, in order, for writing. The caller says how many they are, so that the compiler knows
     /// it too.
-    fn all_mut(&mut self, len: usize) -> &mut [T]
+    fn as_mut_slice(&mut self, len: usize) -> &mut [T]
         requires len { len ≡ length (items self.old) }
         ensures* writes_back { sem 𝓛 (Lends Self.row (Array T.row 0)
             self.entry result (λ written. (slice_with self.old written).0)) }
@@ -68,7 +68,7 @@ impl<'a, T> ReborrowSlice<T> for &'a mut [T] {
     ghost stays = { λ slice after. after.ghost_name ≡ slice.ghost_name };
 
     #[inline]
-    fn all(&self) -> &[T] {
+    fn as_slice(&self) -> &[T] {
         &**self
     }
 
@@ -78,7 +78,7 @@ impl<'a, T> ReborrowSlice<T> for &'a mut [T] {
     ghost slice_with_stays = { λ slice written. refl };
 
     #[inline]
-    fn all_mut(&mut self, len: usize) -> &mut [T] {
+    fn as_mut_slice(&mut self, len: usize) -> &mut [T] {
         &mut self[..len]
     }
 

@@ -106,7 +106,7 @@ impl<S: ReborrowSlice<T>, T, N: Unsigned> ViewMut<S, T, N> {
         ensures items { result.now ≡ S.items self.now.slice }
         ensures len { length result.now ≡ N.USIZE }
     {
-        &self.slice.all()[..N::USIZE]
+        &self.slice.as_slice()[..N::USIZE]
     }
 
     /// All items, in order, for writing.
@@ -117,7 +117,7 @@ impl<S: ReborrowSlice<T>, T, N: Unsigned> ViewMut<S, T, N> {
         ensures items { result.now ≡ S.items self.old.slice }
         ensures len { length result.now ≡ N.USIZE }
     {
-        self.slice.all_mut(N::USIZE)
+        self.slice.as_mut_slice(N::USIZE)
     }
 
     /// The item at `index`, or `None` where `index` isn't below `N`.

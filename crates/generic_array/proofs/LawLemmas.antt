@@ -1,6 +1,6 @@
 -- Laws of runs over joined lists, proved.
 use Rattle.ga_core.proofs.JoinedRuns.{ClosureRun-in_turn}
-use Rattle.ga_core.specs.Runs.{ClosureRun, FirstErrorRun}
+use Rattle.ga_core.specs.Runs.{ClosureRun, TryClosureRun}
 use Rattle.generic_array.specs.Laws.{ErrorRunsJoin, FoldsJoin, FoldsToErrorJoin, GoodFoldsJoin, GoodRunsJoin, RunInParts}
 use Rattle.generic_array.specs.Laws.{RunsJoin}
 use Rattle.std.proofs.Common.{◌≡◌, ◌↔◌, List, [], ◌∷◌, ◌++◌, Result, Ok, Err, inl, inr, refl, sym, subst, ap}
@@ -26,41 +26,41 @@ module _ {F X Y E : Type 0} (step : F → X → Result Y E → F → Type 0) whe
 
   -- a run with no error is a run of good calls
   good-run : (f : F) (xs : List X) (answers : List Y) (last : F)
-      → FirstErrorRun step f xs (Ok answers) last ≡ ClosureRun GoodCall f xs answers last
+      → TryClosureRun step f xs (Ok answers) last ≡ ClosureRun GoodCall f xs answers last
   good-run f (x ∷ xs) (y ∷ answers) last = λ i. (g : F) × GoodCall f x y g × good-run g xs answers last i
   good-run f [] [] last = refl
   good-run f [] (y ∷ answers) last = refl
   good-run f (x ∷ xs) [] last = refl
 
   -- where no call of the first part failed
-  pub FirstErrorRun-joined : GoodRunsJoin step
-  FirstErrorRun-joined f xs ys answers last = subst
+  pub TryClosureRun-joined : GoodRunsJoin step
+  TryClosureRun-joined f xs ys answers last = subst
       (λ (Run : F → List X → List Y → F → Type 0). Run f (xs ++ ys) answers last
       ↔ ((first : List Y) × (second : List Y) × (reached : F) × (answers ≡ first ++ second)
       × Run f xs first reached × Run reached ys second last))
       (λ i g zs made end. sym (good-run g zs made end) i) (ClosureRun-joined GoodCall f xs ys answers last)
 
   error-behind : (f : F) (xs ys : List X) (first : List Y) (reached : F) (error : E) (last : F)
-      → FirstErrorRun step f xs (Ok first) reached
-      → FirstErrorRun step reached ys (Err error) last → FirstErrorRun step f (xs ++ ys) (Err error) last
+      → TryClosureRun step f xs (Ok first) reached
+      → TryClosureRun step reached ys (Err error) last → TryClosureRun step f (xs ++ ys) (Err error) last
   error-behind f [] ys [] reached error last run then = rw run then
   error-behind f (x ∷ xs) ys (y ∷ first) reached error last run then =
       inr (y, run.0, run.1, error-behind run.0 xs ys first reached error last run.2 then)
   error-behind f _ ys _ reached error last run then = absurd run
 
   -- where a call failed, in the first part or in the second
-  pub FirstErrorRun-joined_error : ErrorRunsJoin step
-  FirstErrorRun-joined_error f [] ys error last = (
+  pub TryClosureRun-joined_error : ErrorRunsJoin step
+  TryClosureRun-joined_error f [] ys error last = (
     λ run. inr ([], f, refl, run),
     λ parts. elim parts [
       | inl here ↦ absurd here
       | inr later ↦ error-behind f [] ys later.0 later.1 error last later.2 later.3
     ],
   )
-  FirstErrorRun-joined_error f (x ∷ xs) ys error last = (
+  TryClosureRun-joined_error f (x ∷ xs) ys error last = (
     λ run. elim run [
       | inl call ↦ inl (inl call)
-      | inr more ↦ elim ((FirstErrorRun-joined_error more.1 xs ys error last).0 more.3) [
+      | inr more ↦ elim ((TryClosureRun-joined_error more.1 xs ys error last).0 more.3) [
         | inl here ↦ inl (inr (more.0, more.1, more.2, here))
         | inr later ↦ inr (more.0 ∷ later.0, later.1, (more.1, more.2, later.2), later.3)
       ]
@@ -68,7 +68,7 @@ module _ {F X Y E : Type 0} (step : F → X → Result Y E → F → Type 0) whe
     λ parts. elim parts [
       | inl here ↦ elim here [
         | inl call ↦ inl call
-        | inr more ↦ inr (more.0, more.1, more.2, (FirstErrorRun-joined_error more.1 xs ys error last).1 (inl more.3))
+        | inr more ↦ inr (more.0, more.1, more.2, (TryClosureRun-joined_error more.1 xs ys error last).1 (inl more.3))
       ]
       | inr later ↦ error-behind f (x ∷ xs) ys later.0 later.1 error last later.2 later.3
     ],

@@ -2,7 +2,7 @@
 use Rattle.ga_core.proofs.CallLemmas.{may_map-at, may_try_map-at, may_zip-at}
 use Rattle.ga_core.specs.Calls.{MayMap, MayTryMap, MayZip}
 use Rattle.ga_core.specs.Entries.{CallAt, CallAtPair, MayCallAt}
-use Rattle.ga_core.specs.Runs.{ClosureRun, FirstErrorRan, FirstErrorRun}
+use Rattle.ga_core.specs.Runs.{ClosureRun, TryClosureRan, TryClosureRun}
 use Rattle.generic_array.specs.GivenEntries.{CallAtNext, CallAtNextPair, MayCallAtNext, MayCallAtNextPair}
 use Rattle.std.proofs.Common.{◌≡◌, ◌<◌, List, [], ◌∷◌, ◌++◌, length, arith, inl, inr, map, Result, Ok, Err, Option}
 use Rattle.std.proofs.Common.{refl, ap, sym, ◌∙◌, subst}
@@ -69,8 +69,8 @@ module _ {S I T C F K Y E : Type 0} (steps : S → Option I → S → Type 0) (c
 
   -- the run that came to the answer is the run over all entries
   walk-answer : (answer : Result (List Y) E) (values : List T) (c : C) (ks : List K) (d : C)
-      → AlwaysYields steps entry (it c) values → FirstErrorRun calls c ks answer d → length ks ≡ length values
-      → FirstErrorRun (CallAt entry step) (fn c) values answer (fn d)
+      → AlwaysYields steps entry (it c) values → TryClosureRun calls c ks answer d → length ks ≡ length values
+      → TryClosureRun (CallAt entry step) (fn c) values answer (fn d)
   walk-answer (Ok []) [] c [] d gives run all = ap fn run
   walk-answer (Ok (y ∷ ys)) (x ∷ values) c (k ∷ ks) d gives run all =
       let read = reads c k (Ok y) run.0 run.1 in
@@ -152,28 +152,28 @@ module _ {C K Y A : Type 0} (calls : C → K → Y → C → Type 0) (part : C �
 module _ {C K Y E A : Type 0} (calls : C → K → Result Y E → C → Type 0) (part : C → A)
     (keeps : (c : C) (k : K) (y : Result Y E) (d : C) → calls c k y d → part d ≡ part c) where
   -- so does a run up to an answer
-  FirstErrorRun-keeps : (answer : Result (List Y) E) (c : C) (ks : List K) (d : C)
-      → FirstErrorRun calls c ks answer d → part d ≡ part c
-  FirstErrorRun-keeps (Ok []) c [] d run = ap part (sym run)
-  FirstErrorRun-keeps (Ok (y ∷ good)) c (k ∷ ks) d run =
-      FirstErrorRun-keeps (Ok good) run.0 ks d run.2 ∙ keeps c k (Ok y) run.0 run.1
-  FirstErrorRun-keeps (Err error) c (k ∷ ks) d (inl call) = keeps c k (Err error) d call
-  FirstErrorRun-keeps (Err error) c (k ∷ ks) d (inr more) =
-      FirstErrorRun-keeps (Err error) more.1 ks d more.3 ∙ keeps c k (Ok more.0) more.1 more.2
-  FirstErrorRun-keeps _ c _ d run = absurd run
+  TryClosureRun-keeps : (answer : Result (List Y) E) (c : C) (ks : List K) (d : C)
+      → TryClosureRun calls c ks answer d → part d ≡ part c
+  TryClosureRun-keeps (Ok []) c [] d run = ap part (sym run)
+  TryClosureRun-keeps (Ok (y ∷ good)) c (k ∷ ks) d run =
+      TryClosureRun-keeps (Ok good) run.0 ks d run.2 ∙ keeps c k (Ok y) run.0 run.1
+  TryClosureRun-keeps (Err error) c (k ∷ ks) d (inl call) = keeps c k (Err error) d call
+  TryClosureRun-keeps (Err error) c (k ∷ ks) d (inr more) =
+      TryClosureRun-keeps (Err error) more.1 ks d more.3 ∙ keeps c k (Ok more.0) more.1 more.2
+  TryClosureRun-keeps _ c _ d run = absurd run
 
 -- the same of a run that is told as a record, from which the calls are found
 module _ {C K Y E : Type 0} {calls : C → K → Result Y E → C → Type 0} {c : C} {ks : List K} {answer : Result (List Y) E}
-    {d : C} (ran : FirstErrorRan calls c ks answer d) where
-  pub FirstErrorRan-keeps : {A : Type 0} (part : C → A)
+    {d : C} (ran : TryClosureRan calls c ks answer d) where
+  pub TryClosureRan-keeps : {A : Type 0} (part : C → A)
       → ((f : C) (k : K) (y : Result Y E) (g : C) → calls f k y g → part g ≡ part f) → part d ≡ part c
-  FirstErrorRan-keeps part keeps = FirstErrorRun-keeps calls part keeps answer c ks d ran.run
+  TryClosureRan-keeps part keeps = TryClosureRun-keeps calls part keeps answer c ks d ran.run
 
   pub walk-ran : {S I T F : Type 0} (steps : S → Option I → S → Type 0) (can : S → Type 0) (entry : I → T)
       (pre : F → I → Type 0) (step : F → I → Result Y E → F → Type 0) (it : C → S) (fn : C → F)
       → ((f : C) (k : K) (y : Result Y E) (g : C) → calls f k y g
       → CallAtNext can steps step (it f) (fn f) y (it g) (fn g))
       → (values : List T) → AlwaysYields steps entry (it c) values → length ks ≡ length values
-      → FirstErrorRun (CallAt entry step) (fn c) values answer (fn d)
+      → TryClosureRun (CallAt entry step) (fn c) values answer (fn d)
   walk-ran steps can entry pre step it fn reads values gives =
       walk-answer steps can entry pre step it fn calls reads answer values c ks d gives ran.run

@@ -1,5 +1,5 @@
 -- Laws of runs over joined lists.
-use Rattle.ga_core.specs.Runs.{ClosureRun, FirstErrorRun, FoldRun, TryFoldRun}
+use Rattle.ga_core.specs.Runs.{ClosureRun, TryClosureRun, FoldRun, TryFoldRun}
 use Rattle.std.specs.Prelude.{◌≡◌, ◌⊎◌, ◌↔◌, List, ◌++◌, Result, Ok, Err}
 
 module _ {F X Y : Type 0} (step : F → X → Y → F → Type 0) where
@@ -18,18 +18,18 @@ module _ {F X Y E : Type 0} (step : F → X → Result Y E → F → Type 0) whe
   -- reached, with their results joined
   abbrev pub GoodRunsJoin : Type 0
   GoodRunsJoin = (f : F) (xs ys : List X) (answers : List Y) (last : F)
-      → FirstErrorRun step f (xs ++ ys) (Ok answers) last
+      → TryClosureRun step f (xs ++ ys) (Ok answers) last
       ↔ ((first : List Y) × (second : List Y) × (reached : F) × (answers ≡ first ++ second)
-      × FirstErrorRun step f xs (Ok first) reached × FirstErrorRun step reached ys (Ok second) last)
+      × TryClosureRun step f xs (Ok first) reached × TryClosureRun step reached ys (Ok second) last)
 
   -- the first error comes in the first list, with no call at the second, or good calls over the first lead to it in
   -- the second
   abbrev pub ErrorRunsJoin : Type 0
   ErrorRunsJoin = (f : F) (xs ys : List X) (error : E) (last : F)
-      → FirstErrorRun step f (xs ++ ys) (Err error) last
-      ↔ (FirstErrorRun step f xs (Err error) last
-      ⊎ ((first : List Y) × (reached : F) × FirstErrorRun step f xs (Ok first) reached
-      × FirstErrorRun step reached ys (Err error) last))
+      → TryClosureRun step f (xs ++ ys) (Err error) last
+      ↔ (TryClosureRun step f xs (Err error) last
+      ⊎ ((first : List Y) × (reached : F) × TryClosureRun step f xs (Ok first) reached
+      × TryClosureRun step reached ys (Err error) last))
 
 module _ {F A X : Type 0} (step : F → A → X → A → F → Type 0) where
   -- a fold over joined lists is one over the second from what the one over the first came to

@@ -3,7 +3,7 @@
 //! Each is inlined always: a call that isn't inlined copies an array that it passes on by value.
 ghost use Rattle.ga_core.specs.Calls.{MayFold, MayMap, MayTryFold, MayTryMap, MayZip};
 ghost use Rattle.ga_core.specs.Entries.{ActsInFold, ActsOnEntries, ActsOnEntry, CallAt, CallAtPair, FoldAt};
-ghost use Rattle.ga_core.specs.Runs.{ClosureRun, FirstErrorRun, FoldRun, TryFoldRun};
+ghost use Rattle.ga_core.specs.Runs.{ClosureRun, TryClosureRun, FoldRun, TryFoldRun};
 ghost use Rattle.ga_core.specs.Tries.{try_fold, try_map};
 ghost use Rattle.generic_array.specs.Built.{built_items};
 ghost use Rattle.std.specs.List.{zip};
@@ -118,7 +118,7 @@ pub trait FunctionalSequence<T>: GenericSequence<T> {
         ensures len { IfOk result (λ built.
             IfOk built (λ made. length (Self.Mapped.Sequence.items made) ≡ Self.Length.USIZE)) }
         ensures run { (last : F) × IfOk result (λ built.
-            FirstErrorRun (CallAt Self.entry F.step) f (Self.items self)
+            TryClosureRun (CallAt Self.entry F.step) f (Self.items self)
             (built_items Self.Mapped.Sequence.items built) last) }
         ensures acts { IfOk result (λ built. (h : T → Result U E) → ActsOnEntry Self.entry F.step f h
             → built_items Self.Mapped.Sequence.items built ≡ try_map h (Self.items self)) }
@@ -142,7 +142,7 @@ pub trait FunctionalSequence<T>: GenericSequence<T> {
         ensures len { IfOk result (λ built.
             IfOk built (λ made. length (Self.Mapped.Sequence.items made) ≡ Self.Length.USIZE)) }
         ensures run { IfOk result (λ built.
-            FirstErrorRun (CallAt Self.entry F.step) f.old (Self.items self)
+            TryClosureRun (CallAt Self.entry F.step) f.old (Self.items self)
             (built_items Self.Mapped.Sequence.items built) f.new) }
         ensures acts { IfOk result (λ built. (h : T → Result U E) → ActsOnEntry Self.entry F.step f.old h
             → built_items Self.Mapped.Sequence.items built ≡ try_map h (Self.items self)) }

@@ -45,7 +45,7 @@ fn runs_join<X, Y, F: FnMut(X) -> Y>(_f: &F)
 {}
 
 // So is a run with no error; a run to an error in the first makes no call at the second.
-fn first_error_runs_join<X, Y, E, F: FnMut(X) -> Result<Y, E>>(_f: &F)
+fn try_runs_join<X, Y, E, F: FnMut(X) -> Result<Y, E>>(_f: &F)
     ensures good { GoodRunsJoin F.step }
     ensures error { ErrorRunsJoin F.step }
 {}
@@ -56,7 +56,7 @@ fn folds_join<A, X, F: FnMut(A, X) -> A>(_f: &F)
 {}
 
 // So is a fold with no error; a fold to an error in the first makes no call at the second.
-fn first_error_folds_join<A, X, E, F: FnMut(A, X) -> Result<A, E>>(_f: &F)
+fn try_folds_join<A, X, E, F: FnMut(A, X) -> Result<A, E>>(_f: &F)
     ensures good { GoodFoldsJoin F.step }
     ensures error { FoldsToErrorJoin F.step }
 {}

@@ -8,10 +8,10 @@
 #[macro_export]
 macro_rules! arr {
     ($item:expr; $N:ty) => {
-        $crate::GenericArray::<_, $N>::of_copies($item)
+        $crate::GenericArray::<_, $N>::from_copies($item)
     };
     ($item:expr; $count:literal) => {
-        $crate::GenericArray::<_, $crate::Const<$count>>::of_copies($item)
+        $crate::GenericArray::<_, $crate::Const<$count>>::from_copies($item)
     };
     ($($item:expr),* $(,)*) => {
         $crate::GenericArray::from_array([$($item),*])
@@ -30,10 +30,10 @@ macro_rules! arr {
 #[macro_export]
 macro_rules! box_arr {
     ($alloc:expr, [$item:expr; $N:ty]) => {
-        $crate::BoxedArray::<_, $N>::of_copies($alloc, $item)
+        $crate::BoxedArray::<_, $N>::from_copies($alloc, $item)
     };
     ($alloc:expr, [$item:expr; $count:literal]) => {
-        $crate::BoxedArray::<_, $crate::Const<$count>>::of_copies($alloc, $item)
+        $crate::BoxedArray::<_, $crate::Const<$count>>::from_copies($alloc, $item)
     };
     ($alloc:expr, [$($item:expr),* $(,)*]) => {
         $crate::BoxedArray::from_array($alloc, [$($item),*])

@@ -4,7 +4,7 @@ ghost use Rattle.ga_boxed.specs.Placed.{IfPlaced, IsPlaced};
 ghost use Rattle.ga_core.specs.Calls.{MayGenerate, MayTryGenerate};
 ghost use Rattle.ga_core.specs.Copies.{IsExact, Repeats};
 ghost use Rattle.ga_core.specs.Fill.{FillFalliblyRuns, FillsFallibly};
-ghost use Rattle.ga_core.specs.Runs.{ClosureRun, FirstErrorRun};
+ghost use Rattle.ga_core.specs.Runs.{ClosureRun, TryClosureRun};
 ghost use Rattle.ga_core.specs.Tries.{try_map};
 ghost use Rattle.generic_array.specs.Built.{built_items};
 ghost use Rattle.generic_array.specs.GivenEntries.{GivesEntriesOf};
@@ -137,7 +137,7 @@ pub trait FallibleGenericSequence<T>: GenericSequence<T> {
         ensures len { IfOk result (λ built.
             IfOk built (λ made. length (Self.Sequence.items made) ≡ Self.Length.USIZE)) }
         ensures run { (last : F) × IfOk result (λ built.
-            FirstErrorRun F.step f (range_with_len 0 Self.Length.USIZE)
+            TryClosureRun F.step f (range_with_len 0 Self.Length.USIZE)
             (built_items Self.Sequence.items built) last) }
         ensures acts { IfOk result (λ built. (h : ℕ → Result T E) → ActsAs F.FnMut f h
             → built_items Self.Sequence.items built ≡ try_map h (range_with_len 0 Self.Length.USIZE)) }
@@ -157,7 +157,7 @@ pub trait FallibleGenericSequence<T>: GenericSequence<T> {
         ensures len { IfOk result (λ built.
             IfOk built (λ made. length (Self.Sequence.items made) ≡ Self.Length.USIZE)) }
         ensures run { IfOk result (λ built.
-            FirstErrorRun F.step f.old (range_with_len 0 Self.Length.USIZE)
+            TryClosureRun F.step f.old (range_with_len 0 Self.Length.USIZE)
             (built_items Self.Sequence.items built) f.new) }
         ensures acts { IfOk result (λ built. (h : ℕ → Result T E) → ActsAs F.FnMut f.old h
             → built_items Self.Sequence.items built ≡ try_map h (range_with_len 0 Self.Length.USIZE)) }

@@ -2,7 +2,7 @@
 ghost use Rattle.ga_boxed.specs.Placed.{IfPlaced, IsPlaced};
 ghost use Rattle.ga_core.specs.Calls.{MayGenerate, MayTryGenerate};
 ghost use Rattle.ga_core.specs.Fill.{Asks, FillFalliblyRuns, FillRuns, Fills, FillsFallibly};
-ghost use Rattle.ga_core.specs.Runs.{ClosureRun, FirstErrorRun};
+ghost use Rattle.ga_core.specs.Runs.{ClosureRun, TryClosureRun};
 ghost use Rattle.ga_core.specs.Tries.{try_map};
 ghost use Rattle.std.specs.Iterator.{ActsAs};
 ghost use Rattle.std.specs.List.{range_with_len};
@@ -63,7 +63,7 @@ impl<T: Drop, N: Unsigned> BoxedArray<T, N> {
     ) -> Result<Result<Self, E>, AllocError>
         requires callable { MayTryGenerate F.pre F.step f N.USIZE }
         ensures run { (last : F) × IfOk result (λ built.
-            FirstErrorRun F.step f (range_with_len 0 N.USIZE) built last) }
+            TryClosureRun F.step f (range_with_len 0 N.USIZE) built last) }
         ensures acts { IfOk result (λ built. (h : ℕ → Result T E) → ActsAs F.FnMut f h
             → built ≡ try_map h (range_with_len 0 N.USIZE)) }
         ensures empty { N.USIZE ≡ 0 → IsOk result }
@@ -79,7 +79,7 @@ impl<T: Drop, N: Unsigned> BoxedArray<T, N> {
     ) -> Result<Result<Self, E>, AllocError>
         requires callable { MayTryGenerate F.pre F.step f.old N.USIZE }
         ensures run { IfOk result (λ built.
-            FirstErrorRun F.step f.old (range_with_len 0 N.USIZE) built f.new) }
+            TryClosureRun F.step f.old (range_with_len 0 N.USIZE) built f.new) }
         ensures acts { IfOk result (λ built. (h : ℕ → Result T E) → ActsAs F.FnMut f.old h
             → built ≡ try_map h (range_with_len 0 N.USIZE)) }
         ensures err { OnErr result (f.new ≡ f.old) }

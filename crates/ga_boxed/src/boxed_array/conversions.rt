@@ -42,7 +42,7 @@ impl<T: Drop, const U: usize> BoxedArray<T, Const<U>> {
         ensures ok { IfOk result (λ boxed. boxed ≡ items) }
         ensures empty { U ≡ 0 → IsOk result }
     {
-        match LiveBlock::of_native(alloc, items) {
+        match LiveBlock::from_array(alloc, items) {
             Ok(block) => Ok(BoxedArray {
                 items: block,
                 of: PhantomData,

@@ -27,7 +27,7 @@ impl<T: Copy, N: Unsigned> BoxedArray<T, N> {
     /// The array of `N` times `item`. `box_arr!(alloc, [item; N])` stands on it.
     ///
     /// Allocates the whole block first, and nothing if `N` is 0.
-    pub fn of_copies(alloc: Global, item: T) -> Result<Self, AllocError>
+    pub fn from_copies(alloc: Global, item: T) -> Result<Self, AllocError>
         ensures items { IfOk result (λ array. array ≡ replicate N.USIZE item) }
         ensures empty { N.USIZE ≡ 0 → IsOk result }
     {

@@ -2,7 +2,7 @@
 //! first in each.
 ghost use Rattle.ga_core.specs.Calls.{MayMap, MayTryMap, MayZip};
 ghost use Rattle.ga_core.specs.Entries.{ActsOnEntries, ActsOnEntry, CallAt, CallAtPair};
-ghost use Rattle.ga_core.specs.Runs.{ClosureRun, FirstErrorRun};
+ghost use Rattle.ga_core.specs.Runs.{ClosureRun, TryClosureRun};
 ghost use Rattle.ga_core.specs.Tries.{try_map};
 ghost use Rattle.ga_core.specs.Views.{items_of_view};
 ghost use Rattle.std.specs.List.{zip};
@@ -70,7 +70,7 @@ impl<T, N: Unsigned> BoxedArray<T, N> {
     ) -> Result<Result<BoxedArray<U, N>, E>, AllocError>
         requires callable { MayTryMap (λ item. item.now) F.pre F.step f self.now }
         ensures run { (last : F) × IfOk result (λ built.
-            FirstErrorRun (CallAt (λ item. item.now) F.step) f self.now built last) }
+            TryClosureRun (CallAt (λ item. item.now) F.step) f self.now built last) }
         ensures acts { IfOk result (λ built. (h : T → Result U E)
             → ActsOnEntry (λ item. item.now) F.step f h → built ≡ try_map h self.now) }
         ensures empty { N.USIZE ≡ 0 → IsOk result }
@@ -86,7 +86,7 @@ impl<T, N: Unsigned> BoxedArray<T, N> {
     ) -> Result<Result<BoxedArray<U, N>, E>, AllocError>
         requires callable { MayTryMap (λ item. item.now) F.pre F.step f.old self.now }
         ensures run { IfOk result (λ built.
-            FirstErrorRun (CallAt (λ item. item.now) F.step) f.old self.now built f.new) }
+            TryClosureRun (CallAt (λ item. item.now) F.step) f.old self.now built f.new) }
         ensures acts { IfOk result (λ built. (h : T → Result U E)
             → ActsOnEntry (λ item. item.now) F.step f.old h → built ≡ try_map h self.now) }
         ensures err { OnErr result (f.new ≡ f.old) }

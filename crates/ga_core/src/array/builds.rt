@@ -1,7 +1,7 @@
 //! Arrays built from a closure or an iterator.
 ghost use Rattle.ga_core.specs.Calls.{MayGenerate, MayTryGenerate};
 ghost use Rattle.ga_core.specs.Fill.{Asks, FillFalliblyRuns, FillRuns, Fills, FillsFallibly};
-ghost use Rattle.ga_core.specs.Runs.{ClosureRun, FirstErrorRun};
+ghost use Rattle.ga_core.specs.Runs.{ClosureRun, TryClosureRun};
 ghost use Rattle.ga_core.specs.Tries.{try_map};
 ghost use Rattle.ga_views.specs.Length.{FitsInline};
 ghost use Rattle.std.specs.Iterator.{ActsAs};
@@ -36,7 +36,7 @@ impl<T: Default + Drop, N: ArrayLength<T>> GenericArray<T, N> {
     {
         let mut array = Self::default();
         write_answers(array.as_mut_slice(), f);
-        array.finished()
+        array.repacked()
     }
 
     /// `generate` with a closure that may fail: the array of its values, or its first error.
@@ -45,7 +45,7 @@ impl<T: Default + Drop, N: ArrayLength<T>> GenericArray<T, N> {
     pub fn try_generate<F: FnMut(usize) -> Result<T, E>, E>(mut f: F) -> Result<Self, E>
         requires fits { FitsInline N.USIZE }
         requires callable { MayTryGenerate F.pre F.step f N.USIZE }
-        ensures run { (last : F) × FirstErrorRun F.step f (range_with_len 0 N.USIZE) result last }
+        ensures run { (last : F) × TryClosureRun F.step f (range_with_len 0 N.USIZE) result last }
         ensures acts { (h : ℕ → Result T E) → ActsAs F.FnMut f h
             → result ≡ try_map h (range_with_len 0 N.USIZE) }
     {
@@ -57,13 +57,13 @@ impl<T: Default + Drop, N: ArrayLength<T>> GenericArray<T, N> {
     pub fn try_generate_by<F: FnMut(usize) -> Result<T, E>, E>(f: &mut F) -> Result<Self, E>
         requires fits { FitsInline N.USIZE }
         requires callable { MayTryGenerate F.pre F.step f.old N.USIZE }
-        ensures run { FirstErrorRun F.step f.old (range_with_len 0 N.USIZE) result f.new }
+        ensures run { TryClosureRun F.step f.old (range_with_len 0 N.USIZE) result f.new }
         ensures acts { (h : ℕ → Result T E) → ActsAs F.FnMut f.old h
             → result ≡ try_map h (range_with_len 0 N.USIZE) }
     {
         let mut array = Self::default();
         match try_write_answers(array.as_mut_slice(), f) {
-            Ok(()) => Ok(array.finished()),
+            Ok(()) => Ok(array.repacked()),
             Err(error) => Err(error),
         }
     }

@@ -4,8 +4,8 @@ ghost use Rattle.ga_views.specs.Length.{FitsInline};
 ghost use Rattle.std.specs.Box.{boxed_slice_items};
 ghost use Rattle.std.specs.Prelude.{◌≡◌, ◌≤◌, ◌↔◌, IfOk, IsOk, [], length, vec_capacity};
 
-use crate::errors::AllocError;
 use crate::array::GenericArray;
+use crate::errors::AllocError;
 use crate::length::ArrayLength;
 use crate::slots::move_items;
 use crate::store::store_of_array;
@@ -44,7 +44,7 @@ impl<T: Copy + Default + Drop, N: ArrayLength<T>> GenericArray<T, N> {
     {
         let mut array = Self::default();
         array.as_mut_slice().copy_from_slice(view.as_slice());
-        array.finished()
+        array.repacked()
     }
 
     /// The native array of the items. Requires that `U` is `N`. The counterpart of
@@ -77,7 +77,7 @@ impl<T: Default + Drop, N: ArrayLength<T>> GenericArray<T, N> {
         }
         let mut array = Self::default();
         move_items(items.as_mut_slice(), array.as_mut_slice());
-        Ok(array.finished())
+        Ok(array.repacked())
     }
 
     /// `try_from_vec` of a boxed slice. The counterpart of `TryFrom<Box<[T]>>`.

@@ -4,8 +4,8 @@ ghost use Rattle.ga_views.specs.Length.{FitsInline};
 ghost use Rattle.std.specs.List.{All, AllZip};
 ghost use Rattle.std.specs.Prelude.{◌≡◌, ◌≤◌, IfOk, IsOk, length, replicate};
 
-use crate::errors::AllocError;
 use crate::array::GenericArray;
+use crate::errors::AllocError;
 use crate::length::ArrayLength;
 use crate::slots::{write_clones, write_copies};
 use crate::store::Store;
@@ -22,14 +22,14 @@ impl<T: Default + Drop, N: ArrayLength<T>> GenericArray<T, N> {
         ensures len { length result ≡ N.USIZE }
         ensures each { ExactlyEach T.is_default N.USIZE result }
     {
-        GenericArray::of_store(Store::filled(N::USIZE))
+        GenericArray::from_store(Store::filled(N::USIZE))
     }
 }
 
 impl<T: Copy + Default + Drop, N: ArrayLength<T>> GenericArray<T, N> {
     /// The array of `N` times `item`. Requires `N <= MAX_INLINE`. `arr![item; N]` stands on it.
     #[inline]
-    pub fn of_copies(item: T) -> Self
+    pub fn from_copies(item: T) -> Self
         requires fits { FitsInline N.USIZE }
         ensures { result ≡ replicate N.USIZE item }
     {
@@ -53,7 +53,7 @@ impl<T: Clone + Default, N: ArrayLength<T>> GenericArray<T, N> {
     {
         let mut array = Self::default();
         match write_copies(array.as_mut_slice(), item) {
-            Ok(()) => Ok(array.finished()),
+            Ok(()) => Ok(array.repacked()),
             Err(refused) => Err(refused),
         }
     }
@@ -70,7 +70,7 @@ impl<T: Clone + Default, N: ArrayLength<T>> GenericArray<T, N> {
         let items = self.as_slice();
         let mut copy = Self::default();
         match write_clones(copy.as_mut_slice(), items) {
-            Ok(()) => Ok(copy.finished()),
+            Ok(()) => Ok(copy.repacked()),
             Err(refused) => Err(refused),
         }
     }

@@ -4,7 +4,7 @@
 //! name their types, so that who writes one has less to prove.
 ghost use Rattle.ga_core.specs.Calls.{MayMap, MayTryMap, MayZip};
 ghost use Rattle.ga_core.specs.Entries.{ActsOnEntries, CallAtPair};
-ghost use Rattle.ga_core.specs.Runs.{ClosureRun, FirstErrorRun};
+ghost use Rattle.ga_core.specs.Runs.{ClosureRun, TryClosureRun};
 ghost use Rattle.ga_core.specs.Tries.{try_map};
 ghost use Rattle.std.specs.Iterator.{ActsAs};
 ghost use Rattle.std.specs.List.{zip};
@@ -43,7 +43,7 @@ impl<T: Default + Drop, N: ArrayLength<T>> GenericArray<T, N> {
     {
         let mut made = GenericArray::<U, N>::default();
         write_mapped(self.as_mut_slice(), made.as_mut_slice(), f);
-        made.finished()
+        made.repacked()
     }
 
     /// `map_inline` with a closure that may fail: the array of what it returns, or its first error.
@@ -57,7 +57,7 @@ impl<T: Default + Drop, N: ArrayLength<T>> GenericArray<T, N> {
     where
         N: ArrayLength<U>,
         requires callable { MayTryMap (λ item. item) F.pre F.step f self }
-        ensures run { (last : F) × FirstErrorRun F.step f self result last }
+        ensures run { (last : F) × TryClosureRun F.step f self result last }
         ensures acts { (h : T → Result U E) → ActsAs F.FnMut f h → result ≡ try_map h self }
     {
         self.try_map_inline_by(&mut f)
@@ -72,12 +72,12 @@ impl<T: Default + Drop, N: ArrayLength<T>> GenericArray<T, N> {
     where
         N: ArrayLength<U>,
         requires callable { MayTryMap (λ item. item) F.pre F.step f.old self }
-        ensures run { FirstErrorRun F.step f.old self result f.new }
+        ensures run { TryClosureRun F.step f.old self result f.new }
         ensures acts { (h : T → Result U E) → ActsAs F.FnMut f.old h → result ≡ try_map h self }
     {
         let mut made = GenericArray::<U, N>::default();
         match try_write_mapped(self.as_mut_slice(), made.as_mut_slice(), f) {
-            Ok(()) => Ok(made.finished()),
+            Ok(()) => Ok(made.repacked()),
             Err(error) => Err(error),
         }
     }
@@ -125,6 +125,6 @@ impl<T: Default + Drop, N: ArrayLength<T>> GenericArray<T, N> {
             made.as_mut_slice(),
             f,
         );
-        made.finished()
+        made.repacked()
     }
 }

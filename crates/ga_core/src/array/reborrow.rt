@@ -13,8 +13,8 @@ impl<'a, T, N: ArrayLength<T>> ReborrowSlice<T> for &'a mut GenericArray<T, N> {
     ghost stays = { λ array after. after.ghost_name ≡ array.ghost_name };
 
     #[inline]
-    fn all(&self) -> &[T] {
-        self.as_slice()
+    fn as_slice(&self) -> &[T] {
+        GenericArray::as_slice(self)
     }
 
     ghost slice_with = { λ array written.
@@ -23,7 +23,7 @@ impl<'a, T, N: ArrayLength<T>> ReborrowSlice<T> for &'a mut GenericArray<T, N> {
     ghost slice_with_stays = { λ array written. refl };
 
     #[inline]
-    fn all_mut(&mut self, _len: usize) -> &mut [T] {
+    fn as_mut_slice(&mut self, _len: usize) -> &mut [T] {
         GenericArray::as_mut_slice(self)
     }
 

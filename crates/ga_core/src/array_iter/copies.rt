@@ -3,8 +3,8 @@ ghost use Rattle.ga_core.specs.Copies.{IsExact};
 ghost use Rattle.std.specs.List.{All, AllZip};
 ghost use Rattle.std.specs.Prelude.{◌≡◌, IfOk, IsOk};
 
-use crate::errors::AllocError;
 use crate::array_iter::GenericArrayIter;
+use crate::errors::AllocError;
 use crate::length::ArrayLength;
 use crate::slots::write_clones;
 use crate::store::Store;
@@ -22,7 +22,7 @@ impl<T: Clone + Default, N: ArrayLength<T>> GenericArrayIter<T, N> {
         let items = self.as_slice();
         let mut store = N::ArrayType::filled(N::USIZE);
         match write_clones(store.part_mut(0, items.len()), items) {
-            Ok(()) => Ok(GenericArrayIter::of_store(store, items.len())),
+            Ok(()) => Ok(GenericArrayIter::from_store(store, items.len())),
             Err(refused) => Err(refused),
         }
     }

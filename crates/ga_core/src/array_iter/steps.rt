@@ -53,7 +53,8 @@ impl<T: Default + Drop, N: ArrayLength<T>> GenericArrayIter<T, N> {
         self.next_back()
     }
 
-    // Drops all items that are left, in order.
+    // Drops all items that are left, in order. By `pass_front`, as `nth_back` does by `pass_back`, a step
+    // past the end takes up to a third more time.
     #[inline]
     fn drop_left(&mut self)
         ensures { self.new ≡ [] }

@@ -81,8 +81,8 @@ fn steps_find_room<I: TwoEnded<u32>>(
 fn all_steps_find_room<N: ArrayLength<u32>>(alloc: Global) -> Result<bool, AllocError>
     requires { FitsInline N.USIZE }
 {
-    let mut inline = GenericArray::<u32, N>::of_copies(7).into_iter();
-    let mut boxed = BoxedArray::<u32, N>::of_copies(alloc, 7)?.into_iter();
+    let mut inline = GenericArray::<u32, N>::from_copies(7).into_iter();
+    let mut boxed = BoxedArray::<u32, N>::from_copies(alloc, 7)?.into_iter();
     let both = steps_find_room(alloc, &mut inline, N::USIZE)?
         && steps_find_room(alloc, &mut boxed, N::USIZE)?;
     Ok(both)

@@ -57,7 +57,7 @@ impl BlockStream for Numbered<'_> {
 
     fn block_at(&self, number: u64) -> GenericArray<u8, U4> {
         self.made.set(self.made.get().wrapping_add(1));
-        GenericArray::of_copies(number as u8)
+        GenericArray::from_copies(number as u8)
     }
 
     ghost some = { Prim.search rules };

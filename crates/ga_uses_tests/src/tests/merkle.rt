@@ -96,7 +96,9 @@ where
             leaf_digest::<H>(leaves[i])
         },
     );
-    let four: GenericArray<GenericArray<u8, H::OutputSize>, U4> = parents::<H, U4>(digests.as_slice());
+    let four: GenericArray<GenericArray<u8, H::OutputSize>, U4> = parents::<H, U4>(
+        digests.as_slice(),
+    );
     let two: GenericArray<GenericArray<u8, H::OutputSize>, U2> = parents::<H, U2>(four.as_slice());
     parents::<H, U1>(two.as_slice())
 }

@@ -13,7 +13,7 @@ use Names.{rewrite, Room, SemTy, sep, Seq, Share, shows, slice_ty, slice_val, Sl
 use Names.{SProp, Step, step, Ty, ty_ref, updating, Ura, use1, use3, Val, !, [], ‵, ℕ, ◌$◌, ◌∵◌, ◌∷◌, ◌≡◌, ◌⊑◌, ◌⊛◌}
 use Rattle.ga_views.proofs.walks.LoanWalk.{Loan, Words}
 use Rattle.ga_views.proofs.walks.PartLoan.{Whole}
-use Rattle.ga_views.specs.contracts.reborrow.RefMutSliceReborrowSlice.all_mut as all_mut
+use Rattle.ga_views.specs.contracts.reborrow.RefMutSliceReborrowSlice.as_mut_slice as as_mut_slice
 
 -- the type argument of such a function
 abbrev pub args : RattleType → Args
@@ -31,7 +31,7 @@ module _ (X : RattleType) (n : ℕ) where
       → ((κs : Lfts 3) → List X.Denot → Words 3 κs n → (result.row κs).Denot → Type 0) → Loan
   loan_of result U name asks written shown = record {
     more = 2;
-    outlives = (all_mut.signature X).outlives;
+    outlives = (as_mut_slice.signature X).outlives;
     lent = SliceRefMutOf (1 ∷ []) tt (plain (λ _. R)) (λ _. tt);
     result = result;
     numbers = n;

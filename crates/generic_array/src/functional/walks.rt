@@ -7,7 +7,7 @@
 //! lone one as a whole, which takes longer the more type parameters there are.
 ghost use Rattle.ga_core.specs.Calls.{MayFold, MayMap, MayTryFold, MayTryGenerate, MayTryMap, MayZip};
 ghost use Rattle.ga_core.specs.Entries.{CallAt, CallAtPair, FoldAt};
-ghost use Rattle.ga_core.specs.Runs.{ClosureRun, FirstErrorRan, FirstErrorRun, FoldRun, TryFoldRun};
+ghost use Rattle.ga_core.specs.Runs.{ClosureRun, TryClosureRan, TryClosureRun, FoldRun, TryFoldRun};
 ghost use Rattle.generic_array.specs.Built.{Builds, built_items};
 ghost use Rattle.generic_array.specs.GivenEntries.{AllEntries, AllEntriesOf, CallAtNext, CallAtNextPair, GivesEntries, MayCallAtNext, MayCallAtNextPair, SomeEntries, SomeEntriesOf};
 ghost use Rattle.std.specs.List.{range_with_len, zip};
@@ -140,7 +140,7 @@ fn try_build<U, E, M: FallibleGenericSequence<U>, G: FnMut(usize) -> Result<U, E
     requires fits { M.Fits }
     requires callable { MayTryGenerate G.pre G.step g.old M.Length.USIZE }
     ensures { Builds result (λ built. IfOk built (λ made. length (M.Sequence.items made) ≡ M.Length.USIZE))
-        (λ built. FirstErrorRan G.step g.old (range_with_len 0 M.Length.USIZE)
+        (λ built. TryClosureRan G.step g.old (range_with_len 0 M.Length.USIZE)
         (built_items M.Sequence.items built) g.new)
         g.old g.new M.IsPromised }
 {
@@ -163,7 +163,7 @@ pub(super) fn try_map_entries<
     ensures { Builds result (λ built. IfOk built (λ made. length (M.Sequence.items made) ≡ M.Length.USIZE))
         (λ built. AllEntriesOf I.can_next I.next_gives I.remaining M.Length.USIZE entries
         (λ (entry : I.Item → T) values.
-        FirstErrorRun (CallAt entry F.step) f.old values (built_items M.Sequence.items built) f.new))
+        TryClosureRun (CallAt entry F.step) f.old values (built_items M.Sequence.items built) f.new))
         f.old f.new M.IsPromised }
 {
     try_build::<U, E, M, _>(

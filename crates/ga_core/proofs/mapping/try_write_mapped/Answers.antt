@@ -1,7 +1,7 @@
 use Rattle.ga_core.proofs.CallLemmas.{ClosureRun-of_items, may_try_map-at}
 use Rattle.ga_core.proofs.MoveLemmas.{this-here}
 use Rattle.ga_core.proofs.NextCalls.{all-in, cut-next, failed-next, place-in, taken-next, written-all}
-use Rattle.ga_core.proofs.RunLemmas.{ClosureRun-good, FirstErrorRun-good}
+use Rattle.ga_core.proofs.RunLemmas.{ClosureRun-good, TryClosureRun-good}
 use Rattle.ga_core.proofs.mapping.try_write_mapped.Goals as goal
 use Rattle.std.proofs.Common.{refl, take, ◌∙◌}
 
@@ -32,4 +32,4 @@ pub returns : goal.returns
 returns g c =
     let run = written-all c.loop-index.invariant (all-in c.loop-index-test.false c.requires.len)
     (all-in c.loop-index-test.false c.loop-index.auto.slots) in
-    record { run = FirstErrorRun-good _ _ _ _ _ run }
+    record { run = TryClosureRun-good _ _ _ _ _ run }

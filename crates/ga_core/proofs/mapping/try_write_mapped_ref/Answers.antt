@@ -1,6 +1,6 @@
 use Rattle.ga_core.proofs.CallLemmas.{may_try_map-at}
 use Rattle.ga_core.proofs.NextCalls.{all-in, cut-next, failed-next, place-in, written-all, written-next}
-use Rattle.ga_core.proofs.RunLemmas.{ClosureRun-good, FirstErrorRun-good}
+use Rattle.ga_core.proofs.RunLemmas.{ClosureRun-good, TryClosureRun-good}
 use Rattle.ga_core.proofs.mapping.try_write_mapped_ref.Goals as goal
 use Rattle.ga_core.specs.Entries.{CallAt}
 use Rattle.ga_core.specs.Runs.{ClosureRun}
@@ -31,4 +31,4 @@ pub returns : goal.returns
 returns g c =
     let run = written-all c.loop-index.invariant (all-in c.loop-index-test.false c.requires.len)
     (all-in c.loop-index-test.false c.loop-index.auto.slots) in
-    record { run = FirstErrorRun-good _ _ _ _ _ run }
+    record { run = TryClosureRun-good _ _ _ _ _ run }

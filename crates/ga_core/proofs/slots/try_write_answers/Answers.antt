@@ -1,6 +1,6 @@
 use Rattle.ga_core.proofs.CallLemmas.{may_try_generate-at}
 use Rattle.ga_core.proofs.NextCalls.{run-of_numbers}
-use Rattle.ga_core.proofs.RunLemmas.{ClosureRun-good, FirstErrorRun-at, FirstErrorRun-good, below-add_one}
+use Rattle.ga_core.proofs.RunLemmas.{ClosureRun-good, TryClosureRun-at, TryClosureRun-good, below-add_one}
 use Rattle.ga_core.proofs.slots.try_write_answers.Goals as goal
 use Rattle.ga_core.specs.Runs.{ClosureRun}
 use Rattle.std.proofs.Common.{◌<◌, Ok, arith, length, map, take}
@@ -18,10 +18,10 @@ loop-index-preserved g c =
 pub returns-in-Err : goal.returns-in-Err
 returns-in-Err g c =
     let below : c.loop-index.index < length c.args.slots.now = omega (arith, c.loop-index-test.true) in
-    record { run = FirstErrorRun-at _ _ _ _ _ _ _ _ below c.loop-index.invariant c.in-Err.ensures }
+    record { run = TryClosureRun-at _ _ _ _ _ _ _ _ below c.loop-index.invariant c.in-Err.ensures }
 
 pub returns : goal.returns
 returns g c =
     let run = run-of_numbers (λ numbers good. ClosureRun (goal.F-step g) c.args.f.now numbers (map Ok good) c.loop-index.f)
     c.loop-index.slots c.loop-index-test.false c.loop-index.auto.index-end c.loop-index.auto.slots c.loop-index.invariant in
-    record { run = FirstErrorRun-good _ _ _ _ _ run }
+    record { run = TryClosureRun-good _ _ _ _ _ run }

@@ -67,7 +67,7 @@ fn of_defaults(alloc: Global) -> Outcome {
     Outcome::of_items(made, [0, 0, 0].as_slice())
 }
 
-fn of_copies(alloc: Global) -> Outcome {
+fn from_copies(alloc: Global) -> Outcome {
     Outcome::of_items(box_arr!(alloc, [7u8; U3]), [7, 7, 7].as_slice())
 }
 
@@ -126,7 +126,7 @@ fn case(alloc: Global, number: u32) -> Outcome {
         7 => repeated_once(alloc),
         8 => repeated_by_trait(alloc),
         9 => of_defaults(alloc),
-        10 => of_copies(alloc),
+        10 => from_copies(alloc),
         11 => written_out(alloc),
         12 => from_inline(alloc),
         13 => block(alloc),

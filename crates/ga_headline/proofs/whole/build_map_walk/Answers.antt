@@ -1,7 +1,7 @@
 use Rattle.ga_headline.proofs.whole.build_map_walk.Goals as goal
 use Rattle.ga_headline.specs.Whole.{MapStoppedAt}
 use Rattle.generic_array.specs.Entries.{CallAt}
-use Rattle.generic_array.specs.Runs.{FirstErrorRun}
+use Rattle.generic_array.specs.Runs.{TryClosureRun}
 use Rattle.std.proofs.Common.{subst}
 
 pub map_walk-requires-clause-callable : goal.map_walk-requires-clause-callable
@@ -29,7 +29,7 @@ pub returns-in-Err-Call-clause-stopped : goal.returns-in-Err-Call-clause-stopped
 returns-in-Err-Call-clause-stopped g c = (
   _,
   record { fill = c.in-Ok.ensures.fill; runs = c.in-Ok.ensures.runs },
-  subst (λ why. MapStoppedAt (FirstErrorRun (CallAt g.S.GenericSequence.entry (goal.F-step g))) c.args.f.now
+  subst (λ why. MapStoppedAt (TryClosureRun (CallAt g.S.GenericSequence.entry (goal.F-step g))) c.args.f.now
       (g.S.AsSlice.items c.in-Ok.made) why c.map_walk.new.f) c.in-Err-Call.field-0-is c.in-Err-Call.ensures.stopped,
 )
 
@@ -37,7 +37,7 @@ pub returns-in-Err-NotMapped-clause-stopped : goal.returns-in-Err-NotMapped-clau
 returns-in-Err-NotMapped-clause-stopped g c = (
   _,
   record { fill = c.in-Ok.ensures.fill; runs = c.in-Ok.ensures.runs },
-  subst (λ why. MapStoppedAt (FirstErrorRun (CallAt g.S.GenericSequence.entry (goal.F-step g))) c.args.f.now
+  subst (λ why. MapStoppedAt (TryClosureRun (CallAt g.S.GenericSequence.entry (goal.F-step g))) c.args.f.now
       (g.S.AsSlice.items c.in-Ok.made) why c.map_walk.new.f) c.in-Err-NotMapped.field-0-is c.in-Err-NotMapped.ensures.stopped,
 )
 
@@ -45,6 +45,6 @@ pub returns-in-Err-NotWalked-clause-stopped : goal.returns-in-Err-NotWalked-clau
 returns-in-Err-NotWalked-clause-stopped g c = (
   _,
   record { fill = c.in-Ok.ensures.fill; runs = c.in-Ok.ensures.runs },
-  subst (λ why. MapStoppedAt (FirstErrorRun (CallAt g.S.GenericSequence.entry (goal.F-step g))) c.args.f.now
+  subst (λ why. MapStoppedAt (TryClosureRun (CallAt g.S.GenericSequence.entry (goal.F-step g))) c.args.f.now
       (g.S.AsSlice.items c.in-Ok.made) why c.map_walk.new.f) c.in-Err-NotWalked.field-0-is c.in-Err-NotWalked.ensures.stopped,
 )

@@ -1,14 +1,14 @@
 use Rattle.ga_headline.proofs.whole.map_walk.Goals as goal
 use Rattle.generic_array.specs.Built.{built_items}
 use Rattle.generic_array.specs.Entries.{CallAt, MayCallAt}
-use Rattle.generic_array.specs.Runs.{FirstErrorRun}
+use Rattle.generic_array.specs.Runs.{TryClosureRun}
 use Rattle.generic_array.specs.Steps.{MaySteps}
 use Rattle.std.proofs.Common.{ap, subst, sym}
 
 -- the calls came to the items of what was made, and the steps may be made on these
 pub run_steps-requires : goal.run_steps-requires
 run_steps-requires g c =
-    let run = subst (λ answer. FirstErrorRun (CallAt g.S.GenericSequence.entry (goal.F-step g)) c.args.f.now
+    let run = subst (λ answer. TryClosureRun (CallAt g.S.GenericSequence.entry (goal.F-step g)) c.args.f.now
     (g.S.AsSlice.items c.args.s) answer c.try_map.new.f)
     (ap (built_items g.S.Mapped.Sequence.AsSlice.items) c.in-Ok-Ok.field-0-is) c.in-Ok-Ok.ensures.run in
     record {
@@ -19,7 +19,7 @@ run_steps-requires g c =
 
 pub returns-in-Ok-clause-ok : goal.returns-in-Ok-clause-ok
 returns-in-Ok-clause-ok g c =
-    let run = subst (λ answer. FirstErrorRun (CallAt g.S.GenericSequence.entry (goal.F-step g)) c.args.f.now
+    let run = subst (λ answer. TryClosureRun (CallAt g.S.GenericSequence.entry (goal.F-step g)) c.args.f.now
     (g.S.AsSlice.items c.args.s) answer c.try_map.new.f)
     (ap (built_items g.S.Mapped.Sequence.AsSlice.items) c.in-Ok-Ok.field-0-is) c.in-Ok-Ok.ensures.run in
     let (given, more, ran, account) = rw c.into_two_ended-left.ensures at c.in-Ok.ensures.run in
@@ -27,7 +27,7 @@ returns-in-Ok-clause-ok g c =
 
 pub returns-in-Err-run_steps-clause-stopped : goal.returns-in-Err-run_steps-clause-stopped
 returns-in-Err-run_steps-clause-stopped g c =
-    let run = subst (λ answer. FirstErrorRun (CallAt g.S.GenericSequence.entry (goal.F-step g)) c.args.f.now
+    let run = subst (λ answer. TryClosureRun (CallAt g.S.GenericSequence.entry (goal.F-step g)) c.args.f.now
     (g.S.AsSlice.items c.args.s) answer c.try_map.new.f)
     (ap (built_items g.S.Mapped.Sequence.AsSlice.items) c.in-Ok-Ok.field-0-is) c.in-Ok-Ok.ensures.run in
     (_, run)

@@ -36,7 +36,7 @@ returns-clause-text g c = λ code. elim c.match-listed.branch [
   | in-Ok+in-Err-words_after_name w ↦
       absurd (omega (arith, code, told g c ∙ ap exit_status (w.status-is ∙ w.in-Err-words_after_name.ensures.err)))
   | in-Err w ↦
-      let failed = w.of_listing-status.ensures in
+      let failed = w.from_listing-status.ensures in
       absurd (omega (arith, code, told g c, ap exit_status w.status-is, failed-high _ _ failed.memory failed.fault))
 ]
 
@@ -49,7 +49,7 @@ returns-clause-whole g c = λ code. elim c.match-listed.branch [
   | in-Ok+in-Err-words_after_name w ↦
       absurd (omega (arith, code, told g c ∙ ap exit_status (w.status-is ∙ w.in-Err-words_after_name.ensures.err)))
   | in-Err w ↦
-      let failed = w.of_listing-status.ensures in
+      let failed = w.from_listing-status.ensures in
       absurd (omega (arith, code, told g c, ap exit_status w.status-is, failed-high _ _ failed.memory failed.fault))
 ]
 
@@ -62,7 +62,7 @@ returns-clause-rest g c = λ code. elim c.match-listed.branch [
   | in-Ok+in-Err-words_after_name w ↦
       absurd (omega (arith, code, told g c ∙ ap exit_status (w.status-is ∙ w.in-Err-words_after_name.ensures.err)))
   | in-Err w ↦
-      let failed = w.of_listing-status.ensures in
+      let failed = w.from_listing-status.ensures in
       absurd (omega (arith, code, told g c, ap exit_status w.status-is, failed-high _ _ failed.memory failed.fault))
 ]
 
@@ -75,7 +75,7 @@ returns-clause-words g c = λ code. elim c.match-listed.branch [
   | in-Ok+in-Err-words_after_name w ↦
       absurd (omega (arith, code, told g c ∙ ap exit_status (w.status-is ∙ w.in-Err-words_after_name.ensures.err)))
   | in-Err w ↦
-      let failed = w.of_listing-status.ensures in
+      let failed = w.from_listing-status.ensures in
       absurd (omega (arith, code, told g c, ap exit_status w.status-is, failed-high _ _ failed.memory failed.fault))
 ]
 

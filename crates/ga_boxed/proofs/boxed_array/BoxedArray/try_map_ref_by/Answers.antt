@@ -3,9 +3,9 @@ use Rattle.ga_boxed.proofs.boxed_array.BoxedArray.try_map_ref_by.Goals as goal
 use Rattle.ga_core.proofs.CallLemmas.{may_try_map-at}
 use Rattle.ga_core.proofs.CutLemmas.{cut-at, take-one}
 use Rattle.ga_core.proofs.EntryActs.{tries_at_entries}
-use Rattle.ga_core.proofs.RunLemmas.{ClosureRun-good, FirstErrorRun-error, FirstErrorRun-good}
+use Rattle.ga_core.proofs.RunLemmas.{ClosureRun-good, TryClosureRun-error, TryClosureRun-good}
 use Rattle.ga_core.specs.Entries.{CallAt}
-use Rattle.ga_core.specs.Runs.{FirstErrorRun}
+use Rattle.ga_core.specs.Runs.{TryClosureRun}
 use Rattle.std.proofs.Common.{◌+◌, ◌∙◌, Err, Ok, drop, refl, subst, sym, take}
 use Rattle.std.proofs.lemmas.List.{take_all}
 
@@ -40,9 +40,9 @@ returns-in-Err g c =
     let item = c.item-item.result in
     let step = CallAt (λ item. item.now) (goal.F-step g) in
     let here = cut-at at.item-index given.result.now item c.loop-item-test.true c.item-item.is in
-    let run = subst (λ items. FirstErrorRun step c.args.f.now items (Err c.in-Err.error) c.f.new.self)
+    let run = subst (λ items. TryClosureRun step c.args.f.now items (Err c.in-Err.error) c.f.new.self)
     (sym here ∙ given.ensures.items)
-    (FirstErrorRun-error step c.args.f.now (take at.item-index given.result.now) at.good.items at.f item
+    (TryClosureRun-error step c.args.f.now (take at.item-index given.result.now) at.good.items at.f item
     (drop (at.item-index + 1) given.result.now) c.in-Err.error c.f.new.self at.invariant.ran (_, refl, c.in-Err.ensures)) in
     record {
       run = run;
@@ -56,9 +56,9 @@ returns g c =
     let at = c.loop-item in
     let given = c.as_slice-item-items in
     let step = CallAt (λ item. item.now) (goal.F-step g) in
-    let run = subst (λ items. FirstErrorRun step c.args.f.now items (Ok at.good.items) at.f)
+    let run = subst (λ items. TryClosureRun step c.args.f.now items (Ok at.good.items) at.f)
     (take_all at.item-index given.result.now c.loop-item-test.false ∙ given.ensures.items)
-    (FirstErrorRun-good step c.args.f.now (take at.item-index given.result.now) at.good.items at.f at.invariant.ran) in
+    (TryClosureRun-good step c.args.f.now (take at.item-index given.result.now) at.good.items at.f at.invariant.ran) in
     record {
       run = run;
       acts = λ h acts. tries_at_entries (λ item. item.now) (goal.F-step g) c.args.f.now h acts _ _ _ run;

@@ -5,7 +5,7 @@ use Rattle.std.proofs.Common.{◌∙◌, ap, length, sym}
 pub returns : goal.returns
 returns g c = record {
   into_iter_gives = (
-    c.of_items.ensures
+    c.from_block.ensures
         ∙ (ap (λ block. block.items) c.counted.ensures ∙ c.self.view_is),
     rest_runs,
     rest_runs_back,

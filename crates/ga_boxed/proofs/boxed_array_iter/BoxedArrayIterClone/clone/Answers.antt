@@ -25,7 +25,7 @@ returns g c =
     let at = c.loop-item in
     let items = c.as_slice-item-items in
     record {
-      cases = subst (λ copy. AllZip g.T.Clone.is_clone c.args.self.now copy) (sym c.of_items.ensures)
+      cases = subst (λ copy. AllZip g.T.Clone.is_clone c.args.self.now copy) (sym c.from_block.ensures)
           (subst (λ items. AllZip g.T.Clone.is_clone items at.clones.items)
           (take_all at.item-index items.result.now c.loop-item-test.false ∙ items.ensures)
           at.invariant.clones);

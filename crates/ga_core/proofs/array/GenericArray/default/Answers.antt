@@ -4,10 +4,10 @@ use Rattle.std.proofs.Common.{◌∙◌, ap, length, rules, subst, sym, All}
 
 pub returns : goal.returns
 returns g c =
-    let items = subst (All g.T.Default.is_default) (sym c.of_store.ensures) c.filled.ensures.items in
-    let len = ap length c.of_store.ensures ∙ (c.filled.ensures.len ∙ search rules) in
+    let items = subst (All g.T.Default.is_default) (sym c.from_store.ensures) c.filled.ensures.items in
+    let len = ap length c.from_store.ensures ∙ (c.filled.ensures.len ∙ search rules) in
     record {
       items = items;
       len = len;
-      each = ExactlyEach-all g.T.Default.is_default g.N.Unsigned.USIZE c.of_store.result len items;
+      each = ExactlyEach-all g.T.Default.is_default g.N.Unsigned.USIZE c.from_store.result len items;
     }

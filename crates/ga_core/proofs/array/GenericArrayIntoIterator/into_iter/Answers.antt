@@ -9,7 +9,7 @@ returns g c =
     let long : c.USIZE.result ≡ length items = c.USIZE.ensures ∙ sym c.self.invariant.0 in
     record {
       into_iter_gives = (
-        c.of_store.ensures ∙ (ap (λ k. take k items) long ∙ (take-length items ∙ c.self.view_is)),
+        c.from_store.ensures ∙ (ap (λ k. take k items) long ∙ (take-length items ∙ c.self.view_is)),
         rest_runs,
         rest_runs_back,
         ap length (sym c.self.view_is) ∙ c.self.invariant.0,

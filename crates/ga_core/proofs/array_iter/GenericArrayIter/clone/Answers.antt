@@ -6,8 +6,8 @@ use Rattle.ga_views.specs.Parts.{part_set}
 use Rattle.std.proofs.Common.{◌∙◌, length, refl}
 use Rattle.std.specs.List.{AllZip}
 
-pub of_store-requires-clause-full : goal.of_store-requires-clause-full
-of_store-requires-clause-full g c =
+pub from_store-requires-clause-full : goal.from_store-requires-clause-full
+from_store-requires-clause-full g c =
     let items = g.N.ArrayType.Store.items c.filled-store.result in
     let part = part_set 0 (length c.as_slice-items.result.now) items c.write_clones.new.slots in
     refill-long items part _ (g.N.ArrayType.Store.store_with c.filled-store.result part).1
@@ -30,10 +30,10 @@ returns-in-Ok g c =
     let after = g.N.ArrayType.Store.store_with c.filled-store.result (part_set 0 len items copies) in
     let stands = front-written len items copies (g.N.ArrayType.Store.items after.0) room.0
     (c.write_clones.auto.slots ∙ room.1) after.1 in
-    let clones = made-of (AllZip g.T.Clone.is_clone) c.as_slice-items.ensures.items (c.of_store.ensures ∙ stands)
+    let clones = made-of (AllZip g.T.Clone.is_clone) c.as_slice-items.ensures.items (c.from_store.ensures ∙ stands)
     c.in-Ok.ensures.items in
     record {
       items = clones;
-      same = λ exact. AllZip-same g.T.Clone.is_clone c.args.self.now c.of_store.result exact clones;
+      same = λ exact. AllZip-same g.T.Clone.is_clone c.args.self.now c.from_store.result exact clones;
       succeeds = λ _. refl;
     }

@@ -8,11 +8,11 @@ use Rattle.std.proofs.Common.{sym, ◌∙◌}
 pub write_zipped_ref-requires-clause-callable : goal.write_zipped_ref-requires-clause-callable
 write_zipped_ref-requires-clause-callable g c = λ passed x others ys reached whole.
     c.requires.callable passed x others ys reached
-    (sym (same-pairs c.borrowed-items.ensures.items c.as_slice.ensures.items) ∙ whole)
+    (sym (same-pairs c.as_slice-items.ensures.items c.as_slice.ensures.items) ∙ whole)
 
 pub returns : goal.returns
 returns g c =
-    let made = c.finished.ensures ∙ made-is_written c.as_mut_slice.ensures.items c.write_zipped_ref.auto.slots in
+    let made = c.repacked.ensures ∙ made-is_written c.as_mut_slice.ensures.items c.write_zipped_ref.auto.slots in
     let run = ClosureRun-made (CallAtPair (λ item. item.now) (λ item. item.now) (goal.F-step g)) _ _
-    (same-pairs c.borrowed-items.ensures.items c.as_slice.ensures.items) made c.write_zipped_ref.ensures.run in
+    (same-pairs c.as_slice-items.ensures.items c.as_slice.ensures.items) made c.write_zipped_ref.ensures.run in
     record { run = run; acts = λ h acts. answers_at_pairs (λ item. item.now) (λ item. item.now) _ _ h acts _ _ _ run }

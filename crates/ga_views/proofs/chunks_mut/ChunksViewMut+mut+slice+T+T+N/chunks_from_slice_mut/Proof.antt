@@ -154,13 +154,13 @@ chunks_from_slice_mut_spec 𝓤 𝓛 𝓜 𝓡 wired X N LX LN g d bound =
     let J : RattleType = Lent X N g d in let gP = impl.ghosts J in let dP : Dict = impl.dict J in
     let drops : Dict = impl_of ("ga_views::Destruct++none::drop" ∷ []) (tcons (layout P) tnil) dnil in
     let lends = lent.bound 𝓡.env (code.calls-ga_views::reborrow::RefMutSliceReborrowSlice::all 𝓡.env wired)
-    (code.calls-ga_views::reborrow::RefMutSliceReborrowSlice::all_mut 𝓡.env wired)
+    (code.calls-ga_views::reborrow::RefMutSliceReborrowSlice::as_mut_slice 𝓡.env wired)
     (code.calls-ga_views::reborrow::RefMutSliceReborrowSlice::item_mut 𝓡.env wired) κ J
     (arg_laws (layout X) no E (param_laws 0 X LX) refl) lκ _ 𝓤 𝓛 𝓜 𝓡 in
     let makes = made.met 𝓤 𝓛 𝓜 𝓡 (code.calls-ga_views::chunks_mut::ChunksViewMut::over 𝓡.env wired) P I Z
     LP (arg_laws (layout X) yes E (param_laws 0 X LX) refl)
     (arg_laws (layout N) yes (param 1 N) (param_laws 1 N LN) refl) gP dP g d drops
-    (record { all = lends.all; all_mut = lends.all_mut; item_mut = lends.item_mut }) (record { USIZE = bound.USIZE })
+    (record { as_slice = lends.as_slice; as_mut_slice = lends.as_mut_slice; item_mut = lends.item_mut }) (record { USIZE = bound.USIZE })
     (glues "ga_views::Destruct++none::drop" 𝓡.env (code.calls-ga_views::Destruct++none::drop 𝓡.env wired) P LP _ 𝓤 𝓛
     𝓜 𝓡) in
     let whole_rows : length first.now ≡ chunk_count width first.now * width =

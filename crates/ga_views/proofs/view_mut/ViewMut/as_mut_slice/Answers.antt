@@ -8,11 +8,11 @@ returns g c = (
   (refl, λ written. same_full _ _),
   record {
     writes_back = _;
-    items = c.all_mut.ensures.items;
+    items = c.as_mut_slice.ensures.items;
     len =
-        ap length c.all_mut.ensures.items ∙ c.args.self.now.full;
+        ap length c.as_mut_slice.ensures.items ∙ c.args.self.now.full;
   },
 )
 
-pub all_mut-requires : goal.all_mut-requires
-all_mut-requires g c = record { len = c.USIZE.ensures ∙ sym c.args.self.now.full }
+pub as_mut_slice-requires : goal.as_mut_slice-requires
+as_mut_slice-requires g c = record { len = c.USIZE.ensures ∙ sym c.args.self.now.full }

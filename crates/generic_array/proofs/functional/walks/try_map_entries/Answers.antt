@@ -1,4 +1,4 @@
-use Rattle.generic_array.proofs.WalkLemmas.{FirstErrorRan-keeps, try_map-callable, walk-ran}
+use Rattle.generic_array.proofs.WalkLemmas.{TryClosureRan-keeps, try_map-callable, walk-ran}
 use Rattle.generic_array.proofs.functional.walks.try_map_entries.Goals as goal
 use Rattle.std.proofs.Common.{arith, rules}
 use Rattle.std.proofs.lemmas.List.FromFn.{length-range_with_len}
@@ -17,7 +17,7 @@ returns g c =
     record {
       len = told.len;
       run = IfOk-weaker c.try_build.result _ _ (λ built ran entry values gives long.
-          let kept = FirstErrorRan-keeps ran (λ d. d.0.ghost_name) (λ d j y e call. call.met.1.1) in
+          let kept = TryClosureRan-keeps ran (λ d. d.0.ghost_name) (λ d j y e call. call.met.1.1) in
           let lifted = walk-ran ran g.I.Iterator.next_gives g.I.Iterator.can_next entry (goal.F-pre g) (goal.F-step g)
           (λ d. d.1.now) (λ d. d.0.now) (λ d j y e call. call.met.1.0) values gives.2
           (omega (arith, length-range_with_len 0 g.M.Length.Unsigned.USIZE, long)) in

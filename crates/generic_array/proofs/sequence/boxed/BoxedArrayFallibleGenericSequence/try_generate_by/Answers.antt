@@ -1,5 +1,5 @@
 use Rattle.generic_array.proofs.BuiltLemmas.{built_items-same}
-use Rattle.ga_core.proofs.RunLemmas.{FirstErrorRun-length}
+use Rattle.ga_core.proofs.RunLemmas.{TryClosureRun-length}
 use Rattle.generic_array.proofs.sequence.boxed.BoxedArrayFallibleGenericSequence.try_generate_by.Goals as goal
 use Rattle.std.proofs.lemmas.List.FromFn.{length-range_with_len}
 use Rattle.std.proofs.lemmas.Result.{IfOk-weaker}
@@ -10,7 +10,7 @@ returns g c =
     let n = g.N.Unsigned.USIZE in
     record {
       len = IfOk-weaker filled _ _
-          (λ built run. FirstErrorRun-length (goal.F-step g) c.args.f.now _ built c.try_generate_by.new.f n
+          (λ built run. TryClosureRun-length (goal.F-step g) c.args.f.now _ built c.try_generate_by.new.f n
           (length-range_with_len 0 n) run) c.try_generate_by.ensures.run;
       run = IfOk-weaker filled _ _ (λ built run. rw (built_items-same built) run) c.try_generate_by.ensures.run;
       acts = IfOk-weaker filled _ _ (λ built acts h same. rw (built_items-same built) (acts h same))

@@ -1,5 +1,5 @@
 use Rattle.ga_core.proofs.CopyLemmas.{map-same}
-use Rattle.ga_core.proofs.array.GenericArray.of_copies.Goals as goal
+use Rattle.ga_core.proofs.array.GenericArray.from_copies.Goals as goal
 use Rattle.std.proofs.Common.{◌∙◌, rules}
 
 pub returns : goal.returns

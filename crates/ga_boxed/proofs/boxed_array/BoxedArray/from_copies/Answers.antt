@@ -1,4 +1,4 @@
-use Rattle.ga_boxed.proofs.boxed_array.BoxedArray.of_copies.Goals as goal
+use Rattle.ga_boxed.proofs.boxed_array.BoxedArray.from_copies.Goals as goal
 use Rattle.ga_core.proofs.CopyLemmas.{map-same}
 use Rattle.std.proofs.Common.{◌∙◌, rules}
 use Rattle.std.proofs.lemmas.Result.{IfOk-weaker}

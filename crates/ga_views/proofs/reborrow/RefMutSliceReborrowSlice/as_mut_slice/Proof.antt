@@ -1,4 +1,4 @@
--- `all_mut` lends all the items of the slice that the inner reference points to, for all of the outer reference's
+-- `as_mut_slice` lends all the items of the slice that the inner reference points to, for all of the outer reference's
 -- lifetime. The borrow checker shows an `ensures*` only where the body hands on a field or a call's result, so this
 -- proof walks the code by hand. Assumes `Logic`.
 use Rattle.ga_views.proofs.walks.Names
@@ -12,8 +12,8 @@ use Rattle.ga_views.proofs.PartLemmas.{refilled}
 use Rattle.ga_views.proofs.walks.PartLoan.{lends_slice, lent_slice}
 use Rattle.ga_views.proofs.walks.InnerSlice.{closes_inner, Inner, items_at, lends_inner, opens_inner, slice_lent}
 use Rattle.ga_views.proofs.walks.LoanWalk.{Had, Loan, lends}
-use Rattle.ga_views.proofs.reborrow.RefMutSliceReborrowSlice.all_mut.Statement.{statement}
-use Rattle.ga_views.proofs.reborrow.RefMutSliceReborrowSlice.all_mut.Code as code
+use Rattle.ga_views.proofs.reborrow.RefMutSliceReborrowSlice.as_mut_slice.Statement.{statement}
+use Rattle.ga_views.proofs.reborrow.RefMutSliceReborrowSlice.as_mut_slice.Code as code
 
 module _ (X : RattleType) where
   abbrev loan : Loan
@@ -38,8 +38,8 @@ module _ (X : RattleType) where
         (λ e. feq_i ! ℕ (length ws) (length d.now) e $ fjoin ! $ rewrite ! 0 (λ (l : List X.Denot). ‵ (stands l))
         (refilled (length d.now) d.now ws refl e) refl $ keep ! (0 ∷ []) $ done !)
 
-pub all_mut_spec : {M : Type 1} → statement M
-all_mut_spec 𝓤 𝓛 𝓜 𝓡 wired X laws = lends (loan X) 𝓛 𝓜 𝓡 _ _ (code.unfolded 𝓤 𝓛.H 𝓜 𝓡 wired (X, tt))
+pub as_mut_slice_spec : {M : Type 1} → statement M
+as_mut_slice_spec 𝓤 𝓛 𝓜 𝓡 wired X laws = lends (loan X) 𝓛 𝓜 𝓡 _ _ (code.unfolded 𝓤 𝓛.H 𝓜 𝓡 wired (X, tt))
     (λ κs qs bounds x ns w Post asked fine exits.
     let E : RattleType = param 0 X in let I : RattleType = Inner E κs.1.0 in
     qed 𝓛 (Had (loan X) 𝓛 κs qs x ns) ∵ enter ! _ _ _ _ _ $ alloc_all !
