@@ -115,17 +115,17 @@ impl<T: Default + Drop, N: ArrayLength<T>, M: ArrayLength<T>> Remove<T, GenericA
     ghost IsOneShorter = { N.USIZE ≡ M.USIZE + 1 };
 
     #[inline]
-    fn remove(mut self, index: usize) -> (T, GenericArray<T, M>) {
-        carry_to_end(self.as_mut_slice(), index);
+    fn remove(self, index: usize) -> (T, GenericArray<T, M>) {
         let mut items = self.into_iter();
+        carry_to_end(items.as_mut_slice(), index);
         let item = items.next_back().unwrap();
         (item, next_array(&mut items))
     }
 
     #[inline]
-    fn swap_remove(mut self, index: usize) -> (T, GenericArray<T, M>) {
-        swap_to_end(self.as_mut_slice(), index);
+    fn swap_remove(self, index: usize) -> (T, GenericArray<T, M>) {
         let mut items = self.into_iter();
+        swap_to_end(items.as_mut_slice(), index);
         (items.next_back().unwrap(), next_array(&mut items))
     }
 }
@@ -135,7 +135,9 @@ impl<T: Default + Drop, N: ArrayLength<T>> Row<T> for GenericArray<T, N> {
 
     #[inline]
     fn move_into<M: ArrayLength<T>>(self, joined: &mut ArrayBuilder<T, M>) {
-        joined.take_from(&mut self.into_iter(), N::USIZE);
+        for item in self {
+            joined.push(item);
+        }
     }
 }
 

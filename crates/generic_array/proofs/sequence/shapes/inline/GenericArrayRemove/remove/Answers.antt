@@ -8,14 +8,15 @@ returns-clause-others g c =
     let self = c.args.self in
     let index = c.args.index in
     let items = c.into_iter-items.result in
+    let carried = c.carry_to_end.new.items in
     let left = c.next_back.new.self in
     let item = c.unwrap-item.result in
     let given = c.into_iter-items.ensures.into_iter_gives in
-    let taken : items ≡ left ++ item ∷ [] = rw c.unwrap-item.ensures at c.next_back.ensures.steps in
-    let carried : items ≡ remove self index ++ get_or self index item ∷ [] =
-    given.0 ∙ (refill-whole (length self) self c.carry_to_end.new.items
-    (sym (c.carry_to_end.auto.items ∙ ap length c.as_mut_slice.ensures.items))
-    ∙ (rw c.as_mut_slice.ensures.items at (c.carry_to_end.ensures item))) in
+    let same : length carried ≡ length items = c.carry_to_end.auto.items ∙ ap length c.as_mut_slice.ensures.items in
+    let taken : carried ≡ left ++ item ∷ [] =
+    sym (refill-whole (length items) items carried (sym same)) ∙ rw c.unwrap-item.ensures at c.next_back.ensures.steps in
+    let order : carried ≡ remove self index ++ get_or self index item ∷ [] =
+    rw (c.as_mut_slice.ensures.items, given.0) at (c.carry_to_end.ensures item) in
     c.next_array.ensures.first
-    ∙ others-left items (remove self index) left (get_or self index item) item g.M.Unsigned.USIZE carried taken
-    (ap length given.0 ∙ (given.3 ∙ c.requires.one_shorter))
+    ∙ others-left carried (remove self index) left (get_or self index item) item g.M.Unsigned.USIZE order taken
+    (same ∙ (ap length given.0 ∙ (given.3 ∙ c.requires.one_shorter)))
