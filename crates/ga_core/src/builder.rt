@@ -4,9 +4,9 @@ ghost use Rattle.ga_views.specs.Length.{FitsInline};
 ghost use Rattle.std.specs.List.{All, AllZip};
 ghost use Rattle.std.specs.Prelude.{◌≡◌, ◌≢◌, ◌⊎◌, ◌+◌, ◌-◌, ◌<◌, ◌≤◌, ◌↔◌, IfNone, IfOk, IfSome, IsOk, IsSome, IsTrue, None, OnErr, OnOk, Some, List, [], ◌∷◌, ◌++◌, drop, get_or, insert, length, remove, slice_get, slice_set, take};
 
-use crate::alloc_error::AllocError;
 use crate::array::GenericArray;
 use crate::array_iter::{GenericArrayIter, take_at};
+use crate::errors::AllocError;
 use crate::length::ArrayLength;
 use crate::slots::{write_clones, write_defaults};
 use crate::store::Store;

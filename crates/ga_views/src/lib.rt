@@ -28,4 +28,5 @@ pub use length::{
     U52, U53, U54, U55, U56, U57, U58, U59, U60, U61, U62, U63, U64, U128, U256, U512, U1024,
     U2048, Unsigned,
 };
+pub use length_error::LengthError;
 pub use view_mut::{GenericArrayMut, ViewMut};
