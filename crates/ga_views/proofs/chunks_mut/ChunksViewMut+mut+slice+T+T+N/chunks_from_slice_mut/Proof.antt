@@ -153,7 +153,7 @@ chunks_from_slice_mut_spec 𝓤 𝓛 𝓜 𝓡 wired X N LX LN g d bound =
     let Z : RattleType = Length X N g d in
     let J : RattleType = Lent X N g d in let gP = impl.ghosts J in let dP : Dict = impl.dict J in
     let drops : Dict = impl_of ("ga_views::Destruct++none::drop" ∷ []) (tcons (layout P) tnil) dnil in
-    let lends = lent.bound 𝓡.env (code.calls-ga_views::reborrow::RefMutSliceReborrowSlice::all 𝓡.env wired)
+    let lends = lent.bound 𝓡.env (code.calls-ga_views::reborrow::RefMutSliceReborrowSlice::as_slice 𝓡.env wired)
     (code.calls-ga_views::reborrow::RefMutSliceReborrowSlice::as_mut_slice 𝓡.env wired)
     (code.calls-ga_views::reborrow::RefMutSliceReborrowSlice::item_mut 𝓡.env wired) κ J
     (arg_laws (layout X) no E (param_laws 0 X LX) refl) lκ _ 𝓤 𝓛 𝓜 𝓡 in
