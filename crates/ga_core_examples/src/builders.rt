@@ -107,10 +107,7 @@ fn ended_at<T: Default + Drop, N: ArrayLength<T>>(
 }
 
 /// Other items in place of all.
-fn replaced<T: Copy + Default + Drop, N: ArrayLength<T>>(
-    list: &mut ArrayBuilder<T, N>,
-    items: &[T],
-)
+fn replaced<T: Copy + Default + Drop, N: ArrayLength<T>>(list: &mut ArrayBuilder<T, N>, items: &[T])
     requires { length items.now ≤ N.USIZE }
     ensures { list.new ≡ items.now }
 {

@@ -30,7 +30,11 @@ pub fn digit_in_hex(number: u8) -> u8
     requires { number < 16 }
     ensures { result ≡ hex_digit number }
 {
-    if number < 10 { number + b'0' } else { number + (b'a' - 10) }
+    if number < 10 {
+        number + b'0'
+    } else {
+        number + (b'a' - 10)
+    }
 }
 
 /// The number below 16 that a byte stands for, or the byte where it is no hex digit.

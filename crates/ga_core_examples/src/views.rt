@@ -3,7 +3,9 @@ ghost use Rattle.ga_core.specs.Views.{items_of_view};
 ghost use Rattle.std.specs.Prelude.{◌≡◌, ◌≢◌, ◌==◌, ◌+◌, ◌%◌, ◌^◌, ◌∷◌, [], IfOk, IsOk, fold, length, max, position, reverse, slice_set, sum};
 
 use crate::numbers::one_two_three;
-use ga_core::{ArrayLength, Const, GenericArray, GenericArrayMut, GenericArrayRef, U2, U3, Unsigned};
+use ga_core::{
+    ArrayLength, Const, GenericArray, GenericArrayMut, GenericArrayRef, U2, U3, Unsigned,
+};
 use std::alloc::AllocError;
 
 fn second_written(slice: &mut [u8])
@@ -78,7 +80,9 @@ fn greatest_and_sum<N: ArrayLength<u32>>(lanes: &GenericArray<u32, N>) -> (u32, 
     ensures sum { result.1 ≡ fold (λ total lane. (total + lane) % 2 ^ 32) 0 lanes.now }
 {
     let greatest = greatest_of(lanes.view());
-    let sum = lanes.view().fold(0, |total: u32, lane: &u32| total.wrapping_add(*lane));
+    let sum = lanes
+        .view()
+        .fold(0, |total: u32, lane: &u32| total.wrapping_add(*lane));
     (greatest, sum)
 }
 

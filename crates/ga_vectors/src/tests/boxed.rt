@@ -49,9 +49,10 @@ fn stopped_and_folded<N: Unsigned>(alloc: Global) -> Result<(u32, u32), AllocErr
         Ok(_bytes) => 0,
         Err(item) => item,
     };
-    let folded = array
-        .view()
-        .fold(0, |all: u32, item: &u32| all.wrapping_mul(10).wrapping_add(*item));
+    let folded = array.view().fold(
+        0,
+        |all: u32, item: &u32| all.wrapping_mul(10).wrapping_add(*item),
+    );
     Ok((error, folded))
 }
 
