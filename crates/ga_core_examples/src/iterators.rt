@@ -1,6 +1,6 @@
 //! Callers of the iterator by value, each proved.
 ghost use Rattle.ga_core.specs.Length.{FitsInline};
-ghost use Rattle.std.specs.Prelude.{◌≡◌, ◌+◌, ◌%◌, ◌^◌, ◌<◌, ◌≤◌, IfOk, IsOk, Ok, fold, max, reverse, sum, take};
+ghost use Rattle.std.specs.Prelude.{◌≡◌, ◌+◌, ◌-◌, ◌%◌, ◌^◌, ◌<◌, ◌≤◌, IfOk, IsOk, Ok, fold, max, reverse, sum, take};
 
 use crate::answers::gives;
 use crate::numbers::one_two_three;
@@ -58,6 +58,13 @@ fn greatest<N: ArrayLength<u32>>(lanes: GenericArray<u32, N>) -> u32
     lanes.into_iter().fold(0, u32::max)
 }
 
+/// What is left of a budget, which does not fall below 0.
+fn left_of<N: ArrayLength<u32>>(budget: u32, costs: GenericArray<u32, N>) -> u32
+    ensures { result ≡ fold (λ left cost. left - cost) budget costs }
+{
+    costs.into_iter().fold(budget, u32::saturating_sub)
+}
+
 fn plus(total: u32, lane: u32) -> u32
     ensures { result ≡ (total + lane) % 2 ^ 32 }
 {
@@ -81,6 +88,7 @@ fn wrapped_sum_by_a_closure<N: ArrayLength<u32>>(lanes: GenericArray<u32, N>) ->
 #[test]
 fn callers_fold_by_functions_and_closures(rt: HostRuntime) {
     assert!(rt; greatest(one_two_three()) == 3 && wrapped_sum(one_two_three()) == 6);
+    assert!(rt; left_of(10, one_two_three()) == 4 && left_of(5, one_two_three()) == 0);
     assert!(rt; wrapped_sum_by_a_closure(one_two_three()) == 6);
 }
 

@@ -3,7 +3,7 @@ ghost use Rattle.ga_core_examples.specs.Digits.{digit_of};
 ghost use Rattle.ga_core.specs.Tries.{try_map};
 ghost use Rattle.std.specs.Int.Bits.{bit_xor};
 ghost use Rattle.std.specs.List.{zip};
-ghost use Rattle.std.specs.Prelude.{◌≡◌, ◌+◌, ◌*◌, ◌∷◌, [], ◌%◌, ◌^◌, map, slice_index};
+ghost use Rattle.std.specs.Prelude.{◌≡◌, ◌+◌, ◌*◌, ◌∷◌, [], ◌%◌, ◌^◌, map, min, slice_index};
 
 use crate::answers::{gives, has};
 use crate::digits::digit_in;
@@ -53,6 +53,16 @@ fn scaled_sums<N: ArrayLength<u32>>(
         right,
         |l: u32, r: u32| l.wrapping_add(r.wrapping_mul(scale)),
     )
+}
+
+/// By a named function.
+fn least_of_both<N: ArrayLength<u32>>(
+    left: GenericArray<u32, N>,
+    right: GenericArray<u32, N>,
+) -> GenericArray<u32, N>
+    ensures { result ≡ map (λ p. min p.0 p.1) (zip left right) }
+{
+    left.zip_inline(right, u32::min)
 }
 
 fn sums_of_borrowed<N: ArrayLength<u32>>(
@@ -174,6 +184,7 @@ fn zips_return_what_their_contracts_say(rt: HostRuntime) {
             &[5, 7, 9]
         )
     );
+    assert!(rt; has(least_of_both(four_five_six(), one_two_three()), &[1, 2, 3]));
     let left = GenericArray::<u32, U2>::from_array([10, 20]);
     let right = GenericArray::<u32, U2>::from_array([1, 2]);
     assert!(rt; calls_in_order(left, right) == [12, 24, 14, 26]);

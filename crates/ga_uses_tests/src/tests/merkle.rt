@@ -7,7 +7,7 @@ ghost use Rattle.std.specs.Prelude.{◌≡◌, ◌+◌, ◌*◌, ◌<◌, ◌++�
 
 use ga_hashes::Sha256;
 use ga_hashes::hash_function::HashFunction;
-use generic_array::{ArrayLength, BorrowedItems, GenericArray, InlineLength, U1, U2, U4, U8};
+use generic_array::{ArrayLength, BorrowedItems, GenericArray, InlineLength, U1, U2, U4, U8, U32};
 use std::test::Fail;
 
 fn leaf_digest<H: HashFunction>(leaf: &[u8]) -> GenericArray<u8, H::OutputSize>
@@ -80,27 +80,18 @@ where
     )
 }
 
+type Sha256Digest = GenericArray<u8, U32>;
+
 /// The root over eight leaves.
-fn root_of_eight<H: HashFunction>(
-    leaves: &[&[u8]; 8],
-) -> GenericArray<GenericArray<u8, H::OutputSize>, U1>
-where
-    H::OutputSize: InlineLength,
-{
-    let blank: GenericArray<u8, H::OutputSize> = GenericArray::default();
-    let digests: GenericArray<GenericArray<u8, H::OutputSize>, U8> = GenericArray::generate(
-        |i: usize| -> GenericArray<u8, H::OutputSize>
+fn root_of_eight(leaves: &[&[u8]; 8]) -> GenericArray<Sha256Digest, U1> {
+    let digests: GenericArray<Sha256Digest, U8> = GenericArray::generate(
+        |i: usize| -> Sha256Digest
             requires { i < 8 }
-        {
-            let _ = &blank;
-            leaf_digest::<H>(leaves[i])
-        },
+        { leaf_digest::<Sha256>(leaves[i]) },
     );
-    let four: GenericArray<GenericArray<u8, H::OutputSize>, U4> = parents::<H, U4>(
-        digests.as_slice(),
-    );
-    let two: GenericArray<GenericArray<u8, H::OutputSize>, U2> = parents::<H, U2>(four.as_slice());
-    parents::<H, U1>(two.as_slice())
+    let four: GenericArray<Sha256Digest, U4> = parents::<Sha256, U4>(digests.as_slice());
+    let two: GenericArray<Sha256Digest, U2> = parents::<Sha256, U2>(four.as_slice());
+    parents::<Sha256, U1>(two.as_slice())
 }
 
 #[test]
@@ -115,7 +106,7 @@ fn the_root_is_that_of_the_reference_implementation(rt: HostRuntime) -> Result<(
         b"PQRSTUVW",
         b"`abcdefghijklmno",
     ];
-    let root = root_of_eight::<Sha256>(&leaves);
+    let root = root_of_eight(&leaves);
     let wanted = "5dc9da79a70659a9ad559cb701ded9a2ab9d823aad2f4960cfe370eff4604328";
     assert!(rt; root[0].as_slice() == hex::decode(rt.alloc(), wanted)?.as_slice());
     Ok(())
