@@ -3,7 +3,7 @@
 use Rattle.ga_boxed.specs.Live.{Live}
 use Rattle.ga_core.proofs.CutLemmas.{taken-more}
 use Rattle.std.proofs.Common.{◌≡◌, ◌≢◌, ℕ, suc, ◌+◌, ◌*◌, ◌^◌, ◌<◌, ◌≤◌, List, [], ◌∷◌, ◌++◌, length, ap, sym, ◌∙◌}
-use Rattle.std.proofs.Common.{arith, MatchOption, None, Option, Some, min, pos_of_ne-zero, subst, zero-mul}
+use Rattle.std.proofs.Common.{arith, MatchOption, None, Option, Some, drop, length-drop, pos_of_ne-zero, subst, zero-mul}
 use Rattle.std.proofs.lemmas.List.{append-nil, length_push, nil_from_length}
 use Rattle.std.specs.Iterator.{YieldsFirst, YieldsLast}
 
@@ -40,9 +40,10 @@ all_counted i n end past within all = omega arith
 pub one_more : (i k j n : ℕ) → i + k ≡ n → j + 1 ≡ k → i + 1 + j ≡ n
 one_more i k j n so_far fewer = omega arith
 
--- as many were passed over as are to be, or all
-pub passed_all : (k n len end count : ℕ) → end ≤ k → k ≤ end → end ≡ min n len → len ≡ count → k ≡ min n count
-passed_all k n len end count past within least all = omega arith
+-- where nothing is left behind those passed over, there are no more
+pub none_behind : {T : Type 0} (passed : ℕ) (items left : List T) → left ≡ drop passed items → left ≡ []
+    → length items ≤ passed
+none_behind passed items left behind none = omega (arith, length-drop passed items, ap length behind, ap length none)
 
 module _ (made room all left : ℕ) where
   -- where there is room, not all are there

@@ -111,8 +111,8 @@ impl<T: Drop> BoxedArrayIter<T> {
     pub fn nth(&mut self, n: usize) -> Option<T>
         ensures step { StepGives (front n) self.old result self.new }
     {
-        for _passed in 0..n.min(self.len()) {
-            let _ = self.items.take_front();
+        for _passed in 0..n {
+            let _ = self.items.take_front()?;
         }
         self.items.take_front()
     }
@@ -122,8 +122,8 @@ impl<T: Drop> BoxedArrayIter<T> {
     pub fn nth_back(&mut self, n: usize) -> Option<T>
         ensures step { StepGives (back n) self.old result self.new }
     {
-        for _passed_back in 0..n.min(self.len()) {
-            let _ = self.items.take_back();
+        for _passed_back in 0..n {
+            let _ = self.items.take_back()?;
         }
         self.items.take_back()
     }

@@ -177,7 +177,7 @@ impl<T: Default + Drop, N: ArrayLength<T>> GenericArrayIter<T, N> {
     {
         let (first, count) = (self.front, slots.len());
         S::swap_slices(self.store.part_mut(first, count), slots);
-        self.front = first + count;
+        self.front += count;
     }
 
     /// Moves items from the front into `slots`, one for each slot, in one pass. Drops what the slots
