@@ -4,7 +4,7 @@ use Rattle.ga_boxed.specs.Live.{Live}
 use Rattle.ga_core.proofs.CutLemmas.{taken-more}
 use Rattle.std.proofs.Common.{◌≡◌, ◌≢◌, ℕ, suc, ◌+◌, ◌*◌, ◌^◌, ◌<◌, ◌≤◌, List, [], ◌∷◌, ◌++◌, length, ap, sym, ◌∙◌}
 use Rattle.std.proofs.Common.{arith, MatchOption, None, Option, Some, drop, length-drop, pos_of_ne-zero, subst, zero-mul}
-use Rattle.std.proofs.lemmas.List.{append-nil, length_push, nil_from_length}
+use Rattle.std.proofs.lemmas.List.{length_push, nil_from_length}
 use Rattle.std.specs.Iterator.{YieldsFirst, YieldsLast}
 
 -- none of any size fit
@@ -85,19 +85,6 @@ module _ {T : Type 0} where
   -- before the end some are left
   pub some_left : (i n end : ℕ) (left : List T) → i + length left ≡ n → i < end → end ≡ n → left ≢ []
   some_left i n end left so_far below all none = omega (arith, ap length none)
-
-  -- one fewer is left, from either end
-  pub one_gone : (left : List T) (item : T) (others : List T) → left ≡ item ∷ others → length others < length left
-  one_gone left item others step = omega (arith, ap length step)
-
-  pub one_gone-back : (left : List T) (item : T) (others : List T) → left ≡ others ++ item ∷ []
-      → length others < length left
-  one_gone-back left item others step = omega (arith, ap length step ∙ length_push others item)
-
-  -- where none is left, all were moved
-  pub all_moved : (moved left all : List T) → moved ++ left ≡ all → length left ≡ 0 → moved ≡ all
-  all_moved moved left all so_far none =
-      sym (append-nil moved) ∙ (ap (λ l. moved ++ l) (sym (nil_from_length left none)) ∙ so_far)
 
   -- one more was moved
   pub moved_more : (before after left others all : List T) (item : T) → after ≡ before ++ item ∷ []

@@ -3,19 +3,13 @@ use Rattle.arrayvec.proofs.IterLemmas.{slice_range_first, slice_range_last}
 use Rattle.ga_core.proofs.SlotLemmas.{refill-long}
 use Rattle.ga_views.proofs.PartLemmas.{part-before, part-behind}
 use Rattle.ga_views.specs.Parts.{part_set}
-use Rattle.std.proofs.Common.{◌≡◌, ℕ, ◌+◌, ◌^◌, ◌-◌, ◌%◌, ◌<◌, ◌≤◌, List, [], ◌∷◌, ◌++◌, length, drop, take, reverse}
+use Rattle.std.proofs.Common.{◌≡◌, ℕ, ◌+◌, ◌^◌, ◌-◌, ◌%◌, ◌<◌, ◌≤◌, List, [], ◌∷◌, ◌++◌, length, drop, take}
 use Rattle.std.proofs.Common.{ap, ◌∙◌, arith, get_or, slice_get, slice_set, length-append, length-drop, length-take}
 use Rattle.std.proofs.Common.{Option, None, Some, refl, sym, mod-eq_of_lt}
-use Rattle.std.proofs.lemmas.List.{drop-drop, drop-take, reverse-append, take-take, take_all}
+use Rattle.std.proofs.lemmas.List.{append-nil, length_push, nil_from_length}
+use Rattle.std.proofs.lemmas.List.{drop-drop, drop-take, take-take, take_all}
 use Rattle.std.specs.Iterator.{YieldsLast}
 use Rattle.std.specs.List.{refill, slice_range}
-
--- the place before an index that counts down
-pub index-in : {index count other : ℕ} → 0 < index → index ≤ count → other ≡ count → index - 1 < other
-index-in some within same = omega arith
-
-pub index-falls : (index : ℕ) → 0 < index → index - 1 - 0 < index - 0
-index-falls index some = omega arith
 
 module _ {T : Type 0} where
   -- where fewer are passed than are left, one stays behind them
@@ -23,13 +17,22 @@ module _ {T : Type 0} where
       → 0 < length behind
   left-stays {n} left behind few same is = omega (arith, length-drop n left, ap length is)
 
+  -- one fewer is left, from either end
+  pub one_gone : (left : List T) (item : T) (others : List T) → left ≡ item ∷ others → length others < length left
+  one_gone left item others step = omega (arith, ap length step)
+
+  pub one_gone-back : (left : List T) (item : T) (others : List T) → left ≡ others ++ item ∷ []
+      → length others < length left
+  one_gone-back left item others step = omega (arith, ap length step ∙ length_push others item)
+
+  -- where none is left, all were moved
+  pub all_moved : (moved left all : List T) → moved ++ left ≡ all → length left ≡ 0 → moved ≡ all
+  all_moved moved left all so_far none =
+      sym (append-nil moved) ∙ (ap (λ l. moved ++ l) (sym (nil_from_length left none)) ∙ so_far)
+
   -- where none is passed, all are left
   pub left-whole : (left : List T) (passed : ℕ) → passed ≤ 0 → left ≡ take (length left - passed) left
   left-whole left passed none = sym (take_all (length left - passed) left (omega arith))
-
-  -- all are left at first, from the back too
-  pub left-all : (items left : List T) → items ≡ left → reverse left ≡ reverse (slice_range items 0 (length items))
-  left-all items left same = ap reverse (sym same ∙ sym (take_all (length items - 0) items (omega arith)))
 
   slice_get-seam : (rest : List T) (item : T) → slice_get (rest ++ item ∷ []) (length rest) ≡ Some item
   slice_get-seam [] item = refl
@@ -42,16 +45,6 @@ module _ {T : Type 0} where
   left-end items (Some item) rest came =
       let last : length items - 1 ≡ length rest = omega (arith, length-append rest (item ∷ []), ap length came) in
       sym (ap (slice_get items) last ∙ (ap (λ all. slice_get all (length rest)) came ∙ slice_get-seam rest item))
-
-  -- the last of those that are left is the first from the back
-  pub left-last_reversed : (items : List T) (front back : ℕ) (item slot blank : T) → front < back → back ≤ length items
-      → item ≡ get_or items (back - 1) slot → slot ≡ get_or items (back - 1) slot
-      → reverse (slice_range items front back) ≡ item
-      ∷ reverse (slice_range (slice_set items (back - 1) blank) front (back - 1))
-  left-last_reversed items front back item slot blank some within here is =
-      ap reverse (slice_range_last items front back item blank some within (here ∙ ap (get_or items (back - 1))
-      (is ∙ sym here)))
-      ∙ reverse-append (slice_range (slice_set items (back - 1) blank) front (back - 1)) (item ∷ [])
 
 -- What is left lies between the two slots, in at most 65536 items.
 module _ {T : Type 0} {front back n : ℕ} (items left : List T)

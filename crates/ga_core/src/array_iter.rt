@@ -8,6 +8,7 @@ mod copies;
 mod folds;
 mod steps;
 
+use crate::items_left::ItemsLeft;
 use crate::length::ArrayLength;
 use crate::slots::{are_many, move_items};
 use crate::store::Store;
@@ -122,6 +123,20 @@ impl<T: Default + Drop, N: ArrayLength<T>> DoubleEndedIterator for GenericArrayI
             return None;
         }
         Some(self.take_last())
+    }
+}
+
+impl<T: Default + Drop, N: ArrayLength<T>> ItemsLeft<T> for GenericArrayIter<T, N> {
+    ghost items = { λ left. left };
+
+    #[inline]
+    fn take_front(&mut self) -> Option<T> {
+        self.next()
+    }
+
+    #[inline]
+    fn take_back(&mut self) -> Option<T> {
+        self.next_back()
     }
 }
 

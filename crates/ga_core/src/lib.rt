@@ -15,6 +15,7 @@ mod array_iter;
 mod borrowed_items;
 mod builder;
 mod fill_error;
+pub mod items_left;
 mod length;
 mod mapping;
 mod never;
@@ -36,6 +37,7 @@ pub use ga_views::{
     U54, U55, U56, U57, U58, U59, U60, U61, U62, U63, U64, U128, U256, U512, U1024, U2048,
     Unsigned, ViewMut, hex_text, reborrow,
 };
+pub use items_left::ItemsLeft;
 pub use length::{ArrayLength, ConstArrayLength, IntoArrayLength};
 pub use never::{Never, always};
 pub use store::Store;
