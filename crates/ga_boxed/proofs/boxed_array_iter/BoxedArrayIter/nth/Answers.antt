@@ -23,7 +23,7 @@ returns-in_err-take_front g c =
     let few : length items ≤ at._passed = none_behind at._passed items _ at.invariant ended.0 in
     record {
       step = rw c.from_residual.ensures (nth-past c.args.n items c.take_front.new.self.items
-      (omega (arith, few, at.auto._passed-end)) (ap (λ block. block.items) ended.1 ∙ ended.0));
+          (omega (arith, few, at.auto._passed-end)) (ap (λ block. block.items) ended.1 ∙ ended.0));
     }
 
 pub returns : goal.returns

@@ -1,7 +1,7 @@
 use Rattle.ga_core.proofs.CutLemmas.{next_back-reversed, nth_back-past, nth_back-step, passed-more}
 use Rattle.ga_boxed.proofs.boxed_array_iter.BoxedArrayIter.nth_back.Goals as goal
 use Rattle.ga_boxed.proofs.BlockLemmas.{last-came, none_behind}
-use Rattle.std.proofs.Common.{◌≡◌, ◌≤◌, ◌∙◌, ap, arith, drop, length, min, refl, reverse, sym}
+use Rattle.std.proofs.Common.{◌≡◌, ◌≤◌, ◌∙◌, ap, arith, drop, length, min, reverse, sym}
 use Rattle.std.proofs.lemmas.List.{drop_min, length-reverse}
 
 pub loop-passed_back-init : goal.loop-passed_back-init
@@ -25,8 +25,8 @@ returns-in_err-take_back g c =
     none_behind at._passed_back (reverse items) _ at.invariant (ap reverse ended.0) in
     record {
       step = rw c.from_residual.ensures (nth_back-past c.args.n items c.take_back.new.self.items
-      (omega (arith, few, length-reverse items, at.auto._passed_back-end))
-      (ap (λ block. block.items) ended.1 ∙ ended.0));
+          (omega (arith, few, length-reverse items, at.auto._passed_back-end))
+          (ap (λ block. block.items) ended.1 ∙ ended.0));
     }
 
 pub returns : goal.returns
