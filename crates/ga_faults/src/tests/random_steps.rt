@@ -2,8 +2,9 @@
 use crate::tests::counted::{Counted, Counts};
 use crate::tests::items::{boxed_counted_from, counted_from};
 use crate::tests::random::Numbers;
+use crate::tests::scripted::Numbered;
 use generic_array::steps::TwoEnded;
-use generic_array::{AllocError, LiveBlock, U8};
+use generic_array::{AllocError, ArrayLength, BoxedArray, GenericArray, LiveBlock, U8};
 use std::alloc::Global;
 use std::test::Fail;
 
@@ -47,11 +48,15 @@ impl Left {
     }
 }
 
-fn number_of(item: Option<Counted>) -> u32 {
-    item.map_or(0, |item| item.place())
+/// The number of an item, 0 where there is none. The item is dropped.
+fn number_of<T: Numbered + Drop>(item: Option<T>) -> u32 {
+    match item {
+        Some(item) => item.number(),
+        None => 0,
+    }
 }
 
-fn taken<'a, I: TwoEnded<Counted<'a>>>(items: &mut I, step: Step) -> u32 {
+fn taken<T: Numbered + Drop, I: TwoEnded<T>>(items: &mut I, step: Step) -> u32 {
     number_of(match step {
         Step::Next => items.front(),
         Step::NextBack => items.back(),
@@ -70,27 +75,36 @@ fn random_step(numbers: &mut Numbers) -> Step {
     }
 }
 
-/// Whether a few steps over eight items return the same out of an array and a block, as the numbers say. What
-/// is left is dropped.
-fn walks_alike(
-    alloc: Global,
+/// Whether a few steps return the same out of an array and a block, each of the items 1 to 8, as the numbers
+/// say. What is left is dropped.
+fn walks_alike<T: Numbered + Default + Drop, N: ArrayLength<T>>(
+    array: GenericArray<T, N>,
+    block: BoxedArray<T, N>,
     numbers: &mut Numbers,
-    counts: &Counts,
     steps: u32,
-) -> Result<bool, AllocError> {
-    let inline = counted_from::<U8>(counts, 1);
-    let boxed = boxed_counted_from::<U8>(alloc, counts, 1)?;
-    let (mut inline, mut boxed) = (inline.into_iter(), boxed.into_iter());
+) -> bool {
+    let (mut inline, mut boxed) = (array.into_iter(), block.into_iter());
     let mut left = Left { first: 1, end: 9 };
     for _step in 0..steps {
         let step = random_step(numbers);
         let wanted = left.taken(step);
         if taken(&mut inline, step) != wanted || taken(&mut boxed, step) != wanted {
-            return Ok(false);
+            return false;
         }
     }
     let len = left.end.wrapping_sub(left.first) as usize;
-    Ok(inline.len() == len && boxed.len() == len)
+    inline.len() == len && boxed.len() == len
+}
+
+fn counted_walks_alike(
+    alloc: Global,
+    numbers: &mut Numbers,
+    counts: &Counts,
+    steps: u32,
+) -> Result<bool, AllocError> {
+    let array = counted_from::<U8>(counts, 1);
+    let block = boxed_counted_from::<U8>(alloc, counts, 1)?;
+    Ok(walks_alike(array, block, numbers, steps))
 }
 
 #[test]
@@ -102,7 +116,7 @@ fn random_walks_answer_alike_and_drop_each_item_once(rt: HostRuntime) -> Result<
         let count = numbers.below(10);
         steps = steps.wrapping_add(count);
         assert!(rt;
-            walks_alike(rt.alloc(), &mut numbers, &counts, count)?,
+            counted_walks_alike(rt.alloc(), &mut numbers, &counts, count)?,
             "walk {walk}"
         );
         assert!(rt; counts.drops() == walk.wrapping_mul(16), "walk {walk}");

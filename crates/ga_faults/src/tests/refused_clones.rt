@@ -8,7 +8,7 @@ ghost use Rattle.generic_array.specs.Length.{FitsInline};
 use crate::tests::counted::{Counted, Counts};
 use crate::tests::items::counted_from;
 use crate::tests::outcome::{Outcome, play};
-use crate::tests::scripted::digits;
+use crate::tests::scripted::{Numbered, digits};
 use generic_array::steps::TwoEnded;
 use generic_array::{ArrayLength, BoxedArray, GenericArray, U0, U1, U3, U4};
 use std::alloc::Global;
@@ -40,7 +40,7 @@ fn outcome_of(counts: &Counts, due: u32, is_made: bool, others: u32) -> Outcome 
 }
 
 /// The digits of what was made, which is dropped, 0 where that was refused.
-fn digits_made<'a, S: AsSlice<Counted<'a>> + Drop, E: Drop>(made: Result<S, E>) -> u32 {
+fn digits_made<T: Numbered, S: AsSlice<T> + Drop, E: Drop>(made: Result<S, E>) -> u32 {
     match made {
         Ok(made) => digits(made.as_slice()),
         Err(_refused) => 0,
@@ -74,14 +74,16 @@ fn cloned<S: Drop>(
     outcome.and(is_known && is_in_order && counts.drops() == dropped)
 }
 
-fn array_clone(counts: &Counts) -> Outcome {
-    let array = counted_from::<U3>(counts, 1);
+fn array_clone<T: Numbered + Clone + Default + Drop, N: ArrayLength<T>>(
+    array: GenericArray<T, N>,
+    counts: &Counts,
+) -> Outcome {
     let of_both = [digits_made(array.clone()), digits(array.as_slice())];
     cloned(array, of_both, 123, 3, counts)
 }
 
 /// Clones the two items that are left of three.
-fn iterator_clone<'a, I: TwoEnded<Counted<'a>> + Clone + Drop>(
+fn iterator_clone<T: Numbered, I: TwoEnded<T> + Clone + Drop>(
     items: I,
     wanted: u32,
     counts: &Counts,
@@ -94,19 +96,40 @@ fn iterator_clone<'a, I: TwoEnded<Counted<'a>> + Clone + Drop>(
     cloned(items, of_both, wanted, 2, counts)
 }
 
-fn inline_iterator(counts: &Counts) -> Outcome {
-    let mut items = counted_from::<U3>(counts, 1).into_iter();
+fn inline_iterator<T: Numbered + Clone + Default + Drop, N: ArrayLength<T>>(
+    array: GenericArray<T, N>,
+    counts: &Counts,
+) -> Outcome {
+    let mut items = array.into_iter();
     let _ = items.next_back();
     iterator_clone(items, 12, counts)
 }
 
-fn boxed_iterator(alloc: Global, counts: &Counts) -> Outcome {
-    let Ok(array) = BoxedArray::from_inline(alloc, counted_from::<U3>(counts, 1)) else {
+fn boxed_iterator<T: Numbered + Clone + Default + Drop, N: ArrayLength<T>>(
+    alloc: Global,
+    array: GenericArray<T, N>,
+    counts: &Counts,
+) -> Outcome {
+    let Ok(array) = BoxedArray::from_inline(alloc, array) else {
         return Outcome::refused_if(counts.drops() == 3);
     };
     let mut items = array.into_iter();
     let _ = items.next();
     iterator_clone(items, 23, counts)
+}
+
+/// The clone of three items, or of what is left of them, by the number of its case.
+fn clone_of_three<T: Numbered + Clone + Default + Drop, N: ArrayLength<T>>(
+    alloc: Global,
+    array: GenericArray<T, N>,
+    counts: &Counts,
+    number: u32,
+) -> Outcome {
+    match number {
+        2 => array_clone(array, counts),
+        3 => inline_iterator(array, counts),
+        _ => boxed_iterator(alloc, array, counts),
+    }
 }
 
 /// A case, by its number.
@@ -121,9 +144,7 @@ fn case(alloc: Global, number: u32) -> Outcome {
             BoxedArray::<_, U4>::repeat(alloc, Counted::new(counts, 4)),
             counts,
         ),
-        2 => array_clone(counts),
-        3 => inline_iterator(counts),
-        _ => boxed_iterator(alloc, counts),
+        of_three => clone_of_three(alloc, counted_from::<U3>(counts, 1), counts, of_three),
     }
 }
 
