@@ -3,8 +3,8 @@
 use Rattle.ga_boxed.specs.Live.{Live}
 use Rattle.ga_core.proofs.CutLemmas.{taken-more}
 use Rattle.std.proofs.Common.{◌≡◌, ◌≢◌, ℕ, suc, ◌+◌, ◌*◌, ◌^◌, ◌<◌, ◌≤◌, List, [], ◌∷◌, ◌++◌, length, ap, sym, ◌∙◌}
-use Rattle.std.proofs.Common.{arith, MatchOption, None, Option, Some, min, pos_of_ne-zero, subst, zero-mul}
-use Rattle.std.proofs.lemmas.List.{append-nil, length_push, nil_from_length}
+use Rattle.std.proofs.Common.{arith, MatchOption, None, Option, Some, drop, length-drop, pos_of_ne-zero, subst, zero-mul}
+use Rattle.std.proofs.lemmas.List.{length_push, nil_from_length}
 use Rattle.std.specs.Iterator.{YieldsFirst, YieldsLast}
 
 -- none of any size fit
@@ -32,9 +32,10 @@ all_counted i n end past within all = omega arith
 pub one_more : (i k j n : ℕ) → i + k ≡ n → j + 1 ≡ k → i + 1 + j ≡ n
 one_more i k j n so_far fewer = omega arith
 
--- as many were passed over as are to be, or all
-pub passed_all : (k n len end count : ℕ) → end ≤ k → k ≤ end → end ≡ min n len → len ≡ count → k ≡ min n count
-passed_all k n len end count past within least all = omega arith
+-- where nothing is left behind those passed over, there are no more
+pub none_behind : {T : Type 0} (passed : ℕ) (items left : List T) → left ≡ drop passed items → left ≡ []
+    → length items ≤ passed
+none_behind passed items left behind none = omega (arith, length-drop passed items, ap length behind, ap length none)
 
 module _ (made room all left : ℕ) where
   -- where there is room, not all are there
@@ -73,11 +74,6 @@ module _ {T : Type 0} where
   -- before the end some are left
   pub some_left : (i n end : ℕ) (left : List T) → i + length left ≡ n → i < end → end ≡ n → left ≢ []
   some_left i n end left so_far below all none = omega (arith, ap length none)
-
-  -- where none is left, all were moved
-  pub all_moved : (moved left all : List T) → moved ++ left ≡ all → length left ≡ 0 → moved ≡ all
-  all_moved moved left all so_far none =
-      sym (append-nil moved) ∙ (ap (λ l. moved ++ l) (sym (nil_from_length left none)) ∙ so_far)
 
   -- one more was moved
   pub moved_more : (before after left others all : List T) (item : T) → after ≡ before ++ item ∷ []

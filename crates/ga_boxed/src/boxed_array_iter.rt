@@ -10,6 +10,7 @@ ghost use Rattle.std.specs.Prelude.{◌≡◌, ◌-◌, IfOk, IsOk, fold, length
 
 use crate::live_block::LiveBlock;
 use ga_core::AllocError;
+use ga_core::items_left::{ItemsLeft, fold_left, rfold_left};
 use std::alloc;
 use std::marker::Model;
 
@@ -105,14 +106,28 @@ impl<T: Drop> DoubleEndedIterator for BoxedArrayIter<T> {
     }
 }
 
+impl<T: Drop> ItemsLeft<T> for BoxedArrayIter<T> {
+    ghost items = { λ left. left };
+
+    #[inline]
+    fn take_front(&mut self) -> Option<T> {
+        self.next()
+    }
+
+    #[inline]
+    fn take_back(&mut self) -> Option<T> {
+        self.next_back()
+    }
+}
+
 impl<T: Drop> BoxedArrayIter<T> {
     /// Drops `n` items and returns the next one. If at most `n` items are left, drops them all and
     /// returns `None`. O(n).
     pub fn nth(&mut self, n: usize) -> Option<T>
         ensures step { StepGives (front n) self.old result self.new }
     {
-        for _passed in 0..n.min(self.len()) {
-            let _ = self.items.take_front();
+        for _passed in 0..n {
+            let _ = self.items.take_front()?;
         }
         self.items.take_front()
     }
@@ -122,8 +137,8 @@ impl<T: Drop> BoxedArrayIter<T> {
     pub fn nth_back(&mut self, n: usize) -> Option<T>
         ensures step { StepGives (back n) self.old result self.new }
     {
-        for _passed_back in 0..n.min(self.len()) {
-            let _ = self.items.take_back();
+        for _passed_back in 0..n {
+            let _ = self.items.take_back()?;
         }
         self.items.take_back()
     }
@@ -154,16 +169,12 @@ impl<T: Drop> BoxedArrayIter<T> {
 
     /// `fold` that borrows the closure, which can be used again in the state that it reached. One
     /// pass.
-    pub fn fold_by<A, F: FnMut(A, T) -> A>(mut self, init: A, f: &mut F) -> A
+    pub fn fold_by<A, F: FnMut(A, T) -> A>(self, init: A, f: &mut F) -> A
         requires callable { MayFold (λ item. item) F.pre F.step f.old init self }
         ensures run { FoldRun F.step f.old init self result f.new }
         ensures acts { (h : A → T → A) → ActsAsOnTwo F.FnMut f.old h → result ≡ fold h init self }
     {
-        let mut answer = init;
-        while let Some(item) = self.next() {
-            answer = f(answer, item);
-        }
-        answer
+        fold_left(self, init, f)
     }
 
     /// `fold` from the back. One pass.
@@ -177,16 +188,12 @@ impl<T: Drop> BoxedArrayIter<T> {
 
     /// `rfold` that borrows the closure, which can be used again in the state that it reached. One
     /// pass.
-    pub fn rfold_by<A, F: FnMut(A, T) -> A>(mut self, init: A, f: &mut F) -> A
+    pub fn rfold_by<A, F: FnMut(A, T) -> A>(self, init: A, f: &mut F) -> A
         requires callable { MayFold (λ item. item) F.pre F.step f.old init (reverse self) }
         ensures run { FoldRun F.step f.old init (reverse self) result f.new }
         ensures acts { (h : A → T → A) → ActsAsOnTwo F.FnMut f.old h → result ≡ fold h init (reverse self) }
     {
-        let mut answer = init;
-        while let Some(item) = self.next_back() {
-            answer = f(answer, item);
-        }
-        answer
+        rfold_left(self, init, f)
     }
 }
 

@@ -3,9 +3,10 @@ use Rattle.arrayvec.proofs.IterLemmas.{slice_range_first, slice_range_last}
 use Rattle.ga_core.proofs.SlotLemmas.{refill-long}
 use Rattle.ga_views.proofs.PartLemmas.{part-before, part-behind}
 use Rattle.ga_views.specs.Parts.{part_set}
-use Rattle.std.proofs.Common.{◌≡◌, ℕ, ◌+◌, ◌-◌, ◌%◌, ◌<◌, ◌≤◌, List, [], ◌∷◌, ◌++◌, length, drop, take, reverse, ap}
-use Rattle.std.proofs.Common.{◌∙◌, arith, get_or, slice_get, slice_set, length-append, length-drop, length-take, Option}
-use Rattle.std.proofs.Common.{None, Some, refl, sym, mod-eq_of_lt}
+use Rattle.std.proofs.Common.{◌≡◌, ℕ, ◌+◌, ◌^◌, ◌-◌, ◌%◌, ◌<◌, ◌≤◌, List, [], ◌∷◌, ◌++◌, length, drop, take, reverse}
+use Rattle.std.proofs.Common.{ap, ◌∙◌, arith, get_or, slice_get, slice_set, length-append, length-drop, length-take}
+use Rattle.std.proofs.Common.{Option, None, Some, refl, sym, mod-eq_of_lt}
+use Rattle.std.proofs.lemmas.List.{append-nil, length_push, nil_from_length}
 use Rattle.std.proofs.lemmas.List.{drop-drop, drop-take, reverse-append, take-take, take_all}
 use Rattle.std.specs.Iterator.{YieldsLast}
 use Rattle.std.specs.List.{refill, slice_range}
@@ -15,6 +16,19 @@ module _ {T : Type 0} where
   pub left-stays : {n count : ℕ} (left behind : List T) → n < count → count ≡ length left → behind ≡ drop n left
       → 0 < length behind
   left-stays {n} left behind few same is = omega (arith, length-drop n left, ap length is)
+
+  -- one fewer is left, from either end
+  pub one_gone : (left : List T) (item : T) (others : List T) → left ≡ item ∷ others → length others < length left
+  one_gone left item others step = omega (arith, ap length step)
+
+  pub one_gone-back : (left : List T) (item : T) (others : List T) → left ≡ others ++ item ∷ []
+      → length others < length left
+  one_gone-back left item others step = omega (arith, ap length step ∙ length_push others item)
+
+  -- where none is left, all were moved
+  pub all_moved : (moved left all : List T) → moved ++ left ≡ all → length left ≡ 0 → moved ≡ all
+  all_moved moved left all so_far none =
+      sym (append-nil moved) ∙ (ap (λ l. moved ++ l) (sym (nil_from_length left none)) ∙ so_far)
 
   -- where none is passed, all are left
   pub left-whole : (left : List T) (passed : ℕ) → passed ≤ 0 → left ≡ take (length left - passed) left
@@ -31,16 +45,6 @@ module _ {T : Type 0} where
   left-end items (Some item) rest came =
       let last : length items - 1 ≡ length rest = omega (arith, length-append rest (item ∷ []), ap length came) in
       sym (ap (slice_get items) last ∙ (ap (λ all. slice_get all (length rest)) came ∙ slice_get-seam rest item))
-
-  -- the last of those that are left is the first from the back
-  pub left-last_reversed : (items : List T) (front back : ℕ) (item slot blank : T) → front < back → back ≤ length items
-      → item ≡ get_or items (back - 1) slot → slot ≡ get_or items (back - 1) slot
-      → reverse (slice_range items front back) ≡ item
-      ∷ reverse (slice_range (slice_set items (back - 1) blank) front (back - 1))
-  left-last_reversed items front back item slot blank some within here is =
-      ap reverse (slice_range_last items front back item blank some within (here ∙ ap (get_or items (back - 1))
-      (is ∙ sym here)))
-      ∙ reverse-append (slice_range (slice_set items (back - 1) blank) front (back - 1)) (item ∷ [])
 
 -- What is left lies between the two slots, in at most 65536 items.
 module _ {T : Type 0} {front back n : ℕ} (items left : List T)

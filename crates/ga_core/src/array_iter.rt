@@ -8,6 +8,7 @@ mod copies;
 mod folds;
 mod steps;
 
+use crate::items_left::ItemsLeft;
 use crate::length::ArrayLength;
 use crate::slots::{are_many, move_items};
 use crate::store::Store;
@@ -125,6 +126,20 @@ impl<T: Default + Drop, N: ArrayLength<T>> DoubleEndedIterator for GenericArrayI
     }
 }
 
+impl<T: Default + Drop, N: ArrayLength<T>> ItemsLeft<T> for GenericArrayIter<T, N> {
+    ghost items = { λ left. left };
+
+    #[inline]
+    fn take_front(&mut self) -> Option<T> {
+        self.next()
+    }
+
+    #[inline]
+    fn take_back(&mut self) -> Option<T> {
+        self.next_back()
+    }
+}
+
 impl<T: Default + Drop, N: ArrayLength<T>> GenericArrayIter<T, N> {
     // Takes the first item that is left. There is one.
     #[inline]
@@ -177,7 +192,7 @@ impl<T: Default + Drop, N: ArrayLength<T>> GenericArrayIter<T, N> {
     {
         let (first, count) = (self.front, slots.len());
         S::swap_slices(self.store.part_mut(first, count), slots);
-        self.front = first + count;
+        self.front += count;
     }
 
     /// Moves items from the front into `slots`, one for each slot, in one pass. Drops what the slots

@@ -33,7 +33,7 @@ impl<T, N: ArrayLength<T>> GenericArray<T, N> {
         ensures fits { FitsInline N.USIZE }
     {
         // For the prover alone: reading a field tells the array's invariant, that there are `N` items.
-        let _ = self.of;
+        let _ = &self.store;
         ViewMut {
             slice: self,
             of: PhantomData,

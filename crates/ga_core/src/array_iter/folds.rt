@@ -5,9 +5,8 @@ ghost use Rattle.std.specs.Iterator.{ActsAsOnTwo};
 ghost use Rattle.std.specs.Prelude.{◌≡◌, fold, reverse};
 
 use crate::array_iter::GenericArrayIter;
+use crate::items_left::{fold_left, rfold_left};
 use crate::length::ArrayLength;
-use crate::store::Store;
-use std::mem;
 
 impl<T: Default + Drop, N: ArrayLength<T>> GenericArrayIter<T, N> {
     /// Folds the items that are left into one value, from the front, starting from `init`. One
@@ -22,16 +21,12 @@ impl<T: Default + Drop, N: ArrayLength<T>> GenericArrayIter<T, N> {
 
     /// `fold` that borrows the closure, which can be used again in the state that it reached. One
     /// pass.
-    pub fn fold_by<A, F: FnMut(A, T) -> A>(mut self, init: A, f: &mut F) -> A
+    pub fn fold_by<A, F: FnMut(A, T) -> A>(self, init: A, f: &mut F) -> A
         requires callable { MayFold (λ item. item) F.pre F.step f.old init self }
         ensures run { FoldRun F.step f.old init self result f.new }
         ensures acts { (h : A → T → A) → ActsAsOnTwo F.FnMut f.old h → result ≡ fold h init self }
     {
-        let mut answer = init;
-        for slot in self.as_mut_slice().iter_mut() {
-            answer = f(answer, mem::take(slot));
-        }
-        answer
+        fold_left(self, init, f)
     }
 
     /// `fold` from the back. One pass.
@@ -45,16 +40,11 @@ impl<T: Default + Drop, N: ArrayLength<T>> GenericArrayIter<T, N> {
 
     /// `rfold` that borrows the closure, which can be used again in the state that it reached. One
     /// pass.
-    pub fn rfold_by<A, F: FnMut(A, T) -> A>(mut self, init: A, f: &mut F) -> A
+    pub fn rfold_by<A, F: FnMut(A, T) -> A>(self, init: A, f: &mut F) -> A
         requires callable { MayFold (λ item. item) F.pre F.step f.old init (reverse self) }
         ensures run { FoldRun F.step f.old init (reverse self) result f.new }
         ensures acts { (h : A → T → A) → ActsAsOnTwo F.FnMut f.old h → result ≡ fold h init (reverse self) }
     {
-        let mut answer = init;
-        let items = self.as_mut_slice();
-        for index in (0..items.len()).rev() {
-            answer = f(answer, mem::take(&mut items[index]));
-        }
-        answer
+        rfold_left(self, init, f)
     }
 }

@@ -11,8 +11,10 @@ fn put_and_taken<S: Store<u32>>() -> [u32; 3]
     if store.pop().is_some() {
         return [0; 3];
     }
-    store.push(7);
-    store.push(8);
+    store.push(3);
+    store.push(4);
+    let mut others = [7, 8];
+    S::swap_slices(store.as_mut_slice(), others.as_mut_slice());
     for item in store.as_mut_slice() {
         *item = item.wrapping_mul(10);
     }

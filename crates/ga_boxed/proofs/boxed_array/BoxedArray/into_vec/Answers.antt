@@ -1,4 +1,5 @@
-use Rattle.ga_boxed.proofs.BlockLemmas.{all_moved, one_counted, moved_more, none_left, some_left}
+use Rattle.ga_core.proofs.LeftLemmas.{all_moved}
+use Rattle.ga_boxed.proofs.BlockLemmas.{one_counted, moved_more, none_left, some_left}
 use Rattle.ga_boxed.proofs.boxed_array.BoxedArray.into_vec.Goals as goal
 use Rattle.std.proofs.Common.{◌≡◌, ℕ, suc, ◌+◌, ◌<◌, ◌≤◌, ◌∙◌, ap, arith, length, refl}
 

@@ -1,7 +1,11 @@
-use Rattle.ga_core.proofs.CutLemmas.{next_back-reversed, nth_back-step, passed-more}
+use Rattle.ga_core.proofs.CutLemmas.{next_back-reversed, nth_back-past, nth_back-step, passed-more}
 use Rattle.ga_boxed.proofs.boxed_array_iter.BoxedArrayIter.nth_back.Goals as goal
-use Rattle.ga_boxed.proofs.BlockLemmas.{last-came, passed_all}
-use Rattle.std.proofs.Common.{length, reverse}
+use Rattle.ga_boxed.proofs.BlockLemmas.{last-came, none_behind}
+use Rattle.std.proofs.Common.{◌≡◌, ◌≤◌, ◌∙◌, ap, arith, drop, length, min, reverse, sym}
+use Rattle.std.proofs.lemmas.List.{drop_min, length-reverse}
+
+pub loop-passed_back-init : goal.loop-passed_back-init
+loop-passed_back-init g c = ap reverse c.self.view_is
 
 pub loop-passed_back-preserved : goal.loop-passed_back-preserved
 loop-passed_back-preserved g c =
@@ -12,15 +16,31 @@ loop-passed_back-preserved g c =
     at.invariant (next_back-reversed before.items c.take_back.result after.items
     (last-came before after c.take_back.result c.take_back.ensures))
 
+pub returns-in_err-take_back : goal.returns-in_err-take_back
+returns-in_err-take_back g c =
+    let at = c.loop-passed_back in
+    let items = c.args.self.now in
+    let ended = c.in_err-take_back.ensures in
+    let few : length (reverse items) ≤ at._passed_back =
+    none_behind at._passed_back (reverse items) _ at.invariant (ap reverse ended.0) in
+    record {
+      step = rw c.from_residual.ensures (nth_back-past c.args.n items c.take_back.new.self.items
+          (omega (arith, few, length-reverse items, at.auto._passed_back-end))
+          (ap (λ block. block.items) ended.1 ∙ ended.0));
+    }
+
 pub returns : goal.returns
 returns g c =
     let at = c.loop-passed_back in
     let items = c.args.self.now in
     let before = at.self-inside.items in
     let after = c.take_back-2.new.self in
+    let all : at._passed_back ≡ c.args.n = omega (arith, c.loop-passed_back-test.false, at.auto._passed_back-end) in
+    let least : min c.args.n (length (reverse items)) ≡ min c.args.n (length items) =
+    ap (λ k. min c.args.n k) (length-reverse items) in
     record {
-      step = nth_back-step c.args.n at._passed_back items before.items c.take_back-2.result after.items
-          (passed_all at._passed_back c.args.n c.len.result c.min-passed_back-end.result (length items)
-          c.loop-passed_back-test.false at.auto._passed_back-end c.min-passed_back-end.ensures c.len.ensures)
-          at.invariant (last-came before after c.take_back-2.result c.take_back-2.ensures);
+      step = nth_back-step c.args.n (min c.args.n (length (reverse items))) items before.items c.take_back-2.result
+          after.items least
+          (at.invariant ∙ (ap (λ k. drop k (reverse items)) all ∙ sym (drop_min c.args.n (reverse items))))
+          (last-came before after c.take_back-2.result c.take_back-2.ensures);
     }
