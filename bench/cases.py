@@ -107,8 +107,17 @@ PARTS = [
         "closures, boxed",
         "closures",
         "map_boxed - boxed_generate, zip_boxed - boxed_generate - boxed_generate,"
-        " fold_boxed - boxed_generate, map_ref_boxed, try_map_ref_boxed, zip_ref_boxed,"
-        " fold_ref_boxed",
+        " fold_boxed - boxed_generate, map_ref_boxed, try_map_ref_boxed, fold_ref_boxed",
+    ),
+    Part(
+        "closures, boxed",
+        "boxed_zips_{item}",
+        "Const<{length}>",
+        "zip_ref_boxed",
+        BOXED,
+        True,
+        ORIGINAL_BOX,
+        None,
     ),
     shapes("longer", "append - generate, prepend - generate"),
     shapes(

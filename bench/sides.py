@@ -1,15 +1,15 @@
 """The texts of both sides, laid out from calls/ and driver/ and written from the list of cases."""
 import pathlib
 
-from cases import APART_CASES, CASES, ROWS, SMALL, TUPLES
+from cases import APART_CASES, BOXED, CASES, ROWS, SMALL, TUPLES
 
 HERE = pathlib.Path(__file__).resolve().parent
 
 # A module of calls/ whose text is laid out once for each of the small kinds, and the words in it
 # for which a type and numbers stand.
 FOR_EACH, WORDS = "concrete", ("ITEM", "LENGTH", "WIDTH", "ROWS")
-# The same, for each kind of tuple.
-FOR_TUPLES = "tuples"
+# The same, for each type of item, and for each kind of tuple.
+FOR_ITEMS, FOR_TUPLES = "boxed_zips", "tuples"
 # A function that has no types left open.
 NO_TYPES = {"nested"}
 ALL = CASES + APART_CASES
@@ -104,8 +104,9 @@ def exports():
 def our_modules():
     """Each module of the crate that is laid out over ours, by its name."""
     texts = {path.stem: path.read_text() for path in (HERE / "calls").glob("*.rattle")}
-    text, tuples = texts.pop(FOR_EACH), texts.pop(FOR_TUPLES)
+    text, zips, tuples = texts.pop(FOR_EACH), texts.pop(FOR_ITEMS), texts.pop(FOR_TUPLES)
     made = {kind.name: concrete(text, kind) for kind in SMALL}
+    made |= {f"{FOR_ITEMS}_{kind.item}": zips.replace("ITEM", kind.item) for kind in BOXED}
     made |= {f"tuples_{kind.name}": of_tuples(tuples, kind) for kind in TUPLES}
     declared = "".join(f"mod {name};\n" for name in made)
     return {**texts, **made, "lib": texts["lib"] + declared, "exports": exports()}

@@ -1,7 +1,7 @@
 // Two slices in an array of the original's, and vectors of std that have room for as many items as an array.
 
 #[inline(never)]
-fn joined(first: &[Item], second: &[Item]) -> Array {
+fn joined_slices(first: &[Item], second: &[Item]) -> Array {
     let mut array = Array::default();
     let (front, back) = array.split_at_mut(LENGTH / 2);
     front.copy_from_slice(first);
@@ -15,14 +15,16 @@ pub fn list_joined_of(seed: u64, reps: u64) -> u64 {
     for _rep in 0..reps {
         poke(sum, &mut array);
         let (first, second) = array.split_at(LENGTH / 2);
-        sum = touch(sum, &joined(first, second));
+        sum = touch(sum, &joined_slices(first, second));
     }
     sum
 }
 
 #[inline(never)]
-fn cloned(items: &[Item]) -> Array {
-    GenericArray::clone_from_slice(items)
+fn cloned_items(items: &[Item]) -> Array {
+    let mut array = Array::default();
+    array.clone_from_slice(items);
+    array
 }
 
 pub fn list_cloned_of(seed: u64, reps: u64) -> u64 {
@@ -30,12 +32,12 @@ pub fn list_cloned_of(seed: u64, reps: u64) -> u64 {
     let mut array = build(sum);
     for _rep in 0..reps {
         poke(sum, &mut array);
-        sum = touch(sum, &cloned(&array));
+        sum = touch(sum, &cloned_items(&array));
     }
     sum
 }
 
-fn listed(array: &Array) -> Vec<Item> {
+fn list_of(array: &Array) -> Vec<Item> {
     let mut list = Vec::with_capacity(LENGTH);
     list.extend_from_slice(&array[1..]);
     list
@@ -55,7 +57,7 @@ fn edited(list: &mut Vec<Item>, to: usize, from: usize, item: Item) -> u64 {
 
 pub fn list_edit_of(seed: u64, reps: u64) -> u64 {
     let mut sum = seed;
-    let mut list = listed(&build(sum));
+    let mut list = list_of(&build(sum));
     let within = (LENGTH / 2).saturating_sub(1);
     for _rep in 0..reps {
         let to = (sum >> 20) as usize & within;
@@ -66,7 +68,7 @@ pub fn list_edit_of(seed: u64, reps: u64) -> u64 {
 }
 
 #[inline(never)]
-fn cut(list: &mut Vec<Item>, len: usize, items: &[Item]) {
+fn cut_and_filled(list: &mut Vec<Item>, len: usize, items: &[Item]) {
     list.truncate(len);
     if items.len() <= LENGTH - list.len() {
         list.extend_from_slice(items);
@@ -76,11 +78,11 @@ fn cut(list: &mut Vec<Item>, len: usize, items: &[Item]) {
 pub fn list_cut_of(seed: u64, reps: u64) -> u64 {
     let mut sum = seed;
     let mut array = build(sum);
-    let mut list = listed(&array);
+    let mut list = list_of(&array);
     for _rep in 0..reps {
         poke(sum, &mut array);
         let (first, _second) = array.split_at(LENGTH / 2);
-        cut(&mut list, LENGTH / 2, first);
+        cut_and_filled(&mut list, LENGTH / 2, first);
         match list.last() {
             Some(item) => sum = mixed(sum, item.word()),
             None => sum = 1,

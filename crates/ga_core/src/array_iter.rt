@@ -184,7 +184,7 @@ impl<T: Default + Drop, N: ArrayLength<T>> GenericArrayIter<T, N> {
 
     // `move_to` slots for as many items as the store `S` has room for, which leaves what they held.
     #[inline(always)]
-    pub(crate) fn exchange<S: Store<T>>(&mut self, slots: &mut [T])
+    fn exchange<S: Store<T>>(&mut self, slots: &mut [T])
         requires all { length slots.old ≡ S.CAPACITY }
         requires enough { length slots.old ≤ length self.old }
         ensures moved { slots.new ≡ take (length slots.old) self.old }

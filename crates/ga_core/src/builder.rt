@@ -78,8 +78,8 @@ impl<T: Default + Drop, N: ArrayLength<T>> ArrayBuilder<T, N> {
         Some(take_at(&mut self.store, last))
     }
 
-    /// Appends the first `count` items that `items` has left, in order, in one pass: in one piece where
-    /// they are all of the builder or all of the array, else item by item.
+    /// Appends the first `count` items that `items` has left, in order, in one pass. All items of the
+    /// builder, or of the array, are moved in one piece.
     ///
     /// Requires that the builder has room for `count` items, and that as many are left. `extend` takes
     /// from any iterator, item by item.

@@ -9,11 +9,11 @@ pub trait ItemsLeft<T>: Drop {
     // The items that are left, in order.
     ghost items: { Self → List T };
 
-    /// Takes the first item that is left.
+    /// Takes the first item that is left. O(1).
     fn take_front(&mut self) -> Option<T>
         ensures { YieldsFirst items self.old result self.new };
 
-    /// Takes the last item that is left.
+    /// Takes the last item that is left. O(1).
     fn take_back(&mut self) -> Option<T>
         ensures { YieldsLast items self.old result self.new };
 }

@@ -14,7 +14,7 @@ mod array_iter;
 mod borrowed_items;
 mod builder;
 mod errors;
-/// What is emptied from either end, and its folds.
+/// The folds of both iterators by value.
 pub mod items_left;
 mod length;
 mod mapping;
@@ -35,6 +35,5 @@ pub use ga_views::{
     U51, U52, U53, U54, U55, U56, U57, U58, U59, U60, U61, U62, U63, U64, U128, U256, U512, U1024,
     U2048, Unsigned, ViewMut, hex_text, reborrow,
 };
-pub use items_left::ItemsLeft;
 pub use length::{ArrayLength, ConstArrayLength, IntoArrayLength};
 pub use store::Store;
