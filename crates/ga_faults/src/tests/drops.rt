@@ -1,7 +1,7 @@
 //! The order in which `nth` and `nth_back` drop, and how often a plain zip does.
 use crate::tests::counted::{Counted, Counts};
 use crate::tests::items::{boxed_counted_from, counted_from};
-use generic_array::{AllocError, U4, U5};
+use generic_array::{AllocError, U2, U4, U5};
 use std::alloc::Global;
 use std::test::Fail;
 
@@ -54,6 +54,56 @@ fn by_boxed_nth(alloc: Global) -> Result<u32, AllocError> {
     let _ = items.nth(2);
     let _ = items.nth(2);
     Ok(counts.dropped())
+}
+
+/// How many of four items are dropped by `last`, with what it returned, and by `count`.
+fn by_inline_last_and_count() -> [u32; 2] {
+    let counts = Counts::new();
+    let _ = counted_from::<U4>(&counts, 1).into_iter().last();
+    let by_last = counts.drops();
+    let counts = Counts::new();
+    let _ = counted_from::<U4>(&counts, 1).into_iter().count();
+    [by_last, counts.drops()]
+}
+
+/// The same of a boxed array.
+fn by_boxed_last_and_count(alloc: Global) -> Result<[u32; 2], AllocError> {
+    let counts = Counts::new();
+    let _ = boxed_counted_from::<U4>(alloc, &counts, 1)?.into_iter().last();
+    let by_last = counts.drops();
+    let counts = Counts::new();
+    let _ = boxed_counted_from::<U4>(alloc, &counts, 1)?.into_iter().count();
+    Ok([by_last, counts.drops()])
+}
+
+/// The numbers of the items of a block in the order in which they are dropped with it.
+fn with_a_block(alloc: Global) -> Result<u32, AllocError> {
+    let counts = Counts::new();
+    drop(boxed_counted_from::<U4>(alloc, &counts, 1)?);
+    Ok(counts.dropped())
+}
+
+/// The numbers of the items that slots held to which others were moved.
+fn by_move_to() -> u32 {
+    let counts = Counts::new();
+    let mut held = counted_from::<U2>(&counts, 5);
+    let mut items = counted_from::<U4>(&counts, 1).into_iter();
+    items.move_to(held.as_mut_slice());
+    counts.dropped()
+}
+
+#[test]
+fn last_and_count_drop_all(rt: HostRuntime) -> Result<(), Fail> {
+    assert!(rt; by_inline_last_and_count() == [4, 4]);
+    assert!(rt; by_boxed_last_and_count(rt.alloc())? == [4, 4]);
+    Ok(())
+}
+
+#[test]
+fn a_block_drops_from_the_front_and_slots_what_they_held(rt: HostRuntime) -> Result<(), Fail> {
+    assert!(rt; with_a_block(rt.alloc())? == 1234);
+    assert!(rt; by_move_to() == 56);
+    Ok(())
 }
 
 #[test]

@@ -129,6 +129,7 @@ impl Write for Sink<'_> {
     }
 
     fn flush(&mut self) -> io::Result<()> {
+        self.writes = self.writes.saturating_add(1);
         Ok(())
     }
 }

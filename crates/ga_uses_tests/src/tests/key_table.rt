@@ -122,3 +122,18 @@ fn entries_are_listed_from_one_key_up_to_another(rt: HostRuntime) -> Result<(), 
 fn refused_memory_leaves_the_table_as_it_was(rt: HostRuntime) {
     assert!(rt; all_kept_or_refused(rt.alloc(), 40));
 }
+
+/// Whether so many entries find room.
+fn so_many_find_room(alloc: Global, count: u64) -> Result<bool, AllocError> {
+    let mut table = KeyTable::new(alloc);
+    for number in 0..count {
+        let _none = table.insert(key_of(number), number)?;
+    }
+    Ok(table.len() as u64 == count)
+}
+
+#[test]
+fn many_entries_find_room(rt: HostRuntime) -> Result<(), Fail> {
+    assert!(rt; so_many_find_room(rt.alloc(), 144)?);
+    Ok(())
+}

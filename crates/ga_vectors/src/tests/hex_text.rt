@@ -3,6 +3,8 @@ use crate::tests::sinks::{Manner, Sink};
 use generic_array::AllocError;
 use generic_array::hex_text::{HexText, write_hex};
 use std::alloc::Global;
+use std::fmt;
+use std::fmt::Write;
 use std::test::Fail;
 
 /// Whether the bytes are written as this text, in so many calls of the writer.
@@ -123,4 +125,35 @@ fn long_texts_are_printed_whole(rt: HostRuntime) -> Result<(), Fail> {
         }
     }
     Ok(())
+}
+
+/// Counts the pieces that it is given.
+#[derive(Drop)]
+struct Pieces {
+    count: usize,
+}
+
+impl Write for Pieces {
+    fn write_str(&mut self, _text: &str) -> fmt::Result {
+        self.count = self.count.saturating_add(1);
+        Ok(())
+    }
+}
+
+/// In how many pieces these bytes are printed.
+fn pieces_of(bytes: &[u8]) -> usize {
+    let mut pieces = Pieces { count: 0 };
+    let shown = HexText {
+        bytes,
+        upper: false,
+    };
+    match write!(pieces, "{shown}") {
+        Ok(()) => pieces.count,
+        Err(_) => usize::MAX,
+    }
+}
+
+#[test]
+fn printed_text_comes_in_pieces_of_64_bytes(rt: HostRuntime) {
+    assert!(rt; pieces_of(&[]) == 0 && pieces_of(&[171; 64]) == 1 && pieces_of(&[171; 65]) == 2);
 }

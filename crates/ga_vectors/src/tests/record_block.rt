@@ -37,6 +37,7 @@ impl Write for Counting {
     }
 
     fn flush(&mut self) -> io::Result<()> {
+        self.calls = self.calls.saturating_add(1);
         Ok(())
     }
 }
