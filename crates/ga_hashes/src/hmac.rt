@@ -54,7 +54,7 @@ impl<H: HashFunction> Hmac<H> {
     }
 
     /// Whether this is the tag. Looks at every byte of a tag of the right length, also behind one that
-    /// differs; how long it takes isn't claimed.
+    /// differs: no clause and no test says so. How long it takes isn't claimed.
     pub fn verify(self, tag: &[u8]) -> bool
         ensures { (key m : List ℕ) → Holds H.holds H.digest H.BlockSize.USIZE self key m
             → (IsTrue result ↔ (tag.now ≡ hmac_of H.digest H.BlockSize.USIZE key m)) }
