@@ -132,8 +132,8 @@ impl<T: Drop> BoxedArrayIter<T> {
         self.items.take_front()
     }
 
-    /// Drops `n` items from the back, the last first, and returns the one before them. If at most `n` items are
-    /// left, drops them all and returns `None`. O(n).
+    /// Drops `n` items from the back, the last first, and returns the one before them. If at most
+    /// `n` items are left, drops them all and returns `None`. O(n).
     pub fn nth_back(&mut self, n: usize) -> Option<T>
         ensures step { StepGives (back n) self.old result self.new }
     {

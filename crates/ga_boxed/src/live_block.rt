@@ -194,8 +194,8 @@ impl<T> LiveBlock<T> {
         self.cells.slice(self.base, self.start, len)
     }
 
-    // The same for writing, which can't be a range of `as_mut_slice`: the check doesn't follow that back
-    // to the block.
+    // The same for writing, which can't be a range of `as_mut_slice`: the check doesn't follow that
+    // back to the block.
     #[inline]
     pub(crate) fn all_mut(&mut self, len: usize) -> &mut [T]
         requires len { len ≡ length self.old.items }

@@ -5,8 +5,8 @@ use generic_array::{ArrayLength, GenericArray};
 
 /// A block cipher under a key. The counterpart of RustCrypto's `BlockEncrypt` and `BlockDecrypt`.
 ///
-/// An impl writes the calls that work in place. Those by value come with them, as `final` ones, since
-/// the checker refuses an impl with a call that takes an array by value.
+/// An impl writes the calls that work in place. Those by value come with them, as `final` ones,
+/// since the checker refuses an impl with a call that takes an array by value.
 pub trait BlockCipher {
     /// How many bytes a block has, as a length.
     type BlockSize: ArrayLength<u8>;

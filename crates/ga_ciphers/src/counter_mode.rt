@@ -82,8 +82,8 @@ impl<C: BlockStream> CounterMode<C> {
         self.position
     }
 
-    /// Goes to a place of the key stream, in bytes from its start. Returns an error if the key stream
-    /// ends before the place, and then changes nothing. Makes at most one block.
+    /// Goes to a place of the key stream, in bytes from its start. Returns an error if the key
+    /// stream ends before the place, and then changes nothing. Makes at most one block.
     pub fn seek(&mut self, position: u64) -> Result<(), StreamEnd>
         ensures variant { IsOk result ↔ (position ≤ C.BLOCKS * C.BlockSize.USIZE) }
         ensures cipher { self.new.cipher ≡ self.old.cipher }
@@ -100,12 +100,12 @@ impl<C: BlockStream> CounterMode<C> {
         Ok(())
     }
 
-    /// Replaces each byte of the text by its xor with the byte of the key stream at its place, and goes on
-    /// to the place behind the last. Returns an error if the key stream would end before the text does, and
-    /// then changes nothing.
+    /// Replaces each byte of the text by its xor with the byte of the key stream at its place, and
+    /// goes on to the place behind the last. Returns an error if the key stream would end before
+    /// the text does, and then changes nothing.
     ///
-    /// The same call at the same place gives the text back. Works on the text where it lies, and makes each
-    /// block once.
+    /// The same call at the same place gives the text back. Works on the text where it lies, and
+    /// makes each block once.
     pub fn apply(&mut self, bytes: &mut [u8]) -> Result<(), StreamEnd>
         ensures variant { IsOk result
             ↔ (self.old.position + length bytes.old ≤ C.BLOCKS * C.BlockSize.USIZE) }

@@ -6,8 +6,8 @@ ghost use Rattle.std.specs.Prelude.{◌≡◌, ℕ, ◌-◌, ◌^◌, ◌<◌, �
 
 use generic_array::{ArrayLength, GenericArray};
 
-/// The last block of a text: `rest`, the bytes behind its whole blocks, and the padding. `unpad` finds
-/// them again.
+/// The last block of a text: `rest`, the bytes behind its whole blocks, and the padding. `unpad`
+/// finds them again.
 ///
 /// Allocates nothing. RustCrypto's counterpart is `Pkcs7::pad`, over a block that holds the bytes.
 pub fn pad<N: ArrayLength<u8>>(rest: &[u8]) -> GenericArray<u8, N>

@@ -1,6 +1,8 @@
-//! XTEA (Needham and Wheeler, "Tea extensions", 1997): blocks of 64 bits under a key of 128, 32 cycles.
+//! XTEA (Needham and Wheeler, "Tea extensions", 1997): blocks of 64 bits under a key of 128, 32
+//! cycles.
 //!
-//! For small devices and old formats: its blocks are too short for more than some gigabytes under one key.
+//! For small devices and old formats: its blocks are too short for more than some gigabytes under
+//! one key.
 ghost use Rattle.ga_ciphers.specs.Xtea.{change, cycle, cycle_back, first_word, key_words, second_word};
 ghost use Rattle.ga_ciphers.specs.Xtea.{block_of, cycles, cycles_back, halves_of, xtea_decrypted, xtea_encrypted};
 ghost use Rattle.std.specs.Int.{from_be_bytes, w32};

@@ -29,8 +29,8 @@ use std::slice;
 
 /// An array of exactly `N` items of `T`, kept inline. Contracts see it as the list of its items.
 ///
-/// The counterpart of `GenericArray`. Items have a `Default`: most builds fill all slots with it first, and
-/// an item that is moved out leaves one behind. The length is at most `MAX_INLINE`.
+/// The counterpart of `GenericArray`. Items have a `Default`: most builds fill all slots with it
+/// first, and an item that is moved out leaves one behind. The length is at most `MAX_INLINE`.
 #[derive(Drop)]
 pub struct GenericArray<T, N: ArrayLength<T>> {
     store: N::ArrayType,

@@ -163,8 +163,8 @@ impl<T: Default + Drop, N: ArrayLength<T>> GenericArrayIter<T, N> {
         take_at(&mut self.store, last)
     }
 
-    // `move_to` slots of a store `S`, which has `room` for items: in one piece where they are all of
-    // either store.
+    // `move_to` slots of a store `S`, which has `room` for items: in one piece where they are all
+    // of either store.
     #[inline(always)]
     pub(crate) fn move_into<S: Store<T>>(&mut self, slots: &mut [T], room: usize)
         requires room { room ≡ S.CAPACITY }
@@ -195,8 +195,8 @@ impl<T: Default + Drop, N: ArrayLength<T>> GenericArrayIter<T, N> {
         self.front += count;
     }
 
-    /// Moves items from the front into `slots`, one for each slot, in one pass. Drops what the slots
-    /// held. Requires that so many items are left.
+    /// Moves items from the front into `slots`, one for each slot, in one pass. Drops what the
+    /// slots held. Requires that so many items are left.
     ///
     /// The Rust crate has no counterpart: there a loop over `next` writes them.
     #[inline(always)]
@@ -234,9 +234,8 @@ impl<T: fmt::Debug, N: ArrayLength<T>> fmt::Debug for GenericArrayIter<T, N> {
     }
 }
 
-// Takes the item of a slot, and leaves a default there.
-// `slot % MAX_INLINE` is the slot: by it the compiler sees that the write reaches nothing before the
-// store.
+// Takes the item of a slot, and leaves a default there. `slot % MAX_INLINE` is the slot: by it the
+// compiler sees that the write reaches nothing before the store.
 #[inline]
 pub(crate) fn take_at<T: Default + Drop, S: Store<T>>(store: &mut S, slot: usize) -> T
     requires fits { FitsInline (length (S.items store.old)) }

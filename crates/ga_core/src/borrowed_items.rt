@@ -49,7 +49,8 @@ pub trait BorrowedItems<T, N: Unsigned> {
         self.map_inline_ref_by(&mut f)
     }
 
-    /// `map_inline_ref` with a borrowed closure, which can be used again in the state that it reached.
+    /// `map_inline_ref` with a borrowed closure, which can be used again in the state that it
+    /// reached.
     #[inline(always)]
     final fn map_inline_ref_by<U: Default + Drop, F: FnMut(&T) -> U>(
         &self,
@@ -69,7 +70,8 @@ pub trait BorrowedItems<T, N: Unsigned> {
         made.repacked()
     }
 
-    /// `map_inline_ref` with a closure that may fail: the array of what it returns, or its first error.
+    /// `map_inline_ref` with a closure that may fail: the array of what it returns, or its first
+    /// error.
     ///
     /// No call follows an error. The items that were made are dropped.
     #[inline(always)]
@@ -89,7 +91,8 @@ pub trait BorrowedItems<T, N: Unsigned> {
         self.try_map_inline_ref_by(&mut f)
     }
 
-    /// `try_map_inline_ref` with a borrowed closure, which can be used again in the state that it reached.
+    /// `try_map_inline_ref` with a borrowed closure, which can be used again in the state that it
+    /// reached.
     #[inline(always)]
     final fn try_map_inline_ref_by<U: Default + Drop, F: FnMut(&T) -> Result<U, E>, E>(
         &self,
@@ -135,7 +138,8 @@ pub trait BorrowedItems<T, N: Unsigned> {
         self.zip_inline_ref_by(rhs, &mut f)
     }
 
-    /// `zip_inline_ref` with a borrowed closure, which can be used again in the state that it reached.
+    /// `zip_inline_ref` with a borrowed closure, which can be used again in the state that it
+    /// reached.
     #[inline(always)]
     final fn zip_inline_ref_by<B, U: Default + Drop, F: FnMut(&T, &B) -> U>(
         &self,

@@ -78,11 +78,11 @@ impl<T: Default + Drop, N: ArrayLength<T>> ArrayBuilder<T, N> {
         Some(take_at(&mut self.store, last))
     }
 
-    /// Appends the first `count` items that `items` has left, in order, in one pass. All items of the
-    /// builder, or of the array, are moved in one piece.
+    /// Appends the first `count` items that `items` has left, in order, in one pass. All items of
+    /// the builder, or of the array, are moved in one piece.
     ///
-    /// Requires that the builder has room for `count` items, and that as many are left. `extend` takes
-    /// from any iterator, item by item.
+    /// Requires that the builder has room for `count` items, and that as many are left. `extend`
+    /// takes from any iterator, item by item.
     #[inline(always)]
     pub fn take_from<K: ArrayLength<T>>(&mut self, items: &mut GenericArrayIter<T, K>, count: usize)
         requires room { length self.old + count ≤ N.USIZE }
@@ -110,7 +110,8 @@ impl<T: Default + Drop, N: ArrayLength<T>> ArrayBuilder<T, N> {
         carry_from_end(self.store.part_mut(0, self.position), index);
     }
 
-    /// Takes the item at `index`, and moves those behind it one place to the front. O(items behind it).
+    /// Takes the item at `index`, and moves those behind it one place to the front. O(items behind
+    /// it).
     ///
     /// Requires that there is one. The counterpart of `Vec::remove`.
     #[inline]
@@ -181,8 +182,9 @@ impl<T: Copy, N: ArrayLength<T>> ArrayBuilder<T, N> {
 impl<T: Clone + Default + Drop, N: ArrayLength<T>> ArrayBuilder<T, N> {
     /// Appends clones of the items, made in order. One pass.
     ///
-    /// Requires that the builder has room for them. If a clone fails, drops those made before it, leaves
-    /// the builder as it was, and returns the error. The counterpart of `Vec::extend_from_slice`.
+    /// Requires that the builder has room for them. If a clone fails, drops those made before it,
+    /// leaves the builder as it was, and returns the error. The counterpart of
+    /// `Vec::extend_from_slice`.
     #[inline]
     pub fn extend_from_clones(&mut self, items: &[T]) -> Result<(), AllocError>
         requires room { length self.old + length items.now ≤ N.USIZE }

@@ -1,4 +1,5 @@
-//! What a closure returns at the items of slices, written over the slots of another slice, in order.
+//! What a closure returns at the items of slices, written over the slots of another slice, in
+//! order.
 ghost use Rattle.ga_core.specs.Calls.{MayMap, MayTryMap, MayZip};
 ghost use Rattle.ga_core.specs.Entries.{CallAt, CallAtPair};
 ghost use Rattle.ga_core.specs.Runs.{ClosureRun, TryClosureRun};
@@ -81,7 +82,8 @@ pub(crate) fn try_write_mapped_ref<T, U: Drop, E, F: FnMut(&T) -> Result<U, E>>(
     Ok(())
 }
 
-// Writes what `f` returns at each two items in the same place, which are moved to it. Leaves defaults.
+// Writes what `f` returns at each two items in the same place, which are moved to it. Leaves
+// defaults.
 #[inline]
 pub(crate) fn write_zipped<T: Default + Drop, B: Default + Drop, U: Drop, F: FnMut(T, B) -> U>(
     left: &mut [T],

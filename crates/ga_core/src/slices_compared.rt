@@ -9,8 +9,8 @@ use std::mem;
 // isn't unrolled for words.
 const BLOCK_BYTES: usize = 512;
 
-// Items of more bytes are left to std's comparison: their `eq` may be costly, and a block goes on past
-// a difference.
+// Items of more bytes are left to std's comparison: their `eq` may be costly, and a block goes on
+// past a difference.
 const MOST_BYTES: usize = 8;
 
 // `==` of the slices.
@@ -103,8 +103,8 @@ fn equal_start<T: PartialEq>(left: &[T], right: &[T]) -> usize
     }
 }
 
-// How many items of this type a block has: at least one, for which the prover wants the second test,
-// though no caller has items of more bytes.
+// How many items of this type a block has: at least one, for which the prover wants the second
+// test, though no caller has items of more bytes.
 #[inline]
 fn block_of<T>(item: &T) -> usize
     ensures some { 0 < result }

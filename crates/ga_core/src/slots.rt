@@ -44,8 +44,8 @@ pub(crate) fn try_write_answers<T: Drop, E, F: FnMut(usize) -> Result<T, E>>(
     Ok(())
 }
 
-// Moves the items of a slice over those of another of the same length, which are dropped, and leaves
-// defaults. Compiles to a copy where the length is known.
+// Moves the items of a slice over those of another of the same length, which are dropped, and
+// leaves defaults. Compiles to a copy where the length is known.
 #[inline]
 pub(crate) fn move_items<T: Default + Drop>(items: &mut [T], slots: &mut [T])
     requires len { length items.old ≡ length slots.old }

@@ -56,11 +56,11 @@ pub trait Store<T>: Sized + Drop {
             self.entry result (λ written. (store_with self.old written).0)) }
         ensures items { result.now ≡ items self.old };
 
-    /// A full store of defaults, each made once, in order. `capacity` is the store's own, which is at
-    /// most `MAX_INLINE`.
+    /// A full store of defaults, each made once, in order. `capacity` is the store's own, which is
+    /// at most `MAX_INLINE`.
     ///
-    /// The body here appends each to an empty store. A store that fills its spare slots with defaults
-    /// can do without the second pass.
+    /// The body here appends each to an empty store. A store that fills its spare slots with
+    /// defaults can do without the second pass.
     fn filled(capacity: usize) -> Self
     where
         T: Default,
@@ -89,7 +89,8 @@ pub trait Store<T>: Sized + Drop {
         left.swap_with_slice(right);
     }
 
-    /// `len` items from place `from` on, for writing. What is written stands in the store afterwards.
+    /// `len` items from place `from` on, for writing. What is written stands in the store
+    /// afterwards.
     ///
     /// The caller says how many they are, so that the compiler knows it too.
     #[inline]
@@ -115,8 +116,8 @@ pub trait Store<T>: Sized + Drop {
 }
 
 /// The defaults in the spare slots of an `ArrayVec` count as no items.
-// `MadeWith<()>` is what each type with a `Default` has. With that bound in its place there would be
-// two defaults in `filled`, of which no proof shows that they agree.
+// `MadeWith<()>` is what each type with a `Default` has. With that bound in its place there would
+// be two defaults in `filled`, of which no proof shows that they agree.
 impl<T: MadeWith<()> + Drop, const N: usize> Store<T> for ArrayVec<T, N> {
     ghost use Rattle.arrayvec.specs.ArrayVec.{with_items};
     ghost use Rattle.std.specs.Prelude.{refl};

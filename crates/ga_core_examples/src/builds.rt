@@ -107,7 +107,8 @@ fn four_digits(text: &[u8]) -> Result<Result<GenericArray<u8, U4>, u8>, LengthEr
     GenericArray::try_from_fallible_iter(text.iter().map(decimal_digit))
 }
 
-/// The digits that four bytes stand for, or the first byte that is no digit. The iterator is borrowed.
+/// The digits that four bytes stand for, or the first byte that is no digit. The iterator is
+/// borrowed.
 fn four_digits_lent(text: &[u8]) -> Result<Result<GenericArray<u8, U4>, u8>, LengthError>
     ensures long { IfOk result (λ built. OnOk built (length text.now ≡ 4)) }
     ensures other { IfOk result (λ built. IfErr built (λ byte. (byte < 48) ⊎ (57 < byte))) }

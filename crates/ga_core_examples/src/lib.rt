@@ -1,8 +1,8 @@
-//! Examples of inline arrays, views and rows, each proved: what the contracts of `ga_core` give to those who
-//! use it alone.
+//! Examples of inline arrays, views and rows, each proved: what the contracts of `ga_core` give to
+//! those who use it alone.
 //!
-//! Examples stand under `#[cfg(test)]`. What is public serves the other crates of examples or is cited in
-//! `specs/`.
+//! Examples stand under `#[cfg(test)]`. What is public serves the other crates of examples or is
+//! cited in `specs/`.
 #![tactic(auto)]
 
 /// Comparisons of what callers made.

@@ -136,7 +136,8 @@ fn refused_digit<N: ArrayLength<u8>>(text: &GenericArray<u8, N>) -> u8 {
     }
 }
 
-/// The first running total above 3 where both calls share the closure: by value, and then by reference.
+/// The first running total above 3 where both calls share the closure: by value, and then by
+/// reference.
 fn stopped_totals() -> (u32, u32) {
     let mut next = 0u32;
     let mut counted = |item: u32| {

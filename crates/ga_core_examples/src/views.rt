@@ -86,7 +86,8 @@ fn greatest_and_sum<N: ArrayLength<u32>>(lanes: &GenericArray<u32, N>) -> (u32, 
     (greatest, sum)
 }
 
-/// The digits of two views as one number, and the number of calls, by a closure that both folds borrow.
+/// The digits of two views as one number, and the number of calls, by a closure that both folds
+/// borrow.
 fn digits_of_both(
     left: GenericArrayRef<'_, u32, U2>,
     right: GenericArrayRef<'_, u32, U2>,

@@ -1,4 +1,5 @@
-//! Rows made by a map and joined, of any length: hex digits and back, two arrays in turn, the ends of rows.
+//! Rows made by a map and joined, of any length: hex digits and back, two arrays in turn, the ends
+//! of rows.
 ghost use Rattle.ga_core_examples.specs.Digits.{hex_byte, hex_digit};
 ghost use Rattle.generic_array.specs.Length.{FitsInline};
 ghost use Rattle.generic_array.specs.Rows.{rows};

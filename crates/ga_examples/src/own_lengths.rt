@@ -1,4 +1,5 @@
-//! Lengths of one's own: one that is kept in an `ArrayVec`, and one that is kept in a store of one's own.
+//! Lengths of one's own: one that is kept in an `ArrayVec`, and one that is kept in a store of
+//! one's own.
 ghost use Rattle.generic_array.specs.Length.{FitsInline};
 ghost use Rattle.std.specs.Int.Bits.{bit_xor};
 ghost use Rattle.std.specs.List.{range_with_len};

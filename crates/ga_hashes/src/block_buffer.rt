@@ -67,8 +67,8 @@ impl<N: ArrayLength<u8>> BlockBuffer<N> {
         self.feed_blocks(bytes, f);
     }
 
-    // The feed itself, of which `feed` says one thing more that follows. It uses the fields, so it can
-    // say of the buffer that blocks aren't empty.
+    // The feed itself, of which `feed` says one thing more that follows. It uses the fields, so it
+    // can say of the buffer that blocks aren't empty.
     fn feed_blocks<F: FnMut(&[u8])>(&mut self, bytes: &[u8], f: &mut F)
         requires callable { MayTakeBlocks F.step F.pre N.USIZE f.old (self.old.kept ++ bytes.now) }
         ensures some { 0 < N.USIZE }
@@ -94,9 +94,9 @@ impl<N: ArrayLength<u8>> BlockBuffer<N> {
     /// Ends the message: calls `f` at the last blocks, which are what is kept and the padding. With
     /// blocks of 64 bytes this is how FIPS 180-4 pads messages for SHA-1 and SHA-256.
     ///
-    /// The padding is a byte 0x80, as few zeros as fill a block, and the number of bits in 8 bytes, the
-    /// high byte first. For that number to fit, fewer than 2^61 bytes were fed: a caller who can't know
-    /// asks `len`.
+    /// The padding is a byte 0x80, as few zeros as fill a block, and the number of bits in 8 bytes,
+    /// the high byte first. For that number to fit, fewer than 2^61 bytes were fed: a caller who
+    /// can't know asks `len`.
     pub fn finish<F: FnMut(&[u8])>(self, f: &mut F)
         requires len { self.len < 2 ^ 61 }
         requires callable { MayTakeBlocks F.step F.pre N.USIZE f.old

@@ -13,16 +13,16 @@ use ga_core::{GenericArray, LengthError};
 // How many blocks there are at most: a block's number is a byte, and the first is 1.
 const MAX_BLOCKS: usize = 255;
 
-/// The pseudorandom key of key material under a salt: HKDF-Extract. An empty salt stands for as many
-/// zeros as a digest has bytes. Costs one tag.
+/// The pseudorandom key of key material under a salt: HKDF-Extract. An empty salt stands for as
+/// many zeros as a digest has bytes. Costs one tag.
 pub fn extract<H: HashFunction>(salt: &[u8], material: &[u8]) -> GenericArray<u8, H::OutputSize>
     ensures { result ≡ hmac_of H.digest H.BlockSize.USIZE salt.now material.now }
 {
     tag_of::<H>(salt, material)
 }
 
-/// Fills `output` with key material made of a pseudorandom key and a context: HKDF-Expand. Costs one
-/// tag for each digest's length of output.
+/// Fills `output` with key material made of a pseudorandom key and a context: HKDF-Expand. Costs
+/// one tag for each digest's length of output.
 ///
 /// The RFC asks for a key of at least a digest's length, as `extract` returns; any is taken here.
 ///
@@ -47,8 +47,8 @@ pub fn expand<H: HashFunction>(
     Ok(())
 }
 
-/// Fills `output` with key material made of a salt, key material and a context: `expand` under the key
-/// that `extract` returns. Costs one tag more than `expand`.
+/// Fills `output` with key material made of a salt, key material and a context: `expand` under the
+/// key that `extract` returns. Costs one tag more than `expand`.
 ///
 /// Returns LengthError, and leaves `output` as it was, if it is longer than 255 digests.
 pub fn derive<H: HashFunction>(

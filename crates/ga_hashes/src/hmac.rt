@@ -14,8 +14,8 @@ const INNER: u8 = 0x36;
 // The mask of the key before the inner digest.
 const OUTER: u8 = 0x5c;
 
-/// The tag of a message that is fed by pieces: `new` with the key, a `feed` for each piece, and `finish`
-/// or `verify`.
+/// The tag of a message that is fed by pieces: `new` with the key, a `feed` for each piece, and
+/// `finish` or `verify`.
 #[derive(Drop)]
 pub struct Hmac<H: HashFunction> {
     inner: H,
@@ -23,8 +23,8 @@ pub struct Hmac<H: HashFunction> {
 }
 
 impl<H: HashFunction> Hmac<H> {
-    /// Under a key of any length, with nothing fed yet. Hashes two blocks, and the key where it is longer
-    /// than a block.
+    /// Under a key of any length, with nothing fed yet. Hashes two blocks, and the key where it is
+    /// longer than a block.
     pub fn new(key: &[u8]) -> Self
         ensures { Holds H.holds H.digest H.BlockSize.USIZE result key.now [] }
     {
@@ -53,8 +53,8 @@ impl<H: HashFunction> Hmac<H> {
         outer.finish()
     }
 
-    /// Whether this is the tag. Looks at every byte of a tag of the right length, also behind one that
-    /// differs: no clause and no test says so. How long it takes isn't claimed.
+    /// Whether this is the tag. Looks at every byte of a tag of the right length, also behind one
+    /// that differs: no clause and no test says so. How long it takes isn't claimed.
     pub fn verify(self, tag: &[u8]) -> bool
         ensures { (key m : List ℕ) → Holds H.holds H.digest H.BlockSize.USIZE self key m
             → (IsTrue result ↔ (tag.now ≡ hmac_of H.digest H.BlockSize.USIZE key m)) }

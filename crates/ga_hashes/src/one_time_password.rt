@@ -55,8 +55,8 @@ pub fn counter_code<H: LongDigest>(key: &[u8], counter: u64, digits: Digits) -> 
 
 /// The code of a time: TOTP. Costs one tag.
 ///
-/// `elapsed` is the seconds since the start that both sides agreed on (RFC 6238's T0, by default the
-/// Unix epoch), and `step` the seconds for which a code holds, by default 30.
+/// `elapsed` is the seconds since the start that both sides agreed on (RFC 6238's T0, by default
+/// the Unix epoch), and `step` the seconds for which a code holds, by default 30.
 pub fn time_code<H: LongDigest>(key: &[u8], elapsed: u64, step: NonZeroU64, digits: Digits) -> u32
     ensures { result ≡ code_of H.digest H.BlockSize.USIZE key.now (elapsed / non_zero_u64_get step)
         (digit_count digits) }

@@ -12,8 +12,8 @@ use generic_array::{
 };
 use std::alloc::Global;
 
-/// The sequence of the `Length` values that an iterator gives, of any kind that can be filled, or why there
-/// is none (`FillError`).
+/// The sequence of the `Length` values that an iterator gives, of any kind that can be filled, or
+/// why there is none (`FillError`).
 ///
 /// The clauses are those of `from_fallible_iter_ref`. Where memory is refused, no item is taken.
 pub fn build<T, E: Drop, S: FromFallibleIterator<T>, I: Iterator<Item = Result<T, E>>>(
@@ -33,8 +33,8 @@ pub fn build<T, E: Drop, S: FromFallibleIterator<T>, I: Iterator<Item = Result<T
     S::from_fallible_iter_ref(place, items)
 }
 
-/// `build` of good items alone, which a vector holds: `Ok` if and only if they are `Length` and memory isn't
-/// refused, and `FillError::Length` only if they are another number.
+/// `build` of good items alone, which a vector holds: `Ok` if and only if they are `Length` and
+/// memory isn't refused, and `FillError::Length` only if they are another number.
 pub fn build_of_items<T: Drop, S: FromFallibleIterator<T>>(
     place: S::Place,
     items: Vec<T>,
@@ -49,7 +49,8 @@ pub fn build_of_items<T: Drop, S: FromFallibleIterator<T>>(
     build_of_results(place, items)
 }
 
-// `build_of_items` at any error type. It says the items by `try_map`, as the run along std's `map` does.
+// `build_of_items` at any error type. It says the items by `try_map`, as the run along std's `map`
+// does.
 fn build_of_results<T: Drop, E: Drop, S: FromFallibleIterator<T>>(
     place: S::Place,
     items: Vec<T>,
@@ -70,8 +71,8 @@ fn build_of_results<T: Drop, E: Drop, S: FromFallibleIterator<T>>(
     )
 }
 
-/// The inline array of the items of any iterator, `Ok` exactly where N items come and then the end. At most
-/// N + 1 items are taken.
+/// The inline array of the items of any iterator, `Ok` exactly where N items come and then the end.
+/// At most N + 1 items are taken.
 pub fn fill_inline<T: Default + Drop, N: ArrayLength<T>, I: Iterator<Item = T>>(
     items: &mut I,
 ) -> Result<GenericArray<T, N>, LengthError>

@@ -11,8 +11,8 @@ use generic_array::functional::{
 };
 use generic_array::sequence::{FallibleGenericSequence, GenericSequence, SequenceItem};
 
-/// One call at each item, in order, each with the state that the one before left. What is made has an
-/// item for each.
+/// One call at each item, in order, each with the state that the one before left. What is made has
+/// an item for each.
 pub fn map<T, U, S, F>(
     s: S,
     place: MappedPlace<S, T, U>,

@@ -1,9 +1,9 @@
-//! A run over joined lists is one over the first and then one over the second, of calls at the entries of
-//! any sequence.
+//! A run over joined lists is one over the first and then one over the second, of calls at the
+//! entries of any sequence.
 //!
-//! Each function's contract is a law, which holds of each closure, whatever it returns. Its body is empty, so
-//! it holds no call's body to anything: the clause `run` of each call does. `run` says that the call made such
-//! a run, and by the law a run over joined lists is one over each in turn.
+//! Each function's contract is a law, which holds of each closure, whatever it returns. Its body is
+//! empty, so it holds no call's body to anything: the clause `run` of each call does. `run` says
+//! that the call made such a run, and by the law a run over joined lists is one over each in turn.
 ghost use Rattle.generic_array.specs.Laws.{ErrorRunsJoin, FoldsJoin, FoldsToErrorJoin, GoodFoldsJoin, GoodRunsJoin, RunsJoin};
 ghost use Rattle.generic_array.specs.Entries.{CallAt, CallAtPair, FoldAt};
 ghost use Rattle.generic_array.specs.Steps.{StepGivesReply};
@@ -27,8 +27,8 @@ pub fn zips_join<
     ensures { RunsJoin (CallAtPair S.entry Rhs.entry F.step) }
 {}
 
-/// Runs of `try_map`, as its clause `run` says them: those with no error, and those to an error, which make
-/// no call after it.
+/// Runs of `try_map`, as its clause `run` says them: those with no error, and those to an error,
+/// which make no call after it.
 pub fn try_maps_join<T, U, E, S: GenericSequence<T>, F: FnMut(SequenceItem<S>) -> Result<U, E>>(
     _s: &S,
     _f: &F,
@@ -51,8 +51,8 @@ pub fn try_folds_join<T, A, E, S: GenericSequence<T>, F: FnMut(A, SequenceItem<S
     ensures error { FoldsToErrorJoin (FoldAt S.entry F.step) }
 {}
 
-/// Runs of steps, as the clause `run` of `run_steps` says them: one that is stopped anywhere and taken up
-/// again is one run.
+/// Runs of steps, as the clause `run` of `run_steps` says them: one that is stopped anywhere and
+/// taken up again is one run.
 pub fn runs_of_steps_join<T, R, G: FnMut(&[T]) -> R>(_look: &G)
     ensures { RunsJoin (StepGivesReply (CallAt (λ slice. slice.now) G.step)) }
 {}

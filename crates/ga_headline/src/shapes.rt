@@ -1,7 +1,8 @@
-//! Shapes undo each other: what is done and undone is as it was, and what stood in between is known.
+//! Shapes undo each other: what is done and undone is as it was, and what stood in between is
+//! known.
 //!
-//! Each function but the last makes a shape and undoes it, of any lengths that fit together. `see` is called
-//! with what stands in between, and need be callable with just that.
+//! Each function but the last makes a shape and undoes it, of any lengths that fit together. `see`
+//! is called with what stands in between, and need be callable with just that.
 ghost use Rattle.generic_array.specs.Length.{FitsInline};
 ghost use Rattle.generic_array.specs.Rows.{rows};
 ghost use Rattle.generic_array.specs.Views.{items_of_view};
@@ -121,8 +122,8 @@ pub fn concat_then_split<
     (first, second, seen)
 }
 
-/// A sequence cut into rows of any width and joined, of whatever sequences these are. Requires that both
-/// traits name the same rows, as those of arrays do.
+/// A sequence cut into rows of any width and joined, of whatever sequences these are. Requires that
+/// both traits name the same rows, as those of arrays do.
 pub fn unflatten_then_flatten<T, Flat, Rows, A, S>(flat: Flat, see: S) -> (Flat, A)
 where
     Flat: Unflatten<T, Rows>,
@@ -142,8 +143,8 @@ where
     (rows.flatten(), seen)
 }
 
-/// Rows joined and cut again, of whatever sequences these are. Requires that the traits name the same width
-/// and items, as those of arrays do.
+/// Rows joined and cut again, of whatever sequences these are. Requires that the traits name the
+/// same width and items, as those of arrays do.
 pub fn flatten_then_unflatten<T, Flat, Rows, A, S>(rows: Rows, see: S) -> (Rows, A)
 where
     Flat: Unflatten<T, Rows> + AsSlice<T>,

@@ -10,8 +10,9 @@ use generic_array::steps::{Reply, Step, TwoEndedSequence, run_steps};
 
 /// Runs any steps over the items of a sequence, and returns the iterator over those that are left.
 ///
-/// The steps and the replies are those of the list of the sequence's items. No item is lost or doubled
-/// (`Account`). If room for the replies can't be allocated, no step is made, and items and steps are dropped.
+/// The steps and the replies are those of the list of the sequence's items. No item is lost or
+/// doubled (`Account`). If room for the replies can't be allocated, no step is made, and items and
+/// steps are dropped.
 pub fn walk<T: Drop, R, S: TwoEndedSequence<T>, G: FnMut(&[T]) -> R>(
     s: S,
     steps: Vec<Step<T>>,

@@ -1,5 +1,5 @@
-//! The headline end to end: a sequence is mapped and walked over, of any kind, and one that can be filled is
-//! built before.
+//! The headline end to end: a sequence is mapped and walked over, of any kind, and one that can be
+//! filled is built before.
 ghost use Rattle.ga_headline.specs.Whole.{Comes, KeepsPromises, MapKeepsPromises, MapStoppedAt, StoppedAt};
 ghost use Rattle.generic_array.specs.Account.{Account};
 ghost use Rattle.generic_array.specs.Calls.{MayTryMap};
@@ -18,8 +18,8 @@ use generic_array::sequence::{FallibleGenericSequence, FromFallibleIterator, Seq
 use generic_array::steps::{Reply, Step, TwoEndedSequence, run_steps};
 use generic_array::{AllocError, FillError, Never};
 
-/// Which part of `map_walk` or `build_map_walk` stopped, and why. `B` is the error of the build, and
-/// `Never` where there is none.
+/// Which part of `map_walk` or `build_map_walk` stopped, and why. `B` is the error of the build,
+/// and `Never` where there is none.
 #[derive(Drop)]
 pub enum Stopped<B, D, Q> {
     /// The build: an item's error, another number of items, or no memory.
@@ -35,12 +35,12 @@ pub enum Stopped<B, D, Q> {
 /// The iterator by value over what a map of `S` to `U` makes.
 pub type Walked<S, T, U> = <MappedSequence<S, T, U> as TwoEndedSequence<U>>::TwoEnded;
 
-/// Maps a sequence of any kind, inline, boxed or borrowed, by a closure that may fail, and runs steps over
-/// what was made.
+/// Maps a sequence of any kind, inline, boxed or borrowed, by a closure that may fail, and runs
+/// steps over what was made.
 ///
-/// The clauses say both parts in order: the calls up to the first error, and the list that is cut from both
-/// ends. They say how both closures are left, wherever the run stops. `look` need be callable only in
-/// states that such a run reaches.
+/// The clauses say both parts in order: the calls up to the first error, and the list that is cut
+/// from both ends. They say how both closures are left, wherever the run stops. `look` need be
+/// callable only in states that such a run reaches.
 pub fn map_walk<T, U, D, R, S, F, G>(
     s: S,
     mapped_place: MappedPlace<S, T, U>,
@@ -76,7 +76,8 @@ where
     ensures kept { vec_capacity replies.old ≤ vec_capacity replies.new }
 {
     match try_map(s, mapped_place, f) {
-        // `walk` of what was made, written out: the checker gives up on the call with all these bounds.
+        // `walk` of what was made, written out: the checker gives up on the call with all these
+        // bounds.
         Ok(Ok(mapped)) => {
             let mut left = mapped.into_two_ended();
             match run_steps(&mut left, steps, look, replies) {
@@ -89,12 +90,13 @@ where
     }
 }
 
-/// Builds a sequence of what an iterator gives, maps it by a closure that may fail, and runs steps over
-/// what was made.
+/// Builds a sequence of what an iterator gives, maps it by a closure that may fail, and runs steps
+/// over what was made.
 ///
-/// A build and `map_walk`. The clauses say the parts in order: the fill, the calls up to the first error,
-/// and the list that is cut from both ends. They say how the iterator and both closures are left, wherever
-/// the run stops. The closures need be callable only in states that such a run reaches.
+/// A build and `map_walk`. The clauses say the parts in order: the fill, the calls up to the first
+/// error, and the list that is cut from both ends. They say how the iterator and both closures are
+/// left, wherever the run stops. The closures need be callable only in states that such a run
+/// reaches.
 pub fn build_map_walk<T, E, U, D, R, S, I, F, G>(
     place: S::Place,
     items: &mut I,

@@ -30,7 +30,8 @@ fn boxed_of(
     build_of_items(alloc, items)
 }
 
-// The block of all items, of any number. As many are asked for, so nothing but memory can be lacking.
+// The block of all items, of any number. As many are asked for, so nothing but memory can be
+// lacking.
 fn boxed_of_all<N: Unsigned>(
     alloc: Global,
     items: Vec<u32>,

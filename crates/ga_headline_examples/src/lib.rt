@@ -1,4 +1,5 @@
-//! Examples of the headline, each proved: every function of `ga_headline`, with exact results, and runs of steps.
+//! Examples of the headline, each proved: every function of `ga_headline`, with exact results, and
+//! runs of steps.
 #![tactic(auto)]
 
 #[cfg(test)]

@@ -45,8 +45,8 @@ fn taken_and_replaced<I: TwoEnded<u32>>(
     run_steps(numbers, steps, &mut total, replies)
 }
 
-/// Items taken from both ends of five, past the last of them too, and the sum of what is left: in one run
-/// where `at_once`, else in two.
+/// Items taken from both ends of five, past the last of them too, and the sum of what is left: in
+/// one run where `at_once`, else in two.
 fn taken_and_looked_at<I: TwoEnded<u32>>(
     alloc: Global,
     numbers: &mut I,
@@ -92,7 +92,8 @@ fn taken_behind<I: TwoEnded<u32>>(
     run_steps(numbers, steps, &mut total, replies)
 }
 
-/// Two orders in which items are taken from both ends: each end returns as if the other stood still.
+/// Two orders in which items are taken from both ends: each end returns as if the other stood
+/// still.
 fn taken_in_two_orders<I: TwoEnded<u32>>(
     alloc: Global,
     numbers: &mut I,

@@ -34,7 +34,8 @@ where
     )
 }
 
-// Rows joined and cut again. The checker doesn't cover a call of this: the test below names the lengths.
+// Rows joined and cut again. The checker doesn't cover a call of this: the test below names the
+// lengths.
 fn joined_and_cut<
     T: Default + Drop,
     N: ArrayLength<T>,

@@ -1,5 +1,5 @@
-//! Every call that may ask for memory, with ample memory: a body that only reports want of memory meets its
-//! contract.
+//! Every call that may ask for memory, with ample memory: a body that only reports want of memory
+//! meets its contract.
 //!
 //! Each call is a line of a table, and each table is played at every length of the test.
 ghost use Rattle.generic_array.specs.Length.{FitsInline};

@@ -79,8 +79,8 @@ impl<'a, N: ArrayLength<u8>> RecordBlock<'a, N> {
 
     /// The greatest index of a record that contains the byte, or `None` where none does.
     ///
-    /// Looks from the back and stops at the first record found: takes time in proportion to the bytes
-    /// behind it and in it. No clause and no test says so.
+    /// Looks from the back and stops at the first record found: takes time in proportion to the
+    /// bytes behind it and in it. No clause and no test says so.
     pub fn last_with(&self, byte: u8) -> Option<usize>
         ensures index { result ≡ last_record_with byte (rows N.USIZE (bytes_of self.now)) }
         ensures some { IfSome result (λ index. IsLastWith byte (rows N.USIZE (bytes_of self.now)) index) }

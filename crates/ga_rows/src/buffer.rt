@@ -131,8 +131,8 @@ impl Piece {
         self.len = put_numbers(&mut self.bytes, self.len, numbers);
     }
 
-    /// Appends numbers in decimal, from the last to the first, joined by one space. There is room for
-    /// four bytes each.
+    /// Appends numbers in decimal, from the last to the first, joined by one space. There is room
+    /// for four bytes each.
     #[inline]
     pub fn push_numbers_back(&mut self, numbers: &[u8])
         requires { length self.old + 4 * length numbers.now ≤ PIECE_SIZE }

@@ -73,8 +73,8 @@ fn has_line(text: &[u8], line: Option<&str>) -> bool {
     }
 }
 
-/// Whether listed words and an input give this text, the usage where the words mean nothing, and this
-/// exit status.
+/// Whether listed words and an input give this text, the usage where the words mean nothing, and
+/// this exit status.
 fn gives(
     alloc: Global,
     words: &str,

@@ -1,5 +1,5 @@
-//! What fixed-length arrays are for, as a user of `generic_array` builds it: by the library's public
-//! names and contracts alone.
+//! What fixed-length arrays are for, as a user of `generic_array` builds it: by the library's
+//! public names and contracts alone.
 #![tactic(auto)]
 
 /// The header of an Ethernet frame, made by `concat` and read by `split`.

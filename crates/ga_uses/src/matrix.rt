@@ -1,7 +1,7 @@
 //! Matrices of whole numbers, of any size: columns, the transpose and the product.
 //!
-//! Contracts see a row as the list of its numbers, and a matrix as the list of its rows. Both are made
-//! by a literal: the checker covers no call that takes an array of rows by value.
+//! Contracts see a row as the list of its numbers, and a matrix as the list of its rows. Both are
+//! made by a literal: the checker covers no call that takes an array of rows by value.
 ghost use Rattle.ga_uses.specs.Matrix.{column_of, dot_product, matrix_product, row_product, transpose};
 ghost use Rattle.std.specs.Prelude.{◌≡◌, ◌<◌, Some, replicate, slice_get, slice_index};
 
@@ -10,8 +10,8 @@ use std::marker::Model;
 
 /// A row of `C` numbers.
 ///
-/// A type of its own, since the checker doesn't cover a struct whose bound names an array of arrays of a
-/// named type.
+/// A type of its own, since the checker doesn't cover a struct whose bound names an array of arrays
+/// of a named type.
 #[derive(Drop)]
 pub struct Row<C: ArrayLength<u64>> {
     /// The numbers, from the first column to the last.
@@ -103,7 +103,8 @@ where
         R: ArrayLength<u64> + InlineLength,
         ensures { result ≡ transpose C.USIZE self.now }
     {
-        // The closure captures a column, since the checker wants the result's type in what is captured.
+        // The closure captures a column, since the checker wants the result's type in what is
+        // captured.
         let blank: Row<R> = Row::default();
         let rows = GenericArray::generate(
             |column: usize| -> Row<R>

@@ -105,8 +105,8 @@ pub fn checksum(
         ≡ checksum_of (summed_bytes (items_of_view source_address.entry)
         (items_of_view destination_address.entry) source destination payload.now) }
 {
-    // The sum of the addresses, the protocol, the length, the header, whose checksum counts as 0, and
-    // the payload.
+    // The sum of the addresses, the protocol, the length, the header, whose checksum counts as 0,
+    // and the payload.
     let len = (8 + payload.len()) as u16;
     let between = GenericArray::<u16, U6>::from_array([17, len, source, destination, len, 0]);
     let first = with_words(0, source_address.into_slice());
@@ -125,7 +125,8 @@ fn complement(sum: u16) -> u16
     }
 }
 
-// The sum with the words of the bytes added, one after the other. Behind an odd last byte there is a 0.
+// The sum with the words of the bytes added, one after the other. Behind an odd last byte there is
+// a 0.
 fn with_words(sum: u16, bytes: &[u8]) -> u16
     ensures { result ≡ fold sum_with_carry sum (words bytes.now) }
 {
@@ -152,8 +153,8 @@ fn with_carry(sum: u16, word: u16) -> u16
     (total % 0x1_0000 + total / 0x1_0000) as u16
 }
 
-/// Writes the header of a datagram whose payload stands in the slice already, behind the eight bytes of
-/// the header.
+/// Writes the header of a datagram whose payload stands in the slice already, behind the eight
+/// bytes of the header.
 pub fn write_header(
     datagram: &mut [u8],
     source_address: GenericArrayRef<'_, u8, U4>,

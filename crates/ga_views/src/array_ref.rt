@@ -112,8 +112,8 @@ impl<'a, T, N: Unsigned> GenericArrayRef<'a, T, N> {
 
     /// Folds the items into one value, in order, starting from `init`. One call of `f` for each.
     ///
-    /// The counterpart of `fold` of `&GenericArray<T, N>`, at any length. `f` can't keep a reference to an
-    /// item: `into_iter().fold` takes a closure that does.
+    /// The counterpart of `fold` of `&GenericArray<T, N>`, at any length. `f` can't keep a
+    /// reference to an item: `into_iter().fold` takes a closure that does.
     #[inline]
     pub fn fold<A, F: FnMut(A, &T) -> A>(self, init: A, mut f: F) -> A
         requires callable { MayFold (λ item. item.now) F.pre F.step f init (items_of_view self) }

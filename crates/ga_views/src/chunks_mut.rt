@@ -71,8 +71,8 @@ impl<'a, T, N: Unsigned> ChunksViewMut<&'a mut [T], T, N> {
         slice.split_at_mut(whole)
     }
 
-    /// The items of all rows, in order, for writing, for the whole borrow that the rows were cut from.
-    /// A proof doesn't learn what is then written through it: see `as_mut_slice`.
+    /// The items of all rows, in order, for writing, for the whole borrow that the rows were cut
+    /// from. A proof doesn't learn what is then written through it: see `as_mut_slice`.
     ///
     /// The counterpart of `GenericArray::slice_from_chunks_mut`.
     #[inline]
@@ -88,8 +88,8 @@ impl<'a, T, N: Unsigned> ChunksViewMut<&'a mut [T], T, N> {
 impl<S: ReborrowSlice<T>, T, N: Unsigned> ChunksViewMut<S, T, N> {
     ghost use Rattle.ga_views.specs.ChunksViewMut.{LendsRowItems};
 
-    /// The rows over a reference to whole rows: requires that no items are left behind them. With `N = 0`
-    /// there are none. O(1).
+    /// The rows over a reference to whole rows: requires that no items are left behind them. With
+    /// `N = 0` there are none. O(1).
     #[inline]
     pub fn over(items: S) -> Self
         requires whole { length (S.items items) ≡ chunk_count N.USIZE (S.items items) * N.USIZE }
@@ -180,8 +180,8 @@ impl<S: ReborrowPart<T>, T, N: Unsigned> ChunksViewMut<S, T, N> {
 
     /// The row at `index` for writing, or `None` if there are at most `index` rows. O(1).
     ///
-    /// The checker doesn't read `writes_back` for callers. Where a proof needs what is written, call
-    /// `row_mut`.
+    /// The checker doesn't read `writes_back` for callers. Where a proof needs what is written,
+    /// call `row_mut`.
     #[inline]
     pub fn get_mut(&mut self, index: usize) -> Option<GenericArrayMut<'_, T, N>>
         ensures* writes_back { sem 𝓛 (LendsRowIf S.row T.row N.row S.ReborrowSlice N.Unsigned

@@ -43,11 +43,11 @@ pub fn write_hex<W: Write>(
 /// Bytes that print as hex text: two digits for each byte, the high half first.
 ///
 /// A precision is how many digits there are at most: `{:.3}` prints three. A width and flags change
-/// nothing. Writes once for each piece of 64 bytes, and not at all if there are no digits. Allocates
-/// nothing.
+/// nothing. Writes once for each piece of 64 bytes, and not at all if there are no digits.
+/// Allocates nothing.
 ///
-/// The counterpart of `fmt::LowerHex` and `fmt::UpperHex` of an array: `{}` of it is their `{:x}` or
-/// `{:X}`.
+/// The counterpart of `fmt::LowerHex` and `fmt::UpperHex` of an array: `{}` of it is their `{:x}`
+/// or `{:X}`.
 #[derive(Clone, Copy)]
 pub struct HexText<'a> {
     /// The bytes.
@@ -67,8 +67,8 @@ impl fmt::Display for HexText<'_> {
     }
 }
 
-// As `write_hex`, in pieces of 1,024 bytes. Not inlined, so that no caller's frame holds the buffer of
-// 2 KiB.
+// As `write_hex`, in pieces of 1,024 bytes. Not inlined, so that no caller's frame holds the buffer
+// of 2 KiB.
 #[inline(never)]
 fn put_long<W: Write>(bytes: &[u8], upper: bool, limit: Option<usize>, w: &mut W) -> io::Result<()>
     ensures text { OnOk result (Appends (W.contents w.old) (W.contents w.new)
@@ -149,8 +149,8 @@ fn count_digits(bytes: &[u8], limit: Option<usize>) -> usize
     }
 }
 
-// Puts the digits of a piece into the buffer, and returns the first `count` of them, or all if they are
-// fewer.
+// Puts the digits of a piece into the buffer, and returns the first `count` of them, or all if they
+// are fewer.
 #[inline(always)]
 fn put_piece<'a>(piece: &[u8], upper: bool, count: usize, digits: &'a mut [u8]) -> &'a [u8]
     requires { 2 * length piece.now ≤ length digits.old }

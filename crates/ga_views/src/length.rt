@@ -1,4 +1,5 @@
-//! Lengths that are types: the traits, `Const<N>`, and the named lengths, each with the fact that it fits inline.
+//! Lengths that are types: the traits, `Const<N>`, and the named lengths, each with the fact that
+//! it fits inline.
 ghost use Rattle.ga_views.specs.Length.{FitsInline};
 ghost use Rattle.std.proofs.Math.Dec.{lit≤};
 ghost use Rattle.std.specs.Prelude.{ℕ};
@@ -20,8 +21,9 @@ pub trait Unsigned {
 
 /// A length that fits inline, as a bound: code under it needs no condition that it fits.
 ///
-/// Every named length is one. A length type of one's own gets it by an `impl`, which proves that the length
-/// is at most `MAX_INLINE`. For another `Const`, as `Const<100>`, no crate above this one can write that.
+/// Every named length is one. A length type of one's own gets it by an `impl`, which proves that
+/// the length is at most `MAX_INLINE`. For another `Const`, as `Const<100>`, no crate above this
+/// one can write that.
 pub trait InlineLength: Unsigned {
     // The length is at most `MAX_INLINE`.
     ghost fits: { FitsInline Self.USIZE };

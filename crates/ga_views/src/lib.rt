@@ -1,8 +1,8 @@
 //! Lengths that are types, the error of a wrong length, and views of slices.
 //!
-//! The lowest crate of the library: nothing here owns items. A `GenericArrayRef` or `GenericArrayMut` is a
-//! slice of exactly `N` items, a `ChunksRef` or `ChunksMut` a slice of rows of `N`; their lengths have no
-//! bound. `hex_text` writes bytes as hex digits.
+//! The lowest crate of the library: nothing here owns items. A `GenericArrayRef` or
+//! `GenericArrayMut` is a slice of exactly `N` items, a `ChunksRef` or `ChunksMut` a slice of rows
+//! of `N`; their lengths have no bound. `hex_text` writes bytes as hex digits.
 #![tactic(auto)]
 
 mod array_ref;

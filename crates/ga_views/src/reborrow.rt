@@ -27,8 +27,8 @@ pub trait ReborrowSlice<T>: Drop {
     // With these items it is the same reference.
     ghost slice_with_stays: { (slice : Self) (written : List T) → stays slice (slice_with slice written).0 };
 
-    /// The items, in order, for writing. The caller says how many they are, so that the compiler knows
-    /// it too.
+    /// The items, in order, for writing. The caller says how many they are, so that the compiler
+    /// knows it too.
     fn as_mut_slice(&mut self, len: usize) -> &mut [T]
         requires len { len ≡ length (items self.old) }
         ensures* writes_back { sem 𝓛 (Lends Self.row (Array T.row 0)

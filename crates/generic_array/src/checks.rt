@@ -10,7 +10,8 @@ use crate::functional::{
 };
 use crate::sequence::{GenericSequence, SequenceItem};
 
-/// The fold by `f` over the entries, from `init`: a caller of `fold_by` that knows the traits alone.
+/// The fold by `f` over the entries, from `init`: a caller of `fold_by` that knows the traits
+/// alone.
 pub fn total_by<T, S: FunctionalSequence<T>, A, F: FnMut(A, SequenceItem<S>) -> A>(
     s: S,
     init: A,

@@ -1,8 +1,9 @@
 //! Laws: what the words of this crate's contracts say together.
 //!
-//! Each function's contract is a law, and nothing calls it. The laws of shapes and of rows hold of all lists,
-//! those of runs and of folds of each closure, whatever it returns; their bodies are empty. With the contracts
-//! of the calls they hold of the calls. The laws of the macros, one for each form, have the macro as body.
+//! Each function's contract is a law, and nothing calls it. The laws of shapes and of rows hold of
+//! all lists, those of runs and of folds of each closure, whatever it returns; their bodies are
+//! empty. With the contracts of the calls they hold of the calls. The laws of the macros, one for
+//! each form, have the macro as body.
 ghost use Rattle.ga_core.specs.Length.{FitsInline};
 ghost use Rattle.ga_core.specs.Rows.{rows};
 ghost use Rattle.generic_array.specs.Laws.{ErrorRunsJoin, FoldsJoin, FoldsToErrorJoin, GoodFoldsJoin, GoodRunsJoin, RunsJoin};
@@ -14,8 +15,8 @@ use ga_boxed::BoxedArray;
 use ga_core::{AllocError, ArrayLength, GenericArray, U1, U2, U3, Unsigned};
 use std::alloc::Global;
 
-// What was put at an end is what is taken from there, and the other items are as they were. What was taken and
-// put back is as it was by the words for taking alone.
+// What was put at an end is what is taken from there, and the other items are as they were. What
+// was taken and put back is as it was by the words for taking alone.
 fn ends_undo_each_other<T>()
     ensures back { (items others : List T) (item last : T)
         → items ++ item ∷ [] ≡ others ++ last ∷ [] → (others ≡ items) × (last ≡ item) }
@@ -23,15 +24,16 @@ fn ends_undo_each_other<T>()
         → item ∷ items ≡ first ∷ others → (others ≡ items) × (first ≡ item) }
 {}
 
-// What was cut in two and joined is as it was, and so is what was joined and cut where it was joined.
+// What was cut in two and joined is as it was, and so is what was joined and cut where it was
+// joined.
 fn parts_undo_each_other<T>()
     ensures joined { (place : ℕ) (items : List T) → take place items ++ drop place items ≡ items }
     ensures first { (items rest : List T) → take (length items) (items ++ rest) ≡ items }
     ensures rest { (items rest : List T) → drop (length items) (items ++ rest) ≡ rest }
 {}
 
-// Rows of one width that are joined and cut again are as they were, and so are items that fill rows and are cut
-// and joined again.
+// Rows of one width that are joined and cut again are as they were, and so are items that fill rows
+// and are cut and joined again.
 fn rows_undo_each_other<T>()
     ensures rows { (width : ℕ) (all : List (List T)) → 0 < width → All (λ row. length row ≡ width) all
         → rows width (flat_map (λ row. row) all) ≡ all }
@@ -74,8 +76,8 @@ fn arr_of_two_items<T: Default + Drop>(first: T, second: T) -> GenericArray<T, U
     arr![first, second]
 }
 
-// Of items of a named type: of an open one the checker asks that the native array behind the macro fits in
-// memory.
+// Of items of a named type: of an open one the checker asks that the native array behind the macro
+// fits in memory.
 fn box_arr_of_items(
     alloc: Global,
     first: u64,

@@ -1,7 +1,7 @@
 //! `arr!` and `box_arr!`, for arrays whose items are written out.
 
-/// An inline array: `arr![a, b, c]` has these items, and `arr![x; U6]` or `arr![x; 6]` has six copies of
-/// `x`, which is `Copy` and is evaluated once. Commas may follow the last item.
+/// An inline array: `arr![a, b, c]` has these items, and `arr![x; U6]` or `arr![x; 6]` has six
+/// copies of `x`, which is `Copy` and is evaluated once. Commas may follow the last item.
 ///
 /// Requires a length of at most `MAX_INLINE`. The counterpart of `arr!`, which can also be used in
 /// constants.
@@ -22,8 +22,8 @@ macro_rules! arr {
 }
 
 /// A boxed array, or `AllocError`: `box_arr!(alloc, [a, b, c])` has these items, and
-/// `box_arr!(alloc, [x; U6])` or `box_arr!(alloc, [x; 6])` has six copies of `x`, which is `Copy` and is
-/// evaluated once. Commas may follow the last item.
+/// `box_arr!(alloc, [x; U6])` or `box_arr!(alloc, [x; 6])` has six copies of `x`, which is `Copy`
+/// and is evaluated once. Commas may follow the last item.
 ///
 /// The first form has the items on the stack, and moves them to the block in one piece; the others
 /// write them in the block. The counterpart of `box_arr!`.

@@ -30,8 +30,8 @@ pub type SequenceItem<S> = <S as IntoIterator>::Item;
 /// A sequence whose length is a type: an inline array, a reference to one, a read-only view or a
 /// boxed array. Contracts see the list of its items, by `items`.
 ///
-/// `into_iter` returns an entry for each item, in order: the item itself; in a view or a reference to an
-/// array, a reference to it.
+/// `into_iter` returns an entry for each item, in order: the item itself; in a view or a reference
+/// to an array, a reference to it.
 pub trait GenericSequence<T>: Sized + AsSlice<T> + IntoIterator {
     /// How many items there are.
     type Length: Unsigned;

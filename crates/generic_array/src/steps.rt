@@ -1,8 +1,8 @@
 //! Runs of steps over the iterators by value: items taken from both ends, looked at and replaced.
 //!
-//! A run does to the items what it would do to a list that is cut from both ends. Each step has its reply and leaves a list
-//! (`StepGivesReply`), a run is these one after the other, and the account of a run (`Account`) says that
-//! no item is lost or doubled.
+//! A run does to the items what it would do to a list that is cut from both ends. Each step has its
+//! reply and leaves a list (`StepGivesReply`), a run is these one after the other, and the account
+//! of a run (`Account`) says that no item is lost or doubled.
 ghost use Rattle.ga_core.specs.Cut.{StepGives, back, front};
 ghost use Rattle.generic_array.specs.Account.{Account};
 ghost use Rattle.ga_core.specs.Entries.{CallAt, MayCallAt};
@@ -20,8 +20,8 @@ use ga_core::AllocError;
 use std::mem;
 pub use step::{Reply, Step};
 
-/// An iterator by value whose items can be taken from both ends, seen and replaced: `GenericArrayIter`
-/// and `BoxedArrayIter`. No call allocates.
+/// An iterator by value whose items can be taken from both ends, seen and replaced:
+/// `GenericArrayIter` and `BoxedArrayIter`. No call allocates.
 pub trait TwoEnded<T> {
     // The items that are left, in order.
     ghost items: { Self → List T };
@@ -46,8 +46,8 @@ pub trait TwoEnded<T> {
     fn front_nth(&mut self, n: usize) -> Option<T>
         ensures step { StepGives (front n) (items self.old) result (items self.new) };
 
-    /// Drops `n` items from the back, or as many as are left, and takes the last of those before them.
-    /// O(n).
+    /// Drops `n` items from the back, or as many as are left, and takes the last of those before
+    /// them. O(n).
     fn back_nth(&mut self, n: usize) -> Option<T>
         ensures step { StepGives (back n) (items self.old) result (items self.new) };
 

@@ -102,8 +102,8 @@ impl<T: Drop, N: Unsigned> BoxedArray<T, N> {
 
     /// The array of all items of `items`, or `LengthError` if they aren't exactly `N`.
     ///
-    /// Allocates the whole block first: if that fails, takes no item. Takes at most `N + 1` items, as
-    /// the clauses of `try_boxed_from_iter_ref` say. Size hints aren't consulted.
+    /// Allocates the whole block first: if that fails, takes no item. Takes at most `N + 1` items,
+    /// as the clauses of `try_boxed_from_iter_ref` say. Size hints aren't consulted.
     pub fn try_boxed_from_iter<I: Iterator<Item = T>>(
         alloc: Global,
         mut items: I,

@@ -53,8 +53,9 @@ impl<T: Drop, const U: usize> BoxedArray<T, Const<U>> {
 }
 
 impl<T: Drop, N: Unsigned> BoxedArray<T, N> {
-    /// The array of the items of a vector, or `LengthError` if they aren't exactly `N`. Compares the
-    /// lengths before it allocates. Either error drops the vector. Allocates nothing if `N` is 0.
+    /// The array of the items of a vector, or `LengthError` if they aren't exactly `N`. Compares
+    /// the lengths before it allocates. Either error drops the vector. Allocates nothing if `N` is
+    /// 0.
     ///
     /// The counterpart of `GenericArray::try_from_vec`. Moves each item once, to a block for `N`.
     pub fn try_from_vec(
@@ -108,7 +109,8 @@ impl<T: Drop, N: Unsigned> BoxedArray<T, N> {
         Ok(vector)
     }
 
-    /// The items as a boxed slice: see `into_vec`. The counterpart of `GenericArray::into_boxed_slice`.
+    /// The items as a boxed slice: see `into_vec`. The counterpart of
+    /// `GenericArray::into_boxed_slice`.
     pub fn into_boxed_slice(self) -> Result<BoxedSlice<T, Global>, AllocError>
         ensures ok { IfOk result (λ items. boxed_slice_items items ≡ self) }
         ensures empty { N.USIZE ≡ 0 → IsOk result }

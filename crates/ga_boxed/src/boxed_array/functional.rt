@@ -1,5 +1,5 @@
-//! Calls of a closure at borrowed items, in plain types: what is made is a boxed array. Memory comes
-//! first in each.
+//! Calls of a closure at borrowed items, in plain types: what is made is a boxed array. Memory
+//! comes first in each.
 ghost use Rattle.ga_core.specs.Calls.{MayMap, MayTryMap, MayZip};
 ghost use Rattle.ga_core.specs.Entries.{ActsOnEntries, ActsOnEntry, CallAt, CallAtPair};
 ghost use Rattle.ga_core.specs.Runs.{ClosureRun, TryClosureRun};
@@ -17,8 +17,8 @@ use std::marker::PhantomData;
 impl<T, N: Unsigned> BoxedArray<T, N> {
     /// The boxed array of what `f` returns at each item by reference, called in order.
     ///
-    /// Allocates the whole block first: if that fails, `f` is never called. Allocates nothing if `N` is 0.
-    /// The counterpart of `map` of `&GenericArray<T, N>`, which makes an inline array.
+    /// Allocates the whole block first: if that fails, `f` is never called. Allocates nothing if
+    /// `N` is 0. The counterpart of `map` of `&GenericArray<T, N>`, which makes an inline array.
     pub fn map_ref<U, F: FnMut(&T) -> U>(
         &self,
         alloc: Global,
@@ -78,7 +78,8 @@ impl<T, N: Unsigned> BoxedArray<T, N> {
         self.try_map_ref_by(alloc, &mut f)
     }
 
-    /// `try_map_ref` that borrows the closure, which can be used again in the state that it reached.
+    /// `try_map_ref` that borrows the closure, which can be used again in the state that it
+    /// reached.
     pub fn try_map_ref_by<U: Drop, F: FnMut(&T) -> Result<U, E>, E>(
         &self,
         alloc: Global,
@@ -107,11 +108,11 @@ impl<T, N: Unsigned> BoxedArray<T, N> {
         }))
     }
 
-    /// The boxed array of what `f` returns at each item and that of `rhs` in its place, both by reference,
-    /// called in order. With an array on the right, pass its view.
+    /// The boxed array of what `f` returns at each item and that of `rhs` in its place, both by
+    /// reference, called in order. With an array on the right, pass its view.
     ///
-    /// Allocates the whole block first: if that fails, `f` is never called. Allocates nothing if `N` is 0.
-    /// The counterpart of `zip` of `&GenericArray<T, N>`, which makes an inline array.
+    /// Allocates the whole block first: if that fails, `f` is never called. Allocates nothing if
+    /// `N` is 0. The counterpart of `zip` of `&GenericArray<T, N>`, which makes an inline array.
     pub fn zip_ref<B, U, F: FnMut(&T, &B) -> U>(
         &self,
         alloc: Global,

@@ -1,4 +1,5 @@
-//! A boxed array as a slice: the methods of slices, `array[index]`, ranges, and loops over references.
+//! A boxed array as a slice: the methods of slices, `array[index]`, ranges, and loops over
+//! references.
 ghost use Rattle.ga_core.specs.Iteration.{IteratesMutOver, IteratesOver};
 ghost use Rattle.std.specs.Borrow.{sem};
 ghost use Rattle.std.specs.Prelude.{◌≡◌, length};

@@ -72,7 +72,8 @@ impl<T, A: Allocator> Model for Deed<T, A> {
     ghost also_shares = { λ _ _ _. ftrue };
 }
 
-// The right crosses threads where any may give a block back to the allocator. A `&` to it holds nothing.
+// The right crosses threads where any may give a block back to the allocator. A `&` to it holds
+// nothing.
 unsafe impl<T, A: Allocator + Send> Send for Deed<T, A> {}
 
 unsafe impl<T, A: Allocator> Sync for Deed<T, A> {}

@@ -72,8 +72,8 @@ impl<T: Default + Drop, N: ArrayLength<T>> GenericArray<T, N> {
 impl<T: Default + Drop, N: ArrayLength<T>> GenericArray<T, N> {
     /// The array of all items of `items`, or `LengthError` if they aren't exactly `N`.
     ///
-    /// Requires `N <= MAX_INLINE`. Takes at most `N + 1` items, as the clauses of `try_from_iter_ref`
-    /// say. Size hints aren't consulted. Allocates nothing.
+    /// Requires `N <= MAX_INLINE`. Takes at most `N + 1` items, as the clauses of
+    /// `try_from_iter_ref` say. Size hints aren't consulted. Allocates nothing.
     pub fn try_from_iter<I: Iterator<Item = T>>(mut items: I) -> Result<Self, LengthError>
         requires fits { FitsInline N.USIZE }
         requires can { I.can_next items }

@@ -118,7 +118,8 @@ impl<T: Default + Drop, N: ArrayLength<T>> GenericArray<T, N> {
     }
 }
 
-// Moves the items of a slice into a vector without items that has room for them, and leaves defaults.
+// Moves the items of a slice into a vector without items that has room for them, and leaves
+// defaults.
 #[inline]
 fn push_items<T: Default + Drop>(slots: &mut [T], items: &mut Vec<T>)
     requires empty { items.old.items ≡ [] }

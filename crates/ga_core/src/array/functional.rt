@@ -1,7 +1,8 @@
-//! Calls of a closure at the items of an inline array, in plain types: what is made is an inline array too.
+//! Calls of a closure at the items of an inline array, in plain types: what is made is an inline
+//! array too.
 //!
-//! The traits of `generic_array` have `map`, `try_map` and `zip` for every kind of sequence. These calls
-//! name their types, so that who writes one has less to prove.
+//! The traits of `generic_array` have `map`, `try_map` and `zip` for every kind of sequence. These
+//! calls name their types, so that who writes one has less to prove.
 ghost use Rattle.ga_core.specs.Calls.{MayMap, MayTryMap, MayZip};
 ghost use Rattle.ga_core.specs.Entries.{ActsOnEntries, CallAtPair};
 ghost use Rattle.ga_core.specs.Runs.{ClosureRun, TryClosureRun};
@@ -63,7 +64,8 @@ impl<T: Default + Drop, N: ArrayLength<T>> GenericArray<T, N> {
         self.try_map_inline_by(&mut f)
     }
 
-    /// `try_map_inline` with a borrowed closure, which can be used again in the state that it reached.
+    /// `try_map_inline` with a borrowed closure, which can be used again in the state that it
+    /// reached.
     #[inline(always)]
     pub fn try_map_inline_by<U: Default + Drop, F: FnMut(T) -> Result<U, E>, E>(
         mut self,
@@ -82,8 +84,8 @@ impl<T: Default + Drop, N: ArrayLength<T>> GenericArray<T, N> {
         }
     }
 
-    /// The array of what `f` returns at each item and that of `rhs` in its place, called in order. Takes
-    /// the items of both by value.
+    /// The array of what `f` returns at each item and that of `rhs` in its place, called in order.
+    /// Takes the items of both by value.
     ///
     /// The counterpart of `zip`. Allocates nothing.
     #[inline(always)]

@@ -29,8 +29,9 @@ impl<N: ArrayLength<u8>> GenericArray<u8, N> {
         write_hex(self.as_slice(), true, limit, w)
     }
 
-    /// The bytes, to be printed with `0123456789abcdef`: `format!(in alloc; "{:.3}", array.lower_hex())?`
-    /// is their first three digits. Copies and allocates nothing. The counterpart of `fmt::LowerHex`.
+    /// The bytes, to be printed with `0123456789abcdef`: `format!(in alloc; "{:.3}",
+    /// array.lower_hex())?` is their first three digits. Copies and allocates nothing. The
+    /// counterpart of `fmt::LowerHex`.
     pub fn lower_hex(&self) -> HexText<'_>
         ensures bytes { result.bytes.now ≡ self.now }
         ensures lower { result.upper ≡ false }

@@ -22,8 +22,8 @@ impl<T, N: ArrayLength<T>> GenericArray<T, N> {
         GenericArrayRef::from_slice(self.as_slice())
     }
 
-    /// The view of the items for writing: a `ViewMut` over the array itself, which is another type than
-    /// `GenericArrayMut`. O(1).
+    /// The view of the items for writing: a `ViewMut` over the array itself, which is another type
+    /// than `GenericArrayMut`. O(1).
     ///
     /// In a generic function, before a loop, write `let view = &mut array.view_mut();`: the
     /// checker doesn't accept calls in the loop on a view that isn't borrowed.
@@ -32,7 +32,8 @@ impl<T, N: ArrayLength<T>> GenericArray<T, N> {
         ensures slice { result.slice ≡ self.entry }
         ensures fits { FitsInline N.USIZE }
     {
-        // For the prover alone: reading a field tells the array's invariant, that there are `N` items.
+        // For the prover alone: reading a field tells the array's invariant, that there are `N`
+        // items.
         let _ = &self.store;
         ViewMut {
             slice: self,
@@ -72,8 +73,8 @@ impl<T, N: ArrayLength<T>> GenericArray<T, N> {
         GenericArrayMut::from_mut_slice(slice)
     }
 
-    /// The view of a slice for writing, or `LengthError` where it doesn't have `N` items. The length
-    /// need not fit inline. Proofs don't learn what is written: see
+    /// The view of a slice for writing, or `LengthError` where it doesn't have `N` items. The
+    /// length need not fit inline. Proofs don't learn what is written: see
     /// `GenericArrayMut::try_from_mut_slice`. A slice of another length stays as it was.
     #[inline]
     pub fn try_from_mut_slice(slice: &mut [T]) -> Result<GenericArrayMut<'_, T, N>, LengthError>
@@ -85,8 +86,8 @@ impl<T, N: ArrayLength<T>> GenericArray<T, N> {
         GenericArrayMut::try_from_mut_slice(slice)
     }
 
-    /// The whole rows of `N` items of a slice, and the items that follow them. With `N = 0` the slice
-    /// has to be empty, and there are no rows. `N` need not fit inline.
+    /// The whole rows of `N` items of a slice, and the items that follow them. With `N = 0` the
+    /// slice has to be empty, and there are no rows. `N` need not fit inline.
     ///
     /// The Rust crate panics where `N` is 0 and the slice isn't empty.
     #[inline]

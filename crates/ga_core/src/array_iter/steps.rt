@@ -23,8 +23,8 @@ impl<T: Default + Drop, N: ArrayLength<T>> GenericArrayIter<T, N> {
         }
     }
 
-    /// Drops `n` items from the back, the last first, and returns the one before them. If at most `n`
-    /// items are left, drops them all and returns `None`. O(n).
+    /// Drops `n` items from the back, the last first, and returns the one before them. If at most
+    /// `n` items are left, drops them all and returns `None`. O(n).
     #[inline]
     pub fn nth_back(&mut self, n: usize) -> Option<T>
         ensures step { StepGives (back n) self.old result self.new }
@@ -53,8 +53,8 @@ impl<T: Default + Drop, N: ArrayLength<T>> GenericArrayIter<T, N> {
         self.next_back()
     }
 
-    // Drops all items that are left, in order. By `pass_front`, as `nth_back` does by `pass_back`, a step
-    // past the end takes up to a third more time.
+    // Drops all items that are left, in order. By `pass_front`, as `nth_back` does by `pass_back`,
+    // a step past the end takes up to a third more time.
     #[inline]
     fn drop_left(&mut self)
         ensures { self.new ≡ [] }

@@ -9,8 +9,8 @@ use generic_array::{
 use std::alloc::Global;
 use std::test::Fail;
 
-/// How many items of two arrays are dropped by a plain zip that hands on those of the left side, once it
-/// returned, and once what it made is dropped too.
+/// How many items of two arrays are dropped by a plain zip that hands on those of the left side,
+/// once it returned, and once what it made is dropped too.
 fn of_a_plain_zip<T: Default + Drop, N: ArrayLength<T>>(
     left: GenericArray<T, N>,
     right: GenericArray<T, N>,
@@ -28,8 +28,8 @@ fn of_two_fours() -> (u32, u32) {
     of_a_plain_zip(left, counted_from::<U4>(&counts, 5), &counts)
 }
 
-/// The numbers of five items in the order in which they are dropped: by `nth_back` or `nth`, by who got the
-/// item that it returned, and past the end.
+/// The numbers of five items in the order in which they are dropped: by `nth_back` or `nth`, by who
+/// got the item that it returned, and past the end.
 fn of_array<T: Default + Drop, N: ArrayLength<T>>(
     array: GenericArray<T, N>,
     counts: &Counts,
@@ -68,7 +68,8 @@ fn of_both(alloc: Global, is_back: bool) -> Result<[u32; 2], AllocError> {
     Ok([of_array, of_block(five, &counts, is_back)])
 }
 
-/// How many items are dropped by `last` of an array, with what it returned, and by `count` of another.
+/// How many items are dropped by `last` of an array, with what it returned, and by `count` of
+/// another.
 fn by_last_and_count<T: Default + Drop, N: ArrayLength<T>>(
     counts: &Counts,
     array: GenericArray<T, N>,

@@ -1,4 +1,5 @@
-//! Fills from iterators whose hints are wrong, that give items after their end, or that give errors.
+//! Fills from iterators whose hints are wrong, that give items after their end, or that give
+//! errors.
 ghost use Rattle.generic_array.specs.Length.{FitsInline};
 ghost use Rattle.std.specs.Prelude.{◌<◌};
 
@@ -89,8 +90,8 @@ where
     run_of(outcome, items)
 }
 
-/// The run that is wanted of a fill of an array, and that of a builder, which asks for no item beyond the
-/// last.
+/// The run that is wanted of a fill of an array, and that of a builder, which asks for no item
+/// beyond the last.
 #[derive(Clone, Copy)]
 struct Wanted {
     of_array: Run,

@@ -62,8 +62,9 @@ impl Outcome {
         Outcome::of_items(made, items).and(calls as usize == due)
     }
 
-    /// Of so many counted items that were handed over: a sequence of these digits, or a refusal that
-    /// dropped each item once and asked for no clone. In the end each item and clone is dropped once.
+    /// Of so many counted items that were handed over: a sequence of these digits, or a refusal
+    /// that dropped each item once and asked for no clone. In the end each item and clone is
+    /// dropped once.
     pub fn of_counted<'a, S: AsSlice<Counted<'a>> + Drop>(
         made: Result<S, AllocError>,
         wanted: u32,
@@ -82,9 +83,9 @@ impl Outcome {
     }
 }
 
-/// Plays the cases of the numbers below `count`, each once more where memory was refused in it. The result
-/// must be exact then: `rt try --test --fail-alloc K` refuses one request of a test, the K-th, and the
-/// gate none. So a call that always finds no memory is seen, at the gate too.
+/// Plays the cases of the numbers below `count`, each once more where memory was refused in it. The
+/// result must be exact then: `rt try --test --fail-alloc K` refuses one request of a test, the
+/// K-th, and the gate none. So a call that always finds no memory is seen, at the gate too.
 ///
 /// Prints the number of a case in which memory was refused.
 pub fn play<R: Abort + AllocGlobal + Print, F: Fn(Global, u32) -> Outcome>(

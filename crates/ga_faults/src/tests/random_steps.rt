@@ -25,7 +25,8 @@ struct Left {
 }
 
 impl Left {
-    /// The number of the item that the step takes, 0 where there is none; it leaves what lies beyond.
+    /// The number of the item that the step takes, 0 where there is none; it leaves what lies
+    /// beyond.
     fn taken(&mut self, step: Step) -> u32 {
         let len = self.end.wrapping_sub(self.first);
         let (passed, is_front) = match step {
@@ -75,8 +76,8 @@ fn random_step(numbers: &mut Numbers) -> Step {
     }
 }
 
-/// Whether a few steps return the same out of an array and a block, each of the items 1 to 8, as the numbers
-/// say. What is left is dropped.
+/// Whether a few steps return the same out of an array and a block, each of the items 1 to 8, as
+/// the numbers say. What is left is dropped.
 fn walks_alike<T: Numbered + Default + Drop, N: ArrayLength<T>>(
     array: GenericArray<T, N>,
     block: BoxedArray<T, N>,
@@ -125,8 +126,8 @@ fn random_walks_answer_alike_and_drop_each_item_once(rt: HostRuntime) -> Result<
     Ok(())
 }
 
-/// Whether a random number of puts and takes, in a block of eight places, leaves the items between those
-/// that went, and each is dropped once in the end. Counts what was put.
+/// Whether a random number of puts and takes, in a block of eight places, leaves the items between
+/// those that went, and each is dropped once in the end. Counts what was put.
 fn block_is_right(
     alloc: Global,
     numbers: &mut Numbers,

@@ -1,8 +1,8 @@
-//! The clone of each item refused in turn: the clones before it are dropped, and no other is asked for.
-//! They are asked for in the order of the items.
+//! The clone of each item refused in turn: the clones before it are dropped, and no other is asked
+//! for. They are asked for in the order of the items.
 //!
-//! What is repeated or cloned asks for `due` clones of counted items. Where the one that the counts refuse
-//! is beyond them, none is refused.
+//! What is repeated or cloned asks for `due` clones of counted items. Where the one that the counts
+//! refuse is beyond them, none is refused.
 ghost use Rattle.generic_array.specs.Length.{FitsInline};
 
 use crate::tests::counted::{Counted, Counts};
@@ -25,8 +25,8 @@ fn begins_with(number: u32, digits: u32) -> bool {
     left == digits
 }
 
-/// Of clones that were asked for, once those that were made are dropped again, as so many other items were.
-/// Where none was asked for, it was the block that was refused.
+/// Of clones that were asked for, once those that were made are dropped again, as so many other
+/// items were. Where none was asked for, it was the block that was refused.
 fn outcome_of(counts: &Counts, due: u32, is_made: bool, others: u32) -> Outcome {
     if counts.clones() == 0 {
         return Outcome::refused_if(!is_made && counts.drops() == others);
@@ -56,8 +56,8 @@ fn repeated<'a, S: AsSlice<Counted<'a>> + Drop, E: Drop>(
     outcome_of(counts, 3, is_made, 1).and(begins_with(444, counts.cloned()))
 }
 
-/// Of a source with these numbers, as digits of its clone, 0 where that was refused, and its own then. It
-/// has `left` of three items, and is dropped at last.
+/// Of a source with these numbers, as digits of its clone, 0 where that was refused, and its own
+/// then. It has `left` of three items, and is dropped at last.
 fn cloned<S: Drop>(
     source: S,
     of_both: [u32; 2],

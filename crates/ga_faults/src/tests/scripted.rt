@@ -74,16 +74,16 @@ impl<'a> Given<'a> for Result<Counted<'a>, u32> {
     }
 }
 
-/// What is written down: results with ends among them, and a number of items to hint at, which is at
-/// least theirs.
+/// What is written down: results with ends among them, and a number of items to hint at, which is
+/// at least theirs.
 #[derive(Clone, Copy)]
 pub struct Script<'a> {
     pub answers: &'a [Option<Result<u32, u32>>],
     pub hinted: usize,
 }
 
-/// Gives the results in order, and then ends for good. Hints at the number in the script at first, and
-/// at one less after each call.
+/// Gives the results in order, and then ends for good. Hints at the number in the script at first,
+/// and at one less after each call.
 #[derive(Drop)]
 pub struct Scripted<'a, T> {
     script: Script<'a>,

@@ -12,8 +12,8 @@ use generic_array::{AllocError, ArrayLength, BoxedArray, Const, GenericArray, U0
 use std::alloc::Global;
 use std::test::Fail;
 
-/// Any steps: a value is as often among what there was and what was put in as among what went, what was
-/// returned and what is left.
+/// Any steps: a value is as often among what there was and what was put in as among what went, what
+/// was returned and what is left.
 fn counted<T: Drop, I: TwoEnded<T>>(
     items: &mut I,
     steps: Vec<Step<T>>,
@@ -43,8 +43,8 @@ fn taken<T: Drop, I: TwoEnded<T>>(
     run_steps(items, steps, &mut count_of::<T>, replies)
 }
 
-/// Any steps without a Set that find enough items: the first that takes one from the front gets the first item,
-/// whatever was taken from the back before.
+/// Any steps without a Set that find enough items: the first that takes one from the front gets the
+/// first item, whatever was taken from the back before.
 fn first_replied<T: Drop, I: TwoEnded<T>>(
     items: &mut I,
     steps: Vec<Step<T>>,

@@ -8,8 +8,9 @@ use generic_array::steps::{Reply, Step, run_steps};
 use generic_array::{AllocError, BoxedArray, BoxedArrayIter, U5, Unsigned};
 use std::alloc::Global;
 
-/// Hands out jobs in turns, `Next` the owner's and `NextBack` the thief's, and returns the deque that is
-/// left. Each job went to one of the two, once, or is left, in any order of turns and of any number.
+/// Hands out jobs in turns, `Next` the owner's and `NextBack` the thief's, and returns the deque
+/// that is left. Each job went to one of the two, once, or is left, in any order of turns and of
+/// any number.
 fn shared_out<J: Drop, N: Unsigned>(
     jobs: BoxedArray<J, N>,
     turns: Vec<Step<J>>,

@@ -81,8 +81,8 @@ impl Kind for Boxed {
     }
 }
 
-/// Behind an earlier reply: one from the back of two, no steps, five at once and in two runs, and five in
-/// two orders.
+/// Behind an earlier reply: one from the back of two, no steps, five at once and in two runs, and
+/// five in two orders.
 fn taken<K: Kind>(
     alloc: Global,
     replies: &mut Vec<Reply<u32, u32>>,

@@ -3,8 +3,8 @@ use std::alloc::{AllocError, Global};
 use std::io;
 use std::io::{ErrorKind, Read, Write};
 
-/// At most `step` bytes go at a call. The first of each `period` calls is interrupted, none where that
-/// is 0.
+/// At most `step` bytes go at a call. The first of each `period` calls is interrupted, none where
+/// that is 0.
 #[derive(Clone, Copy)]
 pub struct Manner {
     pub step: usize,
@@ -67,7 +67,8 @@ impl Read for Source<'_> {
     }
 }
 
-/// Compares what it takes with the text that is to come, counts its calls, and fails at one of them.
+/// Compares what it takes with the text that is to come, counts its calls, and fails at one of
+/// them.
 #[derive(Drop)]
 pub struct Sink<'a> {
     to_come: &'a [u8],

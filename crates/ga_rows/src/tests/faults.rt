@@ -6,8 +6,8 @@ use std::io::ErrorKind;
 use std::process::ExitCode;
 use std::test::Fail;
 
-/// Each mode with its word, its line for `ROW`, and in how many writes 2,000 such lines go: a piece of
-/// text has 8,192 bytes, or up to 70 fewer.
+/// Each mode with its word, its line for `ROW`, and in how many writes 2,000 such lines go: a piece
+/// of text has 8,192 bytes, or up to 70 fewer.
 const MODES: &[(&str, Mode, &str, usize)] = &[
     ("dec", Mode::Dec, "255 254 253 252\n", 4),
     ("hex", Mode::Hex, "fffefdfc\n", 3),
@@ -56,7 +56,8 @@ fn rows_end(case: &Case<'_>, sink: &mut Sink<'_>) -> Option<Status> {
     }
 }
 
-/// The words as the system lists them, the program's name first, or `None` where there is no memory.
+/// The words as the system lists them, the program's name first, or `None` where there is no
+/// memory.
 fn listed_words(alloc: Global, words: &[String]) -> Option<Vec<String>> {
     let mut listed = Vec::new(alloc);
     listed.push(String::from_str(alloc, "ga_rows").ok()?).ok()?;
@@ -150,8 +151,8 @@ fn each_write_fails(alloc: Global, call: Call, case: &Case<'_>, writes: usize) -
         && faults(alloc, call, case, NOTHING, 1) == Some(writes.min(1))
 }
 
-/// Whether a reader that fails after each number of bytes ends the call with nothing written, and one
-/// that gives them all gives the text.
+/// Whether a reader that fails after each number of bytes ends the call with nothing written, and
+/// one that gives them all gives the text.
 fn each_read_fails(alloc: Global, call: Call, case: &Case<'_>, manner: Manner) -> bool {
     for (count, _) in case.input.iter().enumerate() {
         let (given, _) = case.input.split_at(count);

@@ -1,4 +1,5 @@
-//! Callers of block ciphers, of any cipher and any number of blocks, proved; and a cipher of a caller's own.
+//! Callers of block ciphers, of any cipher and any number of blocks, proved; and a cipher of a
+//! caller's own.
 ghost use Rattle.ga_ciphers.specs.Cbc.{cbc_encrypted};
 ghost use Rattle.ga_ciphers.specs.Padding.{padded};
 ghost use Rattle.std.specs.Prelude.{◌≡◌, ◌-◌, ◌%◌, ◌^◌, ◌<◌, IfOk, IsTrue, length, reverse};

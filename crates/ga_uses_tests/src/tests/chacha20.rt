@@ -31,8 +31,8 @@ fn cipher_of(key: &[u8], nonce: &[u8]) -> Result<ChaCha20, LengthError> {
     Ok(ChaCha20::new(&key, &nonce))
 }
 
-/// Whether the text, under the key stream from the block of this number on, is what the hex digits say:
-/// the whole text, and what follows its first five bytes, which begins inside a block.
+/// Whether the text, under the key stream from the block of this number on, is what the hex digits
+/// say: the whole text, and what follows its first five bytes, which begins inside a block.
 fn turns_into(
     alloc: Global,
     key: &str,
@@ -189,7 +189,8 @@ fn more_than_is_left_of_the_stream_leaves_the_bytes(rt: HostRuntime) -> Result<(
     Ok(())
 }
 
-/// What a text of a byte and one of none come to, and a step past the end, and where the stream is then.
+/// What a text of a byte and one of none come to, and a step past the end, and where the stream is
+/// then.
 fn beyond(mode: &mut CounterMode<ChaCha20>) -> ([Result<(), StreamEnd>; 3], u64) {
     let ends = [
         mode.apply(&mut [6]),

@@ -7,7 +7,8 @@ use ga_ciphers::stream_end::StreamEnd;
 use generic_array::{GenericArray, U4};
 use std::cell::Cell;
 
-/// Applies the key stream to two pieces in turn: the pieces joined are what it makes of the whole text.
+/// Applies the key stream to two pieces in turn: the pieces joined are what it makes of the whole
+/// text.
 #[tactic(auto, using(ga_ciphers::proofs::KeystreamLemmas::under_in_pieces))]
 pub(crate) fn in_two_pieces<C: BlockStream>(
     mode: &mut CounterMode<C>,

@@ -1,4 +1,5 @@
-//! A caller, and digests of the standards' own example, by each hash function and however it is cut.
+//! A caller, and digests of the standards' own example, by each hash function and however it is
+//! cut.
 ghost use Rattle.std.specs.Prelude.{◌≡◌, ◌++◌};
 
 use ga_hashes::hash_function::HashFunction;

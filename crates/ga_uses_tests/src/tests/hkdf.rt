@@ -27,8 +27,8 @@ fn key_of<H: HashFunction, N: ArrayLength<u8> + InlineLength>(
 /// What each case is made of: key material, a salt and a context.
 type Case<'a> = (&'a [u8], &'a [u8], &'a [u8]);
 
-/// Whether the case makes this pseudorandom key and this output, both as hex text, in one step and in
-/// two.
+/// Whether the case makes this pseudorandom key and this output, both as hex text, in one step and
+/// in two.
 fn makes<H: HashFunction>(
     alloc: Global,
     case: Case<'_>,
@@ -54,8 +54,8 @@ fn counted_from(first: u8) -> GenericArray<u8, Const<80>> {
 /// A pseudorandom key and an output, both as hex text.
 type Made<'a> = (&'a str, &'a str);
 
-/// Whether the three cases that the standard has for each hash function make these: one with a short
-/// salt and context, one with long ones, and one with none.
+/// Whether the three cases that the standard has for each hash function make these: one with a
+/// short salt and context, one with long ones, and one with none.
 fn all_make<H: HashFunction>(
     alloc: Global,
     short_material: &[u8],

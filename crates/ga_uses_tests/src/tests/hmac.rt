@@ -95,8 +95,8 @@ fn cases<'a>(
     ]
 }
 
-/// Whether each case has the tag that begins with the hex text beside it: the first, or the second where
-/// `is_second`.
+/// Whether each case has the tag that begins with the hex text beside it: the first, or the second
+/// where `is_second`.
 fn have_tags<H: HashFunction>(
     alloc: Global,
     cases: &[Case<'_>],

@@ -41,7 +41,8 @@ fn counted_on() -> Matrix<U3, U2> {
     }
 }
 
-/// The last number of two rows of three, and of the turned matrix the last and that behind the first.
+/// The last number of two rows of three, and of the turned matrix the last and that behind the
+/// first.
 fn read_and_turned<R, C>(matrix: &Matrix<R, C>) -> [u64; 3]
 where
     C: ArrayLength<u64> + ArrayLength<Row<R>> + InlineLength,
@@ -76,7 +77,8 @@ where
     [made.at(0, 0), made.at(0, 1), made.at(1, 0), made.at(1, 1)]
 }
 
-// A call at named lengths is dear to prove. So the test has one, of a function that makes the others.
+// A call at named lengths is dear to prove. So the test has one, of a function that makes the
+// others.
 fn all_numbers<R, C>(left: &Matrix<R, C>, right: &Matrix<C, R>) -> ([u64; 3], [u64; 2], [u64; 4])
 where
     C: ArrayLength<u64> + ArrayLength<Row<R>> + InlineLength,

@@ -1,4 +1,5 @@
-//! Levels of a Merkle tree over any hash function, and a root of the tests of Certificate Transparency.
+//! Levels of a Merkle tree over any hash function, and a root of the tests of Certificate
+//! Transparency.
 //!
 //! As in RFC 6962, a byte 0 stands before a leaf, and a byte 1 before two digests.
 ghost use Rattle.ga_hashes.specs.Length.{FitsInline};
@@ -54,7 +55,8 @@ where
     )
 }
 
-/// The level above: the digest of each two neighbours, by a closure that reads items that are arrays.
+/// The level above: the digest of each two neighbours, by a closure that reads items that are
+/// arrays.
 fn parents<H, M>(
     digests: &[GenericArray<u8, H::OutputSize>],
 ) -> GenericArray<GenericArray<u8, H::OutputSize>, M>

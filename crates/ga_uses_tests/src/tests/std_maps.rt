@@ -7,8 +7,8 @@ ghost use Rattle.std.specs.Prelude.{◌≡◌, IfOk, OnErr, OnOk, Some, nat_eq};
 use generic_array::{AllocError, ArrayLength, GenericArray};
 use std::collections::{BTreeMap, HashMap};
 
-/// Puts the value at the key of std's sorted map, and returns the value that was there. The entries are
-/// then those that a `KeyTable` would have.
+/// Puts the value at the key of std's sorted map, and returns the value that was there. The entries
+/// are then those that a `KeyTable` would have.
 pub fn put_in_tree<N: ArrayLength<u8>, V: Drop>(
     map: &mut BTreeMap<GenericArray<u8, N>, V>,
     key: GenericArray<u8, N>,

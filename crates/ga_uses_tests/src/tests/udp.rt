@@ -15,13 +15,14 @@ fn write_example(datagram: &mut [u8])
     write_header(datagram, from.view(), to.view(), 4660, 53);
 }
 
-// The words of the pseudo header are c000 0201 c633 6402 0011 000b, those of the header 1234 0035 000b
-// 0000, and those of the payload, with a 0 behind its odd last byte, 6869 2100. Their sums with carry:
-// c000 c201 8835 ec37 ec48 ec53, fe87 febc fec7 fec7, 6731 8831. The complement of 8831 is 77ce.
+// The words of the pseudo header are c000 0201 c633 6402 0011 000b, those of the header 1234 0035
+// 000b 0000, and those of the payload, with a 0 behind its odd last byte, 6869 2100. Their sums
+// with carry: c000 c201 8835 ec37 ec48 ec53, fe87 febc fec7 fec7, 6731 8831. The complement of 8831
+// is 77ce.
 const ODD: [u8; 11] = [0x12, 0x34, 0, 53, 0, 11, 0x77, 0xce, b'h', b'i', b'!'];
 
-// With a payload of 013a the length is 000a, twice, so that the sum of all but the payload is fec5, and
-// that of all ffff. Its complement is 0, so all ones are sent.
+// With a payload of 013a the length is 000a, twice, so that the sum of all but the payload is fec5,
+// and that of all ffff. Its complement is 0, so all ones are sent.
 const ZERO: [u8; 10] = [0x12, 0x34, 0, 53, 0, 10, 0xff, 0xff, 0x01, 0x3a];
 
 /// Whether the datagrams are written as worked out by hand.

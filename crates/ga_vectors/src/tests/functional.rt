@@ -1,5 +1,5 @@
-//! Maps and inverted zips of the traits: what they return. Where they stop, and what is made boxed, is told in
-//! `ga_faults`.
+//! Maps and inverted zips of the traits: what they return. Where they stop, and what is made boxed,
+//! is told in `ga_faults`.
 use crate::tests::items::{from_one, next_digit};
 use generic_array::checks::map_total_by;
 use generic_array::functional::{FunctionalSequence, inverted_zip, inverted_zip2};
@@ -59,7 +59,8 @@ fn a_map_of_a_view_stops_at_an_error(rt: HostRuntime) {
     assert!(rt; mapped_up_to_two(from_one::<U3>().view()) == (Some(2), 2));
 }
 
-/// The second items less the first, of an inline array and a boxed one, and of the boxed with the inline.
+/// The second items less the first, of an inline array and a boxed one, and of the boxed with the
+/// inline.
 fn less<N: ArrayLength<u32> + InlineLength>(
     alloc: Global,
     inline: [GenericArray<u32, N>; 2],

@@ -5,7 +5,8 @@ use generic_array::{AllocError, U3, U4, U5};
 use std::alloc::Global;
 use std::test::Fail;
 
-/// What steps from both ends give, two of them past the end, and what was left in between as digits.
+/// What steps from both ends give, two of them past the end, and what was left in between as
+/// digits.
 fn steps() -> ([Option<u32>; 5], u32) {
     let mut items = from_one::<U5>().into_iter();
     let (next_back, nth) = (items.next_back(), items.nth(1));
@@ -24,7 +25,8 @@ fn written() -> (Option<u32>, usize) {
     (items.next(), items.len())
 }
 
-/// What is known of an iterator behind the first of three: how many are left, told three ways, and the last.
+/// What is known of an iterator behind the first of three: how many are left, told three ways, and
+/// the last.
 fn known_behind_the_first() -> ((usize, Option<usize>), usize, usize, Option<u32>) {
     let mut items = from_one::<U3>().into_iter();
     let _ = items.next();

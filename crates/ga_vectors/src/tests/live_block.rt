@@ -1,5 +1,5 @@
-//! Callers of a block, each proved, and what no clause says of it: that memory is found, and what is
-//! dropped and when.
+//! Callers of a block, each proved, and what no clause says of it: that memory is found, and what
+//! is dropped and when.
 ghost use Rattle.generic_array.specs.Live.{live};
 ghost use Rattle.std.specs.Prelude.{◌≡◌, ◌∷◌, [], IfOk, IsOk, None, Some};
 

@@ -44,7 +44,8 @@ where
     S::try_generate(place, same).is_ok_and(|made| has(made, &[0, 1, 2]))
 }
 
-/// Whether each kind of a length makes both. One function for all calls hands over what they share once.
+/// Whether each kind of a length makes both. One function for all calls hands over what they share
+/// once.
 fn each_makes_three<N: ArrayLength<usize> + InlineLength>(alloc: Global) -> bool {
     are_three_made::<GenericArray<usize, N>>((), ())
         && are_three_made::<GenericArrayRef<usize, N>>((), ())

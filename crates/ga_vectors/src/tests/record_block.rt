@@ -1,4 +1,5 @@
-//! Blocks of records that are opened, looked at from both ends, and written out, and callers with exact results.
+//! Blocks of records that are opened, looked at from both ends, and written out, and callers with
+//! exact results.
 ghost use Rattle.ga_records.specs.Records.{has};
 ghost use Rattle.generic_array.specs.Views.{items_of_view};
 ghost use Rattle.std.specs.Prelude.{◌≡◌, ◌∷◌, [], IfSome, IsErr, None, Ok, Some, true};

@@ -48,8 +48,8 @@ fn taken_apart(six: GenericArray<Held, U6>, one: &Rc<()>) -> usize {
     Rc::strong_count(one)
 }
 
-/// How many rows six items are cut into, how many of the one there are once they are joined again, and
-/// once they are taken apart.
+/// How many rows six items are cut into, how many of the one there are once they are joined again,
+/// and once they are taken apart.
 fn through_all_shapes(one: &Rc<()>) -> (usize, usize, usize) {
     let six = split_and_joined(six_of(one));
     let (rows, six) = cut_into_rows_and_joined::<Held, U6, U3, U2>(six);

@@ -25,8 +25,8 @@ impl Manner {
     }
 }
 
-/// Compares what it takes with the text that is to come, counts its calls, and fails at one of them, with an
-/// error of a kind that nothing else here has.
+/// Compares what it takes with the text that is to come, counts its calls, and fails at one of
+/// them, with an error of a kind that nothing else here has.
 #[derive(Drop)]
 pub struct Sink<'a> {
     pub to_come: &'a [u8],

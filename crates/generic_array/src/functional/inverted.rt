@@ -60,7 +60,8 @@ where
     >(lhs.into_iter(), entries_of(s), (), f))
 }
 
-/// `inverted_zip` with a left side of any kind. The result is of the kind that a map of `lhs` makes.
+/// `inverted_zip` with a left side of any kind. The result is of the kind that a map of `lhs`
+/// makes.
 ///
 /// Requires that the lengths are equal. Allocates first: if that fails, `f` is never called and
 /// the entries are dropped.

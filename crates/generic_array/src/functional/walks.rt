@@ -3,8 +3,8 @@
 //! The iterator is a type parameter of its own: a closure that holds a sequence's associated
 //! iterator isn't covered by the checker.
 //!
-//! A condition `same` always holds. Of two conditions the proof of a call says each by itself, and a
-//! lone one as a whole, which takes longer the more type parameters there are.
+//! A condition `same` always holds. Of two conditions the proof of a call says each by itself, and
+//! a lone one as a whole, which takes longer the more type parameters there are.
 ghost use Rattle.ga_core.specs.Calls.{MayFold, MayMap, MayTryFold, MayTryGenerate, MayTryMap, MayZip};
 ghost use Rattle.ga_core.specs.Entries.{CallAt, CallAtPair, FoldAt};
 ghost use Rattle.ga_core.specs.Runs.{ClosureRun, TryClosureRan, TryClosureRun, FoldRun, TryFoldRun};
@@ -23,7 +23,8 @@ pub(super) fn entries_of<T, S: GenericSequence<T>>(s: S) -> S::IntoIter
         result (S.items s) }
     ensures long { length (S.items s) ≡ S.Length.USIZE }
 {
-    // For the prover alone: the view's ghost field says how many entries there are, and nothing else does.
+    // For the prover alone: the view's ghost field says how many entries there are, and nothing
+    // else does.
     let _ = s.view();
     s.into_iter()
 }
@@ -49,8 +50,8 @@ pub(super) fn fold_entries<T, I: Iterator + Drop, A, F: FnMut(A, I::Item) -> A>(
     answer
 }
 
-// `fold_entries` of a closure that may fail: its first error, after which no call is made.
-// `same` stands here for the prover alone: without it the proof of `try_fold_by` takes 6 seconds more.
+// `fold_entries` of a closure that may fail: its first error, after which no call is made. `same`
+// stands here for the prover alone: without it the proof of `try_fold_by` takes 6 seconds more.
 #[inline(always)]
 pub(super) fn try_fold_entries<T, I: Iterator + Drop, A, E, F: FnMut(A, I::Item) -> Result<A, E>>(
     entries: I,
@@ -73,8 +74,8 @@ pub(super) fn try_fold_entries<T, I: Iterator + Drop, A, E, F: FnMut(A, I::Item)
     Ok(answer)
 }
 
-// The fold by `g` over the items of what was made, from `init`.
-// `same` stands here for the prover alone: without it the proof of `map_total_by` takes 80 seconds more.
+// The fold by `g` over the items of what was made, from `init`. `same` stands here for the prover
+// alone: without it the proof of `map_total_by` takes 80 seconds more.
 #[inline(always)]
 pub(crate) fn fold_made<U, M: GenericSequence<U>, A, G: FnMut(A, U) -> A>(
     made: M::Sequence,
@@ -131,7 +132,8 @@ pub(super) fn map_entries<T, I: Iterator + Drop, U, M: GenericSequence<U>, F: Fn
     )
 }
 
-// `try_generate_by`. For the prover alone: it tells the run as a record, from which a proof finds the closure's step.
+// `try_generate_by`. For the prover alone: it tells the run as a record, from which a proof finds
+// the closure's step.
 #[inline(always)]
 fn try_build<U, E, M: FallibleGenericSequence<U>, G: FnMut(usize) -> Result<U, E>>(
     place: M::Place,

@@ -1,15 +1,15 @@
 //! Arrays made of the items of others: one longer or shorter, split, joined, without an item, or
 //! as rows.
 //!
-//! Each call of an array moves each item into the result once, `flatten` twice, and allocates nothing;
-//! `remove` first moves the items behind `index`.
-//! Defaults stand in the slots until then, and in the array that the items came from. Splitting a
-//! view is O(1). The types of the results are parameters, and that their lengths fit together is a
-//! condition. The Rust crate has traits of these names in its module `sequence`.
+//! Each call of an array moves each item into the result once, `flatten` twice, and allocates
+//! nothing; `remove` first moves the items behind `index`. Defaults stand in the slots until then,
+//! and in the array that the items came from. Splitting a view is O(1). The types of the results
+//! are parameters, and that their lengths fit together is a condition. The Rust crate has traits of
+//! these names in its module `sequence`.
 //!
 //! Each public trait has its own words for the items of its parts. A function over these traits
-//! alone that goes from one to the next asks by a bound, or by a condition, that the words agree: at
-//! arrays they do by `refl`.
+//! alone that goes from one to the next asks by a bound, or by a condition, that the words agree:
+//! at arrays they do by `refl`.
 ghost use Rattle.generic_array.specs.Rows.{rows};
 ghost use Rattle.std.specs.List.{All, flat_map, swap_remove};
 ghost use Rattle.std.specs.Prelude.{◌≡◌, ℕ, ◌+◌, ◌<◌, ◌≤◌, List, [], Some, ◌∷◌, ◌++◌, drop, length, map, remove, slice_get, take};
@@ -20,8 +20,8 @@ use std::convert::AsSlice;
 mod inline;
 mod views;
 
-/// A sequence to which an item can be added. The counterpart of `Lengthen`. O(N) of an array, and allocates
-/// nothing.
+/// A sequence to which an item can be added. The counterpart of `Lengthen`. O(N) of an array, and
+/// allocates nothing.
 pub trait Lengthen<T, Longer>: Sized {
     // The items.
     ghost items: { Self → List T };
@@ -32,12 +32,14 @@ pub trait Lengthen<T, Longer>: Sized {
     // A longer sequence has one item more, and its length fits.
     ghost IsOneLonger: { Type 0 };
 
-    /// The items, and then `item`. Requires that `Longer` has one slot more, and that its length fits.
+    /// The items, and then `item`. Requires that `Longer` has one slot more, and that its length
+    /// fits.
     fn append(self, item: T) -> Longer
         requires { IsOneLonger }
         ensures { longer_items result ≡ items self ++ item ∷ [] };
 
-    /// `item`, and then the items. Requires that `Longer` has one slot more, and that its length fits.
+    /// `item`, and then the items. Requires that `Longer` has one slot more, and that its length
+    /// fits.
     fn prepend(self, item: T) -> Longer
         requires { IsOneLonger }
         ensures { longer_items result ≡ item ∷ items self };
@@ -66,8 +68,8 @@ pub trait Shorten<T, Shorter>: Sized {
         ensures { items self ≡ result.0 ∷ shorter_items result.1 };
 }
 
-/// A sequence that can be joined with one that follows it. The counterpart of `Concat`. O(N) of arrays,
-/// and allocates nothing.
+/// A sequence that can be joined with one that follows it. The counterpart of `Concat`. O(N) of
+/// arrays, and allocates nothing.
 pub trait Concat<T, Rest, Output>: Sized {
     // The items.
     ghost items: { Self → List T };
@@ -84,8 +86,8 @@ pub trait Concat<T, Rest, Output>: Sized {
     // What is made has room for exactly both, and its length fits.
     ghost IsSum: { Type 0 };
 
-    /// The items, and then those of `rest`. Requires that `Output` has as many slots as both, and that
-    /// its length fits.
+    /// The items, and then those of `rest`. Requires that `Output` has as many slots as both, and
+    /// that its length fits.
     fn concat(self, rest: Rest) -> Output
         requires { IsSum }
         ensures joined { output_items result ≡ items self ++ rest_items rest }
@@ -93,8 +95,8 @@ pub trait Concat<T, Rest, Output>: Sized {
         ensures rest { drop LEN (output_items result) ≡ rest_items rest };
 }
 
-/// A sequence that can be cut in two. The counterpart of `Split`. O(N) of an array, O(1) of a view, and
-/// allocates nothing.
+/// A sequence that can be cut in two. The counterpart of `Split`. O(N) of an array, O(1) of a view,
+/// and allocates nothing.
 pub trait Split<T, First, Second>: Sized {
     // The items.
     ghost items: { Self → List T };
@@ -111,16 +113,16 @@ pub trait Split<T, First, Second>: Sized {
     // The lengths of the parts add up to that of the sequence.
     ghost IsSum: { Type 0 };
 
-    /// The first items, as many as the type of the first part tells, and all others. Requires that the
-    /// lengths of the parts add up to that of the sequence.
+    /// The first items, as many as the type of the first part tells, and all others. Requires that
+    /// the lengths of the parts add up to that of the sequence.
     fn split(self) -> (First, Second)
         requires { IsSum }
         ensures first { first_items result.0 ≡ take PLACE (items self) }
         ensures second { second_items result.1 ≡ drop PLACE (items self) };
 }
 
-/// A sequence from which the item at an index can be taken. The counterpart of `Remove`. O(N) of an array,
-/// and allocates nothing.
+/// A sequence from which the item at an index can be taken. The counterpart of `Remove`. O(N) of an
+/// array, and allocates nothing.
 pub trait Remove<T, Output>: Sized {
     // The items.
     ghost items: { Self → List T };
@@ -131,8 +133,8 @@ pub trait Remove<T, Output>: Sized {
     // What is left has one item less.
     ghost IsOneShorter: { Type 0 };
 
-    /// The item at `index`, and all others in order. Requires that `Output` has one slot fewer, and that
-    /// `index` is below the length, where the Rust crate panics.
+    /// The item at `index`, and all others in order. Requires that `Output` has one slot fewer, and
+    /// that `index` is below the length, where the Rust crate panics.
     fn remove(self, index: usize) -> (T, Output)
         requires one_shorter { IsOneShorter }
         requires in_bounds { index < length (items self) }
@@ -147,8 +149,8 @@ pub trait Remove<T, Output>: Sized {
         ensures item { slice_get (items self) index ≡ Some result.0 }
         ensures others { output_items result.1 ≡ swap_remove (items self) index result.0 };
 
-    /// `remove` by the name of the Rust crate's unsafe call. The conditions are the same, so this one is
-    /// safe.
+    /// `remove` by the name of the Rust crate's unsafe call. The conditions are the same, so this
+    /// one is safe.
     final fn remove_unchecked(self, index: usize) -> (T, Output)
         requires one_shorter { IsOneShorter }
         requires in_bounds { index < length (items self) }

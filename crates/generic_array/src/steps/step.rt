@@ -7,8 +7,8 @@ pub enum Step<T> {
     Next,
     /// Takes the last item, as `next_back` does.
     NextBack,
-    /// Drops this many items from the front, or as many as are left, and takes the next: `Nth(0)` is
-    /// `Next`.
+    /// Drops this many items from the front, or as many as are left, and takes the next: `Nth(0)`
+    /// is `Next`.
     Nth(usize),
     /// The same from the back: `NthBack(0)` is `NextBack`.
     NthBack(usize),
@@ -21,13 +21,14 @@ pub enum Step<T> {
 /// What a step returns.
 #[derive(Debug, Drop)]
 pub enum Reply<T, R> {
-    /// To `Next`, `NextBack`, `Nth` and `NthBack`: the item that was taken, or `None` where too few were
-    /// left.
+    /// To `Next`, `NextBack`, `Nth` and `NthBack`: the item that was taken, or `None` where too few
+    /// were left.
     Item(Option<T>),
     /// To `Look`: what the closure returned.
     Seen(R),
     /// To `Set`: the item that was replaced.
     Old(T),
-    /// To `Set` where there is no such index: the item that was to be put there. Nothing has changed.
+    /// To `Set` where there is no such index: the item that was to be put there. Nothing has
+    /// changed.
     Outside(T),
 }

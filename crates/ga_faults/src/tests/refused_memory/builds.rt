@@ -1,4 +1,5 @@
-//! Builds from closures, by the type and by the traits, of copies, and of items that are written out.
+//! Builds from closures, by the type and by the traits, of copies, and of items that are written
+//! out.
 use crate::tests::counted::{Counted, Counts};
 use crate::tests::items::{TooMany, number};
 use crate::tests::outcome::{Outcome, play};

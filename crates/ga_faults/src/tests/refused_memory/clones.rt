@@ -80,8 +80,8 @@ fn inline_array(alloc: Global) -> Outcome {
     outcome.and(counts.drops() == counts.clones().wrapping_add(6))
 }
 
-/// Clones what is left of an iterator behind its first item. Answers what `sum` makes of the clone, 0
-/// where that is refused, and of what is left then, all of which is dropped.
+/// Clones what is left of an iterator behind its first item. Answers what `sum` makes of the clone,
+/// 0 where that is refused, and of what is left then, all of which is dropped.
 fn cloned_behind_first<T: Clone + Default + Drop, N: ArrayLength<T>, F: Fn(&[T]) -> u32>(
     array: GenericArray<T, N>,
     sum: F,

@@ -1,4 +1,5 @@
-//! Maps of three counted items in a block, which are dropped once each, in the calls or at the refusal.
+//! Maps of three counted items in a block, which are dropped once each, in the calls or at the
+//! refusal.
 use crate::tests::counted::{Counted, Counts};
 use crate::tests::outcome::{Outcome, play};
 use crate::tests::refused_memory::{Three, stopped, three_in_a_block, unless_error};

@@ -59,7 +59,8 @@ fn digits_of(live: &[Counted]) -> u32 {
     digits(live)
 }
 
-/// Counted items replaced, taken and looked at. One that was to be put there is dropped with its step.
+/// Counted items replaced, taken and looked at. One that was to be put there is dropped with its
+/// step.
 fn inline(alloc: Global, counts: &Counts) -> Result<Outcome, AllocError> {
     let steps = vec![in alloc;
         Step::Set(0, Counted::new(counts, 9)),

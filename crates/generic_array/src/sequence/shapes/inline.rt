@@ -141,8 +141,8 @@ impl<T: Default + Drop, N: ArrayLength<T>> Row<T> for GenericArray<T, N> {
     }
 }
 
-/// The bound is on the type of a row, since the checker doesn't cover calls of a function that takes
-/// arrays of arrays by value and asks for a `Default` of the inner arrays.
+/// The bound is on the type of a row, since the checker doesn't cover calls of a function that
+/// takes arrays of arrays by value and asks for a `Default` of the inner arrays.
 impl<T: Default + Drop, I: Row<T> + Default + Drop, R: ArrayLength<I>, M: ArrayLength<T>> Flatten<
     T,
     GenericArray<T, M>,
