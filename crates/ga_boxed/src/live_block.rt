@@ -158,7 +158,8 @@ impl<T> LiveBlock<T> {
     pub fn take_back(&mut self) -> Option<T>
         ensures { MatchOption result
             ((self.old.items ≡ []) × (self.new ≡ self.old))
-            (λ item. (self.old.items ≡ self.new.items ++ item ∷ []) × (self.new.room ≡ self.old.room + 1)) }
+            (λ item. (self.old.items ≡ self.new.items ++ item ∷ [])
+            × (self.new.room ≡ self.old.room + 1)) }
     {
         if self.start == self.end {
             return None;

@@ -45,7 +45,8 @@ impl<T, N: ArrayLength<T>> Model for GenericArray<T, N> {
 
     ghost view = { λ array. N.ArrayType.items array.store };
 
-    ghost invariant = { λ array. (length (N.ArrayType.items array.store) ≡ N.USIZE) × (FitsInline N.USIZE) };
+    ghost invariant = { λ array. (length (N.ArrayType.items array.store) ≡ N.USIZE)
+        × (FitsInline N.USIZE) };
 }
 
 impl<T, N: ArrayLength<T>> GenericArray<T, N> {
@@ -105,7 +106,8 @@ impl<T, N: ArrayLength<T>> GenericArray<T, N> {
     /// All items, in order, for writing. O(1).
     #[inline]
     pub fn as_mut_slice(&mut self) -> &mut [T]
-        ensures* writes_back { sem 𝓛 (LendsItems T.row N.row N.ArrayType.row N.Unsigned N.ArrayType.Store
+        ensures* writes_back { sem 𝓛
+            (LendsItems T.row N.row N.ArrayType.row N.Unsigned N.ArrayType.Store
             self.entry result) }
         ensures items { result.now ≡ self.old }
         ensures len { length result.now ≡ N.USIZE }
@@ -124,7 +126,8 @@ impl<T, N: ArrayLength<T>> GenericArray<T, N> {
     /// The items by reference, in order, for writing.
     #[inline]
     pub fn iter_mut(&mut self) -> slice::IterMut<'_, T>
-        ensures* writes_back { sem 𝓛 (LendsIter T.row N.row N.ArrayType.row N.Unsigned N.ArrayType.Store
+        ensures* writes_back { sem 𝓛
+            (LendsIter T.row N.row N.ArrayType.row N.Unsigned N.ArrayType.Store
             self.entry result) }
         ensures items { IteratesMutOver self.old N.USIZE result }
     {
@@ -154,7 +157,8 @@ impl<T, N: ArrayLength<T>> IndexMut<usize> for GenericArray<T, N> {
     #[inline]
     fn index_mut(&mut self, index: usize) -> &mut T
         requires { index < N.USIZE }
-        ensures* writes_back { sem 𝓛 (LendsItem T.row N.row N.ArrayType.row N.Unsigned N.ArrayType.Store
+        ensures* writes_back { sem 𝓛
+            (LendsItem T.row N.row N.ArrayType.row N.Unsigned N.ArrayType.Store
             self.entry index result) }
         ensures item { slice_get self.old index ≡ Some result.now }
     {

@@ -217,7 +217,8 @@ impl<T, N: ArrayLength<T>> GenericArrayIter<T, N> {
     /// The items that are left, in order, for writing. O(1).
     #[inline]
     pub fn as_mut_slice(&mut self) -> &mut [T]
-        ensures* writes_back { sem 𝓛 (LendsLeft T.row N.row N.ArrayType.row N.Unsigned N.ArrayType.Store
+        ensures* writes_back { sem 𝓛
+            (LendsLeft T.row N.row N.ArrayType.row N.Unsigned N.ArrayType.Store
             self.entry result) }
         ensures items { result.now ≡ self.old }
     {

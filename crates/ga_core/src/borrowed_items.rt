@@ -60,7 +60,8 @@ pub trait BorrowedItems<T, N: Unsigned> {
         N: ArrayLength<U>,
         requires fits { Fits }
         requires callable { MayMap (λ item. item.now) F.pre F.step f.old (items self.now) }
-        ensures run { ClosureRun (CallAt (λ item. item.now) F.step) f.old (items self.now) result f.new }
+        ensures run { ClosureRun (CallAt (λ item. item.now) F.step) f.old (items self.now)
+            result f.new }
         ensures acts { (h : T → U) → ActsOnEntry (λ item. item.now) F.step f.old h
             → result ≡ map h (items self.now) }
     {
@@ -103,7 +104,8 @@ pub trait BorrowedItems<T, N: Unsigned> {
         requires fits { Fits }
         requires callable { MayTryMap (λ item. item.now) F.pre F.step f.old
             (items self.now) }
-        ensures run { TryClosureRun (CallAt (λ item. item.now) F.step) f.old (items self.now) result f.new }
+        ensures run { TryClosureRun (CallAt (λ item. item.now) F.step) f.old (items self.now)
+            result f.new }
         ensures acts { (h : T → Result U E) → ActsOnEntry (λ item. item.now) F.step f.old h
             → result ≡ try_map h (items self.now) }
     {
@@ -132,7 +134,8 @@ pub trait BorrowedItems<T, N: Unsigned> {
         ensures run { (last : F)
             × ClosureRun (CallAtPair (λ item. item.now) (λ item. item.now) F.step) f
             (zip (items self.now) (items_of_view rhs.entry)) result last }
-        ensures acts { (h : T × B → U) → ActsOnEntries (λ item. item.now) (λ item. item.now) F.step f h
+        ensures acts { (h : T × B → U)
+            → ActsOnEntries (λ item. item.now) (λ item. item.now) F.step f h
             → result ≡ map h (zip (items self.now) (items_of_view rhs.entry)) }
     {
         self.zip_inline_ref_by(rhs, &mut f)
@@ -153,7 +156,8 @@ pub trait BorrowedItems<T, N: Unsigned> {
             (items self.now) (items_of_view rhs) }
         ensures run { ClosureRun (CallAtPair (λ item. item.now) (λ item. item.now) F.step) f.old
             (zip (items self.now) (items_of_view rhs.entry)) result f.new }
-        ensures acts { (h : T × B → U) → ActsOnEntries (λ item. item.now) (λ item. item.now) F.step f.old h
+        ensures acts { (h : T × B → U)
+            → ActsOnEntries (λ item. item.now) (λ item. item.now) F.step f.old h
             → result ≡ map h (zip (items self.now) (items_of_view rhs.entry)) }
     {
         let items = self.as_slice();

@@ -130,7 +130,8 @@ impl<T: Default + Drop, N: ArrayLength<T>> ArrayBuilder<T, N> {
     #[inline]
     fn carry_behind(&mut self, index: usize)
         requires in_bounds { index < length self.old }
-        ensures carried { (item : T) → self.new ≡ remove self.old index ++ get_or self.old index item ∷ [] }
+        ensures carried { (item : T)
+            → self.new ≡ remove self.old index ++ get_or self.old index item ∷ [] }
         ensures len { length self.new ≡ length self.old }
         ensures bound { length self.old ≤ N.USIZE }
     {

@@ -23,7 +23,8 @@ pub trait ItemsLeft<T>: Drop {
 pub fn fold_left<T, L: ItemsLeft<T>, A, F: FnMut(A, T) -> A>(mut left: L, init: A, f: &mut F) -> A
     requires callable { MayFold (λ item. item) F.pre F.step f.old init (L.items left) }
     ensures run { FoldRun F.step f.old init (L.items left) result f.new }
-    ensures acts { (h : A → T → A) → ActsAsOnTwo F.FnMut f.old h → result ≡ fold h init (L.items left) }
+    ensures acts { (h : A → T → A) → ActsAsOnTwo F.FnMut f.old h
+        → result ≡ fold h init (L.items left) }
 {
     let mut answer = init;
     while let Some(item) = left.take_front() {

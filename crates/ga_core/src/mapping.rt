@@ -112,7 +112,8 @@ pub(crate) fn write_zipped_ref<T, B, U: Drop, F: FnMut(&T, &B) -> U>(
 )
     requires left { length left.now ≡ length slots.old }
     requires right { length right.now ≡ length slots.old }
-    requires callable { MayZip (λ item. item.now) (λ item. item.now) F.pre F.step f.old left.now right.now }
+    requires callable { MayZip (λ item. item.now) (λ item. item.now) F.pre F.step f.old left.now
+        right.now }
     ensures run { ClosureRun (CallAtPair (λ item. item.now) (λ item. item.now) F.step) f.old
         (zip left.now right.now) slots.new f.new }
 {

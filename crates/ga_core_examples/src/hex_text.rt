@@ -21,7 +21,8 @@ pub fn upper_digits_written<N: ArrayLength<u8>, W: Write>(
     row: &GenericArray<u8, N>,
     w: &mut W,
 ) -> Result<(), io::Error>
-    ensures { OnOk result (Appends (W.contents w.old) (W.contents w.new) (hex_digits true row.now)) }
+    ensures { OnOk result (Appends (W.contents w.old) (W.contents w.new)
+        (hex_digits true row.now)) }
 {
     row.write_upper_hex(w, None)
 }

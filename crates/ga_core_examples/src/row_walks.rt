@@ -47,7 +47,8 @@ fn last_row<'a, T, N: Unsigned>(
 
 /// The sums of the rows, from the last to the first.
 fn sums_from_the_back(alloc: Global, chunks: &ChunksRef<u8, U2>) -> Result<Vec<u32>, AllocError>
-    ensures { IfOk result (λ sums. sums.items ≡ map sum (reverse (rows 2 (items_of_chunks chunks.now)))) }
+    ensures { IfOk result (λ sums.
+        sums.items ≡ map sum (reverse (rows 2 (items_of_chunks chunks.now)))) }
 {
     chunks.iter().rev().map(|row| sum_of(&row)).collect(alloc)
 }

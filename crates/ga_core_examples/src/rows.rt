@@ -16,7 +16,8 @@ fn second_row_and_rest(slice: &[u8]) -> (Option<GenericArrayRef<'_, u8, U3>>, &[
 }
 
 fn rows_from_zero(chunks: &ChunksRef<u8, U3>) -> usize
-    ensures { result ≡ count_by (λ row. slice_index row 0 == 0) (rows 3 (items_of_chunks chunks.now)) }
+    ensures { result ≡ count_by (λ row. slice_index row 0 == 0)
+        (rows 3 (items_of_chunks chunks.now)) }
 {
     let mut count = 0;
     for row in chunks.iter() {

@@ -71,7 +71,8 @@ fn masked_sequence<
 ) -> Result<MappedSequence<S, u8, u8>, MappedError<S, u8, u8>>
     requires fits { S.Mapped.Fits }
     requires by_value { (b : ℕ) → S.entry b ≡ b }
-    ensures { IfOk result (λ made. S.Mapped.Sequence.items made ≡ map (λ b. bit_xor b mask) (S.items key)) }
+    ensures { IfOk result (λ made.
+        S.Mapped.Sequence.items made ≡ map (λ b. bit_xor b mask) (S.items key)) }
 {
     key.map(place, |b: u8| b ^ mask)
 }
@@ -120,7 +121,8 @@ fn one_more_than_sums_of_both<N: ArrayLength<u32> + InlineLength>(
     left: GenericArray<u32, N>,
     right: BoxedArray<u32, N>,
 ) -> GenericArray<u32, N>
-    ensures { result ≡ map (λ sum. (sum + 1) % 2 ^ 32) (map (λ p. (p.0 + p.1) % 2 ^ 32) (zip left right)) }
+    ensures { result ≡ map (λ sum. (sum + 1) % 2 ^ 32)
+        (map (λ p. (p.0 + p.1) % 2 ^ 32) (zip left right)) }
 {
     one_more_than_sums(left, right)
 }
@@ -165,7 +167,8 @@ fn scaled_sums<N: ArrayLength<u32>>(
     right: GenericArray<u32, N>,
     scale: u32,
 ) -> Result<BoxedArray<u32, N>, AllocError>
-    ensures { IfOk result (λ made. made ≡ map (λ p. (p.0 + p.1 * scale % 2 ^ 32) % 2 ^ 32) (zip left right)) }
+    ensures { IfOk result (λ made.
+        made ≡ map (λ p. (p.0 + p.1 * scale % 2 ^ 32) % 2 ^ 32) (zip left right)) }
 {
     left.zip(
         alloc,
@@ -196,7 +199,8 @@ fn value_from_highest<N: ArrayLength<u32>>(coefficients: GenericArray<u32, N>, x
 }
 
 fn value_from_lowest<N: Unsigned>(coefficients: BoxedArray<u32, N>, x: u32) -> u32
-    ensures { result ≡ fold (λ value c. (value * x % 2 ^ 32 + c) % 2 ^ 32) 0 (reverse coefficients) }
+    ensures { result ≡ fold (λ value c. (value * x % 2 ^ 32 + c) % 2 ^ 32) 0
+        (reverse coefficients) }
 {
     coefficients.into_iter().rfold(
         0,

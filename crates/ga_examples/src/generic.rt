@@ -40,7 +40,8 @@ fn places<S: GenericSequence<usize>>(place: S::Place) -> Result<S::Sequence, S::
 /// A sequence to shorten and lengthen again: both traits name the same items, of it and of the
 /// shorter.
 trait ShortenAndLengthen<T, Shorter: Lengthen<T, Self>>: Shorten<T, Shorter> {
-    ghost shorter_agrees: { (shorter : Shorter) → Self.shorter_items shorter ≡ Shorter.items shorter };
+    ghost shorter_agrees: { (shorter : Shorter)
+        → Self.shorter_items shorter ≡ Shorter.items shorter };
 
     ghost longer_agrees: { (longer : Self) → Shorter.longer_items longer ≡ Self.items longer };
 }

@@ -62,7 +62,8 @@ impl<N: ArrayLength<u8>> BlockBuffer<N> {
         ensures len { self.new.len ≡ count_more self.old.len bytes.now }
         ensures whole { (first : F) (message : List ℕ)
             → HasFed (λ slice. slice.now) F.step N.USIZE first message self.old.kept f.old
-            → HasFed (λ slice. slice.now) F.step N.USIZE first (message ++ bytes.now) self.new.kept f.new }
+            → HasFed (λ slice. slice.now) F.step N.USIZE first (message ++ bytes.now)
+            self.new.kept f.new }
     {
         self.feed_blocks(bytes, f);
     }
@@ -129,7 +130,8 @@ impl<N: ArrayLength<u8>> BlockBuffer<N> {
     fn feed_zeros<F: FnMut(&[u8])>(&mut self, count: usize, f: &mut F)
         requires few { count < N.USIZE }
         requires fits { FitsInline N.USIZE }
-        requires callable { MayTakeBlocks F.step F.pre N.USIZE f.old (self.old.kept ++ replicate count 0) }
+        requires callable { MayTakeBlocks F.step F.pre N.USIZE f.old
+            (self.old.kept ++ replicate count 0) }
         ensures { (first : F) (message : List ℕ)
             → HasFed (λ slice. slice.now) F.step N.USIZE first message self.old.kept f.old
             → HasFed (λ slice. slice.now) F.step N.USIZE first (message ++ replicate count 0)
@@ -152,7 +154,8 @@ pub fn feed_pieces<N: ArrayLength<u8>, F: FnMut(&[u8])>(
     requires fits { FitsInline N.USIZE }
     requires callable { MayTakeBlocks F.step F.pre N.USIZE f.old
         (flat_map (λ piece. piece.now) pieces.now) }
-    ensures blocks { TakesBlocks F.step N.USIZE f.old (flat_map (λ piece. piece.now) pieces.now) f.new }
+    ensures blocks { TakesBlocks F.step N.USIZE f.old
+        (flat_map (λ piece. piece.now) pieces.now) f.new }
     ensures kept { result.kept ≡ chunk_rest N.USIZE (flat_map (λ piece. piece.now) pieces.now) }
     ensures len { result.len ≡ count_more 0 (flat_map (λ piece. piece.now) pieces.now) }
 {

@@ -33,7 +33,8 @@ pub fn expand<H: HashFunction>(
     output: &mut [u8],
 ) -> Result<(), LengthError>
     ensures variant { IsOk result ↔ (length output.old ≤ 255 * H.OutputSize.USIZE) }
-    ensures ok { OnOk result (output.new ≡ expanded H.digest H.BlockSize.USIZE H.OutputSize.USIZE key.now
+    ensures ok { OnOk result
+        (output.new ≡ expanded H.digest H.BlockSize.USIZE H.OutputSize.USIZE key.now
         info.now (length output.old)) }
     ensures err { OnErr result (output.new ≡ output.old) }
 {

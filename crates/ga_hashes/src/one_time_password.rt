@@ -47,7 +47,8 @@ impl LongDigest for Sha512 {
 ///
 /// A code that is shorter than its digits is shown with zeros in front.
 pub fn counter_code<H: LongDigest>(key: &[u8], counter: u64, digits: Digits) -> u32
-    ensures code { result ≡ code_of H.digest H.BlockSize.USIZE key.now counter (digit_count digits) }
+    ensures code { result ≡ code_of H.digest H.BlockSize.USIZE key.now counter
+        (digit_count digits) }
     ensures short { result < 10 ^ digit_count digits }
 {
     truncated(tag_of::<H>(key, &counter.to_be_bytes()).as_slice()) % code_count(digits)

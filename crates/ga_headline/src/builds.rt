@@ -27,7 +27,8 @@ pub fn build<T, E: Drop, S: FromFallibleIterator<T>, I: Iterator<Item = Result<T
     ensures runs { IfPlaced (built_items S.items result) (λ built.
         FillFalliblyRuns I.next_gives items.old S.Length.USIZE built) }
     ensures can_on { (error : E) → result ≡ Err (FillError.Item error) → I.can_next items.new }
-    ensures err { (refused : S.Error) → result ≡ Err (FillError.Place refused) → items.new ≡ items.old }
+    ensures err { (refused : S.Error) → result ≡ Err (FillError.Place refused)
+        → items.new ≡ items.old }
     ensures promised { S.IsPromised → IsPlaced result }
 {
     S::from_fallible_iter_ref(place, items)

@@ -24,7 +24,8 @@ pub fn put_then_pop<
 >(array: GenericArray<T, N>, item: T, at_front: bool, see: S) -> (GenericArray<T, N>, T, R)
     requires one_longer { M.USIZE ≡ N.USIZE + 1 }
     requires fits { FitsInline M.USIZE }
-    requires callable { (seen : _) → seen.now ≡ (if at_front then item ∷ array else (array ++ item ∷ []))
+    requires callable { (seen : _)
+        → seen.now ≡ (if at_front then item ∷ array else (array ++ item ∷ []))
         → S.pre see seen }
     ensures array { result.0 ≡ array }
     ensures item { result.1 ≡ item }
@@ -55,7 +56,8 @@ pub fn pop_then_put<
     S: FnOnce(&[T]) -> R,
 >(array: GenericArray<T, N>, at_front: bool, see: S) -> (GenericArray<T, N>, R)
     requires one_shorter { N.USIZE ≡ M.USIZE + 1 }
-    requires callable { (seen : _) → seen.now ≡ (if at_front then drop 1 array else take M.USIZE array)
+    requires callable { (seen : _)
+        → seen.now ≡ (if at_front then drop 1 array else take M.USIZE array)
         → S.pre see seen }
     ensures array { result.0 ≡ array }
     ensures between { FnOnceReturnsAt S.FnOnce see
@@ -89,7 +91,8 @@ pub fn split_then_concat<
     requires callable { (first : _) (second : _) → first.now ≡ take K.USIZE array
         → second.now ≡ drop K.USIZE array → S.pre see first second }
     ensures array { result.0 ≡ array }
-    ensures between { FnOnceReturnsAtPair S.FnOnce see (take K.USIZE array) (drop K.USIZE array) result.1 }
+    ensures between { FnOnceReturnsAtPair S.FnOnce see (take K.USIZE array) (drop K.USIZE array)
+        result.1 }
 {
     let (first, second): (GenericArray<T, K>, GenericArray<T, M>) = array.split();
     let seen = see(first.as_slice(), second.as_slice());
@@ -132,10 +135,12 @@ where
     requires area { Flat.IsArea }
     requires rows_area { Rows.IsArea }
     requires same_rows { (rows : Rows) → Rows.row_items rows ≡ Flat.output_rows rows }
-    requires callable { (between : _) → Flat.output_rows between.now ≡ rows Flat.WIDTH (Flat.items flat)
+    requires callable { (between : _)
+        → Flat.output_rows between.now ≡ rows Flat.WIDTH (Flat.items flat)
         → S.pre see between }
     ensures items { Rows.output_items result.0 ≡ Flat.items flat }
-    ensures between { (between : Rows) × (Flat.output_rows between ≡ rows Flat.WIDTH (Flat.items flat))
+    ensures between { (between : Rows)
+        × (Flat.output_rows between ≡ rows Flat.WIDTH (Flat.items flat))
         × FnOnceReturnsAt S.FnOnce see between result.1 }
 {
     let rows = flat.unflatten();
@@ -156,9 +161,11 @@ where
     requires same_items { (flat : Flat) → Flat.Unflatten.items flat ≡ Rows.output_items flat }
     requires same_slice { (flat : Flat) → Flat.AsSlice.items flat ≡ Rows.output_items flat }
     requires some { 0 < Rows.WIDTH }
-    requires callable { (seen : _) → seen.now ≡ flat_map (λ row. row) (Rows.row_items rows) → S.pre see seen }
+    requires callable { (seen : _) → seen.now ≡ flat_map (λ row. row) (Rows.row_items rows)
+        → S.pre see seen }
     ensures rows { Flat.Unflatten.output_rows result.0 ≡ Rows.row_items rows }
-    ensures between { FnOnceReturnsAt S.FnOnce see (flat_map (λ row. row) (Rows.row_items rows)) result.1 }
+    ensures between { FnOnceReturnsAt S.FnOnce see (flat_map (λ row. row) (Rows.row_items rows))
+        result.1 }
 {
     let flat = rows.flatten();
     let seen = see(flat.as_slice());

@@ -28,7 +28,8 @@ pub fn walk<T: Drop, R, S: TwoEndedSequence<T>, G: FnMut(&[T]) -> R>(
         × Account (S.items s) steps.items given (S.TwoEnded.items left)) }
     ensures err { OnErr result ((look.new ≡ look.old) × (replies.new.items ≡ replies.old.items)) }
     ensures empty { steps.items ≡ [] → IsOk result }
-    ensures room { vec_len replies.old + length steps.items ≤ vec_capacity replies.old → IsOk result }
+    ensures room { vec_len replies.old + length steps.items ≤ vec_capacity replies.old
+        → IsOk result }
     ensures kept { vec_capacity replies.old ≤ vec_capacity replies.new }
 {
     let mut left = s.into_two_ended();

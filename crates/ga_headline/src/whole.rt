@@ -70,7 +70,8 @@ where
         × Account values steps.items given (S.Mapped.Sequence.TwoEnded.items left)) }
     ensures stopped { IfErr result (λ why.
         MapStoppedAt (TryClosureRun (CallAt S.entry F.step)) f.old (S.items s) why f.new) }
-    ensures unwalked { OnErr result ((look.new ≡ look.old) × (replies.new.items ≡ replies.old.items)) }
+    ensures unwalked { OnErr result ((look.new ≡ look.old)
+        × (replies.new.items ≡ replies.old.items)) }
     ensures promised { IfErr result (λ why. MapKeepsPromises S.Mapped.IsPromised
         (vec_len replies.old + length steps.items ≤ vec_capacity replies.old) why) }
     ensures kept { vec_capacity replies.old ≤ vec_capacity replies.new }
@@ -119,14 +120,16 @@ where
     requires fits { S.Fits }
     requires mapped_fits { S.Mapped.Fits }
     requires can { I.can_next items.old }
-    requires callable { (list : List T) (after : I) → Comes I.next_gives items.old S.Length.USIZE list after
+    requires callable { (list : List T) (after : I)
+        → Comes I.next_gives items.old S.Length.USIZE list after
         → MayTryMap S.entry F.pre F.step f.old list }
     requires then_callable { (list : List T) (after : I) (values : List U) (reached : F)
         → Comes I.next_gives items.old S.Length.USIZE list after
         → TryClosureRun (CallAt S.entry F.step) f.old list (Ok values) reached
         → MaySteps (MayCallAt (λ slice. slice.now) G.pre) (CallAt (λ slice. slice.now) G.step)
         (values, look.old) steps.items }
-    ensures ok { IfOk result (λ left. (list : List T) × (values : List U) × (given : List (Reply U R))
+    ensures ok { IfOk result (λ left. (list : List T) × (values : List U)
+        × (given : List (Reply U R))
         × Comes I.next_gives items.old S.Length.USIZE list items.new
         × TryClosureRun (CallAt S.entry F.step) f.old list (Ok values) f.new
         × (replies.new.items ≡ replies.old.items ++ given)
@@ -135,7 +138,8 @@ where
         × Account values steps.items given (S.Mapped.Sequence.TwoEnded.items left)) }
     ensures stopped { IfErr result (λ why. StoppedAt I.next_gives S.Length.USIZE
         (TryClosureRun (CallAt S.entry F.step)) items.old f.old why items.new f.new) }
-    ensures unwalked { OnErr result ((look.new ≡ look.old) × (replies.new.items ≡ replies.old.items)) }
+    ensures unwalked { OnErr result ((look.new ≡ look.old)
+        × (replies.new.items ≡ replies.old.items)) }
     ensures promised { IfErr result (λ why. KeepsPromises S.IsPromised S.Mapped.IsPromised
         (vec_len replies.old + length steps.items ≤ vec_capacity replies.old) why) }
     ensures kept { vec_capacity replies.old ≤ vec_capacity replies.new }

@@ -78,7 +78,8 @@ fn built_boxed(
     requires { results.items ≡ Ok 1 ∷ Ok 2 ∷ [] }
     ensures built { IfOk result.0 (λ array. array ≡ 1 ∷ 2 ∷ []) }
     ensures last { OnOk result.0 (result.1 ≡ None) }
-    ensures refused { (refused : AllocError) → result.0 ≡ Err (FillError.Place refused) → result.1 ≡ Some (Ok 1) }
+    ensures refused { (refused : AllocError) → result.0 ≡ Err (FillError.Place refused)
+        → result.1 ≡ Some (Ok 1) }
 {
     let mut results = results.into_iter();
     let built = build(alloc, &mut results);

@@ -62,7 +62,8 @@ impl<'a, N: ArrayLength<u8>> RecordBlock<'a, N> {
     /// The record at `index`, or `None` if there are at most `index` records. O(1).
     #[inline]
     pub fn record(&self, index: usize) -> Option<GenericArrayRef<'a, u8, N>>
-        ensures { option_map items_of_view result ≡ slice_get (rows N.USIZE (bytes_of self.now)) index }
+        ensures { option_map items_of_view result
+            ≡ slice_get (rows N.USIZE (bytes_of self.now)) index }
     {
         self.records.get(index)
     }
@@ -83,7 +84,8 @@ impl<'a, N: ArrayLength<u8>> RecordBlock<'a, N> {
     /// bytes behind it and in it. No clause and no test says so.
     pub fn last_with(&self, byte: u8) -> Option<usize>
         ensures index { result ≡ last_record_with byte (rows N.USIZE (bytes_of self.now)) }
-        ensures some { IfSome result (λ index. IsLastWith byte (rows N.USIZE (bytes_of self.now)) index) }
+        ensures some { IfSome result (λ index.
+            IsLastWith byte (rows N.USIZE (bytes_of self.now)) index) }
         ensures none { IsNone result ↔ NoneHas byte (rows N.USIZE (bytes_of self.now)) }
     {
         let mut left = self.iter();
@@ -98,7 +100,8 @@ impl<'a, N: ArrayLength<u8>> RecordBlock<'a, N> {
     /// Writes the bytes of all records, in order, by one `write_all`, and by none if there are no
     /// records. Returns the first error of the writer, and says nothing of how much was written.
     pub fn write_to<W: Write>(&self, w: &mut W) -> Result<(), io::Error>
-        ensures written { OnOk result (Appends (W.contents w.old) (W.contents w.new) (bytes_of self.now)) }
+        ensures written { OnOk result
+            (Appends (W.contents w.old) (W.contents w.new) (bytes_of self.now)) }
         ensures empty { length (bytes_of self.now) ≡ 0 → IsOk result }
     {
         let bytes = self.records.as_slice();

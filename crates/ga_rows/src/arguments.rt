@@ -93,7 +93,8 @@ pub fn words_after_name<I: Iterator<Item = String>>(
 ) -> Result<Vec<String>, Status>
     requires can { I.can_next listed }
     requires finite { IsFinite (I.remaining listed) }
-    ensures ok { IfOk result (λ words. WholeRun I.next_gives listed (λ run. words.items ≡ drop 1 run.items)) }
+    ensures ok { IfOk result (λ words.
+        WholeRun I.next_gives listed (λ run. words.items ≡ drop 1 run.items)) }
     ensures err { IfErr result (λ status. status ≡ Status.Memory) }
 {
     match listed.skip(1).collect(alloc) {

@@ -73,7 +73,8 @@ pub fn put_numbers(text: &mut [u8], start: usize, numbers: &[u8]) -> usize
 #[inline]
 pub fn put_numbers_back(text: &mut [u8], start: usize, numbers: &[u8]) -> usize
     requires { start + 4 * length numbers.now ≤ length text.old }
-    ensures text { take result text.new ≡ take start text.old ++ numbers_text (reverse numbers.now) }
+    ensures text { take result text.new ≡ take start text.old
+        ++ numbers_text (reverse numbers.now) }
     ensures bytes { result ≤ start + 4 * length numbers.now }
 {
     let Some((last, others)) = numbers.split_last() else {

@@ -14,7 +14,8 @@ const READ_SIZE: usize = 65_536;
 /// An interrupted read is made again. A reader that doesn't end within `u64::MAX` reads counts as
 /// faulty.
 pub fn read_all<R: Read>(alloc: Global, r: &mut R) -> Result<Vec<u8>, Status>
-    ensures bytes { IfOk result (λ input. IfSome (R.remaining r.old) (λ bytes. input.items ≡ bytes)) }
+    ensures bytes { IfOk result (λ input.
+        IfSome (R.remaining r.old) (λ bytes. input.items ≡ bytes)) }
     ensures end { OnOk result (IsAtEnd (R.remaining r.new)) }
     ensures err { IfErr result (λ status. (status ≡ Status.Memory) ⊎ (status ≡ Status.Fault)) }
 {
@@ -23,7 +24,8 @@ pub fn read_all<R: Read>(alloc: Global, r: &mut R) -> Result<Vec<u8>, Status>
 
 // `read_all`, where a reader that doesn't end within `most` reads counts as faulty.
 fn read_within<R: Read>(alloc: Global, r: &mut R, most: u64) -> Result<Vec<u8>, Status>
-    ensures bytes { IfOk result (λ input. IfSome (R.remaining r.old) (λ bytes. input.items ≡ bytes)) }
+    ensures bytes { IfOk result (λ input.
+        IfSome (R.remaining r.old) (λ bytes. input.items ≡ bytes)) }
     ensures end { OnOk result (IsAtEnd (R.remaining r.new)) }
     ensures err { IfErr result (λ status. (status ≡ Status.Memory) ⊎ (status ≡ Status.Fault)) }
 {

@@ -26,7 +26,8 @@ const LONGEST_LINE: usize = 5 + 16 * 4 + 1;
 pub fn rows<W: Write>(input: &[u8], mode: Mode, width: Width, w: &mut W) -> Result<bool, io::Error>
     ensures text { OnOk result (Appends (W.contents w.old) (W.contents w.new)
         (text_of mode width input.now)) }
-    ensures rest { IfOk result (λ has_rest. IsTrue has_rest ↔ (chunk_rest (row_len width) input.now ≢ [])) }
+    ensures rest { IfOk result (λ has_rest.
+        IsTrue has_rest ↔ (chunk_rest (row_len width) input.now ≢ [])) }
     ensures empty { input.now ≡ [] → IsOk result }
 {
     match width {
@@ -72,7 +73,8 @@ fn put_rows<N: ArrayLength<u8>, W: Write>(
     ensures text { OnOk result (Appends (append_known (W.contents w.old) piece.old)
         (append_known (W.contents w.new) piece.new)
         (row_lines mode (rows N.USIZE (items_of_chunks chunks.now)))) }
-    ensures empty { rows N.USIZE (items_of_chunks chunks.now) ≡ [] → IsOk result × (piece.new ≡ piece.old) }
+    ensures empty { rows N.USIZE (items_of_chunks chunks.now) ≡ [] → IsOk result
+        × (piece.new ≡ piece.old) }
 {
     match mode {
         Mode::Dec => put_from_first(piece, w, Mode::Dec, chunks),
@@ -95,7 +97,8 @@ fn put_from_first<N: ArrayLength<u8>, W: Write>(
     ensures text { OnOk result (Appends (append_known (W.contents w.old) piece.old)
         (append_known (W.contents w.new) piece.new)
         (lines mode (rows N.USIZE (items_of_chunks chunks.now)))) }
-    ensures empty { rows N.USIZE (items_of_chunks chunks.now) ≡ [] → IsOk result × (piece.new ≡ piece.old) }
+    ensures empty { rows N.USIZE (items_of_chunks chunks.now) ≡ [] → IsOk result
+        × (piece.new ≡ piece.old) }
 {
     for row in chunks.iter() {
         if !piece.has_room(LONGEST_LINE) {
@@ -117,7 +120,8 @@ fn put_from_last<N: ArrayLength<u8>, W: Write>(
     ensures text { OnOk result (Appends (append_known (W.contents w.old) piece.old)
         (append_known (W.contents w.new) piece.new)
         (lines Mode.Last (reverse (rows N.USIZE (items_of_chunks chunks.now))))) }
-    ensures empty { rows N.USIZE (items_of_chunks chunks.now) ≡ [] → IsOk result × (piece.new ≡ piece.old) }
+    ensures empty { rows N.USIZE (items_of_chunks chunks.now) ≡ [] → IsOk result
+        × (piece.new ≡ piece.old) }
 {
     for row in chunks.iter().rev() {
         if !piece.has_room(LONGEST_LINE) {
@@ -137,7 +141,8 @@ fn put_row<N: ArrayLength<u8>>(
 ) -> Result<(), io::Error>
     requires few { N.USIZE ≤ 16 }
     requires room { length piece.old + LONGEST_LINE ≤ PIECE_SIZE }
-    ensures { OnOk result (piece.new ≡ piece.old ++ line (row_text mode (items_of_view row.entry))) }
+    ensures { OnOk result (piece.new ≡ piece.old
+        ++ line (row_text mode (items_of_view row.entry))) }
 {
     match mode {
         Mode::Dec | Mode::Last => piece.push_numbers(row.as_slice()),

@@ -42,14 +42,16 @@ pub fn run_listed<I: Iterator<Item = String>, R: Read, W: Write, E: Write>(
     ensures rest { process_status result ≡ 1
         → ListedAnd I.next_gives listed (λ meant. IfSome meant (λ meaning.
         IfSome (R.remaining r.old) (λ input. chunk_rest (row_len meaning.1) input ≢ []))) }
-    ensures words { process_status result ≡ 2 → ListedAnd I.next_gives listed (λ meant. meant ≡ None) }
+    ensures words { process_status result ≡ 2
+        → ListedAnd I.next_gives listed (λ meant. meant ≡ None) }
     ensures meaningless { ListedEach I.next_gives listed (λ meant. meant ≡ None)
         → (process_status result ≡ 2) ⊎ (process_status result ≡ 3) }
     ensures unread { ListedEach I.next_gives listed (λ meant. meant ≡ None) → r.new ≡ r.old }
     ensures untouched { process_status result ≡ 2 → (r.new ≡ r.old) × (w.new ≡ w.old) }
     ensures unlisted { IfErr listed (λ fault.
         (process_status result ≡ 3) ↔ (error_kind fault ≡ ErrorKind.OutOfMemory)) }
-    ensures unlisted_else { IfErr listed (λ _. (process_status result ≡ 3) ⊎ (process_status result ≡ 4)) }
+    ensures unlisted_else { IfErr listed (λ _.
+        (process_status result ≡ 3) ⊎ (process_status result ≡ 4)) }
     ensures end { process_status result ≤ 1 → IsAtEnd (R.remaining r.new) }
     ensures memory { process_status result ≡ 3 → w.new ≡ w.old }
     ensures fault { process_status result ≡ 4 → (w.new ≡ w.old) ⊎ IsAtEnd (R.remaining r.new) }
@@ -78,13 +80,15 @@ pub fn run_listed<I: Iterator<Item = String>, R: Read, W: Write, E: Write>(
 /// interrupted read is made again; a reader that doesn't end within `u64::MAX` reads counts as
 /// faulty. Allocates for the input alone.
 pub fn run<R: Read, W: Write>(alloc: Global, words: &[String], r: &mut R, w: &mut W) -> Status
-    ensures words { (result ≡ Status.Words) ↔ (meaning_of_words (map string_bytes words.now) ≡ None) }
+    ensures words { (result ≡ Status.Words)
+        ↔ (meaning_of_words (map string_bytes words.now) ≡ None) }
     ensures untouched { result ≡ Status.Words → (r.new ≡ r.old) × (w.new ≡ w.old) }
     ensures text { (result ≡ Status.Whole) ⊎ (result ≡ Status.Rest)
         → IfSome (meaning_of_words (map string_bytes words.now)) (λ meaning.
         IfSome (R.remaining r.old) (λ input.
         Appends (W.contents w.old) (W.contents w.new) (text_of meaning.0 meaning.1 input))) }
-    ensures rest { (result ≡ Status.Rest) → IfSome (meaning_of_words (map string_bytes words.now)) (λ meaning.
+    ensures rest { (result ≡ Status.Rest)
+        → IfSome (meaning_of_words (map string_bytes words.now)) (λ meaning.
         IfSome (R.remaining r.old) (λ input. chunk_rest (row_len meaning.1) input ≢ [])) }
     ensures whole { (result ≡ Status.Whole)
         → IfSome (meaning_of_words (map string_bytes words.now)) (λ meaning.

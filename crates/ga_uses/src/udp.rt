@@ -57,11 +57,13 @@ pub fn parse(datagram: &[u8]) -> Result<Datagram<'_>, HeaderError>
     ensures other_length { (result ≡ Err HeaderError.OtherLength)
         ↔ ((8 ≤ length datagram.now) × ¬ IsDatagram datagram.now) }
 
-    ensures source { IfOk result (λ read. items_of_view read.source ≡ slice_range datagram.now 0 2) }
+    ensures source { IfOk result (λ read.
+        items_of_view read.source ≡ slice_range datagram.now 0 2) }
     ensures destination { IfOk result (λ read.
         items_of_view read.destination ≡ slice_range datagram.now 2 4) }
     ensures len { IfOk result (λ read. items_of_view read.length ≡ slice_range datagram.now 4 6) }
-    ensures checksum { IfOk result (λ read. items_of_view read.checksum ≡ slice_range datagram.now 6 8) }
+    ensures checksum { IfOk result (λ read.
+        items_of_view read.checksum ≡ slice_range datagram.now 6 8) }
     ensures payload { IfOk result (λ read. read.payload.now ≡ drop 8 datagram.now) }
 {
     if datagram.len() < 8 {
@@ -140,7 +142,8 @@ fn with_words(sum: u16, bytes: &[u8]) -> u16
 
 // The same over whole words, each a row of two bytes.
 fn with_rows(sum: u16, words: ChunksRef<'_, u8, U2>) -> u16
-    ensures { result ≡ fold sum_with_carry sum (map number_of (rows 2 (items_of_chunks words.entry))) }
+    ensures { result ≡ fold sum_with_carry sum
+        (map number_of (rows 2 (items_of_chunks words.entry))) }
 {
     words.iter().map(number).fold(sum, with_carry)
 }
@@ -165,7 +168,8 @@ pub fn write_header(
     requires room { 8 ≤ length datagram.old }
     requires fits { length datagram.old < 2 ^ 16 }
     ensures { datagram.new
-        ≡ datagram_of (items_of_view source_address.entry) (items_of_view destination_address.entry) source
+        ≡ datagram_of (items_of_view source_address.entry)
+        (items_of_view destination_address.entry) source
         destination (drop 8 datagram.old) }
 {
     let len = datagram.len() as u16;

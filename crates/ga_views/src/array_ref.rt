@@ -118,7 +118,8 @@ impl<'a, T, N: Unsigned> GenericArrayRef<'a, T, N> {
     pub fn fold<A, F: FnMut(A, &T) -> A>(self, init: A, mut f: F) -> A
         requires callable { MayFold (λ item. item.now) F.pre F.step f init (items_of_view self) }
         ensures run { (last : F)
-            × FoldRun (FoldAt (λ item. item.now) F.step) f init (items_of_view self.entry) result last }
+            × FoldRun (FoldAt (λ item. item.now) F.step) f init (items_of_view self.entry)
+            result last }
         ensures acts { (h : A → T → A) → ActsInFold (λ item. item.now) F.step f h
             → result ≡ fold h init (items_of_view self.entry) }
     {
@@ -128,8 +129,10 @@ impl<'a, T, N: Unsigned> GenericArrayRef<'a, T, N> {
     /// `fold` that borrows the closure, which can be used again in the state that it reached.
     #[inline]
     pub fn fold_by<A, F: FnMut(A, &T) -> A>(self, init: A, f: &mut F) -> A
-        requires callable { MayFold (λ item. item.now) F.pre F.step f.old init (items_of_view self) }
-        ensures run { FoldRun (FoldAt (λ item. item.now) F.step) f.old init (items_of_view self.entry)
+        requires callable { MayFold (λ item. item.now) F.pre F.step f.old init
+            (items_of_view self) }
+        ensures run { FoldRun (FoldAt (λ item. item.now) F.step) f.old init
+            (items_of_view self.entry)
             result f.new }
         ensures acts { (h : A → T → A) → ActsInFold (λ item. item.now) F.step f.old h
             → result ≡ fold h init (items_of_view self.entry) }

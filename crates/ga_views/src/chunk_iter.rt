@@ -30,7 +30,8 @@ impl<'a, T, N: Unsigned> Model for ChunkIter<'a, T, N> {
     ghost view = { λ iter. rows N.USIZE iter.left.now };
 
     // The rows leave no rest, so that the last of them ends where the slice does.
-    ghost invariant = { λ iter. length iter.left.now ≡ chunk_count N.USIZE iter.left.now * N.USIZE };
+    ghost invariant = { λ iter. length iter.left.now
+        ≡ chunk_count N.USIZE iter.left.now * N.USIZE };
 }
 
 impl<'a, T, N: Unsigned> ChunkIter<'a, T, N> {

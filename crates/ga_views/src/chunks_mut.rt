@@ -187,7 +187,8 @@ impl<S: ReborrowPart<T>, T, N: Unsigned> ChunksViewMut<S, T, N> {
         ensures* writes_back { sem 𝓛 (LendsRowIf S.row T.row N.row S.ReborrowSlice N.Unsigned
             self.entry index (option_map (λ view. view.slice) result)) }
         ensures variant { IsSome result ↔ (index < chunk_count N.USIZE (S.items self.old.slice)) }
-        ensures row { IfSome result (λ view. view.slice.now ≡ row_at N.USIZE (S.items self.old.slice) index) }
+        ensures row { IfSome result (λ view.
+            view.slice.now ≡ row_at N.USIZE (S.items self.old.slice) index) }
     {
         if index < self.len() {
             Some(GenericArrayMut::from_mut_slice(self.row_mut(index)))

@@ -129,7 +129,8 @@ impl<'a, T, N: Unsigned> ChunksRef<'a, T, N> {
     #[inline]
     pub fn into_slice(self) -> &'a [T]
         ensures items { result.now ≡ items_of_chunks self.entry }
-        ensures len { length result.now ≡ chunk_count N.USIZE (items_of_chunks self.entry) * N.USIZE }
+        ensures len { length result.now
+            ≡ chunk_count N.USIZE (items_of_chunks self.entry) * N.USIZE }
     {
         self.slice
     }

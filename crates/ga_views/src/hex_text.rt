@@ -139,7 +139,8 @@ fn show_pieces<W: fmt::Write>(
 // How many digits are to be written: two for each byte, but no more than the limit.
 #[inline]
 fn count_digits(bytes: &[u8], limit: Option<usize>) -> usize
-    ensures text { (upper : Bool) → hex_text upper limit bytes.now ≡ take result (hex_digits upper bytes.now) }
+    ensures text { (upper : Bool)
+        → hex_text upper limit bytes.now ≡ take result (hex_digits upper bytes.now) }
     ensures few { result ≤ 2 * length bytes.now }
 {
     let all = 2 * bytes.len();

@@ -25,7 +25,8 @@ pub trait ReborrowSlice<T>: Drop {
         × (items after ≡ refill (length (items slice)) (items slice) written) };
 
     // With these items it is the same reference.
-    ghost slice_with_stays: { (slice : Self) (written : List T) → stays slice (slice_with slice written).0 };
+    ghost slice_with_stays: { (slice : Self) (written : List T)
+        → stays slice (slice_with slice written).0 };
 
     /// The items, in order, for writing. The caller says how many they are, so that the compiler
     /// knows it too.

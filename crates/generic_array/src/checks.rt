@@ -19,7 +19,8 @@ pub fn total_by<T, S: FunctionalSequence<T>, A, F: FnMut(A, SequenceItem<S>) -> 
 ) -> A
     requires callable { MayFold S.entry F.pre F.step f.old init (S.items s) }
     ensures run { FoldRun (FoldAt S.entry F.step) f.old init (S.items s) result f.new }
-    ensures acts { (h : A → T → A) → ActsInFold S.entry F.step f.old h → result ≡ fold h init (S.items s) }
+    ensures acts { (h : A → T → A) → ActsInFold S.entry F.step f.old h
+        → result ≡ fold h init (S.items s) }
 {
     s.fold_by(init, f)
 }
@@ -49,7 +50,8 @@ pub fn map_total_by<
     ensures run { IfOk result (λ total. (values : List U)
         × ClosureRun (CallAt S.entry F.step) f.old (S.items s) values f.new
         × FoldRun G.step g.old init values total g.new) }
-    ensures acts { IfOk result (λ total. (h : T → U) (k : A → U → A) → ActsOnEntry S.entry F.step f.old h
+    ensures acts { IfOk result (λ total. (h : T → U) (k : A → U → A)
+        → ActsOnEntry S.entry F.step f.old h
         → ActsAsOnTwo G.FnMut g.old k → total ≡ fold k init (map h (S.items s))) }
     ensures err { OnErr result ((f.new ≡ f.old) × (g.new ≡ g.old)) }
     ensures promised { S.Mapped.IsPromised → IsOk result }

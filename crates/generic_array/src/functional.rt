@@ -67,7 +67,8 @@ pub trait FunctionalSequence<T>: GenericSequence<T> {
         Self: MappedGenericSequence<T, U>,
         requires fits { Self.Mapped.Fits }
         requires callable { MayMap Self.entry F.pre F.step f (Self.items self) }
-        ensures len { IfOk result (λ made. length (Self.Mapped.Sequence.items made) ≡ Self.Length.USIZE) }
+        ensures len { IfOk result (λ made.
+            length (Self.Mapped.Sequence.items made) ≡ Self.Length.USIZE) }
         ensures run { (last : F) × IfOk result (λ made.
             ClosureRun (CallAt Self.entry F.step) f (Self.items self)
             (Self.Mapped.Sequence.items made) last) }
@@ -89,7 +90,8 @@ pub trait FunctionalSequence<T>: GenericSequence<T> {
         Self: MappedGenericSequence<T, U>,
         requires fits { Self.Mapped.Fits }
         requires callable { MayMap Self.entry F.pre F.step f.old (Self.items self) }
-        ensures len { IfOk result (λ made. length (Self.Mapped.Sequence.items made) ≡ Self.Length.USIZE) }
+        ensures len { IfOk result (λ made.
+            length (Self.Mapped.Sequence.items made) ≡ Self.Length.USIZE) }
         ensures run { IfOk result (λ made.
             ClosureRun (CallAt Self.entry F.step) f.old (Self.items self)
             (Self.Mapped.Sequence.items made) f.new) }
@@ -120,7 +122,8 @@ pub trait FunctionalSequence<T>: GenericSequence<T> {
         ensures run { (last : F) × IfOk result (λ built.
             TryClosureRun (CallAt Self.entry F.step) f (Self.items self)
             (built_items Self.Mapped.Sequence.items built) last) }
-        ensures acts { IfOk result (λ built. (h : T → Result U E) → ActsOnEntry Self.entry F.step f h
+        ensures acts { IfOk result (λ built. (h : T → Result U E)
+            → ActsOnEntry Self.entry F.step f h
             → built_items Self.Mapped.Sequence.items built ≡ try_map h (Self.items self)) }
         ensures promised { Self.Mapped.IsPromised → IsOk result }
     {
@@ -144,7 +147,8 @@ pub trait FunctionalSequence<T>: GenericSequence<T> {
         ensures run { IfOk result (λ built.
             TryClosureRun (CallAt Self.entry F.step) f.old (Self.items self)
             (built_items Self.Mapped.Sequence.items built) f.new) }
-        ensures acts { IfOk result (λ built. (h : T → Result U E) → ActsOnEntry Self.entry F.step f.old h
+        ensures acts { IfOk result (λ built. (h : T → Result U E)
+            → ActsOnEntry Self.entry F.step f.old h
             → built_items Self.Mapped.Sequence.items built ≡ try_map h (Self.items self)) }
         ensures err { OnErr result (f.new ≡ f.old) }
         ensures promised { Self.Mapped.IsPromised → IsOk result }
@@ -171,8 +175,10 @@ pub trait FunctionalSequence<T>: GenericSequence<T> {
         Self: MappedGenericSequence<T, U>,
         requires lengths { Self.Length.USIZE ≡ Rhs.Length.USIZE }
         requires fits { Self.Mapped.Fits }
-        requires callable { MayZip Self.entry Rhs.entry F.pre F.step f (Self.items self) (Rhs.items rhs) }
-        ensures len { IfOk result (λ made. length (Self.Mapped.Sequence.items made) ≡ Self.Length.USIZE) }
+        requires callable { MayZip Self.entry Rhs.entry F.pre F.step f (Self.items self)
+            (Rhs.items rhs) }
+        ensures len { IfOk result (λ made.
+            length (Self.Mapped.Sequence.items made) ≡ Self.Length.USIZE) }
         ensures run { (last : F) × IfOk result (λ made.
             ClosureRun (CallAtPair Self.entry Rhs.entry F.step) f
             (zip (Self.items self) (Rhs.items rhs)) (Self.Mapped.Sequence.items made) last) }
@@ -196,8 +202,10 @@ pub trait FunctionalSequence<T>: GenericSequence<T> {
         Self: MappedGenericSequence<T, U>,
         requires lengths { Self.Length.USIZE ≡ Rhs.Length.USIZE }
         requires fits { Self.Mapped.Fits }
-        requires callable { MayZip Self.entry Rhs.entry F.pre F.step f.old (Self.items self) (Rhs.items rhs) }
-        ensures len { IfOk result (λ made. length (Self.Mapped.Sequence.items made) ≡ Self.Length.USIZE) }
+        requires callable { MayZip Self.entry Rhs.entry F.pre F.step f.old (Self.items self)
+            (Rhs.items rhs) }
+        ensures len { IfOk result (λ made.
+            length (Self.Mapped.Sequence.items made) ≡ Self.Length.USIZE) }
         ensures run { IfOk result (λ made.
             ClosureRun (CallAtPair Self.entry Rhs.entry F.step) f.old
             (zip (Self.items self) (Rhs.items rhs)) (Self.Mapped.Sequence.items made) f.new) }
@@ -214,7 +222,8 @@ pub trait FunctionalSequence<T>: GenericSequence<T> {
     #[inline(always)]
     final fn fold<A, F: FnMut(A, Self::Item) -> A>(self, init: A, mut f: F) -> A
         requires callable { MayFold Self.entry F.pre F.step f init (Self.items self) }
-        ensures run { (last : F) × FoldRun (FoldAt Self.entry F.step) f init (Self.items self) result last }
+        ensures run { (last : F)
+            × FoldRun (FoldAt Self.entry F.step) f init (Self.items self) result last }
         ensures acts { (h : A → T → A) → ActsInFold Self.entry F.step f h
             → result ≡ fold h init (Self.items self) }
     {
@@ -258,7 +267,8 @@ pub trait FunctionalSequence<T>: GenericSequence<T> {
         f: &mut F,
     ) -> Result<A, E>
         requires callable { MayTryFold Self.entry F.pre F.step f.old init (Self.items self) }
-        ensures run { TryFoldRun (FoldAt Self.entry F.step) f.old init (Self.items self) result f.new }
+        ensures run { TryFoldRun (FoldAt Self.entry F.step) f.old init (Self.items self)
+            result f.new }
         ensures acts { (h : A → T → Result A E) → ActsInFold Self.entry F.step f.old h
             → result ≡ try_fold h init (Self.items self) }
     {

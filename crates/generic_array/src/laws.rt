@@ -35,7 +35,8 @@ fn parts_undo_each_other<T>()
 // Rows of one width that are joined and cut again are as they were, and so are items that fill rows
 // and are cut and joined again.
 fn rows_undo_each_other<T>()
-    ensures rows { (width : ℕ) (all : List (List T)) → 0 < width → All (λ row. length row ≡ width) all
+    ensures rows { (width : ℕ) (all : List (List T)) → 0 < width
+        → All (λ row. length row ≡ width) all
         → rows width (flat_map (λ row. row) all) ≡ all }
     ensures items { (width count : ℕ) (items : List T) → 0 < width → length items ≡ count * width
         → flat_map (λ row. row) (rows width items) ≡ items }

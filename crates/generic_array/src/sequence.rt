@@ -74,7 +74,8 @@ pub trait GenericSequence<T>: Sized + AsSlice<T> + IntoIterator {
         requires callable { MayGenerate F.pre F.step f Self.Length.USIZE }
         ensures len { IfOk result (λ made. length (Self.Sequence.items made) ≡ Self.Length.USIZE) }
         ensures run { (last : F) × IfOk result (λ made.
-            ClosureRun F.step f (range_with_len 0 Self.Length.USIZE) (Self.Sequence.items made) last) }
+            ClosureRun F.step f (range_with_len 0 Self.Length.USIZE)
+            (Self.Sequence.items made) last) }
         ensures acts { IfOk result (λ made. (h : ℕ → T) → ActsAs F.FnMut f h
             → Self.Sequence.items made ≡ map h (range_with_len 0 Self.Length.USIZE)) }
         ensures promised { IsPromised → IsOk result }
@@ -91,7 +92,8 @@ pub trait GenericSequence<T>: Sized + AsSlice<T> + IntoIterator {
         requires callable { MayGenerate F.pre F.step f.old Self.Length.USIZE }
         ensures len { IfOk result (λ made. length (Self.Sequence.items made) ≡ Self.Length.USIZE) }
         ensures run { IfOk result (λ made.
-            ClosureRun F.step f.old (range_with_len 0 Self.Length.USIZE) (Self.Sequence.items made) f.new) }
+            ClosureRun F.step f.old (range_with_len 0 Self.Length.USIZE) (Self.Sequence.items made)
+            f.new) }
         ensures acts { IfOk result (λ made. (h : ℕ → T) → ActsAs F.FnMut f.old h
             → Self.Sequence.items made ≡ map h (range_with_len 0 Self.Length.USIZE)) }
         ensures err { OnErr result (f.new ≡ f.old) }
@@ -119,8 +121,10 @@ pub trait GenericSequence<T>: Sized + AsSlice<T> + IntoIterator {
         Self.IntoIter.remaining Self.into_iter_gives Self.items entry };
 
     // `into_iter` of what is built gives its items, in order, and then ends.
-    ghost gives_items: { GivesEntriesOf Self.Sequence.IntoIter.can_next Self.Sequence.IntoIter.next_gives
-        Self.Sequence.IntoIter.remaining Self.Sequence.into_iter_gives Self.Sequence.items (λ item. item) };
+    ghost gives_items: { GivesEntriesOf Self.Sequence.IntoIter.can_next
+        Self.Sequence.IntoIter.next_gives
+        Self.Sequence.IntoIter.remaining Self.Sequence.into_iter_gives Self.Sequence.items
+        (λ item. item) };
 }
 
 /// A sequence that can be made by a closure that may fail.
@@ -140,7 +144,8 @@ pub trait FallibleGenericSequence<T>: GenericSequence<T> {
             TryClosureRun F.step f (range_with_len 0 Self.Length.USIZE)
             (built_items Self.Sequence.items built) last) }
         ensures acts { IfOk result (λ built. (h : ℕ → Result T E) → ActsAs F.FnMut f h
-            → built_items Self.Sequence.items built ≡ try_map h (range_with_len 0 Self.Length.USIZE)) }
+            → built_items Self.Sequence.items built
+            ≡ try_map h (range_with_len 0 Self.Length.USIZE)) }
         ensures promised { Self.IsPromised → IsOk result }
     {
         Self::try_generate_by(place, &mut f)
@@ -160,7 +165,8 @@ pub trait FallibleGenericSequence<T>: GenericSequence<T> {
             TryClosureRun F.step f.old (range_with_len 0 Self.Length.USIZE)
             (built_items Self.Sequence.items built) f.new) }
         ensures acts { IfOk result (λ built. (h : ℕ → Result T E) → ActsAs F.FnMut f.old h
-            → built_items Self.Sequence.items built ≡ try_map h (range_with_len 0 Self.Length.USIZE)) }
+            → built_items Self.Sequence.items built
+            ≡ try_map h (range_with_len 0 Self.Length.USIZE)) }
         ensures err { OnErr result (f.new ≡ f.old) }
         ensures promised { Self.IsPromised → IsOk result };
 }

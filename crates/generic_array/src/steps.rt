@@ -87,7 +87,8 @@ fn step_once<T: Drop, R, I: TwoEnded<T>, G: FnMut(&[T]) -> R>(
     look: &mut G,
 ) -> Reply<T, R>
     requires { MayStep (MayCallAt (λ slice. slice.now) G.pre) (I.items iter.old, look.old) step }
-    ensures { StepGivesReply (CallAt (λ slice. slice.now) G.step) (I.items iter.old, look.old) step result
+    ensures { StepGivesReply (CallAt (λ slice. slice.now) G.step) (I.items iter.old, look.old)
+        step result
         (I.items iter.new, look.new) }
 {
     match step {
@@ -121,14 +122,17 @@ pub fn run_steps<T: Drop, R, I: TwoEnded<T>, G: FnMut(&[T]) -> R>(
 ) -> Result<(), AllocError>
     requires callable { MaySteps (MayCallAt (λ slice. slice.now) G.pre)
         (CallAt (λ slice. slice.now) G.step) (I.items iter.old, look.old) steps.items }
-    ensures run { OnOk result ((given : List (Reply T R)) × (replies.new.items ≡ replies.old.items ++ given)
-        × StepsRun (CallAt (λ slice. slice.now) G.step) (I.items iter.old, look.old) steps.items given
+    ensures run { OnOk result ((given : List (Reply T R))
+        × (replies.new.items ≡ replies.old.items ++ given)
+        × StepsRun (CallAt (λ slice. slice.now) G.step) (I.items iter.old, look.old)
+        steps.items given
         (I.items iter.new, look.new)
         × Account (I.items iter.old) steps.items given (I.items iter.new)) }
     ensures err { OnErr result ((iter.new ≡ iter.old) × (look.new ≡ look.old)
         × (replies.new.items ≡ replies.old.items)) }
     ensures empty { steps.items ≡ [] → IsOk result }
-    ensures room { vec_len replies.old + length steps.items ≤ vec_capacity replies.old → IsOk result }
+    ensures room { vec_len replies.old + length steps.items ≤ vec_capacity replies.old
+        → IsOk result }
     ensures kept { vec_capacity replies.old ≤ vec_capacity replies.new }
 {
     if let Err(_) = replies.try_reserve(steps.len()) {

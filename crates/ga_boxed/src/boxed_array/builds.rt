@@ -160,7 +160,8 @@ impl<T: Drop, N: Unsigned> BoxedArray<T, N> {
         requires can { I.can_next items }
         ensures fill { (after : I)
             × IfPlaced result (λ built. FillsFallibly I.next_gives items N.USIZE built after) }
-        ensures runs { IfPlaced result (λ built. FillFalliblyRuns I.next_gives items N.USIZE built) }
+        ensures runs { IfPlaced result (λ built.
+            FillFalliblyRuns I.next_gives items N.USIZE built) }
         ensures empty { N.USIZE ≡ 0 → IsPlaced result }
     {
         Self::try_boxed_from_fallible_iter_ref(alloc, &mut items)
@@ -178,7 +179,8 @@ impl<T: Drop, N: Unsigned> BoxedArray<T, N> {
         requires can { I.can_next items.old }
         ensures fill { IfPlaced result (λ built.
             FillsFallibly I.next_gives items.old N.USIZE built items.new) }
-        ensures runs { IfPlaced result (λ built. FillFalliblyRuns I.next_gives items.old N.USIZE built) }
+        ensures runs { IfPlaced result (λ built.
+            FillFalliblyRuns I.next_gives items.old N.USIZE built) }
         ensures can_on { (error : E) → result ≡ Err (FillError.Item error) → I.can_next items.new }
         ensures err { (refused : AllocError) → result ≡ Err (FillError.Place refused)
             → items.new ≡ items.old }

@@ -43,7 +43,8 @@ impl<T, N: Unsigned> BoxedArray<T, N> {
         requires callable { MayMap (λ item. item.now) F.pre F.step f.old self.now }
         ensures run { IfOk result (λ made.
             ClosureRun (CallAt (λ item. item.now) F.step) f.old self.now made f.new) }
-        ensures acts { IfOk result (λ made. (h : T → U) → ActsOnEntry (λ item. item.now) F.step f.old h
+        ensures acts { IfOk result (λ made. (h : T → U)
+            → ActsOnEntry (λ item. item.now) F.step f.old h
             → made ≡ map h self.now) }
         ensures err { OnErr result (f.new ≡ f.old) }
         ensures empty { N.USIZE ≡ 0 → IsOk result }

@@ -49,7 +49,8 @@ pub(crate) struct Cells<T> {
 impl<T> Model for Cells<T> {
     ghost also_owns = { λ cells. cells_own T.row cells.at cells.passed cells.items cells.room };
 
-    ghost also_shares = { λ cells _ κ. cells_lent T.row cells.at cells.passed cells.items cells.room κ };
+    ghost also_shares = { λ cells _ κ. cells_lent T.row cells.at cells.passed cells.items
+        cells.room κ };
 }
 
 // The cells cross threads as their items do.

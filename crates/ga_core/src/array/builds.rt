@@ -22,7 +22,8 @@ impl<T: Default + Drop, N: ArrayLength<T>> GenericArray<T, N> {
         requires fits { FitsInline N.USIZE }
         requires callable { MayGenerate F.pre F.step f N.USIZE }
         ensures run { (last : F) × ClosureRun F.step f (range_with_len 0 N.USIZE) result last }
-        ensures acts { (h : ℕ → T) → ActsAs F.FnMut f h → result ≡ map h (range_with_len 0 N.USIZE) }
+        ensures acts { (h : ℕ → T) → ActsAs F.FnMut f h
+            → result ≡ map h (range_with_len 0 N.USIZE) }
     {
         Self::generate_by(&mut f)
     }
@@ -32,7 +33,8 @@ impl<T: Default + Drop, N: ArrayLength<T>> GenericArray<T, N> {
         requires fits { FitsInline N.USIZE }
         requires callable { MayGenerate F.pre F.step f.old N.USIZE }
         ensures run { ClosureRun F.step f.old (range_with_len 0 N.USIZE) result f.new }
-        ensures acts { (h : ℕ → T) → ActsAs F.FnMut f.old h → result ≡ map h (range_with_len 0 N.USIZE) }
+        ensures acts { (h : ℕ → T) → ActsAs F.FnMut f.old h
+            → result ≡ map h (range_with_len 0 N.USIZE) }
     {
         let mut array = Self::default();
         write_answers(array.as_mut_slice(), f);

@@ -55,7 +55,8 @@ impl<T: Ord, N: ArrayLength<T>> Ord for GenericArray<T, N> {
 impl<T: Hash, N: ArrayLength<T>> Hash for GenericArray<T, N> {
     ghost hash_input = { λ array. fed.slice T.hash_input array };
 
-    ghost respects_eq = { (on_Alike (λ array. array) (items_Alike (record { fed = T.respects_eq }))).fed };
+    ghost respects_eq = { (on_Alike (λ array. array)
+        (items_Alike (record { fed = T.respects_eq }))).fed };
 
     #[inline]
     fn hash<H: Hasher>(&self, state: &mut H) {

@@ -171,7 +171,8 @@ impl<T: Default + Drop, N: ArrayLength<T> + InlineLength> TryFrom<BoxedSlice<T, 
     for GenericArray<T, N> {
     type Error = LengthError;
 
-    ghost try_from_gives = { λ items made. (IsOk made ↔ (length (boxed_slice_items items) ≡ N.USIZE))
+    ghost try_from_gives = { λ items made. (IsOk made
+        ↔ (length (boxed_slice_items items) ≡ N.USIZE))
         × IfOk made (λ array. array ≡ boxed_slice_items items) };
 
     fn try_from(items: BoxedSlice<T, Global>) -> Result<Self, LengthError> {

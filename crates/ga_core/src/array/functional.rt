@@ -98,7 +98,8 @@ impl<T: Default + Drop, N: ArrayLength<T>> GenericArray<T, N> {
         N: ArrayLength<B> + ArrayLength<U>,
         requires callable { MayZip (λ item. item) (λ item. item) F.pre F.step f self rhs }
         ensures run { (last : F)
-            × ClosureRun (CallAtPair (λ item. item) (λ item. item) F.step) f (zip self rhs) result last }
+            × ClosureRun (CallAtPair (λ item. item) (λ item. item) F.step) f (zip self rhs)
+            result last }
         ensures acts { (h : T × B → U) → ActsOnEntries (λ item. item) (λ item. item) F.step f h
             → result ≡ map h (zip self rhs) }
     {
@@ -115,7 +116,8 @@ impl<T: Default + Drop, N: ArrayLength<T>> GenericArray<T, N> {
     where
         N: ArrayLength<B> + ArrayLength<U>,
         requires callable { MayZip (λ item. item) (λ item. item) F.pre F.step f.old self rhs }
-        ensures run { ClosureRun (CallAtPair (λ item. item) (λ item. item) F.step) f.old (zip self rhs)
+        ensures run { ClosureRun (CallAtPair (λ item. item) (λ item. item) F.step) f.old
+            (zip self rhs)
             result f.new }
         ensures acts { (h : T × B → U) → ActsOnEntries (λ item. item) (λ item. item) F.step f.old h
             → result ≡ map h (zip self rhs) }

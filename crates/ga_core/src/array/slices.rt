@@ -54,7 +54,8 @@ impl<T, N: ArrayLength<T>> DerefSliceMut for GenericArray<T, N> {
 
     #[inline]
     fn deref_mut(&mut self) -> &mut [T]
-        ensures* writes_back { sem 𝓛 (LendsItems T.row N.row N.ArrayType.row N.Unsigned N.ArrayType.Store
+        ensures* writes_back { sem 𝓛
+            (LendsItems T.row N.row N.ArrayType.row N.Unsigned N.ArrayType.Store
             self.entry result) }
         ensures items { result.now ≡ self.old }
         ensures len { length result.now ≡ N.USIZE }
@@ -89,7 +90,8 @@ impl<'a, T, N: ArrayLength<T>> IntoIterator for &'a mut GenericArray<T, N> {
 
     #[inline]
     fn into_iter(self) -> slice::IterMut<'a, T>
-        ensures* writes_back { sem 𝓛 (LendsIter T.row N.row N.ArrayType.row N.Unsigned N.ArrayType.Store
+        ensures* writes_back { sem 𝓛
+            (LendsIter T.row N.row N.ArrayType.row N.Unsigned N.ArrayType.Store
             self.entry result) }
         ensures into_iter_gives { IteratesMutOver self.old N.USIZE result }
     {

@@ -33,7 +33,8 @@ impl<T: Default + Drop, N: ArrayLength<T>> GenericArrayIter<T, N> {
     pub fn rfold<A, F: FnMut(A, T) -> A>(self, init: A, mut f: F) -> A
         requires callable { MayFold (λ item. item) F.pre F.step f init (reverse self) }
         ensures run { (last : F) × FoldRun F.step f init (reverse self) result last }
-        ensures acts { (h : A → T → A) → ActsAsOnTwo F.FnMut f h → result ≡ fold h init (reverse self) }
+        ensures acts { (h : A → T → A) → ActsAsOnTwo F.FnMut f h
+            → result ≡ fold h init (reverse self) }
     {
         self.rfold_by(init, &mut f)
     }
@@ -43,7 +44,8 @@ impl<T: Default + Drop, N: ArrayLength<T>> GenericArrayIter<T, N> {
     pub fn rfold_by<A, F: FnMut(A, T) -> A>(self, init: A, f: &mut F) -> A
         requires callable { MayFold (λ item. item) F.pre F.step f.old init (reverse self) }
         ensures run { FoldRun F.step f.old init (reverse self) result f.new }
-        ensures acts { (h : A → T → A) → ActsAsOnTwo F.FnMut f.old h → result ≡ fold h init (reverse self) }
+        ensures acts { (h : A → T → A) → ActsAsOnTwo F.FnMut f.old h
+            → result ≡ fold h init (reverse self) }
     {
         rfold_left(self, init, f)
     }

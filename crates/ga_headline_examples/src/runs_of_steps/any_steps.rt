@@ -38,7 +38,8 @@ fn taken<T: Drop, I: TwoEnded<T>>(
 ) -> Result<(), AllocError>
     requires no_set { HasNoSet steps.items }
     ensures in_order { OnOk result (gone_front (I.items items.old) steps.items
-        ++ (I.items items.new ++ reverse (gone_back (I.items items.old) steps.items)) ≡ I.items items.old) }
+        ++ (I.items items.new ++ reverse (gone_back (I.items items.old) steps.items))
+        ≡ I.items items.old) }
 {
     run_steps(items, steps, &mut count_of::<T>, replies)
 }
@@ -53,7 +54,8 @@ fn first_replied<T: Drop, I: TwoEnded<T>>(
     requires enough { sum_by front_count steps.items + sum_by back_count steps.items
         ≤ length (I.items items.old) }
     requires no_set { HasNoSet steps.items }
-    ensures first { OnOk result ((given : List (Reply T ℕ)) × (replies.new.items ≡ replies.old.items ++ given)
+    ensures first { OnOk result ((given : List (Reply T ℕ))
+        × (replies.new.items ≡ replies.old.items ++ given)
         × ((k : ℕ) → slice_get steps.items k ≡ Some Next
         → sum_by front_count (take (k + 1) steps.items) ≡ 1
         → slice_get given k ≡ Some (Item (slice_get (I.items items.old) 0)))) }

@@ -28,7 +28,8 @@ pub fn put_in_hashes<N: ArrayLength<u8>, V: Drop>(
     value: V,
 ) -> Result<Option<V>, AllocError>
     ensures old { IfOk result (λ old. old ≡ hash.get (pointwise nat_eq) map.old key) }
-    ensures updates { OnOk result (hash.Updates (pointwise nat_eq) map.old map.new key (Some value)) }
+    ensures updates { OnOk result
+        (hash.Updates (pointwise nat_eq) map.old map.new key (Some value)) }
     ensures err { OnErr result (hash.IsUnchanged map.old map.new) }
 {
     Ok(map.insert(key, value)?)

@@ -62,7 +62,8 @@ fn read_back(
     requires room { 8 ≤ length datagram.old }
     requires fits { length datagram.old < 2 ^ 16 }
     ensures written { datagram.new
-        ≡ datagram_of (items_of_view source_address.entry) (items_of_view destination_address.entry) source
+        ≡ datagram_of (items_of_view source_address.entry)
+        (items_of_view destination_address.entry) source
         destination (drop 8 datagram.old) }
     ensures read { result ≡ Ok (source, destination, length datagram.old - 8) }
 {

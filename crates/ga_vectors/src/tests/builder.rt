@@ -51,6 +51,7 @@ fn builders_go_on_at_their_position(rt: HostRuntime) {
 fn edited<N: ArrayLength<u32>>(list: &mut ArrayBuilder<u32, N>) -> [u32; 4]
     requires room { N.USIZE ≡ 4 }
     requires empty { list.old ≡ [] }
+    ensures { length list.new ≡ 4 }
 {
     list.extend_from_slice(&[1, 2, 3]);
     list.insert(1, 9);
@@ -64,6 +65,7 @@ fn edited<N: ArrayLength<u32>>(list: &mut ArrayBuilder<u32, N>) -> [u32; 4]
 /// What is left of 1 to 4 at each cut, as digits, and once the list was cleared and filled again.
 fn cut<N: ArrayLength<u32>>(list: &mut ArrayBuilder<u32, N>) -> [u32; 4]
     requires { length list.old ≤ N.USIZE }
+    ensures { list.new ≡ [] }
 {
     list.truncate(5);
     let whole = digits(list.as_slice());

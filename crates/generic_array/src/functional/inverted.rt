@@ -115,7 +115,8 @@ pub fn inverted_zip2_by<
     ensures run { IfOk result (λ made.
         ClosureRun (CallAtPair Lhs.entry S.entry F.step) f.old
         (zip (Lhs.items lhs) (S.items s)) (Lhs.Mapped.Sequence.items made) f.new) }
-    ensures acts { IfOk result (λ made. (h : B × T → U) → ActsOnEntries Lhs.entry S.entry F.step f.old h
+    ensures acts { IfOk result (λ made. (h : B × T → U)
+        → ActsOnEntries Lhs.entry S.entry F.step f.old h
         → Lhs.Mapped.Sequence.items made ≡ map h (zip (Lhs.items lhs) (S.items s))) }
     ensures err { OnErr result (f.new ≡ f.old) }
     ensures promised { Lhs.Mapped.IsPromised → IsOk result }

@@ -19,7 +19,8 @@ use crate::sequence::{FallibleGenericSequence, GenericSequence};
 // The entries of a sequence. It has as many as its length says.
 #[inline(always)]
 pub(super) fn entries_of<T, S: GenericSequence<T>>(s: S) -> S::IntoIter
-    ensures gives { GivesEntries S.IntoIter.can_next S.IntoIter.next_gives S.IntoIter.remaining S.entry
+    ensures gives { GivesEntries S.IntoIter.can_next S.IntoIter.next_gives
+        S.IntoIter.remaining S.entry
         result (S.items s) }
     ensures long { length (S.items s) ≡ S.Length.USIZE }
 {
@@ -40,7 +41,8 @@ pub(super) fn fold_entries<T, I: Iterator + Drop, A, F: FnMut(A, I::Item) -> A>(
     requires callable { SomeEntries I.can_next I.next_gives I.remaining entries
         (λ (entry : I.Item → T) values. MayFold entry F.pre F.step f.old init values) }
     requires same { init ≡ init }
-    ensures run { AllEntries I.can_next I.next_gives I.remaining entries (λ (entry : I.Item → T) values.
+    ensures run { AllEntries I.can_next I.next_gives I.remaining entries
+        (λ (entry : I.Item → T) values.
         FoldRun (FoldAt entry F.step) f.old init values result f.new) }
 {
     let mut answer = init;
@@ -61,7 +63,8 @@ pub(super) fn try_fold_entries<T, I: Iterator + Drop, A, E, F: FnMut(A, I::Item)
     requires callable { SomeEntries I.can_next I.next_gives I.remaining entries
         (λ (entry : I.Item → T) values. MayTryFold entry F.pre F.step f.old init values) }
     requires same { init ≡ init }
-    ensures run { AllEntries I.can_next I.next_gives I.remaining entries (λ (entry : I.Item → T) values.
+    ensures run { AllEntries I.can_next I.next_gives I.remaining entries
+        (λ (entry : I.Item → T) values.
         TryFoldRun (FoldAt entry F.step) f.old init values result f.new) }
 {
     let mut answer = init;
@@ -125,7 +128,8 @@ pub(super) fn map_entries<T, I: Iterator + Drop, U, M: GenericSequence<U>, F: Fn
         place,
         &mut |_index: usize| -> U
             requires { MayCallAtNext I.can_next I.next_gives F.pre entries f.now }
-            ensures call { CallAtNext I.can_next I.next_gives F.step entries.entry f.entry.now result
+            ensures call { CallAtNext I.can_next I.next_gives F.step entries.entry
+                f.entry.now result
                 entries.exit f.exit.now }
             ensures same { f.exit.ghost_name ≡ f.entry.ghost_name }
         { f(next_of(&mut entries)) },
@@ -141,7 +145,8 @@ fn try_build<U, E, M: FallibleGenericSequence<U>, G: FnMut(usize) -> Result<U, E
 ) -> Result<Result<M::Sequence, E>, M::Error>
     requires fits { M.Fits }
     requires callable { MayTryGenerate G.pre G.step g.old M.Length.USIZE }
-    ensures { Builds result (λ built. IfOk built (λ made. length (M.Sequence.items made) ≡ M.Length.USIZE))
+    ensures { Builds result (λ built.
+        IfOk built (λ made. length (M.Sequence.items made) ≡ M.Length.USIZE))
         (λ built. TryClosureRan G.step g.old (range_with_len 0 M.Length.USIZE)
         (built_items M.Sequence.items built) g.new)
         g.old g.new M.IsPromised }
@@ -162,17 +167,20 @@ pub(super) fn try_map_entries<
     requires fits { M.Fits }
     requires callable { SomeEntriesOf I.can_next I.next_gives I.remaining M.Length.USIZE entries
         (λ (entry : I.Item → T) values. MayTryMap entry F.pre F.step f.old values) }
-    ensures { Builds result (λ built. IfOk built (λ made. length (M.Sequence.items made) ≡ M.Length.USIZE))
+    ensures { Builds result (λ built.
+        IfOk built (λ made. length (M.Sequence.items made) ≡ M.Length.USIZE))
         (λ built. AllEntriesOf I.can_next I.next_gives I.remaining M.Length.USIZE entries
         (λ (entry : I.Item → T) values.
-        TryClosureRun (CallAt entry F.step) f.old values (built_items M.Sequence.items built) f.new))
+        TryClosureRun (CallAt entry F.step) f.old values
+        (built_items M.Sequence.items built) f.new))
         f.old f.new M.IsPromised }
 {
     try_build::<U, E, M, _>(
         place,
         &mut |_index: usize| -> Result<U, E>
             requires { MayCallAtNext I.can_next I.next_gives F.pre entries f.now }
-            ensures call { CallAtNext I.can_next I.next_gives F.step entries.entry f.entry.now result
+            ensures call { CallAtNext I.can_next I.next_gives F.step entries.entry
+                f.entry.now result
                 entries.exit f.exit.now }
             ensures same { f.exit.ghost_name ≡ f.entry.ghost_name }
         { f(next_of(&mut entries)) },
@@ -191,13 +199,16 @@ pub(super) fn zip_entries<
 >(mut left: I, mut right: J, place: M::Place, f: &mut F) -> Result<M::Sequence, M::Error>
     requires fits { M.Fits }
     requires callable { SomeEntriesOf I.can_next I.next_gives I.remaining M.Length.USIZE left
-        (λ (entry : I.Item → T) values. SomeEntriesOf J.can_next J.next_gives J.remaining M.Length.USIZE right
+        (λ (entry : I.Item → T) values. SomeEntriesOf J.can_next J.next_gives J.remaining
+        M.Length.USIZE right
         (λ (other : J.Item → B) others. MayZip entry other F.pre F.step f.old values others)) }
     ensures { Builds result (λ made. length (M.Sequence.items made) ≡ M.Length.USIZE)
         (λ made. AllEntriesOf I.can_next I.next_gives I.remaining M.Length.USIZE left
-        (λ (entry : I.Item → T) values. AllEntriesOf J.can_next J.next_gives J.remaining M.Length.USIZE right
+        (λ (entry : I.Item → T) values. AllEntriesOf J.can_next J.next_gives J.remaining
+        M.Length.USIZE right
         (λ (other : J.Item → B) others.
-        ClosureRun (CallAtPair entry other F.step) f.old (zip values others) (M.Sequence.items made) f.new)))
+        ClosureRun (CallAtPair entry other F.step) f.old (zip values others) (M.Sequence.items made)
+        f.new)))
         f.old f.new M.IsPromised }
 {
     M::generate_by(
@@ -205,7 +216,8 @@ pub(super) fn zip_entries<
         &mut |_index: usize| -> U
             requires { MayCallAtNextPair I.can_next I.next_gives J.can_next J.next_gives F.pre
                 left right f.now }
-            ensures call { CallAtNextPair I.can_next I.next_gives J.can_next J.next_gives F.step left.entry
+            ensures call { CallAtNextPair I.can_next I.next_gives J.can_next J.next_gives F.step
+                left.entry
                 right.entry f.entry.now result left.exit right.exit f.exit.now }
             ensures same { f.exit.ghost_name ≡ f.entry.ghost_name }
         { f(next_of(&mut left), next_of(&mut right)) },

@@ -51,7 +51,12 @@ impl<'a, T: Default + Drop, N: ArrayLength<T>> GenericSequence<T> for GenericArr
 
     ghost empty_is_promised = { λ _. tt };
 
-    ghost gives_entries = { λ view items gives. (tt, tt, references_given items view.slice.now gives.0) };
+    ghost gives_entries = { λ view items gives. (
+      tt,
+      tt,
+      references_given items view.slice.now
+          gives.0,
+    ) };
 
     ghost gives_items = { λ array items gives. (tt, tt, left_given items array gives.0) };
 }

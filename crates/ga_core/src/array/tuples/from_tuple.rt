@@ -37,7 +37,8 @@ impl<T: Default + Drop> From<(T, T, T, T)> for GenericArray<T, U4> {
 }
 
 impl<T: Default + Drop> From<(T, T, T, T, T)> for GenericArray<T, U5> {
-    ghost from_gives = { λ tuple array. array ≡ tuple.0 ∷ tuple.1 ∷ tuple.2 ∷ tuple.3 ∷ tuple.4 ∷ [] };
+    ghost from_gives = { λ tuple array. array
+        ≡ tuple.0 ∷ tuple.1 ∷ tuple.2 ∷ tuple.3 ∷ tuple.4 ∷ [] };
 
     fn from(tuple: (T, T, T, T, T)) -> Self {
         GenericArray::from_array(tuple.into())

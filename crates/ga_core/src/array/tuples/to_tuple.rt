@@ -38,7 +38,8 @@ impl<T: Default + Drop> From<GenericArray<T, U4>> for (T, T, T, T) {
 }
 
 impl<T: Default + Drop> From<GenericArray<T, U5>> for (T, T, T, T, T) {
-    ghost from_gives = { λ array tuple. array ≡ tuple.0 ∷ tuple.1 ∷ tuple.2 ∷ tuple.3 ∷ tuple.4 ∷ [] };
+    ghost from_gives = { λ array tuple. array
+        ≡ tuple.0 ∷ tuple.1 ∷ tuple.2 ∷ tuple.3 ∷ tuple.4 ∷ [] };
 
     fn from(array: GenericArray<T, U5>) -> Self {
         array_of_store(array.store).into()

@@ -219,7 +219,8 @@ fn carry_to_end<T>(items: &mut [T], index: usize)
 #[inline]
 fn swap_to_end<T>(items: &mut [T], index: usize)
     requires { index < length items.old }
-    ensures { (item : T) → items.new ≡ swap_remove items.old index item ++ get_or items.old index item ∷ [] }
+    ensures { (item : T) → items.new ≡ swap_remove items.old index item
+        ++ get_or items.old index item ∷ [] }
 {
     let last = items.len() - 1;
     items.swap(index, last);
