@@ -59,26 +59,30 @@ fn a_map_of_a_view_stops_at_an_error(rt: HostRuntime) {
     assert!(rt; mapped_up_to_two(from_one::<U3>().view()) == (Some(2), 2));
 }
 
-/// The second items less the first, of an inline array and a boxed one, and of the boxed with the
-/// inline.
-fn less<N: ArrayLength<u32> + InlineLength>(
+/// The boxed items less the inline ones: by a zip of an inline array with a boxed one.
+fn less_of_inline<N: ArrayLength<u32> + InlineLength>(
+    inline: GenericArray<u32, N>,
+    boxed: BoxedArray<u32, N>,
+) -> GenericArray<u32, N> {
+    always(inline.zip((), boxed, |l: u32, r: u32| r.wrapping_sub(l)))
+}
+
+/// The same by a zip of the boxed array with the inline one.
+fn less_of_boxed<N: ArrayLength<u32> + InlineLength>(
     alloc: Global,
-    inline: [GenericArray<u32, N>; 2],
-    boxed: [BoxedArray<u32, N>; 2],
-) -> Result<(GenericArray<u32, N>, BoxedArray<u32, N>), AllocError> {
-    let ([first, second], [third, fourth]) = (inline, boxed);
-    let made_inline = always(first.zip((), third, |l: u32, r: u32| r.wrapping_sub(l)));
-    Ok((made_inline, fourth.zip(alloc, second, u32::wrapping_sub)?))
+    boxed: BoxedArray<u32, N>,
+    inline: GenericArray<u32, N>,
+) -> Result<BoxedArray<u32, N>, AllocError> {
+    boxed.zip(alloc, inline, |l: u32, r: u32| l.wrapping_sub(r))
 }
 
 #[test]
 fn a_zip_of_two_kinds_is_of_the_first(rt: HostRuntime) -> Result<(), Fail> {
-    let boxed = [
-        BoxedArray::from_array(rt.alloc(), [3, 5])?,
-        BoxedArray::from_array(rt.alloc(), [3, 5])?,
-    ];
-    let (made_inline, made_boxed) = less(rt.alloc(), [two(1, 2), two(1, 2)], boxed)?;
-    assert!(rt; made_inline == two(2, 3) && made_boxed.as_slice() == [2, 3].as_slice());
+    let boxed = BoxedArray::from_array(rt.alloc(), [3, 5])?;
+    assert!(rt; less_of_inline(two(1, 2), boxed) == two(2, 3));
+    let boxed = BoxedArray::from_array(rt.alloc(), [3, 5])?;
+    let less = less_of_boxed(rt.alloc(), boxed, two(1, 2))?;
+    assert!(rt; less.as_slice() == [2, 3].as_slice());
     Ok(())
 }
 
