@@ -23,7 +23,7 @@ fn at_most_two(item: &u32) -> Result<u8, u32> {
 }
 
 fn small(item: &u32) -> Result<u8, u32> {
-    Ok(*item as u8)
+    Ok((*item & 0xff) as u8)
 }
 
 /// Whether an array of 1 to N makes these doubles, differences and bytes.
