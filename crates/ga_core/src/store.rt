@@ -79,7 +79,8 @@ pub trait Store<T>: Sized + Drop {
     /// Exchanges the items of two slices, each of as many items as a store has room for.
     ///
     /// The body here goes item by item. A store whose capacity is a constant can move them in one
-    /// piece.
+    /// piece. A store of any items writes this body out, since the checker then asks that the store
+    /// fits in memory.
     fn swap_slices(left: &mut [T], right: &mut [T])
         requires left { length left.old ≡ CAPACITY }
         requires right { length right.old ≡ CAPACITY }

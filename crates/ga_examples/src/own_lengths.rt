@@ -118,6 +118,12 @@ impl<T: Default + Drop, const N: usize> Store<T> for Counted<T, N> {
     fn as_mut_slice(&mut self) -> &mut [T] {
         self.slots.part_mut(0, self.count)
     }
+
+    // The trait's own body, written out: a call of that asks that the store fits in memory, which isn't
+    // known of any items.
+    fn swap_slices(left: &mut [T], right: &mut [T]) {
+        left.swap_with_slice(right);
+    }
 }
 
 fn halves<N: ArrayLength<usize>>() -> GenericArray<usize, N>
