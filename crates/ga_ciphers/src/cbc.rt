@@ -89,7 +89,8 @@ fn decrypt_at<C: BlockCipher>(
     ensures len { length vector.old ≡ C.BlockSize.USIZE }
     ensures vector { vector.new ≡ slice_range text.old place (place + C.BlockSize.USIZE) }
     ensures text { text.new ≡ take place text.old
-        ++ under (C.decrypted cipher.now (slice_range text.old place (place + C.BlockSize.USIZE))) vector.old
+        ++ under (C.decrypted cipher.now
+        (slice_range text.old place (place + C.BlockSize.USIZE))) vector.old
         ++ drop (place + C.BlockSize.USIZE) text.old }
 {
     let end = place + C::BlockSize::USIZE;

@@ -110,7 +110,8 @@ impl<C: BlockStream> CounterMode<C> {
         ensures variant { IsOk result
             ↔ (self.old.position + length bytes.old ≤ C.BLOCKS * C.BlockSize.USIZE) }
         ensures text { OnOk result (bytes.new ≡ under bytes.old
-            (key_bytes (C.block self.old.cipher) C.BlockSize.USIZE self.old.position (length bytes.old))) }
+            (key_bytes (C.block self.old.cipher) C.BlockSize.USIZE self.old.position
+            (length bytes.old))) }
         ensures cipher { self.new.cipher ≡ self.old.cipher }
         ensures position { OnOk result (self.new.position ≡ self.old.position + length bytes.old) }
         ensures err { OnErr result ((self.new ≡ self.old) × (bytes.new ≡ bytes.old)) }
@@ -126,7 +127,8 @@ impl<C: BlockStream> CounterMode<C> {
     fn apply_all(&mut self, bytes: &mut [u8])
         requires { self.old.position + length bytes.old ≤ C.BLOCKS * C.BlockSize.USIZE }
         ensures text { bytes.new ≡ under bytes.old
-            (key_bytes (C.block self.old.cipher) C.BlockSize.USIZE self.old.position (length bytes.old)) }
+            (key_bytes (C.block self.old.cipher) C.BlockSize.USIZE self.old.position
+            (length bytes.old)) }
         ensures cipher { self.new.cipher ≡ self.old.cipher }
         ensures position { self.new.position ≡ self.old.position + length bytes.old }
     {

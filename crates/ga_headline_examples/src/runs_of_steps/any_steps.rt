@@ -24,7 +24,8 @@ fn counted<T: Drop, I: TwoEnded<T>>(
         → count_by test (I.items items.old) + count_by test (flat_map items_put steps.items)
         ≡ count_by test (gone_front (I.items items.old) steps.items)
         + (count_by test (gone_back (I.items items.old) steps.items)
-        + (count_by test (flat_map items_returned replies.new.items) + count_by test (I.items items.new)))) }
+        + (count_by test (flat_map items_returned replies.new.items)
+        + count_by test (I.items items.new)))) }
 {
     run_steps(items, steps, &mut count_of::<T>, replies)?;
     Ok(())

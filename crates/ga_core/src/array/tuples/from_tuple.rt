@@ -65,7 +65,8 @@ impl<T: Default + Drop> From<(T, T, T, T, T, T, T)> for GenericArray<T, U7> {
 
 impl<T: Default + Drop> From<(T, T, T, T, T, T, T, T)> for GenericArray<T, U8> {
     ghost from_gives = { λ tuple array.
-        array ≡ tuple.0 ∷ tuple.1 ∷ tuple.2 ∷ tuple.3 ∷ tuple.4 ∷ tuple.5 ∷ tuple.6 ∷ tuple.7 ∷ [] };
+        array ≡ tuple.0 ∷ tuple.1 ∷ tuple.2 ∷ tuple.3 ∷ tuple.4 ∷ tuple.5 ∷ tuple.6 ∷ tuple.7
+        ∷ [] };
 
     fn from(tuple: (T, T, T, T, T, T, T, T)) -> Self {
         GenericArray::from_array(tuple.into())
@@ -94,7 +95,8 @@ impl<T: Default + Drop> From<(T, T, T, T, T, T, T, T, T, T)> for GenericArray<T,
 
 impl<T: Default + Drop> From<(T, T, T, T, T, T, T, T, T, T, T)> for GenericArray<T, U11> {
     ghost from_gives = { λ tuple array.
-        array ≡ tuple.0 ∷ tuple.1 ∷ tuple.2 ∷ tuple.3 ∷ tuple.4 ∷ tuple.5 ∷ tuple.6 ∷ tuple.7 ∷ tuple.8 ∷
+        array ≡ tuple.0 ∷ tuple.1 ∷ tuple.2 ∷ tuple.3 ∷ tuple.4 ∷ tuple.5 ∷ tuple.6 ∷ tuple.7
+        ∷ tuple.8 ∷
         tuple.9 ∷ tuple.10 ∷ [] };
 
     fn from(tuple: (T, T, T, T, T, T, T, T, T, T, T)) -> Self {
@@ -104,7 +106,8 @@ impl<T: Default + Drop> From<(T, T, T, T, T, T, T, T, T, T, T)> for GenericArray
 
 impl<T: Default + Drop> From<(T, T, T, T, T, T, T, T, T, T, T, T)> for GenericArray<T, U12> {
     ghost from_gives = { λ tuple array.
-        array ≡ tuple.0 ∷ tuple.1 ∷ tuple.2 ∷ tuple.3 ∷ tuple.4 ∷ tuple.5 ∷ tuple.6 ∷ tuple.7 ∷ tuple.8 ∷
+        array ≡ tuple.0 ∷ tuple.1 ∷ tuple.2 ∷ tuple.3 ∷ tuple.4 ∷ tuple.5 ∷ tuple.6 ∷ tuple.7
+        ∷ tuple.8 ∷
         tuple.9 ∷ tuple.10 ∷ tuple.11 ∷ [] };
 
     fn from(tuple: (T, T, T, T, T, T, T, T, T, T, T, T)) -> Self {

@@ -66,7 +66,8 @@ impl<T: Default + Drop> From<GenericArray<T, U7>> for (T, T, T, T, T, T, T) {
 
 impl<T: Default + Drop> From<GenericArray<T, U8>> for (T, T, T, T, T, T, T, T) {
     ghost from_gives = { λ array tuple.
-        array ≡ tuple.0 ∷ tuple.1 ∷ tuple.2 ∷ tuple.3 ∷ tuple.4 ∷ tuple.5 ∷ tuple.6 ∷ tuple.7 ∷ [] };
+        array ≡ tuple.0 ∷ tuple.1 ∷ tuple.2 ∷ tuple.3 ∷ tuple.4 ∷ tuple.5 ∷ tuple.6 ∷ tuple.7
+        ∷ [] };
 
     fn from(array: GenericArray<T, U8>) -> Self {
         array_of_store(array.store).into()
@@ -95,7 +96,8 @@ impl<T: Default + Drop> From<GenericArray<T, U10>> for (T, T, T, T, T, T, T, T, 
 
 impl<T: Default + Drop> From<GenericArray<T, U11>> for (T, T, T, T, T, T, T, T, T, T, T) {
     ghost from_gives = { λ array tuple.
-        array ≡ tuple.0 ∷ tuple.1 ∷ tuple.2 ∷ tuple.3 ∷ tuple.4 ∷ tuple.5 ∷ tuple.6 ∷ tuple.7 ∷ tuple.8 ∷
+        array ≡ tuple.0 ∷ tuple.1 ∷ tuple.2 ∷ tuple.3 ∷ tuple.4 ∷ tuple.5 ∷ tuple.6 ∷ tuple.7
+        ∷ tuple.8 ∷
         tuple.9 ∷ tuple.10 ∷ [] };
 
     fn from(array: GenericArray<T, U11>) -> Self {
@@ -105,7 +107,8 @@ impl<T: Default + Drop> From<GenericArray<T, U11>> for (T, T, T, T, T, T, T, T, 
 
 impl<T: Default + Drop> From<GenericArray<T, U12>> for (T, T, T, T, T, T, T, T, T, T, T, T) {
     ghost from_gives = { λ array tuple.
-        array ≡ tuple.0 ∷ tuple.1 ∷ tuple.2 ∷ tuple.3 ∷ tuple.4 ∷ tuple.5 ∷ tuple.6 ∷ tuple.7 ∷ tuple.8 ∷
+        array ≡ tuple.0 ∷ tuple.1 ∷ tuple.2 ∷ tuple.3 ∷ tuple.4 ∷ tuple.5 ∷ tuple.6 ∷ tuple.7
+        ∷ tuple.8 ∷
         tuple.9 ∷ tuple.10 ∷ tuple.11 ∷ [] };
 
     fn from(array: GenericArray<T, U12>) -> Self {
