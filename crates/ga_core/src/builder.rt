@@ -15,7 +15,8 @@ use std::marker::{Model, PhantomData};
 
 /// The first items of an array of `N`. Contracts see it as the list of these items.
 ///
-/// The counterpart of `ArrayBuilder`. The items are dropped with it, unless it is finished.
+/// The counterpart of `ArrayBuilder`. The items are dropped with it, unless it is finished. It is
+/// also a list of at most `N` items, which is edited by the calls of a `Vec`.
 #[derive(Drop)]
 pub struct ArrayBuilder<T, N: ArrayLength<T>> {
     // The items so far lie in the first slots; the other slots hold defaults. The number stands
@@ -38,8 +39,8 @@ impl<T, N: ArrayLength<T>> Model for ArrayBuilder<T, N> {
 }
 
 impl<T: Default + Drop, N: ArrayLength<T>> ArrayBuilder<T, N> {
-    /// A builder without items. Requires `N <= MAX_INLINE`. Fills its `N` slots with defaults.
     // Inlined always, so that the compiler knows the position.
+    /// A builder without items. Requires `N <= MAX_INLINE`. Fills its `N` slots with defaults.
     #[inline(always)]
     pub fn new() -> Self
         requires fits { FitsInline N.USIZE }
@@ -95,7 +96,7 @@ impl<T: Default + Drop, N: ArrayLength<T>> ArrayBuilder<T, N> {
         self.position = first + count;
     }
 
-    /// Puts `item` at `index`, and those from there on one place further. O(items behind it).
+    /// Puts `item` at `index`, and moves those from there on one place further. O(items behind it).
     ///
     /// Requires that the builder isn't full, and that `index` is at most the number of items. The
     /// counterpart of `Vec::insert`.

@@ -119,8 +119,8 @@ impl<T: Default + Drop, const N: usize> Store<T> for Counted<T, N> {
         self.slots.part_mut(0, self.count)
     }
 
-    // The trait's own body, written out: a call of that asks that the store fits in memory, which isn't
-    // known of any items.
+    // The trait's own body, written out: a call of that asks that the store fits in memory, which
+    // isn't known of any items.
     fn swap_slices(left: &mut [T], right: &mut [T]) {
         left.swap_with_slice(right);
     }
