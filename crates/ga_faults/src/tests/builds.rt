@@ -1,7 +1,7 @@
 //! Each build that takes an iterator, and what it comes to.
 ghost use Rattle.generic_array.specs.Length.{FitsInline};
 
-use crate::tests::scripted::{Numbered, digits};
+use ga_test_items::scripted::{Numbered, digits};
 use generic_array::sequence::FromFallibleIterator;
 use generic_array::{
     AllocError, ArrayBuilder, ArrayLength, BoxedArray, FillError, GenericArray, LengthError,

@@ -1,8 +1,8 @@
 //! What walks and moves drop, and in which order, and how often a plain zip does.
 ghost use Rattle.std.specs.Prelude.{◌≤◌, length};
 
-use crate::tests::counted::Counts;
-use crate::tests::items::{boxed_counted_from, counted_from};
+use ga_test_items::counted::Counts;
+use ga_test_items::items::{boxed_counted_from, counted_from};
 use generic_array::{
     AllocError, ArrayLength, BoxedArray, GenericArray, GenericArrayIter, U2, U4, U5, Unsigned,
 };

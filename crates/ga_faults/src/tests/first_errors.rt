@@ -1,8 +1,8 @@
 //! Closures that fail at each place: which calls are made, and what is dropped.
 ghost use Rattle.generic_array.specs.Length.{FitsInline};
 
-use crate::tests::counted::{Counted, Counts};
-use crate::tests::items::{boxed_counted_from, counted_from};
+use ga_test_items::counted::{Counted, Counts};
+use ga_test_items::items::{boxed_counted_from, counted_from};
 use generic_array::functional::FunctionalSequence;
 use generic_array::sequence::SequenceItem;
 use generic_array::{AllocError, ArrayLength, BoxedArray, GenericArray, U5, always};

@@ -1,6 +1,6 @@
 //! Iterators by value, and their clones, of which items are left over: how often each is dropped.
-use crate::tests::counted::{Counted, Counts};
-use crate::tests::items::{boxed_counted_from, counted_from};
+use ga_test_items::counted::{Counted, Counts};
+use ga_test_items::items::{boxed_counted_from, counted_from};
 use generic_array::steps::TwoEnded;
 use generic_array::{AllocError, BoxedArrayIter, GenericArrayIter, U4};
 use std::alloc::Global;

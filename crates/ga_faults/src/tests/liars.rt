@@ -7,8 +7,8 @@ use crate::tests::builds::{
     Outcome, boxed_fallible_fill, boxed_fill, builder_fallible_fill, builder_fill,
     inline_fallible_fill, inline_fill, kind_fill,
 };
-use crate::tests::counted::{Counted, Counts};
-use crate::tests::scripted::{Given, Numbered, Script, Scripted};
+use ga_test_items::counted::{Counted, Counts};
+use ga_test_items::scripted::{Given, Numbered, Script, Scripted};
 use generic_array::{ArrayBuilder, ArrayLength, BoxedArray, Const, GenericArray};
 use std::alloc::Global;
 

@@ -1,8 +1,8 @@
 //! Random steps over both iterators, and over blocks, beside the numbers that they have to leave.
-use crate::tests::counted::{Counted, Counts};
-use crate::tests::items::{boxed_counted_from, counted_from};
-use crate::tests::random::Numbers;
-use crate::tests::scripted::Numbered;
+use ga_test_items::counted::{Counted, Counts};
+use ga_test_items::items::{boxed_counted_from, counted_from};
+use ga_test_items::random::Numbers;
+use ga_test_items::scripted::Numbered;
 use generic_array::steps::TwoEnded;
 use generic_array::{AllocError, ArrayLength, BoxedArray, GenericArray, LiveBlock, U8};
 use std::alloc::Global;

@@ -5,10 +5,10 @@
 //! refuse is beyond them, none is refused.
 ghost use Rattle.generic_array.specs.Length.{FitsInline};
 
-use crate::tests::counted::{Counted, Counts};
-use crate::tests::items::counted_from;
-use crate::tests::outcome::{Outcome, play};
-use crate::tests::scripted::{Numbered, digits};
+use ga_test_items::counted::{Counted, Counts};
+use ga_test_items::items::counted_from;
+use ga_test_items::outcome::{Outcome, play};
+use ga_test_items::scripted::{Numbered, digits};
 use generic_array::steps::TwoEnded;
 use generic_array::{ArrayLength, BoxedArray, GenericArray, U0, U1, U3, U4};
 use std::alloc::Global;

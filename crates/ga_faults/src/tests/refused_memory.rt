@@ -9,10 +9,10 @@ mod maps;
 mod steps;
 mod zips;
 
-use crate::tests::counted::{Counted, Counts};
-use crate::tests::items::{boxed_counted_from, counted_from};
-use crate::tests::outcome::Outcome;
-use crate::tests::scripted::digits;
+use ga_test_items::counted::{Counted, Counts};
+use ga_test_items::items::{boxed_counted_from, counted_from};
+use ga_test_items::outcome::Outcome;
+use ga_test_items::scripted::digits;
 use generic_array::{AllocError, BoxedArray, GenericArray, U3};
 use std::alloc::Global;
 

@@ -1,9 +1,9 @@
 //! Builds from closures, by the type and by the traits, of copies, and of items that are written
 //! out.
-use crate::tests::counted::{Counted, Counts};
-use crate::tests::items::{TooMany, number};
-use crate::tests::outcome::{Outcome, play};
 use crate::tests::refused_memory::{Three, stopped, three_counted, unless_error};
+use ga_test_items::counted::{Counted, Counts};
+use ga_test_items::items::{TooMany, number};
+use ga_test_items::outcome::{Outcome, play};
 use generic_array::sequence::{FallibleGenericSequence, GenericSequence};
 use generic_array::{AllocError, BoxedArray, LiveBlock, U1, U3, Unsigned, box_arr};
 use std::alloc::Global;

@@ -1,8 +1,8 @@
 //! Clones that ask for memory: of a boxed iterator, and of items that are such iterators.
-use crate::tests::counted::{Counted, Counts};
-use crate::tests::outcome::{Outcome, play};
 use crate::tests::refused_memory::three_in_a_block;
-use crate::tests::scripted::digits;
+use ga_test_items::counted::{Counted, Counts};
+use ga_test_items::outcome::{Outcome, play};
+use ga_test_items::scripted::digits;
 use generic_array::{AllocError, ArrayLength, BoxedArray, BoxedArrayIter, GenericArray, U2, U3};
 use std::alloc::Global;
 use std::convert::AsSlice;

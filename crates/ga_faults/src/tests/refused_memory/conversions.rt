@@ -1,8 +1,8 @@
 //! Conversions from and to vectors and boxed slices.
-use crate::tests::counted::{Counted, Counts};
-use crate::tests::outcome::{Outcome, play};
 use crate::tests::refused_memory::{three_counted, three_in_a_block};
-use crate::tests::scripted::digits;
+use ga_test_items::counted::{Counted, Counts};
+use ga_test_items::outcome::{Outcome, play};
+use ga_test_items::scripted::digits;
 use generic_array::{
     AllocError, ArrayLength, BoxedArray, GenericArray, LengthError, U3, U4, Unsigned,
 };

@@ -1,8 +1,8 @@
 //! Fills from iterators, whose items may be errors.
-use crate::tests::counted::{Counted, Counts};
-use crate::tests::outcome::{Outcome, play};
 use crate::tests::refused_memory::{Three, are_whole, three_counted};
-use crate::tests::scripted::{Numbered, digits};
+use ga_test_items::counted::{Counted, Counts};
+use ga_test_items::outcome::{Outcome, play};
+use ga_test_items::scripted::{Numbered, digits};
 use generic_array::sequence::FromFallibleIterator;
 use generic_array::{AllocError, ArrayLength, BoxedArray, FillError, GenericArray, LengthError};
 use std::alloc::Global;

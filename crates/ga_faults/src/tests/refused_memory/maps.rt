@@ -1,8 +1,8 @@
 //! Maps of three counted items in a block, which are dropped once each, in the calls or at the
 //! refusal.
-use crate::tests::counted::{Counted, Counts};
-use crate::tests::outcome::{Outcome, play};
 use crate::tests::refused_memory::{Three, stopped, three_in_a_block, unless_error};
+use ga_test_items::counted::{Counted, Counts};
+use ga_test_items::outcome::{Outcome, play};
 use generic_array::checks::map_total_by;
 use generic_array::functional::FunctionalSequence;
 use generic_array::{AllocError, BoxedArray, Unsigned};

@@ -1,9 +1,9 @@
 //! Runs of steps, whose replies need room.
-use crate::tests::counted::{Counted, Counts};
-use crate::tests::items::boxed_from_one;
-use crate::tests::outcome::{Outcome, play};
 use crate::tests::refused_memory::three_counted;
-use crate::tests::scripted::digits;
+use ga_test_items::counted::{Counted, Counts};
+use ga_test_items::items::boxed_from_one;
+use ga_test_items::outcome::{Outcome, play};
+use ga_test_items::scripted::digits;
 use generic_array::steps::{Reply, Step, run_steps};
 use generic_array::{AllocError, U2};
 use std::alloc::Global;

@@ -1,8 +1,8 @@
 //! Zips of two boxed arrays. What is made is boxed too.
-use crate::tests::counted::{Counted, Counts};
-use crate::tests::items::boxed_counted_from;
-use crate::tests::outcome::{Outcome, play};
 use crate::tests::refused_memory::three_in_a_block;
+use ga_test_items::counted::{Counted, Counts};
+use ga_test_items::items::boxed_counted_from;
+use ga_test_items::outcome::{Outcome, play};
 use generic_array::functional::{FunctionalSequence, inverted_zip2};
 use generic_array::{AllocError, BoxedArray, U3, Unsigned};
 use std::alloc::Global;

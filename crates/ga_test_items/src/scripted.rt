@@ -2,7 +2,7 @@
 ghost use Rattle.std.specs.Iterator.{at_most};
 ghost use Rattle.std.specs.Prelude.{◌-◌};
 
-use crate::tests::counted::{Counted, Counts};
+use crate::counted::{Counted, Counts};
 use std::marker::PhantomData;
 
 /// An item with a number to know it by.

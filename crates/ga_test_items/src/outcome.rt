@@ -1,7 +1,7 @@
 //! Cases that are played whatever memory there is, and what comes of them.
-use crate::tests::counted::{Counted, Counts};
-use crate::tests::scripted::digits;
-use generic_array::AllocError;
+use crate::counted::{Counted, Counts};
+use crate::scripted::digits;
+use ga_core::AllocError;
 use std::alloc::Global;
 use std::convert::AsSlice;
 use std::process::Abort;

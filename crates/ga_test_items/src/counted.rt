@@ -2,9 +2,10 @@
 use std::alloc::AllocError;
 use std::cell::Cell;
 
-/// Which items were dropped, which clones were asked for, and which of these is refused.
+/// Which items were made and dropped, which clones were asked for, and which of these is refused.
 #[derive(Default, Drop)]
 pub struct Counts {
+    made: Cell<u32>,
     drops: Cell<u32>,
     dropped: Cell<u32>,
     clones: Cell<u32>,
@@ -21,12 +22,18 @@ impl Counts {
     /// Counts for which the clone of this number, from 1, is refused.
     pub fn refusing_clone(number: u32) -> Self {
         Counts {
+            made: Cell::new(0),
             drops: Cell::new(0),
             dropped: Cell::new(0),
             clones: Cell::new(0),
             cloned: Cell::new(0),
             refused_clone: number,
         }
+    }
+
+    /// How many items there are: those that were made and not dropped.
+    pub fn live(&self) -> u32 {
+        self.made.get().wrapping_sub(self.drops.get())
     }
 
     /// How many items were dropped.
@@ -73,6 +80,7 @@ pub struct Counted<'a> {
 impl<'a> Counted<'a> {
     /// An item that is counted here, with a number to know it by.
     pub fn new(counts: &'a Counts, place: u32) -> Self {
+        count(&counts.made);
         Counted {
             counts: Some(counts),
             place,
@@ -103,6 +111,7 @@ impl Clone for Counted<'_> {
             if counts.clones() == counts.refused_clone {
                 return Err(AllocError);
             }
+            count(&counts.made);
         }
         Ok(Counted {
             counts: self.counts,

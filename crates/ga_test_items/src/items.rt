@@ -1,8 +1,9 @@
 //! The arrays that tests share: numbers and counted items.
-ghost use Rattle.generic_array.specs.Length.{FitsInline};
+ghost use Rattle.ga_core.specs.Length.{FitsInline};
 
-use crate::tests::counted::{Counted, Counts};
-use generic_array::{AllocError, ArrayLength, BoxedArray, Const, GenericArray, Unsigned};
+use crate::counted::{Counted, Counts};
+use ga_boxed::BoxedArray;
+use ga_core::{AllocError, ArrayLength, Const, GenericArray, Unsigned};
 use std::alloc::Global;
 
 /// A length of which no block can be had, not even of the smallest items.
@@ -13,7 +14,14 @@ pub fn number(index: usize) -> u32 {
     (index % 9) as u32 + 1
 }
 
-/// The array of 1 to N in a block.
+/// The array of 1 to N.
+pub fn from_one<N: ArrayLength<u32>>() -> GenericArray<u32, N>
+    requires { FitsInline N.USIZE }
+{
+    GenericArray::generate(number)
+}
+
+/// The same in a block.
 pub fn boxed_from_one<N: Unsigned>(alloc: Global) -> Result<BoxedArray<u32, N>, AllocError> {
     BoxedArray::generate(alloc, number)
 }

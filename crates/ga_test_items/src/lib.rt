@@ -1,0 +1,13 @@
+//! What tests share: counted items, iterators that are written down, and the player of cases.
+#![tactic(auto)]
+
+/// Items whose drops and clones are counted.
+pub mod counted;
+/// Arrays of known numbers and of counted items.
+pub mod items;
+/// Cases that are played whatever memory there is.
+pub mod outcome;
+/// Numbers from a seed.
+pub mod random;
+/// An iterator that is written down.
+pub mod scripted;
