@@ -7,6 +7,7 @@ import collections
 import re
 
 from checks_of_names import misled, unnamed
+from drops import uncounted
 from examples import missing
 from imports import uses
 from lookup import Names
@@ -88,7 +89,8 @@ def unused(site):
 
 def check(site):
     """Prints what is wrong, and tells whether nothing is."""
-    of_sites = (unread, unplaced, undefined, unwritten, unused, unnamed, private_fields)
+    of_sites = (
+        unread, unplaced, undefined, unwritten, unused, unnamed, private_fields, uncounted)
     names = Names(site)
     tried = [found for part in of_sites for found in part(site)]
     tried += [found for part in (misled, unkept) for found in part(names)]

@@ -2,7 +2,6 @@
 mod builds;
 mod drops;
 mod first_errors;
-mod left_over;
 mod liars;
 mod random_steps;
 mod refused_clones;

@@ -1,8 +1,9 @@
-//! An element type whose drops and clones are counted, and one of whose clones can be refused.
+//! An element type whose drops and clones are counted, and one of whose clones or calls is refused.
 use std::alloc::AllocError;
 use std::cell::Cell;
 
-/// Which items were made and dropped, which clones were asked for, and which of these is refused.
+/// Which items were made and dropped, which clones were asked for, and which of these, or of the
+/// calls of a closure, is refused.
 #[derive(Default, Drop)]
 pub struct Counts {
     made: Cell<u32>,
@@ -10,25 +11,52 @@ pub struct Counts {
     dropped: Cell<u32>,
     clones: Cell<u32>,
     cloned: Cell<u32>,
-    refused_clone: u32,
+    asked: Cell<u32>,
+    errors: Cell<u32>,
+    refused: u32,
 }
 
 impl Counts {
-    /// Counts at nought, which refuse no clone.
+    /// Counts at nought, which refuse nothing.
     pub fn new() -> Self {
         Counts::default()
     }
 
-    /// Counts for which the clone of this number, from 1, is refused.
-    pub fn refusing_clone(number: u32) -> Self {
+    /// Counts by which the clone or the call of this number is refused, from 1.
+    pub fn refusing(number: u32) -> Self {
         Counts {
             made: Cell::new(0),
             drops: Cell::new(0),
             dropped: Cell::new(0),
             clones: Cell::new(0),
             cloned: Cell::new(0),
-            refused_clone: number,
+            asked: Cell::new(0),
+            errors: Cell::new(0),
+            refused: number,
         }
+    }
+
+    /// Begins anew with the clones and calls of which one is refused, and with the numbers of the
+    /// items that are dropped.
+    pub fn begin(&self) {
+        self.asked.set(0);
+        self.dropped.set(0);
+    }
+
+    /// Whether the clone or call that asks is the one that is refused.
+    pub fn refuses(&self) -> bool {
+        count(&self.asked);
+        self.asked.get() == self.refused
+    }
+
+    /// Notes that a call ended in an error.
+    pub fn note_error(&self) {
+        count(&self.errors);
+    }
+
+    /// How many calls were noted to end in an error.
+    pub fn errors(&self) -> u32 {
+        self.errors.get()
     }
 
     /// How many items there are: those that were made and not dropped.
@@ -56,9 +84,9 @@ impl Counts {
         self.cloned.get()
     }
 
-    /// The number of the clone that is refused, 0 where none is.
-    pub fn refused_clone(&self) -> u32 {
-        self.refused_clone
+    /// The number of the clone or call that is refused, 0 where none is.
+    pub fn refused(&self) -> u32 {
+        self.refused
     }
 }
 
@@ -91,6 +119,11 @@ impl<'a> Counted<'a> {
     pub fn place(&self) -> u32 {
         self.place
     }
+
+    /// Where it is counted. One made by `default` is counted nowhere.
+    pub fn counts(&self) -> Option<&'a Counts> {
+        self.counts
+    }
 }
 
 impl Drop for Counted<'_> {
@@ -108,7 +141,7 @@ impl Clone for Counted<'_> {
         if let Some(counts) = self.counts {
             count(&counts.clones);
             add_digit(&counts.cloned, self.place);
-            if counts.clones() == counts.refused_clone {
+            if counts.refuses() {
                 return Err(AllocError);
             }
             count(&counts.made);

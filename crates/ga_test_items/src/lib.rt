@@ -7,6 +7,8 @@ pub mod counted;
 pub mod items;
 /// Cases that are played whatever memory there is.
 pub mod outcome;
+/// Calls that are played with counted items, and what their closures do.
+pub mod played;
 /// Numbers from a seed.
 pub mod random;
 /// An iterator that is written down.

@@ -1,159 +1,133 @@
-//! What walks and moves drop, and in which order, and how often a plain zip does.
-ghost use Rattle.std.specs.Prelude.{◌≤◌, length};
+//! Each call that takes or makes items, played with counted items: it leaves none, and drops them
+//! in the order that its documentation says.
+//!
+//! `tools/reference --check` holds the names in the tables against the public calls.
+ghost use Rattle.generic_array.specs.Length.{FitsInline};
+ghost use Rattle.std.specs.Prelude.{◌≡◌, ◌≤◌, ◌+◌, ◌*◌};
 
-use ga_test_items::counted::Counts;
-use ga_test_items::items::{boxed_counted_from, counted_from};
-use generic_array::{
-    AllocError, ArrayLength, BoxedArray, GenericArray, GenericArrayIter, U2, U4, U5, Unsigned,
-};
+mod boxed_walks;
+mod builders;
+mod builds;
+mod conversions;
+mod fills;
+mod inline_walks;
+mod kinds;
+mod maps;
+mod shapes;
+mod steps;
+
+use crate::tests::drops::boxed_walks::first_wrong_boxed_walk;
+use crate::tests::drops::builders::{first_wrong_list, first_wrong_store};
+use crate::tests::drops::builds::first_wrong_build;
+use crate::tests::drops::conversions::{first_wrong_conversion, first_wrong_of_two};
+use crate::tests::drops::fills::first_wrong_fill;
+use crate::tests::drops::inline_walks::first_wrong_walk;
+use crate::tests::drops::kinds::first_wrong_kind;
+use crate::tests::drops::maps::first_wrong_map;
+use crate::tests::drops::shapes::{first_wrong_row, first_wrong_shape};
+use crate::tests::drops::steps::first_wrong_run;
+use ga_test_items::counted::{Counted, Counts};
+use ga_test_items::played::Item;
+use ga_test_items::scripted::Given;
+use generic_array::{ArrayLength, Const, U0, U1, U2, U3, U4};
 use std::alloc::Global;
-use std::test::Fail;
 
-/// How many items of two arrays are dropped by a plain zip that hands on those of the left side,
-/// once it returned, and once what it made is dropped too.
-fn of_a_plain_zip<T: Default + Drop, N: ArrayLength<T>>(
-    left: GenericArray<T, N>,
-    right: GenericArray<T, N>,
-    counts: &Counts,
-) -> (u32, u32) {
-    let made = left.zip_inline(right, |kept: T, _dropped: T| kept);
-    let returned = counts.drops();
-    drop(made);
-    (returned, counts.drops())
-}
-
-fn of_two_fours() -> (u32, u32) {
-    let counts = Counts::new();
-    let left = counted_from::<U4>(&counts, 1);
-    of_a_plain_zip(left, counted_from::<U4>(&counts, 5), &counts)
-}
-
-/// The numbers of five items in the order in which they are dropped: by `nth_back` or `nth`, by who
-/// got the item that it returned, and past the end.
-fn of_array<T: Default + Drop, N: ArrayLength<T>>(
-    array: GenericArray<T, N>,
-    counts: &Counts,
-    is_back: bool,
-) -> u32 {
-    let mut items = array.into_iter();
-    if is_back {
-        let _ = items.nth_back(2);
-        let _ = items.nth_back(2);
-    } else {
-        let _ = items.nth(2);
-        let _ = items.nth(2);
-    }
-    counts.dropped()
-}
-
-/// The same of a boxed array.
-fn of_block<T: Drop, N: Unsigned>(array: BoxedArray<T, N>, counts: &Counts, is_back: bool) -> u32 {
-    let mut items = array.into_iter();
-    if is_back {
-        let _ = items.nth_back(2);
-        let _ = items.nth_back(2);
-    } else {
-        let _ = items.nth(2);
-        let _ = items.nth(2);
-    }
-    counts.dropped()
-}
-
-/// The orders of an inline and of a boxed array.
-fn of_both(alloc: Global, is_back: bool) -> Result<[u32; 2], AllocError> {
-    let counts = Counts::new();
-    let of_array = of_array(counted_from::<U5>(&counts, 1), &counts, is_back);
-    let counts = Counts::new();
-    let five = boxed_counted_from::<U5>(alloc, &counts, 1)?;
-    Ok([of_array, of_block(five, &counts, is_back)])
-}
-
-/// How many items are dropped by `last` of an array, with what it returned, and by `count` of
-/// another.
-fn by_last_and_count<T: Default + Drop, N: ArrayLength<T>>(
-    counts: &Counts,
-    array: GenericArray<T, N>,
-    other: GenericArray<T, N>,
-) -> [u32; 2] {
-    let _ = array.into_iter().last();
-    let by_last = counts.drops();
-    let _ = other.into_iter().count();
-    [by_last, counts.drops()]
-}
-
-/// The same of boxed arrays.
-fn by_boxed_last_and_count<T: Drop, N: Unsigned>(
-    counts: &Counts,
-    array: BoxedArray<T, N>,
-    other: BoxedArray<T, N>,
-) -> [u32; 2] {
-    let _ = array.into_iter().last();
-    let by_last = counts.drops();
-    let _ = other.into_iter().count();
-    [by_last, counts.drops()]
-}
-
-/// The numbers of the items of a block in the order in which they are dropped with it.
-fn with_a_block(alloc: Global) -> Result<u32, AllocError> {
-    let counts = Counts::new();
-    drop(boxed_counted_from::<U4>(alloc, &counts, 1)?);
-    Ok(counts.dropped())
-}
-
-/// Moves items over what slots hold.
-fn move_over<T: Default + Drop, N: ArrayLength<T>>(
-    items: &mut GenericArrayIter<T, N>,
-    slots: &mut [T],
-)
-    requires { length slots.old ≤ length items.old }
+/// The first call at N items that leaves an item, or drops in another order.
+fn first_wrong<
+    'a,
+    'n,
+    T: Item + Given<'a>,
+    N: ArrayLength<T> + ArrayLength<u32>,
+    Longer: ArrayLength<T>,
+    Twice: ArrayLength<T>,
+>(alloc: Global, counts: &'a Counts) -> Option<&'n str>
+    requires fits { FitsInline Twice.USIZE }
+    requires longer_fits { FitsInline Longer.USIZE }
+    requires longer { Longer.USIZE ≡ N.USIZE + 1 }
+    requires twice { Twice.USIZE ≡ N.USIZE * 2 }
 {
-    items.move_to(slots);
+    first_wrong_walk::<T, N>(counts)
+        .or(first_wrong_boxed_walk::<T, N>(alloc, counts))
+        .or(first_wrong_build::<T, N>(alloc, counts))
+        .or(first_wrong_kind::<T, N>(alloc, counts))
+        .or(first_wrong_map::<T, N>(alloc, counts))
+        .or(first_wrong_shape::<T, N, Longer, Twice>(counts))
+        .or(first_wrong_run::<T, N>(alloc, counts))
+        .or(first_wrong_of_numbers::<T, N>(alloc, counts))
 }
 
-/// The numbers of the items that slots held to which others were moved.
-fn by_move_to() -> u32 {
-    let counts = Counts::new();
-    let mut held = counted_from::<U2>(&counts, 5);
-    let mut items = counted_from::<U4>(&counts, 1).into_iter();
-    move_over(&mut items, held.as_mut_slice());
-    counts.dropped()
+/// The same of the calls that put a number of items in N places: of N items, and of one more or
+/// less.
+fn first_wrong_of_numbers<'a, 'n, T: Item + Given<'a>, N: ArrayLength<T>>(
+    alloc: Global,
+    counts: &'a Counts,
+) -> Option<&'n str>
+    requires { FitsInline N.USIZE }
+{
+    let exact = N::USIZE % 1000;
+    first_wrong_of_number::<T, N>(alloc, counts, exact)
+        .or(first_wrong_of_number::<T, N>(alloc, counts, exact + 1))
+        .or(first_wrong_of_number::<T, N>(alloc, counts, exact.saturating_sub(1)))
 }
+
+/// The same of so many items.
+fn first_wrong_of_number<'a, 'n, T: Item + Given<'a>, N: ArrayLength<T>>(
+    alloc: Global,
+    counts: &'a Counts,
+    given: usize,
+) -> Option<&'n str>
+    requires fits { FitsInline N.USIZE }
+    requires few { given ≤ 1000 }
+{
+    first_wrong_list::<T, N>(counts, given as u32)
+        .or(first_wrong_fill::<T, N>(alloc, counts, given as u32))
+        .or(first_wrong_conversion::<T, N>(alloc, counts, given))
+}
+
+/// The same of the calls at rows and at two items.
+fn first_wrong_of_rows<'n>(alloc: Global, counts: &Counts) -> Option<&'n str> {
+    first_wrong_of_two(alloc, counts)
+        .or(first_wrong_store(counts))
+        .or(first_wrong_row::<U0, U0>(counts))
+        .or(first_wrong_row::<U1, U2>(counts))
+        .or(first_wrong_row::<U2, U4>(counts))
+        .or(first_wrong_row::<Const<65>, Const<130>>(counts))
+}
+
+/// The same of a case: no item, one, two, 65, or rows and two items.
+pub(crate) fn first_wrong_of<'a, 'n>(
+    alloc: Global,
+    counts: &'a Counts,
+    case: u32,
+) -> Option<&'n str> {
+    match case {
+        0 => first_wrong::<Counted<'a>, U0, U1, U0>(alloc, counts),
+        1 => first_wrong::<Counted<'a>, U1, U2, U2>(alloc, counts),
+        2 => first_wrong::<Counted<'a>, U2, U3, U4>(alloc, counts),
+        3 => first_wrong::<Counted<'a>, Const<65>, Const<66>, Const<130>>(alloc, counts),
+        _ => first_wrong_of_rows(alloc, counts),
+    }
+}
+
+/// How many cases there are.
+pub(crate) const CASES: u32 = 5;
 
 #[test]
-fn last_and_count_drop_all(rt: HostRuntime) -> Result<(), Fail> {
-    let counts = Counts::new();
-    let (array, other) = (
-        counted_from::<U4>(&counts, 1),
-        counted_from::<U4>(&counts, 5),
-    );
-    assert!(rt; by_last_and_count(&counts, array, other) == [4, 8]);
-    let counts = Counts::new();
-    let array = boxed_counted_from::<U4>(rt.alloc(), &counts, 1)?;
-    let other = boxed_counted_from::<U4>(rt.alloc(), &counts, 5)?;
-    assert!(rt; by_boxed_last_and_count(&counts, array, other) == [4, 8]);
-    Ok(())
-}
-
-#[test]
-fn a_block_drops_from_the_front_and_slots_what_they_held(rt: HostRuntime) -> Result<(), Fail> {
-    assert!(rt; with_a_block(rt.alloc())? == 1234);
-    assert!(rt; by_move_to() == 56);
-    Ok(())
-}
-
-#[test]
-fn nth_drops_from_the_front(rt: HostRuntime) -> Result<(), Fail> {
-    assert!(rt; of_both(rt.alloc(), false)? == [12345; 2]);
-    Ok(())
-}
-
-#[test]
-fn nth_back_drops_from_the_back(rt: HostRuntime) -> Result<(), Fail> {
-    assert!(rt; of_both(rt.alloc(), true)? == [54321; 2]);
-    Ok(())
-}
-
-#[test]
-fn a_plain_zip_drops_each_item_once(rt: HostRuntime) {
-    assert!(rt; of_two_fours() == (4, 8));
+fn no_call_leaves_an_item(rt: HostRuntime) {
+    // At 0 nothing is refused, and beyond that the clone or the call of this number, if there is
+    // one.
+    for refused in 0..67u32 {
+        for case in 0..CASES {
+            let counts = Counts::refusing(refused);
+            let wrong = first_wrong_of(rt.alloc(), &counts, case);
+            assert!(rt;
+                wrong.is_none(),
+                "{wrong:?} in case {case}, {refused} refused"
+            );
+            assert!(rt;
+                refused > 0 || counts.errors() == 0,
+                "an error in case {case}"
+            );
+        }
+    }
 }

@@ -1,8 +1,8 @@
-//! Closures that fail at each place: which calls are made, and what is dropped.
+//! Closures that fail at each place: which calls are made.
 ghost use Rattle.generic_array.specs.Length.{FitsInline};
 
-use ga_test_items::counted::{Counted, Counts};
-use ga_test_items::items::{boxed_counted_from, counted_from};
+use ga_test_items::items::{boxed_from_one, from_one};
+use ga_test_items::scripted::next_digit;
 use generic_array::functional::FunctionalSequence;
 use generic_array::sequence::SequenceItem;
 use generic_array::{AllocError, ArrayLength, BoxedArray, GenericArray, U5, always};
@@ -12,63 +12,41 @@ use std::test::Fail;
 
 /// What a closure does that fails at one number. It notes the numbers that it is called with.
 #[derive(Drop)]
-struct Failing<'a> {
+struct Failing {
     refused: u32,
     called: Cell<u32>,
-    answers: &'a Counts,
 }
 
-impl<'a> Failing<'a> {
-    fn at(refused: u32, answers: &'a Counts) -> Self {
+impl Failing {
+    fn at(refused: u32) -> Self {
         Failing {
             refused,
             called: Cell::new(0),
-            answers,
         }
     }
 
-    /// A counted result, or the number as an error.
-    fn answer(&self, number: u32) -> Result<Counted<'a>, u32> {
-        self.called
-            .set(self.called.get().wrapping_mul(10).wrapping_add(number));
+    /// The number, as an error where it is the one that fails.
+    fn answer(&self, number: u32) -> Result<u32, u32> {
+        self.called.set(next_digit(self.called.get(), number));
         if number == self.refused {
             Err(number)
         } else {
-            Ok(Counted::new(self.answers, number))
+            Ok(number)
         }
     }
 }
 
-/// How a call with such a closure ended.
-#[derive(Clone, Copy, PartialEq, Eq)]
-struct End {
-    /// The error, 0 where there is none.
-    error: u32,
-    /// The numbers that the closure was called with, as digits.
-    called: u32,
-    /// How many results were dropped when the call had ended.
-    answers: u32,
-    /// How many were once what it returned was dropped too.
-    all_answers: u32,
-    /// How many entries were dropped.
-    entries: u32,
-}
+/// How a call with such a closure ended: the error, 0 where there is none, and the numbers that the
+/// closure was called with, as digits.
+type End = (u32, u32);
 
 /// The end of a call that returned this.
-fn end_of<S: Drop>(built: Result<S, u32>, failing: &Failing, entries: &Counts) -> End {
+fn end_of<S: Drop>(built: Result<S, u32>, failing: &Failing) -> End {
     let error = match &built {
         Ok(_made) => 0,
         Err(error) => *error,
     };
-    let answers = failing.answers.drops();
-    drop(built);
-    End {
-        error,
-        called: failing.called.get(),
-        answers,
-        all_answers: failing.answers.drops(),
-        entries: entries.drops(),
-    }
+    (error, failing.called.get())
 }
 
 /// `try_map_by` of an inline array.
@@ -100,41 +78,35 @@ fn fold_up_to_an_error<
 
 /// The end of `try_generate_by` of five items, inline.
 fn inline_generate(refused: u32) -> End {
-    let (answers, none) = (Counts::new(), Counts::new());
-    let failing = Failing::at(refused, &answers);
-    let built: Result<GenericArray<Counted, U5>, u32> = GenericArray::try_generate_by(
+    let failing = Failing::at(refused);
+    let built: Result<GenericArray<u32, U5>, u32> = GenericArray::try_generate_by(
         &mut |index: usize| failing.answer(index as u32 + 1),
     );
-    end_of(built, &failing, &none)
+    end_of(built, &failing)
 }
 
 fn boxed_generate(alloc: Global, refused: u32) -> Result<End, AllocError> {
-    let (answers, none) = (Counts::new(), Counts::new());
-    let failing = Failing::at(refused, &answers);
-    let built: Result<BoxedArray<Counted, U5>, u32> = BoxedArray::try_generate_by(
+    let failing = Failing::at(refused);
+    let built: Result<BoxedArray<u32, U5>, u32> = BoxedArray::try_generate_by(
         alloc,
         &mut |index: usize| failing.answer(index as u32 + 1),
     )?;
-    Ok(end_of(built, &failing, &none))
+    Ok(end_of(built, &failing))
 }
 
 /// The end of `try_map_by` of five items, inline.
 fn inline_map(refused: u32) -> End {
-    let (answers, entries) = (Counts::new(), Counts::new());
-    let failing = Failing::at(refused, &answers);
-    let five = counted_from::<U5>(&entries, 1);
-    let built = map_up_to_an_error(five, &mut |item: Counted| failing.answer(item.place()));
-    end_of(built, &failing, &entries)
+    let failing = Failing::at(refused);
+    let built = map_up_to_an_error(from_one::<U5>(), &mut |item: u32| failing.answer(item));
+    end_of(built, &failing)
 }
 
 /// The end of `try_fold_by` of five items in a block. The fold has one body for all kinds.
 fn boxed_fold(alloc: Global, refused: u32) -> Result<End, AllocError> {
-    let (answers, entries) = (Counts::new(), Counts::new());
-    let failing = Failing::at(refused, &answers);
-    let five = boxed_counted_from::<U5>(alloc, &entries, 1)?;
-    let mut answer = |_before: Counted, item: Counted| failing.answer(item.place());
-    let built = fold_up_to_an_error(five, Counted::new(&answers, 0), &mut answer);
-    Ok(end_of(built, &failing, &entries))
+    let failing = Failing::at(refused);
+    let mut answer = |_before: u32, item: u32| failing.answer(item);
+    let built = fold_up_to_an_error(boxed_from_one::<U5>(alloc)?, 0, &mut answer);
+    Ok(end_of(built, &failing))
 }
 
 /// The numbers that a closure is called with that fails at this one of five, or at none, as digits.
@@ -149,29 +121,13 @@ fn calls_up_to(refused: u32) -> u32 {
 }
 
 #[test]
-fn no_call_follows_an_error_and_what_was_made_is_dropped(rt: HostRuntime) -> Result<(), Fail> {
+fn no_call_follows_an_error(rt: HostRuntime) -> Result<(), Fail> {
     let alloc = rt.alloc();
     // At 6 none of the five calls fails.
     for refused in 1..7u32 {
-        let (error, called) = (refused % 6, calls_up_to(refused));
-        let made = End {
-            error,
-            called,
-            answers: if refused == 6 { 0 } else { refused - 1 },
-            all_answers: refused - 1,
-            entries: 0,
-        };
-        assert!(rt; inline_generate(refused) == made && boxed_generate(alloc, refused)? == made);
-        assert!(rt; inline_map(refused) == End { entries: 5, ..made });
-        // A fold drops each result at the next call, and first what it began with.
-        let folded = End {
-            error,
-            called,
-            answers: refused.min(5),
-            all_answers: refused,
-            entries: 5,
-        };
-        assert!(rt; boxed_fold(alloc, refused)? == folded);
+        let end = (refused % 6, calls_up_to(refused));
+        assert!(rt; inline_generate(refused) == end && boxed_generate(alloc, refused)? == end);
+        assert!(rt; inline_map(refused) == end && boxed_fold(alloc, refused)? == end);
     }
     Ok(())
 }

@@ -31,7 +31,7 @@ fn outcome_of(counts: &Counts, due: u32, is_made: bool, others: u32) -> Outcome 
     if counts.clones() == 0 {
         return Outcome::refused_if(!is_made && counts.drops() == others);
     }
-    let refused = counts.refused_clone();
+    let refused = counts.refused();
     let made = refused.wrapping_sub(1).min(due);
     let are_dropped = counts.drops() == made.wrapping_add(others);
     Outcome::exact_if(
@@ -134,7 +134,7 @@ fn clone_of_three<T: Numbered + Clone + Default + Drop, N: ArrayLength<T>>(
 
 /// A case, by its number.
 fn case(alloc: Global, number: u32) -> Outcome {
-    let counts = &Counts::refusing_clone(number / 5 + 1);
+    let counts = &Counts::refusing(number / 5 + 1);
     match number % 5 {
         0 => repeated(
             GenericArray::<_, U4>::repeat(Counted::new(counts, 4)),

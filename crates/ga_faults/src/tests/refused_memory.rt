@@ -4,6 +4,7 @@
 mod builds;
 mod clones;
 mod conversions;
+mod drops;
 mod fills;
 mod maps;
 mod steps;

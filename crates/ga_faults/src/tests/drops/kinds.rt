@@ -1,0 +1,259 @@
+//! Maps, folds and zips of the traits, over any kind, of which a call may be refused.
+ghost use Rattle.generic_array.specs.Length.{FitsInline};
+
+use ga_test_items::counted::Counts;
+use ga_test_items::played::{
+    Item, Played, boxed_items, ends, ends_built, ends_made, first_wrong, inline_items, later,
+    later_or_error, left_of, nth_item, same, same_or_error,
+};
+use ga_test_items::scripted::Given;
+use generic_array::checks::{map_total_by, total_by};
+use generic_array::functional::{
+    FunctionalSequence, Mapped, MappedError, MappedGenericSequence, MappedPlace, MappedSequence,
+    inverted_zip, inverted_zip_by, inverted_zip2, inverted_zip2_by,
+};
+use generic_array::sequence::FallibleGenericSequence;
+use generic_array::{AllocError, ArrayLength, Unsigned};
+use std::alloc::Global;
+
+/// Maps.
+#[derive(Clone, Copy)]
+enum Map {
+    Map,
+    MapBy,
+    TryMap,
+    TryMapBy,
+    TotalBy,
+}
+
+/// Plays a map of a sequence that is there, and whose items are handed over by value.
+fn by_map<'a, T: Item + Given<'a>, S>(
+    source: Result<S, AllocError>,
+    place: MappedPlace<S, T, T>,
+    counts: &'a Counts,
+    map: Map,
+) -> bool
+where
+    S: FunctionalSequence<T> + MappedGenericSequence<T, T> + IntoIterator<Item = T> + Drop,
+    Mapped<S, T, T>: FallibleGenericSequence<T>,
+    MappedPlace<S, T, T>: Drop,
+    MappedError<S, T, T>: Drop,
+    MappedSequence<S, T, T>: Drop,
+    requires { S.Mapped.Fits }
+{
+    let Ok(s) = source else {
+        return true;
+    };
+    match map {
+        Map::Map => ends_made(s.map(place, same::<T>), counts),
+        Map::MapBy => ends_made(s.map_by(place, &mut same::<T>), counts),
+        Map::TryMap => ends_built(s.try_map(place, same_or_error::<T>), counts),
+        Map::TryMapBy => ends_built(s.try_map_by(place, &mut same_or_error::<T>), counts),
+        Map::TotalBy => {
+            let first = nth_item(counts, 0);
+            let total = map_total_by(s, place, &mut same::<T>, first, &mut later::<T>);
+            ends_made(total, counts)
+        }
+    }
+}
+
+/// Folds.
+#[derive(Clone, Copy)]
+enum Fold {
+    Fold,
+    FoldBy,
+    TryFold,
+    TryFoldBy,
+    TotalBy,
+}
+
+/// Plays a fold of a sequence that is there, and whose items are handed over by value.
+fn by_fold<'a, T: Item + Given<'a>, S: FunctionalSequence<T> + IntoIterator<Item = T> + Drop>(
+    source: Result<S, AllocError>,
+    counts: &'a Counts,
+    fold: Fold,
+) -> bool {
+    let Ok(s) = source else {
+        return true;
+    };
+    let first = nth_item(counts, 0);
+    match fold {
+        Fold::Fold => ends(s.fold(first, later::<T>), counts),
+        Fold::FoldBy => ends(s.fold_by(first, &mut later::<T>), counts),
+        Fold::TryFold => ends_made(s.try_fold(first, later_or_error::<T>), counts),
+        Fold::TryFoldBy => ends_made(s.try_fold_by(first, &mut later_or_error::<T>), counts),
+        Fold::TotalBy => ends(total_by(s, first, &mut later::<T>), counts),
+    }
+}
+
+/// Zips.
+#[derive(Clone, Copy)]
+enum Zip {
+    Zip,
+    ZipBy,
+    Inverted,
+    InvertedBy,
+}
+
+/// Plays a zip of two sequences that are there.
+fn by_zip<'a, T: Item + Given<'a>, S>(
+    left: Result<S, AllocError>,
+    right: Result<S, AllocError>,
+    place: MappedPlace<S, T, T>,
+    counts: &'a Counts,
+    zip: Zip,
+) -> bool
+where
+    S: FunctionalSequence<T> + MappedGenericSequence<T, T> + IntoIterator<Item = T> + Drop,
+    MappedPlace<S, T, T>: Drop,
+    MappedError<S, T, T>: Drop,
+    MappedSequence<S, T, T>: Drop,
+    requires { S.Mapped.Fits }
+{
+    let (Ok(left), Ok(right)) = (left, right) else {
+        return true;
+    };
+    match zip {
+        Zip::Zip => ends_made(left.zip(place, right, left_of::<T, T>), counts),
+        Zip::ZipBy => ends_made(left.zip_by(place, right, &mut left_of::<T, T>), counts),
+        Zip::Inverted => ends_made(inverted_zip2(right, place, left, left_of::<T, T>), counts),
+        Zip::InvertedBy => {
+            ends_made(
+                inverted_zip2_by(right, place, left, &mut left_of::<T, T>),
+                counts,
+            )
+        }
+    }
+}
+
+/// Zips told from the right side, of inline arrays: by the closure, and by the borrowed one.
+fn inverted<'a, T: Item + Given<'a>, N: ArrayLength<T>>(counts: &'a Counts) -> (bool, bool)
+    requires { FitsInline N.USIZE }
+{
+    let (right, left) = (inline_items::<T, N>(counts), inline_items::<T, N>(counts));
+    let zip = ends(inverted_zip(right, left, left_of::<T, T>), counts);
+    let (right, left) = (inline_items::<T, N>(counts), inline_items::<T, N>(counts));
+    (
+        zip,
+        ends(inverted_zip_by(right, left, &mut left_of::<T, T>), counts),
+    )
+}
+
+/// Plays a fold of an inline array.
+fn folded<'a, T: Item + Given<'a>, N: ArrayLength<T>>(counts: &'a Counts, fold: Fold) -> bool
+    requires { FitsInline N.USIZE }
+{
+    by_fold(Ok(inline_items::<T, N>(counts)), counts, fold)
+}
+
+/// The folds and zips of inline arrays.
+fn of_arrays<'a, 'n, T: Item + Given<'a>, N: ArrayLength<T>>(counts: &'a Counts) -> [Played<'n>; 7]
+    requires { FitsInline N.USIZE }
+{
+    let (zip, zip_by) = inverted::<T, N>(counts);
+    [
+        (
+            "FunctionalSequence::fold",
+            folded::<T, N>(counts, Fold::Fold),
+        ),
+        (
+            "FunctionalSequence::fold_by",
+            folded::<T, N>(counts, Fold::FoldBy),
+        ),
+        (
+            "FunctionalSequence::try_fold",
+            folded::<T, N>(counts, Fold::TryFold),
+        ),
+        (
+            "FunctionalSequence::try_fold_by",
+            folded::<T, N>(counts, Fold::TryFoldBy),
+        ),
+        ("total_by", folded::<T, N>(counts, Fold::TotalBy)),
+        ("inverted_zip", zip),
+        ("inverted_zip_by", zip_by),
+    ]
+}
+
+/// Plays a map of a boxed array.
+fn mapped<'a, T: Item + Given<'a>, N: Unsigned>(
+    alloc: Global,
+    counts: &'a Counts,
+    map: Map,
+) -> bool {
+    by_map(boxed_items::<T, N>(alloc, counts), alloc, counts, map)
+}
+
+/// The maps of boxed arrays.
+fn of_boxed<'a, 'n, T: Item + Given<'a>, N: Unsigned>(
+    alloc: Global,
+    counts: &'a Counts,
+) -> [Played<'n>; 5] {
+    [
+        (
+            "FunctionalSequence::map",
+            mapped::<T, N>(alloc, counts, Map::Map),
+        ),
+        (
+            "FunctionalSequence::map_by",
+            mapped::<T, N>(alloc, counts, Map::MapBy),
+        ),
+        (
+            "FunctionalSequence::try_map",
+            mapped::<T, N>(alloc, counts, Map::TryMap),
+        ),
+        (
+            "FunctionalSequence::try_map_by",
+            mapped::<T, N>(alloc, counts, Map::TryMapBy),
+        ),
+        ("map_total_by", mapped::<T, N>(alloc, counts, Map::TotalBy)),
+    ]
+}
+
+/// Plays a zip of two boxed arrays.
+fn zipped<'a, T: Item + Given<'a>, N: Unsigned>(
+    alloc: Global,
+    counts: &'a Counts,
+    zip: Zip,
+) -> bool {
+    let left = boxed_items::<T, N>(alloc, counts);
+    by_zip(left, boxed_items::<T, N>(alloc, counts), alloc, counts, zip)
+}
+
+/// The zips of boxed arrays.
+fn of_boxed_zips<'a, 'n, T: Item + Given<'a>, N: Unsigned>(
+    alloc: Global,
+    counts: &'a Counts,
+) -> [Played<'n>; 4] {
+    [
+        (
+            "FunctionalSequence::zip",
+            zipped::<T, N>(alloc, counts, Zip::Zip),
+        ),
+        (
+            "FunctionalSequence::zip_by",
+            zipped::<T, N>(alloc, counts, Zip::ZipBy),
+        ),
+        (
+            "inverted_zip2",
+            zipped::<T, N>(alloc, counts, Zip::Inverted),
+        ),
+        (
+            "inverted_zip2_by",
+            zipped::<T, N>(alloc, counts, Zip::InvertedBy),
+        ),
+    ]
+}
+
+/// The calls over any kind.
+pub(crate) fn first_wrong_kind<'a, 'n, T: Item + Given<'a>, N: ArrayLength<T>>(
+    alloc: Global,
+    counts: &'a Counts,
+) -> Option<&'n str>
+    requires { FitsInline N.USIZE }
+{
+    first_wrong(&[
+        &of_arrays::<T, N>(counts),
+        &of_boxed::<T, N>(alloc, counts),
+        &of_boxed_zips::<T, N>(alloc, counts),
+    ])
+}

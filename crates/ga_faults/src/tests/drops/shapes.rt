@@ -1,0 +1,139 @@
+//! Arrays made of the items of others.
+ghost use Rattle.generic_array.specs.Length.{FitsInline};
+ghost use Rattle.std.specs.Prelude.{◌≡◌, ◌+◌, ◌*◌};
+
+use ga_test_items::counted::{Counted, Counts};
+use ga_test_items::played::{Item, Played, ends, first_wrong, inline_items, nth_item};
+use ga_test_items::scripted::Given;
+use generic_array::sequence::{Concat, Flatten, Lengthen, Remove, Shorten, Split, Unflatten};
+use generic_array::{ArrayLength, GenericArray, U2};
+
+/// One item more, and one less at either end.
+fn of_ends<'a, 'n, T: Item + Given<'a>, N: ArrayLength<T>, Longer: ArrayLength<T>>(
+    counts: &'a Counts,
+) -> [Played<'n>; 4]
+    requires fits { FitsInline Longer.USIZE }
+    requires longer { Longer.USIZE ≡ N.USIZE + 1 }
+{
+    let longer: GenericArray<T, Longer> = inline_items::<T, N>(counts).append(nth_item(counts, 0));
+    let append = ends(longer, counts);
+    let longer: GenericArray<T, Longer> = inline_items::<T, N>(counts).prepend(nth_item(counts, 0));
+    let prepend = ends(longer, counts);
+    let parts: (GenericArray<T, N>, T) = inline_items::<T, Longer>(counts).pop_back();
+    let pop_back = ends(parts, counts);
+    let parts: (T, GenericArray<T, N>) = inline_items::<T, Longer>(counts).pop_front();
+    let pop_front = ends(parts, counts);
+    [
+        ("<GenericArray as Lengthen>::append", append),
+        ("<GenericArray as Lengthen>::prepend", prepend),
+        ("<GenericArray as Shorten>::pop_back", pop_back),
+        ("<GenericArray as Shorten>::pop_front", pop_front),
+    ]
+}
+
+/// An array without the item in its middle.
+fn of_removals<'a, 'n, T: Item + Given<'a>, N: ArrayLength<T>, Longer: ArrayLength<T>>(
+    counts: &'a Counts,
+) -> [Played<'n>; 4]
+    requires fits { FitsInline Longer.USIZE }
+    requires longer { Longer.USIZE ≡ N.USIZE + 1 }
+{
+    let middle = N::USIZE / 2;
+    let parts: (T, GenericArray<T, N>) = inline_items::<T, Longer>(counts).remove(middle);
+    let remove = ends(parts, counts);
+    let parts: (T, GenericArray<T, N>) = inline_items::<T, Longer>(counts).swap_remove(middle);
+    let swap_remove = ends(parts, counts);
+    let parts: (T, GenericArray<T, N>) = inline_items::<T, Longer>(counts).remove_unchecked(middle);
+    let unchecked = ends(parts, counts);
+    let parts: (T, GenericArray<T, N>) = inline_items::<T, Longer>(counts).swap_remove_unchecked(
+        middle,
+    );
+    let swap_unchecked = ends(parts, counts);
+    [
+        ("<GenericArray as Remove>::remove", remove),
+        ("<GenericArray as Remove>::swap_remove", swap_remove),
+        ("Remove::remove_unchecked", unchecked),
+        ("Remove::swap_remove_unchecked", swap_unchecked),
+    ]
+}
+
+/// Arrays joined and split.
+fn of_parts<'a, 'n, T: Item + Given<'a>, N: ArrayLength<T>, Twice: ArrayLength<T>>(
+    counts: &'a Counts,
+) -> [Played<'n>; 2]
+    requires fits { FitsInline Twice.USIZE }
+    requires twice { Twice.USIZE ≡ N.USIZE + N.USIZE }
+{
+    let (first, second) = (inline_items::<T, N>(counts), inline_items::<T, N>(counts));
+    let both: GenericArray<T, Twice> = first.concat(second);
+    let concat = ends(both, counts);
+    let parts: (GenericArray<T, N>, GenericArray<T, N>) = inline_items::<T, Twice>(counts).split();
+    [
+        ("<GenericArray as Concat>::concat", concat),
+        ("<GenericArray as Split>::split", ends(parts, counts)),
+    ]
+}
+
+/// Cuts items into rows.
+fn by_unflatten<T, Items: Unflatten<T, Rows>, Rows: Drop>(items: Items, counts: &Counts) -> bool
+    requires { Items.IsArea }
+{
+    ends(items.unflatten(), counts)
+}
+
+/// Cuts items into rows, and joins these.
+fn by_flatten<T, Items: Unflatten<T, Rows> + Drop, Rows: Flatten<T, Items>>(
+    items: Items,
+    counts: &Counts,
+) -> bool
+    requires cut { Items.IsArea }
+    requires joined { Rows.IsArea }
+{
+    ends(items.unflatten().flatten(), counts)
+}
+
+/// Counted items as rows of two, and these joined. Rows of an open type might not fit in memory.
+pub(crate) fn first_wrong_row<
+    'a,
+    'n,
+    N: ArrayLength<GenericArray<Counted<'a>, U2>>,
+    Twice: ArrayLength<Counted<'a>>,
+>(counts: &'a Counts) -> Option<&'n str>
+    requires fits { FitsInline Twice.USIZE }
+    requires twice { Twice.USIZE ≡ N.USIZE * 2 }
+{
+    let items = inline_items::<Counted<'a>, Twice>(counts);
+    let unflatten = by_unflatten::<Counted<'a>, _, GenericArray<GenericArray<Counted<'a>, U2>, N>>(
+        items, counts,
+    );
+    let items = inline_items::<Counted<'a>, Twice>(counts);
+    let flatten = by_flatten::<Counted<'a>, _, GenericArray<GenericArray<Counted<'a>, U2>, N>>(
+        items, counts,
+    );
+    let of_rows = [
+        ("<GenericArray as Unflatten>::unflatten", unflatten),
+        ("<GenericArray as Flatten>::flatten", flatten),
+    ];
+    first_wrong(&[&of_rows])
+}
+
+/// The shapes of arrays of N.
+pub(crate) fn first_wrong_shape<
+    'a,
+    'n,
+    T: Item + Given<'a>,
+    N: ArrayLength<T>,
+    Longer: ArrayLength<T>,
+    Twice: ArrayLength<T>,
+>(counts: &'a Counts) -> Option<&'n str>
+    requires fits { FitsInline Twice.USIZE }
+    requires longer_fits { FitsInline Longer.USIZE }
+    requires longer { Longer.USIZE ≡ N.USIZE + 1 }
+    requires twice { Twice.USIZE ≡ N.USIZE * 2 }
+{
+    first_wrong(&[
+        &of_ends::<T, N, Longer>(counts),
+        &of_removals::<T, N, Longer>(counts),
+        &of_parts::<T, N, Twice>(counts),
+    ])
+}

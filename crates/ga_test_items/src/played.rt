@@ -1,0 +1,253 @@
+//! Calls that are played with counted items: what their closures do, and whether an item is left.
+//!
+//! All is over any type of counted items, so that a call is proved once for all lengths.
+ghost use Rattle.ga_core.specs.Length.{FitsInline};
+
+use crate::counted::{Counted, Counts};
+use crate::scripted::{Given, Numbered, next_digit};
+use ga_boxed::BoxedArray;
+use ga_core::{AllocError, ArrayLength, GenericArray, Unsigned};
+use std::alloc::Global;
+use std::marker::PhantomData;
+
+/// A call's name, and whether each item was dropped once, in the order that its documentation says.
+pub type Played<'n> = (&'n str, bool);
+
+/// An item that is counted. One made by `default` is counted nowhere.
+pub trait Item: Numbered + Default + Clone + Drop {
+    /// Whether the call that was handed this item is the one that is refused.
+    fn is_refused(&self) -> bool;
+
+    /// Another item of this number, counted where this one is.
+    fn another(&self) -> Self;
+}
+
+impl Item for Counted<'_> {
+    fn is_refused(&self) -> bool {
+        match self.counts() {
+            Some(counts) => counts.refuses(),
+            None => false,
+        }
+    }
+
+    fn another(&self) -> Self {
+        match self.counts() {
+            Some(counts) => Counted::new(counts, self.place()),
+            None => Counted::default(),
+        }
+    }
+}
+
+/// The number of an item, from 1. No table has a thousand.
+fn number_of(index: usize) -> u32 {
+    (index % 1000) as u32 + 1
+}
+
+/// The item of this index, numbered from 1.
+pub fn nth_item<'a, T: Given<'a>>(counts: &'a Counts, index: usize) -> T {
+    T::given(Ok(number_of(index)), counts)
+}
+
+/// The array of N items that are counted here, numbered from 1.
+pub fn inline_items<'a, T: Given<'a> + Default, N: ArrayLength<T>>(
+    counts: &'a Counts,
+) -> GenericArray<T, N>
+    requires { FitsInline N.USIZE }
+{
+    GenericArray::generate(|index: usize| nth_item(counts, index))
+}
+
+/// The same in a block. Its refusal is noted.
+pub fn boxed_items<'a, T: Given<'a>, N: Unsigned>(
+    alloc: Global,
+    counts: &'a Counts,
+) -> Result<BoxedArray<T, N>, AllocError> {
+    let made = BoxedArray::generate(alloc, |index: usize| nth_item(counts, index));
+    if made.is_err() {
+        counts.note_error();
+    }
+    made
+}
+
+/// The item of this index, numbered from 1, unless this call is refused.
+pub fn nth_or_error<'a, T: Given<'a>>(counts: &'a Counts, index: usize) -> Result<T, u32> {
+    if counts.refuses() {
+        Err(0)
+    } else {
+        Ok(nth_item(counts, index))
+    }
+}
+
+/// Gives so many items.
+#[derive(Drop)]
+pub struct Items<'a, T> {
+    counts: &'a Counts,
+    left: u32,
+    gives: PhantomData<T>,
+}
+
+impl<'a, T: Given<'a>> Items<'a, T> {
+    pub fn new(counts: &'a Counts, left: u32) -> Self {
+        Items {
+            counts,
+            left,
+            gives: PhantomData,
+        }
+    }
+}
+
+impl<'a, T: Given<'a>> Iterator for Items<'a, T> {
+    type Item = T;
+
+    fn next(&mut self) -> Option<T> {
+        self.left = self.left.checked_sub(1)?;
+        Some(nth_item(self.counts, 0))
+    }
+}
+
+/// Gives so many items, but for an error where a call is refused.
+#[derive(Drop)]
+pub struct Results<'a, T> {
+    counts: &'a Counts,
+    left: u32,
+    gives: PhantomData<T>,
+}
+
+impl<'a, T: Given<'a>> Results<'a, T> {
+    pub fn new(counts: &'a Counts, left: u32) -> Self {
+        Results {
+            counts,
+            left,
+            gives: PhantomData,
+        }
+    }
+}
+
+impl<'a, T: Given<'a>> Iterator for Results<'a, T> {
+    type Item = Result<T, u32>;
+
+    fn next(&mut self) -> Option<Result<T, u32>> {
+        self.left = self.left.checked_sub(1)?;
+        Some(nth_or_error(self.counts, 0))
+    }
+}
+
+/// The name of the first call that was played wrongly.
+pub fn first_wrong<'n>(tables: &[&[Played<'n>]]) -> Option<&'n str> {
+    for table in tables {
+        for (name, is_right) in *table {
+            if !*is_right {
+                return Some(*name);
+            }
+        }
+    }
+    None
+}
+
+/// Drops what a call returned, and tells whether only so many items are left. The next call begins.
+pub fn leaves<S: Drop>(made: S, counts: &Counts, items: usize) -> bool {
+    drop(made);
+    counts.begin();
+    counts.live() as usize == items
+}
+
+/// The same of a call that may have failed. Its error is noted.
+pub fn leaves_made<S: Drop, E: Drop>(made: Result<S, E>, counts: &Counts, items: usize) -> bool {
+    if made.is_err() {
+        counts.note_error();
+    }
+    leaves(made, counts, items)
+}
+
+/// The same of a call that may have failed in two ways.
+pub fn leaves_built<S: Drop, E: Drop, P: Drop>(
+    made: Result<Result<S, E>, P>,
+    counts: &Counts,
+    items: usize,
+) -> bool {
+    match made {
+        Ok(built) => leaves_made(built, counts, items),
+        Err(refused) => leaves_made::<S, P>(Err(refused), counts, items),
+    }
+}
+
+/// Drops what a call returned, and tells whether no item is left. The next call begins.
+pub fn ends<S: Drop>(made: S, counts: &Counts) -> bool {
+    leaves(made, counts, 0)
+}
+
+/// The same of a call that may have failed. Its error is noted.
+pub fn ends_made<S: Drop, E: Drop>(made: Result<S, E>, counts: &Counts) -> bool {
+    leaves_made(made, counts, 0)
+}
+
+/// The same of a call that may have failed in two ways.
+pub fn ends_built<S: Drop, E: Drop, P: Drop>(
+    made: Result<Result<S, E>, P>,
+    counts: &Counts,
+) -> bool {
+    leaves_built(made, counts, 0)
+}
+
+/// The numbers of so many items from 1 on, as the digits of the items that were dropped in order.
+pub fn rising(count: usize) -> u32 {
+    let mut digits = 0u32;
+    for index in 0..count {
+        digits = next_digit(digits, number_of(index));
+    }
+    digits
+}
+
+/// The same from the last down to 1.
+pub fn falling(count: usize) -> u32 {
+    let mut digits = 0u32;
+    for index in (0..count).rev() {
+        digits = next_digit(digits, number_of(index));
+    }
+    digits
+}
+
+// What closures do. An item that is not handed on is dropped.
+
+/// Hands the item on.
+pub fn same<T>(item: T) -> T {
+    item
+}
+
+/// Hands the item on, unless this call is refused.
+pub fn same_or_error<T: Item>(item: T) -> Result<T, u32> {
+    if item.is_refused() {
+        Err(item.number())
+    } else {
+        Ok(item)
+    }
+}
+
+/// Makes another item.
+pub fn another<T: Item>(item: &T) -> T {
+    item.another()
+}
+
+/// Makes another item, unless this call is refused.
+pub fn another_or_error<T: Item>(item: &T) -> Result<T, u32> {
+    if item.is_refused() {
+        Err(item.number())
+    } else {
+        Ok(item.another())
+    }
+}
+
+/// Hands the left item on.
+pub fn left_of<T, B: Drop>(left: T, _right: B) -> T {
+    left
+}
+
+/// Hands on what comes later.
+pub fn later<T: Drop>(_before: T, item: T) -> T {
+    item
+}
+
+/// Hands on what comes later, unless this call is refused.
+pub fn later_or_error<T: Item>(_before: T, item: T) -> Result<T, u32> {
+    same_or_error(item)
+}
