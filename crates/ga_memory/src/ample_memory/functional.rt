@@ -58,11 +58,12 @@ pub fn of_blocks<N: ArrayLength<u32>>(alloc: Global) -> Result<[Played; 3], Allo
 }
 
 /// The calls of the traits that make a boxed array.
-pub fn of_traits<N: ArrayLength<u32>>(alloc: Global) -> Result<[Played; 5], AllocError>
+pub fn of_traits<N: ArrayLength<u32>>(alloc: Global) -> Result<[Played; 6], AllocError>
     requires { FitsInline N.USIZE }
 {
     let len = N::USIZE;
     let zipped = boxed_from_one::<N>(alloc)?.zip(alloc, from_one::<N>(), first);
+    let zipped_by = boxed_from_one::<N>(alloc)?.zip_by(alloc, from_one::<N>(), &mut first);
     let left = boxed_from_one::<N>(alloc)?;
     let total = map_total_by(boxed_from_one::<N>(alloc)?, alloc, &mut same, 0, &mut first);
     Ok([
@@ -75,6 +76,7 @@ pub fn of_traits<N: ArrayLength<u32>>(alloc: Global) -> Result<[Played; 5], Allo
             counts_built(boxed_from_one::<N>(alloc)?.try_map(alloc, good), len),
         ),
         ("FunctionalSequence::zip", counts(zipped, len)),
+        ("FunctionalSequence::zip_by", counts(zipped_by, len)),
         (
             "inverted_zip2",
             counts(inverted_zip2(from_one::<N>(), alloc, left, first), len),
