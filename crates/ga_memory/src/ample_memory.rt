@@ -13,7 +13,8 @@ mod functional;
 mod key_table;
 mod steps;
 
-use generic_array::{AllocError, ArrayLength, BoxedArray, Const, LiveBlock, U0, U1, U2};
+use ga_test_items::items::{boxed_from_one, from_one};
+use generic_array::{AllocError, ArrayLength, BoxedArray, Const, LiveBlock, U0, U1, U2, Unsigned};
 use std::alloc::Global;
 use std::convert::AsSlice;
 use std::test::Fail;
@@ -91,6 +92,15 @@ fn native_goes_to_a_block<const U: usize>(alloc: Global) -> Played
     ("BoxedArray::from_array", is_all(made, 7, U))
 }
 
+/// Three blocks of the items of `from_one`.
+fn three<N: Unsigned>(alloc: Global) -> Result<[BoxedArray<u32, N>; 3], AllocError> {
+    Ok([
+        boxed_from_one(alloc)?,
+        boxed_from_one(alloc)?,
+        boxed_from_one(alloc)?,
+    ])
+}
+
 /// The name of the first call that didn't make what it should.
 pub fn first_failed<N: ArrayLength<u32>>(alloc: Global) -> Result<Option<&'static str>, AllocError>
     requires { FitsInline N.USIZE }
@@ -100,20 +110,26 @@ pub fn first_failed<N: ArrayLength<u32>>(alloc: Global) -> Result<Option<&'stati
         ("LiveBlock::new", block_takes(alloc, len)),
         ("KeyTable::insert", key_table::keeps(alloc, len as u64)),
     ];
+    let vector = from_one::<N>().into_vec(alloc)?;
+    let slice = from_one::<N>().into_boxed_slice(alloc)?;
+    let items = from_one::<N>().into_vec(alloc)?;
+    let boxed = boxed_from_one::<N>(alloc)?;
+    let other = boxed_from_one::<N>(alloc)?;
+    let another = boxed_from_one::<N>(alloc)?;
     let tables: [&[Played]; 11] = [
         &builds::of_closures::<N>(alloc),
         &builds::of_iterators::<N>(alloc),
-        &builds::of_traits::<N>(alloc)?,
-        &conversions::of_arrays::<N>(alloc)?,
-        &conversions::of_blocks::<N>(alloc)?,
-        &copies::of_arrays::<N>(alloc)?,
-        &functional::of_blocks::<N>(alloc)?,
-        &functional::of_traits::<N>(alloc)?,
-        &functional::of_promise::<N>(alloc)?,
-        &steps::of_runs::<N>(alloc)?,
-        &others,
+        &builds::of_traits::<N>(alloc, items),
+        &conversions::of_arrays::<N>(alloc),
+        &functional::of_blocks::<N>(alloc, &boxed),
+        &conversions::of_blocks::<N>(alloc, boxed, other, vector, slice),
+        &functional::of_maps::<N>(alloc, three(alloc)?),
+        &functional::of_zips::<N>(alloc, three(alloc)?),
+        &functional::of_promise::<N>(alloc, three(alloc)?),
+        &copies::of_arrays::<N>(another),
+        &steps::of_runs::<N>(alloc),
     ];
-    Ok(first_of(tables.as_slice()))
+    Ok(first_of(tables.as_slice()).or(first_of(&[&others])))
 }
 
 /// The name of the first call of tables that didn't make what it should.

@@ -21,19 +21,24 @@ fn count_of<T>(items: &[T]) -> usize {
 
 /// The item is put in the place of the first, and taken.
 fn set_and_taken<T: Drop>(alloc: Global, item: T) -> Result<Vec<Step<T>>, AllocError> {
-    Ok(vec![in alloc; Step::Set(0, item), Step::Next, Step::Look]?)
+    let mut steps = Vec::new(alloc);
+    steps.push(Step::Set(0, item))?;
+    steps.push(Step::Next)?;
+    steps.push(Step::Look)?;
+    Ok(steps)
 }
 
 /// The numbers of the items that a walk leaves, or `None` where it is refused.
 fn walked<T: Default + Numbered + Drop, N: ArrayLength<T>>(
     alloc: Global,
     items: GenericArray<T, N>,
-    item: T,
+    steps: Vec<Step<T>>,
 ) -> Option<u32> {
-    let steps = set_and_taken(alloc, item).ok()?;
     let mut replies: Vec<Reply<T, usize>> = Vec::new(alloc);
-    let left = walk(items, steps, &mut count_of::<T>, &mut replies).ok()?;
-    Some(digits(left.as_slice()))
+    match walk(items, steps, &mut count_of::<T>, &mut replies) {
+        Ok(left) => Some(digits(left.as_slice())),
+        Err(AllocError) => None,
+    }
 }
 
 /// The item, or its number as an error where that is 2.
@@ -63,11 +68,10 @@ fn end_of<T: Numbered + Drop>(made: Result<BoxedArrayIter<T>, StoppedAt>) -> Opt
 fn whole<T: Numbered + Drop, I: Iterator<Item = Result<T, u32>>>(
     alloc: Global,
     items: &mut I,
-    item: T,
+    steps: Vec<Step<T>>,
 ) -> Option<u32>
     requires can { I.can_next items.old }
 {
-    let steps = set_and_taken(alloc, item).ok()?;
     let mut replies: Vec<Reply<T, usize>> = Vec::new(alloc);
     end_of(build_map_walk::<T, u32, T, u32, usize, BoxedArray<T, U3>, _, _, _>(
         alloc,
@@ -91,7 +95,10 @@ fn outcome_of(end: Option<u32>, wanted: u32, counts: &Counts) -> Outcome {
 
 fn walk_of_three(alloc: Global) -> Outcome {
     let counts = Counts::new();
-    let end = walked::<_, U3>(alloc, counted_from(&counts, 1), Counted::new(&counts, 9));
+    let end = match set_and_taken(alloc, Counted::new(&counts, 9)) {
+        Ok(steps) => walked::<_, U3>(alloc, counted_from(&counts, 1), steps),
+        Err(AllocError) => None,
+    };
     outcome_of(end, 23, &counts)
 }
 
@@ -100,7 +107,10 @@ fn whole_of(alloc: Global, answers: &[Option<Result<u32, u32>>], wanted: u32) ->
     let counts = Counts::new();
     let script = Script { answers, hinted: 5 };
     let mut items: Scripted<'_, Result<Counted, u32>> = Scripted::new(script, &counts);
-    let end = whole(alloc, &mut items, Counted::new(&counts, 9));
+    let end = match set_and_taken(alloc, Counted::new(&counts, 9)) {
+        Ok(steps) => whole(alloc, &mut items, steps),
+        Err(AllocError) => None,
+    };
     outcome_of(end, wanted, &counts)
 }
 

@@ -71,12 +71,11 @@ fn of_items<N: Unsigned>(
     build_of_items(alloc, items)
 }
 
-/// The builds of the traits, of boxed arrays.
-pub fn of_traits<N: Unsigned>(alloc: Global) -> Result<[Played; 5], AllocError> {
+/// The builds of the traits, of boxed arrays, the last of which takes these items.
+pub fn of_traits<N: Unsigned>(alloc: Global, items: Vec<u32>) -> [Played; 5] {
     let len = N::USIZE;
     let results = (0..len).map(good_number);
-    let items = (0..len).map(number).collect(alloc)?;
-    Ok([
+    [
         (
             "GenericSequence::generate",
             counts(
@@ -110,5 +109,5 @@ pub fn of_traits<N: Unsigned>(alloc: Global) -> Result<[Played; 5], AllocError> 
             ),
         ),
         ("build_of_items", counts(of_items::<N>(alloc, items), len)),
-    ])
+    ]
 }

@@ -2,18 +2,17 @@
 ghost use Rattle.generic_array.specs.Length.{FitsInline};
 
 use super::{Played, counts, counts_built};
-use ga_test_items::items::{boxed_from_one, from_one};
-use generic_array::{AllocError, ArrayLength, BoxedArray, Unsigned};
+use ga_test_items::items::from_one;
+use generic_array::{ArrayLength, BoxedArray, Unsigned};
 use std::alloc::Global;
+use std::boxed::BoxedSlice;
 
-/// The conversions of what an inline array holds.
-pub fn of_arrays<N: ArrayLength<u32>>(alloc: Global) -> Result<[Played; 5], AllocError>
+/// The conversions of an inline array.
+pub fn of_arrays<N: ArrayLength<u32>>(alloc: Global) -> [Played; 3]
     requires { FitsInline N.USIZE }
 {
     let len = N::USIZE;
-    let vector = from_one::<N>().into_vec(alloc)?;
-    let slice = from_one::<N>().into_boxed_slice(alloc)?;
-    Ok([
+    [
         (
             "GenericArray::into_vec",
             counts(from_one::<N>().into_vec(alloc), len),
@@ -26,6 +25,24 @@ pub fn of_arrays<N: ArrayLength<u32>>(alloc: Global) -> Result<[Played; 5], Allo
             "BoxedArray::from_inline",
             counts(BoxedArray::<u32, N>::from_inline(alloc, from_one()), len),
         ),
+    ]
+}
+
+/// The conversions of two blocks, and of so many items in a vector and a boxed slice.
+pub fn of_blocks<N: Unsigned>(
+    alloc: Global,
+    first: BoxedArray<u32, N>,
+    second: BoxedArray<u32, N>,
+    vector: Vec<u32>,
+    slice: BoxedSlice<u32, Global>,
+) -> [Played; 4] {
+    let len = N::USIZE;
+    [
+        ("BoxedArray::into_vec", counts(first.into_vec(), len)),
+        (
+            "BoxedArray::into_boxed_slice",
+            counts(second.into_boxed_slice(), len),
+        ),
         (
             "BoxedArray::try_from_vec",
             counts_built(BoxedArray::<u32, N>::try_from_vec(alloc, vector), len),
@@ -37,20 +54,5 @@ pub fn of_arrays<N: ArrayLength<u32>>(alloc: Global) -> Result<[Played; 5], Allo
                 len,
             ),
         ),
-    ])
-}
-
-/// The conversions of a block.
-pub fn of_blocks<N: Unsigned>(alloc: Global) -> Result<[Played; 2], AllocError> {
-    let len = N::USIZE;
-    Ok([
-        (
-            "BoxedArray::into_vec",
-            counts(boxed_from_one::<N>(alloc)?.into_vec(), len),
-        ),
-        (
-            "BoxedArray::into_boxed_slice",
-            counts(boxed_from_one::<N>(alloc)?.into_boxed_slice(), len),
-        ),
-    ])
+    ]
 }

@@ -2,9 +2,8 @@
 ghost use Rattle.generic_array.specs.Length.{FitsInline};
 
 use super::{Played, counts, is_all, is_from_one};
-use ga_test_items::items::{boxed_from_one, from_one};
-use generic_array::{AllocError, ArrayBuilder, ArrayLength, GenericArray};
-use std::alloc::Global;
+use ga_test_items::items::from_one;
+use generic_array::{ArrayBuilder, ArrayLength, BoxedArray, GenericArray};
 
 /// Whether clones are appended to a builder.
 fn are_appended<N: ArrayLength<u32>>() -> bool
@@ -16,12 +15,12 @@ fn are_appended<N: ArrayLength<u32>>() -> bool
     appended.is_ok() && is_from_one(builder.as_slice(), N::USIZE)
 }
 
-/// The calls that clone items.
-pub fn of_arrays<N: ArrayLength<u32>>(alloc: Global) -> Result<[Played; 5], AllocError>
+/// The calls that clone items, of an inline array and of a boxed one.
+pub fn of_arrays<N: ArrayLength<u32>>(boxed: BoxedArray<u32, N>) -> [Played; 5]
     requires { FitsInline N.USIZE }
 {
     let len = N::USIZE;
-    Ok([
+    [
         ("GenericArray::clone", counts(from_one::<N>().clone(), len)),
         (
             "GenericArray::repeat",
@@ -36,11 +35,11 @@ pub fn of_arrays<N: ArrayLength<u32>>(alloc: Global) -> Result<[Played; 5], Allo
         ),
         (
             "BoxedArrayIter::clone",
-            match boxed_from_one::<N>(alloc)?.into_iter().clone() {
+            match boxed.into_iter().clone() {
                 Ok(left) => is_from_one(left.as_slice(), len),
                 Err(_) => false,
             },
         ),
         ("ArrayBuilder::extend_from_clones", are_appended::<N>()),
-    ])
+    ]
 }

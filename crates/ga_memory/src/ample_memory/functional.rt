@@ -3,10 +3,10 @@ ghost use Rattle.generic_array.specs.Length.{FitsInline};
 
 use super::{Played, counts, counts_built, good};
 use ga_headline::calls;
-use ga_test_items::items::{boxed_from_one, from_one};
+use ga_test_items::items::from_one;
 use generic_array::checks::map_total_by;
 use generic_array::functional::{FunctionalSequence, inverted_zip2};
-use generic_array::{AllocError, ArrayLength};
+use generic_array::{ArrayLength, BoxedArray, Unsigned};
 use std::alloc::Global;
 
 /// The item itself.
@@ -35,13 +35,12 @@ fn first_seen(item: &u32, _other: &u32) -> u32 {
 }
 
 /// The calls that borrow a boxed array.
-pub fn of_blocks<N: ArrayLength<u32>>(alloc: Global) -> Result<[Played; 3], AllocError>
+pub fn of_blocks<N: ArrayLength<u32>>(alloc: Global, boxed: &BoxedArray<u32, N>) -> [Played; 3]
     requires { FitsInline N.USIZE }
 {
     let len = N::USIZE;
-    let boxed = boxed_from_one::<N>(alloc)?;
     let right = from_one::<N>();
-    Ok([
+    [
         (
             "BoxedArray::map_ref",
             counts(boxed.map_ref(alloc, seen), len),
@@ -54,63 +53,70 @@ pub fn of_blocks<N: ArrayLength<u32>>(alloc: Global) -> Result<[Played; 3], Allo
             "BoxedArray::zip_ref",
             counts(boxed.zip_ref(alloc, right.view(), first_seen), len),
         ),
-    ])
+    ]
 }
 
-/// The calls of the traits that make a boxed array.
-pub fn of_traits<N: ArrayLength<u32>>(alloc: Global) -> Result<[Played; 6], AllocError>
-    requires { FitsInline N.USIZE }
-{
+/// The maps of the traits.
+pub fn of_maps<N: Unsigned>(alloc: Global, blocks: [BoxedArray<u32, N>; 3]) -> [Played; 3] {
+    let [mapped, tried, folded] = blocks;
     let len = N::USIZE;
-    let zipped = boxed_from_one::<N>(alloc)?.zip(alloc, from_one::<N>(), first);
-    let zipped_by = boxed_from_one::<N>(alloc)?.zip_by(alloc, from_one::<N>(), &mut first);
-    let left = boxed_from_one::<N>(alloc)?;
-    let total = map_total_by(boxed_from_one::<N>(alloc)?, alloc, &mut same, 0, &mut first);
-    Ok([
+    let total = map_total_by(folded, alloc, &mut same, 0, &mut first);
+    [
         (
             "FunctionalSequence::map",
-            counts(boxed_from_one::<N>(alloc)?.map(alloc, same), len),
+            counts(mapped.map(alloc, same), len),
         ),
         (
             "FunctionalSequence::try_map",
-            counts_built(boxed_from_one::<N>(alloc)?.try_map(alloc, good), len),
-        ),
-        ("FunctionalSequence::zip", counts(zipped, len)),
-        ("FunctionalSequence::zip_by", counts(zipped_by, len)),
-        (
-            "inverted_zip2",
-            counts(inverted_zip2(from_one::<N>(), alloc, left, first), len),
+            counts_built(tried.try_map(alloc, good), len),
         ),
         ("map_total_by", total == Ok(0)),
-    ])
+    ]
 }
 
-/// Those of the promise.
-pub fn of_promise<N: ArrayLength<u32>>(alloc: Global) -> Result<[Played; 3], AllocError>
+/// The zips of the traits.
+pub fn of_zips<N: ArrayLength<u32>>(alloc: Global, blocks: [BoxedArray<u32, N>; 3]) -> [Played; 3]
     requires { FitsInline N.USIZE }
 {
+    let [left, other, right] = blocks;
     let len = N::USIZE;
-    let zipped = calls::zip(
-        boxed_from_one::<N>(alloc)?,
-        alloc,
-        from_one::<N>(),
-        &mut first,
-    );
-    Ok([
+    [
+        (
+            "FunctionalSequence::zip",
+            counts(left.zip(alloc, from_one::<N>(), first), len),
+        ),
+        (
+            "FunctionalSequence::zip_by",
+            counts(other.zip_by(alloc, from_one::<N>(), &mut first), len),
+        ),
+        (
+            "inverted_zip2",
+            counts(inverted_zip2(from_one::<N>(), alloc, right, first), len),
+        ),
+    ]
+}
+
+/// The calls of the promise.
+pub fn of_promise<N: ArrayLength<u32>>(
+    alloc: Global,
+    blocks: [BoxedArray<u32, N>; 3],
+) -> [Played; 3]
+    requires { FitsInline N.USIZE }
+{
+    let [mapped, tried, zipped] = blocks;
+    let len = N::USIZE;
+    [
         (
             "calls::map",
-            counts(
-                calls::map(boxed_from_one::<N>(alloc)?, alloc, &mut same),
-                len,
-            ),
+            counts(calls::map(mapped, alloc, &mut same), len),
         ),
         (
             "calls::try_map",
-            counts_built(
-                calls::try_map(boxed_from_one::<N>(alloc)?, alloc, &mut good),
-                len,
-            ),
+            counts_built(calls::try_map(tried, alloc, &mut good), len),
         ),
-        ("calls::zip", counts(zipped, len)),
-    ])
+        (
+            "calls::zip",
+            counts(calls::zip(zipped, alloc, from_one::<N>(), &mut first), len),
+        ),
+    ]
 }
