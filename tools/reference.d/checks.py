@@ -6,6 +6,7 @@ Each check gives what it tried, one after the other: what is wrong, or nothing.
 import collections
 import re
 
+from ample_memory import unplayed
 from checks_of_names import misled, unnamed
 from drops import uncounted
 from examples import missing
@@ -93,7 +94,7 @@ def check(site):
         unread, unplaced, undefined, unwritten, unused, unnamed, private_fields, uncounted)
     names = Names(site)
     tried = [found for part in of_sites for found in part(site)]
-    tried += [found for part in (misled, unkept) for found in part(names)]
+    tried += [found for part in (misled, unkept, unplayed) for found in part(names)]
     failures = [found for found in tried if found]
     passed = len(tried) - len(failures)
     print("".join(f"{failure}\n" for failure in failures), end="")

@@ -16,6 +16,8 @@ FIELD = re.compile(rf"(?<![\w.])(?P<path>{NAME}(?:\.{NAME})*)\.(?:slice|full)(?!
 # of a call, and the values that a call leaves.
 SCOPE = re.compile(
     r"(?:[cgl]|args|fn|auto|new|old|entry|ensures|requires|invariant|(?:loop|in)-.*)$")
+# What isn't a value: names of modules, and std's word `fed.slice`.
+STD = {"Rattle", "fed"}
 LINE = re.compile(r"--.*|^ *(?:pub )?use .*", re.M)
 WRITING = re.compile(r"GenericArrayMut|ViewMut|ChunksMut|ChunksViewMut")
 
@@ -57,14 +59,29 @@ def named(text):
         path = found["path"].split(".")
         clauses = rf"(?<![\w.]){re.escape(path[0])} = \S*\.(?:ensures|requires|auto)\b"
         of_clauses = len(path) == 1 and re.search(clauses, text)
-        if not SCOPE.match(path[-1]) and not of_clauses and path[0] != "Rattle":
+        if not SCOPE.match(path[-1]) and not of_clauses and path[0] not in STD:
             yield found[0], text.count("\n", 0, found.start()) + 1
 
 
+def ghost_members(crate):
+    """The ghost members of the impls in a crate's sources, each with its file and the impl's head."""
+    for file in sorted((crate / "src").rglob("*.rt")):
+        text = file.read_text("utf-8")
+        for item in items_of(text, file):
+            for part in item.members:
+                if part.kind == "ghost":
+                    yield file, item.head, part.line, text[part.begin:part.end]
+
+
 def private_fields(site):
-    """Looks through each proof and definition above the views."""
+    """Looks through each proof, definition and ghost member above the views."""
     for name in crates_above(site.top, BASE):
         crate = site.top / "crates" / name
+        for file, head, line, text in ghost_members(crate):
+            place = f"{file.relative_to(site.top)}:{line}"
+            found = [] if WRITING.search(head) else list(named(text))
+            wrong = [f"{place}: {field} is a private field of a view" for field, _ in found]
+            yield from wrong or [None]
         for folder in ("proofs", "specs"):
             for file in sorted((crate / folder).rglob("*.antt")):
                 found = list(named(file.read_text("utf-8")))

@@ -1,6 +1,6 @@
 -- Two lists of one length, compared pair by pair in parts.
 use Rattle.std.proofs.Common.{◌≡◌, ℕ, zero, suc, ◌+◌, ◌-◌, ◌<◌, ◌≤◌, Bool, true, false, ◌&&◌, List, [], ◌∷◌, Ordering}
-use Rattle.std.proofs.Common.{take, drop, length, ap, sym, ◌∙◌, refl, arith, inl, inr, None, Option, slice_get}
+use Rattle.std.proofs.Common.{take, drop, length, ap, sym, ◌∙◌, refl, arith, inl, inr, Option}
 use Rattle.std.proofs.Common.{slice_index_or, eqb}
 use Rattle.std.proofs.Math.Bool.{and_assoc, and-false, and-true}
 use Rattle.std.proofs.lemmas.Bool.Decides.{eqb_tells}
@@ -64,11 +64,6 @@ module _ {T : Type 0} (E : T → T → Bool) where
   pub pointwise-all : (n : ℕ) (xs ys : List T) → length xs ≤ n → length xs ≡ length ys
       → pointwise E (take n xs) (take n ys) ≡ pointwise E xs ys
   pointwise-all n xs ys enough long i = pointwise E (take_all n xs enough i) (take_all n ys (omega arith) i)
-
-  -- of no pairs all are equal
-  pub none-equal : (xs ys : List T) → slice_get xs 0 ≡ None → length xs ≡ length ys → true ≡ pointwise E xs ys
-  none-equal [] [] none long = refl
-  none-equal _ _ none long = cc
 
   -- all pairs are equal where as many at the start are as there are
   pub start-tells : (n : ℕ) (xs ys : List T) → length xs ≡ length ys → n ≤ length xs

@@ -1,6 +1,6 @@
 //! Two slices of one length, compared block by block.
 ghost use Rattle.std.specs.Cmp.Lexicographic.{pointwise, slice_cmp, slice_partial_cmp};
-ghost use Rattle.std.specs.Prelude.{◌≡◌, ◌-◌, ◌<◌, ◌≤◌, drop, false, length, take, true};
+ghost use Rattle.std.specs.Prelude.{◌≡◌, ◌-◌, ◌<◌, ◌≤◌, IfSome, drop, false, length, take, true};
 
 use std::cmp::Ordering;
 use std::mem;
@@ -19,15 +19,13 @@ pub(crate) fn are_equal<T: PartialEq>(left: &[T], right: &[T]) -> bool
     requires len { length left.now ≡ length right.now }
     ensures equal { result ≡ pointwise T.eq left.now right.now }
 {
-    match left.first() {
-        None => true,
-        Some(item) => {
-            if mem::size_of_val(item) > MOST_BYTES {
-                left == right
-            } else if left.len() <= block_of(item) {
+    match block_of(left) {
+        None => left == right,
+        Some(block) => {
+            if left.len() <= block {
                 all_match(left, right)
             } else {
-                equal_start(left, right) == left.len()
+                equal_start(left, right, block) == left.len()
             }
         }
     }
@@ -60,13 +58,13 @@ fn order_start<T: PartialEq>(left: &[T], right: &[T]) -> usize
     ensures within { result ≤ length left.now }
     ensures equal { pointwise T.eq (take result left.now) (take result right.now) ≡ true }
 {
-    match left.first() {
+    match block_of(left) {
         None => 0,
-        Some(item) => {
-            if mem::size_of_val(item) > MOST_BYTES || left.len() <= block_of(item) {
+        Some(block) => {
+            if left.len() <= block {
                 0
             } else {
-                equal_start(left, right)
+                equal_start(left, right, block)
             }
         }
     }
@@ -75,45 +73,42 @@ fn order_start<T: PartialEq>(left: &[T], right: &[T]) -> usize
 // How many items at the start are equal: all, or those before the first block that is not. Never
 // inlined, since at a known length the loop over the blocks would be unrolled too, into kilobytes.
 #[inline(never)]
-fn equal_start<T: PartialEq>(left: &[T], right: &[T]) -> usize
+fn equal_start<T: PartialEq>(left: &[T], right: &[T], block: usize) -> usize
     requires len { length left.now ≡ length right.now }
+    requires some { 0 < block }
     ensures within { result ≤ length left.now }
     ensures equal { pointwise T.eq (take result left.now) (take result right.now) ≡ true }
     ensures differs { result < length left.now → pointwise T.eq left.now right.now ≡ false }
 {
-    match left.first() {
-        None => 0,
-        Some(item) => {
-            let block = block_of(item);
-            let len = left.len();
-            let mut start = 0;
-            while len - start >= block {
-                let end = start + block;
-                if !parts_match(left, right, start, end) {
-                    return start;
-                }
-                start = end;
-            }
-            if parts_match(left, right, start, len) {
-                len
-            } else {
-                start
-            }
+    let len = left.len();
+    let mut start = 0;
+    while len - start >= block {
+        let end = start + block;
+        if !parts_match(left, right, start, end) {
+            return start;
         }
+        start = end;
+    }
+    if parts_match(left, right, start, len) {
+        len
+    } else {
+        start
     }
 }
 
-// How many items of this type a block has: at least one, for which the prover wants the second
-// test, though no caller has items of more bytes.
+// How many items a block has, at least one. `None` where std's comparison is better: there are no
+// items, or large ones.
 #[inline]
-fn block_of<T>(item: &T) -> usize
-    ensures some { 0 < result }
+fn block_of<T>(items: &[T]) -> Option<usize>
+    ensures some { IfSome result (λ block. 0 < block) }
 {
-    let size = mem::size_of_val(item);
-    if size > 0 && size <= BLOCK_BYTES {
-        BLOCK_BYTES / size
+    let size = mem::size_of_val(items.first()?);
+    if size > MOST_BYTES {
+        None
+    } else if size > 0 {
+        Some(BLOCK_BYTES / size)
     } else {
-        BLOCK_BYTES
+        Some(BLOCK_BYTES)
     }
 }
 

@@ -4,8 +4,8 @@ ghost use Rattle.std.specs.Prelude.{◌≡◌, ℕ, [], ◌∷◌, Err, IfOk, Is
 use ga_core_examples::answers::gives;
 use ga_headline::builds::{build, build_of_items, fill_boxed, fill_inline};
 use generic_array::{
-    AllocError, ArrayLength, BoxedArray, Const, FillError, GenericArray, InlineLength, LengthError,
-    Never, U0, U1, U2, U3, Unsigned,
+    AllocError, ArrayLength, BoxedArray, FillError, GenericArray, InlineLength, LengthError, Never,
+    U2, U3, Unsigned,
 };
 use std::alloc::Global;
 use std::test::Fail;
@@ -144,26 +144,4 @@ fn fills_leave_what_comes_after(rt: HostRuntime) -> Result<(), Fail> {
     let (filled, next) = filled_boxed(alloc, vec![in alloc; 1, 2]?);
     assert!(rt; gives(filled?, &[1, 2]) && next.is_none());
     Ok(())
-}
-
-/// Whether a block of so many sevens is filled.
-fn is_filled_boxed<N: Unsigned>(alloc: Global) -> bool {
-    let built: Result<Result<BoxedArray<u32, N>, LengthError>, AllocError> = fill_boxed(
-        alloc,
-        &mut (0..N::USIZE).map(|_index: usize| 7u32),
-    );
-    match built {
-        Ok(Ok(array)) => {
-            let items = array.as_slice();
-            items.len() == N::USIZE && items.iter().all(|item| *item == 7)
-        }
-        _ => false,
-    }
-}
-
-#[test]
-fn boxed_fills_find_ample_memory(rt: HostRuntime) {
-    let alloc = rt.alloc();
-    assert!(rt; is_filled_boxed::<U0>(alloc) && is_filled_boxed::<U1>(alloc));
-    assert!(rt; is_filled_boxed::<U2>(alloc) && is_filled_boxed::<Const<65>>(alloc));
 }

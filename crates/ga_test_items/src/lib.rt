@@ -1,4 +1,5 @@
-//! What tests share: counted items, iterators that are written down, and the player of cases.
+//! What tests share: counted items, iterators and texts that are written down, and the player of
+//! cases.
 #![tactic(auto)]
 
 /// Items whose drops and clones are counted.
@@ -13,3 +14,5 @@ pub mod played;
 pub mod random;
 /// An iterator that is written down.
 pub mod scripted;
+/// A writer that counts, and fails as it is told.
+pub mod writer;

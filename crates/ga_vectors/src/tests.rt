@@ -18,5 +18,4 @@ mod made;
 mod readme;
 mod record_block;
 mod shapes;
-mod sinks;
 mod stores;

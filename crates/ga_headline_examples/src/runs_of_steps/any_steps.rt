@@ -1,16 +1,13 @@
 //! Callers that know neither the steps nor the items: what the account of a run gives them.
 ghost use Rattle.generic_array.specs.Account.{HasNoSet, back_count, items_put, front_count, gone_back, gone_front, items_returned};
-ghost use Rattle.generic_array.specs.Length.{FitsInline};
 ghost use Rattle.generic_array.specs.declared.steps.step.Reply.TheVariants.{Item};
 ghost use Rattle.generic_array.specs.declared.steps.step.Step.TheVariants.{Next};
 ghost use Rattle.std.specs.List.{count_by, flat_map, sum_by};
 ghost use Rattle.std.specs.Prelude.{◌≡◌, ℕ, ◌+◌, ◌≤◌, List, [], ◌++◌, Bool, OnOk, Some, length, reverse, slice_get, take};
 
 use super::count_of;
+use generic_array::AllocError;
 use generic_array::steps::{Reply, Step, TwoEnded, run_steps};
-use generic_array::{AllocError, ArrayLength, BoxedArray, Const, GenericArray, U0, U1, U2};
-use std::alloc::Global;
-use std::test::Fail;
 
 /// Any steps: a value is as often among what there was and what was put in as among what went, what
 /// was returned and what is left.
@@ -62,39 +59,5 @@ fn first_replied<T: Drop, I: TwoEnded<T>>(
         → slice_get given k ≡ Some (Item (slice_get (I.items items.old) 0)))) }
 {
     run_steps(items, steps, &mut count_of::<T>, replies)?;
-    Ok(())
-}
-
-/// Whether so many steps find room for their replies, and leave no item.
-fn steps_find_room<I: TwoEnded<u32>>(
-    alloc: Global,
-    items: &mut I,
-    count: usize,
-) -> Result<bool, AllocError> {
-    let mut steps = Vec::new(alloc);
-    for _step in 0..count {
-        steps.push(Step::Next)?;
-    }
-    let mut replies = Vec::new(alloc);
-    let made = counted(items, steps, &mut replies).is_ok();
-    Ok(made && replies.len() == count && items.live().is_empty())
-}
-
-/// The same of as many steps as there are items, inline and boxed.
-fn all_steps_find_room<N: ArrayLength<u32>>(alloc: Global) -> Result<bool, AllocError>
-    requires { FitsInline N.USIZE }
-{
-    let mut inline = GenericArray::<u32, N>::from_copies(7).into_iter();
-    let mut boxed = BoxedArray::<u32, N>::from_copies(alloc, 7)?.into_iter();
-    let both = steps_find_room(alloc, &mut inline, N::USIZE)?
-        && steps_find_room(alloc, &mut boxed, N::USIZE)?;
-    Ok(both)
-}
-
-#[test]
-fn any_number_of_steps_finds_room(rt: HostRuntime) -> Result<(), Fail> {
-    let alloc = rt.alloc();
-    assert!(rt; all_steps_find_room::<U0>(alloc)? && all_steps_find_room::<U1>(alloc)?);
-    assert!(rt; all_steps_find_room::<U2>(alloc)? && all_steps_find_room::<Const<65>>(alloc)?);
     Ok(())
 }

@@ -1,4 +1,4 @@
-//! Keys in a table: put in, taken out, listed from one up to another, and refused memory.
+//! Keys in a table: put in, taken out, and listed from one up to another.
 ghost use Rattle.ga_uses.specs.KeyTable.{entries_from_to, value_at};
 ghost use Rattle.std.specs.Prelude.{◌≡◌, ◌≢◌, IfOk, IsTrue, map};
 
@@ -61,26 +61,6 @@ fn key_of(number: u64) -> GenericArray<u8, U2> {
     GenericArray::from_array([(number / 12 % 12) as u8, (number % 12) as u8])
 }
 
-/// Whether the table, at one more entry, has it, or is as it was where memory is refused.
-fn kept_or_refused(table: &mut KeyTable<U2, u64>, number: u64) -> bool {
-    let (len, had) = (table.len(), table.get(&key_of(number)).copied());
-    match table.insert(key_of(number), number) {
-        Ok(old) => old == had && table.get(&key_of(number)).copied() == Some(number),
-        Err(_) => table.len() == len && table.get(&key_of(number)).copied() == had,
-    }
-}
-
-/// Whether so many entries in turn are each kept or refused.
-fn all_kept_or_refused(alloc: Global, count: u64) -> bool {
-    let mut table = KeyTable::new(alloc);
-    for number in 0..count {
-        if !kept_or_refused(&mut table, number.wrapping_mul(5)) {
-            return false;
-        }
-    }
-    true
-}
-
 /// The values at one key of std's sorted map, before and after it is put there.
 fn sorted_twice(alloc: Global) -> Result<(Option<u64>, Option<u64>), AllocError> {
     let mut map = BTreeMap::new(alloc);
@@ -115,25 +95,5 @@ fn entries_are_listed_from_one_key_up_to_another(rt: HostRuntime) -> Result<(), 
     assert!(rt;
         values_of_four(alloc, 41, 99)?.is_empty() && values_of_four(alloc, 30, 10)?.is_empty()
     );
-    Ok(())
-}
-
-#[test]
-fn refused_memory_leaves_the_table_as_it_was(rt: HostRuntime) {
-    assert!(rt; all_kept_or_refused(rt.alloc(), 40));
-}
-
-/// Whether so many entries find room.
-fn so_many_find_room(alloc: Global, count: u64) -> Result<bool, AllocError> {
-    let mut table = KeyTable::new(alloc);
-    for number in 0..count {
-        let _none = table.insert(key_of(number), number)?;
-    }
-    Ok(table.len() as u64 == count)
-}
-
-#[test]
-fn many_entries_find_room(rt: HostRuntime) -> Result<(), Fail> {
-    assert!(rt; so_many_find_room(rt.alloc(), 144)?);
     Ok(())
 }

@@ -1,5 +1,6 @@
 //! Boxed arrays that are borrowed: what their maps, zips and folds make of known items.
-use crate::tests::items::{boxed_from_one, has};
+use crate::tests::items::has;
+use ga_test_items::items::boxed_from_one;
 use generic_array::{AllocError, BoxedArray, U0, U3, Unsigned};
 use std::alloc::Global;
 use std::test::Fail;

@@ -1,7 +1,8 @@
 //! Builders at concrete types.
 ghost use Rattle.std.specs.Prelude.{◌≡◌, ◌+◌, ◌≤◌, [], length};
 
-use crate::tests::items::{Held, digits};
+use crate::tests::items::Held;
+use ga_test_items::scripted::digits;
 use generic_array::{ArrayBuilder, ArrayLength, U3, U4};
 use std::rc::Rc;
 

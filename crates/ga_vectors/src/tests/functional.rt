@@ -1,6 +1,7 @@
 //! Maps and inverted zips of the traits: what they return. Where they stop, and what is made boxed,
 //! is told in `ga_faults`.
-use crate::tests::items::{from_one, next_digit};
+use ga_test_items::items::from_one;
+use ga_test_items::scripted::next_digit;
 use generic_array::checks::map_total_by;
 use generic_array::functional::{FunctionalSequence, inverted_zip, inverted_zip2};
 use generic_array::{

@@ -1,17 +1,16 @@
 //! Hex text: its digits, how far the limit lets them come, and how often the writer is called.
-use crate::tests::sinks::{Manner, Sink};
+use crate::tests::hex_writers::digits_of;
+use ga_test_items::writer::{Sink, WHOLE};
 use generic_array::AllocError;
 use generic_array::hex_text::{HexText, write_hex};
 use std::alloc::Global;
-use std::fmt;
 use std::fmt::Write;
 use std::test::Fail;
 
-/// Whether the bytes are written as this text, in so many calls of the writer.
-fn is_written(bytes: &[u8], upper: bool, limit: Option<usize>, text: &[u8], calls: usize) -> bool {
-    let mut sink = Sink::new(text, Manner::Whole, usize::MAX);
-    let answer = write_hex(bytes, upper, limit, &mut sink);
-    answer.is_ok() && sink.is_exact && sink.to_come.is_empty() && sink.calls == calls
+/// Whether the bytes are written as this text, in so many writes and with no flush.
+fn is_written(bytes: &[u8], upper: bool, limit: Option<usize>, text: &[u8], writes: usize) -> bool {
+    let mut sink = Sink::expecting(text);
+    write_hex(bytes, upper, limit, &mut sink).is_ok() && sink.has_text_in(writes)
 }
 
 #[test]
@@ -25,13 +24,13 @@ fn few_bytes_give_their_digits_as_far_as_the_limit_lets_them(rt: HostRuntime) {
         (false, Some(7), "0a141e"),
     ];
     for (upper, limit, text) in cases {
-        let calls = text.len().min(1);
-        let is_right = is_written(&[10, 20, 30], upper, limit, text.as_bytes(), calls);
+        let writes = text.len().min(1);
+        let is_right = is_written(&[10, 20, 30], upper, limit, text.as_bytes(), writes);
         assert!(rt; is_right, "{text}");
     }
 }
 
-/// Whether 1,025 bytes 171 give 2,049 digits, in two calls of the writer.
+/// Whether 1,025 bytes 171 give 2,049 digits, in two writes.
 fn is_cut_inside_a_byte(alloc: Global) -> Result<bool, AllocError> {
     let mut text = Vec::new(alloc);
     for _byte in 0..1024 {
@@ -127,33 +126,28 @@ fn long_texts_are_printed_whole(rt: HostRuntime) -> Result<(), Fail> {
     Ok(())
 }
 
-/// Counts the pieces that it is given.
-#[derive(Drop)]
-struct Pieces {
-    count: usize,
-}
-
-impl Write for Pieces {
-    fn write_str(&mut self, _text: &str) -> fmt::Result {
-        self.count = self.count.saturating_add(1);
-        Ok(())
-    }
-}
-
-/// In how many pieces these bytes are printed.
-fn pieces_of(bytes: &[u8]) -> usize {
-    let mut pieces = Pieces { count: 0 };
+/// Whether so many bytes 171 are printed in so many pieces, and each piece that fails is the last.
+fn is_printed_in(alloc: Global, count: usize, pieces: usize) -> Result<bool, AllocError> {
+    let bytes = bytes_of(alloc, count)?;
+    let text = digits_of(alloc, bytes.as_slice(), false)?;
     let shown = HexText {
-        bytes,
+        bytes: bytes.as_slice(),
         upper: false,
     };
-    match write!(pieces, "{shown}") {
-        Ok(()) => pieces.count,
-        Err(_) => usize::MAX,
+    for fails_at in 1..=pieces {
+        let mut sink = Sink::new(text.as_slice(), WHOLE, fails_at);
+        if write!(sink, "{shown}").is_ok() || !sink.is_left_at_its_fault() {
+            return Ok(false);
+        }
     }
+    let mut sink = Sink::expecting(text.as_slice());
+    Ok(write!(sink, "{shown}").is_ok() && sink.has_text_in(pieces))
 }
 
 #[test]
-fn printed_text_comes_in_pieces_of_64_bytes(rt: HostRuntime) {
-    assert!(rt; pieces_of(&[]) == 0 && pieces_of(&[171; 64]) == 1 && pieces_of(&[171; 65]) == 2);
+fn printed_text_comes_in_pieces_of_64_bytes(rt: HostRuntime) -> Result<(), Fail> {
+    for (count, pieces) in [(0, 0), (1, 1), (64, 1), (65, 2), (129, 3)] {
+        assert!(rt; is_printed_in(rt.alloc(), count, pieces)?, "{count}");
+    }
+    Ok(())
 }

@@ -1,5 +1,5 @@
 //! Hex text through writers that take it in parts, are interrupted, or fail at one of their calls.
-use crate::tests::sinks::{Manner, Sink};
+use ga_test_items::writer::{BYTE_BY_BYTE, INTERRUPTED, Manner, NOTHING, Sink, WHOLE};
 use generic_array::hex_text::write_hex;
 use generic_array::{AllocError, arr};
 use std::alloc::Global;
@@ -38,21 +38,20 @@ fn faults(
     for run in 0..usize::MAX {
         let fails_at = run.wrapping_mul(stride).wrapping_add(1);
         let mut sink = Sink::new(text, manner, fails_at);
-        let answer = call.made(limit, &mut sink);
-        let is_disturbed = sink.calls >= fails_at;
-        let is_right = match answer {
-            Ok(()) => !is_disturbed && sink.to_come.is_empty(),
-            Err(fault) if is_disturbed => {
-                fault.kind() == ErrorKind::StorageFull && sink.calls == fails_at
+        let is_right = match call.made(limit, &mut sink) {
+            Ok(()) => !sink.has_failed() && sink.has_text(),
+            Err(fault) if sink.has_failed() => {
+                fault.kind() == ErrorKind::StorageFull && sink.is_left_at_its_fault()
             }
             Err(fault) => {
-                fault.kind() == ErrorKind::WriteZero && manner == Manner::Nothing && sink.calls == 1
+                let is_due = manner == NOTHING && sink.writes() == 1;
+                fault.kind() == ErrorKind::WriteZero && is_due && sink.has_beginning()
             }
         };
-        if !is_right || !sink.is_exact {
+        if !is_right {
             return None;
         }
-        if !is_disturbed {
+        if !sink.has_failed() {
             return Some(run);
         }
     }
@@ -64,11 +63,10 @@ fn faults(
 /// Of a long text that is taken byte by byte not each write fails, for the time that it takes.
 fn each_fails(call: Call<'_>, limit: Option<usize>, text: &[u8], writes: usize) -> bool {
     let stride = if text.len() > 200 { 61 } else { 1 };
-    faults(call, limit, text, Manner::Whole, 1) == Some(writes)
-        && faults(call, limit, text, Manner::ByteByByte, stride)
-            == Some(text.len().div_ceil(stride))
-        && faults(call, limit, text, Manner::Interrupted, 1) == Some(writes.wrapping_mul(2))
-        && faults(call, limit, text, Manner::Nothing, 1) == Some(writes.min(1))
+    faults(call, limit, text, WHOLE, 1) == Some(writes)
+        && faults(call, limit, text, BYTE_BY_BYTE, stride) == Some(text.len().div_ceil(stride))
+        && faults(call, limit, text, INTERRUPTED, 1) == Some(writes.wrapping_mul(2))
+        && faults(call, limit, text, NOTHING, 1) == Some(writes.min(1))
 }
 
 /// So many bytes, of which each is one more than the one before it, until they begin anew.

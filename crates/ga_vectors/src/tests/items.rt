@@ -1,44 +1,6 @@
-//! The arrays that tests share, and comparisons of what comes of them.
-ghost use Rattle.generic_array.specs.Length.{FitsInline};
-
-use generic_array::{AllocError, ArrayLength, BoxedArray, Const, GenericArray, Unsigned};
-use std::alloc::Global;
+//! What tests share beside `ga_test_items`: a comparison, and an item without a lifetime.
 use std::convert::AsSlice;
 use std::rc::Rc;
-
-/// A length of which no block can be had, not even of the smallest items.
-pub type TooMany = Const<18446744073709551615>;
-
-/// The number of an item, from 1. It is a digit.
-fn number(index: usize) -> u32 {
-    (index % 9) as u32 + 1
-}
-
-/// The array of 1 to N.
-pub fn from_one<N: ArrayLength<u32>>() -> GenericArray<u32, N>
-    requires { FitsInline N.USIZE }
-{
-    GenericArray::generate(number)
-}
-
-/// The same in a block.
-pub fn boxed_from_one<N: Unsigned>(alloc: Global) -> Result<BoxedArray<u32, N>, AllocError> {
-    BoxedArray::generate(alloc, number)
-}
-
-/// The digits so far and one more.
-pub fn next_digit(digits: u32, digit: u32) -> u32 {
-    digits.wrapping_mul(10).wrapping_add(digit)
-}
-
-/// The numbers as the digits of one.
-pub fn digits(numbers: &[u32]) -> u32 {
-    let mut all = 0u32;
-    for number in numbers {
-        all = next_digit(all, *number);
-    }
-    all
-}
 
 /// Whether there is a sequence of exactly these items.
 pub fn has<T: PartialEq, S: AsSlice<T> + Drop, E: Drop>(made: Result<S, E>, items: &[T]) -> bool {

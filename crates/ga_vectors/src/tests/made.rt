@@ -1,6 +1,7 @@
 //! What the builds of the traits make of each kind.
 
-use crate::tests::items::{TooMany, has};
+use crate::tests::items::has;
+use ga_test_items::items::TooMany;
 use generic_array::sequence::{FallibleGenericSequence, GenericSequence};
 use generic_array::{
     ArrayLength, BoxedArray, Const, GenericArray, GenericArrayRef, InlineLength, U3,

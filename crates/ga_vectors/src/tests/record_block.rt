@@ -4,44 +4,13 @@ ghost use Rattle.ga_records.specs.Records.{has};
 ghost use Rattle.generic_array.specs.Views.{items_of_view};
 ghost use Rattle.std.specs.Prelude.{◌≡◌, ◌∷◌, [], IfSome, IsErr, None, Ok, Some, true};
 
+use crate::tests::hex_writers::rising;
 use ga_records::RecordBlock;
+use ga_test_items::writer::{Sink, WHOLE};
 use generic_array::{AllocError, ArrayLength, GenericArrayRef, LengthError, U2, U3, U4};
 use std::alloc::Global;
-use std::io;
-use std::io::{ErrorKind, Write};
+use std::io::ErrorKind;
 use std::test::Fail;
-
-/// Takes all at once, or fails where it is broken, and counts its calls.
-#[derive(Drop)]
-struct Counting {
-    calls: usize,
-    is_broken: bool,
-}
-
-impl Counting {
-    fn new(is_broken: bool) -> Self {
-        Counting {
-            calls: 0,
-            is_broken,
-        }
-    }
-}
-
-impl Write for Counting {
-    fn write(&mut self, bytes: &[u8]) -> io::Result<usize> {
-        self.calls = self.calls.saturating_add(1);
-        if self.is_broken {
-            Err(io::Error::from(ErrorKind::StorageFull))
-        } else {
-            Ok(bytes.len())
-        }
-    }
-
-    fn flush(&mut self) -> io::Result<()> {
-        self.calls = self.calls.saturating_add(1);
-        Ok(())
-    }
-}
 
 /// Where the bytes 2, 1 and 9 stand for the last time in two records of two.
 fn last_of_each(bytes: &[u8]) -> Result<[Option<usize>; 3], LengthError>
@@ -128,53 +97,33 @@ fn records_are_walked_from_both_ends(rt: HostRuntime) -> Result<(), Fail> {
     Ok(())
 }
 
-#[test]
-fn records_are_written_at_once(rt: HostRuntime) -> Result<(), Fail> {
-    let pairs: RecordBlock<'_, U2> = RecordBlock::open(&[1, 2, 3, 2])?;
-    let mut written = Vec::new(rt.alloc());
-    pairs.write_to(&mut written)?;
-    let mut counting = Counting::new(false);
-    pairs.write_to(&mut counting)?;
-    assert!(rt; written.as_slice() == [1, 2, 3, 2].as_slice() && counting.calls == 1);
-    Ok(())
-}
-
-/// Whether so many bytes of records are written whole.
-fn is_written_whole(alloc: Global, len: usize) -> Result<bool, AllocError> {
-    let mut bytes = Vec::new(alloc);
-    for _byte in 0..len {
-        bytes.push(171u8)?;
-    }
-    let mut text = Vec::new(alloc);
+/// Whether records of so many bytes in all are written in so many writes, with no flush.
+fn is_written_in(alloc: Global, len: usize, writes: usize) -> Result<bool, AllocError> {
+    let bytes = rising(alloc, len)?;
+    let mut sink = Sink::expecting(bytes.as_slice());
     Ok(match RecordBlock::<'_, U2>::open(bytes.as_slice()) {
-        Ok(block) => block.write_to(&mut text).is_ok() && text.as_slice() == bytes.as_slice(),
+        Ok(block) => block.write_to(&mut sink).is_ok() && sink.has_text_in(writes),
         Err(LengthError) => false,
     })
 }
 
 #[test]
 fn many_records_are_written_whole(rt: HostRuntime) -> Result<(), Fail> {
-    for len in [2, 62, 64, 66, 128, 1024, 1026, 65534, 65536, 65538, 131072] {
-        assert!(rt; is_written_whole(rt.alloc(), len)?, "{len}");
+    assert!(rt; is_written_in(rt.alloc(), 0, 0)?);
+    for len in [
+        2, 4, 62, 64, 66, 128, 1024, 1026, 65534, 65536, 65538, 131072,
+    ] {
+        assert!(rt; is_written_in(rt.alloc(), len, 1)?, "{len}");
     }
-    Ok(())
-}
-
-#[test]
-fn no_records_are_written(rt: HostRuntime) -> Result<(), Fail> {
-    let none: RecordBlock<'_, U2> = RecordBlock::open(&[])?;
-    let mut written = Vec::new(rt.alloc());
-    none.write_to(&mut written)?;
-    assert!(rt; written.as_slice().is_empty());
     Ok(())
 }
 
 #[test]
 fn a_writers_fault_leaves_the_records(rt: HostRuntime) -> Result<(), Fail> {
     let four: RecordBlock<'_, U4> = RecordBlock::open(b"abcd")?;
-    let mut broken = Counting::new(true);
+    let mut broken = Sink::new(b"abcd", WHOLE, 1);
     let fault = four.write_to(&mut broken);
     assert!(rt; fault.is_err_and(|fault| fault.kind() == ErrorKind::StorageFull));
-    assert!(rt; broken.calls == 1 && is(four.record(0), b"abcd"));
+    assert!(rt; broken.is_left_at_its_fault() && is(four.record(0), b"abcd"));
     Ok(())
 }

@@ -8,6 +8,7 @@ use ga_core::{AllocError, ArrayLength, GenericArray, GenericArrayRef, Never};
 /// Its entries are references. What is made of it is an inline array, so its lengths are those of
 /// inline arrays.
 impl<'a, T: Default + Drop, N: ArrayLength<T>> GenericSequence<T> for GenericArrayRef<'a, T, N> {
+    ghost use Rattle.ga_core.specs.Views.{items_of_view};
     ghost use Rattle.generic_array.specs.EntryLaws.{left_given, references_given};
 
     type Length = N;
@@ -54,7 +55,7 @@ impl<'a, T: Default + Drop, N: ArrayLength<T>> GenericSequence<T> for GenericArr
     ghost gives_entries = { λ view items gives. (
       tt,
       tt,
-      references_given items view.slice.now
+      references_given items (items_of_view view)
           gives.0,
     ) };
 

@@ -1,3 +1,4 @@
+use Rattle.ga_core.proofs.SlotLemmas.{refill-long}
 use Rattle.ga_core.proofs.array.GenericArray.as_mut_slice.Goals as goal
 use Rattle.ga_views.proofs.PartLemmas.{part-all}
 use Rattle.ga_views.specs.Parts.{part_set}
@@ -27,3 +28,10 @@ returns g c =
         fits = c.self.invariant.1;
       },
     )
+
+pub invariant_of-self-lent : goal.invariant_of-self-lent
+invariant_of-self-lent g c = λ w.
+    let items = g.N.ArrayType.Store.items c.self.inside.store in
+    let part = part_set 0 c.USIZE.result items w in
+    let long = refill-long items part _ (g.N.ArrayType.Store.store_with c.self.inside.store part).1 in
+    (long ∙ c.self.invariant.0, c.self.invariant.1)

@@ -1,4 +1,4 @@
-use Rattle.ga_core.proofs.SlotLemmas.{refill-set}
+use Rattle.ga_core.proofs.SlotLemmas.{refill-long, refill-set}
 use Rattle.ga_core.proofs.array.GenericArrayIndexMutUsize.index_mut.Goals as goal
 use Rattle.std.proofs.Common.{◌∙◌, ap, arith, refl, slice_set, sym, slice_get}
 use Rattle.std.proofs.lemmas.Option.{slice_get_read}
@@ -24,3 +24,9 @@ returns g c =
 
 pub item_mut-requires : goal.item_mut-requires
 item_mut-requires g c = record { in_bounds = omega (arith, c.requires, c.self.invariant.0) }
+
+pub invariant_of-self-lent : goal.invariant_of-self-lent
+invariant_of-self-lent g c = λ w.
+    let items = g.N.ArrayType.Store.items c.self.inside.store in
+    let after = g.N.ArrayType.Store.store_with c.self.inside.store (slice_set items c.args.index w) in
+    (refill-long items _ _ after.1 ∙ c.self.invariant.0, c.self.invariant.1)

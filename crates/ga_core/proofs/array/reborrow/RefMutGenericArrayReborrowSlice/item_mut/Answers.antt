@@ -1,4 +1,4 @@
-use Rattle.ga_core.proofs.SlotLemmas.{refill-set}
+use Rattle.ga_core.proofs.SlotLemmas.{refill-long, refill-set}
 use Rattle.ga_core.proofs.array.reborrow.RefMutGenericArrayReborrowSlice.item_mut.Goals as goal
 use Rattle.std.proofs.Common.{◌<◌, ◌∙◌, ap, length, refl, slice_set, subst, sym, slice_index_or}
 
@@ -25,3 +25,9 @@ pub item_mut-requires : goal.item_mut-requires
 item_mut-requires g c = record {
   in_bounds = subst (λ items. c.args.index < length items) (sym c.array.view_is) c.requires.in_bounds;
 }
+
+pub invariant_of-array-lent : goal.invariant_of-array-lent
+invariant_of-array-lent g c = λ w.
+    let items = g.N.ArrayType.Store.items c.array.inside.store in
+    let after = g.N.ArrayType.Store.store_with c.array.inside.store (slice_set items c.args.index w) in
+    (refill-long items _ _ after.1 ∙ c.array.invariant.0, c.array.invariant.1)

@@ -1,0 +1,7 @@
+use Rattle.generic_array.proofs.StepLemmas.{MaySteps-always}
+use Rattle.ga_memory.proofs.refused_memory.walked.Goals as goal
+use Rattle.std.proofs.Common.{rules}
+
+pub walk-requires : goal.walk-requires
+walk-requires g c =
+    record { callable = MaySteps-always _ _ (λ f items slice same. search rules) c.args.steps.items _ }
