@@ -124,10 +124,10 @@ fn no_call_leaves_an_item(rt: HostRuntime) {
                 wrong.is_none(),
                 "{wrong:?} in case {case}, {refused} refused"
             );
-            assert!(rt;
-                refused > 0 || counts.errors() == 0,
-                "an error in case {case}"
-            );
+            let errors = counts.errors();
+            assert!(rt; refused > 0 || errors == 0, "an error in case {case}");
+            let is_reached = case == 3 && refused > 0 && refused <= 65;
+            assert!(rt; errors > 0 || !is_reached, "none at {refused}");
         }
     }
 }
