@@ -39,17 +39,19 @@ enum Source {
     BoxedSlice,
 }
 
-/// A vector of so many items. Its refusal is noted.
+/// A vector of so many items, by one request for memory. Its refusal is noted.
 fn vector<'a, T: Given<'a>>(
     alloc: Global,
     counts: &'a Counts,
     given: usize,
-) -> Result<Vec<T>, AllocFailed<T>> {
-    let mut items = Vec::new(alloc);
+) -> Result<Vec<T>, AllocError> {
+    let Ok(mut items) = Vec::with_capacity(alloc, given) else {
+        counts.note_error();
+        return Err(AllocError);
+    };
     for index in 0..given {
-        if let Err(refused) = items.push(nth_item(counts, index)) {
-            counts.note_error();
-            return Err(refused);
+        if items.push(nth_item(counts, index)).is_err() {
+            return Err(AllocError);
         }
     }
     Ok(items)

@@ -6,21 +6,23 @@ use ga_test_items::played::{
     Item, Played, boxed_items, ends, ends_made, first_wrong, inline_items, nth_item,
 };
 use ga_test_items::scripted::Given;
-use generic_array::ArrayLength;
 use generic_array::steps::{Reply, Step, TwoEnded, TwoEndedSequence, run_steps};
-use std::alloc::{AllocFailed, Global};
+use generic_array::{AllocError, ArrayLength};
+use std::alloc::Global;
 
 /// How many items are seen.
 fn seen<T>(live: &[T]) -> usize {
     live.len()
 }
 
-/// Steps of each kind, with two items to be put among the others.
+/// Steps of each kind, with two items to be put among the others, by one request for memory.
 fn steps_of<'a, T: Given<'a>>(
     alloc: Global,
     counts: &'a Counts,
-) -> Result<Vec<Step<T>>, AllocFailed<Step<T>>> {
-    let mut steps = Vec::new(alloc);
+) -> Result<Vec<Step<T>>, AllocError> {
+    let Ok(mut steps) = Vec::with_capacity(alloc, 7) else {
+        return Err(AllocError);
+    };
     for number in 0..7u32 {
         let step = match number {
             0 => Step::Set(0, nth_item(counts, 0)),
@@ -31,8 +33,8 @@ fn steps_of<'a, T: Given<'a>>(
             5 => Step::Next,
             _ => Step::NextBack,
         };
-        if let Err(refused) = steps.push(step) {
-            return Err(refused);
+        if steps.push(step).is_err() {
+            return Err(AllocError);
         }
     }
     Ok(steps)
