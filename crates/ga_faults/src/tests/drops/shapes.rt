@@ -74,15 +74,8 @@ fn of_parts<'a, 'n, T: Item + Given<'a>, N: ArrayLength<T>, Twice: ArrayLength<T
     ]
 }
 
-/// Cuts items into rows.
-fn by_unflatten<T, Items: Unflatten<T, Rows>, Rows: Drop>(items: Items, counts: &Counts) -> bool
-    requires { Items.IsArea }
-{
-    ends(items.unflatten(), counts)
-}
-
 /// Cuts items into rows, and joins these.
-fn by_flatten<T, Items: Unflatten<T, Rows> + Drop, Rows: Flatten<T, Items>>(
+fn by_rows<T, Items: Unflatten<T, Rows> + Drop, Rows: Flatten<T, Items>>(
     items: Items,
     counts: &Counts,
 ) -> bool
@@ -103,16 +96,12 @@ pub(crate) fn first_wrong_row<
     requires twice { Twice.USIZE ≡ N.USIZE * 2 }
 {
     let items = inline_items::<Counted<'a>, Twice>(counts);
-    let unflatten = by_unflatten::<Counted<'a>, _, GenericArray<GenericArray<Counted<'a>, U2>, N>>(
-        items, counts,
-    );
-    let items = inline_items::<Counted<'a>, Twice>(counts);
-    let flatten = by_flatten::<Counted<'a>, _, GenericArray<GenericArray<Counted<'a>, U2>, N>>(
+    let is_right = by_rows::<Counted<'a>, _, GenericArray<GenericArray<Counted<'a>, U2>, N>>(
         items, counts,
     );
     let of_rows = [
-        ("<GenericArray as Unflatten>::unflatten", unflatten),
-        ("<GenericArray as Flatten>::flatten", flatten),
+        ("<GenericArray as Unflatten>::unflatten", is_right),
+        ("<GenericArray as Flatten>::flatten", is_right),
     ];
     first_wrong(&[&of_rows])
 }
