@@ -1,18 +1,17 @@
 //! Examples of inline arrays, views and rows, each proved: what the contracts of `ga_core` give to
 //! those who use it alone.
 //!
-//! Examples stand under `#[cfg(test)]`. What is public serves the other crates of examples or is
-//! cited in `specs/`.
+//! All but `records`, which `specs/` cites, stands under `#[cfg(test)]`.
 #![tactic(auto)]
 
-/// Comparisons of what callers made.
-pub mod answers;
+#[cfg(test)]
+mod answers;
 #[cfg(test)]
 mod builders;
 #[cfg(test)]
 mod builds;
-/// The digits that callers read from text.
-pub mod digits;
+#[cfg(test)]
+mod digits;
 #[cfg(test)]
 mod fixed_list;
 #[cfg(test)]
@@ -23,8 +22,8 @@ mod iterators;
 mod keys;
 #[cfg(test)]
 mod nested;
-/// Arrays of known numbers.
-pub mod numbers;
+#[cfg(test)]
+mod numbers;
 #[cfg(test)]
 mod parts;
 #[cfg(test)]

@@ -1,7 +1,7 @@
 //! Callers of any length, each with its exact result.
 ghost use Rattle.generic_array.specs.Length.{FitsInline};
 ghost use Rattle.generic_array.specs.Tries.{try_map};
-ghost use Rattle.ga_core_examples.specs.Digits.{digit_of};
+ghost use Rattle.ga_examples.specs.Digits.{digit_of};
 ghost use Rattle.generic_array.specs.Calls.{MayMap};
 ghost use Rattle.generic_array.specs.Entries.{ActsOnEntry};
 ghost use Rattle.generic_array.specs.Views.{items_of_view};
@@ -9,10 +9,9 @@ ghost use Rattle.std.specs.Int.Bits.{bit_xor};
 ghost use Rattle.std.specs.List.{range_with_len, zip};
 ghost use Rattle.std.specs.Prelude.{◌≡◌, ℕ, ◌+◌, ◌-◌, ◌*◌, ◌%◌, ◌^◌, ◌++◌, ◌<◌, ◌≤◌, IfOk, Ok, fold, length, map, replicate, reverse, sum};
 
+use crate::digits::digit_in;
 use crate::kinds::boxed_one_two_three;
-use ga_core_examples::answers::{gives, has};
-use ga_core_examples::digits::digit_in;
-use ga_core_examples::numbers::{four_five_six, one_two_three};
+use ga_test_items::answers::{gives, has};
 use generic_array::checks::{map_total_by, total_by};
 use generic_array::functional::{
     FunctionalSequence, MappedError, MappedGenericSequence, MappedPlace, MappedSequence, MapsInline,
@@ -20,7 +19,7 @@ use generic_array::functional::{
 use generic_array::sequence::{FromFallibleIterator, GenericSequence, SequenceItem};
 use generic_array::{
     AllocError, ArrayLength, BorrowedItems, BoxedArray, FillError, GenericArray, GenericArrayRef,
-    InlineLength, U3, U4, Unsigned, always,
+    InlineLength, U3, U4, Unsigned, always, arr,
 };
 use std::alloc::Global;
 use std::test::Fail;
@@ -294,24 +293,24 @@ fn masks_are_right(alloc: Global) -> Result<bool, AllocError> {
 
 /// Whether sums place by place are those worked out by hand.
 fn sums_are_right(alloc: Global) -> Result<bool, AllocError> {
-    let right = four_five_six();
-    let more = one_more_than_sums_of_both(one_two_three(), boxed_one_two_three(alloc)?);
-    Ok(has(place_sums(one_two_three(), right.view()), &[5, 7, 9]) && has(more, &[3, 5, 7]))
+    let right = arr![4u32, 5, 6];
+    let more = one_more_than_sums_of_both(arr![1, 2, 3], boxed_one_two_three(alloc)?);
+    Ok(has(place_sums(arr![1, 2, 3], right.view()), &[5, 7, 9]) && has(more, &[3, 5, 7]))
 }
 
 fn sums_stand_beside_both_sides() -> bool {
-    let (sums, left, right) = sums_and_sides(one_two_three(), four_five_six());
+    let (sums, left, right) = sums_and_sides(arr![1u32, 2, 3], arr![4, 5, 6]);
     has(sums, &[5, 7, 9]) && has(left, &[1, 2, 3]) && has(right, &[4, 5, 6])
 }
 
 /// A dot product, a sum, and the values of polynomials.
 fn numbers(alloc: Global) -> Result<[u32; 4], AllocError> {
-    let right = four_five_six();
-    let scaled = scaled_sums(alloc, boxed_one_two_three(alloc)?, one_two_three(), 10)?;
+    let right = arr![4u32, 5, 6];
+    let scaled = scaled_sums(alloc, boxed_one_two_three(alloc)?, arr![1, 2, 3], 10)?;
     Ok([
-        dot(one_two_three(), right.view()),
+        dot(arr![1, 2, 3], right.view()),
         sum_of(right.view()),
-        value_from_highest(one_two_three(), 10),
+        value_from_highest(arr![1, 2, 3], 10),
         value_from_lowest(scaled, 10),
     ])
 }

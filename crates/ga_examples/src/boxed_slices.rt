@@ -2,7 +2,7 @@
 ghost use Rattle.std.specs.List.{list_any};
 ghost use Rattle.std.specs.Prelude.{◌≡◌, ◌==◌, ◌++◌, ◌<◌, ◌≤◌, ◌↔◌, ◌^◌, IsTrue, Some, drop, length, replicate, slice_get, slice_set, sum};
 
-use ga_core_examples::answers::gives;
+use ga_test_items::answers::gives;
 use generic_array::{AllocError, BoxedArray, U3, U4, Unsigned, box_arr};
 use std::alloc::Global;
 use std::test::Fail;

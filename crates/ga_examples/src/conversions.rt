@@ -1,12 +1,11 @@
 //! Conversions by the traits of std, arrays of zeros, and types with a length.
 ghost use Rattle.std.specs.Prelude.{◌≡◌, ◌∷◌, [], ◌↔◌, IfOk, IsOk, Ok, drop, length, replicate, take};
 
-use ga_core_examples::answers::{gives, has};
-use ga_core_examples::numbers::one_two_three;
+use ga_test_items::answers::{gives, has};
 use generic_array::sequence::{Concat, Split};
 use generic_array::{
     AllocError, ArrayLength, BoxedArray, GenericArray, InlineLength, LengthError, U2, U3, U4, U6,
-    U16,
+    U16, arr,
 };
 use std::alloc::Global;
 use std::convert::AsSlice;
@@ -152,9 +151,9 @@ fn conversions_keep_the_items(rt: HostRuntime) {
 #[test]
 fn conversions_through_vectors_keep_the_items(rt: HostRuntime) {
     let alloc = rt.alloc();
-    assert!(rt; gives_again(through_a_vector(alloc, one_two_three()), &[1, 2, 3]));
-    assert!(rt; gives_again(boxed_through_a_vector(alloc, one_two_three()), &[1, 2, 3]));
-    assert!(rt; gives(vector_as_in_std(alloc, one_two_three()), &[1, 2, 3]));
+    assert!(rt; gives_again(through_a_vector(alloc, arr![1, 2, 3]), &[1, 2, 3]));
+    assert!(rt; gives_again(boxed_through_a_vector(alloc, arr![1, 2, 3]), &[1, 2, 3]));
+    assert!(rt; gives(vector_as_in_std(alloc, arr![1, 2, 3]), &[1, 2, 3]));
 }
 
 /// Whether a default with a length as its parameter is one of its number.

@@ -1,15 +1,14 @@
 //! Rows made by a map and joined, of any length: hex digits and back, two arrays in turn, the ends
 //! of rows.
-ghost use Rattle.ga_core_examples.specs.Digits.{hex_byte, hex_digit};
+ghost use Rattle.ga_examples.specs.Digits.{hex_byte, hex_digit};
 ghost use Rattle.generic_array.specs.Length.{FitsInline};
 ghost use Rattle.generic_array.specs.Rows.{rows};
 ghost use Rattle.generic_array.specs.Tries.{try_map};
 ghost use Rattle.std.specs.List.{flat_map, zip};
 ghost use Rattle.std.specs.Prelude.{◌≡◌, ◌*◌, ◌/◌, ◌%◌, ◌∷◌, [], slice_index};
 
-use ga_core_examples::answers::{gives, has};
-use ga_core_examples::digits::{digit_in_hex, value_in_hex};
-use ga_core_examples::numbers::{four_five_six, one_two_three};
+use crate::digits::{digit_in_hex, value_in_hex};
+use ga_test_items::answers::{gives, has};
 use generic_array::sequence::{Flatten, Unflatten};
 use generic_array::{ArrayLength, GenericArray, U2, U3, U4, U6, arr};
 
@@ -107,7 +106,7 @@ fn hex_digits_are_written_and_read(rt: HostRuntime) {
 
 #[test]
 fn rows_are_joined_as_their_contracts_say(rt: HostRuntime) {
-    let lanes = interleaved::<U3, U6>(one_two_three(), four_five_six());
+    let lanes = interleaved::<U3, U6>(arr![1, 2, 3], arr![4, 5, 6]);
     assert!(rt; has(lanes, &[1, 4, 2, 5, 3, 6]));
     let bytes: GenericArray<u8, U6> = GenericArray::from_array([1, 2, 3, 4, 5, 6]);
     assert!(rt; has(ends_of_rows::<U2, U6, U4>(bytes), &[1, 3, 4, 6]));

@@ -3,7 +3,7 @@ ghost use Rattle.generic_array.specs.Rows.{rows};
 ghost use Rattle.std.specs.Int.{from_be_bytes, w16};
 ghost use Rattle.std.specs.Prelude.{◌≡◌, ◌↔◌, IfOk, IsOk, length, map};
 
-use ga_core_examples::answers::gives;
+use ga_test_items::answers::gives;
 use generic_array::sequence::Unflatten;
 use generic_array::{GenericArray, GenericArrayRef, LengthError, U2, U4, U8};
 

@@ -12,6 +12,8 @@ mod boxed_slices;
 #[cfg(test)]
 mod conversions;
 #[cfg(test)]
+mod digits;
+#[cfg(test)]
 mod flattened;
 #[cfg(test)]
 mod generic;

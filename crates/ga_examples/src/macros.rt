@@ -1,7 +1,7 @@
 //! Callers of the macros, each proved: what they stand for.
 ghost use Rattle.std.specs.Prelude.{◌≡◌, ◌∷◌, [], IfOk, IsOk, replicate};
 
-use ga_core_examples::answers::{gives, has};
+use ga_test_items::answers::{gives, has};
 use generic_array::{AllocError, BoxedArray, GenericArray, U0, U1, U2, U3, U6, arr, box_arr};
 use std::alloc::Global;
 

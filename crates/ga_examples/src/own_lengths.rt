@@ -6,7 +6,7 @@ ghost use Rattle.std.specs.List.{range_with_len};
 ghost use Rattle.std.specs.Prelude.{◌≡◌, ◌-◌, ◌/◌, ◌<◌, [], ◌∷◌, ◌++◌, ◌↔◌, IfOk, IsOk, IsTrue, length, map, slice_get};
 
 use arrayvec::ArrayVec;
-use ga_core_examples::answers::has;
+use ga_test_items::answers::has;
 use generic_array::sequence::Concat;
 use generic_array::{
     ArrayLength, GenericArray, InlineLength, LengthError, Store, U2, U10, Unsigned,

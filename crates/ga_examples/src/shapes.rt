@@ -3,12 +3,11 @@ ghost use Rattle.generic_array.specs.Views.{items_of_view};
 ghost use Rattle.std.specs.List.{flat_map, fold};
 ghost use Rattle.std.specs.Prelude.{◌≡◌, ◌+◌, ◌%◌, ◌^◌, ◌∷◌, [], IfOk};
 
-use ga_core_examples::numbers::one_two_three;
 use generic_array::sequence::{
     Concat, Flatten, Lengthen, Remove, Shorten, Split, Unflatten, iter_flat,
 };
 use generic_array::{
-    GenericArray, GenericArrayMut, GenericArrayRef, LengthError, U1, U2, U3, U4, U5,
+    GenericArray, GenericArrayMut, GenericArrayRef, LengthError, U1, U2, U3, U4, U5, arr,
 };
 
 /// Two rows of two.
@@ -179,7 +178,7 @@ fn sum_of_rows(rows: &Square) -> u32
 
 #[test]
 fn rows_give_their_items_and_those_of_their_copies(rt: HostRuntime) {
-    let rows = as_rows(with_four_last(one_two_three()));
+    let rows = as_rows(with_four_last(arr![1, 2, 3]));
     assert!(rt; copy_of_rows(&rows).is_ok_and(|all| all.as_slice() == [1, 2, 3, 4].as_slice()));
     assert!(rt; sum_of_rows(&rows) == 10);
 }

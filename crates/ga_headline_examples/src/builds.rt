@@ -1,8 +1,8 @@
 //! Builds and fills of iterators, inline and boxed, and what each leaves of its iterator.
 ghost use Rattle.std.specs.Prelude.{◌≡◌, ℕ, [], ◌∷◌, Err, IfOk, IsErr, None, Ok, OnErr, OnOk, Some, length};
 
-use ga_core_examples::answers::gives;
 use ga_headline::builds::{build, build_of_items, fill_boxed, fill_inline};
+use ga_test_items::answers::gives;
 use generic_array::{
     AllocError, ArrayLength, BoxedArray, FillError, GenericArray, InlineLength, LengthError, Never,
     U2, U3, Unsigned,

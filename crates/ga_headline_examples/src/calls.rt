@@ -3,9 +3,8 @@ ghost use Rattle.generic_array.specs.Views.{items_of_view};
 ghost use Rattle.std.specs.Prelude.{◌≡◌, ◌+◌, ◌%◌, ◌^◌, [], ◌∷◌, Err, IfOk, Ok, if◌then◌else◌, nat_eq, nat_lt};
 
 use crate::arrays::boxed_one_two_three;
-use ga_core_examples::answers::{gives, has};
-use ga_core_examples::numbers::{four_five_six, one_two_three};
 use ga_headline::calls::{fold, map, try_fold, try_map, zip};
+use ga_test_items::answers::{gives, has};
 use generic_array::{
     AllocError, ArrayLength, BoxedArray, GenericArray, GenericArrayRef, InlineLength, U3, always,
     arr,
@@ -128,7 +127,7 @@ fn stopped_past_three_in_view(view: GenericArrayRef<'_, u32, U3>) -> Result<u32,
 
 #[test]
 fn calls_run_in_order(rt: HostRuntime) -> Result<(), Fail> {
-    let array = one_two_three();
+    let array = arr![1u32, 2, 3];
     assert!(rt; has(totals_of_view(array.view()), &[1, 3, 6]) && sum_of_reference(&array) == 6);
     assert!(rt; has(totals_of_inline(array), &[1, 3, 6]));
     let boxed = boxed_one_two_three(rt.alloc())?;
@@ -141,7 +140,7 @@ fn two_sides_are_called_in_order(rt: HostRuntime) -> Result<(), Fail> {
     let boxed = boxed_one_two_three(rt.alloc())?;
     assert!(rt;
         gives(
-            sums_of_boxed_and_view(rt.alloc(), boxed, four_five_six().view()),
+            sums_of_boxed_and_view(rt.alloc(), boxed, arr![4u32, 5, 6].view()),
             &[5, 7, 9]
         )
     );

@@ -1,8 +1,8 @@
 //! Runs over joined lists, at any kind.
-use ga_core_examples::numbers::one_two_three;
 use ga_headline::joined_runs::{
     folds_join, maps_join, runs_of_steps_join, try_folds_join, try_maps_join, zips_join,
 };
+use generic_array::arr;
 use generic_array::sequence::{GenericSequence, SequenceItem};
 
 fn all_join<S: GenericSequence<u32>>(s: &S)
@@ -29,5 +29,5 @@ where
 
 #[test]
 fn runs_join(rt: HostRuntime) {
-    all_join(&one_two_three().view());
+    all_join(&arr![1u32, 2, 3].view());
 }

@@ -3,9 +3,8 @@ ghost use Rattle.generic_array.specs.Views.{items_of_view};
 ghost use Rattle.std.specs.Prelude.{◌≡◌, length};
 
 use crate::arrays::boxed_one_two_three;
-use ga_core_examples::numbers::one_two_three;
 use ga_headline::lists::shown;
-use generic_array::{ArrayLength, BoxedArray, GenericArray, GenericArrayRef, Unsigned};
+use generic_array::{ArrayLength, BoxedArray, GenericArray, GenericArrayRef, Unsigned, arr};
 use std::test::Fail;
 
 fn shown_inline<T: Default + Drop, N: ArrayLength<T>>(array: &GenericArray<T, N>) -> &[T]
@@ -33,7 +32,7 @@ fn shown_of_view<'a, T: Default + Drop, N: ArrayLength<T>>(
 
 #[test]
 fn each_kind_shows_its_items(rt: HostRuntime) -> Result<(), Fail> {
-    let inline = one_two_three();
+    let inline = arr![1u32, 2, 3];
     let boxed = boxed_one_two_three(rt.alloc())?;
     let expected: &[u32] = &[1, 2, 3];
     assert!(rt; shown_inline(&inline) == expected && shown_boxed(&boxed) == expected);

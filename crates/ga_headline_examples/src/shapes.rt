@@ -3,11 +3,11 @@ ghost use Rattle.generic_array.specs.Length.{FitsInline};
 ghost use Rattle.generic_array.specs.Views.{items_of_view};
 ghost use Rattle.std.specs.Prelude.{◌≡◌, ◌+◌, ◌*◌, ◌<◌, ◌++◌, List, length};
 
-use ga_core_examples::answers::has;
 use ga_headline::shapes::{
     concat_then_split, flatten_then_unflatten, pop_then_put, put_then_pop, split_then_concat,
     split_view, unflatten_then_flatten,
 };
+use ga_test_items::answers::has;
 use generic_array::{
     ArrayLength, GenericArray, GenericArrayRef, U0, U2, U3, U4, U5, Unsigned, arr,
 };

@@ -4,11 +4,10 @@ ghost use Rattle.generic_array.specs.declared.steps.step.Step.TheVariants.{Look,
 ghost use Rattle.std.specs.Prelude.{◌≡◌, [], ◌∷◌, ◌++◌, IfOk, OnOk, Some, length};
 
 use crate::arrays::boxed_one_two_three;
-use ga_core_examples::numbers::one_two_three;
 use ga_headline::steps::walk;
 use generic_array::steps::{Reply, Step};
 use generic_array::{
-    AllocError, ArrayLength, BoxedArray, BoxedArrayIter, GenericArray, GenericArrayIter, U3,
+    AllocError, ArrayLength, BoxedArray, BoxedArrayIter, GenericArray, GenericArrayIter, U3, arr,
 };
 use std::alloc::Global;
 use std::test::Fail;
@@ -64,7 +63,7 @@ pub fn are_right(alloc: Global, replies: &[Reply<u32, usize>]) -> Result<bool, A
 #[test]
 fn steps_cut_an_array_from_both_ends(rt: HostRuntime) -> Result<(), Fail> {
     let mut replies = Vec::new(rt.alloc());
-    let left = walked_inline(one_two_three(), steps(rt.alloc())?, &mut replies)?;
+    let left = walked_inline(arr![1, 2, 3], steps(rt.alloc())?, &mut replies)?;
     assert!(rt; left.as_slice() == [2].as_slice() && are_right(rt.alloc(), replies.as_slice())?);
     Ok(())
 }

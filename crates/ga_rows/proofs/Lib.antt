@@ -1,5 +1,4 @@
 pub mod DecimalLemmas
-pub mod StatusLemmas
 pub mod SumLemmas
 pub mod TableLemmas
 pub mod TextLemmas

@@ -1,4 +1,5 @@
 pub mod Arguments
+pub mod Ends
 pub mod Listed
 pub mod Status
 pub mod Text

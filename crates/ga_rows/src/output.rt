@@ -133,6 +133,7 @@ fn put_from_last<N: ArrayLength<u8>, W: Write>(
 }
 
 // Puts the line of one row behind the piece.
+// The error is that of `write_hex`, whose contract can't say of any writer that it doesn't fail.
 #[inline(always)]
 fn put_row<N: ArrayLength<u8>>(
     piece: &mut Piece,

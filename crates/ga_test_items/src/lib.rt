@@ -1,7 +1,9 @@
-//! What tests share: counted items, iterators and texts that are written down, and the player of
-//! cases.
+//! What tests share: comparisons, counted items, iterators and texts that are written down, and the
+//! player of cases.
 #![tactic(auto)]
 
+/// Comparisons of what calls made.
+pub mod answers;
 /// Items whose drops and clones are counted.
 pub mod counted;
 /// Arrays of known numbers and of counted items.

@@ -51,7 +51,8 @@ pub fn from_bytes(bytes: GenericArray<u8, U14>) -> Header
     }
 }
 
-/// What is made of a header is read as that header.
+/// What is made of a header is read as that header: a law of the two calls. Their own clauses say
+/// what each makes.
 pub fn read_back(header: Header) -> Header
     ensures { result ≡ header }
 {
