@@ -1,6 +1,5 @@
 //! The tests, a module for each subject, and what they share.
 mod builds;
-mod drops;
 mod first_errors;
 mod liars;
 mod random_steps;

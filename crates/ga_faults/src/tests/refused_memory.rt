@@ -4,7 +4,6 @@
 mod builds;
 mod clones;
 mod conversions;
-mod drops;
 mod fills;
 mod maps;
 mod steps;

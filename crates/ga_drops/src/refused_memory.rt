@@ -1,5 +1,5 @@
 //! Each call that takes or makes items, while memory is refused: it leaves none.
-use crate::tests::drops::first_wrong_of;
+use crate::drops::first_wrong_of;
 use ga_test_items::counted::Counts;
 use std::process::Abort;
 

@@ -1,6 +1,6 @@
 //! What is taken out of a boxed array, from both ends, and out of a block.
-use crate::tests::drops::builds::by_clone;
-use crate::tests::drops::inline_walks::by_takes;
+use crate::drops::builds::by_clone;
+use crate::drops::inline_walks::by_takes;
 use ga_test_items::counted::Counts;
 use ga_test_items::played::{
     Item, Played, boxed_items, ends, ends_made, falling, first_wrong, later, nth_item, rising,

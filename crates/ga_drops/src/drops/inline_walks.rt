@@ -1,7 +1,7 @@
 //! What is taken out of an inline array, from both ends.
 ghost use Rattle.generic_array.specs.Length.{FitsInline};
 
-use crate::tests::drops::builds::by_clone;
+use crate::drops::builds::by_clone;
 use ga_test_items::counted::Counts;
 use ga_test_items::played::{
     Item, Played, ends, ends_made, falling, first_wrong, inline_items, later, nth_item, rising,
