@@ -6,13 +6,11 @@ mod table;
 use ga_headline::steps::walk;
 use ga_headline::whole::{Stopped, build_map_walk};
 use ga_test_items::counted::{Counted, Counts};
-use ga_test_items::items::counted_from;
+use ga_test_items::items::boxed_counted_from;
 use ga_test_items::outcome::{Outcome, play};
 use ga_test_items::scripted::{Numbered, Script, Scripted, digits};
 use generic_array::steps::{Reply, Step};
-use generic_array::{
-    AllocError, ArrayLength, BoxedArray, BoxedArrayIter, FillError, GenericArray, U3,
-};
+use generic_array::{AllocError, BoxedArray, BoxedArrayIter, FillError, U3, Unsigned};
 use std::alloc::Global;
 
 fn count_of<T>(items: &[T]) -> usize {
@@ -29,9 +27,9 @@ fn set_and_taken<T: Drop>(alloc: Global, item: T) -> Result<Vec<Step<T>>, AllocE
 }
 
 /// The numbers of the items that a walk leaves, or `None` where it is refused.
-fn walked<T: Default + Numbered + Drop, N: ArrayLength<T>>(
+fn walked<T: Numbered + Drop, N: Unsigned>(
     alloc: Global,
-    items: GenericArray<T, N>,
+    items: BoxedArray<T, N>,
     steps: Vec<Step<T>>,
 ) -> Option<u32> {
     let mut replies: Vec<Reply<T, usize>> = Vec::new(alloc);
@@ -95,9 +93,15 @@ fn outcome_of(end: Option<u32>, wanted: u32, counts: &Counts) -> Outcome {
 
 fn walk_of_three(alloc: Global) -> Outcome {
     let counts = Counts::new();
+    let Ok(items) = boxed_counted_from::<U3>(alloc, &counts, 1) else {
+        return outcome_of(None, 23, &counts);
+    };
     let end = match set_and_taken(alloc, Counted::new(&counts, 9)) {
-        Ok(steps) => walked::<_, U3>(alloc, counted_from(&counts, 1), steps),
-        Err(AllocError) => None,
+        Ok(steps) => walked(alloc, items, steps),
+        Err(AllocError) => {
+            drop(items);
+            None
+        }
     };
     outcome_of(end, 23, &counts)
 }

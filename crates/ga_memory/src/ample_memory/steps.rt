@@ -1,12 +1,10 @@
 //! Runs of steps, whose replies need room, alone and behind a map and a build.
-ghost use Rattle.generic_array.specs.Length.{FitsInline};
-
-use super::{Played, good};
+use super::{first_of, good};
 use ga_headline::steps::walk;
 use ga_headline::whole::{build_map_walk, map_walk};
-use ga_test_items::items::{boxed_from_one, from_one, number};
+use ga_test_items::items::{boxed_from_one, number};
 use generic_array::steps::{Reply, Step, run_steps};
-use generic_array::{AllocError, ArrayLength, BoxedArray, Unsigned};
+use generic_array::{AllocError, BoxedArray, Unsigned};
 use std::alloc::Global;
 
 fn count_of(items: &[u32]) -> usize {
@@ -35,11 +33,10 @@ fn is_run<N: Unsigned>(alloc: Global) -> Result<bool, AllocError> {
     Ok(run.is_ok() && replies.len() == N::USIZE)
 }
 
-fn is_walked<N: ArrayLength<u32>>(alloc: Global) -> Result<bool, AllocError>
-    requires { FitsInline N.USIZE }
-{
+fn is_walked<N: Unsigned>(alloc: Global) -> Result<bool, AllocError> {
     let (steps, mut replies) = (takes(alloc, N::USIZE)?, none(alloc));
-    let left = walk(from_one::<N>(), steps, &mut count_of, &mut replies);
+    let boxed = boxed_from_one::<N>(alloc)?;
+    let left = walk(boxed, steps, &mut count_of, &mut replies);
     Ok(left.is_ok() && replies.len() == N::USIZE)
 }
 
@@ -70,10 +67,8 @@ fn is_built_mapped_and_walked<N: Unsigned>(alloc: Global) -> Result<bool, AllocE
 }
 
 /// The calls that make as many steps as there are items.
-pub fn of_runs<N: ArrayLength<u32>>(alloc: Global) -> [Played; 4]
-    requires { FitsInline N.USIZE }
-{
-    [
+pub fn of_runs<N: Unsigned>(alloc: Global) -> Option<&'static str> {
+    first_of(&[
         ("run_steps", is_run::<N>(alloc) == Ok(true)),
         ("walk", is_walked::<N>(alloc) == Ok(true)),
         ("map_walk", is_mapped_and_walked::<N>(alloc) == Ok(true)),
@@ -81,5 +76,5 @@ pub fn of_runs<N: ArrayLength<u32>>(alloc: Global) -> [Played; 4]
             "build_map_walk",
             is_built_mapped_and_walked::<N>(alloc) == Ok(true),
         ),
-    ]
+    ])
 }
