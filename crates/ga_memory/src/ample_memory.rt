@@ -12,10 +12,10 @@ mod conversions;
 mod copies;
 mod functional;
 mod key_table;
-mod steps;
+pub mod steps;
 
 use ga_test_items::items::{boxed_from_one, from_one};
-use generic_array::{AllocError, ArrayLength, BoxedArray, Const, LiveBlock, U0, U1, U2, Unsigned};
+use generic_array::{AllocError, ArrayLength, BoxedArray, Const, LiveBlock, U0, U1, U2};
 use std::alloc::Global;
 use std::convert::AsSlice;
 use std::test::Fail;

@@ -3,7 +3,7 @@
 mod needs_none;
 mod table;
 
-use ga_headline::steps::walk;
+use crate::ample_memory::steps::{count_of, walked};
 use ga_headline::whole::{Stopped, build_map_walk};
 use ga_test_items::counted::{Counted, Counts};
 use ga_test_items::items::boxed_counted_from;
@@ -12,10 +12,6 @@ use ga_test_items::scripted::{Numbered, Script, Scripted, digits};
 use generic_array::steps::{Reply, Step};
 use generic_array::{AllocError, BoxedArray, BoxedArrayIter, FillError, U3, Unsigned};
 use std::alloc::Global;
-
-fn count_of<T>(items: &[T]) -> usize {
-    items.len()
-}
 
 /// The item is put in the place of the first, and taken.
 fn set_and_taken<T: Drop>(alloc: Global, item: T) -> Result<Vec<Step<T>>, AllocError> {
@@ -27,13 +23,13 @@ fn set_and_taken<T: Drop>(alloc: Global, item: T) -> Result<Vec<Step<T>>, AllocE
 }
 
 /// The numbers of the items that a walk leaves, or `None` where it is refused.
-fn walked<T: Numbered + Drop, N: Unsigned>(
+fn left_by_a_walk<T: Numbered + Drop, N: Unsigned>(
     alloc: Global,
     items: BoxedArray<T, N>,
     steps: Vec<Step<T>>,
 ) -> Option<u32> {
-    let mut replies: Vec<Reply<T, usize>> = Vec::new(alloc);
-    match walk(items, steps, &mut count_of::<T>, &mut replies) {
+    let mut replies = Vec::new(alloc);
+    match walked(items, steps, &mut replies) {
         Ok(left) => Some(digits(left.as_slice())),
         Err(AllocError) => None,
     }
@@ -97,7 +93,7 @@ fn walk_of_three(alloc: Global) -> Outcome {
         return outcome_of(None, 23, &counts);
     };
     let end = match set_and_taken(alloc, Counted::new(&counts, 9)) {
-        Ok(steps) => walked(alloc, items, steps),
+        Ok(steps) => left_by_a_walk(alloc, items, steps),
         Err(AllocError) => {
             drop(items);
             None

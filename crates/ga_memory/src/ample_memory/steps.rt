@@ -3,12 +3,21 @@ use super::{first_of, good};
 use ga_headline::steps::walk;
 use ga_headline::whole::{build_map_walk, map_walk};
 use ga_test_items::items::{boxed_from_one, number};
-use generic_array::steps::{Reply, Step, run_steps};
+use generic_array::steps::{Reply, Step, TwoEndedSequence, run_steps};
 use generic_array::{AllocError, BoxedArray, Unsigned};
 use std::alloc::Global;
 
-fn count_of(items: &[u32]) -> usize {
+pub fn count_of<T>(items: &[T]) -> usize {
     items.len()
+}
+
+/// A walk over a sequence of any kind, which looks at the number of items.
+pub fn walked<T: Drop, S: TwoEndedSequence<T>>(
+    items: S,
+    steps: Vec<Step<T>>,
+    replies: &mut Vec<Reply<T, usize>>,
+) -> Result<S::TwoEnded, AllocError> {
+    walk(items, steps, &mut count_of::<T>, replies)
 }
 
 /// So many steps, each of which takes the item in front.
@@ -29,21 +38,28 @@ fn none(alloc: Global) -> Vec<Reply<u32, usize>> {
 fn is_run<N: Unsigned>(alloc: Global) -> Result<bool, AllocError> {
     let (steps, mut replies) = (takes(alloc, N::USIZE)?, none(alloc));
     let mut items = boxed_from_one::<N>(alloc)?.into_iter();
-    let run = run_steps(&mut items, steps, &mut count_of, &mut replies);
+    let run = run_steps(&mut items, steps, &mut count_of::<u32>, &mut replies);
     Ok(run.is_ok() && replies.len() == N::USIZE)
 }
 
 fn is_walked<N: Unsigned>(alloc: Global) -> Result<bool, AllocError> {
     let (steps, mut replies) = (takes(alloc, N::USIZE)?, none(alloc));
     let boxed = boxed_from_one::<N>(alloc)?;
-    let left = walk(boxed, steps, &mut count_of, &mut replies);
+    let left = walked(boxed, steps, &mut replies);
     Ok(left.is_ok() && replies.len() == N::USIZE)
 }
 
 fn is_mapped_and_walked<N: Unsigned>(alloc: Global) -> Result<bool, AllocError> {
     let (steps, mut replies) = (takes(alloc, N::USIZE)?, none(alloc));
     let boxed = boxed_from_one::<N>(alloc)?;
-    let left = map_walk(boxed, alloc, &mut good, steps, &mut count_of, &mut replies);
+    let left = map_walk(
+        boxed,
+        alloc,
+        &mut good,
+        steps,
+        &mut count_of::<u32>,
+        &mut replies,
+    );
     Ok(left.is_ok() && replies.len() == N::USIZE)
 }
 
@@ -60,7 +76,7 @@ fn is_built_mapped_and_walked<N: Unsigned>(alloc: Global) -> Result<bool, AllocE
         alloc,
         &mut good,
         steps,
-        &mut count_of,
+        &mut count_of::<u32>,
         &mut replies,
     );
     Ok(left.is_ok() && replies.len() == N::USIZE)
