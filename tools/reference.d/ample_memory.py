@@ -1,7 +1,8 @@
-"""Checks that each public call that may ask for memory is played where memory is ample.
+"""Checks that each public call that may report want of memory is played where memory is ample.
 
 No clause says that memory is there, so a body that only reports want of it is proved, and a test
-alone shows another. A call may ask if the error of its result can tell that memory is refused.
+alone shows another. A call may report it if its result has an error that tells of it by name. Where
+the error is an open type, as that of the traits' `map`, no body can make one.
 """
 import re
 
@@ -11,20 +12,19 @@ from sources import ANGLE, closing, parted
 
 # The tests whose tables have a line for each such call, which begins with its name as a text.
 TABLES = "crates/ga_memory/src"
-FILES = "ample_memory*/**/*.rt", "ample_memory.rt"
+FILES = "ample_memory.rt", "ample_memory/*.rt"
 LINE = re.compile(r'\(\s*"([\w:]+)",')
-# What tells that memory is refused: these, the error of a trait, and what is declared with one.
+# What tells of refused memory: these, and what is declared with one.
 REFUSALS = {"AllocError", "AllocFailed"}
-OF_A_TRAIT = re.compile(r"(?:\b[A-Z]\w*|>)::Error\b")
 
 
 def tells(text, refusals):
-    """Whether a type may tell that memory is refused."""
-    return bool(OF_A_TRAIT.search(text)) or not refusals.isdisjoint(re.findall(r"\w+", text))
+    """Whether a type names one that tells of refused memory."""
+    return not refusals.isdisjoint(re.findall(r"\w+", text))
 
 
 def told_by(site):
-    """The names of the types that may tell that memory is refused."""
+    """The names of the types that tell of refused memory."""
     declared = {item.name: item.head.partition("=")[2] for item in site.items
                 if item.kind == "type"}
     declared |= {item.name: " ".join(variant.head for variant in item.of_kind("variant"))
@@ -53,14 +53,19 @@ def is_never_refused(item):
     return any(it.name == "is_infallible" and it.clauses[0].term.endswith("⊤") for it in ghosts)
 
 
+def as_called(item):
+    """The call of our trait that a member of an impl stands for, or else the item."""
+    trait = item.owner.trait if item.owner.kind == "impl" else None
+    members = trait.members if trait else []
+    return next((it for it in members if (it.kind, it.name) == ("fn", item.name)), item)
+
+
 def calls(site):
-    """The public calls that may ask for memory. One of an impl of our traits is the trait's."""
+    """The public calls that may report want of memory, those of our traits by any of the impls."""
     refusals = told_by(site)
-    for item in site.shown():
-        of_ours = item.kind == "fn" and item.owner.kind == "impl" and item.owner.trait
-        if item.kind == "fn" and not of_ours and not site.is_law(item):
-            if tells(error_of(item), refusals) and not is_never_refused(item):
-                yield item
+    found = [item for item in site.shown() if item.kind == "fn" and not site.is_law(item)]
+    found = [item for item in found if tells(error_of(item), refusals)]
+    return list(dict.fromkeys(as_called(item) for item in found if not is_never_refused(item)))
 
 
 def owner_of(item):
@@ -83,14 +88,13 @@ def unplayed(names):
     folder = names.site.top / TABLES
     files = sorted({file for pattern in FILES for file in folder.glob(pattern)})
     lines = {line for file in files for line in LINE.findall(file.read_text("utf-8"))}
-    all_calls, played = list(calls(names.site)), {}
-    for item in all_calls:
-        played[item] = {line for line in lines if any(
-            is_named(path, line.split("::")) for path in names.paths.get(item, []))}
-    for item in all_calls:
-        is_played = played[item] or any(
-            played[other] and hands_over(other, item) for other in all_calls)
+    functions = [item for item in names.paths if item.kind == "fn"]
+    of_lines = {line: [item for item in functions if any(
+        is_named(path, line.split("::")) for path in names.paths[item])] for line in sorted(lines)}
+    played = {item for items in of_lines.values() for item in items}
+    for item in calls(names.site):
+        is_played = item in played or any(hands_over(other, item) for other in played)
         wrong = f"{names.place(item)}: no table of {TABLES} has {names.full_name(item)}"
-        yield None if is_played else f"{wrong}, which may ask for memory"
-    for line in sorted(lines - set().union(*played.values())):
-        yield f"{TABLES}: {line} isn't a call that may ask for memory"
+        yield None if is_played else f"{wrong}, which may report want of memory"
+    for line, items in of_lines.items():
+        yield None if items else f"{TABLES}: {line} isn't a public call"

@@ -1,8 +1,9 @@
-//! Every call that may ask for memory, with ample memory: a body that only reports want of memory
-//! meets its contract.
+//! Every call that may report want of memory, with ample memory: a body that only does so meets its
+//! contract.
 //!
 //! Each call is a line of a table, by its name, and each table is played at every length of the
-//! test. Forms with a borrowed closure or iterator are called by those that take it by value.
+//! test. Forms with a borrowed closure or iterator are called by those that take it by value. Calls
+//! whose error is an open type, as the traits' `map`, have no line: no body of theirs can make one.
 ghost use Rattle.generic_array.specs.Length.{FitsInline};
 ghost use Rattle.std.specs.Prelude.{◌≤◌};
 
@@ -11,10 +12,10 @@ mod conversions;
 mod copies;
 mod functional;
 mod key_table;
-mod steps;
+pub mod steps;
 
 use ga_test_items::items::{boxed_from_one, from_one};
-use generic_array::{AllocError, ArrayLength, BoxedArray, Const, LiveBlock, U0, U1, U2, Unsigned};
+use generic_array::{AllocError, ArrayLength, BoxedArray, Const, LiveBlock, U0, U1, U2};
 use std::alloc::Global;
 use std::convert::AsSlice;
 use std::test::Fail;
@@ -92,84 +93,68 @@ fn native_goes_to_a_block<const U: usize>(alloc: Global) -> Played
     ("BoxedArray::from_array", is_all(made, 7, U))
 }
 
-/// Three blocks of the items of `from_one`.
-fn three<N: Unsigned>(alloc: Global) -> Result<[BoxedArray<u32, N>; 3], AllocError> {
-    Ok([
-        boxed_from_one(alloc)?,
-        boxed_from_one(alloc)?,
-        boxed_from_one(alloc)?,
-    ])
-}
-
-/// The name of the first call that didn't make what it should.
-pub fn first_failed<N: ArrayLength<u32>>(alloc: Global) -> Result<Option<&'static str>, AllocError>
-    requires { FitsInline N.USIZE }
-{
-    let len = N::USIZE;
-    let others = [
-        ("LiveBlock::new", block_takes(alloc, len)),
-        ("KeyTable::insert", key_table::keeps(alloc, len as u64)),
-    ];
-    let vector = from_one::<N>().into_vec(alloc)?;
-    let slice = from_one::<N>().into_boxed_slice(alloc)?;
-    let items = from_one::<N>().into_vec(alloc)?;
-    let boxed = boxed_from_one::<N>(alloc)?;
-    let other = boxed_from_one::<N>(alloc)?;
-    let another = boxed_from_one::<N>(alloc)?;
-    let tables: [&[Played]; 11] = [
-        &builds::of_closures::<N>(alloc),
-        &builds::of_iterators::<N>(alloc),
-        &builds::of_traits::<N>(alloc, items),
-        &conversions::of_arrays::<N>(alloc),
-        &functional::of_blocks::<N>(alloc, &boxed),
-        &conversions::of_blocks::<N>(alloc, boxed, other, vector, slice),
-        &functional::of_maps::<N>(alloc, three(alloc)?),
-        &functional::of_zips::<N>(alloc, three(alloc)?),
-        &functional::of_promise::<N>(alloc, three(alloc)?),
-        &copies::of_arrays::<N>(another),
-        &steps::of_runs::<N>(alloc),
-    ];
-    Ok(first_of(tables.as_slice()).or(first_of(&[&others])))
-}
-
-/// The name of the first call of tables that didn't make what it should.
-pub fn first_of(tables: &[&[Played]]) -> Option<&'static str> {
-    for table in tables {
-        for (name, is_right) in *table {
-            if !*is_right {
-                return Some(*name);
-            }
+/// The name of the first call of a table that didn't make what it should.
+pub fn first_of(table: &[Played]) -> Option<&'static str> {
+    for (name, is_right) in table {
+        if !*is_right {
+            return Some(*name);
         }
     }
     None
 }
 
+/// The name of the first call of all that didn't make what it should.
+pub fn first_failed<N: ArrayLength<u32>>(alloc: Global) -> Result<Option<&'static str>, AllocError>
+    requires { FitsInline N.USIZE }
+{
+    let len = N::USIZE;
+    let vector = from_one::<N>().into_vec(alloc)?;
+    let slice = from_one::<N>().into_boxed_slice(alloc)?;
+    let boxed = boxed_from_one::<N>(alloc)?;
+    let other = boxed_from_one::<N>(alloc)?;
+    let another = boxed_from_one::<N>(alloc)?;
+    let others = first_of(&[
+        ("LiveBlock::new", block_takes(alloc, len)),
+        ("KeyTable::insert", key_table::keeps(alloc, len as u64)),
+    ]);
+    Ok(
+        others
+            .or(builds::of_closures::<N>(alloc))
+            .or(builds::of_iterators::<N>(alloc))
+            .or(builds::of_traits::<N>(alloc))
+            .or(conversions::of_arrays::<N>(alloc))
+            .or(functional::of_blocks::<N>(alloc, &another))
+            .or(conversions::of_blocks::<N>(alloc, boxed, other, vector, slice))
+            .or(copies::of_arrays::<N>(another))
+            .or(steps::of_runs::<N>(alloc)),
+    )
+}
+
 #[test]
 fn every_call_finds_ample_memory(rt: HostRuntime) -> Result<(), Fail> {
     let alloc = rt.alloc();
-    let failed = first_failed::<U0>(alloc)?;
-    assert!(rt; failed.is_none(), "{failed:?} at no items");
-    let failed = first_failed::<U1>(alloc)?;
-    assert!(rt; failed.is_none(), "{failed:?} at one item");
-    let failed = first_failed::<U2>(alloc)?;
-    assert!(rt; failed.is_none(), "{failed:?} at two items");
-    let failed = first_failed::<Const<65>>(alloc)?;
-    assert!(rt; failed.is_none(), "{failed:?} at 65 items");
-    let failed = first_failed::<Const<144>>(alloc)?;
-    assert!(rt; failed.is_none(), "{failed:?} at 144 items");
+    let played = [
+        (first_failed::<U0>(alloc)?, 0),
+        (first_failed::<U1>(alloc)?, 1),
+        (first_failed::<U2>(alloc)?, 2),
+        (first_failed::<Const<65>>(alloc)?, 65),
+        (first_failed::<Const<144>>(alloc)?, 144),
+    ];
+    for (failed, len) in played {
+        assert!(rt; failed.is_none(), "{failed:?} at {len} items");
+    }
     Ok(())
 }
 
 #[test]
 fn native_arrays_find_ample_memory(rt: HostRuntime) {
     let alloc = rt.alloc();
-    let played = [
+    let failed = first_of(&[
         native_goes_to_a_block::<0>(alloc),
         native_goes_to_a_block::<1>(alloc),
         native_goes_to_a_block::<2>(alloc),
         native_goes_to_a_block::<65>(alloc),
         native_goes_to_a_block::<144>(alloc),
-    ];
-    let failed = first_of(&[&played]);
+    ]);
     assert!(rt; failed.is_none(), "{failed:?}");
 }

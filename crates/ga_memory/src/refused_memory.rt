@@ -3,21 +3,15 @@
 mod needs_none;
 mod table;
 
-use ga_headline::steps::walk;
+use crate::ample_memory::steps::{count_of, walked};
 use ga_headline::whole::{Stopped, build_map_walk};
 use ga_test_items::counted::{Counted, Counts};
-use ga_test_items::items::counted_from;
+use ga_test_items::items::boxed_counted_from;
 use ga_test_items::outcome::{Outcome, play};
 use ga_test_items::scripted::{Numbered, Script, Scripted, digits};
 use generic_array::steps::{Reply, Step};
-use generic_array::{
-    AllocError, ArrayLength, BoxedArray, BoxedArrayIter, FillError, GenericArray, U3,
-};
+use generic_array::{AllocError, BoxedArray, BoxedArrayIter, FillError, U3, Unsigned};
 use std::alloc::Global;
-
-fn count_of<T>(items: &[T]) -> usize {
-    items.len()
-}
 
 /// The item is put in the place of the first, and taken.
 fn set_and_taken<T: Drop>(alloc: Global, item: T) -> Result<Vec<Step<T>>, AllocError> {
@@ -29,13 +23,13 @@ fn set_and_taken<T: Drop>(alloc: Global, item: T) -> Result<Vec<Step<T>>, AllocE
 }
 
 /// The numbers of the items that a walk leaves, or `None` where it is refused.
-fn walked<T: Default + Numbered + Drop, N: ArrayLength<T>>(
+fn left_by_a_walk<T: Numbered + Drop, N: Unsigned>(
     alloc: Global,
-    items: GenericArray<T, N>,
+    items: BoxedArray<T, N>,
     steps: Vec<Step<T>>,
 ) -> Option<u32> {
-    let mut replies: Vec<Reply<T, usize>> = Vec::new(alloc);
-    match walk(items, steps, &mut count_of::<T>, &mut replies) {
+    let mut replies = Vec::new(alloc);
+    match walked(items, steps, &mut replies) {
         Ok(left) => Some(digits(left.as_slice())),
         Err(AllocError) => None,
     }
@@ -95,9 +89,15 @@ fn outcome_of(end: Option<u32>, wanted: u32, counts: &Counts) -> Outcome {
 
 fn walk_of_three(alloc: Global) -> Outcome {
     let counts = Counts::new();
+    let Ok(items) = boxed_counted_from::<U3>(alloc, &counts, 1) else {
+        return outcome_of(None, 23, &counts);
+    };
     let end = match set_and_taken(alloc, Counted::new(&counts, 9)) {
-        Ok(steps) => walked::<_, U3>(alloc, counted_from(&counts, 1), steps),
-        Err(AllocError) => None,
+        Ok(steps) => left_by_a_walk(alloc, items, steps),
+        Err(AllocError) => {
+            drop(items);
+            None
+        }
     };
     outcome_of(end, 23, &counts)
 }

@@ -1,9 +1,9 @@
 //! Builds of blocks from closures, from iterators and of copies, by the type and by the traits.
-use super::{Played, counts, counts_built, good, is_all};
-use ga_headline::builds::{build_of_items, fill_boxed};
+use super::{counts, counts_built, first_of, good, is_all};
+use ga_headline::builds::fill_boxed;
 use ga_test_items::items::number;
 use generic_array::sequence::{FallibleGenericSequence, FromFallibleIterator, GenericSequence};
-use generic_array::{AllocError, BoxedArray, FillError, Never, Unsigned};
+use generic_array::{BoxedArray, Unsigned};
 use std::alloc::Global;
 
 /// The number of an item, as the good result of a call that may fail.
@@ -12,9 +12,9 @@ fn good_number(index: usize) -> Result<u32, u32> {
 }
 
 /// The builds from closures and of copies.
-pub fn of_closures<N: Unsigned>(alloc: Global) -> [Played; 5] {
+pub fn of_closures<N: Unsigned>(alloc: Global) -> Option<&'static str> {
     let len = N::USIZE;
-    [
+    first_of(&[
         (
             "BoxedArray::generate",
             counts(BoxedArray::<u32, N>::generate(alloc, number), len),
@@ -35,16 +35,16 @@ pub fn of_closures<N: Unsigned>(alloc: Global) -> [Played; 5] {
             "BoxedArray::repeat",
             is_all(BoxedArray::<u32, N>::repeat(alloc, 7), 7, len),
         ),
-    ]
+    ])
 }
 
 /// The builds from iterators.
-pub fn of_iterators<N: Unsigned>(alloc: Global) -> [Played; 3] {
+pub fn of_iterators<N: Unsigned>(alloc: Global) -> Option<&'static str> {
     let len = N::USIZE;
     let items = (0..len).map(number);
     let results = (0..len).map(good_number);
     let mut others = (0..len).map(number);
-    [
+    first_of(&[
         (
             "BoxedArray::try_boxed_from_iter",
             counts_built(BoxedArray::<u32, N>::try_boxed_from_iter(alloc, items), len),
@@ -60,22 +60,14 @@ pub fn of_iterators<N: Unsigned>(alloc: Global) -> [Played; 3] {
             "fill_boxed",
             counts_built(fill_boxed::<u32, N, _>(alloc, &mut others), len),
         ),
-    ]
+    ])
 }
 
-/// The boxed array of the items of a vector.
-fn of_items<N: Unsigned>(
-    alloc: Global,
-    items: Vec<u32>,
-) -> Result<BoxedArray<u32, N>, FillError<Never, AllocError>> {
-    build_of_items(alloc, items)
-}
-
-/// The builds of the traits, of boxed arrays, the last of which takes these items.
-pub fn of_traits<N: Unsigned>(alloc: Global, items: Vec<u32>) -> [Played; 5] {
+/// The builds of the traits, of boxed arrays.
+pub fn of_traits<N: Unsigned>(alloc: Global) -> Option<&'static str> {
     let len = N::USIZE;
     let results = (0..len).map(good_number);
-    [
+    first_of(&[
         (
             "GenericSequence::generate",
             counts(
@@ -108,6 +100,5 @@ pub fn of_traits<N: Unsigned>(alloc: Global, items: Vec<u32>) -> [Played; 5] {
                 len,
             ),
         ),
-        ("build_of_items", counts(of_items::<N>(alloc, items), len)),
-    ]
+    ])
 }

@@ -1,18 +1,18 @@
 //! Conversions between arrays, blocks, vectors and boxed slices.
 ghost use Rattle.generic_array.specs.Length.{FitsInline};
 
-use super::{Played, counts, counts_built};
+use super::{counts, counts_built, first_of};
 use ga_test_items::items::from_one;
 use generic_array::{ArrayLength, BoxedArray, Unsigned};
 use std::alloc::Global;
 use std::boxed::BoxedSlice;
 
 /// The conversions of an inline array.
-pub fn of_arrays<N: ArrayLength<u32>>(alloc: Global) -> [Played; 3]
+pub fn of_arrays<N: ArrayLength<u32>>(alloc: Global) -> Option<&'static str>
     requires { FitsInline N.USIZE }
 {
     let len = N::USIZE;
-    [
+    first_of(&[
         (
             "GenericArray::into_vec",
             counts(from_one::<N>().into_vec(alloc), len),
@@ -25,7 +25,7 @@ pub fn of_arrays<N: ArrayLength<u32>>(alloc: Global) -> [Played; 3]
             "BoxedArray::from_inline",
             counts(BoxedArray::<u32, N>::from_inline(alloc, from_one()), len),
         ),
-    ]
+    ])
 }
 
 /// The conversions of two blocks, and of so many items in a vector and a boxed slice.
@@ -35,9 +35,9 @@ pub fn of_blocks<N: Unsigned>(
     second: BoxedArray<u32, N>,
     vector: Vec<u32>,
     slice: BoxedSlice<u32, Global>,
-) -> [Played; 4] {
+) -> Option<&'static str> {
     let len = N::USIZE;
-    [
+    first_of(&[
         ("BoxedArray::into_vec", counts(first.into_vec(), len)),
         (
             "BoxedArray::into_boxed_slice",
@@ -54,5 +54,5 @@ pub fn of_blocks<N: Unsigned>(
                 len,
             ),
         ),
-    ]
+    ])
 }

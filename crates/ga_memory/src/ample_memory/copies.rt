@@ -1,7 +1,7 @@
 //! Clones of arrays and of what is left of their iterators.
 ghost use Rattle.generic_array.specs.Length.{FitsInline};
 
-use super::{Played, counts, is_all, is_from_one};
+use super::{counts, first_of, is_all, is_from_one};
 use ga_test_items::items::from_one;
 use generic_array::{ArrayBuilder, ArrayLength, BoxedArray, GenericArray};
 
@@ -16,11 +16,11 @@ fn are_appended<N: ArrayLength<u32>>() -> bool
 }
 
 /// The calls that clone items, of an inline array and of a boxed one.
-pub fn of_arrays<N: ArrayLength<u32>>(boxed: BoxedArray<u32, N>) -> [Played; 5]
+pub fn of_arrays<N: ArrayLength<u32>>(boxed: BoxedArray<u32, N>) -> Option<&'static str>
     requires { FitsInline N.USIZE }
 {
     let len = N::USIZE;
-    [
+    first_of(&[
         ("GenericArray::clone", counts(from_one::<N>().clone(), len)),
         (
             "GenericArray::repeat",
@@ -41,5 +41,5 @@ pub fn of_arrays<N: ArrayLength<u32>>(boxed: BoxedArray<u32, N>) -> [Played; 5]
             },
         ),
         ("ArrayBuilder::extend_from_clones", are_appended::<N>()),
-    ]
+    ])
 }

@@ -1,5 +1,5 @@
 //! Boxed arrays that are borrowed: what their maps, zips and folds make of known items.
-use crate::tests::items::has;
+use ga_test_items::answers::gives;
 use ga_test_items::items::boxed_from_one;
 use generic_array::{AllocError, BoxedArray, U0, U3, Unsigned};
 use std::alloc::Global;
@@ -37,9 +37,9 @@ fn makes<N: Unsigned>(
     let array = boxed_from_one::<N>(alloc)?;
     let twice = array.map_ref(alloc, doubled)?;
     Ok(
-        has(twice.zip_ref(alloc, array.view(), less), differences)
+        gives(twice.zip_ref(alloc, array.view(), less), differences)
             && twice.as_slice() == doubles
-            && has(array.try_map_ref(alloc, small)?, bytes),
+            && gives(array.try_map_ref(alloc, small)?, bytes),
     )
 }
 

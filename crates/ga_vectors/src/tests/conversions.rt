@@ -1,6 +1,6 @@
 //! Items that go from one kind of array to another, through vectors, boxed slices and tuples.
 use crate::tests::compared::holds;
-use crate::tests::items::has;
+use ga_test_items::answers::gives;
 use generic_array::{
     AllocError, BoxedArray, Const, GenericArray, U0, U1, U2, U3, U12, arr, box_arr,
 };
@@ -54,7 +54,7 @@ fn boxed_slice_and_back(alloc: Global) -> Result<bool, AllocError> {
     let items = BoxedArray::from_inline(alloc, arr![1u8, 2])?.into_boxed_slice()?;
     let is_kept = items.as_slice() == [1, 2].as_slice();
     let again = BoxedArray::<u8, U2>::try_from_boxed_slice(alloc, items)?;
-    Ok(is_kept && has(again, &[1, 2]))
+    Ok(is_kept && gives(again, &[1, 2]))
 }
 
 #[test]
@@ -67,9 +67,9 @@ fn items_go_through_blocks_and_back(rt: HostRuntime) -> Result<(), Fail> {
 
 #[test]
 fn blocks_are_written_out(rt: HostRuntime) -> Result<(), Fail> {
-    assert!(rt; has(box_arr!(rt.alloc(), [7u8; U3]), &[7, 7, 7]));
+    assert!(rt; gives(box_arr!(rt.alloc(), [7u8; U3]), &[7, 7, 7]));
     let none: Result<BoxedArray<u8, U0>, AllocError> = box_arr!(rt.alloc(), []);
-    assert!(rt; has(none, &[]));
+    assert!(rt; gives(none, &[]));
     Ok(())
 }
 

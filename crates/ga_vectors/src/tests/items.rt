@@ -1,14 +1,5 @@
-//! What tests share beside `ga_test_items`: a comparison, and an item without a lifetime.
-use std::convert::AsSlice;
+//! What tests share beside `ga_test_items`: an item without a lifetime.
 use std::rc::Rc;
-
-/// Whether there is a sequence of exactly these items.
-pub fn has<T: PartialEq, S: AsSlice<T> + Drop, E: Drop>(made: Result<S, E>, items: &[T]) -> bool {
-    match made {
-        Ok(made) => made.as_slice() == items,
-        Err(_refused) => false,
-    }
-}
 
 /// An item that counts how many of its kind there are. One made by `default` counts nothing.
 #[derive(Default, Drop)]

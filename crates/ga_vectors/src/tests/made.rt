@@ -1,6 +1,6 @@
 //! What the builds of the traits make of each kind.
 
-use crate::tests::items::has;
+use ga_test_items::answers::gives;
 use ga_test_items::items::TooMany;
 use generic_array::sequence::{FallibleGenericSequence, GenericSequence};
 use generic_array::{
@@ -28,7 +28,7 @@ where
     requires { S.Fits }
 {
     let (squares, sevens) = (S::generate(place, square), S::repeat(again, 7));
-    has(squares, &[0, 1, 4]) && has(sevens, &[7, 7, 7])
+    gives(squares, &[0, 1, 4]) && gives(sevens, &[7, 7, 7])
 }
 
 fn same(index: usize) -> Result<usize, u8> {
@@ -42,7 +42,7 @@ where
     S::Error: Drop,
     requires { S.Fits }
 {
-    S::try_generate(place, same).is_ok_and(|made| has(made, &[0, 1, 2]))
+    S::try_generate(place, same).is_ok_and(|made| gives(made, &[0, 1, 2]))
 }
 
 /// Whether each kind of a length makes both. One function for all calls hands over what they share

@@ -1,7 +1,0 @@
-use Rattle.generic_array.proofs.StepLemmas.{MaySteps-always}
-use Rattle.ga_memory.proofs.ample_memory.steps.is_walked.Goals as goal
-use Rattle.std.proofs.Common.{rules}
-
-pub walk-left-requires : goal.walk-left-requires
-walk-left-requires g c =
-    record { callable = MaySteps-always _ _ (λ f items slice same. search rules) c.in_ok-steps.steps.items _ }
