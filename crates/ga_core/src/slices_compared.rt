@@ -1,6 +1,6 @@
 //! Two slices of one length, compared block by block.
 ghost use Rattle.std.specs.Cmp.Lexicographic.{pointwise, slice_cmp, slice_partial_cmp};
-ghost use Rattle.std.specs.Prelude.{◌≡◌, ◌-◌, ◌<◌, ◌≤◌, IfSome, drop, false, length, take, true};
+ghost use Rattle.std.specs.Prelude.{◌≡◌, ◌-◌, ◌<◌, ◌≤◌, drop, false, length, take, true};
 
 use std::cmp::Ordering;
 use std::mem;
@@ -19,13 +19,15 @@ pub(crate) fn are_equal<T: PartialEq>(left: &[T], right: &[T]) -> bool
     requires len { length left.now ≡ length right.now }
     ensures equal { result ≡ pointwise T.eq left.now right.now }
 {
-    match block_of(left) {
+    match left.first() {
         None => left == right,
-        Some(block) => {
-            if left.len() <= block {
+        Some(item) => {
+            if mem::size_of_val(item) > MOST_BYTES {
+                left == right
+            } else if left.len() <= block_of(item) {
                 all_match(left, right)
             } else {
-                equal_start(left, right, block) == left.len()
+                equal_start(left, right, item) == left.len()
             }
         }
     }
@@ -58,13 +60,13 @@ fn order_start<T: PartialEq>(left: &[T], right: &[T]) -> usize
     ensures within { result ≤ length left.now }
     ensures equal { pointwise T.eq (take result left.now) (take result right.now) ≡ true }
 {
-    match block_of(left) {
+    match left.first() {
         None => 0,
-        Some(block) => {
-            if left.len() <= block {
+        Some(item) => {
+            if mem::size_of_val(item) > MOST_BYTES || left.len() <= block_of(item) {
                 0
             } else {
-                equal_start(left, right, block)
+                equal_start(left, right, item)
             }
         }
     }
@@ -72,14 +74,15 @@ fn order_start<T: PartialEq>(left: &[T], right: &[T]) -> usize
 
 // How many items at the start are equal: all, or those before the first block that is not. Never
 // inlined, since at a known length the loop over the blocks would be unrolled too, into kilobytes.
+// Takes an item and not a block's size, which would be no constant then.
 #[inline(never)]
-fn equal_start<T: PartialEq>(left: &[T], right: &[T], block: usize) -> usize
+fn equal_start<T: PartialEq>(left: &[T], right: &[T], item: &T) -> usize
     requires len { length left.now ≡ length right.now }
-    requires some { 0 < block }
     ensures within { result ≤ length left.now }
     ensures equal { pointwise T.eq (take result left.now) (take result right.now) ≡ true }
     ensures differs { result < length left.now → pointwise T.eq left.now right.now ≡ false }
 {
+    let block = block_of(item);
     let len = left.len();
     let mut start = 0;
     while len - start >= block {
@@ -96,19 +99,17 @@ fn equal_start<T: PartialEq>(left: &[T], right: &[T], block: usize) -> usize
     }
 }
 
-// How many items a block has, at least one. `None` where std's comparison is better: there are no
-// items, or large ones.
+// How many items of this type a block has: at least one, for which the prover wants the second
+// test, though no caller has items of more bytes.
 #[inline]
-fn block_of<T>(items: &[T]) -> Option<usize>
-    ensures some { IfSome result (λ block. 0 < block) }
+fn block_of<T>(item: &T) -> usize
+    ensures some { 0 < result }
 {
-    let size = mem::size_of_val(items.first()?);
-    if size > MOST_BYTES {
-        None
-    } else if size > 0 {
-        Some(BLOCK_BYTES / size)
+    let size = mem::size_of_val(item);
+    if size > 0 && size <= BLOCK_BYTES {
+        BLOCK_BYTES / size
     } else {
-        Some(BLOCK_BYTES)
+        BLOCK_BYTES
     }
 }
 

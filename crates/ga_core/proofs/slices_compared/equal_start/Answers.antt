@@ -5,13 +5,13 @@ use Rattle.std.proofs.Common.{◌+◌, ◌-◌, arith, length}
 pub returns-then-not-parts_match-clause-differs : goal.returns-then-not-parts_match-clause-differs
 returns-then-not-parts_match-clause-differs g c some =
     let start = c.loop-start.start in
-    block-differs g.T.PartialEq.eq start (start + c.args.block - start) c.args.left.now c.args.right.now
+    block-differs g.T.PartialEq.eq start (start + c.block_of-block.result - start) c.args.left.now c.args.right.now
     c.if-not-parts_match.ensures.equal
 
 pub loop-start-preserved : goal.loop-start-preserved
 loop-start-preserved g c =
     let at = c.loop-start in
-    let end = at.start + c.args.block in
+    let end = at.start + c.block_of-block.result in
     record {
       within = omega arith;
       equal = block-equal g.T.PartialEq.eq at.start (end - at.start) end c.args.left.now c.args.right.now
