@@ -93,6 +93,8 @@ impl Case {
                 // Made before the count begins: what it allocates depends on the name's length.
                 let name = format!("{}/{}/{side}/{repeats}", self.name, self.kind);
                 let name = CString::new(name).expect("a name without a zero byte");
+                // Once before: the allocator tidies up what earlier cases left.
+                call.run(12345, repeats);
                 request(ZERO_STATS, 0);
                 call.run(12345, repeats);
                 request(DUMP_STATS_AT, name.as_ptr() as u64);
