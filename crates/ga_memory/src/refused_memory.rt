@@ -127,5 +127,6 @@ fn case(alloc: Global, number: u32) -> Outcome {
 
 #[test]
 fn a_walk_keeps_no_item_and_no_step(rt: HostRuntime) {
-    play(&rt, 5, case);
+    let wrong = play(&rt, 5, case);
+    assert!(rt; wrong.is_none(), "case {wrong:?}");
 }

@@ -151,7 +151,8 @@ fn case(alloc: Global, number: u32) -> Outcome {
 #[test]
 fn a_refused_clone_drops_those_before_it(rt: HostRuntime) {
     // The first to the fourth clone, each in five cases.
-    play(&rt, 20, case);
+    let wrong = play(&rt, 20, case);
+    assert!(rt; wrong.is_none(), "case {wrong:?}");
 }
 
 /// Whether an item that is counted here is repeated. What is made is dropped.

@@ -80,5 +80,6 @@ fn case(alloc: Global, number: u32) -> Outcome {
 
 #[test]
 fn a_value_that_finds_no_room_is_dropped(rt: HostRuntime) {
-    play(&rt, 3, case);
+    let wrong = play(&rt, 3, case);
+    assert!(rt; wrong.is_none(), "case {wrong:?}");
 }

@@ -137,5 +137,6 @@ fn case(alloc: Global, number: u32) -> Outcome {
 
 #[test]
 fn a_build_is_whole_or_refused_before_any_call(rt: HostRuntime) {
-    play(&rt, 15, case);
+    let wrong = play(&rt, 15, case);
+    assert!(rt; wrong.is_none(), "case {wrong:?}");
 }

@@ -42,5 +42,6 @@ fn case(alloc: Global, number: u32) -> Outcome {
 
 #[test]
 fn a_clone_is_whole_or_refused_before_any_item(rt: HostRuntime) {
-    play(&rt, 2, case);
+    let wrong = play(&rt, 2, case);
+    assert!(rt; wrong.is_none(), "case {wrong:?}");
 }

@@ -155,5 +155,6 @@ fn case(alloc: Global, number: u32) -> Outcome {
 
 #[test]
 fn a_conversion_keeps_the_items_or_drops_each_once(rt: HostRuntime) {
-    play(&rt, 12, case);
+    let wrong = play(&rt, 12, case);
+    assert!(rt; wrong.is_none(), "case {wrong:?}");
 }

@@ -169,5 +169,6 @@ fn case(alloc: Global, number: u32) -> Outcome {
 
 #[test]
 fn a_fill_is_exact_or_refused_before_any_item(rt: HostRuntime) {
-    play(&rt, 13, case);
+    let wrong = play(&rt, 13, case);
+    assert!(rt; wrong.is_none(), "case {wrong:?}");
 }

@@ -103,5 +103,6 @@ fn case(alloc: Global, number: u32) -> Outcome {
 
 #[test]
 fn a_map_is_exact_or_refused_before_any_call(rt: HostRuntime) {
-    play(&rt, 4, case);
+    let wrong = play(&rt, 4, case);
+    assert!(rt; wrong.is_none(), "case {wrong:?}");
 }

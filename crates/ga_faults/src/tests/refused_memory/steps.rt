@@ -99,5 +99,6 @@ fn case(alloc: Global, number: u32) -> Outcome {
 
 #[test]
 fn a_run_of_steps_is_exact_or_leaves_all_as_it_was(rt: HostRuntime) {
-    play(&rt, 2, case);
+    let wrong = play(&rt, 2, case);
+    assert!(rt; wrong.is_none(), "case {wrong:?}");
 }

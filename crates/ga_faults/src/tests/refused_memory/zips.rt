@@ -69,5 +69,6 @@ fn case(alloc: Global, number: u32) -> Outcome {
 
 #[test]
 fn a_zip_is_exact_or_refused_before_any_call(rt: HostRuntime) {
-    play(&rt, 2, case);
+    let wrong = play(&rt, 2, case);
+    assert!(rt; wrong.is_none(), "case {wrong:?}");
 }
