@@ -12,6 +12,7 @@ mod conversions;
 mod copies;
 mod functional;
 mod key_table;
+/// Runs of steps, and what other tests play of them.
 pub mod steps;
 
 use ga_test_items::items::{boxed_from_one, from_one};

@@ -87,6 +87,7 @@ pub struct Items<'a, T> {
 }
 
 impl<'a, T: Given<'a>> Items<'a, T> {
+    /// An iterator of so many items, which are counted here.
     pub fn new(counts: &'a Counts, left: u32) -> Self {
         Items {
             counts,
@@ -114,6 +115,7 @@ pub struct Results<'a, T> {
 }
 
 impl<'a, T: Given<'a>> Results<'a, T> {
+    /// An iterator of so many items, of which these counts refuse one.
     pub fn new(counts: &'a Counts, left: u32) -> Self {
         Results {
             counts,

@@ -7,6 +7,7 @@ use generic_array::steps::{Reply, Step, TwoEndedSequence, run_steps};
 use generic_array::{AllocError, BoxedArray, Unsigned};
 use std::alloc::Global;
 
+/// How many items there are: what a step sees that looks at them.
 pub fn count_of<T>(items: &[T]) -> usize {
     items.len()
 }
