@@ -16,13 +16,11 @@ mod key_table;
 pub mod steps;
 
 use ga_test_items::items::{boxed_from_one, from_one};
+use ga_test_items::played::{Played, first_of};
 use generic_array::{AllocError, ArrayLength, BoxedArray, Const, LiveBlock, U0, U1, U2};
 use std::alloc::Global;
 use std::convert::AsSlice;
 use std::test::Fail;
-
-/// A call's name, and whether it made what it should.
-pub type Played = (&'static str, bool);
 
 /// Whether these are the items of `from_one`.
 pub fn is_from_one(items: &[u32], len: usize) -> bool {
@@ -87,21 +85,11 @@ fn block_takes(alloc: Global, len: usize) -> bool {
 }
 
 /// Whether a native array goes to a block, as `box_arr!` of items written out has it.
-fn native_goes_to_a_block<const U: usize>(alloc: Global) -> Played
+fn native_goes_to_a_block<const U: usize>(alloc: Global) -> Played<'static>
     requires { U ≤ 144 }
 {
     let made = BoxedArray::<u32, Const<U>>::from_array(alloc, [7; U]);
     ("BoxedArray::from_array", is_all(made, 7, U))
-}
-
-/// The name of the first call of a table that didn't make what it should.
-pub fn first_of(table: &[Played]) -> Option<&'static str> {
-    for (name, is_right) in table {
-        if !*is_right {
-            return Some(*name);
-        }
-    }
-    None
 }
 
 /// The name of the first call of all that didn't make what it should.

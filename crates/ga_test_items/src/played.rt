@@ -10,7 +10,7 @@ use ga_core::{AllocError, ArrayLength, GenericArray, Unsigned};
 use std::alloc::Global;
 use std::marker::PhantomData;
 
-/// A call's name, and whether each item was dropped once, in the order that its documentation says.
+/// A call's name, and whether it was played right.
 pub type Played<'n> = (&'n str, bool);
 
 /// An item that is counted. One made by `default` is counted nowhere.
@@ -134,13 +134,22 @@ impl<'a, T: Given<'a>> Iterator for Results<'a, T> {
     }
 }
 
-/// The name of the first call that was played wrongly.
+/// The name of the first call of a table that was played wrongly.
+pub fn first_of<'n>(table: &[Played<'n>]) -> Option<&'n str> {
+    for (name, is_right) in table {
+        if !*is_right {
+            return Some(*name);
+        }
+    }
+    None
+}
+
+/// The same of several tables.
 pub fn first_wrong<'n>(tables: &[&[Played<'n>]]) -> Option<&'n str> {
     for table in tables {
-        for (name, is_right) in *table {
-            if !*is_right {
-                return Some(*name);
-            }
+        let wrong = first_of(*table);
+        if wrong.is_some() {
+            return wrong;
         }
     }
     None

@@ -1,7 +1,8 @@
 //! Builds of blocks from closures, from iterators and of copies, by the type and by the traits.
-use super::{counts, counts_built, first_of, good, is_all};
+use super::{counts, counts_built, good, is_all};
 use ga_headline::builds::fill_boxed;
 use ga_test_items::items::number;
+use ga_test_items::played::first_of;
 use generic_array::sequence::{FallibleGenericSequence, FromFallibleIterator, GenericSequence};
 use generic_array::{BoxedArray, Unsigned};
 use std::alloc::Global;

@@ -1,8 +1,9 @@
 //! Conversions between arrays, blocks, vectors and boxed slices.
 ghost use Rattle.generic_array.specs.Length.{FitsInline};
 
-use super::{counts, counts_built, first_of};
+use super::{counts, counts_built};
 use ga_test_items::items::from_one;
+use ga_test_items::played::first_of;
 use generic_array::{ArrayLength, BoxedArray, Unsigned};
 use std::alloc::Global;
 use std::boxed::BoxedSlice;

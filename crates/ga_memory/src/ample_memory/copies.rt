@@ -1,8 +1,9 @@
 //! Clones of arrays and of what is left of their iterators.
 ghost use Rattle.generic_array.specs.Length.{FitsInline};
 
-use super::{counts, first_of, is_all, is_from_one};
+use super::{counts, is_all, is_from_one};
 use ga_test_items::items::from_one;
+use ga_test_items::played::first_of;
 use generic_array::{ArrayBuilder, ArrayLength, BoxedArray, GenericArray};
 
 /// Whether clones are appended to a builder.

@@ -1,8 +1,9 @@
 //! Maps and zips of a block, which make another.
 ghost use Rattle.generic_array.specs.Length.{FitsInline};
 
-use super::{counts, counts_built, first_of};
+use super::{counts, counts_built};
 use ga_test_items::items::from_one;
+use ga_test_items::played::first_of;
 use generic_array::{ArrayLength, BoxedArray};
 use std::alloc::Global;
 

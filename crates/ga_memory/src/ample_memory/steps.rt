@@ -1,8 +1,9 @@
 //! Runs of steps, whose replies need room, alone and behind a map and a build.
-use super::{first_of, good};
+use super::good;
 use ga_headline::steps::walk;
 use ga_headline::whole::{build_map_walk, map_walk};
 use ga_test_items::items::{boxed_from_one, number};
+use ga_test_items::played::first_of;
 use generic_array::steps::{Reply, Step, TwoEndedSequence, run_steps};
 use generic_array::{AllocError, BoxedArray, Unsigned};
 use std::alloc::Global;

@@ -1,7 +1,8 @@
 //! Calls that are passed an allocator and need no memory, each of which is whole then.
 //! `tools/refuse` counts that they ask for none. A call that is passed no allocator, as those of
 //! inline arrays, views and hex text, can't ask.
-use crate::ample_memory::{first_failed, first_of};
+use crate::ample_memory::first_failed;
+use ga_test_items::played::first_of;
 use generic_array::{BoxedArray, LengthError, U0, U3, Unsigned};
 use std::alloc::Global;
 use std::test::Fail;
