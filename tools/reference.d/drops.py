@@ -11,7 +11,7 @@ from meanings import LIBRARIES, base_name, header
 
 # The table: each text in these files begins with the name of a call, `Type::call`, `Trait::call`
 # where the trait has the body, `<Type as Trait>::call`, or the name of a function or a macro.
-TABLE = "crates/ga_drops/src/drops"
+TABLE = "crates/ga_faults/src/drops"
 TEXT = re.compile(r'(?m)^ *//.*|"([^"]*)"')
 NAME = re.compile(r"(?:<[^>]+>::)?\w+(?:::\w+)*!?")
 # The patterns of the calls that have no row, with what each is about.

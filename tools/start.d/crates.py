@@ -15,6 +15,8 @@ ON = {
     "ga_hashes": "ga_hashes ga_core",
     "ga_ciphers": "ga_ciphers generic_array",
 }
+# The crate of tests that comes with a library.
+TESTS = {"ga_hashes": "ga_hashes_tests"}
 LIST, RECORD, LICENSE = "crates.txt", "laid.json", "LICENSE"
 UNKNOWN = "unknown"
 ABOUT = "what tools/start of generic_array copied here, for tools/start --update"
@@ -45,12 +47,13 @@ def libraries_of(name):
 
 
 def needed(*names):
-    """These crates and those below them, in the order of the list."""
+    """These crates, those below them and the tests that come with them, in the order of the list."""
     found, left = set(), list(names)
     while left:
         name = left.pop()
         found.add(name)
-        left += [it for it in libraries_of(name) if it in OURS and it not in found]
+        others = [*libraries_of(name), TESTS.get(name)]
+        left += [it for it in others if it in OURS and it not in found]
     return [it for it in OURS if it in found]
 
 

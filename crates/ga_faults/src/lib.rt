@@ -1,6 +1,14 @@
-//! Tests of what no contract of `generic_array` says: what is dropped and when, which clones are
-//! asked for, and what is left where memory, a clone, a closure or an iterator fails.
+//! Tests of what no contract of `generic_array` says: what is dropped and when, which clones and
+//! calls are asked for, and what is left where memory, a clone, a closure or an iterator fails.
 #![tactic(auto)]
 
 #[cfg(test)]
-mod tests;
+mod drops;
+#[cfg(test)]
+mod fill_outcomes;
+#[cfg(test)]
+mod liars;
+#[cfg(test)]
+mod random_steps;
+#[cfg(test)]
+mod refused_memory;

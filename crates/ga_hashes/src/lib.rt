@@ -15,8 +15,6 @@ pub mod hkdf;
 pub mod hmac;
 /// Codes of a counter or of the time under a key: HOTP and TOTP.
 pub mod one_time_password;
-#[cfg(test)]
-mod tests;
 
 pub use hash_function::HashFunction;
 pub use md5::Md5;

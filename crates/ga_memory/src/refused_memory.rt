@@ -6,8 +6,8 @@ mod table;
 use crate::ample_memory::steps::{count_of, walked};
 use ga_headline::whole::{Stopped, build_map_walk};
 use ga_test_items::counted::{Counted, Counts};
-use ga_test_items::items::boxed_counted_from;
 use ga_test_items::outcome::{Outcome, play};
+use ga_test_items::played::boxed_items;
 use ga_test_items::scripted::{Numbered, Script, Scripted, digits};
 use generic_array::steps::{Reply, Step};
 use generic_array::{AllocError, BoxedArray, BoxedArrayIter, FillError, U3, Unsigned};
@@ -89,7 +89,7 @@ fn outcome_of(end: Option<u32>, wanted: u32, counts: &Counts) -> Outcome {
 
 fn walk_of_three(alloc: Global) -> Outcome {
     let counts = Counts::new();
-    let Ok(items) = boxed_counted_from::<U3>(alloc, &counts, 1) else {
+    let Ok(items) = boxed_items::<Counted, U3>(alloc, &counts) else {
         return outcome_of(None, 23, &counts);
     };
     let end = match set_and_taken(alloc, Counted::new(&counts, 9)) {

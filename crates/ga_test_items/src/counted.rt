@@ -2,16 +2,17 @@
 use std::alloc::AllocError;
 use std::cell::Cell;
 
-/// Which items were made and dropped, which clones were asked for, and which of these, or of the
-/// calls of a closure, is refused.
+/// Which items were made and dropped, which clones and calls of a closure were asked for, and which
+/// of these is refused.
 #[derive(Default, Drop)]
 pub struct Counts {
     made: Cell<u32>,
     drops: Cell<u32>,
     dropped: Cell<u32>,
-    clones: Cell<u32>,
-    cloned: Cell<u32>,
     asked: Cell<u32>,
+    called: Cell<u32>,
+    cloned: Cell<u32>,
+    is_disordered: Cell<bool>,
     errors: Cell<u32>,
     refused: u32,
 }
@@ -28,18 +29,20 @@ impl Counts {
             made: Cell::new(0),
             drops: Cell::new(0),
             dropped: Cell::new(0),
-            clones: Cell::new(0),
-            cloned: Cell::new(0),
             asked: Cell::new(0),
+            called: Cell::new(0),
+            cloned: Cell::new(0),
+            is_disordered: Cell::new(false),
             errors: Cell::new(0),
             refused: number,
         }
     }
 
-    /// Begins anew with the clones and calls of which one is refused, and with the numbers of the
-    /// items that are dropped.
+    /// Begins anew with the clones and calls, and with the numbers of the items that are dropped.
     pub fn begin(&self) {
         self.asked.set(0);
+        self.called.set(0);
+        self.cloned.set(0);
         self.dropped.set(0);
     }
 
@@ -47,6 +50,37 @@ impl Counts {
     pub fn refuses(&self) -> bool {
         count(&self.asked);
         self.asked.get() == self.refused
+    }
+
+    /// Notes a call that can't be refused.
+    pub fn note_call(&self) {
+        count(&self.called);
+    }
+
+    /// Notes the clone of the item of this number. No greater number may come before it.
+    fn note_clone(&self, number: u32) {
+        if number < self.cloned.get() {
+            self.is_disordered.set(true);
+        }
+        self.cloned.set(number);
+    }
+
+    /// How many clones and calls were asked for that may be refused.
+    pub fn asked(&self) -> u32 {
+        self.asked.get()
+    }
+
+    /// Whether a call asked for what it had to. At an error the last clone or call is the refused
+    /// one, or memory was refused before any. At a success none was refused. Clones are asked for in
+    /// the order of the items.
+    pub fn are_due(&self, is_error: bool) -> bool {
+        let asked = self.asked.get();
+        let is_due = if is_error {
+            asked == self.refused && (asked > 0 || self.called.get() == 0)
+        } else {
+            self.refused == 0 || asked < self.refused
+        };
+        is_due && !self.is_disordered.get()
     }
 
     /// Notes that a call ended in an error.
@@ -72,21 +106,6 @@ impl Counts {
     /// The numbers of the items that were dropped, as digits, in this order.
     pub fn dropped(&self) -> u32 {
         self.dropped.get()
-    }
-
-    /// How many clones were asked for, the refused one among them.
-    pub fn clones(&self) -> u32 {
-        self.clones.get()
-    }
-
-    /// The numbers of the items whose clones were asked for, as digits, in this order.
-    pub fn cloned(&self) -> u32 {
-        self.cloned.get()
-    }
-
-    /// The number of the clone or call that is refused, 0 where none is.
-    pub fn refused(&self) -> u32 {
-        self.refused
     }
 }
 
@@ -139,8 +158,7 @@ impl Drop for Counted<'_> {
 impl Clone for Counted<'_> {
     fn clone(&self) -> Result<Self, AllocError> {
         if let Some(counts) = self.counts {
-            count(&counts.clones);
-            add_digit(&counts.cloned, self.place);
+            counts.note_clone(self.place);
             if counts.refuses() {
                 return Err(AllocError);
             }

@@ -1,7 +1,6 @@
-//! The arrays that tests share: numbers and counted items.
+//! The arrays of numbers that tests share.
 ghost use Rattle.ga_core.specs.Length.{FitsInline};
 
-use crate::counted::{Counted, Counts};
 use ga_boxed::BoxedArray;
 use ga_core::{AllocError, ArrayLength, Const, GenericArray, Unsigned};
 use std::alloc::Global;
@@ -24,26 +23,4 @@ pub fn from_one<N: ArrayLength<u32>>() -> GenericArray<u32, N>
 /// The same in a block.
 pub fn boxed_from_one<N: Unsigned>(alloc: Global) -> Result<BoxedArray<u32, N>, AllocError> {
     BoxedArray::generate(alloc, number)
-}
-
-/// The array of N items that are counted here, numbered from this one.
-pub fn counted_from<'a, N: ArrayLength<Counted<'a>>>(
-    counts: &'a Counts,
-    first: u32,
-) -> GenericArray<Counted<'a>, N>
-    requires { FitsInline N.USIZE }
-{
-    GenericArray::generate(|index| Counted::new(counts, first.wrapping_add(index as u32)))
-}
-
-/// The same in a block, of up to 256 items. None is made where that is refused.
-pub fn boxed_counted_from<N: Unsigned>(
-    alloc: Global,
-    counts: &Counts,
-    first: u32,
-) -> Result<BoxedArray<Counted<'_>, N>, AllocError> {
-    BoxedArray::generate(
-        alloc,
-        |index| Counted::new(counts, first.wrapping_add((index % 256) as u32)),
-    )
 }

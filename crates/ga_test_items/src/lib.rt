@@ -6,7 +6,7 @@
 pub mod answers;
 /// Items whose drops and clones are counted.
 pub mod counted;
-/// Arrays of known numbers and of counted items.
+/// Arrays of known numbers.
 pub mod items;
 /// Cases that are played whatever memory there is.
 pub mod outcome;

@@ -18,6 +18,9 @@ pub trait Item: Numbered + Default + Clone + Drop {
     /// Whether the call that was handed this item is the one that is refused.
     fn is_refused(&self) -> bool;
 
+    /// Notes that a call which can't be refused was handed this item.
+    fn note_call(&self);
+
     /// Another item of this number, counted where this one is.
     fn another(&self) -> Self;
 }
@@ -27,6 +30,12 @@ impl Item for Counted<'_> {
         match self.counts() {
             Some(counts) => counts.refuses(),
             None => false,
+        }
+    }
+
+    fn note_call(&self) {
+        if let Some(counts) = self.counts() {
+            counts.note_call();
         }
     }
 
@@ -46,6 +55,12 @@ fn number_of(index: usize) -> u32 {
 /// The item of this index, numbered from 1.
 pub fn nth_item<'a, T: Given<'a>>(counts: &'a Counts, index: usize) -> T {
     T::given(Ok(number_of(index)), counts)
+}
+
+/// The same, made by a call that is noted.
+pub fn item_of_call<'a, T: Given<'a>>(counts: &'a Counts, index: usize) -> T {
+    counts.note_call();
+    nth_item(counts, index)
 }
 
 /// The array of N items that are counted here, numbered from 1.
@@ -102,7 +117,7 @@ impl<'a, T: Given<'a>> Iterator for Items<'a, T> {
 
     fn next(&mut self) -> Option<T> {
         self.left = self.left.checked_sub(1)?;
-        Some(nth_item(self.counts, 0))
+        Some(item_of_call(self.counts, 0))
     }
 }
 
@@ -162,12 +177,15 @@ pub fn leaves<S: Drop>(made: S, counts: &Counts, items: usize) -> bool {
     counts.live() as usize == items
 }
 
-/// The same of a call that may have failed. Its error is noted.
+/// The same of a call that may have failed, and whether its clones and calls were those that are
+/// due. Its error is noted.
 pub fn leaves_made<S: Drop, E: Drop>(made: Result<S, E>, counts: &Counts, items: usize) -> bool {
-    if made.is_err() {
+    let is_error = made.is_err();
+    if is_error {
         counts.note_error();
     }
-    leaves(made, counts, items)
+    let are_due = counts.are_due(is_error);
+    leaves(made, counts, items) && are_due
 }
 
 /// The same of a call that may have failed in two ways.
@@ -200,6 +218,13 @@ pub fn ends_built<S: Drop, E: Drop, P: Drop>(
     leaves_built(made, counts, 0)
 }
 
+/// The same of an item that was to be repeated at so many places, the last of which takes the item
+/// itself.
+pub fn ends_repeated<S: Drop, E: Drop>(made: Result<S, E>, counts: &Counts, places: usize) -> bool {
+    let is_exact = made.is_err() || counts.asked() as usize == places.saturating_sub(1);
+    ends_made(made, counts) && is_exact
+}
+
 /// The numbers of so many items from 1 on, as the digits of the items that were dropped in order.
 pub fn rising(count: usize) -> u32 {
     let mut digits = 0u32;
@@ -221,7 +246,8 @@ pub fn falling(count: usize) -> u32 {
 // What closures do. An item that is not handed on is dropped.
 
 /// Hands the item on.
-pub fn same<T>(item: T) -> T {
+pub fn same<T: Item>(item: T) -> T {
+    item.note_call();
     item
 }
 
@@ -236,6 +262,7 @@ pub fn same_or_error<T: Item>(item: T) -> Result<T, u32> {
 
 /// Makes another item.
 pub fn another<T: Item>(item: &T) -> T {
+    item.note_call();
     item.another()
 }
 
@@ -249,7 +276,8 @@ pub fn another_or_error<T: Item>(item: &T) -> Result<T, u32> {
 }
 
 /// Hands the left item on.
-pub fn left_of<T, B: Drop>(left: T, _right: B) -> T {
+pub fn left_of<T: Item, B: Drop>(left: T, _right: B) -> T {
+    left.note_call();
     left
 }
 
