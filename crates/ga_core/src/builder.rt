@@ -8,7 +8,7 @@ use crate::array::GenericArray;
 use crate::array_iter::{GenericArrayIter, take_at};
 use crate::errors::AllocError;
 use crate::length::ArrayLength;
-use crate::slots::{write_clones, write_defaults};
+use crate::slots::{write_clones_or_defaults, write_defaults};
 use crate::store::Store;
 use ga_views::LengthError;
 use std::marker::{Model, PhantomData};
@@ -197,12 +197,9 @@ impl<T: Clone + Default + Drop, N: ArrayLength<T>> ArrayBuilder<T, N> {
     {
         let first = self.position;
         let count = items.len();
-        let cloned = write_clones(self.store.part_mut(first, count), items);
+        write_clones_or_defaults(self.store.part_mut(first, count), items)?;
         self.position = first + count;
-        if cloned.is_err() {
-            self.truncate(first);
-        }
-        cloned
+        Ok(())
     }
 }
 

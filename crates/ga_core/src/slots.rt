@@ -107,6 +107,23 @@ pub(crate) fn write_clones<T: Clone>(slots: &mut [T], items: &[T]) -> Result<(),
     Ok(())
 }
 
+// `write_clones`, after which defaults lie in the slots if a clone fails.
+#[inline]
+pub(crate) fn write_clones_or_defaults<T: Clone + Default + Drop>(
+    slots: &mut [T],
+    items: &[T],
+) -> Result<(), AllocError>
+    requires room { length slots.old ≡ length items.now }
+    ensures items { OnOk result (AllZip T.is_clone items.now slots.new) }
+    ensures succeeds { All T.is_infallible items.now → IsOk result }
+{
+    let cloned = write_clones(slots, items);
+    if cloned.is_err() {
+        write_defaults(slots);
+    }
+    cloned
+}
+
 // Writes clones of `item` over the slots, in order, and `item` itself over the last, up to the
 // first clone that fails.
 #[inline]

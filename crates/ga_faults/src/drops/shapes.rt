@@ -74,17 +74,6 @@ fn of_parts<'a, 'n, T: Item + Given<'a>, N: ArrayLength<T>, Twice: ArrayLength<T
     ]
 }
 
-/// Cuts items into rows, and joins these.
-fn by_rows<T, Items: Unflatten<T, Rows> + Drop, Rows: Flatten<T, Items>>(
-    items: Items,
-    counts: &Counts,
-) -> bool
-    requires cut { Items.IsArea }
-    requires joined { Rows.IsArea }
-{
-    ends(items.unflatten().flatten(), counts)
-}
-
 /// Counted items as rows of two, and these joined. Rows of an open type might not fit in memory.
 pub(crate) fn first_wrong_row<
     'a,
@@ -96,9 +85,9 @@ pub(crate) fn first_wrong_row<
     requires twice { Twice.USIZE ≡ N.USIZE * 2 }
 {
     let items = inline_items::<Counted<'a>, Twice>(counts);
-    let is_right = by_rows::<Counted<'a>, _, GenericArray<GenericArray<Counted<'a>, U2>, N>>(
-        items, counts,
-    );
+    let rows: GenericArray<GenericArray<Counted<'a>, U2>, N> = items.unflatten();
+    let joined: GenericArray<Counted<'a>, Twice> = rows.flatten();
+    let is_right = ends(joined, counts);
     let of_rows = [
         ("<GenericArray as Unflatten>::unflatten", is_right),
         ("<GenericArray as Flatten>::flatten", is_right),
