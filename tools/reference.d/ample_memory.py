@@ -11,7 +11,7 @@ from paths import is_named
 from sources import ANGLE, closing, parted
 
 # The tests whose tables have a line for each such call, which begins with its name as a text.
-TABLES = "crates/ga_faults/src"
+TABLES = "crates/ga_memory/src"
 FILES = "ample_memory.rt", "ample_memory/*.rt"
 LINE = re.compile(r'\(\s*"([\w:]+)",')
 # What tells of refused memory: these, and what is declared with one.

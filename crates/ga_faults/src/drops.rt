@@ -1,6 +1,5 @@
 //! Each call that takes or makes items, played with counted items: it leaves none, and drops them
-//! in the order that its documentation says. At an error no clone and no call of a closure follows
-//! the refused one, and where memory is refused there is none.
+//! in the order that its documentation says.
 //!
 //! `tools/reference --check` holds the names in the tables against the public calls.
 ghost use Rattle.generic_array.specs.Length.{FitsInline};

@@ -1,9 +1,7 @@
-//! Tests of what no contract says: what is dropped and when, which clones and calls are asked for,
-//! what is left where memory, a clone, a closure or an iterator fails, and that memory is found.
+//! Tests of what no contract of `generic_array` says: what is dropped and when, which clones and
+//! calls are asked for, and what is left where memory, a clone, a closure or an iterator fails.
 #![tactic(auto)]
 
-#[cfg(test)]
-mod ample_memory;
 #[cfg(test)]
 mod drops;
 #[cfg(test)]

@@ -1,5 +1,5 @@
 use Rattle.generic_array.proofs.StepLemmas.{MaySteps-always}
-use Rattle.ga_faults.proofs.ample_memory.steps.walked.Goals as goal
+use Rattle.ga_memory.proofs.ample_memory.steps.walked.Goals as goal
 use Rattle.std.proofs.Common.{rules}
 
 pub walk-requires : goal.walk-requires

@@ -1,5 +1,5 @@
 use Rattle.generic_array.proofs.StepLemmas.{MaySteps-always}
-use Rattle.ga_faults.proofs.refused_memory.walks.whole.Goals as goal
+use Rattle.ga_memory.proofs.refused_memory.whole.Goals as goal
 use Rattle.std.proofs.Common.{rules}
 
 pub build_map_walk-requires-clause-then_callable : goal.build_map_walk-requires-clause-then_callable

@@ -1,5 +1,5 @@
 use Rattle.generic_array.proofs.StepLemmas.{MaySteps-always}
-use Rattle.ga_faults.proofs.ample_memory.steps.is_built_mapped_and_walked.Goals as goal
+use Rattle.ga_memory.proofs.ample_memory.steps.is_built_mapped_and_walked.Goals as goal
 use Rattle.std.proofs.Common.{rules}
 
 pub build_map_walk-left-requires-clause-then_callable : goal.build_map_walk-left-requires-clause-then_callable

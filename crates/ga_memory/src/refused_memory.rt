@@ -1,4 +1,8 @@
-//! Runs of steps behind other calls, refused or stopped: no item and no step is kept.
+//! Each request for memory refused in turn, in runs of steps behind other calls and in a table of
+//! keys: nothing is kept of what was handed over.
+mod needs_none;
+mod table;
+
 use crate::ample_memory::steps::{count_of, walked};
 use ga_headline::whole::{Stopped, build_map_walk};
 use ga_test_items::counted::{Counted, Counts};
