@@ -7,53 +7,39 @@ import functools
 import re
 
 from meanings import WITH_A_PAGE, above, base_name, declared
-from sources import items_of
+from samples import is_test
 
-EXAMPLES = "*_examples"
+EXAMPLES = "_examples"
 # What stands in front of a call's name: the dot of a method, or the end of a path.
 BEFORE = re.compile(r"(?P<dot>\.)\s*$|(?P<path>\w+)(?:::<[^()]*>|<[^()]*>)?::$")
 # What a method is called on: a name, or what another call made.
 NAMED = re.compile(r"(?<![.\w])(?P<name>\w+)\s*$")
 MADE = re.compile(r"(?P<name>\w+)(?:::<[^()]*>)?\((?:[^()]|\([^()]*\))*\)\??\s*$")
-# How a caller is called that shows what happens where there is nothing.
-EMPTY = re.compile(r"no_|none|nothing")
 # What stands in front of a type's name, and what a call with `?` takes off.
 BORROWED, WRAPPED = re.compile(r"&?(?:'\w+ )?(?:mut )?"), re.compile(r"(?:Result|Option)<")
 
 
 class Function:
-    """A function of an example: its module's place, its name, its head and its body."""
+    """A function of an example: its item, its head and its body."""
 
-    def __init__(self, place, item, text):
-        self.place, self.name, self.head = place, item.name, item.head
+    def __init__(self, item):
+        self.item, self.head, text = item, item.head, item.module.text
         self.body = re.sub(r"//.*", "", text[text.index("{", item.begin):item.end])
-        self.has_clauses = bool(item.clauses)
         self.bounds, _ = declared(item.head)
 
 
 class Callers:
     """The callers in the crates of examples."""
 
-    def __init__(self, site):
-        self.site = site
+    def __init__(self, site, samples):
+        self.site, self.samples = site, samples
 
     @functools.cached_property
     def functions(self):
-        """The functions of the examples that aren't tests: first those that the documents show,
-        then those with clauses, those that aren't about nothing, those of any length or type, and
-        the shorter ones."""
-        shown = "".join(file.read_text("utf-8") for file in (self.site.top / "docs").glob("*.md"))
-        shown, found = set(re.findall(r"\bfn (\w+)", shown)), []
-        for file in sorted((self.site.top / "crates").glob(f"{EXAMPLES}/src/**/*.rt")):
-            text = file.read_text("utf-8")
-            place = file.relative_to(self.site.top / "crates").with_suffix("")
-            place = "/".join(part for part in place.parts if part != "src")
-            items = [item for item in items_of(text, file)
-                     if item.kind == "fn" and "test" not in item.attributes]
-            found += [Function(place, item, text) for item in items]
-        return sorted(found, key=lambda each: (each.name not in shown, not each.has_clauses,
-                                               bool(EMPTY.match(each.name)),
-                                               not any(each.bounds.values()), len(each.body)))
+        """The functions of the examples that aren't tests, in the order of samples."""
+        items = [item for item in self.samples.of(lambda crate: crate.endswith(EXAMPLES))
+                 if item.kind == "fn" and item.owner.kind == "mod" and not is_test(item)]
+        return [Function(item) for item in sorted(items, key=self.samples.order)]
 
     @functools.cached_property
     def named(self):
@@ -123,7 +109,7 @@ class Callers:
 
     @functools.lru_cache(None)
     def of(self, item):
-        """A caller of an item, or None."""
+        """A caller of an item, which is a sample, or None."""
         if item.kind not in ("fn", "macro"):
             return None
         mark = "!" if item.kind == "macro" else r"(?:::<[^()]*>)?\("
@@ -133,5 +119,5 @@ class Callers:
             before = [function.body[:place] for place in places]
             if any(item.kind == "macro" or self.is_called(item, function, code, code)
                    for code in before):
-                return function
+                return function.item
         return None

@@ -7,8 +7,11 @@ import collections
 import re
 
 from ample_memory import unplayed
+from checks_of_documents import dangling
 from checks_of_names import misled, unnamed
+from checks_of_numbers import miscounted
 from drops import uncounted
+from edits import unfit
 from examples import missing
 from imports import uses
 from lookup import Names
@@ -90,11 +93,11 @@ def unused(site):
 
 def check(site):
     """Prints what is wrong, and tells whether nothing is."""
-    of_sites = (
-        unread, unplaced, undefined, unwritten, unused, unnamed, private_fields, uncounted)
+    of_sites = (unread, unplaced, undefined, unwritten, unused, unnamed, private_fields, uncounted,
+                unfit, miscounted)
     names = Names(site)
     tried = [found for part in of_sites for found in part(site)]
-    tried += [found for part in (misled, unkept, unplayed) for found in part(names)]
+    tried += [found for part in (misled, unkept, unplayed, dangling) for found in part(names)]
     failures = [found for found in tried if found]
     passed = len(tried) - len(failures)
     print("".join(f"{failure}\n" for failure in failures), end="")

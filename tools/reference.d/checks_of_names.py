@@ -21,7 +21,7 @@ def shown_first(names, name):
     """What is shown first for a name: the item's full name, or the text of the row."""
     asked = names.asked(name)
     if asked.first:
-        return names.full_name(asked.first[0])
+        return names.full_name(asked.first)
     row = next((row for row in asked.rows if row.ours or row.told), None)
     return " ".join([TELLS, row.theirs, row.ours, *row.told]) if row else "nothing"
 

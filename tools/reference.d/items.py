@@ -5,8 +5,10 @@ from beside import becomes, spelled
 from layout import indented, laid_out, one_line, prose
 from lookup import impl_of
 from meanings import WITH_A_PAGE, base_name, declared, header
+from outside import Outside
+from paths import OF_FILES
 from std_words import modules_of
-from text import Text, first_sentence
+from text import first_sentence
 
 # What a module's lists are called, in their order.
 LISTS = {"Modules": ["mod"], "Types": ["struct", "enum"], "Traits": ["trait"], "Aliases": ["type"],
@@ -34,7 +36,7 @@ def declaration(item, width):
     return "\n".join([*lines, "}"]) if len(lines) > 1 else item.head
 
 
-class Items(Text):
+class Items(Outside):
     """Items and definitions, each as a page of text."""
 
     def call(self, item):
@@ -175,8 +177,10 @@ class Items(Text):
 
     def shown(self, item):
         """What is shown of an item or a definition below its name."""
-        whole = {"word": self.definition, "mod": self.module, "macro": self.macro,
-                 "foreign": self.foreign}.get(item.kind)
+        whole = {"word": self.definition, "lemma": self.lemma, "file": self.file,
+                 "mod": self.module, "macro": self.macro, "foreign": self.foreign}.get(item.kind)
+        if item not in self.names.paths and item.kind not in OF_FILES:
+            whole = self.samples if item.kind == "mod" else self.sample
         if whole:
             return whole(item)
         if item.kind == "type" and item.owner.kind == "mod":

@@ -9,17 +9,19 @@ import re
 import rust
 from beside import names_of_two
 from callers import Callers
+from lemmas import of_files
 from meanings import LIBRARIES, header
-from paths import Paths
+from paths import OF_FILES, Index, Paths
+from samples import Samples, hidden
 from sources import ANGLE, closing, imports_of
 from std_words import StdWords
 
 MOST_NEAR, MOST_ROWS = 8, 4
-# The names that are looked up by those of others: of typenum, and of std.
+# The names that are looked up by those of others: of typenum, of std, of other crates.
 OTHER_NAMES = pathlib.Path(__file__).resolve().parent / "other_names.txt"
 # In which order the members of types stand where several have a name.
 FIRST = ("GenericArray", "BoxedArray", "GenericArrayRef", "GenericArrayMut", "GenericArrayIter")
-# What a name means: the items that come first, the others, and the rows of the documents that tell
+# What a name means: the item that comes first, the others, and the rows of the documents that tell
 # of it. Where no item comes first, these do.
 Asked = collections.namedtuple("Asked", "first others rows")
 
@@ -30,8 +32,8 @@ def is_place(name):
 
 
 def is_word(name):
-    """Whether a name is that of a word with its module."""
-    return ".specs." in name
+    """Whether a name is that of a word or a lemma with its module."""
+    return ".specs." in name or ".proofs." in name
 
 
 def parts_of(name):
@@ -72,10 +74,19 @@ class Names(Paths):
 
     def __init__(self, site):
         super().__init__(site)
-        self.rows, self.std = rust.rows(site.top), StdWords(site.library)
-        self.callers, self.twice = Callers(site), names_of_two(site)
+        self.rows, self.clauses = rust.rows(site.top), rust.rows(site.top, rust.OF_CLAUSES)
+        self.std, self.samples = StdWords(site.library), Samples(site)
+        self.callers, self.twice = Callers(site, self.samples), names_of_two(site)
         lines = [line.partition("\t") for line in OTHER_NAMES.read_text("utf-8").splitlines()]
         self.other_names = {name: meant for names, _, meant in lines for name in names.split()}
+
+    @functools.cached_property
+    def outside(self):
+        """What stands on no page, by its names: samples, what isn't public, lemmas, and files of
+        definitions."""
+        private = [item for item in hidden(self.site) if item not in self.paths]
+        items = [*self.samples.of(), *private, *of_files(self.site)]
+        return Index({item: [[part.strip("◌") for part in self.path(item)]] for item in items})
 
     def says_nothing_new(self, item):
         """Whether a member of an impl only does what its trait says."""
@@ -84,7 +95,8 @@ class Names(Paths):
 
     def is_of_library(self, item):
         """Whether an item stands in a library of the port, or is a trait that its types have."""
-        return self.path(item)[0] in LIBRARIES or item.kind == "foreign trait"
+        in_library = item in self.paths and self.path(item)[0] in LIBRARIES
+        return in_library or item.kind == "foreign trait"
 
     def rank(self, item):
         """What an item comes behind: what stands above the library behind the library, and a part
@@ -96,46 +108,68 @@ class Names(Paths):
         owner = self.path(item)[-2:][0]
         of_trait = item.kind == "fn" and item.owner.kind == "trait"
         place = FIRST.index(owner) if owner in FIRST else len(FIRST)
-        return self.rank(item), item.kind == "word", 0.5 if of_trait else place
+        by_trait = bool(impl_of(item)) and bool(impl_of(item).of_trait)
+        return self.rank(item), item.kind == "word", 0.5 if of_trait else place, by_trait
 
     def asked(self, name):
         """What a name means, sorted by what a reader most likely means: items of the library, then
-        what the documents tell, words of std, and what stands above the library."""
-        items, words = self.items_of(name), self.of_std(name)
-        rows = self.told_of(name, bool(items))
-        other = self.other_name(parts_of(name)[-1])
-        if other and not items and not rows:
+        what the documents tell, words of std, and what stands above the library or beside it."""
+        parts, items = parts_of(name), self.items_of(name)
+        other = "" if items or self.told_of(name, False) else self.other_name(parts)
+        if other:
             return self.asked(other)
+        items = items or self.beside_of(name)
+        words, rows = self.of_std(name), self.told_of(name, bool(items))
         near = [word for word in words if word.module in ("std.Prelude", self.module_used(word))]
-        if not items or not self.is_of_library(items[0]) or self.is_of_rust(name, rows):
-            if rows:
-                return Asked([], [*(item for item in items if not is_detail(item)), *near], rows)
-            if words:
-                return Asked(words, items, rows)
-        first = self.first_of(items)
-        return Asked(first, [item for item in (*items, *near) if item not in first], rows)
-
-    def first_of(self, items):
-        """Those of items in their order that come first: no word beside an item, and no member of
-        an impl beside that of its trait."""
-        first = [item for item in items if self.rank(item) == self.rank(items[0])]
-        first = [item for item in first if item.kind != "word"] or first
-        traits = [item.owner for item in first if item.kind == "fn"]
-        return [item for item in first if not impl_of(item) or impl_of(item).trait not in traits]
+        leads = len(parts) > 1 and self.named(parts)
+        is_told = not leads and (not items or not self.is_of_library(items[0]))
+        if rows and (is_told or self.is_of_rust(name, rows)):
+            return Asked(None, [*(item for item in items if not is_detail(item)), *near], rows)
+        if is_told and not (items := [*near, *items, *words]):
+            if rows := [row for row in self.clauses if row.fit(parts) or row.mentions(parts)]:
+                return Asked(None, [], rows)
+            items = self.told_in_docs(parts)
+        first, *others = dict.fromkeys([*items, *near]) or [None]
+        return Asked(first, others, rows)
 
     def items_of(self, name):
         """The items that a name may mean, in their order. A name of typenum or of std means none of
         what stands above the library."""
-        found = self.named(parts_of(name)) if is_word(name) else self.found(name)
-        last = parts_of(name)[-1]
-        if self.other_name(last) or last in self.other_names.values():
+        parts = parts_of(name)
+        found = self.named(parts) if is_word(name) else self.found(name)
+        if self.other_name(parts) or parts[-1] in self.other_names.values():
             found = [item for item in found if self.is_of_library(item)]
         return sorted(found, key=self.order)
 
+    def beside_of(self, name):
+        """The samples, lemmas and files that a name may mean, in their order."""
+        index = self.outside
+        found = self.placed(index, name) if is_place(name) else index.named(parts_of(name))
+        samples = [item for item in found if item.kind not in OF_FILES]
+        others = [item for item in found if item.kind in OF_FILES]
+        return [*sorted(samples, key=self.samples.likeliest),
+                *sorted(others, key=lambda item: item.kind == "file")]
+
+    def of_file(self, file):
+        """What others import from a file of specs/ or proofs/."""
+        lemmas = [item for item in self.outside.paths if (item.kind, item.file) == ("lemma", file)]
+        return lemmas or self.site.library.definitions(file).values()
+
+    def placed(self, index, place):
+        """The items of an index that begin at a place, as `array.rt:39`."""
+        return [item for item in index.paths if f"/{self.place(item)}".endswith(f"/{place}")]
+
+    def told_in_docs(self, parts):
+        """The items whose docs have a name as code, as that of another crate's call."""
+        telling = [item for item in self.paths if parts[-1] in item.docs]
+        return [item for item in telling if any(
+            name[-1] == parts[-1] for code in rust.CODE.findall(item.docs)
+            for name in rust.names_in(code))]
+
     def told_of(self, name, is_ours):
-        """The rows of the documents for a name, or else for the one that it is looked up by. For a
-        name of ours also what it stands for, and for another one what names it."""
-        other = self.other_name(parts_of(name)[-1])
+        """The rows of the documents for a name. For a name of ours also what it stands for, or the
+        rows for the name that it is looked up by, and for another one what names it."""
+        other = self.other_name(parts_of(name)) if is_ours else ""
         for asked in (() if is_word(name) else (name, other) if other else (name,)):
             parts = parts_of(asked)
             told = [row for row in self.rows
@@ -149,10 +183,12 @@ class Names(Paths):
         parts = parts_of(name)
         return len(parts) > 1 and not self.named(parts) and any(parts in row.names for row in rows)
 
-    def other_name(self, name):
-        """The name that a name of typenum or of std is looked up by, or nothing."""
-        length = re.fullmatch(r"[UPN]\d+", name)
-        return "typenum" if length else self.other_names.get(name)
+    def other_name(self, parts):
+        """The name that a name of typenum, of std or of another crate is looked up by, or
+        nothing."""
+        if re.fullmatch(r"[UPN]\d+", parts[-1]):
+            return "typenum"
+        return self.other_names.get("::".join(parts)) or self.other_names.get(parts[-1], "")
 
     def module_used(self, word):
         """The module by which the crates import a word of others."""
@@ -163,17 +199,24 @@ class Names(Paths):
         """The items that a name may mean. A place, as `array.rt:39`, means what begins there. A
         name that leads nowhere means what has its end as a name."""
         if is_place(name):
-            return [item for item in self.paths if f"/{self.place(item)}".endswith(f"/{name}")]
+            return self.placed(self.index, name)
         parts = parts_of(name)
-        found = (self.named(parts) or self.inherited(parts)
+        found = (self.named(parts) or self.of_trait(parts) or self.inherited(parts)
                  or len(parts) > 1 and self.named(parts[-1:]) or [])
         found = [item for item in found if not is_of_foreign_type(item)] or found
         if len(parts) == 1 or not self.named(parts):
-            found = [item for item in found if not self.says_nothing_new(item)] or found
+            best = min(found, key=self.order, default=None)
+            found = [item for item in found if item is best or not self.says_nothing_new(item)]
         else:
             references = name.startswith("&")
             found = [item for item in found if is_of_reference(item) == references] or found
         return [item for item in found if not is_detail(item)] or found
+
+    def of_trait(self, parts):
+        """The members of impls that a name tells with their trait in front, as
+        `GenericArray::AsSlice::as_slice`."""
+        named = self.named([*parts[:-2], parts[-1]]) if len(parts) > 2 else []
+        return [item for item in named if impl_of(item) and impl_of(item).of_trait == parts[-2]]
 
     def inherited(self, parts):
         """The members of traits that a type has by an impl that doesn't write them."""
@@ -223,6 +266,17 @@ class Names(Paths):
         word = copy.copy(word)
         word.module = module.removeprefix("Rattle.").replace(".specs.", ".", 1)
         return word
+
+    def typed(self, item):
+        """A name by which an item is asked for: its path, with the trait where another has it too,
+        or else its place."""
+        full, trait = self.full_name(item), impl_of(item) and impl_of(item).of_trait
+        if item.kind == "word":
+            return full
+        above, _, last = full.rpartition("::")
+        names = [full, f"&{full}", *([f"{above}::{trait}::{last}"] if trait else ())]
+        means = (name for name in names if (self.items_of(name) or self.beside_of(name))[0] is item)
+        return next(means, self.place(item))
 
     def near(self, name):
         """Names that look like one that nothing has, the likeliest first."""

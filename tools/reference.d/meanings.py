@@ -195,14 +195,18 @@ class Site:
         files = [self.top / "crates" / name / "src" / file for file in ("lib.rt", "main.rt")]
         return self.module(Item("mod", name, "", None, 1), next(filter(pathlib.Path.exists, files)))
 
-    def module(self, module, file):
-        """A module with all that stands in its file and below, but for tests."""
-        text = file.read_text("utf-8")
-        inner = "\n".join(re.findall(r"(?m)^//! ?(.*)$", text))
+    def read(self, module, file):
+        """Reads what stands in a module's file."""
+        module.text = file.read_text("utf-8")
+        inner = "\n".join(re.findall(r"(?m)^//! ?(.*)$", module.text))
         module.docs, module.title = inner or module.docs, inner.partition("\n")[0].rstrip(".")
         module.file, module.program = module.file or file, file.name == "main.rt"
-        module.members = list(items_of(text, file, module))
+        module.members = list(items_of(module.text, file, module))
         self.note_uses(module)
+
+    def module(self, module, file):
+        """A module with all that stands in its file and below, but for tests."""
+        self.read(module, file)
         self.items += [module] if not module.owner else []
         self.items += [item for member in module.members for item in (member, *member.members)]
         folder = file.parent if file.name in ("lib.rt", "main.rt") else file.with_suffix("")

@@ -4,11 +4,29 @@ import functools
 from meanings import WITH_A_PAGE, base_name
 from sources import Item, imports_of
 
+# What stands in specs/ or proofs/: definitions, lemmas, and files.
+OF_FILES = ("word", "lemma", "file")
+
 
 def is_named(path, parts):
     """Whether a path has the parts of a name in this order, with the last one as its end."""
     left = iter(path[:-1])
     return path[-1] == parts[-1] and all(part in left for part in parts[:-1])
+
+
+class Index:
+    """Items by the ends of the paths that lead to them."""
+
+    def __init__(self, paths):
+        self.paths, self.by_end = paths, {}
+        for item, ways in paths.items():
+            for path in ways:
+                self.by_end.setdefault(path[-1], {}).setdefault(item, []).append(path)
+
+    def named(self, parts):
+        """The items to which a path leads that has these parts."""
+        return [item for item, paths in self.by_end.get(parts[-1], {}).items()
+                if any(is_named(path, parts) for path in paths)]
 
 
 class Paths:
@@ -80,9 +98,9 @@ class Paths:
 
     def path(self, item):
         """The path by which an item is told: from the public module that it is found in."""
-        if item.kind == "word":
+        if item.kind in OF_FILES:
             crate, *rest = item.module.removeprefix("Rattle.").split(".")
-            return [crate, "specs", *rest, item.name]
+            return [crate, item.folder, *rest, item.name]
         if item.kind == "mod":
             return self.site.path(item)
         if item.kind == "foreign trait":
@@ -94,8 +112,8 @@ class Paths:
 
     def full_name(self, item):
         """The path of an item as it is written in Rust, or of a definition as in an import."""
-        if item.kind == "word":
-            return f"{item.module.removeprefix('Rattle.').replace('.', '.specs.', 1)}.{item.name}"
+        if item.kind in OF_FILES:
+            return ".".join(self.path(item))
         return "::".join(self.path(item)) + "!" * (item.kind == "macro")
 
     def place(self, item):
@@ -106,15 +124,10 @@ class Paths:
         return f"{item.file.relative_to(self.site.top) if own else item.file}:{item.line}"
 
     @functools.cached_property
-    def by_end(self):
-        """The items by the ends of their paths, each with those paths."""
-        found = {}
-        for item, paths in self.paths.items():
-            for path in paths:
-                found.setdefault(path[-1], {}).setdefault(item, []).append(path)
-        return found
+    def index(self):
+        """The items by the ends of their paths."""
+        return Index(self.paths)
 
     def named(self, parts):
         """The items to which a path leads that has these parts."""
-        return [item for item, paths in self.by_end.get(parts[-1], {}).items()
-                if any(is_named(path, parts) for path in paths)]
+        return self.index.named(parts)

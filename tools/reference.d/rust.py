@@ -6,12 +6,14 @@ table's cell for what stands here is empty, it is the same name.
 import re
 
 DOCUMENTS = ("DIFFERENCES.md", "CALLING.md")
+# The document that tells what names of clauses mean.
+OF_CLAUSES = ("DEFINITIONS.md",)
 LEFT_OUT, OWN = "left out", "Own items"
 CODE = re.compile(r"`([^`]+)`")
 # What parts a line's cells, and its names from what is said of them: none of it stands in code.
 IN_CODE = r"(?=(?:[^`]*`[^`]*`)*[^`]*$)"
 BAR, COLON = re.compile(r" ?(?<!\\)\|" + IN_CODE), re.compile(": " + IN_CODE)
-FENCED = re.compile(r"(?ms)^```.*?^```$")
+FENCED = re.compile(r"(?ms)^ *```.*?^ *```$")
 BLOCK = re.compile(r"(?m)(?:^.*\S.*\n?)+")
 RULE = re.compile(r"[-:| ]*---[-:| ]*$")
 # By which trait text prints a value, told by what stands in the braces.
@@ -27,6 +29,7 @@ class Row:
         self.place, self.section, self.theirs, self.ours = place, section, theirs, ours
         self.told = [text for text in told if text]
         self.names = [parts for code in CODE.findall(theirs) for parts in names_in(code)]
+        self.names += [[name] for name in theirs.split(", ") if re.fullmatch(r"\w+", name)]
 
     @property
     def left_out(self):
@@ -121,8 +124,8 @@ def rows_of(place, text):
             yield from listed(place, line, lines)
 
 
-def rows(top):
+def rows(top, documents=DOCUMENTS):
     """The rows of the documents that are there."""
-    files = [top / "docs" / name for name in DOCUMENTS]
+    files = [top / "docs" / name for name in documents]
     return [row for file in files if file.exists()
             for row in rows_of(file.relative_to(top), file.read_text("utf-8"))]

@@ -41,11 +41,11 @@ USE = re.compile(
 # What a macro's form becomes: a call of a type's function.
 MADE = re.compile(r"\$crate::(\w+)(?:::<[^;]*>)?::(\w+)\(")
 # A definition with the notes above it and all lines below that are deeper or begin with its name;
-# or the beginning of a module block.
+# or the beginning of a module block, of any number of lines.
 DEFINED = re.compile(
     r"(?m)(?P<notes>(?:^ *-- .*\n)*)"
     r"^(?=(?P<indent> *))"
-    r"(?:(?P<block> *module _ .*where)$"
+    r"(?:(?P<block> *module _ (?:.*\n +)*?.*\bwhere)$"
     r"|(?P<head> *(?:(?:abbrev|unfoldable|pub|record|data|axiom) )*"
     r"(?!--|use |mod |module )(?P<name>[^\s({]+)(?:(?:\n *| ?)[({].*?[)}])*(?:\n +| ):(?: .*|$)"
     r"(?:\n(?:(?P=indent)(?: .*|(?P=name)(?: .*|$))| *$))*))")
@@ -57,6 +57,7 @@ class Item:
     """An item, a member of one, or a definition. What it has beyond its text is noted here later.
 
     `begin` and `end` are the places of its text in the file's; `attributes` stand above it.
+    `folder` is that of a definition's file.
     """
 
     def __init__(self, kind, name, head, file, line, docs="", notes="", owner=None, **more):
@@ -65,7 +66,7 @@ class Item:
         self.module = self if kind == "mod" else owner and owner.module
         self.home, self.url, self.public = None, "", True
         self.trait, self.of_trait, self.of = None, "", None
-        self.begin, self.end, self.attributes = 0, 0, ""
+        self.begin, self.end, self.attributes, self.folder = 0, 0, "", "specs"
         self.clauses, self.members, self.users, self.rust = [], [], [], []
         self.blocks, self.exported, self.foreign = [], [], []
         self.__dict__.update(more)
@@ -210,9 +211,32 @@ class Library:
     @functools.cached_property
     def std(self):
         """The files of std, each with its text."""
-        names = ("core", "std", "std_alloc", "std_io") if self.kit else ()
-        files = [file for name in names for file in sorted((self.kit / name / "src").rglob("*.rt"))]
+        return self.files_of("core", "std", "std_alloc", "std_heap", "std_io")
+
+    def files_of(self, *crates):
+        """The files of crates of the toolchain, each with its text."""
+        files = [file for name in (crates if self.kit else ())
+                 for file in sorted((self.kit / name / "src").rglob("*.rt"))]
         return [(file, file.read_text("utf-8")) for file in files]
+
+    @functools.cached_property
+    def foreign(self):
+        """The libraries of the toolchain that the repository's crates name."""
+        lines = re.sub("#.*", "", (self.top / "crates.txt").read_text("utf-8"))
+        return {name for name in re.findall(r"\w+", lines)
+                if self.kit and (self.kit / name / "src").exists()}
+
+    def is_declared(self, name):
+        """Whether std or a library that the crates name declares an item or a variant."""
+        declares = re.compile(rf" *(?:pub\b.*\b)?(?:fn|struct|enum|trait|type|mod|const) {name}\b"
+                              rf"|pub use [\w:]+::{name};| +{name}(?:\(.*\))?,$|macro_rules! {name}\b")
+        return any(declares.match(line) for text in self.std_and_foreign if name in text
+                   for line in text.split("\n") if name in line)
+
+    @functools.cached_property
+    def std_and_foreign(self):
+        """The texts of std and of the libraries that the crates name."""
+        return [text for _, text in (*self.std, *self.files_of(*sorted(self.foreign)))]
 
     def own(self, crate):
         """Whether a crate is the repository's."""
@@ -250,23 +274,25 @@ class Library:
 
     @functools.lru_cache(None)
     def definitions(self, file):
-        """The definitions of a file of specs/, by name, each with the module blocks that it stands
-        in and the lines of notes above it."""
+        """The definitions of a file of specs/ or proofs/, by name, each with the module blocks that
+        it stands in and the lines of notes above it, or else above the innermost block."""
         crates = self.top / "crates"
         place = file.relative_to(crates if file.is_relative_to(crates) else self.kit)
-        module = ".".join(part for part in place.with_suffix("").parts if part != "specs")
+        folder = "proofs" if place.parts[1] == "proofs" else "specs"
+        module = ".".join(part for part in place.with_suffix("").parts if part != folder)
         text, found, blocks = file.read_text("utf-8"), {}, []
         imports = imports_of(text)
         for part in DEFINED.finditer(text):
-            blocks = [block for block in blocks if not block.startswith(part["indent"])]
+            blocks = [block for block in blocks if not block[0].startswith(part["indent"])]
+            notes = " ".join(re.findall("-- (.*)", part["notes"]))
             if part["block"]:
-                blocks.append(part["block"])
+                blocks.append((part["block"], notes))
                 continue
             name, head = part["name"], textwrap.dedent(part["head"]).rstrip()
             line = text.count("\n", 0, part.start("head")) + 1
             word = Item("word", name, head, file, line, module=module, imports=imports,
-                        notes=" ".join(re.findall("-- (.*)", part["notes"])),
-                        context=[block.strip() for block in blocks],
+                        notes=notes or (blocks[-1][1] if blocks else ""), folder=folder,
+                        context=[block.strip() for block, _ in blocks],
                         clauses=[Clause("", "", "", head)])
             found.setdefault(name, word)
         return found

@@ -83,5 +83,5 @@ def modules_of(library, word):
     """The modules by which crates import a word of ours: those of the crates above it that pass it
     on, the highest first, and its own crate's."""
     crate, _, rest = word.module.removeprefix("Rattle.").partition(".")
-    paths = [f"Rattle.{reader}.specs.{rest}" for reader in (*READERS, crate)]
+    paths = [f"Rattle.{reader}.{word.folder}.{rest}" for reader in (*READERS, crate)]
     return [path for path in dict.fromkeys(paths) if library.module_file(path) == word.file]

@@ -7,11 +7,9 @@ import signal
 import subprocess
 import sys
 
-from beside import spelled
 from items import Items
-from layout import indented, laid_out, one_line, prose
-from lookup import impl_of, parts_of
-from meanings import header
+from layout import indented, prose
+from lookup import parts_of
 from promise import TITLE, carriers
 from rust import names_in
 from text import BOLD, FAINT, first_sentence
@@ -21,16 +19,6 @@ MOST_OTHERS, MOST_HERE = 8, 6
 
 class Answers(Items):
     """What is shown for a name."""
-
-    def several(self, name, found):
-        """The list of what a name may mean."""
-        lines = [f"{len(found)} have the name {name}. Name one in full, or by its place:", ""]
-        for item in found:
-            impl = impl_of(item)
-            head = spelled(self.names, impl, one_line(header(impl))) if impl else ""
-            of = laid_out(head, self.width - 4) if impl else []
-            lines += [*self.title(item)[:-1], *indented(of)]
-        return [*lines, ""]
 
     def rows(self, rows, title):
         """What the documents tell of the Rust crate's names, a paragraph for each row."""
@@ -55,11 +43,10 @@ class Answers(Items):
         return self.listed("Here", list(found.values())[:MOST_HERE])
 
     def others(self, items):
-        """The names of what else has a name."""
-        names = dict.fromkeys(self.names.full_name(item) for item in items)
-        more = len(names) - MOST_OTHERS
-        told = [*list(names)[:MOST_OTHERS], *([f"and {more} more"] if more > 0 else ())]
-        return self.part(told, "Called so too")
+        """The names by which what else has a name is asked for."""
+        names = list(dict.fromkeys(self.names.typed(item) for item in items[:MOST_OTHERS]))
+        more = len(items) - MOST_OTHERS
+        return self.part([*names, *([f"and {more} more"] if more > 0 else ())], "Called so too")
 
     def promise(self):
         """What the library promises: each sentence, with the clauses of those that carry it."""
@@ -79,10 +66,11 @@ class Answers(Items):
         telling = [row for row in rows if row.told or row.ours and not row.left_out]
         if not first:
             rows = telling or rows
-            return [*self.rows(rows, f"{name}, for who comes from Rust"), *self.here(name, rows),
+            of_clauses = all(row in self.names.clauses for row in rows)
+            title = "a name of clauses" if of_clauses else "for who comes from Rust"
+            return [*self.rows(rows, f"{name}, {title}"), *self.here(name, rows),
                     *self.others(others)]
-        lines = self.item(first[0]) if len(first) == 1 else self.several(name, first)
-        return [*lines, *self.rows(telling, "From Rust"), *self.others(others)]
+        return [*self.item(first), *self.rows(telling, "From Rust"), *self.others(others)]
 
 
 def printed(text):

@@ -133,7 +133,7 @@ class Text:
         """A caller of an item, which clauses to use, and what tells how its result prints."""
         caller = self.names.callers.of(item)
         told, printed = beside.advice(item), beside.printed(self.site, item)
-        lines = [f"A caller: `{caller.name}` of `{caller.place}`."] if caller else []
+        lines = [f"A caller: `{self.names.full_name(caller)}`."] if caller else []
         lines += [f"Of the clauses, {told}"] if told else []
         lines += [f"What the result prints, `{printed}` says."] if printed else []
         return self.part([line for each in lines for line in prose(each, self.width - 4)])

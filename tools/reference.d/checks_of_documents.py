@@ -1,0 +1,90 @@
+"""Checks that each name that a document has as code is found.
+
+Of code this looks up what is a name: a path, a call or a type, without what stands in its brackets;
+of words without a sign between them the first; of `using(..)` and `use ..;` the path. Of what begins
+with a value or a type parameter it looks up the last name. A single letter is a variable. Other code,
+such as a term, isn't looked up.
+"""
+import functools
+import re
+
+from rust import CODE, FENCED, names_in
+
+DOCUMENTS = ("docs/CALLING.md", "docs/DIFFERENCES.md", "docs/DEFINITIONS.md", "crates/*/README.md")
+# The document whose rows list the names of the Rust crate.
+RUST = "docs/DIFFERENCES.md"
+# Words of the language, and of the program's command line.
+EXEMPT = set("requires ensures now old ghost final for while impl mut use dec".split())
+# A path that an attribute or an import names, and words of which the first is applied to the others.
+PATH = re.compile(r"\busing\(([\w:]+)\)|^use ([\w:]+);$")
+APPLIED = re.compile(r"([\w:]+)(?: [\w.\[\](){},]+)+")
+FILE = re.compile(r"[\w.-]+(?:/[\w.-]*)+|\w+\.(?:rt|antt|md|py|txt)")
+# A value or a type parameter with what is below it.
+BELOW = re.compile(r"\w+\.|(?:[A-Z]|Self)::")
+COMMAND = "rt"
+
+
+def names_of(code):
+    """The names that code is looked up by, each as its parts."""
+    if paths := [path for found in PATH.findall(code) for path in found if path]:
+        return [path.split("::") for path in paths]
+    if file := FILE.fullmatch(code.split()[0]):
+        return [[file[0]]]
+    if applied := APPLIED.fullmatch(code):
+        code = applied[1]
+    found = [parts[-1:] if BELOW.match(code) else parts for parts in names_in(code)]
+    return [parts for parts in found if len(parts[-1]) > 1 and parts[-1] not in EXEMPT]
+
+
+class Known:
+    """What the reference finds, and what else documents name."""
+
+    def __init__(self, names):
+        self.names, self.library, self.top = names, names.site.library, names.site.top
+        self.rust_rows = [row for row in names.rows if row.place.startswith(RUST)]
+        self.clauses = {clause.name for item in names.site.shown() for clause in item.clauses}
+
+    @functools.cached_property
+    def files(self):
+        """The files and folders of the repository, each as its path behind a slash."""
+        folders = [folder for folder in self.top.iterdir() if folder.name != ".git"]
+        found = [*folders, *(file for folder in folders for file in folder.rglob("*"))]
+        return [f"/{file.relative_to(self.top)}" for file in found]
+
+    def is_file(self, code):
+        """Whether code is a file or a folder, with or without its ending, or a command."""
+        word = code.split()[0]
+        ends = tuple(f"/{word.rstrip('/')}{ending}" for ending in ("", ".rt", ".antt"))
+        return word == COMMAND or any(file.endswith(ends) for file in self.files)
+
+    @functools.lru_cache(None)
+    def is_found(self, *parts):
+        """Whether a name is found: an item, a word, a lemma, a module, a sample, the end of a name,
+        a name of the Rust crate, one that is looked up by another, one of a clause, or one of std
+        or of another library."""
+        names, last = self.names, parts[-1]
+        return bool(
+            names.named(parts) or names.inherited(parts) or names.other_name(parts)
+            or last in self.clauses or last in self.library.foreign or not self.library.kit
+            or last.startswith("_") and any(end.endswith(last) for end in names.index.by_end)
+            or any(row.fit(parts) > 1 for row in self.rust_rows) or names.outside.named(parts)
+            or self.library.is_declared(last) or names.of_std(last))
+
+
+def documents(site):
+    """The documents, each with its place and its text without what is set apart as code."""
+    for file in sorted(file for pattern in DOCUMENTS for file in site.top.glob(pattern)):
+        text = FENCED.sub(lambda code: "\n" * code[0].count("\n"), file.read_text("utf-8"))
+        yield file.relative_to(site.top), text
+
+
+def dangling(names):
+    """Looks up each name that a document has as code."""
+    known = Known(names)
+    for place, text in documents(names.site):
+        for found in CODE.finditer(text):
+            code = " ".join(found[1].split())
+            line = text.count("\n", 0, found.start()) + 1
+            lost = [parts for parts in names_of(code)
+                    if not known.is_found(*parts) and not known.is_file(code)]
+            yield f"{place}:{line}: nothing is called {'::'.join(lost[0])}" if lost else None

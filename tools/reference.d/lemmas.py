@@ -1,0 +1,76 @@
+"""Reads the lemmas of proofs/, and the files of proofs/ and specs/ as modules."""
+import re
+
+from sources import Item
+
+# What is defined in one piece; of all else the proof is left out.
+WHOLE = re.compile(r"(?:abbrev|unfoldable|record|data)\b")
+# A list of lemmas with the notes above it.
+RULESET = re.compile(
+    r"(?m)(?P<notes>(?:^ *-- .*\n)*)"
+    r"^ *pub (?P<head>ruleset (?P<name>\S+) = \((?P<names>[^)]*)\))$")
+# The notes with which a file begins, up to an empty one.
+TITLE = re.compile(r"(?:-- .*\n)*")
+
+
+def is_declared(file, how="(?:pub )?"):
+    """Whether a file of proofs/ is a module of its crate, and so is each that it is a part of."""
+    parts = file.with_suffix("").parts
+    begin = len(parts) - parts[::-1].index("proofs")
+    root = file.parents[len(parts) - begin - 1]
+    for at in range(begin, len(parts)):
+        above = root.joinpath(*(parts[begin:at] or ["Lib"])).with_suffix(".antt")
+        if not above.exists() or not re.search(rf"(?m)^{how}mod {re.escape(parts[at])}$",
+                                               above.read_text("utf-8")):
+            return False
+    return True
+
+
+def is_passed_on(file):
+    """Whether other crates can cite what stands in a file of proofs/."""
+    return is_declared(file, "pub ")
+
+
+def as_module(site, file):
+    """A file as a module: its title is the notes that it begins with."""
+    crate, folder, *above = file.relative_to(site.top / "crates").parent.parts
+    title = " ".join(re.findall("-- (.*)", TITLE.match(file.read_text("utf-8"))[0]))
+    return Item("file", file.stem, "", file, 1, notes=title, folder=folder,
+                module=".".join([crate, *above]))
+
+
+def statement(word):
+    """The type of a lemma without its proof; of what is no lemma the whole definition."""
+    head = word.head.replace("pub ", "", 1)
+    proof = head.find(f"\n{word.name} ")
+    return head if proof < 0 or WHOLE.match(head) else head[:proof]
+
+
+def lemmas_of(site, file):
+    """The lemmas of a file that other files cite, and its lists of such, each with the lists that
+    it is in."""
+    words = site.library.definitions(file).values()
+    module, lists = None, list(RULESET.finditer(file.read_text("utf-8")))
+    for word in [word for word in words if re.search(r"\bpub ", word.head.split(":")[0])]:
+        module = word.module
+        held = [found["name"] for found in lists if word.name in found["names"].split(", ")]
+        yield Item("lemma", word.name, statement(word), file, word.line, notes=word.notes,
+                   module=module, folder="proofs", context=word.context, lists=held)
+    text = file.read_text("utf-8")
+    for found in lists:
+        line = text.count("\n", 0, found.start("head")) + 1
+        yield Item("lemma", found["name"], found["head"], file, line, module=module,
+                   notes=" ".join(re.findall("-- (.*)", found["notes"])), folder="proofs",
+                   context=[], lists=[])
+
+
+def of_files(site):
+    """All lemmas, the definitions that no page has, and the files of proofs/ and specs/ as
+    modules."""
+    crates = site.top / "crates"
+    proofs = [file for file in sorted(crates.glob("*/proofs/**/*.antt")) if is_declared(file)]
+    specs = [file for file in sorted(crates.glob("*/specs/**/*.antt")) if file.stem != "Lib"]
+    words = [site.library.definitions(file).values() for file in specs if file not in site.words]
+    return [*(lemma for file in proofs for lemma in lemmas_of(site, file)),
+            *(word for found in words for word in found),
+            *(as_module(site, file) for file in (*proofs, *specs))]

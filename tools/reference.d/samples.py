@@ -1,0 +1,97 @@
+"""Reads what no page has: functions and types of examples, of tests, and of no public module, each
+with its code."""
+import functools
+import inspect
+import re
+
+from meanings import WITH_A_PAGE, base_name, declared, header
+from sources import Item
+
+# How a function is called that shows what happens where there is nothing.
+EMPTY = re.compile(r"no_|none|nothing")
+
+
+def is_test(item):
+    """Whether an item is a test."""
+    return "#[test]" in item.attributes
+
+
+def code_of(item):
+    """The code of an item as it stands in its file, with its attributes."""
+    attributes = [line.strip() for line in item.attributes.split("\n") if line.strip()]
+    return "\n".join([*attributes, inspect.cleandoc(item.module.text[item.begin:item.end])])
+
+
+def members_of(module):
+    """The items of a module, and the functions of its types."""
+    types = {item.name: item for item in module.of_kind(*WITH_A_PAGE)}
+    for item in module.members:
+        if item.kind == "impl":
+            trait, _, of = header(item).rpartition(" for ")
+            item.of, item.of_trait = types.get(base_name(of)), base_name(trait)
+            if item.of:
+                item.of.blocks.append(item)
+                yield from item.of_kind("fn")
+        elif item.name and item.kind not in ("mod", "use", "ghost use"):
+            yield item
+
+
+def hidden(site):
+    """What stands in the crates that are read and isn't public."""
+    found = [item for item in site.items if item.name and not item.home]
+    return [item for item in found if item.kind in ("fn", "const", "static", "type", *WITH_A_PAGE)
+            and (item.owner.kind == "mod" or item.owner.kind == "impl" and item.owner.of)]
+
+
+class Samples:
+    """The crates and modules that no page is of."""
+
+    def __init__(self, site):
+        self.site, self.modules, self.files = site, {}, {}
+        known = {item.file for item in site.items}
+        for file in sorted((site.top / "crates").glob("*/src/**/*.rt")):
+            if file not in known:
+                crate, _, *parts = file.relative_to(site.top / "crates").with_suffix("").parts
+                self.files[file] = crate, *(part for part in parts if part not in ("lib", "main"))
+
+    def module(self, path):
+        """The module that a path leads to."""
+        if path not in self.modules:
+            owner = self.module(path[:-1]) if path[1:] else None
+            root = None if owner else self.site.crates.get(path[0])
+            self.modules[path] = root or Item("mod", path[-1], "", None, 1, owner=owner)
+        return self.modules[path]
+
+    @functools.lru_cache(None)
+    def read(self, file):
+        """The module of a file, and what stands in it."""
+        module = self.module(self.files[file])
+        self.site.read(module, file)
+        return [module, *members_of(module)]
+
+    def of(self, is_wanted=lambda crate: True):
+        """The modules of some crates or of all, and what stands in them."""
+        return [item for file, path in self.files.items() if is_wanted(path[0])
+                for item in self.read(file)]
+
+    @functools.cached_property
+    def documents(self):
+        """The text of the documents that readers begin with, and the names of the functions that it
+        shows."""
+        files = sorted((self.site.top / "docs").glob("*.md"))
+        text = " ".join(file.read_text("utf-8") for file in files)
+        return " ".join(text.split()), set(re.findall(r"\bfn (\w+)", text))
+
+    def order(self, item):
+        """Where a sample stands among others: first what the documents show, then what has clauses,
+        what isn't about nothing, what is of any length or type, and what is shorter."""
+        bounds = declared(item.head)[0] if item.kind == "fn" else {}
+        return (item.name not in self.documents[1], not item.clauses, bool(EMPTY.match(item.name)),
+                not any(bounds.values()), item.end - item.begin)
+
+    def likeliest(self, item):
+        """Where a sample stands among those of one name: first what the documents name with its
+        module, and tests last."""
+        named = f"`{item.name}` of `{item.module.name}`" in self.documents[0]
+        return (is_test(item), not named, item.file not in self.files, item.kind == "mod",
+                self.order(item))
