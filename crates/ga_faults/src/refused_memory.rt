@@ -89,17 +89,17 @@ fn outcome_of_run(
 }
 
 fn of_run(alloc: Global, _number: u32) -> Outcome {
-    let Ok(array) = BoxedArray::<u32, U2>::from_array(alloc, [1, 2]) else {
-        return Outcome::Refused;
-    };
-    let (steps, replies) = (
-        vec![in alloc; Step::Next, Step::Look],
-        vec![in alloc; Reply::Old(7)],
-    );
-    match (steps, replies) {
-        (Ok(steps), Ok(mut replies)) => outcome_of_run(&mut array.into_iter(), steps, &mut replies),
-        _ => Outcome::Refused,
+    match run_of_two(alloc) {
+        Ok(outcome) => outcome,
+        Err(AllocError) => Outcome::Refused,
     }
+}
+
+fn run_of_two(alloc: Global) -> Result<Outcome, AllocError> {
+    let array: BoxedArray<u32, U2> = BoxedArray::from_array(alloc, [1, 2])?;
+    let steps = vec![in alloc; Step::Next, Step::Look]?;
+    let mut replies = vec![in alloc; Reply::Old(7)]?;
+    Ok(outcome_of_run(&mut array.into_iter(), steps, &mut replies))
 }
 
 #[test]
