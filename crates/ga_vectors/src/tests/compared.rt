@@ -1,8 +1,7 @@
 //! Comparisons that tests share, each proved once.
-use ga_test_items::writer::Sink;
 use generic_array::{ArrayLength, GenericArray};
 use std::alloc::Global;
-use std::fmt::{self, Write};
+use std::fmt;
 
 /// Whether the array has exactly these items.
 pub fn holds<T: PartialEq + Drop, N: ArrayLength<T>>(
@@ -10,12 +9,6 @@ pub fn holds<T: PartialEq + Drop, N: ArrayLength<T>>(
     items: &[T],
 ) -> bool {
     array.as_slice() == items
-}
-
-/// Whether this is the text of `{}`, in one write.
-pub fn shows_at_once<T: fmt::Display>(value: &T, text: &str) -> bool {
-    let mut sink = Sink::expecting(text.as_bytes());
-    write!(sink, "{value}").is_ok() && sink.has_text_in(1)
 }
 
 /// Whether this is the text of `{:#?}`.

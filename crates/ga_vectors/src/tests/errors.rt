@@ -1,5 +1,6 @@
 //! The texts of the errors.
-use crate::tests::compared::{prints, shows_at_once};
+use crate::tests::compared::prints;
+use ga_test_items::writer::shows_at_once;
 use generic_array::{AllocError, FillError, LengthError, Never};
 use std::alloc::Global;
 
