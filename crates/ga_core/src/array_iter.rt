@@ -228,10 +228,23 @@ impl<T, N: ArrayLength<T>> GenericArrayIter<T, N> {
 }
 
 impl<T: fmt::Debug, N: ArrayLength<T>> fmt::Debug for GenericArrayIter<T, N> {
+    ghost use Rattle.std.specs.Fmt.{◌++?◌, debug_list};
+    ghost use Rattle.std.specs.Prelude.{Some, codes};
+
+    ghost debug_output = { λ left. Some (codes "GenericArrayIter(")
+        ++? debug_list T.debug_output left ++? Some (codes ")") };
+
     fn fmt<W: fmt::Write>(&self, f: &mut fmt::Formatter<W>) -> fmt::Result {
-        f.debug_tuple("GenericArrayIter")
-            .field(&self.as_slice())
-            .finish()
+        // No clause of std tells what `debug_tuple` writes, so only the text of `{:#?}` is left to it.
+        if f.alternate() {
+            return f
+                .debug_tuple("GenericArrayIter")
+                .field(&self.as_slice())
+                .finish();
+        }
+        f.write_str("GenericArrayIter(")?;
+        fmt::Debug::fmt(self.as_slice(), f)?;
+        f.write_str(")")
     }
 }
 
