@@ -10,7 +10,7 @@ mod steps;
 
 use crate::items_left::ItemsLeft;
 use crate::length::ArrayLength;
-use crate::slots::{are_many, move_items};
+use crate::slots::{are_long, are_many, move_items};
 use crate::store::Store;
 use ga_views::MAX_INLINE;
 use std::marker::{Model, PhantomData};
@@ -164,7 +164,7 @@ impl<T: Default + Drop, N: ArrayLength<T>> GenericArrayIter<T, N> {
     }
 
     // `move_to` slots of a store `S`, which has `room` for items: in one piece where they are all
-    // of either store.
+    // of `S` and long, or all of the iterator's store.
     #[inline(always)]
     pub(crate) fn move_into<S: Store<T>>(&mut self, slots: &mut [T], room: usize)
         requires room { room ≡ S.CAPACITY }
@@ -173,7 +173,7 @@ impl<T: Default + Drop, N: ArrayLength<T>> GenericArrayIter<T, N> {
         ensures left { self.new ≡ drop (length slots.old) self.old }
     {
         let count = slots.len();
-        if count == room && are_many(slots) {
+        if count == room && are_long(slots) {
             self.exchange::<S>(slots);
         } else if count == N::USIZE && are_many(slots) {
             self.exchange::<N::ArrayType>(slots);
