@@ -3,7 +3,7 @@
 #[inline(never)]
 fn joined_slices(first: &[Item], second: &[Item]) -> Array {
     let mut array = Array::default();
-    let (front, back) = array.split_at_mut(LENGTH / 2);
+    let (front, back) = array.split_at_mut(first.len());
     front.copy_from_slice(first);
     back.copy_from_slice(second);
     array

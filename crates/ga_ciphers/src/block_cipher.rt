@@ -1,5 +1,5 @@
 //! Block ciphers: blocks of a length that is a type, encrypted and decrypted under a key.
-ghost use Rattle.std.specs.Prelude.{◌≡◌, ℕ, ◌<◌, List};
+ghost use Rattle.std.specs.Prelude.{◌≡◌, ℕ, ◌<◌, List, map};
 
 use generic_array::{ArrayLength, GenericArray};
 
@@ -47,6 +47,26 @@ pub trait BlockCipher {
     {
         self.decrypt_block(&mut block);
         block
+    }
+
+    /// Encrypts each block where it lies, in order.
+    #[tactic(auto, using(std::proofs::lemmas::List::Edits::map_over_more))]
+    final fn encrypt_blocks(&self, blocks: &mut [GenericArray<u8, Self::BlockSize>])
+        ensures { blocks.new ≡ map (encrypted self.now) blocks.old }
+    {
+        for block in blocks.iter_mut() {
+            self.encrypt_block(block);
+        }
+    }
+
+    /// Decrypts each block where it lies, in order.
+    #[tactic(auto, using(std::proofs::lemmas::List::Edits::map_over_more))]
+    final fn decrypt_blocks(&self, blocks: &mut [GenericArray<u8, Self::BlockSize>])
+        ensures { blocks.new ≡ map (decrypted self.now) blocks.old }
+    {
+        for block in blocks.iter_mut() {
+            self.decrypt_block(block);
+        }
     }
 
     // Blocks aren't empty.

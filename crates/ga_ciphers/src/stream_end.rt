@@ -11,6 +11,8 @@ pub struct StreamEnd;
 impl fmt::Display for StreamEnd {
     ghost output = { λ _. Some (codes "the key stream ends before the text does") };
 
+    ghost styled_output = { λ _ _. Some (codes "the key stream ends before the text does") };
+
     fn fmt<W: fmt::Write>(&self, f: &mut fmt::Formatter<W>) -> fmt::Result {
         f.write_str("the key stream ends before the text does")
     }

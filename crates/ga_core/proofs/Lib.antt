@@ -4,10 +4,12 @@ mod TupleLemmas
 pub mod CopyLemmas
 pub mod EntryActs
 pub mod FillLemmas
+pub mod JoinLemmas
 pub mod JoinedRuns
 pub mod KeyLemmas
 pub mod LeftLemmas
 pub mod MoveLemmas
+pub mod NestedLemmas
 pub mod PairLemmas
 pub mod RunLemmas
 pub mod SlotLemmas
@@ -18,6 +20,5 @@ pub use Rattle.ga_views.proofs.ActsLemmas
 pub use Rattle.ga_views.proofs.CallLemmas
 pub use Rattle.ga_views.proofs.CutLemmas
 pub use Rattle.ga_views.proofs.HexLemmas
-pub use Rattle.ga_views.proofs.JoinLemmas
 pub use Rattle.ga_views.proofs.RowLemmas
 pub use Rattle.ga_views.proofs.RowSetLemmas

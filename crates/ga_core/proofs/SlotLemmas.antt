@@ -1,9 +1,9 @@
 -- Writing over the slots of a slice.
-use Rattle.ga_views.proofs.PartLemmas.{part-within}
+use Rattle.ga_views.proofs.PartLemmas.{part-before, part-within, part_long}
 use Rattle.ga_views.specs.Parts.{part_set}
-use Rattle.std.proofs.Common.{◌≡◌, ◌≤◌, ℕ, List, arith, ◌++◌, length, length-set, length-take, drop}
+use Rattle.std.proofs.Common.{◌≡◌, ◌≤◌, ◌+◌, ℕ, List, arith, ◌++◌, length, length-set, length-take, drop}
 use Rattle.std.proofs.Common.{take, slice_set, sym, ap, refl, ◌∙◌}
-use Rattle.std.proofs.Math.Seq.{take-append_seam}
+use Rattle.std.proofs.Math.Seq.{take-add, take-append_seam}
 use Rattle.std.specs.List.{length_refill, refill}
 
 -- all slots are written
@@ -39,3 +39,24 @@ pub front-room : {X : Type 0} {count room : ℕ} (len : ℕ) (items front : List
 front-room len items front lends bound full same =
     let within : len ≤ length items = omega arith in
     (within, omega (arith, ap length lends, length-take len items, within))
+
+-- The `count` slots behind the first, which are shown, are lent and written over.
+module _ {X : Type 0} {first room : ℕ} (count : ℕ) (items : List X) {shown : List X} (bound : first ≤ room)
+    (full : length items ≡ room) (shows : take first items ≡ shown) (enough : length shown + count ≤ room) where
+  within : first + count ≤ length items
+  within = omega (arith, ap length shows, length-take first items, bound, full, enough)
+
+  pub behind-long : {lent : List X} → lent ≡ take count (drop first items) → length lent ≡ count
+  behind-long lends = ap length lends ∙ part_long first count items within
+
+  module _ (written after : List X) (stands : after ≡ refill (length items) items (part_set first count items written)) where
+    -- the first are as they were
+    pub behind-kept : take first after ≡ shown
+    behind-kept = part-before first count items written after within stands ∙ shows
+
+    -- and what was written stands behind them
+    pub behind-written : length written ≡ count → take (first + count) after ≡ shown ++ written
+    behind-written long =
+        take-add first count after ∙ (ap (λ list. list ++ take count (drop first after)) behind-kept
+        ∙ ap (λ list. shown ++ list) (part-within first count items written after within stands
+        ∙ refill-whole count (take count (drop first items)) written (sym long)))

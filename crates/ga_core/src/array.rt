@@ -141,7 +141,8 @@ impl<T, N: ArrayLength<T>> Index<usize> for GenericArray<T, N> {
 
     ghost can_index = { λ array index. index < N.USIZE };
 
-    ghost index_gives = { λ array index item. slice_get array index ≡ Some item };
+    ghost index_gives = { λ array index item. (slice_get array index ≡ Some item)
+        × (length array ≡ N.USIZE) × FitsInline N.USIZE };
 
     #[inline]
     fn index(&self, index: usize) -> &T {

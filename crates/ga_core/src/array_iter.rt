@@ -10,7 +10,7 @@ mod steps;
 
 use crate::items_left::ItemsLeft;
 use crate::length::ArrayLength;
-use crate::slots::{are_many, move_items};
+use crate::slots::{are_long, are_many, move_items};
 use crate::store::Store;
 use ga_views::MAX_INLINE;
 use std::marker::{Model, PhantomData};
@@ -164,7 +164,7 @@ impl<T: Default + Drop, N: ArrayLength<T>> GenericArrayIter<T, N> {
     }
 
     // `move_to` slots of a store `S`, which has `room` for items: in one piece where they are all
-    // of either store.
+    // of `S` and long, or all of the iterator's store.
     #[inline(always)]
     pub(crate) fn move_into<S: Store<T>>(&mut self, slots: &mut [T], room: usize)
         requires room { room ≡ S.CAPACITY }
@@ -173,7 +173,7 @@ impl<T: Default + Drop, N: ArrayLength<T>> GenericArrayIter<T, N> {
         ensures left { self.new ≡ drop (length slots.old) self.old }
     {
         let count = slots.len();
-        if count == room && are_many(slots) {
+        if count == room && are_long(slots) {
             self.exchange::<S>(slots);
         } else if count == N::USIZE && are_many(slots) {
             self.exchange::<N::ArrayType>(slots);
@@ -228,10 +228,23 @@ impl<T, N: ArrayLength<T>> GenericArrayIter<T, N> {
 }
 
 impl<T: fmt::Debug, N: ArrayLength<T>> fmt::Debug for GenericArrayIter<T, N> {
+    ghost use Rattle.std.specs.Fmt.{◌++?◌, debug_list};
+    ghost use Rattle.std.specs.Prelude.{Some, codes};
+
+    ghost debug_output = { λ left. Some (codes "GenericArrayIter(")
+        ++? debug_list T.debug_output left ++? Some (codes ")") };
+
     fn fmt<W: fmt::Write>(&self, f: &mut fmt::Formatter<W>) -> fmt::Result {
-        f.debug_tuple("GenericArrayIter")
-            .field(&self.as_slice())
-            .finish()
+        // No clause of std tells what `debug_tuple` writes, so only the text of `{:#?}` is left to it.
+        if f.alternate() {
+            return f
+                .debug_tuple("GenericArrayIter")
+                .field(&self.as_slice())
+                .finish();
+        }
+        f.write_str("GenericArrayIter(")?;
+        fmt::Debug::fmt(self.as_slice(), f)?;
+        f.write_str(")")
     }
 }
 

@@ -16,6 +16,8 @@ pub struct AllocError;
 impl fmt::Display for AllocError {
     ghost output = { λ _. Some (codes "memory allocation failed") };
 
+    ghost styled_output = { λ _ _. Some (codes "memory allocation failed") };
+
     fn fmt<W: fmt::Write>(&self, f: &mut fmt::Formatter<W>) -> fmt::Result {
         f.write_str("memory allocation failed")
     }

@@ -14,6 +14,9 @@ const FEW: usize = 8;
 
 const WORD: usize = 8;
 
+// Up to so many bytes, a loop over the slots of a whole builder takes less than an exchange.
+const LONG: usize = 512;
+
 // Writes `f(0)`, `f(1)` and so on over the slots, each called once, in this order.
 #[inline]
 pub(crate) fn write_answers<T: Drop, F: FnMut(usize) -> T>(slots: &mut [T], f: &mut F)
@@ -71,6 +74,12 @@ pub(crate) fn write_defaults<T: Default + Drop>(slots: &mut [T])
 #[inline(always)]
 pub(crate) fn are_many<T>(items: &[T]) -> bool {
     items.len() > FEW || mem::size_of_val(items) <= WORD
+}
+
+// Whether items take more than some hundred bytes.
+#[inline(always)]
+pub(crate) fn are_long<T>(items: &[T]) -> bool {
+    mem::size_of_val(items) > LONG
 }
 
 // Exchanges the items of two slices of `N`, in one piece: without a loop, the compiler leaves out

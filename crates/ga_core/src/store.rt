@@ -56,8 +56,8 @@ pub trait Store<T>: Sized + Drop {
             self.entry result (λ written. (store_with self.old written).0)) }
         ensures items { result.now ≡ items self.old };
 
-    /// A full store of defaults, each made once, in order. `capacity` is the store's own, which is
-    /// at most `MAX_INLINE`.
+    /// A full store of defaults. `capacity` is the store's own, which is at most `MAX_INLINE`. No
+    /// clause and no test tells how often `default` is called.
     ///
     /// The body here appends each to an empty store. A store that fills its spare slots with
     /// defaults can do without the second pass.

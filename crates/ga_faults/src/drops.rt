@@ -14,6 +14,7 @@ mod inline_walks;
 mod kinds;
 mod maps;
 mod shapes;
+mod skips;
 mod steps;
 
 use crate::drops::boxed_walks::first_wrong_boxed_walk;

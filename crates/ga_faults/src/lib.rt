@@ -3,6 +3,8 @@
 #![tactic(auto)]
 
 #[cfg(test)]
+mod both_ends;
+#[cfg(test)]
 mod drops;
 #[cfg(test)]
 mod fill_outcomes;

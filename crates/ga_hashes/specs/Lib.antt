@@ -1,4 +1,5 @@
 pub mod BlockBuffer
+pub mod Differing
 pub mod DigestLengths
 pub mod Hkdf
 pub mod Hmac

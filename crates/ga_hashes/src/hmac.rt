@@ -5,6 +5,7 @@ ghost use Rattle.ga_hashes.specs.Hmac.{Holds, hmac_of, key_block, with_mask};
 ghost use Rattle.ga_core.specs.Length.{FitsInline};
 ghost use Rattle.std.specs.Prelude.{◌≡◌, ℕ, ◌-◌, ◌≤◌, ◌↔◌, ◌++◌, IsTrue, List, [], length, replicate};
 
+use crate::compare::same_bytes;
 use crate::hash_function::HashFunction;
 use ga_core::{ArrayLength, BorrowedItems, GenericArray};
 
@@ -59,7 +60,7 @@ impl<H: HashFunction> Hmac<H> {
         ensures { (key m : List ℕ) → Holds H.holds H.digest H.BlockSize.USIZE self key m
             → (IsTrue result ↔ (tag.now ≡ hmac_of H.digest H.BlockSize.USIZE key m)) }
     {
-        same_bytes(self.finish(), tag)
+        same_bytes(tag, self.finish().as_slice())
     }
 }
 
@@ -111,18 +112,4 @@ fn keyed<H: HashFunction>(block: &GenericArray<u8, H::BlockSize>, mask: u8) -> H
     let mut hasher = H::start();
     hasher.feed(block.map_inline_ref(|b: &u8| *b ^ mask).as_slice());
     hasher
-}
-
-// Whether the two are the same bytes. Looks at every byte, also behind one that differs.
-fn same_bytes<N: ArrayLength<u8>>(left: GenericArray<u8, N>, right: &[u8]) -> bool
-    ensures { IsTrue result ↔ (right.now ≡ left) }
-{
-    let Ok(right) = GenericArray::<u8, N>::try_from_slice(right) else {
-        return false;
-    };
-    let differences = left.zip_inline_ref(right, |l: &u8, r: &u8| *l ^ *r);
-    differences
-        .into_iter()
-        .fold(0, |all: u8, difference: u8| all | difference)
-        == 0
 }

@@ -7,6 +7,8 @@
 
 /// Messages of any length, in blocks of one length.
 pub mod block_buffer;
+/// Bytes compared so that each is looked at.
+pub mod compare;
 /// Hash functions whose sizes are lengths.
 pub mod hash_function;
 /// Key material of any length, made of a secret: HKDF.
@@ -16,6 +18,7 @@ pub mod hmac;
 /// Codes of a counter or of the time under a key: HOTP and TOTP.
 pub mod one_time_password;
 
+pub use compare::same_bytes;
 pub use hash_function::HashFunction;
 pub use md5::Md5;
 pub use sha1::Sha1;

@@ -1,4 +1,5 @@
-//! What the library promises, in one place.
+//! What the library promises, as functions; `tools/reference promise` lists what other crates
+//! carry.
 //!
 //! Inline, boxed and borrowed sequences mean, through one interface, lists of exactly N items. This
 //! holds of every item type and length that the kind allows, every closure with state and every

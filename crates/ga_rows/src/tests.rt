@@ -65,14 +65,6 @@ const CASES: &[(&str, &str, &str, u8)] = &[
     ("ga_rows last 3", "abcd", "", 2),
 ];
 
-/// Whether a text is this line with its end, or empty where there is none.
-fn has_line(text: &[u8], line: Option<&str>) -> bool {
-    match line {
-        Some(line) => text.strip_suffix(b"\n") == Some(line.as_bytes()),
-        None => text.is_empty(),
-    }
-}
-
 /// Whether listed words and an input give this text, the usage where the words mean nothing, and
 /// this exit status.
 fn gives(
@@ -83,7 +75,11 @@ fn gives(
     code: u8,
 ) -> Result<bool, AllocError> {
     let listed = words_of(alloc, words)?;
-    let (mut out, mut err) = (Vec::new(alloc), Vec::new(alloc));
+    let mut out = Vec::new(alloc);
+    let told = format!(in alloc; "{USAGE}\n")?;
+    // The message and the end of its line.
+    let (text, writes) = if code == 2 { (told.as_str(), 2) } else { ("", 0) };
+    let mut err = Sink::new(text.as_bytes(), WHOLE, usize::MAX);
     let end = run_listed(
         alloc,
         Ok(listed.into_iter()),
@@ -91,10 +87,10 @@ fn gives(
         &mut out,
         &mut err,
     );
-    let told = if code == 2 { Some(USAGE) } else { None };
     Ok(
         out.as_slice() == printed.as_bytes()
-            && has_line(err.as_slice(), told)
+            && err.has_text()
+            && err.writes() == writes
             && end == ExitCode::from(code),
     )
 }
@@ -117,14 +113,47 @@ fn words_that_are_not_listed_end_the_program(rt: HostRuntime) {
         (ErrorKind::InvalidData, "ga_rows: read or write fault\n", 4),
     ];
     for (kind, told, code) in cases {
-        let listed: io::Result<Args> = Err(io::Error::from(kind));
-        let mut input: &[u8] = b"abcd";
-        let mut out = Vec::new(rt.alloc());
-        let mut err = Vec::new(rt.alloc());
-        let end = run_listed(rt.alloc(), listed, &mut input, &mut out, &mut err);
-        let is_told = out.is_empty() && err.as_slice() == told.as_bytes();
-        assert!(rt; is_told && end == ExitCode::from(code), "{told}");
+        let mut err = Sink::new(told.as_bytes(), WHOLE, usize::MAX);
+        let is_ended = ends_unlisted(rt.alloc(), kind, &mut err, code);
+        assert!(rt; is_ended && err.has_text() && err.writes() == 2, "{told}");
+        // Nobody can be told: the status is the same, and no more is written.
+        let mut err = Sink::new(told.as_bytes(), WHOLE, 1);
+        let is_ended = ends_unlisted(rt.alloc(), kind, &mut err, code);
+        assert!(rt; is_ended && err.writes() == 1, "{told}");
     }
+}
+
+/// Whether words that aren't listed end the program with this status, and nothing is printed.
+fn ends_unlisted(alloc: Global, kind: ErrorKind, err: &mut Sink<'_>, code: u8) -> bool {
+    let listed: io::Result<Args> = Err(io::Error::from(kind));
+    let mut input: &[u8] = b"abcd";
+    let mut out = Vec::new(alloc);
+    let end = run_listed(alloc, listed, &mut input, &mut out, err);
+    out.is_empty() && end == ExitCode::from(code)
+}
+
+#[test]
+fn a_fault_of_standard_error_is_ignored(rt: HostRuntime) -> Result<(), Fail> {
+    let listed = words_of(rt.alloc(), "ga_rows none")?;
+    let mut input: &[u8] = b"abcd";
+    let mut out = Vec::new(rt.alloc());
+    let mut err = Sink::new(USAGE.as_bytes(), WHOLE, 1);
+    let words = Ok(listed.into_iter());
+    let end = run_listed(rt.alloc(), words, &mut input, &mut out, &mut err);
+    assert!(rt; end == ExitCode::from(2) && err.writes() == 1 && out.is_empty());
+    Ok(())
+}
+
+#[test]
+fn three_million_bytes_are_read_in_large_pieces(rt: HostRuntime) -> Result<(), Fail> {
+    let input = vec![in rt.alloc(); 0u8; 3_000_000]?;
+    let text = repeated(rt.alloc(), b"0\n", 187_500, b"")?;
+    let words = words_of(rt.alloc(), "sum 16")?;
+    let mut source = Source::new(input.as_slice(), WHOLE, false);
+    let mut sink = Sink::new(text.as_slice(), WHOLE, usize::MAX);
+    let end = run(rt.alloc(), words.as_slice(), &mut source, &mut sink);
+    assert!(rt; end == Status::Whole && sink.has_text() && source.reads() < 100);
+    Ok(())
 }
 
 #[test]

@@ -218,26 +218,30 @@ pub fn ends_built<S: Drop, E: Drop, P: Drop>(
     leaves_built(made, counts, 0)
 }
 
-/// The same of an item that was to be repeated at so many places, the last of which takes the item
-/// itself.
-pub fn ends_repeated<S: Drop, E: Drop>(made: Result<S, E>, counts: &Counts, places: usize) -> bool {
-    let is_exact = made.is_err() || counts.asked() as usize == places.saturating_sub(1);
+/// The same of a call that clones so many items: if it succeeds, it asked for each clone once.
+pub fn ends_cloned<S: Drop, E: Drop>(made: Result<S, E>, counts: &Counts, items: usize) -> bool {
+    let is_exact = made.is_err() || counts.asked() as usize == items;
     ends_made(made, counts) && is_exact
 }
 
-/// The numbers of so many items from 1 on, as the digits of the items that were dropped in order.
-pub fn rising(count: usize) -> u32 {
-    let mut digits = 0u32;
-    for index in 0..count {
+/// These digits, and behind them the numbers of the items of the indexes from `from` up to `end`.
+pub fn then_rising(digits: u32, from: usize, end: usize) -> u32 {
+    let mut digits = digits;
+    for index in from..end {
         digits = next_digit(digits, number_of(index));
     }
     digits
 }
 
-/// The same from the last down to 1.
-pub fn falling(count: usize) -> u32 {
+/// The numbers of so many items from 1 on, as the digits of the items that were dropped in order.
+pub fn rising(count: usize) -> u32 {
+    then_rising(0, 0, count)
+}
+
+/// The same of the last `gone` of so many items, from the last on.
+pub fn falling(count: usize, gone: usize) -> u32 {
     let mut digits = 0u32;
-    for index in (0..count).rev() {
+    for index in (count.saturating_sub(gone)..count).rev() {
         digits = next_digit(digits, number_of(index));
     }
     digits

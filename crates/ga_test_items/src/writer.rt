@@ -128,3 +128,9 @@ impl fmt::Write for Sink<'_> {
         Ok(())
     }
 }
+
+/// Whether this is the text of `{}`, in one write.
+pub fn shows_at_once<T: fmt::Display>(value: &T, text: &str) -> bool {
+    let mut sink = Sink::expecting(text.as_bytes());
+    fmt::Write::write(&mut sink, value).is_ok() && sink.has_text_in(1)
+}

@@ -25,6 +25,8 @@ impl fmt::Display for HeaderError {
 
     ghost output = { λ error. Some (error_text error) };
 
+    ghost styled_output = { λ error _. Some (error_text error) };
+
     fn fmt<W: fmt::Write>(&self, f: &mut fmt::Formatter<W>) -> fmt::Result {
         f.write_str(match self {
             HeaderError::TooShort => "fewer bytes than a header of UDP has",

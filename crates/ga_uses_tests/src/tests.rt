@@ -2,6 +2,7 @@
 mod block_cipher;
 mod chacha20;
 mod counter_mode;
+mod errors;
 mod ethernet;
 mod key_table;
 mod matrix;

@@ -228,4 +228,4 @@ module _ {X : Type 0} (width : ℕ) (items : List X) (whole : length items ≡ c
 pub ruleset row_facts = (length-rows, rows-few, row-within, slice_get-rows, slice_get-rows_past)
 
 -- a cut at the end of the whole rows
-pub ruleset cut_facts = (rows-of_whole, whole_by, div-mul-le_self)
+pub ruleset cut_facts = (length-rows, rows-of_whole, whole_by, div-mul-le_self)

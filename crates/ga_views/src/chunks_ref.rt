@@ -57,6 +57,7 @@ impl<'a, T, N: Unsigned> ChunksRef<'a, T, N> {
         ensures rows { rows N.USIZE (items_of_chunks result.0) ≡ rows N.USIZE slice.now }
         ensures rest { result.1.now ≡ chunk_rest N.USIZE slice.now }
         ensures parts { items_of_chunks result.0 ++ result.1.now ≡ slice.now }
+        ensures count { length (rows N.USIZE slice.now) ≡ chunk_count N.USIZE slice.now }
     {
         let (whole, rest) = slice.split_at(len_of_rows(slice.len(), N::USIZE));
         (ChunksRef::over(whole), rest)

@@ -14,6 +14,9 @@ impl fmt::Display for LengthError {
     ghost output = { λ _. Some
         (codes "LengthError: Slice or iterator does not match GenericArray length") };
 
+    ghost styled_output = { λ _ _. Some
+        (codes "LengthError: Slice or iterator does not match GenericArray length") };
+
     fn fmt<W: fmt::Write>(&self, f: &mut fmt::Formatter<W>) -> fmt::Result {
         f.write_str("LengthError: Slice or iterator does not match GenericArray length")
     }

@@ -1,5 +1,5 @@
-//! Calls of a closure at borrowed items, in plain types: what is made is a boxed array. Memory
-//! comes first in each.
+//! Calls of a closure at borrowed items, in plain types: what is made is a boxed array, of the
+//! allocator that this one keeps. Memory comes first in each.
 ghost use Rattle.ga_core.specs.Calls.{MayMap, MayTryMap, MayZip};
 ghost use Rattle.ga_core.specs.Entries.{ActsOnEntries, ActsOnEntry, CallAt, CallAtPair};
 ghost use Rattle.ga_core.specs.Runs.{ClosureRun, TryClosureRun};
@@ -11,7 +11,6 @@ ghost use Rattle.std.specs.Prelude.{◌≡◌, IfOk, IsOk, OnErr, Result, map};
 use crate::boxed_array::BoxedArray;
 use crate::live_block::LiveBlock;
 use ga_core::{AllocError, GenericArrayRef, Unsigned};
-use std::alloc::Global;
 use std::marker::PhantomData;
 
 impl<T, N: Unsigned> BoxedArray<T, N> {
@@ -21,7 +20,6 @@ impl<T, N: Unsigned> BoxedArray<T, N> {
     /// `N` is 0. The counterpart of `map` of `&GenericArray<T, N>`, which makes an inline array.
     pub fn map_ref<U, F: FnMut(&T) -> U>(
         &self,
-        alloc: Global,
         mut f: F,
     ) -> Result<BoxedArray<U, N>, AllocError>
         requires callable { MayMap (λ item. item.now) F.pre F.step f self.now }
@@ -31,13 +29,12 @@ impl<T, N: Unsigned> BoxedArray<T, N> {
             → made ≡ map h self.now) }
         ensures empty { N.USIZE ≡ 0 → IsOk result }
     {
-        self.map_ref_by(alloc, &mut f)
+        self.map_ref_by(&mut f)
     }
 
     /// `map_ref` that borrows the closure, which can be used again in the state that it reached.
     pub fn map_ref_by<U, F: FnMut(&T) -> U>(
         &self,
-        alloc: Global,
         f: &mut F,
     ) -> Result<BoxedArray<U, N>, AllocError>
         requires callable { MayMap (λ item. item.now) F.pre F.step f.old self.now }
@@ -49,7 +46,7 @@ impl<T, N: Unsigned> BoxedArray<T, N> {
         ensures err { OnErr result (f.new ≡ f.old) }
         ensures empty { N.USIZE ≡ 0 → IsOk result }
     {
-        let Ok(mut items) = LiveBlock::new(alloc, N::USIZE) else {
+        let Ok(mut items) = LiveBlock::new(self.items.allocator(), N::USIZE) else {
             return Err(AllocError);
         };
         for item in self.as_slice() {
@@ -66,7 +63,6 @@ impl<T, N: Unsigned> BoxedArray<T, N> {
     /// No call follows an error, and the values made before it are dropped.
     pub fn try_map_ref<U: Drop, F: FnMut(&T) -> Result<U, E>, E>(
         &self,
-        alloc: Global,
         mut f: F,
     ) -> Result<Result<BoxedArray<U, N>, E>, AllocError>
         requires callable { MayTryMap (λ item. item.now) F.pre F.step f self.now }
@@ -76,14 +72,13 @@ impl<T, N: Unsigned> BoxedArray<T, N> {
             → ActsOnEntry (λ item. item.now) F.step f h → built ≡ try_map h self.now) }
         ensures empty { N.USIZE ≡ 0 → IsOk result }
     {
-        self.try_map_ref_by(alloc, &mut f)
+        self.try_map_ref_by(&mut f)
     }
 
     /// `try_map_ref` that borrows the closure, which can be used again in the state that it
     /// reached.
     pub fn try_map_ref_by<U: Drop, F: FnMut(&T) -> Result<U, E>, E>(
         &self,
-        alloc: Global,
         f: &mut F,
     ) -> Result<Result<BoxedArray<U, N>, E>, AllocError>
         requires callable { MayTryMap (λ item. item.now) F.pre F.step f.old self.now }
@@ -94,7 +89,7 @@ impl<T, N: Unsigned> BoxedArray<T, N> {
         ensures err { OnErr result (f.new ≡ f.old) }
         ensures empty { N.USIZE ≡ 0 → IsOk result }
     {
-        let Ok(mut good) = LiveBlock::new(alloc, N::USIZE) else {
+        let Ok(mut good) = LiveBlock::new(self.items.allocator(), N::USIZE) else {
             return Err(AllocError);
         };
         for item in self.as_slice() {
@@ -116,7 +111,6 @@ impl<T, N: Unsigned> BoxedArray<T, N> {
     /// `N` is 0. The counterpart of `zip` of `&GenericArray<T, N>`, which makes an inline array.
     pub fn zip_ref<B, U, F: FnMut(&T, &B) -> U>(
         &self,
-        alloc: Global,
         rhs: GenericArrayRef<'_, B, N>,
         mut f: F,
     ) -> Result<BoxedArray<U, N>, AllocError>
@@ -130,13 +124,12 @@ impl<T, N: Unsigned> BoxedArray<T, N> {
             → made ≡ map h (zip self.now (items_of_view rhs.entry))) }
         ensures empty { N.USIZE ≡ 0 → IsOk result }
     {
-        self.zip_ref_by(alloc, rhs, &mut f)
+        self.zip_ref_by(rhs, &mut f)
     }
 
     /// `zip_ref` that borrows the closure, which can be used again in the state that it reached.
     pub fn zip_ref_by<B, U, F: FnMut(&T, &B) -> U>(
         &self,
-        alloc: Global,
         rhs: GenericArrayRef<'_, B, N>,
         f: &mut F,
     ) -> Result<BoxedArray<U, N>, AllocError>
@@ -151,7 +144,7 @@ impl<T, N: Unsigned> BoxedArray<T, N> {
         ensures err { OnErr result (f.new ≡ f.old) }
         ensures empty { N.USIZE ≡ 0 → IsOk result }
     {
-        let Ok(mut items) = LiveBlock::new(alloc, N::USIZE) else {
+        let Ok(mut items) = LiveBlock::new(self.items.allocator(), N::USIZE) else {
             return Err(AllocError);
         };
         let (left, right) = (self.as_slice(), rhs.as_slice());

@@ -1,6 +1,7 @@
 //! Equality, order, hashes and `Debug` of arrays: those of the slice of the items.
 ghost use Rattle.std.specs.Cmp.{on_equiv, on_per, on_po, on_total};
 ghost use Rattle.std.specs.Cmp.Lexicographic.{lists_agrees, lists_equiv, lists_per, lists_po, lists_ties, lists_total, pointwise, slice_cmp, slice_partial_cmp};
+ghost use Rattle.std.specs.Fmt.{debug_list};
 ghost use Rattle.std.specs.Hash as fed;
 ghost use Rattle.std.specs.Hash.{items_Alike, on_Alike};
 
@@ -65,6 +66,8 @@ impl<T: Hash, N: ArrayLength<T>> Hash for GenericArray<T, N> {
 }
 
 impl<T: fmt::Debug, N: ArrayLength<T>> fmt::Debug for GenericArray<T, N> {
+    ghost debug_output = { debug_list T.debug_output };
+
     fn fmt<W: fmt::Write>(&self, f: &mut fmt::Formatter<W>) -> fmt::Result {
         fmt::Debug::fmt(self.as_slice(), f)
     }

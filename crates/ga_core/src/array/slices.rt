@@ -1,5 +1,6 @@
 //! An array as a slice: the methods of slices, ranges, and loops over references to the items.
 ghost use Rattle.ga_views.specs.Iteration.{IteratesMutOver, IteratesOver};
+ghost use Rattle.ga_views.specs.Length.{FitsInline};
 ghost use Rattle.std.specs.Borrow.{sem};
 ghost use Rattle.std.specs.Prelude.{◌≡◌, ℕ, length};
 
@@ -11,20 +12,21 @@ use std::slice;
 
 /// `array.len()`, where the trait is in scope. The associated `GenericArray::len()` takes no array.
 pub trait Len {
-    // The number of items.
-    ghost LEN: { ℕ };
+    // What a call gives: the number of items.
+    ghost len_gives: { Self → ℕ → Type 0 };
 
     /// The number of items, which the type tells.
     fn len(&self) -> usize
-        ensures { result ≡ LEN };
+        ensures { len_gives self.now result };
 }
 
 impl<T, N: ArrayLength<T>> Len for GenericArray<T, N> {
-    ghost LEN = { N.USIZE };
+    ghost len_gives = { λ array len. (len ≡ N.USIZE) × (length array ≡ len)
+        × FitsInline N.USIZE };
 
     #[inline]
     fn len(&self) -> usize {
-        N::USIZE
+        GenericArray::as_slice(self).len()
     }
 }
 

@@ -2,7 +2,7 @@
 ghost use Rattle.ga_views.specs.Length.{FitsInline};
 ghost use Rattle.ga_views.specs.Parts.{LendsHalves};
 ghost use Rattle.ga_views.specs.Views.{items_of_chunks, items_of_view};
-ghost use Rattle.ga_views.specs.Rows.{chunk_rest, rows};
+ghost use Rattle.ga_views.specs.Rows.{chunk_count, chunk_rest, rows};
 ghost use Rattle.std.specs.Borrow.{Array, RestsIfErr, sem};
 ghost use Rattle.std.specs.Option.{option_copied};
 ghost use Rattle.std.specs.Prelude.{◌≡◌, ◌<◌, ◌↔◌, ◌⊎◌, ◌++◌, IfOk, IsOk, Some, length, map, slice_get};
@@ -96,6 +96,7 @@ impl<T, N: ArrayLength<T>> GenericArray<T, N> {
         ensures rows { rows N.USIZE (items_of_chunks result.0) ≡ rows N.USIZE slice.now }
         ensures rest { result.1.now ≡ chunk_rest N.USIZE slice.now }
         ensures parts { items_of_chunks result.0 ++ result.1.now ≡ slice.now }
+        ensures count { length (rows N.USIZE slice.now) ≡ chunk_count N.USIZE slice.now }
     {
         ChunksRef::chunks_from_slice(slice)
     }

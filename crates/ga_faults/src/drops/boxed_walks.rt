@@ -1,9 +1,10 @@
 //! What is taken out of a boxed array, from both ends, and out of a block.
 use crate::drops::builds::by_clone;
 use crate::drops::inline_walks::by_takes;
+use crate::drops::skips::{Skips, are_in_order};
 use ga_test_items::counted::Counts;
 use ga_test_items::played::{
-    Item, Played, boxed_items, ends, ends_made, falling, first_wrong, later, nth_item, rising,
+    Item, Played, boxed_items, ends, ends_cloned, ends_made, first_wrong, later, nth_item, rising,
 };
 use ga_test_items::scripted::Given;
 use generic_array::{AllocError, BoxedArrayIter, LiveBlock, Unsigned};
@@ -20,26 +21,19 @@ fn items<'a, T: Item + Given<'a>, N: Unsigned>(
     }
 }
 
-/// Whether all items are dropped from the front, by `nth` and by who gets what it returns.
-fn by_nth<'a, T: Item + Given<'a>, N: Unsigned>(alloc: Global, counts: &'a Counts) -> bool {
-    let Ok(mut left) = items::<T, N>(alloc, counts) else {
-        return true;
-    };
-    let _ = left.nth(N::USIZE / 2);
-    let _ = left.nth(N::USIZE);
-    let is_in_order = counts.dropped() == rising(N::USIZE);
-    is_in_order && counts.live() == 0 && ends(left, counts)
-}
-
-/// Whether all items are dropped from the back, by `nth_back` and by who gets what it returns.
-fn by_nth_back<'a, T: Item + Given<'a>, N: Unsigned>(alloc: Global, counts: &'a Counts) -> bool {
-    let Ok(mut left) = items::<T, N>(alloc, counts) else {
-        return true;
-    };
-    let _ = left.nth_back(N::USIZE / 2);
-    let _ = left.nth_back(N::USIZE);
-    let is_in_order = counts.dropped() == falling(N::USIZE);
-    is_in_order && counts.live() == 0 && ends(left, counts)
+/// Whether `nth`, or `nth_back`, drops at once and in order, and who gets what it returns then.
+fn by_nth<'a, T: Item + Given<'a>, N: Unsigned>(
+    alloc: Global,
+    counts: &'a Counts,
+    is_back: bool,
+) -> bool {
+    let mut are_all = true;
+    for skips in [Skips::Two, Skips::Past, Skips::BehindTaken] {
+        if let Ok(left) = items::<T, N>(alloc, counts) {
+            are_all = are_all && are_in_order(left, counts, N::USIZE, skips, is_back);
+        }
+    }
+    are_all
 }
 
 /// Takes one item from each end, and drops the others with the iterator.
@@ -102,9 +96,10 @@ fn by_own_clone<'a, T: Item + Given<'a>, N: Unsigned>(alloc: Global, counts: &'a
     };
     drop(left.next());
     drop(left.next_back());
+    let len = left.len();
     let copy = left.clone();
     drop(left);
-    ends_made(copy, counts)
+    ends_cloned(copy, counts, len)
 }
 
 /// Takes an item from each end, and clones what is left, by the traits.
@@ -119,7 +114,7 @@ fn by_traits<'a, T: Item + Given<'a>, N: Unsigned>(
     let Ok(left) = items::<T, N>(alloc, counts) else {
         return (true, true);
     };
-    (taken, by_clone(left, counts))
+    (taken, by_clone(left, counts, N::USIZE))
 }
 
 /// Whether a block drops its items from the front, behind those that were taken from its ends.
@@ -173,10 +168,10 @@ fn of_steps<'a, 'n, T: Item + Given<'a>, N: Unsigned>(
         ("<BoxedArrayIter as ItemsLeft>::take_back", taken),
         ("<BoxedArrayIter as Clone>::clone", cloned),
         ("<BoxedArray as IntoIterator>::into_iter", into_iter),
-        ("BoxedArrayIter::nth", by_nth::<T, N>(alloc, counts)),
+        ("BoxedArrayIter::nth", by_nth::<T, N>(alloc, counts, false)),
         (
             "BoxedArrayIter::nth_back",
-            by_nth_back::<T, N>(alloc, counts),
+            by_nth::<T, N>(alloc, counts, true),
         ),
         ("BoxedArrayIter::count", by_count::<T, N>(alloc, counts)),
         ("BoxedArrayIter::last", by_last::<T, N>(alloc, counts)),

@@ -4,7 +4,8 @@ ghost use Rattle.std.specs.Prelude.{◌≡◌, length};
 
 use ga_test_items::counted::{Counted, Counts};
 use ga_test_items::played::{
-    Item, Items, Results, ends, ends_made, first_wrong, inline_items, nth_item, rising,
+    Item, Items, Results, ends, ends_cloned, ends_made, first_wrong, inline_items, nth_item,
+    then_rising,
 };
 use ga_test_items::scripted::Given;
 use generic_array::{ArrayBuilder, ArrayLength, Store, U2};
@@ -54,26 +55,39 @@ fn by_cuts<'a, T: Item + Given<'a>, N: ArrayLength<T>>(counts: &'a Counts, is_cl
     let mut list = full::<T, N>(counts);
     list.truncate(N::USIZE);
     let are_kept = counts.dropped() == 0;
+    let most = N::USIZE.saturating_sub(1);
+    list.truncate(most);
+    let last = then_rising(0, most, N::USIZE);
+    let is_last_cut = counts.dropped() == last;
+    list.truncate(1);
+    let behind_first = then_rising(last, 1, most);
+    let are_others_cut = counts.dropped() == behind_first;
     if is_cleared {
         list.clear();
     } else {
         list.truncate(0);
     }
-    let is_in_order = counts.dropped() == rising(N::USIZE) && counts.live() == 0;
-    are_kept && is_in_order && ends(list, counts)
+    let all = then_rising(behind_first, 0, most.min(1));
+    let is_in_order = counts.dropped() == all && counts.live() == 0;
+    ends(list, counts) && are_kept && is_last_cut && are_others_cut && is_in_order
 }
 
-/// Whether a refused clone leaves the builder as it was.
-fn by_clones<'a, T: Item + Given<'a>, N: ArrayLength<T>>(counts: &'a Counts) -> bool
+/// Whether a refused clone leaves the builder as it was, with an item or with none.
+fn by_clones<'a, T: Item + Given<'a>, N: ArrayLength<T>>(counts: &'a Counts, is_begun: bool) -> bool
     requires { FitsInline N.USIZE }
 {
     let items = inline_items::<T, N>(counts);
     let mut list = ArrayBuilder::<T, N>::new();
-    let made = list.extend_from_clones(items.as_slice());
-    let is_as_it_was = made.is_ok() || counts.live() as usize == N::USIZE;
+    if is_begun && !list.is_full() {
+        list.push(nth_item(counts, 0));
+    }
+    let (live, behind) = (counts.live(), &items.as_slice()[list.position()..]);
+    let made = list.extend_from_clones(behind);
+    let len = behind.len();
+    let is_as_it_was = made.is_ok() || counts.live() == live;
     drop(items);
     drop(list);
-    is_as_it_was && ends_made(made, counts)
+    ends_cloned(made, counts, len) && is_as_it_was
 }
 
 /// Takes from an iterator, also where it has more than there is room for.
@@ -144,7 +158,7 @@ pub(crate) fn first_wrong_list<'a, 'n, T: Item + Given<'a>, N: ArrayLength<T>>(
         ("ArrayBuilder::clear", by_cuts::<T, N>(counts, true)),
         (
             "ArrayBuilder::extend_from_clones",
-            by_clones::<T, N>(counts),
+            by_clones::<T, N>(counts, false) && by_clones::<T, N>(counts, true),
         ),
         (
             "ArrayBuilder::finish",

@@ -4,12 +4,12 @@ ghost use Rattle.generic_array.specs.Length.{FitsInline};
 use ga_test_items::counted::{Counted, Counts};
 use ga_test_items::items::TooMany;
 use ga_test_items::played::{
-    Item, Played, ends, ends_built, ends_made, ends_repeated, first_of, first_wrong, inline_items,
+    Item, Played, ends, ends_built, ends_cloned, ends_made, first_of, first_wrong, inline_items,
     item_of_call, nth_item, nth_or_error,
 };
 use ga_test_items::scripted::Given;
 use generic_array::sequence::FallibleGenericSequence;
-use generic_array::{ArrayLength, BoxedArray, GenericArray, GenericArrayRef, Unsigned};
+use generic_array::{ArrayLength, BoxedArray, GenericArray, GenericArrayRef, Store, Unsigned};
 use std::alloc::Global;
 
 /// Builds of inline arrays by a closure that can't fail: the borrowed one, and that by value.
@@ -37,7 +37,7 @@ fn repeated<'a, T: Item + Given<'a>, N: ArrayLength<T>>(counts: &'a Counts) -> b
     requires { FitsInline N.USIZE }
 {
     let made = GenericArray::<T, N>::repeat(nth_item(counts, 0));
-    ends_repeated(made, counts, N::USIZE)
+    ends_cloned(made, counts, N::USIZE.saturating_sub(1))
 }
 
 /// Builds of inline arrays.
@@ -62,19 +62,40 @@ fn of_clones<'a, 'n, T: Item + Given<'a>, N: ArrayLength<T>>(counts: &'a Counts)
     let array = inline_items::<T, N>(counts);
     let copy = array.clone();
     drop(array);
-    let own = ends_made(copy, counts);
-    let by_trait = by_clone(inline_items::<T, N>(counts), counts);
+    let own = ends_cloned(copy, counts, N::USIZE);
+    let by_trait = by_clone(inline_items::<T, N>(counts), counts, N::USIZE);
     [
         ("GenericArray::clone", own),
         ("<GenericArray as Clone>::clone", by_trait),
     ]
 }
 
-/// Clones by the trait.
-pub(crate) fn by_clone<S: Clone + Drop>(source: S, counts: &Counts) -> bool {
+/// Clones so many items by the trait.
+pub(crate) fn by_clone<S: Clone + Drop>(source: S, counts: &Counts, items: usize) -> bool {
     let copy: Result<S, std::alloc::AllocError> = source.clone();
     drop(source);
-    ends_made(copy, counts)
+    ends_cloned(copy, counts, items)
+}
+
+/// Builds of defaults, which are counted nowhere.
+fn of_defaults<'a, 'n, T: Item + Given<'a>, N: ArrayLength<T>>(
+    alloc: Global,
+    counts: &'a Counts,
+) -> [Played<'n>; 3]
+    requires { FitsInline N.USIZE }
+{
+    let filled = <N::ArrayType as Store<T>>::filled(N::USIZE);
+    [
+        (
+            "GenericArray::default",
+            ends(GenericArray::<T, N>::default(), counts),
+        ),
+        (
+            "BoxedArray::default_boxed",
+            ends_made(BoxedArray::<T, N>::default_boxed(alloc), counts),
+        ),
+        ("<ArrayVec as Store>::filled", ends(filled, counts)),
+    ]
 }
 
 /// Builds of boxed arrays.
@@ -90,7 +111,7 @@ fn of_boxed<'a, 'n, T: Item + Given<'a>, N: Unsigned>(
     let try_generate_by = ends_built(built, counts);
     let try_generate = ends_built(BoxedArray::<T, N>::try_generate(alloc, make), counts);
     let made = BoxedArray::<T, N>::repeat(alloc, nth_item(counts, 0));
-    let repeat = ends_repeated(made, counts, N::USIZE);
+    let repeat = ends_cloned(made, counts, N::USIZE.saturating_sub(1));
     [
         ("BoxedArray::generate", generate),
         ("BoxedArray::generate_by", generate_by),
@@ -118,7 +139,8 @@ where
     let mut make = |index: usize| -> Result<T, u32> { nth_or_error(counts, index) };
     let try_generate_by = ends_built(S::try_generate_by(place, &mut make), counts);
     let try_generate = ends_built(S::try_generate(place, make), counts);
-    let repeat = ends_made(S::repeat(place, nth_item(counts, 0)), counts);
+    let places = S::Length::USIZE.saturating_sub(1);
+    let repeat = ends_cloned(S::repeat(place, nth_item(counts, 0)), counts, places);
     let [
         by_generate,
         by_generate_by,
@@ -169,6 +191,7 @@ pub(crate) fn first_wrong_build<'a, 'n, T: Item + Given<'a>, N: ArrayLength<T>>(
     first_wrong(&[
         &of_inline::<T, N>(counts),
         &of_clones::<T, N>(counts),
+        &of_defaults::<T, N>(alloc, counts),
         &of_boxed::<T, N>(alloc, counts),
         &of_kind::<T, GenericArray<T, N>>(INLINE, (), counts),
         &of_kind::<T, GenericArrayRef<'_, T, N>>(VIEWS, (), counts),

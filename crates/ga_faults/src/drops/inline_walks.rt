@@ -2,9 +2,10 @@
 ghost use Rattle.generic_array.specs.Length.{FitsInline};
 
 use crate::drops::builds::by_clone;
+use crate::drops::skips::{Skips, are_in_order};
 use ga_test_items::counted::Counts;
 use ga_test_items::played::{
-    Item, Played, ends, ends_made, falling, first_wrong, inline_items, later, nth_item, rising,
+    Item, Played, ends, ends_cloned, first_wrong, inline_items, later, nth_item, rising,
 };
 use ga_test_items::scripted::Given;
 use generic_array::items_left::{ItemsLeft, fold_left, rfold_left};
@@ -17,26 +18,16 @@ fn items<'a, T: Item + Given<'a>, N: ArrayLength<T>>(counts: &'a Counts) -> Gene
     inline_items::<T, N>(counts).into_iter()
 }
 
-/// Whether all items are dropped from the front, by `nth` and by who gets what it returns.
-fn by_nth<'a, T: Item + Given<'a>, N: ArrayLength<T>>(counts: &'a Counts) -> bool
+/// Whether `nth`, or `nth_back`, drops at once and in order, and who gets what it returns then.
+fn by_nth<'a, T: Item + Given<'a>, N: ArrayLength<T>>(counts: &'a Counts, is_back: bool) -> bool
     requires { FitsInline N.USIZE }
 {
-    let mut left = items::<T, N>(counts);
-    let _ = left.nth(N::USIZE / 2);
-    let _ = left.nth(N::USIZE);
-    let is_in_order = counts.dropped() == rising(N::USIZE);
-    is_in_order && counts.live() == 0 && ends(left, counts)
-}
-
-/// Whether all items are dropped from the back, by `nth_back` and by who gets what it returns.
-fn by_nth_back<'a, T: Item + Given<'a>, N: ArrayLength<T>>(counts: &'a Counts) -> bool
-    requires { FitsInline N.USIZE }
-{
-    let mut left = items::<T, N>(counts);
-    let _ = left.nth_back(N::USIZE / 2);
-    let _ = left.nth_back(N::USIZE);
-    let is_in_order = counts.dropped() == falling(N::USIZE);
-    is_in_order && counts.live() == 0 && ends(left, counts)
+    let mut are_all = true;
+    for skips in [Skips::Two, Skips::Past, Skips::BehindTaken] {
+        let left = items::<T, N>(counts);
+        are_all = are_all && are_in_order(left, counts, N::USIZE, skips, is_back);
+    }
+    are_all
 }
 
 /// Whether `move_to` drops what the slots held.
@@ -128,9 +119,10 @@ fn by_own_clone<'a, T: Item + Given<'a>, N: ArrayLength<T>>(counts: &'a Counts) 
     let mut left = items::<T, N>(counts);
     drop(left.next());
     drop(left.next_back());
+    let len = left.len();
     let copy = left.clone();
     drop(left);
-    ends_made(copy, counts)
+    ends_cloned(copy, counts, len)
 }
 
 /// Takes by the trait, and clones by the trait.
@@ -138,7 +130,7 @@ fn by_traits<'a, T: Item + Given<'a>, N: ArrayLength<T>>(counts: &'a Counts) -> 
     requires { FitsInline N.USIZE }
 {
     let taken = by_takes(items::<T, N>(counts), counts);
-    (taken, by_clone(items::<T, N>(counts), counts))
+    (taken, by_clone(items::<T, N>(counts), counts, N::USIZE))
 }
 
 /// Steps, and what drops the items that are left.
@@ -157,8 +149,8 @@ fn of_steps<'a, 'n, T: Item + Given<'a>, N: ArrayLength<T>>(counts: &'a Counts) 
             "<GenericArray as IntoIterator>::into_iter",
             by_drop::<T, N>(counts),
         ),
-        ("GenericArrayIter::nth", by_nth::<T, N>(counts)),
-        ("GenericArrayIter::nth_back", by_nth_back::<T, N>(counts)),
+        ("GenericArrayIter::nth", by_nth::<T, N>(counts, false)),
+        ("GenericArrayIter::nth_back", by_nth::<T, N>(counts, true)),
         ("GenericArrayIter::move_to", by_move_to::<T, N>(counts)),
         ("GenericArrayIter::count", by_count::<T, N>(counts)),
         ("GenericArrayIter::last", by_last::<T, N>(counts)),

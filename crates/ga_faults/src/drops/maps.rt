@@ -135,13 +135,13 @@ fn by_boxed<'a, T: Item + Given<'a>, N: Unsigned>(alloc: Global, counts: &'a Cou
     let Ok(items) = boxed_items::<T, N>(alloc, counts) else {
         return [true; 4];
     };
-    let made = items.map_ref(alloc, another::<T>);
+    let made = items.map_ref(another::<T>);
     let map = leaves_made(made, counts, N::USIZE);
-    let made = items.map_ref_by(alloc, &mut another::<T>);
+    let made = items.map_ref_by(&mut another::<T>);
     let map_by = leaves_made(made, counts, N::USIZE);
-    let made = items.try_map_ref(alloc, another_or_error::<T>);
+    let made = items.try_map_ref(another_or_error::<T>);
     let try_map = leaves_built(made, counts, N::USIZE);
-    let made = items.try_map_ref_by(alloc, &mut another_or_error::<T>);
+    let made = items.try_map_ref_by(&mut another_or_error::<T>);
     let try_map_by = leaves_built(made, counts, N::USIZE);
     drop(items);
     [map, map_by, try_map, try_map_by && ends((), counts)]
@@ -157,8 +157,8 @@ fn by_boxed_zips<'a, T: Item + Given<'a>, N: Unsigned>(
         return (true, true);
     };
     let mut make = |number: &u32, _other: &u32| -> T { item_of_call(counts, *number as usize) };
-    let zip_by = ends_made(numbers.zip_ref_by(alloc, numbers.view(), &mut make), counts);
-    let zip = ends_made(numbers.zip_ref(alloc, numbers.view(), make), counts);
+    let zip_by = ends_made(numbers.zip_ref_by(numbers.view(), &mut make), counts);
+    let zip = ends_made(numbers.zip_ref(numbers.view(), make), counts);
     (zip, zip_by)
 }
 

@@ -34,15 +34,15 @@ pub fn of_blocks<N: ArrayLength<u32>>(
     first_of(&[
         (
             "BoxedArray::map_ref",
-            counts(boxed.map_ref(alloc, seen), len),
+            counts(boxed.map_ref(seen), len),
         ),
         (
             "BoxedArray::try_map_ref",
-            counts_built(boxed.try_map_ref(alloc, good_seen), len),
+            counts_built(boxed.try_map_ref(good_seen), len),
         ),
         (
             "BoxedArray::zip_ref",
-            counts(boxed.zip_ref(alloc, right.view(), first_seen), len),
+            counts(boxed.zip_ref(right.view(), first_seen), len),
         ),
     ])
 }

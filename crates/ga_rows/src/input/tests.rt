@@ -4,17 +4,17 @@ use crate::status::Status;
 use std::io;
 use std::io::{ErrorKind, Read};
 
-/// Is interrupted once, gives one byte at each of so many reads, and then its end.
+/// Is interrupted so often in a row, gives one byte at each of so many reads, and then its end.
 #[derive(Drop)]
 struct Drops {
-    is_interrupted: bool,
+    interrupts: usize,
     left: usize,
 }
 
 impl Read for Drops {
     fn read(&mut self, buf: &mut [u8]) -> io::Result<usize> {
-        if !self.is_interrupted {
-            self.is_interrupted = true;
+        if let Some(interrupts) = self.interrupts.checked_sub(1) {
+            self.interrupts = interrupts;
             return Err(io::Error::from(ErrorKind::Interrupted));
         }
         let (Some(to), Some(left)) = (buf.first_mut(), self.left.checked_sub(1)) else {
@@ -40,7 +40,7 @@ fn an_end_counts_within_the_bound_alone(rt: HostRuntime) {
     ];
     for (left, most, count) in cases {
         let mut drops = Drops {
-            is_interrupted: false,
+            interrupts: 1,
             left: *left,
         };
         let is_right = match (read_within(rt.alloc(), &mut drops, *most), *count) {
@@ -52,8 +52,12 @@ fn an_end_counts_within_the_bound_alone(rt: HostRuntime) {
         };
         assert!(rt; is_right, "{left} bytes in {most} reads");
     }
+}
+
+#[test]
+fn each_interrupted_read_is_made_again(rt: HostRuntime) {
     let mut drops = Drops {
-        is_interrupted: false,
+        interrupts: 3,
         left: 100,
     };
     assert!(rt; read_all(rt.alloc(), &mut drops).is_ok_and(|input| input.len() == 100));

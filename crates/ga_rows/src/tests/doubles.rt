@@ -41,6 +41,11 @@ pub struct Source<'a> {
 }
 
 impl<'a> Source<'a> {
+    /// How many reads there were.
+    pub fn reads(&self) -> usize {
+        self.reads
+    }
+
     /// A reader of these bytes, which fails behind them or ends.
     pub fn new(bytes: &'a [u8], manner: Manner, fails: bool) -> Self {
         Source {

@@ -2,13 +2,14 @@
 //! caller's own.
 ghost use Rattle.ga_ciphers.specs.Cbc.{cbc_encrypted};
 ghost use Rattle.ga_ciphers.specs.Padding.{padded};
-ghost use Rattle.std.specs.Prelude.{◌≡◌, ◌-◌, ◌%◌, ◌^◌, ◌<◌, IfOk, IsTrue, length, reverse};
+ghost use Rattle.std.specs.Prelude.{◌≡◌, ◌-◌, ◌%◌, ◌^◌, ◌<◌, IfOk, IsTrue, length, map, reverse};
 
 use ga_ciphers::block_cipher::BlockCipher;
 use ga_ciphers::cbc::{decrypt_blocks, encrypt_blocks};
 use ga_ciphers::padding::{pad, unpad};
 use generic_array::{ArrayLength, GenericArray, U4, Unsigned};
 use std::alloc::{AllocError, Global};
+use std::cell::Cell;
 
 /// Encrypts a block and decrypts it: it is what it was.
 pub(crate) fn block_there_and_back<C: BlockCipher>(
@@ -69,11 +70,39 @@ pub(crate) fn sealed<C: BlockCipher>(
     Ok(text)
 }
 
-/// Turns the bytes of a block around. Hides nothing: it shows what an impl writes.
-#[derive(Drop)]
-pub(crate) struct Turned;
+/// Encrypts blocks where they lie and decrypts them: they are what they were.
+pub(crate) fn blocks_there_and_back<C: BlockCipher>(
+    cipher: &C,
+    blocks: &mut [GenericArray<u8, C::BlockSize>],
+)
+    ensures { blocks.new ≡ map (C.decrypted cipher.now) (map (C.encrypted cipher.now) blocks.old) }
+{
+    cipher.encrypt_blocks(blocks);
+    cipher.decrypt_blocks(blocks);
+}
 
-impl BlockCipher for Turned {
+/// Turns the bytes of a block around, and counts the blocks. Hides nothing: it shows what an impl
+/// writes.
+#[derive(Drop)]
+pub(crate) struct Turned<'a> {
+    turned: &'a Cell<u32>,
+}
+
+impl<'a> Turned<'a> {
+    /// The cipher that counts here.
+    pub(crate) fn counting(turned: &'a Cell<u32>) -> Self {
+        Turned { turned }
+    }
+
+    fn turn(&self, block: &mut GenericArray<u8, U4>)
+        ensures { block.new ≡ reverse block.old }
+    {
+        self.turned.set(self.turned.get().wrapping_add(1));
+        block.as_mut_slice().reverse();
+    }
+}
+
+impl BlockCipher for Turned<'_> {
     ghost use Rattle.std.proofs.Common.{lit≤};
 
     type BlockSize = U4;
@@ -83,11 +112,11 @@ impl BlockCipher for Turned {
     ghost decrypted = { λ _ block. reverse block };
 
     fn encrypt_block(&self, block: &mut GenericArray<u8, U4>) {
-        block.as_mut_slice().reverse();
+        self.turn(block);
     }
 
     fn decrypt_block(&self, block: &mut GenericArray<u8, U4>) {
-        block.as_mut_slice().reverse();
+        self.turn(block);
     }
 
     ghost some = { lit≤ tt };

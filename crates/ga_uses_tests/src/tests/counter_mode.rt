@@ -78,6 +78,22 @@ fn blocks_for_single_bytes(bytes: &mut [u8; 12]) -> Result<u32, StreamEnd> {
     Ok(made.get())
 }
 
+/// How many blocks a seek into a block makes, and one to where a block starts, each from the start.
+fn blocks_for_seeks() -> Result<(u32, u32), StreamEnd> {
+    let made = Cell::new(0);
+    let mut mode = CounterMode::new(Numbered { made: &made });
+    mode.seek(6)?;
+    let within = made.get();
+    let mut mode = CounterMode::new(Numbered { made: &made });
+    mode.seek(8)?;
+    Ok((within, made.get().wrapping_sub(within)))
+}
+
+#[test]
+fn a_seek_makes_at_most_one_block(rt: HostRuntime) {
+    assert!(rt; blocks_for_seeks() == Ok((1, 0)));
+}
+
 #[test]
 fn each_block_is_made_once(rt: HostRuntime) {
     let mut bytes = [0; 12];

@@ -2,14 +2,16 @@
 ghost use Rattle.std.specs.Prelude.{◌≡◌};
 
 use crate::tests::block_cipher::{
-    Turned, block_there_and_back, end_is_found, sealed, text_there_and_back,
+    Turned, block_there_and_back, blocks_there_and_back, end_is_found, sealed,
+    text_there_and_back,
 };
 use ga_ciphers::block_cipher::BlockCipher;
 use ga_ciphers::cbc::{decrypt_blocks, encrypt_blocks};
 use ga_ciphers::padding::{pad, unpad};
 use ga_ciphers::xtea::Xtea;
-use generic_array::{GenericArray, U8};
+use generic_array::{GenericArray, U4, U8, arr};
 use std::alloc::{AllocError, Global};
+use std::cell::Cell;
 use std::test::Fail;
 
 const KEY_OF_ZEROS: [u8; 16] = [0; 16];
@@ -121,8 +123,26 @@ fn paddings_are_told_from_other_ends(rt: HostRuntime) {
 
 #[test]
 fn a_cipher_of_a_callers_own_is_one(rt: HostRuntime) {
-    let turned = Turned.encrypt(GenericArray::from_array([1, 2, 3, 4]));
+    let count = Cell::new(0);
+    let cipher = Turned::counting(&count);
+    let turned = cipher.encrypt(GenericArray::from_array([1, 2, 3, 4]));
     assert!(rt; turned.into_array() == [4, 3, 2, 1]);
-    let same = block_there_and_back(&Turned, GenericArray::from_array([1, 2, 3, 4]));
-    assert!(rt; same.into_array() == [1, 2, 3, 4]);
+    let same = block_there_and_back(&cipher, GenericArray::from_array([1, 2, 3, 4]));
+    assert!(rt; same.into_array() == [1, 2, 3, 4] && count.get() == 3);
+}
+
+#[test]
+fn each_block_is_encrypted_and_decrypted_once(rt: HostRuntime) {
+    let count = Cell::new(0);
+    let cipher = Turned::counting(&count);
+    let mut blocks: [GenericArray<u8, U4>; 3] = [arr![1, 2, 3, 4], arr![5; U4], arr![6; U4]];
+    cipher.encrypt_blocks(&mut blocks);
+    assert!(rt; count.get() == 3 && blocks[0] == arr![4, 3, 2, 1]);
+    blocks_there_and_back(&cipher, &mut blocks);
+    assert!(rt; count.get() == 9 && blocks[0] == arr![4, 3, 2, 1]);
+    let (mut vector, mut text) = (GenericArray::default(), [7; 12]);
+    encrypt_blocks(&cipher, &mut vector, &mut text);
+    assert!(rt; count.get() == 12);
+    decrypt_blocks(&cipher, &mut vector, &mut text);
+    assert!(rt; count.get() == 15);
 }

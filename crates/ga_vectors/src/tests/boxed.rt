@@ -35,18 +35,18 @@ fn makes<N: Unsigned>(
     bytes: &[u8],
 ) -> Result<bool, AllocError> {
     let array = boxed_from_one::<N>(alloc)?;
-    let twice = array.map_ref(alloc, doubled)?;
+    let twice = array.map_ref(doubled)?;
     Ok(
-        gives(twice.zip_ref(alloc, array.view(), less), differences)
+        gives(twice.zip_ref(array.view(), less), differences)
             && twice.as_slice() == doubles
-            && gives(array.try_map_ref(alloc, small)?, bytes),
+            && gives(array.try_map_ref(small)?, bytes),
     )
 }
 
 /// The first item above two, and the digits of the items by a fold of the view.
 fn stopped_and_folded<N: Unsigned>(alloc: Global) -> Result<(u32, u32), AllocError> {
     let array = boxed_from_one::<N>(alloc)?;
-    let error = match array.try_map_ref(alloc, at_most_two)? {
+    let error = match array.try_map_ref(at_most_two)? {
         Ok(_bytes) => 0,
         Err(item) => item,
     };

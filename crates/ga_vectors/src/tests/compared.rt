@@ -11,10 +11,10 @@ pub fn holds<T: PartialEq + Drop, N: ArrayLength<T>>(
     array.as_slice() == items
 }
 
-/// Whether this is the text of `{}`.
-pub fn shows<T: fmt::Display>(value: &T, text: &str, alloc: Global) -> bool {
-    match format!(in alloc; "{value}") {
-        Ok(shown) => shown.as_str() == text,
+/// Whether this is the text of `{:#?}`.
+pub fn prints_alternately<T: fmt::Debug>(value: &T, text: &str, alloc: Global) -> bool {
+    match format!(in alloc; "{value:#?}") {
+        Ok(printed) => printed.as_str() == text,
         Err(_) => false,
     }
 }

@@ -1,12 +1,18 @@
 //! The texts of the errors.
-use crate::tests::compared::{prints, shows};
+use crate::tests::compared::prints;
+use ga_test_items::writer::shows_at_once;
 use generic_array::{AllocError, FillError, LengthError, Never};
 use std::alloc::Global;
 
 #[test]
 fn length_error_prints_the_text_of_the_rust_crate(rt: HostRuntime) {
     let text = "LengthError: Slice or iterator does not match GenericArray length";
-    assert!(rt; shows(&LengthError, text, rt.alloc()));
+    assert!(rt; shows_at_once(&LengthError, text));
+}
+
+#[test]
+fn alloc_error_prints_the_text_of_the_rust_crate(rt: HostRuntime) {
+    assert!(rt; shows_at_once(&AllocError, "memory allocation failed"));
 }
 
 /// Whether this is the text of the error of a fill that needs no memory.

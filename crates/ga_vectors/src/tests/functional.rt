@@ -1,12 +1,13 @@
 //! Maps and inverted zips of the traits: what they return. Where they stop, and what is made boxed,
 //! is told in `ga_faults`.
-use ga_test_items::items::from_one;
+use ga_test_items::items::{boxed_from_one, from_one};
 use ga_test_items::scripted::next_digit;
 use generic_array::checks::map_total_by;
 use generic_array::functional::{FunctionalSequence, inverted_zip, inverted_zip2};
+use generic_array::sequence::Concat;
 use generic_array::{
-    AllocError, ArrayLength, BoxedArray, GenericArray, GenericArrayRef, InlineLength, U2, U3,
-    always,
+    AllocError, ArrayLength, BoxedArray, GenericArray, GenericArrayRef, InlineLength, U0, U2, U3,
+    U4, Unsigned, always, arr,
 };
 use std::alloc::Global;
 use std::test::Fail;
@@ -60,6 +61,69 @@ fn a_map_of_a_view_stops_at_an_error(rt: HostRuntime) {
     assert!(rt; mapped_up_to_two(from_one::<U3>().view()) == (Some(2), 2));
 }
 
+/// The same of a map of an inline array.
+fn array_mapped_up_to_two<N: ArrayLength<u32> + InlineLength>(
+    array: GenericArray<u32, N>,
+) -> (Option<u32>, usize) {
+    let mut calls = 0usize;
+    let mapped = always(array.try_map_by(
+        (),
+        &mut |item: u32| {
+            calls = calls.wrapping_add(1);
+            doubled_but_two(&item)
+        },
+    ));
+    (mapped.err(), calls)
+}
+
+#[test]
+fn a_map_of_an_array_stops_at_an_error(rt: HostRuntime) {
+    assert!(rt; array_mapped_up_to_two(from_one::<U3>()) == (Some(2), 2));
+}
+
+/// The same of a map of a boxed array.
+fn block_mapped_up_to_two<N: Unsigned>(
+    alloc: Global,
+    array: BoxedArray<u32, N>,
+) -> Result<(Option<u32>, usize), AllocError> {
+    let mut calls = 0usize;
+    let mut doubled = |item: u32| {
+        calls = calls.wrapping_add(1);
+        doubled_but_two(&item)
+    };
+    let mapped = array.try_map_by(alloc, &mut doubled)?;
+    Ok((mapped.err(), calls))
+}
+
+#[test]
+fn a_map_of_a_block_stops_at_an_error(rt: HostRuntime) -> Result<(), Fail> {
+    let array = boxed_from_one::<U3>(rt.alloc())?;
+    assert!(rt; block_mapped_up_to_two(rt.alloc(), array)? == (Some(2), 2));
+    Ok(())
+}
+
+/// The running sums of the items of both arrays, by one closure.
+fn running_sums<N: ArrayLength<u32> + InlineLength, M: ArrayLength<u32> + InlineLength>(
+    first: GenericArray<u32, N>,
+    second: GenericArray<u32, M>,
+) -> (GenericArray<u32, N>, GenericArray<u32, M>) {
+    let mut sum = 0u32;
+    let mut add = |item: u32| {
+        sum = sum.wrapping_add(item);
+        sum
+    };
+    let first = always(first.map_by((), &mut add));
+    (first, always(second.map_by((), &mut add)))
+}
+
+#[test]
+fn a_map_of_joined_arrays_goes_on_where_the_first_ends(rt: HostRuntime) {
+    let joined: GenericArray<u32, U4> = two(1, 2).concat(two(3, 4));
+    let none: GenericArray<u32, U0> = GenericArray::from_array([]);
+    assert!(rt; running_sums(joined, none).0 == arr![1, 3, 6, 10]);
+    assert!(rt; running_sums(two(1, 2), two(3, 4)) == (two(1, 3), two(6, 10)));
+}
+
 /// The boxed items less the inline ones: by a zip of an inline array with a boxed one.
 fn less_of_inline<N: ArrayLength<u32> + InlineLength>(
     inline: GenericArray<u32, N>,
@@ -108,8 +172,21 @@ fn inverted_second<N: ArrayLength<u32> + InlineLength>(
     always(inverted_zip2(array, (), left, u32::wrapping_sub))
 }
 
+/// `inverted_zip2` of an inline array, with a boxed one on the left.
+fn inverted_boxed<N: ArrayLength<u32> + InlineLength>(
+    alloc: Global,
+    array: GenericArray<u32, N>,
+    left: BoxedArray<u32, N>,
+) -> Result<BoxedArray<u32, N>, AllocError> {
+    inverted_zip2(array, alloc, left, u32::wrapping_sub)
+}
+
 #[test]
-fn inverted_zips_take_the_left_side_second(rt: HostRuntime) {
+fn inverted_zips_take_the_left_side_second(rt: HostRuntime) -> Result<(), Fail> {
     assert!(rt; inverted(two(1, 2), two(10, 20)) == two(9, 18));
     assert!(rt; inverted_second(two(1, 2), two(10, 20)) == two(9, 18));
+    let left = BoxedArray::from_array(rt.alloc(), [10, 20])?;
+    let boxed = inverted_boxed(rt.alloc(), two(1, 2), left)?;
+    assert!(rt; boxed.as_slice() == [9, 18].as_slice());
+    Ok(())
 }

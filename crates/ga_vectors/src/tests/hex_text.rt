@@ -146,7 +146,7 @@ fn is_printed_in(alloc: Global, count: usize, pieces: usize) -> Result<bool, All
 
 #[test]
 fn printed_text_comes_in_pieces_of_64_bytes(rt: HostRuntime) -> Result<(), Fail> {
-    for (count, pieces) in [(0, 0), (1, 1), (64, 1), (65, 2), (129, 3)] {
+    for (count, pieces) in [(0, 0), (1, 1), (64, 1), (65, 2), (129, 3), (300, 5)] {
         assert!(rt; is_printed_in(rt.alloc(), count, pieces)?, "{count}");
     }
     Ok(())

@@ -117,6 +117,7 @@ fn each_write_of_a_slice_fails_in_turn(rt: HostRuntime) -> Result<(), Fail> {
         (2500, Some(2048), 2048, 1),
         (2500, Some(2049), 2049, 2),
         (2500, Some(0), 0, 0),
+        (500, None, 1000, 1),
         (65, None, 130, 1),
         (64, Some(127), 127, 1),
         (3, Some(9), 6, 1),

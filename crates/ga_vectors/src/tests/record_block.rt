@@ -2,12 +2,12 @@
 //! exact results.
 ghost use Rattle.ga_records.specs.Records.{has};
 ghost use Rattle.generic_array.specs.Views.{items_of_view};
-ghost use Rattle.std.specs.Prelude.{◌≡◌, ◌∷◌, [], IfSome, IsErr, None, Ok, Some, true};
+ghost use Rattle.std.specs.Prelude.{◌≡◌, ◌<◌, ◌∷◌, [], IfSome, IsErr, None, Ok, Some, true};
 
 use crate::tests::hex_writers::rising;
 use ga_records::RecordBlock;
 use ga_test_items::writer::{Sink, WHOLE};
-use generic_array::{AllocError, ArrayLength, GenericArrayRef, LengthError, U2, U3, U4};
+use generic_array::{AllocError, ArrayLength, GenericArrayRef, LengthError, U1, U2, U3, U4};
 use std::alloc::Global;
 use std::io::ErrorKind;
 use std::test::Fail;
@@ -97,11 +97,17 @@ fn records_are_walked_from_both_ends(rt: HostRuntime) -> Result<(), Fail> {
     Ok(())
 }
 
-/// Whether records of so many bytes in all are written in so many writes, with no flush.
-fn is_written_in(alloc: Global, len: usize, writes: usize) -> Result<bool, AllocError> {
-    let bytes = rising(alloc, len)?;
+/// Whether so many records are written in so many writes, with no flush.
+fn are_written_in<N: ArrayLength<u8>>(
+    alloc: Global,
+    count: usize,
+    writes: usize,
+) -> Result<bool, AllocError>
+    requires { 0 < N.USIZE }
+{
+    let bytes = rising(alloc, count.saturating_mul(N::USIZE))?;
     let mut sink = Sink::expecting(bytes.as_slice());
-    Ok(match RecordBlock::<'_, U2>::open(bytes.as_slice()) {
+    Ok(match RecordBlock::<'_, N>::open(bytes.as_slice()) {
         Ok(block) => block.write_to(&mut sink).is_ok() && sink.has_text_in(writes),
         Err(LengthError) => false,
     })
@@ -109,11 +115,14 @@ fn is_written_in(alloc: Global, len: usize, writes: usize) -> Result<bool, Alloc
 
 #[test]
 fn many_records_are_written_whole(rt: HostRuntime) -> Result<(), Fail> {
-    assert!(rt; is_written_in(rt.alloc(), 0, 0)?);
-    for len in [
-        2, 4, 62, 64, 66, 128, 1024, 1026, 65534, 65536, 65538, 131072,
+    let alloc = rt.alloc();
+    assert!(rt; are_written_in::<U2>(alloc, 0, 0)?);
+    for count in [
+        1, 2, 31, 32, 33, 64, 512, 513, 32767, 32768, 32769, 65536, 131_073,
     ] {
-        assert!(rt; is_written_in(rt.alloc(), len, 1)?, "{len}");
+        assert!(rt; are_written_in::<U1>(alloc, count, 1)?, "{count} of one");
+        assert!(rt; are_written_in::<U2>(alloc, count, 1)?, "{count} of two");
+        assert!(rt; are_written_in::<U3>(alloc, count, 1)?, "{count} of three");
     }
     Ok(())
 }

@@ -26,6 +26,19 @@ fn split_and_joined<N: ArrayLength<Held>>(items: GenericArray<Held, N>) -> Gener
     all.concat(none)
 }
 
+/// Nothing, and all items.
+fn split_at_the_front<N: ArrayLength<u32>>(
+    items: GenericArray<u32, N>,
+) -> (GenericArray<u32, U0>, GenericArray<u32, N>) {
+    items.split()
+}
+
+#[test]
+fn a_split_at_the_front_gives_nothing_and_all(rt: HostRuntime) {
+    let (none, all) = split_at_the_front(from_one::<U3>());
+    assert!(rt; none.as_slice().is_empty() && all.as_slice() == [1, 2, 3].as_slice());
+}
+
 /// Into how many rows items are cut, and the items, of rows that are joined again.
 fn cut_into_rows_and_joined<
     T: Default + Drop,

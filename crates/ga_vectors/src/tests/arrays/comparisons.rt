@@ -1,6 +1,6 @@
 //! Comparisons, hashes and texts of inline arrays.
-use crate::tests::compared::prints;
-use generic_array::{GenericArray, U3, U1024, arr};
+use crate::tests::compared::{prints, prints_alternately};
+use generic_array::{GenericArray, U0, U1, U3, U4, U1024, arr};
 use std::cmp::Ordering;
 use std::hash::{DefaultHasher, Hash, Hasher};
 
@@ -43,4 +43,15 @@ fn a_difference_in_the_first_block_is_seen(rt: HostRuntime) {
 #[test]
 fn arrays_are_printed(rt: HostRuntime) {
     assert!(rt; prints(&three_from(1), "[1, 2, 3]", rt.alloc()));
+}
+
+#[test]
+fn arrays_of_each_number_are_printed(rt: HostRuntime) {
+    let alloc = rt.alloc();
+    let (none, one, four): (GenericArray<u8, U0>, GenericArray<u8, U1>, GenericArray<u8, U4>) =
+        (arr![], arr![1], arr![1, 2, 3, 4]);
+    assert!(rt; prints(&none, "[]", alloc) && prints(&one, "[1]", alloc));
+    assert!(rt; prints(&four, "[1, 2, 3, 4]", alloc));
+    assert!(rt; prints_alternately(&none, "[]", alloc));
+    assert!(rt; prints_alternately(&one, "[\n    1,\n]", alloc));
 }

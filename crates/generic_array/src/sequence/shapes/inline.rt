@@ -1,7 +1,8 @@
 //! The shapes of inline arrays. Each moves what an array's iterator has left into builders, or over
 //! rows.
 //!
-//! The iterator is made before the builder: so the compiler knows the builder's position.
+//! The iterator is made before the builder: so the compiler knows the builder's position. What is
+//! reordered is reordered before that: so it knows the iterator's bounds.
 ghost use Rattle.ga_core.specs.Length.{FitsInline};
 ghost use Rattle.generic_array.specs.Rows.{rows};
 ghost use Rattle.std.specs.List.{swap_remove};
@@ -116,16 +117,18 @@ impl<T: Default + Drop, N: ArrayLength<T>, M: ArrayLength<T>> Remove<T, GenericA
 
     #[inline]
     fn remove(self, index: usize) -> (T, GenericArray<T, M>) {
-        let mut items = self.into_iter();
-        carry_to_end(items.as_mut_slice(), index);
+        let mut array = self;
+        carry_to_end(array.as_mut_slice(), index);
+        let mut items = array.into_iter();
         let item = items.next_back().unwrap();
         (item, next_array(&mut items))
     }
 
     #[inline]
     fn swap_remove(self, index: usize) -> (T, GenericArray<T, M>) {
-        let mut items = self.into_iter();
-        swap_to_end(items.as_mut_slice(), index);
+        let mut array = self;
+        swap_to_end(array.as_mut_slice(), index);
+        let mut items = array.into_iter();
         (items.next_back().unwrap(), next_array(&mut items))
     }
 }

@@ -12,11 +12,11 @@ returns-clause-others g c =
     let left = c.next_back.new.self in
     let item = c.unwrap-item.result in
     let given = c.into_iter-items.ensures.into_iter_gives in
-    let same : length carried ≡ length items = c.carry_to_end.auto.items ∙ ap length c.as_mut_slice.ensures.items in
+    let same : length carried ≡ length self = c.carry_to_end.auto.items ∙ ap length c.as_mut_slice.ensures.items in
     let taken : carried ≡ left ++ item ∷ [] =
-    sym (refill-whole (length items) items carried (sym same)) ∙ rw c.unwrap-item.ensures at c.next_back.ensures.steps in
+    sym (refill-whole (length self) self carried (sym same)) ∙ (sym given.0 ∙ rw c.unwrap-item.ensures at c.next_back.ensures.steps) in
     let order : carried ≡ remove self index ++ get_or self index item ∷ [] =
-    rw (c.as_mut_slice.ensures.items, given.0) at (c.carry_to_end.ensures item) in
+    rw c.as_mut_slice.ensures.items at (c.carry_to_end.ensures item) in
     c.next_array.ensures.first
     ∙ others-left carried (remove self index) left (get_or self index item) item g.M.Unsigned.USIZE order taken
-    (same ∙ (ap length given.0 ∙ (given.3 ∙ c.requires.one_shorter)))
+    (c.carry_to_end.auto.items ∙ (c.as_mut_slice.ensures.len ∙ c.requires.one_shorter))

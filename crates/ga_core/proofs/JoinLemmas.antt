@@ -1,7 +1,7 @@
 -- Lists by rows: a row in front of other items, an induction over rows, and the rows of joined lists.
 use Rattle.ga_views.proofs.RowLemmas.{chunk_rest-few, chunk_rest-first, rows-few, rows-first}
 use Rattle.ga_views.specs.Rows.{chunk_rest, rows}
-use Rattle.std.proofs.Common.{◌≡◌, ℕ, zero, suc, ◌<◌, ◌≤◌, List, ◌∷◌, ◌++◌, length, take, drop, refl, sym, ap, ◌∙◌}
+use Rattle.std.proofs.Common.{◌≡◌, ℕ, zero, suc, ◌+◌, ◌<◌, ◌≤◌, List, ◌∷◌, ◌++◌, length, take, drop, refl, sym, ap, ◌∙◌}
 use Rattle.std.proofs.Common.{append_assoc, arith, subst, inl, inr, length-append, length-drop}
 use Rattle.std.proofs.Math.Seq.{drop-append_seam, take-append_seam}
 use Rattle.std.proofs.lemmas.Bool.{cases_lt}
@@ -19,6 +19,7 @@ module _ {X : Type 0} (width : ℕ) (some : 0 < width) where
     behind : drop width (row ++ others) ≡ others
     behind = ap (λ n. drop n (row ++ others)) (sym full) ∙ drop-append_seam row others
 
+    -- the rows of items appended to a row
     pub rows-behind : rows width all ≡ row ∷ rows width others
     rows-behind =
         ap (rows width) (sym joined)
@@ -26,9 +27,23 @@ module _ {X : Type 0} (width : ℕ) (some : 0 < width) where
         ∙ (ap (λ first. first ∷ rows width (drop width (row ++ others))) front
         ∙ ap (λ left. row ∷ rows width left) behind))
 
+    -- and what follows them
     pub chunk_rest-behind : chunk_rest width all ≡ chunk_rest width others
     chunk_rest-behind = ap (chunk_rest width) (sym joined)
         ∙ (chunk_rest-first width (row ++ others) some enough ∙ ap (chunk_rest width) behind)
+
+  -- a row that is begun, filled by the front of what is appended
+  module _ (begun front more : List X) (full : length begun + length front ≡ width) where
+    filled : length (begun ++ front) ≡ width
+    filled = length-append begun front ∙ full
+
+    pub rows-filled : rows width (begun ++ (front ++ more)) ≡ (begun ++ front) ∷ rows width more
+    rows-filled = rows-behind (begun ++ front) more (begun ++ (front ++ more)) (append_assoc begun front more) filled
+
+    -- and what follows it
+    pub chunk_rest-filled : chunk_rest width (begun ++ (front ++ more)) ≡ chunk_rest width more
+    chunk_rest-filled = chunk_rest-behind (begun ++ front) more (begun ++ (front ++ more))
+        (append_assoc begun front more) filled
 
   -- what holds of fewer items than a row takes, and of a row in front of items of which it holds, holds of all
   module _ (P : List X → Type 0) (few : (items : List X) → length items < width → P items)
@@ -72,8 +87,22 @@ module _ {X : Type 0} (width : ℕ) (some : 0 < width) where
             ∙ (joined.1 ∙ ap (λ k. chunk_rest width (k ++ ys)) (sym rest)),
       )
 
+  -- the rows of two lists, one appended to the other
   pub rows-joined : (xs ys : List X) → rows width (xs ++ ys) ≡ rows width xs ++ rows width (chunk_rest width xs ++ ys)
   rows-joined xs ys = (by_rows (Joins ys) (joins-few ys) (joins-more ys) xs).0
 
+  -- the rest of two lists, one appended to the other
   pub chunk_rest-joined : (xs ys : List X) → chunk_rest width (xs ++ ys) ≡ chunk_rest width (chunk_rest width xs ++ ys)
   chunk_rest-joined xs ys = (by_rows (Joins ys) (joins-few ys) (joins-more ys) xs).1
+
+-- the rows and the rest of items appended to others: to a row, to a row that is begun, to fewer than a row, to any
+pub ruleset row_joins = (
+  rows-behind,
+  chunk_rest-behind,
+  rows-filled,
+  chunk_rest-filled,
+  rows-few,
+  chunk_rest-few,
+  rows-joined,
+  chunk_rest-joined,
+)

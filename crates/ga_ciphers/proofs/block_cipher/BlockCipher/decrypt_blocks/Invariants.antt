@@ -1,0 +1,7 @@
+use Rattle.std.proofs.Common.{◌≡◌, ◌++◌, drop, map, take}
+use Rattle.ga_ciphers.proofs.block_cipher.BlockCipher.decrypt_blocks.Given as given
+
+-- the blocks that the loop has passed are decrypted
+abbrev pub invariant-loop-block : given.invariant-loop-block
+invariant-loop-block g l = l.blocks ≡ map (g.Self.BlockCipher.decrypted l.self) (take l.block-index l.initial.blocks)
+    ++ drop l.block-index l.initial.blocks
