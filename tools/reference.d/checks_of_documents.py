@@ -60,15 +60,15 @@ class Known:
     @functools.lru_cache(None)
     def is_found(self, *parts):
         """Whether a name is found: an item, a word, a lemma, a module, a sample, the end of a name,
-        a name of the Rust crate, one that is looked up by another, one of a clause, or one of std
-        or of another library."""
+        a name of the Rust crate, one that is looked up by another or stands in docs, one of a
+        clause, or one of std or of another library."""
         names, last = self.names, parts[-1]
         return bool(
             names.named(parts) or names.inherited(parts) or names.other_name(parts)
             or last in self.clauses or last in self.library.foreign or not self.library.kit
             or last.startswith("_") and any(end.endswith(last) for end in names.index.by_end)
             or any(row.fit(parts) > 1 for row in self.rust_rows) or names.outside.named(parts)
-            or self.library.is_declared(last) or names.of_std(last))
+            or self.library.is_declared(last) or names.of_std(last) or names.told_in_docs(parts))
 
 
 def documents(site):

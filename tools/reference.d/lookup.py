@@ -113,24 +113,29 @@ class Names(Paths):
 
     def asked(self, name):
         """What a name means, sorted by what a reader most likely means: items of the library, then
-        what the documents tell, words of std, and what stands above the library or beside it."""
+        what the documents tell, words that crates import, what stands above the library or on no
+        page, other words of std, names of clauses, and items whose docs name it."""
         parts, items = parts_of(name), self.items_of(name)
         other = "" if items or self.told_of(name, False) else self.other_name(parts)
         if other:
             return self.asked(other)
         items = items or self.beside_of(name)
+        is_above = not items or not self.is_of_library(items[0])
+        leads = len(parts) > 1 and bool(items) and not self.is_loose(parts)
         words, rows = self.of_std(name), self.told_of(name, bool(items))
         near = [word for word in words if word.module in ("std.Prelude", self.module_used(word))]
-        leads = len(parts) > 1 and self.named(parts)
-        is_told = not leads and (not items or not self.is_of_library(items[0]))
-        if rows and (is_told or self.is_of_rust(name, rows)):
+        if rows and (is_above and not leads or self.is_of_rust(name, rows)):
             return Asked(None, [*(item for item in items if not is_detail(item)), *near], rows)
-        if is_told and not (items := [*near, *items, *words]):
+        if is_above and not leads and not (items := [*near, *items, *words]):
             if rows := [row for row in self.clauses if row.fit(parts) or row.mentions(parts)]:
                 return Asked(None, [], rows)
             items = self.told_in_docs(parts)
         first, *others = dict.fromkeys([*items, *near]) or [None]
-        return Asked(first, others, rows)
+        return Asked(first, others, [] if is_above else rows)
+
+    def is_loose(self, parts):
+        """Whether a name with its path leads nowhere, but for its end."""
+        return not self.named(parts) and not self.outside.named(parts)
 
     def items_of(self, name):
         """The items that a name may mean, in their order. A name of typenum or of std means none of
@@ -275,7 +280,7 @@ class Names(Paths):
             return full
         above, _, last = full.rpartition("::")
         names = [full, f"&{full}", *([f"{above}::{trait}::{last}"] if trait else ())]
-        means = (name for name in names if (self.items_of(name) or self.beside_of(name))[0] is item)
+        means = (name for name in names if (self.items_of(name) or self.beside_of(name))[:1] == [item])
         return next(means, self.place(item))
 
     def near(self, name):
@@ -283,7 +288,7 @@ class Names(Paths):
         parts = parts_of(name)
         wanted, last = "::".join(parts).lower(), parts[-1].lower()
         alike = {}
-        for item in self.paths:
+        for item in (*self.paths, *self.outside.paths):
             told = self.full_name(item) if item.kind == "foreign trait" else (
                 self.site.full_name(item) if len(parts) > 1 else item.name)
             end = item.name.lower()

@@ -8,8 +8,9 @@ import subprocess
 import sys
 
 from items import Items
-from layout import indented, prose
-from lookup import parts_of
+from layout import indented, one_line, prose
+from lookup import impl_of, is_place, parts_of
+from meanings import header
 from promise import TITLE, carriers
 from rust import names_in
 from text import BOLD, FAINT, first_sentence
@@ -43,10 +44,12 @@ class Answers(Items):
         return self.listed("Here", list(found.values())[:MOST_HERE])
 
     def others(self, items):
-        """The names by which what else has a name is asked for."""
-        names = list(dict.fromkeys(self.names.typed(item) for item in items[:MOST_OTHERS]))
+        """The names by which what else has a name is asked for; beside a place what it is of."""
+        names = {self.names.typed(item): impl_of(item) for item in items[:MOST_OTHERS]}
+        pairs = [(name, one_line(header(impl)) if impl and is_place(name) else "")
+                 for name, impl in names.items()]
         more = len(items) - MOST_OTHERS
-        return self.part([*names, *([f"and {more} more"] if more > 0 else ())], "Called so too")
+        return self.listed("Called so too", [*pairs, *([(f"and {more} more", "")] if more > 0 else ())])
 
     def promise(self):
         """What the library promises: each sentence, with the clauses of those that carry it."""
