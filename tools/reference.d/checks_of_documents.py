@@ -2,8 +2,8 @@
 
 Of code this looks up what is a name: a path, a call or a type, without what stands in its brackets;
 of words without a sign between them the first; of `using(..)` and `use ..;` the path. Of what begins
-with a value or a type parameter it looks up the last name. A single letter is a variable. Other code,
-such as a term, isn't looked up.
+with a value or a type parameter it looks up the last name. A single letter is a variable, and so is
+what is indexed. Other code, such as a term, isn't looked up.
 """
 import functools
 import re
@@ -19,8 +19,9 @@ EXEMPT = set("requires ensures now old ghost final for while impl mut use dec".s
 PATH = re.compile(r"\busing\(([\w:]+)\)|^use ([\w:]+);$")
 APPLIED = re.compile(r"([\w:]+)(?: [\w.\[\](){},]+)+")
 FILE = re.compile(r"[\w.-]+(?:/[\w.-]*)+|\w+\.(?:rt|antt|md|py|txt)")
-# A value or a type parameter with what is below it.
-BELOW = re.compile(r"\w+\.|(?:[A-Z]|Self)::")
+# What is below a value or a type parameter, and a place of a value.
+BELOW = re.compile(r"(?:^\w+|[)\]]\??)\.|^(?:[A-Z]|Self)::")
+INDEXED = re.compile(r"&?[a-z]\w*\[")
 COMMAND = "rt"
 
 
@@ -32,7 +33,8 @@ def names_of(code):
         return [[file[0]]]
     if applied := APPLIED.fullmatch(code):
         code = applied[1]
-    found = [parts[-1:] if BELOW.match(code) else parts for parts in names_in(code)]
+    found = [] if INDEXED.match(code) else names_in(code)
+    found = [parts[-1:] if BELOW.search(code) else parts for parts in found]
     return [parts for parts in found if len(parts[-1]) > 1 and parts[-1] not in EXEMPT]
 
 

@@ -20,7 +20,7 @@ def walks(top, folder):
 
 # The words round a number, and what it is. Behind "some" it is to a hundred.
 STATED = (
-    (rf"`cells\.rt`[^.]*\.rt\), {NUMBER} lines", lambda top: lines(top, CELLS)),
+    (rf"\[{NUMBER} lines\]\({CELLS}\)", lambda top: lines(top, CELLS)),
     (rf"lines of proof, not some {NUMBER}", lambda top: round(lines(top, BLOCK_PROOFS), -2)),
     (rf"{NUMBER} proofs are walks", lambda top: walks(top, "ga_views/proofs")),
     (rf"{NUMBER} functions of `src/live_block/cells\.rt`",
