@@ -70,7 +70,7 @@ class Known:
             or last in self.clauses or last in self.library.foreign or not self.library.kit
             or last.startswith("_") and any(end.endswith(last) for end in names.index.by_end)
             or any(row.fit(parts) > 1 for row in self.rust_rows) or names.outside.named(parts)
-            or self.library.is_declared(last) or names.of_std(last) or names.told_in_docs(parts))
+            or self.library.has(last) or names.of_std(last) or names.told_in_docs(parts))
 
 
 def documents(site):

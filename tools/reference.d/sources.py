@@ -226,11 +226,13 @@ class Library:
         return {name for name in re.findall(r"\w+", lines)
                 if self.kit and (self.kit / name / "src").exists()}
 
-    def is_declared(self, name):
-        """Whether std or a library that the crates name declares an item or a variant."""
-        declares = re.compile(rf" *(?:pub\b.*\b)?(?:fn|struct|enum|trait|type|mod|const) {name}\b"
-                              rf"|pub use [\w:]+::{name};| +{name}(?:\(.*\))?,$|macro_rules! {name}\b")
-        return any(declares.match(line) for text in self.std_and_foreign if name in text
+    def has(self, name):
+        """Whether std or a library that the crates name declares an item or a variant of a name, or
+        calls it: some calls of numbers are built in."""
+        declares = re.compile(
+            rf"(?:fn|struct|enum|trait|type|mod|const|macro_rules!) {name}\b"
+            rf"|^pub use [\w:]+::{name};|^ +{name}(?:\(.*\))?,$|[.:]{name}\(")
+        return any(declares.search(line) for text in self.std_and_foreign if name in text
                    for line in text.split("\n") if name in line)
 
     @functools.cached_property
