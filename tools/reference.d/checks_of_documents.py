@@ -1,7 +1,7 @@
 """Checks that each name that a document has as code is found.
 
-Of code this looks up what is a name: a path, a call or a type, without what stands in its brackets;
-of words without a sign between them the first; of `using(..)` and `use ..;` the path. Of what begins
+Of code this looks up what is a name: a path, a call or a type, without what stands in brackets; of
+words without a sign between them the first; of `using(..)` and `use ..;` the path. Of what begins
 with a value or a type parameter it looks up the last name. A single letter is a variable, and so is
 what is indexed. Other code, such as a term, isn't looked up.
 """
@@ -15,7 +15,7 @@ DOCUMENTS = ("docs/CALLING.md", "docs/DIFFERENCES.md", "docs/DEFINITIONS.md", "c
 RUST = "docs/DIFFERENCES.md"
 # Words of the language, and of the program's command line.
 EXEMPT = set("requires ensures now old ghost final for while impl mut use dec".split())
-# A path that an attribute or an import names, and words of which the first is applied to the others.
+# A path that an attribute or an import names, and a word that is applied to others.
 PATH = re.compile(r"\busing\(([\w:]+)\)|^use ([\w:]+);$")
 APPLIED = re.compile(r"([\w:]+)(?: [\w.\[\](){},]+)+")
 FILE = re.compile(r"[\w.-]+(?:/[\w.-]*)+|\w+\.(?:rt|antt|md|py|txt)")
@@ -45,6 +45,28 @@ class Known:
         self.names, self.library, self.top = names, names.site.library, names.site.top
         self.rust_rows = [row for row in names.rows if row.place.startswith(RUST)]
         self.clauses = {clause.name for item in names.site.shown() for clause in item.clauses}
+        lines = re.sub("#.*", "", (self.top / "crates.txt").read_text("utf-8"))
+        self.foreign = {name for name in re.findall(r"\w+", lines) if self.is_foreign(name)}
+
+    def is_foreign(self, crate):
+        """Whether a crate is a library of the toolchain."""
+        return bool(self.library.kit) and (self.library.kit / crate / "src").exists()
+
+    @functools.cached_property
+    def foreign_texts(self):
+        """The texts of std and of the libraries that the crates name."""
+        others = self.library.files_of(*sorted(self.foreign))
+        return [text for _, text in (*self.library.std, *others)]
+
+    def is_of_others(self, name):
+        """Whether std or a library that the crates name declares a name, or calls it: some calls of
+        numbers are built in. Without a toolchain this isn't known."""
+        declares = re.compile(
+            rf"(?:fn|struct|enum|trait|type|mod|const|macro_rules!) {name}\b"
+            rf"|^pub use [\w:]+::{name};|^ +{name}(?:\(.*\))?,$|[.:]{name}\(")
+        return not self.library.kit or name in self.foreign or any(
+            declares.search(line) for text in self.foreign_texts if name in text
+            for line in text.split("\n") if name in line)
 
     @functools.cached_property
     def files(self):
@@ -67,10 +89,10 @@ class Known:
         names, last = self.names, parts[-1]
         return bool(
             names.named(parts) or names.inherited(parts) or names.other_name(parts)
-            or last in self.clauses or last in self.library.foreign or not self.library.kit
+            or any(row.fit(parts) > 1 for row in self.rust_rows) or last in self.clauses
             or last.startswith("_") and any(end.endswith(last) for end in names.index.by_end)
-            or any(row.fit(parts) > 1 for row in self.rust_rows) or names.outside.named(parts)
-            or self.library.has(last) or names.of_std(last) or names.told_in_docs(parts))
+            or names.outside.named(parts) or names.told_in_docs(parts)
+            or self.is_of_others(last) or names.of_std(last))
 
 
 def documents(site):

@@ -280,8 +280,8 @@ class Names(Paths):
             return full
         above, _, last = full.rpartition("::")
         names = [full, f"&{full}", *([f"{above}::{trait}::{last}"] if trait else ())]
-        means = (name for name in names if (self.items_of(name) or self.beside_of(name))[:1] == [item])
-        return next(means, self.place(item))
+        first = {name: (self.items_of(name) or self.beside_of(name))[:1] for name in names}
+        return next((name for name in names if first[name] == [item]), self.place(item))
 
     def near(self, name):
         """Names that look like one that nothing has, the likeliest first."""

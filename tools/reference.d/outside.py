@@ -1,5 +1,5 @@
-"""Shows what stands on no page, as lines of text: functions and types of examples and tests, lemmas,
-and files of specs/ and proofs/ as modules."""
+"""Shows what no page has, as lines of text: functions and types of examples and tests, lemmas, and
+files of specs/ and proofs/ as modules."""
 import re
 
 from imports import is_in, terms, without_texts
@@ -50,7 +50,7 @@ class Outside(Text):
         return self.part(lines, "Proved by")
 
     def needed(self, item, code):
-        """The lines of `use` of a sample's file whose names its code has, or whose traits' calls."""
+        """The lines of `use` that a sample's code needs, for its names and for calls of traits."""
         in_terms = {name for _, names in terms(without_texts(code)) for name in names}
         lines = []
         for kind, atoms in (("ghost use", in_terms), ("use", set(re.findall(r"\w+", code)))):

@@ -14,6 +14,7 @@ from beside import becomes
 from lookup import Names
 from meanings import WITH_A_PAGE, Scope
 from promise import TITLE, carriers
+from samples import code_of
 
 TEMPLATES = pathlib.Path(__file__).resolve().parent / "pages"
 KEYWORDS = set("pub const fn struct enum trait type impl for where mut dyn final self Self as ref "
@@ -50,7 +51,7 @@ class Pages:
                                      autoescape=lambda name: name.endswith(".html"))
         filters = (self.code, self.docs, self.inline, self.term, self.link)
         self.templates.filters |= {filter.__name__: filter for filter in filters}
-        self.templates.filters |= {"line": site.line}
+        self.templates.filters |= {"line": site.line, "code_of": code_of}
         self.templates.globals |= {"site": site, "pages": self, "members": site.public_members}
 
     def place_members(self):

@@ -219,27 +219,6 @@ class Library:
                  for file in sorted((self.kit / name / "src").rglob("*.rt"))]
         return [(file, file.read_text("utf-8")) for file in files]
 
-    @functools.cached_property
-    def foreign(self):
-        """The libraries of the toolchain that the repository's crates name."""
-        lines = re.sub("#.*", "", (self.top / "crates.txt").read_text("utf-8"))
-        return {name for name in re.findall(r"\w+", lines)
-                if self.kit and (self.kit / name / "src").exists()}
-
-    def has(self, name):
-        """Whether std or a library that the crates name declares an item or a variant of a name, or
-        calls it: some calls of numbers are built in."""
-        declares = re.compile(
-            rf"(?:fn|struct|enum|trait|type|mod|const|macro_rules!) {name}\b"
-            rf"|^pub use [\w:]+::{name};|^ +{name}(?:\(.*\))?,$|[.:]{name}\(")
-        return any(declares.search(line) for text in self.std_and_foreign if name in text
-                   for line in text.split("\n") if name in line)
-
-    @functools.cached_property
-    def std_and_foreign(self):
-        """The texts of std and of the libraries that the crates name."""
-        return [text for _, text in (*self.std, *self.files_of(*sorted(self.foreign)))]
-
     def own(self, crate):
         """Whether a crate is the repository's."""
         return (self.top / "crates" / crate).exists()

@@ -49,7 +49,8 @@ class Answers(Items):
         pairs = [(name, one_line(header(impl)) if impl and is_place(name) else "")
                  for name, impl in names.items()]
         more = len(items) - MOST_OTHERS
-        return self.listed("Called so too", [*pairs, *([(f"and {more} more", "")] if more > 0 else ())])
+        pairs += [(f"and {more} more", "")] if more > 0 else []
+        return self.listed("Called so too", pairs)
 
     def promise(self):
         """What the library promises: each sentence, with the clauses of those that carry it."""
