@@ -1,8 +1,7 @@
 -- What a search in a table of keys finds, and what an edit at that place does.
 use Rattle.ga_uses.proofs.EntryLemmas.{insert_at, insert_gap, lookup-insert_entry, lookup_at, lookup_gap, remove_at}
 use Rattle.ga_uses.proofs.EntryLemmas.{remove_gap, sorted_insert, sorted_remove, tie}
-use Rattle.ga_uses.proofs.SearchLemmas.{above_at, above_from, and_false, answers_from, both, filter_between}
-use Rattle.ga_uses.proofs.SearchLemmas.{from_not_less, rises}
+use Rattle.ga_uses.proofs.SearchLemmas.{above_at, above_from, answers_from, filter_between, from_not_less, rises}
 use Rattle.ga_uses.specs.KeyTable.{ChangesKey, HasKeyAt, IsGapFor, IsInKeyOrder, entries_from_to, key_order, value_at}
 use Rattle.ga_uses.specs.KeyTable.{with_entry, without_key}
 use Rattle.std.proofs.lemmas.Cmp.{eq_by_cmp_equiv, nat_list_cmp_total, tied_itself}
@@ -10,13 +9,14 @@ use Rattle.std.proofs.lemmas.Map.{lookup-remove_entry}
 use Rattle.std.proofs.lemmas.Map.Keys.{IsDistinct-from_sorted}
 use Rattle.std.proofs.lemmas.Map.Lookups.{exact_bytes}
 use Rattle.std.specs.Prelude.{slice_range}
-use Rattle.std.proofs.Common.{◌≡◌, ℕ, ◌-◌, ◌≤◌, Bool, true, false, min, cond, List, [], length, get_or, set, Some, None}
+use Rattle.std.proofs.Math.Bool.{and-false}
+use Rattle.std.proofs.Common.{◌≡◌, ℕ, ◌-◌, ◌≤◌, Bool, true, false, ◌&&◌, min, cond, List, [], length, get_or, set, Some, None}
 use Rattle.std.proofs.Common.{Result, Ok, Err, IfOk, IfErr, refl, sym, ◌∙◌, ap, subst, arith}
 use Rattle.std.specs.BTreeMap.{is_at}
 use Rattle.std.specs.List.{insert, remove}
 use Rattle.std.specs.List.Sorted.{IsStrictlySortedBy, IsSearchInRange, IsBinarySearchResult, IsPartitionPoint}
 use Rattle.std.specs.Map.{keys_of}
-use Rattle.std.specs.Ordering.{eq_by_cmp, is_eq, is_lt}
+use Rattle.std.specs.Ordering.{eq_by_cmp, is_eq, is_le, is_lt}
 use Rattle.std.specs.declared.cmp.Ordering.{Ordering}
 use Rattle.std.specs.declared.cmp.Ordering.TheVariants.{Less, Equal, Greater}
 
@@ -57,12 +57,17 @@ module _ {V : Type 0} (es : List (List ℕ × V)) (sorted : IsInKeyOrder es) whe
       → entries_from_to es from to ≡ slice_range es (min s t) t
   ranged from to s t ls lt first second =
       filter_between _ es (min s t) (t - min s t) (omega arith)
-      (λ j d low high. both (from_not_less nat_list_cmp_total from (get_or es j d).0 true
-      (first.0 j d low (omega (arith, high)))) refl)
-      (λ j d low high. both (from_not_less nat_list_cmp_total from (get_or es j d).0 false
-      (first.1 j d (omega (arith, low, high)) (omega (arith, low, high))))
-      (second.0 j d (omega arith) (omega (arith, low, high))))
-      (λ j d low high. both refl (second.1 j d (omega (arith, low)) high) ∙ and_false _)
+      (λ j d low high. ap (λ test. test && below (get_or es j d)) (from_not_less nat_list_cmp_total from
+      (get_or es j d).0 true (first.0 j d low (omega (arith, high)))))
+      (λ j d low high. ap (λ test. test && below (get_or es j d)) (from_not_less nat_list_cmp_total from
+      (get_or es j d).0 false (first.1 j d (omega (arith, low, high)) (omega (arith, low, high))))
+      ∙ second.0 j d (omega arith) (omega (arith, low, high)))
+      (λ j d low high. ap (λ test. is_le (key_order from (get_or es j d).0) && test)
+      (second.1 j d (omega (arith, low)) high) ∙ and-false _)
+    where
+      -- whether a key is below the second bound
+      below : List ℕ × V → Bool
+      below e = is_lt (key_order e.0 to)
 
 -- ---- the edits keep the order
 

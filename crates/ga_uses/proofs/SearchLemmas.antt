@@ -1,6 +1,6 @@
 -- What a search among entries in the order of their keys finds, and the entries between two places.
 use Rattle.ga_uses.proofs.EntryLemmas.{AboveFirst, AnswersAt, turned_greater, turned_less}
-use Rattle.std.proofs.Common.{◌≡◌, ℕ, zero, suc, ◌+◌, ◌<◌, ◌≤◌, Bool, true, false, not, ◌&&◌, cond, List, [], ◌∷◌}
+use Rattle.std.proofs.Common.{◌≡◌, ℕ, zero, suc, ◌+◌, ◌<◌, ◌≤◌, Bool, true, false, not, cond, List, [], ◌∷◌}
 use Rattle.std.proofs.Common.{length, get_or, take, drop, refl, sym, ◌∙◌, ap, arith}
 use mathlib.Core.Bool.{true≢false}
 use Rattle.std.specs.Cmp.{IsTotalOrder, alike_right, tied_back}
@@ -122,10 +122,3 @@ from_not_less {R = R} o k x b h = ap is_le (o.antisymm k x) ∙ flipped (R x k) 
     flipped Less = refl
     flipped Equal = refl
     flipped Greater = refl
-
-pub both : {a b c d : Bool} → a ≡ c → b ≡ d → (a && b) ≡ (c && d)
-both h g = λ i. h i && g i
-
-pub and_false : (a : Bool) → (a && false) ≡ false
-and_false true = refl
-and_false false = refl

@@ -5,11 +5,13 @@ use Rattle.ga_core.proofs.borrowed_items.BorrowedItems.zip_inline_ref_by.Goals a
 use Rattle.ga_core.specs.Entries.{CallAtPair}
 use Rattle.std.proofs.Common.{sym, ◌∙◌}
 
+-- the slices that are borrowed are the items
 pub write_zipped_ref-requires-clause-callable : goal.write_zipped_ref-requires-clause-callable
 write_zipped_ref-requires-clause-callable g c = λ passed x others ys reached whole.
     c.requires.callable passed x others ys reached
     (sym (same-pairs c.as_slice-items.ensures.items c.as_slice.ensures.items) ∙ whole)
 
+-- what was written over the slots is what is made, by the run over both
 pub returns : goal.returns
 returns g c =
     let made = c.repacked.ensures ∙ made-is_written c.as_mut_slice.ensures.items c.write_zipped_ref.auto.slots in

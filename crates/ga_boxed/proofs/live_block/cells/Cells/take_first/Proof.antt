@@ -11,12 +11,15 @@ use Rattle.ga_boxed.proofs.live_block.cells.Cells.take_first.Statement as stated
 use Rattle.ga_boxed.specs.contracts.live_block.cells.Cells.take_first.Key.{name as #self}
 
 module _ (E : El) where
+  -- the place of the first item
   abbrev Stands : Placing E
   Stands d index = index ≡ d.passed
 
+  -- what the call says: the item is the first, the others are left, and one more slot is passed
   abbrev Gives : Giving E
   Gives d r new = (new.at ≡ d.at) ∷ (new.passed ≡ d.passed + 1) ∷ (d.items ≡ r ∷ new.items) ∷ (new.room ≡ d.room) ∷ []
 
+  -- the item's cell taken out of what is held (`out`), and the rest held again with its slot empty (`back`)
   taken : {M : Type 1} {𝓤 : Ura M} (𝓛 : Logic 𝓤) (d : (Cr E).Denot) (index : ℕ) → Stands d index → d.items ≢ []
       → Taken E 𝓛 Gives d index
   taken 𝓛 d index stands some =
@@ -33,10 +36,12 @@ module _ (E : El) where
         within = omega arith;
         all = omega arith;
         Others = others;
+        -- split the items at the first, whose cell stands at the place
         out = λ b o. qed 𝓛 (‵ (Held E 𝓛 b o m d.items n) ∷ []) ∵
             rewrite ! 0 (λ (l : List (el_x E)). ‵ (Held E 𝓛 b o m l n)) cut.1.1 refl $ fsplit ! $ fsplit ! $
             rewrite ! 0 (λ (k : ℕ). ‵ (part_at (R E) full_share x b (k * s + o))) (sym stands) refl $ move !
             (1 ∷ 2 ∷ []) $ fjoin ! $ move ! (1 ∷ 0 ∷ []) $ done !;
+        -- add the slot to those that are passed, and join the others behind it
         back = λ b o. qed 𝓛 (‵ (froom (elτ E) b (index * s + o)) ∷ ‵ (others b o) ∷ []) ∵
             rewrite ! 0 (λ (k : ℕ). ‵ (froom (elτ E) b (k * s + o))) stands refl $ move ! (1 ∷ []) $ fsplit3 ! $ move !
             (3 ∷ 1 ∷ []) $ use2 𝓛 (‵ (empty (R E) b o (m + 1))) (empty_snoc E 𝓛 b m o) $ move ! (0 ∷ 2 ∷ []) $
@@ -46,6 +51,7 @@ module _ (E : El) where
             done !;
       }
 
+-- the walk over the code, which goes by these parts
 pub take_first_spec : {M : Type 1} → stated.statement M
 take_first_spec 𝓤 𝓛 𝓜 𝓡 wired X LX y =
     let E : El = record { row = X; laws = LX } in
