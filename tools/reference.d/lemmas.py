@@ -3,14 +3,14 @@ import re
 
 from sources import Item
 
-# What is defined in one piece; of all else the proof is left out.
-WHOLE = re.compile(r"(?:abbrev|unfoldable|record|data)\b")
+# What is a definition: what is marked so, and what is a type. Of all else the proof is left out.
+DEFINITION = re.compile(r"(?:abbrev|unfoldable|record|data)\b|.*[:→]\s+Type \d\Z", re.S)
 # A list of lemmas with the notes above it.
 RULESET = re.compile(
     r"(?m)(?P<notes>(?:^ *-- .*\n)*)"
     r"^ *pub (?P<head>ruleset (?P<name>\S+) = \((?P<names>[^)]*)\))$")
-# The notes with which a file begins, up to an empty one.
-TITLE = re.compile(r"(?:-- .*\n)*")
+# The notes with which a file begins, up to an empty line or a list.
+TITLE = re.compile(r"(?:-- \S.*\n)*")
 
 
 def is_declared(file, how="(?:pub )?"):
@@ -43,25 +43,26 @@ def statement(word):
     """The type of a lemma without its proof; of what is no lemma the whole definition."""
     head = word.head.replace("pub ", "", 1)
     proof = head.find(f"\n{word.name} ")
-    return head if proof < 0 or WHOLE.match(head) else head[:proof]
+    return head if proof < 0 or DEFINITION.match(head[:proof]) else head[:proof]
 
 
 def lemmas_of(site, file):
     """The lemmas of a file that other files cite, and its lists of such, each with the lists that
     it is in."""
-    words = site.library.definitions(file).values()
-    module, lists = None, list(RULESET.finditer(file.read_text("utf-8")))
-    for word in [word for word in words if re.search(r"\bpub ", word.head.split(":")[0])]:
-        module = word.module
-        held = [found["name"] for found in lists if word.name in found["names"].split(", ")]
-        yield Item("lemma", word.name, statement(word), file, word.line, notes=word.notes,
-                   module=module, folder="proofs", context=word.context, lists=held)
-    text = file.read_text("utf-8")
+    text, of = file.read_text("utf-8"), as_module(site, file)
+    lists = list(RULESET.finditer(text))
+    told = {"folder": of.folder, "module": f"{of.module}.{of.name}"}
+    for word in site.library.definitions(file).values():
+        if re.search(r"\bpub ", word.head.split(":")[0]):
+            held = [found["name"] for found in lists
+                    if word.name in re.split(r",\s*", found["names"])]
+            yield Item("lemma", word.name, statement(word), file, word.line, notes=word.notes,
+                       context=word.context, lists=held, **told)
     for found in lists:
         line = text.count("\n", 0, found.start("head")) + 1
-        yield Item("lemma", found["name"], found["head"], file, line, module=module,
-                   notes=" ".join(re.findall("-- (.*)", found["notes"])), folder="proofs",
-                   context=[], lists=[])
+        notes = " ".join(re.findall("-- (.*)", found["notes"]))
+        yield Item("lemma", found["name"], found["head"], file, line, notes=notes, context=[],
+                   lists=[], **told)
 
 
 def of_files(site):

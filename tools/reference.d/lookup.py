@@ -11,7 +11,7 @@ from beside import names_of_two
 from callers import Callers
 from lemmas import of_files
 from meanings import LIBRARIES, header
-from paths import OF_FILES, Index, Paths
+from paths import Index, Paths
 from samples import Samples, hidden
 from sources import ANGLE, closing, imports_of
 from std_words import StdWords
@@ -115,15 +115,15 @@ class Names(Paths):
         """What a name means, sorted by what a reader most likely means: items of the library, then
         what the documents tell, words that crates import, what stands above the library or on no
         page, other words of std, names of clauses, and items whose docs name it."""
-        parts, items = parts_of(name), self.items_of(name)
-        other = "" if items or self.told_of(name, False) else self.other_name(parts)
-        if other:
+        parts = parts_of(name)
+        items = self.items_of(name) or self.beside_of(name)
+        leads = len(parts) > 1 and bool(self.named(parts) or self.outside.named(parts))
+        known = leads or items and items[0] in self.paths or self.told_of(name, False)
+        if other := "" if known else self.other_name(parts):
             return self.asked(other)
-        items = items or self.beside_of(name)
-        is_above = not items or not self.is_of_library(items[0])
-        leads = len(parts) > 1 and bool(items) and not self.is_loose(parts)
         words, rows = self.of_std(name), self.told_of(name, bool(items))
         near = [word for word in words if word.module in ("std.Prelude", self.module_used(word))]
+        is_above = not items or not self.is_of_library(items[0])
         if rows and (is_above and not leads or self.is_of_rust(name, rows)):
             return Asked(None, [*(item for item in items if not is_detail(item)), *near], rows)
         if is_above and not leads and not (items := [*near, *items, *words]):
@@ -132,10 +132,6 @@ class Names(Paths):
             items = self.told_in_docs(parts)
         first, *others = dict.fromkeys([*items, *near]) or [None]
         return Asked(first, others, [] if is_above else rows)
-
-    def is_loose(self, parts):
-        """Whether a name with its path leads nowhere, but for its end."""
-        return not self.named(parts) and not self.outside.named(parts)
 
     def items_of(self, name):
         """The items that a name may mean, in their order. A name of typenum or of std means none of
@@ -150,10 +146,7 @@ class Names(Paths):
         """The samples, lemmas and files that a name may mean, in their order."""
         index = self.outside
         found = self.placed(index, name) if is_place(name) else index.named(parts_of(name))
-        samples = [item for item in found if item.kind not in OF_FILES]
-        others = [item for item in found if item.kind in OF_FILES]
-        return [*sorted(samples, key=self.samples.likeliest),
-                *sorted(others, key=lambda item: item.kind == "file")]
+        return sorted(found, key=self.samples.likeliest)
 
     def of_file(self, file):
         """What others import from a file of specs/ or proofs/."""
@@ -202,12 +195,13 @@ class Names(Paths):
 
     def found(self, name):
         """The items that a name may mean. A place, as `array.rt:39`, means what begins there. A
-        name that leads nowhere means what has its end as a name."""
+        name that leads nowhere, not even to what no page has, means what has its end as a name."""
         if is_place(name):
             return self.placed(self.index, name)
         parts = parts_of(name)
-        found = (self.named(parts) or self.of_trait(parts) or self.inherited(parts)
-                 or len(parts) > 1 and self.named(parts[-1:]) or [])
+        found = self.named(parts) or self.of_trait(parts) or self.inherited(parts)
+        if not found and len(parts) > 1 and not self.outside.named(parts):
+            found = self.named(parts[-1:])
         found = [item for item in found if not is_of_foreign_type(item)] or found
         if len(parts) == 1 or not self.named(parts):
             best = min(found, key=self.order, default=None)

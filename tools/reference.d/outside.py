@@ -5,7 +5,7 @@ import re
 from imports import is_in, terms, without_texts
 from lemmas import is_passed_on
 from layout import indented, laid_out, prose
-from samples import code_of
+from samples import code_of, is_test
 from sources import imports_of
 from std_words import modules_of
 from text import FAINT, Text, first_sentence
@@ -69,13 +69,14 @@ class Outside(Text):
         return any(member.kind == "fn" and member.name in atoms
                    for trait in traits for member in trait.members)
 
-    def samples(self, module):
+    def module_of_samples(self, module):
         """A module of examples or tests: its docs, and what stands there."""
-        functions = [item for item in module.of_kind("fn") if item.end]
-        types = [item for item in module.members if item.name and item not in functions
-                 and item.kind not in ("mod", "use", "ghost use")]
-        return [*self.docs(module), *self.signatures("Functions", functions),
-                *self.listed("Beside them", [(item.name, first_sentence(item)) for item in types])]
+        functions = module.of_kind("fn")
+        callers = [item for item in functions if not is_test(item)]
+        others = [(item.name, first_sentence(item)) for item in module.members
+                  if item.name and item.kind not in ("fn", "mod", "use", "ghost use")]
+        return [*self.docs(module), *self.signatures("Functions", callers or functions),
+                *self.listed("Beside them", others)]
 
     def lemma(self, item):
         """A lemma: its notes, its statement, and how proofs and attributes name it."""

@@ -5,6 +5,7 @@ import inspect
 import re
 
 from meanings import WITH_A_PAGE, base_name, declared, header
+from paths import OF_FILES
 from sources import Item
 
 # How a function is called that shows what happens where there is nothing.
@@ -90,8 +91,10 @@ class Samples:
                 not any(bounds.values()), item.end - item.begin)
 
     def likeliest(self, item):
-        """Where a sample stands among those of one name: first what the documents name with its
-        module, and tests last."""
+        """Where a sample, a lemma or a file stands among those of one name: first what the
+        documents name with its module, and tests last."""
+        if item.kind in OF_FILES:
+            return False, f"::{item.name})" not in self.documents[0], True, item.kind == "file"
         named = f"`{item.name}` of `{item.module.name}`" in self.documents[0]
-        return (is_test(item), not named, item.file not in self.files, item.kind == "mod",
+        return (is_test(item), not named, False, item.kind == "mod", item.file not in self.files,
                 self.order(item))
