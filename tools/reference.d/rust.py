@@ -3,6 +3,7 @@
 A row has the Rust crate's names in front, then what stands here, then what else is told. Where a
 table's cell for what stands here is empty, it is the same name.
 """
+import functools
 import re
 
 DOCUMENTS = ("DIFFERENCES.md", "CALLING.md")
@@ -42,10 +43,15 @@ class Row:
         begins = bool(self.section) and self.section == self.theirs
         return begins and not self.ours and not self.told
 
+    @functools.cached_property
+    def ends_told(self):
+        """The ends of the names that are told as code."""
+        codes = CODE.findall(" ".join([self.ours, *self.told]))
+        return {name[-1] for code in codes for name in names_in(code)}
+
     def mentions(self, parts):
         """Whether what is told has code that ends in a name."""
-        codes = CODE.findall(" ".join([self.ours, *self.told]))
-        return any(name[-1] == parts[-1] for code in codes for name in names_in(code))
+        return parts[-1] in self.ends_told
 
     def stands_for(self, parts):
         """Whether what stands here has this name in front."""
