@@ -172,7 +172,7 @@ APART = [
         "ciphers",
         "ciphers",
         "Const<{length}>",
-        "cipher, cipher_pieces",
+        "cipher, cipher_pieces, cipher_blocks",
         CIPHERED,
         True,
         PLAIN_CIPHER,

@@ -1,4 +1,5 @@
-//! ChaCha20 (RFC 8439) in plain Rust: a careful user's block function and loop, without a crate.
+//! ChaCha20 (RFC 8439) and XTEA in plain Rust: a careful user's block functions and loops, without a
+//! crate.
 use super::items::{mixed, touch_items, Word};
 
 const BLOCK: usize = 64;
@@ -120,4 +121,57 @@ pub fn cipher_of<const LENGTH: usize>(seed: u64, reps: u64) -> u64 {
 
 pub fn cipher_pieces_of<const LENGTH: usize>(seed: u64, reps: u64) -> u64 {
     run::<LENGTH>(seed, reps, applied_in_pieces)
+}
+
+/// XTEA: 32 cycles, each of two rounds, under a key of four words.
+struct Xtea {
+    key: [u32; 4],
+}
+
+impl Xtea {
+    fn new(key: &[u8; 16]) -> Self {
+        let mut words = [0; 4];
+        for (word, bytes) in words.iter_mut().zip(key.chunks_exact(4)) {
+            *word = u32::from_be_bytes(bytes.try_into().expect("four bytes"));
+        }
+        Xtea { key: words }
+    }
+
+    fn encrypt(&self, block: &mut [u8; 8]) {
+        let number = u64::from_be_bytes(*block);
+        let (mut left, mut right, mut sum) = ((number >> 32) as u32, number as u32, 0u32);
+        let change = |half: u32| ((half << 4) ^ (half >> 5)).wrapping_add(half);
+        for _cycle in 0..32 {
+            let word = sum.wrapping_add(self.key[(sum & 3) as usize]);
+            left = left.wrapping_add(change(right) ^ word);
+            sum = sum.wrapping_add(0x9e37_79b9);
+            let word = sum.wrapping_add(self.key[((sum >> 11) & 3) as usize]);
+            right = right.wrapping_add(change(left) ^ word);
+        }
+        *block = (u64::from(left) << 32 | u64::from(right)).to_be_bytes();
+    }
+}
+
+#[inline(never)]
+fn encrypted(cipher: &Xtea, blocks: &mut [[u8; 8]]) {
+    for block in blocks {
+        cipher.encrypt(block);
+    }
+}
+
+pub fn cipher_blocks_of<const LENGTH: usize>(seed: u64, reps: u64) -> u64 {
+    let mut sum = seed;
+    let cipher = Xtea::new(&std::array::from_fn(|index| u8::make(seed, index)));
+    let block_at = |number: usize| {
+        let seed = seed.wrapping_add(number as u64);
+        std::array::from_fn(|index| u8::make(seed, index))
+    };
+    let mut blocks: Vec<[u8; 8]> = (0..LENGTH / 8).map(block_at).collect();
+    for _rep in 0..reps {
+        encrypted(&cipher, &mut blocks);
+        if let Some(block) = blocks.last() {
+            sum = touch_items(sum, block, 8);
+        }
+    }
+    sum
 }

@@ -118,7 +118,8 @@ impl<T: Default + Drop, N: ArrayLength<T>, M: ArrayLength<T>> Remove<T, GenericA
     #[inline]
     fn remove(self, index: usize) -> (T, GenericArray<T, M>) {
         let mut array = self;
-        carry_to_end(array.as_mut_slice(), index);
+        let mut view = array.view_mut();
+        carry_to_end(view.as_mut_slice(), index);
         let mut items = array.into_iter();
         let item = items.next_back().unwrap();
         (item, next_array(&mut items))
@@ -127,7 +128,8 @@ impl<T: Default + Drop, N: ArrayLength<T>, M: ArrayLength<T>> Remove<T, GenericA
     #[inline]
     fn swap_remove(self, index: usize) -> (T, GenericArray<T, M>) {
         let mut array = self;
-        swap_to_end(array.as_mut_slice(), index);
+        let mut view = array.view_mut();
+        swap_to_end(view.as_mut_slice(), index);
         let mut items = array.into_iter();
         (items.next_back().unwrap(), next_array(&mut items))
     }

@@ -1,7 +1,7 @@
-use Rattle.ga_core.proofs.SlotLemmas.{refill-whole}
 use Rattle.generic_array.proofs.ShapeLemmas.{others-left}
 use Rattle.generic_array.proofs.sequence.shapes.inline.GenericArrayRemove.remove.Goals as goal
-use Rattle.std.proofs.Common.{◌≡◌, ◌∷◌, [], ◌++◌, ◌∙◌, ap, get_or, length, remove, sym}
+use Rattle.std.proofs.lemmas.Grind.{common_steps}
+use Rattle.std.proofs.Common.{◌≡◌, ◌∷◌, [], ◌++◌, ◌∙◌, ap, arith, get_or, length, remove, sym}
 
 pub returns-clause-others : goal.returns-clause-others
 returns-clause-others g c =
@@ -11,12 +11,13 @@ returns-clause-others g c =
     let carried = c.carry_to_end.new.items in
     let left = c.next_back.new.self in
     let item = c.unwrap-item.result in
-    let given = c.into_iter-items.ensures.into_iter_gives in
-    let same : length carried ≡ length self = c.carry_to_end.auto.items ∙ ap length c.as_mut_slice.ensures.items in
-    let taken : carried ≡ left ++ item ∷ [] =
-    sym (refill-whole (length self) self carried (sym same)) ∙ (sym given.0 ∙ rw c.unwrap-item.ensures at c.next_back.ensures.steps) in
+    let borrowed : c.as_mut_slice.result.now ≡ self =
+    c.as_mut_slice.ensures.items ∙ ap (λ array. array.now) c.view_mut-view.ensures.slice in
+    let same : length carried ≡ length self = c.carry_to_end.auto.items ∙ ap length borrowed in
+    let ends : items ≡ carried = grind (arith, common_steps, same, borrowed) in
+    let taken : carried ≡ left ++ item ∷ [] = sym ends ∙ rw c.unwrap-item.ensures at c.next_back.ensures.steps in
     let order : carried ≡ remove self index ++ get_or self index item ∷ [] =
-    rw c.as_mut_slice.ensures.items at (c.carry_to_end.ensures item) in
+    rw borrowed at (c.carry_to_end.ensures item) in
     c.next_array.ensures.first
     ∙ others-left carried (remove self index) left (get_or self index item) item g.M.Unsigned.USIZE order taken
     (c.carry_to_end.auto.items ∙ (c.as_mut_slice.ensures.len ∙ c.requires.one_shorter))
