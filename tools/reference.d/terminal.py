@@ -32,16 +32,20 @@ class Answers(Items):
 
     def here(self, name, rows):
         """The items that rows name as what stands here, each with its first sentence. Of a row that
-        says that names are the same it is the one that was asked for."""
-        found, last = {}, parts_of(name)[-1]
+        says that names are the same it is the one that was asked for; where nothing stands here,
+        those whose docs have the name."""
+        found, parts = [], parts_of(name)
         for row in rows:
-            named = [parts for code in row.names_here for parts in names_in(code)]
-            for parts in [parts for parts in named if row.ours or parts[-1] == last]:
-                items = [item for item in self.names.named(parts)
+            named = [here for code in row.names_here for here in names_in(code)]
+            for here in [here for here in named if row.ours or here[-1] == parts[-1]]:
+                items = [item for item in self.names.named(here)
                          if self.names.is_of_library(item)]
-                for item in sorted(items, key=self.names.order)[:1]:
-                    found.setdefault(item, (self.names.full_name(item), first_sentence(item)))
-        return self.listed("Here", list(found.values())[:MOST_HERE])
+                found += sorted(items, key=self.names.order)[:1]
+        if all(row.left_out for row in rows):
+            found += self.names.told_in_docs(parts)
+        items = list(dict.fromkeys(found))[:MOST_HERE]
+        return self.listed("Here", [(self.names.full_name(item), first_sentence(item))
+                                    for item in items])
 
     def others(self, items):
         """The names by which what else has a name is asked for; beside a place what it is of."""
