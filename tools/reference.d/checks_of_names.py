@@ -6,7 +6,7 @@ import re
 from meanings import LIBRARIES, WITH_A_PAGE
 from rust import CODE, names_in
 
-# The Rust crate's names, each with the item that its page is of, or with what its row tells.
+# Names that readers look up, each with the item that its page is of, or with what its row tells.
 RUST_NAMES = pathlib.Path(__file__).resolve().parent / "rust_names.txt"
 TELLS = "tells "
 # The crates of the port.
