@@ -34,9 +34,7 @@ fn blended<N: Unsigned>(
 }
 
 /// Two calls one after the other: the first array is there until the end.
-fn raised_twice<N: Unsigned>(
-    row: &BoxedArray<u8, N>,
-) -> Result<BoxedArray<u32, N>, AllocError>
+fn raised_twice<N: Unsigned>(row: &BoxedArray<u8, N>) -> Result<BoxedArray<u32, N>, AllocError>
     ensures { IfOk result (λ made.
         made ≡ map (λ wide. (wide + 1) % 2 ^ 32) (map (λ pixel. pixel + 1) row.now)) }
 {

@@ -78,7 +78,11 @@ fn gives(
     let mut out = Vec::new(alloc);
     let told = format!(in alloc; "{USAGE}\n")?;
     // The message and the end of its line.
-    let (text, writes) = if code == 2 { (told.as_str(), 2) } else { ("", 0) };
+    let (text, writes) = if code == 2 {
+        (told.as_str(), 2)
+    } else {
+        ("", 0)
+    };
     let mut err = Sink::new(text.as_bytes(), WHOLE, usize::MAX);
     let end = run_listed(
         alloc,

@@ -18,10 +18,7 @@ impl<T, N: Unsigned> BoxedArray<T, N> {
     ///
     /// Allocates the whole block first: if that fails, `f` is never called. Allocates nothing if
     /// `N` is 0. The counterpart of `map` of `&GenericArray<T, N>`, which makes an inline array.
-    pub fn map_ref<U, F: FnMut(&T) -> U>(
-        &self,
-        mut f: F,
-    ) -> Result<BoxedArray<U, N>, AllocError>
+    pub fn map_ref<U, F: FnMut(&T) -> U>(&self, mut f: F) -> Result<BoxedArray<U, N>, AllocError>
         requires callable { MayMap (λ item. item.now) F.pre F.step f self.now }
         ensures run { (last : F) × IfOk result (λ made.
             ClosureRun (CallAt (λ item. item.now) F.step) f self.now made last) }

@@ -2,8 +2,7 @@
 ghost use Rattle.std.specs.Prelude.{◌≡◌};
 
 use crate::tests::block_cipher::{
-    Turned, block_there_and_back, blocks_there_and_back, end_is_found, sealed,
-    text_there_and_back,
+    Turned, block_there_and_back, blocks_there_and_back, end_is_found, sealed, text_there_and_back,
 };
 use ga_ciphers::block_cipher::BlockCipher;
 use ga_ciphers::cbc::{decrypt_blocks, encrypt_blocks};

@@ -71,7 +71,10 @@ fn add_to(sum: i32, item: &i32) -> i32 {
 fn views_are_zipped_and_folded(rt: HostRuntime) {
     let odd = arr![1, 3, 5, 7];
     let sums = always(odd.view().zip((), arr![2, 4, 6, 8], add));
-    assert!(rt; sums.as_slice() == [3, 7, 11, 15].as_slice() && FunctionalSequence::fold(odd.view(), 0, add_to) == 16);
+    assert!(rt;
+        sums.as_slice() == [3, 7, 11, 15].as_slice()
+            && FunctionalSequence::fold(odd.view(), 0, add_to) == 16
+    );
 }
 
 #[test]

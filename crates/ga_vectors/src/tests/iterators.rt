@@ -84,7 +84,8 @@ fn iterators_over_each_number_are_printed(rt: HostRuntime) {
     assert!(rt; are_printed::<U0>(alloc, "GenericArrayIter([])", none));
     let one = "GenericArrayIter(\n    [\n        1,\n    ],\n)";
     assert!(rt; are_printed::<U1>(alloc, "GenericArrayIter([1])", one));
-    let four = "GenericArrayIter(\n    [\n        1,\n        2,\n        3,\n        4,\n    ],\n)";
+    let four =
+        "GenericArrayIter(\n    [\n        1,\n        2,\n        3,\n        4,\n    ],\n)";
     assert!(rt; are_printed::<U4>(alloc, "GenericArrayIter([1, 2, 3, 4])", four));
 }
 

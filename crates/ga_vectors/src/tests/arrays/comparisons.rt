@@ -48,8 +48,11 @@ fn arrays_are_printed(rt: HostRuntime) {
 #[test]
 fn arrays_of_each_number_are_printed(rt: HostRuntime) {
     let alloc = rt.alloc();
-    let (none, one, four): (GenericArray<u8, U0>, GenericArray<u8, U1>, GenericArray<u8, U4>) =
-        (arr![], arr![1], arr![1, 2, 3, 4]);
+    let (none, one, four): (
+        GenericArray<u8, U0>,
+        GenericArray<u8, U1>,
+        GenericArray<u8, U4>,
+    ) = (arr![], arr![1], arr![1, 2, 3, 4]);
     assert!(rt; prints(&none, "[]", alloc) && prints(&one, "[1]", alloc));
     assert!(rt; prints(&four, "[1, 2, 3, 4]", alloc));
     assert!(rt; prints_alternately(&none, "[]", alloc));
