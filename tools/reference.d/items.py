@@ -1,7 +1,7 @@
 """Shows an item or a definition whole, as lines of text."""
 import re
 
-from beside import becomes, spelled
+from advice import becomes, spelled
 from layout import indented, laid_out, one_line, prose
 from lookup import impl_of
 from meanings import WITH_A_PAGE, base_name, declared, header

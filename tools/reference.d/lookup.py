@@ -7,7 +7,7 @@ import pathlib
 import re
 
 import rust
-from beside import names_of_two
+from advice import names_of_two
 from callers import Callers
 from lemmas import of_files
 from meanings import LIBRARIES, header

@@ -10,7 +10,7 @@ from jinja2 import Environment, FileSystemLoader, StrictUndefined
 from markupsafe import Markup
 
 import rust
-from beside import becomes
+from advice import becomes
 from lookup import Names
 from meanings import WITH_A_PAGE, Scope
 from promise import TITLE, carriers

@@ -1,7 +1,7 @@
 """Lays out what is shown of items in a terminal, in colour or plain."""
 import re
 
-import beside
+import advice
 from layout import columns, indented, laid_out, prose, signature
 
 WIDEST, NARROWEST = 100, 40
@@ -59,7 +59,7 @@ class Text:
 
     def head(self, item, words=()):
         """An item's head, in which a name that two items have is its whole path."""
-        return self.code(beside.spelled(self.names, item, item.head), words)
+        return self.code(advice.spelled(self.names, item, item.head), words)
 
     def docs(self, item):
         """The docs of an item, or else its notes."""
@@ -73,7 +73,7 @@ class Text:
     def signatures(self, title, items):
         """A list of functions, a line each."""
         room = self.width - 4
-        whole = [signature(beside.spelled(self.names, item, item.head), room) for item in items]
+        whole = [signature(advice.spelled(self.names, item, item.head), room) for item in items]
         lines = [signature(item.head, room) if line.endswith(" ..") else line
                  for item, line in zip(items, whole)]
         return self.part(self.painted(lines), title)
@@ -113,7 +113,7 @@ class Text:
     def conditions(self, item):
         """What the conditions of a trait's call are at each kind."""
         lines = []
-        for heads, ghosts in beside.kinds(self.site, item):
+        for heads, ghosts in advice.kinds(self.site, item):
             lines += [line for head in heads for line in laid_out(head, self.width - 4)]
             written = [line for ghost in ghosts for line in laid_out(ghost.head, self.width - 8)]
             lines += indented(self.painted(written))
@@ -121,7 +121,7 @@ class Text:
 
     def imports(self, items):
         """The lines by which a crate imports what the clauses of items name."""
-        lines, below = beside.imports(self.site, items)
+        lines, below = advice.imports(self.site, items)
         text = [f"ghost use {module}.{{{', '.join(names)}}};" for module, names in lines]
         written = [line for line in text for line in laid_out(line, self.width - 4)]
         lower = {self.site.path(item.module)[0] for item in items if item.module} & {*below}
@@ -132,7 +132,7 @@ class Text:
     def beside(self, item):
         """A caller of an item, which clauses to use, and what tells how its result prints."""
         caller = self.names.callers.of(item)
-        told, printed = beside.advice(item), beside.printed(self.site, item)
+        told, printed = advice.advice(item), advice.printed(self.site, item)
         lines = [f"A caller: `{self.names.full_name(caller)}`."] if caller else []
         lines += [f"Of the clauses, {told}"] if told else []
         lines += [f"What the result prints, `{printed}` says."] if printed else []
