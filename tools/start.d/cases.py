@@ -5,14 +5,17 @@ import shutil
 import subprocess
 import sys
 
-from crates import LICENSE, LIST, OURS, RECORD, TOP, needed
+from crates import ABOUT, LICENSE, LIST, OURS, RECORD, TESTS, TOP, needed
 
 # Calls in the folder that `refusals` lays out: what they are, their words, a part of what is said.
 BAD_CALLS = [
     ("nothing is named", "", "required: FOLDER"),
     ("no crate is named", "new", "a NAME for your crate is missing"),
     ("a flag that is none", "new mine --all", "unrecognized arguments: --all"),
-    ("a library that is none", "new mine --on ga_rows", "invalid choice: 'ga_rows'"),
+    ("a library that is none", "new mine --on ga_rows", "'ga_rows' is none of ga_core, "),
+    ("a library after a comma", "new mine --on ga_core,ga_rows", "'ga_rows' is none of ga_core, "),
+    ("a comma too many", "new mine --on ga_core,", "'' is none of ga_core, "),
+    ("tests that there aren't", "new mine --tests", "no crate of tests comes with ga_core"),
     ("a name with a capital", "new Mine", "'Mine' names no crate"),
     ("a name that begins with a digit", "new 7th", "'7th' names no crate"),
     ("a name with a dash", "new my-crate", "'my-crate' names no crate"),
@@ -39,6 +42,7 @@ BAD_CALLS = [
     ("an update of what wasn't started", "--update theirs", "no crates that tools/start copied"),
     ("an update of nothing", "--update new", "no crates that tools/start copied"),
     ("an update of a crate", "--update started mine", "--update takes a FOLDER alone"),
+    ("an update with a flag", "--update started --tests", "--update takes a FOLDER alone"),
 ]
 # Files that are copied: what a later checkout changes, removes and adds, what it and the user
 # change, and what the user deletes.
@@ -124,6 +128,19 @@ def there_before(tally, folder):
     now = contents(folder)
     wrong = [it for it in wanted if now.get(it) != wanted[it].encode()]
     tally.case("a repository that is there keeps its files", out + err if status else wrong)
+
+
+def tests(tally, folder):
+    """Starts a crate with its library's tests, and one without; the record says what it is."""
+    for flags in ((), ("--tests",)):
+        words = ["tested" if flags else "plain", "mine", "--on", "ga_hashes", *flags]
+        status, out, err = call(words, folder)
+        crates = sorted(it.name for it in (folder / words[0] / "crates").iterdir())
+        wanted = sorted(["mine", *needed("ga_hashes", *(TESTS["ga_hashes"] for _ in flags))])
+        is_well = not status and crates == wanted
+        tally.case(f"tests come along where asked for: {words[4:]}", "" if is_well else out + err)
+    first = (folder / "plain" / RECORD).read_text().partition("\n")[0]
+    tally.case("the record's first line says what it is for", "" if ABOUT in first else first)
 
 
 def later_checkout(folder):
