@@ -17,6 +17,11 @@ ON = {
 }
 # The crate of tests that comes with a library where it is asked for.
 TESTS = {"ga_hashes": "ga_hashes_tests"}
+# Minutes of one core that a proof of each crate takes.
+MINUTES = {
+    "ga_views": 1, "ga_core": 4, "ga_boxed": 2, "generic_array": 3, "ga_hashes": 2, "ga_ciphers": 2,
+    "ga_hashes_tests": 1,
+}
 LIST, RECORD, LICENSE = "crates.txt", "laid.json", "LICENSE"
 UNKNOWN = "unknown"
 ABOUT = ("What tools/start copied here from generic_array, and a sum of each file, by which"
