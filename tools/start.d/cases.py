@@ -230,14 +230,15 @@ def updates(tally, folder):
 
 def stand_in(folder):
     """Makes a kit that keeps its record in the folder. Returns its commands' folder. Its folders
-    are the installed kit's."""
+    are the installed kit's, and its files copies."""
     real, kit = pathlib.Path(rtlib().KIT), folder / "kit"
     (kit / "bin").mkdir(parents=True)
-    for it in ("KIT-ID", "WHAT", "bin/rt", "bin/rtlib.py"):
-        shutil.copy(real / it, kit / it)
-    for it in real.iterdir():
-        if it.is_dir() and it.name != "bin":
-            (kit / it.name).symlink_to(it)
+    for it in [*real.iterdir(), real / "bin" / "rt", real / "bin" / "rtlib.py"]:
+        to = kit / it.relative_to(real)
+        if it.is_file():
+            shutil.copy(it, to)
+        elif it.name != "bin":
+            to.symlink_to(it)
     return kit / "bin"
 
 

@@ -38,21 +38,21 @@ def library(name):
 
 
 def recorded(rt, folder, names):
-    """The entries of our libraries, with the sums of their files. Raises an error where one wasn't
-    proved as it is in this checkout, or is otherwise in the folder."""
+    """The entries of the folder's libraries, with the sums of their files. Raises an error where
+    one wasn't proved as it stands there."""
     rt.Crate.allowed = rt.handles_of(str(TOP))
     if not os.path.isdir(rt.STORE) or rt.handles_of(str(folder)) != rt.Crate.allowed:
         raise LookupError
     kept, found = rt.Kept([]), {}
-    for our, copy in zip(crates_in(rt, TOP, names), crates_in(rt, folder, names)):
-        key = kept.key(our)
-        entry = pathlib.Path(kept.place(our, False, key))
+    for it in crates_in(rt, folder, names):
+        key = kept.key(it)
+        entry = pathlib.Path(kept.place(it, False, key))
         made = json.loads((entry / "made.json").read_text("utf-8"))
-        if not kept.at or not key == made["key"] == kept.key(copy):
+        if not kept.at or made["key"] != key:
             raise LookupError
-        found[our.name] = entry, [(path, total) for path, total in made["files"]]
+        found[it.name] = entry, [(path, total) for path, total in made["files"]]
         # The names of the entries above have this sum.
-        kept.rlibs[our.name] = hashlib.sha256(repr(found[our.name][1]).encode()).hexdigest()
+        kept.rlibs[it.name] = hashlib.sha256(repr(found[it.name][1]).encode()).hexdigest()
     return found
 
 
