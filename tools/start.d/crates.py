@@ -15,11 +15,17 @@ ON = {
     "ga_hashes": "ga_hashes ga_core",
     "ga_ciphers": "ga_ciphers generic_array",
 }
-# The crate of tests that comes with a library.
+# The crate of tests that comes with a library where it is asked for.
 TESTS = {"ga_hashes": "ga_hashes_tests"}
+# Minutes of one core that a proof of each crate takes.
+MINUTES = {
+    "ga_views": 1, "ga_core": 4, "ga_boxed": 2, "generic_array": 3, "ga_hashes": 2, "ga_ciphers": 2,
+    "ga_hashes_tests": 1,
+}
 LIST, RECORD, LICENSE = "crates.txt", "laid.json", "LICENSE"
 UNKNOWN = "unknown"
-ABOUT = "what tools/start of generic_array copied here, for tools/start --update"
+ABOUT = ("What tools/start copied here from generic_array, and a sum of each file, by which"
+         " tools/start --update knows what you changed: leave it as it is")
 
 
 def plain(row):
@@ -47,14 +53,26 @@ def libraries_of(name):
 
 
 def needed(*names):
-    """These crates, those below them and the tests that come with them, in the order of the list."""
+    """These crates and those below them, in the order of the list."""
     found, left = set(), list(names)
     while left:
         name = left.pop()
         found.add(name)
-        others = [*libraries_of(name), TESTS.get(name)]
-        left += [it for it in others if it in OURS and it not in found]
+        left += [it for it in libraries_of(name) if it in OURS and it not in found]
     return [it for it in OURS if it in found]
+
+
+def line_of(name, on):
+    """The line of a crate that starts on these libraries."""
+    return f"{name}: {' '.join(dict.fromkeys(word for it in on for word in ON[it].split()))}"
+
+
+def tests_of(on):
+    """The crates of tests of these libraries. Stops where there are none."""
+    found = [TESTS[it] for it in on if it in TESTS]
+    if not found:
+        raise Unfit(f"no crate of tests comes with {', '.join(on)}, but with {', '.join(TESTS)}")
+    return found
 
 
 def check_kit(names):
@@ -107,8 +125,9 @@ def read_record(top):
 
 
 def write_record(top, record):
-    text = json.dumps({"about": ABOUT, **record}, indent=1, sort_keys=True)
-    (top / RECORD).write_text(f"{text}\n", "utf-8")
+    text = json.dumps(record, indent=1, sort_keys=True)
+    first = f'{{"about": {json.dumps(ABOUT)},'
+    (top / RECORD).write_text(f"{first}{text[1:]}\n", "utf-8")
 
 
 def of_crates(files, names):

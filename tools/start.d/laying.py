@@ -4,8 +4,8 @@ import pathlib
 import re
 
 from crates import (
-    LIST, ON, OURS, TOP, check_kit, commit, listed, needed, of_crates, read_record, sums_of,
-    texts_of, write_record,
+    LIST, OURS, TOP, check_kit, commit, line_of, listed, of_crates, read_record, sums_of, texts_of,
+    write_record,
 )
 from kit import Unfit, rtlib
 
@@ -67,8 +67,8 @@ def add_lines(path, lines):
         file.write(gap + "".join(f"{it}\n" for it in lines))
 
 
-def start(folder, name, on):
-    """Makes the crate. Returns what to say of it, in lines."""
+def start(folder, name, on, names):
+    """Makes the crate on these libraries, which need these crates. Returns what to say of it."""
     check_name(name)
     check_folder(folder)
     if (folder / LIST).exists():
@@ -76,14 +76,13 @@ def start(folder, name, on):
         rtlib().listed(str(folder))
     if (folder / "crates" / name).exists() or name in listed(folder):
         raise Unfit(f"{folder}/crates/{name} is there already")
-    names = needed(on)
     check_kit(names)
     record = read_record(folder)
     new = new_crates(folder, names, record)
     texts = texts_of(new)
-    first = {"src/lib.rt": (FIRST / f"{on}.rattle").read_bytes(), "specs/Lib.antt": b""}
+    first = {"src/lib.rt": (FIRST / f"{on[0]}.rattle").read_bytes(), "specs/Lib.antt": b""}
     put(folder, texts | {f"crates/{name}/{path}": text for path, text in first.items()})
-    add_lines(folder / LIST, [*(OURS[it] for it in new), f"{name}: {ON[on]}"])
+    add_lines(folder / LIST, [*(OURS[it] for it in new), line_of(name, on)])
     record["commit"] = commit()
     record["crates"] |= {it: OURS[it] for it in new}
     record["files"] |= sums_of(texts)
@@ -94,4 +93,4 @@ def start(folder, name, on):
     if not ignored.exists() or "out/" not in ignored.read_text("utf-8").split():
         add_lines(ignored, ["out/"])
     copied = f"copied {', '.join(new)}" if new else "copied nothing, since all is there"
-    return [f"{folder}: made crates/{name}, {copied}"]
+    return f"{folder}: made crates/{name}, {copied}"

@@ -74,7 +74,7 @@ def told(files, lines, gone):
 
 
 def update(folder):
-    """Copies the crates anew. Returns what to say of it, in lines."""
+    """Copies the crates anew. Returns what to say of it, in lines, and the crates."""
     record = read_record(folder)
     if not record["crates"]:
         raise Unfit(f"{folder} has no crates that tools/start copied")
@@ -90,4 +90,4 @@ def update(folder):
     crates = {**record["crates"], **{it: OURS[it] for it in names}}
     write_record(folder, {"commit": now, "crates": crates, "files": left | sums_of(texts)})
     said = list(told(files, lines, gone)) or ["nothing changed"]
-    return [*said, f"{folder}: of commit {now}, before of {before}"]
+    return [*said, f"{folder}: of commit {now}, before of {before}"], names
