@@ -72,23 +72,17 @@ fn of_slice<T: Sample, N: Unsigned>(alloc: Global, account: &Account) -> Came {
 
 /// The conversions from and to boxed arrays.
 fn of_boxed<T: Sample, N: Unsigned>(alloc: Global, account: &Account) -> [Call; 4] {
+    let into_slice = into_slice::<T, N>(alloc, account);
+    let of_slice = of_slice::<T, N>(alloc, account);
     [
         ("BoxedArray::into_vec", 1, into_vec::<T, N>(alloc, account)),
-        (
-            "BoxedArray::into_boxed_slice",
-            1,
-            into_slice::<T, N>(alloc, account),
-        ),
+        ("BoxedArray::into_boxed_slice", 1, into_slice),
         (
             "BoxedArray::try_from_vec",
             1,
             of_vec::<T, N>(alloc, account),
         ),
-        (
-            "BoxedArray::try_from_boxed_slice",
-            1,
-            of_slice::<T, N>(alloc, account),
-        ),
+        ("BoxedArray::try_from_boxed_slice", 1, of_slice),
     ]
 }
 
@@ -130,17 +124,11 @@ fn inline_of_slice<T: Sample, N: ArrayLength<T>>(alloc: Global, account: &Accoun
 fn to_inline<T: Sample, N: ArrayLength<T>>(alloc: Global, account: &Account) -> [Call; 2]
     requires { FitsInline N.USIZE }
 {
+    let of_vec = inline_of_vec::<T, N>(alloc, account);
+    let of_slice = inline_of_slice::<T, N>(alloc, account);
     [
-        (
-            "GenericArray::try_from_vec",
-            0,
-            inline_of_vec::<T, N>(alloc, account),
-        ),
-        (
-            "GenericArray::try_from_boxed_slice",
-            0,
-            inline_of_slice::<T, N>(alloc, account),
-        ),
+        ("GenericArray::try_from_vec", 0, of_vec),
+        ("GenericArray::try_from_boxed_slice", 0, of_slice),
     ]
 }
 
@@ -165,17 +153,11 @@ pub fn by_try_from<T: Sample, N: ArrayLength<T> + InlineLength>(
     alloc: Global,
     account: &Account,
 ) -> [Call; 2] {
+    let of_vec = tried_of_vec::<T, N>(alloc, account);
+    let of_slice = tried_of_slice::<T, N>(alloc, account);
     [
-        (
-            "GenericArray::try_from",
-            0,
-            tried_of_vec::<T, N>(alloc, account),
-        ),
-        (
-            "GenericArray::try_from",
-            0,
-            tried_of_slice::<T, N>(alloc, account),
-        ),
+        ("GenericArray::try_from", 0, of_vec),
+        ("GenericArray::try_from", 0, of_slice),
     ]
 }
 
@@ -188,15 +170,17 @@ pub fn first_wrong<T: Sample, N: ArrayLength<T>>(
 {
     let len = N::USIZE;
     let more = len.wrapping_add(1);
+    let less = len.checked_sub(1).unwrap_or(more);
     account
         .first_wrong(len, &of_inline::<T, N>(alloc))
         .or(account.first_wrong(len, &of_boxed::<T, N>(alloc, account)))
         .or(account.first_wrong(more, &of_others::<T, N>(alloc, account, more)))
+        .or(account.first_wrong(less, &of_others::<T, N>(alloc, account, less)))
         .or(account.first_wrong(len, &to_inline::<T, N>(alloc, account)))
 }
 
-/// The conversions that only lengths that are known have: of native arrays of U items, one byte and
-/// 72, and by std's trait.
+/// The name of the first conversion of a native array of U items that was played wrongly, of one
+/// byte and of 72.
 pub fn of_native<const U: usize>(alloc: Global, account: &Account) -> Option<&'static str>
     requires { U ≤ 1000 }
 {

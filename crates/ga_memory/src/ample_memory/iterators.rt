@@ -11,6 +11,7 @@ use std::alloc::Global;
 /// Takes of the items of an array by value.
 #[derive(Clone, Copy)]
 enum Take {
+    Nothing,
     Next,
     NextBack,
     Nth,
@@ -35,6 +36,7 @@ fn is_taken<T: Sample>(mut left: BoxedArrayIter<T>, take: Take) -> bool {
     let len = left.len();
     let middle = len / 2;
     let item = match take {
+        Take::Nothing => return are_samples(left.as_slice(), len),
         Take::Next => left.next(),
         Take::NextBack => left.next_back(),
         Take::Nth => left.nth(middle),
@@ -62,77 +64,35 @@ fn two_ended<T: Sample, N: Unsigned>(alloc: Global, account: &Account) -> Came {
 
 /// The takes from what is left of a boxed array.
 fn of_iterators<T: Sample, N: Unsigned>(alloc: Global, account: &Account) -> [Call; 14] {
+    let into_iter = taken::<T, N>(alloc, account, Take::Nothing);
+    let two_ended = two_ended::<T, N>(alloc, account);
+    let next = taken::<T, N>(alloc, account, Take::Next);
+    let next_back = taken::<T, N>(alloc, account, Take::NextBack);
+    let nth = taken::<T, N>(alloc, account, Take::Nth);
+    let nth_back = taken::<T, N>(alloc, account, Take::NthBack);
+    let last = taken::<T, N>(alloc, account, Take::Last);
+    let count = taken::<T, N>(alloc, account, Take::Count);
+    let fold = taken::<T, N>(alloc, account, Take::Fold);
+    let rfold = taken::<T, N>(alloc, account, Take::Rfold);
+    let front = taken::<T, N>(alloc, account, Take::Front);
+    let back = taken::<T, N>(alloc, account, Take::Back);
+    let front_nth = taken::<T, N>(alloc, account, Take::FrontNth);
+    let back_nth = taken::<T, N>(alloc, account, Take::BackNth);
     [
-        (
-            "BoxedArray::into_iter",
-            0,
-            taken::<T, N>(alloc, account, Take::Count),
-        ),
-        (
-            "BoxedArray::into_two_ended",
-            0,
-            two_ended::<T, N>(alloc, account),
-        ),
-        (
-            "BoxedArrayIter::next",
-            0,
-            taken::<T, N>(alloc, account, Take::Next),
-        ),
-        (
-            "BoxedArrayIter::next_back",
-            0,
-            taken::<T, N>(alloc, account, Take::NextBack),
-        ),
-        (
-            "BoxedArrayIter::nth",
-            0,
-            taken::<T, N>(alloc, account, Take::Nth),
-        ),
-        (
-            "BoxedArrayIter::nth_back",
-            0,
-            taken::<T, N>(alloc, account, Take::NthBack),
-        ),
-        (
-            "BoxedArrayIter::last",
-            0,
-            taken::<T, N>(alloc, account, Take::Last),
-        ),
-        (
-            "BoxedArrayIter::count",
-            0,
-            taken::<T, N>(alloc, account, Take::Count),
-        ),
-        (
-            "BoxedArrayIter::fold",
-            0,
-            taken::<T, N>(alloc, account, Take::Fold),
-        ),
-        (
-            "BoxedArrayIter::rfold",
-            0,
-            taken::<T, N>(alloc, account, Take::Rfold),
-        ),
-        (
-            "ItemsLeft::take_front",
-            0,
-            taken::<T, N>(alloc, account, Take::Front),
-        ),
-        (
-            "ItemsLeft::take_back",
-            0,
-            taken::<T, N>(alloc, account, Take::Back),
-        ),
-        (
-            "TwoEnded::front_nth",
-            0,
-            taken::<T, N>(alloc, account, Take::FrontNth),
-        ),
-        (
-            "TwoEnded::back_nth",
-            0,
-            taken::<T, N>(alloc, account, Take::BackNth),
-        ),
+        ("BoxedArray::into_iter", 0, into_iter),
+        ("TwoEndedSequence::into_two_ended", 0, two_ended),
+        ("BoxedArrayIter::next", 0, next),
+        ("BoxedArrayIter::next_back", 0, next_back),
+        ("BoxedArrayIter::nth", 0, nth),
+        ("BoxedArrayIter::nth_back", 0, nth_back),
+        ("BoxedArrayIter::last", 0, last),
+        ("BoxedArrayIter::count", 0, count),
+        ("BoxedArrayIter::fold", 0, fold),
+        ("BoxedArrayIter::rfold", 0, rfold),
+        ("ItemsLeft::take_front", 0, front),
+        ("ItemsLeft::take_back", 0, back),
+        ("TwoEnded::front_nth", 0, front_nth),
+        ("TwoEnded::back_nth", 0, back_nth),
     ]
 }
 
@@ -172,20 +132,16 @@ fn is_made<T: Sample>(alloc: Global, len: usize) -> Came {
 
 /// The calls of a block for so many items.
 fn of_blocks<T: Sample>(alloc: Global, account: &Account, len: usize) -> [Call; 5] {
+    let put = is_put::<T>(alloc, account, len);
+    let take_front = is_taken_first::<T>(alloc, account, len);
+    let take_back = is_taken_last::<T>(alloc, account, len);
+    let dropped = is_put::<T>(alloc, account, len);
     [
         ("LiveBlock::new", 1, is_made::<T>(alloc, len)),
-        ("LiveBlock::put", 0, is_put::<T>(alloc, account, len)),
-        (
-            "LiveBlock::take_front",
-            0,
-            is_taken_first::<T>(alloc, account, len),
-        ),
-        (
-            "LiveBlock::take_back",
-            0,
-            is_taken_last::<T>(alloc, account, len),
-        ),
-        ("LiveBlock::drop", 0, is_put::<T>(alloc, account, len)),
+        ("LiveBlock::put", 0, put),
+        ("LiveBlock::take_front", 0, take_front),
+        ("LiveBlock::take_back", 0, take_back),
+        ("LiveBlock::drop", 0, dropped),
     ]
 }
 

@@ -60,6 +60,7 @@ where
 #[derive(Clone, Copy)]
 enum Zip {
     Zip,
+    ZipBy,
     OfHeadline,
     Inverted,
 }
@@ -76,6 +77,7 @@ where
     let len = S::Length::USIZE;
     match called {
         Zip::Zip => counts(left.zip(place, right, left_of::<T>), len),
+        Zip::ZipBy => counts(left.zip_by(place, right, &mut left_of::<T>), len),
         Zip::OfHeadline => counts(zip(left, place, right, &mut left_of::<T>), len),
         Zip::Inverted => counts(inverted_zip2(right, place, left, left_of::<T>), len),
     }
@@ -91,43 +93,24 @@ fn zipped<T: Sample, N: Unsigned>(alloc: Global, account: &Account, called: Zip)
 }
 
 /// The maps and zips.
-fn of_boxed<T: Sample, N: Unsigned>(alloc: Global, account: &Account) -> [Call; 7] {
+fn of_boxed<T: Sample, N: Unsigned>(alloc: Global, account: &Account) -> [Call; 8] {
+    let map = mapped::<T, N>(alloc, account, Map::Map);
+    let try_map = mapped::<T, N>(alloc, account, Map::TryMap);
+    let of_headline = mapped::<T, N>(alloc, account, Map::OfHeadline);
+    let total = mapped::<T, N>(alloc, account, Map::TotalBy);
+    let zip = zipped::<T, N>(alloc, account, Zip::Zip);
+    let zip_by = zipped::<T, N>(alloc, account, Zip::ZipBy);
+    let zip_of_headline = zipped::<T, N>(alloc, account, Zip::OfHeadline);
+    let inverted = zipped::<T, N>(alloc, account, Zip::Inverted);
     [
-        (
-            "FunctionalSequence::map",
-            1,
-            mapped::<T, N>(alloc, account, Map::Map),
-        ),
-        (
-            "FunctionalSequence::try_map",
-            1,
-            mapped::<T, N>(alloc, account, Map::TryMap),
-        ),
-        (
-            "calls::map",
-            1,
-            mapped::<T, N>(alloc, account, Map::OfHeadline),
-        ),
-        (
-            "map_total_by",
-            1,
-            mapped::<T, N>(alloc, account, Map::TotalBy),
-        ),
-        (
-            "FunctionalSequence::zip",
-            1,
-            zipped::<T, N>(alloc, account, Zip::Zip),
-        ),
-        (
-            "calls::zip",
-            1,
-            zipped::<T, N>(alloc, account, Zip::OfHeadline),
-        ),
-        (
-            "inverted_zip2",
-            1,
-            zipped::<T, N>(alloc, account, Zip::Inverted),
-        ),
+        ("FunctionalSequence::map", 1, map),
+        ("FunctionalSequence::try_map", 1, try_map),
+        ("calls::map", 1, of_headline),
+        ("map_total_by", 1, total),
+        ("FunctionalSequence::zip", 1, zip),
+        ("FunctionalSequence::zip_by", 1, zip_by),
+        ("calls::zip", 1, zip_of_headline),
+        ("inverted_zip2", 1, inverted),
     ]
 }
 
