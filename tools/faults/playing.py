@@ -7,6 +7,9 @@ import threading
 from subprocess import DEVNULL, PIPE
 
 Seen = collections.namedtuple("Seen", "status out err")
+# Held while a program is written, and while one is started: a process that starts has all files for
+# a moment, and none runs that another can write to.
+STARTING = threading.Lock()
 
 
 def shown(it):
@@ -55,7 +58,8 @@ def play(program, words=(), give=None, take=None, before=None, env=None, seconds
     """Runs a program for at most so long. `give` feeds its input, and `take` reads its output."""
     pipes = {"stdin": PIPE if give else DEVNULL, "stdout": PIPE, "stderr": PIPE, **streams}
     command = [program, *words]
-    process = subprocess.Popen(command, bufsize=0, env=env or {}, preexec_fn=before, **pipes)
+    with STARTING:
+        process = subprocess.Popen(command, bufsize=0, env=env or {}, preexec_fn=before, **pipes)
     alarm = threading.Timer(seconds, process.kill)
     giver = threading.Thread(target=feed, args=(process, give))
     alarm.start()

@@ -4,7 +4,7 @@ use crate::drops::first_wrong_of;
 use ga_test_items::counted::Counts;
 use ga_test_items::outcome::{Outcome, play};
 use generic_array::steps::{Reply, Step, run_steps};
-use generic_array::{AllocError, BoxedArray, BoxedArrayIter, U2, U3};
+use generic_array::{AllocError, BoxedArray, BoxedArrayIter, U0, U2, U3, box_arr};
 use std::alloc::Global;
 use std::process::Abort;
 
@@ -64,6 +64,21 @@ fn of_defaults_or_copies(alloc: Global, number: u32) -> Outcome {
 #[test]
 fn defaults_and_copies_report_refused_memory(rt: HostRuntime) {
     let wrong = play(&rt, 2, of_defaults_or_copies);
+    assert!(rt; wrong.is_none(), "case {wrong:?}");
+}
+
+/// A boxed array of no items needs no memory, so none is refused it.
+fn of_none(alloc: Global, number: u32) -> Outcome {
+    let made: Result<BoxedArray<u32, U0>, AllocError> = match number {
+        0 => box_arr!(alloc, []),
+        _ => BoxedArray::from_array(alloc, []),
+    };
+    Outcome::exact_if(made.is_ok_and(|made| made.as_slice().is_empty()))
+}
+
+#[test]
+fn a_box_of_none_is_made_with_all_memory_refused(rt: HostRuntime) {
+    let wrong = play(&rt, 2, of_none);
     assert!(rt; wrong.is_none(), "case {wrong:?}");
 }
 

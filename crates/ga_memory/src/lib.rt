@@ -2,6 +2,8 @@
 #![tactic(auto)]
 
 #[cfg(test)]
+mod account;
+#[cfg(test)]
 mod ample_memory;
 #[cfg(test)]
 mod refused_memory;

@@ -1,6 +1,6 @@
 //! Each request for memory refused in turn, in runs of steps behind other calls and in a table of
 //! keys: nothing is kept of what was handed over.
-mod needs_none;
+mod each_call;
 mod table;
 
 use crate::ample_memory::steps::{count_of, walked};

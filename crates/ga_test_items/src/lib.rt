@@ -14,6 +14,8 @@ pub mod outcome;
 pub mod played;
 /// Numbers from a seed.
 pub mod random;
+/// Items of two sizes, made of a number.
+pub mod samples;
 /// An iterator that is written down.
 pub mod scripted;
 /// A writer that counts, and fails as it is told.

@@ -1,105 +1,132 @@
 //! Builds of blocks from closures, from iterators and of copies, by the type and by the traits.
-use super::{counts, counts_built, good, is_all};
-use ga_headline::builds::fill_boxed;
-use ga_test_items::items::number;
-use ga_test_items::played::first_of;
+use super::{counts, counts_built, exact_if, good, is_all};
+use crate::account::{Account, Call, Came};
+use ga_headline::builds::{build_of_items, fill_boxed};
+use ga_test_items::outcome::Outcome;
+use ga_test_items::samples::{Sample, are_samples, nth_sample};
 use generic_array::sequence::{FallibleGenericSequence, FromFallibleIterator, GenericSequence};
-use generic_array::{BoxedArray, Unsigned};
+use generic_array::{BoxedArray, FillError, Unsigned, box_arr};
 use std::alloc::Global;
+use std::convert::AsSlice;
 
-/// The number of an item, as the good result of a call that may fail.
-fn good_number(index: usize) -> Result<u32, u32> {
-    good(number(index))
+/// The item of an index, as the good result of a call that may fail.
+pub(super) fn good_sample<T: Sample>(index: usize) -> Result<T, u32> {
+    good(nth_sample(index))
+}
+
+/// What came of a fill that may be given an error or another number of items.
+fn counts_filled<T: Sample, S: AsSlice<T> + Drop, E: Drop, P: Drop>(
+    made: Result<S, FillError<E, P>>,
+    len: usize,
+) -> Came {
+    match made {
+        Ok(made) => exact_if(are_samples(made.as_slice(), len)),
+        Err(FillError::Place(_refused)) => Some(Outcome::Refused),
+        Err(_error) => Some(Outcome::Wrong),
+    }
 }
 
 /// The builds from closures and of copies.
-pub fn of_closures<N: Unsigned>(alloc: Global) -> Option<&'static str> {
-    let len = N::USIZE;
-    first_of(&[
-        (
-            "BoxedArray::generate",
-            counts(BoxedArray::<u32, N>::generate(alloc, number), len),
-        ),
+fn of_closures<T: Sample, N: Unsigned>(alloc: Global) -> [Call; 6] {
+    let (len, item) = (N::USIZE, T::of(7));
+    let generate = BoxedArray::<T, N>::generate(alloc, |index: usize| -> T { nth_sample(index) });
+    let try_generate = BoxedArray::<T, N>::try_generate(alloc, |index: usize| -> Result<T, u32> {
+        good_sample(index)
+    });
+    let defaults = BoxedArray::<T, N>::default_boxed(alloc);
+    let copies = BoxedArray::<T, N>::from_copies(alloc, item);
+    let of_macro = box_arr!(alloc, [item; N]);
+    let repeat = BoxedArray::<T, N>::repeat(alloc, item);
+    [
+        ("BoxedArray::generate", 1, counts(generate, len)),
         (
             "BoxedArray::try_generate",
-            counts_built(BoxedArray::<u32, N>::try_generate(alloc, good_number), len),
+            1,
+            counts_built(try_generate, len),
         ),
-        (
-            "BoxedArray::default_boxed",
-            is_all(BoxedArray::<u32, N>::default_boxed(alloc), 0, len),
-        ),
-        (
-            "BoxedArray::from_copies",
-            is_all(BoxedArray::<u32, N>::from_copies(alloc, 7), 7, len),
-        ),
-        (
-            "BoxedArray::repeat",
-            is_all(BoxedArray::<u32, N>::repeat(alloc, 7), 7, len),
-        ),
-    ])
+        ("BoxedArray::default_boxed", 1, is_all(defaults, 0, len)),
+        ("BoxedArray::from_copies", 1, is_all(copies, 7, len)),
+        ("box_arr!", 1, is_all(of_macro, 7, len)),
+        ("BoxedArray::repeat", 1, is_all(repeat, 7, len)),
+    ]
 }
 
 /// The builds from iterators.
-pub fn of_iterators<N: Unsigned>(alloc: Global) -> Option<&'static str> {
+fn of_iterators<T: Sample, N: Unsigned>(alloc: Global) -> [Call; 3] {
     let len = N::USIZE;
-    let items = (0..len).map(number);
-    let results = (0..len).map(good_number);
-    let mut others = (0..len).map(number);
-    first_of(&[
+    let items = (0..len).map(|index: usize| -> T { nth_sample(index) });
+    let by_iter = BoxedArray::<T, N>::try_boxed_from_iter(alloc, items);
+    let results = (0..len).map(|index: usize| -> Result<T, u32> { good_sample(index) });
+    let by_results = BoxedArray::<T, N>::try_boxed_from_fallible_iter(alloc, results);
+    let mut items = (0..len).map(|index: usize| -> T { nth_sample(index) });
+    let by_headline = fill_boxed::<T, N, _>(alloc, &mut items);
+    [
         (
             "BoxedArray::try_boxed_from_iter",
-            counts_built(BoxedArray::<u32, N>::try_boxed_from_iter(alloc, items), len),
+            1,
+            counts_built(by_iter, len),
         ),
         (
             "BoxedArray::try_boxed_from_fallible_iter",
-            counts(
-                BoxedArray::<u32, N>::try_boxed_from_fallible_iter(alloc, results),
-                len,
-            ),
+            1,
+            counts_filled(by_results, len),
         ),
-        (
-            "fill_boxed",
-            counts_built(fill_boxed::<u32, N, _>(alloc, &mut others), len),
-        ),
-    ])
+        ("fill_boxed", 1, counts_built(by_headline, len)),
+    ]
 }
 
-/// The builds of the traits, of boxed arrays.
-pub fn of_traits<N: Unsigned>(alloc: Global) -> Option<&'static str> {
-    let len = N::USIZE;
-    let results = (0..len).map(good_number);
-    first_of(&[
-        (
-            "GenericSequence::generate",
-            counts(
-                <BoxedArray<u32, N> as GenericSequence<u32>>::generate(alloc, number),
-                len,
-            ),
-        ),
-        (
-            "GenericSequence::repeat",
-            is_all(
-                <BoxedArray<u32, N> as GenericSequence<u32>>::repeat(alloc, 7),
-                7,
-                len,
-            ),
-        ),
+/// The builds of any kind that allocates.
+fn of_kind<T: Sample, S>(place: S::Place) -> [Call; 4]
+where
+    S: FallibleGenericSequence<T> + FromFallibleIterator<T> + Drop,
+    S::Place: Copy,
+    S::Error: Drop,
+    S::Sequence: Drop,
+    requires { S.Fits }
+{
+    let len = S::Length::USIZE;
+    let generate = <S as GenericSequence<T>>::generate(place, |index: usize| -> T {
+        nth_sample(index)
+    });
+    let try_generate = <S as FallibleGenericSequence<T>>::try_generate(
+        place,
+        |index: usize| -> Result<T, u32> { good_sample(index) },
+    );
+    let repeat = <S as GenericSequence<T>>::repeat(place, T::of(7));
+    let results = (0..len).map(|index: usize| -> Result<T, u32> { good_sample(index) });
+    let by_results = S::from_fallible_iter(place, results);
+    [
+        ("GenericSequence::generate", 1, counts(generate, len)),
         (
             "FallibleGenericSequence::try_generate",
-            counts_built(
-                <BoxedArray<u32, N> as FallibleGenericSequence<u32>>::try_generate(
-                    alloc,
-                    good_number,
-                ),
-                len,
-            ),
+            1,
+            counts_built(try_generate, len),
         ),
+        ("GenericSequence::repeat", 1, is_all(repeat, 7, len)),
         (
             "FromFallibleIterator::from_fallible_iter",
-            counts(
-                BoxedArray::<u32, N>::from_fallible_iter(alloc, results),
-                len,
-            ),
+            1,
+            counts_filled(by_results, len),
         ),
-    ])
+    ]
+}
+
+/// A build of the items of a vector.
+fn built_of_items<T: Sample, N: Unsigned>(alloc: Global, account: &Account) -> Came {
+    let items = account.vector::<T>(alloc, N::USIZE)?;
+    let built = build_of_items::<T, BoxedArray<T, N>>(alloc, items);
+    counts_filled(built, N::USIZE)
+}
+
+/// The name of the first build that was played wrongly.
+pub fn first_wrong<T: Sample, N: Unsigned>(
+    alloc: Global,
+    account: &Account,
+) -> Option<&'static str> {
+    let of_items = [("build_of_items", 1, built_of_items::<T, N>(alloc, account))];
+    account
+        .first_wrong(N::USIZE, &of_closures::<T, N>(alloc))
+        .or(account.first_wrong(N::USIZE, &of_iterators::<T, N>(alloc)))
+        .or(account.first_wrong(N::USIZE, &of_kind::<T, BoxedArray<T, N>>(alloc)))
+        .or(account.first_wrong(N::USIZE, &of_items))
 }

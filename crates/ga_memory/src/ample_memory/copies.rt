@@ -1,46 +1,63 @@
 //! Clones of arrays and of what is left of their iterators.
 ghost use Rattle.generic_array.specs.Length.{FitsInline};
 
-use super::{counts, is_all, is_from_one};
-use ga_test_items::items::from_one;
-use ga_test_items::played::first_of;
-use generic_array::{ArrayBuilder, ArrayLength, BoxedArray, GenericArray};
+use super::{counts, exact_if, is_all};
+use crate::account::{Account, Call, Came};
+use ga_test_items::outcome::Outcome;
+use ga_test_items::samples::{Sample, are_samples, inline_samples};
+use generic_array::{ArrayBuilder, ArrayLength, GenericArray, Unsigned};
+use std::alloc::Global;
 
-/// Whether clones are appended to a builder.
-fn are_appended<N: ArrayLength<u32>>() -> bool
+/// What came of clones that are appended to a builder.
+fn are_appended<T: Sample, N: ArrayLength<T>>() -> Came
     requires { FitsInline N.USIZE }
 {
-    let items = from_one::<N>();
-    let mut builder: ArrayBuilder<u32, N> = ArrayBuilder::new();
+    let items = inline_samples::<T, N>();
+    let mut builder: ArrayBuilder<T, N> = ArrayBuilder::new();
     let appended = builder.extend_from_clones(items.as_slice());
-    appended.is_ok() && is_from_one(builder.as_slice(), N::USIZE)
+    exact_if(appended.is_ok() && are_samples(builder.as_slice(), N::USIZE))
 }
 
-/// The calls that clone items, of an inline array and of a boxed one.
-pub fn of_arrays<N: ArrayLength<u32>>(boxed: BoxedArray<u32, N>) -> Option<&'static str>
+/// The calls that clone items of an inline array, without an allocator.
+fn of_inline<T: Sample, N: ArrayLength<T>>() -> [Call; 4]
     requires { FitsInline N.USIZE }
 {
     let len = N::USIZE;
-    first_of(&[
-        ("GenericArray::clone", counts(from_one::<N>().clone(), len)),
+    let clone = inline_samples::<T, N>().clone();
+    let repeat = GenericArray::<T, N>::repeat(T::of(7));
+    let left = match inline_samples::<T, N>().into_iter().clone() {
+        Ok(left) => exact_if(are_samples(left.as_slice(), len)),
+        Err(_refused) => Some(Outcome::Wrong),
+    };
+    [
+        ("GenericArray::clone", 0, counts(clone, len)),
+        ("GenericArray::repeat", 0, is_all(repeat, 7, len)),
+        ("GenericArrayIter::clone", 0, left),
         (
-            "GenericArray::repeat",
-            is_all(GenericArray::<u32, N>::repeat(7), 7, len),
+            "ArrayBuilder::extend_from_clones",
+            0,
+            are_appended::<T, N>(),
         ),
-        (
-            "GenericArrayIter::clone",
-            match from_one::<N>().into_iter().clone() {
-                Ok(left) => is_from_one(left.as_slice(), len),
-                Err(_) => false,
-            },
-        ),
-        (
-            "BoxedArrayIter::clone",
-            match boxed.into_iter().clone() {
-                Ok(left) => is_from_one(left.as_slice(), len),
-                Err(_) => false,
-            },
-        ),
-        ("ArrayBuilder::extend_from_clones", are_appended::<N>()),
-    ])
+    ]
+}
+
+/// What came of a clone of an iterator over a block.
+fn of_block<T: Sample, N: Unsigned>(alloc: Global, account: &Account) -> Came {
+    match account.boxed::<T, N>(alloc)?.into_iter().clone() {
+        Ok(left) => exact_if(are_samples(left.as_slice(), N::USIZE)),
+        Err(_refused) => Some(Outcome::Refused),
+    }
+}
+
+/// The name of the first call that was played wrongly.
+pub fn first_wrong<T: Sample, N: ArrayLength<T>>(
+    alloc: Global,
+    account: &Account,
+) -> Option<&'static str>
+    requires { FitsInline N.USIZE }
+{
+    let of_boxed = [("BoxedArrayIter::clone", 1, of_block::<T, N>(alloc, account))];
+    account
+        .first_wrong(N::USIZE, &of_inline::<T, N>())
+        .or(account.first_wrong(N::USIZE, &of_boxed))
 }

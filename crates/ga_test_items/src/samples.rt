@@ -1,0 +1,65 @@
+//! Items of one byte and of 72, which are made of a number and know it.
+ghost use Rattle.ga_core.specs.Length.{FitsInline};
+
+use crate::items::number;
+use crate::scripted::Numbered;
+use ga_core::{ArrayLength, GenericArray};
+
+/// An item that is made of a digit, which is its number.
+pub trait Sample: Numbered + Copy + Default + Drop {
+    fn of(number: u32) -> Self;
+}
+
+impl Numbered for u8 {
+    fn number(&self) -> u32 {
+        u32::from(*self)
+    }
+}
+
+impl Sample for u8 {
+    fn of(number: u32) -> Self {
+        (number % 10) as u8
+    }
+}
+
+impl Numbered for [u64; 9] {
+    /// The number that all words have, or 0.
+    fn number(&self) -> u32 {
+        let first = self[0];
+        if self.iter().all(|word| *word == first) {
+            (first % 10) as u32
+        } else {
+            0
+        }
+    }
+}
+
+impl Sample for [u64; 9] {
+    fn of(number: u32) -> Self {
+        [u64::from(number); 9]
+    }
+}
+
+/// The item of this index, numbered from 1.
+pub fn nth_sample<T: Sample>(index: usize) -> T {
+    T::of(number(index))
+}
+
+/// The array of N items, numbered from 1.
+pub fn inline_samples<T: Sample, N: ArrayLength<T>>() -> GenericArray<T, N>
+    requires { FitsInline N.USIZE }
+{
+    GenericArray::generate(|index: usize| -> T { nth_sample(index) })
+}
+
+/// Whether these are the items of `inline_samples`, so many of them.
+pub fn are_samples<T: Sample>(items: &[T], len: usize) -> bool {
+    let mut next = 0u32;
+    for item in items {
+        next = next % 9 + 1;
+        if item.number() != next {
+            return false;
+        }
+    }
+    items.len() == len
+}
