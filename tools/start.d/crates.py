@@ -17,10 +17,10 @@ ON = {
 }
 # The crate of tests that comes with a library where it is asked for.
 TESTS = {"ga_hashes": "ga_hashes_tests"}
-# Minutes of one core that a proof of each crate takes.
-MINUTES = {
-    "ga_views": 1, "ga_core": 4, "ga_boxed": 2, "generic_array": 3, "ga_hashes": 2, "ga_ciphers": 2,
-    "ga_hashes_tests": 1,
+# Seconds of one core that a proof of each crate takes.
+SECONDS = {
+    "ga_views": 80, "ga_core": 200, "ga_boxed": 80, "generic_array": 180, "ga_hashes": 60,
+    "ga_ciphers": 80, "ga_hashes_tests": 10,
 }
 LIST, RECORD, LICENSE = "crates.txt", "laid.json", "LICENSE"
 UNKNOWN = "unknown"

@@ -11,12 +11,13 @@ import importlib.machinery
 import importlib.util
 import io
 import json
+import math
 import os
 import pathlib
 import shutil
 import tempfile
 
-from crates import MINUTES, TOP
+from crates import SECONDS, TOP
 
 
 def command(path):
@@ -111,8 +112,8 @@ def take_along(folder, names):
         # Whatever it is, nothing is taken, and the next check proves what lacks.
         pass
     if lacking:
-        minutes = sum(MINUTES.get(it, 1) for it in lacking)
-        return (f"the next check proves {', '.join(lacking)} too: some {minutes} minutes of one"
-                " core, or less where a check on this machine has proved them")
+        minutes = math.ceil(sum(SECONDS.get(it, 60) for it in lacking) / 60)
+        return (f"the next check proves {', '.join(lacking)} too: about {minutes} min of one core,"
+                " or seconds where a check on this machine has proved them")
     what = f"took along {', '.join(taken)}, which `rt ci` has proved" if taken else "all is built"
     return f"{what}: the next check takes seconds"
