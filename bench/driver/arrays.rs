@@ -2,89 +2,44 @@
 // into a module for each type and length, which names Item, Array and LENGTH, over the builds of
 // that side.
 
-pub fn generate_of(seed: u64, reps: u64) -> u64 {
-    let mut sum = seed;
-    for _rep in 0..reps {
-        let array: Array = build(sum);
-        sum = touch(sum, &array);
-    }
-    sum
-}
+case!(generate_of(sum), { touch(sum, &build(sum)) });
 
-pub fn try_from_iter_of(seed: u64, reps: u64) -> u64 {
-    let mut sum = seed;
-    for _rep in 0..reps {
-        let built: Result<Array, LengthError> = fill(sum);
-        match built {
-            Ok(array) => sum = touch(sum, &array),
-            Err(_) => sum = 1,
-        }
-    }
-    sum
-}
+case!(try_from_iter_of(sum), {
+    fill(sum).map_or(1, |array| touch(sum, &array))
+});
 
-pub fn try_from_fallible_iter_of(seed: u64, reps: u64) -> u64 {
-    let mut sum = seed;
-    for _rep in 0..reps {
-        let bad = ((sum >> 1) | 0x10_0000) as usize;
-        let built: Result<Result<Array, usize>, LengthError> = fill_fallibly(sum, bad);
-        match built {
-            Ok(Ok(array)) => sum = touch(sum, &array),
-            Ok(Err(_)) => sum = 1,
-            Err(_) => sum = 2,
-        }
+case!(try_from_fallible_iter_of(sum), {
+    match fill_fallibly(sum, ((sum >> 1) | 0x10_0000) as usize) {
+        Ok(Ok(array)) => touch(sum, &array),
+        Ok(Err(_)) => 1,
+        Err(_) => 2,
     }
-    sum
-}
+});
 
-pub fn try_generate_of(seed: u64, reps: u64) -> u64 {
-    let mut sum = seed;
-    for _rep in 0..reps {
-        let bad = ((sum >> 1) | 0x10_0000) as usize;
-        let built: Result<Array, usize> = try_build(sum, bad);
-        match built {
-            Ok(array) => sum = touch(sum, &array),
-            Err(_) => sum = 1,
-        }
-    }
-    sum
-}
+case!(try_generate_of(sum), {
+    try_build(sum, ((sum >> 1) | 0x10_0000) as usize).map_or(1, |array| touch(sum, &array))
+});
 
-pub fn default_of(seed: u64, reps: u64) -> u64 {
-    let mut sum = seed;
-    for _rep in 0..reps {
-        let mut array: Array = blank();
-        poke(sum, &mut array);
-        sum = touch(sum, &array);
-    }
-    sum
-}
+case!(default_of(sum), {
+    let mut array: Array = blank();
+    poke(sum, &mut array);
+    touch(sum, &array)
+});
 
-pub fn repeat_of(seed: u64, reps: u64) -> u64 {
-    let mut sum = seed;
-    for _rep in 0..reps {
-        let mut array: Array = repeated(Item::make(sum, 3));
-        poke(sum, &mut array);
-        sum = touch(sum, &array);
-    }
-    sum
-}
+case!(repeat_of(sum), {
+    let mut array: Array = repeated(Item::make(sum, 3));
+    poke(sum, &mut array);
+    touch(sum, &array)
+});
 
 #[inline(never)]
 fn copied(array: &Array) -> Array {
     array.clone()
 }
 
-pub fn clone_of(seed: u64, reps: u64) -> u64 {
-    let mut sum = seed;
-    let mut array: Array = build(sum);
-    for _rep in 0..reps {
-        poke(sum, &mut array);
-        let copy: Array = copied(&array);
-        sum = touch(sum, &copy);
-    }
-    sum
-}
+case!(clone_of(sum), poked(array = build(sum)), {
+    touch(sum, &copied(&array))
+});
 
 #[inline(never)]
 fn sum_by_ref(array: &Array) -> u64 {
@@ -95,15 +50,9 @@ fn sum_by_ref(array: &Array) -> u64 {
     sum
 }
 
-pub fn iter_sum_of(seed: u64, reps: u64) -> u64 {
-    let mut sum = seed;
-    let mut array: Array = build(sum);
-    for _rep in 0..reps {
-        poke(sum, &mut array);
-        sum = mixed(sum, sum_by_ref(&array));
-    }
-    sum
-}
+case!(iter_sum_of(sum), poked(array = build(sum)), {
+    mixed(sum, sum_by_ref(&array))
+});
 
 #[inline(never)]
 fn front(array: Array) -> u64 {
@@ -182,77 +131,21 @@ fn folded_back(array: Array) -> u64 {
     })
 }
 
-pub fn walk_front_of(seed: u64, reps: u64) -> u64 {
-    let mut sum = seed;
-    for _rep in 0..reps {
-        let array: Array = build(sum);
-        sum = mixed(sum, front(array));
-    }
-    sum
-}
+case!(walk_front_of(sum), { mixed(sum, front(build(sum))) });
 
-pub fn walk_sum_of(seed: u64, reps: u64) -> u64 {
-    let mut sum = seed;
-    for _rep in 0..reps {
-        let array: Array = build(sum);
-        sum = mixed(sum, front_sum(array));
-    }
-    sum
-}
+case!(walk_sum_of(sum), { mixed(sum, front_sum(build(sum))) });
 
-pub fn loop_sum_of(seed: u64, reps: u64) -> u64 {
-    let mut sum = seed;
-    for _rep in 0..reps {
-        let array: Array = build(sum);
-        sum = mixed(sum, looped_sum(array));
-    }
-    sum
-}
+case!(loop_sum_of(sum), { mixed(sum, looped_sum(build(sum))) });
 
-pub fn walk_back_of(seed: u64, reps: u64) -> u64 {
-    let mut sum = seed;
-    for _rep in 0..reps {
-        let array: Array = build(sum);
-        sum = mixed(sum, back(array));
-    }
-    sum
-}
+case!(walk_back_of(sum), { mixed(sum, back(build(sum))) });
 
-pub fn walk_both_of(seed: u64, reps: u64) -> u64 {
-    let mut sum = seed;
-    for _rep in 0..reps {
-        let array: Array = build(sum);
-        sum = mixed(sum, both(array));
-    }
-    sum
-}
+case!(walk_both_of(sum), { mixed(sum, both(build(sum))) });
 
-pub fn nth3_of(seed: u64, reps: u64) -> u64 {
-    let mut sum = seed;
-    for _rep in 0..reps {
-        let array: Array = build(sum);
-        sum = mixed(sum, each_fourth(array));
-    }
-    sum
-}
+case!(nth3_of(sum), { mixed(sum, each_fourth(build(sum))) });
 
-pub fn fold_of(seed: u64, reps: u64) -> u64 {
-    let mut sum = seed;
-    for _rep in 0..reps {
-        let array: Array = build(sum);
-        sum = mixed(sum, folded(array));
-    }
-    sum
-}
+case!(fold_of(sum), { mixed(sum, folded(build(sum))) });
 
-pub fn rfold_of(seed: u64, reps: u64) -> u64 {
-    let mut sum = seed;
-    for _rep in 0..reps {
-        let array: Array = build(sum);
-        sum = mixed(sum, folded_back(array));
-    }
-    sum
-}
+case!(rfold_of(sum), { mixed(sum, folded_back(build(sum))) });
 
 #[inline(never)]
 fn got(array: &Array) -> u64 {
@@ -265,15 +158,9 @@ fn got(array: &Array) -> u64 {
     sum
 }
 
-pub fn view_get_of(seed: u64, reps: u64) -> u64 {
-    let mut sum = seed;
-    let mut array: Array = build(sum);
-    for _rep in 0..reps {
-        poke(sum, &mut array);
-        sum = mixed(sum, got(&array));
-    }
-    sum
-}
+case!(view_get_of(sum), poked(array = build(sum)), {
+    mixed(sum, got(&array))
+});
 
 #[inline(never)]
 fn set_by_get(array: &mut Array, seed: u64) {
@@ -284,15 +171,10 @@ fn set_by_get(array: &mut Array, seed: u64) {
     }
 }
 
-pub fn view_get_mut_of(seed: u64, reps: u64) -> u64 {
-    let mut sum = seed;
-    let mut array: Array = build(sum);
-    for _rep in 0..reps {
-        set_by_get(&mut array, sum);
-        sum = touch(sum, &array);
-    }
-    sum
-}
+case!(view_get_mut_of(sum), made(array = build(sum)), {
+    set_by_get(&mut array, sum);
+    touch(sum, &array)
+});
 
 #[inline(never)]
 fn set_by_iter(array: &mut Array, seed: u64) {
@@ -301,15 +183,10 @@ fn set_by_iter(array: &mut Array, seed: u64) {
     }
 }
 
-pub fn iter_mut_of(seed: u64, reps: u64) -> u64 {
-    let mut sum = seed;
-    let mut array: Array = build(sum);
-    for _rep in 0..reps {
-        set_by_iter(&mut array, sum);
-        sum = touch(sum, &array);
-    }
-    sum
-}
+case!(iter_mut_of(sum), made(array = build(sum)), {
+    set_by_iter(&mut array, sum);
+    touch(sum, &array)
+});
 
 #[inline(never)]
 fn set_by_loop(array: &mut Array, seed: u64) {
@@ -318,66 +195,37 @@ fn set_by_loop(array: &mut Array, seed: u64) {
     }
 }
 
-pub fn loop_write_of(seed: u64, reps: u64) -> u64 {
-    let mut sum = seed;
-    let mut array: Array = build(sum);
-    for _rep in 0..reps {
-        set_by_loop(&mut array, sum);
-        sum = touch(sum, &array);
-    }
-    sum
-}
+case!(loop_write_of(sum), made(array = build(sum)), {
+    set_by_loop(&mut array, sum);
+    touch(sum, &array)
+});
 
-pub fn builder_of(seed: u64, reps: u64) -> u64 {
-    let mut sum = seed;
-    for _rep in 0..reps {
-        let built: Option<Array> = built_in_two(sum);
-        match built {
-            Some(array) => sum = touch(sum, &array),
-            None => sum = 1,
-        }
-    }
-    sum
-}
+case!(builder_of(sum), {
+    built_in_two(sum).map_or(1, |array| touch(sum, &array))
+});
 
 #[inline(never)]
 fn are_equal(left: &Array, right: &Array) -> bool {
     left == right
 }
 
-pub fn eq_of(seed: u64, reps: u64) -> u64 {
-    let mut sum = seed;
-    let mut left: Array = build(seed);
-    let mut right: Array = build(seed);
-    for _rep in 0..reps {
-        poke(sum, &mut left);
-        poke(sum, &mut right);
-        sum = mixed(sum, if are_equal(&left, &right) { 7 } else { 1 });
-    }
-    sum
-}
+case!(eq_of(sum), poked(left = build(sum), right = build(sum)), {
+    mixed(sum, if are_equal(&left, &right) { 7 } else { 1 })
+});
 
 #[inline(never)]
 fn order(left: &Array, right: &Array) -> Ordering {
     left.cmp(right)
 }
 
-pub fn cmp_of(seed: u64, reps: u64) -> u64 {
-    let mut sum = seed;
-    let mut left: Array = build(seed);
-    let mut right: Array = build(seed);
-    for _rep in 0..reps {
-        poke(sum, &mut left);
-        poke(sum, &mut right);
-        let word = match order(&left, &right) {
-            Ordering::Less => 1,
-            Ordering::Equal => 2,
-            Ordering::Greater => 3,
-        };
-        sum = mixed(sum, word);
-    }
-    sum
-}
+case!(cmp_of(sum), poked(left = build(sum), right = build(sum)), {
+    let word = match order(&left, &right) {
+        Ordering::Less => 1,
+        Ordering::Equal => 2,
+        Ordering::Greater => 3,
+    };
+    mixed(sum, word)
+});
 
 #[inline(never)]
 fn indexed(array: &Array) -> u64 {
@@ -388,15 +236,9 @@ fn indexed(array: &Array) -> u64 {
     sum
 }
 
-pub fn index_of(seed: u64, reps: u64) -> u64 {
-    let mut sum = seed;
-    let mut array: Array = build(sum);
-    for _rep in 0..reps {
-        poke(sum, &mut array);
-        sum = mixed(sum, indexed(&array));
-    }
-    sum
-}
+case!(index_of(sum), poked(array = build(sum)), {
+    mixed(sum, indexed(&array))
+});
 
 #[inline(never)]
 fn set_by_index(array: &mut Array, seed: u64) {
@@ -405,26 +247,16 @@ fn set_by_index(array: &mut Array, seed: u64) {
     }
 }
 
-pub fn index_mut_of(seed: u64, reps: u64) -> u64 {
-    let mut sum = seed;
-    let mut array: Array = build(sum);
-    for _rep in 0..reps {
-        set_by_index(&mut array, sum);
-        sum = touch(sum, &array);
-    }
-    sum
-}
+case!(index_mut_of(sum), made(array = build(sum)), {
+    set_by_index(&mut array, sum);
+    touch(sum, &array)
+});
 
-/// An array of arrays.
-pub fn nested_of(seed: u64, reps: u64) -> u64 {
-    let mut sum = seed;
-    for _rep in 0..reps {
-        let rows = table(sum);
-        let at = (sum >> 2) as usize & 3;
-        match rows.as_slice().get(at) {
-            Some(row) => sum = touch(sum, row),
-            None => sum = 1,
-        }
+// An array of arrays.
+case!(nested_of(sum), {
+    let rows = table(sum);
+    match rows.as_slice().get((sum >> 2) as usize & 3) {
+        Some(row) => touch(sum, row),
+        None => 1,
     }
-    sum
-}
+});

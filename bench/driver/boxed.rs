@@ -10,15 +10,9 @@ fn mapped(array: Boxed) -> Boxed {
     array.map(|item: Item| Item::make(item.word().rotate_left(3), 1))
 }
 
-pub fn map_boxed_of(seed: u64, reps: u64) -> u64 {
-    let mut sum = seed;
-    for _rep in 0..reps {
-        let array = boxed(sum);
-        let made = mapped(array);
-        sum = touch_items(sum, made.as_slice(), LENGTH);
-    }
-    sum
-}
+case!(map_boxed_of(sum), {
+    touch_items(sum, mapped(boxed(sum)).as_slice(), LENGTH)
+});
 
 #[inline(never)]
 fn zipped(left: Boxed, right: Boxed) -> Boxed {
@@ -27,16 +21,9 @@ fn zipped(left: Boxed, right: Boxed) -> Boxed {
     })
 }
 
-pub fn zip_boxed_of(seed: u64, reps: u64) -> u64 {
-    let mut sum = seed;
-    for _rep in 0..reps {
-        let left = boxed(sum);
-        let right = boxed(sum >> 3);
-        let made = zipped(left, right);
-        sum = touch_items(sum, made.as_slice(), LENGTH);
-    }
-    sum
-}
+case!(zip_boxed_of(sum), {
+    touch_items(sum, zipped(boxed(sum), boxed(sum >> 3)).as_slice(), LENGTH)
+});
 
 #[inline(never)]
 fn summed(array: Boxed) -> u64 {
@@ -45,14 +32,7 @@ fn summed(array: Boxed) -> u64 {
     })
 }
 
-pub fn fold_boxed_of(seed: u64, reps: u64) -> u64 {
-    let mut sum = seed;
-    for _rep in 0..reps {
-        let array = boxed(sum);
-        sum = mixed(sum, summed(array));
-    }
-    sum
-}
+case!(fold_boxed_of(sum), { mixed(sum, summed(boxed(sum))) });
 
 // A borrowed box is mapped and zipped to a box by a build of its indexes: `map` of a reference makes an array.
 
@@ -61,16 +41,9 @@ fn mapped_ref(array: &Boxed) -> Boxed {
     Boxed::generate(|index| Item::make(array[index].word().rotate_left(3), 1))
 }
 
-pub fn map_ref_boxed_of(seed: u64, reps: u64) -> u64 {
-    let mut sum = seed;
-    let mut array = boxed(sum);
-    for _rep in 0..reps {
-        poke(sum, array.as_mut_slice());
-        let made = mapped_ref(&array);
-        sum = touch_items(sum, made.as_slice(), LENGTH);
-    }
-    sum
-}
+case!(map_ref_boxed_of(sum), poked(array = boxed(sum)), {
+    touch_items(sum, mapped_ref(&array).as_slice(), LENGTH)
+});
 
 #[inline(never)]
 fn tried_ref(array: &Boxed, bad: u64) -> Result<Result<Boxed, u64>, generic_array::AllocError> {
@@ -84,36 +57,25 @@ fn tried_ref(array: &Boxed, bad: u64) -> Result<Result<Boxed, u64>, generic_arra
     })
 }
 
-pub fn try_map_ref_boxed_of(seed: u64, reps: u64) -> u64 {
-    let mut sum = seed;
-    let mut array = boxed(sum);
-    for _rep in 0..reps {
-        poke(sum, array.as_mut_slice());
-        match tried_ref(&array, sum ^ 0x0F00_0000_0000_0000) {
-            Ok(Ok(made)) => sum = touch_items(sum, made.as_slice(), LENGTH),
-            Ok(Err(_)) => sum = 1,
-            Err(_) => sum = 2,
-        }
+case!(try_map_ref_boxed_of(sum), poked(array = boxed(sum)), {
+    match tried_ref(&array, sum ^ 0x0F00_0000_0000_0000) {
+        Ok(Ok(made)) => touch_items(sum, made.as_slice(), LENGTH),
+        Ok(Err(_)) => 1,
+        Err(_) => 2,
     }
-    sum
-}
+});
 
 #[inline(never)]
 fn zipped_ref(left: &Boxed, right: &Boxed) -> Boxed {
     Boxed::generate(|index| Item::make(left[index].word() ^ right[index].word(), 2))
 }
 
-pub fn zip_ref_boxed_of(seed: u64, reps: u64) -> u64 {
-    let mut sum = seed;
-    let mut left = boxed(sum);
-    let right = boxed(sum >> 3);
-    for _rep in 0..reps {
-        poke(sum, left.as_mut_slice());
-        let made = zipped_ref(&left, &right);
-        sum = touch_items(sum, made.as_slice(), LENGTH);
-    }
-    sum
-}
+case!(
+    zip_ref_boxed_of(sum),
+    poked(left = boxed(sum)),
+    made(right = boxed(sum >> 3)),
+    { touch_items(sum, zipped_ref(&left, &right).as_slice(), LENGTH) }
+);
 
 #[inline(never)]
 fn summed_ref(array: &Boxed) -> u64 {
@@ -122,40 +84,22 @@ fn summed_ref(array: &Boxed) -> u64 {
     })
 }
 
-pub fn fold_ref_boxed_of(seed: u64, reps: u64) -> u64 {
-    let mut sum = seed;
-    let mut array = boxed(sum);
-    for _rep in 0..reps {
-        poke(sum, array.as_mut_slice());
-        sum = mixed(sum, summed_ref(&array));
-    }
-    sum
-}
+case!(fold_ref_boxed_of(sum), poked(array = boxed(sum)), {
+    mixed(sum, summed_ref(&array))
+});
 
-pub fn boxed_generate_of(seed: u64, reps: u64) -> u64 {
-    let mut sum = seed;
-    for _rep in 0..reps {
-        let array = boxed(sum);
-        sum = touch_items(sum, array.as_slice(), LENGTH);
-    }
-    sum
-}
+case!(boxed_generate_of(sum), {
+    touch_items(sum, boxed(sum).as_slice(), LENGTH)
+});
 
 #[inline(never)]
 fn filled(seed: u64) -> Result<Boxed, LengthError> {
     GenericArray::try_boxed_from_iter((0..LENGTH).map(|index| Item::make(seed, index)))
 }
 
-pub fn boxed_from_iter_of(seed: u64, reps: u64) -> u64 {
-    let mut sum = seed;
-    for _rep in 0..reps {
-        match filled(sum) {
-            Ok(array) => sum = touch_items(sum, array.as_slice(), LENGTH),
-            Err(_) => sum = 1,
-        }
-    }
-    sum
-}
+case!(boxed_from_iter_of(sum), {
+    filled(sum).map_or(1, |array| touch_items(sum, array.as_slice(), LENGTH))
+});
 
 #[inline(never)]
 fn front(array: Boxed) -> u64 {
@@ -166,14 +110,7 @@ fn front(array: Boxed) -> u64 {
     sum
 }
 
-pub fn boxed_front_of(seed: u64, reps: u64) -> u64 {
-    let mut sum = seed;
-    for _rep in 0..reps {
-        let array = boxed(sum);
-        sum = mixed(sum, front(array));
-    }
-    sum
-}
+case!(boxed_front_of(sum), { mixed(sum, front(boxed(sum))) });
 
 #[inline(never)]
 fn back(array: Boxed) -> u64 {
@@ -184,14 +121,7 @@ fn back(array: Boxed) -> u64 {
     sum
 }
 
-pub fn boxed_back_of(seed: u64, reps: u64) -> u64 {
-    let mut sum = seed;
-    for _rep in 0..reps {
-        let array = boxed(sum);
-        sum = mixed(sum, back(array));
-    }
-    sum
-}
+case!(boxed_back_of(sum), { mixed(sum, back(boxed(sum))) });
 
 #[inline(never)]
 fn both(array: Boxed) -> u64 {
@@ -208,14 +138,7 @@ fn both(array: Boxed) -> u64 {
     sum
 }
 
-pub fn boxed_both_of(seed: u64, reps: u64) -> u64 {
-    let mut sum = seed;
-    for _rep in 0..reps {
-        let array = boxed(sum);
-        sum = mixed(sum, both(array));
-    }
-    sum
-}
+case!(boxed_both_of(sum), { mixed(sum, both(boxed(sum))) });
 
 #[inline(never)]
 fn each_fourth(array: Boxed) -> u64 {
@@ -229,59 +152,31 @@ fn each_fourth(array: Boxed) -> u64 {
     sum
 }
 
-pub fn boxed_nth3_of(seed: u64, reps: u64) -> u64 {
-    let mut sum = seed;
-    for _rep in 0..reps {
-        let array = boxed(sum);
-        sum = mixed(sum, each_fourth(array));
-    }
-    sum
-}
+case!(boxed_nth3_of(sum), { mixed(sum, each_fourth(boxed(sum))) });
 
 #[inline(never)]
 fn copied(items: &std::vec::IntoIter<Item>) -> std::vec::IntoIter<Item> {
     items.clone()
 }
 
-pub fn boxed_clone_of(seed: u64, reps: u64) -> u64 {
-    let mut sum = seed;
-    for _rep in 0..reps {
-        let array = boxed(sum);
-        let items = array.into_iter();
-        let copy = copied(&items);
-        sum = touch_items(sum, copy.as_slice(), LENGTH);
-    }
-    sum
-}
+case!(boxed_clone_of(sum), {
+    touch_items(sum, copied(&boxed(sum).into_iter()).as_slice(), LENGTH)
+});
 
 #[inline(never)]
 fn listed(array: Boxed) -> Vec<Item> {
     array.into_vec()
 }
 
-pub fn boxed_into_vec_of(seed: u64, reps: u64) -> u64 {
-    let mut sum = seed;
-    for _rep in 0..reps {
-        let array = boxed(sum);
-        let items = listed(array);
-        sum = touch_items(sum, &items, LENGTH);
-    }
-    sum
-}
+case!(boxed_into_vec_of(sum), {
+    touch_items(sum, &listed(boxed(sum)), LENGTH)
+});
 
 #[inline(never)]
 fn back_again(array: Boxed) -> Result<Boxed, LengthError> {
     GenericArray::try_from_boxed_slice(array.into_boxed_slice())
 }
 
-pub fn boxed_slice_of(seed: u64, reps: u64) -> u64 {
-    let mut sum = seed;
-    for _rep in 0..reps {
-        let array = boxed(sum);
-        match back_again(array) {
-            Ok(array) => sum = touch_items(sum, array.as_slice(), LENGTH),
-            Err(_) => sum = 2,
-        }
-    }
-    sum
-}
+case!(boxed_slice_of(sum), {
+    back_again(boxed(sum)).map_or(2, |array| touch_items(sum, array.as_slice(), LENGTH))
+});

@@ -1,6 +1,6 @@
 //! ChaCha20 (RFC 8439) and XTEA in plain Rust: a careful user's block functions and loops, without a
 //! crate.
-use super::items::{mixed, touch_items, Word};
+use super::items::{case, touch_done, touch_items, Word};
 
 const BLOCK: usize = 64;
 /// There are 2^32 blocks.
@@ -98,30 +98,32 @@ fn applied_in_pieces(cipher: &mut ChaCha20, text: &mut [u8]) -> bool {
     is_done
 }
 
-fn run<const LENGTH: usize>(
-    seed: u64,
-    reps: u64,
-    apply: impl Fn(&mut ChaCha20, &mut [u8]) -> bool,
-) -> u64 {
-    let mut sum = seed;
-    let key = std::array::from_fn(|index| u8::make(seed, index));
-    let nonce = std::array::from_fn(|index| u8::make(seed >> 9, index));
-    let mut cipher = ChaCha20::new(&key, &nonce);
-    let mut text: Vec<u8> = (0..LENGTH).map(|index| u8::make(seed, index)).collect();
-    for _rep in 0..reps {
-        let is_done = apply(&mut cipher, &mut text);
-        sum = mixed(touch_items(sum, &text, LENGTH), if is_done { 1 } else { 2 });
-    }
-    sum
+fn bytes<const COUNT: usize>(seed: u64) -> [u8; COUNT] {
+    std::array::from_fn(|index| u8::make(seed, index))
 }
 
-pub fn cipher_of<const LENGTH: usize>(seed: u64, reps: u64) -> u64 {
-    run::<LENGTH>(seed, reps, applied)
+fn text<const LENGTH: usize>(seed: u64) -> Vec<u8> {
+    (0..LENGTH).map(|index| u8::make(seed, index)).collect()
 }
 
-pub fn cipher_pieces_of<const LENGTH: usize>(seed: u64, reps: u64) -> u64 {
-    run::<LENGTH>(seed, reps, applied_in_pieces)
+macro_rules! applies {
+    ($name:ident, $apply:ident) => {
+        case!(
+            $name::<LENGTH>(sum),
+            made(
+                cipher = ChaCha20::new(&bytes(sum), &bytes(sum >> 9)),
+                text = text::<LENGTH>(sum)
+            ),
+            {
+                let is_done = $apply(&mut cipher, &mut text);
+                touch_done(sum, &text, LENGTH, is_done)
+            }
+        );
+    };
 }
+
+applies!(cipher_of, applied);
+applies!(cipher_pieces_of, applied_in_pieces);
 
 /// XTEA: 32 cycles, each of two rounds, under a key of four words.
 struct Xtea {
@@ -159,19 +161,23 @@ fn encrypted(cipher: &Xtea, blocks: &mut [[u8; 8]]) {
     }
 }
 
-pub fn cipher_blocks_of<const LENGTH: usize>(seed: u64, reps: u64) -> u64 {
-    let mut sum = seed;
-    let cipher = Xtea::new(&std::array::from_fn(|index| u8::make(seed, index)));
-    let block_at = |number: usize| {
-        let seed = seed.wrapping_add(number as u64);
-        std::array::from_fn(|index| u8::make(seed, index))
-    };
-    let mut blocks: Vec<[u8; 8]> = (0..LENGTH / 8).map(block_at).collect();
-    for _rep in 0..reps {
+fn blocks<const LENGTH: usize>(seed: u64) -> Vec<[u8; 8]> {
+    (0..LENGTH as u64 / 8)
+        .map(|number| bytes(seed.wrapping_add(number)))
+        .collect()
+}
+
+case!(
+    cipher_blocks_of::<LENGTH>(sum),
+    made(
+        cipher = Xtea::new(&bytes(sum)),
+        blocks = blocks::<LENGTH>(sum)
+    ),
+    {
         encrypted(&cipher, &mut blocks);
-        if let Some(block) = blocks.last() {
-            sum = touch_items(sum, block, 8);
+        match blocks.last() {
+            Some(block) => touch_items(sum, block, 8),
+            None => sum,
         }
     }
-    sum
-}
+);

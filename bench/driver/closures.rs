@@ -5,31 +5,16 @@ fn mapped(array: Array) -> Array {
     array.map(|item: Item| Item::make(item.word().rotate_left(3), 1))
 }
 
-pub fn map_of(seed: u64, reps: u64) -> u64 {
-    let mut sum = seed;
-    for _rep in 0..reps {
-        let array = build(sum);
-        let made = mapped(array);
-        sum = touch(sum, &made);
-    }
-    sum
-}
+case!(map_of(sum), { touch(sum, &mapped(build(sum))) });
 
 #[inline(never)]
 fn mapped_view(array: &Array) -> Array {
     array.map(|item: &Item| Item::make(item.word().rotate_left(3), 1))
 }
 
-pub fn map_view_of(seed: u64, reps: u64) -> u64 {
-    let mut sum = seed;
-    let mut array = build(sum);
-    for _rep in 0..reps {
-        poke(sum, &mut array);
-        let made = mapped_view(&array);
-        sum = touch(sum, &made);
-    }
-    sum
-}
+case!(map_view_of(sum), poked(array = build(sum)), {
+    touch(sum, &mapped_view(&array))
+});
 
 #[inline(never)]
 fn tried(array: Array, bad: u64) -> Result<Array, u64> {
@@ -43,17 +28,10 @@ fn tried(array: Array, bad: u64) -> Result<Array, u64> {
     })
 }
 
-pub fn try_map_of(seed: u64, reps: u64) -> u64 {
-    let mut sum = seed;
-    for _rep in 0..reps {
-        let array = build(sum);
-        match tried(array, sum ^ 0x0F00_0000_0000_0000) {
-            Ok(made) => sum = touch(sum, &made),
-            Err(_) => sum = 1,
-        }
-    }
-    sum
-}
+case!(try_map_of(sum), {
+    let array = build(sum);
+    tried(array, sum ^ 0x0F00_0000_0000_0000).map_or(1, |made| touch(sum, &made))
+});
 
 #[inline(never)]
 fn zipped(left: Array, right: Array) -> Array {
@@ -62,16 +40,9 @@ fn zipped(left: Array, right: Array) -> Array {
     })
 }
 
-pub fn zip_of(seed: u64, reps: u64) -> u64 {
-    let mut sum = seed;
-    for _rep in 0..reps {
-        let left = build(sum);
-        let right = build(sum >> 3);
-        let made = zipped(left, right);
-        sum = touch(sum, &made);
-    }
-    sum
-}
+case!(zip_of(sum), {
+    touch(sum, &zipped(build(sum), build(sum >> 3)))
+});
 
 #[inline(never)]
 fn zipped_views(left: &Array, right: &Array) -> Array {
@@ -80,17 +51,12 @@ fn zipped_views(left: &Array, right: &Array) -> Array {
     })
 }
 
-pub fn zip_view_of(seed: u64, reps: u64) -> u64 {
-    let mut sum = seed;
-    let mut left = build(sum);
-    let right = build(sum >> 3);
-    for _rep in 0..reps {
-        poke(sum, &mut left);
-        let made = zipped_views(&left, &right);
-        sum = touch(sum, &made);
-    }
-    sum
-}
+case!(
+    zip_view_of(sum),
+    poked(left = build(sum)),
+    made(right = build(sum >> 3)),
+    { touch(sum, &zipped_views(&left, &right)) }
+);
 
 #[inline(never)]
 fn zipped_inverted(s: &Array, lhs: Array) -> Array {
@@ -99,17 +65,9 @@ fn zipped_inverted(s: &Array, lhs: Array) -> Array {
     })
 }
 
-pub fn inverted_zip_of(seed: u64, reps: u64) -> u64 {
-    let mut sum = seed;
-    let mut s = build(sum);
-    for _rep in 0..reps {
-        poke(sum, &mut s);
-        let lhs = build(sum);
-        let made = zipped_inverted(&s, lhs);
-        sum = touch(sum, &made);
-    }
-    sum
-}
+case!(inverted_zip_of(sum), poked(s = build(sum)), {
+    touch(sum, &zipped_inverted(&s, build(sum)))
+});
 
 #[inline(never)]
 fn zipped_inverted2(s: Array, lhs: Array) -> Array {
@@ -118,16 +76,9 @@ fn zipped_inverted2(s: Array, lhs: Array) -> Array {
     })
 }
 
-pub fn inverted_zip2_of(seed: u64, reps: u64) -> u64 {
-    let mut sum = seed;
-    for _rep in 0..reps {
-        let s = build(sum);
-        let lhs = build(sum >> 3);
-        let made = zipped_inverted2(s, lhs);
-        sum = touch(sum, &made);
-    }
-    sum
-}
+case!(inverted_zip2_of(sum), {
+    touch(sum, &zipped_inverted2(build(sum), build(sum >> 3)))
+});
 
 #[inline(never)]
 fn summed(array: Array) -> u64 {
@@ -136,14 +87,7 @@ fn summed(array: Array) -> u64 {
     })
 }
 
-pub fn fold_array_of(seed: u64, reps: u64) -> u64 {
-    let mut sum = seed;
-    for _rep in 0..reps {
-        let array = build(sum);
-        sum = mixed(sum, summed(array));
-    }
-    sum
-}
+case!(fold_array_of(sum), { mixed(sum, summed(build(sum))) });
 
 #[inline(never)]
 fn summed_view(array: &Array) -> u64 {
@@ -152,15 +96,9 @@ fn summed_view(array: &Array) -> u64 {
     })
 }
 
-pub fn fold_view_of(seed: u64, reps: u64) -> u64 {
-    let mut sum = seed;
-    let mut array = build(sum);
-    for _rep in 0..reps {
-        poke(sum, &mut array);
-        sum = mixed(sum, summed_view(&array));
-    }
-    sum
-}
+case!(fold_view_of(sum), poked(array = build(sum)), {
+    mixed(sum, summed_view(&array))
+});
 
 #[inline(never)]
 fn tried_sum(array: &Array, bad: u64) -> Result<u64, u64> {
@@ -174,15 +112,6 @@ fn tried_sum(array: &Array, bad: u64) -> Result<u64, u64> {
     })
 }
 
-pub fn try_fold_view_of(seed: u64, reps: u64) -> u64 {
-    let mut sum = seed;
-    let mut array = build(sum);
-    for _rep in 0..reps {
-        poke(sum, &mut array);
-        match tried_sum(&array, sum ^ 0x0F00_0000_0000_0000) {
-            Ok(word) => sum = mixed(sum, word),
-            Err(_) => sum = 1,
-        }
-    }
-    sum
-}
+case!(try_fold_view_of(sum), poked(array = build(sum)), {
+    tried_sum(&array, sum ^ 0x0F00_0000_0000_0000).map_or(1, |word| mixed(sum, word))
+});

@@ -30,38 +30,17 @@ fn plain(array: &Array, text: &mut String, digits: &[u8; 16]) -> bool {
     true
 }
 
-fn run(seed: u64, reps: u64, write: impl Fn(&Array, &mut String) -> bool) -> u64 {
-    let mut sum = seed;
-    let mut text = String::new();
-    let mut array = build(sum);
-    for _rep in 0..reps {
-        poke(sum, &mut array);
-        text.clear();
-        let is_written = write(&array, &mut text);
-        sum = mixed(
-            touch_items(sum, text.as_bytes(), LENGTH),
-            if is_written { 1 } else { 2 },
-        );
-    }
-    sum
+macro_rules! writes {
+    ($name:ident, $write:ident $(, $digits:expr)?) => {
+        case!($name(sum), poked(array = build(sum)), made(text = String::new()), {
+            text.clear();
+            let is_written = $write(&array, &mut text $(, $digits)?);
+            touch_done(sum, text.as_bytes(), LENGTH, is_written)
+        });
+    };
 }
 
-pub fn hex_lower_of(seed: u64, reps: u64) -> u64 {
-    run(seed, reps, lower)
-}
-
-pub fn hex_upper_of(seed: u64, reps: u64) -> u64 {
-    run(seed, reps, upper)
-}
-
-pub fn hex_lower_by_table(seed: u64, reps: u64) -> u64 {
-    run(seed, reps, |array, text| {
-        plain(array, text, b"0123456789abcdef")
-    })
-}
-
-pub fn hex_upper_by_table(seed: u64, reps: u64) -> u64 {
-    run(seed, reps, |array, text| {
-        plain(array, text, b"0123456789ABCDEF")
-    })
-}
+writes!(hex_lower_of, lower);
+writes!(hex_upper_of, upper);
+writes!(hex_lower_by_table, plain, b"0123456789abcdef");
+writes!(hex_upper_by_table, plain, b"0123456789ABCDEF");

@@ -1,4 +1,4 @@
-//! What is done with an item, and the running checksum.
+//! What is done with an item, the running checksum, and the loop of each case.
 
 pub trait Word: Copy + Default + Clone + PartialEq + Eq + PartialOrd + Ord {
     fn make(seed: u64, index: usize) -> Self;
@@ -49,6 +49,12 @@ pub fn touch_items<T: Word>(seed: u64, items: &[T], len: usize) -> u64 {
     }
 }
 
+/// The same of bytes that a call wrote, and whether it went well.
+#[inline]
+pub fn touch_done(seed: u64, items: &[u8], len: usize, is_done: bool) -> u64 {
+    mixed(touch_items(seed, items, len), if is_done { 1 } else { 2 })
+}
+
 /// Writes one item at a place that only the seed tells.
 #[inline]
 pub fn poke<T: Word>(seed: u64, items: &mut [T]) {
@@ -57,3 +63,30 @@ pub fn poke<T: Word>(seed: u64, items: &mut [T]) {
         *item = T::make(seed, 5);
     }
 }
+
+/// Writes the function of a case, which repeats the block: it answers the next checksum by the last,
+/// at first the seed. What is `poked` and `made` stands before the loop. An item of each that is
+/// `poked` is written before each repeat.
+macro_rules! case {
+    (
+        $name:ident $(::<$length:ident>)? ($sum:ident),
+        $(poked($($poked:ident = $before:expr),+),)?
+        $(made($($made:ident = $first:expr),+),)?
+        $next:block
+    ) => {
+        pub fn $name $(<const $length: usize>)? (seed: u64, reps: u64) -> u64 {
+            let mut $sum = seed;
+            $($(let mut $poked = $before;)+)?
+            $($(
+                #[allow(unused_mut)]
+                let mut $made = $first;
+            )+)?
+            for _rep in 0..reps {
+                $($($crate::items::poke($sum, &mut $poked);)+)?
+                $sum = $next;
+            }
+            $sum
+        }
+    };
+}
+pub(crate) use case;

@@ -9,16 +9,10 @@ fn joined_slices(first: &[Item], second: &[Item]) -> Array {
     array
 }
 
-pub fn list_joined_of(seed: u64, reps: u64) -> u64 {
-    let mut sum = seed;
-    let mut array = build(sum);
-    for _rep in 0..reps {
-        poke(sum, &mut array);
-        let (first, second) = array.split_at(LENGTH / 2);
-        sum = touch(sum, &joined_slices(first, second));
-    }
-    sum
-}
+case!(list_joined_of(sum), poked(array = build(sum)), {
+    let (first, second) = array.split_at(LENGTH / 2);
+    touch(sum, &joined_slices(first, second))
+});
 
 #[inline(never)]
 fn cloned_items(items: &[Item]) -> Array {
@@ -27,15 +21,9 @@ fn cloned_items(items: &[Item]) -> Array {
     array
 }
 
-pub fn list_cloned_of(seed: u64, reps: u64) -> u64 {
-    let mut sum = seed;
-    let mut array = build(sum);
-    for _rep in 0..reps {
-        poke(sum, &mut array);
-        sum = touch(sum, &cloned_items(&array));
-    }
-    sum
-}
+case!(list_cloned_of(sum), poked(array = build(sum)), {
+    touch(sum, &cloned_items(&array))
+});
 
 fn list_of(array: &Array) -> Vec<Item> {
     let mut list = Vec::with_capacity(LENGTH);
@@ -55,17 +43,12 @@ fn edited(list: &mut Vec<Item>, to: usize, from: usize, item: Item) -> u64 {
     list.remove(from).word()
 }
 
-pub fn list_edit_of(seed: u64, reps: u64) -> u64 {
-    let mut sum = seed;
-    let mut list = list_of(&build(sum));
+case!(list_edit_of(sum), made(list = list_of(&build(sum))), {
     let within = (LENGTH / 2).saturating_sub(1);
-    for _rep in 0..reps {
-        let to = (sum >> 20) as usize & within;
-        let from = (sum >> 40) as usize & within;
-        sum = mixed(sum, edited(&mut list, to, from, Item::make(sum, 5)));
-    }
-    sum
-}
+    let to = (sum >> 20) as usize & within;
+    let from = (sum >> 40) as usize & within;
+    mixed(sum, edited(&mut list, to, from, Item::make(sum, 5)))
+});
 
 #[inline(never)]
 fn cut_and_filled(list: &mut Vec<Item>, len: usize, items: &[Item]) {
@@ -75,18 +58,16 @@ fn cut_and_filled(list: &mut Vec<Item>, len: usize, items: &[Item]) {
     }
 }
 
-pub fn list_cut_of(seed: u64, reps: u64) -> u64 {
-    let mut sum = seed;
-    let mut array = build(sum);
-    let mut list = list_of(&array);
-    for _rep in 0..reps {
-        poke(sum, &mut array);
+case!(
+    list_cut_of(sum),
+    poked(array = build(sum)),
+    made(list = list_of(&array)),
+    {
         let (first, _second) = array.split_at(LENGTH / 2);
         cut_and_filled(&mut list, LENGTH / 2, first);
         match list.last() {
-            Some(item) => sum = mixed(sum, item.word()),
-            None => sum = 1,
+            Some(item) => mixed(sum, item.word()),
+            None => 1,
         }
     }
-    sum
-}
+);

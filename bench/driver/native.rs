@@ -1,5 +1,5 @@
 //! Native arrays, which are the third side of an array's own calls.
-use super::items::{mixed, poke, touch, Word};
+use super::items::{case, mixed, poke, touch, Word};
 use std::cmp::Ordering;
 
 pub struct LengthError;

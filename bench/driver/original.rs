@@ -1,5 +1,5 @@
 //! The original crate's arrays, boxes of them and hex text: a module for each type and length.
-use super::items::{mixed, poke, touch, touch_items, Word};
+use super::items::{case, mixed, poke, touch, touch_done, touch_items, Word};
 use generic_array::functional::FunctionalSequence;
 use generic_array::internals::ArrayBuilder;
 use generic_array::sequence::*;

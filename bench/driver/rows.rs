@@ -17,13 +17,8 @@ fn row_sums(slice: &[Item]) -> u64 {
     sum
 }
 
-pub fn rows_of(seed: u64, reps: u64) -> u64 {
-    let mut sum = seed;
-    let mut array: GenericArray<Item, U4099> =
-        GenericArray::generate(|index| Item::make(sum, index));
-    for _rep in 0..reps {
-        poke(sum, &mut array);
-        sum = mixed(sum, row_sums(array.as_slice()));
-    }
-    sum
-}
+case!(
+    rows_of(sum),
+    poked(array = GenericArray::<Item, U4099>::generate(|index| Item::make(sum, index))),
+    { mixed(sum, row_sums(array.as_slice())) }
+);

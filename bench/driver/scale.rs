@@ -1,5 +1,5 @@
 //! Many bytes in a `Vec<u8>` and in a `Box<[u8; N]>`, in plain Rust.
-use super::items::{mixed, touch_items, Word};
+use super::items::{case, mixed, touch_items, Word};
 use std::io::{self, Write};
 
 fn turned(item: u8) -> u8 {
@@ -55,43 +55,30 @@ fn digits_of(items: &[u8]) -> usize {
 }
 
 macro_rules! calls {
-    ($items:ty) => {
-        pub fn scale_build_of<const LENGTH: usize>(seed: u64, reps: u64) -> u64 {
-            let mut sum = seed;
-            for _rep in 0..reps {
-                let items: $items = build::<LENGTH>(sum);
-                sum = touch_items(sum, &items[..], LENGTH);
-            }
-            sum
-        }
+    () => {
+        case!(scale_build_of::<LENGTH>(sum), {
+            let items = build::<LENGTH>(sum);
+            touch_items(sum, &items[..], LENGTH)
+        });
 
-        pub fn scale_map_of<const LENGTH: usize>(seed: u64, reps: u64) -> u64 {
-            let mut sum = seed;
-            let mut items: $items = build::<LENGTH>(seed);
-            for _rep in 0..reps {
+        case!(
+            scale_map_of::<LENGTH>(sum),
+            made(items = build::<LENGTH>(sum)),
+            {
                 items = mapped(items);
-                sum = touch_items(sum, &items[..], LENGTH);
+                touch_items(sum, &items[..], LENGTH)
             }
-            sum
-        }
+        );
 
-        pub fn scale_build_fold_of<const LENGTH: usize>(seed: u64, reps: u64) -> u64 {
-            let mut sum = seed;
-            for _rep in 0..reps {
-                let items: $items = build::<LENGTH>(sum);
-                sum = mixed(sum, folded(items));
-            }
-            sum
-        }
+        case!(scale_build_fold_of::<LENGTH>(sum), {
+            mixed(sum, folded(build::<LENGTH>(sum)))
+        });
 
-        pub fn scale_hex_of<const LENGTH: usize>(seed: u64, reps: u64) -> u64 {
-            let mut sum = seed;
-            let items: $items = build::<LENGTH>(seed);
-            for _rep in 0..reps {
-                sum = mixed(sum, digits_of(&items[..]) as u64);
-            }
-            sum
-        }
+        case!(
+            scale_hex_of::<LENGTH>(sum),
+            made(items = build::<LENGTH>(sum)),
+            { mixed(sum, digits_of(&items[..]) as u64) }
+        );
     };
 }
 
@@ -113,7 +100,7 @@ pub mod vec {
         items.into_iter().fold(0, added)
     }
 
-    calls!(Vec<u8>);
+    calls!();
 }
 
 pub mod boxes {
@@ -145,5 +132,5 @@ pub mod boxes {
         items.iter().copied().fold(0, added)
     }
 
-    calls!(Box<[u8; LENGTH]>);
+    calls!();
 }
