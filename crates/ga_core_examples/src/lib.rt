@@ -7,6 +7,8 @@
 #[cfg(test)]
 mod answers;
 #[cfg(test)]
+mod block_buffer;
+#[cfg(test)]
 mod builders;
 #[cfg(test)]
 mod builds;

@@ -2,16 +2,25 @@
 ghost use Rattle.ga_core.specs.Views.{items_of_view};
 ghost use Rattle.std.specs.List.{All};
 ghost use Rattle.std.specs.Option.{option_copied};
-ghost use Rattle.std.specs.Prelude.{◌≡◌, ◌∷◌, [], EachIndex, slice_get, slice_index, slice_set, sum};
+ghost use Rattle.std.specs.Prelude.{◌≡◌, ◌+◌, ◌%◌, ◌^◌, ◌<◌, ◌∷◌, [], EachIndex, slice_get, slice_index, slice_set, sum};
 
 use crate::builds::blank;
-use ga_core::{GenericArray, GenericArrayMut, GenericArrayRef, U2, U3, U4};
+use ga_core::{ArrayLength, GenericArray, GenericArrayMut, GenericArrayRef, U2, U3, U4};
 use std::mem;
 
 fn second_of(array: &GenericArray<u8, U3>) -> u8
     ensures { slice_get array.now 1 ≡ Some result }
 {
     array[1]
+}
+
+/// The sum of two neighbours, where it wraps: the first index tells that the second fits a number.
+fn neighbours_added<N: ArrayLength<u32>>(numbers: &GenericArray<u32, N>, place: usize) -> u32
+    requires { place + 1 < N.USIZE }
+    ensures { result
+        ≡ (slice_index numbers.now place + slice_index numbers.now (place + 1)) % 2 ^ 32 }
+{
+    numbers[place].wrapping_add(numbers[place + 1])
 }
 
 fn second_place_raised(array: &mut GenericArray<u8, U3>)
@@ -151,6 +160,13 @@ fn what_is_written_is_what_is_read(rt: HostRuntime) {
     assert!(rt; sum_of(&array) == 6);
     assert!(rt; first_reference(&array) == 1);
     assert!(rt; third_of(array.view()) == Some(&3));
+}
+
+#[test]
+fn neighbours_are_added_where_the_sum_wraps(rt: HostRuntime) {
+    let numbers: GenericArray<u32, U4> = GenericArray::from([1, 2, u32::MAX, 5]);
+    assert!(rt; neighbours_added(&numbers, 0) == 3 && neighbours_added(&numbers, 1) == 1);
+    assert!(rt; neighbours_added(&numbers, 2) == 4);
 }
 
 /// What a slice of 4, 5 is after `from_mut_slice`, after a `try_from_mut_slice` that fails,

@@ -1,9 +1,13 @@
 //! Rows of slices, read and written.
+ghost use Rattle.ga_core.specs.Length.{FitsInline};
 ghost use Rattle.ga_core.specs.Rows.{rows};
 ghost use Rattle.ga_core.specs.Views.{items_of_chunks, items_of_view};
-ghost use Rattle.std.specs.Prelude.{◌≡◌, ◌==◌, ◌<◌, ◌⊎◌, ◌∷◌, [], IfSome, IsSome, count_by, length, slice_index, slice_set};
+ghost use Rattle.std.specs.Prelude.{◌≡◌, ◌==◌, ◌/◌, ◌<◌, ◌↔◌, ◌⊎◌, ◌∷◌, [], IfOk, IfSome, IsOk, IsSome, count_by, length, map, slice_index, slice_set};
 
-use ga_core::{ChunksMut, ChunksRef, GenericArray, GenericArrayRef, U0, U2, U3, Unsigned};
+use ga_core::{
+    ArrayLength, ChunksMut, ChunksRef, GenericArray, GenericArrayRef, LengthError, U0, U2, U3,
+    Unsigned,
+};
 
 fn second_row_and_rest(slice: &[u8]) -> (Option<GenericArrayRef<'_, u8, U3>>, &[u8])
     requires { slice.now ≡ 1 ∷ 2 ∷ 3 ∷ 4 ∷ 5 ∷ 6 ∷ 7 ∷ [] }
@@ -69,6 +73,29 @@ fn rows_of_arrays_counted(bytes: &mut [u8]) -> (usize, usize)
 {
     let (rows, rest) = GenericArray::<u8, U3>::chunks_from_slice_mut(bytes);
     (rows.len(), rest.len())
+}
+
+/// The first byte of each pair, if there are N pairs.
+fn firsts_of_pairs<N: ArrayLength<u8>>(bytes: &[u8]) -> Result<GenericArray<u8, N>, LengthError>
+    requires { FitsInline N.USIZE }
+    ensures is_ok { IsOk result ↔ (length bytes.now / 2 ≡ N.USIZE) }
+    ensures ok { IfOk result (λ firsts. firsts ≡ map (λ row. slice_index row 0) (rows 2 bytes.now)) }
+{
+    let (pairs, _) = GenericArray::<u8, U2>::chunks_from_slice(bytes);
+    GenericArray::try_from_iter(pairs.iter().map(|row| row[0]))
+}
+
+/// The first byte of each row of any width, if there are N rows.
+fn firsts_of_rows<W: ArrayLength<u8>, N: ArrayLength<u8>>(
+    bytes: &[u8],
+) -> Result<GenericArray<u8, N>, LengthError>
+    requires some { 0 < W.USIZE }
+    requires fits { FitsInline N.USIZE }
+    ensures is_ok { IsOk result ↔ (length bytes.now / W.USIZE ≡ N.USIZE) }
+    ensures ok { IfOk result (λ firsts. firsts ≡ map (λ row. slice_index row 0) (rows W.USIZE bytes.now)) }
+{
+    let (rows, _) = GenericArray::<u8, W>::chunks_from_slice(bytes);
+    GenericArray::try_from_iter(rows.iter().map(|row| row[0]))
 }
 
 /// Whether there is this row.
@@ -169,4 +196,20 @@ fn rows_are_cut_by_the_name_of_an_array(rt: HostRuntime) {
     rest[0] = 9;
     rows.row_mut(1)[2] = 8;
     assert!(rt; bytes == [1, 2, 3, 4, 5, 8, 9] && rows_of_arrays_counted(&mut bytes) == (2, 1));
+}
+
+/// Whether the first bytes of these rows are 1, 4 and 7, and no array of another length has them.
+fn are_firsts_of_threes(bytes: &[u8]) -> bool {
+    let firsts: Result<GenericArray<u8, U3>, LengthError> = firsts_of_rows::<U3, U3>(bytes);
+    firsts.is_ok_and(|firsts| firsts.as_slice() == [1, 4, 7].as_slice())
+        && firsts_of_rows::<U3, U2>(bytes).is_err()
+        && firsts_of_rows::<U2, U3>(bytes).is_err()
+}
+
+#[test]
+fn an_array_is_filled_from_as_many_rows_alone(rt: HostRuntime) {
+    assert!(rt; are_firsts_of_threes(&[1, 2, 3, 4, 5, 6, 7, 8, 9, 10]));
+    assert!(rt; firsts_of_pairs::<U3>(&[1, 2, 3, 4, 5, 6, 7]).is_ok());
+    assert!(rt; firsts_of_pairs::<U3>(&[1, 2, 3, 4, 5]).is_err());
+    assert!(rt; firsts_of_pairs::<U0>(&[1]).is_ok());
 }

@@ -1,8 +1,8 @@
 //! Arrays as slices: the methods of slices, ranges, and loops over references.
 ghost use Rattle.std.specs.List.{list_any, starts_with};
-ghost use Rattle.std.specs.Prelude.{◌≡◌, ◌==◌, ◌<◌, ◌≤◌, ◌↔◌, ◌^◌, ◌∷◌, [], IsTrue, drop, length, replicate, reverse, slice_get, sum};
+ghost use Rattle.std.specs.Prelude.{◌≡◌, ◌==◌, ◌-◌, ◌<◌, ◌≤◌, ◌↔◌, ◌^◌, ◌∷◌, [], IsTrue, drop, length, replicate, reverse, slice_get, slice_index, sum};
 
-use ga_core::{ArrayLength, GenericArray, Len, U3, U4};
+use ga_core::{ArrayLength, GenericArray, Len, U0, U3, U4};
 
 fn holds_nothing<N: ArrayLength<u8>>(array: &GenericArray<u8, N>) -> bool
     ensures { IsTrue result ↔ (N.USIZE ≡ 0) }
@@ -14,6 +14,21 @@ fn length_of<N: ArrayLength<u8>>(array: &GenericArray<u8, N>) -> usize
     ensures { result ≡ N.USIZE }
 {
     array.len()
+}
+
+/// The number of items, which fits a short number.
+fn count<N: ArrayLength<u32>>(numbers: &GenericArray<u32, N>) -> u32
+    ensures { result ≡ length numbers.now }
+{
+    numbers.len() as u32
+}
+
+/// The last item, by a number that the length tells.
+fn last_of<N: ArrayLength<u32>>(numbers: &GenericArray<u32, N>) -> u32
+    requires { 0 < N.USIZE }
+    ensures { result ≡ slice_index numbers.now (N.USIZE - 1) }
+{
+    numbers[numbers.len() - 1]
 }
 
 fn first_of<N: ArrayLength<u8>>(array: &GenericArray<u8, N>) -> Option<u8>
@@ -171,6 +186,13 @@ fn an_array_is_read_as_a_slice(rt: HostRuntime) {
 fn arrays_are_summed_by_the_traits_of_slices(rt: HostRuntime) {
     assert!(rt; halves(&GenericArray::from([1, 2, 3, 4])) == 2);
     assert!(rt; wrapped_total(&GenericArray::<u32, U3>::from([1, 2, 3])) == 6);
+}
+
+#[test]
+fn the_length_tells_the_number_of_items_and_the_last_place(rt: HostRuntime) {
+    let numbers: GenericArray<u32, U3> = GenericArray::from([7, 8, 9]);
+    assert!(rt; count(&numbers) == 3 && last_of(&numbers) == 9);
+    assert!(rt; count(&GenericArray::<u32, U0>::from([])) == 0);
 }
 
 /// Whether the array is what each call leaves, one after the other.

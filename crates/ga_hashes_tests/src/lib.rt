@@ -7,6 +7,8 @@ mod block_buffer;
 #[cfg(test)]
 mod blocks;
 #[cfg(test)]
+mod compare;
+#[cfg(test)]
 mod hash_function;
 #[cfg(test)]
 mod hkdf;
