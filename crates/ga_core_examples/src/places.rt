@@ -2,16 +2,31 @@
 ghost use Rattle.ga_core.specs.Views.{items_of_view};
 ghost use Rattle.std.specs.List.{All};
 ghost use Rattle.std.specs.Option.{option_copied};
-ghost use Rattle.std.specs.Prelude.{◌≡◌, ◌∷◌, [], EachIndex, slice_get, slice_index, slice_set, sum};
+ghost use Rattle.std.specs.Prelude.{◌≡◌, ◌+◌, ◌<◌, ◌≤◌, ◌∷◌, [], EachIndex, length, slice_get, slice_index, slice_set, sum};
 
 use crate::builds::blank;
-use ga_core::{GenericArray, GenericArrayMut, GenericArrayRef, U2, U3, U4};
+use ga_core::{ArrayLength, GenericArray, GenericArrayMut, GenericArrayRef, Len, U2, U3, U4};
 use std::mem;
 
 fn second_of(array: &GenericArray<u8, U3>) -> u8
     ensures { slice_get array.now 1 ≡ Some result }
 {
     array[1]
+}
+
+/// The sum of a number and the next. Each index tells a proof that the length fits.
+fn with_next<N: ArrayLength<u32>>(numbers: &GenericArray<u32, N>, place: usize) -> u32
+    requires { place + 1 < N.USIZE }
+{
+    numbers[place].wrapping_add(numbers[place + 1])
+}
+
+/// The number of items, and that it fits.
+fn count<N: ArrayLength<u32>>(numbers: &GenericArray<u32, N>) -> usize
+    ensures len { result ≡ length numbers.now }
+    ensures fits { result ≤ 65536 }
+{
+    numbers.len()
 }
 
 fn second_place_raised(array: &mut GenericArray<u8, U3>)
@@ -150,6 +165,8 @@ fn what_is_written_is_what_is_read(rt: HostRuntime) {
     let array: GenericArray<u8, U3> = GenericArray::from([1, 2, 3]);
     assert!(rt; sum_of(&array) == 6);
     assert!(rt; first_reference(&array) == 1);
+    let numbers: GenericArray<u32, U3> = GenericArray::from([1, 2, 3]);
+    assert!(rt; with_next(&numbers, 1) == 5 && count(&numbers) == 3);
     assert!(rt; third_of(array.view()) == Some(&3));
 }
 
