@@ -10,6 +10,7 @@ use generic_array::sequence::{Concat, Flatten};
 use generic_array::{
     ArrayLength, BorrowedItems, Const, GenericArray, GenericArrayRef, InlineLength, U2, U3, U6,
 };
+use std::marker::PhantomData;
 
 /// `R` rows of `C` items each.
 ///
@@ -106,8 +107,7 @@ fn flat_pairs(pairs: Rows<i64, U2, 3>) -> GenericArray<i64, U6>
 
 /// The numbers of a column, from the first row to the last.
 ///
-/// Takes the rows as a slice: a closure that passes on a reference to an array of rows isn't
-/// proved.
+/// Takes the rows as a slice, so that it serves a part of them too: `&rows[1..]`.
 fn column<C, M>(rows: &[GenericArray<u64, C>], place: usize) -> GenericArray<u64, M>
 where
     C: ArrayLength<u64> + InlineLength,
@@ -161,6 +161,34 @@ fn three_rows_of_two(rows: Rows<u64, U3, 2>) -> Rows<u64, U2, 3>
     transposed(rows)
 }
 
+/// The numbers column by column.
+///
+/// A function of any lengths names in its signature each array of rows that it passes on, since the
+/// checker asks that these fit in memory. The one in the middle has a `PhantomData` there.
+fn by_columns<C, M, N, const R: usize, const L: usize>(
+    rows: Rows<u64, C, R>,
+    _turned: PhantomData<Rows<u64, M, L>>,
+) -> GenericArray<u64, N>
+where
+    C: ArrayLength<u64> + InlineLength,
+    M: ArrayLength<u64> + InlineLength,
+    N: ArrayLength<u64> + InlineLength,
+    requires rows { M.USIZE ≡ R }
+    requires columns { L ≡ C.USIZE }
+    requires area { N.USIZE ≡ L * M.USIZE }
+    ensures { result ≡ flat_map (λ column. column)
+        (map (column_of rows) (range_with_len 0 C.USIZE)) }
+{
+    let turned: Rows<u64, M, L> = transposed(rows);
+    flat(turned)
+}
+
+fn six_by_columns(rows: Rows<u64, U3, 2>) -> GenericArray<u64, U6>
+    ensures { result ≡ flat_map (λ column. column) (map (column_of rows) (range_with_len 0 3)) }
+{
+    by_columns(rows, PhantomData::<Rows<u64, U2, 3>>)
+}
+
 fn dot<K: ArrayLength<u64>>(left: &GenericArray<u64, K>, right: &GenericArray<u64, K>) -> u64
     ensures { result ≡ dot_product left.now right.now }
 {
@@ -170,7 +198,7 @@ fn dot<K: ArrayLength<u64>>(left: &GenericArray<u64, K>, right: &GenericArray<u6
         .fold(0, |total: u64, product: u64| total.wrapping_add(product))
 }
 
-/// A row times each column. Takes the right side as a slice, as `column`.
+/// A row times each column of a slice of rows.
 fn row_times<K, C>(
     row: &GenericArray<u64, K>,
     right: &[GenericArray<u64, C>],
@@ -255,21 +283,20 @@ where
     rows.map_inline_ref(|row: &GenericArray<T, C>| GenericArray::from_view(row.view()))
 }
 
-/// Whether the rows are the same. Takes slices: `==` of references to arrays of rows isn't proved.
+/// Whether the rows are the same. Compares slices: `==` of arrays of rows says nothing to a proof.
 #[tactic(auto, using(ga_core::proofs::NestedLemmas::rows_decide))]
-fn are_equal<C: ArrayLength<i64>>(
-    left: &[GenericArray<i64, C>],
-    right: &[GenericArray<i64, C>],
-) -> bool
+fn are_equal<C, const R: usize>(left: &Rows<i64, C, R>, right: &Rows<i64, C, R>) -> bool
+where
+    C: ArrayLength<i64> + InlineLength,
     ensures { IsTrue result ↔ left.now ≡ right.now }
 {
-    left == right
+    left.as_slice() == right.as_slice()
 }
 
 fn copy_is_equal(pairs: &Rows<i64, U2, 3>) -> bool
     ensures { IsTrue result }
 {
-    are_equal(copy_of(pairs).as_slice(), pairs.as_slice())
+    are_equal(&copy_of(pairs), pairs)
 }
 
 fn first_items<T, C, D>(row: &GenericArray<T, C>) -> GenericArray<T, D>
@@ -394,6 +421,7 @@ fn numbers_are_made_scaled_and_turned(rt: HostRuntime) {
     assert!(rt; has(six(zero_to_five()), &[0, 1, 2, 3, 4, 5]));
     assert!(rt; has(six(doubled(one_to_six())), &[2, 4, 6, 8, 10, 12]));
     assert!(rt; has(six(three_rows_of_two(one_to_six())), &[1, 4, 2, 5, 3, 6]));
+    assert!(rt; has(six_by_columns(one_to_six()), &[1, 4, 2, 5, 3, 6]));
 }
 
 #[test]
