@@ -14,7 +14,7 @@ trait Compressor: Drop {
     // The state after a block.
     ghost compressed: { Self → List ℕ → Self };
 
-    /// Takes in a block, which is lent.
+    /// Takes in a block.
     fn compress(&mut self, block: &[u8])
         requires { length block.now ≡ Self.BlockSize.USIZE }
         ensures { self.new ≡ compressed self.old block.now };

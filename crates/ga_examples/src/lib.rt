@@ -24,6 +24,8 @@ mod kinds;
 #[cfg(test)]
 mod macros;
 #[cfg(test)]
+mod matrices;
+#[cfg(test)]
 mod own_lengths;
 #[cfg(test)]
 mod shapes;
