@@ -141,7 +141,7 @@ where
     ensures { result ≡ map (column_of rows) (range_with_len 0 C.USIZE) }
 {
     let rows = rows.as_slice();
-    // Captured, so that the checker finds the type of the result among what is captured.
+    // Captured, since the checker wants the type of the result among what is captured.
     let blank: GenericArray<u64, M> = GenericArray::default();
     GenericArray::generate(
         |place: usize| -> GenericArray<u64, M>

@@ -1,170 +1,215 @@
-//! Matrices of whole numbers, of any size: columns, the transpose and the product.
+//! Matrices of whole numbers, of any size: sums, columns, the transpose and products.
 //!
-//! Contracts see a row as the list of its numbers, and a matrix as the list of its rows. Both are
-//! made by a literal: the checker covers no call that takes an array of rows by value.
-ghost use Rattle.ga_uses.specs.Matrix.{column_of, dot_product, matrix_product, row_product, transpose};
-ghost use Rattle.std.specs.Prelude.{◌≡◌, ◌<◌, Some, replicate, slice_get, slice_index};
+//! Contracts see a matrix as the list of its rows, and a row as the list of its numbers. The laws
+//! of these lists are in `proofs/MatrixLemmas.antt`: a caller names them by
+//! `#[tactic(auto, using(ga_uses::proofs::MatrixLemmas::matrix_laws))]`.
+ghost use Rattle.ga_uses.specs.Matrix.{IsMatrix, column_of, dot_product, identity_matrix, matrix_product, matrix_sum, row_product, row_sum, transpose, unit_row};
+ghost use Rattle.generic_array.specs.Length.{FitsInline};
+ghost use Rattle.std.specs.List.{All};
+ghost use Rattle.std.specs.Prelude.{◌≡◌, ◌^◌, ◌<◌, length, map, replicate, slice_index};
 
-use generic_array::{ArrayLength, BorrowedItems, GenericArray, InlineLength};
-use std::marker::Model;
-
-/// A row of `C` numbers.
-///
-/// A type of its own, since the checker doesn't cover a struct whose bound names an array of arrays
-/// of a named type.
-#[derive(Drop)]
-pub struct Row<C: ArrayLength<u64>> {
-    /// The numbers, from the first column to the last.
-    pub items: GenericArray<u64, C>,
-}
-
-impl<C: ArrayLength<u64>> Model for Row<C> {
-    ghost use Rattle.std.specs.Prelude.{ℕ, List};
-
-    ghost Value = { List ℕ };
-
-    ghost view = { λ row. row.items };
-}
-
-impl<C: ArrayLength<u64> + InlineLength> Default for Row<C> {
-    ghost is_default = { λ row. row ≡ replicate C.USIZE 0 };
-
-    fn default() -> Self {
-        Row {
-            items: GenericArray::default(),
-        }
-    }
-}
+use generic_array::{
+    ArrayLength, BorrowedItems, Const, GenericArray, GenericArrayRef, InlineLength,
+};
 
 /// `R` rows of `C` numbers each.
-#[derive(Drop)]
-pub struct Matrix<R: ArrayLength<Row<C>>, C: ArrayLength<u64>> {
-    /// The rows, from the first to the last.
-    pub rows: GenericArray<Row<C>, R>,
-}
+///
+/// The number of rows is a number, and no type with a bound, so that a function of any lengths takes
+/// a matrix by value. Such a function names in its signature, if only by a `PhantomData`, the type
+/// of each matrix that it passes on.
+pub type Matrix<C, const R: usize> = GenericArray<GenericArray<u64, C>, Const<R>>;
 
-impl<R: ArrayLength<Row<C>>, C: ArrayLength<u64>> Model for Matrix<R, C> {
-    ghost use Rattle.std.specs.Prelude.{ℕ, List};
-
-    ghost Value = { List (List ℕ) };
-
-    ghost view = { λ matrix. matrix.rows };
-}
-
-impl<R, C> Matrix<R, C>
+/// The matrix of zeros.
+#[tactic(auto, using(crate::proofs::MatrixLemmas::repeated))]
+pub fn zeros<C, const R: usize>() -> Matrix<C, R>
 where
     C: ArrayLength<u64> + InlineLength,
-    R: ArrayLength<Row<C>> + InlineLength,
+    requires fits { FitsInline R }
+    ensures { result ≡ replicate R (replicate C.USIZE 0) }
 {
-    /// The matrix of zeros.
-    pub fn zeros() -> Self
-        ensures { result ≡ replicate R.USIZE (replicate C.USIZE 0) }
-    {
-        Matrix {
-            rows: GenericArray::default(),
-        }
-    }
+    // Captured, since the checker wants the type of the result among what a closure captures.
+    let blank: GenericArray<u64, C> = GenericArray::default();
+    GenericArray::generate(
+        |_row: usize| -> GenericArray<u64, C>
+            ensures { result ≡ replicate C.USIZE 0 }
+        {
+            let _ = &blank;
+            GenericArray::from_copies(0)
+        },
+    )
 }
 
-impl<R, C> Matrix<R, C>
-where
-    C: ArrayLength<u64>,
-    R: ArrayLength<Row<C>>,
-{
-    /// The number in a row and a column. O(1).
-    pub fn at(&self, row: usize, column: usize) -> u64
-        requires row { row < R.USIZE }
-        requires column { column < C.USIZE }
-        ensures { slice_get (column_of self.now column) row ≡ Some result }
-    {
-        self.rows[row].items[column]
-    }
-
-    /// The numbers of a column, from the first row to the last.
-    pub fn column(&self, column: usize) -> Row<R>
-    where
-        R: ArrayLength<u64>,
-        requires column { column < C.USIZE }
-        ensures { result ≡ column_of self.now column }
-    {
-        let items = self.rows.map_inline_ref(
-            |row: &Row<C>| -> u64
-                requires { column < C.USIZE }
-                ensures { result ≡ slice_index row.now column }
-            { row.items[column] },
-        );
-        Row { items }
-    }
-
-    /// The matrix of the columns as rows.
-    pub fn transposed(&self) -> Matrix<C, R>
-    where
-        C: ArrayLength<Row<R>> + InlineLength,
-        R: ArrayLength<u64> + InlineLength,
-        ensures { result ≡ transpose C.USIZE self.now }
-    {
-        // The closure captures a column, since the checker wants the result's type in what is
-        // captured.
-        let blank: Row<R> = Row::default();
-        let rows = GenericArray::generate(
-            |column: usize| -> Row<R>
-                requires { column < C.USIZE }
-                ensures { result ≡ column_of self.entry.now column }
-            {
-                let _ = &blank;
-                self.column(column)
-            },
-        );
-        Matrix { rows }
-    }
-}
-
-/// The product of two matrices, modulo 2^64.
-pub fn product<R, K, C>(left: &Matrix<R, K>, right: &Matrix<K, C>) -> Matrix<R, C>
+/// The matrix with 1 where the row is the column, and else 0.
+#[tactic(auto, unfolding(crate::specs::Matrix::identity_matrix))]
+pub fn identity<C, const R: usize>() -> Matrix<C, R>
 where
     C: ArrayLength<u64> + InlineLength,
-    K: ArrayLength<u64> + ArrayLength<Row<C>>,
-    R: ArrayLength<Row<K>> + ArrayLength<Row<C>>,
-    ensures { result ≡ matrix_product C.USIZE left.now right.now }
+    requires fits { FitsInline R }
+    requires square { R ≡ C.USIZE }
+    ensures { result ≡ identity_matrix C.USIZE }
 {
-    let rows = left.rows.map_inline_ref(
-        |row: &Row<K>| -> Row<C>
-            ensures { result ≡ row_product C.USIZE row.now right.entry.now }
-        { row_times(row, right) },
-    );
-    Matrix { rows }
+    let blank: GenericArray<u64, C> = GenericArray::default();
+    GenericArray::generate(
+        |row: usize| -> GenericArray<u64, C>
+            ensures { result ≡ unit_row C.USIZE row }
+        {
+            let _ = &blank;
+            unit(row)
+        },
+    )
 }
 
-// A row times each column of a matrix in turn.
-fn row_times<K, C>(row: &Row<K>, matrix: &Matrix<K, C>) -> Row<C>
+// The row that is 1 at a place and else 0.
+fn unit<C>(place: usize) -> GenericArray<u64, C>
 where
     C: ArrayLength<u64> + InlineLength,
-    K: ArrayLength<u64> + ArrayLength<Row<C>>,
-    ensures { result ≡ row_product C.USIZE row.now matrix.now }
+    ensures { result ≡ unit_row C.USIZE place }
 {
-    let items = GenericArray::generate(
-        |column: usize| -> u64
+    GenericArray::generate(|column: usize| if column == place { 1 } else { 0 })
+}
+
+/// The numbers of a column, from the first row to the last. The slice may be a part of the rows.
+pub fn column<C, M>(rows: &[GenericArray<u64, C>], column: usize) -> GenericArray<u64, M>
+where
+    C: ArrayLength<u64> + InlineLength,
+    M: ArrayLength<u64> + InlineLength,
+    requires column { column < C.USIZE }
+    requires rows { length rows.now ≡ M.USIZE }
+    ensures { result ≡ column_of rows.now column }
+{
+    GenericArrayRef::<GenericArray<u64, C>, M>::from_slice(rows).map_inline_ref(
+        |row: &GenericArray<u64, C>| -> u64
             requires { column < C.USIZE }
-            ensures { result ≡ dot_product row.entry.now (column_of matrix.entry.now column) }
-        { row_times_column(row, matrix, column) },
-    );
-    Row { items }
+            ensures { result ≡ slice_index row.now column }
+        { row[column] },
+    )
 }
 
-// A row times the column of a matrix, modulo 2^64.
-fn row_times_column<K, C>(row: &Row<K>, matrix: &Matrix<K, C>, column: usize) -> u64
+/// The sums of the numbers in the same place, modulo 2^64.
+pub fn sum<C, const R: usize>(left: Matrix<C, R>, right: Matrix<C, R>) -> Matrix<C, R>
 where
     C: ArrayLength<u64> + InlineLength,
-    K: ArrayLength<u64> + ArrayLength<Row<C>>,
-    requires inside { column < C.USIZE }
-    ensures { result ≡ dot_product row.now (column_of matrix.now column) }
+    ensures { result ≡ matrix_sum left right }
 {
-    let other = matrix.column(column);
-    let products = row.items.zip_inline_ref(
-        other.items.view(),
-        |number: &u64, factor: &u64| number.wrapping_mul(*factor),
-    );
+    left.zip_inline(
+        right,
+        |l: GenericArray<u64, C>, r: GenericArray<u64, C>| sum_of_rows(&l, &r),
+    )
+}
+
+fn sum_of_rows<C: ArrayLength<u64>>(
+    left: &GenericArray<u64, C>,
+    right: &GenericArray<u64, C>,
+) -> GenericArray<u64, C>
+    ensures { result ≡ row_sum left.now right.now }
+{
+    left.zip_inline_ref(right.view(), |l: &u64, r: &u64| l.wrapping_add(*r))
+}
+
+/// The columns as rows. `M` is the number of rows as a length, and `L` that of columns as a number.
+#[tactic(auto, unfolding(crate::specs::Matrix::transpose))]
+pub fn transposed<C, M, const R: usize, const L: usize>(matrix: Matrix<C, R>) -> Matrix<M, L>
+where
+    C: ArrayLength<u64> + InlineLength,
+    M: ArrayLength<u64> + InlineLength,
+    requires rows { M.USIZE ≡ R }
+    requires columns { L ≡ C.USIZE }
+    ensures turned { result ≡ transpose C.USIZE matrix }
+    ensures widths { IsMatrix R C.USIZE matrix }
+{
+    let rows = matrix.as_slice();
+    look_at_rows(rows);
+    let blank: GenericArray<u64, M> = GenericArray::default();
+    GenericArray::generate(
+        |place: usize| -> GenericArray<u64, M>
+            requires place { place < C.USIZE }
+            requires rows { length rows.now ≡ M.USIZE }
+            ensures { result ≡ column_of rows.entry.now place }
+        {
+            let _ = &blank;
+            column(rows, place)
+        },
+    )
+}
+
+/// Each row times the vector, modulo 2^64. The slice may be a part of the rows.
+pub fn times_vector<C, M>(
+    rows: &[GenericArray<u64, C>],
+    vector: &GenericArray<u64, C>,
+) -> GenericArray<u64, M>
+where
+    C: ArrayLength<u64> + InlineLength,
+    M: ArrayLength<u64> + InlineLength,
+    requires rows { length rows.now ≡ M.USIZE }
+    ensures { result ≡ map (λ row. dot_product row vector.now) rows.now }
+{
+    let rows = GenericArrayRef::<GenericArray<u64, C>, M>::from_slice(rows);
+    rows.map_inline_ref(|row: &GenericArray<u64, C>| dot(row, vector))
+}
+
+fn dot<K: ArrayLength<u64>>(left: &GenericArray<u64, K>, right: &GenericArray<u64, K>) -> u64
+    ensures { result ≡ dot_product left.now right.now }
+{
+    let products = left.zip_inline_ref(right.view(), |l: &u64, r: &u64| l.wrapping_mul(*r));
     products
         .into_iter()
         .fold(0, |total: u64, product: u64| total.wrapping_add(product))
 }
+
+/// Each row of the left times each column of the right, modulo 2^64.
+#[tactic(auto, unfolding(crate::specs::Matrix::matrix_product))]
+pub fn product<K, C, const R: usize, const L: usize>(
+    left: Matrix<K, R>,
+    right: Matrix<C, L>,
+) -> Matrix<C, R>
+where
+    K: ArrayLength<u64> + InlineLength,
+    C: ArrayLength<u64> + InlineLength,
+    requires inner { L ≡ K.USIZE }
+    ensures product { result ≡ matrix_product C.USIZE left right }
+    ensures left_widths { IsMatrix R K.USIZE left }
+    ensures right_widths { IsMatrix L C.USIZE right }
+{
+    look_at_rows(left.as_slice());
+    let right = right.as_slice();
+    look_at_rows(right);
+    left.map_inline(
+        |row: GenericArray<u64, K>| -> GenericArray<u64, C>
+            requires { length right.now ≡ K.USIZE }
+            ensures { result ≡ row_product C.USIZE row right.entry.now }
+        { row_times(&row, right) },
+    )
+}
+
+// A row times each column.
+fn row_times<K, C>(
+    row: &GenericArray<u64, K>,
+    right: &[GenericArray<u64, C>],
+) -> GenericArray<u64, C>
+where
+    K: ArrayLength<u64> + InlineLength,
+    C: ArrayLength<u64> + InlineLength,
+    requires { length right.now ≡ K.USIZE }
+    ensures { result ≡ row_product C.USIZE row.now right.now }
+{
+    GenericArray::generate(
+        |place: usize| -> u64
+            requires place { place < C.USIZE }
+            requires rows { length right.now ≡ K.USIZE }
+            ensures { result ≡ dot_product row.entry.now (column_of right.entry.now place) }
+        { dot(row, &column(right, place)) },
+    )
+}
+
+// Looks at each row: so a proof knows how many numbers it has, and that they fit in 64 bits.
+fn look_at_rows<C: ArrayLength<u64>>(rows: &[GenericArray<u64, C>])
+    ensures { IsMatrix (length rows.now) C.USIZE rows.now }
+{
+    for row in rows {
+        look_at(row.as_slice());
+    }
+}
+
+fn look_at(numbers: &[u64])
+    ensures { All (λ number. number < 2 ^ 64) numbers.now }
+{}
