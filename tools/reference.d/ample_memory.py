@@ -137,8 +137,11 @@ def unplayed(names):
     files = sorted({file for pattern in FILES for file in folder.glob(pattern)})
     lines = {line for file in files for line in LINE.findall(file.read_text("utf-8"))}
     found = [item for item in names.paths if item.kind in ("fn", "macro")]
-    of_lines = {line: [item for item in found if any(is_named(
-        path, line.rstrip("!").split("::")) for path in names.paths[item])] for line in sorted(lines)}
+    of_lines = {}
+    for line in sorted(lines):
+        parts = line.rstrip("!").split("::")
+        of_lines[line] = [
+            item for item in found if any(is_named(path, parts) for path in names.paths[item])]
     played = {item for items in of_lines.values() for item in items}
     for item in calls(names.site):
         is_played = item in played or any(hands_over(other, item) for other in played)

@@ -36,8 +36,8 @@ impl Account {
         self.refused.get()
     }
 
-    /// Adds the requests of a call, and tells whether it was played right. A refused request was
-    /// its last.
+    /// Adds the requests of a call, of which a refused one was the last. Returns whether the call
+    /// was played right.
     fn adds(&self, name: &'static str, requests: usize, outcome: &Outcome) -> bool {
         let is_refused = matches!(outcome, Outcome::Refused);
         if is_refused {

@@ -39,8 +39,8 @@ fn of_entries<T: Sample>(table: &mut KeyTable<U8, T>) -> [Call; 3] {
     ]
 }
 
-/// What came of so many new keys, and of one that is there where the table has no more room. Ends
-/// where one is refused memory.
+/// Puts so many new keys, and each again that leaves the table no more room. Returns the name of the
+/// first call that was played wrongly, and ends where one is refused memory.
 fn first_wrong_put<T: Sample>(
     account: &Account,
     table: &mut KeyTable<U8, T>,
