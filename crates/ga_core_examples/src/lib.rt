@@ -27,6 +27,8 @@ mod nested;
 #[cfg(test)]
 mod numbers;
 #[cfg(test)]
+mod own_traits;
+#[cfg(test)]
 mod parts;
 #[cfg(test)]
 mod places;

@@ -1,0 +1,104 @@
+//! A trait of one's own over arrays of a length that each impl chooses, whose calls take them by
+//! value.
+ghost use Rattle.ga_core.specs.Views.{items_of_view};
+ghost use Rattle.std.specs.Prelude.{◌≡◌, ℕ, ◌/◌, ◌++◌, List, drop, reverse, take};
+
+use ga_core::{ArrayLength, GenericArray, GenericArrayRef, InlineLength, U3, U4, Unsigned};
+use std::marker::PhantomData;
+
+/// Turns blocks of one length.
+///
+/// Its calls take a block by a length of their own, which is the trait's: no impl is proved whose
+/// call takes an array or a view of `Self::Size` by value.
+trait Turner {
+    /// How many bytes a block has.
+    type Size: ArrayLength<u8> + InlineLength;
+
+    // What a block is turned to.
+    ghost turned: { List ℕ → List ℕ };
+
+    /// The block, turned.
+    fn turn<N: ArrayLength<u8>>(block: GenericArray<u8, N>) -> GenericArray<u8, N>
+        requires { N.USIZE ≡ Self.Size.USIZE }
+        ensures { result ≡ turned block };
+
+    /// A view of a block, turned.
+    fn turned_copy<N: ArrayLength<u8>>(
+        block: GenericArrayRef<'_, u8, N>,
+    ) -> GenericArray<u8, Self::Size>
+        requires { N.USIZE ≡ Self.Size.USIZE }
+        ensures { result ≡ turned (items_of_view block.entry) };
+}
+
+/// Turns blocks of four bytes round.
+struct Reversal;
+
+impl Turner for Reversal {
+    type Size = U4;
+
+    ghost turned = { reverse };
+
+    fn turn<N: ArrayLength<u8>>(mut block: GenericArray<u8, N>) -> GenericArray<u8, N> {
+        block.reverse();
+        block
+    }
+
+    fn turned_copy<N: ArrayLength<u8>>(block: GenericArrayRef<'_, u8, N>) -> GenericArray<u8, U4> {
+        let mut copy = GenericArray::from_view(GenericArrayRef::from_slice(block.into_slice()));
+        copy.reverse();
+        copy
+    }
+}
+
+/// Swaps the halves of blocks of any length; of an odd one the second is longer.
+struct Swap<N> {
+    of: PhantomData<N>,
+}
+
+impl<L: ArrayLength<u8> + InlineLength> Turner for Swap<L> {
+    type Size = L;
+
+    ghost turned = { λ block. drop (L.USIZE / 2) block ++ take (L.USIZE / 2) block };
+
+    fn turn<N: ArrayLength<u8>>(mut block: GenericArray<u8, N>) -> GenericArray<u8, N> {
+        block.rotate_left(N::USIZE / 2);
+        block
+    }
+
+    fn turned_copy<N: ArrayLength<u8>>(block: GenericArrayRef<'_, u8, N>) -> GenericArray<u8, L> {
+        let mut copy = GenericArray::from_view(GenericArrayRef::from_slice(block.into_slice()));
+        copy.rotate_left(L::USIZE / 2);
+        copy
+    }
+}
+
+fn turned_twice<T: Turner>(block: GenericArray<u8, T::Size>) -> GenericArray<u8, T::Size>
+    ensures { result ≡ T.turned (T.turned block) }
+{
+    T::turn(T::turned_copy(block.view()))
+}
+
+fn there_and_back(block: GenericArray<u8, U4>) -> GenericArray<u8, U4>
+    ensures { result ≡ block }
+{
+    turned_twice::<Reversal>(block)
+}
+
+fn halves_swapped<N: ArrayLength<u8> + InlineLength>(
+    block: GenericArray<u8, N>,
+) -> GenericArray<u8, N>
+    ensures { result ≡ drop (N.USIZE / 2) block ++ take (N.USIZE / 2) block }
+{
+    Swap::<N>::turn(block)
+}
+
+#[test]
+fn blocks_of_each_length_are_turned(rt: HostRuntime) {
+    let four = GenericArray::from_array([1, 2, 3, 4]);
+    assert!(rt; Reversal::turned_copy(four.view()).as_slice() == [4, 3, 2, 1].as_slice());
+    assert!(rt; there_and_back(four).as_slice() == [1, 2, 3, 4].as_slice());
+    let three = GenericArray::from_array([1, 2, 3]);
+    assert!(rt; turned_twice::<Swap<U3>>(three).as_slice() == [3, 1, 2].as_slice());
+    let five = GenericArray::from_array([1, 2, 3, 4, 5]);
+    assert!(rt; halves_swapped(five).as_slice() == [3, 4, 5, 1, 2].as_slice());
+}
