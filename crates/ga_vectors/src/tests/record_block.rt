@@ -7,8 +7,7 @@ ghost use Rattle.std.specs.Prelude.{◌≡◌, ◌<◌, ◌∷◌, [], IfSome, I
 use crate::tests::hex_writers::rising;
 use ga_records::RecordBlock;
 use ga_test_items::writer::{Sink, WHOLE};
-use generic_array::{AllocError, ArrayLength, GenericArrayRef, LengthError, U1, U2, U3, U4};
-use std::alloc::Global;
+use generic_array::{ArrayLength, GenericArrayRef, LengthError, U1, U2, U3, U4};
 use std::io::ErrorKind;
 use std::test::Fail;
 
@@ -97,32 +96,33 @@ fn records_are_walked_from_both_ends(rt: HostRuntime) -> Result<(), Fail> {
     Ok(())
 }
 
-/// Whether so many records are written in so many writes, with no flush.
-fn are_written_in<N: ArrayLength<u8>>(
-    alloc: Global,
-    count: usize,
-    writes: usize,
-) -> Result<bool, AllocError>
+/// Whether the records of bytes are written in so many writes, with no flush.
+fn are_written_in<N: ArrayLength<u8>>(bytes: &[u8], writes: usize) -> bool
     requires { 0 < N.USIZE }
 {
-    let bytes = rising(alloc, count.saturating_mul(N::USIZE))?;
-    let mut sink = Sink::expecting(bytes.as_slice());
-    Ok(match RecordBlock::<'_, N>::open(bytes.as_slice()) {
+    let mut sink = Sink::expecting(bytes);
+    match RecordBlock::<'_, N>::open(bytes) {
         Ok(block) => block.write_to(&mut sink).is_ok() && sink.has_text_in(writes),
         Err(LengthError) => false,
-    })
+    }
 }
 
 #[test]
 fn many_records_are_written_whole(rt: HostRuntime) -> Result<(), Fail> {
     let alloc = rt.alloc();
-    assert!(rt; are_written_in::<U2>(alloc, 0, 0)?);
+    assert!(rt; are_written_in::<U2>(&[], 0));
     for count in [
         1, 2, 31, 32, 33, 64, 512, 513, 32767, 32768, 32769, 65536, 131_073,
     ] {
-        assert!(rt; are_written_in::<U1>(alloc, count, 1)?, "{count} of one");
-        assert!(rt; are_written_in::<U2>(alloc, count, 1)?, "{count} of two");
-        assert!(rt; are_written_in::<U3>(alloc, count, 1)?, "{count} of three");
+        let ones = rising(alloc, count)?;
+        assert!(rt; are_written_in::<U1>(ones.as_slice(), 1), "{count} of one");
+        let twos = rising(alloc, count.saturating_mul(2))?;
+        assert!(rt; are_written_in::<U2>(twos.as_slice(), 1), "{count} of two");
+        let threes = rising(alloc, count.saturating_mul(3))?;
+        assert!(rt;
+            are_written_in::<U3>(threes.as_slice(), 1),
+            "{count} of three"
+        );
     }
     Ok(())
 }
