@@ -11,10 +11,6 @@ use Rattle.std.proofs.lemmas.Option.{slice_get_past}
 use Rattle.std.specs.Iterator.{YieldsFirst, YieldsFirstBy, YieldsLast, YieldsLastBy}
 use Rattle.std.specs.Option.{option_map}
 
--- no more are passed over than there are
-pub passed-within : (n passed many total : ℕ) → passed ≡ min n many → many ≡ total → passed ≤ total
-passed-within n passed many total count counted = omega arith
-
 module _ {T : Type 0} where
   -- an item of a list, by what is left before it
   slice_get-drop : (n : ℕ) (items : List T) → slice_get (drop n items) 0 ≡ slice_get items n

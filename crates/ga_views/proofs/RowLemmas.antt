@@ -1,7 +1,7 @@
 -- Rows from both ends, and the rows of the items that fill them: what a walk over rows and a cut behind them cite.
 use Rattle.ga_views.specs.Rows.{chunk_count, chunk_rest, row_at, rows}
 use Rattle.std.proofs.Common.{◌≡◌, ℕ, zero, suc, ◌+◌, ◌-◌, ◌*◌, ◌/◌, ◌<◌, ◌≤◌, List, [], ◌∷◌, ◌++◌, None, Some, map}
-use Rattle.std.proofs.Common.{length, take, drop, refl, sym, ap, ◌∙◌, arith, length-append, length-drop, slice_get}
+use Rattle.std.proofs.Common.{length, min, take, drop, refl, sym, ap, ◌∙◌, arith, length-append, length-drop, slice_get}
 use Rattle.std.proofs.Math.Nat.{div-eq-sub-div, div-eq_of_lt, div-mul-le_self, div-zero, mul-div_cancel}
 use Rattle.std.proofs.Math.Nat.{mul-le-mul_right, zero-div}
 use Rattle.std.proofs.lemmas.List.{drop-drop, drop-take, length-take-le, take-take, take_all}
@@ -187,6 +187,27 @@ module _ {X : Type 0} (width : ℕ) (items : List X) (left : List (List X)) (sho
       ap (λ m. rows width (take m items)) fewer
           ∙ (rows-taken width (chunk_count width items - k) items (omega arith) ∙ rw (← shown, length-rows) refl),
     )
+
+-- a cut that passes over n rows, or over all where there are no more
+module _ {X : Type 0} {width passed many size : ℕ} {left : List (List X)} (items : List X) (n : ℕ)
+    (shown : rows width items ≡ left) (count : passed ≡ min n many) (counted : many ≡ length left) (wide : size ≡ width) where
+  least : passed ≤ length left
+  least = omega arith
+
+  fill : passed * size ≡ passed * width
+  fill = ap (λ w. passed * w) wide
+
+  pub passed-items : passed * size ≤ length items
+  passed-items = items-within width items left shown passed (passed * size) least fill
+
+  module _ (whole : length items ≡ chunk_count width items * width) where
+    pub passed-first : let others = drop (passed * size) items in
+        (length others ≡ chunk_count width others * width) × (rows width others ≡ drop passed left)
+    passed-first = passed-front width items left shown passed (passed * size) least fill whole
+
+    pub passed-last : let others = take (length items - passed * size) items in
+        (length others ≡ chunk_count width others * width) × (rows width others ≡ take (length left - passed) left)
+    passed-last = passed-back width items left shown passed (passed * size) least fill whole
 
 -- a row that is split off items which leave no rest: the other items leave none either, and their rows are fewer
 module _ {X : Type 0} (width : ℕ) (items : List X) (whole : length items ≡ chunk_count width items * width)
