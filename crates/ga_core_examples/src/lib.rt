@@ -1,7 +1,8 @@
 //! Examples of inline arrays, views and rows, each proved: what the contracts of `ga_core` give to
 //! those who use it alone.
 //!
-//! All but `records`, which `specs/` cites, stands under `#[cfg(test)]`.
+//! All but `records`, which `specs/` cites, and `digits`, which the examples over all kinds read by,
+//! stands under `#[cfg(test)]`.
 #![tactic(auto)]
 
 #[cfg(test)]
@@ -12,8 +13,8 @@ mod block_buffer;
 mod builders;
 #[cfg(test)]
 mod builds;
-#[cfg(test)]
-mod digits;
+/// The digits that callers read from text.
+pub mod digits;
 #[cfg(test)]
 mod fixed_list;
 #[cfg(test)]

@@ -1,7 +1,7 @@
 //! Callers of any length, each with its exact result.
 ghost use Rattle.generic_array.specs.Length.{FitsInline};
 ghost use Rattle.generic_array.specs.Tries.{try_map};
-ghost use Rattle.ga_examples.specs.Digits.{digit_of};
+ghost use Rattle.ga_core_examples.specs.Digits.{digit_of};
 ghost use Rattle.generic_array.specs.Calls.{MayMap};
 ghost use Rattle.generic_array.specs.Entries.{ActsOnEntry};
 ghost use Rattle.generic_array.specs.Views.{items_of_view};
@@ -9,8 +9,8 @@ ghost use Rattle.std.specs.Int.Bits.{bit_xor};
 ghost use Rattle.std.specs.List.{range_with_len, zip};
 ghost use Rattle.std.specs.Prelude.{◌≡◌, ℕ, ◌+◌, ◌-◌, ◌*◌, ◌%◌, ◌^◌, ◌++◌, ◌<◌, ◌≤◌, IfOk, Ok, fold, length, map, replicate, reverse, sum};
 
-use crate::digits::digit_in;
 use crate::kinds::boxed_one_two_three;
+use ga_core_examples::digits::digit_in;
 use ga_test_items::answers::{gives, has};
 use generic_array::checks::{map_total_by, total_by};
 use generic_array::functional::{

@@ -2,8 +2,8 @@
 ghost use Rattle.generic_array.specs.Length.{FitsInline};
 ghost use Rattle.std.specs.Prelude.{◌≡◌, ℕ, ◌%◌, ◌∷◌, [], ◌^◌, ◌<◌, ◌↔◌, ◌⊎◌, IfErr, IfOk, IsOk, Ok, OnOk, length, reverse, slice_set, sum};
 
-use crate::digits::decimal_digit;
 use crate::kinds::boxed_one_two_three;
+use ga_core_examples::digits::decimal_digit;
 use ga_test_items::answers::gives;
 use generic_array::{
     AllocError, ArrayLength, BoxedArray, BoxedArrayIter, FillError, GenericArray, LengthError,

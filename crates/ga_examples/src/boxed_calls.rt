@@ -1,12 +1,12 @@
 //! Boxed arrays that are borrowed, mapped, zipped and folded, of any length.
-ghost use Rattle.ga_examples.specs.Digits.{digit_of};
+ghost use Rattle.ga_core_examples.specs.Digits.{digit_of};
 ghost use Rattle.generic_array.specs.Tries.{try_map};
 ghost use Rattle.std.specs.Int.Bits.{bit_xor};
 ghost use Rattle.std.specs.List.{zip};
 ghost use Rattle.std.specs.Prelude.{◌≡◌, ◌+◌, ◌%◌, ◌^◌, ◌∷◌, [], ◌⊎◌, IfOk, fold, if◌then◌else◌, map, max, nat_lt};
 
-use crate::digits::digit_in;
 use crate::kinds::boxed_one_two_three;
+use ga_core_examples::digits::digit_in;
 use ga_test_items::answers::gives;
 use generic_array::{AllocError, BoxedArray, U3, Unsigned, box_arr};
 use std::alloc::Global;

@@ -1,13 +1,13 @@
 //! Rows made by a map and joined, of any length: hex digits and back, two arrays in turn, the ends
 //! of rows.
-ghost use Rattle.ga_examples.specs.Digits.{hex_byte, hex_digit};
+ghost use Rattle.ga_examples.specs.HexDigits.{hex_byte, hex_digit};
 ghost use Rattle.generic_array.specs.Length.{FitsInline};
 ghost use Rattle.generic_array.specs.Rows.{rows};
 ghost use Rattle.generic_array.specs.Tries.{try_map};
 ghost use Rattle.std.specs.List.{flat_map, zip};
 ghost use Rattle.std.specs.Prelude.{◌≡◌, ◌*◌, ◌/◌, ◌%◌, ◌∷◌, [], slice_index};
 
-use crate::digits::{digit_in_hex, value_in_hex};
+use crate::hex_digits::{digit_in_hex, value_in_hex};
 use ga_test_items::answers::{gives, has};
 use generic_array::sequence::{Flatten, Unflatten};
 use generic_array::{ArrayLength, GenericArray, U2, U3, U4, U6, arr};

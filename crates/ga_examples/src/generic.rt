@@ -3,7 +3,7 @@ ghost use Rattle.generic_array.specs.Calls.{MayMap};
 ghost use Rattle.std.specs.List.{range_with_len};
 ghost use Rattle.std.specs.Prelude.{◌≡◌, ℕ, ◌+◌, ◌<◌, ◌⊎◌, IfOk, IsOk, OnOk, length, map, refl, replicate};
 
-use crate::digits::decimal_digit;
+use ga_core_examples::digits::decimal_digit;
 use generic_array::functional::{
     FunctionalSequence, MappedError, MappedGenericSequence, MappedPlace, MappedSequence,
 };

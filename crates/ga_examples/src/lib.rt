@@ -12,13 +12,13 @@ mod boxed_slices;
 #[cfg(test)]
 mod conversions;
 #[cfg(test)]
-mod digits;
-#[cfg(test)]
 mod flattened;
 #[cfg(test)]
 mod generic;
 #[cfg(test)]
 mod headers;
+#[cfg(test)]
+mod hex_digits;
 #[cfg(test)]
 mod kinds;
 #[cfg(test)]

@@ -2,9 +2,6 @@
 //!
 //! The iterator is a type parameter of its own: a closure that holds a sequence's associated
 //! iterator isn't covered by the checker.
-//!
-//! A condition `same` always holds. Of two conditions the proof of a call says each by itself, and
-//! a lone one as a whole, which takes longer the more type parameters there are.
 ghost use Rattle.ga_core.specs.Calls.{MayFold, MayMap, MayTryFold, MayTryGenerate, MayTryMap, MayZip};
 ghost use Rattle.ga_core.specs.Entries.{CallAt, CallAtPair, FoldAt};
 ghost use Rattle.ga_core.specs.Runs.{ClosureRun, TryClosureRan, TryClosureRun, FoldRun, TryFoldRun};
@@ -31,7 +28,6 @@ pub(super) fn entries_of<T, S: GenericSequence<T>>(s: S) -> S::IntoIter
 }
 
 // Folds the entries into one value by `f`, in order, starting from `init`.
-// `same` stands here for the prover alone: without it the proof of `fold_by` takes 4 seconds more.
 #[inline(always)]
 pub(super) fn fold_entries<T, I: Iterator + Drop, A, F: FnMut(A, I::Item) -> A>(
     entries: I,
@@ -40,7 +36,6 @@ pub(super) fn fold_entries<T, I: Iterator + Drop, A, F: FnMut(A, I::Item) -> A>(
 ) -> A
     requires callable { SomeEntries I.can_next I.next_gives I.remaining entries
         (λ (entry : I.Item → T) values. MayFold entry F.pre F.step f.old init values) }
-    requires same { init ≡ init }
     ensures run { AllEntries I.can_next I.next_gives I.remaining entries
         (λ (entry : I.Item → T) values.
         FoldRun (FoldAt entry F.step) f.old init values result f.new) }
@@ -52,8 +47,7 @@ pub(super) fn fold_entries<T, I: Iterator + Drop, A, F: FnMut(A, I::Item) -> A>(
     answer
 }
 
-// `fold_entries` of a closure that may fail: its first error, after which no call is made. `same`
-// stands here for the prover alone: without it the proof of `try_fold_by` takes 6 seconds more.
+// `fold_entries` of a closure that may fail: its first error, after which no call is made.
 #[inline(always)]
 pub(super) fn try_fold_entries<T, I: Iterator + Drop, A, E, F: FnMut(A, I::Item) -> Result<A, E>>(
     entries: I,
@@ -62,7 +56,6 @@ pub(super) fn try_fold_entries<T, I: Iterator + Drop, A, E, F: FnMut(A, I::Item)
 ) -> Result<A, E>
     requires callable { SomeEntries I.can_next I.next_gives I.remaining entries
         (λ (entry : I.Item → T) values. MayTryFold entry F.pre F.step f.old init values) }
-    requires same { init ≡ init }
     ensures run { AllEntries I.can_next I.next_gives I.remaining entries
         (λ (entry : I.Item → T) values.
         TryFoldRun (FoldAt entry F.step) f.old init values result f.new) }
@@ -77,8 +70,7 @@ pub(super) fn try_fold_entries<T, I: Iterator + Drop, A, E, F: FnMut(A, I::Item)
     Ok(answer)
 }
 
-// The fold by `g` over the items of what was made, from `init`. `same` stands here for the prover
-// alone: without it the proof of `map_total_by` takes 80 seconds more.
+// The fold by `g` over the items of what was made, from `init`.
 #[inline(always)]
 pub(crate) fn fold_made<U, M: GenericSequence<U>, A, G: FnMut(A, U) -> A>(
     made: M::Sequence,
@@ -86,7 +78,6 @@ pub(crate) fn fold_made<U, M: GenericSequence<U>, A, G: FnMut(A, U) -> A>(
     g: &mut G,
 ) -> A
     requires callable { MayFold (λ item. item) G.pre G.step g.old init (M.Sequence.items made) }
-    requires same { init ≡ init }
     ensures run { FoldRun G.step g.old init (M.Sequence.items made) result g.new }
     ensures acts { (k : A → U → A) → ActsAsOnTwo G.FnMut g.old k
         → result ≡ fold k init (M.Sequence.items made) }

@@ -2,11 +2,11 @@ use Rattle.ga_core.proofs.ActsLemmas.{answer_of_fold}
 use Rattle.generic_array.proofs.FoldLemmas.{FoldRun-by_items}
 use Rattle.generic_array.proofs.functional.walks.fold_made.Goals as goal
 
-pub fold_entries-requires-clause-callable : goal.fold_entries-requires-clause-callable
-fold_entries-requires-clause-callable g c =
+pub fold_entries-requires : goal.fold_entries-requires
+fold_entries-requires g c =
     let items = g.M.Sequence.AsSlice.items c.args.made in
     let gives = g.met.M.GenericSequence.gives_items c.args.made c.into_iter.result c.into_iter.ensures.into_iter_gives
-    in ((λ item. item), items, gives, c.requires.callable)
+    in record { callable = ((λ item. item), items, gives, c.requires.callable) }
 
 pub returns-clause-run : goal.returns-clause-run
 returns-clause-run g c =

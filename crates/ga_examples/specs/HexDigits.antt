@@ -1,10 +1,6 @@
--- The digits that callers read from text.
+-- The hex digits that callers read from text and write.
 use Rattle.generic_array.specs.Tries.{result_and_then}
 use Rattle.std.specs.Prelude.{ℕ, ◌+◌, ◌-◌, ◌*◌, ◌&&◌, List, Result, Ok, Err, nat_le, nat_lt, slice_index, if◌then◌else◌}
-
--- the digit that a byte stands for, or the byte where it is no digit in this base
-abbrev pub digit_of : ℕ → ℕ → Result ℕ ℕ
-digit_of base byte = if nat_le 48 byte && nat_lt (byte - 48) base then Ok (byte - 48) else Err byte
 
 -- the hex digit of a number below 16
 abbrev pub hex_digit : ℕ → ℕ
