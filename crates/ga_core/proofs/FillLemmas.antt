@@ -142,7 +142,7 @@ module _ {S T E : Type 0} (next_gives : S → Option (Result T E) → S → Type
       TakeRuns-from_takes next_gives (λ items. IsOkAnd (try_map (λ item. item) items) P) before room
       (map Ok good) after takes
       (subst (λ (values : Result (List T) E). IsOkAnd values P) (sym (all_good good)) holds)
-  TakeGoodRuns-from_takes P before room good (Err error) after (calls, short) holds =
+  TakeGoodRuns-from_takes P before _ good (Err error) after (calls, short) holds =
       (stopped next_gives before (map Ok good) (Err error) after calls, refl, (good, holds, refl, short))
 
 module _ {S T E F : Type 0} (next_gives : S → Option (Result T E) → S → Type 0) where

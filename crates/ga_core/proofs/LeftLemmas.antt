@@ -3,11 +3,11 @@ use Rattle.arrayvec.proofs.IterLemmas.{slice_range_first, slice_range_last}
 use Rattle.ga_core.proofs.SlotLemmas.{refill-long}
 use Rattle.ga_views.proofs.PartLemmas.{part-before, part-behind}
 use Rattle.ga_views.specs.Parts.{part_set}
-use Rattle.std.proofs.Common.{◌≡◌, ℕ, ◌+◌, ◌^◌, ◌-◌, ◌%◌, ◌<◌, ◌≤◌, List, [], ◌∷◌, ◌++◌, length, drop, take, reverse}
+use Rattle.std.proofs.Common.{◌≡◌, ℕ, ◌+◌, ◌-◌, ◌%◌, ◌<◌, ◌≤◌, List, [], ◌∷◌, ◌++◌, length, drop, take}
 use Rattle.std.proofs.Common.{ap, ◌∙◌, arith, get_or, slice_get, slice_set, length-append, length-drop, length-take}
 use Rattle.std.proofs.Common.{Option, None, Some, refl, sym, mod-eq_of_lt}
 use Rattle.std.proofs.lemmas.List.{append-nil, length_push, nil_from_length}
-use Rattle.std.proofs.lemmas.List.{drop-drop, drop-take, reverse-append, take-take, take_all}
+use Rattle.std.proofs.lemmas.List.{drop-drop, drop-take, take-take, take_all}
 use Rattle.std.specs.Iterator.{YieldsLast}
 use Rattle.std.specs.List.{refill, slice_range}
 
