@@ -15,13 +15,13 @@ use Rattle.std.proofs.lemmas.Nat.{xor_comm}
 
 -- a block lies at each place before the end of whole blocks, and whole blocks behind it
 module _ (width len done next : ℕ) (whole : (len - done) % width ≡ 0) (below : done < len) where
-  pub block_within : done + width ≤ len
+  block_within : done + width ≤ len
   block_within = elim (cases_lt (len - done) width) as (λ _. done + width ≤ len) [
     | inl few ↦ absurd (omega (arith, mod-eq_of_lt few, whole))
     | inr enough ↦ omega arith
   ]
 
-  pub whole_behind : next ≡ done + width → (len - next) % width ≡ 0
+  whole_behind : next ≡ done + width → (len - next) % width ≡ 0
   whole_behind goes =
       let enough : width ≤ len - done = omega (arith, block_within) in
       let left : len - next ≡ len - done - width = omega arith in
@@ -32,6 +32,17 @@ under-comm [] [] = refl
 under-comm [] (y ∷ ys) = refl
 under-comm (x ∷ xs) [] = refl
 under-comm (x ∷ xs) (y ∷ ys) = ap₂ ◌∷◌ (xor_comm x y) (under-comm xs ys)
+
+-- A turn of a loop over the blocks: at a place, as many bytes as the vector has are written over by a part, and the
+-- next place lies behind them.
+pub record Turn (width : ℕ) (vector start now new part : List ℕ) (done next : ℕ) : Type 0 where
+  pub goes : next ≡ done + width
+  pub whole : (length now - done) % width ≡ 0
+  pub below : done < length now
+  pub full : length vector ≡ width
+  pub long : length new ≡ length now
+  pub left : drop done now ≡ drop done start
+  pub is : new ≡ take done now ++ part ++ drop (done + width) now
 
 module _ (width : ℕ) (some : 0 < width) (encrypted decrypted : List ℕ → List ℕ) where
   -- the first block of a text, and the others
@@ -85,10 +96,18 @@ module _ (width : ℕ) (some : 0 < width) (encrypted decrypted : List ℕ → Li
         ap (cbc_decrypted decrypted width first) (sym (append-nil now) ∙ ap (λ xs. xs ++ []) (sym all_done))
         ∙ (back [] ∙ (ap₂ ◌++◌ (take_all done start (omega arith)) (decrypted-none vector) ∙ append-nil start))
 
-  module _ (first vector start now new part : List ℕ) (done next : ℕ) (goes : next ≡ done + width)
-      (within : done + width ≤ length now) (full : length vector ≡ width) (long : length new ≡ length now)
-      (left : drop done now ≡ drop done start)
-      (is : new ≡ take done now ++ part ++ drop (done + width) now) where
+  module _ {vector start now new part : List ℕ} {done next : ℕ} (first : List ℕ)
+      (turn : Turn width vector start now new part done next) where
+    within : done + width ≤ length now
+    within = block_within width (length now) done next turn.whole turn.below
+
+    pub next-within : next ≤ length new
+    next-within = omega (arith, within, turn.goes, turn.long)
+
+    pub next-whole : (length new - next) % width ≡ 0
+    next-whole = ap (λ n. (n - next) % width) turn.long
+        ∙ whole_behind width (length now) done next turn.whole turn.below turn.goes
+
     abbrev pub row : List ℕ
     row = slice_range now done (done + width)
 
@@ -96,38 +115,39 @@ module _ (width : ℕ) (some : 0 < width) (encrypted decrypted : List ℕ → Li
     row_is = let many : done + width - done ≡ width = omega arith in ap (λ n. take n (drop done now)) many
 
     row_len : length row ≡ width
-    row_len = ap length row_is ∙ length-take-le width (drop done now) (omega (arith, length-drop done now))
+    row_len = ap length row_is ∙ length-take-le width (drop done now) (omega (arith, within, length-drop done now))
 
     part_len : length part ≡ width
     part_len = omega (
       arith,
-      ap length is,
+      within,
+      ap length turn.is,
       length-append (take done now ++ part) (drop (done + width) now),
       length-append (take done now) part,
       length-take done now,
       length-drop (done + width) now,
-      long,
+      turn.long,
     )
 
     front_len : length (take done now ++ part) ≡ next
-    front_len = omega (arith, length-append (take done now) part, length-take done now, part_len)
+    front_len = omega (arith, within, length-append (take done now) part, length-take done now, part_len)
 
     front_is : take next new ≡ take done now ++ part
-    front_is = ap (take next) is ∙ take_at (take done now ++ part) (drop (done + width) now) next front_len
+    front_is = ap (take next) turn.is ∙ take_at (take done now ++ part) (drop (done + width) now) next front_len
 
     behind_is : drop next new ≡ drop (done + width) now
-    behind_is = ap (drop next) is ∙ drop_at (take done now ++ part) (drop (done + width) now) next front_len
+    behind_is = ap (drop next) turn.is ∙ drop_at (take done now ++ part) (drop (done + width) now) next front_len
 
     rest_is : drop next new ≡ drop width (drop done now)
     rest_is = behind_is ∙ sym (drop-drop width done now)
 
-    pub left-after : drop next new ≡ drop next start
-    left-after = rest_is ∙ (ap (drop width) left ∙ (drop-drop width done start ∙ ap (λ n. drop n start) (sym goes)))
+    pub next-left : drop next new ≡ drop next start
+    next-left = rest_is ∙ (ap (drop width) turn.left ∙ (drop-drop width done start ∙ ap (λ n. drop n start) (sym turn.goes)))
 
     -- the first bytes of the text as it was
     start_is : take next start ≡ take done start ++ row
-    start_is = ap (λ n. take n start) goes
-        ∙ (take-add done width start ∙ ap (λ xs. take done start ++ xs) (ap (take width) (sym left) ∙ sym row_is))
+    start_is = ap (λ n. take n start) turn.goes
+        ∙ (take-add done width start ∙ ap (λ xs. take done start ++ xs) (ap (take width) (sym turn.left) ∙ sym row_is))
 
     -- the vector is the last block of those before the next place
     vector_is : (before block : List ℕ) → length before ≡ done → vector ≡ drop done (first ++ before)
@@ -135,23 +155,24 @@ module _ (width : ℕ) (some : 0 < width) (encrypted decrypted : List ℕ → Li
     vector_is before block far same =
         let front : length (first ++ before) ≡ next = omega (
           arith,
+          within,
           length-append first before,
           length-drop done (first ++ before),
           ap length same,
-          full,
-          goes,
+          turn.full,
+          turn.goes,
         ) in
         sym (ap (drop next) (sym (append_assoc first before block)) ∙ drop_at (first ++ before) block next front)
 
     pub encrypted_vector-more : vector ≡ drop done (first ++ take done now) → part ≡ drop next (first ++ take next new)
     encrypted_vector-more same =
-        vector_is (take done now) part (omega (arith, length-take done now)) same
+        vector_is (take done now) part (omega (arith, within, length-take done now)) same
         ∙ ap (λ xs. drop next (first ++ xs)) (sym front_is)
 
     pub decrypted_vector-more : length start ≡ length now → vector ≡ drop done (first ++ take done start)
         → (block : List ℕ) → block ≡ row → block ≡ drop next (first ++ take next start)
     decrypted_vector-more far same block taken =
-        taken ∙ (vector_is (take done start) row (omega (arith, length-take done start)) same
+        taken ∙ (vector_is (take done start) row (omega (arith, within, length-take done start)) same
         ∙ ap (λ xs. drop next (first ++ xs)) (sym start_is))
 
     pub encrypted-more : part ≡ encrypted (under vector row)
@@ -163,7 +184,7 @@ module _ (width : ℕ) (some : 0 < width) (encrypted decrypted : List ℕ → Li
         let one : part ++ cbc_encrypted encrypted width part (drop width (drop done now))
         ≡ cbc_encrypted encrypted width vector (drop done now) =
         ap (λ xs. xs ++ cbc_encrypted encrypted width xs (drop width (drop done now))) block
-        ∙ sym (encrypted-first vector (drop done now) (omega (arith, length-drop done now))) in
+        ∙ sym (encrypted-first vector (drop done now) (omega (arith, within, length-drop done now))) in
         ap₂ (λ xs ys. xs ++ cbc_encrypted encrypted width part ys) front_is rest_is
         ∙ (append_assoc (take done now) part (cbc_encrypted encrypted width part (drop width (drop done now)))
         ∙ (ap (λ xs. take done now ++ xs) one ∙ so_far))
@@ -191,7 +212,7 @@ module _ (width : ℕ) (some : 0 < width) (encrypted decrypted : List ℕ → Li
         ≡ take next start ++ cbc_decrypted decrypted width part rest
     back-more undone back rest =
         let again : under (decrypted part) vector ≡ row =
-        ap (λ xs. under xs vector) (undone ∙ under-comm vector row) ∙ under_twice row vector (row_len ∙ sym full) in
+        ap (λ xs. under xs vector) (undone ∙ under-comm vector row) ∙ under_twice row vector (row_len ∙ sym turn.full) in
         ap (cbc_decrypted decrypted width first)
         (ap (λ xs. xs ++ rest) front_is ∙ append_assoc (take done now) part rest)
         ∙ (back (part ++ rest)

@@ -1,8 +1,8 @@
-use Rattle.ga_ciphers.proofs.CbcLemmas.{block_within, decrypted-ended, decrypted-more, decrypted_vector-more}
-use Rattle.ga_ciphers.proofs.CbcLemmas.{left-after, vector-ended, whole_behind}
+use Rattle.ga_ciphers.proofs.CbcLemmas.{Turn, decrypted-ended, decrypted-more, decrypted_vector-more}
+use Rattle.ga_ciphers.proofs.CbcLemmas.{next-left, next-whole, next-within, vector-ended}
 use Rattle.ga_ciphers.proofs.cbc.decrypt_blocks.Goals as goal
 use Rattle.ga_ciphers.specs.Keystream.{under}
-use Rattle.std.proofs.Common.{◌≡◌, ◌+◌, ◌-◌, ◌%◌, ◌<◌, ◌≤◌, ap, arith, length, refl, slice_range, sym, ◌∙◌}
+use Rattle.std.proofs.Common.{◌≡◌, ◌+◌, ◌<◌, ap, arith, length, refl, slice_range, sym, ◌∙◌}
 
 pub rows-preserved : goal.rows-preserved
 rows-preserved g c =
@@ -11,30 +11,27 @@ rows-preserved g c =
     let encrypted = g.C.BlockCipher.encrypted c.args.cipher.now in
     let decrypted = g.C.BlockCipher.decrypted c.args.cipher.now in
     let first = c.args.vector.now in
-    let start = c.args.text.now in
-    let vector = c.rows.vector in
-    let now = c.rows.text in
-    let new = c.decrypt_at.new.text in
-    let done = c.rows.done in
-    let next = done + c.USIZE-done.result in
     let so_far = c.rows.invariant in
     let made = c.decrypt_at.ensures in
-    let goes : next ≡ done + width = ap (λ n. done + n) c.USIZE-done.ensures in
-    let long : length new ≡ length now = c.decrypt_at.auto.text in
-    let block = c.decrypt_at.new.vector in
-    let part = under (decrypted (slice_range now done (done + width))) vector in
-    let same : length start ≡ length now = omega (arith, c.rows.auto.text) in
-    let within : done + width ≤ length now = block_within width (length now) done next so_far.whole c.rows-test.true in
+    let part = under (decrypted (slice_range c.rows.text c.rows.done (c.rows.done + width))) c.rows.vector in
+    let turn : Turn width c.rows.vector c.args.text.now c.rows.text c.decrypt_at.new.text part c.rows.done
+    (c.rows.done + c.USIZE-done.result) = record {
+      goes = ap (λ n. c.rows.done + n) c.USIZE-done.ensures;
+      whole = so_far.whole;
+      below = c.rows-test.true;
+      full = made.len;
+      long = c.decrypt_at.auto.text;
+      left = so_far.left;
+      is = made.text;
+    } in
     record {
-      done = omega (arith, within, goes, long);
-      whole = ap (λ n. (n - next) % width) long
-          ∙ whole_behind width (length now) done next so_far.whole c.rows-test.true goes;
-      left = left-after width some encrypted decrypted first vector start now new part done next goes within made.len
-          long so_far.left made.text;
-      vector = decrypted_vector-more width some encrypted decrypted first vector start now new part done next goes
-          within made.len long so_far.left made.text same so_far.vector block made.vector;
-      text = decrypted-more width some encrypted decrypted first vector start now new part done next goes within
-          made.len long so_far.left made.text block made.vector (refl {a = part}) so_far.text;
+      done = next-within width some encrypted decrypted first turn;
+      whole = next-whole width some encrypted decrypted first turn;
+      left = next-left width some encrypted decrypted first turn;
+      vector = decrypted_vector-more width some encrypted decrypted first turn (omega (arith, c.rows.auto.text))
+          so_far.vector c.decrypt_at.new.vector made.vector;
+      text = decrypted-more width some encrypted decrypted first turn c.decrypt_at.new.vector made.vector (refl {a = part})
+          so_far.text;
     }
 
 pub returns : goal.returns

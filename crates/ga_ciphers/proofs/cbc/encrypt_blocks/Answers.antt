@@ -1,7 +1,7 @@
-use Rattle.ga_ciphers.proofs.CbcLemmas.{back-ended, back-more, block_within, encrypted-ended, encrypted-more}
-use Rattle.ga_ciphers.proofs.CbcLemmas.{encrypted_vector-more, left-after, vector-ended, whole_behind}
+use Rattle.ga_ciphers.proofs.CbcLemmas.{Turn, back-ended, back-more, encrypted-ended, encrypted-more}
+use Rattle.ga_ciphers.proofs.CbcLemmas.{encrypted_vector-more, next-left, next-whole, next-within, vector-ended}
 use Rattle.ga_ciphers.proofs.cbc.encrypt_blocks.Goals as goal
-use Rattle.std.proofs.Common.{◌≡◌, ◌+◌, ◌-◌, ◌%◌, ◌<◌, ◌≤◌, ap, arith, length, ◌∙◌}
+use Rattle.std.proofs.Common.{◌≡◌, ◌+◌, ◌<◌, ap, arith, length}
 
 pub rows-preserved : goal.rows-preserved
 rows-preserved g c =
@@ -10,30 +10,25 @@ rows-preserved g c =
     let encrypted = g.C.BlockCipher.encrypted c.args.cipher.now in
     let decrypted = g.C.BlockCipher.decrypted c.args.cipher.now in
     let first = c.args.vector.now in
-    let start = c.args.text.now in
-    let vector = c.rows.vector in
-    let now = c.rows.text in
-    let new = c.encrypt_at.new.text in
-    let part = c.encrypt_at.new.vector in
-    let done = c.rows.done in
-    let next = done + c.USIZE-done.result in
     let so_far = c.rows.invariant in
     let made = c.encrypt_at.ensures in
-    let goes : next ≡ done + width = ap (λ n. done + n) c.USIZE-done.ensures in
-    let long : length new ≡ length now = c.encrypt_at.auto.text in
-    let within : done + width ≤ length now = block_within width (length now) done next so_far.whole c.rows-test.true in
+    let turn : Turn width c.rows.vector c.args.text.now c.rows.text c.encrypt_at.new.text c.encrypt_at.new.vector c.rows.done
+    (c.rows.done + c.USIZE-done.result) = record {
+      goes = ap (λ n. c.rows.done + n) c.USIZE-done.ensures;
+      whole = so_far.whole;
+      below = c.rows-test.true;
+      full = made.len;
+      long = c.encrypt_at.auto.text;
+      left = so_far.left;
+      is = made.text;
+    } in
     record {
-      done = omega (arith, within, goes, long);
-      whole = ap (λ n. (n - next) % width) long
-          ∙ whole_behind width (length now) done next so_far.whole c.rows-test.true goes;
-      left = left-after width some encrypted decrypted first vector start now new part done next goes within made.len
-          long so_far.left made.text;
-      vector = encrypted_vector-more width some encrypted decrypted first vector start now new part done next goes
-          within made.len long so_far.left made.text so_far.vector;
-      text = encrypted-more width some encrypted decrypted first vector start now new part done next goes within
-          made.len long so_far.left made.text made.vector so_far.text;
-      back = back-more width some encrypted decrypted first vector start now new part done next goes within made.len
-          long so_far.left made.text made.back so_far.back;
+      done = next-within width some encrypted decrypted first turn;
+      whole = next-whole width some encrypted decrypted first turn;
+      left = next-left width some encrypted decrypted first turn;
+      vector = encrypted_vector-more width some encrypted decrypted first turn so_far.vector;
+      text = encrypted-more width some encrypted decrypted first turn made.vector so_far.text;
+      back = back-more width some encrypted decrypted first turn made.back so_far.back;
     }
 
 pub returns : goal.returns
