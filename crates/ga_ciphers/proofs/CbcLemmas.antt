@@ -39,7 +39,7 @@ pub record Turn (width : ℕ) (vector start now new part : List ℕ) (done next 
   pub goes : next ≡ done + width
   pub whole : (length now - done) % width ≡ 0
   pub below : done < length now
-  pub full : length vector ≡ width
+  pub wide : length vector ≡ width
   pub long : length new ≡ length now
   pub left : drop done now ≡ drop done start
   pub is : new ≡ take done now ++ part ++ drop (done + width) now
@@ -159,7 +159,7 @@ module _ (width : ℕ) (some : 0 < width) (encrypted decrypted : List ℕ → Li
           length-append first before,
           length-drop done (first ++ before),
           ap length same,
-          turn.full,
+          turn.wide,
           turn.goes,
         ) in
         sym (ap (drop next) (sym (append_assoc first before block)) ∙ drop_at (first ++ before) block next front)
@@ -212,7 +212,7 @@ module _ (width : ℕ) (some : 0 < width) (encrypted decrypted : List ℕ → Li
         ≡ take next start ++ cbc_decrypted decrypted width part rest
     back-more undone back rest =
         let again : under (decrypted part) vector ≡ row =
-        ap (λ xs. under xs vector) (undone ∙ under-comm vector row) ∙ under_twice row vector (row_len ∙ sym turn.full) in
+        ap (λ xs. under xs vector) (undone ∙ under-comm vector row) ∙ under_twice row vector (row_len ∙ sym turn.wide) in
         ap (cbc_decrypted decrypted width first)
         (ap (λ xs. xs ++ rest) front_is ∙ append_assoc (take done now) part rest)
         ∙ (back (part ++ rest)
