@@ -80,10 +80,11 @@ impl Account {
 
     /// An input of N items in a block.
     pub fn boxed<T: Sample, N: Unsigned>(&self, alloc: Global) -> Option<BoxedArray<T, N>> {
-        self.input(
-            N::USIZE,
-            BoxedArray::generate(alloc, |index: usize| -> T { nth_sample(index) }),
-        )
+        let mut items = self.input(N::USIZE, BoxedArray::<T, N>::default_boxed(alloc))?;
+        for (index, item) in items.as_mut_slice().iter_mut().enumerate() {
+            *item = nth_sample(index);
+        }
+        Some(items)
     }
 
     /// An input of so many items in a vector.

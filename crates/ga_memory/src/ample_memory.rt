@@ -49,6 +49,16 @@ fn counts_built<T: Sample, S: AsSlice<T> + Drop, E: Drop, P: Drop>(
     }
 }
 
+/// Whether these are so many items, each of this number.
+fn are_all<T: Sample>(items: &[T], number: u32, len: usize) -> bool {
+    for item in items {
+        if item.number() != number {
+            return false;
+        }
+    }
+    items.len() == len
+}
+
 /// What came of a call that makes so many times the item of this number.
 fn is_all<T: Sample, S: AsSlice<T> + Drop, E: Drop>(
     made: Result<S, E>,
@@ -56,11 +66,7 @@ fn is_all<T: Sample, S: AsSlice<T> + Drop, E: Drop>(
     len: usize,
 ) -> Came {
     match made {
-        Ok(made) => {
-            let items = made.as_slice();
-            let is_all = items.iter().all(|item| item.number() == number);
-            exact_if(is_all && items.len() == len)
-        }
+        Ok(made) => exact_if(are_all(made.as_slice(), number, len)),
         Err(_refused) => Some(Outcome::Refused),
     }
 }

@@ -2,7 +2,7 @@
 use std::alloc::Global;
 
 /// What came of a case.
-#[derive(Drop)]
+#[derive(Clone, Copy)]
 pub enum Outcome {
     /// The exact result.
     Exact,

@@ -4,6 +4,7 @@ ghost use Rattle.ga_core.specs.Length.{FitsInline};
 use crate::items::number;
 use crate::scripted::Numbered;
 use ga_core::{ArrayLength, GenericArray};
+use std::marker::PhantomData;
 
 /// An item that is made of a digit, which is its number.
 pub trait Sample: Numbered + Copy + Default + Drop {
@@ -26,7 +27,7 @@ impl Numbered for [u64; 9] {
     /// The number that all words have, or 0.
     fn number(&self) -> u32 {
         let first = self[0];
-        if self.iter().all(|word| *word == first) {
+        if *self == [first; 9] {
             (first % 10) as u32
         } else {
             0
@@ -45,11 +46,47 @@ pub fn nth_sample<T: Sample>(index: usize) -> T {
     T::of(number(index))
 }
 
+/// Gives so many items, numbered from 1.
+#[derive(Drop)]
+pub struct Samples<T> {
+    given: usize,
+    end: usize,
+    gives: PhantomData<T>,
+}
+
+impl<T: Sample> Samples<T> {
+    /// An iterator of so many items.
+    pub fn new(end: usize) -> Self {
+        Samples {
+            given: 0,
+            end,
+            gives: PhantomData,
+        }
+    }
+}
+
+impl<T: Sample> Iterator for Samples<T> {
+    type Item = T;
+
+    fn next(&mut self) -> Option<T> {
+        let index = self.given;
+        if index >= self.end {
+            return None;
+        }
+        self.given = index + 1;
+        Some(nth_sample(index))
+    }
+}
+
 /// The array of N items, numbered from 1.
 pub fn inline_samples<T: Sample, N: ArrayLength<T>>() -> GenericArray<T, N>
     requires { FitsInline N.USIZE }
 {
-    GenericArray::generate(|index: usize| -> T { nth_sample(index) })
+    let mut items: GenericArray<T, N> = GenericArray::default();
+    for (index, item) in items.as_mut_slice().iter_mut().enumerate() {
+        *item = nth_sample(index);
+    }
+    items
 }
 
 /// Whether these are the items of `inline_samples`, so many of them.

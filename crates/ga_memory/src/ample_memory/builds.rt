@@ -3,16 +3,11 @@ use super::{counts, counts_built, exact_if, good, is_all};
 use crate::account::{Account, Call, Came};
 use ga_headline::builds::{build_of_items, fill_boxed};
 use ga_test_items::outcome::Outcome;
-use ga_test_items::samples::{Sample, are_samples, nth_sample};
+use ga_test_items::samples::{Sample, Samples, are_samples, nth_sample};
 use generic_array::sequence::{FallibleGenericSequence, FromFallibleIterator, GenericSequence};
 use generic_array::{BoxedArray, FillError, Unsigned, box_arr};
 use std::alloc::Global;
 use std::convert::AsSlice;
-
-/// The item of an index, as the good result of a call that may fail.
-pub(super) fn good_sample<T: Sample>(index: usize) -> Result<T, u32> {
-    good(nth_sample(index))
-}
 
 /// What came of a fill that may be given an error or another number of items.
 fn counts_filled<T: Sample, S: AsSlice<T> + Drop, E: Drop, P: Drop>(
@@ -31,7 +26,7 @@ fn of_closures<T: Sample, N: Unsigned>(alloc: Global) -> [Call; 6] {
     let (len, item) = (N::USIZE, T::of(7));
     let generate = BoxedArray::<T, N>::generate(alloc, |index: usize| -> T { nth_sample(index) });
     let try_generate = BoxedArray::<T, N>::try_generate(alloc, |index: usize| -> Result<T, u32> {
-        good_sample(index)
+        good(nth_sample(index))
     });
     let defaults = BoxedArray::<T, N>::default_boxed(alloc);
     let copies = BoxedArray::<T, N>::from_copies(alloc, item);
@@ -54,11 +49,11 @@ fn of_closures<T: Sample, N: Unsigned>(alloc: Global) -> [Call; 6] {
 /// The builds from iterators.
 fn of_iterators<T: Sample, N: Unsigned>(alloc: Global) -> [Call; 3] {
     let len = N::USIZE;
-    let items = (0..len).map(|index: usize| -> T { nth_sample(index) });
+    let items = Samples::<T>::new(len);
     let by_iter = BoxedArray::<T, N>::try_boxed_from_iter(alloc, items);
-    let results = (0..len).map(|index: usize| -> Result<T, u32> { good_sample(index) });
+    let results = Samples::<T>::new(len).map(good::<T>);
     let by_results = BoxedArray::<T, N>::try_boxed_from_fallible_iter(alloc, results);
-    let mut items = (0..len).map(|index: usize| -> T { nth_sample(index) });
+    let mut items = Samples::<T>::new(len);
     let by_headline = fill_boxed::<T, N, _>(alloc, &mut items);
     [
         (
@@ -90,10 +85,10 @@ where
     });
     let try_generate = <S as FallibleGenericSequence<T>>::try_generate(
         place,
-        |index: usize| -> Result<T, u32> { good_sample(index) },
+        |index: usize| -> Result<T, u32> { good(nth_sample(index)) },
     );
     let repeat = <S as GenericSequence<T>>::repeat(place, T::of(7));
-    let results = (0..len).map(|index: usize| -> Result<T, u32> { good_sample(index) });
+    let results = Samples::<T>::new(len).map(good::<T>);
     let by_results = S::from_fallible_iter(place, results);
     [
         ("GenericSequence::generate", 1, counts(generate, len)),

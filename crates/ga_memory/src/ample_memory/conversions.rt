@@ -2,7 +2,7 @@
 ghost use Rattle.generic_array.specs.Length.{FitsInline};
 ghost use Rattle.std.specs.Prelude.{◌≤◌};
 
-use super::{counts, counts_built, exact_if, is_all};
+use super::{counts, exact_if, is_all};
 use crate::account::{Account, Call, Came};
 use ga_test_items::outcome::Outcome;
 use ga_test_items::samples::{Sample, are_samples, inline_samples};
@@ -21,10 +21,15 @@ fn fills_a_vector<T: Sample>(made: Result<Vec<T>, AllocError>, len: usize) -> Ca
     }
 }
 
-/// What came of a conversion of another number of items.
-fn is_other_length<S: Drop>(made: Result<Result<S, LengthError>, AllocError>) -> Came {
+/// What came of a conversion of so many items, of which only `wanted` are an array.
+fn is_built<T: Sample, S: AsSlice<T> + Drop>(
+    made: Result<Result<S, LengthError>, AllocError>,
+    len: usize,
+    wanted: usize,
+) -> Came {
     match made {
-        Ok(built) => exact_if(matches!(built, Err(LengthError))),
+        Ok(Ok(built)) => exact_if(len == wanted && are_samples(built.as_slice(), len)),
+        Ok(Err(LengthError)) => exact_if(len != wanted),
         Err(AllocError) => Some(Outcome::Refused),
     }
 }
@@ -57,49 +62,35 @@ fn slice<T: Sample>(alloc: Global, account: &Account, len: usize) -> Option<Boxe
     Some(account.vector(alloc, len)?.into_boxed_slice())
 }
 
-fn of_vec<T: Sample, N: Unsigned>(alloc: Global, account: &Account) -> Came {
-    let items = account.vector(alloc, N::USIZE)?;
-    counts_built(BoxedArray::<T, N>::try_from_vec(alloc, items), N::USIZE)
+fn of_vec<T: Sample, N: Unsigned>(alloc: Global, account: &Account, len: usize) -> Came {
+    let items = account.vector::<T>(alloc, len)?;
+    let built = BoxedArray::<T, N>::try_from_vec(alloc, items);
+    is_built(built, len, N::USIZE)
 }
 
-fn of_slice<T: Sample, N: Unsigned>(alloc: Global, account: &Account) -> Came {
-    let items = slice(alloc, account, N::USIZE)?;
-    counts_built(
-        BoxedArray::<T, N>::try_from_boxed_slice(alloc, items),
-        N::USIZE,
-    )
+fn of_slice<T: Sample, N: Unsigned>(alloc: Global, account: &Account, len: usize) -> Came {
+    let items = slice::<T>(alloc, account, len)?;
+    let built = BoxedArray::<T, N>::try_from_boxed_slice(alloc, items);
+    is_built(built, len, N::USIZE)
 }
 
 /// The conversions from and to boxed arrays.
 fn of_boxed<T: Sample, N: Unsigned>(alloc: Global, account: &Account) -> [Call; 4] {
     let into_slice = into_slice::<T, N>(alloc, account);
-    let of_slice = of_slice::<T, N>(alloc, account);
+    let of_vec = of_vec::<T, N>(alloc, account, N::USIZE);
+    let of_slice = of_slice::<T, N>(alloc, account, N::USIZE);
     [
         ("BoxedArray::into_vec", 1, into_vec::<T, N>(alloc, account)),
         ("BoxedArray::into_boxed_slice", 1, into_slice),
-        (
-            "BoxedArray::try_from_vec",
-            1,
-            of_vec::<T, N>(alloc, account),
-        ),
+        ("BoxedArray::try_from_vec", 1, of_vec),
         ("BoxedArray::try_from_boxed_slice", 1, of_slice),
     ]
 }
 
-fn of_other_vec<T: Sample, N: Unsigned>(alloc: Global, account: &Account, len: usize) -> Came {
-    let items = account.vector(alloc, len)?;
-    is_other_length(BoxedArray::<T, N>::try_from_vec(alloc, items))
-}
-
-fn of_other_slice<T: Sample, N: Unsigned>(alloc: Global, account: &Account, len: usize) -> Came {
-    let items = slice(alloc, account, len)?;
-    is_other_length(BoxedArray::<T, N>::try_from_boxed_slice(alloc, items))
-}
-
 /// The conversions of so many items that they aren't N.
 fn of_others<T: Sample, N: Unsigned>(alloc: Global, account: &Account, len: usize) -> [Call; 2] {
-    let of_vec = of_other_vec::<T, N>(alloc, account, len);
-    let of_slice = of_other_slice::<T, N>(alloc, account, len);
+    let of_vec = of_vec::<T, N>(alloc, account, len);
+    let of_slice = of_slice::<T, N>(alloc, account, len);
     [
         ("BoxedArray::try_from_vec", 0, of_vec),
         ("BoxedArray::try_from_boxed_slice", 0, of_slice),

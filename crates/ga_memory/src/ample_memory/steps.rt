@@ -1,11 +1,10 @@
 //! Runs of steps, whose replies need room, alone and behind a map and a build.
-use super::builds::good_sample;
 use super::{exact_if, good};
 use crate::account::{Account, Came, with_room};
 use ga_headline::steps::{walk, walk_on};
 use ga_headline::whole::{Stopped, build_map_walk, map_walk};
 use ga_test_items::outcome::Outcome;
-use ga_test_items::samples::Sample;
+use ga_test_items::samples::{Sample, Samples};
 use generic_array::steps::{Reply, Step, TwoEndedSequence, run_steps};
 use generic_array::{AllocError, BoxedArray, Unsigned};
 use std::alloc::Global;
@@ -113,7 +112,7 @@ fn is_built_mapped_and_walked<T: Sample, N: Unsigned>(
     let steps = takes(alloc, account, N::USIZE)?;
     let left = build_map_walk::<T, u32, T, u32, usize, BoxedArray<T, N>, _, _, _>(
         alloc,
-        &mut (0..N::USIZE).map(|index: usize| -> Result<T, u32> { good_sample(index) }),
+        &mut Samples::<T>::new(N::USIZE).map(good::<T>),
         alloc,
         &mut good::<T>,
         steps,

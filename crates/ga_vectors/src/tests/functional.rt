@@ -124,12 +124,17 @@ fn a_map_of_joined_arrays_goes_on_where_the_first_ends(rt: HostRuntime) {
     assert!(rt; running_sums(two(1, 2), two(3, 4)) == (two(1, 3), two(6, 10)));
 }
 
+/// The right number less the left one.
+fn less_on_the_left(left: u32, right: u32) -> u32 {
+    right.wrapping_sub(left)
+}
+
 /// The boxed items less the inline ones: by a zip of an inline array with a boxed one.
 fn less_of_inline<N: ArrayLength<u32> + InlineLength>(
     inline: GenericArray<u32, N>,
     boxed: BoxedArray<u32, N>,
 ) -> GenericArray<u32, N> {
-    always(inline.zip((), boxed, |l: u32, r: u32| r.wrapping_sub(l)))
+    always(inline.zip((), boxed, less_on_the_left))
 }
 
 /// The same by a zip of the boxed array with the inline one.
@@ -138,7 +143,7 @@ fn less_of_boxed<N: ArrayLength<u32> + InlineLength>(
     boxed: BoxedArray<u32, N>,
     inline: GenericArray<u32, N>,
 ) -> Result<BoxedArray<u32, N>, AllocError> {
-    boxed.zip(alloc, inline, |l: u32, r: u32| l.wrapping_sub(r))
+    boxed.zip(alloc, inline, u32::wrapping_sub)
 }
 
 #[test]
