@@ -12,6 +12,7 @@ use generic_array::{
 };
 use std::alloc::Global;
 use std::boxed::BoxedSlice;
+use std::convert::AsSlice;
 
 /// What came of a conversion to a vector, which has no spare room.
 fn fills_a_vector<T: Sample>(made: Result<Vec<T>, AllocError>, len: usize) -> Came {
