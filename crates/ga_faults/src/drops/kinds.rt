@@ -44,17 +44,18 @@ where
     let Ok(s) = source else {
         return true;
     };
-    match map {
-        Map::Map => ends_made(s.map(place, same::<T>), counts),
-        Map::MapBy => ends_made(s.map_by(place, &mut same::<T>), counts),
-        Map::TryMap => ends_built(s.try_map(place, same_or_error::<T>), counts),
-        Map::TryMapBy => ends_built(s.try_map_by(place, &mut same_or_error::<T>), counts),
+    let built = match map {
+        Map::Map => return ends_made(s.map(place, same::<T>), counts),
+        Map::MapBy => return ends_made(s.map_by(place, &mut same::<T>), counts),
+        Map::TryMap => s.try_map(place, same_or_error::<T>),
+        Map::TryMapBy => s.try_map_by(place, &mut same_or_error::<T>),
         Map::TotalBy => {
             let first = nth_item(counts, 0);
             let total = map_total_by(s, place, &mut same::<T>, first, &mut later::<T>);
-            ends_made(total, counts)
+            return ends_made(total, counts);
         }
-    }
+    };
+    ends_built(built, counts)
 }
 
 /// Folds.
@@ -77,13 +78,14 @@ fn by_fold<'a, T: Item + Given<'a>, S: FunctionalSequence<T> + IntoIterator<Item
         return true;
     };
     let first = nth_item(counts, 0);
-    match fold {
-        Fold::Fold => ends(s.fold(first, later::<T>), counts),
-        Fold::FoldBy => ends(s.fold_by(first, &mut later::<T>), counts),
-        Fold::TryFold => ends_made(s.try_fold(first, later_or_error::<T>), counts),
-        Fold::TryFoldBy => ends_made(s.try_fold_by(first, &mut later_or_error::<T>), counts),
-        Fold::TotalBy => ends(total_by(s, first, &mut later::<T>), counts),
-    }
+    let last = match fold {
+        Fold::Fold => Ok(s.fold(first, later::<T>)),
+        Fold::FoldBy => Ok(s.fold_by(first, &mut later::<T>)),
+        Fold::TryFold => s.try_fold(first, later_or_error::<T>),
+        Fold::TryFoldBy => s.try_fold_by(first, &mut later_or_error::<T>),
+        Fold::TotalBy => Ok(total_by(s, first, &mut later::<T>)),
+    };
+    ends_made(last, counts)
 }
 
 /// Zips.
@@ -113,17 +115,13 @@ where
     let (Ok(left), Ok(right)) = (left, right) else {
         return true;
     };
-    match zip {
-        Zip::Zip => ends_made(left.zip(place, right, left_of::<T, T>), counts),
-        Zip::ZipBy => ends_made(left.zip_by(place, right, &mut left_of::<T, T>), counts),
-        Zip::Inverted => ends_made(inverted_zip2(right, place, left, left_of::<T, T>), counts),
-        Zip::InvertedBy => {
-            ends_made(
-                inverted_zip2_by(right, place, left, &mut left_of::<T, T>),
-                counts,
-            )
-        }
-    }
+    let made = match zip {
+        Zip::Zip => left.zip(place, right, left_of::<T, T>),
+        Zip::ZipBy => left.zip_by(place, right, &mut left_of::<T, T>),
+        Zip::Inverted => inverted_zip2(right, place, left, left_of::<T, T>),
+        Zip::InvertedBy => inverted_zip2_by(right, place, left, &mut left_of::<T, T>),
+    };
+    ends_made(made, counts)
 }
 
 /// Zips told from the right side, of inline arrays: by the closure, and by the borrowed one.

@@ -43,17 +43,18 @@ where
     requires { S.Mapped.Fits }
 {
     let len = S::Length::USIZE;
-    match called {
-        Map::Map => counts(s.map(place, same::<T>), len),
-        Map::TryMap => counts_built(s.try_map(place, good::<T>), len),
-        Map::OfHeadline => counts(map(s, place, &mut same::<T>), len),
+    let made = match called {
+        Map::Map => s.map(place, same::<T>),
+        Map::OfHeadline => map(s, place, &mut same::<T>),
+        Map::TryMap => return counts_built(s.try_map(place, good::<T>), len),
         Map::TotalBy => {
-            match map_total_by(s, place, &mut same::<T>, T::of(1), &mut left_of::<T>) {
+            return match map_total_by(s, place, &mut same::<T>, T::of(1), &mut left_of::<T>) {
                 Ok(first) => exact_if(first.number() == 1),
                 Err(_refused) => Some(Outcome::Refused),
-            }
+            };
         }
-    }
+    };
+    counts(made, len)
 }
 
 /// Zips.
@@ -74,13 +75,13 @@ where
     MappedSequence<S, T, T>: Drop,
     requires { S.Mapped.Fits }
 {
-    let len = S::Length::USIZE;
-    match called {
-        Zip::Zip => counts(left.zip(place, right, left_of::<T>), len),
-        Zip::ZipBy => counts(left.zip_by(place, right, &mut left_of::<T>), len),
-        Zip::OfHeadline => counts(zip(left, place, right, &mut left_of::<T>), len),
-        Zip::Inverted => counts(inverted_zip2(right, place, left, left_of::<T>), len),
-    }
+    let made = match called {
+        Zip::Zip => left.zip(place, right, left_of::<T>),
+        Zip::ZipBy => left.zip_by(place, right, &mut left_of::<T>),
+        Zip::OfHeadline => zip(left, place, right, &mut left_of::<T>),
+        Zip::Inverted => inverted_zip2(right, place, left, left_of::<T>),
+    };
+    counts(made, S::Length::USIZE)
 }
 
 fn mapped<T: Sample, N: Unsigned>(alloc: Global, account: &Account, called: Map) -> Came {

@@ -5,8 +5,8 @@ use ga_headline::steps::{walk, walk_on};
 use ga_headline::whole::{Stopped, build_map_walk, map_walk};
 use ga_test_items::outcome::Outcome;
 use ga_test_items::samples::{Sample, Samples};
-use generic_array::steps::{Reply, Step, TwoEndedSequence, run_steps};
-use generic_array::{AllocError, BoxedArray, Unsigned};
+use generic_array::steps::{Reply, Step, run_steps};
+use generic_array::{AllocError, BoxedArray, BoxedArrayIter, Unsigned};
 use std::alloc::Global;
 
 /// How many items there are: what a step sees that looks at them.
@@ -14,12 +14,12 @@ pub fn count_of<T>(items: &[T]) -> usize {
     items.len()
 }
 
-/// A walk over a sequence of any kind, which looks at the number of items.
-pub fn walked<T: Drop, S: TwoEndedSequence<T>>(
-    items: S,
+/// A walk over a boxed array, which looks at the number of items.
+pub fn walked<T: Drop, N: Unsigned>(
+    items: BoxedArray<T, N>,
     steps: Vec<Step<T>>,
     replies: &mut Vec<Reply<T, usize>>,
-) -> Result<S::TwoEnded, AllocError> {
+) -> Result<BoxedArrayIter<T>, AllocError> {
     walk(items, steps, &mut count_of::<T>, replies)
 }
 

@@ -1,7 +1,6 @@
 use Rattle.generic_array.proofs.StepLemmas.{MaySteps-always}
 use Rattle.ga_memory.proofs.ample_memory.steps.walked.Goals as goal
-use Rattle.std.proofs.Common.{rules}
 
 pub walk-requires : goal.walk-requires
 walk-requires g c =
-    record { callable = MaySteps-always _ _ (λ f items slice same. search rules) c.args.steps.items _ }
+    record { callable = MaySteps-always _ _ (λ f items slice same. tt) c.args.steps.items _ }
