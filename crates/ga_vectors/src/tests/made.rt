@@ -20,40 +20,33 @@ fn square(index: usize) -> usize {
     index.wrapping_mul(index)
 }
 
-/// Whether a kind makes the squares, and copies of 7, of three places.
-fn are_three_made<S: GenericSequence<usize>>(place: S::Place, again: S::Place) -> bool
-where
-    S::Sequence: Drop,
-    S::Error: Drop,
-    requires { S.Fits }
-{
-    let (squares, sevens) = (S::generate(place, square), S::repeat(again, 7));
-    gives(squares, &[0, 1, 4]) && gives(sevens, &[7, 7, 7])
-}
-
 fn same(index: usize) -> Result<usize, u8> {
     Ok(index)
 }
 
-/// Whether a kind makes the numbers of three places by a closure that may fail.
-fn are_three_tried<S: FallibleGenericSequence<usize>>(place: S::Place) -> bool
+/// Whether a kind makes the squares, copies of 7, and the numbers of three places by a closure that
+/// may fail.
+fn makes_three<S: FallibleGenericSequence<usize>>(place: S::Place) -> bool
 where
+    S::Place: Copy,
     S::Sequence: Drop,
     S::Error: Drop,
     requires { S.Fits }
 {
-    S::try_generate(place, same).is_ok_and(|made| gives(made, &[0, 1, 2]))
+    let (squares, sevens) = (S::generate(place, square), S::repeat(place, 7));
+    let are_numbers = match S::try_generate(place, same) {
+        Ok(numbers) => gives(numbers, &[0, 1, 2]),
+        Err(_refused) => false,
+    };
+    gives(squares, &[0, 1, 4]) && gives(sevens, &[7, 7, 7]) && are_numbers
 }
 
-/// Whether each kind of a length makes both. One function for all calls hands over what they share
+/// Whether each kind of a length makes all. One function for all calls hands over what they share
 /// once.
 fn each_makes_three<N: ArrayLength<usize> + InlineLength>(alloc: Global) -> bool {
-    are_three_made::<GenericArray<usize, N>>((), ())
-        && are_three_made::<GenericArrayRef<usize, N>>((), ())
-        && are_three_made::<BoxedArray<usize, N>>(alloc, alloc)
-        && are_three_tried::<GenericArray<usize, N>>(())
-        && are_three_tried::<GenericArrayRef<usize, N>>(())
-        && are_three_tried::<BoxedArray<usize, N>>(alloc)
+    makes_three::<GenericArray<usize, N>>(())
+        && makes_three::<GenericArrayRef<usize, N>>(())
+        && makes_three::<BoxedArray<usize, N>>(alloc)
 }
 
 #[test]

@@ -1,6 +1,6 @@
 //! Comparisons, hashes and texts of inline arrays.
 use crate::tests::compared::{prints, prints_alternately};
-use generic_array::{GenericArray, U0, U1, U3, U4, U1024, arr};
+use generic_array::{ArrayLength, GenericArray, U0, U1, U3, U4, U1024, arr};
 use std::cmp::Ordering;
 use std::hash::{DefaultHasher, Hash, Hasher};
 
@@ -14,7 +14,10 @@ fn hash_of<T: Hash + Drop>(value: T) -> u64 {
     hasher.finish()
 }
 
-fn compared<T: Ord>(left: &T, right: &T) -> (bool, Option<Ordering>, Ordering) {
+fn compared<N: ArrayLength<u8>>(
+    left: &GenericArray<u8, N>,
+    right: &GenericArray<u8, N>,
+) -> (bool, Option<Ordering>, Ordering) {
     (left == right, left.partial_cmp(right), left.cmp(right))
 }
 
