@@ -5,6 +5,7 @@ use crate::items::number;
 use crate::scripted::Numbered;
 use ga_core::{ArrayLength, GenericArray};
 use std::marker::PhantomData;
+use std::ops::Range;
 
 /// An item that is made of a digit, which is its number.
 pub trait Sample: Numbered + Copy + Default + Drop {
@@ -49,8 +50,7 @@ pub fn nth_sample<T: Sample>(index: usize) -> T {
 /// Gives so many items, numbered from 1.
 #[derive(Drop)]
 pub struct Samples<T> {
-    given: usize,
-    end: usize,
+    indexes: Range<usize>,
     gives: PhantomData<T>,
 }
 
@@ -58,8 +58,7 @@ impl<T: Sample> Samples<T> {
     /// An iterator of so many items.
     pub fn new(end: usize) -> Self {
         Samples {
-            given: 0,
-            end,
+            indexes: 0..end,
             gives: PhantomData,
         }
     }
@@ -69,12 +68,7 @@ impl<T: Sample> Iterator for Samples<T> {
     type Item = T;
 
     fn next(&mut self) -> Option<T> {
-        let index = self.given;
-        if index >= self.end {
-            return None;
-        }
-        self.given = index + 1;
-        Some(nth_sample(index))
+        Some(nth_sample(self.indexes.next()?))
     }
 }
 

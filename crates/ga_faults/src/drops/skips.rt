@@ -4,49 +4,6 @@ use ga_test_items::played::{Item, ends, falling, rising};
 use ga_test_items::scripted::Given;
 use generic_array::steps::TwoEnded;
 
-/// Whether these skips in turn, each with the item behind it, drop the first of `len` items, of
-/// which so many were taken before.
-fn drops_first<'a, T: Item + Given<'a>, I: TwoEnded<T> + Drop>(
-    left: I,
-    counts: &'a Counts,
-    len: usize,
-    taken: usize,
-    skips: &[usize],
-) -> bool {
-    let (mut left, mut gone) = (left, taken.min(len));
-    for _item in 0..taken {
-        drop(left.front());
-    }
-    let mut is_in_order = true;
-    for skip in skips {
-        let _ = left.front_nth(*skip);
-        gone = gone.saturating_add(*skip).saturating_add(1).min(len);
-        is_in_order = is_in_order && counts.dropped() == rising(gone);
-    }
-    ends(left, counts) && is_in_order
-}
-
-/// The same from the back.
-fn drops_last<'a, T: Item + Given<'a>, I: TwoEnded<T> + Drop>(
-    left: I,
-    counts: &'a Counts,
-    len: usize,
-    taken: usize,
-    skips: &[usize],
-) -> bool {
-    let (mut left, mut gone) = (left, taken.min(len));
-    for _item in 0..taken {
-        drop(left.back());
-    }
-    let mut is_in_order = true;
-    for skip in skips {
-        let _ = left.back_nth(*skip);
-        gone = gone.saturating_add(*skip).saturating_add(1).min(len);
-        is_in_order = is_in_order && counts.dropped() == falling(len, gone);
-    }
-    ends(left, counts) && is_in_order
-}
-
 /// Where skips begin and how far they go.
 #[derive(Clone, Copy)]
 pub(crate) enum Skips {
@@ -56,6 +13,15 @@ pub(crate) enum Skips {
     Past,
     /// One item, behind one that is taken.
     BehindTaken,
+}
+
+/// Drops so many items from the front, or from the back, and the next one too.
+fn skip<T: Drop, I: TwoEnded<T>>(left: &mut I, count: usize, is_back: bool) {
+    let _next = if is_back {
+        left.back_nth(count)
+    } else {
+        left.front_nth(count)
+    };
 }
 
 /// Whether skips over `len` items drop them at once and in order, from the front or from the back.
@@ -71,9 +37,20 @@ pub(crate) fn are_in_order<'a, T: Item + Given<'a>, I: TwoEnded<T> + Drop>(
         Skips::Past => (0, len, 0),
         Skips::BehindTaken => (1, 1, len),
     };
-    if is_back {
-        drops_last(left, counts, len, taken, &[first, second])
-    } else {
-        drops_first(left, counts, len, taken, &[first, second])
+    let (mut left, mut gone) = (left, taken.min(len));
+    for _item in 0..taken {
+        skip(&mut left, 0, is_back);
     }
+    let mut is_in_order = true;
+    for count in [first, second] {
+        skip(&mut left, count, is_back);
+        gone = gone.saturating_add(count).saturating_add(1).min(len);
+        let expected = if is_back {
+            falling(len, gone)
+        } else {
+            rising(gone)
+        };
+        is_in_order = is_in_order && counts.dropped() == expected;
+    }
+    ends(left, counts) && is_in_order
 }

@@ -7,8 +7,8 @@ map_by-requires-clause-fits g c = c.requires.fits
 pub map_by-requires-clause-callable : goal.map_by-requires-clause-callable
 map_by-requires-clause-callable g c = c.requires.callable
 
-pub fold_made-requires : goal.fold_made-requires
-fold_made-requires g c = record { callable = c.requires.then_callable _ _ c.in-Ok.ensures.run }
+pub fold_made-requires-clause-callable : goal.fold_made-requires-clause-callable
+fold_made-requires-clause-callable g c = c.requires.then_callable _ _ c.in-Ok.ensures.run
 
 pub returns-in-Ok : goal.returns-in-Ok
 returns-in-Ok g c = record {
