@@ -105,9 +105,11 @@ where
     B: GenericSequence<u32> + IntoIterator<Item = u32>,
     MappedSequence<A, u32, u32>: MapsInline<u32, u32>,
     requires lengths { A.Length.USIZE ≡ B.Length.USIZE }
-    requires fits { A.Mapped.Fits × A.Mapped.Sequence.Mapped.Fits }
-    requires by_value { ((x : ℕ) → A.entry x ≡ x) × ((x : ℕ) → B.entry x ≡ x)
-        × ((x : ℕ) → A.Mapped.Sequence.entry x ≡ x) }
+    requires sums_fit { A.Mapped.Fits }
+    requires fits { A.Mapped.Sequence.Mapped.Fits }
+    requires left_by_value { (x : ℕ) → A.entry x ≡ x }
+    requires right_by_value { (x : ℕ) → B.entry x ≡ x }
+    requires sums_by_value { (x : ℕ) → A.Mapped.Sequence.entry x ≡ x }
     ensures { A.Mapped.Sequence.Mapped.Sequence.items result ≡ map (λ sum. (sum + 1) % 2 ^ 32)
         (map (λ p. (p.0 + p.1) % 2 ^ 32) (zip (A.items left) (B.items right))) }
 {

@@ -1,11 +1,13 @@
 -- Items taken out of a list, and rows of it joined and cut.
 use Rattle.std.proofs.Common.{◌≡◌, ℕ, zero, suc, ◌+◌, ◌*◌, ◌/◌, ◌<◌, List, [], ◌∷◌, ◌++◌, take, drop}
-use Rattle.std.proofs.Common.{ap, ◌∙◌, sym, arith, length, length-append, length-drop, map}
+use Rattle.std.proofs.Common.{ap, ◌∙◌, sym, refl, arith, get_or, length, length-append, length-drop, map}
+use Rattle.std.proofs.Common.{Some, slice_get}
+use Rattle.std.proofs.lemmas.Option.{slice_get_read}
 use Rattle.ga_core.proofs.RowLemmas.{rows-few, rows-first}
 use Rattle.std.proofs.Math.Seq.{drop-append_seam, take-append_seam}
 use Rattle.generic_array.specs.Rows.{row_at, rows}
 use Rattle.std.proofs.Math.Nat.{suc-mul}
-use Rattle.std.proofs.lemmas.List.{nil_from_length, take-append-drop, take-append-le, take_all}
+use Rattle.std.proofs.lemmas.List.{nil_from_length, same_from_push, take-append-drop, take_all}
 use Rattle.std.proofs.lemmas.Nat.{div-mul-add}
 use Rattle.std.proofs.lemmas.List.Elements.{All-head, All-tail}
 use Rattle.std.proofs.lemmas.List.Folds.{flat_map-map}
@@ -16,15 +18,14 @@ module _ {T : Type 0} where
   pub all-taken : (n : ℕ) (items array : List T) → items ≡ array → n ≡ length array → take n items ≡ array
   all-taken n items array same long = rw same (take_all n array (omega (arith, long)))
 
-  -- what was carried to the end was taken, and the others are left
-  pub others-left : (items others left : List T) (last item : T) (m : ℕ) → items ≡ others ++ last ∷ []
-      → items ≡ left ++ item ∷ [] → length items ≡ m + 1 → take m left ≡ others
-  others-left items others left last item m carried taken long =
+  -- an item that was carried to the end was taken, and the others are left
+  pub taken-at_end : (array carried others left : List T) (index m : ℕ) (item : T) → index < length array
+      → length carried ≡ m + 1 → carried ≡ others ++ get_or array index item ∷ [] → carried ≡ left ++ item ∷ []
+      → (slice_get array index ≡ Some item) × (take m left ≡ others)
+  taken-at_end array carried others left index m item inside long order taken =
+      let both = same_from_push left others item (get_or array index item) (sym taken ∙ order) in
       let here : length left ≡ m = omega (arith, long, ap length taken, length-append left (item ∷ [])) in
-      let there : length others ≡ m = omega (arith, long, ap length carried, length-append others (last ∷ [])) in
-      sym (take-append-le m left (item ∷ []) (omega (arith, here)))
-      ∙ (ap (take m) (sym taken ∙ carried)
-      ∙ (take-append-le m others (last ∷ []) (omega (arith, there)) ∙ take_all m others (omega (arith, there))))
+      (slice_get_read array (length array) index item refl inside both.1, take_all m left (omega (arith, here)) ∙ both.0)
 
   -- where nothing is left of a row, what follows begins with the next row
   pub rows-begun : (begun row now : List T) (these left : List (List T)) (whole : List T) → length begun ≡ 0

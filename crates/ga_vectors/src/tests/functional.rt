@@ -6,8 +6,8 @@ use generic_array::checks::map_total_by;
 use generic_array::functional::{FunctionalSequence, inverted_zip, inverted_zip2};
 use generic_array::sequence::Concat;
 use generic_array::{
-    AllocError, ArrayLength, BoxedArray, GenericArray, GenericArrayRef, InlineLength, U0, U2, U3,
-    U4, Unsigned, always, arr,
+    AllocError, ArrayLength, BoxedArray, GenericArray, GenericArrayRef, InlineLength, U2, U3, U4,
+    Unsigned, always, arr,
 };
 use std::alloc::Global;
 use std::test::Fail;
@@ -103,10 +103,10 @@ fn a_map_of_a_block_stops_at_an_error(rt: HostRuntime) -> Result<(), Fail> {
 }
 
 /// The running sums of the items of both arrays, by one closure.
-fn running_sums<N: ArrayLength<u32> + InlineLength, M: ArrayLength<u32> + InlineLength>(
+fn running_sums<N: ArrayLength<u32> + InlineLength>(
     first: GenericArray<u32, N>,
-    second: GenericArray<u32, M>,
-) -> (GenericArray<u32, N>, GenericArray<u32, M>) {
+    second: GenericArray<u32, N>,
+) -> (GenericArray<u32, N>, GenericArray<u32, N>) {
     let mut sum = 0u32;
     let mut add = |item: u32| {
         sum = sum.wrapping_add(item);
@@ -119,8 +119,7 @@ fn running_sums<N: ArrayLength<u32> + InlineLength, M: ArrayLength<u32> + Inline
 #[test]
 fn a_map_of_joined_arrays_goes_on_where_the_first_ends(rt: HostRuntime) {
     let joined: GenericArray<u32, U4> = two(1, 2).concat(two(3, 4));
-    let none: GenericArray<u32, U0> = GenericArray::from_array([]);
-    assert!(rt; running_sums(joined, none).0 == arr![1, 3, 6, 10]);
+    assert!(rt; running_sums(joined, GenericArray::default()).0 == arr![1, 3, 6, 10]);
     assert!(rt; running_sums(two(1, 2), two(3, 4)) == (two(1, 3), two(6, 10)));
 }
 

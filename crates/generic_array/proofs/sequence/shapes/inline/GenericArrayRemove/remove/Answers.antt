@@ -1,10 +1,10 @@
-use Rattle.generic_array.proofs.ShapeLemmas.{others-left}
+use Rattle.generic_array.proofs.ShapeLemmas.{taken-at_end}
 use Rattle.generic_array.proofs.sequence.shapes.inline.GenericArrayRemove.remove.Goals as goal
 use Rattle.std.proofs.lemmas.Grind.{common_steps}
 use Rattle.std.proofs.Common.{◌≡◌, ◌∷◌, [], ◌++◌, ◌∙◌, ap, arith, get_or, length, remove, sym}
 
-pub returns-clause-others : goal.returns-clause-others
-returns-clause-others g c =
+pub returns : goal.returns
+returns g c =
     let self = c.args.self in
     let index = c.args.index in
     let items = c.into_iter-items.result in
@@ -18,6 +18,7 @@ returns-clause-others g c =
     let taken : carried ≡ left ++ item ∷ [] = sym ends ∙ rw c.unwrap-item.ensures at c.next_back.ensures.steps in
     let order : carried ≡ remove self index ++ get_or self index item ∷ [] =
     rw borrowed at (c.carry_to_end.ensures item) in
-    c.next_array.ensures.first
-    ∙ others-left carried (remove self index) left (get_or self index item) item g.M.Unsigned.USIZE order taken
-    (c.carry_to_end.auto.items ∙ (c.as_mut_slice.ensures.len ∙ c.requires.one_shorter))
+    let long = c.carry_to_end.auto.items ∙ (c.as_mut_slice.ensures.len ∙ c.requires.one_shorter) in
+    let told = taken-at_end self carried (remove self index) left index g.M.Unsigned.USIZE item
+    c.requires.in_bounds long order taken in
+    record { item = told.0; others = c.next_array.ensures.first ∙ told.1 }
