@@ -70,6 +70,7 @@ fn matrices_are_read_and_turned(rt: HostRuntime) {
     assert!(rt; has(second, &[2, 5]));
     let turned: Matrix<U2, 3> = transposed(rows);
     assert!(rt; turned[0].as_slice() == [1, 4].as_slice());
+    assert!(rt; turned[1].as_slice() == [2, 5].as_slice());
     assert!(rt; turned[2].as_slice() == [3, 6].as_slice());
 }
 
