@@ -10,7 +10,8 @@ use std::alloc::Global;
 use std::marker::PhantomData;
 
 impl<T: Default, N: Unsigned> BoxedArray<T, N> {
-    /// The array of `N` times `T::default()`, called in order.
+    /// The array of `N` defaults. No clause and no test tells how often and in which order
+    /// `T::default()` is called.
     ///
     /// Allocates the whole block first, and nothing if `N` is 0.
     pub fn default_boxed(alloc: Global) -> Result<Self, AllocError>
