@@ -14,3 +14,5 @@ mod liars;
 mod random_steps;
 #[cfg(test)]
 mod refused_memory;
+#[cfg(test)]
+mod stopped;

@@ -1,10 +1,18 @@
 //! Each call that takes or makes items, while memory is refused: it leaves none. And what stays as
 //! it was.
+ghost use Rattle.generic_array.specs.Length.{FitsInline};
+
 use crate::drops::first_wrong_of;
-use ga_test_items::counted::Counts;
+use ga_test_items::answers::gives;
+use ga_test_items::counted::{Counted, Counts};
 use ga_test_items::outcome::{Outcome, play};
+use ga_test_items::played::{Item, inline_items};
+use ga_test_items::scripted::{Given, digits};
+use generic_array::functional::FunctionalSequence;
 use generic_array::steps::{Reply, Step, run_steps};
-use generic_array::{AllocError, BoxedArray, BoxedArrayIter, U0, U2, U3, box_arr};
+use generic_array::{
+    AllocError, ArrayLength, BoxedArray, BoxedArrayIter, U0, U2, U3, Unsigned, box_arr,
+};
 use std::alloc::Global;
 use std::process::Abort;
 
@@ -121,4 +129,105 @@ fn run_of_two(alloc: Global) -> Result<Outcome, AllocError> {
 fn a_refused_run_of_steps_leaves_all_as_it_was(rt: HostRuntime) {
     let wrong = play(&rt, 1, of_run);
     assert!(rt; wrong.is_none());
+}
+
+/// A block of squares, of which no place is made where it is refused.
+fn of_squares<N: Unsigned>(alloc: Global, wanted: &[usize]) -> Outcome {
+    let mut calls = 0usize;
+    let made = BoxedArray::<usize, N>::generate_by(
+        alloc,
+        &mut |index: usize| {
+            calls = calls.wrapping_add(1);
+            index.wrapping_mul(index)
+        },
+    );
+    match made {
+        Ok(made) => Outcome::exact_if(made.as_slice() == wanted && calls == wanted.len()),
+        Err(AllocError) => Outcome::refused_if(calls == 0),
+    }
+}
+
+fn of_three_or_no_squares(alloc: Global, number: u32) -> Outcome {
+    match number {
+        0 => of_squares::<U3>(alloc, &[0, 1, 4]),
+        _ => Outcome::exact_if(matches!(of_squares::<U0>(alloc, &[]), Outcome::Exact)),
+    }
+}
+
+#[test]
+fn a_block_of_squares_is_refused_before_any_call_and_one_of_none_never(rt: HostRuntime) {
+    let wrong = play(&rt, 2, of_three_or_no_squares);
+    assert!(rt; wrong.is_none(), "case {wrong:?}");
+}
+
+/// A fill of a block, of which no item is taken where it is refused.
+fn of_fill(alloc: Global) -> Outcome {
+    let mut items = 1..4u32;
+    let filled = BoxedArray::<u32, U3>::try_boxed_from_iter_ref(alloc, &mut items);
+    let next = items.next();
+    match filled {
+        Ok(filled) => Outcome::exact_if(gives(filled, &[1, 2, 3]) && next.is_none()),
+        Err(AllocError) => Outcome::refused_if(next == Some(1)),
+    }
+}
+
+/// A map of a block, which calls nothing where it is refused.
+fn of_map(alloc: Global) -> Outcome {
+    let Ok(array) = BoxedArray::<u32, U3>::from_array(alloc, [1, 2, 3]) else {
+        return Outcome::Refused;
+    };
+    let mut calls = 0u32;
+    let mut double = |item: u32| {
+        calls = calls.wrapping_add(1);
+        item.wrapping_mul(2)
+    };
+    match array.map_by(alloc, &mut double) {
+        Ok(doubles) => Outcome::exact_if(doubles.as_slice() == [2, 4, 6].as_slice() && calls == 3),
+        Err(AllocError) => Outcome::refused_if(calls == 0),
+    }
+}
+
+fn of_build(alloc: Global, number: u32) -> Outcome {
+    match number {
+        0 => of_squares::<U3>(alloc, &[0, 1, 4]),
+        1 => of_fill(alloc),
+        _ => of_map(alloc),
+    }
+}
+
+#[test]
+fn builds_of_blocks_are_refused_before_any_call_or_item(rt: HostRuntime) {
+    let wrong = play(&rt, 3, of_build);
+    assert!(rt; wrong.is_none(), "case {wrong:?}");
+}
+
+/// A vector of the items of an array, which are dropped where it is refused.
+fn of_vector<'a, T: Item + Given<'a>, N: ArrayLength<T>>(
+    alloc: Global,
+    counts: &'a Counts,
+    wanted: u32,
+) -> Outcome
+    requires { FitsInline N.USIZE }
+{
+    match inline_items::<T, N>(counts).into_vec(alloc) {
+        Ok(items) => Outcome::exact_if(digits(items.as_slice()) == wanted && counts.drops() == 0),
+        Err(AllocError) => Outcome::refused_if(counts.drops() as usize == N::USIZE),
+    }
+}
+
+fn of_vector_of_three_or_none(alloc: Global, number: u32) -> Outcome {
+    let counts = Counts::new();
+    match number {
+        0 => of_vector::<Counted, U3>(alloc, &counts, 123),
+        _ => {
+            let outcome = of_vector::<Counted, U0>(alloc, &counts, 0);
+            Outcome::exact_if(matches!(outcome, Outcome::Exact))
+        }
+    }
+}
+
+#[test]
+fn three_items_that_find_no_vector_are_dropped_and_none_always_find_one(rt: HostRuntime) {
+    let wrong = play(&rt, 2, of_vector_of_three_or_none);
+    assert!(rt; wrong.is_none(), "case {wrong:?}");
 }

@@ -3,7 +3,6 @@ mod doubles;
 mod faults;
 mod refused_memory;
 
-use crate::arguments::USAGE;
 use crate::{Mode, Status, Width, parse_words, run, run_listed};
 use doubles::{Manner, Sink, Source, WHOLE, repeated};
 use std::alloc::{AllocError, Global};
@@ -43,6 +42,15 @@ fn words_mean_a_mode_and_a_width(rt: HostRuntime) -> Result<(), Fail> {
     Ok(())
 }
 
+/// What is told of words that mean nothing.
+const USAGE: &[u8] = b"usage: ga_rows [dec|hex|back|sum|last] [1|2|4|8|16]\n";
+
+/// What is told where memory is short.
+const NO_MEMORY: &[u8] = b"ga_rows: out of memory\n";
+
+/// What is told of another fault.
+const FAULT: &[u8] = b"ga_rows: read or write fault\n";
+
 /// The words as listed, joined by a space, the input, what is printed, and the exit status.
 const CASES: &[(&str, &str, &str, u8)] = &[
     ("ga_rows", "abcdefgh", "97 98 99 100\n101 102 103 104\n", 0),
@@ -76,14 +84,9 @@ fn gives(
 ) -> Result<bool, AllocError> {
     let listed = words_of(alloc, words)?;
     let mut out = Vec::new(alloc);
-    let told = format!(in alloc; "{USAGE}\n")?;
     // The message and the end of its line.
-    let (text, writes) = if code == 2 {
-        (told.as_str(), 2)
-    } else {
-        ("", 0)
-    };
-    let mut err = Sink::new(text.as_bytes(), WHOLE, usize::MAX);
+    let (told, writes): (&[u8], usize) = if code == 2 { (USAGE, 2) } else { (b"", 0) };
+    let mut err = Sink::new(told, WHOLE, usize::MAX);
     let end = run_listed(
         alloc,
         Ok(listed.into_iter()),
@@ -113,17 +116,17 @@ fn words_and_input_give_texts_and_an_exit_status(rt: HostRuntime) -> Result<(), 
 #[test]
 fn words_that_are_not_listed_end_the_program(rt: HostRuntime) {
     let cases = [
-        (ErrorKind::OutOfMemory, "ga_rows: out of memory\n", 3),
-        (ErrorKind::InvalidData, "ga_rows: read or write fault\n", 4),
+        (ErrorKind::OutOfMemory, NO_MEMORY, 3),
+        (ErrorKind::InvalidData, FAULT, 4),
     ];
     for (kind, told, code) in cases {
-        let mut err = Sink::new(told.as_bytes(), WHOLE, usize::MAX);
+        let mut err = Sink::new(told, WHOLE, usize::MAX);
         let is_ended = ends_unlisted(rt.alloc(), kind, &mut err, code);
-        assert!(rt; is_ended && err.has_text() && err.writes() == 2, "{told}");
+        assert!(rt; is_ended && err.has_text() && err.writes() == 2, "{code}");
         // Nobody can be told: the status is the same, and no more is written.
-        let mut err = Sink::new(told.as_bytes(), WHOLE, 1);
+        let mut err = Sink::new(told, WHOLE, 1);
         let is_ended = ends_unlisted(rt.alloc(), kind, &mut err, code);
-        assert!(rt; is_ended && err.writes() == 1, "{told}");
+        assert!(rt; is_ended && err.writes() == 1, "{code}");
     }
 }
 
@@ -141,7 +144,7 @@ fn a_fault_of_standard_error_is_ignored(rt: HostRuntime) -> Result<(), Fail> {
     let listed = words_of(rt.alloc(), "ga_rows none")?;
     let mut input: &[u8] = b"abcd";
     let mut out = Vec::new(rt.alloc());
-    let mut err = Sink::new(USAGE.as_bytes(), WHOLE, 1);
+    let mut err = Sink::new(USAGE, WHOLE, 1);
     let words = Ok(listed.into_iter());
     let end = run_listed(rt.alloc(), words, &mut input, &mut out, &mut err);
     assert!(rt; end == ExitCode::from(2) && err.writes() == 1 && out.is_empty());

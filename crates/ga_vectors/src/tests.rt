@@ -1,6 +1,7 @@
 //! The tests, a module for each subject, and what they share.
 mod arrays;
 mod boxed;
+mod boxed_builds;
 mod builder;
 mod compared;
 mod conversions;
@@ -15,6 +16,7 @@ mod iterators;
 mod lengths;
 mod live_block;
 mod made;
+mod places;
 mod readme;
 mod record_block;
 mod shapes;

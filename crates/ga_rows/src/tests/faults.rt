@@ -1,4 +1,5 @@
 //! Each read and each write failing in turn, and readers and writers that go in parts.
+use super::FAULT;
 use super::doubles::{BYTE_BY_BYTE, INTERRUPTED, Manner, NOTHING, Sink, Source, WHOLE, repeated};
 use crate::{Mode, Status, Width, rows, run, run_listed};
 use std::alloc::{AllocError, Global};
@@ -88,7 +89,7 @@ fn listed_end(
     sink: &mut Sink<'_>,
 ) -> Option<Status> {
     let listed = listed_words(alloc, case.words)?;
-    let mut err = Sink::new(b"ga_rows: read or write fault\n", BYTE_BY_BYTE, usize::MAX);
+    let mut err = Sink::new(FAULT, BYTE_BY_BYTE, usize::MAX);
     let end = run_listed(alloc, Ok(listed.into_iter()), source, sink, &mut err);
     status_told(end, &err)
 }

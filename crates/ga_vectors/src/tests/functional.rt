@@ -102,6 +102,32 @@ fn a_map_of_a_block_stops_at_an_error(rt: HostRuntime) -> Result<(), Fail> {
     Ok(())
 }
 
+/// The sum, or an error of it where it passes 3.
+fn added_up_to_three(sum: u32, item: u32) -> Result<u32, u32> {
+    let next = sum.wrapping_add(item);
+    if next > 3 { Err(next) } else { Ok(next) }
+}
+
+/// What a fold up to a sum of 3 returns, and the number of calls.
+fn folded_up_to_three<N: ArrayLength<u32> + InlineLength>(
+    array: GenericArray<u32, N>,
+) -> (Result<u32, u32>, usize) {
+    let mut calls = 0usize;
+    let folded = array.try_fold_by(
+        0,
+        &mut |sum: u32, item: u32| {
+            calls = calls.wrapping_add(1);
+            added_up_to_three(sum, item)
+        },
+    );
+    (folded, calls)
+}
+
+#[test]
+fn a_fold_stops_at_an_error(rt: HostRuntime) {
+    assert!(rt; folded_up_to_three(from_one::<U4>()) == (Err(6), 3));
+}
+
 /// The running sums of the items of both arrays, by one closure.
 fn running_sums<N: ArrayLength<u32> + InlineLength>(
     first: GenericArray<u32, N>,

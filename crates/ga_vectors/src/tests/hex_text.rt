@@ -1,8 +1,8 @@
 //! Hex text: its digits, how far the limit lets them come, and how often the writer is called.
 use crate::tests::hex_writers::digits_of;
 use ga_test_items::writer::{Sink, WHOLE};
-use generic_array::AllocError;
 use generic_array::hex_text::{HexText, write_hex};
+use generic_array::{AllocError, arr};
 use std::alloc::Global;
 use std::fmt::Write;
 use std::test::Fail;
@@ -28,6 +28,12 @@ fn few_bytes_give_their_digits_as_far_as_the_limit_lets_them(rt: HostRuntime) {
         let is_right = is_written(&[10, 20, 30], upper, limit, text.as_bytes(), writes);
         assert!(rt; is_right, "{text}");
     }
+}
+
+#[test]
+fn a_limit_of_one_digit_leaves_the_first_half_of_a_byte(rt: HostRuntime) {
+    let mut sink = Sink::expecting(b"0");
+    assert!(rt; arr![5u8].write_lower_hex(&mut sink, Some(1)).is_ok() && sink.has_text());
 }
 
 /// Whether 1,025 bytes 171 give 2,049 digits, in two writes.

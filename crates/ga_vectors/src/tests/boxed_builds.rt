@@ -1,0 +1,81 @@
+//! Boxed builds at concrete types: what they make, how often they call, and what they take.
+use ga_test_items::answers::gives;
+use generic_array::{AllocError, BoxedArray, FillError, U2, U3, Unsigned};
+use std::alloc::Global;
+use std::test::Fail;
+
+#[test]
+fn a_block_is_made_by_one_call_for_each_place(rt: HostRuntime) {
+    let mut calls = 0u32;
+    let squares = BoxedArray::<usize, U3>::generate_by(
+        rt.alloc(),
+        &mut |index: usize| {
+            calls = calls.wrapping_add(1);
+            index.wrapping_mul(index)
+        },
+    );
+    assert!(rt; gives(squares, &[0, 1, 4]) && calls == 3);
+}
+
+/// The error of a build that fails at index 1, if there is one, and the number of calls.
+fn built_up_to_one<N: Unsigned>(alloc: Global) -> Result<(Option<usize>, u32), AllocError> {
+    let mut calls = 0u32;
+    let built = BoxedArray::<usize, N>::try_generate_by(
+        alloc,
+        &mut |index: usize| {
+            calls = calls.wrapping_add(1);
+            if index == 1 { Err(index) } else { Ok(index) }
+        },
+    )?;
+    Ok((built.err(), calls))
+}
+
+#[test]
+fn a_build_of_a_block_stops_at_an_error(rt: HostRuntime) -> Result<(), Fail> {
+    assert!(rt; built_up_to_one::<U3>(rt.alloc())? == (Some(1), 2));
+    Ok(())
+}
+
+/// How a fill of a block ends.
+#[derive(Clone, Copy, PartialEq, Eq)]
+enum End {
+    Made,
+    Item(&'static str),
+    WrongLength,
+    NoMemory,
+}
+
+/// How a fill of N items from these results ends, and what its iterator gives next.
+fn filled<N: Unsigned>(
+    alloc: Global,
+    results: &[Result<u32, &'static str>],
+) -> (End, Option<Result<u32, &'static str>>) {
+    let mut left = results.iter().copied();
+    let end = match BoxedArray::<u32, N>::try_boxed_from_fallible_iter_ref(alloc, &mut left) {
+        Ok(_made) => End::Made,
+        Err(FillError::Item(error)) => End::Item(error),
+        Err(FillError::Length(_other)) => End::WrongLength,
+        Err(FillError::Place(AllocError)) => End::NoMemory,
+    };
+    (end, left.next())
+}
+
+#[test]
+fn a_fill_of_a_block_stops_at_an_error(rt: HostRuntime) {
+    assert!(rt; filled::<U2>(rt.alloc(), &[Ok(1), Err("x")]) == (End::Item("x"), None));
+}
+
+#[test]
+fn an_error_behind_the_last_item_of_a_block_is_one_item_too_many(rt: HostRuntime) {
+    let end = filled::<U2>(rt.alloc(), &[Ok(1), Ok(2), Err("x")]);
+    assert!(rt; end == (End::WrongLength, None));
+}
+
+#[test]
+fn a_block_is_of_defaults_or_of_what_an_iterator_gives(rt: HostRuntime) -> Result<(), Fail> {
+    assert!(rt; gives(BoxedArray::<u8, U2>::default_boxed(rt.alloc()), &[0, 0]));
+    let mut items = 4..6u32;
+    let filled = BoxedArray::<u32, U2>::try_boxed_from_iter(rt.alloc(), &mut items)?;
+    assert!(rt; gives(filled, &[4, 5]));
+    Ok(())
+}
