@@ -1,6 +1,5 @@
 pub mod Copies
 pub mod Fill
-pub mod IterLends
 pub mod Lends
 pub use Rattle.ga_views.specs.Calls
 pub use Rattle.ga_views.specs.Cut

@@ -1,4 +1,5 @@
 //! The inline array, and what can be borrowed of it.
+ghost use Rattle.ga_core.specs.Lends.{LendsItem, LendsItems, LendsIter};
 ghost use Rattle.ga_views.specs.Iteration.{IteratesMutOver, IteratesOver};
 ghost use Rattle.ga_views.specs.Length.{FitsInline};
 ghost use Rattle.std.specs.Borrow.{sem};
@@ -50,8 +51,6 @@ impl<T, N: ArrayLength<T>> Model for GenericArray<T, N> {
 }
 
 impl<T, N: ArrayLength<T>> GenericArray<T, N> {
-    ghost use Rattle.ga_core.specs.Lends.{LendsItems, LendsIter};
-
     // The array of the items of a full store.
     #[inline(always)]
     pub(crate) fn from_store(store: N::ArrayType) -> Self
@@ -106,9 +105,7 @@ impl<T, N: ArrayLength<T>> GenericArray<T, N> {
     /// All items, in order, for writing. O(1).
     #[inline]
     pub fn as_mut_slice(&mut self) -> &mut [T]
-        ensures* writes_back { sem 𝓛
-            (LendsItems T.row N.row N.ArrayType.row N.Unsigned N.ArrayType.Store
-            self.entry result) }
+        ensures* writes_back { sem 𝓛 (LendsItems T.row self.entry result) }
         ensures items { result.now ≡ self.old }
         ensures len { length result.now ≡ N.USIZE }
         ensures fits { FitsInline N.USIZE }
@@ -126,9 +123,7 @@ impl<T, N: ArrayLength<T>> GenericArray<T, N> {
     /// The items by reference, in order, for writing.
     #[inline]
     pub fn iter_mut(&mut self) -> slice::IterMut<'_, T>
-        ensures* writes_back { sem 𝓛
-            (LendsIter T.row N.row N.ArrayType.row N.Unsigned N.ArrayType.Store
-            self.entry result) }
+        ensures* writes_back { sem 𝓛 (LendsIter T.row self.entry result) }
         ensures items { IteratesMutOver self.old N.USIZE result }
     {
         self.as_mut_slice().iter_mut()
@@ -153,14 +148,10 @@ impl<T, N: ArrayLength<T>> Index<usize> for GenericArray<T, N> {
 /// `array[index] = item`, with `index` below `N` as the condition. The other slots keep their
 /// items.
 impl<T, N: ArrayLength<T>> IndexMut<usize> for GenericArray<T, N> {
-    ghost use Rattle.ga_core.specs.Lends.{LendsItem};
-
     #[inline]
     fn index_mut(&mut self, index: usize) -> &mut T
         requires { index < N.USIZE }
-        ensures* writes_back { sem 𝓛
-            (LendsItem T.row N.row N.ArrayType.row N.Unsigned N.ArrayType.Store
-            self.entry index result) }
+        ensures* writes_back { sem 𝓛 (LendsItem T.row self.entry index result) }
         ensures item { slice_get self.old index ≡ Some result.now }
     {
         self.store.item_mut(index)

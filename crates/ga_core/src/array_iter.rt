@@ -1,4 +1,5 @@
 //! The iterator that moves the items out of an array, from both ends.
+ghost use Rattle.ga_core.specs.Lends.{LendsItems};
 ghost use Rattle.ga_views.specs.Length.{FitsInline};
 ghost use Rattle.std.specs.Borrow.{sem};
 ghost use Rattle.std.specs.Iterator.{YieldsFirst, YieldsLast, item_count};
@@ -212,14 +213,10 @@ impl<T: Default + Drop, N: ArrayLength<T>> GenericArrayIter<T, N> {
 }
 
 impl<T, N: ArrayLength<T>> GenericArrayIter<T, N> {
-    ghost use Rattle.ga_core.specs.IterLends.{LendsLeft};
-
     /// The items that are left, in order, for writing. O(1).
     #[inline]
     pub fn as_mut_slice(&mut self) -> &mut [T]
-        ensures* writes_back { sem 𝓛
-            (LendsLeft T.row N.row N.ArrayType.row N.Unsigned N.ArrayType.Store
-            self.entry result) }
+        ensures* writes_back { sem 𝓛 (LendsItems T.row self.entry result) }
         ensures items { result.now ≡ self.old }
     {
         let (front, len) = (self.front, self.back - self.front);

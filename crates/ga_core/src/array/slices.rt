@@ -1,4 +1,5 @@
 //! An array as a slice: the methods of slices, ranges, and loops over references to the items.
+ghost use Rattle.ga_core.specs.Lends.{LendsItems, LendsIter};
 ghost use Rattle.ga_views.specs.Iteration.{IteratesMutOver, IteratesOver};
 ghost use Rattle.ga_views.specs.Length.{FitsInline};
 ghost use Rattle.std.specs.Borrow.{sem};
@@ -52,13 +53,9 @@ impl<T, N: ArrayLength<T>> DerefSlice for GenericArray<T, N> {
 }
 
 impl<T, N: ArrayLength<T>> DerefSliceMut for GenericArray<T, N> {
-    ghost use Rattle.ga_core.specs.Lends.{LendsItems};
-
     #[inline]
     fn deref_mut(&mut self) -> &mut [T]
-        ensures* writes_back { sem 𝓛
-            (LendsItems T.row N.row N.ArrayType.row N.Unsigned N.ArrayType.Store
-            self.entry result) }
+        ensures* writes_back { sem 𝓛 (LendsItems T.row self.entry result) }
         ensures items { result.now ≡ self.old }
         ensures len { length result.now ≡ N.USIZE }
     {
@@ -82,8 +79,6 @@ impl<'a, T, N: ArrayLength<T>> IntoIterator for &'a GenericArray<T, N> {
 
 /// The items by reference, in order, for writing.
 impl<'a, T, N: ArrayLength<T>> IntoIterator for &'a mut GenericArray<T, N> {
-    ghost use Rattle.ga_core.specs.Lends.{LendsIter};
-
     type Item = &'a mut T;
 
     type IntoIter = slice::IterMut<'a, T>;
@@ -92,9 +87,7 @@ impl<'a, T, N: ArrayLength<T>> IntoIterator for &'a mut GenericArray<T, N> {
 
     #[inline]
     fn into_iter(self) -> slice::IterMut<'a, T>
-        ensures* writes_back { sem 𝓛
-            (LendsIter T.row N.row N.ArrayType.row N.Unsigned N.ArrayType.Store
-            self.entry result) }
+        ensures* writes_back { sem 𝓛 (LendsIter T.row self.entry result) }
         ensures into_iter_gives { IteratesMutOver self.old N.USIZE result }
     {
         self.as_mut_slice().iter_mut()

@@ -115,8 +115,7 @@ impl<'a, T, N: ArrayLength<T>, K: Unsigned, M: Unsigned> Split<
     fn split(self) -> (GenericArrayMut<'a, T, K>, GenericArrayMut<'a, T, M>)
         requires { N.USIZE ≡ K.USIZE + M.USIZE }
         ensures* writes_back { sem 𝓛
-            (LendsBothParts T.row N.row N.ArrayType.row N.Unsigned N.ArrayType.Store
-            self.entry.slice result.0.slice result.1.slice) }
+            (LendsBothParts T.row self.entry.slice result.0.slice result.1.slice) }
         ensures first { result.0.slice.now ≡ take K.USIZE self.entry.slice.now }
         ensures second { result.1.slice.now ≡ drop K.USIZE self.entry.slice.now }
     {

@@ -3,23 +3,15 @@
 -- this proof walks the code by hand. Assumes `Logic`.
 use Rattle.ga_core.below.ga_views.proofs.view_mut.ViewMut+mut+slice+T+T+N.from_mut_slice.Met as viewed
 use Rattle.ga_core.below.ga_views.specs.contracts.view_mut.ViewMut+mut+slice+T+T+N.from_mut_slice as view_contract
-use Rattle.ga_core.below.ga_views.specs.declared.reborrow.ReborrowSlice as reborrow
+use Rattle.ga_core.proofs.walks.ArrayLaws.{Items, Lent, LentView, view_laws, view_told}
 use Rattle.ga_core.proofs.walks.CallStep.{asked, calls}
-use Rattle.ga_core.proofs.ViewMut.TheLaws as laws
 use Rattle.ga_core.proofs.walks.SliceLaws.{array_laws, ArrayView, Slice}
 use Rattle.ga_core.proofs.walks.SliceWalk.{asks_of, passes}
-use Rattle.ga_core.proofs.array.GenericArray.TheLaws as items_laws
 use Rattle.ga_core.proofs.array.GenericArray.as_mut_slice.Met as lent
 use Rattle.ga_core.specs.Lends.{array_with, LendsBothParts, LendsItems}
 use Rattle.ga_core.specs.Length.{FitsInline}
 use Rattle.ga_core.specs.Parts.{LendsHalves}
-use Rattle.ga_core.specs.contracts.ViewMut as view
-use Rattle.ga_core.specs.contracts.array.GenericArray as items
 use Rattle.ga_core.specs.contracts.array.GenericArray.as_mut_slice as lend_contract
-use Rattle.ga_core.specs.contracts.array.reborrow.RefMutGenericArrayReborrowSlice.TheImpl as impl
-use Rattle.ga_core.specs.declared.Unsigned as unsigned
-use Rattle.ga_core.specs.declared.length.ArrayLength as array_length
-use Rattle.ga_core.specs.declared.store.Store as store
 use Rattle.ga_core.proofs.walks.FollowLemmas.{follows_both_then}
 use Rattle.generic_array.proofs.sequence.shapes.views.GenericArrayMutSplit.split.Met as halved
 use Rattle.generic_array.proofs.sequence.shapes.views.ViewMutRefMutGenericArraySplitGenericArrayMutGenericArrayMut.split.Code as code
@@ -37,20 +29,16 @@ use contract.Running.{tables}
 use denote.Array.{Array}
 use denote.Exit.{no}
 use denote.Laws.{Is, shows}
-use denote.Param.Laws.{field_told, Laws, of_field, param_laws, row_shared, Told}
-use denote.Param.Shared.{mut_ref_shared}
 use denote.Param.{param}
 use denote.RattleType.{owns, RattleType}
 use denote.Ref.{mut_Tells, mut_vals, NamedLft}
 use denote.Signature.{plain, Slot}
 use denote.Steps.{heard, nothing, only, peeks}
-use denote.Struct.Field.{mut_ref_field}
-use denote.Struct.Laws.{mut_ref_laws}
 use denote.Struct.Tuple.{Tuple, tuple_laws}
 use denote.Triple.Clauses.{Ended}
 use denote.Triple.Table.{framed}
 use denote.Triple.Walked.{stay_dropped, Stays, walk_of}
-use mir.Syntax.{Dict, named}
+use mir.Syntax.{named}
 use mir.Val.{Val}
 use types.ByLocal.{alloc_all, free_all, get, lands_as, look_at, look_in_at, pass_all, sets}
 use types.Kit.{‵, ◌⊛◌, ◌$◌, ◌∵◌, !, by, drop, feq_l, fjoin, fpick, fsplit, group, move, qed, raw, rewrite, split}
@@ -58,69 +46,31 @@ use types.Kit.{split3, use0, use2}
 use types.Part.{sub, whole}
 use types.Run.{addr, and_then, enter, fld, from, hop, no_more, returns, stop}
 
--- the array of A's slots, the reference to it, and the view of that
-module _ (X N A : RattleType) (gL : array_length.Ghosts N.Denot X.Denot A.Denot) (gN : unsigned.Ghosts N.Denot)
-    (gS : store.Ghosts A.Denot X.Denot) (κ : Lft) where
-  abbrev lasting : NamedLft
-  lasting = record { mir = named 0; lft = κ }
-
-  abbrev Items : RattleType
-  Items = items.the_row (param 0 X) (param 1 N) (param 4 A) gN gS
-
-  abbrev Ref : RattleType
-  Ref = (mut_ref_field lasting Items tt).row
-
-  abbrev ghosts : reborrow.Ghosts Ref.Denot X.Denot
-  ghosts = impl.ghosts (param 0 X) (param 1 N) (param 4 A) gL impl.no_dict gN impl.no_dict gS impl.no_dict impl.no_dict
-
-  abbrev View : RattleType
-  View = view.the_row Ref (param 0 X) (param 1 N) ghosts gN
-
-  module _ (LX : Laws X) (LN : Laws N) (LA : Laws A) where
-    abbrev ref_laws : Laws Ref
-    ref_laws = of_field (mut_ref_field lasting Items tt) (mut_ref_laws lasting Items tt) refl
-        (mut_ref_shared lasting Items tt (row_shared Items (items_laws.the_row_laws (param 0 X) (param 1 N) (param 4 A)
-        gN gS (param_laws 0 X LX) (param_laws 1 N LN) (param_laws 4 A LA))))
-
-    abbrev view_laws : Laws View
-    view_laws = laws.the_row_laws Ref (param 0 X) (param 1 N) ghosts gN ref_laws (param_laws 0 X LX) (param_laws 1 N LN)
-
-    abbrev view_told : Told View
-    view_told = laws.the_told Ref (param 0 X) (param 1 N) ghosts gN ref_laws (param_laws 0 X LX) (param_laws 1 N LN)
-        (field_told (mut_ref_field lasting Items tt) (mut_ref_laws lasting Items tt))
-
--- N, K and P are the types of the lengths of the array and of its two parts
-module _ (X N K P A : RattleType) (gL : array_length.Ghosts N.Denot X.Denot A.Denot) (dL : Dict)
-    (gN : unsigned.Ghosts N.Denot) (dN : Dict) (gS : store.Ghosts A.Denot X.Denot) (dS : Dict)
-    (gK : unsigned.Ghosts K.Denot) (dK : Dict) (gP : unsigned.Ghosts P.Denot) (dP : Dict) (dA : Dict) where
-  abbrev ended : Ended
-  ended = F.ended X N K P A gL dL gN dN gS dS gK dK gP dP dA
-
-  abbrev slot : Slot 6
-  slot = plain (λ κs. View X N A gL gN gS κs.0)
-
 pub split_spec : {M : Type 1} → statement M
 split_spec 𝓤 𝓛 𝓜 𝓡 wired X N K P A LX LN LK LP LA gL dL gN dN gS dS gK dK gP dP dA boundL boundN boundS boundK boundP
     glue =
-    let ends = ended X N K P A gL dL gN dN gS dS gK dK gP dP dA in
-    let one = slot X N K P A gL dL gN dN gS dS gK dK gP dP dA in
+    -- N, K and P are the types of the lengths of the array and of its two parts; A and gS come with N
+    let lasting : Lft → NamedLft = λ κ. record { mir = named 0; lft = κ } in
+    let told = λ (κ : Lft). view_told (lasting κ) 0 X 1 N 4 A gL gN gS LX LN LA in
+    let ends : Ended = F.ended X N K P A gL dL gN dN gS dS gK dK gP dP dA in
+    let one : Slot 6 = plain (λ κs. LentView (lasting κs.0) 0 X 1 N 4 A gL gN gS) in
     let kept : Stays ends.signature.params ends.kept = (stay_dropped one no, tt) in
     let c = F.clauses X N K P A gL dL gN dN gS dS gK dK gP dP dA 𝓛 𝓜.mem 𝓡.returns in
     let 𝓣 = tables 𝓤 𝓛.H 𝓜 𝓡 𝓡.env in
     let E : RattleType = param 0 X in
     proved 𝓛 ends kept c 𝓜 𝓡 (Goes-blank 𝓛 6 one no (λ κs x f. tt), tt)
     _ _ (code.unfolded 𝓤 𝓛.H 𝓜 𝓡 wired (X, (N, (K, (P, (A, tt))))) dL dN dS dK dP dA)
-    (λ κs. (λ x. (view_told X N A gL gN gS κs.0 LX LN LA).val x ∷ [], tt))
-    (λ κs. ((view_told X N A gL gN gS κs.0 LX LN LA).tells, tt))
+    (λ κs. (λ x. (told κs.0).val x ∷ [], tt))
+    (λ κs. ((told κs.0).tells, tt))
     (λ κs qs bounds a gh are.
     let κ : Lft = κs.0 in let κT : Lft = κs.1.0 in let κN : Lft = κs.1.1.0 in let κK : Lft = κs.1.1.1.0 in
     let κP : Lft = κs.1.1.1.1.0 in let κA : Lft = κs.1.1.1.1.1.0 in
-    let One : RattleType = View X N A gL gN gS κ in let R : RattleType = Ref X N A gL gN gS κ in
-    let L : NamedLft = lasting X N A gL gN gS κ in
+    let L : NamedLft = lasting κ in let R : RattleType = Lent L 0 X 1 N 4 A gL gN gS in
+    let One : RattleType = LentView L 0 X 1 N 4 A gL gN gS in
     let Part : RattleType = Slice L 0 X in let Half : RattleType = ArrayView L 0 X 1 N gN in
     let First : RattleType = ArrayView L 0 X 2 K gK in let Second : RattleType = ArrayView L 0 X 3 P gP in
     let Answer : RattleType = Tuple (First ∷ Second ∷ []) in
-    let whole_val : Val = (view_told X N A gL gN gS κ LX LN LA).val a.0 in
+    let whole_val : Val = (told κ).val a.0 in
     let x = a.0.slice in
     let W = walk_of 𝓛 ends kept c in
     let y : W.Ghost = ((κs, qs, bounds, a, (whole_val ∷ [], tt)), tt) in
@@ -131,14 +81,14 @@ split_spec 𝓤 𝓛 𝓜 𝓡 wired X N K P A LX LN LK LP LA gL dL gN dN gS dS 
     ∷ raw (fact 𝓤 (gN.USIZE ≡ gK.USIZE + gP.USIZE)) ∷ []) ∵
     move ! (1 ∷ []) $ heard ! _ (λ lT. move ! (1 ∷ []) $ heard ! _ (λ lN. move ! (1 ∷ []) $ heard ! _ (λ lK.
     move ! (1 ∷ []) $ heard ! _ (λ lP. move ! (1 ∷ []) $ heard ! _ (λ lA. move ! (1 ∷ []) $ heard ! _ (λ sum.
-    let good = ((view_laws X N A gL gN gS κ LX LN LA).lawful 𝓛).typed a.0 (whole_val ∷ []) are.0 in
+    let good = ((view_laws L 0 X 1 N 4 A gL gN gS LX LN LA).lawful 𝓛).typed a.0 (whole_val ∷ []) are.0 in
     enter ! _ _ _ _ _ $ alloc_all ! (λ l. pass_all ! refl (good.0, tt) $
     -- the reference is taken out of the view
     sets ! (addr ! (from ! (fld ! refl (hop ! (look_in_at ! 1 (sub ! 0 refl (whole !))) (stop !))))) refl (tt, tt) $
     split ! $ move ! (1 ∷ []) $ fsplit ! $ fpick ! (λ vss. fsplit ! $ feq_l ! (λ is_whole. fsplit ! $
     peeks ! R (Is R) (shows 𝓛 R) x vss.0 (λ is_ref.
     rewrite ! 0 (λ (vs : List Val). ‵ (R.own_val x vs))
-    (mut_Tells (named 0) κ (Items X N A gL gN gS κ) x vss.0 is_ref) refl $
+    (mut_Tells (named 0) κ (Items L 0 X 1 N 4 A gL gN gS) x vss.0 is_ref) refl $
     move ! (1 ∷ 2 ∷ []) $ drop ! $ drop ! $
     -- the array's slice is lent
     nothing ! $ move ! (1 ∷ 0 ∷ []) $ fjoin ! $ move ! (1 ∷ []) $ split3 ! $ move ! (2 ∷ []) $ split3 ! $
@@ -148,7 +98,7 @@ split_spec 𝓤 𝓛 𝓜 𝓡 wired X N K P A LX LN LK LP LA gL dL gN dN gS dS 
     calls 𝓛 (lend_contract.ended X N A gL dL gN dN gS dS dA)
     (lend_contract.clauses X N A gL dL gN dN gS dS dA 𝓛 𝓜.mem 𝓡.returns) (κ, (κT, (κN, (κA, tt))))
     (qs.0, (qs.1.0, (qs.1.1.0, (qs.1.1.1.1.1.0, tt)))) bounds (x, tt) (mut_vals x, tt) tt
-    (λ s. ‵ (LendsItems E (param 1 N) (param 4 A) gN gS x s) ⊛ raw (fact 𝓤 (s.now ≡ x.now)) ⊛
+    (λ s. ‵ (LendsItems E x s) ⊛ raw (fact 𝓤 (s.now ≡ x.now)) ⊛
     raw (fact 𝓤 (length s.now ≡ gN.USIZE)) ⊛ raw (fact 𝓤 (FitsInline gN.USIZE))) ! (framed 𝓤 𝓛.H 𝓜 𝓣)
     (lent.met 𝓤 𝓛 𝓜 𝓡 (code.calls-ga_core::array::GenericArray::as_mut_slice 𝓡.env wired) X N A LX LN LA gL dL gN dN gS
     dS dA boundL boundN boundS glue) (asked 𝓛 lT (asked 𝓛 lN (asked 𝓛 lA (id⊢ 𝓤 _)))) (id⊢ 𝓤 _) (λ v. id⊢ 𝓤 _)
@@ -192,10 +142,9 @@ split_spec 𝓤 𝓛 𝓜 𝓡 wired X N K P A LX LN LK LP LA gL dL gN dN gS dS 
     (array_laws L 0 X 2 K gK LX LK, (array_laws L 0 X 3 P gP LX LP, tt))).lawful 𝓛).typed r (u ∷ []) views).0 $
     returns ! (look_at ! 0 refl) $ free_all ! refl $
     rewrite ! 1 (λ (s : Part.Denot). ‵ (LendsHalves E s r.0.slice r.1.slice)) of_slice refl $
-    move ! (5 ∷ 1 ∷ []) $ use2 𝓛 (‵ (LendsBothParts E (param 1 N) (param 4 A) gN gS x r.0.slice r.1.slice))
-    (follows_both_then 𝓛 (Items X N A gL gN gS κ) (Array E 0) (Array E 0) (Array E 0)
-    (array_with E (param 1 N) (param 4 A) gN gS x) ◌++◌ x.ghost_name s.ghost_name r.0.slice.ghost_name
-    r.1.slice.ghost_name) $
+    move ! (5 ∷ 1 ∷ []) $ use2 𝓛 (‵ (LendsBothParts E x r.0.slice r.1.slice))
+    (follows_both_then 𝓛 (Array E 0) (Array E 0) (Array E 0) (Array E 0) (array_with E x) ◌++◌ x.ghost_name s.ghost_name
+    r.0.slice.ghost_name r.1.slice.ghost_name) $
     -- [the array follows; the views; the tokens of κ, T, N, K, P; the token of A; nothing]
     move ! (2 ∷ []) $ split3 ! $ move ! (2 ∷ []) $ split3 ! $ move ! (2 ∷ []) $ split ! $
     -- [the token of P; nothing; the tokens of N, K, κ, T; the array follows; the views; the token of A; nothing]
