@@ -40,7 +40,7 @@ impl<T, N: Unsigned> Model for BoxedArray<T, N> {
 }
 
 impl<T, N: Unsigned> BoxedArray<T, N> {
-    ghost use Rattle.ga_boxed.specs.BoxedLends.{LendsBoxedItems, LendsBoxedIter};
+    ghost use Rattle.ga_core.specs.Lends.{LendsItems, LendsIter};
 
     /// All items, in order. O(1).
     #[inline]
@@ -54,7 +54,7 @@ impl<T, N: Unsigned> BoxedArray<T, N> {
     /// All items, in order, for writing. O(1).
     #[inline]
     pub fn as_mut_slice(&mut self) -> &mut [T]
-        ensures* writes_back { sem 𝓛 (LendsBoxedItems T.row N.row N.Unsigned self.entry result) }
+        ensures* writes_back { sem 𝓛 (LendsItems T.row self.entry result) }
         ensures items { result.now ≡ self.old }
         ensures len { length result.now ≡ N.USIZE }
     {
@@ -78,7 +78,7 @@ impl<T, N: Unsigned> BoxedArray<T, N> {
     /// The items by reference, in order, for writing.
     #[inline]
     pub fn iter_mut(&mut self) -> slice::IterMut<'_, T>
-        ensures* writes_back { sem 𝓛 (LendsBoxedIter T.row N.row N.Unsigned self.entry result) }
+        ensures* writes_back { sem 𝓛 (LendsIter T.row self.entry result) }
         ensures items { IteratesMutOver self.old N.USIZE result }
     {
         self.as_mut_slice().iter_mut()

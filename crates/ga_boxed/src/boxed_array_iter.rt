@@ -10,7 +10,7 @@ ghost use Rattle.std.specs.Prelude.{◌≡◌, ◌-◌, IfOk, IsOk, fold, length
 
 use crate::live_block::LiveBlock;
 use ga_core::AllocError;
-use ga_core::items_left::{ItemsLeft, fold_left, rfold_left};
+use ga_core::items_left::{ItemsLeft, fold_remaining, rfold_remaining};
 use std::alloc;
 use std::marker::Model;
 
@@ -30,7 +30,7 @@ impl<T> Model for BoxedArrayIter<T> {
 }
 
 impl<T> BoxedArrayIter<T> {
-    ghost use Rattle.ga_boxed.specs.BoxedIterLends.{LendsBoxedLeft};
+    ghost use Rattle.ga_core.specs.Lends.{LendsItems};
 
     // The iterator over items. Moves none of them.
     #[inline]
@@ -59,7 +59,7 @@ impl<T> BoxedArrayIter<T> {
     /// The items that are left, in order, for writing. O(1).
     #[inline]
     pub fn as_mut_slice(&mut self) -> &mut [T]
-        ensures* writes_back { sem 𝓛 (LendsBoxedLeft T.row self.entry result) }
+        ensures* writes_back { sem 𝓛 (LendsItems T.row self.entry result) }
         ensures items { result.now ≡ self.old }
     {
         self.items.as_mut_slice()
@@ -174,7 +174,7 @@ impl<T: Drop> BoxedArrayIter<T> {
         ensures run { FoldRun F.step f.old init self result f.new }
         ensures acts { (h : A → T → A) → ActsAsOnTwo F.FnMut f.old h → result ≡ fold h init self }
     {
-        fold_left(self, init, f)
+        fold_remaining(self, init, f)
     }
 
     /// `fold` from the back. One pass.
@@ -195,7 +195,7 @@ impl<T: Drop> BoxedArrayIter<T> {
         ensures acts { (h : A → T → A) → ActsAsOnTwo F.FnMut f.old h
             → result ≡ fold h init (reverse self) }
     {
-        rfold_left(self, init, f)
+        rfold_remaining(self, init, f)
     }
 }
 

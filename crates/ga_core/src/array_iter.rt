@@ -3,7 +3,7 @@ ghost use Rattle.ga_core.specs.Lends.{LendsItems};
 ghost use Rattle.ga_views.specs.Length.{FitsInline};
 ghost use Rattle.std.specs.Borrow.{sem};
 ghost use Rattle.std.specs.Iterator.{YieldsFirst, YieldsLast, item_count};
-ghost use Rattle.std.specs.Prelude.{◌≡◌, ◌<◌, ◌≤◌, [], ◌∷◌, ◌++◌, drop, length, slice_index_or, slice_set, take};
+ghost use Rattle.std.specs.Prelude.{◌≡◌, ◌<◌, ◌≤◌, [], ◌∷◌, ◌++◌, drop, length, take};
 
 mod copies;
 mod folds;
@@ -11,11 +11,10 @@ mod steps;
 
 use crate::items_left::ItemsLeft;
 use crate::length::ArrayLength;
-use crate::slots::{are_long, are_many, move_items};
+use crate::slots::{are_long, are_many, move_items, take_at};
 use crate::store::Store;
-use ga_views::MAX_INLINE;
+use std::fmt;
 use std::marker::{Model, PhantomData};
-use std::{fmt, mem};
 
 /// The items of an array by value, from both ends. Contracts see it as the list of the items that
 /// are left.
@@ -167,7 +166,7 @@ impl<T: Default + Drop, N: ArrayLength<T>> GenericArrayIter<T, N> {
     // `move_to` slots of a store `S`, which has `room` for items: in one piece where they are all
     // of `S` and long, or all of the iterator's store.
     #[inline(always)]
-    pub(crate) fn move_into<S: Store<T>>(&mut self, slots: &mut [T], room: usize)
+    pub(crate) fn exchange_or_move<S: Store<T>>(&mut self, slots: &mut [T], room: usize)
         requires room { room ≡ S.CAPACITY }
         requires enough { length slots.old ≤ length self.old }
         ensures moved { slots.new ≡ take (length slots.old) self.old }
@@ -242,37 +241,5 @@ impl<T: fmt::Debug, N: ArrayLength<T>> fmt::Debug for GenericArrayIter<T, N> {
         f.write_str("GenericArrayIter(")?;
         fmt::Debug::fmt(self.as_slice(), f)?;
         f.write_str(")")
-    }
-}
-
-// Takes the item of a slot, and leaves a default there. `slot % MAX_INLINE` is the slot: by it the
-// compiler sees that the write reaches nothing before the store.
-#[inline]
-pub(crate) fn take_at<T: Default + Drop, S: Store<T>>(store: &mut S, slot: usize) -> T
-    requires fits { FitsInline (length (S.items store.old)) }
-    requires in_bounds { slot < length (S.items store.old) }
-    ensures item { result ≡ slice_index_or (S.items store.old) slot result }
-    ensures left { (blank : T) × (S.items store.new ≡ slice_set (S.items store.old) slot blank) }
-{
-    mem::take(store.item_mut(slot % MAX_INLINE))
-}
-
-// Writes defaults over the items, which drops them, in order.
-#[inline]
-fn blank<T: Default + Drop>(items: &mut [T])
-    ensures len { length items.new ≡ length items.old }
-{
-    for item in items.iter_mut() {
-        *item = T::default();
-    }
-}
-
-// `blank` from the last item to the first.
-#[inline]
-fn blank_back<T: Default + Drop>(items: &mut [T])
-    ensures len { length items.new ≡ length items.old }
-{
-    for index in (0..items.len()).rev() {
-        items[index] = T::default();
     }
 }

@@ -5,10 +5,10 @@ ghost use Rattle.std.specs.List.{All, AllZip};
 ghost use Rattle.std.specs.Prelude.{◌≡◌, ◌≢◌, ◌⊎◌, ◌+◌, ◌-◌, ◌<◌, ◌≤◌, ◌↔◌, IfNone, IfOk, IfSome, IsOk, IsSome, IsTrue, None, OnErr, OnOk, Some, List, [], ◌∷◌, ◌++◌, drop, get_or, insert, length, remove, slice_get, slice_set, take};
 
 use crate::array::GenericArray;
-use crate::array_iter::{GenericArrayIter, take_at};
+use crate::array_iter::GenericArrayIter;
 use crate::errors::AllocError;
 use crate::length::ArrayLength;
-use crate::slots::{write_clones_or_defaults, write_defaults};
+use crate::slots::{put_at, take_at, write_clones_or_defaults, write_defaults};
 use crate::store::Store;
 use ga_views::LengthError;
 use std::marker::{Model, PhantomData};
@@ -92,7 +92,7 @@ impl<T: Default + Drop, N: ArrayLength<T>> ArrayBuilder<T, N> {
         ensures left { items.new ≡ drop count items.old }
     {
         let first = self.position;
-        items.move_into::<N::ArrayType>(self.store.part_mut(first, count), N::USIZE);
+        items.exchange_or_move::<N::ArrayType>(self.store.part_mut(first, count), N::USIZE);
         self.position = first + count;
     }
 
@@ -333,13 +333,4 @@ fn carry_to_end<T>(items: &mut [T], index: usize)
     ensures { (item : T) → items.new ≡ remove items.old index ++ get_or items.old index item ∷ [] }
 {
     items[index..].rotate_left(1);
-}
-
-// Writes `item` over the item of a slot, which is dropped.
-#[inline]
-fn put_at<T: Drop, S: Store<T>>(store: &mut S, slot: usize, item: T)
-    requires { slot < length (S.items store.old) }
-    ensures { S.items store.new ≡ slice_set (S.items store.old) slot item }
-{
-    *store.item_mut(slot) = item;
 }

@@ -20,7 +20,11 @@ pub trait ItemsLeft<T>: Drop {
 
 /// Folds the items into one value, from the front, starting from `init`. One pass.
 #[inline(always)]
-pub fn fold_left<T, L: ItemsLeft<T>, A, F: FnMut(A, T) -> A>(mut left: L, init: A, f: &mut F) -> A
+pub fn fold_remaining<T, L: ItemsLeft<T>, A, F: FnMut(A, T) -> A>(
+    mut left: L,
+    init: A,
+    f: &mut F,
+) -> A
     requires callable { MayFold (λ item. item) F.pre F.step f.old init (L.items left) }
     ensures run { FoldRun F.step f.old init (L.items left) result f.new }
     ensures acts { (h : A → T → A) → ActsAsOnTwo F.FnMut f.old h
@@ -33,9 +37,13 @@ pub fn fold_left<T, L: ItemsLeft<T>, A, F: FnMut(A, T) -> A>(mut left: L, init: 
     answer
 }
 
-/// `fold_left` from the back. One pass.
+/// `fold_remaining` from the back. One pass.
 #[inline(always)]
-pub fn rfold_left<T, L: ItemsLeft<T>, A, F: FnMut(A, T) -> A>(mut left: L, init: A, f: &mut F) -> A
+pub fn rfold_remaining<T, L: ItemsLeft<T>, A, F: FnMut(A, T) -> A>(
+    mut left: L,
+    init: A,
+    f: &mut F,
+) -> A
     requires callable { MayFold (λ item. item) F.pre F.step f.old init (reverse (L.items left)) }
     ensures run { FoldRun F.step f.old init (reverse (L.items left)) result f.new }
     ensures acts { (h : A → T → A) → ActsAsOnTwo F.FnMut f.old h

@@ -1,12 +1,15 @@
-//! Writing over the slots of a slice, in order.
+//! Writing over slots: over those of a slice in order, and over one of a store.
 ghost use Rattle.ga_core.specs.Calls.{MayGenerate, MayTryGenerate};
 ghost use Rattle.ga_core.specs.Copies.{Repeats};
 ghost use Rattle.ga_core.specs.Runs.{ClosureRun, TryClosureRun};
+ghost use Rattle.ga_views.specs.Length.{FitsInline};
 ghost use Rattle.std.specs.List.{All, AllZip, range_with_len};
-ghost use Rattle.std.specs.Prelude.{◌≡◌, ◌≤◌, IsOk, Ok, OnOk, length};
+ghost use Rattle.std.specs.Prelude.{◌≡◌, ◌<◌, ◌≤◌, IsOk, Ok, OnOk, length, slice_index_or, slice_set};
 ghost use Rattle.std.specs.Result.{result_and};
 
 use crate::errors::AllocError;
+use crate::store::Store;
+use ga_views::MAX_INLINE;
 use std::mem;
 
 // So few items are moved one by one, where they take more than a word.
@@ -67,6 +70,16 @@ pub(crate) fn write_defaults<T: Default + Drop>(slots: &mut [T])
 {
     for slot in slots.iter_mut() {
         *slot = T::default();
+    }
+}
+
+// `write_defaults` from the last slot to the first.
+#[inline]
+pub(crate) fn write_defaults_back<T: Default + Drop>(slots: &mut [T])
+    ensures len { length slots.new ≡ length slots.old }
+{
+    for index in (0..slots.len()).rev() {
+        slots[index] = T::default();
     }
 }
 
@@ -153,4 +166,25 @@ pub(crate) fn write_copies<T: Clone>(slots: &mut [T], item: T) -> Result<(), All
         slots[last] = item;
     }
     Ok(())
+}
+
+// Writes `item` over the item of a slot, which is dropped.
+#[inline]
+pub(crate) fn put_at<T: Drop, S: Store<T>>(store: &mut S, slot: usize, item: T)
+    requires { slot < length (S.items store.old) }
+    ensures { S.items store.new ≡ slice_set (S.items store.old) slot item }
+{
+    *store.item_mut(slot) = item;
+}
+
+// Takes the item of a slot, and leaves a default there. `slot % MAX_INLINE` is the slot: by it the
+// compiler sees that the write reaches nothing before the store.
+#[inline]
+pub(crate) fn take_at<T: Default + Drop, S: Store<T>>(store: &mut S, slot: usize) -> T
+    requires fits { FitsInline (length (S.items store.old)) }
+    requires in_bounds { slot < length (S.items store.old) }
+    ensures item { result ≡ slice_index_or (S.items store.old) slot result }
+    ensures left { (blank : T) × (S.items store.new ≡ slice_set (S.items store.old) slot blank) }
+{
+    mem::take(store.item_mut(slot % MAX_INLINE))
 }

@@ -12,7 +12,9 @@ use std::default::MadeWith;
 
 /// A list with a capacity, kept in the value itself. It never asks for memory.
 ///
-/// Who writes one gives the six calls without a body. The others stand on them.
+/// Who writes one gives the six calls without a body. The others stand on them. Arrays, builders and
+/// iterators keep theirs full: they make one by `filled`, and call neither `push` nor `pop` nor
+/// `remove_at`, which are for who keeps items in a store alone.
 pub trait Store<T>: Sized + Drop {
     // The items, in order.
     ghost items: { Self → List T };

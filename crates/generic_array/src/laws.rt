@@ -2,18 +2,11 @@
 //!
 //! Each function's contract is a law, and nothing calls it. The laws of shapes and of rows hold of
 //! all lists, those of runs and of folds of each closure, whatever it returns; their bodies are
-//! empty. With the contracts of the calls they hold of the calls. The laws of the macros, one for
-//! each form, have the macro as body.
-ghost use Rattle.ga_core.specs.Length.{FitsInline};
+//! empty. With the contracts of the calls they hold of the calls.
 ghost use Rattle.ga_core.specs.Rows.{rows};
 ghost use Rattle.generic_array.specs.Laws.{ErrorRunsJoin, FoldsJoin, FoldsToErrorJoin, GoodFoldsJoin, GoodRunsJoin, RunsJoin};
 ghost use Rattle.std.specs.List.{All, flat_map};
-ghost use Rattle.std.specs.Prelude.{◌≡◌, ℕ, ◌*◌, ◌<◌, IfOk, List, [], ◌∷◌, ◌++◌, drop, length, replicate, take};
-
-use crate::{arr, box_arr};
-use ga_boxed::BoxedArray;
-use ga_core::{AllocError, ArrayLength, GenericArray, U1, U2, U3, Unsigned};
-use std::alloc::Global;
+ghost use Rattle.std.specs.Prelude.{◌≡◌, ℕ, ◌*◌, ◌<◌, List, [], ◌∷◌, ◌++◌, drop, length, take};
 
 // What was put at an end is what is taken from there, and the other items are as they were. What
 // was taken and put back is as it was by the words for taking alone.
@@ -63,75 +56,3 @@ fn try_folds_join<A, X, E, F: FnMut(A, X) -> Result<A, E>>(_f: &F)
     ensures good { GoodFoldsJoin F.step }
     ensures error { FoldsToErrorJoin F.step }
 {}
-
-// Items written out stand in the order in which they are written.
-fn arr_of_items<T: Default + Drop>(first: T, second: T, third: T) -> GenericArray<T, U3>
-    ensures { result ≡ first ∷ second ∷ third ∷ [] }
-{
-    arr![first, second, third]
-}
-
-fn arr_of_two_items<T: Default + Drop>(first: T, second: T) -> GenericArray<T, U2>
-    ensures { result ≡ first ∷ second ∷ [] }
-{
-    arr![first, second]
-}
-
-// Of items of a named type: of an open one the checker asks that the native array behind the macro
-// fits in memory.
-fn box_arr_of_items(
-    alloc: Global,
-    first: u64,
-    second: u64,
-    third: u64,
-) -> Result<BoxedArray<u64, U3>, AllocError>
-    ensures { IfOk result (λ boxed. boxed ≡ first ∷ second ∷ third ∷ []) }
-{
-    box_arr!(alloc, [first, second, third])
-}
-
-fn box_arr_of_two_items(
-    alloc: Global,
-    first: u64,
-    second: u64,
-) -> Result<BoxedArray<u64, U2>, AllocError>
-    ensures { IfOk result (λ boxed. boxed ≡ first ∷ second ∷ []) }
-{
-    box_arr!(alloc, [first, second])
-}
-
-// There are as many copies as the length says.
-fn arr_of_a_length<T: Copy + Default + Drop, N: ArrayLength<T>>(item: T) -> GenericArray<T, N>
-    requires { FitsInline N.USIZE }
-    ensures { result ≡ replicate N.USIZE item }
-{
-    arr![item; N]
-}
-
-fn box_arr_of_a_length<T: Copy, N: Unsigned>(
-    alloc: Global,
-    item: T,
-) -> Result<BoxedArray<T, N>, AllocError>
-    ensures { IfOk result (λ boxed. boxed ≡ replicate N.USIZE item) }
-{
-    box_arr!(alloc, [item; N])
-}
-
-// And as many as the number says.
-fn arr_of_a_number<T: Copy + Default + Drop>(item: T) -> GenericArray<T, U3>
-    ensures { result ≡ replicate 3 item }
-{
-    arr![item; 3]
-}
-
-fn arr_of_one_copy<T: Copy + Default + Drop>(item: T) -> GenericArray<T, U1>
-    ensures { result ≡ item ∷ [] }
-{
-    arr![item; 1]
-}
-
-fn box_arr_of_a_number<T: Copy>(alloc: Global, item: T) -> Result<BoxedArray<T, U3>, AllocError>
-    ensures { IfOk result (λ boxed. boxed ≡ replicate 3 item) }
-{
-    box_arr!(alloc, [item; 3])
-}

@@ -32,11 +32,11 @@ impl<T, N: Unsigned> DerefSlice for BoxedArray<T, N> {
 }
 
 impl<T, N: Unsigned> DerefSliceMut for BoxedArray<T, N> {
-    ghost use Rattle.ga_boxed.specs.BoxedLends.{LendsBoxedItems};
+    ghost use Rattle.ga_core.specs.Lends.{LendsItems};
 
     #[inline]
     fn deref_mut(&mut self) -> &mut [T]
-        ensures* writes_back { sem 𝓛 (LendsBoxedItems T.row N.row N.Unsigned self.entry result) }
+        ensures* writes_back { sem 𝓛 (LendsItems T.row self.entry result) }
         ensures items { result.now ≡ self.old }
         ensures len { length result.now ≡ N.USIZE }
     {
@@ -60,7 +60,7 @@ impl<'a, T, N: Unsigned> IntoIterator for &'a BoxedArray<T, N> {
 
 /// The items by reference, in order, for writing.
 impl<'a, T, N: Unsigned> IntoIterator for &'a mut BoxedArray<T, N> {
-    ghost use Rattle.ga_boxed.specs.BoxedLends.{LendsBoxedIter};
+    ghost use Rattle.ga_core.specs.Lends.{LendsIter};
 
     type Item = &'a mut T;
 
@@ -70,7 +70,7 @@ impl<'a, T, N: Unsigned> IntoIterator for &'a mut BoxedArray<T, N> {
 
     #[inline]
     fn into_iter(self) -> slice::IterMut<'a, T>
-        ensures* writes_back { sem 𝓛 (LendsBoxedIter T.row N.row N.Unsigned self.entry result) }
+        ensures* writes_back { sem 𝓛 (LendsIter T.row self.entry result) }
         ensures into_iter_gives { IteratesMutOver self.old N.USIZE result }
     {
         self.as_mut_slice().iter_mut()

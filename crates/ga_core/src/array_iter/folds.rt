@@ -5,7 +5,7 @@ ghost use Rattle.std.specs.Iterator.{ActsAsOnTwo};
 ghost use Rattle.std.specs.Prelude.{◌≡◌, fold, reverse};
 
 use crate::array_iter::GenericArrayIter;
-use crate::items_left::{fold_left, rfold_left};
+use crate::items_left::{fold_remaining, rfold_remaining};
 use crate::length::ArrayLength;
 
 impl<T: Default + Drop, N: ArrayLength<T>> GenericArrayIter<T, N> {
@@ -26,7 +26,7 @@ impl<T: Default + Drop, N: ArrayLength<T>> GenericArrayIter<T, N> {
         ensures run { FoldRun F.step f.old init self result f.new }
         ensures acts { (h : A → T → A) → ActsAsOnTwo F.FnMut f.old h → result ≡ fold h init self }
     {
-        fold_left(self, init, f)
+        fold_remaining(self, init, f)
     }
 
     /// `fold` from the back. One pass.
@@ -47,6 +47,6 @@ impl<T: Default + Drop, N: ArrayLength<T>> GenericArrayIter<T, N> {
         ensures acts { (h : A → T → A) → ActsAsOnTwo F.FnMut f.old h
             → result ≡ fold h init (reverse self) }
     {
-        rfold_left(self, init, f)
+        rfold_remaining(self, init, f)
     }
 }

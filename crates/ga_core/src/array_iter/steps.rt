@@ -2,8 +2,9 @@
 ghost use Rattle.ga_core.specs.Cut.{StepGives, back, front};
 ghost use Rattle.std.specs.Prelude.{◌≡◌, ◌-◌, ◌≤◌, [], drop, length, slice_get, take};
 
-use crate::array_iter::{GenericArrayIter, blank, blank_back};
+use crate::array_iter::GenericArrayIter;
 use crate::length::ArrayLength;
+use crate::slots::{write_defaults, write_defaults_back};
 use crate::store::Store;
 use ga_views::MAX_INLINE;
 
@@ -75,7 +76,7 @@ impl<T: Default + Drop, N: ArrayLength<T>> GenericArrayIter<T, N> {
             // The remainder is the slot itself: see `take_at`.
             let first = self.front % MAX_INLINE;
             self.front += passed;
-            blank(self.store.part_mut(first, passed));
+            write_defaults(self.store.part_mut(first, passed));
         }
     }
 
@@ -89,7 +90,7 @@ impl<T: Default + Drop, N: ArrayLength<T>> GenericArrayIter<T, N> {
         if passed > 0 {
             let first = self.back - passed;
             self.back = first;
-            blank_back(self.store.part_mut(first % MAX_INLINE, passed));
+            write_defaults_back(self.store.part_mut(first % MAX_INLINE, passed));
         }
     }
 }

@@ -8,7 +8,7 @@ use ga_test_items::played::{
     Item, Played, ends, ends_cloned, first_wrong, inline_items, later, nth_item, rising,
 };
 use ga_test_items::scripted::Given;
-use generic_array::items_left::{ItemsLeft, fold_left, rfold_left};
+use generic_array::items_left::{ItemsLeft, fold_remaining, rfold_remaining};
 use generic_array::{ArrayLength, GenericArray, GenericArrayIter};
 
 /// The iterator over N items.
@@ -106,8 +106,8 @@ fn by_fold<'a, T: Item + Given<'a>, N: ArrayLength<T>>(counts: &'a Counts, fold:
         Fold::FoldBy => left.fold_by(first, &mut later),
         Fold::Rfold => left.rfold(first, later),
         Fold::RfoldBy => left.rfold_by(first, &mut later),
-        Fold::Left => fold_left(left, first, &mut later),
-        Fold::RfoldLeft => rfold_left(left, first, &mut later),
+        Fold::Remaining => fold_remaining(left, first, &mut later),
+        Fold::RfoldRemaining => rfold_remaining(left, first, &mut later),
     };
     ends(made, counts)
 }
@@ -178,8 +178,8 @@ fn of_folds<'a, 'n, T: Item + Given<'a>, N: ArrayLength<T>>(counts: &'a Counts) 
             "GenericArrayIter::rfold_by",
             by_fold::<T, N>(counts, Fold::RfoldBy),
         ),
-        ("fold_left", by_fold::<T, N>(counts, Fold::Left)),
-        ("rfold_left", by_fold::<T, N>(counts, Fold::RfoldLeft)),
+        ("fold_remaining", by_fold::<T, N>(counts, Fold::Remaining)),
+        ("rfold_remaining", by_fold::<T, N>(counts, Fold::RfoldRemaining)),
         ("GenericArrayIter::clone", by_own_clone::<T, N>(counts)),
     ]
 }

@@ -6,9 +6,9 @@ use Rattle.std.proofs.Common.{◌%◌, ◌-◌}
 pub returns-then-passed-gt0 : goal.returns-then-passed-gt0
 returns-then-passed-gt0 g c =
     let items = g.N.ArrayType.Store.items c.self.inside.store in
-    let part = part_set ((c.self.inside.back - c.args.passed) % 65536) c.args.passed items c.blank_back.new.items in
+    let part = part_set ((c.self.inside.back - c.args.passed) % 65536) c.args.passed items c.write_defaults_back.new.slots in
     left-before items _ c.self.invariant c.self.view_is c.args.passed c.requires.in_bounds c.if-passed-gt0.true
-    _ c.blank_back.new.items (g.N.ArrayType.Store.store_with c.self.inside.store part).1
+    _ c.write_defaults_back.new.slots (g.N.ArrayType.Store.store_with c.self.inside.store part).1
 
 pub part_mut-requires : goal.part_mut-requires
 part_mut-requires g c = record {

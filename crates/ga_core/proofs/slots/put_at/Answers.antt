@@ -1,5 +1,5 @@
 use Rattle.ga_core.proofs.SlotLemmas.{refill-set}
-use Rattle.ga_core.proofs.builder.put_at.Goals as goal
+use Rattle.ga_core.proofs.slots.put_at.Goals as goal
 use Rattle.std.proofs.Common.{refl, slice_set}
 
 pub returns : goal.returns

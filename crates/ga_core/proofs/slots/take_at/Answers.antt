@@ -1,5 +1,5 @@
 use Rattle.ga_core.proofs.SlotLemmas.{refill-set}
-use Rattle.ga_core.proofs.array_iter.take_at.Goals as goal
+use Rattle.ga_core.proofs.slots.take_at.Goals as goal
 use Rattle.std.proofs.Common.{◌≡◌, ◌%◌, ◌∙◌, ap, arith, refl, slice_set, mod-eq_of_lt}
 
 pub returns-clause-left : goal.returns-clause-left

@@ -2,7 +2,7 @@ use Rattle.ga_core.proofs.ActsLemmas.{answer_of_fold}
 use Rattle.ga_core.proofs.CallLemmas.{FoldRun-of_items, may_fold-at}
 use Rattle.ga_core.proofs.CutLemmas.{taken-more}
 use Rattle.ga_core.proofs.LeftLemmas.{all_moved, one_gone}
-use Rattle.ga_core.proofs.items_left.fold_left.Goals as goal
+use Rattle.ga_core.proofs.items_left.fold_remaining.Goals as goal
 use Rattle.ga_core.specs.Runs.{FoldRun}
 use Rattle.std.proofs.Common.{◌∙◌, ap, length, refl, subst, sym, ◌∷◌, [], ◌++◌}
 use Rattle.std.proofs.lemmas.Fn.{FoldsTo-push}

@@ -1,11 +1,11 @@
-use Rattle.ga_core.proofs.items_left.fold_left.Given as goal
+use Rattle.ga_core.proofs.items_left.rfold_remaining.Given as goal
 use Rattle.ga_core.specs.Runs.{FoldRun}
-use Rattle.std.proofs.Common.{◌≡◌, List, ◌++◌, length}
+use Rattle.std.proofs.Common.{◌≡◌, List, ◌++◌, length, reverse}
 
 -- the calls at the items passed led to the answer and the closure of now
 abbrev pub invariant-loop-item : goal.invariant-loop-item
 invariant-loop-item g l = (passed : List g.row.T.Denot)
-    × (g.L.ItemsLeft.items l.fn.left ≡ passed ++ g.L.ItemsLeft.items l.left)
+    × (reverse (g.L.ItemsLeft.items l.fn.left) ≡ passed ++ reverse (g.L.ItemsLeft.items l.left))
     × FoldRun (goal.F-step g) l.initial.f l.initial.answer passed l.answer l.f
 
 -- the items that are left
