@@ -2,7 +2,7 @@
 ghost use Rattle.ga_core.specs.Fill.{Asks, TakeGoodRuns, TakeRuns, Takes, TakesGood};
 ghost use Rattle.ga_views.specs.Length.{FitsInline};
 ghost use Rattle.std.specs.List.{All, AllZip};
-ghost use Rattle.std.specs.Prelude.{◌≡◌, ◌≢◌, ◌⊎◌, ◌+◌, ◌-◌, ◌<◌, ◌≤◌, ◌↔◌, IfNone, IfOk, IfSome, IsOk, IsSome, IsTrue, None, OnErr, OnOk, Some, List, [], ◌∷◌, ◌++◌, drop, get_or, insert, length, remove, slice_get, slice_set, take};
+ghost use Rattle.std.specs.Prelude.{◌≡◌, ◌≢◌, ◌⊎◌, ◌+◌, ◌-◌, ◌<◌, ◌≤◌, ◌↔◌, IfNone, IfOk, IfSome, IsOk, IsSome, IsTrue, None, OnErr, OnOk, Some, List, [], ◌∷◌, ◌++◌, drop, get_or, insert, length, remove, slice_get, take};
 
 use crate::array::GenericArray;
 use crate::array_iter::GenericArrayIter;
