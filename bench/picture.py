@@ -6,9 +6,11 @@
 One table has one picture, byte for byte. It needs matplotlib: apt-get install python3-matplotlib
 """
 import collections
+import io
 import math
 import os
 import pathlib
+import re
 import statistics
 import sys
 
@@ -24,9 +26,11 @@ BLUE, ORANGE, INK, SOFT, LINE = "#1b5fa8", "#c25700", "#1d2125", "#5b6570", "#dd
 TICKS, MANY = (0.05, 0.1, 0.2, 0.5, 1, 2, 5, 10, 20), 2
 PANELS = ("instructions", "time")
 LEGEND = "ours/original: a dot is a case, left of 1 ours takes less; each group's worst is named"
+FONT = "'DejaVu Sans'"
 STYLE = {
     "svg.hashsalt": "speed",
-    "font.family": "DejaVu Sans",
+    "svg.fonttype": "none",  # Text stays text.
+    "font.family": FONT.strip("'"),
     "font.size": 7.5,
     "text.color": INK,
     "axes.edgecolor": LINE,
@@ -100,13 +104,22 @@ def draw_panel(axes, groups, rows, side):
             across, down = [it[0] for it in dots], [middle + it[1] for it in dots]
             axes.scatter(across, down, s=DOT**2, c=color, linewidths=0, zorder=3)
         worst = max(cases, key=lambda it: it.ratios[side])
-        said = f"{worst.name}  {worst.ratios[side]:.2f}"
+        said = f"{worst.name}: {worst.ratios[side]:.2f}"
         color = ORANGE if worst.ratios[side] > MANY else SOFT
         axes.text(worst.ratios[side] * 1.1, middle, said, color=color, size=6.5, va="center")
     ratios = [it.ratios[side] for cases in groups.values() for it in cases]
     many = sum(it > MANY for it in ratios)
     said = f"by {PANELS[side]}: median {statistics.median(ratios):.2f}, {many} above {MANY}"
     axes.set_title(said, size=8.5, loc="left", pad=5)
+
+
+def plain(text):
+    """A picture with at most two decimals a number, a line for each path, and fonts that stand for
+    the first where that is missing."""
+    text = re.sub(r"\d+\.\d{3,}", lambda number: f"{round(float(number[0]), 2):g}", text)
+    text = re.sub(r" \n(?=[A-Zz])", " ", text).replace(' \n"', '"').replace('\n"', '"')
+    text = re.sub(r' transform="rotate\(-0 .*?\)"', "", text)
+    return text.replace(FONT, f"{FONT}, Verdana, sans-serif")
 
 
 def draw(groups, picture):
@@ -130,7 +143,9 @@ def draw(groups, picture):
             y = 1 - (TOP + rows[name][0] * APART) / tall
             figure.text(1 / WIDTH, y, f"{name} ({len(cases)})", va="center")
         figure.text(LEFT / WIDTH, 3 / tall, LEGEND, color=SOFT)
-        figure.savefig(picture, metadata={"Date": None, "Creator": None})
+        drawn = io.StringIO()
+        figure.savefig(drawn, metadata={"Date": None, "Creator": None})
+    pathlib.Path(picture).write_text(plain(drawn.getvalue()), "utf-8")
 
 
 def main():
