@@ -1,75 +1,20 @@
-"""Checks that the reference has all, that documents show what stands in the crates, and that what
-is imported for clauses is used there.
+"""Checks what no compiler sees, of documents, names, imports, tables of tests and wrong bodies.
 
 Each check gives what it tried, one after the other: what is wrong, or nothing.
 """
-import collections
-import re
-
 from ample_memory import unplayed
 from checks_of_documents import dangling
 from checks_of_names import misled, unnamed
-from checks_of_numbers import miscounted
 from drops import uncounted
 from edits import unfit
 from examples import missing
 from imports import uses
 from lookup import Names
-from meanings import header
-from private_fields import private_fields
 from promise import unkept
-
-COUNTED = re.compile(
-    r"(?m)^ *pub (?:(?:const|unsafe|final) (?=fn|unsafe))*"
-    r"(fn|struct|enum|trait|type|const|mod) (\w+)")
-
-
-IMPL = re.compile(r"(?m)^ *(?:unsafe )?impl\b")
-
 
 def sources(site, crates="*"):
     """The files of crates, in order."""
     return sorted((site.top / "crates").glob(f"{crates}/src/**/*.rt"))
-
-
-def unread(site):
-    """Compares the items that were read with a plain count of a file's text."""
-    public = collections.defaultdict(collections.Counter)
-    for item in site.items:
-        public[item.file][item.kind, item.name] += item.public
-    files = [file for crate in site.crates for file in sources(site, crate)]
-    for file in [file for file in files if not site.is_test(file)]:
-        counted = collections.Counter(COUNTED.findall(file.read_text("utf-8")))
-        read = public[file]
-        yield from (counted & read).total() * [None]
-        for kind, name in counted - read:
-            yield f"{file.relative_to(site.top)}: {kind} {name} isn't read"
-
-
-def unplaced(site):
-    """Compares the impls that were read with a plain count of a file's text, and looks for the
-    place of each that is of a public type or trait."""
-    placed, read = set(site.impls), collections.Counter(
-        item.file for item in site.items if item.kind == "impl")
-    files = [file for crate in site.crates for file in sources(site, crate)]
-    for file in [file for file in files if not site.is_test(file)]:
-        counted = len(IMPL.findall(file.read_text("utf-8")))
-        wrong = f"{file.relative_to(site.top)}: {read[file]} of {counted} impls are read"
-        yield wrong if counted != read[file] else None
-    for impl in [item for item in site.items if item.kind == "impl"]:
-        shown = any(word in site.by_name for word in re.findall(r"\w+", header(impl)))
-        empty = not impl.of_trait and not site.public_members(impl)
-        place = f"{impl.file.relative_to(site.top)}:{impl.line}"
-        lost = shown and not empty and impl not in placed
-        yield f"{place}: no page has {header(impl)}" if lost else None
-
-
-def undefined(site):
-    """Asks for the meaning of each word of a public clause."""
-    for item, atom, kind, _ in site.named(site.shown()):
-        place = f"{item.file.relative_to(site.top)}:{item.line}"
-        wrong = f"{place}: no definition of {atom}, in {item.name}"
-        yield wrong if kind == "unknown" else None
 
 
 def unwritten(site):
@@ -93,9 +38,8 @@ def unused(site):
 
 def check(site):
     """Prints what is wrong, and tells whether nothing is."""
-    of_sites = (unread, unplaced, undefined, unwritten, unused, unnamed, private_fields, uncounted,
-                unfit, miscounted)
     names = Names(site)
+    of_sites = (unwritten, unused, unnamed, uncounted, unfit)
     tried = [found for part in of_sites for found in part(site)]
     tried += [found for part in (misled, unkept, unplayed, dangling) for found in part(names)]
     failures = [found for found in tried if found]

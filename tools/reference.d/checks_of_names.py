@@ -1,12 +1,11 @@
-"""Checks that names lead where they should: those of the Rust crate to what stands here, and ours
-to the document that lists them."""
+"""Checks that a name of each kind leads where it should, and that a document lists our own."""
 import pathlib
 import re
 
 from meanings import LIBRARIES, WITH_A_PAGE
 from rust import CODE, names_in
 
-# Names that readers look up, each with the item that its page is of, or with what its row tells.
+# A name of each kind that readers look up, with the item that it leads to, or what its row tells.
 RUST_NAMES = pathlib.Path(__file__).resolve().parent / "rust_names.txt"
 TELLS = "tells "
 # The crates of the port.
@@ -27,7 +26,7 @@ def shown_first(names, name):
 
 
 def misled(names):
-    """Asks for each name of the Rust crate."""
+    """Asks for a name of each kind."""
     for line in RUST_NAMES.read_text("utf-8").splitlines():
         name, _, wanted = line.partition("\t")
         shown = shown_first(names, name)
