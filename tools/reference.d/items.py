@@ -180,7 +180,8 @@ class Items(Outside):
         whole = {"word": self.definition, "lemma": self.lemma, "file": self.file,
                  "mod": self.module, "macro": self.macro, "foreign": self.foreign}.get(item.kind)
         if item not in self.names.paths and item.kind not in OF_FILES:
-            whole = self.module_of_samples if item.kind == "mod" else self.sample
+            own = self.sample if self.is_own(item) else self.of_std
+            whole = self.module_of_samples if item.kind == "mod" else own
         if whole:
             return whole(item)
         if item.kind == "type" and item.owner.kind == "mod":

@@ -13,6 +13,7 @@ from lemmas import of_files
 from meanings import LIBRARIES, header
 from paths import Index, Paths
 from samples import Samples, hidden
+from slices import OWNERS, slice_methods
 from sources import ANGLE, closing, imports_of
 from std_words import StdWords
 
@@ -81,12 +82,19 @@ class Names(Paths):
         self.other_names = {name: meant for names, _, meant in lines for name in names.split()}
 
     @functools.cached_property
+    def slices(self):
+        """The methods of slices, each with the paths by our types that are slices too."""
+        return {item: [[owner, item.name] for owner in OWNERS]
+                for item in slice_methods(self.site.library)}
+
+    @functools.cached_property
     def outside(self):
-        """What stands on no page, by its names: samples, what isn't public, lemmas, and files of
-        definitions."""
+        """What stands on no page, by its names: samples, what isn't public, lemmas, files of
+        definitions, and methods of slices."""
         private = [item for item in hidden(self.site) if item not in self.paths]
-        items = [*self.samples.of(), *private, *of_files(self.site)]
-        return Index({item: [[part.strip("◌") for part in self.path(item)]] for item in items})
+        items = [*self.samples.of(), *private, *of_files(self.site), *self.slices]
+        return Index({item: [[part.strip("◌") for part in self.path(item)],
+                             *self.slices.get(item, ())] for item in items})
 
     def says_nothing_new(self, item):
         """Whether a member of an impl only does what its trait says."""
@@ -117,7 +125,8 @@ class Names(Paths):
         page, other words of std, names of clauses, and items whose docs name it."""
         parts = parts_of(name)
         items = self.items_of(name) or self.beside_of(name)
-        leads = len(parts) > 1 and bool(self.named(parts) or self.outside.named(parts))
+        leads = len(parts) > 1 and any(
+            item not in self.slices for item in (*self.named(parts), *self.outside.named(parts)))
         known = leads or items and items[0] in self.paths or self.told_of(name, False)
         if other := "" if known else self.other_name(parts):
             return self.asked(other)

@@ -14,8 +14,8 @@ from text import FAINT, Text, first_sentence
 MOST_LINES = 12
 # A name that `using` takes.
 PLAIN = re.compile(r"\w+")
-NEEDS = ("`using` takes no name with `-` or a sign: name it in a `ruleset` of your `proofs/`, and "
-         "that in `using`.")
+RULESET = "In `proofs/Facts.antt`, which your `proofs/Lib.antt` declares by `pub mod Facts`"
+ABOVE = "Above a function"
 
 
 def use_line(kind, module, names):
@@ -36,6 +36,18 @@ class Outside(Text):
         return [*self.docs(item), *self.code(code),
                 *self.part(self.painted(self.needed(item, code)), "Imports"),
                 *self.proofs(item)]
+
+    def of_std(self, item):
+        """A method of slices: its contract, and how its words are imported."""
+        cited, lines = self.cited([item]), {}
+        for word, name in cited[1].items():
+            for path, found in self.names.std.found(name):
+                if (found.file, found.line) == (word.file, word.line):
+                    lines.setdefault(path, set()).add(name)
+        uses = [use_line("ghost use", *told) for told in sorted(lines.items())]
+        return [*self.code(item.owner.head), *self.code(item.head), *self.docs(item),
+                *self.clauses(item.clauses, ()), *self.words(cited),
+                *self.part(self.painted(uses), "Imports")]
 
     def proofs(self, item):
         """The files that prove a sample, those of a few lines whole."""
@@ -88,13 +100,17 @@ class Outside(Text):
 
     def using(self, item):
         """How a line above a function names a lemma, or a list that it is in: by the crate in whose
-        folder it stands, which no other passes on."""
+        folder it stands, which no other passes on. A name that isn't one of Rust's is put into a
+        list first."""
         crate, *above, name = self.names.path(item)
         plain = [name] if PLAIN.fullmatch(name) else item.lists
+        if not plain:
+            return [*self.part([f"pub ruleset facts = ({name})"], RULESET),
+                    *self.part(["#[tactic(auto, using(crate::proofs::Facts::facts))]"], ABOVE)]
         paths = ["::".join([crate, *above, each]) for each in plain]
         lines = [f"#[tactic(auto, using({path}))]" for path in paths]
-        told = f"Your crate's line of `crates.txt` has to name `{crate}`." if plain else NEEDS
-        return self.part([*self.painted(lines), *prose(told, self.width - 4)], "Above a function")
+        told = f"Your crate's line of `crates.txt` has to name `{crate}`."
+        return self.part([*lines, *prose(told, self.width - 4)], ABOVE)
 
     def file(self, item):
         """A file of specs/ or proofs/ as a module: what it is, and what others import from it."""

@@ -91,8 +91,10 @@ class Samples:
                 not any(bounds.values()), item.end - item.begin)
 
     def likeliest(self, item):
-        """Where a sample, a lemma or a file stands among those of one name: first what the
-        documents name with its module, and tests last."""
+        """Where a sample, a lemma or a file stands among those of one name: first a method of std,
+        then what the documents name with its module, and tests last."""
+        if not item.file.is_relative_to(self.site.top):
+            return ()
         if item.kind in OF_FILES:
             return False, f"::{item.name})" not in self.documents[0], True, item.kind == "file"
         named = f"`{item.name}` of `{item.module.name}`" in self.documents[0]

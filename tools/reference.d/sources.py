@@ -69,6 +69,7 @@ class Item:
         self.begin, self.end, self.attributes, self.folder = 0, 0, "", "specs"
         self.clauses, self.members, self.users, self.rust = [], [], [], []
         self.blocks, self.exported, self.foreign = [], [], []
+        self.context, self.imports = [], {}
         self.__dict__.update(more)
         if kind == "ghost":
             term = head[head.index("{") + 1:head.rindex("}")].strip()
