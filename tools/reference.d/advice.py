@@ -56,7 +56,7 @@ def kinds(site, item):
     wanted = {}
     for clause in item.clauses:
         if clause.keyword == "requires":
-            for _, _, thing in Scope(site, item).pieces(clause.term):
+            for _, thing in Scope(site, item).pieces(clause.term):
                 if thing and thing.kind == "ghost" and thing.owner.home:
                     wanted.setdefault(thing.owner, set()).add(thing.name)
     found = {}
@@ -77,8 +77,8 @@ def imports(site, items):
     for item in items:
         scope = Scope(site, item)
         for clause in item.clauses:
-            for atom, kind, word in scope.pieces(clause.term):
-                if kind != "word" or atom.rstrip(".") not in scope.imports:
+            for atom, word in scope.pieces(clause.term):
+                if not word or word.kind != "word" or atom.rstrip(".") not in scope.imports:
                     continue
                 module, there = scope.imports[atom.rstrip(".")]
                 own = word.file and word.file.is_relative_to(site.top)

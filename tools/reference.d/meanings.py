@@ -11,11 +11,7 @@ NOTATION = pathlib.Path(__file__).resolve().parent / "pages" / "notation.txt"
 WITH_A_PAGE = ("struct", "enum", "trait")
 ATOM = re.compile(r'"[^"]*"|//.*|[^\s(){},;]+|[\s(){},;]+')
 BINDERS = re.compile(r"λ ([^.]*?)\.(?=\s)|(?:[({;]|\blet)\s*((?:[^\s(){};λ.≡]+ )+?)[:=] ")
-OF_THE_LANGUAGE = set(
-    "× → ¬ ⊥ λ : = . .. _ | ↦ ⊔ ℓ κ as by do elim end in let record type Type Unit tt absurd "
-    "𝓛 Self self result usize Some None Ok Err true false []".split())
-OF_A_TYPE = {"row", "code", "Denot"}
-OF_A_CLOSURE = {"IsAlwaysCallable"}  # The language gives it; no source declares it.
+VALUES = set("Some None Ok Err true false []".split())  # Readers know them, though std has them.
 UNDER_A_BOUND = {"step": "steps"}  # FnMut's member is spelled so where it is written under a bound.
 
 
@@ -106,16 +102,13 @@ class Scope:
         return found
 
     def below(self, prefix, traits, path):
-        """What a path below a type means."""
+        """What a path below a type means, or None."""
         name, rest = UNDER_A_BOUND.get(path[0], path[0]), path[1:]
         found = next((member for trait in traits
                       for member in (trait, *trait.of_kind("ghost", "type"))
                       if member.name == name), None)
-        if not found:
-            given = name in OF_A_TYPE | OF_A_CLOSURE or not self.site.library.kit
-            return "local" if given else "unknown", None
-        if found.kind == "ghost" or not rest:
-            return ("local", None) if found.kind == "type" else ("member", found)
+        if not found or found.kind == "ghost" or not rest:
+            return found if found and found.kind != "type" else None
         deeper = []
         if found.kind == "type":
             deeper = parted(found.head.partition(":")[2], "+")
@@ -124,38 +117,24 @@ class Scope:
         return self.below(inner, self.closure(deeper) or [found], rest)
 
     def meaning(self, atom, bound):
-        """What an atom of a term means: "local", "unknown", or "member" or "word" and what it
-        names."""
+        """The item or the definition that an atom of a term names, or None."""
         name, *path = atom.rstrip(".").split(".")
         if path and name in self.bounds and name not in bound:
             return self.below(name, self.closure(self.bounds[name]), path)
-        if name in bound or name in self.local or name in OF_THE_LANGUAGE:
-            return "local", None
-        if re.match(r"[\d\"]|//|$", name):
-            return "local", None
+        if name in bound or name in self.local or name in VALUES:
+            return None
         if name in self.imports:
-            return self.imported(name, path)
+            module, there = self.imports[name]
+            return self.site.library.word(module, there or (path[0] if path else ""))
         near = self.near.get(name)
-        if not near and self.item.kind != "word":
-            if name in self.item.module.foreign:
-                return "local", None
-            near = self.site.item_named(name, self.item)
-        return ("member", near) if near else ("local" if name in self.bounds else "unknown", None)
-
-    def imported(self, name, path):
-        """What an imported name means, with what stands behind it."""
-        library, (module, there) = self.site.library, self.imports[name]
-        word = library.word(module, there or (path[0] if path else ""))
-        unseen = not library.kit and not library.own(module.split(".")[1])
-        return ("word", word) if word else ("local" if unseen else "unknown", None)
+        return near if near or self.item.kind == "word" else self.site.item_named(name, self.item)
 
     def pieces(self, term):
-        """The atoms of a term, each with what it means."""
+        """The atoms of a term, each with what it names, or None."""
         names = [found[0] or found[1] for found in BINDERS.findall(term)]
         bound = {name for group in names for name in group.strip("{}").split()}
         for atom in ATOM.findall(term):
-            nothing = re.match(r"[\s(){},;]", atom)
-            yield atom, *(("local", None) if nothing else self.meaning(atom, bound))
+            yield atom, self.meaning(atom, bound)
 
 
 class Site:
@@ -330,12 +309,11 @@ class Site:
                     yield from self.public_members(item)
 
     def named(self, items):
-        """Each name of each term of items: the item, the name, its kind and what it means."""
+        """What each term of items names: the item, the name, and what it means."""
         for item in items:
             scope = Scope(self, item) if item.clauses else None
             for clause in item.clauses:
-                pieces = scope.pieces(clause.term)
-                yield from ((item, *piece) for piece in pieces if piece[1] != "local")
+                yield from ((item, atom, thing) for atom, thing in scope.pieces(clause.term) if thing)
 
     def full_name(self, item):
         """An item's name behind that of its type or trait, a definition's behind its module."""

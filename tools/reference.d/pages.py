@@ -72,8 +72,8 @@ class Pages:
     def note_users(self):
         """Notes at each definition and ghost member who names it. Those of std get their places by
         the way; a member of a hidden trait has none."""
-        for user, _, _, thing in self.site.named([*self.site.shown(), *self.own_words]):
-            if thing is None or thing is user or not (thing.url or self.place_of_std(thing)):
+        for user, _, thing in self.site.named([*self.site.shown(), *self.own_words]):
+            if thing is user or not (thing.url or self.place_of_std(thing)):
                 continue
             thing.users += [user] if user not in thing.users else []
 
@@ -109,7 +109,7 @@ class Pages:
         """A term as HTML, in which each name leads to its definition."""
         pieces = Scope(self.site, item).pieces(text)
         notation = self.site.notation
-        return self.shown([(atom, to, notation.get(atom), False) for atom, _, to in pieces], item)
+        return self.shown([(atom, to, notation.get(atom), False) for atom, to in pieces], item)
 
     def code(self, text, item):
         """Code as HTML, in which the names of items lead to them."""

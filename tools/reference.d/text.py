@@ -91,13 +91,13 @@ class Text:
         """What the clauses of items name: our definitions and ghost members, each with its name
         there, and the words of others."""
         ours, others = {}, {}
-        for _, atom, kind, thing in self.site.named(items):
-            if not thing or thing in items or thing.kind not in ("word", "ghost"):
+        for _, atom, thing in self.site.named(items):
+            if thing in items or thing.kind not in ("word", "ghost"):
                 continue
             own = thing.file and thing.file.is_relative_to(self.site.top)
             if own:
                 ours.setdefault(thing, atom.rstrip("."))
-            elif kind == "word" and re.match(r"[A-Za-z]\w*$", atom.rstrip(".")):
+            elif thing.kind == "word" and re.match(r"[A-Za-z]\w*$", atom.rstrip(".")):
                 others.setdefault(thing, atom.rstrip("."))
         return ours, others
 
