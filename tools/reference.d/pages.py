@@ -3,6 +3,7 @@ import collections
 import html
 import pathlib
 import re
+import shutil
 import urllib.parse
 
 import markdown
@@ -21,7 +22,7 @@ KEYWORDS = set("pub const fn struct enum trait type impl for where mut dyn final
                "unsafe macro_rules".split())
 # The pages that stand once, and what they need beside them.
 FILES = ("words/std.html", "words/index.html", "rust.html", "promise.html", "index.html",
-         "names.js", "search.js", "pictures.js", "style.css")
+         "names.js", "search.js", "style.css")
 # A definition that the compiler makes of a type.
 DECLARED = re.compile(
     r"Rattle\.(\w+)\.specs\.(?:declared|contracts)\.(?:.*\.)?(\w+?)(?:\.TheVariants)?$")
@@ -43,7 +44,7 @@ class Pages:
         placed = [item for item in [*self.own_words, *site.shown()] if item.url]
         self.places = {site.full_name(item): item for item in placed}
         self.rust_names = list(self.note_rust())
-        self.rust_text = self.told_of_rust()
+        self.rust_text, self.crates_drawn = self.told_of_rust(), self.drawing()
         self.names = Names(site)
         self.promise, self.promise_title = carriers(self.names), TITLE
         self.templates = Environment(loader=FileSystemLoader(TEMPLATES), trim_blocks=True,
@@ -171,8 +172,13 @@ class Pages:
         text = (self.site.top / "docs" / rust.DOCUMENTS[0]).read_text("utf-8")
         return re.sub(r"\[([^\]]*)\]\([^)]*\)", r"\1", text)
 
+    def drawing(self):
+        """What stands on what, as the document draws it."""
+        text = (self.site.top / "docs" / "ARCHITECTURE.md").read_text("utf-8")
+        return re.search(r"(?ms)^```text\n(.*?)^```", text)[1]
+
     def write(self):
-        """Writes all pages, and what stands beside them."""
+        """Writes all pages, and what stands beside them. Gives the links that lead nowhere."""
         for item in self.site.items:
             if item.home and item.kind in ("mod", *WITH_A_PAGE):
                 self.page("module.html" if item.kind == "mod" else "type.html", item.url, item=item)
@@ -180,6 +186,20 @@ class Pages:
             self.page("words.html", words[0].url.partition("#")[0], words=words)
         for name in FILES:
             self.page(name, name)
+        shutil.copy(self.site.top / "bench" / "speed.svg", self.folder)
+        return list(self.lost_links())
+
+    def lost_links(self):
+        """The links between pages that lead to no page, or to no place there."""
+        files = {file.resolve(): file.read_text("utf-8") for file in self.folder.rglob("*.html")}
+        places = {file: {html.unescape(place) for place in re.findall(r' id="([^"]*)"', text)}
+                  for file, text in files.items()}
+        for file, text in files.items():
+            for link in set(re.findall(r'<a\b[^>]* href="([^":]*)"', text)):
+                page, _, place = html.unescape(link).partition("#")
+                to = (file.parent / page).resolve() if page else file
+                if to not in files or place and urllib.parse.unquote(place) not in places[to]:
+                    yield f"{file.name}: a link to {link}"
 
     def page(self, template, url, **given):
         """Writes a page."""
