@@ -1,15 +1,19 @@
-"""Checks that each name that a document has as code is found.
+"""Checks that the examples of documents stand in the crates, and that each name that a document has
+as code is found.
 
-Of code this looks up what is a name: a path, a call or a type, without what stands in brackets; of
-words without a sign between them the first; of `using(..)` and `use ..;` the path. Of what begins
-with a value or a type parameter it looks up the last name. A single letter is a variable, and so is
-what is indexed. Other code, such as a term, isn't looked up.
+Of code in a line this looks up what is a name: a path, a call or a type, without what stands in
+brackets; of words without a sign between them the first; of `using(..)` and `use ..;` the path. Of
+what begins with a value or a type parameter it looks up the last name. A single letter is a
+variable, and so is what is indexed. Other code, such as a term, isn't looked up.
 """
 import functools
 import re
 
 from rust import CODE, FENCED, names_in
 
+# An example, and what is layout of it: spaces, the comma before a bracket, and `pub`.
+EXAMPLE = re.compile(r"(?ms)^```rust\n(.*?)^```")
+LAYOUT = re.compile(r"\s+|,(?=\s*[)\]}>])|\bpub(?:\(\w+\))?\s")
 DOCUMENTS = ("docs/CALLING.md", "docs/DIFFERENCES.md", "docs/DEFINITIONS.md", "crates/*/README.md")
 # The document whose rows list the names of the Rust crate.
 RUST = "docs/DIFFERENCES.md"
@@ -23,6 +27,27 @@ FILE = re.compile(r"[\w.-]+(?:/[\w.-]*)+|\w+\.(?:rt|antt|md|py|txt)")
 BELOW = re.compile(r"(?:^\w+|[)\]]\??)\.|^(?:[A-Z]|Self)::")
 INDEXED = re.compile(r"&?[a-z]\w*\[")
 COMMAND = "rt"
+
+
+def parts_of_examples(text):
+    """The parts of a document's examples, but for imports, each with its example's line."""
+    for example in EXAMPLE.finditer(text):
+        line = text.count("\n", 0, example.start(1)) + 1
+        code = re.sub(r"(?m)^(?:ghost )?use .*\n", "", example[1])
+        yield from ((line, part.strip()) for part in re.split(r"\n\n+", code) if part.strip())
+
+
+def unwritten(site):
+    """Looks for each part of an example in the crates."""
+    files = sorted((site.top / "crates").glob("*/src/**/*.rt"))
+    sources = [LAYOUT.sub("", file.read_text("utf-8")) for file in files]
+    documents = [site.top / "README.md", *(site.top / "docs").glob("*.md"),
+                 *(site.top / "crates").glob("*/README.md")]
+    for document in sorted(documents):
+        for line, part in parts_of_examples(document.read_text("utf-8")):
+            stands = any(LAYOUT.sub("", part) in source for source in sources)
+            wrong = f"{document.relative_to(site.top)}:{line}: no crate has {part.splitlines()[0]}"
+            yield None if stands else wrong
 
 
 def names_of(code):

@@ -1,4 +1,4 @@
-"""Tells which names of `ghost use` lines are used."""
+"""Checks that each name of a `ghost use` line is used."""
 import collections
 import re
 
@@ -66,3 +66,11 @@ def uses(text):
             used = any(block.begin < at < block.end and is_in(name, atoms) for at, atoms in places
                        if not any(other.begin < at < other.end for other in others))
             yield name, text.count("\n", 0, line) + 1, used
+
+
+def unused(site):
+    """Looks for each imported word in the clauses that it is imported for."""
+    for file in sorted((site.top / "crates").glob("*/src/**/*.rt")):
+        for name, line, used in uses(file.read_text("utf-8")):
+            place = f"{file.relative_to(site.top)}:{line}"
+            yield None if used else f"{place}: {name} is imported and not used"

@@ -313,7 +313,8 @@ class Site:
         for item in items:
             scope = Scope(self, item) if item.clauses else None
             for clause in item.clauses:
-                yield from ((item, atom, thing) for atom, thing in scope.pieces(clause.term) if thing)
+                pieces = scope.pieces(clause.term)
+                yield from ((item, *piece) for piece in pieces if piece[1])
 
     def full_name(self, item):
         """An item's name behind that of its type or trait, a definition's behind its module."""
