@@ -8,7 +8,7 @@ from meanings import WITH_A_PAGE, base_name, declared, header
 from outside import Outside
 from paths import OF_FILES
 from std_words import modules_of
-from text import first_sentence
+from text import first_sentence, use_line
 
 # What a module's lists are called, in their order.
 LISTS = {"Modules": ["mod"], "Types": ["struct", "enum"], "Traits": ["trait"], "Aliases": ["type"],
@@ -130,7 +130,7 @@ class Items(Outside):
         specs = (self.site.top / "crates" / crate / "specs" / "Lib.antt").read_text("utf-8")
         passed = re.findall(rf"(?m)^pub use Rattle\.{library}\.specs\.(\w+)$", specs)
         passed = [name for name in passed if name == item.name] or passed
-        uses = [f"ghost use Rattle.{crate}.specs.{name}.{{..}};" for name in passed]
+        uses = [use_line("ghost use", f"Rattle.{crate}.specs.{name}", [".."]) for name in passed]
         return [*self.call(item), *self.said(told), *self.part(self.painted(uses), "Its words")]
 
     def module(self, item):
@@ -161,7 +161,7 @@ class Items(Outside):
         crate, _, rest = word.module.removeprefix("Rattle.").partition(".")
         paths = modules_of(self.site.library, word) if self.is_own(word) else [
             f"Rattle.{crate}.specs.{rest}"]
-        lines = [f"ghost use {path}.{{{word.name}}};" for path in paths]
+        lines = [use_line("ghost use", path, [word.name]) for path in paths]
         widest = max(map(len, lines))
         if len(lines) == 1:
             return lines

@@ -141,7 +141,7 @@ class Site:
     """The crates, read and joined."""
 
     def __init__(self, top, library):
-        self.top, self.library, self.items, self.by_name, self.tests = top, library, [], {}, []
+        self.top, self.library, self.items, self.by_name = top, library, [], {}
         self.crates = {name: self.crate(name) for name in CRATES}
         for item in self.items:
             item.home = self.home(item)
@@ -190,9 +190,7 @@ class Site:
         self.items += [item for member in module.members for item in (member, *member.members)]
         folder = file.parent if file.name in ("lib.rt", "main.rt") else file.with_suffix("")
         for member in module.of_kind("mod"):
-            if "cfg(test)" in member.attributes:
-                self.tests.append(folder / member.name)
-            else:
+            if "cfg(test)" not in member.attributes:
                 self.module(member, folder / f"{member.name}.rt")
         return module
 
@@ -211,11 +209,6 @@ class Site:
         types = dict(zip(parted(inside), parted(given[:-1])))
         told = behind.partition("=")[2].strip(" ;\n")
         return self.path_of(re.sub(r"\w+", lambda found: types.get(found[0], found[0]), told))
-
-    def is_test(self, file):
-        """Whether a file is of a module of tests, or below one."""
-        place = file.with_suffix("")
-        return any(place.is_relative_to(test) for test in self.tests)
 
     def note_uses(self, module):
         """Notes what a module exports of the crates, and the names that it has from elsewhere."""

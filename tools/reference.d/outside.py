@@ -8,7 +8,7 @@ from layout import indented, laid_out, prose
 from samples import code_of, is_test
 from sources import imports_of
 from std_words import modules_of
-from text import FAINT, Text, first_sentence
+from text import FAINT, Text, first_sentence, use_line
 
 # The proof files that are shown whole have at most so many lines.
 MOST_LINES = 12
@@ -16,14 +16,6 @@ MOST_LINES = 12
 PLAIN = re.compile(r"\w+")
 RULESET = "In `proofs/Facts.antt`, which your `proofs/Lib.antt` declares by `pub mod Facts`"
 ABOVE = "Above a function"
-
-
-def use_line(kind, module, names):
-    """The line that imports names of a module, or the module itself."""
-    mark = "." if kind == "ghost use" else "::"
-    names = sorted(filter(None, names))
-    braced = f"{{{', '.join(names)}}}" if len(names) != 1 or mark == "." else names[0]
-    return f"{kind} {module}{mark}{braced};" if names else f"{kind} {module};"
 
 
 class Outside(Text):

@@ -17,6 +17,14 @@ def first_sentence(item):
     return re.split(r"(?<=[a-z0-9`)]\.) ", text)[0]
 
 
+def use_line(kind, module, names):
+    """The line that imports names of a module, or the module itself."""
+    mark = "." if kind == "ghost use" else "::"
+    names = sorted(filter(None, names))
+    braced = f"{{{', '.join(names)}}}" if len(names) != 1 or mark == "." else names[0]
+    return f"{kind} {module}{mark}{braced};" if names else f"{kind} {module};"
+
+
 class Text:
     """Parts of a page as lines of text. Each ends with an empty line, or is none."""
 
@@ -122,8 +130,8 @@ class Text:
     def imports(self, items):
         """The lines by which a crate imports what the clauses of items name."""
         lines, below = advice.imports(self.site, items)
-        text = [f"ghost use {module}.{{{', '.join(names)}}};" for module, names in lines]
-        written = [line for line in text for line in laid_out(line, self.width - 4)]
+        written = [line for told in lines
+                   for line in laid_out(use_line("ghost use", *told), self.width - 4)]
         lower = {self.site.path(item.module)[0] for item in items if item.module} & {*below}
         over = [f"A crate over `{name}` alone: from `Rattle.{name}.specs`."
                 for name in sorted(lower)]
