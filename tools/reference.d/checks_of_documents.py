@@ -71,16 +71,12 @@ class Known:
         self.rust_rows = [row for row in names.rows if row.place.startswith(RUST)]
         self.clauses = {clause.name for item in names.site.shown() for clause in item.clauses}
         lines = re.sub("#.*", "", (self.top / "crates.txt").read_text("utf-8"))
-        self.foreign = {name for name in re.findall(r"\w+", lines) if self.is_foreign(name)}
-
-    def is_foreign(self, crate):
-        """Whether a crate is a library of the toolchain."""
-        return bool(self.library.kit) and (self.library.kit / crate / "src").exists()
+        self.crates = set(re.findall(r"\w+", lines))
 
     @functools.cached_property
     def foreign_texts(self):
         """The texts of std and of the libraries that the crates name."""
-        others = self.library.files_of(*sorted(self.foreign))
+        others = self.library.files_of(*sorted(self.crates))
         return [text for _, text in (*self.library.std, *others)]
 
     def is_of_others(self, name):
@@ -89,7 +85,7 @@ class Known:
         declares = re.compile(
             rf"(?:fn|struct|enum|trait|type|mod|const|macro_rules!) {name}\b"
             rf"|^pub use [\w:]+::{name};|^ +{name}(?:\(.*\))?,$|[.:]{name}\(")
-        return not self.library.kit or name in self.foreign or any(
+        return not self.library.kit or name in self.crates or any(
             declares.search(line) for text in self.foreign_texts if name in text
             for line in text.split("\n") if name in line)
 

@@ -1,5 +1,6 @@
 """Writes the pages of a reference from the templates of reference.d/pages."""
 import collections
+import functools
 import html
 import pathlib
 import re
@@ -53,7 +54,8 @@ class Pages:
         filters = (self.code, self.docs, self.inline, self.term, self.link)
         self.templates.filters |= {filter.__name__: filter for filter in filters}
         self.templates.filters |= {"line": site.line, "code_of": code_of}
-        self.templates.globals |= {"site": site, "pages": self, "members": site.public_members}
+        self.templates.globals |= {"site": site, "pages": self, "members": site.public_members,
+                                   "becomes": functools.partial(becomes, self.names)}
 
     def place_members(self):
         """Gives each definition and each member of a page its anchor; no two members of a page have
@@ -162,10 +164,6 @@ class Pages:
                 if not same or same.name != code:
                     target = None if row.left_out else next(iter(called), None)
                     yield code, target, " ".join([row.ours, *row.told]).replace("`", "")
-
-    def becomes(self, item):
-        """The calls that a macro's forms become, of those that say something."""
-        return becomes(self.names, item)
 
     def told_of_rust(self):
         """The document that lists the Rust crate's names, without its links to files."""

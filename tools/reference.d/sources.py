@@ -122,6 +122,11 @@ def imports_of(text):
     return found
 
 
+def passed_on(text):
+    """The names that a module passes on, each with its module and its name there."""
+    return imports_of("\n".join(use[0] for use in USE.finditer(text) if use[1]))
+
+
 def head_and_clauses(text, at, kind="fn"):
     """The head of the item at `at`, its clauses, and where its body or its `;` begins."""
     clauses, end, place = [], None, at
@@ -286,8 +291,7 @@ class Library:
         if not file:  # The compiler makes such modules, of types and of what is built in.
             made = re.search(r"\.(declared|contracts)\.|^Prim\.", path)
             return Item("word", name, "", None, 0, module=path) if made else None
-        lines = [use[0] for use in USE.finditer(file.read_text("utf-8")) if use[1]]
-        passed, defined = imports_of("\n".join(lines)), self.definitions(file)
+        passed, defined = passed_on(file.read_text("utf-8")), self.definitions(file)
         if name in passed and name not in defined:
             return self.word(*passed[name])
         part = re.compile(rf"(?m)^ +(?:pub )?{re.escape(name)} :")

@@ -3,7 +3,7 @@ import functools
 import re
 import textwrap
 
-from sources import USE, Item, imports_of
+from sources import Item, passed_on
 
 PRELUDE = "Rattle.std.specs.Prelude"
 PASSED = re.compile(r"(?m)^pub (?:mod (?P<own>\w+)|use [\w.]+\.(?P<last>[A-Z]\w*))$")
@@ -60,9 +60,8 @@ class StdWords:
         if found := definition(text, name):
             line, notes, head = found
             return Item("word", name, head, file, line, notes=notes, module=path, context=[])
-        lines = [use[0] for use in USE.finditer(text) if use[1]]
-        passed = imports_of("\n".join(lines))
-        return self.word(*passed[name]) if passed.get(name, ("", ""))[1] else None
+        module, there = passed_on(text).get(name, ("", ""))
+        return self.word(module, there) if there else None
 
     @functools.lru_cache(None)
     def found(self, name):
