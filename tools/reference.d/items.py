@@ -153,7 +153,7 @@ class Items(Outside):
                 *self.words((ours, others))]
 
     def is_own(self, word):
-        """Whether a definition is of this repository."""
+        """Whether an item or a definition is of this repository."""
         return bool(word.file) and word.file.is_relative_to(self.site.top)
 
     def import_lines(self, word):
@@ -180,7 +180,7 @@ class Items(Outside):
         whole = {"word": self.definition, "lemma": self.lemma, "file": self.file,
                  "mod": self.module, "macro": self.macro, "foreign": self.foreign}.get(item.kind)
         if item not in self.names.paths and item.kind not in OF_FILES:
-            own = self.sample if self.is_own(item) else self.of_std
+            own = self.sample if self.is_own(item) else self.slice_method
             whole = self.module_of_samples if item.kind == "mod" else own
         if whole:
             return whole(item)

@@ -1,5 +1,5 @@
-"""Shows what no page has, as lines of text: functions and types of examples and tests, lemmas, and
-files of specs/ and proofs/ as modules."""
+"""Shows what no page has, as lines of text: functions and types of examples and tests, lemmas,
+methods of slices, and files of specs/ and proofs/ as modules."""
 import re
 
 from imports import is_in, terms, without_texts
@@ -29,7 +29,7 @@ class Outside(Text):
                 *self.part(self.painted(self.needed(item, code)), "Imports"),
                 *self.proofs(item)]
 
-    def of_std(self, item):
+    def slice_method(self, item):
         """A method of slices: its contract, and how its words are imported."""
         cited, lines = self.cited([item]), {}
         for word, name in cited[1].items():
