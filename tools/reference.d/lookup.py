@@ -11,7 +11,7 @@ from advice import names_of_two
 from callers import Callers
 from lemmas import of_files
 from meanings import LIBRARIES, header
-from paths import Index, Paths
+from paths import Index, Paths, is_named
 from samples import Samples, hidden
 from slices import OWNERS, slice_methods
 from sources import ANGLE, closing, imports_of
@@ -42,7 +42,7 @@ def parts_of(name):
     has the two that `GenericArray::split` has. A format has its trait's name."""
     if sign := rust.FORMAT.fullmatch(name):
         return [rust.FORMATS[sign[1]]]
-    name = name.removeprefix("Rattle.").replace("::<", "<")
+    name = name.removeprefix("Rattle.").replace("::<", "<").replace("[T]::", "slice::")
     while (at := name.find("<")) > 0 and name.count("<") == name.count(">"):
         name = name[:at] + name[closing(name, at, ANGLE):]
     name = re.sub(r"[(){}!&\s]", "", name)
@@ -126,7 +126,8 @@ class Names(Paths):
         parts = parts_of(name)
         items = self.items_of(name) or self.beside_of(name)
         leads = len(parts) > 1 and any(
-            item not in self.slices for item in (*self.named(parts), *self.outside.named(parts)))
+            item not in self.slices or is_named(self.path(item), parts)
+            for item in (*self.named(parts), *self.outside.named(parts)))
         known = leads or items and items[0] in self.paths or self.told_of(name, False)
         if other := "" if known else self.other_name(parts):
             return self.asked(other)

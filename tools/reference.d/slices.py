@@ -3,8 +3,8 @@ import re
 
 from sources import Item, items_of
 
-# The types whose values are slices, behind the path of the methods themselves.
-OWNERS = ("[T]", "GenericArray", "BoxedArray", "GenericArrayRef", "GenericArrayMut")
+# The types of ours whose values are slices.
+OWNERS = ("GenericArray", "BoxedArray", "GenericArrayRef", "GenericArrayMut")
 BLOCK = re.compile(r"(?m)^impl(?:<.*>)? \[(?:\w+|\[T; N\])\](?= |$)")
 
 
