@@ -3,7 +3,7 @@ import collections
 
 
 class Kind(collections.namedtuple("Kind", "item length")):
-    """A type and a length. The name is that of a module on both sides, and stands in the table."""
+    """A type and a length. The name is that of a module in driver/, and stands in the table."""
 
     @property
     def name(self):
@@ -11,7 +11,7 @@ class Kind(collections.namedtuple("Kind", "item length")):
 
     @property
     def types(self):
-        """What stands in a part's `types`."""
+        """What stands in the types and the module of a part."""
         length = self.length
         lengths = {"length": length, "longer": length + 1, "shorter": length - 1}
         return {"item": self.item, **lengths, "double": 2 * length, "half": length // 2}
@@ -23,20 +23,41 @@ TEXTS = [Kind("u8", length) for length in (16, 64, 1024, 2000)]
 TUPLES = [Kind(item, length) for item in ("u8", "u64") for length in (2, 4, 12)]
 CIPHERED = [Kind("u8", length) for length in (64, 1024, 1 << 20)]
 LONG = [Kind("u8", length) for length in (1_000_000, 100_000_000)]
-# A case at fewer types and lengths than the others of its part.
-ONLY = {"nested": SMALL[:1], "cipher_pieces": CIPHERED[-1:]}
+# A case at fewer lengths than the others of its part.
+ONLY = {"cipher_pieces": CIPHERED[-1:]}
 # How an array of each length is cut into rows: their width, and how many there are.
 ROWS = {4: (2, 2), 64: (8, 8), 1024: (8, 128)}
 
-# Cases of one module of calls/, which are called with the same types. A case may name, each behind
-# a minus, other cases that it contains: the table has a column without them. `types` is None where
-# the module is laid out for each kind, with no type of its own left open, and `module` where it has
-# the kind's name. `original` and `third` say where the other sides stand in driver/.
-Part = collections.namedtuple("Part", "group module types cases kinds allocator original third")
+# How the functions of a part stand in calls/: their types as each kind gives them and as they are
+# declared, whether they take the allocator, what they require, and the type of their arrays.
+Form = collections.namedtuple("Form", "types declared alloc requires array")
+# Cases of one module of calls/, which have one form. A case may name, each behind a minus, other
+# cases that it contains: the table has a column without them. `module` has words for a type or a
+# length where it is laid out for each. `original` and `third` are the other sides, in driver/.
+Part = collections.namedtuple("Part", "group module form cases kinds original third")
 Case = collections.namedtuple("Case", "name contains part kinds")
 
-ARRAY = "{item}, Const<{length}>"
-OTHER = ARRAY + ", Const<{other}>"
+FITS = "fits { FitsInline N.USIZE }"
+LONGER = "longer { (M.USIZE ≡ N.USIZE + 1) × FitsInline M.USIZE }"
+SHORTER = "shorter { N.USIZE ≡ M.USIZE + 1 }"
+DOUBLE = "both { (M.USIZE ≡ N.USIZE + N.USIZE) × FitsInline M.USIZE }"
+HALF = "halves { N.USIZE ≡ M.USIZE + M.USIZE }"
+
+ARRAY = "GenericArray<T, N>"
+INLINE = Form("{item}, Const<{length}>", "T: Word, N: ArrayLength<T>", False, [FITS], ARRAY)
+LISTED = INLINE._replace(alloc=True)
+ROWS_OF = Form(
+    "{item}, Const<{length}>, Const<4099>",
+    "T: Word, N: Unsigned, M: ArrayLength<T>",
+    False,
+    ["width { 0 < N.USIZE }", "fits { FitsInline M.USIZE }"],
+    "GenericArray<T, M>",
+)
+BYTES = Form("Const<{length}>", "N: ArrayLength<u8>", True, [FITS], "GenericArray<u8, N>")
+NO_TYPES = Form(None, None, False, [], "GenericArray<ITEM, Const<LENGTH>>")
+BOX = Form("{item}, Const<{length}>", "T: Word, N: Unsigned", True, [], "BoxedArray<T, N>")
+BOX_OF_ITEMS = Form("Const<{length}>", "N: Unsigned", True, [], "BoxedArray<ITEM, N>")
+
 ORIGINAL = "original::{kind}::{case}_of"
 ORIGINAL_BOX = "original::boxed::{kind}::{case}_of"
 ORIGINAL_TEXT = "original::hex::{kind}::{case}_of"
@@ -46,33 +67,36 @@ PLAIN_CIPHER = "ciphers::{case}_of::<{length}>"
 PLAIN_VEC = "scale::vec::{case}_of::<{length}>"
 PLAIN_BOX = "scale::boxes::{case}_of::<{length}>"
 TABLE_OF_DIGITS = "original::hex::{kind}::{case}_by_table"
+# Laid out for each kind.
+CONCRETE = "concrete_{item}_{length}"
 
 
-def small(group, module, types, cases, allocator=False, third=None):
-    return Part(group, module, types, cases, SMALL, allocator, ORIGINAL, third)
+def small(group, module, cases, form=INLINE, third=None, kinds=SMALL):
+    return Part(group, module, form, cases, kinds, ORIGINAL, third)
 
 
-def shapes(other, cases):
-    return small("shapes", "shapes", OTHER.replace("other", other), cases)
+def shapes(other, requires, cases):
+    types, declared = f"{INLINE.types}, Const<{other}>", f"{INLINE.declared}, M: ArrayLength<T>"
+    form = INLINE._replace(types=types, declared=declared, requires=[FITS, requires])
+    return small("shapes", "shapes", cases, form)
 
 
-def boxed(group, module, cases):
-    return Part(group, module, ARRAY, cases, BOXED, True, ORIGINAL_BOX, None)
+def boxed(group, module, cases, form=BOX):
+    return Part(group, module, form, cases, BOXED, ORIGINAL_BOX, None)
 
 
 PARTS = [
     small(
         "arrays",
         "builds",
-        ARRAY,
         "generate, try_from_iter, try_from_fallible_iter, try_generate, default, repeat, clone,"
-        " builder, nested",
+        " builder",
         third=NATIVE,
     ),
+    small("arrays", "builds", "nested", NO_TYPES, NATIVE, SMALL[:1]),
     small(
         "arrays",
         "walks",
-        ARRAY,
         "iter_sum, walk_front - generate, walk_sum - generate, loop_sum - generate,"
         " walk_back - generate, walk_both - generate, nth3 - generate, fold - generate,"
         " rfold - generate",
@@ -81,16 +105,14 @@ PARTS = [
     small(
         "arrays",
         "places",
-        ARRAY,
         "view_get, view_get_mut, iter_mut, loop_write, index, index_mut",
         third=NATIVE,
     ),
-    small("arrays", "comparisons", ARRAY, "eq, cmp", third=NATIVE),
-    small("lists", "lists", ARRAY, "list_joined, list_cloned, list_edit, list_cut"),
+    small("arrays", "comparisons", "eq, cmp", third=NATIVE),
+    small("lists", "lists", "list_joined, list_cloned, list_edit, list_cut"),
     small(
         "closures",
         "closures",
-        ARRAY,
         "map - generate, map_view, try_map - generate, zip - generate - generate, zip_view,"
         " inverted_zip - generate, inverted_zip2 - generate - generate, fold_array - generate,"
         " fold_view, try_fold_view",
@@ -98,64 +120,39 @@ PARTS = [
     small(
         "closures, plain",
         "plain",
-        ARRAY,
         "map_inline - generate, map_inline_ref, try_map_inline - generate,"
         " zip_inline - generate - generate",
     ),
-    small("closures, plain", None, None, "zip_inline_ref"),
+    small("closures, plain", CONCRETE, "zip_inline_ref", NO_TYPES),
     boxed(
         "closures, boxed",
         "closures",
         "map_boxed - boxed_generate, zip_boxed - boxed_generate - boxed_generate,"
         " fold_boxed - boxed_generate, map_ref_boxed, try_map_ref_boxed, fold_ref_boxed",
     ),
-    Part(
-        "closures, boxed",
-        "boxed_zips_{item}",
-        "Const<{length}>",
-        "zip_ref_boxed",
-        BOXED,
-        True,
-        ORIGINAL_BOX,
-        None,
-    ),
-    shapes("longer", "append - generate, prepend - generate"),
+    boxed("closures, boxed", "boxed_zips_{item}", "zip_ref_boxed", BOX_OF_ITEMS),
+    shapes("{longer}", LONGER, "append - generate, prepend - generate"),
     shapes(
-        "shorter",
+        "{shorter}",
+        SHORTER,
         "pop_back - generate, pop_front - generate, remove - generate, swap_remove - generate",
     ),
-    shapes("double", "concat - generate - generate"),
-    shapes("half", "split - generate"),
-    small("rows of arrays", None, None, "unflatten - generate, flatten - unflatten"),
-    small("rows of a slice", "rows", ARRAY + ", Const<4099>", "rows"),
-    small("conversions", None, None, "from_array, into_array - generate"),
-    small(
-        "conversions",
-        "conversions",
-        ARRAY,
-        "into_vec - generate, try_from_vec - into_vec",
-        allocator=True,
-    ),
+    shapes("{double}", DOUBLE, "concat - generate - generate"),
+    shapes("{half}", HALF, "split - generate"),
+    small("rows of arrays", CONCRETE, "unflatten - generate, flatten - unflatten", NO_TYPES),
+    small("rows of a slice", "rows", "rows", ROWS_OF),
+    small("conversions", CONCRETE, "from_array, into_array - generate", NO_TYPES),
+    small("conversions", "conversions", "into_vec - generate, try_from_vec - into_vec", LISTED),
     Part(
         "tuples",
         "tuples_{item}_{length}",
-        None,
+        NO_TYPES,
         "from_tuple, into_tuple - from_tuple",
         TUPLES,
-        False,
         ORIGINAL_TUPLE,
         None,
     ),
-    Part(
-        "hex text",
-        "hex",
-        "Const<{length}>",
-        "hex_lower, hex_upper",
-        TEXTS,
-        True,
-        ORIGINAL_TEXT,
-        TABLE_OF_DIGITS,
-    ),
+    Part("hex text", "hex", BYTES, "hex_lower, hex_upper", TEXTS, ORIGINAL_TEXT, TABLE_OF_DIGITS),
     boxed(
         "boxed arrays",
         "boxed",
@@ -171,20 +168,18 @@ APART = [
     Part(
         "ciphers",
         "ciphers",
-        "Const<{length}>",
+        BOX_OF_ITEMS,
         "cipher, cipher_pieces, cipher_blocks",
         CIPHERED,
-        True,
         PLAIN_CIPHER,
         None,
     ),
     Part(
         "scale",
         "scale",
-        "Const<{length}>",
+        BOX_OF_ITEMS,
         "scale_build, scale_map, scale_build_fold, scale_hex",
         LONG,
-        True,
         PLAIN_VEC,
         PLAIN_BOX,
     ),

@@ -3,7 +3,7 @@ import collections
 import os
 import re
 
-from beside import said
+from lay import said
 
 # Callgrind counts `rep stosb` and `rep movsb` once for each byte, so glibc is kept to vector code.
 VECTORS = ":".join(

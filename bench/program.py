@@ -6,7 +6,7 @@ import statistics
 import subprocess
 import time
 
-from beside import said, stop
+from lay import said, stop
 from counts import count_program
 from table import aligned, came_to
 

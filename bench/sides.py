@@ -2,35 +2,26 @@
 import pathlib
 
 from cases import APART_CASES, BOXED, CASES, ROWS, SMALL, TUPLES
+from exports import crate, declared, export, texts_of
+from loops import with_functions
 
 HERE = pathlib.Path(__file__).resolve().parent
-
-# A module of calls/ whose text is laid out once for each of the small kinds, and the words in it
-# for which a type and numbers stand.
-FOR_EACH, WORDS = "concrete", ("ITEM", "LENGTH", "WIDTH", "ROWS")
-# The same, for each type of item, and for each kind of tuple.
-FOR_ITEMS, FOR_TUPLES = "boxed_zips", "tuples"
-# A function that has no types left open.
-NO_TYPES = {"nested"}
+LIBRARIES = ["ga_core", "ga_views", "ga_boxed", "ga_ciphers", "generic_array"]
 ALL = CASES + APART_CASES
+NUMBERS = "kind: u32, seed: u64, reps: u64"
 
-EXPORT = """
-#[unsafe(no_mangle)]
-pub extern "C" fn ours_{case}({alloc}kind: u32, seed: u64, reps: u64) -> u64 {{
-    match kind {{
-{arms}
-    }}
-}}
+EXPORTS = """//! What the driver calls, written by bench/run from its list of cases.
+use crate::{{{modules}}};
+use generic_array::Const;
+use std::alloc::Global;
 """
 
 CASE_TABLE = """//! The cases, written by bench/run from its list.
 use super::{{ciphers, native, original, scale, Case}};
 
-pub type Ours = unsafe extern "C" fn(u32, u64, u64) -> u64;
+pub type Ours = extern "C" fn(u32, u64, u64) -> u64;
 
-extern "C" {{
 {declared}
-}}
 
 pub static CASES: &[Case] = &[
 {entries}
@@ -48,68 +39,47 @@ ENTRY = """    Case {{
     }},"""
 
 
-def concrete(text, kind):
-    """The text for one type and length: no type or number is left open in it."""
-    for word, stands in zip(WORDS, (*kind, *ROWS[kind.length])):
-        text = text.replace(word, str(stands))
-    return text
-
-
-def of_tuples(text, kind):
-    """The text for tuples of one type and length."""
-    item, length = kind
-    types, values = [item] * length, [f"{item}::make(seed, {it})" for it in range(length)]
-    words = {"ITEM": item, "LENGTH": length, "LAST": length - 1}
-    for word, stands in {**words, "TYPES": ", ".join(types), "VALUES": ", ".join(values)}.items():
-        text = text.replace(word, str(stands))
-    return text
-
-
-def module_of(part, kind):
-    return part.module.format(**kind.types) if part.module else kind.name
+def module_of(case, kind):
+    return case.part.module.format(**kind.types)
 
 
 def call_of_ours(case, kind):
     """How the export calls the function of one type and length."""
-    part = case.part
-    has_types = part.types and case.name not in NO_TYPES
-    types = f"::<{part.types.format(**kind.types)}>" if has_types else ""
-    alloc = "alloc, " if part.allocator else ""
-    return f"{module_of(part, kind)}::{case.name}_of{types}({alloc}seed, reps)"
-
-
-def export(case):
-    """The function that the driver calls, with a kind by its number: the last stands for more."""
-    numbers = [*map(str, range(len(case.kinds) - 1)), "_"]
-    calls = [call_of_ours(case, kind) for kind in case.kinds]
-    arms = "\n".join(f"        {number} => {call}," for number, call in zip(numbers, calls))
-    alloc = "alloc: Global, " if case.part.allocator else ""
-    return EXPORT.format(case=case.name, alloc=alloc, arms=arms)
+    form = case.part.form
+    types = f"::<{form.types.format(**kind.types)}>" if form.types else ""
+    alloc = "alloc, " if form.alloc else ""
+    return f"{module_of(case, kind)}::{case.name}_of{types}({alloc}seed, reps)"
 
 
 def exports():
-    """The module of all exports, and with it those that are laid out for each kind."""
-    modules = sorted({module_of(case.part, kind) for case in ALL for kind in case.kinds})
-    head = [
-        "//! What the driver calls, written by bench/run from its list of cases.",
-        "use crate::{",
-        *(f"    {it}," for it in modules),
-        "};",
-        "use generic_array::Const;",
-        "use std::alloc::Global;",
-    ]
-    return "\n".join(head) + "\n" + "".join(map(export, ALL))
+    """The module of all exports."""
+    modules = sorted({module_of(case, kind) for case in ALL for kind in case.kinds})
+    text = EXPORTS.format(modules=", ".join(modules))
+    for case in ALL:
+        calls = [call_of_ours(case, kind) for kind in case.kinds]
+        text += export(case.name, NUMBERS, dict(enumerate(calls)), case.part.form.alloc)
+    return text
+
+
+def words_of(kind):
+    """What stands for the words of a text that is laid out for tuples of one type and length."""
+    item, length = kind
+    values = [f"{item}::make(seed, {it})" for it in range(length)]
+    words = {"ITEM": item, "LENGTH": length, "LAST": length - 1}
+    return {**words, "TYPES": ", ".join([item] * length), "VALUES": ", ".join(values)}
 
 
 def our_modules():
     """Each module of the crate that is laid out over ours, by its name."""
-    texts = {path.stem: path.read_text() for path in (HERE / "calls").glob("*.rattle")}
-    text, zips, tuples = texts.pop(FOR_EACH), texts.pop(FOR_ITEMS), texts.pop(FOR_TUPLES)
-    made = {kind.name: concrete(text, kind) for kind in SMALL}
-    made |= {f"{FOR_ITEMS}_{kind.item}": zips.replace("ITEM", kind.item) for kind in BOXED}
-    made |= {f"tuples_{kind.name}": of_tuples(tuples, kind) for kind in TUPLES}
-    declared = "".join(f"mod {name};\n" for name in made)
-    return {**texts, **made, "lib": texts["lib"] + declared, "exports": exports()}
+    forms = {case.name: case.part.form for case in ALL}
+    texts = {name: with_functions(it, forms) for name, it in texts_of(HERE / "calls").items()}
+    concrete = ("ITEM", "LENGTH", "WIDTH", "ROWS")
+    made = {
+        "concrete": {it.name: dict(zip(concrete, (*it, *ROWS[it.length]))) for it in SMALL},
+        "boxed_zips": {kind.item: {"ITEM": kind.item} for kind in BOXED},
+        "tuples": {kind.name: words_of(kind) for kind in TUPLES},
+    }
+    return crate(texts, made, exports())
 
 
 def entry(case, kind, number):
@@ -122,10 +92,9 @@ def entry(case, kind, number):
 
 def table():
     """The driver's list of cases."""
-    names = [case.name for case in ALL]
-    declared = [f"    fn ours_{it}(kind: u32, seed: u64, reps: u64) -> u64;" for it in names]
+    functions = {case.name: NUMBERS for case in ALL}
     entries = [entry(case, *it[::-1]) for case in ALL for it in enumerate(case.kinds)]
-    return CASE_TABLE.format(declared="\n".join(declared), entries="\n".join(entries))
+    return CASE_TABLE.format(declared=declared(functions), entries="\n".join(entries))
 
 
 def driver_sources():

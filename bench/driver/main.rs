@@ -42,8 +42,7 @@ impl Side {
     fn run(self, seed: u64, repeats: u64) -> u64 {
         let (seed, repeats) = (black_box(seed), black_box(repeats));
         black_box(match self {
-            // The function takes numbers alone, and answers one.
-            Side::Ours(call, kind) => unsafe { call(black_box(kind), seed, repeats) },
+            Side::Ours(call, kind) => call(black_box(kind), seed, repeats),
             Side::Rust(call) => call(seed, repeats),
         })
     }

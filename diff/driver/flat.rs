@@ -2,14 +2,13 @@
 use crate::noted::{noted_of, Log, Noted, NotedArray};
 use crate::random::{all, array_of, mixed, Array};
 use generic_array::sequence::{Flatten, Unflatten};
-use generic_array::typenum::*;
 use generic_array::{ArrayLength, GenericArray};
 use std::ops::{Div, Mul};
 
 type Rows<W, R> = GenericArray<Array<W>, R>;
 type NotedRows<'a, W, R> = GenericArray<NotedArray<'a, W>, R>;
 
-fn run<W: ArrayLength, R: ArrayLength, N: ArrayLength>(seed: u64) -> u64
+pub fn flat_run<W: ArrayLength, R: ArrayLength, N: ArrayLength>(seed: u64) -> u64
 where
     N: Div<W, Output = R>,
     W: Mul<R, Output = N>,
@@ -39,7 +38,10 @@ where
     all(sum, &rows.flatten())
 }
 
-fn run_drops<W: ArrayLength, R: ArrayLength, N: ArrayLength>(ordered: u64, seed: u64) -> u64
+pub fn flat_drops_run<W: ArrayLength, R: ArrayLength, N: ArrayLength>(
+    ordered: u64,
+    seed: u64,
+) -> u64
 where
     N: Div<W, Output = R>,
     W: Mul<R, Output = N>,
@@ -57,28 +59,5 @@ where
         let sum = mixed(sum, log.told(ordered));
         drop(array);
         mixed(sum, log.told(ordered))
-    }
-}
-
-/// By the width of the rows, a hundred times, and their number.
-pub fn flat_run(rows: u32, seed: u64) -> u64 {
-    match rows {
-        104 => run::<U1, U4, U4>(seed),
-        203 => run::<U2, U3, U6>(seed),
-        302 => run::<U3, U2, U6>(seed),
-        404 => run::<U4, U4, U16>(seed),
-        1203 => run::<U12, U3, U36>(seed),
-        _ => run::<U5, U0, U0>(seed),
-    }
-}
-
-pub fn flat_drops_run(ordered: u64, rows: u32, seed: u64) -> u64 {
-    match rows {
-        104 => run_drops::<U1, U4, U4>(ordered, seed),
-        203 => run_drops::<U2, U3, U6>(ordered, seed),
-        302 => run_drops::<U3, U2, U6>(ordered, seed),
-        404 => run_drops::<U4, U4, U16>(ordered, seed),
-        1203 => run_drops::<U12, U3, U36>(ordered, seed),
-        _ => run_drops::<U5, U0, U0>(ordered, seed),
     }
 }

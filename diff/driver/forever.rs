@@ -26,12 +26,12 @@ fn stop_where_input_ends() {
 }
 
 /// Runs the cases in turn, and prints how many runs there were now and then.
-pub fn run<'a>(tally: &mut Tally, cases: impl Iterator<Item = &'a Case> + Clone) {
+pub fn run(tally: &mut Tally, cases: &[Case]) {
     stop_where_input_ends();
     let mut number = first_number();
     let mut told = Instant::now();
     loop {
-        for case in cases.clone() {
+        for case in cases {
             if STOPPED.load(Ordering::Relaxed) {
                 return;
             }

@@ -1,7 +1,7 @@
 //! Bytes as hex text.
 use crate::random::{all_bytes, made, mixed, Random};
 use generic_array::sequence::GenericSequence;
-use generic_array::typenum::*;
+use generic_array::typenum::Sum;
 use generic_array::{ArrayLength, GenericArray};
 use std::ops::Add;
 
@@ -25,7 +25,7 @@ fn limit_of(random: &mut Random, way: u64, len: usize) -> Option<usize> {
     }
 }
 
-fn run<N: ArrayLength + Add<N>>(seed: u64) -> u64
+pub fn hex_run<N: ArrayLength + Add<N>>(seed: u64) -> u64
 where
     Sum<N, N>: ArrayLength,
 {
@@ -40,34 +40,4 @@ where
         (false, Some(limit)) => format!("{array:.limit$X}"),
     };
     all_bytes(mixed(seed, 1), text.as_bytes())
-}
-
-type After1024<N> = Sum<U1024, N>;
-type After2048<N> = Sum<U2048, N>;
-
-pub fn hex_run(n: u32, seed: u64) -> u64 {
-    match n {
-        0 => run::<U0>(seed),
-        1 => run::<U1>(seed),
-        2 => run::<U2>(seed),
-        3 => run::<U3>(seed),
-        5 => run::<U5>(seed),
-        8 => run::<U8>(seed),
-        16 => run::<U16>(seed),
-        20 => run::<U20>(seed),
-        32 => run::<U32>(seed),
-        64 => run::<U64>(seed),
-        511 => run::<U511>(seed),
-        512 => run::<U512>(seed),
-        1000 => run::<U1000>(seed),
-        1023 => run::<U1023>(seed),
-        1024 => run::<U1024>(seed),
-        1025 => run::<After1024<U1>>(seed),
-        1500 => run::<After1024<U476>>(seed),
-        2000 => run::<After1024<U976>>(seed),
-        2047 => run::<After1024<U1023>>(seed),
-        2048 => run::<U2048>(seed),
-        2049 => run::<After2048<U1>>(seed),
-        _ => run::<After2048<U952>>(seed),
-    }
 }

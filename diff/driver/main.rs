@@ -12,16 +12,13 @@ mod closures;
 mod compare;
 mod comparisons;
 mod conversions;
-mod drop_cases;
 mod drops;
 mod flat;
 mod forever;
 mod hex;
-mod lengths;
 mod macros;
 mod noted;
 mod nth_back;
-mod ours;
 mod plain_calls;
 mod random;
 mod rows;
@@ -33,12 +30,17 @@ mod walk_drops;
 mod walks;
 
 use cases::CASES;
-use compare::{Case, Tally};
-use drop_cases::DROPS;
+use compare::Tally;
 use generic_array::typenum::{U4, U64};
 use generic_array::{AllocError, GenericArray, LengthError};
 use std::mem::size_of;
 use std::process::ExitCode;
+
+// They are safe in Rattle, but for the place that is written.
+unsafe extern "C" {
+    safe fn ours_size(which: u32) -> usize;
+    fn ours_error_texts(out: *mut u8, len: usize) -> usize;
+}
 
 /// The size of ours where the original's is `size`: the count behind it takes 8 bytes, and the
 /// whole is a multiple of 8.
@@ -57,18 +59,18 @@ fn compare_sizes(tally: &mut Tally) {
     ];
     for (which, (original, wanted)) in (0..).zip(wanted) {
         let wanted = Some(("size of an array", wanted));
-        tally.compare_once("size of an array", ours::ours_size(which), original, wanted);
+        tally.compare_once("size of an array", ours_size(which), original, wanted);
     }
 }
 
 fn compare_texts(tally: &mut Tally) {
     let (length, memory) = (LengthError, AllocError);
     let original = format!("{length}|{length:?}|{memory}|{memory:?}");
-    tally.compare_once("what errors print", ours::error_texts(), original, None);
-}
-
-fn cases() -> impl Iterator<Item = &'static Case> + Clone {
-    CASES.iter().chain(DROPS)
+    let mut out = [0; 300];
+    // The place and the length are those of `out`.
+    let len = unsafe { ours_error_texts(out.as_mut_ptr(), out.len()) };
+    let ours = String::from_utf8_lossy(&out[..len]).into_owned();
+    tally.compare_once("what errors print", ours, original, None);
 }
 
 fn ended(is_right: bool) -> ExitCode {
@@ -83,7 +85,7 @@ fn compare_all(seeds: u64) -> ExitCode {
     let mut tally = Tally::default();
     compare_texts(&mut tally);
     compare_sizes(&mut tally);
-    for case in cases() {
+    for case in CASES {
         tally.control(case);
         tally.compare(case, seeds);
     }
@@ -92,15 +94,15 @@ fn compare_all(seeds: u64) -> ExitCode {
 
 fn compare_forever() -> ExitCode {
     let mut tally = Tally::default();
-    forever::run(&mut tally, cases());
+    forever::run(&mut tally, CASES);
     ended(tally.end())
 }
 
 /// One run, by the name of its case, its length and its seed.
 fn replay(name: &str, n: u32, seed: u64) -> ExitCode {
-    let Some(case) = cases().find(|it| it.name == name && it.lengths.contains(&n)) else {
+    let Some(case) = CASES.iter().find(|it| it.name == name && it.lengths.contains(&n)) else {
         eprintln!("no case has this name and this length; these are there:");
-        for it in cases() {
+        for it in CASES {
             eprintln!("{}: {:?}", it.name, it.lengths);
         }
         return ExitCode::from(2);

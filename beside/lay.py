@@ -1,20 +1,29 @@
-"""Builds a crate over the libraries of this checkout, and a Rust program that runs it beside the
-original crate. `bench/run` and `diff/run` stand on it.
+"""Lays out a copy of this checkout with the crates of bench and diff, and builds each of these with
+the Rust program that runs it beside the original crate.
 
-All is laid out in a folder outside the repository: the crates in `ours/`, the program in `driver/`.
+All stands in one folder outside the repository, so that the libraries are proved once: the copy in
+`ours/`, the Rust programs in `bench/` and `diff/`.
 """
 import os
 import pathlib
 import shutil
 import subprocess
 import sys
+import tempfile
 
 TOP = pathlib.Path(__file__).resolve().parent.parent
+sys.path[:0] = [str(TOP / "bench"), str(TOP / "diff")]
+
+import runs
+import sides
+
+# What has LIBRARIES, `our_modules` and `driver_sources`, by the name of its folder.
+CRATES = {"bench": sides, "diff": runs}
 # A folder with the sources of generic-array 1.4.5, where cargo can't reach its registry.
 ORIGINAL = "GENERIC_ARRAY"
 
 MANIFEST = """[package]
-name = "{name}"
+name = "{name}_driver"
 version = "0.1.0"
 edition = "2021"
 [dependencies]
@@ -27,9 +36,9 @@ codegen-units = 1
 LINKED = """fn main() {{
     println!("cargo:rustc-link-search=native={ours}");
     println!("cargo:rustc-link-search=native={c}");
-    println!("cargo:rustc-link-lib=static={crate}");
+    println!("cargo:rustc-link-lib=static=ga_{name}");
     println!("cargo:rustc-link-lib=static=libc_c");
-    println!("cargo:rerun-if-changed={ours}/lib{crate}.a");
+    println!("cargo:rerun-if-changed={ours}/libga_{name}.a");
 }}
 """
 
@@ -38,10 +47,18 @@ def stop(why):
     sys.exit(f"{os.path.basename(os.path.dirname(os.path.abspath(sys.argv[0])))}/run: {why}")
 
 
-def need(*commands):
+def step(words):
+    print(f"{words} ...", flush=True)
+
+
+def folder_of(words, *commands):
+    """The folder that stands first in the words, or one for all runs. It needs the commands."""
     missing = [it for it in commands if not shutil.which(it)]
     if missing:
         stop(f"{' and '.join(missing)} must be installed")
+    folder = pathlib.Path(words[0] if words else f"{tempfile.gettempdir()}/generic-array-beside")
+    folder.mkdir(parents=True, exist_ok=True)
+    return folder.resolve()
 
 
 def said(command, log, advice="", **how):
@@ -62,9 +79,8 @@ def put(path, text):
         path.write_text(text)
 
 
-def lay_out(folder, crate, libraries, modules):
-    """Copies the crates of this checkout, and adds one whose modules are given by name as texts."""
-    ours = folder / "ours"
+def lay_out(ours):
+    """Copies the crates of this checkout, and adds those of CRATES, from their modules' texts."""
     for made in (TOP / "crates").iterdir():
         built = (TOP / "crates" / made.name / "out", ours / "crates" / made.name / "out")
         for part in ("src", "specs", "proofs"):
@@ -75,31 +91,34 @@ def lay_out(folder, crate, libraries, modules):
         if built[0].is_dir() and not built[1].exists():
             shutil.copytree(*built, symlinks=True)
     shutil.copy(TOP / "HANDLES", ours / "HANDLES")
-    listed = (TOP / "crates.txt").read_text()
-    put(ours / "crates.txt", f"{listed}{crate} staticlib: {' '.join(libraries)}\n")
-    for name, text in modules.items():
-        put(ours / "crates" / crate / "src" / f"{name}.rt", text)
-    return ours / "crates" / crate
+    lines = [f"ga_{name} staticlib: {' '.join(it.LIBRARIES)}\n" for name, it in CRATES.items()]
+    put(ours / "crates.txt", (TOP / "crates.txt").read_text() + "".join(lines))
+    for name, it in CRATES.items():
+        for module, text in it.our_modules().items():
+            put(ours / "crates" / f"ga_{name}" / "src" / f"{module}.rt", text)
 
 
-def build_ours(folder, crate):
-    """Proves and builds the crate laid out: at first all below it too, which takes half an hour."""
-    said(["rt", "lib"], folder / "ours.log", cwd=folder / "ours" / "crates" / crate)
-
-
-def build_driver(folder, name, crate, sources):
-    """Builds the Rust program of these sources over the crate, and answers where it stands."""
-    driver = folder / "driver"
+def build_driver(folder, name):
+    """Builds the Rust program over the crate, and answers where it stands."""
     given = os.environ.get(ORIGINAL)
     original = f'path = "{os.path.abspath(given)}"' if given else 'version = "=1.4.5"'
     kit = pathlib.Path(shutil.which("rt")).resolve().parent.parent
-    built = {"ours": folder / "ours" / "crates" / crate / "out", "c": kit / "c", "crate": crate}
-    put(driver / "Cargo.toml", MANIFEST.format(name=name, original=original))
-    put(driver / "build.rs", LINKED.format(**built))
-    for file, text in sources.items():
-        put(driver / "src" / file, text)
+    built = {"ours": folder / "ours" / "crates" / f"ga_{name}" / "out", "c": kit / "c"}
+    put(folder / name / "Cargo.toml", MANIFEST.format(name=name, original=original))
+    put(folder / name / "build.rs", LINKED.format(name=name, **built))
+    for file, text in CRATES[name].driver_sources().items():
+        put(folder / name / "src" / file, text)
     flags = {"CARGO_TARGET_DIR": str(folder / "target"), "RUSTFLAGS": "-C target-cpu=x86-64-v2"}
     command = ["cargo", *(["--offline"] if given else []), "build", "--release"]
     advice = "" if given else f"Without a registry: {ORIGINAL} names a folder with the sources."
-    said(command, folder / "cargo.log", advice, cwd=driver, env={**os.environ, **flags})
-    return folder / "target" / "release" / name
+    said(command, folder / "cargo.log", advice, cwd=folder / name, env={**os.environ, **flags})
+    return folder / "target" / "release" / f"{name}_driver"
+
+
+def build(folder, name):
+    """Builds both sides of bench or diff, and answers where the Rust program stands."""
+    step("proving and building ours; the first time all crates below it too, for half an hour")
+    lay_out(folder / "ours")
+    said(["rt", "lib"], folder / "ours.log", cwd=folder / "ours" / "crates" / f"ga_{name}")
+    step("building the original")
+    return build_driver(folder, name)
