@@ -94,8 +94,12 @@ def lay_out(ours):
     lines = [f"ga_{name} staticlib: {' '.join(it.LIBRARIES)}\n" for name, it in CRATES.items()]
     put(ours / "crates.txt", (TOP / "crates.txt").read_text() + "".join(lines))
     for name, it in CRATES.items():
-        for module, text in it.our_modules().items():
-            put(ours / "crates" / f"ga_{name}" / "src" / f"{module}.rt", text)
+        source, modules = ours / "crates" / f"ga_{name}" / "src", it.our_modules()
+        for path in source.glob("*.rt"):
+            if path.stem not in modules:
+                path.unlink()
+        for module, text in modules.items():
+            put(source / f"{module}.rt", text)
 
 
 def build_driver(folder, name):
