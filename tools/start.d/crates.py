@@ -5,27 +5,28 @@ import pathlib
 import re
 import subprocess
 
-from kit import Unfit, rtlib
-
 TOP = pathlib.Path(__file__).resolve().parent.parent.parent
-# What a first crate may be started on, the default first, and the line of such a crate.
+# What a first crate may be started on, and the line of such a crate.
 ON = {
+    "ga_views": "ga_views",
     "ga_core": "ga_core",
     "generic_array": "generic_array ga_core ga_boxed",
+    "ga_records": "ga_records generic_array",
     "ga_hashes": "ga_hashes ga_core",
     "ga_ciphers": "ga_ciphers generic_array",
+    "ga_uses": "ga_uses generic_array",
 }
 # The crate of tests that comes with a library where it is asked for.
 TESTS = {"ga_hashes": "ga_hashes_tests"}
-# Seconds of one core that a proof of each crate takes.
-SECONDS = {
-    "ga_views": 80, "ga_core": 200, "ga_boxed": 80, "generic_array": 180, "ga_hashes": 60,
-    "ga_ciphers": 80, "ga_hashes_tests": 10,
-}
+# What of a crate `rt` reads. Its wrong bodies and documents stay in this checkout.
+PARTS = ("src", "specs", "proofs")
 LIST, RECORD, LICENSE = "crates.txt", "laid.json", "LICENSE"
-UNKNOWN = "unknown"
 ABOUT = ("What tools/start copied here from generic_array, and a sum of each file, by which"
          " tools/start --update knows what you changed: leave it as it is")
+
+
+class Unfit(Exception):
+    """Why a tool can't do what it is asked, in one line."""
 
 
 def plain(row):
@@ -75,26 +76,13 @@ def tests_of(on):
     return found
 
 
-def check_kit(names):
-    """Stops where these crates need a library that the kit doesn't have."""
-    wanted = {it for name in names for it in libraries_of(name) if it not in OURS}
-    libraries = pathlib.Path(rtlib().KIT) / "rlibs"
-    lacking = sorted(it for it in wanted if not (libraries / f"{it}.rlib").is_dir())
-    if lacking:
-        raise Unfit(f"{', '.join(names)}: the kit has no library {', '.join(lacking)}")
-
-
 def texts_of(names):
-    """What is copied of these crates: each file's bytes by its path. Of a crate that is all which
-    `rt` reads, and the licence. Its wrong bodies stay here: a gate that proves the copy needn't try
-    again what this checkout's gate tries. So do its documents, which lead to those beside them."""
+    """What is copied of these crates: each file's bytes by its path."""
     found = {}
-    for name in names:
-        crate = TOP / "crates" / name
-        files = [pathlib.Path(it) for it in rtlib().files_of(str(crate))]
-        texts = {str(it.relative_to(TOP)): it.read_bytes() for it in files}
-        licence = {f"crates/{name}/{LICENSE}": (TOP / LICENSE).read_bytes()}
-        found |= texts | licence
+    for crate in (TOP / "crates" / it for it in names):
+        files = [it for part in PARTS for it in sorted((crate / part).rglob("*")) if it.is_file()]
+        found |= {str(it.relative_to(TOP)): it.read_bytes() for it in files}
+        found[f"crates/{crate.name}/{LICENSE}"] = (TOP / LICENSE).read_bytes()
     return found
 
 
@@ -102,34 +90,33 @@ def sums_of(texts):
     return {path: hashlib.sha256(text).hexdigest() for path, text in texts.items()}
 
 
+def crate_of(path):
+    """The crate that a copied file belongs to."""
+    return path.split("/")[1]
+
+
 def commit():
     """What this checkout is, with a sign where it has changes."""
     command = ["git", "describe", "--always", "--dirty", "--exclude=*"]
     try:
         done = subprocess.run(command, cwd=TOP, capture_output=True, text=True)
-        return done.stdout.strip() or UNKNOWN
+        return done.stdout.strip() or "unknown"
     except OSError:
-        return UNKNOWN
+        return "unknown"
 
 
 def read_record(top):
-    """What was copied into a repository: of which commit, the crates' lines and the files' sums."""
+    """What was copied into a repository: of which commit, and the files' sums."""
     path = top / RECORD
     if not path.is_file():
-        return {"commit": "", "crates": {}, "files": {}}
+        return {"commit": "", "files": {}}
     try:
         record = json.loads(path.read_text("utf-8"))
-        return {it: record[it] for it in ("commit", "crates", "files")}
+        return {it: record[it] for it in ("commit", "files")}
     except (ValueError, TypeError, KeyError):
         raise Unfit(f"{path} isn't as tools/start wrote it") from None
 
 
-def write_record(top, record):
-    text = json.dumps(record, indent=1, sort_keys=True)
-    first = f'{{"about": {json.dumps(ABOUT)},'
-    (top / RECORD).write_text(f"{first}{text[1:]}\n", "utf-8")
-
-
-def of_crates(files, names):
-    """Those of the files that belong to these crates."""
-    return {path: it for path, it in files.items() if path.split("/")[1] in names}
+def write_record(top, files):
+    record = {"about": ABOUT, "commit": commit(), "files": files}
+    (top / RECORD).write_text(json.dumps(record, indent=1, sort_keys=True) + "\n", "utf-8")

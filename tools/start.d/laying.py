@@ -2,27 +2,31 @@
 import os
 import pathlib
 import re
+import subprocess
+import tempfile
 
 from crates import (
-    LIST, OURS, TOP, check_kit, commit, line_of, listed, of_crates, read_record, sums_of, texts_of,
-    write_record,
+    LIST, OURS, TOP, Unfit, crate_of, line_of, listed, read_record, sums_of, texts_of, write_record,
 )
-from kit import Unfit, rtlib
 
 FIRST = pathlib.Path(__file__).resolve().parent
 HANDLES = "Handles allowed: none.\n"
 
 
 def check_name(name):
-    """Stops where no crate of a user's may have the name."""
-    if not re.fullmatch(r"[a-z][a-z0-9_]*", name):
+    """Stops where no crate of a user's may have the name. `rt new` knows the words of the language
+    and the kit's libraries."""
+    if not re.fullmatch(r"[a-z][a-z0-9_]*", name) or name == "out":
         raise Unfit(f"{name!r} names no crate: lowercase letters, digits and _, first a letter")
-    if name in rtlib().KEYWORDS or name == "out":
-        raise Unfit(f"{name} is a word that has a meaning of its own: name the crate otherwise")
-    if name in rtlib().SEALED or os.path.isdir(f"{rtlib().KIT}/rlibs/{name}.rlib"):
-        raise Unfit(f"{name} is a library of the kit: name the crate otherwise")
     if name in OURS:
         raise Unfit(f"{name} is a crate of this library: name yours otherwise")
+    with tempfile.TemporaryDirectory() as room:
+        try:
+            done = subprocess.run(["rt", "new", name], cwd=room, capture_output=True, text=True)
+        except FileNotFoundError:
+            raise Unfit("rt must be installed: put the bin of Rattle's kit on the path") from None
+    if done.returncode:
+        raise Unfit(done.stderr.strip().removeprefix("rt: "))
 
 
 def check_folder(folder):
@@ -39,14 +43,18 @@ def check_folder(folder):
         raise Unfit(f"{folder}/{LIST} names crates that aren't in {folder}/crates")
 
 
-def new_crates(folder, names, record):
+def is_taken(folder, name):
+    return (folder / "crates" / name).exists() or name in listed(folder)
+
+
+def new_crates(folder, names, files):
     """Those of our crates that have yet to be copied. Stops where one is there that can't serve."""
-    there = [it for it in names if it in record["crates"]]
+    there = {crate_of(it) for it in files} & {*names}
     for name in names:
-        is_taken = (folder / "crates" / name).exists() or name in listed(folder)
-        if is_taken and name not in there:
+        if name not in there and is_taken(folder, name):
             raise Unfit(f"{folder}/crates/{name} is there, and tools/start didn't copy it")
-    if of_crates(record["files"], there) != sums_of(texts_of(there)):
+    copied = {path: it for path, it in files.items() if crate_of(path) in there}
+    if copied != sums_of(texts_of(there)):
         raise Unfit(f"{folder} has crates of another commit: first tools/start --update {folder}")
     return [it for it in names if it not in there]
 
@@ -71,22 +79,15 @@ def start(folder, name, on, names):
     """Makes the crate on these libraries, which need these crates. Returns what to say of it."""
     check_name(name)
     check_folder(folder)
-    if (folder / LIST).exists():
-        # Stops where `rt` can't read the list.
-        rtlib().listed(str(folder))
-    if (folder / "crates" / name).exists() or name in listed(folder):
+    if is_taken(folder, name):
         raise Unfit(f"{folder}/crates/{name} is there already")
-    check_kit(names)
-    record = read_record(folder)
-    new = new_crates(folder, names, record)
+    files = read_record(folder)["files"]
+    new = new_crates(folder, names, files)
     texts = texts_of(new)
     first = {"src/lib.rt": (FIRST / f"{on[0]}.rattle").read_bytes(), "specs/Lib.antt": b""}
     put(folder, texts | {f"crates/{name}/{path}": text for path, text in first.items()})
     add_lines(folder / LIST, [*(OURS[it] for it in new), line_of(name, on)])
-    record["commit"] = commit()
-    record["crates"] |= {it: OURS[it] for it in new}
-    record["files"] |= sums_of(texts)
-    write_record(folder, record)
+    write_record(folder, files | sums_of(texts))
     if not os.path.lexists(folder / "HANDLES"):
         put(folder, {"HANDLES": HANDLES.encode()})
     ignored = folder / ".gitignore"

@@ -2,15 +2,15 @@
 import collections
 
 from crates import (
-    LIST, OURS, check_kit, commit, listed, needed, of_crates, plain, read_record, rows_of, sums_of,
-    texts_of, write_record,
+    LIST, OURS, Unfit, crate_of, listed, needed, plain, read_record, rows_of, sums_of, texts_of,
+    write_record,
 )
-from kit import Unfit
+from taking import take_along
 
 
 def step(was, now, will):
-    """What becomes of a text that was copied so, is now so and will be so: None means that there is
-    none. What was changed by hand is kept."""
+    """What becomes of a file with this sum when it was copied, this now and this later: None means
+    that there is none. What was changed by hand is kept."""
     if now == will:
         return "same"
     if now != was:
@@ -43,51 +43,44 @@ def update_files(folder, sums, texts):
     return became
 
 
-def update_lines(folder, lines, names):
-    """Brings the crates' lines of the list up to date. Returns what became of each."""
-    now, rows, became = listed(folder), rows_of(folder), {}
-    for name in names:
-        became[name] = step(lines.get(name), now.get(name), OURS[name])
-        if became[name] == "new":
-            rows.append(OURS[name])
-        if became[name] == "changed":
-            rows = [OURS[name] if plain(it) == now[name] else it for it in rows]
-    if {"new", "changed"} & {*became.values()}:
+def update_lines(folder, names):
+    """Writes the crates' lines into the list. Returns those that are changed or new."""
+    now, rows = listed(folder), rows_of(folder)
+    other = {it: OURS[it] for it in names if now.get(it) != OURS[it]}
+    lines = {now[it]: other[it] for it in other if it in now}
+    rows = [lines.get(plain(it), it) for it in rows] + [other[it] for it in other if it not in now]
+    if other:
         (folder / LIST).write_text("".join(f"{it}\n" for it in rows), "utf-8")
-    return became
+    return other
 
 
 def told(files, lines, gone):
     """What to say of an update: of each crate what changed in it, and by its name what was kept."""
     counts = collections.defaultdict(collections.Counter)
     for path, it in files.items():
-        counts[path.split("/")[1]][it] += 1
+        counts[crate_of(path)][it] += 1
     for name, count in counts.items():
         parts = [f"{count[it]} {it}" for it in ("changed", "new", "removed") if count[it]]
         yield from [f"crates/{name}: {', '.join(parts)}"] if parts else []
-    yield from (f"{LIST}: the line of {it} is {lines[it]}" for it in lines
-                if lines[it] in ("changed", "new"))
+    yield from (f"{LIST}: {it}" for it in lines.values())
     yield from (f"{path}: kept, since you changed it" for path in files if files[path] == "kept")
-    yield from (f"{LIST}: the line of {it} is kept, since you changed it" for it in lines
-                if lines[it] == "kept")
     yield from (f"crates/{it}: left as it is, since this checkout has no such crate" for it in gone)
 
 
 def update(folder):
-    """Copies the crates anew. Returns what to say of it, in lines, and the crates."""
+    """Copies the crates anew. Returns what to say of it, in lines."""
     record = read_record(folder)
-    if not record["crates"]:
+    there = {crate_of(it) for it in record["files"]}
+    if not there:
         raise Unfit(f"{folder} has no crates that tools/start copied")
-    gone = sorted(record["crates"].keys() - OURS.keys())
-    names = needed(*(record["crates"].keys() & OURS.keys()))
-    check_kit(names)
-    texts, left = texts_of(names), of_crates(record["files"], gone)
+    names = needed(*(there & OURS.keys()))
+    texts, gone = texts_of(names), sorted(there - OURS.keys())
+    left = {path: it for path, it in record["files"].items() if crate_of(path) in gone}
     sums = {path: it for path, it in record["files"].items() if path not in left}
-    files = update_files(folder, sums, texts)
-    lines = update_lines(folder, record["crates"], names)
-    before, now = record["commit"], commit()
+    files, lines = update_files(folder, sums, texts), update_lines(folder, names)
     # What was kept is known by what stands here now, and so is named the next time too.
-    crates = {**record["crates"], **{it: OURS[it] for it in names}}
-    write_record(folder, {"commit": now, "crates": crates, "files": left | sums_of(texts)})
-    said = list(told(files, lines, gone)) or ["nothing changed"]
-    return [*said, f"{folder}: of commit {now}, before of {before}"], names
+    write_record(folder, left | sums_of(texts))
+    yield from list(told(files, lines, gone)) or ["nothing changed"]
+    yield f"{folder}: of commit {read_record(folder)['commit']}, before of {record['commit']}"
+    changed = {crate_of(it) for it in files if files[it] in ("new", "changed", "removed")} | {*lines}
+    yield take_along(folder, names, [it for it in names if changed & {*needed(it)}])
