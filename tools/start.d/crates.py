@@ -118,5 +118,7 @@ def read_record(top):
 
 
 def write_record(top, files):
+    """Writes what is copied now. Returns of which commit it is."""
     record = {"about": ABOUT, "commit": commit(), "files": files}
     (top / RECORD).write_text(json.dumps(record, indent=1, sort_keys=True) + "\n", "utf-8")
+    return record["commit"]

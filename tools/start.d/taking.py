@@ -1,5 +1,5 @@
-"""Takes along the libraries that are proved in this checkout. `rt` uses a built library at any path,
-proves it again where its stamp isn't that of the sources, and refuses one with a changed file."""
+"""Takes along the libraries that are proved in this checkout. `rt` uses one at any path, proves it
+again where its stamp isn't that of the sources, and refuses one in which a file is changed."""
 import math
 import shutil
 
@@ -18,7 +18,7 @@ def library(top, name):
 
 
 def is_proved(top, name):
-    """Whether `rt` has stamped the library: it leaves none without that to the crates above."""
+    """Whether `rt` has built the library for the crates above: it then has a stamp."""
     return (library(top, name) / "stamp").is_file()
 
 
@@ -40,8 +40,8 @@ def take_along(folder, names, anew=()):
             take(folder, name)
     lacking = [it for it in names if not is_proved(folder, it)]
     if not lacking:
-        return (f"{', '.join(names)} come proved: the next check takes seconds, but proves again what"
-                " was changed since")
+        return (f"these come proved: {', '.join(names)}. The next check takes seconds, and proves"
+                " again what was changed since")
     minutes = math.ceil(sum(SECONDS.get(it, 60) for it in lacking) / 60)
     below = {it for name in lacking for it in libraries_of(name)}
     tops = " and ".join(f"crates/{it}" for it in lacking if it not in below)

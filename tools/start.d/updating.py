@@ -79,8 +79,8 @@ def update(folder):
     sums = {path: it for path, it in record["files"].items() if path not in left}
     files, lines = update_files(folder, sums, texts), update_lines(folder, names)
     # What was kept is known by what stands here now, and so is named the next time too.
-    write_record(folder, left | sums_of(texts))
+    now = write_record(folder, left | sums_of(texts))
     yield from list(told(files, lines, gone)) or ["nothing changed"]
-    yield f"{folder}: of commit {read_record(folder)['commit']}, before of {record['commit']}"
-    changed = {crate_of(it) for it in files if files[it] in ("new", "changed", "removed")} | {*lines}
+    yield f"{folder}: of commit {now}, before of {record['commit']}"
+    changed = {crate_of(it) for it in files if files[it] not in ("same", "kept")} | {*lines}
     yield take_along(folder, names, [it for it in names if changed & {*needed(it)}])
