@@ -2,20 +2,12 @@
 ghost use Rattle.ga_core.specs.Length.{FitsInline};
 ghost use Rattle.std.specs.Int.Bits.{bit_xor};
 ghost use Rattle.std.specs.List.{range_with_len};
-ghost use Rattle.std.specs.Prelude.{◌≡◌, ◌+◌, ◌<◌, ◌≤◌, ◌⊎◌, ◌∷◌, [], ◌↔◌, Err, IfErr, IfOk, IsOk, IsTrue, Ok, OnErr, OnOk, ◌≢◌, length, map, slice_index};
+ghost use Rattle.std.specs.Prelude.{◌≡◌, ◌+◌, ◌<◌, ◌≤◌, ◌⊎◌, ◌∷◌, [], Err, IfErr, IfOk, Ok, OnErr, OnOk, ◌≢◌, length, map, slice_index};
 
-use crate::answers::{gives, has};
 use crate::digits::decimal_digit;
 use ga_core::{
-    AllocError, ArrayBuilder, ArrayLength, Const, GenericArray, LengthError, U2, U3, U4, U7,
+    AllocError, ArrayBuilder, ArrayLength, Const, GenericArray, LengthError, U3, U4, U7,
 };
-
-fn four_of(bytes: &[u8]) -> Result<GenericArray<u8, U4>, LengthError>
-    ensures variant { IsOk result ↔ (length bytes.now ≡ 4) }
-    ensures ok { IfOk result (λ row. row ≡ bytes.now) }
-{
-    GenericArray::try_from_iter(bytes.iter().copied())
-}
 
 fn doubled() -> GenericArray<usize, U4>
     ensures { result ≡ 0 ∷ 2 ∷ 4 ∷ 6 ∷ [] }
@@ -56,24 +48,6 @@ fn sums_of_three<N: ArrayLength<u32>>(bytes: &[u8]) -> GenericArray<u32, N>
             requires { i + 2 < length bytes.now }
         { u32::from(bytes[i]) + u32::from(bytes[i + 1]) + u32::from(bytes[i + 2]) },
     )
-}
-
-fn built() -> GenericArray<u8, U2>
-    ensures { result ≡ 4 ∷ 6 ∷ [] }
-{
-    let mut builder = ArrayBuilder::new();
-    builder.push(4);
-    builder.push(6);
-    builder.finish()
-}
-
-fn position_after_two_bytes() -> usize
-    ensures { result ≡ 2 }
-{
-    let bytes = [4u8, 6];
-    let mut builder: ArrayBuilder<u8, U4> = ArrayBuilder::new();
-    builder.extend(&mut bytes.iter().copied());
-    builder.position()
 }
 
 fn next_after_a_refused_fill(seven: GenericArray<u8, U7>) -> Option<u8>
@@ -130,83 +104,4 @@ fn copied<N: ArrayLength<u8>>(
     ensures { result ≡ Ok array.now }
 {
     array.clone()
-}
-
-/// Three zeros, by the function that makes defaults of every length.
-pub fn blank() -> GenericArray<u8, U3>
-    ensures { result ≡ 0 ∷ 0 ∷ 0 ∷ [] }
-{
-    GenericArray::default()
-}
-
-fn are_same(left: &GenericArray<u8, U3>, right: &GenericArray<u8, U3>) -> bool
-    ensures { IsTrue result ↔ (left.now ≡ right.now) }
-{
-    left == right
-}
-
-/// Whether each build and copy is as its contract says.
-fn builds() -> [bool; 6] {
-    [
-        gives(four_of(b"abcd"), b"abcd"),
-        has(doubled(), &[0, 2, 4, 6]),
-        has(built(), &[4, 6]),
-        gives(sevens(), &[7, 7, 7]),
-        gives(copied(&blank()), &[0, 0, 0]),
-        are_same(&blank(), &blank()),
-    ]
-}
-
-#[test]
-fn builds_of_any_length_answer_what_their_contracts_say(rt: HostRuntime) {
-    assert!(rt; has(sums_of_three::<U2>(&[1, 2, 3, 4]), &[6, 9]));
-    assert!(rt; packet(7)[187] == 188 && packet(7).as_slice() == packet_at_once(7).as_slice());
-}
-
-#[test]
-fn builds_and_copies_answer_what_their_contracts_say(rt: HostRuntime) {
-    assert!(rt; builds() == [true; 6]);
-    assert!(rt; four_of(b"abc").is_err());
-    assert!(rt; matches!(refused_at_two(), Err(2)));
-}
-
-/// What a fallible fill of four came to.
-#[derive(Clone, Copy, PartialEq, Eq)]
-enum Outcome {
-    /// The digits, as a number.
-    Digits(u32),
-    Other(u8),
-    WrongLength,
-}
-
-fn filled(built: Result<Result<GenericArray<u8, U4>, u8>, LengthError>) -> Outcome {
-    match built {
-        Ok(Ok(digits)) => Outcome::Digits(number_of(digits.as_slice())),
-        Ok(Err(byte)) => Outcome::Other(byte),
-        Err(LengthError) => Outcome::WrongLength,
-    }
-}
-
-fn number_of(digits: &[u8]) -> u32 {
-    let mut number = 0u32;
-    for digit in digits {
-        number = number.wrapping_mul(10).wrapping_add(u32::from(*digit));
-    }
-    number
-}
-
-#[test]
-fn fallible_fills_answer_what_their_contracts_say(rt: HostRuntime) {
-    assert!(rt; taken_up_to_an_error() == (1, Err(7)));
-    let cases: [(&[u8], Outcome); 4] = [
-        (b"1804", Outcome::Digits(1804)),
-        (b"18x4", Outcome::Other(b'x')),
-        (b"180", Outcome::WrongLength),
-        (b"18041", Outcome::WrongLength),
-    ];
-    for (text, wanted) in cases {
-        assert!(rt;
-            filled(four_digits(text)) == wanted && filled(four_digits_lent(text)) == wanted
-        );
-    }
 }

@@ -2,7 +2,7 @@
 ghost use Rattle.ga_core.specs.Length.{FitsInline};
 ghost use Rattle.std.specs.Prelude.{◌≡◌, ◌<◌, ◌↔◌, ◌++◌, ◌∷◌, [], IfErr, IfNone, IfSome, IsOk, IsSome, OnOk, length};
 
-use ga_core::{ArrayBuilder, ArrayLength, U2};
+use ga_core::{ArrayBuilder, ArrayLength};
 use std::marker::Model;
 
 #[derive(Drop)]
@@ -65,28 +65,4 @@ impl<T: Default + Drop, N: ArrayLength<T>> FixedList<T, N> {
     {
         self.items.clear();
     }
-}
-
-/// What pushes of 1, 2 and 3 come to.
-fn pushed<N: ArrayLength<u8>>(list: &mut FixedList<u8, N>) -> [Result<(), u8>; 3] {
-    [list.push(1), list.push(2), list.push(3)]
-}
-
-fn popped<N: ArrayLength<u8>>(list: &mut FixedList<u8, N>) -> [Option<u8>; 3] {
-    [list.pop(), list.pop(), list.pop()]
-}
-
-/// Whether the list is empty once it was cleared.
-fn is_cleared<N: ArrayLength<u8>>(list: &mut FixedList<u8, N>) -> bool {
-    let is_pushed = list.push(4).is_ok();
-    list.clear();
-    is_pushed && list.as_slice().is_empty()
-}
-
-#[test]
-fn a_fixed_list_takes_as_many_items_as_it_has_room_for(rt: HostRuntime) {
-    let mut list = FixedList::<u8, U2>::new();
-    assert!(rt; pushed(&mut list) == [Ok(()), Ok(()), Err(3)]);
-    assert!(rt; list.len() == 2 && list.as_slice() == [1, 2].as_slice());
-    assert!(rt; popped(&mut list) == [Some(2), Some(1), None] && is_cleared(&mut list));
 }

@@ -6,10 +6,6 @@
 #![tactic(auto)]
 
 #[cfg(test)]
-mod answers;
-#[cfg(test)]
-mod block_buffer;
-#[cfg(test)]
 mod builders;
 #[cfg(test)]
 mod builds;
@@ -25,8 +21,6 @@ mod iterators;
 mod keys;
 #[cfg(test)]
 mod nested;
-#[cfg(test)]
-mod numbers;
 #[cfg(test)]
 mod own_traits;
 #[cfg(test)]

@@ -3,7 +3,7 @@
 ghost use Rattle.ga_core.specs.Views.{items_of_view};
 ghost use Rattle.std.specs.Prelude.{◌≡◌, ℕ, ◌/◌, ◌++◌, List, drop, reverse, take};
 
-use ga_core::{ArrayLength, GenericArray, GenericArrayRef, InlineLength, U3, U4, Unsigned};
+use ga_core::{ArrayLength, GenericArray, GenericArrayRef, InlineLength, U4, Unsigned};
 use std::marker::PhantomData;
 
 /// Turns blocks of one length.
@@ -90,15 +90,4 @@ fn halves_swapped<N: ArrayLength<u8> + InlineLength>(
     ensures { result ≡ drop (N.USIZE / 2) block ++ take (N.USIZE / 2) block }
 {
     Swap::<N>::turn(block)
-}
-
-#[test]
-fn blocks_of_each_length_are_turned(rt: HostRuntime) {
-    let four = GenericArray::from_array([1, 2, 3, 4]);
-    assert!(rt; Reversal::turned_copy(four.view()).as_slice() == [4, 3, 2, 1].as_slice());
-    assert!(rt; there_and_back(four).as_slice() == [1, 2, 3, 4].as_slice());
-    let three = GenericArray::from_array([1, 2, 3]);
-    assert!(rt; turned_twice::<Swap<U3>>(three).as_slice() == [3, 1, 2].as_slice());
-    let five = GenericArray::from_array([1, 2, 3, 4, 5]);
-    assert!(rt; halves_swapped(five).as_slice() == [3, 4, 5, 1, 2].as_slice());
 }

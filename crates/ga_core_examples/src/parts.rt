@@ -1,7 +1,6 @@
 //! Parts of arrays that are written, of a field too.
 ghost use Rattle.std.specs.Prelude.{◌≡◌, ◌++◌, ◌≤◌, ◌+◌, drop, length, take};
 
-use crate::answers::has;
 use ga_core::{ArrayLength, GenericArray, U4};
 use std::marker::Model;
 
@@ -10,13 +9,6 @@ fn front_set<N: ArrayLength<u8>>(array: &mut GenericArray<u8, N>, bytes: &[u8])
     ensures { array.new ≡ bytes.now ++ drop (length bytes.now) array.old }
 {
     array[0..bytes.len()].copy_from_slice(bytes);
-}
-
-fn back_set<N: ArrayLength<u8>>(array: &mut GenericArray<u8, N>, from: usize, bytes: &[u8])
-    requires { from + length bytes.now ≡ N.USIZE }
-    ensures { array.new ≡ take from array.old ++ bytes.now }
-{
-    array[from..].copy_from_slice(bytes);
 }
 
 #[derive(Drop)]
@@ -63,42 +55,20 @@ impl<N: ArrayLength<u8>> Text<N> {
     }
 }
 
-/// An array of `abcd` with another front, and then with another back.
-fn with_front_and_back() -> (GenericArray<u8, U4>, GenericArray<u8, U4>) {
-    let mut array: GenericArray<u8, U4> = GenericArray::from_array(*b"abcd");
-    front_set(&mut array, b"xy");
-    let mut both: GenericArray<u8, U4> = GenericArray::from_array(*b"xycd");
-    back_set(&mut both, 3, b"z");
-    (array, both)
-}
-
-/// A packet whose key of `xycz` has another middle.
-fn packet_with_part() -> Packet<U4> {
-    let mut packet = Packet {
+#[test]
+fn parts_are_written_and_the_others_stay(rt: HostRuntime) {
+    let mut packet = Packet::<U4> {
         kind: 1,
-        key: GenericArray::from_array(*b"xycz"),
+        key: GenericArray::from_array(*b"abcd"),
     };
-    key_part_set(&mut packet, 1, b"01");
-    packet
-}
-
-/// The text of two parts.
-fn text_of_two() -> Text<U4> {
+    front_set(&mut packet.key, b"xy");
+    key_part_set(&mut packet, 2, b"0");
+    assert!(rt; packet.kind == 1 && packet.key.as_slice() == b"xy0d".as_slice());
     let mut text = Text::<U4> {
         bytes: GenericArray::default(),
         len: 0,
     };
     text.push(b"ab");
     text.push(b"c");
-    text
-}
-
-#[test]
-fn parts_are_written_and_the_others_stay(rt: HostRuntime) {
-    let (front, both) = with_front_and_back();
-    assert!(rt; has(front, b"xycd") && has(both, b"xycz"));
-    let packet = packet_with_part();
-    assert!(rt; packet.kind == 1 && has(packet.key, b"x01z"));
-    let text = text_of_two();
-    assert!(rt; text.len == 3 && has(text.bytes, b"abc\0"));
+    assert!(rt; text.len == 3 && text.bytes.as_slice() == b"abc\0".as_slice());
 }

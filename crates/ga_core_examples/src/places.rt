@@ -1,18 +1,9 @@
 //! Places, slices and views of arrays, read and written.
-ghost use Rattle.ga_core.specs.Views.{items_of_view};
 ghost use Rattle.std.specs.List.{All};
-ghost use Rattle.std.specs.Option.{option_copied};
-ghost use Rattle.std.specs.Prelude.{◌≡◌, ◌+◌, ◌%◌, ◌^◌, ◌<◌, ◌∷◌, [], EachIndex, slice_get, slice_index, slice_set, sum};
+ghost use Rattle.std.specs.Prelude.{◌≡◌, ◌+◌, ◌%◌, ◌^◌, ◌<◌, EachIndex, slice_index, slice_set, sum};
 
-use crate::builds::blank;
-use ga_core::{ArrayLength, GenericArray, GenericArrayMut, GenericArrayRef, U2, U3, U4};
+use ga_core::{ArrayLength, GenericArray, GenericArrayMut, U2, U3, U4};
 use std::mem;
-
-fn second_of(array: &GenericArray<u8, U3>) -> u8
-    ensures { slice_get array.now 1 ≡ Some result }
-{
-    array[1]
-}
 
 /// The sum of two neighbours, where it wraps: the first index tells that the second fits a number.
 fn neighbours_added<N: ArrayLength<u32>>(numbers: &GenericArray<u32, N>, place: usize) -> u32
@@ -23,51 +14,10 @@ fn neighbours_added<N: ArrayLength<u32>>(numbers: &GenericArray<u32, N>, place: 
     numbers[place].wrapping_add(numbers[place + 1])
 }
 
-fn second_place_raised(array: &mut GenericArray<u8, U3>)
-    requires { slice_get array.old 1 ≡ Some 8 }
-    ensures { array.new ≡ slice_set array.old 1 9 }
-{
-    array[1] += 1;
-}
-
 fn second_place_set(array: &mut GenericArray<u8, U3>)
     ensures { array.new ≡ slice_set array.old 1 9 }
 {
     array[1] = 9;
-}
-
-fn second_item_of_the_slice_set(array: &mut GenericArray<u8, U2>)
-    ensures { array.new ≡ slice_set array.old 1 6 }
-{
-    let items = array.as_mut_slice();
-    items[1] = 6;
-}
-
-fn second_item_of_the_view_set(array: &mut GenericArray<u8, U2>)
-    ensures { array.new ≡ slice_set array.old 1 6 }
-{
-    let mut view = array.view_mut();
-    let items = view.as_mut_slice();
-    items[1] = 6;
-}
-
-fn second_item_got_of_the_view(array: &mut GenericArray<u8, U2>)
-    ensures { array.new ≡ slice_set array.old 1 6 }
-{
-    let mut view = array.view_mut();
-    if let Some(item) = view.get_mut(1) {
-        *item = 6;
-    }
-}
-
-fn four_and_six() -> GenericArray<u8, U2>
-    ensures { result ≡ 4 ∷ 6 ∷ [] }
-{
-    let mut array: GenericArray<u8, U2> = GenericArray::from_copies(4);
-    let mut view = array.view_mut();
-    let items = view.as_mut_slice();
-    items[1] = 6;
-    array
 }
 
 #[derive(Drop)]
@@ -92,14 +42,6 @@ fn moved_over(key: &mut GenericArray<u8, U3>, place: &mut GenericArray<u8, U3>)
     mem::take(key).into_iter().move_to(place.as_mut_slice());
 }
 
-fn last_two_sorted(array: &mut GenericArray<u8, U3>)
-    ensures { slice_index array.new 0 ≡ slice_index array.old 0 }
-{
-    if array[1] > array[2] {
-        array.as_mut_slice().swap(1, 2);
-    }
-}
-
 fn all_set(array: &mut GenericArray<u8, U3>)
     ensures { EachIndex array.new (λ place. slice_index array.new place ≡ 7) }
 {
@@ -115,58 +57,24 @@ fn sum_of(array: &GenericArray<u8, U3>) -> u32
     array.iter().map(|item| u32::from(*item)).sum()
 }
 
-fn third_of<'a>(view: GenericArrayRef<'a, u8, U3>) -> Option<&'a u8>
-    ensures { option_copied result ≡ slice_get (items_of_view view.entry) 2 }
-{
-    view.into_slice().get(2)
-}
-
-/// What the callers that write leave at the places that they write.
-fn written() -> [u8; 7] {
-    let mut array = blank();
-    second_place_set(&mut array);
-    let place = array[1];
-    last_two_sorted(&mut array);
-    let last = array[2];
-    all_set(&mut array);
-    let all = array[2];
-    let mut pair = four_and_six();
-    pair[1] = 5;
-    second_item_of_the_slice_set(&mut pair);
-    let slice = pair[1];
-    pair[1] = 5;
-    second_item_of_the_view_set(&mut pair);
-    let view = pair[1];
-    pair[1] = 5;
-    second_item_got_of_the_view(&mut pair);
-    let got = pair[1];
-    let mut packet = Packet {
-        kind: 1,
-        checksum: pair,
-    };
-    packet.checksum[1] = 5;
-    checksum_ended(&mut packet);
-    [place, last, all, slice, view, got, packet.checksum[1]]
-}
-
 fn first_reference(array: &GenericArray<u8, U3>) -> u8 {
     array.each_ref()[0].copied().unwrap_or(0)
 }
 
 #[test]
 fn what_is_written_is_what_is_read(rt: HostRuntime) {
-    assert!(rt; written() == [9, 9, 7, 6, 6, 6, 6]);
-    let array: GenericArray<u8, U3> = GenericArray::from([1, 2, 3]);
-    assert!(rt; sum_of(&array) == 6);
-    assert!(rt; first_reference(&array) == 1);
-    assert!(rt; third_of(array.view()) == Some(&3));
-}
-
-#[test]
-fn neighbours_are_added_where_the_sum_wraps(rt: HostRuntime) {
-    let numbers: GenericArray<u32, U4> = GenericArray::from([1, 2, u32::MAX, 5]);
-    assert!(rt; neighbours_added(&numbers, 0) == 3 && neighbours_added(&numbers, 1) == 1);
-    assert!(rt; neighbours_added(&numbers, 2) == 4);
+    let mut array: GenericArray<u8, U3> = GenericArray::from([1, 2, 3]);
+    assert!(rt; sum_of(&array) == 6 && first_reference(&array) == 1);
+    second_place_set(&mut array);
+    assert!(rt; array.as_slice() == [1, 9, 3].as_slice());
+    all_set(&mut array);
+    assert!(rt; array.as_slice() == [7, 7, 7].as_slice());
+    let mut packet = Packet {
+        kind: 1,
+        checksum: GenericArray::from_copies(4),
+    };
+    checksum_ended(&mut packet);
+    assert!(rt; packet.checksum.as_slice() == [4, 6].as_slice());
 }
 
 /// What a slice of 4, 5 is after `from_mut_slice`, after a `try_from_mut_slice` that fails,

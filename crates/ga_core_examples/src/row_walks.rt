@@ -2,10 +2,10 @@
 ghost use Rattle.ga_core.specs.Rows.{rows};
 ghost use Rattle.ga_core.specs.Views.{items_of_chunks, items_of_view};
 ghost use Rattle.std.specs.Option.{option_map};
-ghost use Rattle.std.specs.Prelude.{◌≡◌, ◌∷◌, [], IfOk, None, Some, false, map, reverse, slice_get, sum};
+ghost use Rattle.std.specs.Prelude.{◌≡◌, ◌∷◌, [], IfOk, None, Some, map, reverse, slice_get, sum};
 
 use crate::views::sum_of;
-use ga_core::{ChunksMut, ChunksRef, GenericArrayRef, U0, U2, U3, Unsigned};
+use ga_core::{ChunksRef, GenericArrayRef, U2, U3, Unsigned};
 use std::alloc::{AllocError, Global};
 
 /// The last row of two, the first, and what is left between them.
@@ -53,15 +53,6 @@ fn sums_from_the_back(alloc: Global, chunks: &ChunksRef<u8, U2>) -> Result<Vec<u
     chunks.iter().rev().map(|row| sum_of(&row)).collect(alloc)
 }
 
-/// Whether there is a last row where neither an item nor a width is.
-fn has_last_of_none(items: &[u32]) -> bool
-    requires empty { items.now ≡ [] }
-    ensures { result ≡ false }
-{
-    let (chunks, _) = ChunksRef::<u32, U0>::chunks_from_slice(items);
-    chunks.iter().next_back().is_some()
-}
-
 /// Whether there is this row.
 fn is(row: Option<GenericArrayRef<'_, u32, U3>>, items: &[u32]) -> bool {
     match row {
@@ -70,64 +61,24 @@ fn is(row: Option<GenericArrayRef<'_, u32, U3>>, items: &[u32]) -> bool {
     }
 }
 
-fn ends_are_right() -> bool {
-    let (chunks, rest) = ChunksRef::<u32, U3>::chunks_from_slice(&[1, 2, 3, 4, 5, 6, 7]);
-    let [last, first, between] = from_both_ends(&chunks);
-    is(last, &[4, 5, 6]) && is(first, &[1, 2, 3]) && between.is_none() && rest == [7].as_slice()
-}
-
-fn rows_from_the_back_are_right() -> bool {
-    let (chunks, _) = ChunksRef::<u32, U3>::chunks_from_slice(&[1, 2, 3, 4, 5, 6]);
-    let (row, left) = second_from_the_back(&chunks);
-    is(row, &[1, 2, 3]) && left == 0 && is(last_row(&chunks), &[4, 5, 6])
-}
-
-/// Whether the walk passes over rows, from the front.
+/// Whether the walk passes over rows, and ends behind the last.
 fn passes(chunks: &ChunksRef<'_, u32, U3>) -> bool {
-    let mut left = chunks.iter();
-    is(left.nth(1), &[4, 5, 6])
-        && left.len() == 0
-        && left.nth(0).is_none()
-        && left.nth_back(0).is_none()
-}
-
-/// Whether the walk that passes over more rows than there are ends.
-fn ends_beyond(chunks: &ChunksRef<'_, u32, U3>) -> bool {
-    let mut left = chunks.iter();
-    let before = left.size_hint();
-    let passed = left.nth(usize::MAX);
-    before == (2, Some(2))
-        && passed.is_none()
-        && left.size_hint() == (0, Some(0))
+    let (mut left, mut other) = (chunks.iter(), chunks.iter());
+    left.size_hint() == (2, Some(2))
+        && is(left.nth(1), &[4, 5, 6])
         && left.next_back().is_none()
-}
-
-fn ends_before(chunks: &ChunksRef<'_, u32, U3>) -> bool {
-    let mut left = chunks.iter();
-    left.nth_back(2).is_none() && left.next().is_none()
-}
-
-/// How many rows for writing follow the last, where that is 4, 5, 6.
-fn rows_before_the_last(items: &mut [u32]) -> Option<usize> {
-    let (rows, _) = ChunksMut::<u32, U3>::chunks_from_slice_mut(items);
-    let mut shown = rows.iter();
-    if is(shown.next_back(), &[4, 5, 6]) {
-        Some(shown.len())
-    } else {
-        None
-    }
+        && other.nth(usize::MAX).is_none()
+        && other.size_hint() == (0, Some(0))
 }
 
 #[test]
 fn rows_are_walked_from_both_ends(rt: HostRuntime) {
-    assert!(rt; ends_are_right() && rows_from_the_back_are_right() && !has_last_of_none(&[]));
     let (chunks, _) = ChunksRef::<u32, U3>::chunks_from_slice(&[1, 2, 3, 4, 5, 6, 7]);
-    assert!(rt; passes(&chunks) && ends_beyond(&chunks) && ends_before(&chunks));
-    assert!(rt; rows_before_the_last(&mut [1, 2, 3, 4, 5, 6]) == Some(1));
-}
-
-#[test]
-fn rows_are_summed_from_the_back(rt: HostRuntime) {
+    let [last, first, between] = from_both_ends(&chunks);
+    assert!(rt; is(last, &[4, 5, 6]) && is(first, &[1, 2, 3]) && between.is_none());
+    let (row, left) = second_from_the_back(&chunks);
+    assert!(rt; is(row, &[1, 2, 3]) && left == 0 && is(last_row(&chunks), &[4, 5, 6]));
+    assert!(rt; passes(&chunks));
     let (pairs, _) = ChunksRef::<u8, U2>::chunks_from_slice(&[1, 2, 3, 4, 5]);
     let sums = sums_from_the_back(rt.alloc(), &pairs);
     assert!(rt; sums.is_ok_and(|sums| sums.as_slice() == [7, 3].as_slice()));

@@ -1,7 +1,6 @@
 //! Views as slices, and what a proof follows through the views that write.
 ghost use Rattle.ga_core.specs.Views.{items_of_view};
-ghost use Rattle.std.specs.List.{list_any};
-ghost use Rattle.std.specs.Prelude.{◌≡◌, ◌==◌, ◌∷◌, [], ◌<◌, ◌↔◌, IfOk, IsOk, IsTrue, Some, length, replicate, slice_get, slice_set};
+ghost use Rattle.std.specs.Prelude.{◌≡◌, ◌∷◌, [], ◌<◌, ◌↔◌, IfOk, IsOk, Some, length, replicate, slice_get, slice_set};
 
 use ga_core::reborrow::ReborrowSlice;
 use ga_core::{
@@ -17,22 +16,10 @@ fn item_at<N: Unsigned>(view: GenericArrayRef<'_, u8, N>, index: usize) -> u8
     view[index]
 }
 
-fn holds_nothing<N: Unsigned>(view: &GenericArrayRef<'_, u8, N>) -> bool
-    ensures { IsTrue result ↔ (N.USIZE ≡ 0) }
-{
-    view.is_empty()
-}
-
 fn length_of<N: Unsigned>(view: &GenericArrayRef<'_, u8, N>) -> usize
     ensures { result ≡ N.USIZE }
 {
     view.len()
-}
-
-fn has_zero<N: Unsigned>(view: &GenericArrayRef<'_, u8, N>) -> bool
-    ensures { result ≡ list_any (λ byte. byte == 0) (items_of_view view.now) }
-{
-    view.contains(&0)
 }
 
 fn viewed(slice: &[u8]) -> Result<GenericArrayRef<'_, u8, U3>, LengthError>
@@ -40,22 +27,6 @@ fn viewed(slice: &[u8]) -> Result<GenericArrayRef<'_, u8, U3>, LengthError>
     ensures ok { IfOk result (λ view. items_of_view view ≡ slice.now) }
 {
     slice.try_into()
-}
-
-fn second_set(slice: &mut [u8])
-    requires { length slice.old ≡ 2 }
-    ensures { slice.new ≡ slice_set slice.old 1 6 }
-{
-    let mut view: GenericArrayMut<u8, U2> = GenericArrayMut::from_mut_slice(slice);
-    view[1] = 6;
-}
-
-fn both_filled(slice: &mut [u8])
-    requires { length slice.old ≡ 2 }
-    ensures { slice.new ≡ 7 ∷ 7 ∷ [] }
-{
-    let mut view: GenericArrayMut<u8, U2> = GenericArrayMut::from_mut_slice(slice);
-    view.fill(7);
 }
 
 fn array_filled<N: ArrayLength<u8>>(array: &mut GenericArray<u8, N>)
@@ -142,33 +113,21 @@ fn second_set_if_two(slice: &mut [u8]) -> Result<(), LengthError>
 fn a_view_is_read_as_a_slice(rt: HostRuntime) {
     let items = [4u8, 0, 6];
     let view: GenericArrayRef<u8, U3> = GenericArrayRef::from_slice(&items);
-    assert!(rt; item_at(view, 2) == 6 && !holds_nothing(&view));
-    assert!(rt; length_of(&view) == 3 && has_zero(&view));
+    assert!(rt; item_at(view, 2) == 6 && length_of(&view) == 3);
     assert!(rt; viewed(&items).is_ok() && viewed(&items[..2]).is_err());
 }
 
 #[test]
 fn what_views_write_stands_in_their_slice(rt: HostRuntime) {
     let mut items = [4u8, 5];
-    second_set(&mut items);
     first_of_slice_set(&mut items);
-    assert!(rt; items == [6, 6]);
-    both_filled(&mut items);
-    assert!(rt; items == [7, 7]);
     slice_set_behind_a_pattern(&mut items);
-    assert!(rt; items == [7, 6]);
-    assert!(rt; second_set_if_two(&mut items[..1]).is_err() && items == [7, 6]);
-    assert!(rt; second_set_if_two(&mut items).is_ok());
+    assert!(rt; items == [6, 6] && second_set_if_two(&mut items[..1]).is_err());
     let mut five = [1u8, 2, 3, 4, 5];
     row_and_rest_set(&mut five);
     assert!(rt; five == [1, 2, 9, 4, 8]);
-}
-
-#[test]
-fn what_views_write_stands_in_their_array(rt: HostRuntime) {
     let mut array: GenericArray<u8, U2> = GenericArray::from([1, 2]);
     first_of_array_set(&mut array);
-    assert!(rt; array.as_slice() == [6, 2].as_slice());
     array_set_through_a_literal(&mut array);
     assert!(rt; array.as_slice() == [6, 6].as_slice());
     array_filled(&mut array);
