@@ -1,1 +1,2 @@
+pub mod BehindErrorLemmas
 pub mod CountedLemmas

@@ -9,9 +9,8 @@ ghost use Rattle.std.specs.Int.Bits.{bit_xor};
 ghost use Rattle.std.specs.List.{range_with_len, zip};
 ghost use Rattle.std.specs.Prelude.{◌≡◌, ℕ, ◌+◌, ◌-◌, ◌*◌, ◌%◌, ◌^◌, ◌++◌, ◌<◌, ◌≤◌, IfOk, Ok, fold, length, map, replicate, reverse, sum};
 
-use crate::kinds::boxed_one_two_three;
 use ga_core_examples::digits::digit_in;
-use ga_test_items::answers::{gives, has};
+use ga_test_items::answers::has;
 use generic_array::checks::{map_total_by, total_by};
 use generic_array::functional::{
     FunctionalSequence, MappedError, MappedGenericSequence, MappedPlace, MappedSequence, MapsInline,
@@ -19,14 +18,14 @@ use generic_array::functional::{
 use generic_array::sequence::{FromFallibleIterator, GenericSequence, SequenceItem};
 use generic_array::{
     AllocError, ArrayLength, BorrowedItems, BoxedArray, FillError, GenericArray, GenericArrayRef,
-    InlineLength, U3, U4, Unsigned, always, arr,
+    InlineLength, U3, U4, Unsigned, always, box_arr,
 };
 use std::alloc::Global;
 use std::test::Fail;
 
 // A mask over every byte, as a digest makes of a key.
 
-fn masked<N: ArrayLength<u8>>(key: GenericArray<u8, N>) -> GenericArray<u8, N>
+pub fn masked<N: ArrayLength<u8>>(key: GenericArray<u8, N>) -> GenericArray<u8, N>
     ensures { result ≡ map (λ b. bit_xor b 0x36) key }
 {
     key.map_inline(|b: u8| b ^ 0x36)
@@ -136,7 +135,7 @@ fn checksum_of_any<S: GenericSequence<u8>>(bytes: &S) -> u8
         .fold(0, |total: u8, b: &u8| total.wrapping_add(*b))
 }
 
-// Sums place by place of two kinds, and the sum of the products.
+// Sums place by place of two kinds.
 
 fn place_sums<N: ArrayLength<u32>>(
     left: GenericArray<u32, N>,
@@ -178,19 +177,9 @@ fn scaled_sums<N: ArrayLength<u32>>(
     )
 }
 
-fn dot<N: ArrayLength<u32>>(left: GenericArray<u32, N>, right: GenericArrayRef<'_, u32, N>) -> u32
-    ensures { result ≡ fold (λ total x. (total + x) % 2 ^ 32) 0
-        (map (λ p. p.0 * p.1 % 2 ^ 32) (zip left (items_of_view right.entry))) }
-{
-    let products = left.zip_inline_ref(right, |l: &u32, r: &u32| l.wrapping_mul(*r));
-    products
-        .into_iter()
-        .fold(0, |total: u32, x: u32| total.wrapping_add(x))
-}
-
 // The value of a polynomial at x, with the highest coefficient first, and last.
 
-fn value_from_highest<N: ArrayLength<u32>>(coefficients: GenericArray<u32, N>, x: u32) -> u32
+fn value_from_highest<N: Unsigned>(coefficients: BoxedArray<u32, N>, x: u32) -> u32
     ensures { result ≡ fold (λ value c. (value * x % 2 ^ 32 + c) % 2 ^ 32) 0 coefficients }
 {
     coefficients.into_iter().fold(
@@ -216,15 +205,6 @@ fn sum_of<N: ArrayLength<u32>>(view: GenericArrayRef<'_, u32, N>) -> u32
     ensures { result ≡ sum (items_of_view view.entry) }
 {
     total_by(view, 0, &mut |total: u32, item: &u32| total + *item)
-}
-
-// Counting up.
-
-fn counted_up<N: ArrayLength<usize>>(first: usize) -> GenericArray<usize, N>
-    requires { FitsInline N.USIZE }
-    ensures { result ≡ map (λ index. (first + index) % 2 ^ 64) (range_with_len 0 N.USIZE) }
-{
-    GenericArray::generate(|index| first.wrapping_add(index))
 }
 
 fn counted_up_boxed<N: Unsigned>(
@@ -279,69 +259,10 @@ fn right_aligned<N: ArrayLength<u8>>(number: &[u8]) -> GenericArray<u8, N>
     field
 }
 
-/// Whether a key of three bytes is masked as each caller of one kind says.
-fn masks_are_right(alloc: Global) -> Result<bool, AllocError> {
-    let boxed = BoxedArray::<u8, U3>::from_array(alloc, [0x36, 0, 0xff])?;
-    if !has(masked_boxed(alloc, boxed, 1)?, &[0x37, 1, 0xfe]) {
-        return Ok(false);
-    }
-    let key = GenericArray::<u8, U3>::from_array([0x36, 0, 0xff]);
-    Ok(
-        has(masked_view(key.view(), 1), &[0x37, 1, 0xfe])
-            && has(masked_by_reference(&key, 1), &[0x37, 1, 0xfe])
-            && has(masked(key), &[0, 0x36, 0xc9]),
-    )
-}
-
-/// Whether sums place by place are those worked out by hand.
-fn sums_are_right(alloc: Global) -> Result<bool, AllocError> {
-    let right = arr![4u32, 5, 6];
-    let more = one_more_than_sums_of_both(arr![1, 2, 3], boxed_one_two_three(alloc)?);
-    Ok(has(place_sums(arr![1, 2, 3], right.view()), &[5, 7, 9]) && has(more, &[3, 5, 7]))
-}
-
-fn sums_stand_beside_both_sides() -> bool {
-    let (sums, left, right) = sums_and_sides(arr![1u32, 2, 3], arr![4, 5, 6]);
-    has(sums, &[5, 7, 9]) && has(left, &[1, 2, 3]) && has(right, &[4, 5, 6])
-}
-
-/// A dot product, a sum, and the values of polynomials.
-fn numbers(alloc: Global) -> Result<[u32; 4], AllocError> {
-    let right = arr![4u32, 5, 6];
-    let scaled = scaled_sums(alloc, boxed_one_two_three(alloc)?, arr![1, 2, 3], 10)?;
-    Ok([
-        dot(arr![1, 2, 3], right.view()),
-        sum_of(right.view()),
-        value_from_highest(arr![1, 2, 3], 10),
-        value_from_lowest(scaled, 10),
-    ])
-}
-
-/// Whether text is read and aligned as the callers say.
-fn text_is_right() -> bool {
-    let read = digits_of_view(GenericArrayRef::<u8, U3>::from_slice(b"190"), 10);
-    let refused = match digits_of_view(GenericArrayRef::<u8, U3>::from_slice(b"182"), 8) {
-        Ok(_digits) => false,
-        Err(byte) => byte == b'8',
-    };
-    refused && gives(read, &[1, 9, 0]) && has(right_aligned::<U4>(b"ab"), &[0, 0, 97, 98])
-}
-
 #[test]
-fn masks_of_any_length_are_what_their_contracts_say(rt: HostRuntime) {
-    assert!(rt; masks_are_right(rt.alloc()).expect(&rt, "no memory"));
-}
-
-#[test]
-fn numbers_of_any_length_are_those_worked_out_by_hand(rt: HostRuntime) -> Result<(), Fail> {
-    assert!(rt; sums_are_right(rt.alloc())? && sums_stand_beside_both_sides());
-    assert!(rt; numbers(rt.alloc())? == [32, 15, 123, 3531]);
-    assert!(rt; has(counted_up::<U3>(5), &[5, 6, 7]));
-    assert!(rt; gives(counted_up_boxed::<U3>(rt.alloc(), 7), &[7, 8, 9]));
+fn numbers_are_aligned_and_read_from_both_ends(rt: HostRuntime) -> Result<(), Fail> {
+    assert!(rt; has(right_aligned::<U4>(b"ab"), &[0, 0, 97, 98]));
+    assert!(rt; value_from_highest::<U3>(box_arr!(rt.alloc(), [1, 2, 3])?, 10) == 123);
+    assert!(rt; value_from_lowest::<U3>(box_arr!(rt.alloc(), [1, 2, 3])?, 10) == 321);
     Ok(())
-}
-
-#[test]
-fn text_of_any_length_is_read_and_aligned(rt: HostRuntime) {
-    assert!(rt; text_is_right());
 }

@@ -1,25 +1,17 @@
 //! Conversions by the traits of std, arrays of zeros, and types with a length.
 ghost use Rattle.std.specs.Prelude.{◌≡◌, ◌∷◌, [], ◌↔◌, IfOk, IsOk, Ok, drop, length, replicate, take};
 
-use ga_test_items::answers::{gives, has};
 use generic_array::sequence::{Concat, Split};
 use generic_array::{
     AllocError, ArrayLength, BoxedArray, GenericArray, InlineLength, LengthError, U2, U3, U4, U6,
-    U16, arr,
+    U16,
 };
 use std::alloc::Global;
-use std::convert::AsSlice;
 
 fn from_native() -> GenericArray<u8, U3>
     ensures { result ≡ 1 ∷ 2 ∷ 3 ∷ [] }
 {
     GenericArray::from([1, 2, 3])
-}
-
-fn into_an_array(items: [u8; 3]) -> GenericArray<u8, U3>
-    ensures { result ≡ items }
-{
-    items.into()
 }
 
 fn into_native(array: GenericArray<u8, U3>) -> [u8; 3]
@@ -74,18 +66,6 @@ fn vector_as_in_std<N: ArrayLength<u32>>(
     Ok(array.into_vec(alloc)?)
 }
 
-fn zeros() -> GenericArray<u8, U16>
-    ensures { result ≡ replicate 16 0 }
-{
-    GenericArray::default()
-}
-
-fn zeros_of<N: ArrayLength<u8> + InlineLength>() -> GenericArray<u8, N>
-    ensures { result ≡ replicate N.USIZE 0 }
-{
-    GenericArray::default()
-}
-
 fn two_zero_keys() -> GenericArray<GenericArray<u8, U16>, U2>
     ensures { result ≡ replicate 2 (replicate 16 0) }
 {
@@ -130,52 +110,9 @@ fn there_and_back(header: Header) -> Header
     decoded(encoded(header))
 }
 
-/// Whether a conversion and its inverse gave these items.
-fn gives_again<S: AsSlice<u32> + Drop>(
-    again: Result<Result<S, LengthError>, AllocError>,
-    items: &[u32],
-) -> bool {
-    match again {
-        Ok(again) => gives(again, items),
-        Err(AllocError) => false,
-    }
-}
-
 #[test]
-fn conversions_keep_the_items(rt: HostRuntime) {
-    assert!(rt; has(from_native(), &[1, 2, 3]) && has(into_an_array([4, 5, 6]), &[4, 5, 6]));
-    assert!(rt; into_native(from_native()) == [1, 2, 3]);
-    assert!(rt; from_vector::<U3>(Vec::new(rt.alloc())).is_err());
-}
-
-#[test]
-fn conversions_through_vectors_keep_the_items(rt: HostRuntime) {
-    let alloc = rt.alloc();
-    assert!(rt; gives_again(through_a_vector(alloc, arr![1, 2, 3]), &[1, 2, 3]));
-    assert!(rt; gives_again(boxed_through_a_vector(alloc, arr![1, 2, 3]), &[1, 2, 3]));
-    assert!(rt; gives(vector_as_in_std(alloc, arr![1, 2, 3]), &[1, 2, 3]));
-}
-
-/// Whether a default with a length as its parameter is one of its number.
-fn numbered_is_right() -> bool {
+fn a_type_with_a_length_has_derives(rt: HostRuntime) {
     let numbered: Numbered<U3> = Numbered::default();
-    numbered
-        == Numbered {
-            of: U3::default(),
-            number: 0,
-        }
-}
-
-#[test]
-fn a_default_is_of_zeros(rt: HostRuntime) {
-    assert!(rt; has(zeros(), &[0; 16]) && has(zeros_of::<U3>(), &[0; 3]));
-    assert!(rt; two_zero_keys()[1].as_slice() == [0; 16].as_slice() && numbered_is_right());
-}
-
-#[test]
-fn a_header_is_read_as_it_was_made(rt: HostRuntime) {
-    let kind = GenericArray::from([1, 2]);
-    let size = GenericArray::from([3, 4, 5, 6]);
-    let header = there_and_back(Header { kind, size });
-    assert!(rt; has(header.kind, &[1, 2]) && has(header.size, &[3, 4, 5, 6]));
+    let of = U3::default();
+    assert!(rt; numbered == Numbered { of, number: 0 });
 }

@@ -5,12 +5,12 @@ ghost use Rattle.generic_array.specs.Length.{FitsInline};
 ghost use Rattle.generic_array.specs.Rows.{rows};
 ghost use Rattle.generic_array.specs.Tries.{try_map};
 ghost use Rattle.std.specs.List.{flat_map, zip};
-ghost use Rattle.std.specs.Prelude.{◌≡◌, ◌*◌, ◌/◌, ◌%◌, ◌∷◌, [], slice_index};
+ghost use Rattle.std.specs.Prelude.{◌≡◌, ◌*◌, ◌/◌, ◌%◌, ◌∷◌, []};
 
 use crate::hex_digits::{digit_in_hex, value_in_hex};
 use ga_test_items::answers::{gives, has};
 use generic_array::sequence::{Flatten, Unflatten};
-use generic_array::{ArrayLength, GenericArray, U2, U3, U4, U6, arr};
+use generic_array::{ArrayLength, GenericArray, U2, U4, arr};
 
 /// The hex digits of bytes. The items of the rows are those of what is mapped: no lemma is named.
 fn hex_of<N: ArrayLength<u8> + ArrayLength<GenericArray<u8, U2>>, M: ArrayLength<u8>>(
@@ -63,51 +63,11 @@ fn interleaved<N: ArrayLength<u32> + ArrayLength<GenericArray<u32, U2>>, M: Arra
     pairs.flatten()
 }
 
-fn ends_of(row: GenericArray<u8, U3>) -> GenericArray<u8, U2>
-    ensures { result ≡ slice_index row 0 ∷ slice_index row 2 ∷ [] }
-{
-    arr![row[0], row[2]]
-}
-
-/// The ends of each row of three, by a named function.
-#[tactic(auto, using(generic_array::proofs::ShapeLemmas::flat_map_by_rows))]
-fn ends_of_rows<
-    R: ArrayLength<GenericArray<u8, U3>> + ArrayLength<GenericArray<u8, U2>>,
-    N: ArrayLength<u8>,
-    M: ArrayLength<u8>,
->(bytes: GenericArray<u8, N>) -> GenericArray<u8, M>
-    requires whole { N.USIZE ≡ R.USIZE * 3 }
-    requires fits { FitsInline M.USIZE }
-    requires twice { M.USIZE ≡ R.USIZE * 2 }
-    ensures { result ≡ flat_map (λ row. slice_index row 0 ∷ slice_index row 2 ∷ []) (rows 3 bytes) }
-{
-    let rows: GenericArray<GenericArray<u8, U3>, R> = bytes.unflatten();
-    let ends: GenericArray<GenericArray<u8, U2>, R> = rows.map_inline(ends_of);
-    ends.flatten()
-}
-
-/// The byte that is no hex digit.
-fn refused_byte<N: ArrayLength<u8>>(read: Result<GenericArray<u8, N>, u8>) -> u8 {
-    match read {
-        Ok(_bytes) => 0,
-        Err(byte) => byte,
-    }
-}
-
 #[test]
 fn hex_digits_are_written_and_read(rt: HostRuntime) {
     let text: GenericArray<u8, U4> = hex_of::<U2, U4>(GenericArray::from_array([0x0a, 0xf1]));
     assert!(rt; has(text, b"0af1"));
     let read = bytes_of::<U2, U4>(GenericArray::from_array(*b"0af1"));
     assert!(rt; gives(read, &[0x0a, 0xf1]));
-    let refused = bytes_of::<U2, U4>(GenericArray::from_array(*b"0aF1"));
-    assert!(rt; refused_byte(refused) == b'F');
-}
-
-#[test]
-fn rows_are_joined_as_their_contracts_say(rt: HostRuntime) {
-    let lanes = interleaved::<U3, U6>(arr![1, 2, 3], arr![4, 5, 6]);
-    assert!(rt; has(lanes, &[1, 4, 2, 5, 3, 6]));
-    let bytes: GenericArray<u8, U6> = GenericArray::from_array([1, 2, 3, 4, 5, 6]);
-    assert!(rt; has(ends_of_rows::<U2, U6, U4>(bytes), &[1, 3, 4, 6]));
+    assert!(rt; bytes_of::<U2, U4>(GenericArray::from_array(*b"0aF1")).is_err());
 }

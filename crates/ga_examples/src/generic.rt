@@ -74,14 +74,6 @@ fn popped_and_appended_at_any_length<T: Default + Drop, N: ArrayLength<T>, M: Ar
     popped_and_appended::<T, GenericArray<T, N>, GenericArray<T, M>>(array)
 }
 
-fn no_places<S: GenericSequence<usize>>(place: S::Place) -> Result<S::Sequence, S::Error>
-    requires none { S.Length.USIZE ≡ 0 }
-    requires fits { S.Fits }
-    ensures { IsOk result }
-{
-    S::generate(place, |index| index)
-}
-
 fn nothing_mapped<
     T,
     U,
@@ -100,16 +92,6 @@ fn nothing_mapped<
     s.map_by(place, f)
 }
 
-fn digits<S: FromFallibleIterator<u8>>(
-    place: S::Place,
-    text: &[u8],
-) -> Result<S, FillError<u8, S::Error>>
-    requires fits { S.Fits }
-    ensures long { OnOk result (length text.now ≡ S.Length.USIZE) }
-{
-    S::from_fallible_iter(place, text.iter().map(decimal_digit))
-}
-
 /// The digits that the bytes stand for, or why there are none. The iterator is borrowed.
 fn digits_lent<S: FromFallibleIterator<u8>>(
     place: S::Place,
@@ -121,34 +103,4 @@ fn digits_lent<S: FromFallibleIterator<u8>>(
 {
     let mut digits = text.iter().map(decimal_digit);
     S::from_fallible_iter_ref(place, &mut digits)
-}
-
-/// An item of what any kind makes, at any place that there is.
-fn seven_at<S: GenericSequence<u8>>(place: S::Place, index: usize) -> Result<u8, S::Error>
-where
-    S::Sequence: Drop,
-    requires fits { S.Fits }
-    requires in_bounds { index < S.Length.USIZE }
-    ensures promised { S.IsPromised → IsOk result }
-{
-    match S::generate(place, |_index| 7) {
-        Ok(made) => Ok(made.as_slice()[index]),
-        Err(refused) => Err(refused),
-    }
-}
-
-/// The item after the first error, where the iterator is asked on.
-fn next_after_an_error<S: FromFallibleIterator<u8> + Drop, I: Iterator<Item = Result<u8, u8>>>(
-    place: S::Place,
-    items: &mut I,
-) -> Option<Result<u8, u8>>
-where
-    S::Error: Drop,
-    requires fits { S.Fits }
-    requires can { I.can_next items.old }
-{
-    match S::from_fallible_iter_ref(place, items) {
-        Err(FillError::Item(_)) => items.next(),
-        _ => None,
-    }
 }

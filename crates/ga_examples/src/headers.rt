@@ -3,7 +3,6 @@ ghost use Rattle.generic_array.specs.Rows.{rows};
 ghost use Rattle.std.specs.Int.{from_be_bytes, w16};
 ghost use Rattle.std.specs.Prelude.{◌≡◌, ◌↔◌, IfOk, IsOk, length, map};
 
-use ga_test_items::answers::gives;
 use generic_array::sequence::Unflatten;
 use generic_array::{GenericArray, GenericArrayRef, LengthError, U2, U4, U8};
 
@@ -14,11 +13,4 @@ fn words_of(header: &[u8]) -> Result<GenericArray<u16, U4>, LengthError>
     let view: GenericArrayRef<u8, U8> = GenericArrayRef::try_from_slice(header)?;
     let pairs: GenericArray<GenericArray<u8, U2>, U4> = GenericArray::from_view(view).unflatten();
     Ok(pairs.map_inline(|pair: GenericArray<u8, U2>| u16::from_be_bytes(pair.into_array())))
-}
-
-#[test]
-fn a_header_is_read_as_its_words(rt: HostRuntime) {
-    let header = [0x12, 0x34, 0, 53, 0, 11, 0x77, 0xce];
-    assert!(rt; gives(words_of(&header), &[4660, 53, 11, 0x77ce]));
-    assert!(rt; words_of(&header[1..]).is_err());
 }

@@ -15,7 +15,6 @@ use generic_array::{
 };
 use std::alloc::Global;
 use std::convert::AsSlice;
-use std::test::Fail;
 
 // The dot product of two sequences, which may be of two kinds, over the traits alone.
 fn dot_of<S, R>(
@@ -123,29 +122,4 @@ fn calls_of_a_boxed_map(alloc: Global, array: BoxedArray<u32, U3>) -> u32
         Ok(_mapped) => calls,
         Err(_refused) => calls,
     }
-}
-
-/// The boxed array of 1 to 3, or `AllocError` where its block can't be had.
-pub fn boxed_one_two_three(alloc: Global) -> Result<BoxedArray<u32, U3>, AllocError>
-    ensures { IfOk result (λ array. array ≡ 1 ∷ 2 ∷ 3 ∷ []) }
-{
-    BoxedArray::from_array(alloc, [1, 2, 3])
-}
-
-/// The dot product and the digits of boxed arrays, and the calls of a map.
-fn numbers_of_boxed(alloc: Global) -> Result<(u32, u32, u32), AllocError> {
-    let dot = dot_of(
-        boxed_one_two_three(alloc)?,
-        alloc,
-        boxed_one_two_three(alloc)?,
-    )?;
-    let digits = digits_of_boxed(alloc, boxed_one_two_three(alloc)?)?;
-    let calls = calls_of_a_boxed_map(alloc, boxed_one_two_three(alloc)?);
-    Ok((dot, digits, calls))
-}
-
-#[test]
-fn callers_get_what_their_contracts_say(rt: HostRuntime) -> Result<(), Fail> {
-    assert!(rt; numbers_of_boxed(rt.alloc())? == (14, 246, 3));
-    Ok(())
 }

@@ -1,4 +1,5 @@
-//! Examples, each proved: what the contracts of `generic_array` give to those who use it.
+//! Examples, each proved: what the contracts of `generic_array` and `ga_headline` give to those who
+//! use them.
 #![tactic(auto)]
 
 #[cfg(test)]
@@ -18,6 +19,8 @@ mod generic;
 #[cfg(test)]
 mod headers;
 #[cfg(test)]
+mod headline;
+#[cfg(test)]
 mod hex_digits;
 #[cfg(test)]
 mod kinds;
@@ -27,5 +30,7 @@ mod macros;
 mod matrices;
 #[cfg(test)]
 mod own_lengths;
+#[cfg(test)]
+mod runs_of_steps;
 #[cfg(test)]
 mod shapes;

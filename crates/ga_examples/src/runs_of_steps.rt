@@ -3,12 +3,11 @@ ghost use Rattle.generic_array.specs.declared.steps.step.Reply.TheVariants.{Item
 ghost use Rattle.std.specs.Prelude.{◌≡◌, ◌^◌, ◌<◌, [], ◌∷◌, ◌++◌, IfOk, IsOk, None, OnOk, Some, length, sum};
 
 mod any_steps;
-mod jobs;
-mod kinds;
 
-use generic_array::AllocError;
 use generic_array::steps::{Reply, Step, TwoEnded, run_steps};
+use generic_array::{AllocError, BoxedArray, GenericArray, U3};
 use std::alloc::Global;
+use std::test::Fail;
 
 /// The sum of the numbers, which has to fit.
 fn total(numbers: &[u32]) -> u32
@@ -19,7 +18,7 @@ fn total(numbers: &[u32]) -> u32
 }
 
 /// How many items there are.
-fn count_of<T>(items: &[T]) -> usize
+pub fn count_of<T>(items: &[T]) -> usize
     ensures { result ≡ length items.now }
 {
     items.len()
@@ -45,12 +44,10 @@ fn taken_and_replaced<I: TwoEnded<u32>>(
     run_steps(numbers, steps, &mut total, replies)
 }
 
-/// Items taken from both ends of five, past the last of them too, and the sum of what is left: in
-/// one run where `at_once`, else in two.
+/// Items taken from both ends of five, past the last of them too, and the sum of what is left.
 fn taken_and_looked_at<I: TwoEnded<u32>>(
     alloc: Global,
     numbers: &mut I,
-    at_once: bool,
     replies: &mut Vec<Reply<u32, u32>>,
 ) -> Result<(), AllocError>
     requires five { I.items numbers.old ≡ 1 ∷ 2 ∷ 3 ∷ 4 ∷ 5 ∷ [] }
@@ -59,61 +56,14 @@ fn taken_and_looked_at<I: TwoEnded<u32>>(
         ++ Item (Some 2) ∷ Seen 12 ∷ Item None ∷ Item None ∷ Seen 0 ∷ []) }
     ensures left { OnOk result (I.items numbers.new ≡ []) }
 {
-    let mut look = total;
-    if at_once {
-        let steps = vec![in alloc;
-            Step::Nth(1),
-            Step::Look,
-            Step::NthBack(5),
-            Step::Next,
-            Step::Look,
-        ]?;
-        run_steps(numbers, steps, &mut look, replies)
-    } else {
-        let first = vec![in alloc; Step::Nth(1), Step::Look]?;
-        let second = vec![in alloc; Step::NthBack(5), Step::Next, Step::Look]?;
-        run_steps(numbers, first, &mut look, replies)?;
-        run_steps(numbers, second, &mut look, replies)
-    }
-}
-
-/// A reply behind an earlier one.
-fn taken_behind<I: TwoEnded<u32>>(
-    alloc: Global,
-    numbers: &mut I,
-    replies: &mut Vec<Reply<u32, u32>>,
-) -> Result<(), AllocError>
-    requires two { I.items numbers.old ≡ 1 ∷ 2 ∷ [] }
-    requires earlier { replies.old.items ≡ Old 7 ∷ [] }
-    ensures replies { OnOk result (replies.new.items ≡ Old 7 ∷ Item (Some 2) ∷ []) }
-    ensures left { OnOk result (I.items numbers.new ≡ 1 ∷ []) }
-{
-    let steps = vec![in alloc; Step::NextBack]?;
+    let steps = vec![in alloc;
+        Step::Nth(1),
+        Step::Look,
+        Step::NthBack(5),
+        Step::Next,
+        Step::Look,
+    ]?;
     run_steps(numbers, steps, &mut total, replies)
-}
-
-/// Two orders in which items are taken from both ends: each end returns as if the other stood
-/// still.
-fn taken_in_two_orders<I: TwoEnded<u32>>(
-    alloc: Global,
-    numbers: &mut I,
-    others: &mut I,
-    replies: &mut Vec<Reply<u32, u32>>,
-    other_replies: &mut Vec<Reply<u32, u32>>,
-) -> Result<(), AllocError>
-    requires five { I.items numbers.old ≡ 1 ∷ 2 ∷ 3 ∷ 4 ∷ 5 ∷ [] }
-    requires same { I.items others.old ≡ 1 ∷ 2 ∷ 3 ∷ 4 ∷ 5 ∷ [] }
-    ensures replies { OnOk result (replies.new.items
-        ≡ replies.old.items ++ Item (Some 2) ∷ Item (Some 5) ∷ Item (Some 3) ∷ []) }
-    ensures others { OnOk result (other_replies.new.items
-        ≡ other_replies.old.items ++ Item (Some 5) ∷ Item (Some 2) ∷ Item (Some 3) ∷ []) }
-    ensures left { OnOk result ((I.items numbers.new ≡ 4 ∷ []) × (I.items others.new ≡ 4 ∷ [])) }
-{
-    let mut look = total;
-    let steps = vec![in alloc; Step::Nth(1), Step::NextBack, Step::Next]?;
-    run_steps(numbers, steps, &mut look, replies)?;
-    let steps = vec![in alloc; Step::NextBack, Step::Nth(1), Step::Next]?;
-    run_steps(others, steps, &mut look, other_replies)
 }
 
 /// How often a closure that counts its calls was called.
@@ -154,4 +104,26 @@ fn no_steps<I: TwoEnded<u32>>(
 {
     let steps = Vec::new(alloc);
     run_steps(numbers, steps, &mut total, replies)
+}
+
+/// Whether these are the replies of an item taken again.
+fn are_replaced(alloc: Global, replies: &[Reply<u32, u32>]) -> Result<bool, AllocError> {
+    let text = format!(in alloc; "{replies:?}")?;
+    Ok(text.as_str() == "[Item(Some(1)), Old(3), Outside(8), Item(Some(9))]")
+}
+
+#[test]
+fn an_item_that_is_replaced_is_taken(rt: HostRuntime) -> Result<(), Fail> {
+    let alloc = rt.alloc();
+    let (mut replies, mut boxed) = (Vec::new(alloc), Vec::new(alloc));
+    let mut numbers = GenericArray::<u32, U3>::from_array([1, 2, 3]).into_iter();
+    taken_and_replaced(alloc, &mut numbers, &mut replies)?;
+    assert!(rt; are_replaced(alloc, replies.as_slice())?);
+    let mut numbers = BoxedArray::<u32, U3>::from_array(alloc, [1, 2, 3])?.into_iter();
+    taken_and_replaced(alloc, &mut numbers, &mut boxed)?;
+    assert!(rt; are_replaced(alloc, boxed.as_slice())?);
+    let steps: [Step<u8>; 3] = [Step::NthBack(1), Step::Look, Step::Set(0, 9)];
+    let text = format!(in alloc; "{steps:?}")?;
+    assert!(rt; text.as_str() == "[NthBack(1), Look, Set(0, 9)]");
+    Ok(())
 }

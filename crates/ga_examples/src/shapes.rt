@@ -1,13 +1,13 @@
 //! Callers of the shapes, with the items that they get.
 ghost use Rattle.generic_array.specs.Views.{items_of_view};
-ghost use Rattle.std.specs.List.{flat_map, fold};
-ghost use Rattle.std.specs.Prelude.{◌≡◌, ◌+◌, ◌%◌, ◌^◌, ◌∷◌, [], IfOk};
+ghost use Rattle.std.specs.List.{flat_map};
+ghost use Rattle.std.specs.Prelude.{◌≡◌, ◌∷◌, [], IfOk};
 
 use generic_array::sequence::{
     Concat, Flatten, Lengthen, Remove, Shorten, Split, Unflatten, iter_flat,
 };
 use generic_array::{
-    GenericArray, GenericArrayMut, GenericArrayRef, LengthError, U1, U2, U3, U4, U5, arr,
+    GenericArray, GenericArrayMut, GenericArrayRef, LengthError, U1, U2, U3, U4, U5,
 };
 
 /// Two rows of two.
@@ -40,39 +40,6 @@ fn without_the_first(array: GenericArray<u32, U3>) -> (u32, GenericArray<u32, U2
     ensures { result ≡ (1, 2 ∷ 3 ∷ []) }
 {
     array.pop_front()
-}
-
-fn of_both(left: GenericArray<u32, U3>, right: GenericArray<u32, U2>) -> GenericArray<u32, U5>
-    requires left { left ≡ 1 ∷ 2 ∷ 3 ∷ [] }
-    requires right { right ≡ 4 ∷ 5 ∷ [] }
-    ensures { result ≡ 1 ∷ 2 ∷ 3 ∷ 4 ∷ 5 ∷ [] }
-{
-    left.concat(right)
-}
-
-fn running_totals_of_both(
-    left: GenericArray<u32, U2>,
-    right: GenericArray<u32, U2>,
-) -> GenericArray<u32, U4>
-    requires left { left ≡ 1 ∷ 2 ∷ [] }
-    requires right { right ≡ 3 ∷ 4 ∷ [] }
-    ensures { result ≡ 1 ∷ 3 ∷ 6 ∷ 10 ∷ [] }
-{
-    let mut total: u32 = 0;
-    let both: GenericArray<u32, U4> = left.concat(right);
-    both.map_inline(|item: u32| {
-        total = total.wrapping_add(item);
-        total
-    })
-}
-
-fn cut_after_the_first(
-    array: GenericArray<u32, U3>,
-) -> (GenericArray<u32, U1>, GenericArray<u32, U2>)
-    requires { array ≡ 1 ∷ 2 ∷ 3 ∷ [] }
-    ensures { result ≡ (1 ∷ [], 2 ∷ 3 ∷ []) }
-{
-    array.split()
 }
 
 fn view_cut_after_the_first<'a>(
@@ -128,17 +95,6 @@ fn both_halves_written(slice: &mut [u32])
     second.as_mut_slice()[2] = 8;
 }
 
-fn both_halves_of_an_array_written(array: &mut GenericArray<u32, U5>)
-    requires { array.old ≡ 1 ∷ 2 ∷ 3 ∷ 4 ∷ 5 ∷ [] }
-    ensures { array.new ≡ 9 ∷ 2 ∷ 3 ∷ 4 ∷ 8 ∷ [] }
-{
-    let (first, second) = array.as_mut_slice().split_at_mut(2);
-    let mut first: GenericArrayMut<u32, U2> = GenericArrayMut::from_mut_slice(first);
-    let mut second: GenericArrayMut<u32, U3> = GenericArrayMut::from_mut_slice(second);
-    first.as_mut_slice()[0] = 9;
-    second.as_mut_slice()[2] = 8;
-}
-
 fn without_the_second(array: GenericArray<u32, U4>) -> (u32, GenericArray<u32, U3>)
     requires { array ≡ 1 ∷ 2 ∷ 3 ∷ 4 ∷ [] }
     ensures { result ≡ (2, 1 ∷ 3 ∷ 4 ∷ []) }
@@ -153,32 +109,8 @@ fn with_the_last_second(array: GenericArray<u32, U4>) -> (u32, GenericArray<u32,
     array.swap_remove_unchecked(1)
 }
 
-fn as_rows(array: GenericArray<u32, U4>) -> Square
-    requires { array ≡ 1 ∷ 2 ∷ 3 ∷ 4 ∷ [] }
-    ensures { result ≡ (1 ∷ 2 ∷ []) ∷ (3 ∷ 4 ∷ []) ∷ [] }
-{
-    array.unflatten()
-}
-
 fn copy_of_rows(rows: &Square) -> Result<GenericArray<u32, U4>, LengthError>
     ensures ok { IfOk result (λ all. all ≡ flat_map (λ row. row) rows.now) }
 {
     GenericArray::try_from_iter(iter_flat(rows.view()).copied())
-}
-
-fn sum_of_rows(rows: &Square) -> u32
-    ensures { result ≡ fold (λ sum item. (sum + item) % 2 ^ 32) 0 (flat_map (λ row. row) rows.now) }
-{
-    let mut sum: u32 = 0;
-    for item in iter_flat(rows.view()) {
-        sum = sum.wrapping_add(*item);
-    }
-    sum
-}
-
-#[test]
-fn rows_give_their_items_and_those_of_their_copies(rt: HostRuntime) {
-    let rows = as_rows(with_four_last(arr![1, 2, 3]));
-    assert!(rt; copy_of_rows(&rows).is_ok_and(|all| all.as_slice() == [1, 2, 3, 4].as_slice()));
-    assert!(rt; sum_of_rows(&rows) == 10);
 }

@@ -13,8 +13,7 @@
 //! - every run of two-ended iterator calls gives what a list cut from both ends gives: `steps`;
 //! - and one call that maps and walks, or builds before, means these one after the other: `whole`.
 //!
-//! Each function's contract is a part of this. `ga_headline_examples` calls each, with exact
-//! results.
+//! Each function's contract is a part of this. `ga_examples` calls each, with exact results.
 #![tactic(auto)]
 
 /// A build succeeds exactly where N items come.

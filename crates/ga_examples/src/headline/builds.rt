@@ -10,26 +10,6 @@ use generic_array::{
 use std::alloc::Global;
 use std::test::Fail;
 
-fn inline_of<N: ArrayLength<u32> + InlineLength>(
-    items: Vec<u32>,
-) -> Result<GenericArray<u32, N>, FillError<Never, Never>>
-    requires len { N.USIZE ≡ 3 }
-    requires items { items.items ≡ 1 ∷ 2 ∷ 3 ∷ [] }
-    ensures { result ≡ Ok (1 ∷ 2 ∷ 3 ∷ []) }
-{
-    build_of_items((), items)
-}
-
-fn boxed_of(
-    alloc: Global,
-    items: Vec<u32>,
-) -> Result<BoxedArray<u32, U3>, FillError<Never, AllocError>>
-    requires { items.items ≡ 1 ∷ 2 ∷ 3 ∷ [] }
-    ensures { IfOk result (λ array. array ≡ 1 ∷ 2 ∷ 3 ∷ []) }
-{
-    build_of_items(alloc, items)
-}
-
 // The block of all items, of any number. As many are asked for, so nothing but memory can be
 // lacking.
 fn boxed_of_all<N: Unsigned>(
@@ -120,8 +100,6 @@ fn filled_boxed(
 #[test]
 fn builds_want_just_their_number(rt: HostRuntime) -> Result<(), Fail> {
     let alloc = rt.alloc();
-    assert!(rt; gives(inline_of::<U3>(vec![in alloc; 1, 2, 3]?), &[1, 2, 3]));
-    assert!(rt; gives(boxed_of(alloc, vec![in alloc; 1, 2, 3]?), &[1, 2, 3]));
     assert!(rt; gives(boxed_of_all::<U2>(alloc, vec![in alloc; 4, 5]?), &[4, 5]));
     Ok(())
 }

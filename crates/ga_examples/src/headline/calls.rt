@@ -1,13 +1,12 @@
-//! Calls at all items: running totals at each kind, sums of two kinds, and what stops at an item.
+//! Calls at all items: running totals, sums of two kinds, and what stops at an item.
 ghost use Rattle.generic_array.specs.Views.{items_of_view};
 ghost use Rattle.std.specs.Prelude.{◌≡◌, ◌+◌, ◌%◌, ◌^◌, [], ◌∷◌, Err, IfOk, Ok, if◌then◌else◌, nat_eq, nat_lt};
 
-use crate::arrays::boxed_one_two_three;
 use ga_headline::calls::{fold, map, try_fold, try_map, zip};
 use ga_test_items::answers::{gives, has};
 use generic_array::{
     AllocError, ArrayLength, BoxedArray, GenericArray, GenericArrayRef, InlineLength, U3, always,
-    arr,
+    arr, box_arr,
 };
 use std::alloc::Global;
 use std::test::Fail;
@@ -27,41 +26,6 @@ fn totals_of_inline<N: ArrayLength<u32> + InlineLength>(
             total
         },
     ))
-}
-
-fn totals_of_view<N: ArrayLength<u32> + InlineLength>(
-    view: GenericArrayRef<'_, u32, N>,
-) -> GenericArray<u32, N>
-    requires { items_of_view view ≡ 1 ∷ 2 ∷ 3 ∷ [] }
-    ensures { result ≡ 1 ∷ 3 ∷ 6 ∷ [] }
-{
-    let mut total = 0u32;
-    always(map(
-        view,
-        (),
-        &mut |item: &u32| {
-            total = total.wrapping_add(*item);
-            total
-        },
-    ))
-}
-
-fn totals_of_boxed(
-    alloc: Global,
-    array: BoxedArray<u32, U3>,
-) -> Result<BoxedArray<u32, U3>, AllocError>
-    requires { array ≡ 1 ∷ 2 ∷ 3 ∷ [] }
-    ensures { IfOk result (λ totals. totals ≡ 1 ∷ 3 ∷ 6 ∷ []) }
-{
-    let mut total = 0u32;
-    map(
-        array,
-        alloc,
-        &mut |item: u32| {
-            total = total.wrapping_add(item);
-            total
-        },
-    )
 }
 
 fn sums_of_boxed_and_view<N: ArrayLength<u32>>(
@@ -126,32 +90,15 @@ fn stopped_past_three_in_view(view: GenericArrayRef<'_, u32, U3>) -> Result<u32,
 }
 
 #[test]
-fn calls_run_in_order(rt: HostRuntime) -> Result<(), Fail> {
+fn calls_run_in_order_up_to_an_error(rt: HostRuntime) -> Result<(), Fail> {
+    let alloc = rt.alloc();
     let array = arr![1u32, 2, 3];
-    assert!(rt; has(totals_of_view(array.view()), &[1, 3, 6]) && sum_of_reference(&array) == 6);
-    assert!(rt; has(totals_of_inline(array), &[1, 3, 6]));
-    let boxed = boxed_one_two_three(rt.alloc())?;
-    assert!(rt; gives(totals_of_boxed(rt.alloc(), boxed), &[1, 3, 6]));
-    Ok(())
-}
-
-#[test]
-fn two_sides_are_called_in_order(rt: HostRuntime) -> Result<(), Fail> {
-    let boxed = boxed_one_two_three(rt.alloc())?;
-    assert!(rt;
-        gives(
-            sums_of_boxed_and_view(rt.alloc(), boxed, arr![4u32, 5, 6].view()),
-            &[5, 7, 9]
-        )
-    );
-    Ok(())
-}
-
-#[test]
-fn calls_run_up_to_an_error(rt: HostRuntime) -> Result<(), Fail> {
-    let boxed = boxed_one_two_three(rt.alloc())?;
-    assert!(rt; matches!(stopped_in_boxed(rt.alloc(), boxed), Ok(Err(2))));
-    let array = arr![1u32, 3, 9];
-    assert!(rt; stopped_past_three_in_view(array.view()) == Err(4));
+    assert!(rt; sum_of_reference(&array) == 6 && has(totals_of_inline(array), &[1, 3, 6]));
+    let boxed: BoxedArray<u32, U3> = box_arr!(alloc, [1, 2, 3])?;
+    let sums = sums_of_boxed_and_view(alloc, boxed, arr![4u32, 5, 6].view());
+    assert!(rt; gives(sums, &[5, 7, 9]));
+    let boxed: BoxedArray<u32, U3> = box_arr!(alloc, [1, 2, 3])?;
+    assert!(rt; matches!(stopped_in_boxed(alloc, boxed), Ok(Err(2))));
+    assert!(rt; stopped_past_three_in_view(arr![1u32, 3, 9].view()) == Err(4));
     Ok(())
 }

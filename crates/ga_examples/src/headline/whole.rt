@@ -5,7 +5,8 @@ ghost use Rattle.generic_array.specs.declared.steps.step.Reply.TheVariants.{Item
 ghost use Rattle.generic_array.specs.declared.steps.step.Step.TheVariants.{Look, Next, NextBack, Set};
 ghost use Rattle.std.specs.Prelude.{◌≡◌, ◌/◌, ◌%◌, [], ◌∷◌, ◌++◌, Err, IfErr, IfOk, IsErr, ⊤, Ok, OnOk, Some, if◌then◌else◌, nat_eq};
 
-use crate::steps::{are_right, count_of, steps};
+use super::steps::steps;
+use crate::runs_of_steps::count_of;
 use ga_headline::whole::{Stopped, build_map_walk, map_walk};
 use generic_array::steps::{Reply, Step};
 use generic_array::{
@@ -43,7 +44,7 @@ fn walked_over_view<N: ArrayLength<u32> + InlineLength>(
         (),
         &mut |item: &u32| halved(*item),
         steps,
-        &mut count_of,
+        &mut count_of::<u32>,
         replies,
     )
 }
@@ -66,30 +67,7 @@ fn whole_inline<N: ArrayLength<u32> + InlineLength>(
         (),
         &mut halved,
         steps,
-        &mut count_of,
-        replies,
-    )
-}
-
-fn whole_boxed(
-    alloc: Global,
-    results: Vec<Result<u32, u8>>,
-    steps: Vec<Step<u32>>,
-    replies: &mut Vec<Reply<u32, usize>>,
-) -> Result<BoxedArrayIter<u32>, Stopped<FillError<u8, AllocError>, u32, AllocError>>
-    requires results { results.items ≡ Ok 2 ∷ Ok 4 ∷ Ok 6 ∷ [] }
-    requires steps { steps.items ≡ Next ∷ Look ∷ Set 1 9 ∷ NextBack ∷ [] }
-    ensures replies { OnOk result (replies.new.items
-        ≡ replies.old.items ++ Item (Some 1) ∷ Seen 2 ∷ Old 3 ∷ Item (Some 9) ∷ []) }
-    ensures left { IfOk result (λ left. left ≡ 2 ∷ []) }
-{
-    build_map_walk::<u32, u8, u32, u32, usize, BoxedArray<u32, U3>, _, _, _>(
-        alloc,
-        &mut results.into_iter(),
-        alloc,
-        &mut halved,
-        steps,
-        &mut count_of,
+        &mut count_of::<u32>,
         replies,
     )
 }
@@ -113,7 +91,7 @@ fn whole_stopped(
         alloc,
         &mut halved,
         steps,
-        &mut count_of,
+        &mut count_of::<u32>,
         replies,
     )
 }
@@ -122,43 +100,20 @@ fn whole_stopped(
 fn a_view_is_mapped_and_walked_over(rt: HostRuntime) -> Result<(), Fail> {
     let mut replies = Vec::new(rt.alloc());
     let view = GenericArrayRef::<u32, U3>::from_slice(&[2, 4, 6]);
-    match walked_over_view(view, steps(rt.alloc())?, &mut replies) {
-        Ok(left) => assert!(rt; left.as_slice() == [2].as_slice()),
-        Err(_) => assert!(rt; false),
-    }
-    assert!(rt; are_right(rt.alloc(), replies.as_slice())?);
+    let left = walked_over_view(view, steps(rt.alloc())?, &mut replies);
+    assert!(rt; left.is_ok_and(|left| left.as_slice() == [2].as_slice()) && replies.len() == 4);
     Ok(())
 }
 
 #[test]
-fn the_whole_of_an_array(rt: HostRuntime) -> Result<(), Fail> {
-    let mut replies = Vec::new(rt.alloc());
-    let results = vec![in rt.alloc(); Ok(2), Ok(4), Ok(6)]?;
-    match whole_inline::<U3>(results, steps(rt.alloc())?, &mut replies) {
-        Ok(left) => assert!(rt; left.as_slice() == [2].as_slice()),
-        Err(_) => assert!(rt; false),
-    }
-    assert!(rt; are_right(rt.alloc(), replies.as_slice())?);
-    Ok(())
-}
-
-#[test]
-fn the_whole_of_a_boxed_array(rt: HostRuntime) -> Result<(), Fail> {
-    let mut replies = Vec::new(rt.alloc());
-    let results = vec![in rt.alloc(); Ok(2), Ok(4), Ok(6)]?;
-    match whole_boxed(rt.alloc(), results, steps(rt.alloc())?, &mut replies) {
-        Ok(left) => assert!(rt; left.as_slice() == [2].as_slice()),
-        Err(_) => assert!(rt; false),
-    }
-    assert!(rt; are_right(rt.alloc(), replies.as_slice())?);
-    Ok(())
-}
-
-#[test]
-fn the_whole_stops_at_an_error(rt: HostRuntime) -> Result<(), Fail> {
-    let mut replies = Vec::new(rt.alloc());
-    let results = vec![in rt.alloc(); Ok(2), Ok(5), Ok(7)]?;
-    let stopped = whole_stopped(rt.alloc(), results, steps(rt.alloc())?, &mut replies);
-    assert!(rt; matches!(stopped, Err(Stopped::Call(5))) && replies.len() == 0);
+fn the_whole_runs_to_its_end_or_an_error(rt: HostRuntime) -> Result<(), Fail> {
+    let alloc = rt.alloc();
+    let (mut replies, mut none) = (Vec::new(alloc), Vec::new(alloc));
+    let results = vec![in alloc; Ok(2), Ok(4), Ok(6)]?;
+    let left = whole_inline::<U3>(results, steps(alloc)?, &mut replies);
+    assert!(rt; left.is_ok_and(|left| left.as_slice() == [2].as_slice()) && replies.len() == 4);
+    let results = vec![in alloc; Ok(2), Ok(5), Ok(7)]?;
+    let stopped = whole_stopped(alloc, results, steps(alloc)?, &mut none);
+    assert!(rt; matches!(stopped, Err(Stopped::Call(5))) && none.len() == 0);
     Ok(())
 }

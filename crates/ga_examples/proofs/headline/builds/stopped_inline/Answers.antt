@@ -1,5 +1,5 @@
-use Rattle.ga_headline_examples.proofs.BehindErrorLemmas.{left_after_error}
-use Rattle.ga_headline_examples.proofs.builds.stopped_inline.Goals as goal
+use Rattle.ga_examples.proofs.BehindErrorLemmas.{left_after_error}
+use Rattle.ga_examples.proofs.headline.builds.stopped_inline.Goals as goal
 use Rattle.std.proofs.Common.{rules}
 
 pub returns-clause-next : goal.returns-clause-next

@@ -1,6 +1,6 @@
 use Rattle.generic_array.proofs.AccountLemmas.{Account-counts}
 use Rattle.generic_array.proofs.StepLemmas.{MaySteps-always}
-use Rattle.ga_headline_examples.proofs.runs_of_steps.any_steps.counted.Goals as goal
+use Rattle.ga_examples.proofs.runs_of_steps.any_steps.counted.Goals as goal
 use Rattle.generic_array.specs.Account.{Account}
 use Rattle.std.proofs.Common.{◌≡◌, rules, subst}
 

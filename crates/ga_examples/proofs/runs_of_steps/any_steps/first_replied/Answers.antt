@@ -1,5 +1,5 @@
 use Rattle.generic_array.proofs.StepLemmas.{MaySteps-always}
-use Rattle.ga_headline_examples.proofs.runs_of_steps.any_steps.first_replied.Goals as goal
+use Rattle.ga_examples.proofs.runs_of_steps.any_steps.first_replied.Goals as goal
 use Rattle.generic_array.specs.Account.{front_count}
 use Rattle.generic_array.specs.declared.steps.step.Step.TheVariants.{Next}
 use Rattle.std.proofs.Common.{◌≡◌, ◌+◌, ◌-◌, ◌∙◌, ap, arith, rules, slice_get, sym, take}
