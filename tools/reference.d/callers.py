@@ -11,7 +11,7 @@ from samples import is_test
 
 EXAMPLES = "_examples"
 # What stands in front of a call's name: the dot of a method, or the end of a path.
-BEFORE = re.compile(r"(?P<dot>\.)\s*$|(?P<path>\w+)(?:::<[^()]*>|<[^()]*>)?::$")
+BEFORE = re.compile(r"(?P<dot>\.)\s*$|(?P<path>\w+)(?:::<[^()=]*>|<[^()=]*>)?::$")
 # What a method is called on: a name, or what another call made.
 NAMED = re.compile(r"(?<![.\w])(?P<name>\w+)\s*$")
 MADE = re.compile(r"(?P<name>\w+)(?:::<[^()]*>)?\((?:[^()]|\([^()]*\))*\)\??\s*$")
@@ -56,6 +56,7 @@ class Callers:
         left = [base_name(bound) for bound in function.bounds.get(type_name, [])]
         for item in self.site.by_name.get(type_name, []):
             names |= {impl.of_trait for impl in item.blocks if impl.of_trait}
+            left += [base_name(item.head.partition("=")[2])] if item.kind == "type" else []
         while left:
             name = left.pop()
             traits = [] if name in names else self.site.by_name.get(name, [])

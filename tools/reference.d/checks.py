@@ -10,12 +10,13 @@ from edits import unfit
 from imports import unused
 from lookup import Names
 from promise import unkept
+from uncalled import uncalled
 
 
 def check(site):
     """Prints what is wrong, and tells whether nothing is."""
     names = Names(site)
-    tried = [found for part in (unwritten, unused, unnamed, uncounted, unfit)
+    tried = [found for part in (unwritten, unused, unnamed, uncounted, unfit, uncalled)
              for found in part(site)]
     tried += [found for part in (misled, unkept, unplayed, dangling) for found in part(names)]
     failures = [found for found in tried if found]
