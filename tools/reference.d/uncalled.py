@@ -1,8 +1,7 @@
-"""Checks that each public call of the libraries has a caller above them, in the examples or in a
-crate that users take.
+"""Checks that each public call of the libraries has a caller in the examples or a crate above.
 
-It reads no types: a method of what nothing tells counts by its name. Impls of traits aren't asked
-for, since a caller of the trait may be of another kind, and signs call those of std.
+It reads no types: a method counts by its name where nothing tells what it is of. Impls of traits
+aren't asked for: the trait's own call is, and signs call those of std.
 """
 import fnmatch
 import pathlib

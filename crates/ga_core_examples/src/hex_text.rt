@@ -58,17 +58,9 @@ fn labelled_digits<N: ArrayLength<u8>, A: Allocator>(
     format!(in alloc; "0x{digits}")
 }
 
-/// Whether there is this text.
-fn reads<A: Allocator + Drop>(text: Result<String<A>, AllocError>, wanted: &str) -> bool {
-    match text {
-        Ok(text) => text.as_str() == wanted,
-        Err(_refused) => false,
-    }
-}
-
 #[test]
 fn bytes_are_printed_as_digits(rt: HostRuntime) {
     let row: GenericArray<u8, U3> = GenericArray::from([10, 20, 30]);
-    assert!(rt; reads(three_digits(rt.alloc(), &row), "0a1"));
-    assert!(rt; reads(labelled_digits(rt.alloc(), &row), "0x0A141E"));
+    assert!(rt; three_digits(rt.alloc(), &row).is_ok_and(|text| text.as_str() == "0a1"));
+    assert!(rt; labelled_digits(rt.alloc(), &row).is_ok_and(|text| text.as_str() == "0x0A141E"));
 }

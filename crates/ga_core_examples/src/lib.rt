@@ -1,8 +1,7 @@
 //! Examples of inline arrays, views and rows, each proved: what the contracts of `ga_core` give to
 //! those who use it alone.
 //!
-//! All but `records`, which `specs/` cites, and `digits`, which the examples over all kinds read by,
-//! stands under `#[cfg(test)]`.
+//! `specs/` cites `records`, and the examples over all kinds read by `digits`.
 #![tactic(auto)]
 
 #[cfg(test)]

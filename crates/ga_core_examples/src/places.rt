@@ -77,21 +77,15 @@ fn what_is_written_is_what_is_read(rt: HostRuntime) {
     assert!(rt; packet.checksum.as_slice() == [4, 6].as_slice());
 }
 
-/// What a slice of 4, 5 is after `from_mut_slice`, after a `try_from_mut_slice` that fails,
-/// and after one that isn't.
-fn slice_after_views() -> [[u8; 2]; 3] {
+/// What a slice of 4, 5 is after a write through each view of it.
+fn slice_after_views() -> [u8; 2] {
     let mut items = [4u8, 5];
     let mut view: GenericArrayMut<u8, U2> = GenericArray::<u8, U2>::from_mut_slice(&mut items);
     view.as_mut_slice()[1] = 6;
-    let written = items;
-    if let Ok(mut view) = GenericArray::<u8, U3>::try_from_mut_slice(&mut items) {
-        view.as_mut_slice()[0] = 8;
-    }
-    let refused = items;
     if let Ok(mut view) = GenericArray::<u8, U2>::try_from_mut_slice(&mut items) {
         view.as_mut_slice()[0] = 7;
     }
-    [written, refused, items]
+    items
 }
 
 fn views_of_slices() -> [bool; 3] {
@@ -104,6 +98,6 @@ fn views_of_slices() -> [bool; 3] {
 
 #[test]
 fn views_of_slices_show_and_write_their_items(rt: HostRuntime) {
-    assert!(rt; slice_after_views() == [[4, 6], [4, 6], [7, 6]]);
+    assert!(rt; slice_after_views() == [7, 6]);
     assert!(rt; views_of_slices() == [true; 3]);
 }
