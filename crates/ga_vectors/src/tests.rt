@@ -20,4 +20,5 @@ mod places;
 mod readme;
 mod record_block;
 mod shapes;
+mod steps;
 mod stores;

@@ -1,4 +1,5 @@
 //! Boxed builds at concrete types: what they make, how often they call, and what they take.
+use crate::tests::compared::End;
 use ga_test_items::answers::gives;
 use generic_array::{AllocError, BoxedArray, FillError, U2, U3, Unsigned};
 use std::alloc::Global;
@@ -34,15 +35,6 @@ fn built_up_to_one<N: Unsigned>(alloc: Global) -> Result<(Option<usize>, u32), A
 fn a_build_of_a_block_stops_at_an_error(rt: HostRuntime) -> Result<(), Fail> {
     assert!(rt; built_up_to_one::<U3>(rt.alloc())? == (Some(1), 2));
     Ok(())
-}
-
-/// How a fill of a block ends.
-#[derive(Clone, Copy, PartialEq, Eq)]
-enum End {
-    Made,
-    Item(&'static str),
-    WrongLength,
-    NoMemory,
 }
 
 /// How a fill of N items from these results ends, and what its iterator gives next.

@@ -3,7 +3,7 @@ ghost use Rattle.std.specs.Prelude.{◌≡◌, ◌+◌, ◌≤◌, [], length};
 
 use crate::tests::items::Held;
 use ga_test_items::scripted::digits;
-use generic_array::{ArrayBuilder, ArrayLength, U3, U4};
+use generic_array::{ArrayBuilder, ArrayLength, U0, U3, U4};
 use std::rc::Rc;
 
 /// The position of a builder after two bytes.
@@ -44,6 +44,15 @@ fn builders_go_on_at_their_position(rt: HostRuntime) {
     assert!(rt; after_two_bytes() == 2);
     assert!(rt; extended() == [1234, 5]);
     assert!(rt; extended_up_to_an_error() == [7, 1, 2]);
+}
+
+#[test]
+fn a_builder_of_none_is_full_and_takes_nothing(rt: HostRuntime) {
+    let mut builder: ArrayBuilder<u32, U0> = ArrayBuilder::new();
+    let mut items = [7u32].into_iter();
+    let is_full = builder.is_full();
+    builder.extend(&mut items);
+    assert!(rt; is_full && items.next() == Some(7));
 }
 
 // Edits as of a vector.

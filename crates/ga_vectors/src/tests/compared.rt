@@ -11,6 +11,15 @@ pub fn holds<T: PartialEq + Drop, N: ArrayLength<T>>(
     array.as_slice() == items
 }
 
+/// How a fill from results ends.
+#[derive(Clone, Copy, PartialEq, Eq)]
+pub enum End {
+    Made,
+    Item(&'static str),
+    WrongLength,
+    NoMemory,
+}
+
 /// Whether this is the text of `{:#?}`.
 pub fn prints_alternately<T: fmt::Debug>(value: &T, text: &str, alloc: Global) -> bool {
     match format!(in alloc; "{value:#?}") {

@@ -2,7 +2,7 @@
 use crate::tests::compared::holds;
 use ga_test_items::answers::gives;
 use generic_array::{
-    AllocError, BoxedArray, Const, GenericArray, U0, U1, U2, U3, U12, arr, box_arr,
+    AllocError, BoxedArray, Const, GenericArray, U0, U1, U2, U3, U4, U12, arr, box_arr,
 };
 use std::alloc::Global;
 use std::test::Fail;
@@ -42,6 +42,21 @@ fn vector_is_too_long(alloc: Global) -> Result<bool, AllocError> {
     Ok(is_whole && BoxedArray::<u8, U2>::try_from_vec(alloc, items)?.is_err())
 }
 
+/// Whether a boxed array goes to a vector and back.
+fn vector_and_back(alloc: Global) -> Result<bool, AllocError> {
+    let items = box_arr!(alloc, [1u8, 2, 3])?.into_vec()?;
+    let again = BoxedArray::<u8, U3>::try_from_vec(alloc, items)?;
+    Ok(gives(again, &[1, 2, 3]))
+}
+
+/// Whether three items are neither an inline nor a boxed array of four.
+fn three_are_no_four(alloc: Global) -> Result<bool, AllocError> {
+    let items = vec![in alloc; 1u8, 2, 3]?;
+    let is_inline = GenericArray::<u8, U4>::try_from_vec(items).is_ok();
+    let items = vec![in alloc; 1u8, 2, 3]?;
+    Ok(!is_inline && BoxedArray::<u8, U4>::try_from_vec(alloc, items)?.is_err())
+}
+
 /// Whether an inline array goes to a vector of just its number, and to a boxed slice.
 fn inline_to_vectors(alloc: Global) -> Result<bool, AllocError> {
     let vector = arr![1u8, 2].into_vec(alloc)?;
@@ -60,6 +75,8 @@ fn boxed_slice_and_back(alloc: Global) -> Result<bool, AllocError> {
 #[test]
 fn items_go_through_blocks_and_back(rt: HostRuntime) -> Result<(), Fail> {
     assert!(rt; vector_is_too_long(rt.alloc())?);
+    assert!(rt; vector_and_back(rt.alloc())?);
+    assert!(rt; three_are_no_four(rt.alloc())?);
     assert!(rt; inline_to_vectors(rt.alloc())?);
     assert!(rt; boxed_slice_and_back(rt.alloc())?);
     Ok(())

@@ -1,8 +1,9 @@
 //! Inline builds at concrete types: how often they call and take.
 ghost use Rattle.generic_array.specs.Length.{FitsInline};
 
-use crate::tests::compared::holds;
-use generic_array::{ArrayLength, GenericArray, U0, U2, U4, U5};
+use crate::tests::compared::{End, holds};
+use ga_test_items::answers::gives;
+use generic_array::{ArrayLength, GenericArray, LengthError, U0, U2, U3, U4, U5};
 
 /// The array of doubled places, and how often the closure was called.
 fn doubled<N: ArrayLength<usize>>() -> (GenericArray<usize, N>, u32)
@@ -58,18 +59,38 @@ fn a_fill_takes_one_item_more_than_fits(rt: HostRuntime) {
     assert!(rt; filled::<U0>(&[9, 8]) == (false, Some(8)));
 }
 
-/// Whether these results are refused as a wrong number of items, and which comes next.
-fn refused<N: ArrayLength<u32>>(
+/// How a fill of N items from these results ends, and which result comes next.
+fn fallibly_filled<N: ArrayLength<u32>>(
     results: &[Result<u32, &'static str>],
-) -> (bool, Option<Result<u32, &'static str>>)
+) -> (End, Option<Result<u32, &'static str>>)
     requires { FitsInline N.USIZE }
 {
     let mut left = results.iter().copied();
-    let is_refused = GenericArray::<u32, N>::try_from_fallible_iter_ref(&mut left).is_err();
-    (is_refused, left.next())
+    let end = match GenericArray::<u32, N>::try_from_fallible_iter_ref(&mut left) {
+        Ok(Ok(_made)) => End::Made,
+        Ok(Err(error)) => End::Item(error),
+        Err(LengthError) => End::WrongLength,
+    };
+    (end, left.next())
+}
+
+#[test]
+fn a_fallible_fill_stops_at_the_first_error(rt: HostRuntime) {
+    let end = fallibly_filled::<U3>(&[Ok(1), Err("x"), Ok(3)]);
+    assert!(rt; end == (End::Item("x"), Some(Ok(3))));
 }
 
 #[test]
 fn an_error_behind_the_last_item_is_one_item_too_many(rt: HostRuntime) {
-    assert!(rt; refused::<U2>(&[Ok(1), Ok(2), Err("x")]) == (true, None));
+    let end = fallibly_filled::<U2>(&[Ok(1), Ok(2), Err("x")]);
+    assert!(rt; end == (End::WrongLength, None));
+    assert!(rt; fallibly_filled::<U0>(&[Err("x")]) == (End::WrongLength, None));
+}
+
+#[test]
+fn a_build_that_may_fail_gives_the_items_where_none_does(rt: HostRuntime) {
+    let numbers = GenericArray::<usize, U3>::try_generate(|index: usize| -> Result<usize, u8> {
+        Ok(index)
+    });
+    assert!(rt; gives(numbers, &[0, 1, 2]));
 }
