@@ -92,8 +92,8 @@ enum Fold {
     FoldBy,
     Rfold,
     RfoldBy,
-    Left,
-    RfoldLeft,
+    Remaining,
+    RfoldRemaining,
 }
 
 fn by_fold<'a, T: Item + Given<'a>, N: ArrayLength<T>>(counts: &'a Counts, fold: Fold) -> bool
