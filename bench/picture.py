@@ -119,7 +119,20 @@ def plain(text):
     text = re.sub(r"\d+\.\d{3,}", lambda number: f"{round(float(number[0]), 2):g}", text)
     text = re.sub(r" \n(?=[A-Zz])", " ", text).replace(' \n"', '"').replace('\n"', '"')
     text = re.sub(r' transform="rotate\(-0 .*?\)"', "", text)
-    return text.replace(FONT, f"{FONT}, Verdana, sans-serif")
+    return ungrouped(text.replace(FONT, f"{FONT}, Verdana, sans-serif"))
+
+
+def ungrouped(text):
+    """The picture without the groups that have only a name, by which nothing is called."""
+    kept, is_kept = [], []
+    for line in text.splitlines():
+        line = line.strip()
+        is_bare = re.fullmatch(r'<g id="[^"]*"/?>', line)
+        if line.startswith("<g ") and not line.endswith("/>"):
+            is_kept.append(not is_bare)
+        if not is_bare and (line != "</g>" or is_kept.pop()):
+            kept.append(f"{line}\n")
+    return "".join(kept)
 
 
 def draw(groups, picture):
