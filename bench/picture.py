@@ -102,7 +102,7 @@ def draw_panel(axes, groups, rows, side):
         for is_many, color in ((False, BLUE), (True, ORANGE)):
             dots = [it for it in places[side] if (it[0] > MANY) == is_many]
             across, down = [it[0] for it in dots], [middle + it[1] for it in dots]
-            axes.scatter(across, down, s=DOT**2, c=color, linewidths=0, zorder=3)
+            axes.scatter(across, down, s=DOT**2, c=color, linewidths=0, zorder=3, clip_on=False)
         worst = max(cases, key=lambda it: it.ratios[side])
         said = f"{worst.name}: {worst.ratios[side]:.2f}"
         color = ORANGE if worst.ratios[side] > MANY else SOFT
@@ -127,8 +127,8 @@ def ungrouped(text):
     kept, is_kept = [], []
     for line in text.splitlines():
         line = line.strip()
-        is_bare = re.fullmatch(r'<g id="[^"]*"/?>', line)
-        if line.startswith("<g ") and not line.endswith("/>"):
+        is_bare = re.fullmatch(r'<g( id="[^"]*")?/?>', line)
+        if line.startswith(("<g ", "<g>")) and not line.endswith("/>"):
             is_kept.append(not is_bare)
         if not is_bare and (line != "</g>" or is_kept.pop()):
             kept.append(f"{line}\n")
@@ -157,7 +157,7 @@ def draw(groups, picture):
             figure.text(1 / WIDTH, y, f"{name} ({len(cases)})", va="center")
         figure.text(LEFT / WIDTH, 3 / tall, LEGEND, color=SOFT)
         drawn = io.StringIO()
-        figure.savefig(drawn, metadata={"Date": None, "Creator": None})
+        figure.savefig(drawn, metadata=dict.fromkeys(("Date", "Creator", "Format", "Type")))
     pathlib.Path(picture).write_text(plain(drawn.getvalue()), "utf-8")
 
 

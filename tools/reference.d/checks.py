@@ -2,7 +2,6 @@
 
 Each check gives what it tried, one after the other: what is wrong, or nothing.
 """
-from ample_memory import unplayed
 from checks_of_documents import dangling, unwritten
 from checks_of_names import misled, unnamed
 from drops import uncounted
@@ -18,7 +17,7 @@ def check(site):
     names = Names(site)
     tried = [found for part in (unwritten, unused, unnamed, uncounted, unfit, uncalled)
              for found in part(site)]
-    tried += [found for part in (misled, unkept, unplayed, dangling) for found in part(names)]
+    tried += [found for part in (misled, unkept, dangling) for found in part(names)]
     failures = [found for found in tried if found]
     passed = len(tried) - len(failures)
     print("".join(f"{failure}\n" for failure in failures), end="")

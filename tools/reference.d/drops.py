@@ -1,7 +1,11 @@
-"""Checks that each call that takes or makes items is played with counted items.
+"""Checks that each call that takes or makes items, or that may ask for memory, is played.
 
-The plays are a table in a crate of tests: the name of each call is a text there. The calls that
-neither take nor make items stand in a list, by patterns.
+The plays are a table in a crate of tests, which plays them with counted items and tells how often
+each asks for memory: no clause says that memory is there, nor how often a call asks for it. The name
+of each call is a text there. The calls that neither take nor make items, nor ask for memory, stand
+in a list, by patterns. Of the crates beside the libraries the table has the calls that take or
+return what has an allocator or tells of refused memory; those of the program `ga_rows` are played by
+`tools/refuse` alone.
 """
 import fnmatch
 import pathlib
@@ -11,9 +15,12 @@ from meanings import LIBRARIES, base_name, header
 
 # The table: each text in these files begins with the name of a call, `Type::call`, `Trait::call`
 # where the trait has the body, `<Type as Trait>::call`, or the name of a function or a macro.
-TABLE = "crates/ga_faults/src/drops"
+TABLE = "crates/ga_calls/src"
 TEXT = re.compile(r'(?m)^ *//.*|"([^"]*)"')
 NAME = re.compile(r"(?:<[^>]+>::)?\w+(?:::\w+)*!?")
+# What has an allocator or tells of refused memory: these, and each type that is declared with one.
+OF_MEMORY = {"AllocError", "AllocFailed", "Global", "Place", "MappedPlace", "Vec", "BoxedSlice"}
+PROGRAM = "ga_rows"
 # The patterns of the calls that have no row, with what each is about.
 LIST = pathlib.Path(__file__).resolve().parent / "without_items.txt"
 
@@ -38,12 +45,32 @@ def call_name(site, item):
     return site.full_name(item)
 
 
+def words(text):
+    return set(re.findall(r"\w+", text))
+
+
+def types_of_memory(site):
+    """The names of the types that have an allocator or tell of refused memory."""
+    kinds = ("struct", "enum", "type")
+    declared = {item.name: words(item.file.read_text("utf-8")[item.begin:item.end])
+                for item in site.items if item.kind in kinds}
+    found, before = set(OF_MEMORY), set()
+    while found != before:
+        before = set(found)
+        found |= {name for name, has in declared.items() if has & found}
+    return found
+
+
 def calls(site):
-    """The public calls of the libraries, each with the item that has it. A law is no call."""
-    found = {}
+    """The public calls that are to be played, each with the item that has it: of the libraries all,
+    of other crates those of memory. A law is no call."""
+    found, of_memory = {}, types_of_memory(site)
     for item in site.shown():
-        if item.kind in ("fn", "macro") and site.path(item.module)[0] in LIBRARIES:
-            name = None if site.is_law(item) else call_name(site, item)
+        crate = site.path(item.module)[0]
+        if item.kind in ("fn", "macro") and crate != PROGRAM:
+            owner = header(item.owner) if item.owner.kind == "impl" else ""
+            is_called = crate in LIBRARIES or words(f"{owner} {item.head}") & of_memory
+            name = None if site.is_law(item) or not is_called else call_name(site, item)
             if name:
                 found.setdefault(name, item)
     return found

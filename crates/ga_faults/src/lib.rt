@@ -1,5 +1,5 @@
-//! Tests of what no contract of `generic_array` says: what is dropped and when, which clones and
-//! calls are asked for, and what is left where memory, a clone, a closure or an iterator fails.
+//! Tests of what no contract says: what is dropped and when, which clones, calls and memory are asked
+//! for, and what is left where memory, a clone, a closure or an iterator fails.
 #![tactic(auto)]
 
 #[cfg(test)]

@@ -1,57 +1,155 @@
-//! Each call that takes or makes items, while memory is refused: it leaves none. And what stays as
-//! it was.
+//! Each call that takes or makes items, or that may ask for memory, while memory is refused: it leaves
+//! no item and makes as many requests as its row says. And what stays as it was.
+//!
+//! Where a call was refused memory, all are played once more. So one that always finds none is seen,
+//! at the gate too.
 ghost use Rattle.generic_array.specs.Length.{FitsInline};
 
 use crate::drops::first_wrong_of;
+use ga_calls::first_wrong_at;
 use ga_test_items::answers::gives;
 use ga_test_items::counted::{Counted, Counts};
 use ga_test_items::outcome::{Outcome, play};
 use ga_test_items::played::{Item, inline_items};
+use ga_test_items::samples::{Plain, Sample};
 use ga_test_items::scripted::{Given, digits};
 use generic_array::functional::FunctionalSequence;
 use generic_array::steps::{Reply, Step, run_steps};
 use generic_array::{
-    AllocError, ArrayLength, BoxedArray, BoxedArrayIter, U0, U2, U3, Unsigned, box_arr,
+    AllocError, ArrayLength, BoxedArray, BoxedArrayIter, Const, U0, U1, U2, U3, U7, Unsigned,
+    box_arr,
 };
 use std::alloc::Global;
 use std::process::Abort;
 
-/// Plays the calls of a case, and once more where one of them was refused memory.
-fn leaves_no_item<R: Abort + AllocGlobal + Print>(rt: &R, case: u32) {
-    let counts = Counts::new();
-    let wrong = first_wrong_of(rt.alloc(), &counts, case);
+/// Whether a call was refused memory, of which a line is printed. Stops a test where one was played
+/// wrongly.
+fn is_refused<R: Abort + Print>(rt: &R, counts: &Counts, wrong: Option<&str>) -> bool {
     assert!(rt; wrong.is_none(), "{wrong:?}");
-    if counts.errors() > 0 {
-        let _ = println!(rt; "refused: a call of case {case}");
-        let counts = Counts::new();
-        let wrong = first_wrong_of(rt.alloc(), &counts, case);
-        assert!(rt; wrong.is_none() && counts.errors() == 0, "{wrong:?}");
+    let is_refused = counts.errors() > 0;
+    if is_refused {
+        let _ = println!(rt; "refused: a call");
     }
+    is_refused
+}
+
+/// Prints how many requests all calls made. Stops a test where one was played wrongly, or a second
+/// one was refused memory.
+fn end<R: Abort + Print>(rt: &R, counts: &Counts, wrong: Option<&str>) {
+    assert!(rt; wrong.is_none() && counts.errors() <= 1, "{wrong:?}");
+    let made = counts.requests();
+    let _ = println!(rt; "requests: {made}");
+}
+
+/// Plays the calls of a case with counted items.
+fn play_case<R: Abort + AllocGlobal + Print>(rt: &R, case: u32) {
+    let counts = Counts::new();
+    let mut wrong = first_wrong_of(rt.alloc(), &counts, case);
+    if is_refused(rt, &counts, wrong) {
+        wrong = first_wrong_of(rt.alloc(), &counts, case);
+    }
+    end(rt, &counts, wrong);
 }
 
 #[test]
 fn no_call_at_no_item_leaves_one(rt: HostRuntime) {
-    leaves_no_item(&rt, 0);
+    play_case(&rt, 0);
 }
 
 #[test]
 fn no_call_at_an_item_leaves_one(rt: HostRuntime) {
-    leaves_no_item(&rt, 1);
+    play_case(&rt, 1);
 }
 
 #[test]
 fn no_call_at_two_items_leaves_one(rt: HostRuntime) {
-    leaves_no_item(&rt, 2);
+    play_case(&rt, 2);
 }
 
 #[test]
 fn no_call_at_65_items_leaves_one(rt: HostRuntime) {
-    leaves_no_item(&rt, 3);
+    play_case(&rt, 3);
 }
 
 #[test]
 fn no_call_at_rows_leaves_an_item(rt: HostRuntime) {
-    leaves_no_item(&rt, 4);
+    play_case(&rt, 4);
+}
+
+/// Plays the calls at N items that are counted nowhere, and prints how many requests they made.
+pub(crate) fn play_at<
+    T: Sample,
+    N: ArrayLength<Plain<T>> + ArrayLength<u32>,
+    R: Abort + AllocGlobal + Print,
+>(rt: &R)
+    requires { FitsInline N.USIZE }
+{
+    let counts = Counts::blind();
+    let mut wrong = first_wrong_at::<Plain<T>, N>(rt.alloc(), &counts);
+    if is_refused(rt, &counts, wrong) {
+        wrong = first_wrong_at::<Plain<T>, N>(rt.alloc(), &counts);
+    }
+    end(rt, &counts, wrong);
+}
+
+#[test]
+fn calls_at_no_bytes(rt: HostRuntime) {
+    play_at::<u8, U0, _>(&rt);
+}
+
+#[test]
+fn calls_at_one_byte(rt: HostRuntime) {
+    play_at::<u8, U1, _>(&rt);
+}
+
+#[test]
+fn calls_at_two_bytes(rt: HostRuntime) {
+    play_at::<u8, U2, _>(&rt);
+}
+
+#[test]
+fn calls_at_three_bytes(rt: HostRuntime) {
+    play_at::<u8, U3, _>(&rt);
+}
+
+#[test]
+fn calls_at_7_bytes(rt: HostRuntime) {
+    play_at::<u8, U7, _>(&rt);
+}
+
+#[test]
+fn calls_at_65_bytes(rt: HostRuntime) {
+    play_at::<u8, Const<65>, _>(&rt);
+}
+
+#[test]
+fn calls_at_no_of_nine_words(rt: HostRuntime) {
+    play_at::<[u64; 9], U0, _>(&rt);
+}
+
+#[test]
+fn calls_at_one_of_nine_words(rt: HostRuntime) {
+    play_at::<[u64; 9], U1, _>(&rt);
+}
+
+#[test]
+fn calls_at_two_of_nine_words(rt: HostRuntime) {
+    play_at::<[u64; 9], U2, _>(&rt);
+}
+
+#[test]
+fn calls_at_three_of_nine_words(rt: HostRuntime) {
+    play_at::<[u64; 9], U3, _>(&rt);
+}
+
+#[test]
+fn calls_at_7_of_nine_words(rt: HostRuntime) {
+    play_at::<[u64; 9], U7, _>(&rt);
+}
+
+#[test]
+fn calls_at_65_of_nine_words(rt: HostRuntime) {
+    play_at::<[u64; 9], Const<65>, _>(&rt);
 }
 
 /// A block of three, or that its memory was refused.
@@ -134,13 +232,11 @@ fn a_refused_run_of_steps_leaves_all_as_it_was(rt: HostRuntime) {
 /// A block of squares, of which no place is made where it is refused.
 fn of_squares<N: Unsigned>(alloc: Global, wanted: &[usize]) -> Outcome {
     let mut calls = 0usize;
-    let made = BoxedArray::<usize, N>::generate_by(
-        alloc,
-        &mut |index: usize| {
-            calls = calls.wrapping_add(1);
-            index.wrapping_mul(index)
-        },
-    );
+    let mut make = |index: usize| {
+        calls = calls.wrapping_add(1);
+        index.wrapping_mul(index)
+    };
+    let made = BoxedArray::<usize, N>::generate_by(alloc, &mut make);
     match made {
         Ok(made) => Outcome::exact_if(made.as_slice() == wanted && calls == wanted.len()),
         Err(AllocError) => Outcome::refused_if(calls == 0),

@@ -112,12 +112,10 @@ fn a_clone_of_three_stops_at_each_clone_that_is_refused(rt: HostRuntime) {
 #[test]
 fn more_numbers_than_a_block_holds_are_refused_before_any_call(rt: HostRuntime) {
     let mut calls = 0u32;
-    let made = BoxedArray::<u64, TooMany>::generate_by(
-        rt.alloc(),
-        &mut |index: usize| {
-            calls = calls.wrapping_add(1);
-            index as u64
-        },
-    );
+    let mut make = |index: usize| {
+        calls = calls.wrapping_add(1);
+        index as u64
+    };
+    let made = BoxedArray::<u64, TooMany>::generate_by(rt.alloc(), &mut make);
     assert!(rt; made.is_err() && calls == 0);
 }

@@ -2,8 +2,8 @@
 use std::alloc::AllocError;
 use std::cell::Cell;
 
-/// Which items were made and dropped, which clones and calls of a closure were asked for, and which
-/// of these is refused.
+/// Which items were made and dropped, which clones and calls of a closure were asked for, which of
+/// these is refused, and how many requests for memory were made.
 #[derive(Default, Drop)]
 pub struct Counts {
     made: Cell<u32>,
@@ -14,7 +14,9 @@ pub struct Counts {
     cloned: Cell<u32>,
     is_disordered: Cell<bool>,
     errors: Cell<u32>,
+    requests: Cell<usize>,
     refused: u32,
+    is_blind: bool,
 }
 
 impl Counts {
@@ -25,6 +27,16 @@ impl Counts {
 
     /// Counts by which the clone or the call of this number is refused, from 1.
     pub fn refusing(number: u32) -> Self {
+        Counts::with(number, false)
+    }
+
+    /// Counts of requests and calls alone, which refuse nothing. Of items, which are counted
+    /// nowhere, all is as it should be.
+    pub fn blind() -> Self {
+        Counts::with(0, true)
+    }
+
+    fn with(refused: u32, is_blind: bool) -> Self {
         Counts {
             made: Cell::new(0),
             drops: Cell::new(0),
@@ -34,7 +46,9 @@ impl Counts {
             cloned: Cell::new(0),
             is_disordered: Cell::new(false),
             errors: Cell::new(0),
-            refused: number,
+            requests: Cell::new(0),
+            refused,
+            is_blind,
         }
     }
 
@@ -65,9 +79,14 @@ impl Counts {
         self.cloned.set(number);
     }
 
-    /// How many clones and calls were asked for that may be refused.
-    pub fn asked(&self) -> u32 {
-        self.asked.get()
+    /// Whether so many clones and calls were asked for that may be refused.
+    pub fn has_asked(&self, clones: usize) -> bool {
+        self.is_blind || self.asked.get() as usize == clones
+    }
+
+    /// Whether no clone and no call is refused, so that each error is a request for memory that was.
+    pub fn refuses_nothing(&self) -> bool {
+        self.refused == 0
     }
 
     /// Whether a call asked for what it had to. At an error the last clone or call is the refused
@@ -93,9 +112,29 @@ impl Counts {
         self.errors.get()
     }
 
+    /// Adds requests for memory that were made and not refused.
+    pub fn add_requests(&self, count: usize) {
+        self.requests.set(self.requests.get().wrapping_add(count));
+    }
+
+    /// How many requests for memory were added.
+    pub fn requests(&self) -> usize {
+        self.requests.get()
+    }
+
     /// How many items there are: those that were made and not dropped.
     pub fn live(&self) -> u32 {
         self.made.get().wrapping_sub(self.drops.get())
+    }
+
+    /// Whether there are so many items.
+    pub fn has_live(&self, items: usize) -> bool {
+        self.is_blind || self.live() as usize == items
+    }
+
+    /// How many clones and calls were asked for that may be refused.
+    pub fn asked(&self) -> u32 {
+        self.asked.get()
     }
 
     /// How many items were dropped.
@@ -103,9 +142,9 @@ impl Counts {
         self.drops.get()
     }
 
-    /// The numbers of the items that were dropped, as digits, in this order.
-    pub fn dropped(&self) -> u32 {
-        self.dropped.get()
+    /// Whether the items of these numbers were dropped, as digits, in this order.
+    pub fn has_dropped(&self, digits: u32) -> bool {
+        self.is_blind || self.dropped.get() == digits
     }
 }
 

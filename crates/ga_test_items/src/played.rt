@@ -1,17 +1,23 @@
-//! Calls that are played with counted items: what their closures do, and whether an item is left.
+//! Calls that are played with counted items: what their closures do, whether an item is left, and
+//! how many requests for memory they make.
 //!
 //! All is over any type of counted items, so that a call is proved once for all lengths.
 ghost use Rattle.ga_core.specs.Length.{FitsInline};
 
 use crate::counted::{Counted, Counts};
+use crate::outcome::Outcome;
 use crate::scripted::{Given, Numbered, next_digit};
 use ga_boxed::BoxedArray;
 use ga_core::{AllocError, ArrayLength, GenericArray, Unsigned};
 use std::alloc::Global;
 use std::marker::PhantomData;
 
-/// A call's name, and whether it was played right.
-pub type Played<'n> = (&'n str, bool);
+/// What came of a call, or `None` where an input for it was refused.
+pub type Came = Option<Outcome>;
+
+/// A call's name, how many requests for memory it makes where there are items, and what came of it.
+/// Where there are none, it makes none. Where one is refused, it makes none after that.
+pub type Played<'n> = (&'n str, usize, Came);
 
 /// An item that is counted. One made by `default` is counted nowhere.
 pub trait Item: Numbered + Default + Clone + Drop {
@@ -72,14 +78,22 @@ pub fn inline_items<'a, T: Given<'a> + Default, N: ArrayLength<T>>(
     GenericArray::generate(|index: usize| nth_item(counts, index))
 }
 
-/// The same in a block. Its refusal is noted.
+/// The same in a block. Its request is counted, or its refusal noted.
 pub fn boxed_items<'a, T: Given<'a>, N: Unsigned>(
     alloc: Global,
     counts: &'a Counts,
 ) -> Result<BoxedArray<T, N>, AllocError> {
     let made = BoxedArray::generate(alloc, |index: usize| nth_item(counts, index));
+    input(made, counts, N::USIZE)
+}
+
+/// What was made for a call by one request, which is counted, or whose refusal is noted. For no
+/// items there is none.
+pub fn input<S>(made: Result<S, AllocError>, counts: &Counts, len: usize) -> Result<S, AllocError> {
     if made.is_err() {
         counts.note_error();
+    } else {
+        counts.add_requests(usize::from(len > 0));
     }
     made
 }
@@ -149,20 +163,32 @@ impl<'a, T: Given<'a>> Iterator for Results<'a, T> {
     }
 }
 
-/// The name of the first call of a table that was played wrongly.
-pub fn first_of<'n>(table: &[Played<'n>]) -> Option<&'n str> {
-    for (name, is_right) in table {
-        if !*is_right {
-            return Some(*name);
+/// Adds the requests of a call, of which a refused one was the last. Returns whether the call was
+/// played right.
+fn adds(counts: &Counts, requests: usize, outcome: Outcome) -> bool {
+    let made = requests.checked_sub(usize::from(matches!(outcome, Outcome::Refused)));
+    counts.add_requests(made.unwrap_or(0));
+    made.is_some() && !matches!(outcome, Outcome::Wrong)
+}
+
+/// Adds the requests of the calls of a table at so many items, and returns the name of the first
+/// that was played wrongly.
+pub fn first_of<'n>(counts: &Counts, len: usize, table: &[Played<'n>]) -> Option<&'n str> {
+    for (name, requests, came) in table {
+        let requests = if len == 0 { 0 } else { *requests };
+        if let Some(outcome) = came {
+            if !adds(counts, requests, *outcome) {
+                return Some(*name);
+            }
         }
     }
     None
 }
 
 /// The same of several tables.
-pub fn first_wrong<'n>(tables: &[&[Played<'n>]]) -> Option<&'n str> {
+pub fn first_wrong<'n>(counts: &Counts, len: usize, tables: &[&[Played<'n>]]) -> Option<&'n str> {
     for table in tables {
-        let wrong = first_of(*table);
+        let wrong = first_of(counts, len, *table);
         if wrong.is_some() {
             return wrong;
         }
@@ -171,21 +197,32 @@ pub fn first_wrong<'n>(tables: &[&[Played<'n>]]) -> Option<&'n str> {
 }
 
 /// Drops what a call returned, and tells whether only so many items are left. The next call begins.
-pub fn leaves<S: Drop>(made: S, counts: &Counts, items: usize) -> bool {
+pub fn has_left<S: Drop>(made: S, counts: &Counts, items: usize) -> bool {
     drop(made);
     counts.begin();
-    counts.live() as usize == items
+    counts.has_live(items)
+}
+
+/// What came of a call: whether only so many items are left once what it returned is dropped. The
+/// next call begins.
+pub fn leaves<S: Drop>(made: S, counts: &Counts, items: usize) -> Came {
+    Some(Outcome::exact_if(has_left(made, counts, items)))
 }
 
 /// The same of a call that may have failed, and whether its clones and calls were those that are
 /// due. Its error is noted.
-pub fn leaves_made<S: Drop, E: Drop>(made: Result<S, E>, counts: &Counts, items: usize) -> bool {
+pub fn leaves_made<S: Drop, E: Drop>(made: Result<S, E>, counts: &Counts, items: usize) -> Came {
     let is_error = made.is_err();
     if is_error {
         counts.note_error();
     }
     let are_due = counts.are_due(is_error);
-    leaves(made, counts, items) && are_due
+    let is_right = has_left(made, counts, items) && are_due;
+    if is_error && counts.refuses_nothing() {
+        Some(Outcome::refused_if(is_right))
+    } else {
+        Some(Outcome::exact_if(is_right))
+    }
 }
 
 /// The same of a call that may have failed in two ways.
@@ -193,20 +230,21 @@ pub fn leaves_built<S: Drop, E: Drop, P: Drop>(
     made: Result<Result<S, E>, P>,
     counts: &Counts,
     items: usize,
-) -> bool {
+) -> Came {
     match made {
         Ok(built) => leaves_made(built, counts, items),
         Err(refused) => leaves_made::<S, P>(Err(refused), counts, items),
     }
 }
 
-/// Drops what a call returned, and tells whether no item is left. The next call begins.
-pub fn ends<S: Drop>(made: S, counts: &Counts) -> bool {
+/// What came of a call: whether no item is left once what it returned is dropped. The next call
+/// begins.
+pub fn ends<S: Drop>(made: S, counts: &Counts) -> Came {
     leaves(made, counts, 0)
 }
 
 /// The same of a call that may have failed. Its error is noted.
-pub fn ends_made<S: Drop, E: Drop>(made: Result<S, E>, counts: &Counts) -> bool {
+pub fn ends_made<S: Drop, E: Drop>(made: Result<S, E>, counts: &Counts) -> Came {
     leaves_made(made, counts, 0)
 }
 
@@ -214,14 +252,23 @@ pub fn ends_made<S: Drop, E: Drop>(made: Result<S, E>, counts: &Counts) -> bool 
 pub fn ends_built<S: Drop, E: Drop, P: Drop>(
     made: Result<Result<S, E>, P>,
     counts: &Counts,
-) -> bool {
+) -> Came {
     leaves_built(made, counts, 0)
 }
 
-/// The same of a call that clones so many items: if it succeeds, it asked for each clone once.
-pub fn ends_cloned<S: Drop, E: Drop>(made: Result<S, E>, counts: &Counts, items: usize) -> bool {
-    let is_exact = made.is_err() || counts.asked() as usize == items;
-    ends_made(made, counts) && is_exact
+/// What came of a call, where what is seen besides is right too.
+pub fn also(came: Came, is_right: bool) -> Came {
+    match came {
+        Some(outcome) => Some(outcome.and(is_right)),
+        None => None,
+    }
+}
+
+/// The same as `ends_made` of a call that clones so many items: if it succeeds, it asked for each
+/// clone once.
+pub fn ends_cloned<S: Drop, E: Drop>(made: Result<S, E>, counts: &Counts, items: usize) -> Came {
+    let is_exact = made.is_err() || counts.has_asked(items);
+    also(ends_made(made, counts), is_exact)
 }
 
 /// These digits, and behind them the numbers of the items of the indexes from `from` up to `end`.

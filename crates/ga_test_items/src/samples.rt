@@ -1,38 +1,23 @@
-//! Items of one byte and of 72, which are made of a number and know it.
-ghost use Rattle.ga_core.specs.Length.{FitsInline};
+//! Items of one byte and of 72, which are counted nowhere.
+use crate::counted::Counts;
+use crate::played::Item;
+use crate::scripted::{Given, Numbered};
 
-use crate::items::number;
-use crate::scripted::Numbered;
-use ga_core::{ArrayLength, GenericArray};
-use std::marker::PhantomData;
-use std::ops::Range;
-
-/// An item that is made of a digit, which is its number.
-pub trait Sample: Numbered + Copy + Default + Drop {
+/// What is made of a number, and can be copied.
+pub trait Sample: Copy + Default + Drop {
     fn of(number: u32) -> Self;
-}
 
-impl Numbered for u8 {
-    fn number(&self) -> u32 {
-        u32::from(*self)
-    }
+    /// The number, or its last byte.
+    fn sampled(&self) -> u32;
 }
 
 impl Sample for u8 {
     fn of(number: u32) -> Self {
-        (number % 10) as u8
+        (number % 256) as u8
     }
-}
 
-impl Numbered for [u64; 9] {
-    /// The number that all words have, or 0.
-    fn number(&self) -> u32 {
-        let first = self[0];
-        if *self == [first; 9] {
-            (first % 10) as u32
-        } else {
-            0
-        }
+    fn sampled(&self) -> u32 {
+        u32::from(*self)
     }
 }
 
@@ -40,57 +25,46 @@ impl Sample for [u64; 9] {
     fn of(number: u32) -> Self {
         [u64::from(number); 9]
     }
+
+    fn sampled(&self) -> u32 {
+        (self[0] % 256) as u32
+    }
 }
 
-/// The item of this index, numbered from 1.
-pub fn nth_sample<T: Sample>(index: usize) -> T {
-    T::of(number(index))
+/// An item that is counted nowhere, of which no clone and no call is refused.
+#[derive(Clone, Copy, Default, Drop)]
+pub struct Plain<P> {
+    sample: P,
 }
 
-/// Gives so many items, numbered from 1.
-#[derive(Drop)]
-pub struct Samples<T> {
-    indexes: Range<usize>,
-    gives: PhantomData<T>,
+impl<P: Sample> Numbered for Plain<P> {
+    fn number(&self) -> u32 {
+        self.sample.sampled()
+    }
 }
 
-impl<T: Sample> Samples<T> {
-    /// An iterator of so many items.
-    pub fn new(end: usize) -> Self {
-        Samples {
-            indexes: 0..end,
-            gives: PhantomData,
+impl<'a, P: Sample> Given<'a> for Plain<P> {
+    fn given(answer: Result<u32, u32>, _counts: &'a Counts) -> Self {
+        match answer {
+            Ok(number) | Err(number) => Plain {
+                sample: P::of(number),
+            },
         }
     }
-}
 
-impl<T: Sample> Iterator for Samples<T> {
-    type Item = T;
-
-    fn next(&mut self) -> Option<T> {
-        Some(nth_sample(self.indexes.next()?))
+    fn written(&self) -> u32 {
+        self.number()
     }
 }
 
-/// The array of N items, numbered from 1.
-pub fn inline_samples<T: Sample, N: ArrayLength<T>>() -> GenericArray<T, N>
-    requires { FitsInline N.USIZE }
-{
-    let mut items: GenericArray<T, N> = GenericArray::default();
-    for (index, item) in items.as_mut_slice().iter_mut().enumerate() {
-        *item = nth_sample(index);
+impl<P: Sample> Item for Plain<P> {
+    fn is_refused(&self) -> bool {
+        false
     }
-    items
-}
 
-/// Whether these are the items of `inline_samples`, so many of them.
-pub fn are_samples<T: Sample>(items: &[T], len: usize) -> bool {
-    let mut next = 0u32;
-    for item in items {
-        next = next % 9 + 1;
-        if item.number() != next {
-            return false;
-        }
+    fn note_call(&self) {}
+
+    fn another(&self) -> Self {
+        *self
     }
-    items.len() == len
 }

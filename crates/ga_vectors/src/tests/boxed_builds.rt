@@ -8,26 +8,22 @@ use std::test::Fail;
 #[test]
 fn a_block_is_made_by_one_call_for_each_place(rt: HostRuntime) {
     let mut calls = 0u32;
-    let squares = BoxedArray::<usize, U3>::generate_by(
-        rt.alloc(),
-        &mut |index: usize| {
-            calls = calls.wrapping_add(1);
-            index.wrapping_mul(index)
-        },
-    );
+    let mut square = |index: usize| {
+        calls = calls.wrapping_add(1);
+        index.wrapping_mul(index)
+    };
+    let squares = BoxedArray::<usize, U3>::generate_by(rt.alloc(), &mut square);
     assert!(rt; gives(squares, &[0, 1, 4]) && calls == 3);
 }
 
 /// The error of a build that fails at index 1, if there is one, and the number of calls.
 fn built_up_to_one<N: Unsigned>(alloc: Global) -> Result<(Option<usize>, u32), AllocError> {
     let mut calls = 0u32;
-    let built = BoxedArray::<usize, N>::try_generate_by(
-        alloc,
-        &mut |index: usize| {
-            calls = calls.wrapping_add(1);
-            if index == 1 { Err(index) } else { Ok(index) }
-        },
-    )?;
+    let mut build = |index: usize| {
+        calls = calls.wrapping_add(1);
+        if index == 1 { Err(index) } else { Ok(index) }
+    };
+    let built = BoxedArray::<usize, N>::try_generate_by(alloc, &mut build)?;
     Ok((built.err(), calls))
 }
 

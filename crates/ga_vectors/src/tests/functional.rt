@@ -46,13 +46,11 @@ fn mapped_up_to_two<N: ArrayLength<u32> + InlineLength>(
     view: GenericArrayRef<'_, u32, N>,
 ) -> (Option<u32>, usize) {
     let mut calls = 0usize;
-    let mapped = always(view.try_map_by(
-        (),
-        &mut |item: &u32| {
-            calls = calls.wrapping_add(1);
-            doubled_but_two(item)
-        },
-    ));
+    let mut map = |item: &u32| {
+        calls = calls.wrapping_add(1);
+        doubled_but_two(item)
+    };
+    let mapped = always(view.try_map_by((), &mut map));
     (mapped.err(), calls)
 }
 
@@ -66,13 +64,11 @@ fn array_mapped_up_to_two<N: ArrayLength<u32> + InlineLength>(
     array: GenericArray<u32, N>,
 ) -> (Option<u32>, usize) {
     let mut calls = 0usize;
-    let mapped = always(array.try_map_by(
-        (),
-        &mut |item: u32| {
-            calls = calls.wrapping_add(1);
-            doubled_but_two(&item)
-        },
-    ));
+    let mut map = |item: u32| {
+        calls = calls.wrapping_add(1);
+        doubled_but_two(&item)
+    };
+    let mapped = always(array.try_map_by((), &mut map));
     (mapped.err(), calls)
 }
 
@@ -113,13 +109,11 @@ fn folded_up_to_three<N: ArrayLength<u32> + InlineLength>(
     array: GenericArray<u32, N>,
 ) -> (Result<u32, u32>, usize) {
     let mut calls = 0usize;
-    let folded = array.try_fold_by(
-        0,
-        &mut |sum: u32, item: u32| {
-            calls = calls.wrapping_add(1);
-            added_up_to_three(sum, item)
-        },
-    );
+    let mut add = |sum: u32, item: u32| {
+        calls = calls.wrapping_add(1);
+        added_up_to_three(sum, item)
+    };
+    let folded = array.try_fold_by(0, &mut add);
     (folded, calls)
 }
 

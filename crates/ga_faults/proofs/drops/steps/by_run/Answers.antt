@@ -1,7 +1,0 @@
-use Rattle.generic_array.proofs.StepLemmas.{MaySteps-always}
-use Rattle.ga_faults.proofs.drops.steps.by_run.Goals as goal
-use Rattle.std.proofs.Common.{rules}
-
-pub run_steps-run-requires : goal.run_steps-run-requires
-run_steps-run-requires g c =
-    record { callable = MaySteps-always _ _ (λ f items slice same. search rules) c.in-Ok.steps.items _ }
