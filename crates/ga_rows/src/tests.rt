@@ -42,13 +42,11 @@ fn words_mean_a_mode_and_a_width(rt: HostRuntime) -> Result<(), Fail> {
     Ok(())
 }
 
-/// What is told of words that mean nothing.
+// What is told of words that mean nothing, where memory is short, and of another fault.
 const USAGE: &[u8] = b"usage: ga_rows [dec|hex|back|sum|last] [1|2|4|8|16]\n";
 
-/// What is told where memory is short.
 const NO_MEMORY: &[u8] = b"ga_rows: out of memory\n";
 
-/// What is told of another fault.
 const FAULT: &[u8] = b"ga_rows: read or write fault\n";
 
 /// The words as listed, joined by a space, the input, what is printed, and the exit status.

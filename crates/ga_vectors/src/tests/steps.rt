@@ -26,45 +26,45 @@ fn is_end<I: TwoEnded<u32>>(
     Ok(text.as_str() == printed && numbers.live() == left)
 }
 
-const LOOKED_AT: &str = "[Item(Some(2)), Seen(12), Item(None), Item(None), Seen(0)]";
-
-/// Whether five are taken from both ends, and looked at, in one run.
-fn is_run_at_once<I: TwoEnded<u32>>(alloc: Global, numbers: &mut I) -> Result<bool, AllocError> {
+/// Whether five are taken from both ends, and looked at, in one run or in two.
+fn is_looked_at<I: TwoEnded<u32>>(
+    alloc: Global,
+    numbers: &mut I,
+    at_once: bool,
+) -> Result<bool, AllocError> {
     let mut replies = Vec::new(alloc);
-    let steps = vec![in alloc;
-        Step::Nth(1),
-        Step::Look,
-        Step::NthBack(5),
-        Step::Next,
-        Step::Look,
-    ]?;
-    run_steps(numbers, steps, &mut total, &mut replies)?;
-    is_end(alloc, replies.as_slice(), LOOKED_AT, numbers, &[])
+    if at_once {
+        let steps = vec![in alloc;
+            Step::Nth(1),
+            Step::Look,
+            Step::NthBack(5),
+            Step::Next,
+            Step::Look,
+        ]?;
+        run_steps(numbers, steps, &mut total, &mut replies)?;
+    } else {
+        let first = vec![in alloc; Step::Nth(1), Step::Look]?;
+        let second = vec![in alloc; Step::NthBack(5), Step::Next, Step::Look]?;
+        run_steps(numbers, first, &mut total, &mut replies)?;
+        run_steps(numbers, second, &mut total, &mut replies)?;
+    }
+    let printed = "[Item(Some(2)), Seen(12), Item(None), Item(None), Seen(0)]";
+    is_end(alloc, replies.as_slice(), printed, numbers, &[])
 }
 
 #[test]
 fn five_are_taken_from_both_ends_and_looked_at(rt: HostRuntime) -> Result<(), Fail> {
-    assert!(rt; is_run_at_once(rt.alloc(), &mut from_one::<U5>().into_iter())?);
+    assert!(rt; is_looked_at(rt.alloc(), &mut from_one::<U5>().into_iter(), true)?);
     let mut boxed = boxed_from_one::<U5>(rt.alloc())?.into_iter();
-    assert!(rt; is_run_at_once(rt.alloc(), &mut boxed)?);
+    assert!(rt; is_looked_at(rt.alloc(), &mut boxed, true)?);
     Ok(())
-}
-
-/// The same in two runs.
-fn is_run_in_two<I: TwoEnded<u32>>(alloc: Global, numbers: &mut I) -> Result<bool, AllocError> {
-    let mut replies = Vec::new(alloc);
-    let steps = vec![in alloc; Step::Nth(1), Step::Look]?;
-    run_steps(numbers, steps, &mut total, &mut replies)?;
-    let steps = vec![in alloc; Step::NthBack(5), Step::Next, Step::Look]?;
-    run_steps(numbers, steps, &mut total, &mut replies)?;
-    is_end(alloc, replies.as_slice(), LOOKED_AT, numbers, &[])
 }
 
 #[test]
 fn a_run_in_two_parts_replies_as_one(rt: HostRuntime) -> Result<(), Fail> {
-    assert!(rt; is_run_in_two(rt.alloc(), &mut from_one::<U5>().into_iter())?);
+    assert!(rt; is_looked_at(rt.alloc(), &mut from_one::<U5>().into_iter(), false)?);
     let mut boxed = boxed_from_one::<U5>(rt.alloc())?.into_iter();
-    assert!(rt; is_run_in_two(rt.alloc(), &mut boxed)?);
+    assert!(rt; is_looked_at(rt.alloc(), &mut boxed, false)?);
     Ok(())
 }
 
@@ -87,6 +87,21 @@ fn replies_stand_behind_those_that_are_there(rt: HostRuntime) -> Result<(), Fail
     assert!(rt; is_put_behind(rt.alloc(), &mut from_one::<U2>().into_iter())?);
     let mut boxed = boxed_from_one::<U2>(rt.alloc())?.into_iter();
     assert!(rt; is_put_behind(rt.alloc(), &mut boxed)?);
+    Ok(())
+}
+
+/// Whether no steps leave two numbers and an earlier reply as they are.
+fn are_left_alone<I: TwoEnded<u32>>(alloc: Global, numbers: &mut I) -> Result<bool, AllocError> {
+    let mut replies = vec![in alloc; Reply::Old(7)]?;
+    run_steps(numbers, Vec::new(alloc), &mut total, &mut replies)?;
+    is_end(alloc, replies.as_slice(), "[Old(7)]", numbers, &[1, 2])
+}
+
+#[test]
+fn no_steps_leave_all_as_it_was(rt: HostRuntime) -> Result<(), Fail> {
+    assert!(rt; are_left_alone(rt.alloc(), &mut from_one::<U2>().into_iter())?);
+    let mut boxed = boxed_from_one::<U2>(rt.alloc())?.into_iter();
+    assert!(rt; are_left_alone(rt.alloc(), &mut boxed)?);
     Ok(())
 }
 
