@@ -119,8 +119,7 @@ def plain(text):
     text = re.sub(r"\d+\.\d{3,}", lambda number: f"{round(float(number[0]), 2):g}", text)
     text = re.sub(r" \n(?=[A-Zz])", " ", text).replace(' \n"', '"').replace('\n"', '"')
     text = re.sub(r' transform="rotate\(-0 .*?\)"', "", text)
-    text = text[text.index("<svg"):]
-    return ungrouped(text.replace(FONT, f"{FONT}, Verdana, sans-serif"))
+    return ungrouped(text[text.index("<svg"):].replace(FONT, f"{FONT}, Verdana, sans-serif"))
 
 
 def ungrouped(text):
