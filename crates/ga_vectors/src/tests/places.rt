@@ -1,5 +1,5 @@
-//! Places of arrays and of views.
-use generic_array::arr;
+//! Places of arrays and of views, and of rows and what lies behind them.
+use generic_array::{ChunksMut, Const, GenericArrayRef, LengthError, U2, arr};
 
 #[test]
 fn a_place_of_an_array_is_written(rt: HostRuntime) {
@@ -13,4 +13,26 @@ fn a_view_has_the_places_of_its_items_alone(rt: HostRuntime) {
     let array = arr![1, 2];
     let view = array.view();
     assert!(rt; view.get(1).copied() == Some(2) && view.get(2).is_none());
+}
+
+/// How many items a view of 65,537 shows, or 0 where the slice has another length.
+fn items_shown(slice: &[u8]) -> usize {
+    match GenericArrayRef::<u8, Const<65_537>>::try_from_slice(slice) {
+        Ok(view) => view.as_slice().len(),
+        Err(LengthError) => 0,
+    }
+}
+
+#[test]
+fn a_view_may_have_more_items_than_an_inline_array(rt: HostRuntime) {
+    assert!(rt; items_shown(&[0; 65_537]) == 65_537 && items_shown(&[0; 65_536]) == 0);
+}
+
+#[test]
+fn what_is_written_to_a_row_and_behind_the_rows_stands_in_the_slice(rt: HostRuntime) {
+    let mut items = [1u32, 2, 3, 4, 5];
+    let (mut rows, rest) = ChunksMut::<u32, U2>::chunks_from_slice_mut(&mut items);
+    rows.row_mut(1)[0] = 9;
+    rest[0] = 8;
+    assert!(rt; items == [1, 2, 9, 4, 8]);
 }

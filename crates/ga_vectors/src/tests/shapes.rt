@@ -3,12 +3,13 @@ ghost use Rattle.generic_array.specs.Length.{FitsInline};
 ghost use Rattle.std.specs.Prelude.{◌≡◌, ◌*◌, ◌<◌, length};
 
 use crate::tests::items::Held;
+use ga_test_items::answers::gives;
 use ga_test_items::items::from_one;
 use generic_array::sequence::{
     Concat, Flatten, Lengthen, Remove, Shorten, Split, Unflatten, iter_flat,
 };
 use generic_array::{
-    ArrayLength, GenericArray, GenericArrayMut, InlineLength, U0, U1, U2, U3, U4, U5, U6,
+    ArrayLength, GenericArray, GenericArrayMut, InlineLength, U0, U1, U2, U3, U4, U5, U6, arr,
 };
 use std::rc::Rc;
 
@@ -137,4 +138,11 @@ fn there_may_be_no_rows_or_rows_without_items(rt: HostRuntime) {
     let (count, none) = cut_into_rows_and_joined::<u32, U0, U2, U0>(from_one::<U0>());
     assert!(rt; count == 0 && none.as_slice().is_empty());
     assert!(rt; have_no_items::<U0, U0, U3>());
+}
+
+#[test]
+fn the_items_of_rows_come_row_by_row(rt: HostRuntime) {
+    let rows: GenericArray<GenericArray<u32, U2>, U2> = arr![arr![1, 2], arr![3, 4]];
+    let items = GenericArray::<u32, U4>::try_from_iter(iter_flat(rows.view()).copied());
+    assert!(rt; gives(items, &[1, 2, 3, 4]));
 }
