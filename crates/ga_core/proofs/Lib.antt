@@ -10,6 +10,7 @@ pub mod KeyLemmas
 pub mod LeftLemmas
 pub mod MoveLemmas
 pub mod NestedLemmas
+pub mod PlaceLemmas
 pub mod PairLemmas
 pub mod RunLemmas
 pub mod SlotLemmas

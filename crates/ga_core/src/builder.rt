@@ -1,7 +1,9 @@
 //! An array that is being built, item by item or from what is left of another.
 ghost use Rattle.ga_core.specs.Fill.{Asks, TakeGoodRuns, TakeRuns, Takes, TakesGood};
+ghost use Rattle.ga_core.specs.Lends.{LendsItems};
 ghost use Rattle.ga_views.specs.Length.{FitsInline};
-ghost use Rattle.std.specs.List.{All, AllZip};
+ghost use Rattle.std.specs.Borrow.{sem};
+ghost use Rattle.std.specs.List.{All, AllZip, swap_remove};
 ghost use Rattle.std.specs.Prelude.{◌≡◌, ◌≢◌, ◌⊎◌, ◌+◌, ◌-◌, ◌<◌, ◌≤◌, ◌↔◌, IfNone, IfOk, IfSome, IsOk, IsSome, IsTrue, None, OnErr, OnOk, Some, List, [], ◌∷◌, ◌++◌, drop, get_or, insert, length, remove, slice_get, take};
 
 use crate::array::GenericArray;
@@ -57,7 +59,9 @@ impl<T: Default + Drop, N: ArrayLength<T>> ArrayBuilder<T, N> {
     #[inline]
     pub fn push(&mut self, item: T)
         requires room { length self.old < N.USIZE }
-        ensures { self.new ≡ self.old ++ item ∷ [] }
+        ensures items { self.new ≡ self.old ++ item ∷ [] }
+        ensures len { length self.new ≡ length self.old + 1 }
+        ensures bound { length self.new ≤ N.USIZE }
     {
         let slot = self.position;
         put_at(&mut self.store, slot, item);
@@ -70,6 +74,7 @@ impl<T: Default + Drop, N: ArrayLength<T>> ArrayBuilder<T, N> {
         ensures variant { IsSome result ↔ (0 < length self.old) }
         ensures some { IfSome result (λ item. self.old ≡ self.new ++ item ∷ []) }
         ensures none { IfNone result (self.new ≡ self.old) }
+        ensures bound { length self.old ≤ N.USIZE }
     {
         if self.position == 0 {
             return None;
@@ -90,6 +95,7 @@ impl<T: Default + Drop, N: ArrayLength<T>> ArrayBuilder<T, N> {
         requires enough { count ≤ length items.old }
         ensures taken { self.new ≡ self.old ++ take count items.old }
         ensures left { items.new ≡ drop count items.old }
+        ensures bound { length self.new ≤ N.USIZE }
     {
         let first = self.position;
         items.exchange_or_move::<N::ArrayType>(self.store.part_mut(first, count), N::USIZE);
@@ -106,6 +112,7 @@ impl<T: Default + Drop, N: ArrayLength<T>> ArrayBuilder<T, N> {
         requires room { length self.old < N.USIZE }
         ensures items { self.new ≡ insert self.old index item }
         ensures len { length self.new ≡ length self.old + 1 }
+        ensures bound { length self.new ≤ N.USIZE }
     {
         self.push(item);
         carry_from_end(self.store.part_mut(0, self.position), index);
@@ -124,6 +131,22 @@ impl<T: Default + Drop, N: ArrayLength<T>> ArrayBuilder<T, N> {
         ensures bound { length self.old ≤ N.USIZE }
     {
         self.carry_behind(index);
+        self.pop().unwrap()
+    }
+
+    /// Takes the item at `index`, and puts the last in its place. O(1).
+    ///
+    /// Requires that there is one. The counterpart of `Vec::swap_remove`.
+    #[inline]
+    pub fn swap_remove(&mut self, index: usize) -> T
+        requires in_bounds { index < length self.old }
+        ensures item { slice_get self.old index ≡ Some result }
+        ensures others { self.new ≡ swap_remove self.old index result }
+        ensures len { length self.new + 1 ≡ length self.old }
+        ensures bound { length self.old ≤ N.USIZE }
+    {
+        let last = self.position - 1;
+        self.as_mut_slice().swap(index, last);
         self.pop().unwrap()
     }
 
@@ -158,7 +181,8 @@ impl<T: Default + Drop, N: ArrayLength<T>> ArrayBuilder<T, N> {
     /// Drops all items, in order. O(items). The counterpart of `Vec::clear`.
     #[inline]
     pub fn clear(&mut self)
-        ensures { self.new ≡ [] }
+        ensures items { self.new ≡ [] }
+        ensures bound { length self.old ≤ N.USIZE }
     {
         self.truncate(0);
     }
@@ -172,7 +196,8 @@ impl<T: Copy, N: ArrayLength<T>> ArrayBuilder<T, N> {
     #[inline]
     pub fn extend_from_slice(&mut self, items: &[T])
         requires room { length self.old + length items.now ≤ N.USIZE }
-        ensures { self.new ≡ self.old ++ items.now }
+        ensures items { self.new ≡ self.old ++ items.now }
+        ensures bound { length self.new ≤ N.USIZE }
     {
         let first = self.position;
         let count = items.len();
@@ -209,6 +234,7 @@ impl<T, N: ArrayLength<T>> ArrayBuilder<T, N> {
     pub fn position(&self) -> usize
         ensures len { result ≡ length self.now }
         ensures bound { length self.now ≤ N.USIZE }
+        ensures fits { FitsInline N.USIZE }
     {
         self.position
     }
@@ -218,6 +244,7 @@ impl<T, N: ArrayLength<T>> ArrayBuilder<T, N> {
     pub fn is_full(&self) -> bool
         ensures full { IsTrue result ↔ (length self.now ≡ N.USIZE) }
         ensures bound { length self.now ≤ N.USIZE }
+        ensures fits { FitsInline N.USIZE }
     {
         self.position() == N::USIZE
     }
@@ -227,8 +254,21 @@ impl<T, N: ArrayLength<T>> ArrayBuilder<T, N> {
     pub fn as_slice(&self) -> &[T]
         ensures items { result.now ≡ self.now }
         ensures bound { length self.now ≤ N.USIZE }
+        ensures fits { FitsInline N.USIZE }
     {
         &self.store.as_slice()[..self.position]
+    }
+
+    /// The items so far, in order, for writing. O(1).
+    #[inline]
+    pub fn as_mut_slice(&mut self) -> &mut [T]
+        ensures* writes_back { sem 𝓛 (LendsItems T.row self.entry result) }
+        ensures items { result.now ≡ self.old }
+        ensures bound { length result.now ≤ N.USIZE }
+        ensures fits { FitsInline N.USIZE }
+    {
+        let len = self.position;
+        self.store.part_mut(0, len)
     }
 
     /// The array of the items. Requires that the builder is full. Moves the items, and allocates
@@ -259,6 +299,7 @@ impl<T: Default + Drop, N: ArrayLength<T>> ArrayBuilder<T, N> {
         ensures runs { TakeRuns I.next_gives items.old (N.USIZE - length self.old) (λ taken.
             self.new ≡ self.old ++ taken) }
         ensures asks { Asks I.next_gives items.old (N.USIZE - length self.old) items.new }
+        ensures bound { length self.new ≤ N.USIZE }
         ensures can { length self.new ≡ N.USIZE → I.can_next items.new }
     {
         while !self.is_full() {
@@ -280,6 +321,7 @@ impl<T: Default + Drop, N: ArrayLength<T>> ArrayBuilder<T, N> {
             × TakesGood I.next_gives items.old (N.USIZE - length self.old) taken result items.new }
         ensures runs { TakeGoodRuns I.next_gives items.old (N.USIZE - length self.old) result
             (λ taken. self.new ≡ self.old ++ taken) }
+        ensures bound { length self.new ≤ N.USIZE }
         ensures can { length self.new ≡ N.USIZE → I.can_next items.new }
         ensures can_on { OnErr result (I.can_next items.new) }
     {

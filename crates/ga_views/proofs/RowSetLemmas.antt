@@ -143,3 +143,6 @@ module _ {X : Type 0} (width : ℕ) (items whole rest changed : List X) (parts :
   pub chunk_rest-whole_set : chunk_rest width (changed ++ rest) ≡ chunk_rest width items
   chunk_rest-whole_set = chunk_rest-whole width (changed ++ rest) changed rest refl still_full
       ∙ sym (chunk_rest-whole width items whole rest parts full)
+
+-- one row written over another: what a caller names by `using`
+pub ruleset row_writes = (rows-set)

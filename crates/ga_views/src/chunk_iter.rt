@@ -5,7 +5,7 @@ ghost use Rattle.ga_views.specs.RowIteration.{RowsInOrder, RowsInReverse};
 ghost use Rattle.ga_views.specs.Rows.{chunk_count, rows};
 ghost use Rattle.std.specs.Iterator.{YieldsFirstBy, YieldsLastBy, item_count};
 ghost use Rattle.std.specs.Option.{option_map};
-ghost use Rattle.std.specs.Prelude.{◌≡◌, ◌*◌, ◌<◌, ◌≤◌, [], false, length, true};
+ghost use Rattle.std.specs.Prelude.{◌≡◌, ◌*◌, ◌^◌, ◌<◌, ◌≤◌, [], false, length, true};
 
 use crate::{GenericArrayRef, Unsigned};
 use std::marker::{Model, PhantomData};
@@ -37,12 +37,15 @@ impl<'a, T, N: Unsigned> Model for ChunkIter<'a, T, N> {
 impl<'a, T, N: Unsigned> ChunkIter<'a, T, N> {
     // The rows of a slice that has no rest.
     #[inline]
+    #[tactic(auto, using(crate::proofs::RowLemmas::row_facts))]
     pub(crate) fn over(slice: &'a [T]) -> Self
         requires whole { length slice.now ≡ chunk_count N.USIZE slice.now * N.USIZE }
         ensures rows { result ≡ rows N.USIZE slice.now }
+        ensures bound { length result < 2 ^ 64 }
         ensures runs { RowsInOrder T N N.Unsigned }
         ensures runs_back { RowsInReverse T N N.Unsigned }
     {
+        let _len = slice.len();
         ChunkIter {
             left: slice,
             of: PhantomData,

@@ -5,7 +5,7 @@ ghost use Rattle.ga_views.specs.RowIteration.{RowsInOrder, RowsInReverse};
 ghost use Rattle.ga_views.specs.Rows.{chunk_count, chunk_rest, row_at, rows};
 ghost use Rattle.std.specs.Borrow.{Array, LendsBoth, sem};
 ghost use Rattle.std.specs.Option.{option_map};
-ghost use Rattle.std.specs.Prelude.{◌≡◌, ◌*◌, ◌<◌, ◌↔◌, ◌⊎◌, ◌++◌, IfSome, IsSome, length, slice_get};
+ghost use Rattle.std.specs.Prelude.{◌≡◌, ◌*◌, ◌^◌, ◌<◌, ◌↔◌, ◌⊎◌, ◌++◌, IfSome, IsSome, length, slice_get};
 
 use crate::chunks_ref::len_of_rows;
 use crate::reborrow::{ReborrowPart, ReborrowSlice};
@@ -134,6 +134,7 @@ impl<S: ReborrowSlice<T>, T, N: Unsigned> ChunksViewMut<S, T, N> {
     #[inline]
     pub fn iter(&self) -> ChunkIter<'_, T, N>
         ensures rows { result ≡ rows N.USIZE (S.items self.now.slice) }
+        ensures bound { length result < 2 ^ 64 }
         ensures runs { RowsInOrder T N N.Unsigned }
         ensures runs_back { RowsInReverse T N N.Unsigned }
     {

@@ -2,7 +2,7 @@
 ghost use Rattle.ga_views.specs.RowIteration.{RowsInOrder, RowsInReverse};
 ghost use Rattle.ga_views.specs.Rows.{chunk_count, chunk_rest, row_at, rows};
 ghost use Rattle.std.specs.Option.{option_map};
-ghost use Rattle.std.specs.Prelude.{◌≡◌, ◌*◌, ◌/◌, ◌<◌, ◌↔◌, ◌⊎◌, IfSome, IsSome, ◌++◌, length, slice_get, ⊤};
+ghost use Rattle.std.specs.Prelude.{◌≡◌, ◌*◌, ◌/◌, ◌^◌, ◌<◌, ◌↔◌, ◌⊎◌, IfSome, IsSome, ◌++◌, length, slice_get, ⊤};
 
 use crate::{ChunkIter, GenericArrayRef, Unsigned};
 use std::alloc::AllocError;
@@ -109,6 +109,7 @@ impl<'a, T, N: Unsigned> ChunksRef<'a, T, N> {
     #[inline]
     pub fn iter(&self) -> ChunkIter<'_, T, N>
         ensures rows { result ≡ rows N.USIZE (items_of_chunks self.now) }
+        ensures bound { length result < 2 ^ 64 }
         ensures runs { RowsInOrder T N N.Unsigned }
         ensures runs_back { RowsInReverse T N N.Unsigned }
     {

@@ -7,7 +7,7 @@ pub loop-items-preserved : goal.loop-items-preserved
 loop-items-preserved g c =
     let so_far = c.loop-items.invariant.taken in
     let item = c.in-Some.item in
-    let grown = c.push.ensures ∙ (ap (λ items. items ++ item ∷ []) so_far.1
+    let grown = c.push.ensures.items ∙ (ap (λ items. items ++ item ∷ []) so_far.1
     ∙ append_assoc c.args.self.now so_far.0 (item ∷ [])) in
     let calls = Yields-more g.I.Iterator.next_gives c.args.items.now so_far.0 c.loop-items.items item c.next.new.self
     so_far.2 c.in-Some.ensures.steps in
@@ -24,6 +24,7 @@ returns-in-None g c =
       taken = (so_far.0, so_far.1, takes);
       runs = TakeRuns-from_takes next (λ items. c.loop-items.self ≡ c.args.self.now ++ items) _ _ _ _ takes so_far.1;
       asks = Asks-from_takes next _ _ _ _ takes;
+      bound = told.bound;
       can = λ full. absurd (true≢false (sym (told.full.1 full)));
     }
 
@@ -37,6 +38,7 @@ returns g c =
       taken = (so_far.0, so_far.1, takes);
       runs = TakeRuns-from_takes next (λ items. c.loop-items.self ≡ c.args.self.now ++ items) _ _ _ _ takes so_far.1;
       asks = Asks-from_takes next _ _ _ _ takes;
+      bound = c.loop-items-test.ensures.bound;
       can = λ _. c.loop-items.invariant.can;
     }
 

@@ -13,7 +13,7 @@ loop-items-preserved g c =
     let next = g.I.Iterator.next_gives in
     let so_far = c.loop-items.invariant.taken in
     let item = c.in-Some-Ok.item in
-    let grown = c.push.ensures ∙ (ap (λ items. items ++ item ∷ []) so_far.1
+    let grown = c.push.ensures.items ∙ (ap (λ items. items ++ item ∷ []) so_far.1
     ∙ append_assoc c.args.self.now so_far.0 (item ∷ [])) in
     let call = subst (λ reply. next c.loop-items.items (Some reply) c.next.new.self)
     c.in-Some-Ok.field-0-is c.in-Some-Ok.ensures.steps in
@@ -32,6 +32,7 @@ returns g c =
       taken = (so_far.0, so_far.1, takes);
       runs = TakeGoodRuns-from_takes next (λ good. c.loop-items.self ≡ c.args.self.now ++ good) _ _ _ (Ok tt) _ takes
           so_far.1;
+      bound = c.loop-items-test.ensures.bound;
       can = λ _. c.loop-items.invariant.can;
       can_on = tt;
     }
@@ -47,6 +48,7 @@ returns-in-None g c =
       taken = (so_far.0, so_far.1, takes);
       runs = TakeGoodRuns-from_takes next (λ good. c.loop-items.self ≡ c.args.self.now ++ good) _ _ so_far.0 (Ok tt) _
           takes so_far.1;
+      bound = c.loop-items-test.ensures.bound;
       can = λ full. absurd (true≢false (sym (told.full.1 full)));
       can_on = tt;
     }
@@ -65,6 +67,7 @@ returns-in-Some-Err g c =
       taken = (so_far.0, so_far.1, takes);
       runs = TakeGoodRuns-from_takes next (λ good. c.loop-items.self ≡ c.args.self.now ++ good)
           c.args.items.now _ so_far.0 (Err c.in-Some-Err.error) c.next.new.self takes so_far.1;
+      bound = c.loop-items-test.ensures.bound;
       can = λ full. absurd (true≢false (sym (told.full.1 full)));
       can_on = c.in-Some-Err.ensures.goes.keeps;
     }
