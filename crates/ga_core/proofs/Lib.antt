@@ -10,8 +10,8 @@ pub mod KeyLemmas
 pub mod LeftLemmas
 pub mod MoveLemmas
 pub mod NestedLemmas
-pub mod PlaceLemmas
 pub mod PairLemmas
+pub mod PlaceLemmas
 pub mod RunLemmas
 pub mod SlotLemmas
 pub mod ZipLemmas

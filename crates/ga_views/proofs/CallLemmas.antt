@@ -3,7 +3,16 @@ use Rattle.ga_views.specs.Calls.{MayFold, MayGenerate, MayMap, MayTryGenerate, M
 use Rattle.ga_views.specs.Entries.{CallAt, CallAtPair, FoldAt}
 use Rattle.ga_views.specs.Runs.{ClosureRun, FoldRun}
 use Rattle.std.proofs.Common.{◌≡◌, ℕ, ◌<◌, List, [], ◌∷◌, ◌++◌, Ok, Result, ap, map, refl, subst, sym}
-use Rattle.std.specs.List.{range_with_len, zip}
+use Rattle.std.proofs.lemmas.List.Elements.{All-head, All-tail}
+use Rattle.std.specs.List.{All, range_with_len, zip}
+
+-- what holds of all items holds of the one that a walk has come to: a closure that asks for it may be called
+pub holds-within : {T : Type 0} (P : T → Type 0) (items passed others : List T) (item : T) → All P items
+    → items ≡ passed ++ item ∷ others → P item
+holds-within P items [] others item all whole = All-head P item others (subst (All P) whole all)
+holds-within P items (x ∷ passed) others item all whole =
+    holds-within P (passed ++ item ∷ others) passed others item
+    (All-tail P x (passed ++ item ∷ others) (subst (All P) whole all)) refl
 
 module _ {F X Y : Type 0} (step : F → X → Y → F → Type 0) where
   -- where no call changes f, a run leaves it as it is

@@ -1,13 +1,18 @@
 -- Rows from both ends, and the rows of the items that fill them: what a walk over rows and a cut behind them cite.
 use Rattle.ga_views.specs.Rows.{chunk_count, chunk_rest, row_at, rows}
 use Rattle.std.proofs.Common.{◌≡◌, ℕ, zero, suc, ◌+◌, ◌-◌, ◌*◌, ◌/◌, ◌<◌, ◌≤◌, List, [], ◌∷◌, ◌++◌, None, Some, map}
-use Rattle.std.proofs.Common.{length, min, take, drop, refl, sym, ap, ◌∙◌, arith, length-append, length-drop, slice_get}
+use Rattle.std.proofs.Common.{length, min, take, drop, reverse, refl, sym, subst, ap, ◌∙◌, arith, length-append, length-drop}
+use Rattle.std.proofs.Common.{slice_get}
 use Rattle.std.proofs.Math.Nat.{div-eq-sub-div, div-eq_of_lt, div-mul-le_self, div-zero, mul-div_cancel}
 use Rattle.std.proofs.Math.Nat.{mul-le-mul_right, zero-div}
-use Rattle.std.proofs.lemmas.List.{drop-drop, drop-take, length-take-le, take-take, take_all}
+use Rattle.std.proofs.lemmas.Iterator.{YieldsList}
+use Rattle.std.proofs.lemmas.Iterator.Consumers.{YieldsList-from_shown}
+use Rattle.std.proofs.lemmas.List.{drop-drop, drop-take, length-reverse, length-take-le, reverse-append, take-take, take_all}
 use Rattle.std.proofs.lemmas.List.FromFn.{get_or-map-range_with_len, length-map-range_with_len, map-range_with_len_more}
 use Rattle.std.proofs.lemmas.List.FromFn.{take-map-range_with_len}
 use Rattle.std.proofs.lemmas.Option.{slice_get_past, slice_get_read}
+use Rattle.std.specs.Iterator.{YieldsLastBy}
+use Rattle.std.specs.Iterator.Adapters.{rev_source, rev_steps}
 use Rattle.std.specs.List.{range_with_len}
 
 -- items that fill so many rows leave no rest
@@ -244,6 +249,16 @@ module _ {X : Type 0} (width : ℕ) (items : List X) (whole : length items ≡ c
       let told : rows width items ≡ rows width (take before items) ++ drop before items ∷ [] =
       ap (λ n. map (row_at width items) (range_with_len 0 n)) all ∙ (more ∙ cc (back.1, fewest, first, row)) in
       (told, back.0, omega (arith, ap length told, length-append (rows width (take before items)) (drop before items ∷ [])))
+
+-- what `rev` yields of an iterator that is a list, as one over rows is: for searches from the back
+pub YieldsList-from_last : {A B : Type 0} (value : A → B) {source : _} (items : List B) → rev_source source ≡ items
+    → YieldsList (rev_steps (YieldsLastBy value (λ (left : List B). left))) value source (reverse items)
+YieldsList-from_last {A} {B} value {source} items shows =
+    let steps = rev_steps (YieldsLastBy value (λ (left : List B). left)) in
+    subst (λ list. YieldsList steps value source (reverse list)) shows
+    (YieldsList-from_shown steps value (λ state. reverse (rev_source state))
+    (λ state next ends. length-reverse _ ∙ ap length ends.0)
+    (λ state item next step. ap reverse step ∙ reverse-append (rev_source next) (value item ∷ [])) source)
 
 -- how many rows there are, which there is at an index, and that it ends within the items
 pub ruleset row_facts = (length-rows, rows-few, row-within, slice_get-rows, slice_get-rows_past)
