@@ -16,8 +16,8 @@ ON = {
     "ga_ciphers": "ga_ciphers generic_array",
     "ga_uses": "ga_uses generic_array",
 }
-# The crate of tests that comes with a library where it is asked for.
-TESTS = {"ga_hashes": "ga_hashes_tests"}
+# The crate of tests that comes with a library where it is asked for: it needs all three.
+TESTS = dict.fromkeys(("ga_hashes", "ga_ciphers", "ga_uses"), "ga_uses_tests")
 # What of a crate `rt` reads. Its wrong bodies and documents stay in this checkout.
 PARTS = ("src", "specs", "proofs")
 LIST, RECORD, LICENSE = "crates.txt", "laid.json", "LICENSE"

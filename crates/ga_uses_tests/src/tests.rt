@@ -1,11 +1,19 @@
-//! The tests, a module for each subject.
+//! The tests, a module for each subject: of `ga_hashes`, of `ga_ciphers` and of `ga_uses`.
+mod block_buffer;
 mod block_cipher;
+mod blocks;
 mod chacha20;
+mod compare;
 mod counter_mode;
 mod errors;
 mod ethernet;
+mod hash_function;
+mod hkdf;
+mod hmac;
 mod key_table;
 mod matrix;
+mod merkle;
+mod one_time_password;
 mod std_maps;
 mod udp;
 mod xtea;

@@ -1,4 +1,4 @@
-use Rattle.ga_hashes_tests.proofs.blocks.blocks_of_two.Goals as goal
+use Rattle.ga_uses_tests.proofs.tests.blocks.blocks_of_two.Goals as goal
 use Rattle.std.proofs.Common.{◌++◌, [], arith, length-append, refl}
 
 pub returns : goal.returns

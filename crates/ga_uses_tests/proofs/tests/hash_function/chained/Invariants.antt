@@ -1,5 +1,5 @@
-use Rattle.ga_hashes_tests.proofs.hash_function.chained.Given as goal
-use Rattle.ga_hashes_tests.specs.Chained.{chained}
+use Rattle.ga_uses_tests.proofs.tests.hash_function.chained.Given as goal
+use Rattle.ga_uses_tests.specs.Chained.{chained}
 use Rattle.std.proofs.Common.{◌≡◌}
 
 -- the digest so far was digested again so many times

@@ -1,6 +1,6 @@
 //! Callers, each proved; digests of the standards' own example, by each hash function and however
 //! it is cut; and digests of digests, by Python's `hashlib`.
-ghost use Rattle.ga_hashes_tests.specs.Chained.{chained};
+ghost use Rattle.ga_uses_tests.specs.Chained.{chained};
 ghost use Rattle.std.specs.Prelude.{◌≡◌, ◌++◌};
 
 use ga_core::GenericArray;

@@ -1,6 +1,6 @@
 ghost use Rattle.std.specs.Prelude.{◌≡◌, ◌+◌, ◌^◌, ◌<◌, length};
 
-use crate::blocks::blocks_of_two;
+use crate::tests::blocks::blocks_of_two;
 use ga_core::{GenericArrayRef, U16, U64};
 use ga_hashes::block_buffer::{BlockBuffer, padded_blocks};
 
