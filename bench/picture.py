@@ -30,6 +30,7 @@ FONT = "'DejaVu Sans'"
 STYLE = {
     "svg.hashsalt": "speed",
     "svg.fonttype": "none",  # Text stays text.
+    "path.simplify": False,  # A line without a length is a dot.
     "font.family": FONT.strip("'"),
     "font.size": 7.5,
     "text.color": INK,
@@ -101,8 +102,11 @@ def draw_panel(axes, groups, rows, side):
         axes.axhline(middle + tall / 2, color=LINE, linewidth=0.5)
         for is_many, color in ((False, BLUE), (True, ORANGE)):
             dots = [it for it in places[side] if (it[0] > MANY) == is_many]
-            across, down = [it[0] for it in dots], [middle + it[1] for it in dots]
-            axes.scatter(across, down, s=DOT**2, c=color, linewidths=0, zorder=3, clip_on=False)
+            # All dots as one path, of lines without a length whose ends are round.
+            across = [it for ratio, _ in dots for it in (ratio, ratio, None)]
+            down = [it for _, height in dots for it in (middle + height, middle + height, None)]
+            axes.plot(across, down, color=color, linewidth=DOT, solid_capstyle="round", zorder=3,
+                      clip_on=False)
         worst = max(cases, key=lambda it: it.ratios[side])
         said = f"{worst.name}: {worst.ratios[side]:.2f}"
         color = ORANGE if worst.ratios[side] > MANY else SOFT
