@@ -5,7 +5,7 @@ ghost use Rattle.std.specs.List.{swap, swap_remove};
 ghost use Rattle.std.specs.Ordering.{nat_cmp};
 ghost use Rattle.std.specs.Prelude.{◌≡◌, ◌+◌, ◌-◌, ◌<◌, ◌≤◌, ◌++◌, ◌∷◌, ◌==◌, [], IsOk, IsPermutation, IsSorted, Some, drop, filter, insert, length, nat_lt, not, remove, slice_get, slice_set, take};
 
-use ga_core::{AllocError, ArrayBuilder, ArrayLength, GenericArray};
+use ga_core::{AllocError, ArrayBuilder, ArrayLength, GenericArray, U4};
 use std::mem;
 
 fn joined<T: Copy + Default + Drop, N: ArrayLength<T>>(
@@ -195,4 +195,11 @@ fn drawn<T: Default + Drop, N: ArrayLength<T>>(list: &mut ArrayBuilder<T, N>, in
     ensures others { list.new ≡ swap_remove list.old index result }
 {
     list.swap_remove(index)
+}
+
+#[test]
+fn a_replaced_item_is_returned(rt: HostRuntime) {
+    let mut list: ArrayBuilder<u8, U4> = ArrayBuilder::new();
+    list.extend_from_slice(b"abc");
+    assert!(rt; replaced(&mut list, 1, b'x') == b'b' && list.as_slice() == b"axc".as_slice());
 }
