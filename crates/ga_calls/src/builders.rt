@@ -37,13 +37,16 @@ fn by_pushes<'a, T: Item + Given<'a>, N: ArrayLength<T>>(counts: &'a Counts) -> 
     ends(last, counts)
 }
 
-/// Takes the first item.
-fn by_remove<'a, T: Item + Given<'a>, N: ArrayLength<T>>(counts: &'a Counts) -> Came
+/// Takes the first item, and then the first of those that are left, with the last in its place.
+fn by_removals<'a, T: Item + Given<'a>, N: ArrayLength<T>>(counts: &'a Counts) -> Came
     requires { FitsInline N.USIZE }
 {
     let mut list = full::<T, N>(counts);
     if list.position() > 0 {
         drop(list.remove(0));
+    }
+    if list.position() > 0 {
+        drop(list.swap_remove(0));
     }
     ends(list, counts)
 }
@@ -148,13 +151,15 @@ pub(crate) fn first_wrong_list<'a, 'n, T: Item + Given<'a>, N: ArrayLength<T>>(
     requires { FitsInline N.USIZE }
 {
     let pushed = by_pushes::<T, N>(counts);
+    let removed = by_removals::<T, N>(counts);
     let taken = ends(full::<T, N>(counts), counts);
     let of_lists = rows! {
         "ArrayBuilder::push": 0, pushed;
         "ArrayBuilder::pop": 0, pushed;
         "ArrayBuilder::insert": 0, pushed;
         "ArrayBuilder::take_from": 0, taken;
-        "ArrayBuilder::remove": 0, by_remove::<T, N>(counts);
+        "ArrayBuilder::remove": 0, removed;
+        "ArrayBuilder::swap_remove": 0, removed;
         "ArrayBuilder::truncate": 0, by_cuts::<T, N>(counts, false);
         "ArrayBuilder::clear": 0, by_cuts::<T, N>(counts, true);
         "ArrayBuilder::extend_from_clones": 0, by_clones::<T, N>(counts, false);

@@ -1,8 +1,12 @@
-//! Builders as lists of at most `N` items, of any length: one edit after the other.
+//! Builders as lists of at most `N` items, of any length: one edit after the other, the items that
+//! pass a test, and items written.
 ghost use Rattle.ga_core.specs.Length.{FitsInline};
-ghost use Rattle.std.specs.Prelude.{◌≡◌, ◌+◌, ◌<◌, ◌≤◌, ◌++◌, ◌∷◌, [], IsOk, drop, insert, length, remove, take};
+ghost use Rattle.std.specs.List.{swap, swap_remove};
+ghost use Rattle.std.specs.Ordering.{nat_cmp};
+ghost use Rattle.std.specs.Prelude.{◌≡◌, ◌+◌, ◌-◌, ◌<◌, ◌≤◌, ◌++◌, ◌∷◌, ◌==◌, [], IsOk, IsPermutation, IsSorted, Some, drop, filter, insert, length, nat_lt, not, remove, slice_get, slice_set, take};
 
-use ga_core::{AllocError, ArrayBuilder, ArrayLength, GenericArray};
+use ga_core::{AllocError, ArrayBuilder, ArrayLength, GenericArray, U4};
+use std::mem;
 
 fn joined<T: Copy + Default + Drop, N: ArrayLength<T>>(
     first: &[T],
@@ -81,4 +85,121 @@ fn extended_by_clones<N: ArrayLength<u8>>(
     ensures items { list.new ≡ list.old ++ items.now }
 {
     list.extend_from_clones(items)
+}
+
+/// A second list of the same items: that the first is read tells that `N` items fit inline.
+fn copied<T: Copy + Default + Drop, N: ArrayLength<T>>(
+    list: &ArrayBuilder<T, N>,
+) -> ArrayBuilder<T, N>
+    ensures { result ≡ list.now }
+{
+    let items = list.as_slice();
+    let mut copy = ArrayBuilder::new();
+    copy.extend_from_slice(items);
+    copy
+}
+
+fn keep_below<N: ArrayLength<u32>>(list: &mut ArrayBuilder<u32, N>, limit: u32)
+    ensures { list.new ≡ filter (λ item. nat_lt item limit) list.old }
+{
+    let items = list.as_slice();
+    let mut kept = ArrayBuilder::new();
+    for item in items {
+        if *item < limit {
+            kept.push(*item);
+        }
+    }
+    *list = kept;
+}
+
+/// Keeps the items that pass a test.
+fn retain<T: Copy + Default + Drop, N: ArrayLength<T>, F: Fn(&T) -> bool>(
+    list: &mut ArrayBuilder<T, N>,
+    keep: F,
+)
+    requires callable { F.IsAlwaysCallable keep }
+    ensures { length list.new ≤ length list.old }
+{
+    let items = list.as_slice();
+    let mut kept = ArrayBuilder::new();
+    for item in items {
+        if keep(item) {
+            kept.push(*item);
+        }
+    }
+    *list = kept;
+}
+
+/// A key in front of the others, of which the last is dropped where there is no room for it.
+fn touch<N: ArrayLength<u32>>(keys: &mut ArrayBuilder<u32, N>, key: u32)
+    requires { 0 < N.USIZE }
+    ensures { keys.new
+        ≡ key ∷ take (N.USIZE - 1) (filter (λ other. not (other == key)) keys.old) }
+{
+    let items = keys.as_slice();
+    let mut kept = ArrayBuilder::new();
+    for other in items {
+        if *other != key {
+            kept.push(*other);
+        }
+    }
+    kept.truncate(N::USIZE - 1);
+    kept.insert(0, key);
+    *keys = kept;
+}
+
+fn put<T: Drop, N: ArrayLength<T>>(list: &mut ArrayBuilder<T, N>, index: usize, item: T)
+    requires { index < length list.old }
+    ensures { list.new ≡ slice_set list.old index item }
+{
+    list.as_mut_slice()[index] = item;
+}
+
+/// Puts an item in the place of another, which it returns.
+fn replaced<T, N: ArrayLength<T>>(list: &mut ArrayBuilder<T, N>, index: usize, item: T) -> T
+    requires { index < length list.old }
+    ensures item { slice_get list.old index ≡ Some result }
+    ensures items { list.new ≡ slice_set list.old index item }
+{
+    mem::replace(&mut list.as_mut_slice()[index], item)
+}
+
+/// The two topmost items of a stack in each other's place.
+fn swap_top<T, N: ArrayLength<T>>(stack: &mut ArrayBuilder<T, N>)
+    requires { 2 ≤ length stack.old }
+    ensures { stack.new ≡ swap stack.old (length stack.old - 2) (length stack.old - 1) }
+{
+    let len = stack.position();
+    stack.as_mut_slice().swap(len - 2, len - 1);
+}
+
+fn sort<N: ArrayLength<u32>>(list: &mut ArrayBuilder<u32, N>)
+    ensures sorted { IsSorted nat_cmp list.new }
+    ensures same { IsPermutation list.old list.new }
+{
+    list.as_mut_slice().sort_unstable();
+}
+
+/// The first `count` items go behind the others.
+fn rotate<T, N: ArrayLength<T>>(list: &mut ArrayBuilder<T, N>, count: usize)
+    requires { count ≤ length list.old }
+    ensures { list.new ≡ drop count list.old ++ take count list.old }
+{
+    list.as_mut_slice().rotate_left(count);
+}
+
+/// Takes an item out of a list whose order doesn't matter.
+fn drawn<T: Default + Drop, N: ArrayLength<T>>(list: &mut ArrayBuilder<T, N>, index: usize) -> T
+    requires { index < length list.old }
+    ensures item { slice_get list.old index ≡ Some result }
+    ensures others { list.new ≡ swap_remove list.old index result }
+{
+    list.swap_remove(index)
+}
+
+#[test]
+fn a_replaced_item_is_returned(rt: HostRuntime) {
+    let mut list: ArrayBuilder<u8, U4> = ArrayBuilder::new();
+    list.extend_from_slice(b"abc");
+    assert!(rt; replaced(&mut list, 1, b'x') == b'b' && list.as_slice() == b"axc".as_slice());
 }

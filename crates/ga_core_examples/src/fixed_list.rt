@@ -1,6 +1,8 @@
 //! A list with room for `N` items, kept inline: a builder that is never finished.
+ghost use Rattle.ga_core.specs.Fill.{TakeRuns};
 ghost use Rattle.ga_core.specs.Length.{FitsInline};
-ghost use Rattle.std.specs.Prelude.{◌≡◌, ◌<◌, ◌↔◌, ◌++◌, ◌∷◌, [], IfErr, IfNone, IfSome, IsOk, IsSome, OnOk, length};
+ghost use Rattle.std.specs.List.{swap_remove};
+ghost use Rattle.std.specs.Prelude.{◌≡◌, ◌-◌, ◌<◌, ◌≤◌, ◌↔◌, ◌++◌, ◌∷◌, [], IfErr, IfNone, IfSome, IsOk, IsSome, OnOk, Some, drop, length, slice_get, take};
 
 use ga_core::{ArrayBuilder, ArrayLength};
 use std::marker::Model;
@@ -28,7 +30,8 @@ impl<T: Default + Drop, N: ArrayLength<T>> FixedList<T, N> {
     }
 
     fn len(&self) -> usize
-        ensures { result ≡ length self.now }
+        ensures len { result ≡ length self.now }
+        ensures bound { length self.now ≤ N.USIZE }
     {
         self.items.position()
     }
@@ -46,16 +49,56 @@ impl<T: Default + Drop, N: ArrayLength<T>> FixedList<T, N> {
         Ok(())
     }
 
+    // Appends the item. Requires that there is room.
+    fn push_back(&mut self, item: T)
+        requires room { length self.old < N.USIZE }
+        ensures items { self.new ≡ self.old ++ item ∷ [] }
+        ensures bound { length self.new ≤ N.USIZE }
+    {
+        self.items.push(item);
+    }
+
+    // Appends items until there is no room, or the iterator ends.
+    fn extend<I: Iterator<Item = T>>(&mut self, items: &mut I)
+        requires { I.can_next items.old }
+        ensures { TakeRuns I.next_gives items.old (N.USIZE - length self.old) (λ taken.
+            self.new ≡ self.old ++ taken) }
+    {
+        self.items.extend(items);
+    }
+
     fn pop(&mut self) -> Option<T>
         ensures variant { IsSome result ↔ (0 < length self.old) }
         ensures some { IfSome result (λ item. self.old ≡ self.new ++ item ∷ []) }
         ensures none { IfNone result (self.new ≡ self.old) }
+        ensures bound { length self.old ≤ N.USIZE }
     {
         self.items.pop()
     }
 
+    fn pop_front(&mut self) -> Option<T>
+        ensures item { result ≡ slice_get self.old 0 }
+        ensures rest { self.new ≡ drop 1 self.old }
+        ensures bound { length self.old ≤ N.USIZE }
+    {
+        if self.items.position() == 0 {
+            return None;
+        }
+        Some(self.items.remove(0))
+    }
+
+    // Takes the item at `index`, and puts the last in its place. Requires that there is one.
+    fn swap_remove(&mut self, index: usize) -> T
+        requires { index < length self.old }
+        ensures item { slice_get self.old index ≡ Some result }
+        ensures others { self.new ≡ swap_remove self.old index result }
+    {
+        self.items.swap_remove(index)
+    }
+
     fn as_slice(&self) -> &[T]
-        ensures { result.now ≡ self.now }
+        ensures items { result.now ≡ self.now }
+        ensures bound { length self.now ≤ N.USIZE }
     {
         self.items.as_slice()
     }
@@ -64,5 +107,15 @@ impl<T: Default + Drop, N: ArrayLength<T>> FixedList<T, N> {
         ensures { self.new ≡ [] }
     {
         self.items.clear();
+    }
+}
+
+/// The first item goes behind the others. What `pop_front` says of the bound tells that there is
+/// room for it.
+fn turned<T: Default + Drop, N: ArrayLength<T>>(list: &mut FixedList<T, N>)
+    ensures { list.new ≡ drop 1 list.old ++ take 1 list.old }
+{
+    if let Some(item) = list.pop_front() {
+        list.push_back(item);
     }
 }

@@ -5,6 +5,8 @@
 #![tactic(auto)]
 
 #[cfg(test)]
+mod builder_fills;
+#[cfg(test)]
 mod builders;
 #[cfg(test)]
 mod builds;

@@ -102,6 +102,40 @@ fn builders_are_edited_as_vectors_are(rt: HostRuntime) {
     assert!(rt; are_cloned(&mut list) && list.position() == 2);
 }
 
+/// What writes leave of 3, 1, 4, as digits: one item set, all sorted, and the first behind the
+/// others. The slot behind them holds a 0, which is no item.
+fn written<N: ArrayLength<u32>>(list: &mut ArrayBuilder<u32, N>) -> [u32; 3]
+    requires room { N.USIZE ≡ 4 }
+    requires empty { list.old ≡ [] }
+    ensures { length list.new ≡ 3 }
+{
+    list.extend_from_slice(&[3, 1, 4]);
+    list.as_mut_slice()[1] = 9;
+    let set = digits(list.as_slice());
+    list.as_mut_slice().sort_unstable();
+    let sorted = digits(list.as_slice());
+    list.as_mut_slice().rotate_left(1);
+    [set, sorted, digits(list.as_slice())]
+}
+
+/// The first of three items, what is left once the last is in its place, as digits, then the last
+/// of these, and what is left without it.
+fn drawn<N: ArrayLength<u32>>(list: &mut ArrayBuilder<u32, N>) -> [u32; 4]
+    requires { length list.old ≡ 3 }
+{
+    let first = list.swap_remove(0);
+    let others = digits(list.as_slice());
+    let last = list.swap_remove(1);
+    [first, others, last, digits(list.as_slice())]
+}
+
+#[test]
+fn items_of_builders_are_written_and_drawn(rt: HostRuntime) {
+    let mut list: ArrayBuilder<u32, U4> = ArrayBuilder::new();
+    assert!(rt; written(&mut list) == [394, 349, 493]);
+    assert!(rt; drawn(&mut list) == [4, 39, 9, 3]);
+}
+
 /// How many there are of the one: with four items, once one was taken out, cut to one, and cleared.
 fn dropped_by_cuts<N: ArrayLength<Held>>(
     list: &mut ArrayBuilder<Held, N>,
