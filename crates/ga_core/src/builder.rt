@@ -219,6 +219,7 @@ impl<T: Clone + Default + Drop, N: ArrayLength<T>> ArrayBuilder<T, N> {
             × AllZip T.is_clone items.now copies) }
         ensures err { OnErr result (self.new ≡ self.old) }
         ensures succeeds { All T.is_infallible items.now → IsOk result }
+        ensures bound { length self.new ≤ N.USIZE }
     {
         let first = self.position;
         let count = items.len();
