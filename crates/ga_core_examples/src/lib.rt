@@ -33,6 +33,8 @@ pub mod records;
 #[cfg(test)]
 mod row_loops;
 #[cfg(test)]
+mod row_searches;
+#[cfg(test)]
 mod row_walks;
 #[cfg(test)]
 mod rows;
