@@ -37,6 +37,8 @@ mod row_searches;
 #[cfg(test)]
 mod row_walks;
 #[cfg(test)]
+mod row_writes;
+#[cfg(test)]
 mod rows;
 #[cfg(test)]
 mod slices;
