@@ -46,3 +46,5 @@ mod slices;
 mod view_loans;
 #[cfg(test)]
 mod views;
+#[cfg(test)]
+mod windows;
