@@ -8,6 +8,8 @@
 mod builders;
 #[cfg(test)]
 mod builds;
+#[cfg(test)]
+mod codecs;
 /// The digits that callers read from text.
 pub mod digits;
 #[cfg(test)]
