@@ -23,6 +23,8 @@ mod keys;
 #[cfg(test)]
 mod nested;
 #[cfg(test)]
+mod own_errors;
+#[cfg(test)]
 mod own_traits;
 #[cfg(test)]
 mod parts;
