@@ -10,6 +10,8 @@ mod builder_fills;
 mod builders;
 #[cfg(test)]
 mod builds;
+#[cfg(test)]
+mod codecs;
 /// The digits that callers read from text.
 pub mod digits;
 #[cfg(test)]
@@ -23,6 +25,8 @@ mod keys;
 #[cfg(test)]
 mod nested;
 #[cfg(test)]
+mod own_errors;
+#[cfg(test)]
 mod own_traits;
 #[cfg(test)]
 mod parts;
@@ -35,7 +39,11 @@ pub mod records;
 #[cfg(test)]
 mod row_loops;
 #[cfg(test)]
+mod row_searches;
+#[cfg(test)]
 mod row_walks;
+#[cfg(test)]
+mod row_writes;
 #[cfg(test)]
 mod rows;
 #[cfg(test)]
@@ -44,3 +52,5 @@ mod slices;
 mod view_loans;
 #[cfg(test)]
 mod views;
+#[cfg(test)]
+mod windows;

@@ -1,0 +1,110 @@
+//! Windows of numbers, of any length: moved on, counted, searched and kept in order.
+ghost use Rattle.ga_core.specs.Length.{FitsInline};
+ghost use Rattle.std.specs.List.Sorted.{IsNonDecreasing, IsPartitionPoint};
+ghost use Rattle.std.specs.List.{IsFirstBest, IsFirstMaxByKey, range_with_len};
+ghost use Rattle.std.specs.Prelude.{◌≡◌, ◌==◌, ◌/◌, ◌<◌, ◌≤◌, ◌++◌, ◌∷◌, [], ℕ, IfErr, IfOk, IsPermutation, count_by, drop, length, map, nat_lt, slice_index};
+
+use ga_core::{ArrayBuilder, ArrayLength, GenericArray, U4, U5};
+
+fn moved_on<N: ArrayLength<u64>>(window: &mut GenericArray<u64, N>, item: u64)
+    requires { 0 < N.USIZE }
+    ensures { window.new ≡ drop 1 window.old ++ item ∷ [] }
+{
+    // Before the turn: behind it the clause stays open.
+    window[0] = item;
+    window.rotate_left(1);
+}
+
+/// How many numbers fall into a bucket. Bucket 0 holds those below the width.
+fn count_in<N: ArrayLength<u64>>(window: &GenericArray<u64, N>, width: u64, bucket: u64) -> u64
+    requires { 0 < width }
+    ensures { result ≡ count_by (λ x. x / width == bucket) window.now }
+{
+    window.iter().filter(|x| **x / width == bucket).count() as u64
+}
+
+/// How many numbers fall into each of the first K buckets. Those above them aren't counted.
+fn histogram<N: ArrayLength<u64>, K: ArrayLength<u64>>(
+    window: &GenericArray<u64, N>,
+    width: u64,
+) -> GenericArray<u64, K>
+    requires fits { FitsInline K.USIZE }
+    requires width { 0 < width }
+    ensures { result ≡ map (λ bucket. count_by (λ x. x / width == bucket) window.now)
+        (range_with_len 0 K.USIZE) }
+{
+    GenericArray::generate(
+        |bucket: usize| -> u64
+            requires { 0 < width }
+        { count_in(window, width, bucket as u64) },
+    )
+}
+
+/// Where the greatest number stands first.
+fn argmax<N: ArrayLength<u64>>(window: &GenericArray<u64, N>) -> usize
+    requires { 0 < N.USIZE }
+    ensures { IsFirstMaxByKey (λ x. x) window.now N.USIZE result }
+{
+    let items = window.as_slice();
+    let mut best = 0;
+    for i in 1..items.len() {
+        if items[best] < items[i] {
+            best = i;
+        }
+    }
+    best
+}
+
+/// Where the least number stands first.
+fn argmin<N: ArrayLength<u64>>(window: &GenericArray<u64, N>) -> usize
+    requires { 0 < N.USIZE }
+    ensures { IsFirstBest nat_lt window.now N.USIZE result }
+{
+    let items = window.as_slice();
+    let mut best = 0;
+    for i in 1..items.len() {
+        if items[i] < items[best] {
+            best = i;
+        }
+    }
+    best
+}
+
+/// The index behind the numbers that aren't above the item.
+fn place_behind(items: &[u64], item: u64) -> usize
+    requires order { IsNonDecreasing items.now }
+    ensures bound { result ≤ length items.now }
+    ensures point { IsPartitionPoint (λ x. x ≤ item) (λ x. item < x) items.now result }
+{
+    items.partition_point(|x| *x <= item)
+}
+
+fn inserted<N: ArrayLength<u64>>(list: &mut ArrayBuilder<u64, N>, item: u64)
+    requires room { length list.old < N.USIZE }
+    requires order { IsNonDecreasing list.old }
+    ensures same { IsPermutation (item ∷ list.old) list.new }
+    ensures order { IsNonDecreasing list.new }
+{
+    let place = place_behind(list.as_slice(), item);
+    list.insert(place, item);
+}
+
+/// An index of the number, or else that at which it would stand.
+#[tactic(auto, using(std::proofs::lemmas::List::Sorted::searched))]
+fn searched<N: ArrayLength<u64>>(array: &GenericArray<u64, N>, item: u64) -> Result<usize, usize>
+    requires { IsNonDecreasing array.now }
+    ensures found { IfOk result (λ i. (i < N.USIZE) × (slice_index array.now i ≡ item)) }
+    ensures absent { IfErr result (λ i. (i ≤ N.USIZE)
+        × ((k : ℕ) → k < i → slice_index array.now k < item)
+        × ((k : ℕ) → i ≤ k → k < N.USIZE → item < slice_index array.now k)) }
+{
+    array.binary_search(&item)
+}
+
+#[test]
+fn numbers_are_counted_and_compared(rt: HostRuntime) {
+    let window: GenericArray<u64, U5> = GenericArray::from([7, 1, 30, 30, 1]);
+    assert!(rt; argmin(&window) == 1 && argmax(&window) == 2);
+    let buckets: GenericArray<u64, U4> = histogram(&window, 10);
+    assert!(rt; buckets.as_slice() == [3, 0, 0, 2].as_slice());
+}
