@@ -46,7 +46,7 @@ fn last_column_of_three(matrix: &Matrix<U3, 2>) -> GenericArray<u64, U2>
 
 // The diagonal: a slice of rows is captured, and indexed twice.
 
-/// The number in the place of its row, of each row.
+/// The numbers whose row is their column, from the first row to the last.
 fn diagonal<C: ArrayLength<u64> + InlineLength, const R: usize>(
     matrix: &Matrix<C, R>,
 ) -> GenericArray<u64, C>
