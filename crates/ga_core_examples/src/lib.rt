@@ -37,6 +37,8 @@ mod plain_calls;
 /// Records read from rows of bytes.
 pub mod records;
 #[cfg(test)]
+mod row_closures;
+#[cfg(test)]
 mod row_loops;
 #[cfg(test)]
 mod row_searches;

@@ -9,6 +9,7 @@ use generic_array::sequence::{Concat, Flatten};
 use generic_array::{
     ArrayLength, BorrowedItems, Const, GenericArray, GenericArrayRef, InlineLength, U2, U6,
 };
+use std::marker::PhantomData;
 
 /// `R` rows of `C` items each.
 ///
@@ -76,13 +77,13 @@ where
     requires width { C.USIZE ≡ WIDTH }
     ensures { result ≡ rows.now }
 {
-    let blank: GenericArray<T, C> = GenericArray::default();
+    let shape = PhantomData::<GenericArray<T, C>>;
     GenericArrayRef::<[T; WIDTH], Const<R>>::from_slice(rows).map_inline_ref(
         |row: &[T; WIDTH]| -> GenericArray<T, C>
             requires { C.USIZE ≡ WIDTH }
             ensures { result ≡ row.now }
         {
-            let _ = &blank;
+            let _ = &shape;
             GenericArray::from_view(GenericArrayRef::from_slice(row))
         },
     )
@@ -137,12 +138,12 @@ fn by_formula<F: Formula, C: ArrayLength<u64> + InlineLength, const R: usize>(
     ensures { result ≡ map (λ row. map (F.value formula.now row) (range_with_len 0 C.USIZE))
         (range_with_len 0 R) }
 {
-    let blank: GenericArray<u64, C> = GenericArray::default();
+    let shape = PhantomData::<GenericArray<u64, C>>;
     GenericArray::generate(
         |row: usize| -> GenericArray<u64, C>
             ensures { result ≡ map (F.value formula.entry.now row) (range_with_len 0 C.USIZE) }
         {
-            let _ = &blank;
+            let _ = &shape;
             row_by_formula(formula, row)
         },
     )
