@@ -1,13 +1,14 @@
 //! Matrices as arrays of rows, by value through functions of any lengths, with exact results.
 ghost use Rattle.generic_array.specs.Length.{FitsInline};
+ghost use Rattle.generic_array.specs.Rows.{rows};
 ghost use Rattle.std.specs.Int.{int_wrapping_add, w64};
 ghost use Rattle.std.specs.List.{flat_map, range_with_len, zip};
-ghost use Rattle.std.specs.Prelude.{◌≡◌, ℕ, ◌+◌, ◌*◌, ◌%◌, ◌^◌, ◌↔◌, ◌++◌, IsTrue, length, map};
+ghost use Rattle.std.specs.Prelude.{◌≡◌, ℕ, ◌+◌, ◌*◌, ◌%◌, ◌^◌, ◌<◌, ◌↔◌, ◌++◌, IsTrue, length, map};
 
 use ga_test_items::answers::has;
-use generic_array::sequence::{Concat, Flatten};
+use generic_array::sequence::{Concat, Flatten, Unflatten};
 use generic_array::{
-    ArrayLength, BorrowedItems, Const, GenericArray, GenericArrayRef, InlineLength, U2, U6,
+    ArrayLength, BorrowedItems, Const, GenericArray, GenericArrayRef, InlineLength, U2, U3, U6,
 };
 use std::marker::PhantomData;
 
@@ -65,6 +66,48 @@ where
     ensures { result ≡ flat_map (λ row. row) rows }
 {
     rows.flatten()
+}
+
+/// The items cut into rows.
+fn cut<T, C, N, const R: usize>(items: GenericArray<T, N>) -> Rows<T, C, R>
+where
+    T: Default + Drop,
+    C: ArrayLength<T> + InlineLength,
+    N: ArrayLength<T> + InlineLength,
+    requires fits { FitsInline R }
+    requires some { 0 < C.USIZE }
+    requires area { N.USIZE ≡ R * C.USIZE }
+    ensures cut { result ≡ rows C.USIZE items }
+    ensures joined { flat_map (λ row. row) result ≡ items }
+{
+    items.unflatten()
+}
+
+/// The same items in rows of another length. The type of the items in between stands in the
+/// signature.
+fn reshaped<T, C, D, N, const R: usize, const S: usize>(
+    matrix: Rows<T, C, R>,
+    _flat: PhantomData<GenericArray<T, N>>,
+) -> Rows<T, D, S>
+where
+    T: Default + Drop,
+    C: ArrayLength<T> + InlineLength,
+    D: ArrayLength<T> + InlineLength,
+    N: ArrayLength<T> + InlineLength,
+    requires fits { FitsInline S }
+    requires some { 0 < D.USIZE }
+    requires before { N.USIZE ≡ R * C.USIZE }
+    requires after { N.USIZE ≡ S * D.USIZE }
+    ensures { flat_map (λ row. row) result ≡ flat_map (λ row. row) matrix }
+{
+    let items: GenericArray<T, N> = flat(matrix);
+    cut(items)
+}
+
+fn two_threes(pairs: Rows<i64, U2, 3>) -> Rows<i64, U3, 2>
+    ensures { flat_map (λ row. row) result ≡ flat_map (λ row. row) pairs }
+{
+    reshaped(pairs, PhantomData::<GenericArray<i64, U6>>)
 }
 
 /// The rows of a native array of arrays.
@@ -178,6 +221,7 @@ fn pairs_are_made_added_joined_and_copied(rt: HostRuntime) {
     assert!(rt; has(sums, &[2, -4, 6, 8, 10, 12]));
     let longer: Rows<i64, U2, 4> = stacked(three_pairs(), of_native(&[[7, 8]]));
     assert!(rt; longer[3].as_slice() == [7, 8].as_slice());
+    assert!(rt; two_threes(three_pairs())[1].as_slice() == [4, 5, 6].as_slice());
     let counted: Rows<u64, U2, 3> = by_formula(&CountedOn { width: 2 });
     let counted: GenericArray<u64, U6> = flat(counted);
     assert!(rt; has(counted, &[0, 1, 2, 3, 4, 5]));
