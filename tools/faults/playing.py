@@ -18,6 +18,12 @@ def shown(it):
     return repr(it)
 
 
+def differences(seen, wanted):
+    """What is seen and not wanted, or nothing."""
+    fields = zip(Seen._fields, seen, wanted)
+    return "; ".join(f"{it} {shown(a)}, and not {shown(b)}" for it, a, b in fields if a != b)
+
+
 class Tally:
     """Prints a line for each case, and counts them."""
 
@@ -36,9 +42,7 @@ class Tally:
         """Where one of the signals ends the program in place of a status, it tells nothing."""
         if -seen.status in signals:
             wanted = wanted._replace(status=seen.status, err=b"")
-        fields = zip(Seen._fields, seen, wanted)
-        wrong = [f"{it} {shown(a)}, and not {shown(b)}" for it, a, b in fields if a != b]
-        self.case(name, "; ".join(wrong))
+        self.case(name, differences(seen, wanted))
 
 
 @contextlib.contextmanager

@@ -9,6 +9,7 @@ from edits import unfit
 from imports import unused
 from lookup import Names
 from promise import unkept
+from promise_page import stale
 from uncalled import uncalled
 
 
@@ -17,7 +18,7 @@ def check(site):
     names = Names(site)
     tried = [found for part in (unwritten, unused, unnamed, uncounted, unfit, uncalled)
              for found in part(site)]
-    tried += [found for part in (misled, unkept, dangling) for found in part(names)]
+    tried += [found for part in (misled, unkept, stale, dangling) for found in part(names)]
     failures = [found for found in tried if found]
     passed = len(tried) - len(failures)
     print("".join(f"{failure}\n" for failure in failures), end="")

@@ -21,8 +21,10 @@ def shown_first(names, name):
     asked = names.asked(name)
     if asked.first:
         return names.full_name(asked.first)
-    row = next((row for row in asked.rows if row.ours or row.told), None)
-    return " ".join([TELLS, row.theirs, row.ours, *row.told]) if row else "nothing"
+    if row := next((row for row in asked.rows if row.ours or row.told), None):
+        return " ".join([TELLS, row.theirs, row.ours, *row.told])
+    told = [cell for row in names.told_rows(name, asked)[:1] for _, cell in row.cells]
+    return " ".join([TELLS, *told]) if told else "nothing"
 
 
 def misled(names):

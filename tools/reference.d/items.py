@@ -10,6 +10,8 @@ from paths import OF_FILES
 from std_words import modules_of
 from text import first_sentence, use_line
 
+# The crates whose functions are shown with their code, as those of the examples are.
+USES = ("ga_hashes", "ga_ciphers", "ga_uses")
 # What a module's lists are called, in their order.
 LISTS = {"Modules": ["mod"], "Types": ["struct", "enum"], "Traits": ["trait"], "Aliases": ["type"],
          "Functions": ["fn"], "Macros": ["macro"], "Constants": ["const", "static"],
@@ -48,6 +50,12 @@ class Items(Outside):
                 *self.docs(item), *self.clauses(clauses, cited[0].values()),
                 *self.conditions(item), *self.words(cited), *self.imports([item]),
                 *self.beside(item)]
+
+    def use(self, item):
+        """A function of a crate of uses: its code, and the words that its clauses cite."""
+        impl = impl_of(item)
+        return [*(self.head(impl) if impl else ()), *self.sample(item),
+                *self.words(self.cited([item])), *self.beside(item)]
 
     def of_trait(self, item):
         """A member of an impl of a trait: what it says, or else what the trait says of it, and the
@@ -192,4 +200,5 @@ class Items(Outside):
             return [*self.code(declaration(item, self.width)), *self.docs(item), *self.type(item)]
         if impl_of(item) and impl_of(item).of_trait:
             return self.of_trait(item)
-        return self.call(item)
+        is_use = item.kind == "fn" and self.names.path(item)[0] in USES
+        return self.use(item) if is_use else self.call(item)

@@ -11,6 +11,7 @@ from advice import names_of_two
 from callers import Callers
 from lemmas import of_files
 from meanings import LIBRARIES, header
+from messages import Messages
 from paths import Index, Paths, is_named
 from samples import Samples, hidden
 from slices import OWNERS, slice_methods
@@ -78,6 +79,7 @@ class Names(Paths):
         self.rows, self.clauses = rust.rows(site.top), rust.rows(site.top, rust.OF_CLAUSES)
         self.std, self.samples = StdWords(site.library), Samples(site)
         self.callers, self.twice = Callers(site, self.samples), names_of_two(site)
+        self.messages = Messages(site.top)
         lines = [line.partition("\t") for line in OTHER_NAMES.read_text("utf-8").splitlines()]
         self.other_names = {name: meant for names, _, meant in lines for name in names.split()}
 
@@ -118,6 +120,14 @@ class Names(Paths):
         place = FIRST.index(owner) if owner in FIRST else len(FIRST)
         by_trait = bool(impl_of(item)) and bool(impl_of(item).of_trait)
         return self.rank(item), item.kind == "word", 0.5 if of_trait else place, by_trait
+
+    def told_rows(self, name, asked):
+        """The rows of the tables that tell what to write: for a name those that have it as code and
+        that aren't told, and for what is none those that have its words."""
+        if not asked.first and not asked.rows:
+            return self.messages.having(name)
+        known = {row.place for row in asked.rows}
+        return [row for row in self.messages.naming(parts_of(name)[-1]) if row.place not in known]
 
     def asked(self, name):
         """What a name means, sorted by what a reader most likely means: items of the library, then

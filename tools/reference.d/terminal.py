@@ -15,7 +15,7 @@ from promise import TITLE, carriers
 from rust import names_in
 from text import BOLD, FAINT, first_sentence
 
-MOST_OTHERS, MOST_HERE = 8, 6
+MOST_OTHERS, MOST_HERE, MOST_TOLD = 8, 6, 4
 
 
 class Answers(Items):
@@ -55,6 +55,15 @@ class Answers(Items):
         more = len(items) - MOST_OTHERS
         pairs += [(f"and {more} more", "")] if more > 0 else []
         return self.listed("Called so too", pairs)
+
+    def told(self, rows, most):
+        """So many rows of the documents' tables, each with its document and heading."""
+        lines = []
+        for row in rows[:most]:
+            cells = [(title, cell) for title, cell in row.cells if cell]
+            lines += self.listed(f"{row.place}, under {row.heading}", cells)
+        more = len(rows) - most
+        return [*lines, *self.said(f"And {more} more rows have it." if more > 0 else "")]
 
     def promise(self):
         """What the library promises: each sentence, with the clauses of those that carry it."""
@@ -100,9 +109,13 @@ def coloured():
 
 
 def unknown(names, name):
-    """What is said of a name that nothing has."""
+    """What is said of a name that nothing has, and of words that stand in no row."""
+    documents = " or ".join(names.messages.documents)
+    if re.search(r"\s", name):
+        yield f"tools/reference: no row of {documents} has these words: give fewer, or read there."
+        return
     near = names.near(name)
-    yield f"tools/reference: nothing is called {name}."
+    yield f"tools/reference: nothing is called {name}, and no row of {documents} has it."
     if near:
         yield "Near it:"
         yield from indented(near)
@@ -121,10 +134,15 @@ def show_promise(names):
 
 
 def show(names, name):
-    """Shows what a name means, and tells whether there is such."""
-    asked = names.asked(name)
-    if not asked.first and not asked.rows:
+    """Shows what a name means, or the rows that have a message's words, and tells whether there is
+    such."""
+    asked, text = names.asked(name), text_for(names)
+    is_known = asked.first or asked.rows
+    told = names.told_rows(name, asked)
+    if not is_known and not told:
         sys.stderr.write("".join(f"{line}\n" for line in unknown(names, name)))
         return False
-    printed("\n".join(text_for(names).asked(name, asked)).rstrip("\n"))
+    lines = text.asked(name, asked) + text.told(told, MOST_TOLD) if is_known else (
+        text.told(told, len(told)))
+    printed("\n".join(lines).rstrip("\n"))
     return True

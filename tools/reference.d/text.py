@@ -86,14 +86,18 @@ class Text:
                  for item, line in zip(items, whole)]
         return self.part(self.painted(lines), title)
 
-    def clauses(self, clauses, words, title=""):
-        """Clauses as they are written."""
+    def written(self, clauses):
+        """The lines of clauses."""
         lines = []
         for clause in clauses:
             begin = f"{clause.keyword}{clause.star} {clause.name}".rstrip()
             term = clause.term.replace("\n", "\n    ")
             lines += laid_out(f"{begin} {{ {term} }}", self.width - 4)
-        return self.part(self.painted(lines, words), title)
+        return lines
+
+    def clauses(self, clauses, words, title=""):
+        """Clauses as they are written."""
+        return self.part(self.painted(self.written(clauses), words), title)
 
     def cited(self, items):
         """What the clauses of items name: our definitions and ghost members, each with its name
