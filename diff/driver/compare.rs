@@ -50,7 +50,12 @@ pub struct Tally {
     differ: u64,
     /// How many differ as they should, by the name of the difference.
     wanted: BTreeMap<&'static str, u64>,
+    /// Whether a case has no runs, or lacks the difference that it names.
+    is_blind: bool,
 }
+
+/// Of so many runs some differ where a difference is wanted.
+const ENOUGH: u64 = 100;
 
 impl Tally {
     pub fn runs(&self) -> u64 {
@@ -96,6 +101,11 @@ impl Tally {
         }
         if let Some(it) = &case.wanted {
             line += &format!("; {wanted} as wanted: {}", it.name);
+        }
+        let lacks_wanted = case.wanted.is_some() && wanted == 0 && runs >= ENOUGH;
+        if runs == 0 || lacks_wanted {
+            self.is_blind = true;
+            line += ": it sees nothing";
         }
         println!("{line}");
     }
@@ -145,7 +155,7 @@ impl Tally {
         }
     }
 
-    /// Compares one answer, which may have a difference that is wanted.
+    /// Compares one answer. Where a difference is wanted, it has to be there.
     pub fn compare_once<T: PartialEq + Debug>(
         &mut self,
         name: &str,
@@ -153,17 +163,18 @@ impl Tally {
         original: T,
         wanted: Option<(&'static str, T)>,
     ) {
-        let is_wanted = wanted.as_ref().is_some_and(|(_, it)| ours == *it);
-        let differs = ours != original && !is_wanted;
+        let wants = wanted.as_ref().map_or(&original, |(_, it)| it);
+        let differs = ours != *wants;
         self.count(1, differs.into());
-        match wanted {
-            _ if differs => println!("{name}: {ours:?} differs from {original:?}"),
-            Some((wanted, _)) if is_wanted => self.count_wanted(wanted, 1),
-            _ => println!("{name}: agree"),
+        match &wanted {
+            _ if differs => println!("{name}: {ours:?} differs from {wants:?}"),
+            Some((wanted, _)) => self.count_wanted(wanted, 1),
+            None => println!("{name}: agree"),
         }
     }
 
-    /// Prints the sums, and answers whether no run differs in a way that isn't wanted.
+    /// Prints the sums, and answers whether each case sees what it should, and no run differs in a
+    /// way that isn't wanted.
     pub fn end(&self) -> bool {
         for (name, number) in &self.wanted {
             println!("differ as wanted: {name}: {number} runs");
@@ -171,7 +182,7 @@ impl Tally {
         let wanted: u64 = self.wanted.values().sum();
         let (runs, differ) = (self.runs, self.differ);
         println!("diff: {runs} runs, {differ} differ, and {wanted} as wanted");
-        self.differ == 0
+        self.differ == 0 && !self.is_blind
     }
 }
 

@@ -1,7 +1,7 @@
 //! Makes random calls of our library and of generic-array, and compares the checksums of all that
-//! they answered and dropped: `diff_driver SEEDS`, `diff_driver forever`, or for one run
-//! `diff_driver CASE LENGTH SEED`.
+//! they answered and dropped.
 mod access;
+mod asked;
 mod blocks;
 mod boxed;
 mod boxed_drops;
@@ -29,7 +29,6 @@ mod views;
 mod walk_drops;
 mod walks;
 
-use cases::CASES;
 use compare::Tally;
 use generic_array::typenum::{U4, U64};
 use generic_array::{AllocError, GenericArray, LengthError};
@@ -73,60 +72,9 @@ fn compare_texts(tally: &mut Tally) {
     tally.compare_once("what errors print", ours, original, None);
 }
 
-fn ended(is_right: bool) -> ExitCode {
-    match is_right {
-        true => ExitCode::SUCCESS,
-        false => ExitCode::FAILURE,
-    }
-}
-
-/// Every case with so many seeds for each of its lengths.
-fn compare_all(seeds: u64) -> ExitCode {
-    let mut tally = Tally::default();
-    compare_texts(&mut tally);
-    compare_sizes(&mut tally);
-    for case in CASES {
-        tally.control(case);
-        tally.compare(case, seeds);
-    }
-    ended(tally.end())
-}
-
-fn compare_forever() -> ExitCode {
-    let mut tally = Tally::default();
-    forever::run(&mut tally, CASES);
-    ended(tally.end())
-}
-
-/// One run, by the name of its case, its length and its seed.
-fn replay(name: &str, n: u32, seed: u64) -> ExitCode {
-    let Some(case) = CASES.iter().find(|it| it.name == name && it.lengths.contains(&n)) else {
-        eprintln!("no case has this name and this length; these are there:");
-        for it in CASES {
-            eprintln!("{}: {:?}", it.name, it.lengths);
-        }
-        return ExitCode::from(2);
-    };
-    ended(Tally::default().replay(case, n, seed))
-}
-
 fn main() -> ExitCode {
-    let words: Vec<String> = std::env::args().skip(1).collect();
-    let words: Vec<&str> = words.iter().map(String::as_str).collect();
-    match words[..] {
-        ["forever"] => return compare_forever(),
-        [seeds] => {
-            if let Ok(seeds) = seeds.parse() {
-                return compare_all(seeds);
-            }
-        }
-        [name, n, seed] => {
-            if let (Ok(n), Ok(seed)) = (n.parse(), seed.parse()) {
-                return replay(name, n, seed);
-            }
-        }
-        _ => {}
-    }
-    eprintln!("diff_driver SEEDS | forever | CASE LENGTH SEED");
-    ExitCode::from(2)
+    asked::run(cases::CASES, |tally| {
+        compare_texts(tally);
+        compare_sizes(tally);
+    })
 }

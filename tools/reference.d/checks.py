@@ -13,14 +13,22 @@ from promise_page import stale
 from uncalled import uncalled
 
 
+# What each check looks at. Those of names ask as a reader of `tools/reference NAME` does.
+OF_SITE = {
+    "examples": unwritten, "imports": unused, "public items": unnamed, "rows": uncounted,
+    "wrong bodies": unfit, "callers": uncalled,
+}
+OF_NAMES = {"names": misled, "promise": unkept, "page": stale, "documents": dangling}
+
+
 def check(site):
-    """Prints what is wrong, and tells whether nothing is."""
+    """Prints what is wrong, and how much each check passes, and tells whether nothing is wrong."""
     names = Names(site)
-    tried = [found for part in (unwritten, unused, unnamed, uncounted, unfit, uncalled)
-             for found in part(site)]
-    tried += [found for part in (misled, unkept, stale, dangling) for found in part(names)]
-    failures = [found for found in tried if found]
-    passed = len(tried) - len(failures)
+    tried = {name: list(part(site)) for name, part in OF_SITE.items()}
+    tried |= {name: list(part(names)) for name, part in OF_NAMES.items()}
+    failures = [found for each in tried.values() for found in each if found]
     print("".join(f"{failure}\n" for failure in failures), end="")
-    print(f"reference: {passed} passed, {len(failures)} failed")
+    passed = {name: each.count(None) for name, each in tried.items()}
+    print("".join(f"{name}: {count} passed\n" for name, count in passed.items()), end="")
+    print(f"reference: {sum(passed.values())} passed, {len(failures)} failed")
     return not failures

@@ -47,7 +47,10 @@ def uncalled(site):
         sign = re.compile(rf"\b{item.name}" + ("!" if item.kind == "macro" else r"(?:::<[^()]*>)?\("))
         called = any(may_call(callers, item, function, function.body[:place.start()])
                      for function in found for place in sign.finditer(function.body))
-        without |= {} if called else {site.full_name(item): item}
+        if called:
+            yield None
+        else:
+            without[site.full_name(item)] = item
     lines = [line.partition("\t") for line in LIST.read_text("utf-8").splitlines()]
     for name, item in without.items():
         listed = any(fnmatch.fnmatchcase(name, pattern) for pattern, _, _ in lines)
