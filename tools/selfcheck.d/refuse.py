@@ -49,11 +49,19 @@ def play(cases, room):
     cases.said("refuse: a program that does nothing", nothing, 1, "\nrefuse: 1 passed, 21 failed\n")
     copy(room, "tools/refuse", "tools/faults", "tools/tests")
     write(room, {**CRATES, "try_in_ga_deep": "exit 1"})
-    said = ["ga_deep: FAILED\n", "ga_faults: test result: ok", "ga_rows: test result: ok"]
+    said = ["ga_deep: FAILED", "ga_faults: 1 tests passed\n", "\n3 passed, 1 failed\n"]
     cases.said("tests: one that fails", run(room / "tools" / "tests", made_up=room), 1, *said)
-    why = "FAILED  the cases can be played: rt try left no program of ga_deep"
-    cases.said("refuse: no program", run(room / "tools" / "refuse", made_up=room), 1, why)
+    why = "FAILED  the cases can be played: tools/tests fails"
+    cases.said("refuse: a test that fails at first", run(room / "tools" / "refuse", made_up=room), 1,
+               why)
+    why = f"FAILED  the cases can be played: {room} has no ga_"
+    cases.said("refuse: no program", run(room / "tools" / "refuse", room, made_up=room), 1, why)
     (room / "try_in_ga_deep").unlink()
+    write(room, {"crates/ga_rows/stdout": "1 2 3 4\n"})
+    said = ["ga_rows: ", "the program FAILED, out b'', and not b'1 2 3 4\\n'", "\n3 passed, 1 failed\n"]
+    cases.said("tests: a program that prints something else", run(room / "tools" / "tests",
+               made_up=room), 1, *said)
+    (room / "crates/ga_rows/stdout").unlink()
     built = ["cc", "-fsanitize=address", "-o", room / "tried", HERE / "tried.c"]
     if not shutil.which("cc") or run(*built)[0]:
         return cases.skip([f"refuse: {it}" for it in TOLD], "cc -fsanitize=address")

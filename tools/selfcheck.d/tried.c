@@ -65,7 +65,7 @@ static int rows(const char *mode) {
 int main(int count, char **words) {
     static char out[1 << 16], in[1 << 16];
     const char *word = count > 1 ? words[1] : "--start";
-    int tests = strstr(words[0], "/ga_faults-") ? sizeof TESTS / sizeof *TESTS : 1;
+    int tests = strstr(words[0], "/ga_faults_tests") ? sizeof TESTS / sizeof *TESTS : 1;
     /* So that a stream asks for no memory. */
     setvbuf(stdout, out, _IOFBF, sizeof out);
     setvbuf(stdin, in, _IOFBF, sizeof in);
