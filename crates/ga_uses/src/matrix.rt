@@ -11,6 +11,7 @@ ghost use Rattle.std.specs.Prelude.{◌≡◌, ◌^◌, ◌<◌, length, map, re
 use generic_array::{
     ArrayLength, BorrowedItems, Const, GenericArray, GenericArrayRef, InlineLength,
 };
+use std::marker::PhantomData;
 
 /// `R` rows of `C` numbers each.
 ///
@@ -28,12 +29,12 @@ where
     ensures { result ≡ replicate R (replicate C.USIZE 0) }
 {
     // Captured, since the checker wants the type of the result among what a closure captures.
-    let blank: GenericArray<u64, C> = GenericArray::default();
+    let shape = PhantomData::<GenericArray<u64, C>>;
     GenericArray::generate(
         |_row: usize| -> GenericArray<u64, C>
             ensures { result ≡ replicate C.USIZE 0 }
         {
-            let _ = &blank;
+            let _ = &shape;
             GenericArray::from_copies(0)
         },
     )
@@ -48,12 +49,12 @@ where
     requires square { R ≡ C.USIZE }
     ensures { result ≡ identity_matrix C.USIZE }
 {
-    let blank: GenericArray<u64, C> = GenericArray::default();
+    let shape = PhantomData::<GenericArray<u64, C>>;
     GenericArray::generate(
         |row: usize| -> GenericArray<u64, C>
             ensures { result ≡ unit_row C.USIZE row }
         {
-            let _ = &blank;
+            let _ = &shape;
             unit(row)
         },
     )
@@ -119,14 +120,14 @@ where
 {
     let rows = matrix.as_slice();
     look_at_rows(rows);
-    let blank: GenericArray<u64, M> = GenericArray::default();
+    let shape = PhantomData::<GenericArray<u64, M>>;
     GenericArray::generate(
         |place: usize| -> GenericArray<u64, M>
             requires place { place < C.USIZE }
             requires rows { length rows.now ≡ M.USIZE }
             ensures { result ≡ column_of rows.entry.now place }
         {
-            let _ = &blank;
+            let _ = &shape;
             column(rows, place)
         },
     )
