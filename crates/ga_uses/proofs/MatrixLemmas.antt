@@ -1,18 +1,13 @@
 -- Laws of matrices as lists of rows.
 use Rattle.ga_uses.specs.Matrix.{IsMatrix, column_of, dot_product, identity_matrix, matrix_product, row_product, transpose, unit_row}
-use Rattle.std.proofs.Common.{◌≡◌, ℕ, zero, suc, ◌+◌, ◌*◌, ◌%◌, ◌^◌, ◌<◌, ◌∙◌, List, [], ◌∷◌, add-zero, ap, arith, cond, eqb, get_or, length, map, refl, replicate, sym, zero-add}
+use Rattle.std.proofs.Common.{◌≡◌, ℕ, zero, suc, ◌+◌, ◌*◌, ◌%◌, ◌^◌, ◌<◌, ◌∙◌, List, [], ◌∷◌, add-zero, ap, arith, cond, eqb, get_or, length, map, refl, sym, zero-add}
 use Rattle.std.proofs.Math.Nat.{mod-eq_of_lt, mul_comm}
 use Rattle.std.proofs.lemmas.Bool.{eq-eqb, ne_eqb}
 use Rattle.std.proofs.lemmas.List.{get_or-map, length-map}
 use Rattle.std.proofs.lemmas.List.Elements.{All-head, All-map, All-tail}
-use Rattle.std.proofs.lemmas.List.FromFn.{fill_by_all, get_or-map-range_with_len, length-range_with_len}
-use Rattle.std.proofs.lemmas.Simd.{map-map, splat_is_map}
+use Rattle.std.proofs.lemmas.List.FromFn.{fill_by_all, get_or-map-range_with_len}
+use Rattle.std.proofs.lemmas.Simd.{map-map}
 use Rattle.std.specs.List.{All, fold, range_with_len, zip}
-
--- what is made the same at each place repeats it
-pub repeated : {T : Type 0} (made : List T) (item : T) (n : ℕ)
-    → made ≡ map (λ _. item) (range_with_len 0 n) → made ≡ replicate n item
-repeated made item n same = same ∙ sym (splat_is_map (range_with_len 0 n) n item (length-range_with_len 0 n))
 
 -- turned twice, a matrix is as it was
 pub transposed_twice : (rows columns : ℕ) (matrix : List (List ℕ)) → IsMatrix rows columns matrix

@@ -2,7 +2,7 @@
 --
 -- The words that laws speak of are `unfoldable`, so that a proof finds the laws by them.
 use Rattle.std.specs.List.{All, range_with_len, zip}
-use Rattle.std.specs.Prelude.{◌≡◌, ℕ, ◌+◌, ◌*◌, ◌%◌, ◌^◌, ◌<◌, ◌==◌, List, fold, if◌then◌else◌, length, map, slice_index}
+use Rattle.std.specs.Prelude.{◌≡◌, ℕ, ◌+◌, ◌*◌, ◌%◌, ◌^◌, ◌<◌, ◌==◌, List, [], fold, if◌then◌else◌, length, map, slice_index, slice_index_or}
 
 -- so many rows of so many numbers of 64 bits
 abbrev pub IsMatrix : ℕ → ℕ → List (List ℕ) → Type 0
@@ -24,6 +24,10 @@ column_of rows column = map (λ row. slice_index row column) rows
 -- the columns as rows, of which there are so many
 unfoldable pub transpose : ℕ → List (List ℕ) → List (List ℕ)
 transpose columns rows = map (column_of rows) (range_with_len 0 columns)
+
+-- the numbers whose column is their row
+abbrev pub diagonal_of : List (List ℕ) → List ℕ
+diagonal_of rows = map (λ place. slice_index (slice_index_or rows place []) place) (range_with_len 0 (length rows))
 
 -- the sums of the numbers in the same place
 abbrev pub row_sum : List ℕ → List ℕ → List ℕ

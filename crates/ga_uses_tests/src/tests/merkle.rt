@@ -9,6 +9,7 @@ ghost use Rattle.std.specs.Prelude.{◌≡◌, ◌+◌, ◌*◌, ◌<◌, ◌++�
 use ga_core::{ArrayLength, BorrowedItems, GenericArray, InlineLength, U1, U2, U4, U8, U32};
 use ga_hashes::Sha256;
 use ga_hashes::hash_function::HashFunction;
+use std::marker::PhantomData;
 use std::test::Fail;
 
 fn leaf_digest<H: HashFunction>(leaf: &[u8]) -> GenericArray<u8, H::OutputSize>
@@ -33,7 +34,7 @@ fn node_digest<H: HashFunction>(
     hasher.finish()
 }
 
-/// The digest of each leaf, by a closure that captures a blank digest beside what it reads.
+/// The digest of each leaf, by a closure that captures the type of what it returns.
 fn leaf_digests<H, W, N>(
     leaves: &GenericArray<GenericArray<u8, W>, N>,
 ) -> GenericArray<GenericArray<u8, H::OutputSize>, N>
@@ -44,12 +45,12 @@ where
     N: ArrayLength<GenericArray<u8, W>> + ArrayLength<GenericArray<u8, H::OutputSize>>,
     ensures { result ≡ map (λ leaf. H.digest (0 ∷ leaf)) leaves.now }
 {
-    let blank: GenericArray<u8, H::OutputSize> = GenericArray::default();
+    let shape = PhantomData::<GenericArray<u8, H::OutputSize>>;
     leaves.map_inline_ref(
         |leaf: &GenericArray<u8, W>| -> GenericArray<u8, H::OutputSize>
             ensures { result ≡ H.digest (0 ∷ leaf.now) }
         {
-            let _ = &blank;
+            let _ = &shape;
             leaf_digest::<H>(leaf.as_slice())
         },
     )
@@ -69,14 +70,14 @@ where
     ensures { result ≡ map (λ i. H.digest ((1 ∷ slice_index_or digests.now (2 * i) [])
         ++ slice_index_or digests.now (2 * i + 1) [])) (range_with_len 0 M.USIZE) }
 {
-    let blank: GenericArray<u8, H::OutputSize> = GenericArray::default();
+    let shape = PhantomData::<GenericArray<u8, H::OutputSize>>;
     GenericArray::generate(
         |i: usize| -> GenericArray<u8, H::OutputSize>
             requires { 2 * i + 1 < length digests.now }
             ensures { result ≡ H.digest ((1 ∷ slice_index_or digests.entry.now (2 * i) [])
                 ++ slice_index_or digests.entry.now (2 * i + 1) []) }
         {
-            let _ = &blank;
+            let _ = &shape;
             node_digest::<H>(&digests[2 * i], &digests[2 * i + 1])
         },
     )
