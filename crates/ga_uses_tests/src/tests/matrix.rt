@@ -1,8 +1,14 @@
 //! Matrices, made, read, turned and multiplied by hand, and their laws at any size.
-ghost use Rattle.std.specs.Prelude.{◌≡◌};
+ghost use Rattle.ga_uses.specs.Matrix.{diagonal_of, matrix_product};
+ghost use Rattle.generic_array.specs.Length.{FitsInline};
+ghost use Rattle.std.specs.Prelude.{◌≡◌, ◌+◌, ◌%◌, ◌^◌, ◌≤◌, fold, map, take};
 
 use ga_test_items::answers::has;
-use ga_uses::matrix::{Matrix, column, identity, product, sum, times_vector, transposed, zeros};
+use ga_uses::matrix::{
+    Matrix, block, column, diagonal, identity, is_symmetric, outer, permuted, product, sum,
+    times_vector, trace, transposed, zeros,
+};
+use generic_array::sequence::Concat;
 use generic_array::{ArrayLength, GenericArray, InlineLength, U2, U3, arr};
 use std::marker::PhantomData;
 
@@ -53,6 +59,49 @@ where
     product(identity, matrix)
 }
 
+// Callers at any size.
+
+fn trace_of_product<C, const R: usize>(left: Matrix<C, R>, right: Matrix<C, R>) -> u64
+where
+    C: ArrayLength<u64> + InlineLength,
+    requires { R ≡ C.USIZE }
+    ensures { result ≡ fold (λ total number. (total + number) % 2 ^ 64) 0
+        (diagonal_of (matrix_product C.USIZE left right)) }
+{
+    trace(&product(left, right))
+}
+
+/// The first numbers of the lower rows.
+fn block_of_stacked<C, W, const R: usize, const S: usize, const N: usize>(
+    upper: Matrix<C, R>,
+    lower: Matrix<C, S>,
+    _stacked: PhantomData<Matrix<C, N>>,
+) -> Matrix<W, S>
+where
+    C: ArrayLength<u64> + InlineLength,
+    W: ArrayLength<u64> + InlineLength,
+    requires fits { FitsInline N }
+    requires rows { N ≡ R + S }
+    requires columns { W.USIZE ≤ C.USIZE }
+    ensures { result ≡ map (λ row. take W.USIZE row) lower }
+{
+    let stacked: Matrix<C, N> = upper.concat(lower);
+    block(&stacked, R, 0)
+}
+
+fn turned_if_symmetric<C, const R: usize>(matrix: Matrix<C, R>) -> Matrix<C, R>
+where
+    C: ArrayLength<u64> + InlineLength,
+    requires { R ≡ C.USIZE }
+    ensures { result ≡ matrix }
+{
+    if is_symmetric(&matrix) {
+        transposed(matrix)
+    } else {
+        matrix
+    }
+}
+
 /// The rows 1 2 3 and 4 5 6.
 fn counted() -> Matrix<U3, 2> {
     arr![arr![1, 2, 3], arr![4, 5, 6]]
@@ -61,6 +110,16 @@ fn counted() -> Matrix<U3, 2> {
 /// The rows 7 8, 9 10 and 11 12.
 fn counted_on() -> Matrix<U2, 3> {
     arr![arr![7, 8], arr![9, 10], arr![11, 12]]
+}
+
+/// The rows 1 2 3, 4 5 6 and 7 8 9.
+fn counted_to_nine() -> Matrix<U3, 3> {
+    arr![arr![1, 2, 3], arr![4, 5, 6], arr![7, 8, 9]]
+}
+
+/// The rows 1 2 and 2 3.
+fn mirrored() -> Matrix<U2, 2> {
+    arr![arr![1, 2], arr![2, 3]]
 }
 
 #[test]
@@ -82,6 +141,49 @@ fn matrices_are_multiplied(rt: HostRuntime) {
     let made: Matrix<U2, 2> = product(rows, counted_on());
     assert!(rt; made[0].as_slice() == [58, 64].as_slice());
     assert!(rt; made[1].as_slice() == [139, 154].as_slice());
+}
+
+#[test]
+fn vectors_are_multiplied_into_rows(rt: HostRuntime) {
+    let made: Matrix<U3, 2> = outer(&arr![2, 3], &arr![5, 7, 11]);
+    assert!(rt; made[0].as_slice() == [10, 14, 22].as_slice());
+    assert!(rt; made[1].as_slice() == [15, 21, 33].as_slice());
+}
+
+#[test]
+fn diagonals_are_read_and_summed(rt: HostRuntime) {
+    assert!(rt; has(diagonal(&counted_to_nine()), &[1, 5, 9]));
+    assert!(rt; trace(&counted_to_nine()) == 15);
+    let wrapping: Matrix<U2, 2> = arr![arr![u64::MAX, 0], arr![0, 3]];
+    assert!(rt; trace(&wrapping) == 2);
+    assert!(rt; trace_of_product(mirrored(), mirrored()) == 18);
+}
+
+#[test]
+fn blocks_begin_at_a_row_and_a_column(rt: HostRuntime) {
+    let made: Matrix<U2, 2> = block(&counted_to_nine(), 0, 1);
+    assert!(rt; made[0].as_slice() == [2, 3].as_slice());
+    assert!(rt; made[1].as_slice() == [5, 6].as_slice());
+    let stacked = PhantomData::<Matrix<U3, 5>>;
+    let made: Matrix<U2, 2> = block_of_stacked(counted_to_nine(), counted(), stacked);
+    assert!(rt; made[0].as_slice() == [1, 2].as_slice());
+    assert!(rt; made[1].as_slice() == [4, 5].as_slice());
+}
+
+#[test]
+fn rows_come_in_the_order_of_the_places(rt: HostRuntime) {
+    let made: Matrix<U3, 3> = permuted(&counted_to_nine(), &arr![2, 0, 1]);
+    assert!(rt; made[0].as_slice() == [7, 8, 9].as_slice());
+    assert!(rt; made[1].as_slice() == [1, 2, 3].as_slice());
+    assert!(rt; made[2].as_slice() == [4, 5, 6].as_slice());
+}
+
+#[test]
+fn symmetric_matrices_are_told_from_others(rt: HostRuntime) {
+    assert!(rt; is_symmetric(&mirrored()));
+    assert!(rt; !is_symmetric(&counted_to_nine()));
+    let same = turned_if_symmetric(mirrored());
+    assert!(rt; same[1].as_slice() == [2, 3].as_slice());
 }
 
 #[test]
