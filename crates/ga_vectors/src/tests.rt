@@ -15,6 +15,7 @@ mod items;
 mod iterators;
 mod lengths;
 mod live_block;
+mod macros;
 mod made;
 mod places;
 mod readme;

@@ -6,6 +6,7 @@ use ga_ciphers::counter_mode::{BlockStream, CounterMode};
 use ga_ciphers::stream_end::StreamEnd;
 use generic_array::{GenericArray, U4};
 use std::cell::Cell;
+use std::test::Fail;
 
 /// Applies the key stream to two pieces in turn: the pieces joined are what it makes of the whole
 /// text.
@@ -89,9 +90,33 @@ fn blocks_for_seeks() -> Result<(u32, u32), StreamEnd> {
     Ok((within, made.get().wrapping_sub(within)))
 }
 
+/// How many blocks a seek makes to where the key stream is, by a seek or behind a text of so many
+/// bytes.
+fn blocks_for_a_seek_to_where_it_is(position: u64, by_a_text: bool) -> Result<u32, StreamEnd> {
+    let made = Cell::new(0);
+    let mut mode = CounterMode::new(Numbered { made: &made });
+    if by_a_text {
+        for _byte in 0..position {
+            mode.apply(&mut [0])?;
+        }
+    } else {
+        mode.seek(position)?;
+    }
+    made.set(0);
+    mode.seek(position)?;
+    Ok(made.get())
+}
+
 #[test]
-fn a_seek_makes_at_most_one_block(rt: HostRuntime) {
+fn a_seek_makes_at_most_one_block(rt: HostRuntime) -> Result<(), Fail> {
     assert!(rt; blocks_for_seeks() == Ok((1, 0)));
+    for position in 0..13u64 {
+        for by_a_text in [false, true] {
+            let blocks = blocks_for_a_seek_to_where_it_is(position, by_a_text)?;
+            assert!(rt; blocks <= 1, "{blocks} at {position}");
+        }
+    }
+    Ok(())
 }
 
 #[test]

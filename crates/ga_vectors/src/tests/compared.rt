@@ -35,3 +35,11 @@ pub fn prints<T: fmt::Debug>(value: &T, text: &str, alloc: Global) -> bool {
         Err(_) => false,
     }
 }
+
+/// Whether this is the text of `{:3?}`.
+pub fn prints_in_three_places<T: fmt::Debug>(value: &T, text: &str, alloc: Global) -> bool {
+    match format!(in alloc; "{value:3?}") {
+        Ok(printed) => printed.as_str() == text,
+        Err(_) => false,
+    }
+}

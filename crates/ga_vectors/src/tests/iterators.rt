@@ -1,7 +1,7 @@
 //! Walks of both iterators by value from both ends.
 ghost use Rattle.generic_array.specs.Length.{FitsInline};
 
-use crate::tests::compared::{prints, prints_alternately};
+use crate::tests::compared::{prints, prints_alternately, prints_in_three_places};
 use ga_test_items::items::{boxed_from_one, from_one};
 use ga_test_items::scripted::{digits, next_digit};
 use generic_array::{AllocError, ArrayLength, U0, U1, U3, U4, U5};
@@ -55,11 +55,12 @@ fn steps_from_both_ends_meet_inline(rt: HostRuntime) {
     assert!(rt; from_one::<U3>().into_iter().rfold(0, next_digit) == 321);
 }
 
-/// Whether only what is left is printed.
+/// Whether only what is left is printed, each item in a width where one is given.
 fn is_left_printed(alloc: Global) -> bool {
     let mut items = from_one::<U3>().into_iter();
     let _ = items.next();
     prints(&items, "GenericArrayIter([2, 3])", alloc)
+        && prints_in_three_places(&items, "GenericArrayIter([  2,   3])", alloc)
 }
 
 #[test]
@@ -87,6 +88,9 @@ fn iterators_over_each_number_are_printed(rt: HostRuntime) {
     let four =
         "GenericArrayIter(\n    [\n        1,\n        2,\n        3,\n        4,\n    ],\n)";
     assert!(rt; are_printed::<U4>(alloc, "GenericArrayIter([1, 2, 3, 4])", four));
+    let five =
+        "GenericArrayIter(\n    [\n        1,\n        2,\n        3,\n        4,\n        5,\n    ],\n)";
+    assert!(rt; are_printed::<U5>(alloc, "GenericArrayIter([1, 2, 3, 4, 5])", five));
 }
 
 /// The items of a block as digits, from the front and from the back.

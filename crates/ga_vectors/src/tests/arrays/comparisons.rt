@@ -1,6 +1,9 @@
 //! Comparisons, hashes and texts of inline arrays.
-use crate::tests::compared::{prints, prints_alternately};
-use generic_array::{ArrayLength, GenericArray, U0, U1, U3, U4, U1024, arr};
+ghost use Rattle.generic_array.specs.Length.{FitsInline};
+
+use crate::tests::compared::{prints, prints_alternately, prints_in_three_places};
+use generic_array::{ArrayLength, Const, GenericArray, U0, U1, U3, U4, U5, U1024, arr};
+use std::cell::Cell;
 use std::cmp::Ordering;
 use std::hash::{DefaultHasher, Hash, Hasher};
 
@@ -30,6 +33,66 @@ fn arrays_compare_and_hash_as_their_slices_do(rt: HostRuntime) {
     assert!(rt; hash_of(array) == hash_of([1u8, 2, 3].as_slice()));
 }
 
+/// An item of more than a word, which counts how often it is compared.
+#[derive(Clone, Copy, Default)]
+struct Watched<'a> {
+    compared: Option<&'a Cell<usize>>,
+    number: usize,
+}
+
+impl PartialEq for Watched<'_> {
+    ghost use Rattle.std.proofs.Common.{rules};
+    ghost use Rattle.std.specs.Cmp.Rules.{comparing};
+    ghost use Rattle.std.specs.Ordering.{on};
+    ghost use Rattle.std.specs.Prelude.{nat_eq};
+
+    ghost eq = { on (λ item. item.number) nat_eq };
+
+    ghost laws = { Prim.search (comparing, rules) };
+
+    fn eq(&self, other: &Self) -> bool {
+        if let Some(compared) = self.compared {
+            compared.set(compared.get().wrapping_add(1));
+        }
+        self.number == other.number
+    }
+}
+
+/// How many items of two arrays are compared, which differ at this place alone. Behind the last
+/// item they don't.
+fn compared_up_to<'a, N: ArrayLength<Watched<'a>>>(
+    compared: &'a Cell<usize>,
+    place: usize,
+) -> (bool, usize)
+    requires { FitsInline N.USIZE }
+{
+    let item = Watched {
+        compared: Some(compared),
+        number: 1,
+    };
+    let left: GenericArray<Watched<'a>, N> = GenericArray::from_copies(item);
+    let mut right = GenericArray::from_copies(item);
+    if let Some(other) = right.as_mut_slice().get_mut(place) {
+        other.number = 2;
+    }
+    compared.set(0);
+    (left == right, compared.get())
+}
+
+#[test]
+fn equality_stops_at_the_first_difference(rt: HostRuntime) {
+    let compared = Cell::new(0);
+    for place in 0..5usize {
+        let seen = compared_up_to::<U5>(&compared, place);
+        assert!(rt; seen == (false, place + 1), "{place}");
+    }
+    for place in 0..100usize {
+        let seen = compared_up_to::<Const<100>>(&compared, place);
+        assert!(rt; seen == (false, place + 1), "{place}");
+    }
+    assert!(rt; compared_up_to::<Const<100>>(&compared, 100) == (true, 100));
+}
+
 /// Two blocks of bytes, and as many with a greater one in the first block.
 fn two_blocks() -> (GenericArray<u8, U1024>, GenericArray<u8, U1024>) {
     let mut greater = arr![1; U1024];
@@ -46,6 +109,7 @@ fn a_difference_in_the_first_block_is_seen(rt: HostRuntime) {
 #[test]
 fn arrays_are_printed(rt: HostRuntime) {
     assert!(rt; prints(&three_from(1), "[1, 2, 3]", rt.alloc()));
+    assert!(rt; prints_in_three_places(&three_from(1), "[  1,   2,   3]", rt.alloc()));
 }
 
 #[test]
