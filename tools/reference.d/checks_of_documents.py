@@ -4,17 +4,21 @@ as code is found.
 Of code in a line this looks up what is a name: a path, a call or a type, without what stands in
 brackets; of words without a sign between them the first; of `using(..)` and `use ..;` the path. Of
 what begins with a value or a type parameter it looks up the last name. A single letter is a
-variable, and so is what is indexed. Other code, such as a term, isn't looked up.
+variable, and so is what is indexed. Other code, such as a term, isn't looked up, nor what a row of
+STUCK begins with: a message, and code that isn't accepted.
 """
 import functools
 import re
 
-from rust import CODE, FENCED, names_in
+from rust import BAR, CODE, FENCED, names_in
 
 # An example, and what is layout of it: spaces, the comma before a bracket, and `pub`.
 EXAMPLE = re.compile(r"(?ms)^```rust\n(.*?)^```")
 LAYOUT = re.compile(r"\s+|,(?=\s*[)\]}>])|\bpub(?:\(\w+\))?\s")
-DOCUMENTS = ("docs/CALLING.md", "docs/DIFFERENCES.md", "docs/DEFINITIONS.md", "crates/*/README.md")
+DOCUMENTS = ("docs/CALLING.md", "docs/STUCK.md", "docs/DIFFERENCES.md", "docs/DEFINITIONS.md",
+             "crates/*/README.md")
+# The document whose rows begin with two cells of what is seen.
+OF_SEEN = "STUCK.md"
 # The document whose rows list the names of the Rust crate.
 RUST = "docs/DIFFERENCES.md"
 # Words of the language, and of the program's command line.
@@ -117,9 +121,13 @@ class Known:
 
 
 def documents(site):
-    """The documents, each with its place and its text without what is set apart as code."""
+    """The documents, each with its place and its text without what is set apart as code, and
+    without what is seen."""
     for file in sorted(file for pattern in DOCUMENTS for file in site.top.glob(pattern)):
         text = FENCED.sub(lambda code: "\n" * code[0].count("\n"), file.read_text("utf-8"))
+        if file.name == OF_SEEN:
+            lines = map(BAR.split, text.split("\n"))
+            text = "\n".join(" ".join(cells[2:] or cells) for cells in lines)
         yield file.relative_to(site.top), text
 
 
