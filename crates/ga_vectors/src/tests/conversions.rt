@@ -82,7 +82,7 @@ fn blocks_are_written_out(rt: HostRuntime) -> Result<(), Fail> {
 }
 
 /// A length that no array in a function's frame has.
-type Many = Const<1000000>;
+type Many = Const<100000>;
 
 /// The capacity of the vector that so many items go to, and how many come back from there in order,
 /// each equal to its place.
@@ -105,5 +105,5 @@ fn many_there_and_back(alloc: Global) -> Result<(usize, u32), AllocError> {
 #[test]
 fn many_items_go_to_a_vector_of_just_their_number_and_back(rt: HostRuntime) {
     let answers = many_there_and_back(rt.alloc()).expect(&rt, "no memory");
-    assert!(rt; answers == (1_000_000, 1_000_000));
+    assert!(rt; answers == (100_000, 100_000));
 }
