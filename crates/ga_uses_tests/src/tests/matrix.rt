@@ -1,14 +1,12 @@
 //! Matrices, made, read, turned and multiplied by hand, and their laws at any size.
 ghost use Rattle.ga_uses.specs.Matrix.{diagonal_of, matrix_product};
-ghost use Rattle.generic_array.specs.Length.{FitsInline};
-ghost use Rattle.std.specs.Prelude.{◌≡◌, ◌+◌, ◌%◌, ◌^◌, ◌≤◌, fold, map, take};
+ghost use Rattle.std.specs.Prelude.{◌≡◌, ◌+◌, ◌%◌, ◌^◌, fold};
 
 use ga_test_items::answers::has;
 use ga_uses::matrix::{
     Matrix, block, column, diagonal, identity, is_symmetric, outer, permuted, product, sum,
     times_vector, trace, transposed, zeros,
 };
-use generic_array::sequence::Concat;
 use generic_array::{ArrayLength, GenericArray, InlineLength, U2, U3, arr};
 use std::marker::PhantomData;
 
@@ -69,24 +67,6 @@ where
         (diagonal_of (matrix_product C.USIZE left right)) }
 {
     trace(&product(left, right))
-}
-
-/// The first numbers of the lower rows.
-fn block_of_stacked<C, W, const R: usize, const S: usize, const N: usize>(
-    upper: Matrix<C, R>,
-    lower: Matrix<C, S>,
-    _stacked: PhantomData<Matrix<C, N>>,
-) -> Matrix<W, S>
-where
-    C: ArrayLength<u64> + InlineLength,
-    W: ArrayLength<u64> + InlineLength,
-    requires fits { FitsInline N }
-    requires rows { N ≡ R + S }
-    requires columns { W.USIZE ≤ C.USIZE }
-    ensures { result ≡ map (λ row. take W.USIZE row) lower }
-{
-    let stacked: Matrix<C, N> = upper.concat(lower);
-    block(&stacked, R, 0)
 }
 
 fn turned_if_symmetric<C, const R: usize>(matrix: Matrix<C, R>) -> Matrix<C, R>
@@ -164,10 +144,6 @@ fn blocks_begin_at_a_row_and_a_column(rt: HostRuntime) {
     let made: Matrix<U2, 2> = block(&counted_to_nine(), 0, 1);
     assert!(rt; made[0].as_slice() == [2, 3].as_slice());
     assert!(rt; made[1].as_slice() == [5, 6].as_slice());
-    let stacked = PhantomData::<Matrix<U3, 5>>;
-    let made: Matrix<U2, 2> = block_of_stacked(counted_to_nine(), counted(), stacked);
-    assert!(rt; made[0].as_slice() == [1, 2].as_slice());
-    assert!(rt; made[1].as_slice() == [4, 5].as_slice());
 }
 
 #[test]
