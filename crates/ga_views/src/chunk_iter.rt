@@ -45,6 +45,7 @@ impl<'a, T, N: Unsigned> ChunkIter<'a, T, N> {
         ensures runs { RowsInOrder T N N.Unsigned }
         ensures runs_back { RowsInReverse T N N.Unsigned }
     {
+        // For the prover alone: a slice's length, and so its number of rows, fits in 64 bits.
         let _len = slice.len();
         ChunkIter {
             left: slice,
