@@ -18,7 +18,7 @@ from text import WIDEST, Text
 EXAMPLE = re.compile(r"(?ms)^```rust\n(.*?)^```")
 LAYOUT = re.compile(r"\s+|,(?=\s*[)\]}>])|\bpub(?:\(\w+\))?\s")
 # A contract that is quoted: a line with the function's name as a link, and the code below it.
-QUOTED = re.compile(r"(?ms)^\[`([\w:]+)`\]\(\S+\)\n\n```text\n(.*?)^```")
+QUOTED = re.compile(r"(?ms)^\[`([\w:]+)`\]\((\S+)\)\n\n```text\n(.*?)^```")
 DOCUMENTS = ("docs/CALLING.md", "docs/STUCK.md", "docs/DIFFERENCES.md", "docs/DEFINITIONS.md",
              "crates/*/README.md")
 # The document whose rows begin with two cells of what is seen.
@@ -64,11 +64,12 @@ def misquoted(names):
     for document in sorted((names.site.top / "crates").glob("*/README.md")):
         readme = document.read_text("utf-8")
         for quoted in QUOTED.finditer(readme):
-            item = names.asked(quoted[1]).first
+            item, file = names.asked(quoted[1]).first, (document.parent / quoted[2]).resolve()
             lines = item and [*text.head(item)[:-1], *indented(text.written(item.clauses))]
             line = readme.count("\n", 0, quoted.start()) + 1
             wrong = f"{document.relative_to(names.site.top)}:{line}: {quoted[1]} says otherwise"
-            yield None if lines == quoted[2].splitlines() else wrong
+            is_right = lines == quoted[3].splitlines() and file == item.file
+            yield None if is_right else wrong
 
 
 def names_of(code):
