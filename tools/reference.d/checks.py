@@ -2,7 +2,7 @@
 
 Each check gives what it tried, one after the other: what is wrong, or nothing.
 """
-from checks_of_documents import dangling, unwritten
+from checks_of_documents import dangling, misquoted, unwritten
 from checks_of_names import misled, unnamed
 from drops import uncounted
 from edits import unfit
@@ -18,7 +18,8 @@ OF_SITE = {
     "examples": unwritten, "imports": unused, "public items": unnamed, "rows": uncounted,
     "wrong bodies": unfit, "callers": uncalled,
 }
-OF_NAMES = {"names": misled, "promise": unkept, "page": stale, "documents": dangling}
+OF_NAMES = {"names": misled, "promise": unkept, "page": stale, "contracts": misquoted,
+            "documents": dangling}
 
 
 def check(site):

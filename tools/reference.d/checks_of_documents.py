@@ -1,5 +1,5 @@
-"""Checks that the examples of documents stand in the crates, and that each name that a document has
-as code is found.
+"""Checks that the examples of documents stand in the crates, that a contract that a README quotes
+is the one of the source, and that each name that a document has as code is found.
 
 Of code in a line this looks up what is a name: a path, a call or a type, without what stands in
 brackets; of words without a sign between them the first; of `using(..)` and `use ..;` the path. Of
@@ -10,11 +10,15 @@ STUCK begins with: a message, and code that isn't accepted.
 import functools
 import re
 
+from layout import indented
 from rust import BAR, CODE, FENCED, names_in
+from text import WIDEST, Text
 
 # An example, and what is layout of it: spaces, the comma before a bracket, and `pub`.
 EXAMPLE = re.compile(r"(?ms)^```rust\n(.*?)^```")
 LAYOUT = re.compile(r"\s+|,(?=\s*[)\]}>])|\bpub(?:\(\w+\))?\s")
+# A contract that is quoted: a line with the function's name as a link, and the code below it.
+QUOTED = re.compile(r"(?ms)^\[`([\w:]+)`\]\((\S+)\)\n\n```text\n(.*?)^```")
 DOCUMENTS = ("docs/CALLING.md", "docs/STUCK.md", "docs/DIFFERENCES.md", "docs/DEFINITIONS.md",
              "crates/*/README.md")
 # The document whose rows begin with two cells of what is seen.
@@ -52,6 +56,20 @@ def unwritten(site):
             stands = any(LAYOUT.sub("", part) in source for source in sources)
             wrong = f"{document.relative_to(site.top)}:{line}: no crate has {part.splitlines()[0]}"
             yield None if stands else wrong
+
+
+def misquoted(names):
+    """Looks whether each contract that a README quotes is what `tools/reference NAME` prints."""
+    text = Text(names, WIDEST, coloured=False)
+    for document in sorted((names.site.top / "crates").glob("*/README.md")):
+        readme = document.read_text("utf-8")
+        for quoted in QUOTED.finditer(readme):
+            item, file = names.asked(quoted[1]).first, (document.parent / quoted[2]).resolve()
+            lines = item and [*text.head(item)[:-1], *indented(text.written(item.clauses))]
+            line = readme.count("\n", 0, quoted.start()) + 1
+            wrong = f"{document.relative_to(names.site.top)}:{line}: {quoted[1]} says otherwise"
+            is_right = lines == quoted[3].splitlines() and file == item.file
+            yield None if is_right else wrong
 
 
 def names_of(code):

@@ -30,11 +30,19 @@ DOCUMENT = """
 fn stands_nowhere() {}
 ```
 """
+QUOTED = """
+[`write_hex`](src/hex_text.rt)
+
+```text
+pub fn write_hex()
+```
+"""
 EDIT = "file: src/{}.rt\nold: {}\nnew: nothing\n"
 PLANTED = {
     "crates/ga_views/src/array_ref.rt+": ITEMS,
     "crates/ga_headline/src/lists.rt+": SILENT,
     "crates/ga_calls/src/wholes.rt+": '\nconst ROW: &str = "Planted::row";\n',
+    "crates/ga_views/README.md+": QUOTED,
     "docs/CALLING.md+": DOCUMENT,
     "tools/reference.d/promise.txt+": SENTENCES,
     "tools/reference.d/rust_names.txt+": "arr!\tga_core::GenericArray\nserde\ttells nothing\n",
@@ -74,6 +82,7 @@ TOLD = {
         "promise.txt has no sentence for unpromised",
     ],
     "page": ["PROMISE.md is stale: tools/reference --write-promise writes it anew"],
+    "contracts": ["write_hex says otherwise"],
     "documents": ["nothing is called nothing_is_called_so"],
 }
 PASSES = TOP / "tools" / "reference.d" / "passes.txt"
