@@ -2,6 +2,7 @@
 mod doubles;
 mod faults;
 mod refused_memory;
+mod sweeps;
 
 use crate::{Mode, Status, Width, parse_words, run, run_listed};
 use doubles::{Manner, Sink, Source, WHOLE, repeated};
