@@ -162,11 +162,11 @@ fn each_rest_at_each_end_of_a_piece_is_written(rt: HostRuntime) -> Result<(), Fa
 }
 
 #[test]
-fn a_million_rows_are_written_in_full_pieces(rt: HostRuntime) -> Result<(), Fail> {
+fn a_million_bytes_are_written_in_full_pieces(rt: HostRuntime) -> Result<(), Fail> {
     let input = vec![in rt.alloc(); 0u8; 1_000_000]?;
     for (word, mode) in MODES {
-        let words = words_for(rt.alloc(), word, 1)?;
-        let lines = rows_text(rt.alloc(), input.as_slice(), mode, 1, 1000)?;
+        let words = words_for(rt.alloc(), word, 4)?;
+        let lines = rows_text(rt.alloc(), input.as_slice(), mode, 4, 250)?;
         let text = repeated(rt.alloc(), lines.as_bytes(), 1000, b"")?;
         let (input, text) = (input.as_slice(), text.as_slice());
         let is_right = is_written(rt.alloc(), words.as_slice(), input, text, Status::Whole);
