@@ -2,6 +2,7 @@
 mod doubles;
 mod faults;
 mod refused_memory;
+mod sweeps;
 
 use crate::{Mode, Status, Width, parse_words, run, run_listed};
 use doubles::{Manner, Sink, Source, WHOLE, repeated};
@@ -154,7 +155,7 @@ fn three_million_bytes_are_read_in_large_pieces(rt: HostRuntime) -> Result<(), F
     let input = vec![in rt.alloc(); 0u8; 3_000_000]?;
     let text = repeated(rt.alloc(), b"0\n", 187_500, b"")?;
     let words = words_of(rt.alloc(), "sum 16")?;
-    let mut source = Source::new(input.as_slice(), WHOLE, false);
+    let mut source = Source::new(input.as_slice(), WHOLE, None);
     let mut sink = Sink::new(text.as_slice(), WHOLE, usize::MAX);
     let end = run(rt.alloc(), words.as_slice(), &mut source, &mut sink);
     assert!(rt; end == Status::Whole && sink.has_text() && source.reads() < 100);
@@ -164,24 +165,27 @@ fn three_million_bytes_are_read_in_large_pieces(rt: HostRuntime) -> Result<(), F
 #[test]
 fn a_reader_is_read_to_its_end_or_its_fault(rt: HostRuntime) -> Result<(), Fail> {
     let cases = [
-        (100_000, false, Status::Whole),
-        (100_001, false, Status::Rest),
-        (0, false, Status::Whole),
-        (100_001, true, Status::Fault),
-        (0, true, Status::Fault),
+        (100_000, None, Status::Whole),
+        (100_001, None, Status::Rest),
+        (0, None, Status::Whole),
+        (100_001, Some(ErrorKind::Other), Status::Fault),
+        (0, Some(ErrorKind::Other), Status::Fault),
+        // The reader's want of memory is not the program's.
+        (0, Some(ErrorKind::OutOfMemory), Status::Fault),
     ];
-    for (count, fails, status) in cases {
+    for (count, fault, status) in cases {
         let input = vec![in rt.alloc(); 255u8; count]?;
         let rest: &[u8] = if count % 4 == 0 { b"" } else { b"rest 255\n" };
         let text = repeated(rt.alloc(), b"255 255 255 255\n", count / 4, rest)?;
         let manner = Manner {
             step: 1,
             period: 1000,
+            once: 0,
         };
-        let mut source = Source::new(input.as_slice(), manner, fails);
+        let mut source = Source::new(input.as_slice(), manner, fault);
         let mut sink = Sink::new(text.as_slice(), WHOLE, usize::MAX);
         let is_ended = run(rt.alloc(), &[], &mut source, &mut sink) == status;
-        let is_told = if fails {
+        let is_told = if fault.is_some() {
             sink.writes() == 0
         } else {
             sink.has_text()
@@ -205,7 +209,7 @@ fn a_line_that_no_longer_fits_begins_the_next_piece(rt: HostRuntime) -> Result<(
     let input = two_and_many(rt.alloc(), &short, &[255; 16])?;
     let text = two_and_many(rt.alloc(), b"10 10 10 10 10 0 0 0 0 0 0 0 0 0 0 0\n", line)?;
     let words = words_of(rt.alloc(), "dec 16")?;
-    let mut source = Source::new(input.as_slice(), WHOLE, false);
+    let mut source = Source::new(input.as_slice(), WHOLE, None);
     let mut sink = Sink::new(text.as_slice(), WHOLE, usize::MAX);
     let end = run(rt.alloc(), words.as_slice(), &mut source, &mut sink);
     assert!(rt; end == Status::Whole && sink.has_text());

@@ -6,37 +6,43 @@ use std::io;
 use std::io::{ErrorKind, Read, Write};
 
 /// At most `step` bytes go at a call. The first of each `period` calls is interrupted, none where
-/// that is 0.
+/// that is 0, and so is the call of the number `once`, from 1.
 #[derive(Clone, Copy)]
 pub struct Manner {
     pub step: usize,
     pub period: usize,
+    pub once: usize,
+}
+
+impl Manner {
+    // Whether the call of this number, from 1, is interrupted.
+    fn interrupts(self, call: usize) -> bool {
+        call == self.once || call.checked_rem(self.period) == Some(1)
+    }
 }
 
 /// All that is asked for at each call.
 pub const WHOLE: Manner = Manner {
     step: usize::MAX,
     period: 0,
+    once: 0,
 };
 
 /// One byte at each call.
-pub const BYTE_BY_BYTE: Manner = Manner { step: 1, period: 0 };
+pub const BYTE_BY_BYTE: Manner = Manner { step: 1, ..WHOLE };
 
 /// Each call is interrupted once.
-pub const INTERRUPTED: Manner = Manner {
-    step: usize::MAX,
-    period: 2,
-};
+pub const INTERRUPTED: Manner = Manner { period: 2, ..WHOLE };
 
 /// No byte at any call.
-pub const NOTHING: Manner = Manner { step: 0, period: 0 };
+pub const NOTHING: Manner = Manner { step: 0, ..WHOLE };
 
 /// Gives its bytes, and at last fails or ends.
 #[derive(Drop)]
 pub struct Source<'a> {
     bytes: &'a [u8],
     manner: Manner,
-    fails: bool,
+    fault: Option<ErrorKind>,
     reads: usize,
 }
 
@@ -46,12 +52,12 @@ impl<'a> Source<'a> {
         self.reads
     }
 
-    /// A reader of these bytes, which fails behind them or ends.
-    pub fn new(bytes: &'a [u8], manner: Manner, fails: bool) -> Self {
+    /// A reader of these bytes, which fails behind them with this kind or ends.
+    pub fn new(bytes: &'a [u8], manner: Manner, fault: Option<ErrorKind>) -> Self {
         Source {
             bytes,
             manner,
-            fails,
+            fault,
             reads: 0,
         }
     }
@@ -60,11 +66,11 @@ impl<'a> Source<'a> {
 impl Read for Source<'_> {
     fn read(&mut self, buf: &mut [u8]) -> io::Result<usize> {
         self.reads = self.reads.saturating_add(1);
-        if self.reads.checked_rem(self.manner.period) == Some(1) {
+        if self.manner.interrupts(self.reads) {
             return Err(io::Error::from(ErrorKind::Interrupted));
         }
-        if self.bytes.is_empty() && self.fails {
-            return Err(io::Error::from(ErrorKind::Other));
+        if let (true, Some(kind)) = (self.bytes.is_empty(), self.fault) {
+            return Err(io::Error::from(kind));
         }
         let count = self.manner.step.min(self.bytes.len()).min(buf.len());
         let (given, left) = self.bytes.split_at(count);
@@ -74,8 +80,8 @@ impl Read for Source<'_> {
     }
 }
 
-/// Compares what it takes with the text that is to come, counts its calls, and fails at one of
-/// them.
+/// Compares what it takes with the text that is to come, counts its calls, notes an empty one, and
+/// fails at one of them.
 #[derive(Drop)]
 pub struct Sink<'a> {
     to_come: &'a [u8],
@@ -108,7 +114,7 @@ impl<'a> Sink<'a> {
         self.writes >= self.fails_at
     }
 
-    /// Whether the text was taken and nothing else.
+    /// Whether the text was taken and nothing else, with no empty write.
     pub fn has_text(&self) -> bool {
         self.is_exact && self.to_come.is_empty()
     }
@@ -122,10 +128,13 @@ impl<'a> Sink<'a> {
 impl Write for Sink<'_> {
     fn write(&mut self, buf: &[u8]) -> io::Result<usize> {
         self.writes = self.writes.saturating_add(1);
+        if buf.is_empty() {
+            self.is_exact = false;
+        }
         if self.writes == self.fails_at {
             return Err(io::Error::from(ErrorKind::StorageFull));
         }
-        if self.writes.checked_rem(self.manner.period) == Some(1) {
+        if self.manner.interrupts(self.writes) {
             return Err(io::Error::from(ErrorKind::Interrupted));
         }
         let taken = &buf[..buf.len().min(self.manner.step)];

@@ -120,7 +120,7 @@ fn faults(
 ) -> Option<usize> {
     for round in 0..usize::MAX {
         let fails_at = round.wrapping_mul(stride).wrapping_add(1);
-        let mut source = Source::new(case.input, WHOLE, false);
+        let mut source = Source::new(case.input, WHOLE, None);
         let mut sink = Sink::new(case.text, manner, fails_at);
         let end = end_of(alloc, call, case, &mut source, &mut sink)?;
         let is_right = if sink.has_failed() {
@@ -157,14 +157,14 @@ fn each_write_fails(alloc: Global, call: Call, case: &Case<'_>, writes: usize) -
 fn each_read_fails(alloc: Global, call: Call, case: &Case<'_>, manner: Manner) -> bool {
     for (count, _) in case.input.iter().enumerate() {
         let (given, _) = case.input.split_at(count);
-        let mut source = Source::new(given, manner, true);
+        let mut source = Source::new(given, manner, Some(ErrorKind::Other));
         let mut sink = Sink::new(case.text, WHOLE, usize::MAX);
         let end = end_of(alloc, call, case, &mut source, &mut sink);
         if end != Some(Status::Fault) || sink.writes() > 0 {
             return false;
         }
     }
-    let mut source = Source::new(case.input, manner, false);
+    let mut source = Source::new(case.input, manner, None);
     let mut sink = Sink::new(case.text, WHOLE, usize::MAX);
     let end = end_of(alloc, call, case, &mut source, &mut sink);
     end == Some(case.status) && sink.has_text()

@@ -7,7 +7,7 @@ use std::alloc::Global;
 
 /// How `run` ended on one byte; not at all where it wrote what doesn't go with that.
 fn end_on_one_byte(alloc: Global) -> Option<Status> {
-    let mut source = Source::new(&[7], WHOLE, false);
+    let mut source = Source::new(&[7], WHOLE, None);
     let mut sink = Sink::new(b"rest 7\n", WHOLE, usize::MAX);
     match run(alloc, &[], &mut source, &mut sink) {
         Status::Memory if sink.writes() == 0 => Some(Status::Memory),
