@@ -46,7 +46,7 @@ impl Keys {
 
 /// The key of a number, in the order of the numbers.
 fn key_of(number: usize) -> GenericArray<u8, U2> {
-    GenericArray::from_array((number as u16).to_be_bytes())
+    GenericArray::from_array([(number / 256 % 256) as u8, (number % 256) as u8])
 }
 
 /// Whether std's vector has no more room for an entry: at first none, then for four, and for twice
