@@ -11,6 +11,7 @@ mod hash_function;
 mod hkdf;
 mod hmac;
 mod key_table;
+mod many_keys;
 mod matrix;
 mod merkle;
 mod one_time_password;

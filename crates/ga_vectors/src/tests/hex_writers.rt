@@ -1,19 +1,26 @@
-//! Hex text through writers that take it in parts, are interrupted, or fail at one of their calls.
+//! Hex text and records through writers that take them in parts, are interrupted, or fail at one of
+//! their calls.
+use ga_records::RecordBlock;
 use ga_test_items::writer::{BYTE_BY_BYTE, INTERRUPTED, Manner, NOTHING, Sink, WHOLE};
 use generic_array::hex_text::write_hex;
-use generic_array::{AllocError, arr};
+use generic_array::{AllocError, U4, arr};
 use std::alloc::Global;
 use std::io;
 use std::io::ErrorKind;
 use std::test::Fail;
 
 /// A call that writes hex text: of a slice in upper or lower digits, or of the array of 10, 20, 30.
+/// Or one that writes records, which knows no limit.
 #[derive(Clone, Copy)]
-enum Call<'a> {
+pub enum Call<'a> {
     Slice(&'a [u8], bool),
     LowerOfArray,
     UpperOfArray,
+    Records(RecordBlock<'a, U4>),
 }
+
+/// One byte at each call, and each call is interrupted once.
+const INTERRUPTED_AT_EACH_BYTE: Manner = Manner { step: 1, period: 2 };
 
 impl Call<'_> {
     fn made(self, limit: Option<usize>, w: &mut Sink<'_>) -> io::Result<()> {
@@ -21,6 +28,7 @@ impl Call<'_> {
             Call::Slice(bytes, upper) => write_hex(bytes, upper, limit, w),
             Call::LowerOfArray => arr![10u8, 20, 30].write_lower_hex(w, limit),
             Call::UpperOfArray => arr![10u8, 20, 30].write_upper_hex(w, limit),
+            Call::Records(records) => records.write_to(w),
         }
     }
 }
@@ -61,10 +69,12 @@ fn faults(
 /// Whether each write fails in turn, in each manner, and a text that is taken whole takes so many.
 ///
 /// Of a long text that is taken byte by byte not each write fails, for the time that it takes.
-fn each_fails(call: Call<'_>, limit: Option<usize>, text: &[u8], writes: usize) -> bool {
+pub fn each_fails(call: Call<'_>, limit: Option<usize>, text: &[u8], writes: usize) -> bool {
     let stride = if text.len() > 200 { 61 } else { 1 };
+    let twice = text.len().wrapping_mul(2).div_ceil(stride);
     faults(call, limit, text, WHOLE, 1) == Some(writes)
         && faults(call, limit, text, BYTE_BY_BYTE, stride) == Some(text.len().div_ceil(stride))
+        && faults(call, limit, text, INTERRUPTED_AT_EACH_BYTE, stride) == Some(twice)
         && faults(call, limit, text, INTERRUPTED, 1) == Some(writes.wrapping_mul(2))
         && faults(call, limit, text, NOTHING, 1) == Some(writes.min(1))
 }

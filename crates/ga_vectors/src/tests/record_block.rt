@@ -4,7 +4,7 @@ ghost use Rattle.ga_records.specs.Records.{has};
 ghost use Rattle.generic_array.specs.Views.{items_of_view};
 ghost use Rattle.std.specs.Prelude.{◌≡◌, ◌<◌, ◌∷◌, [], IfSome, IsErr, None, Ok, Some, true};
 
-use crate::tests::hex_writers::rising;
+use crate::tests::hex_writers::{Call, each_fails, rising};
 use ga_records::RecordBlock;
 use ga_test_items::writer::{Sink, WHOLE};
 use generic_array::{ArrayLength, GenericArrayRef, LengthError, U1, U2, U3, U4};
@@ -134,5 +134,16 @@ fn a_writers_fault_leaves_the_records(rt: HostRuntime) -> Result<(), Fail> {
     let fault = four.write_to(&mut broken);
     assert!(rt; fault.is_err_and(|fault| fault.kind() == ErrorKind::StorageFull));
     assert!(rt; broken.is_left_at_its_fault() && is(four.record(0), b"abcd"));
+    Ok(())
+}
+
+#[test]
+fn each_write_of_records_fails_in_turn(rt: HostRuntime) -> Result<(), Fail> {
+    for (len, writes) in [(0, 0), (4, 1), (8, 1), (100, 1), (1000, 1)] {
+        let bytes = rising(rt.alloc(), len)?;
+        let records: RecordBlock<'_, U4> = RecordBlock::open(bytes.as_slice())?;
+        let is_right = each_fails(Call::Records(records), None, bytes.as_slice(), writes);
+        assert!(rt; is_right, "{len} bytes in {writes} writes");
+    }
     Ok(())
 }
