@@ -9,7 +9,11 @@ mod drops;
 #[cfg(test)]
 mod fill_outcomes;
 #[cfg(test)]
+mod lengths;
+#[cfg(test)]
 mod liars;
+#[cfg(test)]
+mod many_steps;
 #[cfg(test)]
 mod random_steps;
 #[cfg(test)]

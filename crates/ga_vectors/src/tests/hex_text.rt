@@ -88,12 +88,20 @@ fn is_written_up_to(alloc: Global, bytes: usize, limit: Option<usize>) -> Result
     Ok(answer.is_ok() && are_digits(text.as_slice(), digit_count(bytes, limit)))
 }
 
+/// A number, and those on both sides of it.
+fn beside(number: usize) -> [usize; 3] {
+    [number.wrapping_sub(1), number, number.wrapping_add(1)]
+}
+
 #[test]
 fn long_texts_are_written_whole(rt: HostRuntime) -> Result<(), Fail> {
-    // At and about the sizes of a short buffer, of a piece, and of what 16 bits count.
-    for bytes in [
-        63, 64, 65, 127, 128, 129, 1023, 1024, 1025, 2049, 65535, 65536, 65537, 131073,
-    ] {
+    // On both sides of each power of two up to 8,192, and of what 16 bits count.
+    for power in 0..14u32 {
+        for bytes in beside(1 << power) {
+            assert!(rt; is_written_up_to(rt.alloc(), bytes, None)?, "{bytes}");
+        }
+    }
+    for bytes in [65535, 65536, 65537, 131073] {
         assert!(rt; is_written_up_to(rt.alloc(), bytes, None)?, "{bytes}");
     }
     for limit in [
@@ -127,6 +135,11 @@ fn long_texts_are_printed_whole(rt: HostRuntime) -> Result<(), Fail> {
         for precision in [127, 128, 129, 130, 2049, 65537] {
             let is_right = is_printed_up_to(rt.alloc(), bytes, precision)?;
             assert!(rt; is_right, "{bytes} {precision}");
+        }
+    }
+    for power in 0..14u32 {
+        for bytes in beside(1 << power) {
+            assert!(rt; is_printed_up_to(rt.alloc(), bytes, bytes)?, "{bytes}");
         }
     }
     Ok(())
