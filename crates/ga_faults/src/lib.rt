@@ -9,8 +9,6 @@ mod drops;
 #[cfg(test)]
 mod fill_outcomes;
 #[cfg(test)]
-mod lengths;
-#[cfg(test)]
 mod liars;
 #[cfg(test)]
 mod many_steps;
