@@ -10,13 +10,13 @@ use std::io::ErrorKind;
 use std::test::Fail;
 
 /// A call that writes hex text: of a slice in upper or lower digits, or of the array of 10, 20, 30.
-/// Or one that writes records, which knows no limit.
+/// Or one that writes the records of four in these bytes, and knows no limit.
 #[derive(Clone, Copy)]
 pub enum Call<'a> {
     Slice(&'a [u8], bool),
     LowerOfArray,
     UpperOfArray,
-    Records(RecordBlock<'a, U4>),
+    Records(&'a [u8]),
 }
 
 /// One byte at each call, and each call is interrupted once.
@@ -28,7 +28,10 @@ impl Call<'_> {
             Call::Slice(bytes, upper) => write_hex(bytes, upper, limit, w),
             Call::LowerOfArray => arr![10u8, 20, 30].write_lower_hex(w, limit),
             Call::UpperOfArray => arr![10u8, 20, 30].write_upper_hex(w, limit),
-            Call::Records(records) => records.write_to(w),
+            Call::Records(bytes) => match RecordBlock::<U4>::open(bytes) {
+                Ok(records) => records.write_to(w),
+                Err(_other) => Err(io::Error::from(ErrorKind::InvalidInput)),
+            },
         }
     }
 }

@@ -141,8 +141,8 @@ fn a_writers_fault_leaves_the_records(rt: HostRuntime) -> Result<(), Fail> {
 fn each_write_of_records_fails_in_turn(rt: HostRuntime) -> Result<(), Fail> {
     for (len, writes) in [(0, 0), (4, 1), (8, 1), (100, 1), (1000, 1)] {
         let bytes = rising(rt.alloc(), len)?;
-        let records: RecordBlock<'_, U4> = RecordBlock::open(bytes.as_slice())?;
-        let is_right = each_fails(Call::Records(records), None, bytes.as_slice(), writes);
+        let call = Call::Records(bytes.as_slice());
+        let is_right = each_fails(call, None, bytes.as_slice(), writes);
         assert!(rt; is_right, "{len} bytes in {writes} writes");
     }
     Ok(())
