@@ -9,6 +9,8 @@ mod drops;
 #[cfg(test)]
 mod fill_outcomes;
 #[cfg(test)]
+mod lengths;
+#[cfg(test)]
 mod liars;
 #[cfg(test)]
 mod many_steps;
