@@ -166,7 +166,7 @@ fn wrong_call<'a, 'n, const U: usize>(alloc: Global, counts: &'a Counts) -> Wron
 {
     first_wrong_at::<Counted<'a>, Const<U>>(alloc, counts)
         .or(first_of(counts, U, &of_copies::<U>(alloc, counts)))
-        .map(|call: &'n str| (U, call))
+        .map(|call: &str| (U, call))
 }
 
 /// The same of the calls that ask for memory.
@@ -175,7 +175,7 @@ fn wrong_size<'a, 'n, const U: usize>(alloc: Global, counts: &'a Counts) -> Wron
 {
     first_wrong_size::<Counted<'a>, Const<U>>(alloc, counts)
         .or(first_of(counts, U, &of_copies::<U>(alloc, counts)))
-        .map(|call: &'n str| (U, call))
+        .map(|call: &str| (U, call))
 }
 
 /// The same of bytes, since no more than a thousand counted items have numbers of their own.
@@ -184,7 +184,7 @@ fn wrong_long_size<'n, const U: usize>(alloc: Global, counts: &Counts) -> Wrong<
 {
     first_wrong_size::<Plain<u8>, Const<U>>(alloc, counts)
         .or(first_of(counts, U, &of_copies::<U>(alloc, counts)))
-        .map(|call: &'n str| (U, call))
+        .map(|call: &str| (U, call))
 }
 
 /// What is played wrongly at the first of these lengths at which something is.
