@@ -68,7 +68,8 @@ fn of_fills<'a, 'n, T: Item + Given<'a>, N: Unsigned>(
     alloc: Global,
     counts: &'a Counts,
 ) -> [Played<'n>; 4] {
-    let given = N::USIZE as u32;
+    // No length that is played is greater.
+    let given = N::USIZE.min(9000) as u32;
     let mut items: Items<T> = Items::new(counts, given);
     let filled = ends_built(fill_boxed::<T, N, _>(alloc, &mut items), counts);
     let mut items: Items<T> = Items::new(counts, given);
