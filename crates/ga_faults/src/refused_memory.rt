@@ -16,8 +16,8 @@ use ga_test_items::scripted::{Given, digits};
 use generic_array::functional::FunctionalSequence;
 use generic_array::steps::{Reply, Step, run_steps};
 use generic_array::{
-    AllocError, ArrayLength, BoxedArray, BoxedArrayIter, Const, U0, U1, U2, U3, U7, Unsigned,
-    box_arr,
+    AllocError, ArrayLength, BoxedArray, BoxedArrayIter, Const, LengthError, U0, U1, U2, U3, U4,
+    U7, Unsigned, box_arr,
 };
 use std::alloc::Global;
 use std::process::Abort;
@@ -226,6 +226,47 @@ fn run_of_two(alloc: Global) -> Result<Outcome, AllocError> {
 #[test]
 fn a_refused_run_of_steps_leaves_all_as_it_was(rt: HostRuntime) {
     let wrong = play(&rt, 1, of_run);
+    assert!(rt; wrong.is_none());
+}
+
+/// What a run of no steps over 1 and 2 comes to, which needs no memory, so that it is never refused.
+fn outcome_of_no_steps(alloc: Global, items: &mut BoxedArrayIter<u32>) -> Outcome {
+    let mut looks = 0u32;
+    let mut look = |live: &[u32]| {
+        looks = looks.wrapping_add(1);
+        live.len()
+    };
+    let mut replies: Vec<Reply<u32, usize>> = Vec::new(alloc);
+    let run = run_steps(items, Vec::new(alloc), &mut look, &mut replies);
+    let is_unchanged = looks == 0 && replies.is_empty() && items.next() == Some(1);
+    Outcome::exact_if(run.is_ok() && is_unchanged)
+}
+
+fn of_no_steps(alloc: Global, _number: u32) -> Outcome {
+    match BoxedArray::<u32, U2>::from_array(alloc, [1, 2]) {
+        Ok(array) => outcome_of_no_steps(alloc, &mut array.into_iter()),
+        Err(AllocError) => Outcome::Refused,
+    }
+}
+
+#[test]
+fn a_run_of_no_steps_is_never_refused(rt: HostRuntime) {
+    let wrong = play(&rt, 1, of_no_steps);
+    assert!(rt; wrong.is_none());
+}
+
+/// A vector of three is no block of four, which is seen before any memory is asked for.
+fn of_three_for_four(alloc: Global, _number: u32) -> Outcome {
+    let Ok(three) = vec![in alloc; 1u32, 2, 3] else {
+        return Outcome::Refused;
+    };
+    let made = BoxedArray::<u32, U4>::try_from_vec(alloc, three);
+    Outcome::exact_if(matches!(made, Ok(Err(LengthError))))
+}
+
+#[test]
+fn a_wrong_length_is_seen_before_memory(rt: HostRuntime) {
+    let wrong = play(&rt, 1, of_three_for_four);
     assert!(rt; wrong.is_none());
 }
 

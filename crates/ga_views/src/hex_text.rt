@@ -8,10 +8,10 @@ use hex::encode_to_slice;
 use std::io::Write;
 use std::{fmt, io, str};
 
-// How many digits are made at once.
+// How many digits `write_hex` makes at once.
 const LONG_TEXT: usize = 2048;
 
-// How many digits a few bytes have, as those of a digest: a buffer for so many is quickly cleared.
+// How many digits `HexText` makes at once: a buffer for the few of a digest is quickly cleared.
 const SHORT_TEXT: usize = 128;
 
 /// Writes two hex digits for each byte, the high half first, in lower case or, if `upper` is set,
@@ -22,7 +22,8 @@ const SHORT_TEXT: usize = 128;
 ///
 /// The counterpart of `fmt::LowerHex` and `fmt::UpperHex` of an array, with `limit` for a
 /// formatter's precision.
-#[inline]
+// Not inlined, so that no caller's frame holds the buffer of 2 KiB.
+#[inline(never)]
 pub fn write_hex<W: Write>(
     bytes: &[u8],
     upper: bool,
@@ -33,11 +34,19 @@ pub fn write_hex<W: Write>(
         (hex_text upper limit bytes.now)) }
     ensures empty { hex_text upper limit bytes.now ≡ [] → IsOk result }
 {
-    if bytes.len() <= SHORT_TEXT / 2 {
-        write_pieces::<SHORT_TEXT, W>(bytes, upper, limit, w)
-    } else {
-        put_long(bytes, upper, limit, w)
+    let mut digits = [0; LONG_TEXT];
+    let mut count = count_digits(bytes, limit);
+    let mut left = bytes;
+    while count > 0 {
+        let (piece, behind) = left.split_at(left.len().min(LONG_TEXT / 2));
+        let text = put_piece(piece, upper, count, &mut digits);
+        if let Err(error) = w.write_all(text) {
+            return Err(error);
+        }
+        count -= text.len();
+        left = behind;
     }
+    Ok(())
 }
 
 /// Bytes that print as hex text: two digits for each byte, the high half first.
@@ -65,46 +74,6 @@ impl fmt::Display for HexText<'_> {
     fn fmt<W: fmt::Write>(&self, f: &mut fmt::Formatter<W>) -> fmt::Result {
         show_pieces(self.bytes, self.upper, f.precision(), f)
     }
-}
-
-// As `write_hex`, in pieces of 1,024 bytes. Not inlined, so that no caller's frame holds the buffer
-// of 2 KiB.
-#[inline(never)]
-fn put_long<W: Write>(bytes: &[u8], upper: bool, limit: Option<usize>, w: &mut W) -> io::Result<()>
-    ensures text { OnOk result (Appends (W.contents w.old) (W.contents w.new)
-        (hex_text upper limit bytes.now)) }
-    ensures empty { hex_text upper limit bytes.now ≡ [] → IsOk result }
-{
-    write_pieces::<LONG_TEXT, W>(bytes, upper, limit, w)
-}
-
-// As `write_hex`, in pieces of so many digits.
-#[inline(always)]
-fn write_pieces<const SIZE: usize, W: Write>(
-    bytes: &[u8],
-    upper: bool,
-    limit: Option<usize>,
-    w: &mut W,
-) -> io::Result<()>
-    requires some { 2 ≤ SIZE }
-    requires few { SIZE ≤ 2048 }
-    ensures text { OnOk result (Appends (W.contents w.old) (W.contents w.new)
-        (hex_text upper limit bytes.now)) }
-    ensures empty { hex_text upper limit bytes.now ≡ [] → IsOk result }
-{
-    let mut digits = [0; SIZE];
-    let mut count = count_digits(bytes, limit);
-    let mut left = bytes;
-    while count > 0 {
-        let (piece, behind) = left.split_at(left.len().min(SIZE / 2));
-        let text = put_piece(piece, upper, count, &mut digits);
-        if let Err(error) = w.write_all(text) {
-            return Err(error);
-        }
-        count -= text.len();
-        left = behind;
-    }
-    Ok(())
 }
 
 // As `write_hex`, into a formatter.

@@ -27,9 +27,20 @@ fn totals<N: ArrayLength<u32> + InlineLength>(array: GenericArray<u32, N>) -> [u
     [of_view, of_array]
 }
 
+/// `map_total_by` of a boxed array.
+fn total_of_boxed<N: Unsigned>(
+    alloc: Global,
+    array: BoxedArray<u32, N>,
+) -> Result<u32, AllocError> {
+    map_total_by(array, alloc, &mut doubled, 0, &mut next_digit)
+}
+
 #[test]
-fn a_map_is_folded_in_order(rt: HostRuntime) {
+fn a_map_is_folded_in_order(rt: HostRuntime) -> Result<(), Fail> {
     assert!(rt; totals(from_one::<U3>()) == [246, 246]);
+    let boxed = boxed_from_one::<U3>(rt.alloc())?;
+    assert!(rt; total_of_boxed(rt.alloc(), boxed)? == 246);
+    Ok(())
 }
 
 /// Twice the item, but an error for 2.

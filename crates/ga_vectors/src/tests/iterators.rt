@@ -55,6 +55,23 @@ fn steps_from_both_ends_meet_inline(rt: HostRuntime) {
     assert!(rt; from_one::<U3>().into_iter().rfold(0, next_digit) == 321);
 }
 
+/// Clones of an array and of its iterator behind the first item, as digits.
+fn cloned<N: ArrayLength<u32>>() -> Result<[u32; 2], AllocError>
+    requires { FitsInline N.USIZE }
+{
+    let array = from_one::<N>();
+    let whole = array.clone()?;
+    let mut items = array.into_iter();
+    let _ = items.next();
+    Ok([digits(items.clone()?.as_slice()), digits(whole.as_slice())])
+}
+
+#[test]
+fn clones_have_all_items_and_what_is_left(rt: HostRuntime) -> Result<(), Fail> {
+    assert!(rt; cloned::<U3>()? == [23, 123]);
+    Ok(())
+}
+
 /// Whether only what is left is printed, each item in a width where one is given.
 fn is_left_printed(alloc: Global) -> bool {
     let mut items = from_one::<U3>().into_iter();

@@ -2,9 +2,9 @@
 
 use ga_test_items::answers::gives;
 use ga_test_items::items::TooMany;
-use generic_array::sequence::{FallibleGenericSequence, GenericSequence};
+use generic_array::sequence::{FallibleGenericSequence, FromFallibleIterator, GenericSequence};
 use generic_array::{
-    ArrayLength, BoxedArray, Const, GenericArray, GenericArrayRef, InlineLength, U3,
+    ArrayLength, BoxedArray, Const, GenericArray, GenericArrayRef, InlineLength, U2, U3,
 };
 use std::alloc::Global;
 
@@ -49,7 +49,20 @@ fn each_makes_three<N: ArrayLength<usize> + InlineLength>(alloc: Global) -> bool
         && makes_three::<BoxedArray<usize, N>>(alloc)
 }
 
+/// Whether a kind is filled by 4 and 5, each given as `Ok`.
+fn is_filled<S: FromFallibleIterator<u32>>(place: S::Place) -> bool
+where
+    S: Drop,
+    S::Error: Drop,
+    requires { S.Fits }
+{
+    let items: [Result<u32, u8>; 2] = [Ok(4), Ok(5)];
+    gives(S::from_fallible_iter(place, items.into_iter()), &[4, 5])
+}
+
 #[test]
 fn each_kind_is_made_by_the_calls_of_the_traits(rt: HostRuntime) {
     assert!(rt; each_makes_three::<U3>(rt.alloc()));
+    assert!(rt; is_filled::<GenericArray<u32, U2>>(()));
+    assert!(rt; is_filled::<BoxedArray<u32, U2>>(rt.alloc()));
 }

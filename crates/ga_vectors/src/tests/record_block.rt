@@ -111,6 +111,7 @@ fn are_written_in<N: ArrayLength<u8>>(bytes: &[u8], writes: usize) -> bool
 fn many_records_are_written_whole(rt: HostRuntime) -> Result<(), Fail> {
     let alloc = rt.alloc();
     assert!(rt; are_written_in::<U2>(&[], 0));
+    assert!(rt; are_written_in::<U2>(&[1, 2, 3, 2], 1));
     for count in [
         1, 2, 31, 32, 33, 64, 512, 513, 32767, 32768, 32769, 65536, 131_073,
     ] {

@@ -112,8 +112,8 @@ fn what_is_written_through_both_halves_of_a_view_stands_in_the_slice(rt: HostRun
 fn an_array_may_be_without_items(rt: HostRuntime) {
     let (last, others): (u32, GenericArray<u32, U3>) = from_one::<U4>().swap_remove(3);
     assert!(rt; last == 4 && others.as_slice() == [1, 2, 3].as_slice());
-    let (only, none): (u32, GenericArray<u32, U0>) = from_one::<U1>().pop_front();
-    assert!(rt; only == 1 && none.as_slice().is_empty());
+    let (only, none): (u32, GenericArray<u32, U0>) = arr![5].pop_front();
+    assert!(rt; only == 5 && none.as_slice().is_empty());
     let two: GenericArray<u32, U2> = none.concat(from_one::<U2>());
     assert!(rt; two.as_slice() == [1, 2].as_slice());
 }

@@ -78,6 +78,8 @@ fn fallibly_filled<N: ArrayLength<u32>>(
 fn a_fallible_fill_stops_at_the_first_error(rt: HostRuntime) {
     let end = fallibly_filled::<U3>(&[Ok(1), Err("x"), Ok(3)]);
     assert!(rt; end == (End::Item("x"), Some(Ok(3))));
+    let end = fallibly_filled::<U3>(&[Err("x"), Ok(1)]);
+    assert!(rt; end == (End::Item("x"), Some(Ok(1))));
 }
 
 #[test]

@@ -1,6 +1,6 @@
 use Rattle.ga_views.proofs.HexLemmas.{no-digits, piece-left, piece-next, piece-some}
-use Rattle.ga_views.proofs.hex_text.write_pieces.Goals as goal
-use Rattle.std.proofs.Common.{◌++◌, arith}
+use Rattle.ga_views.proofs.hex_text.write_hex.Goals as goal
+use Rattle.std.proofs.Common.{◌≤◌, ◌++◌, arith, lit≤}
 use Rattle.std.proofs.KnownBytes.{Appends-trans}
 
 -- a writer fails only where there are digits to write
@@ -13,8 +13,9 @@ returns-in-Err-clause-empty g c none =
 pub loop-count-smaller : goal.loop-count-smaller
 loop-count-smaller g c =
     let parts = c.split_at.ensures.by_index.0 in
+    let two : 2 ≤ 2048 = lit≤ tt in
     let some = piece-some c.args.upper _ _ _ _ _ parts c.put_piece-text.ensures _ _ c.loop-count-test.true
-    c.loop-count.invariant.count c.requires.some c.min.ensures c.split_at.ensures.front_len in
+    c.loop-count.invariant.count two c.min.ensures c.split_at.ensures.front_len in
     omega (arith, some)
 
 -- one piece more is written

@@ -1,4 +1,4 @@
-use Rattle.ga_views.proofs.hex_text.write_pieces.Given as goal
+use Rattle.ga_views.proofs.hex_text.write_hex.Given as goal
 use Rattle.ga_views.specs.HexText.{hex_digits, hex_text}
 use Rattle.std.proofs.Common.{◌≡◌, ℕ, ◌*◌, ◌≤◌, ◌++◌, List, length, take}
 use Rattle.std.specs.Io.KnownBytes.{Appends}
