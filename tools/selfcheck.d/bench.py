@@ -1,12 +1,12 @@
-"""bench/run, whose program and callgrind answer made-up numbers, and what compares the checksums
-(bench.rs)."""
+"""trials/bench/run, whose program and callgrind answer made-up numbers, and what compares the
+checksums (bench.rs)."""
 import re
 import shutil
 import sys
 
 from playing import HERE, TOP, copy_beside, run, write
 
-sys.path[:0] = [str(TOP / "beside"), str(TOP / "bench")]
+sys.path[:0] = [str(TOP / "trials"), str(TOP / "trials/bench")]
 
 import counts
 import picture
@@ -24,10 +24,10 @@ COUNTED = {"generate": (10, 10, 10), "nth3": (50, 20, 10)}
 MOST, TIMES, SIDES = (30, 20, 10), (5, 2, 1), ("ours", "original", "third")
 # The copy has each case at one kind, and short files.
 FEWER = {
-    "bench/cases.py+": "\nCASES = [it._replace(kinds=it.kinds[:1]) for it in CASES]\n",
-    "bench/program.py+": "\nTIMED = COUNTED\n",
+    "trials/bench/cases.py+": "\nCASES = [it._replace(kinds=it.kinds[:1]) for it in CASES]\n",
+    "trials/bench/program.py+": "\nTIMED = COUNTED\n",
 }
-# What bench/run makes of that.
+# What trials/bench/run makes of that.
 ARRAYS = sum(it.part.group == "arrays" for it in CASES)
 LINES = {
     "a case": "generate | u8_4 | 10/10/10 | 1.00 | 1.00 | | 5.0/2.0/1.0 | 2.50 | arrays\n",
@@ -43,7 +43,7 @@ LINES = {
     "the programs": "ga_rows/careful | 8 | 0.50 | 8 | 0 | ",
     "the worst": "\nabove 2 by instructions: nth3 u8_4 2.50\n",
 }
-# Faults of the answers: what takes the place of a text in a file, and what bench/run tells.
+# Faults of the answers: what takes the place of a text in a file, and what trials/bench/run tells.
 PROGRAM, LOSES = "#!/bin/sh\nexec cat\n", '[ "$1" = last ] && exec head -c 99990; exec cat'
 FAULTS = {
     "a case differs": ("check", "\nmap,u8_4,0,", "\nmap,u8_4,1,", "checksums differ: map u8_4\n"),
@@ -55,7 +55,7 @@ FAULTS = {
 
 
 def answers():
-    """What the program of bench/run answers and what callgrind dumps of it, by paths of files."""
+    """What the program of bench answers and what callgrind dumps of it, by paths of files."""
     files = {"check": "", "time": "", "built/bench_driver": '#!/bin/sh\ncat "$MADE_UP/$1"\n'}
     files |= {f"built/{it}": PROGRAM for it in ("ga_rows", "rows_careful", "rows_plain")}
     asked = [(case, case.kinds[0]) for case in CASES]
@@ -121,7 +121,7 @@ def play(cases, room):
     (room / "bin").mkdir()
     for it in ("od", "hexdump", "xxd"):
         (room / "bin" / it).symlink_to(shutil.which("true"))
-    call = [room / "bench" / "run", room / "folder", 1]
+    call = [room / "trials/bench/run", room / "folder", 1]
     status, said = run(*call, made_up=room)
     table = (room / "folder" / "table.txt").read_text("utf-8")
     squeezed = status, re.sub(" +", " ", said + table)

@@ -1,11 +1,11 @@
-"""diff/run, whose program has made-up cases (diff.rs), and its list of cases."""
+"""trials/diff/run, whose program has made-up cases (diff.rs), and its list of cases."""
 import re
 import shutil
 import sys
 
 from playing import HERE, TOP, copy_beside, run
 
-sys.path[:0] = [str(TOP / "beside"), str(TOP / "diff")]
+sys.path[:0] = [str(TOP / "trials"), str(TOP / "trials/diff")]
 
 import runs
 
@@ -24,14 +24,14 @@ SAID = {
     "once as wanted": ("differ as wanted: one: 1 runs\n", 0),
     "once not as wanted": ("2 differs from 1\n", 1),
 }
-# What diff/run says, by the case and its words.
+# What trials/diff/run says, by the case and its words.
 ENDS = {
     ("right", "200"): ("diff: 600 runs, 0 differ, and 0 as wanted\n", 0),
     ("as wanted", "200"): ("diff: 600 runs, 0 differ, and 200 as wanted\n", 0),
     ("differs", "200"): ("diff: 600 runs, 200 differ, and 0 as wanted\n", 1),
-    ("differs", "forever"): ("once more: diff/run FOLDER 'differs' 2 ", 1),
+    ("differs", "forever"): ("once more: trials/diff/run FOLDER 'differs' 2 ", 1),
     ("differs", "differs", "2", "5"): ("ours is 0x0000000200000004, the original's 0x", 1),
-    ("right", "0"): ("diff/run [FOLDER] [SEEDS]\n", 1),
+    ("right", "0"): ("trials/diff/run [FOLDER] [SEEDS]\n", 1),
 }
 # A case that is written for the program, and its fields.
 CASE = re.compile(r"(?ms)^    Case \{\n(.*?)^    \},$")
@@ -51,7 +51,7 @@ def play_list(cases):
              if "ours_" not in it["ours"] or "ours_" in it["original"] + it["wanted"]]
     cases.case("diff: none is ours on both sides", alike)
     for files, text in (("calls/*.rattle", runs.exports()), ("driver/*.rs", table)):
-        texts = [it.read_text("utf-8") for it in sorted((TOP / "diff").glob(files))]
+        texts = [it.read_text("utf-8") for it in sorted((TOP / "trials/diff").glob(files))]
         written = {it for text in texts for it in re.findall(r"\bpub fn (\w+_run)\b", text)}
         cases.case(f"diff: each run of {files} is in one", written - {*re.findall(r"\w+", text)})
 
@@ -59,7 +59,7 @@ def play_list(cases):
 def play(cases, room):
     play_list(cases)
     if not shutil.which("rustc"):
-        calls = [f"diff/run: {', '.join(it)}" for it in ENDS]
+        calls = [f"trials/diff/run: {', '.join(it)}" for it in ENDS]
         return cases.skip([f"diff: {it}" for it in SAID] + calls, "rustc")
     driver = room / "built" / "diff_driver"
     driver.parent.mkdir()
@@ -69,5 +69,5 @@ def play(cases, room):
         cases.said(f"diff: {name}", run(driver, 200, CASE=name), status, text)
     copy_beside(room)
     for (name, *words), (text, status) in ENDS.items():
-        said = run(room / "diff" / "run", room / "folder", *words, made_up=room, CASE=name)
-        cases.said(f"diff/run: {', '.join([name, *words])}", said, status, text)
+        said = run(room / "trials/diff/run", room / "folder", *words, made_up=room, CASE=name)
+        cases.said(f"trials/diff/run: {', '.join([name, *words])}", said, status, text)

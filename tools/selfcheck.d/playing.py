@@ -74,6 +74,6 @@ def copy(room, *parts):
 
 
 def copy_beside(room):
-    """Copies bench/run and diff/run with an empty crate, of which they lay out a copy."""
-    copy(room, "bench", "beside", "diff", "crates.txt", "HANDLES")
+    """Copies bench and diff with an empty crate, of which they lay out a copy."""
+    copy(room, "trials", "crates.txt", "HANDLES")
     write(room, {"crates/ga_rows/src/main.rt": ""})

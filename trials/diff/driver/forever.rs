@@ -37,7 +37,7 @@ pub fn run(tally: &mut Tally, cases: &[Case]) {
             }
             if let Some((n, seed)) = tally.first_difference(case, number..number + TURN) {
                 println!("{}: differs at length {n} with seed {seed}", case.name);
-                println!("once more: diff/run FOLDER '{}' {n} {seed}", case.name);
+                println!("once more: trials/diff/run FOLDER '{}' {n} {seed}", case.name);
                 return;
             }
             if told.elapsed() >= BETWEEN_LINES {

@@ -1,8 +1,8 @@
-"""Lays out a copy of this checkout with the crates of bench and diff, and builds each of these with
-the Rust program that runs it beside the original crate.
+"""Lays out a copy of this checkout, outside the repository, with the crates of bench and diff or
+those of sweeps.
 
-All stands in one folder outside the repository, so that the libraries are proved once: the copy in
-`ours/`, the Rust programs in `bench/` and `diff/`.
+For bench and diff it also builds the Rust program that runs our crate beside the original one. Both
+take the same copy, `ours/` in their folder, so that the libraries are proved once.
 """
 import os
 import pathlib
@@ -11,14 +11,17 @@ import subprocess
 import sys
 import tempfile
 
-TOP = pathlib.Path(__file__).resolve().parent.parent
-sys.path[:0] = [str(TOP / "bench"), str(TOP / "diff")]
+HERE = pathlib.Path(__file__).resolve().parent
+TOP = HERE.parent
+sys.path[:0] = [str(HERE / "bench"), str(HERE / "diff")]
 
 import runs
 import sides
 
 # What has LIBRARIES, `our_modules` and `driver_sources`, by the name of its folder.
 CRATES = {"bench": sides, "diff": runs}
+# Crates of tests, which `tools/check trials` plays.
+SWEEPS = HERE / "sweeps"
 # A folder with the sources of generic-array 1.4.5, where cargo can't reach its registry.
 ORIGINAL = "GENERIC_ARRAY"
 
@@ -44,7 +47,7 @@ LINKED = """fn main() {{
 
 
 def stop(why):
-    sys.exit(f"{os.path.basename(os.path.dirname(os.path.abspath(sys.argv[0])))}/run: {why}")
+    sys.exit(f"{os.path.relpath(sys.argv[0], TOP)}: {why}")
 
 
 def step(words):
@@ -80,7 +83,7 @@ def put(path, text):
 
 
 def lay_out(ours):
-    """Copies the crates of this checkout, and adds those of CRATES, from their modules' texts."""
+    """Copies the crates of this checkout, over what an earlier run left."""
     for made in (TOP / "crates").iterdir():
         built = (TOP / "crates" / made.name / "out", ours / "crates" / made.name / "out")
         for part in ("src", "specs", "proofs"):
@@ -91,6 +94,10 @@ def lay_out(ours):
         if built[0].is_dir() and not built[1].exists():
             shutil.copytree(*built, symlinks=True)
     shutil.copy(TOP / "HANDLES", ours / "HANDLES")
+
+
+def add_sides(ours):
+    """Adds the crates of bench and diff to a copy, from their modules' texts."""
     lines = [f"ga_{name} staticlib: {' '.join(it.LIBRARIES)}\n" for name, it in CRATES.items()]
     put(ours / "crates.txt", (TOP / "crates.txt").read_text() + "".join(lines))
     for name, it in CRATES.items():
@@ -100,6 +107,24 @@ def lay_out(ours):
                 path.unlink()
         for module, text in modules.items():
             put(source / f"{module}.rt", text)
+
+
+def add_sweeps(ours):
+    """Adds the crates of sweeps to a copy, and returns their names. Where a crate of the checkout has
+    such a name, the files are added to it, each as a module of the one above it."""
+    lists = [it for it in (TOP / "crates.txt", SWEEPS / "crates.txt") if it.exists()]
+    put(ours / "crates.txt", "".join(it.read_text() for it in lists))
+    files = sorted(SWEEPS.glob("*/**/*.rattle"))
+    for file in files:
+        name, *path = file.relative_to(SWEEPS).with_suffix(".rt").parts
+        laid = ours.joinpath("crates", name, "src", *path)
+        if laid.exists():
+            stop(f"{laid.relative_to(ours)} is in the checkout already")
+        above = laid.parent.with_suffix(".rt")
+        if TOP.joinpath(above.relative_to(ours)).exists():
+            put(above, f"{above.read_text()}mod {laid.stem};\n")
+        put(laid, file.read_text())
+    return sorted({it.relative_to(SWEEPS).parts[0] for it in files})
 
 
 def build_driver(folder, name):
@@ -123,6 +148,7 @@ def build(folder, name):
     """Builds both sides of bench or diff, and answers where the Rust program stands."""
     step("proving and building ours; the first time all crates below it too, for half an hour")
     lay_out(folder / "ours")
+    add_sides(folder / "ours")
     said(["rt", "lib"], folder / "ours.log", cwd=folder / "ours" / "crates" / f"ga_{name}")
     step("building the original")
     return build_driver(folder, name)

@@ -1,7 +1,7 @@
 #!/usr/bin/env python3
-"""Draws what bench/run measured: a dot a case, by group, at ours/original.
+"""Draws what trials/bench/run measured: a dot a case, by group, at ours/original.
 
-    bench/picture.py [TABLE [PICTURE]]    of bench/table.txt, as bench/speed.svg, if none are named
+    trials/bench/picture.py [TABLE [PICTURE]]    of table.txt and as speed.svg beside this, if none are named
 
 One table has one picture, byte for byte. It needs matplotlib: apt-get install python3-matplotlib
 """
@@ -173,14 +173,14 @@ def main():
     try:
         groups = read(pathlib.Path(table).read_text("utf-8"))
         if not groups:
-            sys.exit(f"bench/picture.py: {table} has no cases")
+            sys.exit(f"trials/bench/picture.py: {table} has no cases")
         draw(groups, picture)
     except (OSError, ValueError) as why:
-        sys.exit(f"bench/picture.py: {why}")
+        sys.exit(f"trials/bench/picture.py: {why}")
     except ModuleNotFoundError as missing:
         if sys.executable != DEBIANS and os.path.exists(DEBIANS):
             os.execv(DEBIANS, [DEBIANS, *sys.argv])
-        sys.exit(f"bench/picture.py: no {missing.name}: apt-get install python3-matplotlib")
+        sys.exit(f"trials/bench/picture.py: no {missing.name}: apt-get install python3-matplotlib")
 
 
 if __name__ == "__main__":

@@ -10,13 +10,13 @@ LIBRARIES = ["ga_core", "ga_views", "ga_boxed", "ga_ciphers", "generic_array"]
 ALL = CASES + APART_CASES
 NUMBERS = "kind: u32, seed: u64, reps: u64"
 
-EXPORTS = """//! What the driver calls, written by bench/run from its list of cases.
+EXPORTS = """//! What the driver calls, written by trials/bench/run from its list of cases.
 use crate::{{{modules}}};
 use generic_array::Const;
 use std::alloc::Global;
 """
 
-CASE_TABLE = """//! The cases, written by bench/run from its list.
+CASE_TABLE = """//! The cases, written by trials/bench/run from its list.
 use super::{{ciphers, native, original, scale, Case}};
 
 pub type Ours = extern "C" fn(u32, u64, u64) -> u64;

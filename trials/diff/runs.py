@@ -157,7 +157,7 @@ DROPS = [
     ),
 ]
 
-EXPORTS = """//! What the Rust program calls, written by diff/run from its list of cases.
+EXPORTS = """//! What the Rust program calls, written by trials/diff/run from its list of cases.
 use crate::noted::Log;
 use crate::{{{modules}}};
 use generic_array::Const;
@@ -174,7 +174,7 @@ pub extern "C" fn ours_size(which: u32) -> usize {{
 }}
 """
 
-CASE_TABLE = """//! The cases, written by diff/run from its list.
+CASE_TABLE = """//! The cases, written by trials/diff/run from its list.
 use crate::compare::{{Case, Wanted}};
 use crate::{{{modules}}};
 use generic_array::typenum::*;
