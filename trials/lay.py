@@ -13,10 +13,11 @@ import tempfile
 
 HERE = pathlib.Path(__file__).resolve().parent
 TOP = HERE.parent
-sys.path[:0] = [str(HERE / "bench"), str(HERE / "diff")]
+sys.path[:0] = map(str, [HERE / "bench", HERE / "diff", TOP / "tools" / "check.d"])
 
 import runs
 import sides
+from copies import copy_crates
 
 # What has LIBRARIES, `our_modules` and `driver_sources`, by the name of its folder.
 CRATES = {"bench": sides, "diff": runs}
@@ -82,22 +83,8 @@ def put(path, text):
         path.write_text(text)
 
 
-def lay_out(ours):
-    """Copies the crates of this checkout, over what an earlier run left."""
-    for made in (TOP / "crates").iterdir():
-        built = (TOP / "crates" / made.name / "out", ours / "crates" / made.name / "out")
-        for part in ("src", "specs", "proofs"):
-            source, copy = made / part, ours / "crates" / made.name / part
-            shutil.rmtree(copy, ignore_errors=True)
-            if source.is_dir():
-                shutil.copytree(source, copy)
-        if built[0].is_dir() and not built[1].exists():
-            shutil.copytree(*built, symlinks=True)
-    shutil.copy(TOP / "HANDLES", ours / "HANDLES")
-
-
 def add_sides(ours):
-    """Adds the crates of bench and diff to a copy, from their modules' texts."""
+    """Adds the crates of bench and diff to a copy of the crates, from their modules' texts."""
     lines = [f"ga_{name} staticlib: {' '.join(it.LIBRARIES)}\n" for name, it in CRATES.items()]
     put(ours / "crates.txt", (TOP / "crates.txt").read_text() + "".join(lines))
     for name, it in CRATES.items():
@@ -110,18 +97,18 @@ def add_sides(ours):
 
 
 def add_sweeps(ours):
-    """Adds the crates of sweeps to a copy, and returns their names. Where a crate of the checkout has
-    such a name, the files are added to it, each as a module of the one above it."""
+    """Adds the crates of sweeps to a copy of the crates, and returns their names. Where a crate of
+    the checkout has such a name, the files are added to it, each as a module of the one above it."""
     lists = [it for it in (TOP / "crates.txt", SWEEPS / "crates.txt") if it.exists()]
     put(ours / "crates.txt", "".join(it.read_text() for it in lists))
     files = sorted(SWEEPS.glob("*/**/*.rattle"))
     for file in files:
         name, *path = file.relative_to(SWEEPS).with_suffix(".rt").parts
         laid = ours.joinpath("crates", name, "src", *path)
-        if laid.exists():
-            stop(f"{laid.relative_to(ours)} is in the checkout already")
         above = laid.parent.with_suffix(".rt")
-        if TOP.joinpath(above.relative_to(ours)).exists():
+        if laid.exists() or len(path) == 1 and (TOP / "crates" / name).exists():
+            raise ValueError(f"{file.relative_to(TOP)} is no module of a file of crates/{name}")
+        if (TOP / above.relative_to(ours)).exists():
             put(above, f"{above.read_text()}mod {laid.stem};\n")
         put(laid, file.read_text())
     return sorted({it.relative_to(SWEEPS).parts[0] for it in files})
@@ -147,7 +134,7 @@ def build_driver(folder, name):
 def build(folder, name):
     """Builds both sides of bench or diff, and answers where the Rust program stands."""
     step("proving and building ours; the first time all crates below it too, for half an hour")
-    lay_out(folder / "ours")
+    copy_crates(folder / "ours")
     add_sides(folder / "ours")
     said(["rt", "lib"], folder / "ours.log", cwd=folder / "ours" / "crates" / f"ga_{name}")
     step("building the original")

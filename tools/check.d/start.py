@@ -1,32 +1,27 @@
-#!/usr/bin/env python3
-"""Checks tools/start, behind the gate.
+"""tools/start, behind the gate.
 
-    tools/start.d/check
+    tools/check start
 
 From a copy of this checkout it starts a crate on each library, and runs the commands that are
 printed: the test, unproved, and the proof, which must prove nothing of the libraries. That is
 played where they are proved in this checkout and not edited since; if not even ga_views is, it is
 proved first, in two minutes. It makes calls that must be refused, and updates.
-
-Each case has a line: 'ok', 'FAILED' with what was seen, or 'skipped' with what lacks. The last line
-is 'N passed, M failed', with ', K skipped' where some were, and the exit status is 0 where M is. It
-needs `rt`, and leaves nothing in the repository.
 """
-import collections
 import os
 import pathlib
 import re
 import shutil
-import signal
 import subprocess
 import sys
 import tempfile
 from concurrent.futures import ThreadPoolExecutor
 
-# So that nothing is left beside the modules.
-sys.dont_write_bytecode = True
+from copies import TOP, copy, write
+from playing import run
 
-from crates import LICENSE, LIST, ON, OURS, TESTS, TOP, line_of, listed, needed, texts_of
+sys.path.insert(0, str(TOP / "tools" / "start.d"))
+
+from crates import LICENSE, LIST, ON, OURS, line_of, needed, texts_of
 from taking import is_proved, library
 
 # Calls that must be refused: what they are, their words, a part of what is said.
@@ -34,7 +29,6 @@ BAD_CALLS = [
     ("nothing is named", "", "required: FOLDER"),
     ("no crate is named", "new", "a NAME for your crate is missing"),
     ("a library that is none", "new mine --on ga_core,ga_rows", "'ga_rows' is none of ga_views, "),
-    ("tests that there aren't", "new mine --tests", "no crate of tests comes with ga_core"),
     ("a name with a capital", "new Mine", "'Mine' names no crate"),
     ("a word of the language", "new match", "match is a keyword"),
     ("a library of the kit", "new hex", "a library named hex"),
@@ -74,56 +68,29 @@ KEPT = "".join(UPDATED.splitlines(keepends=True)[-2:])
 STARTED = {f"on_{it}": [it] for it in ON} | {"on_both": ["ga_hashes", "generic_array"]}
 
 
-def write(folder, files):
-    for path, text in files.items():
-        (folder / path).parent.mkdir(parents=True, exist_ok=True)
-        (folder / path).write_text(text, "utf-8")
+class Room:
+    """A folder with a copy of this checkout, in which tools/start is called."""
 
-
-def seen(folder):
-    """Each file below a folder, with its size."""
-    return {it: it.stat().st_size for it in folder.rglob("*") if it.is_file()}
-
-
-class Check:
-    """Cases in a room with a copy of this checkout."""
-
-    def __init__(self, room):
-        self.room, self.count, self.commands = room, collections.Counter(), {}
-
-    def case(self, name, wrong, lacks=""):
-        word = "skipped" if lacks else "FAILED" if wrong else "ok"
-        self.count[word] += 1
-        print(f"{word:7} {name}", *filter(None, [lacks or wrong]), sep=": ", flush=True)
+    def __init__(self, tally):
+        self.tally, self.room, self.commands = tally, pathlib.Path(tempfile.mkdtemp()), {}
+        self.checkout = self.room / "checkout"
+        copy(self.checkout, "tools", "crates", LIST, LICENSE, "HANDLES")
+        for it in needed(*ON):
+            if all(is_unchanged(below) for below in needed(it)):
+                (self.checkout / "crates" / it / "out").symlink_to(TOP / "crates" / it / "out")
+        write(self.room, FILES)
 
     def call(self, words):
         """Calls tools/start of the copy. Returns its status, and what it wrote to either stream."""
-        words = [sys.executable, self.room / "checkout" / "tools" / "start", *words.split()]
-        done = subprocess.run(words, cwd=self.room, capture_output=True, text=True)
+        command = [sys.executable, self.checkout / "tools" / "start", *words.split()]
+        done = subprocess.run(command, cwd=self.room, capture_output=True, text=True)
         return done.returncode, done.stdout, done.stderr
 
-    def said(self, command, folder=""):
-        """Runs a command of the shell. Returns its status and all that it said."""
-        done = subprocess.run(command, shell=True, cwd=self.room / folder, text=True,
-                              stdin=subprocess.DEVNULL, stdout=subprocess.PIPE,
-                              stderr=subprocess.STDOUT)
-        return done.returncode, done.stdout
-
-    def lay_out(self):
-        """Copies this checkout, with its proved libraries. Proves ga_views where it isn't."""
-        checkout, names = self.room / "checkout", needed(*ON, *TESTS.values())
-        shutil.copytree(TOP / "tools", checkout / "tools")
-        write(checkout, {LIST: "".join(f"{OURS[it]}\n" for it in names)})
-        for it in (LICENSE, "HANDLES"):
-            shutil.copy(TOP / it, checkout)
-        write(checkout, {path: text.decode() for path, text in texts_of(names).items()})
-        for it in names:
-            if all(is_unchanged(below) for below in needed(it)):
-                (checkout / "crates" / it / "out").symlink_to(TOP / "crates" / it / "out")
-        if not is_proved(checkout, "ga_views"):
-            status, said = self.said("rt lib", "checkout/crates/ga_views")
-            self.case("ga_views is proved", said if status else "")
-        write(self.room, FILES)
+    def proved(self):
+        """Proves ga_views where it isn't."""
+        if not is_proved(self.checkout, "ga_views"):
+            status, said = run("rt", "lib", cwd=self.checkout / "crates" / "ga_views")
+            self.tally.case("ga_views is proved", said if status else "")
 
     def refusals(self):
         """Plays the bad calls: each says in one line what is wrong, and writes nothing."""
@@ -132,68 +99,65 @@ class Check:
             status, out, err = self.call(words)
             is_line = status and not out and err.count("\n") == 1 and said in err
             wrong = "" if is_line else f"status {status}, {out + err!r}"
-            self.case(f"refused: {what}", wrong or seen(self.room) != before and "it wrote a file")
+            wrong = wrong or seen(self.room) != before and "it wrote a file"
+            self.tally.case(f"refused: {what}", wrong)
 
     def made(self):
         """Starts the crates in a repository that is there: what was there stays."""
         there, copied, lines = self.room / "there", [], [FIRST]
         for name, on in STARTED.items():
-            tests = [TESTS[it] for it in on if it in TESTS]
-            words = f"there {name} --on {','.join(on)}{' --tests' * len(tests)}"
+            words = f"there {name} --on {','.join(on)}"
             status, out, err = self.call(words)
-            self.case(f"tools/start {words}", out + err if status else "")
             self.commands[name] = commands_in(out)
-            is_there = self.commands[name][0].startswith(f"cd there/crates/{name} && rt try")
-            self.case("its commands lead into the crate", "" if is_there else out)
-            new = [it for it in needed(*on, *tests) if it not in copied]
+            leads = self.commands[name][0].startswith(f"cd there/crates/{name} && rt try")
+            wrong = out + err if status else "" if leads else f"its commands lead elsewhere: {out}"
+            self.tally.case(f"tools/start {words}", wrong)
+            new = [it for it in needed(*on) if it not in copied]
             lines += [*(OURS[it] for it in new), line_of(name, on)]
             copied += new
         text = "\n".join([*lines, ""])
         wanted = {LIST: text, "HANDLES": HANDLES, ".gitignore": "*.swp\nout/\n"}
-        self.case("the repository's own files", texts_other_than(wanted, there))
+        self.tally.case("the repository's own files", texts_other_than(wanted, there))
         files = {path for it in copied for path in files_of(there, it)}
         ours = {path for it in copied for path in [f"crates/{it}/{LICENSE}", *files_of(TOP, it)]}
-        self.case("what is copied of each crate", sorted(files ^ ours))
+        self.tally.case("what is copied of each crate", sorted(files ^ ours))
 
     def played(self, name):
         """Runs the printed commands. Returns what is wrong with the test and with the proof, if
         something is, and what lacks for the proof."""
         test, proof, comes_proved = self.commands[name]
-        status, said = self.said(f"{test} && rt fmt")
+        status, said = run("bash", "-c", f"{test} && rt fmt", cwd=self.room)
         ends = re.findall(r"ok\. \d+ passed; 0 failed", said)
         is_wrong = status or not ends or "formatted" in said
         wrong = f"status {status}: {said}" if is_wrong else ""
         if not comes_proved:
             return wrong, "", "its libraries aren't proved in this checkout, or were edited"
-        status, said = self.said(proof)
+        status, said = run("bash", "-c", proof, cwd=self.room)
         is_wrong = status or re.search(r"(?m)^fn (?!on_)", said)
         return wrong, f"status {status}: {said}" if is_wrong else "", ""
 
     def proofs(self):
         """Plays the crates that were started, each template once."""
         names = [it for it in STARTED if len(STARTED[it]) == 1]
-        with ThreadPoolExecutor(len(os.sched_getaffinity(0))) as pool:
+        with ThreadPoolExecutor(os.cpu_count()) as pool:
             for name, (wrong, *of_proof) in zip(names, pool.map(self.played, names)):
-                self.case(f"{name}: its test passes", wrong)
-                self.case(f"{name}: it is proved, and nothing below", *of_proof)
+                self.tally.case(f"{name}: its test passes", wrong)
+                self.tally.case(f"{name}: it is proved, and nothing below", *of_proof)
 
     def updates(self):
         """Updates a new repository from this checkout as it is, and as it is later."""
-        fresh, checkout = self.room / "fresh", self.room / "checkout"
+        fresh, case = self.room / "fresh", self.tally.case
         self.call("fresh mine --on ga_views")
         wanted = {LIST: f"{OURS['ga_views']}\nmine: ga_views\n", ".gitignore": "out/\n",
                   "HANDLES": "Handles allowed: none.\n"}
-        self.case("a new repository's own files", texts_other_than(wanted, fresh))
+        case("a new repository's own files", texts_other_than(wanted, fresh))
         before = seen(fresh)
         self.update("an update where nothing changed", "nothing changed\n")
-        self.case("it changes nothing", sorted({*before.items()} ^ {*seen(fresh).items()}))
-        later = {path: (checkout / path).read_text() + "// Later.\n" for path in (CHANGED, BY_BOTH)}
-        list_later = "ga_later:\nga_views: hex ga_later\n"
-        write(checkout, {**later, ADDED: "", LIST: list_later, "crates/ga_later/src/lib.rt": ""})
-        (checkout / REMOVED).unlink()
+        case("it changes nothing", sorted({*before.items()} ^ {*seen(fresh).items()}))
+        later = self.later()
         status, _, err = self.call("fresh other --on ga_views")
         is_refused = status and "first tools/start --update fresh" in err
-        self.case("refused: crates of another commit", "" if is_refused else err)
+        case("refused: crates of another commit", "" if is_refused else err)
         mine = {BY_BOTH: "// Mine.\n", "crates/mine/src/lib.rt": "// Mine.\n"}
         write(fresh, mine)
         (fresh / DELETED).unlink()
@@ -201,18 +165,32 @@ class Check:
         self.update("an update from a later checkout", UPDATED)
         wanted = {**mine, CHANGED: later[CHANGED], ADDED: "",
                   LIST: "ga_views: hex ga_later\nmine: ga_views\nga_later:\n"}
-        wrong = texts_other_than(wanted, fresh)
         gone = (REMOVED, os.path.dirname(REMOVED), DELETED)
-        wrong += [it for it in gone if (fresh / it).exists()]
-        self.case("it copies the rest", wrong)
-        self.case("it takes proofs along", "" if is_proved(fresh, "ga_views") else "there is none")
+        there = [it for it in gone if (fresh / it).exists()]
+        case("it copies the rest", texts_other_than(wanted, fresh) + there)
+        case("it takes proofs along", "" if is_proved(fresh, "ga_views") else "there is none")
         self.update("the next update names what is kept again", KEPT)
+
+    def later(self):
+        """Makes a later checkout of the copy, and returns the texts that are changed."""
+        paths = (CHANGED, BY_BOTH)
+        later = {it: (self.checkout / it).read_text("utf-8") + "// Later.\n" for it in paths}
+        list_later = "ga_later:\nga_views: hex ga_later\n"
+        added = {ADDED: "", LIST: list_later, "crates/ga_later/src/lib.rt": ""}
+        write(self.checkout, later | added)
+        (self.checkout / REMOVED).unlink()
+        return later
 
     def update(self, what, wanted):
         """A case: an update says this, and behind it the commits and what the next check proves."""
         status, out, err = self.call("--update fresh")
         is_told = not status and "".join(out.splitlines(keepends=True)[:-2]) == wanted
-        self.case(what, "" if is_told else out + err)
+        self.tally.case(what, "" if is_told else out + err)
+
+
+def seen(folder):
+    """Each file below a folder, with its size."""
+    return {it: it.stat().st_size for it in folder.rglob("*") if it.is_file()}
 
 
 def is_unchanged(name):
@@ -223,7 +201,8 @@ def is_unchanged(name):
 
 
 def commands_in(out):
-    """The commands that tools/start prints, the second with the first's folder."""
+    """The commands that tools/start prints, the second with the first's folder, and whether the
+    libraries come proved."""
     test, proof = re.findall(r"(?m)^    (.*?) +#", out) or ["false", "false"]
     return test, f"{test.partition(' && ')[0]} && {proof}", "come proved" in out
 
@@ -240,21 +219,7 @@ def texts_other_than(wanted, top):
     return [it for it in wanted if texts.get(it) != wanted[it]]
 
 
-def main():
-    for it in (signal.SIGTERM, signal.SIGHUP):
-        signal.signal(it, lambda number, _: sys.exit(128 + number))
-    with tempfile.TemporaryDirectory(prefix="start-") as room:
-        check = Check(pathlib.Path(room))
-        check.lay_out()
-        check.refusals()
-        check.made()
-        check.proofs()
-        check.updates()
-    count = check.count
-    skipped = f", {count['skipped']} skipped" if count["skipped"] else ""
-    print(f"{count['ok']} passed, {count['FAILED']} failed{skipped}")
-    sys.exit(1 if count["FAILED"] else 0)
-
-
-if __name__ == "__main__":
-    main()
+def play(tally, words):
+    room = Room(tally)
+    for step in (room.proved, room.refusals, room.made, room.proofs, room.updates):
+        step()

@@ -4,7 +4,9 @@ import re
 import shutil
 import sys
 
-from playing import HERE, TOP, copy_beside, run, write
+from copies import TOP, write
+from planted import HERE, copy_beside, run_made_up
+from playing import run
 
 sys.path[:0] = [str(TOP / "trials"), str(TOP / "trials/bench")]
 
@@ -74,45 +76,45 @@ def answers():
     return files
 
 
-def play_list(cases):
+def play_list(tally):
     """Looks at the cases that are written for the program."""
     table, thirds = sides.table(), sum(len(it.kinds) for it in sides.ALL if it.part.third)
     asked = [(it.name, kind.name) for it in sides.ALL for kind in it.kinds]
     written = re.findall(r'name: "(\w+)",\n        kind: "(\w+)"', table)
-    cases.case("bench: each case at each kind", {*asked} ^ {*written})
+    tally.case("bench: each case at each kind", {*asked} ^ {*written})
     alike = re.findall(r"(?:original|third): .*ours_\w+|ours: \((?!ours_)\w+", table)
-    cases.case("bench: none is ours on two sides", alike)
-    cases.case("bench: each third side", table.count("third: Some(") != thirds and f"not {thirds}")
+    tally.case("bench: none is ours on two sides", alike)
+    tally.case("bench: each third side", table.count("third: Some(") != thirds and f"not {thirds}")
 
 
-def play_comparison(cases, room):
+def play_comparison(tally, room):
     """Plays what compares and measures, on the cases of bench.rs."""
     driver, dumps = room / "cases", room / "counted"
     built = run("rustc", "--edition", "2021", "-o", driver, HERE / "bench.rs")
-    cases.said("bench: the comparison is built", built, 0)
+    tally.said("bench: the comparison is built", built, 0)
     said = run(driver, "check")
     for name, numbers in CHECKED.items():
-        cases.said(f"bench: checksums, {name}", said, 0, f"{name},u8_4,{numbers}\n")
+        tally.said(f"bench: checksums, {name}", said, 0, f"{name},u8_4,{numbers}\n")
     times = run(driver, "time", 41)[1].splitlines()[-1]
     ours, original, third = map(float, times.split(",")[2:])
-    cases.case("bench: times of three sides", "" if ours > original > third else times)
+    tally.case("bench: times of three sides", "" if ours > original > third else times)
     if not shutil.which("valgrind"):
-        return cases.skip(["bench: instructions of three sides"], "valgrind")
+        return tally.skip(["bench: instructions of three sides"], "valgrind")
     dumps.mkdir()
     flags = ["--tool=callgrind", f"--callgrind-out-file={dumps}/dump"]
     run("valgrind", *flags, driver, "count")
     counted = counts.instructions(dumps)
     ours, original, third = (counted.get(("work", "u8_4", it), 0) for it in SIDES)
     is_right = 3.9 * original < ours < 4.1 * original and 3.9 * third < original < 4.1 * third
-    cases.case("bench: instructions of three sides", "" if is_right else counted)
+    tally.case("bench: instructions of three sides", "" if is_right else counted)
 
 
-def play(cases, room):
-    play_list(cases)
+def play(tally, room):
+    play_list(tally)
     if shutil.which("rustc"):
-        play_comparison(cases, room)
+        play_comparison(tally, room)
     else:
-        cases.skip([f"bench: checksums, {it}" for it in CHECKED], "rustc")
+        tally.skip([f"bench: checksums, {it}" for it in CHECKED], "rustc")
     copy_beside(room)
     files = answers()
     write(room, files | FEWER)
@@ -122,14 +124,14 @@ def play(cases, room):
     for it in ("od", "hexdump", "xxd"):
         (room / "bin" / it).symlink_to(shutil.which("true"))
     call = [room / "trials/bench/run", room / "folder", 1]
-    status, said = run(*call, made_up=room)
+    status, said = run_made_up(room, *call)
     table = (room / "folder" / "table.txt").read_text("utf-8")
     squeezed = status, re.sub(" +", " ", said + table)
     for name, line in LINES.items():
-        cases.said(f"bench: {name}", squeezed, 0, line)
+        tally.said(f"bench: {name}", squeezed, 0, line)
     drawn = picture.read(table)["closures"][0]
-    cases.case("bench: the picture", drawn != ("map u8_4", (1.5, 2.5)) and drawn)
+    tally.case("bench: the picture", drawn != ("map u8_4", (1.5, 2.5)) and drawn)
     for name, (file, old, new, told) in FAULTS.items():
         write(room, {file: files[file].replace(old, new)})
-        cases.said(f"bench: {name}", run(*call, made_up=room), 1, told)
+        tally.said(f"bench: {name}", run_made_up(room, *call), 1, told)
         write(room, {file: files[file]})

@@ -1,15 +1,22 @@
-"""Cases with a line each, and programs that are run with streams of the caller's own."""
+"""Commands, and programs that are run with streams of the caller's own."""
 import collections
 import contextlib
 import subprocess
 import tempfile
 import threading
-from subprocess import DEVNULL, PIPE
+from subprocess import DEVNULL, PIPE, STDOUT
 
 Seen = collections.namedtuple("Seen", "status out err")
 # Held while a program is written, and while one is started: a process that starts has all files for
 # a moment, and none runs that another can write to.
 STARTING = threading.Lock()
+
+
+def run(*command, **how):
+    """Runs a command. Returns its status and all that it wrote."""
+    done = subprocess.run(list(map(str, command)), text=True, errors="replace", stdin=DEVNULL,
+                          stdout=PIPE, stderr=STDOUT, **how)
+    return done.returncode, done.stdout
 
 
 def shown(it):
@@ -18,31 +25,13 @@ def shown(it):
     return repr(it)
 
 
-def differences(seen, wanted):
-    """What is seen and not wanted, or nothing."""
+def differences(seen, wanted, *signals):
+    """What is seen and not wanted, or nothing. Where one of the signals ends the program in place of
+    a status, it tells nothing."""
+    if seen.status is not None and -seen.status in signals:
+        wanted = wanted._replace(status=seen.status, err=b"")
     fields = zip(Seen._fields, seen, wanted)
     return "; ".join(f"{it} {shown(a)}, and not {shown(b)}" for it, a, b in fields if a != b)
-
-
-class Tally:
-    """Prints a line for each case, and counts them."""
-
-    def __init__(self):
-        self.passed = self.failed = 0
-
-    def case(self, name, wrong):
-        if wrong:
-            self.failed += 1
-            print(f"FAILED  {name}: {wrong}", flush=True)
-        else:
-            self.passed += 1
-            print(f"ok      {name}", flush=True)
-
-    def compare(self, name, seen, wanted, *signals):
-        """Where one of the signals ends the program in place of a status, it tells nothing."""
-        if -seen.status in signals:
-            wanted = wanted._replace(status=seen.status, err=b"")
-        self.case(name, differences(seen, wanted))
 
 
 @contextlib.contextmanager

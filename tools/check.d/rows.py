@@ -1,11 +1,12 @@
 """What the program `ga_rows` has to write and to tell, for each of its modes."""
-from .playing import Seen
+from playing import Seen
 
 
 def numbers(row):
     return " ".join(map(str, row))
 
 
+PROGRAM = "ga_rows"
 # Each mode by its word: the lines of its rows.
 MODES = {
     "dec": lambda rows: [numbers(row) for row in rows],

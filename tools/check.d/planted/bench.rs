@@ -1,5 +1,5 @@
 //! Stands for the program of trials/bench/run, with made-up cases.
-#[path = "../../trials/bench/driver/measured.rs"]
+#[path = "../../../trials/bench/driver/measured.rs"]
 mod measured;
 
 mod cases {

@@ -1,9 +1,9 @@
 //! Stands for the program of trials/diff/run, with the made-up case that the variable CASE names.
-#[path = "../../trials/diff/driver/asked.rs"]
+#[path = "../../../trials/diff/driver/asked.rs"]
 mod asked;
-#[path = "../../trials/diff/driver/compare.rs"]
+#[path = "../../../trials/diff/driver/compare.rs"]
 mod compare;
-#[path = "../../trials/diff/driver/forever.rs"]
+#[path = "../../../trials/diff/driver/forever.rs"]
 mod forever;
 
 use compare::{Case, Run, Tally, Wanted};

@@ -1,6 +1,6 @@
 /* Stands for what `rt try` builds, a crate's tests and the program ga_rows, with faults. It asks for
    memory by one function, which refuses the request whose number stands twice in the file, where
-   tools/faults/building.py writes it. */
+   building.py writes it. */
 #include <stdio.h>
 #include <stdlib.h>
 #include <string.h>
@@ -65,7 +65,8 @@ static int rows(const char *mode) {
 int main(int count, char **words) {
     static char out[1 << 16], in[1 << 16];
     const char *word = count > 1 ? words[1] : "--start";
-    int tests = strstr(words[0], "/ga_faults_tests") ? sizeof TESTS / sizeof *TESTS : 1;
+    int tests = strstr(words[0], "/ga_faults_") ? sizeof TESTS / sizeof *TESTS : 1;
+    const char *module = strstr(words[0], "/ga_bare_") ? "other" : "refused_memory";
     /* So that a stream asks for no memory. */
     setvbuf(stdout, out, _IOFBF, sizeof out);
     setvbuf(stdin, in, _IOFBF, sizeof in);
@@ -74,6 +75,6 @@ int main(int count, char **words) {
     if (strncmp(word, "--", 2))
         return rows(word);
     for (int at = 0; at < tests && !strcmp(word, "--list"); at++)
-        printf("refused_memory::%s: test\n", TESTS[at]);
+        printf("%s::%s: test\n", module, TESTS[at]);
     return 0;
 }

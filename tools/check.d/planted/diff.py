@@ -3,7 +3,9 @@ import re
 import shutil
 import sys
 
-from playing import HERE, TOP, copy_beside, run
+from copies import TOP
+from planted import HERE, copy_beside, run_made_up
+from playing import run
 
 sys.path[:0] = [str(TOP / "trials"), str(TOP / "trials/diff")]
 
@@ -38,36 +40,36 @@ CASE = re.compile(r"(?ms)^    Case \{\n(.*?)^    \},$")
 FIELD = re.compile(r"(?ms)^        (\w+): (.*?),\n(?=        \w+:|\Z)")
 
 
-def play_list(cases):
+def play_list(tally):
     """Looks at the cases that are written for the program."""
     table = runs.driver_sources()["cases.rs"]
     seen = [dict(FIELD.findall(it)) for it in CASE.findall(table)]
     orders = [f"{it.title}, by {order}" for order in ("number", "order") for it in runs.DROPS]
     titles = [f'"{it}"' for it in [*(it.title for it in runs.CASES), *orders]]
     names = [it["name"] for it in seen]
-    cases.case("diff: each case, and drops by number and in order", names != titles and names)
-    cases.case("diff: each has lengths", [it["name"] for it in seen if it["lengths"] == "&[]"])
+    tally.case("diff: each case, and drops by number and in order", names != titles and names)
+    tally.case("diff: each has lengths", [it["name"] for it in seen if it["lengths"] == "&[]"])
     alike = [it["name"] for it in seen
              if "ours_" not in it["ours"] or "ours_" in it["original"] + it["wanted"]]
-    cases.case("diff: none is ours on both sides", alike)
+    tally.case("diff: none is ours on both sides", alike)
     for files, text in (("calls/*.rattle", runs.exports()), ("driver/*.rs", table)):
         texts = [it.read_text("utf-8") for it in sorted((TOP / "trials/diff").glob(files))]
         written = {it for text in texts for it in re.findall(r"\bpub fn (\w+_run)\b", text)}
-        cases.case(f"diff: each run of {files} is in one", written - {*re.findall(r"\w+", text)})
+        tally.case(f"diff: each run of {files} is in one", written - {*re.findall(r"\w+", text)})
 
 
-def play(cases, room):
-    play_list(cases)
+def play(tally, room):
+    play_list(tally)
     if not shutil.which("rustc"):
         calls = [f"trials/diff/run: {', '.join(it)}" for it in ENDS]
-        return cases.skip([f"diff: {it}" for it in SAID] + calls, "rustc")
+        return tally.skip([f"diff: {it}" for it in SAID] + calls, "rustc")
     driver = room / "built" / "diff_driver"
     driver.parent.mkdir()
     built = run("rustc", "--edition", "2021", "-o", driver, HERE / "diff.rs")
-    cases.said("diff: the comparison is built", built, 0)
+    tally.said("diff: the comparison is built", built, 0)
     for name, (text, status) in SAID.items():
-        cases.said(f"diff: {name}", run(driver, 200, CASE=name), status, text)
+        tally.said(f"diff: {name}", run_made_up(room, driver, 200, CASE=name), status, text)
     copy_beside(room)
     for (name, *words), (text, status) in ENDS.items():
-        said = run(room / "trials/diff/run", room / "folder", *words, made_up=room, CASE=name)
-        cases.said(f"trials/diff/run: {', '.join([name, *words])}", said, status, text)
+        said = run_made_up(room, room / "trials/diff/run", room / "folder", *words, CASE=name)
+        tally.said(f"trials/diff/run: {', '.join([name, *words])}", said, status, text)
