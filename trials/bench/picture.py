@@ -1,7 +1,7 @@
 #!/usr/bin/env python3
 """Draws what trials/bench/run measured: a dot a case, by group, at ours/original.
 
-    trials/bench/picture.py [TABLE [PICTURE]]    of table.txt and as speed.svg beside this, if none are named
+    trials/bench/picture.py TABLE PICTURE     of FOLDER/table.txt
 
 One table has one picture, byte for byte. It needs matplotlib: apt-get install python3-matplotlib
 """
@@ -14,7 +14,6 @@ import re
 import statistics
 import sys
 
-HERE = pathlib.Path(__file__).resolve().parent
 # Debian's own Python, which Debian's packages belong to.
 DEBIANS = "/usr/bin/python3"
 
@@ -166,10 +165,9 @@ def draw(groups, picture):
 
 
 def main():
-    words = sys.argv[1:]
-    if len(words) > 2 or any(it.startswith("-") for it in words):
+    if len(sys.argv) != 3:
         sys.exit(__doc__)
-    table, picture = [*words, *[HERE / "table.txt", HERE / "speed.svg"][len(words):]]
+    table, picture = sys.argv[1:]
     try:
         groups = read(pathlib.Path(table).read_text("utf-8"))
         if not groups:

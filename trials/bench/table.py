@@ -82,6 +82,16 @@ def whole_table(rows):
     return aligned([HEAD, *(row.cells() for row in rows)])
 
 
+def extract(text):
+    """What of a whole table is committed: all but the cases up to 1.3 by instructions."""
+
+    def is_small(line):
+        cells = [it.strip() for it in line.split("|")]
+        return len(cells) == len(HEAD) and cells[0] != HEAD[0] and float(cells[3]) <= 1.3
+
+    return "".join(line for line in text.splitlines(keepends=True) if not is_small(line))
+
+
 def came_to(ratios):
     """How many ratios, their median, and how many are small or large."""
     few, many = sum(it <= 1.15 for it in ratios), sum(it > 2 for it in ratios)

@@ -24,17 +24,19 @@ CHECKED = {
 # byte takes so much.
 COUNTED = {"generate": (10, 10, 10), "nth3": (50, 20, 10)}
 MOST, TIMES, SIDES = (30, 20, 10), (5, 2, 1), ("ours", "original", "third")
-# The copy has each case at one kind, and short files.
+# The copy has each case at one kind, short files, and nothing committed.
+TABLE = "trials/bench/table.txt"
 FEWER = {
     "trials/bench/cases.py+": "\nCASES = [it._replace(kinds=it.kinds[:1]) for it in CASES]\n",
-    "trials/bench/program.py+": "\nTIMED = COUNTED\n",
+    "trials/bench/program.py+": "\nTIMED = COUNTED\n", TABLE: "",
 }
 # What trials/bench/run makes of that.
 ARRAYS = sum(it.part.group == "arrays" for it in CASES)
+SMALL = "generate | u8_4 | 10/10/10 | 1.00 | 1.00 | | 5.0/2.0/1.0 | 2.50 | arrays\n"
+CONTAINS = "walk_sum | u8_4 | 30/20/10 | 1.50 | 3.00 | 20/10 = 2.00 | 5.0/2.0/1.0 | 2.50 | arrays\n"
 LINES = {
-    "a case": "generate | u8_4 | 10/10/10 | 1.00 | 1.00 | | 5.0/2.0/1.0 | 2.50 | arrays\n",
-    "a case that contains another":
-        "walk_sum | u8_4 | 30/20/10 | 1.50 | 3.00 | 20/10 = 2.00 | 5.0/2.0/1.0 | 2.50 | arrays\n",
+    "a case": SMALL,
+    "a case that contains another": CONTAINS,
     "a case of two sides": "fold_view | u8_4 | 30/20 | 1.50 | | | 5.0/2.0 | 2.50 | closures\n",
     "a case beside plain Rust":
         "scale_map | 1,000,000 | 30.00/20.00/10.00 | 1.50 | 3.00 | 5.00/2.00/1.00 | 2.50 | 5.00\n",
@@ -53,6 +55,7 @@ FAULTS = {
     "a case isn't there": ("check", "\nmap,u8_4,0,2000\n", "\n", "no checksums of map u8_4\n"),
     "a program loses a byte": ("built/rows_careful", "exec cat", LOSES, "rows_careful last 4"),
     "a program fails": ("built/rows_plain", "exec cat", "cat; false", "rows_plain dec 4 writes"),
+    "a committed table is no extract": (TABLE, "", SMALL, "table.txt has other lines"),
 }
 
 
@@ -79,9 +82,9 @@ def answers():
 def play_list(tally):
     """Looks at the cases that are written for the program."""
     table, thirds = sides.table(), sum(len(it.kinds) for it in sides.ALL if it.part.third)
-    asked = [(it.name, kind.name) for it in sides.ALL for kind in it.kinds]
-    written = re.findall(r'name: "(\w+)",\n        kind: "(\w+)"', table)
-    tally.case("bench: each case at each kind", {*asked} ^ {*written})
+    asked = {(it.name, kind.name) for it in sides.ALL for kind in it.kinds}
+    written = {*re.findall(r'name: "(\w+)",\n        kind: "(\w+)"', table)}
+    tally.case("bench: each case at each kind", asked ^ written)
     alike = re.findall(r"(?:original|third): .*ours_\w+|ours: \((?!ours_)\w+", table)
     tally.case("bench: none is ours on two sides", alike)
     tally.case("bench: each third side", table.count("third: Some(") != thirds and f"not {thirds}")
@@ -90,6 +93,8 @@ def play_list(tally):
 def play_comparison(tally, room):
     """Plays what compares and measures, on the cases of bench.rs."""
     driver, dumps = room / "cases", room / "counted"
+    if not shutil.which("rustc") or not shutil.which("valgrind"):
+        return tally.skip([f"bench: {it}" for it in CHECKED], "rustc or valgrind")
     built = run("rustc", "--edition", "2021", "-o", driver, HERE / "bench.rs")
     tally.said("bench: the comparison is built", built, 0)
     said = run(driver, "check")
@@ -98,11 +103,8 @@ def play_comparison(tally, room):
     times = run(driver, "time", 41)[1].splitlines()[-1]
     ours, original, third = map(float, times.split(",")[2:])
     tally.case("bench: times of three sides", "" if ours > original > third else times)
-    if not shutil.which("valgrind"):
-        return tally.skip(["bench: instructions of three sides"], "valgrind")
     dumps.mkdir()
-    flags = ["--tool=callgrind", f"--callgrind-out-file={dumps}/dump"]
-    run("valgrind", *flags, driver, "count")
+    run("valgrind", "--tool=callgrind", f"--callgrind-out-file={dumps}/dump", driver, "count")
     counted = counts.instructions(dumps)
     ours, original, third = (counted.get(("work", "u8_4", it), 0) for it in SIDES)
     is_right = 3.9 * original < ours < 4.1 * original and 3.9 * third < original < 4.1 * third
@@ -111,13 +113,10 @@ def play_comparison(tally, room):
 
 def play(tally, room):
     play_list(tally)
-    if shutil.which("rustc"):
-        play_comparison(tally, room)
-    else:
-        tally.skip([f"bench: checksums, {it}" for it in CHECKED], "rustc")
+    play_comparison(tally, room)
     copy_beside(room)
-    files = answers()
-    write(room, files | FEWER)
+    files = answers() | FEWER
+    write(room, files)
     for it in (room / "built").iterdir():
         it.chmod(0o700)
     (room / "bin").mkdir()
@@ -125,10 +124,11 @@ def play(tally, room):
         (room / "bin" / it).symlink_to(shutil.which("true"))
     call = [room / "trials/bench/run", room / "folder", 1]
     status, said = run_made_up(room, *call)
-    table = (room / "folder" / "table.txt").read_text("utf-8")
-    squeezed = status, re.sub(" +", " ", said + table)
+    table, extract = ((room / "folder" / it).read_text() for it in ("table.txt", "extract.txt"))
     for name, line in LINES.items():
-        tally.said(f"bench: {name}", squeezed, 0, line)
+        tally.said(f"bench: {name}", (status, re.sub(" +", " ", said + table)), 0, line)
+    squeezed = re.sub(" +", " ", extract)
+    tally.said("bench: the extract", (SMALL in squeezed, squeezed), False, CONTAINS)
     drawn = picture.read(table)["closures"][0]
     tally.case("bench: the picture", drawn != ("map u8_4", (1.5, 2.5)) and drawn)
     for name, (file, old, new, told) in FAULTS.items():
