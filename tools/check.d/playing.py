@@ -26,8 +26,8 @@ def shown(it):
 
 
 def differences(seen, wanted, *signals):
-    """What is seen and not wanted, or nothing. Where one of the signals ends the program in place of
-    a status, it tells nothing."""
+    """What is seen and not wanted, or nothing. Where one of the signals ends the program in place
+    of a status, it tells nothing."""
     if seen.status is not None and -seen.status in signals:
         wanted = wanted._replace(status=seen.status, err=b"")
     fields = zip(Seen._fields, seen, wanted)

@@ -1,7 +1,5 @@
 """What no compiler sees: that documents, names, imports, tables of tests and wrong bodies fit the
 sources.
-
-    tools/check reference
 """
 import pathlib
 import re

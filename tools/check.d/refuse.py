@@ -73,33 +73,29 @@ def at_once(call, arguments):
 
 def play_tests(tally, run):
     """Plays all tests of a crate with ample memory, and those that are there for it with each of
-    their requests refused in turn. What fails at first isn't played again. Returns whether one
-    tells its requests."""
-    name, program = f"{run.name}: {run.kind}", run.program
+    their requests refused in turn, and one more. What fails at first isn't played again. Returns
+    whether one tells its requests."""
+    title, program = f"{run.name}: {run.kind}", run.program
     names = re.findall(r"^(\S+): test$", run_program(program, ["--list"]).out.decode(), re.M)
     start = counted(program, [])[1]
     ample = list(at_once(lambda it: played(program, it, start), names))
-    tally.case(f"{name}, with ample memory", failures(ample))
+    tally.case(f"{title}, with ample memory", failures(ample))
     of_refused = [it for it in ample if REFUSED in it.name.split("::")]
     if any(f"mod {REFUSED};" in it.read_text("utf-8") for it in run.crate.glob("src/**/*.rt")):
-        tally.case(f"{name} in {REFUSED}", "" if of_refused else "there are none")
-    play_refused(tally, name, program, [it for it in of_refused if not it.wrong], start)
-    return any(it.told for it in ample)
-
-
-def play_refused(tally, name, program, of_refused, start):
-    """Refuses each request of these tests in turn, and one more than a test makes."""
+        tally.case(f"{title} in {REFUSED}", "" if of_refused else "there are none")
+    right = [it for it in of_refused if not it.wrong]
 
     def again(number):
         with refusing(program, number) as copy:
-            reached = [it for it in of_refused if number <= it.requests + 1]
+            reached = [it for it in right if number <= it.requests + 1]
             return [refused(copy, it, number, start) for it in reached]
 
-    numbers = range(1, max((it.requests for it in of_refused), default=-1) + 2)
-    for number, tests_again in zip(numbers, at_once(again, numbers)):
-        count = sum(it.refused for it in tests_again)
-        title = f"{name}, request {number} is refused in {count} of {len(tests_again)}"
-        tally.case(title, failures(tests_again))
+    numbers = range(1, max((it.requests for it in right), default=-1) + 2)
+    for number, found in zip(numbers, at_once(again, numbers)):
+        count = sum(it.refused for it in found)
+        tally.case(f"{title}, request {number} is refused in {count} of {len(found)}",
+                   failures(found))
+    return any(it.told for it in ample)
 
 
 def refused(program, test, number, start):
@@ -112,8 +108,8 @@ def refused(program, test, number, start):
 
 
 def play_program(tally, program):
-    """Refuses each request of a run in turn, and one more than it makes. Where a refused one is made
-    up for by a smaller one, as std does for the list of the words, the answer has to be whole.
+    """Refuses each request of a run in turn, and one more than it makes. Where a smaller one makes
+    up for a refused one, as std does for the list of the words, the answer has to be whole.
 
     Runs over no bytes make as many requests as one whose word means nothing, and which doesn't
     read: so none of them is for the bytes.
@@ -125,9 +121,8 @@ def play_program(tally, program):
             seen = run_program(copy, words, env={"ASAN_OPTIONS": "detect_leaks=1"}, stdin=given)
         is_refused = number == 1 or (number <= most and seen.status == 3)
         wanted = Seen(3, b"", NO_MEMORY) if is_refused else whole("hex", 2, data)
-        name = f"{PROGRAM} hex 2: request {number} of {most}"
-        name += ", refused" if is_refused else ", the whole answer"
-        tally.compare(name, seen, wanted)
+        answer = "refused" if is_refused else "the whole answer"
+        tally.compare(f"{PROGRAM} hex 2: request {number} of {most}, {answer}", seen, wanted)
     unread = counted(program, ["none"])[1]
     for mode in MODES:
         asked = counted(program, [mode])[1]
@@ -140,12 +135,13 @@ def play(tally, words):
         return play_system_faults(tally, words[0])
     runs = [*trials.runs(), *tests.runs()]
     play_runs(tally, [it for it in runs if not it.seen], words)
-    runs = {(it.name, isinstance(it, tests.Tests)): it for it in reversed(runs) if it.seen}
+    # A crate with sweeps is played with them alone.
+    runs = {(it.name, type(it)): it for it in reversed(runs) if it.seen}
     has_told = False
-    for (name, has_tests), run in sorted(runs.items()):
+    for (name, kind), run in sorted(runs.items(), key=lambda it: it[0][0]):
         if wrong := unfit(run.program):
             tally.case(f"{name}: requests for memory", wrong)
-        elif has_tests:
+        elif kind is tests.Tests:
             has_told |= play_tests(tally, run)
         elif name == PROGRAM:
             play_program(tally, run.program)

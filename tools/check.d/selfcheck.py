@@ -1,8 +1,6 @@
 """Shows each part of `tools/check`, and trials/bench and trials/diff, a fault of each kind that it
 looks for: it has to tell it.
 
-    tools/check selfcheck [NAME..]     of parts, reference, start, bench and diff
-
 The faults stand in copies of this checkout, or in what made-up commands answer in place of `rt`,
 `cargo` and `valgrind` (planted/bin). Nothing is proved.
 """

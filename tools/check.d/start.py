@@ -1,7 +1,5 @@
 """tools/start, behind the gate.
 
-    tools/check start
-
 From a copy of this checkout it starts a crate on each library, and runs the commands that are
 printed: the test, unproved, and the proof, which must prove nothing of the libraries. That is
 played where they are proved in this checkout and not edited since; if not even ga_views is, it is

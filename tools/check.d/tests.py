@@ -1,7 +1,5 @@
 """Every test of every crate, and each program, unproved: `rt ci` is the gate.
 
-    tools/check tests [CRATE..]
-
 A program is run as `rt ci` runs it: with the files `stdin`, `args` and `data/` of its crate, to
 print what `stdout` has and to end with `status`.
 """

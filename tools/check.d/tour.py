@@ -1,11 +1,9 @@
 """A page that a newcomer follows: what it has one write, run and see.
 
-    tools/check tour [PAGE..]     README.md and docs/TOUR.md where none is named
-
-A block of code says what it is behind its language. `rust FILE` and `antt FILE` are a whole file, and
-`diff FILE` is a change of one: its lines with `-` stand there once. `console` has commands behind
-`$ `, each with lines that it prints in this order, among others: `..` in one stands for any text. A
-command without lines has to end well. `../mine` is a new folder for each page.
+A block of code says what it is behind its language. `rust FILE` and `antt FILE` are a whole file,
+and `diff FILE` is a change of one: its lines with `-` stand there once. `console` has commands
+behind `$ `, each with lines that it prints in this order, among others: `..` in one stands for any
+text. A command without lines has to end well. `../mine` is a new folder for each page.
 
 What `rt lib` has proved in this checkout is proved already; else the first check of a page proves
 it, for some ten minutes.

@@ -1,7 +1,4 @@
-"""The tests of trials/sweeps, unproved, in a copy of the checkout where they stand as crates.
-
-    tools/check trials [CRATE..]
-"""
+"""The tests of trials/sweeps, unproved, in a copy of the checkout where they stand as crates."""
 import functools
 import pathlib
 import sys

@@ -1,6 +1,4 @@
-"""The wrong bodies of tools/twins, which the prover has to refuse as the gate's of crates/*/must-fail.
-
-    tools/check twins [CRATE..]
+"""The wrong bodies of tools/twins, each of which the prover has to refuse, with those of the gate.
 
 It proves the crates first, in a copy. tools/twins/README.md says why the gate leaves them out.
 """

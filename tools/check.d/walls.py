@@ -1,10 +1,8 @@
 """The walls of docs/STUCK.md: whether each is still there.
 
-    tools/check walls [NAME..]     all of tools/walls where none is named
-
 A file NAME.rattle is a module. Its first lines tell what a check prints of it: `// says: ..` a part
-of a message, `// open: ..` the name of a goal. Behind a line `// mend` stands what to write instead,
-a module that must be proved, where no crate shows it. All are laid out as one crate over
+of a message, `// open: ..` the name of a goal. Behind a line `// mend` stands what to write
+instead, a module that must be proved, where no crate shows it. All are laid out as one crate over
 generic_array, beside the libraries that are proved in this checkout, and checked at once. A check
 ends before any proof where a module doesn't compile: its line is told then, and the others are
 checked again. All take ten to fifteen minutes of one core, where the libraries are proved.

@@ -1,4 +1,4 @@
-"""The part `start`, over a made-up `rt`: as it is, and in a copy where tools/start has faults."""
+"""The part `start`, over a made-up `rt`, in a copy where tools/start has faults."""
 from copies import copy, write
 from planted import run_made_up
 
@@ -31,15 +31,11 @@ TOLD = {
 
 
 def play(tally, room):
-    right, wrong = room / "right", room / "wrong"
-    for it in (right, wrong):
-        copy(it, "tools", "crates", "crates.txt", "HANDLES", "LICENSE")
-    seen = run_made_up(right, right / "tools" / "check", "start")
-    tally.said("start: as it is", seen, 0, " passed, 0 failed")
-    write(wrong, MADE_UP)
+    copy(room, "tools", "crates", "crates.txt", "HANDLES", "LICENSE")
+    write(room, MADE_UP)
     for path, old, new in PLANTED.values():
-        write(wrong, {path: (wrong / path).read_text("utf-8").replace(old, new)})
-    seen = run_made_up(wrong, wrong / "tools" / "check", "start")
+        write(room, {path: (room / path).read_text("utf-8").replace(old, new)})
+    seen = run_made_up(room, room / "tools" / "check", "start")
     for name, text in TOLD.items():
         tally.said(f"start: {name}", seen, 1, f"FAILED  {text}")
     tally.said("start: nothing else", seen, 1, f" passed, {len(TOLD)} failed")
