@@ -184,7 +184,7 @@ class Pages:
             self.page("words.html", words[0].url.partition("#")[0], words=words)
         for name in FILES:
             self.page(name, name)
-        shutil.copy(self.site.top / "bench" / "speed.svg", self.folder)
+        shutil.copy(self.site.top / "trials" / "bench" / "speed.svg", self.folder)
         return list(self.lost_links())
 
     def lost_links(self):

@@ -1,0 +1,26 @@
+"""The tests of trials/sweeps, unproved, in a copy of the checkout where they stand as crates."""
+import functools
+import pathlib
+import sys
+import tempfile
+
+from building import play_runs
+from copies import TOP, copy_crates
+from tests import Tests
+
+sys.path.insert(0, str(TOP / "trials"))
+
+from lay import add_sweeps
+
+
+@functools.lru_cache(None)
+def runs():
+    copy = pathlib.Path(tempfile.mkdtemp())
+    copy_crates(copy)
+    return [Tests(copy / "crates" / it, "trials") for it in add_sweeps(copy)]
+
+
+def play(tally, words):
+    play_runs(tally, runs(), words)
+    if not runs():
+        tally.case("trials: the crates of sweeps", "there are none")

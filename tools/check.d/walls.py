@@ -1,0 +1,93 @@
+"""The walls of docs/STUCK.md: whether each is still there.
+
+A file NAME.rattle is a module. Its first lines tell what a check prints of it: `// says: ..` a part
+of a message, `// open: ..` the name of a goal. Behind a line `// mend` stands what to write
+instead, a module that must be proved, where no crate shows it. All are laid out as one crate over
+generic_array, beside the libraries that are proved in this checkout, and checked at once. A check
+ends before any proof where a module doesn't compile: its line is told then, and the others are
+checked again. All take ten to fifteen minutes of one core, where the libraries are proved.
+"""
+import collections
+import pathlib
+import re
+import tempfile
+
+from copies import TOP, copy_crates, write
+from playing import run
+
+CRATE, MEND = "walls", "_mend"
+LINE = f"{CRATE}: generic_array ga_core ga_boxed ga_views\n"
+SEEN = re.compile(r"// (says|open): (.*)\n")
+# A line of a check names the module that it is of; one that doesn't is of the module before.
+OF = re.compile(rf"\bsrc/(\w+)\.rt|\b{CRATE}::(\w+)::|\bproofs/(\w+)/")
+ERROR, UNPROVED = re.compile(r": error(?:\[|:)"), re.compile(r": (?:no proof|not proved)\b")
+MOST = 600
+
+
+def plain(text):
+    return " ".join(text.split())
+
+
+def read(file):
+    """The parts that are to be seen of a wall, its module, and that of its mend."""
+    wall, _, mend = file.read_text("utf-8").partition("\n// mend\n")
+    seen = [plain(it) if kind == "says" else f"(`{it}`)" for kind, it in SEEN.findall(wall)]
+    return seen, SEEN.sub("", wall) + "\n", mend
+
+
+def printed(said, modules):
+    """What a check prints of each module."""
+    found, name = collections.defaultdict(list), None
+    for line in said.splitlines():
+        if not line.startswith("checked "):
+            of = OF.search(line)
+            named = of and next(filter(None, of.groups()))
+            name = named if named in modules else None if of or not line.startswith(" ") else name
+            found[name].append(line)
+    return found
+
+
+def check_all(crate, modules):
+    """Checks the modules, and again without those for which a check ends too early. Returns what is
+    printed of each."""
+    said, left = {}, dict(modules)
+    while left:
+        root = "//! Walls.\n#![tactic(auto)]\n\n" + "".join(f"mod {it};\n" for it in left)
+        write(crate / "src", {f"{it}.rt": text for it, text in {**left, "lib": root}.items()})
+        found = printed(run("rt", "check", cwd=crate)[1], left)
+        if any(line.startswith("logic=") for line in found[None]):
+            return said | found
+        early = [it for it in left if any(map(ERROR.search, found[it]))]
+        if not early:
+            raise ValueError("\n".join(["rt check ends early:", *found[None][-20:]]))
+        for it in early:
+            said[it] = found[it]
+            del left[it]
+            (crate / "src" / f"{it}.rt").unlink()
+    return said
+
+
+def wrong_with(seen, lines, of_mend):
+    """Why a wall no longer stands as told, or nothing."""
+    text = plain(" ".join(lines))
+    if lacks := [it for it in seen if it not in text]:
+        return f"it fell: {lacks[0]!r} isn't printed, but {text[:MOST]}"
+    if bad := [it for it in of_mend or () if ERROR.search(it) or UNPROVED.search(it)]:
+        return f"its mend isn't proved: {bad[0][:MOST]}"
+    return "its mend isn't checked" if of_mend == [] else ""
+
+
+def play(tally, words):
+    files = {it.stem: it for it in sorted((TOP / "tools" / "walls").glob("*.rattle"))}
+    for it in {*words} - {*files}:
+        tally.case(it, "there is no such wall")
+    walls = {it: read(file) for it, file in files.items() if it in words or not words}
+    modules = {it: wall for it, (_, wall, _) in walls.items()}
+    modules |= {it + MEND: mend for it, (_, _, mend) in walls.items() if mend}
+    room = pathlib.Path(tempfile.mkdtemp())
+    copy_crates(room)
+    write(room, {"crates.txt+": LINE})
+    said = check_all(room / "crates" / CRATE, modules)
+    for name, (seen, _, mend) in walls.items():
+        of_mend = said.get(name + MEND, []) if mend else None
+        tally.case(name, wrong_with(seen, said.get(name, []), of_mend))

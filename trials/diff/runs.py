@@ -1,0 +1,283 @@
+"""The cases of both sides, and what is written of them: our functions and the list of the Rust
+program."""
+import collections
+import pathlib
+import re
+
+from exports import crate, declared, export, texts_of
+
+HERE = pathlib.Path(__file__).resolve().parent
+LIBRARIES = ["ga_core", "ga_views", "arrayvec", "ga_boxed", "generic_array"]
+
+EVERY = range(17)
+SOME = (0, 1, 2, 3, 5, 8, 16)
+SHORT_HEX = (0, 1, 2, 3, 5, 8, 16, 20, 32, 64)
+LONG_HEX = (511, 512, 1000, 1023, 1024, 1025, 1500, 2000, 2047, 2048, 2049, 3000)
+# The width of the rows, a hundred times, and their number.
+FLAT = (104, 203, 302, 404, 1203, 500)
+TUPLES = range(1, 13)
+SIZES = (0, 1, 2, 3, 5, 8, 20, 64)
+
+# The call of a run, NAME_run, on our side and on the other. A letter in braces stands for a length
+# as a type: N for the length itself, L for one more, K for a third of it and M for the rest; W, R
+# and A for the width of rows, their number and the product. One seed in `share` is taken. A
+# difference that is wanted has a name, and the call of the original that has this difference.
+Case = collections.namedtuple("Case", "title ours original lengths share wanted")
+
+
+def case(title, ours, original=None, lengths=EVERY, share=1, wanted=None):
+    """A case, whose other side has the same call where none is given."""
+    same = ours.replace("alloc, ", "").replace(", &log", "")
+    return Case(title, ours, original or same, lengths, share, wanted)
+
+
+# Answers, and the calls that closures and iterators saw.
+CASES = [
+    case("walks by value", "walks::walks_run::<{N}>(seed)"),
+    case("arrays of what a walk left", "walks::turned_run::<{N}>(seed)", share=4),
+    case("builds", "builds::builds_run::<{N}>(seed)"),
+    case(
+        "access to items",
+        "access::access_run::<{length}>(seed)",
+        "access::access_run::<{N}>(seed)",
+    ),
+    case(
+        "access to boxed items",
+        "boxed_access::boxed_access_run::<{N}>(alloc, seed)",
+        "access::boxed_access_run::<{N}>(seed)",
+    ),
+    case("builds by the traits", "sequences::sequences_run::<{N}>(seed)"),
+    case("boxed builds by the traits", "sequences::boxed_sequences_run::<{N}>(alloc, seed)"),
+    case("builders beside a vector", "builders::builders_run::<{N}>(seed)"),
+    case("comparisons, hashes, Debug, views", "comparisons::comparisons_run::<{N}>(seed)"),
+    case("calls of closures, arrays and views", "closures::closures_run::<{N}>(seed)"),
+    case(
+        "calls of closures, boxed arrays",
+        "boxed_closures::boxed_closures_run::<{N}>(alloc, seed)",
+        "closures::boxed_closures_run::<{N}>(seed)",
+    ),
+    case("views of slices and arrays", "views::views_run::<{N}>(seed)"),
+    case("split of references", "views::halves_run::<{N}, {K}, {M}>(seed)", share=10),
+    case("plain calls of closures", "plain_calls::plain_calls_run::<{N}>(seed)"),
+    case(
+        "calls of closures, references to arrays",
+        "references::references_run::<{N}>(seed)",
+        "plain_calls::references_run::<{N}>(seed)",
+    ),
+    case("arr!, box_arr!", "macros::macros_run(alloc, {length}, seed)", lengths=(0, 1, 3, 6)),
+    case("append, prepend, pops", "shapes::ends_run::<{N}, {L}>(seed)"),
+    case("remove, swap_remove", "shapes::removed_run::<{N}, {L}>(seed)"),
+    case("concat, split", "shapes::joined_run::<{N}, {K}, {M}>(seed)"),
+    case(
+        "flatten, unflatten",
+        "flat_{length}::flat_run(seed)",
+        "flat::flat_run::<{W}, {R}, {A}>(seed)",
+        FLAT,
+        4,
+    ),
+    case("rows of a slice", "rows::rows_run::<{N}>(seed)", lengths=EVERY[1:]),
+    case("walks over rows", "rows::row_walks_run::<{N}>(seed)", lengths=EVERY[1:]),
+    case("hex text, short", "hex::hex_run::<{N}>(alloc, seed)", lengths=SHORT_HEX),
+    case("hex text, long", "hex::hex_run::<{N}>(alloc, seed)", lengths=LONG_HEX, share=10),
+    case("vectors, boxed slices", "conversions::conversions_run::<{N}>(alloc, seed)"),
+    case(
+        "native arrays",
+        "conversions::native_run::<{length}>(seed)",
+        "shapes::native_run::<{N}, {length}>(seed)",
+        share=4,
+    ),
+    case(
+        "From and into of native arrays",
+        "natives_{length}::natives_run(seed)",
+        "shapes::natives_run::<{N}, {length}>(seed)",
+        share=4,
+    ),
+    case(
+        "tuples",
+        "tuples_{length}::tuples_run(seed)",
+        "conversions::tuples_run({length}, seed)",
+        TUPLES,
+    ),
+    case("boxed builds and conversions", "boxed::boxed_builds_run::<{N}>(alloc, seed)"),
+    case("boxed walks by value", "boxed::boxed_walks_run::<{N}>(alloc, seed)"),
+    case("boxed to inline", "boxed::boxed_turned_run::<{N}>(alloc, seed)", share=10),
+    case("blocks beside a deque", "blocks::blocks_run(alloc, {length}, seed)", lengths=SIZES),
+]
+
+# Drops and clones, each played by number and in order. A wanted difference is one of order.
+DROPS = [
+    case(
+        "drops of walks by value",
+        "walk_drops::walk_drops_run::<{N}>(ordered, seed, &log)",
+        lengths=SOME,
+        wanted=(
+            "nth_back of an iterator drops from the back",
+            "walk_drops::stepwise_run::<{N}>(ordered, seed)",
+        ),
+    ),
+    case("drops of builds", "drops::build_drops_run::<{N}>(ordered, seed, &log)", lengths=SOME),
+    case(
+        "drops of calls of closures",
+        "drops::closure_drops_run::<{N}>(ordered, seed, &log)",
+        lengths=SOME,
+    ),
+    case(
+        "drops of shapes",
+        "drops::shape_drops_run::<{N}, {L}>(ordered, seed, &log)",
+        "shapes::shape_drops_run::<{N}, {L}>(ordered, seed)",
+        SOME,
+    ),
+    case(
+        "drops of flatten, unflatten",
+        "flat_{length}::flat_drops_run(ordered, seed, &log)",
+        "flat::flat_drops_run::<{W}, {R}, {A}>(ordered, seed)",
+        FLAT,
+        10,
+    ),
+    case(
+        "drops of concat, split, vectors",
+        "drops::joined_drops_run::<{N}, {K}, {M}>(alloc, ordered, seed, &log)",
+        "shapes::joined_drops_run::<{N}, {K}, {M}>(ordered, seed)",
+        SOME,
+        10,
+    ),
+    case(
+        "drops of boxed calls and builds",
+        "boxed_drops::boxed_build_drops_run::<{N}>(alloc, ordered, seed, &log)",
+        lengths=SOME,
+    ),
+    case(
+        "drops of boxed walks",
+        "boxed_drops::boxed_walk_drops_run::<{N}>(alloc, ordered, seed, &log)",
+        lengths=SOME,
+        wanted=(
+            "nth_back of a boxed iterator drops from the back",
+            "boxed_drops::stepwise_run::<{N}>(ordered, seed)",
+        ),
+    ),
+]
+
+EXPORTS = """//! What the Rust program calls, written by trials/diff/run from its list of cases.
+use crate::noted::Log;
+use crate::{{{modules}}};
+use generic_array::Const;
+use std::alloc::Global;
+
+#[unsafe(no_mangle)]
+pub extern "C" fn ours_error_texts(out: &mut [u8]) -> usize {{
+    texts::error_texts(out)
+}}
+
+#[unsafe(no_mangle)]
+pub extern "C" fn ours_size(which: u32) -> usize {{
+    texts::size_of_array(which)
+}}
+"""
+
+CASE_TABLE = """//! The cases, written by trials/diff/run from its list.
+use crate::compare::{{Case, Wanted}};
+use crate::{{{modules}}};
+use generic_array::typenum::*;
+
+{declared}
+
+pub const CASES: &[Case] = &[
+{entries}
+];
+"""
+
+ENTRY = """    Case {{
+        name: "{title}",
+        lengths: &[{lengths}],
+        share: {share},
+        ours: |kind, seed| ours_{name}({ordered}kind, seed),
+        original: {original},
+        wanted: {wanted},
+    }},"""
+
+RUN = "|kind, seed| match kind {{\n{arms}\n            _ => unreachable!(),\n        }}"
+WANTED = 'Some(Wanted {{ name: "{name}", run: {run} }})'
+
+
+def typenum(number):
+    return f"U{number}" if number <= 1024 else f"Sum<U1024, {typenum(number - 1024)}>"
+
+
+def call(text, length, type_of):
+    """A call of the table at a length, on the side whose lengths are these types."""
+    part, (width, rows) = length // 3, divmod(length, 100)
+    types = {"N": length, "L": length + 1, "K": part, "M": length - part}
+    types |= {"W": width, "R": rows, "A": width * rows}
+    return text.format(length=length, **{name: type_of(it) for name, it in types.items()})
+
+
+def name_of(it):
+    return re.search(r"(\w+)_run", it.ours)[1]
+
+
+def numbers_of(it):
+    return f"{'ordered: u64, ' if 'ordered' in it.ours else ''}kind: u32, seed: u64"
+
+
+def exports():
+    """The module of the functions that Rust calls: cases of the same call have one."""
+    calls = collections.defaultdict(dict)
+    for it in CASES + DROPS:
+        calls[it.ours] |= {kind: call(it.ours, kind, "Const<{}>".format) for kind in it.lengths}
+    modules = {text.split("::")[0] for of in calls.values() for text in of.values()} | {"texts"}
+    text = EXPORTS.format(modules=", ".join(sorted(modules)))
+    for it in {it.ours: it for it in CASES + DROPS}.values():
+        before = "    let log = Log::new();\n" if "&log" in it.ours else ""
+        text += export(name_of(it), numbers_of(it), calls[it.ours], "alloc" in it.ours, before)
+    return text
+
+
+def words_of(length):
+    """What stands for the words of a text that is laid out for each length."""
+    width, rows = divmod(length, 100)
+    names = [chr(ord("a") + it) for it in range(length)] if length in TUPLES else []
+    words = {"LENGTH": length, "AREA": width * rows, "WIDTH": width, "ROWS": rows}
+    lists = {"NAMES": names, "TURNED": names[1:] + names[:1], "TYPES": ["u64"] * len(names)}
+    return words | {word: ", ".join(them) for word, them in lists.items()}
+
+
+def our_modules():
+    """The modules of ga_diff by name: those of calls/, and the exports."""
+    laid_out = {"flat": FLAT, "natives": EVERY, "tuples": TUPLES}
+    made = {name: {it: words_of(it) for it in lengths} for name, lengths in laid_out.items()}
+    return crate(texts_of(HERE / "calls"), made, exports())
+
+
+def run_of(it, text, ordered):
+    """The original's run of a call, as a closure of Rust."""
+    text = text.replace("ordered", str(ordered))
+    arms = [f"            {kind} => {call(text, kind, typenum)}," for kind in it.lengths]
+    return RUN.format(arms="\n".join(arms))
+
+
+def entry(it, ordered=None):
+    """The line of a case, of drops for one of both orders."""
+    wanted = "None"
+    if it.wanted and ordered:
+        name, text = it.wanted
+        wanted = WANTED.format(name=name, run=run_of(it, text, ordered))
+    order = "" if ordered is None else f", by {('number', 'order')[ordered]}"
+    return ENTRY.format(
+        title=it.title + order,
+        lengths=", ".join(map(str, it.lengths)),
+        share=it.share,
+        name=name_of(it),
+        ordered="" if ordered is None else f"{ordered}, ",
+        original=run_of(it, it.original, ordered),
+        wanted=wanted,
+    )
+
+
+def driver_sources():
+    """The Rust files of the program, by their names below src/."""
+    functions = {name_of(it): numbers_of(it) for it in CASES + DROPS}
+    modules = sorted({it.original.split("::")[0] for it in CASES + DROPS})
+    entries = [entry(it) for it in CASES] + [entry(it, order) for order in (0, 1) for it in DROPS]
+    table = {"declared": declared(functions), "entries": "\n".join(entries)}
+    sources = {it.name: it.read_text() for it in (HERE / "driver").glob("*.rs")}
+    return {**sources, "cases.rs": CASE_TABLE.format(modules=", ".join(modules), **table)}
