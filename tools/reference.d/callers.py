@@ -1,15 +1,21 @@
-"""Finds a caller of each call in the crates of examples.
+"""Finds a caller of each call in the crates of examples, and checks that each public call of the
+libraries has one there or in a crate above.
 
 It reads no types: what a method is called on is told by the head of the function, by a `let`, or by
-what the call in front returns. Where that says nothing, no caller is found.
+what the call in front returns. Where that says nothing, no caller is found, and for the check a
+method counts by its name. Impls of traits need no caller: the trait's own call does.
 """
+import fnmatch
 import functools
+import pathlib
 import re
 
-from meanings import WITH_A_PAGE, above, base_name, declared
-from samples import is_test
+from meanings import LIBRARIES, WITH_A_PAGE, above, base_name, declared
+from samples import Samples, is_test
 
 EXAMPLES = "_examples"
+# The patterns of the calls that have no caller, each with why.
+LIST = pathlib.Path(__file__).resolve().parent / "without_caller.txt"
 # What stands in front of a call's name: the dot of a method, or the end of a path.
 BEFORE = re.compile(r"(?P<dot>\.)\s*$|(?P<path>\w+)(?:::<[^()=]*>|<[^()=]*>)?::$")
 # What a method is called on: a name, or what another call made.
@@ -20,12 +26,18 @@ BORROWED, WRAPPED = re.compile(r"&?(?:'\w+ )?(?:mut )?"), re.compile(r"(?:Result
 
 
 class Function:
-    """A function of an example: its item, its head and its body."""
+    """A function: its item, its head and its body."""
 
     def __init__(self, item):
         self.item, self.head, text = item, item.head, item.module.text
         self.body = re.sub(r"//.*", "", text[text.index("{", item.begin):item.end])
         self.bounds, _ = declared(item.head)
+
+    def before(self, item):
+        """The code before each place of the body where a call has an item's name."""
+        mark = "!" if item.kind == "macro" else r"(?:::<[^()]*>)?\("
+        calls = re.finditer(rf"\b{re.escape(item.name)}{mark}", self.body)
+        return [self.body[:found.start()] for found in calls]
 
 
 class Callers:
@@ -69,56 +81,77 @@ class Callers:
         return any(member.name == name for item in self.site.by_name.get(type_name, [])
                    for impl in item.blocks if not impl.of_trait for member in impl.members)
 
-    def returned(self, item):
-        """The name of the type that a function returns: of a `Result` or an `Option`, inside."""
-        told = WRAPPED.sub("", item.head.rpartition("->")[2].strip())
-        own = item.owner.of if item.owner.kind == "impl" else item.owner
-        return own.name if re.match(r"Self\b(?!::)", told) else base_name(told)
-
-    def types_of(self, function, name, before):
-        """The names of the types that a name may have behind this code: by the last `let` of it, or
-        else by the function's head."""
-        told = re.search(rf"(?<![\w.]){name}: ([^,()=]+)", function.head)
-        for let in re.finditer(rf"\blet (?:mut )?{name}(?:: ([^=;]+))? = ([^;]+);", before):
-            if not let[1]:
-                return self.receivers(function, let[2], before[:let.start()])
-            told = let
-        return {base_name(BORROWED.sub("", told[1].strip(), count=1))} if told else set()
-
     def receivers(self, function, code, before):
-        """The names of the types that code may have, which stands behind other code."""
+        """The names of the types that code may have, which stands behind other code: of a name by
+        the last `let` of it, or else by the function's head; of a call what it returns, of a
+        `Result` or an `Option` inside."""
         if found := NAMED.search(code):
-            return self.types_of(function, found["name"], before)
-        found = MADE.search(code)
-        items = self.named.get(found["name"], []) if found else []
-        return {self.returned(item) for item in items
-                if self.is_called(item, function, code[:found.start()], before)}
+            told = re.search(rf"(?<![\w.]){found['name']}: ([^,()=]+)", function.head)
+            for let in re.finditer(
+                    rf"\blet (?:mut )?{found['name']}(?:: ([^=;]+))? = ([^;]+);", before):
+                if not let[1]:
+                    return self.receivers(function, let[2], before[:let.start()])
+                told = let
+            return {base_name(BORROWED.sub("", told[1].strip(), count=1))} if told else set()
+        found, types = MADE.search(code), set()
+        for item in self.named.get(found["name"], []) if found else []:
+            told = WRAPPED.sub("", item.head.rpartition("->")[2].strip())
+            if self.is_called(item, function, code[:found.start()], before):
+                types.add(item.of_whom.name if re.match(r"Self\b(?!::)", told) else base_name(told))
+        return types
 
     def is_called(self, item, function, code, before):
         """Whether a name behind this code of a function is a call of an item."""
-        found = BEFORE.search(code)
-        owner = item.owner.of if item.owner.kind == "impl" else item.owner
+        found, owner = BEFORE.search(code), item.of_whom
+        if item.kind == "macro":
+            return True
         if owner.kind not in WITH_A_PAGE:
             return not found or bool(found["path"]) and found["path"][:1].islower()
-        types = set()
-        if found:
-            types = {found["path"]} if found["path"] else (
-                self.receivers(function, code[:found.start()], before))
-        of_trait = owner.kind == "trait"
+        types = {found["path"]} if found and found["path"] else (
+            self.receivers(function, code[:found.start()], before) if found else ())
         return any(owner.name in self.owners(name, function) for name in types
-                   if not (of_trait and self.is_inherent(name, item.name)))
+                   if not (owner.kind == "trait" and self.is_inherent(name, item.name)))
 
     @functools.lru_cache(None)
     def of(self, item):
         """A caller of an item, which is a sample, or None."""
-        if item.kind not in ("fn", "macro"):
-            return None
-        mark = "!" if item.kind == "macro" else r"(?:::<[^()]*>)?\("
-        calls = re.compile(rf"\b{re.escape(item.name)}{mark}")
-        for function in self.functions:
-            places = [found.start() for found in calls.finditer(function.body)]
-            before = [function.body[:place] for place in places]
-            if any(item.kind == "macro" or self.is_called(item, function, code, code)
-                   for code in before):
-                return function.item
-        return None
+        functions = self.functions if item.kind in ("fn", "macro") else ()
+        return next((it.item for it in functions for code in it.before(item)
+                     if self.is_called(item, it, code, code)), None)
+
+    def may_call(self, function, item):
+        """Whether a function may call an item."""
+        for code in function.before(item):
+            found = BEFORE.search(code)
+            method = found and found["dot"] and item.of_whom.kind in WITH_A_PAGE
+            if method and not self.receivers(function, code[:found.start()], code) or (
+                    self.is_called(item, function, code, code)):
+                return True
+        return False
+
+
+def uncalled(site):
+    """Looks for a caller of each public call, and among those that have none for each pattern's."""
+    samples, without = Samples(site), {}
+    callers = Callers(site, samples)
+    above_them = [item for item in site.items if site.path(item.module)[0] not in LIBRARIES]
+    functions = [Function(item) for item in
+                 samples.of(lambda crate: crate.endswith(EXAMPLES)) + above_them
+                 if item.kind == "fn" and not is_test(item)
+                 and item.module.text[item.end - 1] == "}"]
+    for item in site.shown():
+        of_trait = item.owner and item.owner.kind == "impl" and item.owner.of_trait
+        is_ours = item.kind in ("fn", "macro") and site.path(item.module)[0] in LIBRARIES
+        if is_ours and not of_trait and not site.is_law(item):
+            if any(callers.may_call(function, item) for function in functions):
+                yield None
+            else:
+                without[site.full_name(item)] = item
+    lines = [line.partition("\t") for line in LIST.read_text("utf-8").splitlines()]
+    for name, item in without.items():
+        listed = any(fnmatch.fnmatchcase(name, pattern) for pattern, _, _ in lines)
+        wrong = f"{item.file.relative_to(site.top)}:{item.line}: nothing calls {name}"
+        yield None if listed else wrong
+    for pattern, _, why in lines:
+        right = why and fnmatch.filter(without, pattern)
+        yield None if right else f"{LIST.name}: {pattern} has a caller, or nothing says why"

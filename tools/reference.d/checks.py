@@ -2,21 +2,20 @@
 
 Each check gives what it tried, one after the other: what is wrong, or nothing.
 """
+from callers import uncalled
 from checks_of_documents import dangling, misquoted, unwritten
 from checks_of_names import misled, unnamed
-from drops import uncounted
 from edits import unfit
 from imports import unused
 from lookup import Names
 from promise import unkept
 from promise_page import stale
-from uncalled import uncalled
 
 
 # What each check looks at. Those of names ask as a reader of `tools/reference NAME` does.
 OF_SITE = {
-    "examples": unwritten, "imports": unused, "public items": unnamed, "rows": uncounted,
-    "wrong bodies": unfit, "callers": uncalled,
+    "examples": unwritten, "imports": unused, "public items": unnamed, "wrong bodies": unfit,
+    "callers": uncalled,
 }
 OF_NAMES = {"names": misled, "promise": unkept, "page": stale, "contracts": misquoted,
             "documents": dangling}

@@ -11,8 +11,9 @@ import functools
 import re
 
 from layout import indented
-from rust import BAR, CODE, FENCED, names_in
-from text import WIDEST, Text
+from rows import BAR, CODE, FENCED, names_in
+from sources import STD
+from text import Text
 
 # An example, and what is layout of it: spaces, the comma before a bracket, and `pub`.
 EXAMPLE = re.compile(r"(?ms)^```rust\n(.*?)^```")
@@ -26,7 +27,7 @@ OF_SEEN = "STUCK.md"
 # The document whose rows list the names of the Rust crate.
 RUST = "docs/DIFFERENCES.md"
 # Words of the language, and of the program's command line.
-EXEMPT = set("requires ensures now old ghost final for while impl mut use dec".split())
+EXEMPT = set("requires ensures now old ghost final for while impl mut use dec ruleset data".split())
 # A path that an attribute or an import names, and a word that is applied to others.
 PATH = re.compile(r"\busing\(([\w:]+)\)|^use ([\w:]+);$")
 APPLIED = re.compile(r"([\w:]+)(?: [\w.\[\](){},]+)+")
@@ -60,7 +61,7 @@ def unwritten(site):
 
 def misquoted(names):
     """Looks whether each contract that a README quotes is what `tools/reference NAME` prints."""
-    text = Text(names, WIDEST, coloured=False)
+    text = Text(names)
     for document in sorted((names.site.top / "crates").glob("*/README.md")):
         readme = document.read_text("utf-8")
         for quoted in QUOTED.finditer(readme):
@@ -96,20 +97,23 @@ class Known:
         self.crates = set(re.findall(r"\w+", lines))
 
     @functools.cached_property
-    def foreign_texts(self):
-        """The texts of std and of the libraries that the crates name."""
-        others = self.library.files_of(*sorted(self.crates))
-        return [text for _, text in (*self.library.std, *others)]
+    def foreign_lines(self):
+        """The lines of std and of the libraries that the crates name, and of their specs."""
+        kit = self.library.kit
+        folders = [kit / name / part for part in ("src", "specs")
+                   for name in (*STD, *sorted(self.crates))] if kit else []
+        files = [file for folder in folders for file in folder.rglob("*.*t")]
+        return [line for file in files for line in file.read_text("utf-8").split("\n")]
 
     def is_of_others(self, name):
         """Whether std or a library that the crates name declares a name, or calls it: some calls of
         numbers are built in. Without a toolchain this isn't known."""
         declares = re.compile(
             rf"(?:fn|struct|enum|trait|type|mod|const|macro_rules!) {name}\b"
-            rf"|^pub use [\w:]+::{name};|^ +{name}(?:\(.*\))?,$|[.:]{name}\(")
+            rf"|^pub use [\w:]+::{name};|^ +{name}(?:\(.*\))?,$|[.:]{name}\("
+            rf"|^ *(?:(?:pub|abbrev|unfoldable|record|data) )+{name}\b")
         return not self.library.kit or name in self.crates or any(
-            declares.search(line) for text in self.foreign_texts if name in text
-            for line in text.split("\n") if name in line)
+            declares.search(line) for line in self.foreign_lines if name in line)
 
     @functools.cached_property
     def files(self):
@@ -133,7 +137,7 @@ class Known:
         return bool(
             names.named(parts) or names.inherited(parts) or names.other_name(parts)
             or any(row.fit(parts) > 1 for row in self.rust_rows) or last in self.clauses
-            or last.startswith("_") and any(end.endswith(last) for end in names.index.by_end)
+            or last.startswith("_") and any(end.endswith(last) for end in names.by_end)
             or names.outside.named(parts) or names.told_in_docs(parts)
             or self.is_of_others(last) or names.of_std(last))
 

@@ -3,7 +3,7 @@ import pathlib
 import re
 
 from meanings import LIBRARIES, WITH_A_PAGE
-from rust import CODE, names_in
+from rows import CODE, names_in
 
 # A name of each kind that readers look up, with the item that it leads to, or what its row tells.
 RUST_NAMES = pathlib.Path(__file__).resolve().parent / "rust_names.txt"

@@ -1,29 +1,22 @@
-"""Shows an item or a definition whole, as lines of text."""
+"""Shows an item, a definition, a lemma or a module whole, as lines of text."""
 import re
 
-from advice import becomes, spelled
+from imports import is_in, terms, without_texts
 from layout import indented, laid_out, one_line, prose
+from lemmas import is_passed_on
 from lookup import impl_of
 from meanings import WITH_A_PAGE, base_name, declared, header
-from outside import Outside
 from paths import OF_FILES
-from std_words import modules_of
-from text import first_sentence, use_line
+from samples import code_of, is_test
+from sources import imports_of
+from text import Text, becomes, first_sentence, spelled, use_line
 
-# The crates whose functions are shown with their code, as those of the examples are.
-USES = ("ga_hashes", "ga_ciphers", "ga_uses")
 # What a module's lists are called, in their order.
 LISTS = {"Modules": ["mod"], "Types": ["struct", "enum"], "Traits": ["trait"], "Aliases": ["type"],
          "Functions": ["fn"], "Macros": ["macro"], "Constants": ["const", "static"],
          "From other libraries": ["foreign"]}
-
-
-def members_above(item, library):
-    """The members of traits that a member of an impl stands for."""
-    impl = item.owner
-    traits = [impl.trait] if impl.trait else library.std_traits(impl.of_trait)
-    return [member for trait in traits for member in trait.members
-            if (member.kind, member.name) == (item.kind, item.name)]
+# The proof files that are shown whole have at most so many lines.
+MOST_LINES = 12
 
 
 def declaration(item, width):
@@ -38,66 +31,56 @@ def declaration(item, width):
     return "\n".join([*lines, "}"]) if len(lines) > 1 else item.head
 
 
-class Items(Outside):
+class Items(Text):
     """Items and definitions, each as a page of text."""
 
     def call(self, item):
         """What has a signature, docs and clauses alone: a function, a constant, a field."""
         impl = impl_of(item)
         clauses = [clause for clause in item.clauses if clause.keyword != "ghost"]
-        cited = self.cited([item])
-        return [*(self.head(impl) if impl else ()), *self.head(item, cited[0].values()),
-                *self.docs(item), *self.clauses(clauses, cited[0].values()),
-                *self.conditions(item), *self.words(cited), *self.imports([item]),
-                *self.beside(item)]
-
-    def use(self, item):
-        """A function of a crate of uses: its code, and the words that its clauses cite."""
-        impl = impl_of(item)
-        return [*(self.head(impl) if impl else ()), *self.sample(item),
-                *self.words(self.cited([item])), *self.beside(item)]
+        return [*(self.head(impl) if impl else ()), *self.head(item), *self.docs(item),
+                *self.part(self.written(clauses)), *self.conditions(item), *self.words([item]),
+                *self.imports([item]), *self.caller(item)]
 
     def of_trait(self, item):
         """A member of an impl of a trait: what it says, or else what the trait says of it, and the
         ghost members of the impl that are named there, or all where nothing is said."""
-        above = members_above(item, self.site.library)
+        impl = item.owner
+        traits = [impl.trait] if impl.trait else self.site.library.std_traits(impl.of_trait)
+        above = [member for trait in traits for member in trait.members
+                 if (member.kind, member.name) == (item.kind, item.name)]
         told = item if item.clauses or not above else above[0]
         terms = " ".join(clause.term for clause in told.clauses)
-        ghosts = [member for member in item.owner.of_kind("ghost") if member is not item
+        ghosts = [member for member in impl.of_kind("ghost") if member is not item
                   and (not terms or re.search(rf"\b{re.escape(member.name)}\b", terms))]
         cited = [*([told] if told.module else ()), *ghosts]
-        words = self.cited(cited)
-        own, of_all = [item, item.owner], [*above] if item.owner.trait else []
-        with_docs = [part for part in (item, *of_all, *own, *above) if part.docs]
-        with_notes = [part for part in (*own, *above) if part.notes]
-        written = [line for ghost in ghosts for line in laid_out(ghost.head, self.width - 4)]
-        return [*self.head(item.owner), *self.head(item, words[0].values()),
-                *self.docs((with_docs or with_notes or own)[0]),
-                *self.clauses(told.clauses if item.kind == "fn" else (), words[0].values()),
-                *self.part(self.painted(written, words[0].values()), "Here"),
-                *self.words(words), *self.imports(cited), *self.beside(item)]
+        with_docs = [part for part in (item, *(above if impl.trait else ()), impl, *above)
+                     if part.docs]
+        with_notes = [part for part in (item, impl, *above) if part.notes]
+        return [*self.head(impl), *self.head(item),
+                *self.docs((with_docs or with_notes or [item])[0]),
+                *self.part(self.written(told.clauses if item.kind == "fn" else ())),
+                *self.laid([ghost.head for ghost in ghosts], "Here"),
+                *self.words(cited), *self.imports(cited), *self.caller(item)]
 
     def macro(self, item):
         """A macro: its docs, and what is known of the calls that its forms become."""
         lines, calls = [*self.code(item.head), *self.docs(item)], becomes(self.names, item)
         for call in calls:
-            cited = self.cited([call])[0].values()
-            _, passed = declared(call.head)
-            told = f"Known, by {self.site.full_name(call)}({', '.join(passed)})"
-            lines += self.clauses(call.clauses, cited, told)
-        return [*lines, *self.words(self.cited(calls)), *self.imports(calls), *self.beside(item)]
+            passed = ", ".join(declared(call.head)[1])
+            lines += self.part(self.written(call.clauses),
+                               f"Known, by {self.site.full_name(call)}({passed})")
+        return [*lines, *self.words(calls), *self.imports(calls), *self.caller(item)]
 
     def type(self, item):
         """A type: its functions, and the traits that it has."""
-        inherent = [block for block in item.blocks if not block.of_trait]
-        functions = [member for block in inherent for member in self.site.public_members(block)
-                     if member.kind == "fn"]
+        functions = [member for block in item.blocks if not block.of_trait
+                     for member in self.site.public_members(block) if member.kind == "fn"]
         names = {*(block.of_trait for block in item.blocks), *item.derived()}
         names -= {"", *(trait.name for trait in self.site.hidden)}
-        traits = ", ".join(sorted(names, key=str.lower))
         return [*self.signatures("Functions", functions),
-                *self.part(prose(traits, self.width - 4), "Traits"),
-                *self.words(self.cited(item.of_kind("ghost")))]
+                *self.said(", ".join(sorted(names, key=str.lower)), "Traits"),
+                *self.words(item.of_kind("ghost"))]
 
     def trait(self, item):
         """A trait: its members, and who has it."""
@@ -113,13 +96,11 @@ class Items(Outside):
 
     def foreign_trait(self, item):
         """A trait of others: its impls for our types, and the calls that these have."""
-        heads = dict.fromkeys(spelled(self.names, impl, one_line(header(impl)))
-                              for impl in item.blocks)
         calls = [self.site.full_name(member) for impl in item.blocks
                  for member in self.site.public_members(impl) if member.kind == "fn"]
-        calls = ", ".join(f"`{call}`" for call in dict.fromkeys(calls))
-        written = [line for head in heads for line in laid_out(head, self.width - 4)]
-        return [*self.part(written, "Who has it"), *self.said(calls, "Calls")]
+        heads = [one_line(header(impl)) for impl in item.blocks]
+        return [*self.laid(dict.fromkeys(heads), "Who has it"),
+                *self.said(", ".join(f"`{call}`" for call in dict.fromkeys(calls)), "Calls")]
 
     def alias(self, item):
         """A name of a type: what the type has, where the name passes parameters on."""
@@ -128,53 +109,95 @@ class Items(Outside):
         return [*self.code(item.head), *self.docs(item), *(self.type(of) if passes else ())]
 
     def foreign(self, item):
-        """A type of another library that a crate passes on: what a crate that uses it stands on."""
+        """A type of another library that a crate passes on, with the files of words that come with
+        it."""
         crate, library = self.site.path(item.home)[0], item.head.split()[1].split("::")[0]
-        if library in ("core", "std"):
-            return self.call(item)
-        told = (f"In `crates.txt`: `yours: {crate}` to name it and to cite what `{crate}` says of "
-                f"it; `yours: {crate} {library}` to import from `{library}` itself, as a trait of "
-                "it or a word of its specs.")
         specs = (self.site.top / "crates" / crate / "specs" / "Lib.antt").read_text("utf-8")
-        passed = re.findall(rf"(?m)^pub use Rattle\.{library}\.specs\.(\w+)$", specs)
-        passed = [name for name in passed if name == item.name] or passed
-        uses = [use_line("ghost use", f"Rattle.{crate}.specs.{name}", [".."]) for name in passed]
-        return [*self.call(item), *self.said(told), *self.part(self.painted(uses), "Its words")]
+        words = re.findall(rf"(?m)^pub use Rattle\.{library}\.specs\.(\w+)$", specs)
+        uses = [f"ghost use Rattle.{crate}.specs.{word}.{{..}};" for word in words
+                if word == item.name or item.name not in words]
+        return [*self.call(item), *self.part(uses, "Its words")]
 
-    def module(self, item):
-        """A module: its docs, and what is public there."""
-        lines = self.docs(item)
-        inner = [other for other in self.site.items if other.owner is item and other.home is other]
-        found = [*inner, *(other for other in self.site.items
-                           if other.home is item and other.kind not in ("mod", "impl"))]
+    def module(self, module):
+        """A module: its docs, and what is public there, or of one of examples or of tests what
+        stands there."""
+        is_public, found = module in self.names.paths, module.members
+        if is_public:
+            found = [it for it in self.site.items if it is not module and it.home is (
+                it if it.kind == "mod" and it.owner is module else module)]
+        tests = [] if all(map(is_test, module.of_kind("fn"))) else [*filter(is_test, found)]
+        lines = self.docs(module)
         for title, kinds in LISTS.items():
-            items = [other for other in found if other.kind in kinds]
-            lines += self.listed(title, [(other.name, first_sentence(other)) for other in items])
+            items = [item for item in found if item.kind in kinds and item not in tests]
+            pairs = [(item.name, first_sentence(item)) for item in items]
+            lines += self.listed(title, pairs) if is_public or title != "Functions" else (
+                self.signatures(title, items))
         return lines
+
+    def file(self, item):
+        """A file of specs/ or proofs/ as a module: what it is, and what others import from it."""
+        pairs = [(word.name.strip("◌"), self.site.line(word))
+                 for word in self.names.of_file(item.file)]
+        title = "Lemmas" if item.folder == "proofs" else "Words"
+        return [*self.said(item.notes), *self.listed(title, pairs)]
 
     def definition(self, word):
         """A word of specs/: its line, its definition, and how it is imported."""
-        ours, others = self.cited([word]) if self.is_own(word) else ({}, {})
-        return [*self.said(self.site.notation.get(word.name.strip("◌")) or word.notes),
-                *self.code("\n".join([*word.context, word.head]), ours.values()),
-                *self.part(self.painted(self.import_lines(word)), "Imports"),
-                *self.words((ours, others))]
-
-    def is_own(self, word):
-        """Whether an item or a definition is of this repository."""
-        return bool(word.file) and word.file.is_relative_to(self.site.top)
-
-    def import_lines(self, word):
-        """The lines that import a definition, each for the crates above another library."""
-        crate, _, rest = word.module.removeprefix("Rattle.").partition(".")
-        paths = modules_of(self.site.library, word) if self.is_own(word) else [
-            f"Rattle.{crate}.specs.{rest}"]
+        paths = self.modules_of(word) or [f"Rattle.{word.module.replace('.', '.specs.', 1)}"]
         lines = [use_line("ghost use", path, [word.name]) for path in paths]
-        widest = max(map(len, lines))
-        if len(lines) == 1:
-            return lines
-        return [f"{line.ljust(widest)}  over {path.split('.')[1]}"
-                for line, path in zip(lines, paths)]
+        over = [f"  over {path.split('.')[1]}" for path in paths] if paths[1:] else [""]
+        lines = [line.ljust(max(map(len, lines))) + told for line, told in zip(lines, over)]
+        return [*self.said(self.site.notation.get(word.name.strip("◌")) or word.notes),
+                *self.code("\n".join([*word.context, word.head])), *self.part(lines, "Imports"),
+                *self.words([word] if self.names.is_own(word) else [])]
+
+    def lemma(self, item):
+        """A lemma: its notes, its statement, and how proofs and attributes name it."""
+        lines = [*self.said(item.notes), *self.code("\n".join([*item.context, item.head]))]
+        if not is_passed_on(item.file):
+            return [*lines, *self.said("Proofs of its own crate alone can cite it.")]
+        uses = [f"use {path}.{{{item.name}}}" for path in self.modules_of(item)]
+        crate, *above, name = self.names.path(item)
+        # A name that isn't one of Rust's is put into a list first.
+        plain = [name] if re.fullmatch(r"\w+", name) else item.lists
+        using = [f"#[tactic(auto, using({'::'.join([crate, *above, each])}))]" for each in plain]
+        told = (f"Your crate's line of `crates.txt` has to name `{crate}`." if plain else
+                f"In a list of yours: `pub ruleset facts = ({name})` in a file of `proofs/` that "
+                "your `proofs/Lib.antt` declares by `pub mod`.")
+        return [*lines, *self.part(uses, "Imports, in a proof"),
+                *self.part([*using, *prose(told, self.width - 4)], "Above a function")]
+
+    def sample(self, item):
+        """A function of an example, or a type with its impls: the code, what it imports, and the
+        files that prove it, those of a few lines whole."""
+        code = "\n\n".join(code_of(part) for part in (item, *item.blocks))
+        crate, *rest = self.names.path(item)
+        proofs = []
+        for file in sorted(self.site.top.joinpath("crates", crate, "proofs", *rest).glob("*.antt")):
+            text = file.read_text("utf-8").rstrip("\n")
+            proofs.append(str(file.relative_to(self.site.top)))
+            if text.count("\n") < MOST_LINES:
+                proofs += indented(laid_out(text, self.width - 8))
+        return [*self.docs(item), *self.code(code), *self.laid(self.needed(item, code), "Imports"),
+                *self.part(proofs, "Proved by")]
+
+    def needed(self, item, code):
+        """The lines of `use` that a sample's code needs, for its names and for calls of traits."""
+        in_terms = {name for _, names in terms(without_texts(code)) for name in names}
+        for kind, atoms in (("ghost use", in_terms), ("use", set(re.findall(r"\w+", code)))):
+            by_module = {}
+            heads = "\n".join(use.head for use in item.module.of_kind(kind))
+            for name, (module, there) in imports_of(heads).items():
+                if is_in(name, atoms) or kind == "use" and self.has_call(name, atoms):
+                    whole = there if there in ("", name) else f"{there} as {name}"
+                    by_module.setdefault(module, []).append(whole)
+            yield from (use_line(kind, *told) for told in sorted(by_module.items()))
+
+    def has_call(self, name, atoms):
+        """Whether code has a function of a trait of this name."""
+        traits = [*self.site.by_name.get(name, []), *self.site.library.std_traits(name)]
+        return any(member.kind == "fn" and member.name in atoms
+                   for trait in traits for member in trait.members)
 
     def item(self, item):
         """All that is shown of an item or a definition."""
@@ -187,18 +210,15 @@ class Items(Outside):
         """What is shown of an item or a definition below its name."""
         whole = {"word": self.definition, "lemma": self.lemma, "file": self.file,
                  "mod": self.module, "macro": self.macro, "foreign": self.foreign}.get(item.kind)
-        if item not in self.names.paths and item.kind not in OF_FILES:
-            own = self.sample if self.is_own(item) else self.slice_method
-            whole = self.module_of_samples if item.kind == "mod" else own
         if whole:
             return whole(item)
+        if item not in self.names.paths:
+            return self.sample(item) if self.names.is_own(item) else self.call(item)
         if item.kind == "type" and item.owner.kind == "mod":
             return self.alias(item)
         if item.kind == "trait":
             return [*self.head(item), *self.docs(item), *self.trait(item)]
         if item.kind in WITH_A_PAGE:
             return [*self.code(declaration(item, self.width)), *self.docs(item), *self.type(item)]
-        if impl_of(item) and impl_of(item).of_trait:
-            return self.of_trait(item)
-        is_use = item.kind == "fn" and self.names.path(item)[0] in USES
-        return self.use(item) if is_use else self.call(item)
+        of_trait = impl_of(item) and impl_of(item).of_trait
+        return self.of_trait(item) if of_trait else self.call(item)

@@ -83,19 +83,17 @@ def prose(text, width):
 
 
 def columns(pairs, width):
-    """The lines of a list of names and what is said of each, in two parts: the name stands beside
-    what is said where it is short, and above it else."""
+    """The lines of a list of names and what is said of each: the name stands beside what is said
+    where it is short, and above it else."""
     widest = max((len(name) for name, _ in pairs if len(name) <= COLUMN), default=2)
-    lines = []
     for name, said in pairs:
         beside = wrapped(said, width - widest - 2)
         if len(name) > widest or not beside:
-            lines.append((name, ""))
+            yield name
             name = ""
         for line in beside:
-            lines.append((name.ljust(widest + 2), line))
+            yield f"{name.ljust(widest + 2)}{line}"
             name = ""
-    return lines
 
 
 def one_line(head):

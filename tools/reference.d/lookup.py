@@ -6,22 +6,20 @@ import functools
 import pathlib
 import re
 
-import rust
-from advice import names_of_two
 from callers import Callers
 from lemmas import of_files
 from meanings import LIBRARIES, header
-from messages import Messages
 from paths import Index, Paths, is_named
-from samples import Samples, hidden
-from slices import OWNERS, slice_methods
+from rows import (
+    CODE, FORMAT, FORMATS, OF_CLAUSES, OF_MESSAGES, OF_RUST, having, names_in, naming, rows,
+)
+from samples import Samples, hidden, slice_methods
 from sources import ANGLE, closing, imports_of
-from std_words import StdWords
 
 MOST_NEAR, MOST_ROWS = 8, 4
 # The names that are looked up by those of others: of typenum, of std, of other crates.
 OTHER_NAMES = pathlib.Path(__file__).resolve().parent / "other_names.txt"
-# In which order the members of types stand where several have a name.
+# In which order the members of types stand where several have a name. The first four are slices.
 FIRST = ("GenericArray", "BoxedArray", "GenericArrayRef", "GenericArrayMut", "GenericArrayIter")
 # What a name means: the item that comes first, the others, and the rows of the documents that tell
 # of it. Where no item comes first, these do.
@@ -41,8 +39,8 @@ def is_word(name):
 def parts_of(name):
     """The parts of a name, without type parameters and brackets: `GenericArray<u8, U4>::split()`
     has the two that `GenericArray::split` has. A format has its trait's name."""
-    if sign := rust.FORMAT.fullmatch(name):
-        return [rust.FORMATS[sign[1]]]
+    if sign := FORMAT.fullmatch(name):
+        return [FORMATS[sign[1]]]
     name = name.removeprefix("Rattle.").replace("::<", "<").replace("[T]::", "slice::")
     while (at := name.find("<")) > 0 and name.count("<") == name.count(">"):
         name = name[:at] + name[closing(name, at, ANGLE):]
@@ -61,96 +59,78 @@ def is_detail(item):
     return inner and item.kind != "fn"
 
 
-def is_of_reference(item):
-    """Whether an item is a member of an impl of a trait for references to a type."""
-    return bool(impl_of(item)) and " for &" in header(impl_of(item))
-
-
-def is_of_foreign_type(item):
-    """Whether an item is a member of an impl of one of our traits for a type that isn't ours."""
-    return bool(impl_of(item)) and impl_of(item).of.kind == "trait"
-
-
 class Names(Paths):
     """What names mean: items and definitions, and what the documents tell."""
 
     def __init__(self, site):
         super().__init__(site)
-        self.rows, self.clauses = rust.rows(site.top), rust.rows(site.top, rust.OF_CLAUSES)
-        self.std, self.samples = StdWords(site.library), Samples(site)
-        self.callers, self.twice = Callers(site, self.samples), names_of_two(site)
-        self.messages = Messages(site.top)
+        self.rows, self.clauses = rows(site.top, OF_RUST), rows(site.top, OF_CLAUSES)
+        # Of lists a row's cells have no titles.
+        self.messages = [row for row in rows(site.top, OF_MESSAGES) if row.cells[0][0]]
+        self.samples = Samples(site)
+        self.callers = Callers(site, self.samples)
         lines = [line.partition("\t") for line in OTHER_NAMES.read_text("utf-8").splitlines()]
         self.other_names = {name: meant for names, _, meant in lines for name in names.split()}
-
-    @functools.cached_property
-    def slices(self):
-        """The methods of slices, each with the paths by our types that are slices too."""
-        return {item: [[owner, item.name] for owner in OWNERS]
-                for item in slice_methods(self.site.library)}
+        foreign = {name for module in site.items if module.kind == "mod" for name in module.foreign}
+        # The names that an item of ours and one of others have.
+        self.twice = {name for name in foreign if name in site.by_name}
 
     @functools.cached_property
     def outside(self):
         """What stands on no page, by its names: samples, what isn't public, lemmas, files of
-        definitions, and methods of slices."""
+        definitions, and methods of slices, also by our types that are slices too."""
         private = [item for item in hidden(self.site) if item not in self.paths]
-        items = [*self.samples.of(), *private, *of_files(self.site), *self.slices]
-        return Index({item: [[part.strip("◌") for part in self.path(item)],
-                             *self.slices.get(item, ())] for item in items})
-
-    def says_nothing_new(self, item):
-        """Whether a member of an impl only does what its trait says."""
-        of_ours = impl_of(item) and impl_of(item).trait
-        return bool(of_ours) and not item.clauses and not item.docs
+        found = Index()
+        for item in (*self.samples.of(), *private, *of_files(self.site)):
+            found.add(item, self.path(item))
+        for item in slice_methods(self.site.library):
+            found.add(item, self.path(item), *([owner, item.name] for owner in FIRST[:4]))
+        return found
 
     def is_of_library(self, item):
         """Whether an item stands in a library of the port, or is a trait that its types have."""
         in_library = item in self.paths and self.path(item)[0] in LIBRARIES
         return in_library or item.kind == "foreign trait"
 
-    def rank(self, item):
-        """What an item comes behind: what stands above the library behind the library, and a part
-        of another behind a whole one."""
-        return not self.is_of_library(item), is_detail(item) and item.owner.kind != "trait"
-
     def order(self, item):
-        """Where an item stands among those that a name means."""
-        owner = self.path(item)[-2:][0]
-        of_trait = item.kind == "fn" and item.owner.kind == "trait"
+        """Where an item stands among those that a name means: what stands above the library behind
+        the library, and a part of another behind a whole one."""
+        owner, impl = self.path(item)[-2:][0], impl_of(item)
         place = FIRST.index(owner) if owner in FIRST else len(FIRST)
-        by_trait = bool(impl_of(item)) and bool(impl_of(item).of_trait)
-        return self.rank(item), item.kind == "word", 0.5 if of_trait else place, by_trait
+        of_trait = item.kind == "fn" and item.owner.kind == "trait"
+        return (not self.is_of_library(item), is_detail(item) and item.owner.kind != "trait",
+                item.kind == "word", 0.5 if of_trait else place, bool(impl and impl.of_trait))
 
     def told_rows(self, name, asked):
         """The rows of the tables that tell what to write: for a name those that have it as code and
         that aren't told, and for what is none those that have its words."""
         if not asked.first and not asked.rows:
-            return self.messages.having(name)
+            return having(self.messages, name)
         known = {row.place for row in asked.rows}
-        return [row for row in self.messages.naming(parts_of(name)[-1]) if row.place not in known]
+        named = naming(self.messages, parts_of(name)[-1])
+        return [row for row in named if row.place not in known]
 
     def asked(self, name):
         """What a name means, sorted by what a reader most likely means: items of the library, then
         what the documents tell, words that crates import, what stands above the library or on no
-        page, other words of std, names of clauses, and items whose docs name it."""
+        page, names of clauses, and items whose docs name it."""
         parts = parts_of(name)
         items = self.items_of(name) or self.beside_of(name)
         leads = len(parts) > 1 and any(
-            item not in self.slices or is_named(self.path(item), parts)
+            item.file and self.is_own(item) or is_named(self.path(item), parts)
             for item in (*self.named(parts), *self.outside.named(parts)))
         known = leads or items and items[0] in self.paths or self.told_of(name, False)
         if other := "" if known else self.other_name(parts):
             return self.asked(other)
         words, rows = self.of_std(name), self.told_of(name, bool(items))
-        near = [word for word in words if word.module in ("std.Prelude", self.module_used(word))]
         is_above = not items or not self.is_of_library(items[0])
         if rows and (is_above and not leads or self.is_of_rust(name, rows)):
-            return Asked(None, [*(item for item in items if not is_detail(item)), *near], rows)
-        if is_above and not leads and not (items := [*near, *items, *words]):
+            return Asked(None, [*(item for item in items if not is_detail(item)), *words], rows)
+        if is_above and not leads and not (items := [*words, *items]):
             if rows := [row for row in self.clauses if row.fit(parts) or row.mentions(parts)]:
                 return Asked(None, [], rows)
             items = self.told_in_docs(parts)
-        first, *others = dict.fromkeys([*items, *near]) or [None]
+        first, *others = dict.fromkeys([*items, *words]) or [None]
         return Asked(first, others, [] if is_above else rows)
 
     def items_of(self, name):
@@ -179,10 +159,8 @@ class Names(Paths):
 
     def told_in_docs(self, parts):
         """The items whose docs have a name as code, as that of another crate's call."""
-        telling = [item for item in self.paths if parts[-1] in item.docs]
-        return [item for item in telling if any(
-            name[-1] == parts[-1] for code in rust.CODE.findall(item.docs)
-            for name in rust.names_in(code))]
+        return [item for item in self.paths if parts[-1] in item.docs and any(
+            name[-1] == parts[-1] for code in CODE.findall(item.docs) for name in names_in(code))]
 
     def told_of(self, name, is_ours):
         """The rows of the documents for a name. For a name of ours also what it stands for, or the
@@ -208,27 +186,27 @@ class Names(Paths):
             return "typenum"
         return self.other_names.get("::".join(parts)) or self.other_names.get(parts[-1], "")
 
-    def module_used(self, word):
-        """The module by which the crates import a word of others."""
-        return self.imported.get(word.name, ("",))[0].removeprefix("Rattle.").replace(
-            ".specs.", ".", 1)
-
     def found(self, name):
         """The items that a name may mean. A place, as `array.rt:39`, means what begins there. A
         name that leads nowhere, not even to what no page has, means what has its end as a name."""
         if is_place(name):
-            return self.placed(self.index, name)
+            return self.placed(self, name)
         parts = parts_of(name)
-        found = self.named(parts) or self.of_trait(parts) or self.inherited(parts)
+        exact = self.named(parts)
+        found = exact or self.of_trait(parts) or self.inherited(parts)
         if not found and len(parts) > 1 and not self.outside.named(parts):
             found = self.named(parts[-1:])
-        found = [item for item in found if not is_of_foreign_type(item)] or found
-        if len(parts) == 1 or not self.named(parts):
+        # Of our traits for types of others only where nothing else has the name.
+        found = [item for item in found
+                 if not (impl_of(item) and impl_of(item).of.kind == "trait")] or found
+        if len(parts) == 1 or not exact:
+            # A member of an impl that only does what its trait says tells nothing new.
             best = min(found, key=self.order, default=None)
-            found = [item for item in found if item is best or not self.says_nothing_new(item)]
+            found = [item for item in found if item is best or item.clauses or item.docs
+                     or not (impl_of(item) and impl_of(item).trait)]
         else:
-            references = name.startswith("&")
-            found = [item for item in found if is_of_reference(item) == references] or found
+            found = [item for item in found if name.startswith("&") == bool(
+                impl_of(item) and " for &" in header(impl_of(item)))] or found
         return [item for item in found if not is_detail(item)] or found
 
     def of_trait(self, parts):
@@ -239,10 +217,9 @@ class Names(Paths):
 
     def inherited(self, parts):
         """The members of traits that a type has by an impl that doesn't write them."""
-        if len(parts) < 2:
-            return []
-        owners = [item for item in self.named(parts[-2:-1]) if item.kind in ("struct", "enum")]
-        traits = [impl.trait for owner in owners for impl in owner.blocks if impl.trait]
+        owners = self.named(parts[-2:-1]) if len(parts) > 1 else []
+        traits = [impl.trait for owner in owners if owner.kind in ("struct", "enum")
+                  for impl in owner.blocks if impl.trait]
         return [member for trait in dict.fromkeys(traits) for member in trait.of_kind("fn")
                 if member.name == parts[-1]]
 
@@ -263,51 +240,20 @@ class Names(Paths):
         return imports_of("\n".join(lines))
 
     def of_std(self, name):
-        """The words of other libraries that have a name: as of where the crates import it, or else
-        of where a crate can."""
+        """The word of another library that a name means, as of where it is imported from."""
         *above, last = parts_of(name)
-        if is_place(name):
-            return []
-        if is_word(name):
-            module = f"Rattle.{name.removeprefix('Rattle.').rpartition('.')[0]}"
-            found = self.std.word(module, last)
-            return [self.as_imported(module, found)] if found and found.file else []
-        if above:
-            return []
         module, there = self.imported.get(last, ("", ""))
-        word = self.site.library.word(module, there) if there else None
-        own = word and word.file and word.file.is_relative_to(self.site.top)
-        found = [(module, word)] if word and word.file and not own else self.std.found(last)
-        return [self.as_imported(*word) for word in found]
-
-    def as_imported(self, module, word):
-        """A word of std, as of the module that it is imported from."""
+        if is_word(name):
+            module, there = f"Rattle.{name.removeprefix('Rattle.').rpartition('.')[0]}", last
+        word = self.site.library.word(module, there) if there and not is_place(name) else None
+        if not word or not word.file or self.is_own(word) or above and not is_word(name):
+            return []
         word = copy.copy(word)
         word.module = module.removeprefix("Rattle.").replace(".specs.", ".", 1)
-        return word
-
-    def typed(self, item):
-        """A name by which an item is asked for: its path, with the trait where another has it too,
-        or else its place."""
-        full, trait = self.full_name(item), impl_of(item) and impl_of(item).of_trait
-        if item.kind == "word":
-            return full
-        above, _, last = full.rpartition("::")
-        names = [full, f"&{full}", *([f"{above}::{trait}::{last}"] if trait else ())]
-        first = {name: (self.items_of(name) or self.beside_of(name))[:1] for name in names}
-        return next((name for name in names if first[name] == [item]), self.place(item))
+        return [word]
 
     def near(self, name):
         """Names that look like one that nothing has, the likeliest first."""
-        parts = parts_of(name)
-        wanted, last = "::".join(parts).lower(), parts[-1].lower()
-        alike = {}
-        for item in (*self.paths, *self.outside.paths):
-            told = self.full_name(item) if item.kind == "foreign trait" else (
-                self.site.full_name(item) if len(parts) > 1 else item.name)
-            end = item.name.lower()
-            likeness = difflib.SequenceMatcher(None, last, end).ratio()
-            if likeness > 0.55 or last in end and len(last) > 2:
-                likeness += difflib.SequenceMatcher(None, wanted, told.lower()).ratio()
-                alike[told] = max(likeness, alike.get(told, 0))
-        return sorted(alike, key=lambda told: -alike[told])[:MOST_NEAR]
+        known = {item.name: item for item in (*self.outside.paths, *self.paths)}
+        return [self.full_name(known[end]) for end in
+                difflib.get_close_matches(parts_of(name)[-1], known, MOST_NEAR, 0.55)]

@@ -223,7 +223,7 @@ class Site:
                 foreign = Item("foreign", name, head, use.file, use.line, use.docs, owner=module)
                 module.members.append(foreign)
             else:
-                module.foreign.append(name)
+                module.foreign[name] = f"{path}::{there}".removesuffix("::")
 
     def path(self, module):
         """The names of a module and of those above it."""
@@ -311,10 +311,8 @@ class Site:
 
     def full_name(self, item):
         """An item's name behind that of its type or trait, a definition's behind its module."""
-        owner = item.owner
-        owner = owner.of if owner is not None and owner.kind == "impl" else owner
-        if owner is not None and owner.kind in WITH_A_PAGE:
-            return f"{owner.name}::{item.name}"
+        if item.of_whom is not None and item.of_whom.kind in WITH_A_PAGE:
+            return f"{item.of_whom.name}::{item.name}"
         return item.name or item.head.split("\n")[0]
 
     def said(self, item):

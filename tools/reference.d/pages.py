@@ -11,12 +11,12 @@ import markdown
 from jinja2 import Environment, FileSystemLoader, StrictUndefined
 from markupsafe import Markup
 
-import rust
-from advice import becomes
 from lookup import Names
 from meanings import WITH_A_PAGE, Scope
 from promise import TITLE, carriers
+from rows import CODE, OF_RUST, rows
 from samples import code_of
+from text import becomes
 
 TEMPLATES = pathlib.Path(__file__).resolve().parent / "pages"
 KEYWORDS = set("pub const fn struct enum trait type impl for where mut dyn final self Self as ref "
@@ -154,10 +154,10 @@ class Pages:
         """Notes the Rust crate's names at their counterparts, as the documents tell them. Gives
         those that have another name here, or none: each with its counterpart, if any, and what its
         row says."""
-        for row in rust.rows(self.site.top):
+        for row in rows(self.site.top, OF_RUST):
             ours = [item for code in row.names_here if (item := self.meant(code, "GenericArray"))]
             called = [item for item in ours if item.kind == "fn"] or ours
-            for code in rust.CODE.findall(row.theirs):
+            for code in CODE.findall(row.theirs):
                 same = self.meant(code, row.section.strip("`"), "GenericArray")
                 for item in [same] if same and not row.left_out else called:
                     item.rust.append(code)
@@ -167,7 +167,7 @@ class Pages:
 
     def told_of_rust(self):
         """The document that lists the Rust crate's names, without its links to files."""
-        text = (self.site.top / "docs" / rust.DOCUMENTS[0]).read_text("utf-8")
+        text = (self.site.top / "docs" / f"{OF_RUST[0]}.md").read_text("utf-8")
         return re.sub(r"\[([^\]]*)\]\([^)]*\)", r"\1", text)
 
     def drawing(self):

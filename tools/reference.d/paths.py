@@ -1,6 +1,4 @@
 """The paths by which readers name items and definitions."""
-import functools
-
 from meanings import WITH_A_PAGE, base_name
 from sources import Item, imports_of
 
@@ -17,10 +15,15 @@ def is_named(path, parts):
 class Index:
     """Items by the ends of the paths that lead to them."""
 
-    def __init__(self, paths):
-        self.paths, self.by_end = paths, {}
-        for item, ways in paths.items():
-            for path in ways:
+    def __init__(self):
+        self.paths, self.by_end = {}, {}
+
+    def add(self, item, *paths):
+        """Notes paths that lead to an item."""
+        known = self.paths.setdefault(item, [])
+        for path in ([part.strip("◌") for part in path] for path in paths):
+            if path not in known:
+                known.append(path)
                 self.by_end.setdefault(path[-1], {}).setdefault(item, []).append(path)
 
     def named(self, parts):
@@ -29,21 +32,17 @@ class Index:
                 if any(is_named(path, parts) for path in paths)]
 
 
-class Paths:
+class Paths(Index):
     """All that readers see: each item or definition with the paths that lead to it."""
 
     def __init__(self, site):
-        self.site, self.paths, self.aliases = site, {}, {}
+        super().__init__()
+        self.site = site
         self.add_items()
-        self.note_aliases()
-        for item in list(self.paths):
-            if item.kind in WITH_A_PAGE:
-                self.add_members(item)
+        self.add_members()
         self.add_foreign_traits()
-        for trait in site.hidden:
-            self.add(trait, self.path(trait))
-        for word in [word for words in site.words.values() for word in words]:
-            self.add(word, self.path(word))
+        for item in (*site.hidden, *(word for words in site.words.values() for word in words)):
+            self.add(item, self.path(item))
 
     def add_items(self):
         """Notes the public items, also by the modules that export them."""
@@ -55,31 +54,21 @@ class Paths:
                 if item := self.site.item_named(name, module):
                     self.add(item, [*self.site.path(module), name])
 
-    def add(self, item, *paths):
-        """Notes paths that lead to an item."""
-        known = self.paths.setdefault(item, [])
-        for path in paths:
-            plain = [part.strip("◌") for part in path]
-            known += [plain] if plain not in known else []
-
-    def note_aliases(self):
-        """Notes which types have a name of their own: a member of one is found by either name."""
-        for item in list(self.paths):
+    def add_members(self):
+        """Notes the members of types and traits, and those of their impls, also by each alias of a
+        type. One of a trait of others is found by that trait too."""
+        owners = {item: [item] for item in self.paths if item.kind in WITH_A_PAGE}
+        for item in self.paths:
             if item.kind == "type" and "=" in item.head:
                 of = self.site.item_named(base_name(item.head.partition("=")[2]), item)
-                if of and of.kind in WITH_A_PAGE:
-                    self.aliases.setdefault(of, []).append(item)
-
-    def add_members(self, item):
-        """Notes the members of a type or a trait, and those of its impls. One of a trait of others
-        is found by that trait too."""
-        owners = (item, *self.aliases.get(item, ()))
-        paths = [path for owner in owners for path in self.paths[owner]]
-        for owner in (item, *item.blocks):
-            foreign = [owner.of_trait] if owner.of_trait and not owner.trait else []
-            for member in self.site.public_members(owner):
-                if member.name:
-                    self.add(member, *([*path, *foreign, member.name] for path in paths))
+                owners.get(of, []).append(item)
+        for of, names in owners.items():
+            paths = [path for name in names for path in self.paths[name]]
+            for owner in (of, *of.blocks):
+                foreign = [owner.of_trait] if owner.of_trait and not owner.trait else []
+                for member in self.site.public_members(owner):
+                    if member.name:
+                        self.add(member, *([*path, *foreign, member.name] for path in paths))
 
     def add_foreign_traits(self):
         """Notes the traits of others that our types have, each with its impls as its blocks."""
@@ -92,9 +81,8 @@ class Paths:
                         for impl in blocks for use in impl.module.of_kind("use")]
             module, there = next((told for told in imported if told[0]), (name, ""))
             path = [*module.split("::"), *([there] if there else ())]
-            item = Item("foreign trait", name, f"trait {name}", blocks[0].file, blocks[0].line,
-                        module=blocks[0].module, path=path, blocks=blocks)
-            self.add(item, path)
+            self.add(Item("foreign trait", name, f"trait {name}", blocks[0].file, blocks[0].line,
+                          module=blocks[0].module, path=path, blocks=blocks), path)
 
     def path(self, item):
         """The path by which an item is told: from the public module that it is found in."""
@@ -105,10 +93,9 @@ class Paths:
             return self.site.path(item)
         if item.kind == "foreign trait":
             return item.path
-        owner = item.owner.of if item.owner.kind == "impl" else item.owner
-        home = item.home or item.module
-        outer = self.path(owner) if owner.kind in WITH_A_PAGE else self.site.path(home)
-        return [*outer, item.name]
+        if item.of_whom.kind in WITH_A_PAGE:
+            return [*self.path(item.of_whom), item.name]
+        return [*self.site.path(item.home or item.module), item.name]
 
     def full_name(self, item):
         """The path of an item as it is written in Rust, or of a definition as in an import."""
@@ -116,18 +103,11 @@ class Paths:
             return ".".join(self.path(item))
         return "::".join(self.path(item)) + "!" * (item.kind == "macro")
 
+    def is_own(self, item):
+        """Whether an item or a definition is of this repository."""
+        return bool(item.file) and item.file.is_relative_to(self.site.top)
+
     def place(self, item):
         """The file and the line of an item."""
-        if not item.file:
-            return "built in"
-        own = item.file.is_relative_to(self.site.top)
-        return f"{item.file.relative_to(self.site.top) if own else item.file}:{item.line}"
-
-    @functools.cached_property
-    def index(self):
-        """The items by the ends of their paths."""
-        return Index(self.paths)
-
-    def named(self, parts):
-        """The items to which a path leads that has these parts."""
-        return self.index.named(parts)
+        file = item.file.relative_to(self.site.top) if self.is_own(item) else item.file
+        return f"{file}:{item.line}" if file else "built in"

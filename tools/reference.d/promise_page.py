@@ -14,7 +14,7 @@ TOLD = (f"{TITLE} `tools/reference NAME` prints a function whole, with the words
 def lines_of(names):
     """The lines of the page: a heading for each sentence, and for each function that carries it its
     name and its contract."""
-    text, folder = Text(names, WIDEST, coloured=False), (names.site.top / PAGE).parent
+    text, folder = Text(names), (names.site.top / PAGE).parent
     yield from ("# The promise", "", *prose(TOLD, WIDEST))
     for sentence, items in carriers(names):
         yield from ("", f"## {sentence.rstrip('.')}")

@@ -6,10 +6,11 @@ import re
 
 from meanings import WITH_A_PAGE, base_name, declared, header
 from paths import OF_FILES
-from sources import Item
+from sources import Item, items_of
 
 # How a function is called that shows what happens where there is nothing.
 EMPTY = re.compile(r"no_|none|nothing")
+OF_SLICES = re.compile(r"(?m)^impl(?:<.*>)? \[(?:\w+|\[T; N\])\](?= |$)")
 
 
 def is_test(item):
@@ -42,6 +43,20 @@ def hidden(site):
     found = [item for item in site.items if item.name and not item.home]
     return [item for item in found if item.kind in ("fn", "const", "static", "type", *WITH_A_PAGE)
             and (item.owner.kind == "mod" or item.owner.kind == "impl" and item.owner.of)]
+
+
+def slice_methods(library):
+    """The methods of slices, as those of a type of std: our arrays and views are slices too."""
+    std = Item("mod", "std", "", None, 1)
+    slices = Item("struct", "slice", "", None, 1, owner=std, home=std)
+    for file, text in library.std:
+        if OF_SLICES.search(text):
+            module = Item("mod", file.stem, "", file, 1)
+            module.members = list(items_of(text, file, module))
+            for impl in module.of_kind("impl"):
+                impl.of = slices
+                if OF_SLICES.match(impl.head):
+                    yield from (member for member in impl.of_kind("fn") if member.public)
 
 
 class Samples:

@@ -50,6 +50,9 @@ DEFINED = re.compile(
     r"(?!--|use |mod |module )(?P<name>[^\s({]+)(?:(?:\n *| ?)[({].*?[)}])*(?:\n +| ):(?: .*|$)"
     r"(?:\n(?:(?P=indent)(?: .*|(?P=name)(?: .*|$))| *$))*))")
 
+# The crates of the toolchain that std is made of.
+STD = ("core", "std", "std_alloc", "std_heap", "std_io")
+
 Clause = collections.namedtuple("Clause", "keyword star name term")
 
 
@@ -68,7 +71,7 @@ class Item:
         self.trait, self.of_trait, self.of = None, "", None
         self.begin, self.end, self.attributes, self.folder = 0, 0, "", "specs"
         self.clauses, self.members, self.users, self.rust = [], [], [], []
-        self.blocks, self.exported, self.foreign = [], [], []
+        self.blocks, self.exported, self.foreign = [], [], {}
         self.context, self.imports = [], {}
         self.__dict__.update(more)
         if kind == "ghost":
@@ -78,6 +81,12 @@ class Item:
     def of_kind(self, *kinds):
         """The members of these kinds."""
         return [member for member in self.members if member.kind in kinds]
+
+    @property
+    def of_whom(self):
+        """The type or the trait that it is a member of, or else the module."""
+        is_in_impl = self.owner is not None and self.owner.kind == "impl"
+        return self.owner.of if is_in_impl else self.owner
 
     def derived(self):
         """The names of the traits that the compiler writes for it."""
@@ -217,11 +226,7 @@ class Library:
     @functools.cached_property
     def std(self):
         """The files of std, each with its text."""
-        return self.files_of("core", "std", "std_alloc", "std_heap", "std_io")
-
-    def files_of(self, *crates):
-        """The files of crates of the toolchain, each with its text."""
-        files = [file for name in (crates if self.kit else ())
+        files = [file for name in (STD if self.kit else ())
                  for file in sorted((self.kit / name / "src").rglob("*.rt"))]
         return [(file, file.read_text("utf-8")) for file in files]
 

@@ -1,14 +1,13 @@
-"""Lays out what is shown of items in a terminal, in colour or plain."""
+"""Lays out parts of what is shown of items, as lines of text."""
 import re
 
-import advice
-from layout import columns, indented, laid_out, prose, signature
+from layout import columns, indented, laid_out, one_line, prose, signature
+from meanings import Scope, header
+from sources import imports_of
 
 WIDEST, NARROWEST = 100, 40
-# How a terminal shows names, words, keywords and what is less important.
-BOLD, WORD, KEYWORD, FAINT = "1", "36", "35", "2"
-KEYWORDS = re.compile(
-    r"\b(?:pub|const|fn|struct|enum|trait|type|impl|for|where|mut|dyn|ghost|requires|ensures)\b")
+# The crates by which a crate above the library imports a word, the highest first.
+READERS = ("generic_array", "ga_core")
 
 
 def first_sentence(item):
@@ -25,49 +24,72 @@ def use_line(kind, module, names):
     return f"{kind} {module}{mark}{braced};" if names else f"{kind} {module};"
 
 
+def spelled(names, item):
+    """An item's head, in which a name that an item of ours and one of std have is its whole path."""
+    head = item.head
+    for name in names.twice - {item.name} if names.is_own(item) else ():
+        ours = names.site.item_named(name, item)
+        path = names.full_name(ours) if ours else item.module.foreign.get(name, name)
+        head = re.sub(rf"(?<![\w:]){name}\b", path, head)
+    return head
+
+
+def becomes(names, item):
+    """The calls that a macro's forms become, of those that say something."""
+    made = dict.fromkeys(item.made if item.kind == "macro" else ())
+    return [call for owner, name in made for call in names.named([owner, name]) if call.clauses]
+
+
+def kinds(site, item):
+    """What the conditions of a trait's call are at each kind: the ghost members of an impl that they
+    name, and the heads of all impls where these read so."""
+    found, named = {}, {}
+    if item.owner is not None and item.owner.kind == "trait":
+        for clause in [it for it in item.clauses if it.keyword == "requires"]:
+            for _, thing in Scope(site, item).pieces(clause.term):
+                if thing and thing.kind == "ghost" and thing.owner.home:
+                    named.setdefault(thing.owner, set()).add(thing.name)
+    for trait, names in named.items():
+        for impl in [impl for impl in site.impls if impl.trait is trait]:
+            ghosts = [ghost for ghost in impl.of_kind("ghost") if ghost.name in names]
+            if ghosts:
+                key = " ".join(ghost.head for ghost in ghosts)
+                found.setdefault(key, (ghosts, []))[1].append(one_line(header(impl)))
+    return list(found.values())
+
+
 class Text:
     """Parts of a page as lines of text. Each ends with an empty line, or is none."""
 
-    def __init__(self, names, width, coloured):
-        self.names, self.site, self.coloured = names, names.site, coloured
+    def __init__(self, names, width=WIDEST):
+        self.names, self.site = names, names.site
         self.width = max(NARROWEST, min(width, WIDEST))
-
-    def paint(self, text, how):
-        """Text as a terminal shows it."""
-        return f"\033[{how}m{text}\033[0m" if self.coloured and text.strip() else text
-
-    def painted(self, lines, words=()):
-        """Lines of code in which keywords and words stand out."""
-        named = "|".join(map(re.escape, words)) or r"(?!)"
-        signs = re.compile(rf"(?P<word>(?<![\w.])(?:{named})(?!\w))|{KEYWORDS.pattern}")
-        return [signs.sub(lambda at: self.paint(at[0], WORD if at["word"] else KEYWORD), line)
-                for line in lines]
 
     def part(self, lines, title=""):
         """Lines below a heading, or none."""
-        if not lines:
-            return []
-        return [*([self.paint(title, BOLD)] if title else ()), *indented(lines), ""]
+        return [*([title] if title else ()), *indented(lines), ""] if lines else []
 
     def said(self, text, title=""):
         """Docs or a sentence below a heading, or none."""
         return self.part(prose(text, self.width - 4), title)
 
+    def laid(self, lines, title=""):
+        """Lines of code below a heading, or none."""
+        return self.part([it for line in lines for it in laid_out(line, self.width - 4)], title)
+
     def title(self, item, place=None):
         """The name of an item and its place."""
         name, place = self.names.full_name(item), place or self.names.place(item)
         room = self.width - len(name) - len(place)
-        place = self.paint(place, FAINT)
-        name = self.paint(name, BOLD)
         return [f"{name}{' ' * room}{place}", ""] if room > 1 else [name, place, ""]
 
-    def code(self, text, words=()):
+    def code(self, text):
         """A signature, a declaration or a definition, and nothing for none."""
-        return [*self.painted(laid_out(text, self.width), words), ""] if text else []
+        return [*laid_out(text, self.width), ""] if text else []
 
-    def head(self, item, words=()):
-        """An item's head, in which a name that two items have is its whole path."""
-        return self.code(advice.spelled(self.names, item, item.head), words)
+    def head(self, item):
+        """An item's head."""
+        return self.code(spelled(self.names, item))
 
     def docs(self, item):
         """The docs of an item, or else its notes."""
@@ -75,16 +97,11 @@ class Text:
 
     def listed(self, title, pairs):
         """A list: names, and what is said of each."""
-        lines = columns(pairs, self.width - 4)
-        return self.part([self.paint(name, WORD) + said for name, said in lines], title)
+        return self.part([*columns(pairs, self.width - 4)], title)
 
     def signatures(self, title, items):
         """A list of functions, a line each."""
-        room = self.width - 4
-        whole = [signature(advice.spelled(self.names, item, item.head), room) for item in items]
-        lines = [signature(item.head, room) if line.endswith(" ..") else line
-                 for item, line in zip(items, whole)]
-        return self.part(self.painted(lines), title)
+        return self.part([signature(it.head, self.width - 4) for it in items], title)
 
     def written(self, clauses):
         """The lines of clauses."""
@@ -95,10 +112,6 @@ class Text:
             lines += laid_out(f"{begin} {{ {term} }}", self.width - 4)
         return lines
 
-    def clauses(self, clauses, words, title=""):
-        """Clauses as they are written."""
-        return self.part(self.painted(self.written(clauses), words), title)
-
     def cited(self, items):
         """What the clauses of items name: our definitions and ghost members, each with its name
         there, and the words of others."""
@@ -106,46 +119,56 @@ class Text:
         for _, atom, thing in self.site.named(items):
             if thing in items or thing.kind not in ("word", "ghost"):
                 continue
-            own = thing.file and thing.file.is_relative_to(self.site.top)
-            if own:
+            if self.names.is_own(thing):
                 ours.setdefault(thing, atom.rstrip("."))
             elif thing.kind == "word" and re.match(r"[A-Za-z]\w*$", atom.rstrip(".")):
                 others.setdefault(thing, atom.rstrip("."))
         return ours, others
 
-    def words(self, cited):
-        """The list of what is cited: ours, and of other libraries' what has a line."""
-        ours, others = cited
+    def words(self, items):
+        """The list of what the clauses of items name: ours, and of others' what has a line."""
+        ours, others = self.cited(items)
+        told = {name: self.site.said(thing) for thing, name in others.items()}
+        told = {name: said for name, said in told.items() if said and name not in ours.values()}
         pairs = [(name, self.site.line(thing)) for thing, name in ours.items()]
-        known = {name for name, _ in pairs}
-        pairs += [(name, self.site.said(thing)) for thing, name in others.items()
-                  if name not in known and self.site.said(thing)]
-        return self.listed("Words", pairs)
+        return self.listed("Words", [*pairs, *told.items()])
 
     def conditions(self, item):
         """What the conditions of a trait's call are at each kind."""
         lines = []
-        for heads, ghosts in advice.kinds(self.site, item):
+        for ghosts, heads in kinds(self.site, item):
             lines += [line for head in heads for line in laid_out(head, self.width - 4)]
-            written = [line for ghost in ghosts for line in laid_out(ghost.head, self.width - 8)]
-            lines += indented(self.painted(written))
+            lines += indented(it for ghost in ghosts for it in laid_out(ghost.head, self.width - 8))
         return self.part(lines, "Here")
 
-    def imports(self, items):
-        """The lines by which a crate imports what the clauses of items name."""
-        lines, below = advice.imports(self.site, items)
-        written = [line for told in lines
-                   for line in laid_out(use_line("ghost use", *told), self.width - 4)]
-        lower = {self.site.path(item.module)[0] for item in items if item.module} & {*below}
-        over = [f"A crate over `{name}` alone: from `Rattle.{name}.specs`."
-                for name in sorted(lower)]
-        return self.part([*self.painted(written), *over], "Imports")
+    def modules_of(self, word):
+        """The modules by which crates import a word of ours: those of the crates above it that pass
+        it on, the highest first, and its own crate's."""
+        crate, _, rest = word.module.removeprefix("Rattle.").partition(".")
+        paths = [f"Rattle.{reader}.{word.folder}.{rest}" for reader in (*READERS, crate)]
+        return [path for path in dict.fromkeys(paths)
+                if self.names.is_own(word) and self.site.library.module_file(path) == word.file]
 
-    def beside(self, item):
-        """A caller of an item, which clauses to use, and what tells how its result prints."""
+    def imports(self, items):
+        """The lines by which a crate above the library imports what the clauses of items name, and
+        the lower library from which all that is ours can be imported too."""
+        lines, crates = {}, []
+        for item in items:
+            scope = Scope(self.site, item)
+            for atom, word in [piece for clause in item.clauses for piece in scope.pieces(clause.term)]:
+                module, there = scope.imports.get(atom.rstrip("."), ("", ""))
+                if module and word and word.kind == "word":
+                    paths = self.modules_of(word)
+                    module = paths[0] if paths else module.replace("Rattle.core.", "Rattle.std.")
+                    lines.setdefault(module, set()).add(there)
+                    crates += [{path.split(".")[1] for path in paths[1:]}] if paths else []
+        lower = [{self.site.path(item.module)[0] for item in items if item.module}, *crates]
+        lower = sorted(set.intersection(*lower)) if crates else ()
+        return self.laid([*(use_line("ghost use", *told) for told in sorted(lines.items())),
+                          *(f"A crate over `{name}` alone: from `Rattle.{name}.specs`."
+                            for name in lower)], "Imports")
+
+    def caller(self, item):
+        """A caller of an item, in the examples."""
         caller = self.names.callers.of(item)
-        told, printed = advice.advice(item), advice.printed(self.site, item)
-        lines = [f"A caller: `{self.names.full_name(caller)}`."] if caller else []
-        lines += [f"Of the clauses, {told}"] if told else []
-        lines += [f"What the result prints, `{printed}` says."] if printed else []
-        return self.part([line for each in lines for line in prose(each, self.width - 4)])
+        return self.said(f"A caller: `{self.names.full_name(caller)}`." if caller else "")

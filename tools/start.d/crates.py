@@ -6,18 +6,11 @@ import re
 import subprocess
 
 TOP = pathlib.Path(__file__).resolve().parent.parent.parent
+# The texts of the first crates, by what each stands on.
+FIRST = pathlib.Path(__file__).with_name("first.rattle").read_text("utf-8").split("=== ")[1:]
+FIRST = dict(it.split("\n", 1) for it in FIRST)
 # What a first crate may be started on, and the line of such a crate.
-ON = {
-    "ga_views": "ga_views",
-    "ga_core": "ga_core",
-    "generic_array": "generic_array ga_core ga_boxed",
-    "ga_records": "ga_records generic_array",
-    "ga_hashes": "ga_hashes ga_core",
-    "ga_ciphers": "ga_ciphers generic_array",
-    "ga_uses": "ga_uses generic_array",
-}
-# The crate of tests that comes with a library where it is asked for: it needs all three.
-TESTS = dict.fromkeys(("ga_hashes", "ga_ciphers", "ga_uses"), "ga_uses_tests")
+ON = {line.split()[0]: line for line in FIRST}
 # What of a crate `rt` reads. Its wrong bodies and documents stay in this checkout.
 PARTS = ("src", "specs", "proofs")
 LIST, RECORD, LICENSE = "crates.txt", "laid.json", "LICENSE"
@@ -68,14 +61,6 @@ def line_of(name, on):
     return f"{name}: {' '.join(dict.fromkeys(word for it in on for word in ON[it].split()))}"
 
 
-def tests_of(on):
-    """The crates of tests of these libraries. Stops where there are none."""
-    found = [TESTS[it] for it in on if it in TESTS]
-    if not found:
-        raise Unfit(f"no crate of tests comes with {', '.join(on)}, but with {', '.join(TESTS)}")
-    return found
-
-
 def texts_of(names):
     """What is copied of these crates: each file's bytes by its path."""
     found = {}
@@ -90,35 +75,37 @@ def sums_of(texts):
     return {path: hashlib.sha256(text).hexdigest() for path, text in texts.items()}
 
 
+def write(folder, texts):
+    """Writes files by their paths."""
+    for path, text in texts.items():
+        (folder / path).parent.mkdir(parents=True, exist_ok=True)
+        (folder / path).write_bytes(text)
+
+
 def crate_of(path):
     """The crate that a copied file belongs to."""
     return path.split("/")[1]
 
 
-def commit():
-    """What this checkout is, with a sign where it has changes."""
-    command = ["git", "describe", "--always", "--dirty", "--exclude=*"]
-    try:
-        done = subprocess.run(command, cwd=TOP, capture_output=True, text=True)
-        return done.stdout.strip() or "unknown"
-    except OSError:
-        return "unknown"
-
-
 def read_record(top):
     """What was copied into a repository: of which commit, and the files' sums."""
     path = top / RECORD
-    if not path.is_file():
-        return {"commit": "", "files": {}}
     try:
         record = json.loads(path.read_text("utf-8"))
         return {it: record[it] for it in ("commit", "files")}
+    except FileNotFoundError:
+        return {"commit": "", "files": {}}
     except (ValueError, TypeError, KeyError):
         raise Unfit(f"{path} isn't as tools/start wrote it") from None
 
 
 def write_record(top, files):
-    """Writes what is copied now. Returns of which commit it is."""
-    record = {"about": ABOUT, "commit": commit(), "files": files}
+    """Writes what is copied now. Returns of which commit it is, with a sign for changes since."""
+    command = ["git", "describe", "--always", "--dirty", "--exclude=*"]
+    try:
+        done = subprocess.run(command, cwd=TOP, capture_output=True, text=True).stdout.strip()
+    except OSError:
+        done = ""
+    record = {"about": ABOUT, "commit": done or "unknown", "files": files}
     (top / RECORD).write_text(json.dumps(record, indent=1, sort_keys=True) + "\n", "utf-8")
     return record["commit"]

@@ -1,16 +1,37 @@
 """Makes a crate in a repository, with the crates that it needs."""
 import os
-import pathlib
 import re
 import subprocess
 import tempfile
+import textwrap
 
 from crates import (
-    LIST, OURS, TOP, Unfit, crate_of, line_of, listed, read_record, sums_of, texts_of, write_record,
+    FIRST, LIST, ON, OURS, TOP, Unfit, crate_of, line_of, listed, read_record, sums_of, texts_of,
+    write, write_record,
 )
 
-FIRST = pathlib.Path(__file__).resolve().parent
-HANDLES = "Handles allowed: none.\n"
+# The root of a first crate, and its parts.
+ROOT = """{}#![tactic(auto)]
+
+{}
+{}
+{}
+#[cfg(test)]
+mod tests {{
+    use super::*;
+{}
+{}    #[test]
+{}}}
+"""
+PARTS = re.compile(r"((?://!.*\n)+)((?:ghost use .*\n)+)((?:use .*\n)+)([^\0]+)---\n"
+                   r"((?:use .*\n)+)((?://[^\0]+\n\n)?)(fn [^\0]+\n)")
+
+
+def root_of(library):
+    """The root of a first crate over a library."""
+    *parts, uses, values, test = PARTS.fullmatch(FIRST[ON[library]]).groups()
+    tests = [textwrap.indent(it, "    ") for it in (uses, values, test)]
+    return ROOT.format(*parts, *tests).encode()
 
 
 def check_name(name):
@@ -59,20 +80,11 @@ def new_crates(folder, names, files):
     return [it for it in names if it not in there]
 
 
-def put(folder, texts):
-    """Writes files that aren't there."""
-    for path, text in texts.items():
-        (folder / path).parent.mkdir(parents=True, exist_ok=True)
-        with open(folder / path, "xb") as file:
-            file.write(text)
-
-
 def add_lines(path, lines):
     """Adds lines to the end of a file, or makes it."""
     text = path.read_text("utf-8") if path.exists() else ""
     gap = "\n" if text and not text.endswith("\n") else ""
-    with open(path, "a", encoding="utf-8") as file:
-        file.write(gap + "".join(f"{it}\n" for it in lines))
+    path.write_text(text + gap + "".join(f"{it}\n" for it in lines), "utf-8")
 
 
 def start(folder, name, on, names):
@@ -81,17 +93,15 @@ def start(folder, name, on, names):
     check_folder(folder)
     if is_taken(folder, name):
         raise Unfit(f"{folder}/crates/{name} is there already")
-    files = read_record(folder)["files"]
+    files, mine = read_record(folder)["files"], f"crates/{name}"
     new = new_crates(folder, names, files)
     texts = texts_of(new)
-    first = {"src/lib.rt": (FIRST / f"{on[0]}.rattle").read_bytes(), "specs/Lib.antt": b""}
-    put(folder, texts | {f"crates/{name}/{path}": text for path, text in first.items()})
+    write(folder, texts | {f"{mine}/src/lib.rt": root_of(on[0]), f"{mine}/specs/Lib.antt": b""})
     add_lines(folder / LIST, [*(OURS[it] for it in new), line_of(name, on)])
     write_record(folder, files | sums_of(texts))
     if not os.path.lexists(folder / "HANDLES"):
-        put(folder, {"HANDLES": HANDLES.encode()})
+        write(folder, {"HANDLES": b"Handles allowed: none.\n"})
     ignored = folder / ".gitignore"
     if not ignored.exists() or "out/" not in ignored.read_text("utf-8").split():
         add_lines(ignored, ["out/"])
-    copied = f"copied {', '.join(new)}" if new else "copied nothing, since all is there"
-    return f"{folder}: made crates/{name}, {copied}"
+    return f"{folder}: made {mine}, copied {', '.join(new) or 'nothing, since all is there'}"

@@ -8,7 +8,7 @@ from crates import TOP, libraries_of
 # Seconds of one core that a proof of each crate takes.
 SECONDS = {
     "ga_views": 80, "ga_core": 200, "ga_boxed": 80, "generic_array": 180, "ga_records": 20,
-    "ga_hashes": 60, "ga_ciphers": 80, "ga_uses": 190, "ga_uses_tests": 10,
+    "ga_hashes": 60, "ga_ciphers": 80, "ga_uses": 190,
 }
 
 

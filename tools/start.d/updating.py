@@ -3,7 +3,7 @@ import collections
 
 from crates import (
     LIST, OURS, Unfit, crate_of, listed, needed, plain, read_record, rows_of, sums_of, texts_of,
-    write_record,
+    write, write_record,
 )
 from taking import take_along
 
@@ -18,12 +18,8 @@ def step(was, now, will):
     return "new" if now is None else "removed" if will is None else "changed"
 
 
-def write(folder, path, text):
-    """Writes a file, or removes it and the folders that it leaves empty."""
-    if text is not None:
-        (folder / path).parent.mkdir(parents=True, exist_ok=True)
-        (folder / path).write_bytes(text)
-        return
+def remove(folder, path):
+    """Removes a file, and the folders that it leaves empty."""
     (folder / path).unlink()
     for above in list((folder / path).parents):
         if above == folder / "crates" or any(above.iterdir()):
@@ -38,8 +34,10 @@ def update_files(folder, sums, texts):
         there = folder / path
         now = sums_of({path: there.read_bytes()})[path] if there.is_file() else None
         became[path] = step(sums.get(path), now, wills.get(path))
-        if became[path] in ("new", "changed", "removed"):
-            write(folder, path, texts.get(path))
+        if became[path] in ("new", "changed"):
+            write(folder, {path: texts[path]})
+        elif became[path] == "removed":
+            remove(folder, path)
     return became
 
 

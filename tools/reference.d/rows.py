@@ -1,0 +1,158 @@
+"""Reads what the documents tell: the rows of their tables and lists.
+
+Of the Rust crate's names a row has these in front, then what stands here, then what else is told.
+Where a table's cell for what stands here is empty, it is the same name. Of what to write where a
+check says no, a row has the message in front.
+"""
+import functools
+import re
+
+# The documents of the Rust crate's names, of names of clauses, and of messages.
+OF_RUST, OF_CLAUSES, OF_MESSAGES = ("DIFFERENCES", "CALLING"), ("DEFINITIONS",), ("STUCK", "CALLING")
+LEFT_OUT, OWN = "left out", "Own items"
+CODE = re.compile(r"`([^`]+)`")
+# What parts a line's cells, and its names from what is said of them: none of it stands in code.
+IN_CODE = r"(?=(?:[^`]*`[^`]*`)*[^`]*$)"
+BAR, COLON = re.compile(r" ?(?<!\\)\|" + IN_CODE), re.compile(": " + IN_CODE)
+FENCED = re.compile(r"(?ms)^ *```.*?^ *```$")
+BLOCK = re.compile(r"(?m)(?:^.*\S.*\n?)+")
+RULE = re.compile(r"[-:| ]*---[-:| ]*$")
+# By which trait text prints a value, told by what stands in the braces.
+FORMATS = {"x": "LowerHex", "X": "UpperHex", "?": "Debug", "": "Display"}
+FORMAT = re.compile(r"\{\w*(?::[^{}]*?)?([xX?]?)\}")
+# What of a message differs from one code to another: the place in front, and names.
+DIFFERS = re.compile(r"^(?:(?:note|error(?:\[[\w-]+\])?|\S+:\d+:\d+): *)+|`[^`]*`|\w+(?=-requires)")
+WORD = re.compile(r"[^\W_]\w*")
+
+
+class Row:
+    """A row: its document and line, the heading above it, the module or type that it is of, and its
+    cells behind their columns' titles; of these the Rust crate's names, ours, and what else is
+    told."""
+
+    def __init__(self, place, heading, section, titles, cells):
+        self.place, self.heading, self.section = place, heading, section
+        self.cells = list(zip(titles, [*cells, *[""] * len(titles)]))
+        self.theirs, self.ours, *told = [cell for _, cell in self.cells]
+        self.told = [text for text in told if text]
+        self.text = plain(" ".join(cells))
+        self.names = [parts for code in CODE.findall(self.theirs) for parts in names_in(code)]
+        self.names += [[name] for name in self.theirs.split(", ") if re.fullmatch(r"\w+", name)]
+
+    @property
+    def left_out(self):
+        """Whether nothing stands here."""
+        return self.ours.startswith(LEFT_OUT)
+
+    @property
+    def is_title(self):
+        """Whether the row only begins a module."""
+        begins = bool(self.section) and self.section == self.theirs
+        return begins and not self.ours and not self.told
+
+    @functools.cached_property
+    def ends_told(self):
+        """The ends of the names that are told as code."""
+        codes = CODE.findall(" ".join([self.ours, *self.told]))
+        return {name[-1] for code in codes for name in names_in(code)}
+
+    def mentions(self, parts):
+        """Whether what is told has code that ends in a name."""
+        return parts[-1] in self.ends_told
+
+    def stands_for(self, parts):
+        """Whether what stands here has this name in front."""
+        first = CODE.match(self.ours)
+        return bool(first) and any(name[-1] == parts[-1] for name in names_in(first[1]))
+
+    @property
+    def names_here(self):
+        """The names of what stands here, as code."""
+        return [] if self.left_out else CODE.findall(self.ours or self.theirs)
+
+    def fit(self, parts):
+        """How well the row fits a name's parts: 0 where it doesn't, least where one of its names
+        has the last in front, and more for each other that it tells."""
+        last = parts[-1]
+        ends = any(name[-1] == last for name in self.names)
+        best = 2 * ends or last[:1].isupper() and any(last in name for name in self.names)
+        return best and best + self.around(parts)
+
+    def around(self, parts):
+        """How many parts of a name but the last stand in front of the row, or where it stands."""
+        return sum(part in f"{self.section} {self.theirs}" for part in parts[:-1])
+
+
+def plain(text):
+    """Text in small letters, without backquotes and line breaks."""
+    return " ".join(text.replace("`", "").replace("<br>", " ").casefold().split())
+
+
+def names_in(code):
+    """The names that a piece of code is looked up by, each as its parts, without arguments and type
+    parameters: of a chain of calls the last one's, and of a format its trait's."""
+    yield from ([FORMATS[sign[1]]] for sign in FORMAT.finditer(code))
+    code = code.replace("::<", "<").replace("->", "")
+    for bracket in (r"\([^()]*\)", r"\[[^\[\]]*\]", r"<[^<>]*>"):
+        while (less := re.sub(bracket, "", code)) != code:
+            code = less
+    code = code.removeprefix("&").removeprefix("mut ").strip(":. !?;")
+    if re.fullmatch(r"\w+(?:(?:::|\.)\w+)*", code):
+        yield re.split(r"::|\.", code)
+
+
+def rows_of(place, text):
+    """The rows of a document: of its tables, where one whose first cell is bold begins a module,
+    and of its lists what is told of the names that begin a line, behind a colon. What it lists of
+    our own items are none, and code that is set apart is none."""
+    heading, text = "", FENCED.sub(lambda code: "\n" * code[0].count("\n"), text)
+    for block in BLOCK.finditer(text):
+        line, lines = text.count("\n", 0, block.start()) + 1, block[0].rstrip("\n").split("\n")
+        if lines[0].startswith("#"):
+            heading = lines[0].strip("# ")
+        elif len(lines) > 1 and RULE.match(lines[1]):
+            titles, section = [title.strip() for title in BAR.split(lines[0])], ""
+            for number, row in enumerate(lines[2:], line + 2):
+                first, *cells = [cell.strip().replace(r"\|", "|") for cell in BAR.split(row)]
+                section = first.strip("*") if first.startswith("**") else section
+                yield Row(f"{place}:{number}", heading, section, titles, [first.strip("*"), *cells])
+        elif lines[0].startswith("- ") and heading != OWN:
+            for bullet in re.split(r"\n(?=- )", "\n".join(lines)):
+                theirs, *said = COLON.split(" ".join(bullet[2:].split()), maxsplit=1)
+                if said and theirs.startswith("`"):
+                    yield Row(f"{place}:{line}", heading, "", ("", ""), [theirs, said[0]])
+                line += bullet.count("\n") + 1
+
+
+def rows(top, documents):
+    """The rows of the documents that are there."""
+    files = [top / "docs" / f"{name}.md" for name in documents]
+    return [row for file in files if file.exists()
+            for row in rows_of(file.relative_to(top), file.read_text("utf-8"))]
+
+
+def stands_in(phrase, text):
+    """Whether a phrase stands in a text, and isn't a part of longer words."""
+    begin = r"(?<!\w)" if re.match(r"\w", phrase) else ""
+    end = r"(?![\w-])" if re.search(r"\w$", phrase) else ""
+    return bool(re.search(begin + re.escape(phrase) + end, text))
+
+
+def having(rows, text):
+    """The rows in which a text stands, or else all its words, in any order; or else these without
+    what differs from one code to another."""
+    for asked in (plain(text), plain(DIFFERS.sub(" ", text))):
+        phrase, words = asked.strip(" .,:;"), set(WORD.findall(asked))
+        found = [row for row in rows if phrase and stands_in(phrase, row.text)]
+        found = found or [row for row in rows if len(words) > 1
+                          and words <= set(WORD.findall(row.text))]
+        if found:
+            return found
+    return []
+
+
+def naming(rows, name):
+    """The rows that have a name in code, first those that begin with such code."""
+    found = {row: [any(stands_in(name, code) for code in CODE.findall(cell))
+                   for _, cell in row.cells] for row in rows}
+    return sorted((row for row in rows if any(found[row])), key=lambda row: not found[row][0])
