@@ -48,6 +48,4 @@ fn records_are_read_from_whole_rows(rt: HostRuntime) {
         [first, second] if first.id == 258 && first.value == 5 && second.value == 1 << 24
     ))
     );
-    let none = read_records(rt.alloc(), &[1, 2, 3]);
-    assert!(rt; none.is_ok_and(|records| records.is_empty()));
 }
