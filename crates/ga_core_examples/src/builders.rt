@@ -4,7 +4,7 @@ ghost use Rattle.ga_core.specs.Length.{FitsInline};
 ghost use Rattle.std.specs.List.{swap, swap_remove};
 ghost use Rattle.std.specs.Prelude.{◌≡◌, ◌+◌, ◌-◌, ◌<◌, ◌≤◌, ◌++◌, ◌∷◌, ◌==◌, IsOk, Some, drop, filter, length, not, slice_get, slice_set, take};
 
-use ga_core::{AllocError, ArrayBuilder, ArrayLength, GenericArray, U4};
+use ga_core::{AllocError, ArrayBuilder, ArrayLength, GenericArray};
 use std::mem;
 
 fn joined<T: Copy + Default + Drop, N: ArrayLength<T>>(

@@ -1,2 +1,1 @@
-pub mod BehindErrorLemmas
 pub mod CountedLemmas

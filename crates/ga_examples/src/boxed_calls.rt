@@ -1,9 +1,8 @@
 //! Boxed arrays that are borrowed, mapped, zipped and folded, of any length.
 ghost use Rattle.ga_core_examples.specs.Digits.{digit_of};
 ghost use Rattle.generic_array.specs.Tries.{try_map};
-ghost use Rattle.std.specs.Int.Bits.{bit_xor};
 ghost use Rattle.std.specs.List.{zip};
-ghost use Rattle.std.specs.Prelude.{◌≡◌, ◌+◌, ◌∷◌, [], ◌⊎◌, IfOk, fold, if◌then◌else◌, map, nat_lt};
+ghost use Rattle.std.specs.Prelude.{◌≡◌, ◌+◌, ◌∷◌, [], ◌⊎◌, IfOk, if◌then◌else◌, map, nat_lt};
 
 use ga_core_examples::digits::digit_in;
 use generic_array::{AllocError, BoxedArray, U3, Unsigned};
@@ -85,10 +84,4 @@ fn calls_up_to_an_error(array: &BoxedArray<u32, U3>) -> u32
         Ok(_tried) => calls,
         Err(_refused) => calls,
     }
-}
-
-fn xor_of<N: Unsigned>(row: &BoxedArray<u8, N>) -> u8
-    ensures { result ≡ fold (λ all byte. bit_xor all byte) 0 row.now }
-{
-    row.view().fold(0, |all: u8, byte: &u8| all ^ *byte)
 }

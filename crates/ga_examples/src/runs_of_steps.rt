@@ -1,6 +1,6 @@
 //! Callers of runs of steps, each proved: known steps over any iterator with two ends.
-ghost use Rattle.generic_array.specs.declared.steps.step.Reply.TheVariants.{Item, Old, Outside, Seen};
-ghost use Rattle.std.specs.Prelude.{◌≡◌, ◌^◌, ◌<◌, [], ◌∷◌, ◌++◌, IfOk, IsOk, None, OnOk, Some, length, sum};
+ghost use Rattle.generic_array.specs.declared.steps.step.Reply.TheVariants.{Item, Old, Outside};
+ghost use Rattle.std.specs.Prelude.{◌≡◌, ◌^◌, ◌<◌, [], ◌∷◌, ◌++◌, IfOk, OnOk, Some, length, sum};
 
 mod any_steps;
 
@@ -44,28 +44,6 @@ fn taken_and_replaced<I: TwoEnded<u32>>(
     run_steps(numbers, steps, &mut total, replies)
 }
 
-/// Items taken from both ends of five, past the last of them too, and the sum of what is left.
-fn taken_and_looked_at<I: TwoEnded<u32>>(
-    alloc: Global,
-    numbers: &mut I,
-    replies: &mut Vec<Reply<u32, u32>>,
-) -> Result<(), AllocError>
-    requires five { I.items numbers.old ≡ 1 ∷ 2 ∷ 3 ∷ 4 ∷ 5 ∷ [] }
-    ensures replies { OnOk result (replies.new.items
-        ≡ replies.old.items
-        ++ Item (Some 2) ∷ Seen 12 ∷ Item None ∷ Item None ∷ Seen 0 ∷ []) }
-    ensures left { OnOk result (I.items numbers.new ≡ []) }
-{
-    let steps = vec![in alloc;
-        Step::Nth(1),
-        Step::Look,
-        Step::NthBack(5),
-        Step::Next,
-        Step::Look,
-    ]?;
-    run_steps(numbers, steps, &mut total, replies)
-}
-
 /// How often a closure that counts its calls was called.
 fn looks_counted<I: TwoEnded<u32>>(
     alloc: Global,
@@ -73,9 +51,6 @@ fn looks_counted<I: TwoEnded<u32>>(
     replies: &mut Vec<Reply<u32, usize>>,
 ) -> Result<usize, AllocError>
     requires three { I.items numbers.old ≡ 1 ∷ 2 ∷ 3 ∷ [] }
-    ensures replies { OnOk result (replies.new.items
-        ≡ replies.old.items ++ Seen 3 ∷ Item (Some 1) ∷ Seen 2 ∷ []) }
-    ensures left { OnOk result (I.items numbers.new ≡ 2 ∷ 3 ∷ []) }
     ensures looks { IfOk result (λ looks. looks ≡ 2) }
 {
     let steps = vec![in alloc; Step::Look, Step::Next, Step::Look]?;
@@ -90,20 +65,6 @@ fn looks_counted<I: TwoEnded<u32>>(
         replies,
     )?;
     Ok(looks)
-}
-
-/// No steps, which never fail, over any numbers.
-fn no_steps<I: TwoEnded<u32>>(
-    alloc: Global,
-    numbers: &mut I,
-    replies: &mut Vec<Reply<u32, u32>>,
-) -> Result<(), AllocError>
-    ensures ok { IsOk result }
-    ensures replies { replies.new.items ≡ replies.old.items }
-    ensures left { I.items numbers.new ≡ I.items numbers.old }
-{
-    let steps = Vec::new(alloc);
-    run_steps(numbers, steps, &mut total, replies)
 }
 
 /// Whether these are the replies of an item taken again.
