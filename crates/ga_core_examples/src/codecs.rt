@@ -25,14 +25,6 @@ fn mask_loop<N: ArrayLength<u8>>(text: &mut GenericArray<u8, N>, mask: u8)
     }
 }
 
-fn masked_twice<N: ArrayLength<u8>>(packet: GenericArray<u8, N>, mask: u8) -> GenericArray<u8, N>
-    ensures { result ≡ packet }
-{
-    packet
-        .map_inline(|byte: u8| byte ^ mask)
-        .map_inline(|byte: u8| byte ^ mask)
-}
-
 fn padded<N: ArrayLength<u8> + InlineLength>(message: &[u8]) -> GenericArray<u8, N>
     requires room { length message.now < N.USIZE }
     ensures { result ≡ message.now ++ 128 ∷ replicate (N.USIZE - length message.now - 1) 0 }

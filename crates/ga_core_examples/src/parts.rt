@@ -11,6 +11,13 @@ fn front_set<N: ArrayLength<u8>>(array: &mut GenericArray<u8, N>, bytes: &[u8])
     array[0..bytes.len()].copy_from_slice(bytes);
 }
 
+/// An array where a slice is wanted.
+fn front_half_set(array: &mut GenericArray<u8, U4>, half: &GenericArray<u8, U2>)
+    ensures { array.new ≡ half.now ++ drop 2 array.old }
+{
+    front_set(array, half);
+}
+
 #[derive(Drop)]
 struct Packet<N: ArrayLength<u8>> {
     kind: u8,
@@ -64,22 +71,4 @@ fn right_aligned<N: ArrayLength<u8> + InlineLength>(number: &[u8]) -> GenericArr
     let zeros = N::USIZE - number.len();
     field[zeros..].copy_from_slice(number);
     field
-}
-
-#[test]
-fn parts_are_written_and_the_others_stay(rt: HostRuntime) {
-    let mut packet = Packet::<U4> {
-        kind: 1,
-        key: GenericArray::from_array(*b"abcd"),
-    };
-    front_set(&mut packet.key, &right_aligned::<U2>(b"y"));
-    key_part_set(&mut packet, 2, b"0");
-    assert!(rt; packet.kind == 1 && packet.key.as_slice() == b"\0y0d".as_slice());
-    let mut text = Text::<U4> {
-        bytes: GenericArray::default(),
-        len: 0,
-    };
-    text.push(b"ab");
-    text.push(b"c");
-    assert!(rt; text.len == 3 && text.bytes.as_slice() == b"abc\0".as_slice());
 }

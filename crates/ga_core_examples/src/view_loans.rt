@@ -1,8 +1,8 @@
 //! Views as slices, and what a proof follows through the views that write.
 ghost use Rattle.ga_core.specs.Views.{items_of_view};
-ghost use Rattle.std.specs.Prelude.{◌≡◌, ◌-◌, ◌∷◌, [], ◌<◌, ◌↔◌, IsOk, Some, length, replicate, slice_get, slice_set};
+ghost use Rattle.std.specs.Prelude.{◌≡◌, ◌-◌, ◌∷◌, [], ◌<◌, ◌≤◌, ◌↔◌, IsOk, Some, length, replicate, slice_get, slice_set};
 
-use ga_core::reborrow::ReborrowSlice;
+use ga_core::reborrow::{ReborrowPart, ReborrowSlice};
 use ga_core::{
     ArrayLength, ChunksMut, GenericArray, GenericArrayMut, GenericArrayRef, LengthError, U2,
     Unsigned, ViewMut,
@@ -37,6 +37,15 @@ fn first_of_array_set(array: &mut GenericArray<u8, U2>)
 {
     let mut view = array.view_mut();
     first_set(&mut view);
+}
+
+/// Any slice that lends an item and a part.
+fn second_and_first_set<S: ReborrowPart<u8>>(slice: &mut S)
+    requires { 2 ≤ length (S.items slice.old) }
+    ensures { S.items slice.new ≡ slice_set (slice_set (S.items slice.old) 1 9) 0 6 }
+{
+    *slice.item_mut(1) = 9;
+    slice.part_mut(0, 1)[0] = 6;
 }
 
 // A view made by a literal, and one taken apart by a pattern.

@@ -19,16 +19,14 @@ fn calls_made(alloc: Global) -> u32
     ensures { (result ≡ 0) ⊎ (result ≡ 3) }
 {
     let mut calls = 0u32;
-    match BoxedArray::<usize, U3>::generate_by(
+    let _ = BoxedArray::<usize, U3>::generate_by(
         alloc,
         &mut |index: usize| {
             calls = calls.wrapping_add(1);
             index
         },
-    ) {
-        Ok(_array) => calls,
-        Err(_refused) => calls,
-    }
+    );
+    calls
 }
 
 fn refused_at_two(alloc: Global) -> Result<Result<BoxedArray<usize, U4>, usize>, AllocError>
@@ -86,8 +84,7 @@ fn blank(alloc: Global) -> Result<BoxedArray<u8, U3>, AllocError>
 fn second_place_set(array: &mut BoxedArray<u8, U2>)
     ensures { array.new ≡ slice_set array.old 1 6 }
 {
-    let items = array.as_mut_slice();
-    items[1] = 6;
+    array.as_mut_slice()[1] = 6;
 }
 
 fn item_set<N: Unsigned>(array: &mut BoxedArray<u8, N>, index: usize)

@@ -1,5 +1,5 @@
 //! Conversions by the traits of std, and types with a length.
-ghost use Rattle.std.specs.Prelude.{◌≡◌, ◌∷◌, [], ◌↔◌, IfOk, IsOk, Ok, drop, length, take};
+ghost use Rattle.std.specs.Prelude.{◌≡◌, ◌↔◌, IfOk, IsOk, Ok, drop, length, take};
 
 use generic_array::sequence::{Concat, Split};
 use generic_array::{
@@ -7,16 +7,11 @@ use generic_array::{
 };
 use std::alloc::Global;
 
-fn from_native() -> GenericArray<u8, U3>
-    ensures { result ≡ 1 ∷ 2 ∷ 3 ∷ [] }
-{
-    GenericArray::from([1, 2, 3])
-}
-
-fn into_native(array: GenericArray<u8, U3>) -> [u8; 3]
+fn through_a_native_array(array: GenericArray<u8, U3>) -> GenericArray<u8, U3>
     ensures { result ≡ array }
 {
-    array.into()
+    let items: [u8; 3] = array.into();
+    GenericArray::from(items)
 }
 
 fn from_vector<N: ArrayLength<u8> + InlineLength>(

@@ -148,15 +148,12 @@ fn calls_of_a_boxed_map(alloc: Global, array: BoxedArray<u32, U3>) -> u32
     ensures { (result ≡ 0) ⊎ (result ≡ 3) }
 {
     let mut calls = 0u32;
-    let mapped = array.map_by(
+    let _ = array.map_by(
         alloc,
         &mut |item: u32| {
             calls = calls.wrapping_add(1);
             item
         },
     );
-    match mapped {
-        Ok(_mapped) => calls,
-        Err(_refused) => calls,
-    }
+    calls
 }
