@@ -1,9 +1,7 @@
 //! Builders that are filled, of any length: by what an array's iterator has left, and in a loop.
-ghost use Rattle.ga_core.specs.Length.{FitsInline};
 ghost use Rattle.std.specs.List.{range_with_len};
-ghost use Rattle.std.specs.Prelude.{◌≡◌, ◌+◌, ◌-◌, ◌<◌, ◌≤◌, ◌^◌, ◌++◌, IfOk, drop, length, map, reverse, sum, take};
+ghost use Rattle.std.specs.Prelude.{◌≡◌, ◌+◌, ◌-◌, ◌<◌, ◌≤◌, ◌^◌, ◌++◌, drop, length, map, reverse, sum, take};
 
-use crate::digits::decimal_digit;
 use ga_core::{ArrayBuilder, ArrayLength, GenericArray};
 
 /// All items of an array, in one piece.
@@ -43,17 +41,6 @@ fn with_some<T: Default + Drop, N: ArrayLength<T>, M: ArrayLength<T>>(
     list.extend(&mut array.into_iter());
 }
 
-/// All items of an array, one after the other.
-fn with_all<T: Default + Drop, N: ArrayLength<T>, M: ArrayLength<T>>(
-    list: &mut ArrayBuilder<T, N>,
-    array: GenericArray<T, M>,
-)
-    requires { length list.old + length array ≤ N.USIZE }
-    ensures { list.new ≡ list.old ++ array }
-{
-    list.extend(&mut array.into_iter());
-}
-
 /// The sum of the items up to each place.
 fn cumulative<N: ArrayLength<u64>>(window: &GenericArray<u64, N>) -> GenericArray<u64, N>
     requires { sum window.now < 2 ^ 64 }
@@ -67,17 +54,4 @@ fn cumulative<N: ArrayLength<u64>>(window: &GenericArray<u64, N>) -> GenericArra
         sums.push(total);
     }
     sums.finish()
-}
-
-/// The digits of a text, or the first byte that is none.
-fn digits<N: ArrayLength<u8>>(text: &[u8]) -> Result<ArrayBuilder<u8, N>, u8>
-    requires fits { FitsInline N.USIZE }
-    requires room { length text.now ≤ N.USIZE }
-    ensures { IfOk result (λ made. made ≡ map (λ byte. byte - 48) text.now) }
-{
-    let mut list = ArrayBuilder::new();
-    for byte in text {
-        list.push(decimal_digit(byte)?);
-    }
-    Ok(list)
 }

@@ -2,10 +2,9 @@
 //! pass a test, and items written.
 ghost use Rattle.ga_core.specs.Length.{FitsInline};
 ghost use Rattle.std.specs.List.{swap, swap_remove};
-ghost use Rattle.std.specs.Ordering.{nat_cmp};
-ghost use Rattle.std.specs.Prelude.{◌≡◌, ◌+◌, ◌-◌, ◌<◌, ◌≤◌, ◌++◌, ◌∷◌, ◌==◌, [], IsOk, IsPermutation, IsSorted, Some, drop, filter, insert, length, nat_lt, not, remove, slice_get, slice_set, take};
+ghost use Rattle.std.specs.Prelude.{◌≡◌, ◌+◌, ◌-◌, ◌<◌, ◌≤◌, ◌++◌, ◌∷◌, ◌==◌, IsOk, Some, drop, filter, length, not, slice_get, slice_set, take};
 
-use ga_core::{AllocError, ArrayBuilder, ArrayLength, GenericArray, U4};
+use ga_core::{AllocError, ArrayBuilder, ArrayLength, GenericArray};
 use std::mem;
 
 fn joined<T: Copy + Default + Drop, N: ArrayLength<T>>(
@@ -22,56 +21,12 @@ fn joined<T: Copy + Default + Drop, N: ArrayLength<T>>(
     both.finish()
 }
 
-/// The items of a slice, with one more at an index.
-fn with_item_at<T: Copy + Default + Drop, N: ArrayLength<T>>(
-    items: &[T],
-    index: usize,
-    item: T,
-) -> ArrayBuilder<T, N>
-    requires fits { FitsInline N.USIZE }
-    requires room { length items.now < N.USIZE }
-    requires in_bounds { index ≤ length items.now }
-    ensures { result ≡ insert items.now index item }
-{
-    let mut list = ArrayBuilder::new();
-    list.extend_from_slice(&items[..index]);
-    list.push(item);
-    list.extend_from_slice(&items[index..]);
-    list
-}
-
 /// The first item goes behind the others.
 fn turned<T: Default + Drop, N: ArrayLength<T>>(list: &mut ArrayBuilder<T, N>)
     requires { 0 < length list.old }
     ensures { list.new ≡ drop 1 list.old ++ take 1 list.old }
 {
     let item = list.remove(0);
-    list.push(item);
-}
-
-fn moved<T: Default + Drop, N: ArrayLength<T>>(
-    list: &mut ArrayBuilder<T, N>,
-    from: usize,
-    to: usize,
-)
-    requires from { from < length list.old }
-    requires to { to < length list.old }
-    ensures { (item : T) × (list.new ≡ insert (remove list.old from) to item) }
-{
-    let item = list.remove(from);
-    list.insert(to, item);
-}
-
-/// An item in place of all from an index on.
-fn ended_at<T: Default + Drop, N: ArrayLength<T>>(
-    list: &mut ArrayBuilder<T, N>,
-    index: usize,
-    item: T,
-)
-    requires { index < N.USIZE }
-    ensures { list.new ≡ take index list.old ++ item ∷ [] }
-{
-    list.truncate(index);
     list.push(item);
 }
 
@@ -99,37 +54,6 @@ fn copied<T: Copy + Default + Drop, N: ArrayLength<T>>(
     copy
 }
 
-fn keep_below<N: ArrayLength<u32>>(list: &mut ArrayBuilder<u32, N>, limit: u32)
-    ensures { list.new ≡ filter (λ item. nat_lt item limit) list.old }
-{
-    let items = list.as_slice();
-    let mut kept = ArrayBuilder::new();
-    for item in items {
-        if *item < limit {
-            kept.push(*item);
-        }
-    }
-    *list = kept;
-}
-
-/// Keeps the items that pass a test.
-fn retain<T: Copy + Default + Drop, N: ArrayLength<T>, F: Fn(&T) -> bool>(
-    list: &mut ArrayBuilder<T, N>,
-    keep: F,
-)
-    requires callable { F.IsAlwaysCallable keep }
-    ensures { length list.new ≤ length list.old }
-{
-    let items = list.as_slice();
-    let mut kept = ArrayBuilder::new();
-    for item in items {
-        if keep(item) {
-            kept.push(*item);
-        }
-    }
-    *list = kept;
-}
-
 /// A key in front of the others, of which the last is dropped where there is no room for it.
 fn touch<N: ArrayLength<u32>>(keys: &mut ArrayBuilder<u32, N>, key: u32)
     requires { 0 < N.USIZE }
@@ -146,13 +70,6 @@ fn touch<N: ArrayLength<u32>>(keys: &mut ArrayBuilder<u32, N>, key: u32)
     kept.truncate(N::USIZE - 1);
     kept.insert(0, key);
     *keys = kept;
-}
-
-fn put<T: Drop, N: ArrayLength<T>>(list: &mut ArrayBuilder<T, N>, index: usize, item: T)
-    requires { index < length list.old }
-    ensures { list.new ≡ slice_set list.old index item }
-{
-    list.as_mut_slice()[index] = item;
 }
 
 /// Puts an item in the place of another, which it returns.
@@ -173,21 +90,6 @@ fn swap_top<T, N: ArrayLength<T>>(stack: &mut ArrayBuilder<T, N>)
     stack.as_mut_slice().swap(len - 2, len - 1);
 }
 
-fn sort<N: ArrayLength<u32>>(list: &mut ArrayBuilder<u32, N>)
-    ensures sorted { IsSorted nat_cmp list.new }
-    ensures same { IsPermutation list.old list.new }
-{
-    list.as_mut_slice().sort_unstable();
-}
-
-/// The first `count` items go behind the others.
-fn rotate<T, N: ArrayLength<T>>(list: &mut ArrayBuilder<T, N>, count: usize)
-    requires { count ≤ length list.old }
-    ensures { list.new ≡ drop count list.old ++ take count list.old }
-{
-    list.as_mut_slice().rotate_left(count);
-}
-
 /// Takes an item out of a list whose order doesn't matter.
 fn drawn<T: Default + Drop, N: ArrayLength<T>>(list: &mut ArrayBuilder<T, N>, index: usize) -> T
     requires { index < length list.old }
@@ -195,11 +97,4 @@ fn drawn<T: Default + Drop, N: ArrayLength<T>>(list: &mut ArrayBuilder<T, N>, in
     ensures others { list.new ≡ swap_remove list.old index result }
 {
     list.swap_remove(index)
-}
-
-#[test]
-fn a_replaced_item_is_returned(rt: HostRuntime) {
-    let mut list: ArrayBuilder<u8, U4> = ArrayBuilder::new();
-    list.extend_from_slice(b"abc");
-    assert!(rt; replaced(&mut list, 1, b'x') == b'b' && list.as_slice() == b"axc".as_slice());
 }

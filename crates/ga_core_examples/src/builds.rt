@@ -9,12 +9,6 @@ use ga_core::{
     AllocError, ArrayBuilder, ArrayLength, Const, GenericArray, LengthError, U3, U4, U7,
 };
 
-fn doubled() -> GenericArray<usize, U4>
-    ensures { result ≡ 0 ∷ 2 ∷ 4 ∷ 6 ∷ [] }
-{
-    GenericArray::generate(|index| 2 * index)
-}
-
 // A long known length: through a function of any length, and by a proof of one line.
 
 fn masked_places<N: ArrayLength<u8>>(mask: u8) -> GenericArray<u8, N>

@@ -1,8 +1,7 @@
 //! A list with room for `N` items, kept inline: a builder that is never finished.
 ghost use Rattle.ga_core.specs.Fill.{TakeRuns};
 ghost use Rattle.ga_core.specs.Length.{FitsInline};
-ghost use Rattle.std.specs.List.{swap_remove};
-ghost use Rattle.std.specs.Prelude.{◌≡◌, ◌-◌, ◌<◌, ◌≤◌, ◌↔◌, ◌++◌, ◌∷◌, [], IfErr, IfNone, IfSome, IsOk, IsSome, OnOk, Some, drop, length, slice_get, take};
+ghost use Rattle.std.specs.Prelude.{◌≡◌, ◌-◌, ◌<◌, ◌≤◌, ◌↔◌, ◌++◌, ◌∷◌, [], IfErr, IfNone, IfSome, IsOk, IsSome, OnOk, drop, length, slice_get, take};
 
 use ga_core::{ArrayBuilder, ArrayLength};
 use std::marker::Model;
@@ -27,13 +26,6 @@ impl<T: Default + Drop, N: ArrayLength<T>> FixedList<T, N> {
     {
         let items = ArrayBuilder::new();
         FixedList { items }
-    }
-
-    fn len(&self) -> usize
-        ensures len { result ≡ length self.now }
-        ensures bound { length self.now ≤ N.USIZE }
-    {
-        self.items.position()
     }
 
     // Appends the item, or returns it where there is no room.
@@ -85,28 +77,6 @@ impl<T: Default + Drop, N: ArrayLength<T>> FixedList<T, N> {
             return None;
         }
         Some(self.items.remove(0))
-    }
-
-    // Takes the item at `index`, and puts the last in its place. Requires that there is one.
-    fn swap_remove(&mut self, index: usize) -> T
-        requires { index < length self.old }
-        ensures item { slice_get self.old index ≡ Some result }
-        ensures others { self.new ≡ swap_remove self.old index result }
-    {
-        self.items.swap_remove(index)
-    }
-
-    fn as_slice(&self) -> &[T]
-        ensures items { result.now ≡ self.now }
-        ensures bound { length self.now ≤ N.USIZE }
-    {
-        self.items.as_slice()
-    }
-
-    fn clear(&mut self)
-        ensures { self.new ≡ [] }
-    {
-        self.items.clear();
     }
 }
 

@@ -1,8 +1,8 @@
 //! Callers of the iterator by value, each proved.
-ghost use Rattle.ga_core.specs.Length.{FitsInline};
-ghost use Rattle.std.specs.Prelude.{◌≡◌, ◌^◌, ◌<◌, ◌≤◌, IfOk, IsOk, Ok, fold, max, reverse, sum, take};
+ghost use Rattle.std.specs.Prelude.{◌≡◌, ◌^◌, ◌<◌, All, IfOk, IsOk, Ok, Some, fold, length, max, reverse, slice_get, sum};
 
-use ga_core::{AllocError, ArrayBuilder, ArrayLength, GenericArray, GenericArrayIter, LengthError};
+use ga_core::{AllocError, ArrayLength, GenericArray, GenericArrayIter, LengthError, U3};
+use std::mem;
 
 fn total<N: ArrayLength<u32>>(array: GenericArray<u32, N>) -> u32
     requires fits { sum array < 2 ^ 32 }
@@ -24,6 +24,18 @@ fn reversed<N: ArrayLength<u8>>(
     GenericArray::try_from_iter(array.into_iter().rev())
 }
 
+/// The item behind so many others, and how many are left behind it.
+fn item_behind<N: ArrayLength<u8>>(
+    left: &mut GenericArrayIter<u8, N>,
+    count: usize,
+) -> (Option<u8>, (usize, Option<usize>))
+    ensures item { result.0 ≡ slice_get left.old count }
+    ensures left { result.1 ≡ (length left.new, Some (length left.new)) }
+{
+    let item = left.nth(count);
+    (item, left.size_hint())
+}
+
 fn left_copied<N: ArrayLength<u8>>(
     left: &GenericArrayIter<u8, N>,
 ) -> Result<GenericArrayIter<u8, N>, AllocError>
@@ -32,18 +44,12 @@ fn left_copied<N: ArrayLength<u8>>(
     left.clone()
 }
 
-/// The first items of an array, without a call for each.
-fn front_of<N: ArrayLength<u8>, K: ArrayLength<u8>>(
-    array: GenericArray<u8, N>,
-) -> GenericArray<u8, K>
-    requires len { K.USIZE ≤ N.USIZE }
-    requires fits { FitsInline K.USIZE }
-    ensures { result ≡ take K.USIZE array }
+/// Leaves zeros behind.
+fn moved_over(key: &mut GenericArray<u8, U3>, place: &mut GenericArray<u8, U3>)
+    ensures moved { place.new ≡ key.old }
+    ensures wiped { All (λ byte. byte ≡ 0) key.new }
 {
-    let mut items = array.into_iter();
-    let mut front = ArrayBuilder::new();
-    front.take_from(&mut items, K::USIZE);
-    front.finish()
+    mem::take(key).into_iter().move_to(place.as_mut_slice());
 }
 
 /// By a named function.

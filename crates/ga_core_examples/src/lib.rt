@@ -23,15 +23,11 @@ mod iterators;
 #[cfg(test)]
 mod keys;
 #[cfg(test)]
-mod nested;
-#[cfg(test)]
 mod own_errors;
 #[cfg(test)]
 mod own_traits;
 #[cfg(test)]
 mod parts;
-#[cfg(test)]
-mod places;
 #[cfg(test)]
 mod plain_calls;
 /// Records read from rows of bytes.
@@ -39,11 +35,7 @@ pub mod records;
 #[cfg(test)]
 mod row_closures;
 #[cfg(test)]
-mod row_loops;
-#[cfg(test)]
 mod row_searches;
-#[cfg(test)]
-mod row_walks;
 #[cfg(test)]
 mod row_writes;
 #[cfg(test)]

@@ -1,7 +1,7 @@
 //! A trait of one's own over arrays of a length that each impl chooses, whose calls take them by
 //! value.
 ghost use Rattle.ga_core.specs.Views.{items_of_view};
-ghost use Rattle.std.specs.Prelude.{◌≡◌, ℕ, ◌/◌, ◌++◌, List, drop, reverse, take};
+ghost use Rattle.std.specs.Prelude.{◌≡◌, ℕ, ◌/◌, ◌++◌, ◌∷◌, [], List, drop, take};
 
 use ga_core::{ArrayLength, GenericArray, GenericArrayRef, InlineLength, U4, Unsigned};
 use std::marker::PhantomData;
@@ -28,26 +28,6 @@ trait Turner {
     ) -> GenericArray<u8, Self::Size>
         requires { N.USIZE ≡ Self.Size.USIZE }
         ensures { result ≡ turned (items_of_view block.entry) };
-}
-
-/// Turns blocks of four bytes round.
-struct Reversal;
-
-impl Turner for Reversal {
-    type Size = U4;
-
-    ghost turned = { reverse };
-
-    fn turn<N: ArrayLength<u8>>(mut block: GenericArray<u8, N>) -> GenericArray<u8, N> {
-        block.reverse();
-        block
-    }
-
-    fn turned_copy<N: ArrayLength<u8>>(block: GenericArrayRef<'_, u8, N>) -> GenericArray<u8, U4> {
-        let mut copy = GenericArray::from_view(GenericArrayRef::from_slice(block.into_slice()));
-        copy.reverse();
-        copy
-    }
 }
 
 /// Swaps the halves of blocks of any length; of an odd one the second is longer.
@@ -79,15 +59,8 @@ fn turned_twice<T: Turner>(block: GenericArray<u8, T::Size>) -> GenericArray<u8,
 }
 
 fn there_and_back(block: GenericArray<u8, U4>) -> GenericArray<u8, U4>
+    requires { block ≡ 1 ∷ 2 ∷ 3 ∷ 4 ∷ [] }
     ensures { result ≡ block }
 {
-    turned_twice::<Reversal>(block)
-}
-
-fn halves_swapped<N: ArrayLength<u8> + InlineLength>(
-    block: GenericArray<u8, N>,
-) -> GenericArray<u8, N>
-    ensures { result ≡ drop (N.USIZE / 2) block ++ take (N.USIZE / 2) block }
-{
-    Swap::<N>::turn(block)
+    turned_twice::<Swap<U4>>(block)
 }

@@ -1,7 +1,7 @@
 //! Parts of arrays that are written, of a field too.
-ghost use Rattle.std.specs.Prelude.{◌≡◌, ◌++◌, ◌≤◌, ◌+◌, drop, length, take};
+ghost use Rattle.std.specs.Prelude.{◌≡◌, ◌++◌, ◌≤◌, ◌+◌, ◌-◌, drop, length, replicate, take};
 
-use ga_core::{ArrayLength, GenericArray, U4};
+use ga_core::{ArrayLength, GenericArray, InlineLength, U2, U4};
 use std::marker::Model;
 
 fn front_set<N: ArrayLength<u8>>(array: &mut GenericArray<u8, N>, bytes: &[u8])
@@ -9,6 +9,13 @@ fn front_set<N: ArrayLength<u8>>(array: &mut GenericArray<u8, N>, bytes: &[u8])
     ensures { array.new ≡ bytes.now ++ drop (length bytes.now) array.old }
 {
     array[0..bytes.len()].copy_from_slice(bytes);
+}
+
+/// An array where a slice is wanted.
+fn front_half_set(array: &mut GenericArray<u8, U4>, half: &GenericArray<u8, U2>)
+    ensures { array.new ≡ half.now ++ drop 2 array.old }
+{
+    front_set(array, half);
 }
 
 #[derive(Drop)]
@@ -55,20 +62,13 @@ impl<N: ArrayLength<u8>> Text<N> {
     }
 }
 
-#[test]
-fn parts_are_written_and_the_others_stay(rt: HostRuntime) {
-    let mut packet = Packet::<U4> {
-        kind: 1,
-        key: GenericArray::from_array(*b"abcd"),
-    };
-    front_set(&mut packet.key, b"xy");
-    key_part_set(&mut packet, 2, b"0");
-    assert!(rt; packet.kind == 1 && packet.key.as_slice() == b"xy0d".as_slice());
-    let mut text = Text::<U4> {
-        bytes: GenericArray::default(),
-        len: 0,
-    };
-    text.push(b"ab");
-    text.push(b"c");
-    assert!(rt; text.len == 3 && text.bytes.as_slice() == b"abc\0".as_slice());
+/// A number's bytes behind zeros, as a field of fixed width has them.
+fn right_aligned<N: ArrayLength<u8> + InlineLength>(number: &[u8]) -> GenericArray<u8, N>
+    requires room { length number.now ≤ N.USIZE }
+    ensures { result ≡ replicate (N.USIZE - length number.now) 0 ++ number.now }
+{
+    let mut field = GenericArray::default();
+    let zeros = N::USIZE - number.len();
+    field[zeros..].copy_from_slice(number);
+    field
 }

@@ -3,7 +3,7 @@ ghost use Rattle.ga_core_examples.specs.Digits.{digit_of};
 ghost use Rattle.ga_core.specs.Tries.{try_map};
 ghost use Rattle.std.specs.Int.Bits.{bit_xor};
 ghost use Rattle.std.specs.List.{zip};
-ghost use Rattle.std.specs.Prelude.{◌≡◌, ◌+◌, ◌*◌, ◌∷◌, [], ◌%◌, ◌^◌, map};
+ghost use Rattle.std.specs.Prelude.{◌≡◌, ◌+◌, ◌∷◌, [], ◌%◌, ◌^◌, map};
 
 use crate::digits::digit_in;
 use ga_core::{ArrayLength, BorrowedItems, GenericArray, U2, U3};
@@ -32,19 +32,6 @@ fn digits_of_borrowed<N: ArrayLength<u8>>(
     text.try_map_inline_ref(|byte: &u8| digit_in(base, *byte))
 }
 
-fn scaled_sums<N: ArrayLength<u32>>(
-    left: GenericArray<u32, N>,
-    right: GenericArray<u32, N>,
-    scale: u32,
-) -> GenericArray<u32, N>
-    ensures { result ≡ map (λ p. (p.0 + p.1 * scale % 2 ^ 32) % 2 ^ 32) (zip left right) }
-{
-    left.zip_inline(
-        right,
-        |l: u32, r: u32| l.wrapping_add(r.wrapping_mul(scale)),
-    )
-}
-
 // What was there is written over.
 fn masked_in_place<N: ArrayLength<u8>>(text: &mut GenericArray<u8, N>, mask: &GenericArray<u8, N>)
     ensures { text.new ≡ map (λ p. bit_xor p.0 p.1) (zip text.old mask.now) }
@@ -69,35 +56,28 @@ fn calls_in_order(left: GenericArray<u32, U2>, right: GenericArray<u32, U2>) -> 
     [seen[0], seen[1], moved[0], moved[1]]
 }
 
-/// The first running total above 3 where both calls share the closure: by reference, and then by
-/// value.
-fn stopped_totals() -> (u32, u32) {
-    let array = GenericArray::<u32, U3>::from_array([1, 2, 3]);
-    let mut next = 0u32;
-    let mut counted = |item: u32| {
-        next = next.wrapping_add(item);
-        if next > 3 { Err(next) } else { Ok(next) }
-    };
-    let by_reference = array.try_map_inline_ref_by(&mut |item: &u32| counted(*item));
-    let by_value = array.try_map_inline_by(&mut counted);
-    (total_of(by_reference), total_of(by_value))
-}
-
-/// The total at which a map stopped, or 0.
-fn total_of<N: ArrayLength<u32>>(made: Result<GenericArray<u32, N>, u32>) -> u32 {
-    match made {
-        Ok(_totals) => 0,
-        Err(total) => total,
-    }
-}
-
-fn raised_by_reference<N: ArrayLength<u32>>(array: &GenericArray<u32, N>) -> GenericArray<u32, N> {
+fn raised_by_reference<N: ArrayLength<u32>>(array: &GenericArray<u32, N>) -> GenericArray<u32, N>
+    ensures { result ≡ map (λ item. (item + 1) % 2 ^ 32) array.now }
+{
     array.map_inline_ref_by(&mut |item: &u32| item.wrapping_add(1))
 }
 
-#[test]
-fn closures_that_are_lent_keep_their_state(rt: HostRuntime) {
-    assert!(rt; stopped_totals() == (6, 7));
-    let array = GenericArray::<u32, U3>::from_array([1, 2, 3]);
-    assert!(rt; raised_by_reference(&array).as_slice() == [2, 3, 4].as_slice());
+/// The running totals above 3 at which two maps stop that share the closure.
+fn stopped_totals(
+    array: GenericArray<u32, U3>,
+) -> (
+    Result<GenericArray<u32, U3>, u32>,
+    Result<GenericArray<u32, U3>, u32>,
+)
+    requires { array ≡ 1 ∷ 2 ∷ 3 ∷ [] }
+    ensures { result ≡ (Err 6, Err 7) }
+{
+    let mut total = 0u32;
+    let mut counted = |item: u32| {
+        total = total.wrapping_add(item);
+        if total > 3 { Err(total) } else { Ok(total) }
+    };
+    let by_reference = array.try_map_inline_ref_by(&mut |item: &u32| counted(*item));
+    let by_value = array.try_map_inline_by(&mut counted);
+    (by_reference, by_value)
 }

@@ -38,16 +38,3 @@ pub fn read_records(alloc: Global, bytes: &[u8]) -> Result<Vec<Record>, AllocErr
     }
     Ok(records)
 }
-
-#[test]
-fn records_are_read_from_whole_rows(rt: HostRuntime) {
-    let read = read_records(rt.alloc(), &[1, 2, 0, 0, 0, 5, 0, 7, 1, 0, 0, 0, 9]);
-    assert!(rt;
-        read.is_ok_and(|records| matches!(
-        records.as_slice(),
-        [first, second] if first.id == 258 && first.value == 5 && second.value == 1 << 24
-    ))
-    );
-    let none = read_records(rt.alloc(), &[1, 2, 3]);
-    assert!(rt; none.is_ok_and(|records| records.is_empty()));
-}

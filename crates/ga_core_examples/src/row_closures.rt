@@ -4,10 +4,10 @@
 //! result alone names, stands in a captured `PhantomData`, which costs nothing at run time.
 ghost use Rattle.ga_core.specs.Length.{FitsInline};
 ghost use Rattle.std.specs.List.{range_with_len};
-ghost use Rattle.std.specs.Prelude.{◌≡◌, ◌+◌, ◌-◌, ◌%◌, ◌^◌, ◌<◌, ◌↔◌, ◌∷◌, [], All, IsTrue, fold, length, map, replicate, reverse, slice_index, slice_index_or};
+ghost use Rattle.std.specs.Prelude.{◌≡◌, ◌+◌, ◌-◌, ◌%◌, ◌^◌, ◌<◌, [], All, length, map, replicate, reverse, slice_index, slice_index_or};
 
 use ga_core::{
-    ArrayLength, BorrowedItems, Const, GenericArray, GenericArrayRef, InlineLength, U2, U3, U4,
+    ArrayLength, BorrowedItems, Const, GenericArray, GenericArrayRef, InlineLength, U2, U3,
 };
 use std::marker::PhantomData;
 
@@ -38,12 +38,6 @@ where
     )
 }
 
-fn last_column_of_three(matrix: &Matrix<U3, 2>) -> GenericArray<u64, U2>
-    ensures { result ≡ map (λ row. slice_index row 2) matrix.now }
-{
-    column(matrix, 2)
-}
-
 // The diagonal: a slice of rows is captured, and indexed twice.
 
 /// The numbers whose row is their column, from the first row to the last.
@@ -60,24 +54,6 @@ fn diagonal<C: ArrayLength<u64> + InlineLength, const R: usize>(
             requires { (i < length rows.now) × (i < C.USIZE) }
         { rows[i][i] },
     )
-}
-
-/// The sum of the diagonal, modulo 2^64.
-fn trace<C: ArrayLength<u64> + InlineLength, const R: usize>(matrix: &Matrix<C, R>) -> u64
-    requires { R ≡ C.USIZE }
-    ensures { result ≡ fold (λ total x. (total + x) % 2 ^ 64) 0
-        (map (λ i. slice_index (slice_index_or matrix.now i []) i) (range_with_len 0 C.USIZE)) }
-{
-    diagonal(matrix)
-        .into_iter()
-        .fold(0, |total: u64, x: u64| total.wrapping_add(x))
-}
-
-fn diagonal_of_three(matrix: &Matrix<U3, 3>) -> GenericArray<u64, U3>
-    ensures { result ≡ map (λ i. slice_index (slice_index_or matrix.now i []) i)
-        (range_with_len 0 3) }
-{
-    diagonal(matrix)
 }
 
 // The columns as rows: a matrix is captured, and a closure returns rows of another type.
@@ -105,23 +81,6 @@ where
     )
 }
 
-/// Whether the columns are the rows.
-#[tactic(auto, using(ga_core::proofs::NestedLemmas::rows_decide))]
-fn is_symmetric<C: ArrayLength<u64> + InlineLength, const R: usize>(matrix: &Matrix<C, R>) -> bool
-    requires { R ≡ C.USIZE }
-    ensures { IsTrue result ↔ matrix.now ≡ map (λ j. map (λ row. slice_index row j) matrix.now)
-        (range_with_len 0 C.USIZE) }
-{
-    let turned: Matrix<C, R> = transposed(matrix);
-    matrix.as_slice() == turned.as_slice()
-}
-
-fn three_pairs_of(matrix: &Matrix<U3, 2>) -> Matrix<U2, 3>
-    ensures { result ≡ map (λ j. map (λ row. slice_index row j) matrix.now) (range_with_len 0 3) }
-{
-    transposed(matrix)
-}
-
 // Zeros: the result alone names the rows.
 
 /// The matrix of zeros.
@@ -135,19 +94,6 @@ fn zeros<C: ArrayLength<u64> + InlineLength, const R: usize>() -> Matrix<C, R>
         let _ = &row;
         GenericArray::<u64, C>::from_copies(0)
     })
-}
-
-fn clear<C: ArrayLength<u64> + InlineLength, const R: usize>(matrix: &mut Matrix<C, R>)
-    requires { FitsInline R }
-    ensures { matrix.new ≡ replicate R (replicate C.USIZE 0) }
-{
-    *matrix = zeros();
-}
-
-fn two_rows_of_zeros() -> Matrix<U3, 2>
-    ensures { result ≡ (0 ∷ 0 ∷ 0 ∷ []) ∷ (0 ∷ 0 ∷ 0 ∷ []) ∷ [] }
-{
-    zeros()
 }
 
 // Rows in another order: a matrix is captured, and the places are the items of an array.
@@ -183,26 +129,6 @@ fn permuted<C: ArrayLength<u64> + InlineLength, const R: usize>(
     )
 }
 
-fn permuted_twice<C: ArrayLength<u64> + InlineLength, const R: usize>(
-    matrix: &Matrix<C, R>,
-    first: GenericArray<usize, Const<R>>,
-    second: GenericArray<usize, Const<R>>,
-) -> Matrix<C, R>
-    requires first { All (λ i. i < R) first }
-    requires second { All (λ i. i < R) second }
-    ensures { result ≡ map
-        (λ i. slice_index_or (map (λ j. slice_index_or matrix.now j []) first.entry) i [])
-        second.entry }
-{
-    permuted(&permuted(matrix, first), second)
-}
-
-fn exchanged(matrix: &Matrix<U3, 2>) -> Matrix<U3, 2>
-    ensures { result ≡ slice_index_or matrix.now 1 [] ∷ slice_index_or matrix.now 0 [] ∷ [] }
-{
-    permuted(matrix, GenericArray::from_array([1, 0]))
-}
-
 // Three levels, borrowed.
 
 /// The number in row `j` and column `k` of each slab.
@@ -223,70 +149,6 @@ where
             requires { (j < R.USIZE) × (k < C.USIZE) }
         { slab[j][k] },
     )
-}
-
-fn heads<C, R, const D: usize>(tensor: &Tensor<C, R, D>) -> GenericArray<u64, Const<D>>
-where
-    C: ArrayLength<u64> + InlineLength,
-    R: ArrayLength<GenericArray<u64, C>> + InlineLength,
-    requires rows { 0 < R.USIZE }
-    requires columns { 0 < C.USIZE }
-    ensures { result ≡ map (λ slab. slice_index (slice_index_or slab 0 []) 0) tensor.now }
-{
-    tube(tensor, 0, 0)
-}
-
-fn second_heads(tensor: &Tensor<U2, U3, 2>) -> GenericArray<u64, U2>
-    ensures { result ≡ map (λ slab. slice_index (slice_index_or slab 1 []) 0) tensor.now }
-{
-    tube(tensor, 1, 0)
-}
-
-/// The sum of a row, modulo 2^64.
-fn row_total<C: ArrayLength<u64> + InlineLength>(row: &GenericArray<u64, C>) -> u64
-    ensures { result ≡ fold (λ total x. (total + x) % 2 ^ 64) 0 row.now }
-{
-    row.view()
-        .fold(0, |total: u64, x: &u64| total.wrapping_add(*x))
-}
-
-/// The sum of each row of a slab, modulo 2^64.
-fn totals_of_rows<C, R>(slab: &GenericArray<GenericArray<u64, C>, R>) -> GenericArray<u64, R>
-where
-    C: ArrayLength<u64> + InlineLength,
-    R: ArrayLength<GenericArray<u64, C>> + ArrayLength<u64> + InlineLength,
-    ensures { result ≡ map (λ row. fold (λ total x. (total + x) % 2 ^ 64) 0 row) slab.now }
-{
-    slab.map_inline_ref(row_total)
-}
-
-/// The sum of each row of each slab, modulo 2^64.
-fn row_totals<C, R, const D: usize>(tensor: &Tensor<C, R, D>) -> Rows<u64, R, D>
-where
-    C: ArrayLength<u64> + InlineLength,
-    R: ArrayLength<GenericArray<u64, C>> + ArrayLength<u64> + InlineLength,
-    ensures { result
-        ≡ map (λ slab. map (λ row. fold (λ total x. (total + x) % 2 ^ 64) 0 row) slab) tensor.now }
-{
-    let made = PhantomData::<GenericArray<u64, R>>;
-    tensor.map_inline_ref(|slab: &GenericArray<GenericArray<u64, C>, R>| {
-        let _ = &made;
-        totals_of_rows(slab)
-    })
-}
-
-/// The sum of each slab, modulo 2^64. The type of the rows made on the way stands in the signature.
-fn slab_totals<C, R, const D: usize>(
-    tensor: &Tensor<C, R, D>,
-    _totals: PhantomData<Rows<u64, R, D>>,
-) -> GenericArray<u64, Const<D>>
-where
-    C: ArrayLength<u64> + InlineLength,
-    R: ArrayLength<GenericArray<u64, C>> + ArrayLength<u64> + InlineLength,
-    ensures { result ≡ map (λ totals. fold (λ total x. (total + x) % 2 ^ 64) 0 totals)
-        (map (λ slab. map (λ row. fold (λ total x. (total + x) % 2 ^ 64) 0 row) slab) tensor.now) }
-{
-    row_totals(tensor).map_inline_ref(row_total)
 }
 
 // Three levels, by value: the row is the item type.
@@ -311,12 +173,6 @@ where
     tensor.map_inline(|slab: GenericArray<T, R>| turned(slab))
 }
 
-fn two_slabs_turned(tensor: Tensor<U2, U3, 2>) -> Tensor<U2, U3, 2>
-    ensures { result ≡ map (λ slab. reverse slab) tensor }
-{
-    slabs_turned(tensor)
-}
-
 // Neighbours of one list: a slice of numbers is captured.
 
 /// What each number is above the one before it, modulo 2^64.
@@ -337,40 +193,21 @@ fn differences<N: ArrayLength<u64>, M: ArrayLength<u64>>(
     )
 }
 
-fn three_differences(window: &GenericArray<u64, U4>) -> GenericArray<u64, U3>
-    ensures { result ≡ map
-        (λ i. (slice_index window.now (i + 1) + (2 ^ 64 - slice_index window.now i)) % 2 ^ 64)
-        (range_with_len 0 3) }
-{
-    differences(window)
-}
-
-/// The rows 1 2 3 and 4 5 6.
-fn counted() -> Matrix<U3, 2> {
-    GenericArray::from_array([
-        GenericArray::from_array([1, 2, 3]),
-        GenericArray::from_array([4, 5, 6]),
-    ])
-}
-
 #[test]
 fn rows_are_turned_and_picked(rt: HostRuntime) {
-    let pairs = three_pairs_of(&counted());
-    assert!(rt; pairs[0].as_slice() == [1, 4].as_slice());
-    assert!(rt; pairs[1].as_slice() == [2, 5].as_slice());
+    let matrix: Matrix<U3, 2> = GenericArray::from_array([
+        GenericArray::from_array([1, 2, 3]),
+        GenericArray::from_array([4, 5, 6]),
+    ]);
+    let pairs: Matrix<U2, 3> = transposed(&matrix);
     assert!(rt; pairs[2].as_slice() == [3, 6].as_slice());
-    let square: Matrix<U2, 2> = GenericArray::from_array([
-        GenericArray::from_array([1, 2]),
-        GenericArray::from_array([3, 4]),
-    ]);
-    assert!(rt; diagonal(&square).as_slice() == [1, 4].as_slice());
-    assert!(rt; trace(&square) == 5);
-    let other = exchanged(&counted());
+    let other = permuted(&matrix, GenericArray::from_array([1, 0]));
     assert!(rt; other[0].as_slice() == [4, 5, 6].as_slice());
-    assert!(rt; other[1].as_slice() == [1, 2, 3].as_slice());
-    let slabs: Tensor<U2, U3, 2> = GenericArray::from_array([
-        three_pairs_of(&counted()),
-        three_pairs_of(&other),
-    ]);
-    assert!(rt; second_heads(&slabs).as_slice() == [2, 5].as_slice());
+    let square: Matrix<U3, 3> = zeros();
+    assert!(rt; diagonal(&square).as_slice() == [0, 0, 0].as_slice());
+    let slabs: Tensor<U2, U3, 2> = GenericArray::from_array([pairs, transposed(&other)]);
+    assert!(rt; tube(&slabs, 1, 0).as_slice() == [2, 5].as_slice());
+    assert!(rt; tube(&slabs_turned(slabs), 0, 0).as_slice() == [3, 6].as_slice());
+    let two: GenericArray<u64, U2> = differences(&matrix[0]);
+    assert!(rt; two.as_slice() == [1, 1].as_slice());
 }

@@ -1,19 +1,8 @@
-//! One row of a slice written over, of any width.
-ghost use Rattle.ga_core.specs.Length.{FitsInline};
-ghost use Rattle.ga_core.specs.Rows.{chunk_count, row_at, rows};
-ghost use Rattle.std.specs.Prelude.{◌≡◌, ◌*◌, ◌<◌, length, replicate, slice_set};
+//! Rows of a slice written over, of any width: one, and each in a loop.
+ghost use Rattle.ga_core.specs.Rows.{chunk_count, chunk_rest, rows};
+ghost use Rattle.std.specs.Prelude.{◌≡◌, ◌*◌, ◌<◌, length, map, replicate, reverse, slice_set};
 
-use ga_core::{ArrayLength, ChunksMut, ChunksRef, GenericArray, U2, Unsigned};
-
-#[tactic(auto, using(ga_views::proofs::RowSetLemmas::row_writes))]
-fn update<N: ArrayLength<u8>>(bytes: &mut [u8], index: usize, item: &GenericArray<u8, N>)
-    requires whole { length bytes.old ≡ chunk_count N.USIZE bytes.old * N.USIZE }
-    requires in_bounds { index < chunk_count N.USIZE bytes.old }
-    ensures { rows N.USIZE bytes.new ≡ slice_set (rows N.USIZE bytes.old) index item.now }
-{
-    let mut rows = ChunksMut::<u8, N>::over(bytes);
-    rows.row_mut(index).copy_from_slice(item.as_slice());
-}
+use ga_core::{ChunksMut, U0, U3, Unsigned};
 
 #[tactic(auto, using(ga_views::proofs::RowSetLemmas::row_writes))]
 fn blank<N: Unsigned>(bytes: &mut [u8], index: usize)
@@ -26,27 +15,32 @@ fn blank<N: Unsigned>(bytes: &mut [u8], index: usize)
     rows.row_mut(index).fill(0);
 }
 
-/// Swaps two rows, which may be one.
-fn swap_records<N: ArrayLength<u8>>(bytes: &mut [u8], left: usize, right: usize)
-    requires fits { FitsInline N.USIZE }
-    requires some { 0 < N.USIZE }
-    requires whole { length bytes.old ≡ chunk_count N.USIZE bytes.old * N.USIZE }
-    requires left { left < chunk_count N.USIZE bytes.old }
-    requires right { right < chunk_count N.USIZE bytes.old }
-    ensures { rows N.USIZE bytes.new ≡ slice_set (slice_set (rows N.USIZE bytes.old) left
-        (row_at N.USIZE bytes.old right)) right (row_at N.USIZE bytes.old left) }
+/// Turns each row round, of as many items as whole rows have.
+fn rows_turned<N: Unsigned>(slice: &mut [u8])
+    requires whole { length slice.old ≡ chunk_count N.USIZE slice.old * N.USIZE }
+    ensures { rows N.USIZE slice.new ≡ map reverse (rows N.USIZE slice.old) }
 {
-    let (rows, _) = ChunksRef::<u8, N>::chunks_from_slice(bytes);
-    let first: GenericArray<u8, N> = GenericArray::from_view(rows.get(left).unwrap());
-    let second: GenericArray<u8, N> = GenericArray::from_view(rows.get(right).unwrap());
-    update(bytes, left, &second);
-    update(bytes, right, &first);
+    let count = ChunksMut::<u8, N>::over(slice).len();
+    for index in 0..count {
+        let mut rows = ChunksMut::<u8, N>::over(slice);
+        rows.row_mut(index).reverse();
+    }
+}
+
+/// Turns each whole row of a slice round, and leaves the rest as it is.
+fn whole_rows_turned<N: Unsigned>(slice: &mut [u8])
+    requires wide { 0 < N.USIZE }
+    ensures rows { rows N.USIZE slice.new ≡ map reverse (rows N.USIZE slice.old) }
+    ensures rest { chunk_rest N.USIZE slice.new ≡ chunk_rest N.USIZE slice.old }
+{
+    let (whole, _) = ChunksMut::<u8, N>::whole_and_rest(slice);
+    rows_turned::<N>(whole);
 }
 
 #[test]
-fn rows_are_swapped(rt: HostRuntime) {
-    let mut bytes = *b"abcdef";
-    swap_records::<U2>(&mut bytes, 0, 2);
-    swap_records::<U2>(&mut bytes, 1, 1);
-    assert!(rt; bytes == *b"efcdab");
+fn each_whole_row_is_turned_round(rt: HostRuntime) {
+    let mut items = [1, 2, 3, 4, 5, 6, 7, 8];
+    whole_rows_turned::<U3>(&mut items);
+    assert!(rt; items == [3, 2, 1, 6, 5, 4, 7, 8]);
+    rows_turned::<U0>(&mut []);
 }

@@ -1,32 +1,19 @@
 //! Views as slices, and what a proof follows through the views that write.
 ghost use Rattle.ga_core.specs.Views.{items_of_view};
-ghost use Rattle.std.specs.Prelude.{◌≡◌, ◌∷◌, [], ◌<◌, ◌↔◌, IfOk, IsOk, Some, length, replicate, slice_get, slice_set};
+ghost use Rattle.std.specs.Prelude.{◌≡◌, ◌-◌, ◌∷◌, [], ◌<◌, ◌≤◌, ◌↔◌, IsOk, Some, length, replicate, slice_get, slice_set};
 
-use ga_core::reborrow::ReborrowSlice;
+use ga_core::reborrow::{ReborrowPart, ReborrowSlice};
 use ga_core::{
-    ArrayLength, ChunksMut, GenericArray, GenericArrayMut, GenericArrayRef, LengthError, U2, U3,
+    ArrayLength, ChunksMut, GenericArray, GenericArrayMut, GenericArrayRef, LengthError, U2,
     Unsigned, ViewMut,
 };
 use std::marker::PhantomData;
 
-fn item_at<N: Unsigned>(view: GenericArrayRef<'_, u8, N>, index: usize) -> u8
-    requires { index < N.USIZE }
-    ensures { slice_get (items_of_view view.entry) index ≡ Some result }
+fn last_of<N: Unsigned>(view: GenericArrayRef<'_, u8, N>) -> u8
+    requires { 0 < N.USIZE }
+    ensures { slice_get (items_of_view view.entry) (N.USIZE - 1) ≡ Some result }
 {
-    view[index]
-}
-
-fn length_of<N: Unsigned>(view: &GenericArrayRef<'_, u8, N>) -> usize
-    ensures { result ≡ N.USIZE }
-{
-    view.len()
-}
-
-fn viewed(slice: &[u8]) -> Result<GenericArrayRef<'_, u8, U3>, LengthError>
-    ensures variant { IsOk result ↔ (length slice.now ≡ 3) }
-    ensures ok { IfOk result (λ view. items_of_view view ≡ slice.now) }
-{
-    slice.try_into()
+    view[view.len() - 1]
 }
 
 fn array_filled<N: ArrayLength<u8>>(array: &mut GenericArray<u8, N>)
@@ -36,7 +23,7 @@ fn array_filled<N: ArrayLength<u8>>(array: &mut GenericArray<u8, N>)
     view.fill(7);
 }
 
-// A function over any view that writes, called of a slice's and of an array's.
+// A function over any view that writes, called of an array's.
 
 fn first_set<S: ReborrowSlice<u8>>(view: &mut ViewMut<S, u8, U2>)
     ensures items { S.items view.new.slice ≡ slice_set (S.items view.old.slice) 0 6 }
@@ -45,19 +32,20 @@ fn first_set<S: ReborrowSlice<u8>>(view: &mut ViewMut<S, u8, U2>)
     view.as_mut_slice()[0] = 6;
 }
 
-fn first_of_slice_set(slice: &mut [u8])
-    requires { length slice.old ≡ 2 }
-    ensures { slice.new ≡ slice_set slice.old 0 6 }
-{
-    let mut view: GenericArrayMut<u8, U2> = GenericArrayMut::from_mut_slice(slice);
-    first_set(&mut view);
-}
-
 fn first_of_array_set(array: &mut GenericArray<u8, U2>)
     ensures { array.new ≡ slice_set array.old 0 6 }
 {
     let mut view = array.view_mut();
     first_set(&mut view);
+}
+
+/// Any slice that lends an item and a part.
+fn second_and_first_set<S: ReborrowPart<u8>>(slice: &mut S)
+    requires { 2 ≤ length (S.items slice.old) }
+    ensures { S.items slice.new ≡ slice_set (slice_set (S.items slice.old) 1 9) 0 6 }
+{
+    *slice.item_mut(1) = 9;
+    slice.part_mut(0, 1)[0] = 6;
 }
 
 // A view made by a literal, and one taken apart by a pattern.
@@ -110,19 +98,11 @@ fn second_set_if_two(slice: &mut [u8]) -> Result<(), LengthError>
 }
 
 #[test]
-fn a_view_is_read_as_a_slice(rt: HostRuntime) {
-    let items = [4u8, 0, 6];
-    let view: GenericArrayRef<u8, U3> = GenericArrayRef::from_slice(&items);
-    assert!(rt; item_at(view, 2) == 6 && length_of(&view) == 3);
-    assert!(rt; viewed(&items).is_ok() && viewed(&items[..2]).is_err());
-}
-
-#[test]
 fn what_views_write_stands_in_their_slice(rt: HostRuntime) {
     let mut items = [4u8, 5];
-    first_of_slice_set(&mut items);
     slice_set_behind_a_pattern(&mut items);
-    assert!(rt; items == [6, 6] && second_set_if_two(&mut items[..1]).is_err());
+    assert!(rt; items == [4, 6] && second_set_if_two(&mut items[..1]).is_err());
+    assert_eq!(rt; last_of::<U2>(GenericArrayRef::from_slice(&items)), 6);
     let mut five = [1u8, 2, 3, 4, 5];
     row_and_rest_set(&mut five);
     assert!(rt; five == [1, 2, 9, 4, 8]);

@@ -1,8 +1,10 @@
-//! Views of slices, read and written.
+//! Views of slices, read and written, whose length need not fit inline.
 ghost use Rattle.ga_core.specs.Views.{items_of_view};
-ghost use Rattle.std.specs.Prelude.{◌≡◌, ◌==◌, ◌∷◌, [], IfOk, IsOk, fold, length, max, position, reverse, slice_set, sum};
+ghost use Rattle.std.specs.Prelude.{◌≡◌, ◌∷◌, [], ◌↔◌, IfOk, IsOk, IsTrue, fold, length, max, slice_get, slice_set, sum};
 
-use ga_core::{Const, GenericArrayMut, GenericArrayRef, U2, U3, Unsigned};
+use ga_core::{
+    Const, GenericArray, GenericArrayMut, GenericArrayRef, LengthError, U2, U3, Unsigned,
+};
 use std::alloc::AllocError;
 
 fn second_got(slice: &mut [u8])
@@ -19,21 +21,42 @@ fn count_for_writing(slice: &mut [u8]) -> usize
     requires { length slice.old ≡ 2 }
     ensures { result ≡ 2 }
 {
-    let mut view: GenericArrayMut<u8, U2> = GenericArrayMut::from_mut_slice(slice);
-    view.iter_mut().count()
+    GenericArray::<u8, U2>::from_mut_slice(slice)
+        .iter_mut()
+        .count()
 }
 
-/// The sum of two bytes that a view shows.
-pub fn sum_of(view: &GenericArrayRef<u8, U2>) -> u32
-    ensures { result ≡ sum (items_of_view view.now) }
+fn sum_of_two(slice: &[u8]) -> u32
+    requires { length slice.now ≡ 2 }
+    ensures { result ≡ sum slice.now }
 {
-    view.iter().map(|item| *item as u32).sum()
+    let view = GenericArray::<u8, U2>::from_slice(slice);
+    view.iter().map(|item| u32::from(*item)).sum()
 }
 
-fn six_from_the_back(view: GenericArrayRef<u8, U2>) -> Option<usize>
-    ensures { result ≡ position (λ item. item == 6) (reverse (items_of_view view.entry)) }
+fn item_got<N: Unsigned>(view: GenericArrayRef<'_, u8, N>, index: usize) -> Option<u8>
+    ensures { result ≡ slice_get (items_of_view view.entry) index }
 {
-    view.into_iter().rev().position(|item| *item == 6)
+    view.get(index).copied()
+}
+
+fn viewed(slice: &[u8]) -> Result<GenericArrayRef<'_, u8, U3>, LengthError>
+    ensures variant { IsOk result ↔ (length slice.now ≡ 3) }
+    ensures ok { IfOk result (λ view. items_of_view view ≡ slice.now) }
+{
+    slice.try_into()
+}
+
+fn are_three(slice: &[u8]) -> bool
+    ensures { IsTrue result ↔ (length slice.now ≡ 3) }
+{
+    GenericArray::<u8, U3>::try_from_slice(slice).is_ok()
+}
+
+fn are_three_for_writing(slice: &mut [u8]) -> bool
+    ensures { IsTrue result ↔ (length slice.old ≡ 3) }
+{
+    GenericArray::<u8, U3>::try_from_mut_slice(slice).is_ok()
 }
 
 fn shown_by_a_clone<'a>(view: &GenericArrayRef<'a, u8, U2>) -> Result<&'a [u8], AllocError>
@@ -43,8 +66,6 @@ fn shown_by_a_clone<'a>(view: &GenericArrayRef<'a, u8, U2>) -> Result<&'a [u8], 
     let copy = view.clone()?;
     Ok(copy.into_slice())
 }
-
-// Folds of views, whose length need not fit inline.
 
 fn greatest_of<N: Unsigned>(row: GenericArrayRef<'_, u32, N>) -> u32
     ensures { result ≡ fold (λ best item. max best item) 0 (items_of_view row.entry) }
@@ -72,43 +93,25 @@ fn digits_of_both(
     (all, calls)
 }
 
-/// Whether a view of 4, 6 shows them.
-fn items_are_right(view: GenericArrayRef<'_, u8, U2>) -> bool {
-    view.get(1).copied() == Some(6)
-        && view.get(2).is_none()
-        && sum_of(&view) == 10
-        && six_from_the_back(view) == Some(0)
-}
-
-/// Raises each item of a slice of two, and writes 6 in its second place.
-fn raised_and_set(slice: &mut [u8]) {
+/// Raises each item of a slice of two.
+fn raised(slice: &mut [u8]) {
     if let Ok(mut view) = GenericArrayMut::<u8, U2>::try_from_mut_slice(slice) {
         for item in view.iter_mut() {
             *item = item.wrapping_add(1);
         }
-        view.as_mut_slice()[1] = 6;
     }
 }
 
 #[test]
-fn a_view_shows_and_writes_its_slice(rt: HostRuntime) {
+fn a_view_writes_a_slice_of_its_length_alone(rt: HostRuntime) {
     let mut items = [4u8, 5];
     second_got(&mut items);
-    assert!(rt; items == [4, 6] && count_for_writing(&mut items) == 2);
-    let view: GenericArrayRef<u8, U2> = GenericArrayRef::from_slice(&items);
-    assert!(rt; items_are_right(view));
-    assert!(rt; shown_by_a_clone(&view) == Ok([4, 6].as_slice()));
-    raised_and_set(&mut items);
-    assert!(rt; items == [5, 6]);
-}
-
-#[test]
-fn a_view_has_any_length_but_no_other(rt: HostRuntime) {
-    let mut items = [1u8, 2, 3, 4];
-    raised_and_set(&mut items);
-    assert!(rt; items == [1, 2, 3, 4]);
-    assert!(rt; GenericArrayRef::<u8, U3>::try_from_slice(&items).is_err());
+    raised(&mut items);
+    assert!(rt; items == [5, 7] && count_for_writing(&mut items) == 2 && sum_of_two(&items) == 12);
+    let mut items = [1u8, 2, 3];
+    raised(&mut items);
+    assert!(rt; items == [1, 2, 3] && viewed(&items).is_ok() && viewed(&items[1..]).is_err());
     let many = [7u32; 65_537];
     let row: GenericArrayRef<u32, Const<65_537>> = GenericArrayRef::from_slice(&many);
-    assert!(rt; greatest_of(row) == 7);
+    assert_eq!(rt; greatest_of(row), 7);
 }

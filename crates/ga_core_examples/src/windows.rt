@@ -1,10 +1,10 @@
 //! Windows of numbers, of any length: moved on, counted, searched and kept in order.
 ghost use Rattle.ga_core.specs.Length.{FitsInline};
 ghost use Rattle.std.specs.List.Sorted.{IsNonDecreasing, IsPartitionPoint};
-ghost use Rattle.std.specs.List.{IsFirstBest, IsFirstMaxByKey, range_with_len};
-ghost use Rattle.std.specs.Prelude.{◌≡◌, ◌==◌, ◌/◌, ◌<◌, ◌≤◌, ◌++◌, ◌∷◌, [], ℕ, IfErr, IfOk, IsPermutation, count_by, drop, length, map, nat_lt, slice_index};
+ghost use Rattle.std.specs.List.{IsFirstMaxByKey, range_with_len};
+ghost use Rattle.std.specs.Prelude.{◌≡◌, ◌==◌, ◌/◌, ◌<◌, ◌≤◌, ◌++◌, ◌∷◌, [], ℕ, IfErr, IfOk, IsPermutation, count_by, drop, length, map, slice_index};
 
-use ga_core::{ArrayBuilder, ArrayLength, GenericArray, U4, U5};
+use ga_core::{ArrayBuilder, ArrayLength, GenericArray};
 
 fn moved_on<N: ArrayLength<u64>>(window: &mut GenericArray<u64, N>, item: u64)
     requires { 0 < N.USIZE }
@@ -55,21 +55,6 @@ fn argmax<N: ArrayLength<u64>>(window: &GenericArray<u64, N>) -> usize
     best
 }
 
-/// Where the least number stands first.
-fn argmin<N: ArrayLength<u64>>(window: &GenericArray<u64, N>) -> usize
-    requires { 0 < N.USIZE }
-    ensures { IsFirstBest nat_lt window.now N.USIZE result }
-{
-    let items = window.as_slice();
-    let mut best = 0;
-    for i in 1..items.len() {
-        if items[i] < items[best] {
-            best = i;
-        }
-    }
-    best
-}
-
 /// The index behind the numbers that aren't above the item.
 fn place_behind(items: &[u64], item: u64) -> usize
     requires order { IsNonDecreasing items.now }
@@ -99,12 +84,4 @@ fn searched<N: ArrayLength<u64>>(array: &GenericArray<u64, N>, item: u64) -> Res
         × ((k : ℕ) → i ≤ k → k < N.USIZE → item < slice_index array.now k)) }
 {
     array.binary_search(&item)
-}
-
-#[test]
-fn numbers_are_counted_and_compared(rt: HostRuntime) {
-    let window: GenericArray<u64, U5> = GenericArray::from([7, 1, 30, 30, 1]);
-    assert!(rt; argmin(&window) == 1 && argmax(&window) == 2);
-    let buckets: GenericArray<u64, U4> = histogram(&window, 10);
-    assert!(rt; buckets.as_slice() == [3, 0, 0, 2].as_slice());
 }

@@ -2,23 +2,20 @@
 ghost use Rattle.generic_array.specs.Length.{FitsInline};
 ghost use Rattle.generic_array.specs.Tries.{try_map};
 ghost use Rattle.ga_core_examples.specs.Digits.{digit_of};
-ghost use Rattle.generic_array.specs.Calls.{MayMap};
-ghost use Rattle.generic_array.specs.Entries.{ActsOnEntry};
 ghost use Rattle.generic_array.specs.Views.{items_of_view};
 ghost use Rattle.std.specs.Int.Bits.{bit_xor};
 ghost use Rattle.std.specs.List.{range_with_len, zip};
-ghost use Rattle.std.specs.Prelude.{◌≡◌, ℕ, ◌+◌, ◌-◌, ◌*◌, ◌%◌, ◌^◌, ◌++◌, ◌<◌, ◌≤◌, IfOk, Ok, fold, length, map, replicate, reverse, sum};
+ghost use Rattle.std.specs.Prelude.{◌≡◌, ℕ, ◌+◌, ◌*◌, ◌%◌, ◌^◌, ◌<◌, IfOk, Ok, fold, length, map, reverse, sum};
 
 use ga_core_examples::digits::digit_in;
-use ga_test_items::answers::has;
-use generic_array::checks::{map_total_by, total_by};
+use generic_array::checks::total_by;
 use generic_array::functional::{
     FunctionalSequence, MappedError, MappedGenericSequence, MappedPlace, MappedSequence, MapsInline,
 };
-use generic_array::sequence::{FromFallibleIterator, GenericSequence, SequenceItem};
+use generic_array::sequence::{FromFallibleIterator, GenericSequence};
 use generic_array::{
     AllocError, ArrayLength, BorrowedItems, BoxedArray, FillError, GenericArray, GenericArrayRef,
-    InlineLength, U4, Unsigned, always,
+    InlineLength, Unsigned, always,
 };
 use std::alloc::Global;
 
@@ -32,16 +29,6 @@ pub fn masked<N: ArrayLength<u8>>(key: GenericArray<u8, N>) -> GenericArray<u8, 
 fn masked_view<N: ArrayLength<u8>>(key: GenericArrayRef<'_, u8, N>, mask: u8) -> GenericArray<u8, N>
     requires { FitsInline N.USIZE }
     ensures { result ≡ map (λ b. bit_xor b mask) (items_of_view key.entry) }
-{
-    always(key.map((), |b: &u8| *b ^ mask))
-}
-
-// The key stays where it is.
-fn masked_by_reference<N: ArrayLength<u8> + InlineLength>(
-    key: &GenericArray<u8, N>,
-    mask: u8,
-) -> GenericArray<u8, N>
-    ensures { result ≡ map (λ b. bit_xor b mask) key.now }
 {
     always(key.map((), |b: &u8| *b ^ mask))
 }
@@ -71,25 +58,6 @@ fn masked_sequence<
         S.Mapped.Sequence.items made ≡ map (λ b. bit_xor b mask) (S.items key)) }
 {
     key.map(place, |b: u8| b ^ mask)
-}
-
-fn masked_and_totalled<
-    S: FunctionalSequence<u8> + MappedGenericSequence<u8, u8>,
-    F: FnMut(SequenceItem<S>) -> u8,
->(key: S, place: MappedPlace<S, u8, u8>, mask: &mut F) -> Result<u8, MappedError<S, u8, u8>>
-    requires fits { S.Mapped.Fits }
-    requires callable { MayMap S.entry F.pre F.step mask.old (S.items key) }
-    requires acts { ActsOnEntry S.entry F.step mask.old (λ b. bit_xor b 0x36) }
-    ensures { IfOk result (λ total.
-        total ≡ fold (λ total b. (total + b) % 2 ^ 8) 0 (map (λ b. bit_xor b 0x36) (S.items key))) }
-{
-    map_total_by(
-        key,
-        place,
-        mask,
-        0,
-        &mut |total: u8, b: u8| total.wrapping_add(b),
-    )
 }
 
 // One more than each sum: a chain over any kind of which inline arrays are made.
@@ -142,21 +110,6 @@ fn place_sums<N: ArrayLength<u32>>(
     ensures { result ≡ map (λ p. (p.0 + p.1) % 2 ^ 32) (zip left (items_of_view right.entry)) }
 {
     left.zip_inline_ref(right, |l: &u32, r: &u32| l.wrapping_add(*r))
-}
-
-// Both sides are there afterwards.
-fn sums_and_sides<N: ArrayLength<u32> + InlineLength>(
-    left: GenericArray<u32, N>,
-    right: GenericArray<u32, N>,
-) -> (
-    GenericArray<u32, N>,
-    GenericArray<u32, N>,
-    GenericArray<u32, N>,
-)
-    ensures { result ≡ (map (λ p. (p.0 + p.1) % 2 ^ 32) (zip left right), left, right) }
-{
-    let sums = always((&left).zip((), &right, |l: &u32, r: &u32| l.wrapping_add(*r)));
-    (sums, left, right)
 }
 
 fn scaled_sums<N: ArrayLength<u32>>(
@@ -245,19 +198,3 @@ fn digits_of_text<S: FromFallibleIterator<u8>>(
 }
 
 // A number's bytes behind zeros, as a field of fixed width has them.
-
-fn right_aligned<N: ArrayLength<u8>>(number: &[u8]) -> GenericArray<u8, N>
-    requires fits { FitsInline N.USIZE }
-    requires room { length number.now ≤ N.USIZE }
-    ensures { result ≡ replicate (N.USIZE - length number.now) 0 ++ number.now }
-{
-    let mut field = GenericArray::default();
-    let zeros = N::USIZE - number.len();
-    field[zeros..].copy_from_slice(number);
-    field
-}
-
-#[test]
-fn numbers_are_aligned_behind_zeros(rt: HostRuntime) {
-    assert!(rt; has(right_aligned::<U4>(b"ab"), &[0, 0, 97, 98]));
-}

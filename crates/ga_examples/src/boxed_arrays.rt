@@ -1,5 +1,5 @@
 //! Boxed arrays: builds, writes and walks, and threads.
-ghost use Rattle.std.specs.Prelude.{◌≡◌, ℕ, ◌%◌, ◌∷◌, [], ◌^◌, ◌<◌, ◌⊎◌, IfErr, IfOk, IsOk, Ok, OnOk, length, reverse, slice_set, sum};
+ghost use Rattle.std.specs.Prelude.{◌≡◌, ℕ, ◌∷◌, [], ◌^◌, ◌<◌, ◌⊎◌, IfErr, IfOk, IsOk, Ok, OnOk, length, reverse, slice_set, sum};
 
 use ga_core_examples::digits::decimal_digit;
 use generic_array::{
@@ -19,16 +19,14 @@ fn calls_made(alloc: Global) -> u32
     ensures { (result ≡ 0) ⊎ (result ≡ 3) }
 {
     let mut calls = 0u32;
-    match BoxedArray::<usize, U3>::generate_by(
+    let _ = BoxedArray::<usize, U3>::generate_by(
         alloc,
         &mut |index: usize| {
             calls = calls.wrapping_add(1);
             index
         },
-    ) {
-        Ok(_array) => calls,
-        Err(_refused) => calls,
-    }
+    );
+    calls
 }
 
 fn refused_at_two(alloc: Global) -> Result<Result<BoxedArray<usize, U4>, usize>, AllocError>
@@ -86,18 +84,36 @@ fn blank(alloc: Global) -> Result<BoxedArray<u8, U3>, AllocError>
 fn second_place_set(array: &mut BoxedArray<u8, U2>)
     ensures { array.new ≡ slice_set array.old 1 6 }
 {
-    let items = array.as_mut_slice();
-    items[1] = 6;
+    array.as_mut_slice()[1] = 6;
 }
 
-fn total_that_wraps<N: Unsigned>(array: BoxedArray<u32, N>) -> u32
-    ensures { result ≡ sum array % 2 ^ 32 }
+fn item_set<N: Unsigned>(array: &mut BoxedArray<u8, N>, index: usize)
+    requires { index < N.USIZE }
+    ensures { array.new ≡ slice_set array.old index 9 }
 {
-    let mut total = 0u32;
-    for item in array {
-        total = total.wrapping_add(item);
-    }
-    total
+    array[index] = 9;
+}
+
+fn items_counted<N: Unsigned>(array: &BoxedArray<u8, N>) -> (usize, usize)
+    ensures { result ≡ (N.USIZE, N.USIZE) }
+{
+    (array.len(), array.iter().count())
+}
+
+fn sum_of_references<N: Unsigned>(array: &BoxedArray<u8, N>) -> u64
+    requires fits { sum array.now < 2 ^ 64 }
+    ensures { result ≡ sum array.now }
+{
+    array.into_iter().map(|item: &u8| u64::from(*item)).sum()
+}
+
+/// The item behind so many others, and how many are left behind it.
+fn item_behind(left: &mut BoxedArrayIter<u8>, count: usize) -> (Option<u8>, (usize, Option<usize>))
+    ensures item { result.0 ≡ slice_get left.old count }
+    ensures left { result.1 ≡ (length left.new, Some (length left.new)) }
+{
+    let item = left.nth(count);
+    (item, left.size_hint())
 }
 
 fn reversed<N: Unsigned>(
@@ -118,24 +134,15 @@ fn sent<A: Send>(value: A) -> A
 }
 
 /// What threads may share.
-fn shared<A: Sync>(value: &A) -> &A
-    ensures { result.now ≡ value.now }
-{
-    value
-}
+fn shared<A: Sync>(_value: &A) {}
 
-fn all_sent<T: Send, N: Unsigned + Send>(
+fn all_sent<T: Send + Sync, N: Unsigned + Send + Sync>(
     array: BoxedArray<T, N>,
     items: BoxedArrayIter<T>,
     block: LiveBlock<T>,
 ) -> (BoxedArray<T, N>, BoxedArrayIter<T>, LiveBlock<T>)
     ensures { result ≡ (array, items, block) }
 {
+    shared(&array);
     (sent(array), sent(items), sent(block))
-}
-
-fn array_shared<T: Sync, N: Unsigned + Sync>(array: &BoxedArray<T, N>) -> &BoxedArray<T, N>
-    ensures { result.now ≡ array.now }
-{
-    shared(array)
 }

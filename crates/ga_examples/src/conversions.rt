@@ -1,23 +1,17 @@
-//! Conversions by the traits of std, arrays of zeros, and types with a length.
-ghost use Rattle.std.specs.Prelude.{◌≡◌, ◌∷◌, [], ◌↔◌, IfOk, IsOk, Ok, drop, length, replicate, take};
+//! Conversions by the traits of std, and types with a length.
+ghost use Rattle.std.specs.Prelude.{◌≡◌, ◌↔◌, IfOk, IsOk, Ok, drop, length, take};
 
 use generic_array::sequence::{Concat, Split};
 use generic_array::{
     AllocError, ArrayLength, BoxedArray, GenericArray, InlineLength, LengthError, U2, U3, U4, U6,
-    U16,
 };
 use std::alloc::Global;
 
-fn from_native() -> GenericArray<u8, U3>
-    ensures { result ≡ 1 ∷ 2 ∷ 3 ∷ [] }
-{
-    GenericArray::from([1, 2, 3])
-}
-
-fn into_native(array: GenericArray<u8, U3>) -> [u8; 3]
+fn through_a_native_array(array: GenericArray<u8, U3>) -> GenericArray<u8, U3>
     ensures { result ≡ array }
 {
-    array.into()
+    let items: [u8; 3] = array.into();
+    GenericArray::from(items)
 }
 
 fn from_vector<N: ArrayLength<u8> + InlineLength>(
@@ -66,18 +60,18 @@ fn vector_as_in_std<N: ArrayLength<u32>>(
     Ok(array.into_vec(alloc)?)
 }
 
-fn two_zero_keys() -> GenericArray<GenericArray<u8, U16>, U2>
-    ensures { result ≡ replicate 2 (replicate 16 0) }
-{
-    GenericArray::default()
-}
-
 // A type with a length as its parameter, with derives.
 
 #[derive(Clone, Copy, Debug, Default, PartialEq, Eq, Hash)]
 struct Numbered<N> {
     of: N,
     number: u8,
+}
+
+#[test]
+fn a_type_with_a_length_has_derives(rt: HostRuntime) {
+    let of = U3::default();
+    assert!(rt; Numbered::<U3>::default() == Numbered { of, number: 0 });
 }
 
 // A header that is made by `concat`, and read by `split`.
@@ -108,11 +102,4 @@ fn there_and_back(header: Header) -> Header
     ensures { result ≡ header }
 {
     decoded(encoded(header))
-}
-
-#[test]
-fn a_type_with_a_length_has_derives(rt: HostRuntime) {
-    let numbered: Numbered<U3> = Numbered::default();
-    let of = U3::default();
-    assert!(rt; numbered == Numbered { of, number: 0 });
 }

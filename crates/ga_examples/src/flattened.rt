@@ -1,49 +1,27 @@
-//! Rows made by a map and joined, of any length: hex digits and back, two arrays in turn, the ends
-//! of rows.
-ghost use Rattle.ga_examples.specs.HexDigits.{hex_byte, hex_digit};
+//! Rows made by a map and joined, of any length, and bytes cut into words.
 ghost use Rattle.generic_array.specs.Length.{FitsInline};
 ghost use Rattle.generic_array.specs.Rows.{rows};
-ghost use Rattle.generic_array.specs.Tries.{try_map};
+ghost use Rattle.std.specs.Int.{from_be_bytes, w16};
 ghost use Rattle.std.specs.List.{flat_map, zip};
-ghost use Rattle.std.specs.Prelude.{◌≡◌, ◌*◌, ◌/◌, ◌%◌, ◌∷◌, []};
+ghost use Rattle.std.specs.Prelude.{◌≡◌, ◌*◌, ◌/◌, ◌%◌, ◌↔◌, ◌∷◌, [], IfOk, IsOk, length, map};
 
-use crate::hex_digits::{digit_in_hex, value_in_hex};
-use ga_test_items::answers::{gives, has};
 use generic_array::sequence::{Flatten, Unflatten};
-use generic_array::{ArrayLength, GenericArray, U2, U4, arr};
+use generic_array::{ArrayLength, GenericArray, GenericArrayRef, LengthError, U2, U4, U8, arr};
 
-/// The hex digits of bytes. The items of the rows are those of what is mapped: no lemma is named.
-fn hex_of<N: ArrayLength<u8> + ArrayLength<GenericArray<u8, U2>>, M: ArrayLength<u8>>(
+/// The halves of bytes, the high one first. The items of the rows are those of what is mapped: no
+/// lemma is named.
+fn halves_of<N: ArrayLength<u8> + ArrayLength<GenericArray<u8, U2>>, M: ArrayLength<u8>>(
     bytes: GenericArray<u8, N>,
 ) -> GenericArray<u8, M>
     requires fits { FitsInline M.USIZE }
     requires twice { M.USIZE ≡ N.USIZE * 2 }
-    ensures { result ≡ flat_map (λ b. hex_digit (b / 16) ∷ hex_digit (b % 16) ∷ []) bytes }
+    ensures { result ≡ flat_map (λ b. b / 16 ∷ b % 16 ∷ []) bytes }
 {
     let pairs: GenericArray<GenericArray<u8, U2>, N> = bytes.map_inline(|byte: u8| arr![
-        digit_in_hex(byte / 16),
-        digit_in_hex(byte % 16)
+        byte / 16,
+        byte % 16
     ]);
     pairs.flatten()
-}
-
-fn byte_of(pair: GenericArray<u8, U2>) -> Result<u8, u8>
-    ensures { result ≡ hex_byte pair }
-{
-    let high = value_in_hex(pair[0])?;
-    let low = value_in_hex(pair[1])?;
-    Ok(high * 16 + low)
-}
-
-/// The bytes of hex digits, or the first byte that is none.
-fn bytes_of<N: ArrayLength<u8> + ArrayLength<GenericArray<u8, U2>>, M: ArrayLength<u8>>(
-    text: GenericArray<u8, M>,
-) -> Result<GenericArray<u8, N>, u8>
-    requires { M.USIZE ≡ N.USIZE * 2 }
-    ensures { result ≡ try_map hex_byte (rows 2 text) }
-{
-    let pairs: GenericArray<GenericArray<u8, U2>, N> = text.unflatten();
-    pairs.try_map_inline(byte_of)
 }
 
 /// The lanes of two arrays in turn. What is mapped are pairs: the lemma is named.
@@ -63,11 +41,12 @@ fn interleaved<N: ArrayLength<u32> + ArrayLength<GenericArray<u32, U2>>, M: Arra
     pairs.flatten()
 }
 
-#[test]
-fn hex_digits_are_written_and_read(rt: HostRuntime) {
-    let text: GenericArray<u8, U4> = hex_of::<U2, U4>(GenericArray::from_array([0x0a, 0xf1]));
-    assert!(rt; has(text, b"0af1"));
-    let read = bytes_of::<U2, U4>(GenericArray::from_array(*b"0af1"));
-    assert!(rt; gives(read, &[0x0a, 0xf1]));
-    assert!(rt; bytes_of::<U2, U4>(GenericArray::from_array(*b"0aF1")).is_err());
+/// The words of a header in network order, as UDP has it.
+fn words_of(header: &[u8]) -> Result<GenericArray<u16, U4>, LengthError>
+    ensures variant { IsOk result ↔ (length header.now ≡ 8) }
+    ensures ok { IfOk result (λ words. words ≡ map (from_be_bytes w16) (rows 2 header.now)) }
+{
+    let view: GenericArrayRef<u8, U8> = GenericArrayRef::try_from_slice(header)?;
+    let pairs: GenericArray<GenericArray<u8, U2>, U4> = GenericArray::from_view(view).unflatten();
+    Ok(pairs.map_inline(|pair: GenericArray<u8, U2>| u16::from_be_bytes(pair.into_array())))
 }

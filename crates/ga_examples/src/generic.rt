@@ -1,24 +1,10 @@
 //! Functions that know the traits alone.
-ghost use Rattle.generic_array.specs.Calls.{MayMap};
 ghost use Rattle.std.specs.List.{range_with_len};
 ghost use Rattle.std.specs.Prelude.{◌≡◌, ℕ, ◌+◌, ◌<◌, ◌⊎◌, IfOk, IsOk, OnOk, length, map, refl, replicate};
 
 use ga_core_examples::digits::decimal_digit;
-use generic_array::functional::{
-    FunctionalSequence, MappedError, MappedGenericSequence, MappedPlace, MappedSequence,
-};
-use generic_array::sequence::{
-    FromFallibleIterator, GenericSequence, Lengthen, SequenceItem, Shorten,
-};
+use generic_array::sequence::{FromFallibleIterator, GenericSequence, Lengthen, Shorten};
 use generic_array::{AllocError, ArrayLength, FillError, GenericArray};
-use std::convert::AsSlice;
-
-fn length_of<T, S: GenericSequence<T>>(s: &S) -> usize
-    ensures value { result ≡ S.Length.USIZE }
-    ensures items { length (S.items s.now) ≡ S.Length.USIZE }
-{
-    s.view().as_slice().len()
-}
 
 fn sevens<S: GenericSequence<u8>>(place: S::Place) -> Result<S::Sequence, AllocError>
     requires fits { S.Fits }
@@ -72,24 +58,6 @@ fn popped_and_appended_at_any_length<T: Default + Drop, N: ArrayLength<T>, M: Ar
     ensures { result ≡ array }
 {
     popped_and_appended::<T, GenericArray<T, N>, GenericArray<T, M>>(array)
-}
-
-fn nothing_mapped<
-    T,
-    U,
-    S: FunctionalSequence<T> + MappedGenericSequence<T, U>,
-    F: FnMut(SequenceItem<S>) -> U,
->(
-    s: S,
-    place: MappedPlace<S, T, U>,
-    f: &mut F,
-) -> Result<MappedSequence<S, T, U>, MappedError<S, T, U>>
-    requires none { S.Length.USIZE ≡ 0 }
-    requires fits { S.Mapped.Fits }
-    requires callable { MayMap S.entry F.pre F.step f.old (S.items s) }
-    ensures { IsOk result }
-{
-    s.map_by(place, f)
 }
 
 /// The digits that the bytes stand for, or why there are none. The iterator is borrowed.

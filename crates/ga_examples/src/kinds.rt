@@ -1,7 +1,7 @@
 //! Callers at each kind of sequence, with exact results.
 ghost use Rattle.generic_array.specs.Views.{items_of_view};
 ghost use Rattle.std.specs.List.{zip};
-ghost use Rattle.std.specs.Prelude.{◌≡◌, ℕ, ◌∷◌, [], ◌+◌, ◌*◌, ◌%◌, ◌^◌, ◌⊎◌, IfOk, fold, map};
+ghost use Rattle.std.specs.Prelude.{◌≡◌, ℕ, ◌∷◌, [], ◌+◌, ◌*◌, ◌%◌, ◌^◌, ◌⊎◌, Err, IfOk, Ok, fold, if◌then◌else◌, map, nat_lt};
 
 use generic_array::checks::map_total_by;
 use generic_array::functional::{
@@ -67,6 +67,43 @@ fn running_totals_of_arrays(
     (first, second)
 }
 
+// Calls of the traits that borrow their closure: of two kinds, of a reference, and up to an error.
+
+fn sums_of_boxed_and_view<N: ArrayLength<u32>>(
+    alloc: Global,
+    left: BoxedArray<u32, N>,
+    right: GenericArrayRef<'_, u32, N>,
+) -> Result<BoxedArray<u32, N>, AllocError>
+    requires left { left ≡ 1 ∷ 2 ∷ 3 ∷ [] }
+    requires right { items_of_view right ≡ 4 ∷ 5 ∷ 6 ∷ [] }
+    ensures { IfOk result (λ sums. sums ≡ 5 ∷ 7 ∷ 9 ∷ []) }
+{
+    left.zip_by(alloc, right, &mut |l: u32, r: &u32| l.wrapping_add(*r))
+}
+
+fn sum_of_reference<N: ArrayLength<u32>>(array: &GenericArray<u32, N>) -> u32
+    requires { array.now ≡ 1 ∷ 2 ∷ 3 ∷ [] }
+    ensures { result ≡ 6 }
+{
+    array.fold_by(0, &mut |sum: u32, item: &u32| sum.wrapping_add(*item))
+}
+
+/// The sum, or an error where it is above 3.
+fn up_to_three(sum: u32, item: &u32) -> Result<u32, u32>
+    ensures { let total = (sum + item.now) % 2 ^ 32 in
+        result ≡ (if nat_lt 3 total then Err total else Ok total) }
+{
+    let sum = sum.wrapping_add(*item);
+    if sum > 3 { Err(sum) } else { Ok(sum) }
+}
+
+fn stopped_past_three_in_view(view: GenericArrayRef<'_, u32, U3>) -> Result<u32, u32>
+    requires { items_of_view view ≡ 1 ∷ 3 ∷ 9 ∷ [] }
+    ensures { result ≡ Err 4 }
+{
+    view.try_fold_by(0, &mut up_to_three)
+}
+
 // The fold of a map.
 
 fn digits_of_boxed(alloc: Global, array: BoxedArray<u32, U3>) -> Result<u32, AllocError>
@@ -111,15 +148,12 @@ fn calls_of_a_boxed_map(alloc: Global, array: BoxedArray<u32, U3>) -> u32
     ensures { (result ≡ 0) ⊎ (result ≡ 3) }
 {
     let mut calls = 0u32;
-    let mapped = array.map_by(
+    let _ = array.map_by(
         alloc,
         &mut |item: u32| {
             calls = calls.wrapping_add(1);
             item
         },
     );
-    match mapped {
-        Ok(_mapped) => calls,
-        Err(_refused) => calls,
-    }
+    calls
 }

@@ -9,19 +9,13 @@ mod boxed_arrays;
 #[cfg(test)]
 mod boxed_calls;
 #[cfg(test)]
-mod boxed_slices;
-#[cfg(test)]
 mod conversions;
 #[cfg(test)]
 mod flattened;
 #[cfg(test)]
 mod generic;
 #[cfg(test)]
-mod headers;
-#[cfg(test)]
 mod headline;
-#[cfg(test)]
-mod hex_digits;
 #[cfg(test)]
 mod kinds;
 #[cfg(test)]

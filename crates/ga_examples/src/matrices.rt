@@ -3,10 +3,10 @@ ghost use Rattle.generic_array.specs.Length.{FitsInline};
 ghost use Rattle.generic_array.specs.Rows.{rows};
 ghost use Rattle.std.specs.Int.{int_wrapping_add, w64};
 ghost use Rattle.std.specs.List.{flat_map, range_with_len, zip};
-ghost use Rattle.std.specs.Prelude.{◌≡◌, ℕ, ◌+◌, ◌*◌, ◌%◌, ◌^◌, ◌<◌, ◌↔◌, ◌++◌, IsTrue, length, map};
+ghost use Rattle.std.specs.Prelude.{◌≡◌, ℕ, ◌+◌, ◌*◌, ◌%◌, ◌^◌, ◌<◌, ◌↔◌, IsTrue, length, map};
 
 use ga_test_items::answers::has;
-use generic_array::sequence::{Concat, Flatten, Unflatten};
+use generic_array::sequence::{Flatten, Unflatten};
 use generic_array::{
     ArrayLength, BorrowedItems, Const, GenericArray, GenericArrayRef, InlineLength, U2, U3, U6,
 };
@@ -39,21 +39,6 @@ fn added<C: ArrayLength<i64> + InlineLength, const R: usize>(
         right,
         |l: GenericArray<i64, C>, r: GenericArray<i64, C>| row_sum(&l, &r),
     )
-}
-
-/// The rows of both, the upper ones first.
-fn stacked<T, C, const R: usize, const S: usize, const N: usize>(
-    upper: Rows<T, C, R>,
-    lower: Rows<T, C, S>,
-) -> Rows<T, C, N>
-where
-    T: Default + Drop,
-    C: ArrayLength<T> + InlineLength,
-    requires fits { FitsInline N }
-    requires sum { N ≡ R + S }
-    ensures { result ≡ upper ++ lower }
-{
-    upper.concat(lower)
 }
 
 /// The items of all rows, in order.
@@ -102,12 +87,6 @@ where
 {
     let items: GenericArray<T, N> = flat(matrix);
     cut(items)
-}
-
-fn two_threes(pairs: Rows<i64, U2, 3>) -> Rows<i64, U3, 2>
-    ensures { flat_map (λ row. row) result ≡ flat_map (λ row. row) pairs }
-{
-    reshaped(pairs, PhantomData::<GenericArray<i64, U6>>)
 }
 
 /// The rows of a native array of arrays.
@@ -219,9 +198,8 @@ fn pairs_are_made_added_joined_and_copied(rt: HostRuntime) {
     assert!(rt; are_equal(&copy_of(&pairs), &pairs));
     let sums: GenericArray<i64, U6> = flat(added(pairs, three_pairs()));
     assert!(rt; has(sums, &[2, -4, 6, 8, 10, 12]));
-    let longer: Rows<i64, U2, 4> = stacked(three_pairs(), of_native(&[[7, 8]]));
-    assert!(rt; longer[3].as_slice() == [7, 8].as_slice());
-    assert!(rt; two_threes(three_pairs())[1].as_slice() == [4, 5, 6].as_slice());
+    let threes: Rows<i64, U3, 2> = reshaped(three_pairs(), PhantomData::<GenericArray<i64, U6>>);
+    assert!(rt; threes[1].as_slice() == [4, 5, 6].as_slice());
     let counted: Rows<u64, U2, 3> = by_formula(&CountedOn { width: 2 });
     let counted: GenericArray<u64, U6> = flat(counted);
     assert!(rt; has(counted, &[0, 1, 2, 3, 4, 5]));

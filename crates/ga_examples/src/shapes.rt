@@ -3,9 +3,7 @@ ghost use Rattle.generic_array.specs.Views.{items_of_view};
 ghost use Rattle.std.specs.List.{flat_map};
 ghost use Rattle.std.specs.Prelude.{◌≡◌, ◌∷◌, [], IfOk};
 
-use generic_array::sequence::{
-    Concat, Flatten, Lengthen, Remove, Shorten, Split, Unflatten, iter_flat,
-};
+use generic_array::sequence::{Remove, Split, iter_flat};
 use generic_array::{
     GenericArray, GenericArrayMut, GenericArrayRef, LengthError, U1, U2, U3, U4, U5,
 };
@@ -13,38 +11,13 @@ use generic_array::{
 /// Two rows of two.
 type Square = GenericArray<GenericArray<u32, U2>, U2>;
 
-fn with_four_last(array: GenericArray<u32, U3>) -> GenericArray<u32, U4>
-    requires { array ≡ 1 ∷ 2 ∷ 3 ∷ [] }
-    ensures { result ≡ 1 ∷ 2 ∷ 3 ∷ 4 ∷ [] }
-{
-    array.append(4)
-}
+/// The first item of three, and the others.
+type Cut<'a> = (GenericArrayRef<'a, u32, U1>, GenericArrayRef<'a, u32, U2>);
 
-fn with_four_first(array: GenericArray<u32, U3>) -> GenericArray<u32, U4>
-    requires { array ≡ 1 ∷ 2 ∷ 3 ∷ [] }
-    ensures { result ≡ 4 ∷ 1 ∷ 2 ∷ 3 ∷ [] }
-{
-    array.prepend(4)
-}
+/// These for writing.
+type CutMut<'a> = (GenericArrayMut<'a, u32, U1>, GenericArrayMut<'a, u32, U2>);
 
-fn without_the_last(array: GenericArray<u32, U3>) -> (GenericArray<u32, U2>, u32)
-    requires { array ≡ 1 ∷ 2 ∷ 3 ∷ [] }
-    ensures others { result.0 ≡ 1 ∷ 2 ∷ [] }
-    ensures last { result.1 ≡ 3 }
-{
-    array.pop_back()
-}
-
-fn without_the_first(array: GenericArray<u32, U3>) -> (u32, GenericArray<u32, U2>)
-    requires { array ≡ 1 ∷ 2 ∷ 3 ∷ [] }
-    ensures { result ≡ (1, 2 ∷ 3 ∷ []) }
-{
-    array.pop_front()
-}
-
-fn view_cut_after_the_first<'a>(
-    view: GenericArrayRef<'a, u32, U3>,
-) -> (GenericArrayRef<'a, u32, U1>, GenericArrayRef<'a, u32, U2>)
+fn view_cut_after_the_first<'a>(view: GenericArrayRef<'a, u32, U3>) -> Cut<'a>
     requires { items_of_view view ≡ 1 ∷ 2 ∷ 3 ∷ [] }
     ensures first { items_of_view result.0 ≡ 1 ∷ [] }
     ensures second { items_of_view result.1 ≡ 2 ∷ 3 ∷ [] }
@@ -52,9 +25,7 @@ fn view_cut_after_the_first<'a>(
     view.split()
 }
 
-fn reference_cut_after_the_first<'a>(
-    array: &'a GenericArray<u32, U3>,
-) -> (GenericArrayRef<'a, u32, U1>, GenericArrayRef<'a, u32, U2>)
+fn reference_cut_after_the_first<'a>(array: &'a GenericArray<u32, U3>) -> Cut<'a>
     requires { array.now ≡ 1 ∷ 2 ∷ 3 ∷ [] }
     ensures first { items_of_view result.0 ≡ 1 ∷ [] }
     ensures second { items_of_view result.1 ≡ 2 ∷ 3 ∷ [] }
@@ -62,9 +33,7 @@ fn reference_cut_after_the_first<'a>(
     array.split()
 }
 
-fn writing_view_cut_after_the_first<'a>(
-    view: GenericArrayMut<'a, u32, U3>,
-) -> (GenericArrayMut<'a, u32, U1>, GenericArrayMut<'a, u32, U2>)
+fn writing_view_cut_after_the_first<'a>(view: GenericArrayMut<'a, u32, U3>) -> CutMut<'a>
     requires { view.slice.now ≡ 1 ∷ 2 ∷ 3 ∷ [] }
     ensures first { result.0.slice.now ≡ 1 ∷ [] }
     ensures second { result.1.slice.now ≡ 2 ∷ 3 ∷ [] }
@@ -72,9 +41,7 @@ fn writing_view_cut_after_the_first<'a>(
     view.split()
 }
 
-fn writing_view_of_an_array_cut<'a>(
-    array: &'a mut GenericArray<u32, U3>,
-) -> (GenericArrayMut<'a, u32, U1>, GenericArrayMut<'a, u32, U2>)
+fn writing_view_of_an_array_cut<'a>(array: &'a mut GenericArray<u32, U3>) -> CutMut<'a>
     requires { array.old ≡ 1 ∷ 2 ∷ 3 ∷ [] }
     ensures first { result.0.slice.now ≡ 1 ∷ [] }
     ensures second { result.1.slice.now ≡ 2 ∷ 3 ∷ [] }
@@ -95,18 +62,22 @@ fn both_halves_written(slice: &mut [u32])
     second.as_mut_slice()[2] = 8;
 }
 
-fn without_the_second(array: GenericArray<u32, U4>) -> (u32, GenericArray<u32, U3>)
+/// The first of four, and the others but the second, once two are removed.
+fn two_removed(array: GenericArray<u32, U4>) -> (u32, GenericArray<u32, U2>)
     requires { array ≡ 1 ∷ 2 ∷ 3 ∷ 4 ∷ [] }
-    ensures { result ≡ (2, 1 ∷ 3 ∷ 4 ∷ []) }
+    ensures { result ≡ (1, 4 ∷ 3 ∷ []) }
 {
-    array.remove_unchecked(1)
+    let (_second, others): (u32, GenericArray<u32, U3>) = array.remove(1);
+    others.swap_remove(0)
 }
 
-fn with_the_last_second(array: GenericArray<u32, U4>) -> (u32, GenericArray<u32, U3>)
+/// The same by the names of the Rust crate's unsafe calls.
+fn two_removed_unchecked(array: GenericArray<u32, U4>) -> (u32, GenericArray<u32, U2>)
     requires { array ≡ 1 ∷ 2 ∷ 3 ∷ 4 ∷ [] }
-    ensures { result ≡ (2, 1 ∷ 4 ∷ 3 ∷ []) }
+    ensures { result ≡ (1, 4 ∷ 3 ∷ []) }
 {
-    array.swap_remove_unchecked(1)
+    let (_second, others): (u32, GenericArray<u32, U3>) = array.remove_unchecked(1);
+    others.swap_remove_unchecked(0)
 }
 
 fn copy_of_rows(rows: &Square) -> Result<GenericArray<u32, U4>, LengthError>

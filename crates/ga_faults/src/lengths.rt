@@ -6,7 +6,6 @@ ghost use Rattle.generic_array.specs.Length.{FitsInline};
 ghost use Rattle.std.specs.Prelude.{◌≤◌};
 
 use ga_calls::first_wrong_at;
-use ga_headline::builds::fill_boxed;
 use ga_test_items::counted::{Counted, Counts};
 use ga_test_items::outcome::Outcome;
 use ga_test_items::played::{
@@ -67,11 +66,9 @@ const BOXED: [&str; 3] = [
 fn of_fills<'a, 'n, T: Item + Given<'a>, N: Unsigned>(
     alloc: Global,
     counts: &'a Counts,
-) -> [Played<'n>; 4] {
+) -> [Played<'n>; 3] {
     // No length that is played is greater.
     let given = N::USIZE.min(9000) as u32;
-    let mut items: Items<T> = Items::new(counts, given);
-    let filled = ends_built(fill_boxed::<T, N, _>(alloc, &mut items), counts);
     let mut items: Items<T> = Items::new(counts, given);
     let made = BoxedArray::<T, N>::try_boxed_from_iter_ref(alloc, &mut items);
     let of_items = ends_built(made, counts);
@@ -80,7 +77,6 @@ fn of_fills<'a, 'n, T: Item + Given<'a>, N: Unsigned>(
     let of_results = ends_made(made, counts);
     let defaults = ends_made(BoxedArray::<T, N>::default_boxed(alloc), counts);
     [
-        ("fill_boxed", 1, filled),
         ("BoxedArray::try_boxed_from_iter_ref", 1, of_items),
         (
             "BoxedArray::try_boxed_from_fallible_iter_ref",

@@ -9,8 +9,6 @@ ghost use Rattle.generic_array.specs.Steps.{MaySteps, StepsRun};
 ghost use Rattle.std.specs.Prelude.{◌≡◌, ◌+◌, ◌≤◌, List, ◌++◌, IfErr, IfOk, Ok, OnErr, length};
 ghost use Rattle.std.specs.Vec.{vec_capacity, vec_len};
 
-use crate::builds::build;
-use crate::calls::try_map;
 use generic_array::functional::{
     FunctionalSequence, Mapped, MappedError, MappedGenericSequence, MappedPlace, MappedSequence,
 };
@@ -76,7 +74,7 @@ where
         (vec_len replies.old + length steps.items ≤ vec_capacity replies.old) why) }
     ensures kept { vec_capacity replies.old ≤ vec_capacity replies.new }
 {
-    match try_map(s, mapped_place, f) {
+    match s.try_map_by(mapped_place, f) {
         // `walk` of what was made, written out: the checker gives up on the call with all these
         // bounds.
         Ok(Ok(mapped)) => {
@@ -144,7 +142,7 @@ where
         (vec_len replies.old + length steps.items ≤ vec_capacity replies.old) why) }
     ensures kept { vec_capacity replies.old ≤ vec_capacity replies.new }
 {
-    let made: S = match build(place, items) {
+    let made = match S::from_fallible_iter_ref(place, items) {
         Ok(made) => made,
         Err(error) => return Err(Stopped::Build(error)),
     };

@@ -80,10 +80,6 @@ fn one_to_four() -> GenericArray<u32, U4> {
 fn what_is_put_and_taken_again_is_gone(rt: HostRuntime) {
     let (array, item, sum) = put_then_pop::<u32, U4, U5, _, _>(one_to_four(), 8, true, sum_of);
     assert!(rt; item == 8 && sum == 18 && has(array, &[1, 2, 3, 4]));
-}
-
-#[test]
-fn what_is_taken_and_put_again_is_there(rt: HostRuntime) {
     let (array, sum) = pop_then_put::<u32, U4, U3, _, _>(one_to_four(), true, sum_of);
     assert!(rt; sum == 9 && has(array, &[1, 2, 3, 4]));
 }
@@ -101,6 +97,9 @@ fn what_is_split_and_joined_is_as_it_was(rt: HostRuntime) {
         sum_of,
     );
     assert!(rt; sum == 10 && has(none, &[]) && has(array, &[1, 2, 3, 4]));
+    let array = one_to_four();
+    let last: GenericArrayRef<u32, U2> = last_of::<u32, U4, U2, U2>(array.view());
+    assert!(rt; last.as_slice() == [3, 4].as_slice());
 }
 
 // What may be called with just the items that it is shown: an index that these have.
@@ -114,14 +113,7 @@ fn what_is_shown_may_be_asked_for(rt: HostRuntime) {
             requires { 3 < length items.now }
         { items[3] },
     );
-    assert!(rt; fourth == 9);
-}
-
-#[test]
-fn a_view_is_its_parts(rt: HostRuntime) {
-    let array = one_to_four();
-    let last: GenericArrayRef<u32, U2> = last_of::<u32, U4, U2, U2>(array.view());
-    assert!(rt; last.as_slice() == [3, 4].as_slice());
+    assert_eq!(rt; fourth, 9);
 }
 
 #[test]

@@ -9,7 +9,7 @@ use Rattle.std.proofs.Common.{ap, subst, sym}
 pub run_steps-requires : goal.run_steps-requires
 run_steps-requires g c =
     let run = subst (λ answer. TryClosureRun (CallAt g.S.GenericSequence.entry (goal.F-step g)) c.args.f.now
-    (g.S.AsSlice.items c.args.s) answer c.try_map.new.f)
+    (g.S.AsSlice.items c.args.s) answer c.try_map_by.new.f)
     (ap (built_items g.S.Mapped.Sequence.AsSlice.items) c.in-Ok-Ok.field-0-is) c.in-Ok-Ok.ensures.run in
     record {
       callable = subst (λ items. MaySteps (MayCallAt (λ slice. slice.now) (goal.G-pre g))
@@ -20,7 +20,7 @@ run_steps-requires g c =
 pub returns-in-Ok-clause-ok : goal.returns-in-Ok-clause-ok
 returns-in-Ok-clause-ok g c =
     let run = subst (λ answer. TryClosureRun (CallAt g.S.GenericSequence.entry (goal.F-step g)) c.args.f.now
-    (g.S.AsSlice.items c.args.s) answer c.try_map.new.f)
+    (g.S.AsSlice.items c.args.s) answer c.try_map_by.new.f)
     (ap (built_items g.S.Mapped.Sequence.AsSlice.items) c.in-Ok-Ok.field-0-is) c.in-Ok-Ok.ensures.run in
     let (given, more, ran, account) = rw c.into_two_ended-left.ensures at c.in-Ok.ensures.run in
     (_, given, run, more, ran, account)
@@ -28,6 +28,6 @@ returns-in-Ok-clause-ok g c =
 pub returns-in-Err-run_steps-clause-stopped : goal.returns-in-Err-run_steps-clause-stopped
 returns-in-Err-run_steps-clause-stopped g c =
     let run = subst (λ answer. TryClosureRun (CallAt g.S.GenericSequence.entry (goal.F-step g)) c.args.f.now
-    (g.S.AsSlice.items c.args.s) answer c.try_map.new.f)
+    (g.S.AsSlice.items c.args.s) answer c.try_map_by.new.f)
     (ap (built_items g.S.Mapped.Sequence.AsSlice.items) c.in-Ok-Ok.field-0-is) c.in-Ok-Ok.ensures.run in
     (_, run)

@@ -1,4 +1,4 @@
-use Rattle.ga_core_examples.proofs.nested.each_has_its_length.Given as goal
+use Rattle.ga_core_examples.proofs.slices.each_has_its_length.Given as goal
 use Rattle.std.proofs.Common.{◌≡◌, ℕ, ◌<◌, [], get_or, length}
 
 abbrev pub invariant-loop-block : goal.invariant-loop-block

@@ -1,5 +1,5 @@
 use Rattle.ga_core.proofs.RowSetLemmas.{rows_mapped_all, rows_mapped_more}
-use Rattle.ga_core_examples.proofs.row_loops.rows_turned.Goals as goal
+use Rattle.ga_core_examples.proofs.row_writes.rows_turned.Goals as goal
 use Rattle.std.proofs.Common.{reverse, rules}
 
 pub loop-index-preserved : goal.loop-index-preserved

@@ -1,2 +1,0 @@
-pub mod BehindErrorLemmas
-pub mod CountedLemmas
