@@ -34,3 +34,5 @@ mod own_lengths;
 mod runs_of_steps;
 #[cfg(test)]
 mod shapes;
+#[cfg(test)]
+mod uses;
