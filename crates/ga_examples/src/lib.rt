@@ -28,3 +28,5 @@ mod own_lengths;
 mod runs_of_steps;
 #[cfg(test)]
 mod shapes;
+#[cfg(test)]
+mod uses;

@@ -1,11 +1,11 @@
-//! Words, texts and statuses; in the files beside it, readers, writers and memory that fail.
+//! Words, texts and statuses; in the files beside it, readers, writers and memory that fail. Long
+//! inputs and streams in each manner are in `trials/sweeps/ga_rows`.
 mod doubles;
 mod faults;
 mod refused_memory;
-mod sweeps;
 
-use crate::{Mode, Status, Width, parse_words, run, run_listed};
-use doubles::{Manner, Sink, Source, WHOLE, repeated};
+use crate::{Mode, Width, parse_words, run_listed};
+use doubles::{Sink, WHOLE};
 use std::alloc::{AllocError, Global};
 use std::env::Args;
 use std::io;
@@ -147,71 +147,5 @@ fn a_fault_of_standard_error_is_ignored(rt: HostRuntime) -> Result<(), Fail> {
     let words = Ok(listed.into_iter());
     let end = run_listed(rt.alloc(), words, &mut input, &mut out, &mut err);
     assert!(rt; end == ExitCode::from(2) && err.writes() == 1 && out.is_empty());
-    Ok(())
-}
-
-#[test]
-fn three_million_bytes_are_read_in_large_pieces(rt: HostRuntime) -> Result<(), Fail> {
-    let input = vec![in rt.alloc(); 0u8; 3_000_000]?;
-    let text = repeated(rt.alloc(), b"0\n", 187_500, b"")?;
-    let words = words_of(rt.alloc(), "sum 16")?;
-    let mut source = Source::new(input.as_slice(), WHOLE, None);
-    let mut sink = Sink::new(text.as_slice(), WHOLE, usize::MAX);
-    let end = run(rt.alloc(), words.as_slice(), &mut source, &mut sink);
-    assert!(rt; end == Status::Whole && sink.has_text() && source.reads() < 100);
-    Ok(())
-}
-
-#[test]
-fn a_reader_is_read_to_its_end_or_its_fault(rt: HostRuntime) -> Result<(), Fail> {
-    let cases = [
-        (100_000, None, Status::Whole),
-        (100_001, None, Status::Rest),
-        (0, None, Status::Whole),
-        (100_001, Some(ErrorKind::Other), Status::Fault),
-        (0, Some(ErrorKind::Other), Status::Fault),
-        // The reader's want of memory is not the program's.
-        (0, Some(ErrorKind::OutOfMemory), Status::Fault),
-    ];
-    for (count, fault, status) in cases {
-        let input = vec![in rt.alloc(); 255u8; count]?;
-        let rest: &[u8] = if count % 4 == 0 { b"" } else { b"rest 255\n" };
-        let text = repeated(rt.alloc(), b"255 255 255 255\n", count / 4, rest)?;
-        let manner = Manner {
-            step: 1,
-            period: 1000,
-            once: 0,
-        };
-        let mut source = Source::new(input.as_slice(), manner, fault);
-        let mut sink = Sink::new(text.as_slice(), WHOLE, usize::MAX);
-        let is_ended = run(rt.alloc(), &[], &mut source, &mut sink) == status;
-        let is_told = if fault.is_some() {
-            sink.writes() == 0
-        } else {
-            sink.has_text()
-        };
-        assert!(rt; is_ended && is_told, "{count} bytes");
-    }
-    Ok(())
-}
-
-/// Two copies of the one, and 127 of the other behind them.
-fn two_and_many(alloc: Global, first: &[u8], others: &[u8]) -> Result<Vec<u8>, AllocError> {
-    let many = repeated(alloc, others, 127, b"")?;
-    repeated(alloc, first, 2, many.as_slice())
-}
-
-#[test]
-fn a_line_that_no_longer_fits_begins_the_next_piece(rt: HostRuntime) -> Result<(), Fail> {
-    // Lines of 37 bytes and of 64: behind the first 128, a piece of 8 KiB has room for 54.
-    let short = [10, 10, 10, 10, 10, 0, 0, 0, 0, 0, 0, 0, 0, 0, 0, 0];
-    let line = b"255 255 255 255 255 255 255 255 255 255 255 255 255 255 255 255\n";
-    let input = two_and_many(rt.alloc(), &short, &[255; 16])?;
-    let text = two_and_many(rt.alloc(), b"10 10 10 10 10 0 0 0 0 0 0 0 0 0 0 0\n", line)?;
-    let words = words_of(rt.alloc(), "dec 16")?;
-    let mut source = Source::new(input.as_slice(), WHOLE, None);
-    let mut sink = Sink::new(text.as_slice(), WHOLE, usize::MAX);
-    let end = run(rt.alloc(), words.as_slice(), &mut source, &mut sink);
-    assert!(rt; end == Status::Whole && sink.has_text());
     Ok(())
 }

@@ -1,0 +1,8 @@
+//! Callers of `ga_hashes`, `ga_ciphers` and `ga_uses`, of any length and any hash function or cipher
+//! where they can be.
+mod ciphers;
+mod digests;
+mod key_table;
+mod keys;
+mod matrix_laws;
+mod udp;

@@ -1,0 +1,82 @@
+//! Keys of a table: put in, taken out and listed; and the same keys in std's maps, since arrays have
+//! an order and a hash.
+ghost use Rattle.ga_uses.specs.KeyTable.{entries_from_to, value_at, with_entry};
+ghost use Rattle.std.specs.Cmp.Lexicographic.{pointwise};
+ghost use Rattle.std.specs.HashMap as hash;
+ghost use Rattle.std.specs.Prelude.{◌≡◌, ◌≢◌, [], IfOk, IsTrue, OnErr, OnOk, Some, map, nat_eq};
+
+use ga_uses::key_table::KeyTable;
+use generic_array::{AllocError, ArrayLength, GenericArray};
+use std::alloc::Global;
+use std::collections::{BTreeMap, HashMap};
+
+/// A table of two entries, of which the second stays where the keys are the same.
+fn table_of_two<N: ArrayLength<u8>>(
+    alloc: Global,
+    first: (GenericArray<u8, N>, u64),
+    second: (GenericArray<u8, N>, u64),
+) -> Result<KeyTable<N, u64>, AllocError>
+    ensures { IfOk result (λ table. table
+        ≡ with_entry (with_entry [] first.0 first.1) second.0 second.1) }
+{
+    let mut table = KeyTable::new(alloc);
+    let _none = table.insert(first.0, first.1)?;
+    let _old = table.insert(second.0, second.1)?;
+    Ok(table)
+}
+
+/// Whether a key that was taken out is gone, which it always is, and the other keeps its value.
+fn taken_out<N: ArrayLength<u8>, V: Drop>(
+    table: &mut KeyTable<N, V>,
+    key: &GenericArray<u8, N>,
+    other: &GenericArray<u8, N>,
+) -> bool
+    requires { other.now ≢ key.now }
+    ensures gone { IsTrue result }
+    ensures kept { value_at table.new other.now ≡ value_at table.old other.now }
+{
+    let _value = table.remove(key);
+    table.get(key).is_none()
+}
+
+/// The values of the entries from one key up to another, in order.
+fn values_between<N: ArrayLength<u8>>(
+    alloc: Global,
+    table: &KeyTable<N, u64>,
+    from: &GenericArray<u8, N>,
+    to: &GenericArray<u8, N>,
+) -> Result<Vec<u64>, AllocError>
+    ensures { IfOk result (λ values. values.items
+        ≡ map (λ entry. entry.1) (entries_from_to table.now from.now to.now)) }
+{
+    let entries = table.range(from, to).iter();
+    Ok(entries.map(|entry| entry.1).collect(alloc)?)
+}
+
+/// Puts the value at the key of std's sorted map, and returns the value that was there. The entries
+/// are then those that a `KeyTable` would have.
+fn put_in_tree<N: ArrayLength<u8>, V: Drop>(
+    map: &mut BTreeMap<GenericArray<u8, N>, V>,
+    key: GenericArray<u8, N>,
+    value: V,
+) -> Result<Option<V>, AllocError>
+    ensures old { IfOk result (λ old. old ≡ value_at map.old.entries key) }
+    ensures entries { OnOk result (map.new.entries ≡ with_entry map.old.entries key value) }
+    ensures err { OnErr result (map.new.entries ≡ map.old.entries) }
+{
+    Ok(map.insert(key, value)?)
+}
+
+/// Puts the value at the key of std's hashed map, and returns the value that was there.
+fn put_in_hashes<N: ArrayLength<u8>, V: Drop>(
+    map: &mut HashMap<GenericArray<u8, N>, V>,
+    key: GenericArray<u8, N>,
+    value: V,
+) -> Result<Option<V>, AllocError>
+    ensures old { IfOk result (λ old. old ≡ hash.get (pointwise nat_eq) map.old key) }
+    ensures updates { OnOk result
+        (hash.Updates (pointwise nat_eq) map.old map.new key (Some value)) }
+    ensures err { OnErr result (hash.IsUnchanged map.old map.new) }
+{
+    Ok(map.insert(key, value)?)
+}
