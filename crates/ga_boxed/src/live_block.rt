@@ -119,7 +119,7 @@ impl<T> LiveBlock<T> {
     // Takes the first item. Its slot isn't used again.
     #[inline]
     pub(crate) fn take_first(&mut self) -> T
-        requires some { self.old.items ≢ [] }
+        requires enough { self.old.items ≢ [] }
         ensures items { self.old.items ≡ result ∷ self.new.items }
         ensures room { self.new.room ≡ self.old.room }
     {
@@ -144,7 +144,7 @@ impl<T> LiveBlock<T> {
     // Takes the last item. Its slot is room for another.
     #[inline]
     pub(crate) fn take_last(&mut self) -> T
-        requires some { self.old.items ≢ [] }
+        requires enough { self.old.items ≢ [] }
         ensures items { self.old.items ≡ self.new.items ++ result ∷ [] }
         ensures room { self.new.room ≡ self.old.room + 1 }
     {

@@ -144,7 +144,7 @@ impl<T: Default + Drop, N: ArrayLength<T>> GenericArrayIter<T, N> {
     // Takes the first item that is left. There is one.
     #[inline]
     fn take_first(&mut self) -> T
-        requires some { 0 < length self.old }
+        requires enough { 0 < length self.old }
         ensures { self.old ≡ result ∷ self.new }
     {
         let first = self.front;
@@ -155,7 +155,7 @@ impl<T: Default + Drop, N: ArrayLength<T>> GenericArrayIter<T, N> {
     // Takes the last item that is left. There is one.
     #[inline]
     fn take_last(&mut self) -> T
-        requires some { 0 < length self.old }
+        requires enough { 0 < length self.old }
         ensures { self.old ≡ self.new ++ result ∷ [] }
     {
         let last = self.back - 1;

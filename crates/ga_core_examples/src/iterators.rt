@@ -5,7 +5,7 @@ use ga_core::{AllocError, ArrayLength, GenericArray, GenericArrayIter, LengthErr
 use std::mem;
 
 fn total<N: ArrayLength<u32>>(array: GenericArray<u32, N>) -> u32
-    requires fits { sum array < 2 ^ 32 }
+    requires bound { sum array < 2 ^ 32 }
     ensures { result ≡ sum array }
 {
     let mut total = 0;

@@ -33,7 +33,7 @@ fn all_rows_written(slice: &mut [u8])
 fn firsts_of_rows<W: ArrayLength<u8>, N: ArrayLength<u8>>(
     bytes: &[u8],
 ) -> Result<GenericArray<u8, N>, LengthError>
-    requires some { 0 < W.USIZE }
+    requires width { 0 < W.USIZE }
     requires fits { FitsInline N.USIZE }
     ensures is_ok { IsOk result ↔ (length bytes.now / W.USIZE ≡ N.USIZE) }
     ensures ok { IfOk result (λ firsts. firsts ≡ map (λ row. slice_index row 0) (rows W.USIZE bytes.now)) }

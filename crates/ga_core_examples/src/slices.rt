@@ -19,7 +19,7 @@ fn behind_first<N: ArrayLength<u8>>(array: &GenericArray<u8, N>) -> &[u8]
 }
 
 fn sum_of_references<N: ArrayLength<u8>>(array: &GenericArray<u8, N>) -> u64
-    requires fits { sum array.now < 2 ^ 64 }
+    requires bound { sum array.now < 2 ^ 64 }
     ensures { result ≡ sum array.now }
 {
     array.into_iter().map(|item: &u8| u64::from(*item)).sum()

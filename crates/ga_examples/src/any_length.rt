@@ -152,7 +152,7 @@ fn value_from_lowest<N: Unsigned>(coefficients: BoxedArray<u32, N>, x: u32) -> u
 // The sum, where it fits its type. Its condition is one line of proof.
 
 fn sum_of<N: ArrayLength<u32>>(view: GenericArrayRef<'_, u32, N>) -> u32
-    requires fits { sum (items_of_view view) < 2 ^ 32 }
+    requires bound { sum (items_of_view view) < 2 ^ 32 }
     ensures { result ≡ sum (items_of_view view.entry) }
 {
     total_by(view, 0, &mut |total: u32, item: &u32| total + *item)

@@ -101,7 +101,7 @@ fn items_counted<N: Unsigned>(array: &BoxedArray<u8, N>) -> (usize, usize)
 }
 
 fn sum_of_references<N: Unsigned>(array: &BoxedArray<u8, N>) -> u64
-    requires fits { sum array.now < 2 ^ 64 }
+    requires bound { sum array.now < 2 ^ 64 }
     ensures { result ≡ sum array.now }
 {
     array.into_iter().map(|item: &u8| u64::from(*item)).sum()

@@ -60,7 +60,7 @@ where
     C: ArrayLength<T> + InlineLength,
     N: ArrayLength<T> + InlineLength,
     requires fits { FitsInline R }
-    requires some { 0 < C.USIZE }
+    requires width { 0 < C.USIZE }
     requires area { N.USIZE ≡ R * C.USIZE }
     ensures cut { result ≡ rows C.USIZE items }
     ensures joined { flat_map (λ row. row) result ≡ items }
@@ -80,7 +80,7 @@ where
     D: ArrayLength<T> + InlineLength,
     N: ArrayLength<T> + InlineLength,
     requires fits { FitsInline S }
-    requires some { 0 < D.USIZE }
+    requires width { 0 < D.USIZE }
     requires before { N.USIZE ≡ R * C.USIZE }
     requires after { N.USIZE ≡ S * D.USIZE }
     ensures { flat_map (λ row. row) result ≡ flat_map (λ row. row) matrix }

@@ -11,7 +11,7 @@ use std::test::Fail;
 
 /// The sum of the numbers, which has to fit.
 fn total(numbers: &[u32]) -> u32
-    requires fits { sum numbers.now < 2 ^ 32 }
+    requires bound { sum numbers.now < 2 ^ 32 }
     ensures { result ≡ sum numbers.now }
 {
     numbers.iter().sum()

@@ -33,7 +33,7 @@ impl<N: ArrayLength<u8>> Model for BlockBuffer<N> {
 impl<N: ArrayLength<u8>> BlockBuffer<N> {
     /// A buffer to which nothing was fed.
     pub fn new() -> Self
-        requires some { 0 < N.USIZE }
+        requires width { 0 < N.USIZE }
         requires fits { FitsInline N.USIZE }
         ensures kept { result.kept ≡ [] }
         ensures len { result.len ≡ 0 }
@@ -72,7 +72,7 @@ impl<N: ArrayLength<u8>> BlockBuffer<N> {
     // can say of the buffer that blocks aren't empty.
     fn feed_blocks<F: FnMut(&[u8])>(&mut self, bytes: &[u8], f: &mut F)
         requires callable { MayTakeBlocks F.step F.pre N.USIZE f.old (self.old.kept ++ bytes.now) }
-        ensures some { 0 < N.USIZE }
+        ensures width { 0 < N.USIZE }
         ensures blocks { TakesBlocks F.step N.USIZE f.old (self.old.kept ++ bytes.now) f.new }
         ensures kept { self.new.kept ≡ chunk_rest N.USIZE (self.old.kept ++ bytes.now) }
         ensures len { self.new.len ≡ count_more self.old.len bytes.now }
@@ -150,7 +150,7 @@ pub fn feed_pieces<N: ArrayLength<u8>, F: FnMut(&[u8])>(
     pieces: &[&[u8]],
     f: &mut F,
 ) -> BlockBuffer<N>
-    requires some { 0 < N.USIZE }
+    requires width { 0 < N.USIZE }
     requires fits { FitsInline N.USIZE }
     requires callable { MayTakeBlocks F.step F.pre N.USIZE f.old
         (flat_map (λ piece. piece.now) pieces.now) }
@@ -169,7 +169,7 @@ pub fn feed_pieces<N: ArrayLength<u8>, F: FnMut(&[u8])>(
 /// Calls `f` at the blocks of a message that comes in pieces, and of its padding. Together they are
 /// whole blocks.
 pub fn padded_blocks<N: ArrayLength<u8>, F: FnMut(&[u8])>(pieces: &[&[u8]], f: &mut F)
-    requires some { 0 < N.USIZE }
+    requires width { 0 < N.USIZE }
     requires fits { FitsInline N.USIZE }
     requires len { length (flat_map (λ piece. piece.now) pieces.now) < 2 ^ 61 }
     requires callable { MayTakeBlocks F.step F.pre N.USIZE f.old
@@ -221,7 +221,7 @@ fn hand_on_rows<N: ArrayLength<u8>, F: FnMut(&[u8])>(
     bytes: &[u8],
     f: &mut F,
 )
-    requires some { 0 < N.USIZE }
+    requires width { 0 < N.USIZE }
     requires none_kept { kept.old ≡ [] }
     requires callable { MayTakeBlocks F.step F.pre N.USIZE f.old bytes.now }
     ensures blocks { TakesBlocks F.step N.USIZE f.old bytes.now f.new }

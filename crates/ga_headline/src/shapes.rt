@@ -160,7 +160,7 @@ where
     requires same_width { Flat.Unflatten.WIDTH ≡ Rows.WIDTH }
     requires same_items { (flat : Flat) → Flat.Unflatten.items flat ≡ Rows.output_items flat }
     requires same_slice { (flat : Flat) → Flat.AsSlice.items flat ≡ Rows.output_items flat }
-    requires some { 0 < Rows.WIDTH }
+    requires width { 0 < Rows.WIDTH }
     requires callable { (seen : _) → seen.now ≡ flat_map (λ row. row) (Rows.row_items rows)
         → S.pre see seen }
     ensures rows { Flat.Unflatten.output_rows result.0 ≡ Rows.row_items rows }

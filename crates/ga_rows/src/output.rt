@@ -45,7 +45,7 @@ fn rows_of<N: ArrayLength<u8>, W: Write>(
     mode: Mode,
     w: &mut W,
 ) -> Result<bool, io::Error>
-    requires some { 0 < N.USIZE }
+    requires width { 0 < N.USIZE }
     requires few { N.USIZE ≤ 16 }
     ensures text { OnOk result (Appends (W.contents w.old) (W.contents w.new)
         (lines_of mode N.USIZE input.now)) }

@@ -164,7 +164,7 @@ impl<T> Cells<T> {
     pub(crate) fn put(&mut self, base: Base<T>, index: usize, item: T)
         requires at { base.ptr ≡ self.old.at }
         requires index { index ≡ self.old.passed + length self.old.items }
-        requires some { 0 < self.old.room }
+        requires room { 0 < self.old.room }
         ensures at { self.new.at ≡ self.old.at }
         ensures passed { self.new.passed ≡ self.old.passed }
         ensures items { self.new.items ≡ self.old.items ++ item ∷ [] }
@@ -192,7 +192,7 @@ impl<T> Cells<T> {
     pub(crate) fn take_first(&mut self, base: Base<T>, index: usize) -> T
         requires at { base.ptr ≡ self.old.at }
         requires index { index ≡ self.old.passed }
-        requires some { self.old.items ≢ [] }
+        requires enough { self.old.items ≢ [] }
         ensures at { self.new.at ≡ self.old.at }
         ensures passed { self.new.passed ≡ self.old.passed + 1 }
         ensures items { self.old.items ≡ result ∷ self.new.items }
@@ -206,7 +206,7 @@ impl<T> Cells<T> {
     pub(crate) fn take_last(&mut self, base: Base<T>, index: usize) -> T
         requires at { base.ptr ≡ self.old.at }
         requires index { index + 1 ≡ self.old.passed + length self.old.items }
-        requires some { self.old.items ≢ [] }
+        requires enough { self.old.items ≢ [] }
         ensures at { self.new.at ≡ self.old.at }
         ensures passed { self.new.passed ≡ self.old.passed }
         ensures items { self.old.items ≡ self.new.items ++ result ∷ [] }

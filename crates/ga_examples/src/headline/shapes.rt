@@ -22,7 +22,7 @@ fn cut_and_joined<
 where
     GenericArray<T, W>: Default,
     requires area { N.USIZE ≡ R.USIZE * W.USIZE }
-    requires some { 0 < W.USIZE }
+    requires width { 0 < W.USIZE }
     ensures array { result.0 ≡ array }
     ensures count { result.1 ≡ R.USIZE }
 {
@@ -45,7 +45,7 @@ fn joined_and_cut<
 where
     GenericArray<T, W>: Default,
     requires area { N.USIZE ≡ R.USIZE * W.USIZE }
-    requires some { 0 < W.USIZE }
+    requires width { 0 < W.USIZE }
     requires fits { FitsInline N.USIZE }
     ensures { result ≡ rows }
 {

@@ -16,7 +16,7 @@ feed_pieces-buffer-requires-clause-callable g c =
     (rows width (chunk_rest width message ++ last))
     (MayTake-along (λ slice. slice.now) (goal.F-step g) (goal.F-pre g) width c.args.f.now (rows width (message ++ last))
     (rows width message ++ rows width (chunk_rest width message ++ last))
-    (rows-joined width c.requires.some message last) c.requires.callable)
+    (rows-joined width c.requires.width message last) c.requires.callable)
 
 pub finish-requires-clause-callable : goal.finish-requires-clause-callable
 finish-requires-clause-callable g c =
@@ -30,7 +30,7 @@ finish-requires-clause-callable g c =
     ap (λ p. message ++ p)
     (sym (padding-kept width message kept c.feed_pieces-buffer.ensures.kept c.feed_pieces-buffer.result.len len)
     ∙ sym (append-nil last)) in
-    MayTake-more (λ slice. slice.now) (goal.F-step g) width c.requires.some
+    MayTake-more (λ slice. slice.now) (goal.F-step g) width c.requires.width
     (goal.F-pre g) c.args.f.now c.feed_pieces-buffer.new.f (with_padding width message) message kept last [] whole
     c.requires.callable (record {
       blocks = c.feed_pieces-buffer.ensures.blocks;
@@ -50,5 +50,5 @@ returns-clause-blocks g c =
     }) len
 
 pub returns-clause-whole : goal.returns-clause-whole
-returns-clause-whole g c = with_padding-whole g.N.Unsigned.USIZE c.requires.some
+returns-clause-whole g c = with_padding-whole g.N.Unsigned.USIZE c.requires.width
     (flat_map (λ piece. piece.now) c.args.pieces.now)

@@ -1,10 +1,8 @@
-//! The shapes of inline arrays. Each moves what an array's iterator has left into builders, or over
-//! rows.
+//! The shapes of inline arrays. Each moves what an array's iterator has left into builders.
 //!
 //! The iterator is made before the builder: so the compiler knows the builder's position. What is
 //! reordered is reordered before that: so it knows the iterator's bounds.
 ghost use Rattle.ga_core.specs.Length.{FitsInline};
-ghost use Rattle.generic_array.specs.Rows.{rows};
 ghost use Rattle.std.specs.List.{swap_remove};
 ghost use Rattle.std.specs.Prelude.{◌≡◌, ◌+◌, ◌*◌, ◌<◌, ◌≤◌, [], ◌∷◌, ◌++◌, drop, get_or, length, map, remove, take};
 
@@ -190,9 +188,11 @@ where
     #[inline(always)]
     fn unflatten(self) -> GenericArray<GenericArray<T, W>, R> {
         let mut items = self.into_iter();
-        let mut rows = GenericArray::<GenericArray<T, W>, R>::default();
-        deal_rows(&mut items, rows.as_mut_slice());
-        rows
+        let mut rows = ArrayBuilder::new();
+        for _row in 0..R::USIZE {
+            rows.push(next_array(&mut items));
+        }
+        rows.finish()
     }
 }
 
@@ -229,19 +229,4 @@ fn swap_to_end<T>(items: &mut [T], index: usize)
 {
     let last = items.len() - 1;
     items.swap(index, last);
-}
-
-// Moves the items that are left over the rows, in order.
-#[inline(always)]
-fn deal_rows<T: Default + Drop, N: ArrayLength<T>, W: ArrayLength<T>>(
-    items: &mut GenericArrayIter<T, N>,
-    grid: &mut [GenericArray<T, W>],
-)
-    requires len { length items.old ≡ length grid.old * W.USIZE }
-    requires some { 0 < W.USIZE }
-    ensures { grid.new ≡ rows W.USIZE items.old }
-{
-    for row in grid.iter_mut() {
-        items.move_to(row.as_mut_slice());
-    }
 }

@@ -5,7 +5,7 @@ pub take_first-requires : goal.take_first-requires
 take_first-requires g c = record {
   at = sym c.self.invariant.at;
   index = sym c.self.invariant.passed;
-  some = λ none. c.requires.some (sym (ap (λ b. b.items) c.self.view_is) ∙ none);
+  enough = λ none. c.requires.enough (sym (ap (λ b. b.items) c.self.view_is) ∙ none);
 }
 
 pub returns : goal.returns

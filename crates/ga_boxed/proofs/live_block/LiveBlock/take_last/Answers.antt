@@ -10,11 +10,11 @@ last-place start end passed items at long apart = omega arith
 pub take_last-requires : goal.take_last-requires
 take_last-requires g c =
     let held = c.self.invariant in
-    let apart = bounds_apart _ _ _ _ c.self.view_is held.items c.requires.some in
+    let apart = bounds_apart _ _ _ _ c.self.view_is held.items c.requires.enough in
     record {
       at = sym held.at;
       index = last-place _ _ _ _ held.passed held.items apart;
-      some = λ none. c.requires.some (sym (ap (λ b. b.items) c.self.view_is) ∙ none);
+      enough = λ none. c.requires.enough (sym (ap (λ b. b.items) c.self.view_is) ∙ none);
     }
 
 pub returns : goal.returns

@@ -2,7 +2,7 @@ use Rattle.ga_core.proofs.LeftLemmas.{left-last, left-some}
 use Rattle.ga_core.proofs.array_iter.GenericArrayIter.take_last.Goals as goal
 
 pub take_at-requires-clause-in_bounds : goal.take_at-requires-clause-in_bounds
-take_at-requires-clause-in_bounds g c = (left-some _ _ c.self.invariant c.self.view_is c.requires.some).2
+take_at-requires-clause-in_bounds g c = (left-some _ _ c.self.invariant c.self.view_is c.requires.enough).2
 
 pub returns : goal.returns
-returns g c = left-last _ _ c.self.invariant c.self.view_is c.requires.some c.take_at.ensures.item c.take_at.ensures.left
+returns g c = left-last _ _ c.self.invariant c.self.view_is c.requires.enough c.take_at.ensures.item c.take_at.ensures.left
