@@ -14,7 +14,7 @@ module _ (len left room others : ℕ) (some : left ≡ suc others) (fits : len +
 
 pub take_first-requires : goal.take_first-requires
 take_first-requires g c = record {
-  some = some_left _ _ _ _ c.loop-moved.invariant.left c.loop-moved-test.true c.USIZE-moved-end.ensures;
+  enough = some_left _ _ _ _ c.loop-moved.invariant.left c.loop-moved-test.true c.USIZE-moved-end.ensures;
 }
 
 pub push_reserved-requires : goal.push_reserved-requires

@@ -8,7 +8,7 @@ put-requires g c =
     record {
       at = sym held.at;
       index = sym (ap (λ passed. passed + length self.cells.items) held.passed ∙ held.items);
-      some = subst (λ room. 0 < room) (sym (ap (λ b. b.room) c.self.view_is)) c.requires.room;
+      room = subst (λ room. 0 < room) (sym (ap (λ b. b.room) c.self.view_is)) c.requires.room;
     }
 
 pub returns : goal.returns

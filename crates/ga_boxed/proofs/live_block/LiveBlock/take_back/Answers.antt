@@ -7,7 +7,7 @@ returns-then-self g c = (none_held _ _ _ _ c.self.view_is c.self.invariant.items
 
 pub take_last-requires : goal.take_last-requires
 take_last-requires g c = record {
-  some = some_held _ _ _ _ c.self.view_is c.self.invariant.items c.if-self.false;
+  enough = some_held _ _ _ _ c.self.view_is c.self.invariant.items c.if-self.false;
 }
 
 pub returns : goal.returns

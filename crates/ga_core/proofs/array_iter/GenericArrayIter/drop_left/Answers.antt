@@ -13,5 +13,5 @@ returns g c = c.loop-item.invariant ∙ drop_of_length-le c.args.self.now
 
 pub take_first-requires : goal.take_first-requires
 take_first-requires g c = record {
-  some = left-stays c.args.self.now c.loop-item.self c.loop-item-test.true c.len-item-end.ensures c.loop-item.invariant;
+  enough = left-stays c.args.self.now c.loop-item.self c.loop-item-test.true c.len-item-end.ensures c.loop-item.invariant;
 }

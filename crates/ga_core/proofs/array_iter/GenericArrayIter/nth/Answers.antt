@@ -21,5 +21,5 @@ pass_front-requires g c = record { in_bounds = le_of_lt (place-in c.if-n-len.tru
 
 pub take_first-requires : goal.take_first-requires
 take_first-requires g c = record {
-  some = left-stays c.args.self.now c.pass_front.new.self c.if-n-len.true c.len.ensures c.pass_front.ensures;
+  enough = left-stays c.args.self.now c.pass_front.new.self c.if-n-len.true c.len.ensures c.pass_front.ensures;
 }
