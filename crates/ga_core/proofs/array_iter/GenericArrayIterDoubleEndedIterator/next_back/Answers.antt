@@ -6,4 +6,4 @@ returns-then-self-clause-steps g c =
     let none = left-none _ _ c.self.invariant c.self.view_is c.if-self.true in (none, none)
 
 pub take_last-requires : goal.take_last-requires
-take_last-requires g c = record { some = left-more _ _ c.self.invariant c.self.view_is c.if-self.false }
+take_last-requires g c = record { enough = left-more _ _ c.self.invariant c.self.view_is c.if-self.false }

@@ -6,4 +6,4 @@ returns-then-self-clause-steps g c =
     let none = left-none _ _ c.self.invariant c.self.view_is c.if-self.true in (none, none)
 
 pub take_first-requires : goal.take_first-requires
-take_first-requires g c = record { some = left-more _ _ c.self.invariant c.self.view_is c.if-self.false }
+take_first-requires g c = record { enough = left-more _ _ c.self.invariant c.self.view_is c.if-self.false }
