@@ -17,7 +17,7 @@ sys.path[:0] = map(str, [HERE / "bench", HERE / "diff", TOP / "tools" / "check.d
 
 import runs
 import sides
-from copies import copy_crates
+from copies import copy_crates, take_proved
 
 # What has LIBRARIES, `our_modules` and `driver_sources`, by the name of its folder.
 CRATES = {"bench": sides, "diff": runs}
@@ -135,6 +135,7 @@ def build(folder, name):
     """Builds both sides of bench or diff, and answers where the Rust program stands."""
     step("proving and building ours; the first time all crates below it too, for half an hour")
     copy_crates(folder / "ours")
+    take_proved(folder / "ours")
     add_sides(folder / "ours")
     said(["rt", "lib"], folder / "ours.log", cwd=folder / "ours" / "crates" / f"ga_{name}")
     step("building the original")

@@ -18,12 +18,15 @@ def copy(folder, *parts):
 
 
 def copy_crates(folder):
-    """Copies the crates as they are now, with the libraries that are proved in this checkout. What
-    an earlier run built in the folder stays."""
+    """Copies the crates as they are now. What an earlier run built in the folder stays."""
     for crate in (TOP / "crates").iterdir():
         for part in ("src", "specs", "proofs"):
             shutil.rmtree(folder / "crates" / crate.name / part, ignore_errors=True)
     copy(folder, "crates", "crates.txt", "HANDLES")
+
+
+def take_proved(folder):
+    """Puts the libraries that are proved in this checkout into a copy, where it has none."""
     for stamp in TOP.glob("crates/*/out/rlib/stamp"):
         built = stamp.relative_to(TOP).parent
         if not (folder / built).exists():

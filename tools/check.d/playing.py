@@ -4,6 +4,7 @@ import contextlib
 import subprocess
 import tempfile
 import threading
+from io import FileIO
 from subprocess import DEVNULL, PIPE, STDOUT
 
 Seen = collections.namedtuple("Seen", "status out err")
@@ -47,19 +48,20 @@ def read_again(file):
     return file.read()
 
 
-def play(program, words=(), give=None, take=None, before=None, env=None, seconds=60, **streams):
+def play(program, words=(), give=None, take=FileIO.readall, before=None, env=None, seconds=60,
+         **streams):
     """Runs a program for at most so long. `give` feeds its input, and `take` reads its output."""
     pipes = {"stdin": PIPE if give else DEVNULL, "stdout": PIPE, "stderr": PIPE, **streams}
-    command = [program, *words]
     with STARTING:
-        process = subprocess.Popen(command, bufsize=0, env=env or {}, preexec_fn=before, **pipes)
+        process = subprocess.Popen([program, *words], bufsize=0, env=env or {}, preexec_fn=before,
+                                   **pipes)
     alarm = threading.Timer(seconds, process.kill)
     giver = threading.Thread(target=feed, args=(process, give))
     alarm.start()
     giver.start()
     try:
-        out = (take or read_all)(process.stdout) if process.stdout else b""
-        err = read_all(process.stderr) if process.stderr else b""
+        out = take(process.stdout) if process.stdout else b""
+        err = process.stderr.readall() if process.stderr else b""
         return Seen(process.wait(), out, err)
     finally:
         alarm.cancel()
@@ -71,7 +73,3 @@ def feed(process, give):
     if give:
         with contextlib.suppress(OSError), process.stdin:
             give(process)
-
-
-def read_all(pipe):
-    return b"".join(iter(lambda: pipe.read(2**16), b""))

@@ -8,8 +8,8 @@ from fcntl import ioctl
 from subprocess import DEVNULL
 from termios import FIONREAD
 
+from ga_rows import FAULT, MODES, NO_MEMORY, USAGE, text_of, whole
 from playing import Seen, file_of, play, read_again
-from rows import FAULT, MODES, NO_MEMORY, USAGE, text_of, whole
 
 SIX = bytes(range(1, 7))
 MANY = bytes(range(256)) * 400 + b"rest"

@@ -12,7 +12,7 @@ import pathlib
 import re
 import tempfile
 
-from copies import TOP, copy_crates, write
+from copies import TOP, copy_crates, take_proved, write
 from playing import run
 
 CRATE, MEND = "walls", "_mend"
@@ -86,6 +86,7 @@ def play(tally, words):
     modules |= {it + MEND: mend for it, (_, _, mend) in walls.items() if mend}
     room = pathlib.Path(tempfile.mkdtemp())
     copy_crates(room)
+    take_proved(room)
     write(room, {"crates.txt+": LINE})
     said = check_all(room / "crates" / CRATE, modules)
     for name, (seen, _, mend) in walls.items():

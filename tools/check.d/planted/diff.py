@@ -28,7 +28,6 @@ SAID = {
 }
 # What trials/diff/run says, by the case and its words.
 ENDS = {
-    ("right", "200"): ("diff: 600 runs, 0 differ, and 0 as wanted\n", 0),
     ("as wanted", "200"): ("diff: 600 runs, 0 differ, and 200 as wanted\n", 0),
     ("differs", "200"): ("diff: 600 runs, 200 differ, and 0 as wanted\n", 1),
     ("differs", "forever"): ("once more: trials/diff/run FOLDER 'differs' 2 ", 1),
@@ -44,11 +43,8 @@ def play_list(tally):
     """Looks at the cases that are written for the program."""
     table = runs.driver_sources()["cases.rs"]
     seen = [dict(FIELD.findall(it)) for it in CASE.findall(table)]
-    orders = [f"{it.title}, by {order}" for order in ("number", "order") for it in runs.DROPS]
-    titles = [f'"{it}"' for it in [*(it.title for it in runs.CASES), *orders]]
-    names = [it["name"] for it in seen]
-    tally.case("diff: each case, and drops by number and in order", names != titles and names)
-    tally.case("diff: each has lengths", [it["name"] for it in seen if it["lengths"] == "&[]"])
+    wanted = len(runs.CASES) + 2 * len(runs.DROPS)
+    tally.case("diff: each case, and drops in two orders", len(seen) != wanted and len(seen))
     alike = [it["name"] for it in seen
              if "ours_" not in it["ours"] or "ours_" in it["original"] + it["wanted"]]
     tally.case("diff: none is ours on both sides", alike)
@@ -60,13 +56,12 @@ def play_list(tally):
 
 def play(tally, room):
     play_list(tally)
-    if not shutil.which("rustc"):
-        calls = [f"trials/diff/run: {', '.join(it)}" for it in ENDS]
-        return tally.skip([f"diff: {it}" for it in SAID] + calls, "rustc")
     driver = room / "built" / "diff_driver"
     driver.parent.mkdir()
-    built = run("rustc", "--edition", "2021", "-o", driver, HERE / "diff.rs")
-    tally.said("diff: the comparison is built", built, 0)
+    if not shutil.which("rustc"):
+        return tally.skip([f"diff: {it}" for it in [*SAID, *ENDS]], "rustc")
+    tally.said("diff: the comparison is built",
+               run("rustc", "--edition", "2021", "-o", driver, HERE / "diff.rs"), 0)
     for name, (text, status) in SAID.items():
         tally.said(f"diff: {name}", run_made_up(room, driver, 200, CASE=name), status, text)
     copy_beside(room)
