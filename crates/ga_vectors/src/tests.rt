@@ -1,25 +1,19 @@
 //! The tests, a module for each subject, and what they share.
 mod arrays;
-mod boxed;
 mod boxed_builds;
 mod builder;
 mod compared;
 mod conversions;
 mod documentation;
-mod errors;
 mod extremes;
 mod functional;
 mod hex_text;
-mod hex_writers;
-mod items;
 mod iterators;
 mod lengths;
 mod live_block;
-mod macros;
 mod made;
 mod places;
 mod readme;
 mod record_block;
 mod shapes;
 mod steps;
-mod stores;

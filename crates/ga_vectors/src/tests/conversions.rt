@@ -1,9 +1,7 @@
 //! Items that go from one kind of array to another, through vectors, boxed slices and tuples.
 use crate::tests::compared::holds;
 use ga_test_items::answers::gives;
-use generic_array::{
-    AllocError, BoxedArray, Const, GenericArray, U0, U1, U2, U3, U4, U12, arr, box_arr,
-};
+use generic_array::{AllocError, BoxedArray, GenericArray, U0, U1, U2, U3, U4, U12, arr, box_arr};
 use std::alloc::Global;
 use std::test::Fail;
 
@@ -79,31 +77,4 @@ fn blocks_are_written_out(rt: HostRuntime) -> Result<(), Fail> {
     let none: Result<BoxedArray<u8, U0>, AllocError> = box_arr!(rt.alloc(), []);
     assert!(rt; gives(none, &[]));
     Ok(())
-}
-
-/// A length that no array in a function's frame has.
-type Many = Const<100000>;
-
-/// The capacity of the vector that so many items go to, and how many come back from there in order,
-/// each equal to its place.
-fn many_there_and_back(alloc: Global) -> Result<(usize, u32), AllocError> {
-    let boxed = BoxedArray::<u32, Many>::generate(alloc, |index| index as u32)?;
-    let items = boxed.into_vec()?;
-    let capacity = items.capacity();
-    let Ok(boxed) = BoxedArray::<u32, Many>::try_from_vec(alloc, items)? else {
-        return Ok((capacity, 0));
-    };
-    let mut place = 0u32;
-    for item in boxed {
-        if item == place {
-            place = place.wrapping_add(1);
-        }
-    }
-    Ok((capacity, place))
-}
-
-#[test]
-fn many_items_go_to_a_vector_of_just_their_number_and_back(rt: HostRuntime) {
-    let answers = many_there_and_back(rt.alloc()).expect(&rt, "no memory");
-    assert!(rt; answers == (100_000, 100_000));
 }

@@ -1,10 +1,10 @@
-//! Hex text: its digits, how far the limit lets them come, and how often the writer is called.
-use crate::tests::hex_writers::digits_of;
+//! Hex text: its digits, how far the limit lets them come, and the writes, each of which fails in
+//! turn.
 use ga_test_items::writer::{Sink, WHOLE};
-use generic_array::hex_text::{HexText, write_hex};
+use generic_array::hex_text::write_hex;
 use generic_array::{AllocError, arr};
 use std::alloc::Global;
-use std::fmt::Write;
+use std::io::ErrorKind;
 use std::test::Fail;
 
 /// Whether the bytes are written as this text, in so many writes and with no flush.
@@ -52,121 +52,37 @@ fn an_odd_limit_cuts_inside_a_byte(rt: HostRuntime) -> Result<(), Fail> {
     Ok(())
 }
 
-/// Whether these are so many digits of bytes 171.
-fn are_digits(text: &[u8], count: usize) -> bool {
-    for (index, digit) in text.iter().enumerate() {
-        let wanted = if index % 2 == 0 { b'a' } else { b'b' };
-        if *digit != wanted {
-            return false;
-        }
-    }
-    text.len() == count
-}
-
-/// So many bytes 171.
-fn bytes_of(alloc: Global, count: usize) -> Result<Vec<u8>, AllocError> {
-    let mut bytes = Vec::with_capacity(alloc, count)?;
-    for _byte in 0..count {
-        bytes.push(171)?;
-    }
-    Ok(bytes)
-}
-
-/// How many digits there are of so many bytes, up to a limit.
-fn digit_count(bytes: usize, limit: Option<usize>) -> usize {
-    let all = bytes.saturating_mul(2);
-    match limit {
-        Some(limit) => all.min(limit),
-        None => all,
-    }
-}
-
-/// Whether so many bytes are written whole, up to a limit.
-fn is_written_up_to(alloc: Global, bytes: usize, limit: Option<usize>) -> Result<bool, AllocError> {
+/// The digits of 2,500 bytes 171, as many as the limit lets come.
+fn text_up_to(alloc: Global, limit: usize) -> Result<Vec<u8>, AllocError> {
     let mut text = Vec::new(alloc);
-    let answer = write_hex(bytes_of(alloc, bytes)?.as_slice(), false, limit, &mut text);
-    Ok(answer.is_ok() && are_digits(text.as_slice(), digit_count(bytes, limit)))
-}
-
-/// A number, and those on both sides of it.
-fn beside(number: usize) -> [usize; 3] {
-    [number.wrapping_sub(1), number, number.wrapping_add(1)]
-}
-
-#[test]
-fn long_texts_are_written_whole(rt: HostRuntime) -> Result<(), Fail> {
-    // On both sides of each power of two up to 8,192, and of what 16 bits count.
-    for power in 0..14u32 {
-        for bytes in beside(1 << power) {
-            assert!(rt; is_written_up_to(rt.alloc(), bytes, None)?, "{bytes}");
-        }
+    for _byte in 0..2500 {
+        text.extend_from_slice(b"ab")?;
     }
-    for bytes in [65535, 65536, 65537, 131073] {
-        assert!(rt; is_written_up_to(rt.alloc(), bytes, None)?, "{bytes}");
-    }
-    for limit in [
-        127, 128, 129, 2047, 2048, 2049, 65535, 65536, 65537, 131073, 131075,
-    ] {
-        assert!(rt;
-            is_written_up_to(rt.alloc(), 65537, Some(limit))?,
-            "{limit}"
-        );
-    }
-    Ok(())
-}
-
-/// Whether so many bytes are printed whole, up to a precision.
-fn is_printed_up_to(alloc: Global, bytes: usize, precision: usize) -> Result<bool, AllocError> {
-    let bytes = bytes_of(alloc, bytes)?;
-    let shown = HexText {
-        bytes: bytes.as_slice(),
-        upper: false,
-    };
-    let whole = format!(in alloc; "{shown}")?;
-    let cut = format!(in alloc; "{shown:.precision$}")?;
-    let is_whole = are_digits(whole.as_str().as_bytes(), digit_count(bytes.len(), None));
-    let count = digit_count(bytes.len(), Some(precision));
-    Ok(is_whole && are_digits(cut.as_str().as_bytes(), count))
+    text.truncate(limit);
+    Ok(text)
 }
 
 #[test]
-fn long_texts_are_printed_whole(rt: HostRuntime) -> Result<(), Fail> {
-    for bytes in [63, 64, 65, 100, 1025, 65537] {
-        for precision in [127, 128, 129, 130, 2049, 65537] {
-            let is_right = is_printed_up_to(rt.alloc(), bytes, precision)?;
-            assert!(rt; is_right, "{bytes} {precision}");
-        }
-    }
-    for power in 0..14u32 {
-        for bytes in beside(1 << power) {
-            assert!(rt; is_printed_up_to(rt.alloc(), bytes, bytes)?, "{bytes}");
-        }
-    }
-    Ok(())
-}
-
-/// Whether so many bytes 171 are printed in so many pieces, and each piece that fails is the last.
-fn is_printed_in(alloc: Global, count: usize, pieces: usize) -> Result<bool, AllocError> {
-    let bytes = bytes_of(alloc, count)?;
-    let text = digits_of(alloc, bytes.as_slice(), false)?;
-    let shown = HexText {
-        bytes: bytes.as_slice(),
-        upper: false,
-    };
-    for fails_at in 1..=pieces {
+fn each_write_of_2500_bytes_fails_in_turn(rt: HostRuntime) -> Result<(), Fail> {
+    let text = text_up_to(rt.alloc(), 5000)?;
+    for fails_at in 1..4usize {
         let mut sink = Sink::new(text.as_slice(), WHOLE, fails_at);
-        if write!(sink, "{shown}").is_ok() || !sink.is_left_at_its_fault() {
-            return Ok(false);
-        }
+        let end = write_hex(&[171; 2500], false, None, &mut sink);
+        assert!(rt; end.is_err_and(|fault| fault.kind() == ErrorKind::StorageFull));
+        assert!(rt; sink.is_left_at_its_fault(), "{fails_at}");
     }
-    let mut sink = Sink::expecting(text.as_slice());
-    Ok(write!(sink, "{shown}").is_ok() && sink.has_text_in(pieces))
+    let mut sink = Sink::new(text.as_slice(), WHOLE, 4);
+    assert!(rt; write_hex(&[171; 2500], false, None, &mut sink).is_ok() && sink.has_text_in(3));
+    Ok(())
 }
 
 #[test]
-fn printed_text_comes_in_pieces_of_64_bytes(rt: HostRuntime) -> Result<(), Fail> {
-    for (count, pieces) in [(0, 0), (1, 1), (64, 1), (65, 2), (129, 3), (300, 5)] {
-        assert!(rt; is_printed_in(rt.alloc(), count, pieces)?, "{count}");
+fn a_limit_leaves_writes_out(rt: HostRuntime) -> Result<(), Fail> {
+    for (limit, writes) in [(2048, 1), (2049, 2), (0, 0)] {
+        let text = text_up_to(rt.alloc(), limit)?;
+        let mut sink = Sink::expecting(text.as_slice());
+        let end = write_hex(&[171; 2500], false, Some(limit), &mut sink);
+        assert!(rt; end.is_ok() && sink.has_text_in(writes), "{limit}");
     }
     Ok(())
 }

@@ -1,10 +1,9 @@
 //! Walks of both iterators by value from both ends.
 ghost use Rattle.generic_array.specs.Length.{FitsInline};
 
-use crate::tests::compared::{prints, prints_alternately, prints_in_three_places};
 use ga_test_items::items::{boxed_from_one, from_one};
 use ga_test_items::scripted::{digits, next_digit};
-use generic_array::{AllocError, ArrayLength, U0, U1, U3, U4, U5};
+use generic_array::{AllocError, ArrayLength, U3, U4, U5};
 use std::alloc::Global;
 use std::test::Fail;
 
@@ -70,44 +69,6 @@ fn cloned<N: ArrayLength<u32>>() -> Result<[u32; 2], AllocError>
 fn clones_have_all_items_and_what_is_left(rt: HostRuntime) -> Result<(), Fail> {
     assert!(rt; cloned::<U3>()? == [23, 123]);
     Ok(())
-}
-
-/// Whether only what is left is printed, each item in a width where one is given.
-fn is_left_printed(alloc: Global) -> bool {
-    let mut items = from_one::<U3>().into_iter();
-    let _ = items.next();
-    prints(&items, "GenericArrayIter([2, 3])", alloc)
-        && prints_in_three_places(&items, "GenericArrayIter([  2,   3])", alloc)
-}
-
-#[test]
-fn what_is_left_is_printed(rt: HostRuntime) {
-    assert!(rt; is_left_printed(rt.alloc()));
-}
-
-/// Whether an iterator over so many items, and one that was emptied, are printed so.
-fn are_printed<N: ArrayLength<u32>>(alloc: Global, whole: &str, alternate: &str) -> bool
-    requires { FitsInline N.USIZE }
-{
-    let mut items = from_one::<N>().into_iter();
-    let is_whole = prints(&items, whole, alloc) && prints_alternately(&items, alternate, alloc);
-    let _ = items.nth(N::USIZE);
-    is_whole && prints(&items, "GenericArrayIter([])", alloc)
-}
-
-#[test]
-fn iterators_over_each_number_are_printed(rt: HostRuntime) {
-    let alloc = rt.alloc();
-    let none = "GenericArrayIter(\n    [],\n)";
-    assert!(rt; are_printed::<U0>(alloc, "GenericArrayIter([])", none));
-    let one = "GenericArrayIter(\n    [\n        1,\n    ],\n)";
-    assert!(rt; are_printed::<U1>(alloc, "GenericArrayIter([1])", one));
-    let four =
-        "GenericArrayIter(\n    [\n        1,\n        2,\n        3,\n        4,\n    ],\n)";
-    assert!(rt; are_printed::<U4>(alloc, "GenericArrayIter([1, 2, 3, 4])", four));
-    let five =
-        "GenericArrayIter(\n    [\n        1,\n        2,\n        3,\n        4,\n        5,\n    ],\n)";
-    assert!(rt; are_printed::<U5>(alloc, "GenericArrayIter([1, 2, 3, 4, 5])", five));
 }
 
 /// The items of a block as digits, from the front and from the back.

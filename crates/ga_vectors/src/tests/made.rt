@@ -1,20 +1,8 @@
 //! What the builds of the traits make of each kind.
-
 use ga_test_items::answers::gives;
-use ga_test_items::items::TooMany;
-use generic_array::sequence::{FallibleGenericSequence, FromFallibleIterator, GenericSequence};
-use generic_array::{
-    ArrayLength, BoxedArray, Const, GenericArray, GenericArrayRef, InlineLength, U2, U3,
-};
+use generic_array::sequence::{FallibleGenericSequence, FromFallibleIterator};
+use generic_array::{ArrayLength, BoxedArray, GenericArray, GenericArrayRef, InlineLength, U2, U3};
 use std::alloc::Global;
-
-#[test]
-fn a_length_fits_inline_up_to_a_bound_and_boxed_always(rt: HostRuntime) {
-    assert!(rt; <GenericArray<u8, Const<65536>> as GenericSequence<u8>>::fits());
-    assert!(rt; !<GenericArray<u8, Const<65537>> as GenericSequence<u8>>::fits());
-    assert!(rt; !<GenericArrayRef<u8, Const<65537>> as GenericSequence<u8>>::fits());
-    assert!(rt; <BoxedArray<u8, TooMany> as GenericSequence<u8>>::fits());
-}
 
 fn square(index: usize) -> usize {
     index.wrapping_mul(index)

@@ -2,12 +2,11 @@
 //! exact results.
 ghost use Rattle.ga_records.specs.Records.{has};
 ghost use Rattle.generic_array.specs.Views.{items_of_view};
-ghost use Rattle.std.specs.Prelude.{◌≡◌, ◌<◌, ◌∷◌, [], IfSome, IsErr, None, Ok, Some, true};
+ghost use Rattle.std.specs.Prelude.{◌≡◌, ◌<◌, ◌∷◌, [], IfSome, None, Ok, Some, true};
 
-use crate::tests::hex_writers::{Call, each_fails, rising};
 use ga_records::RecordBlock;
 use ga_test_items::writer::{Sink, WHOLE};
-use generic_array::{ArrayLength, GenericArrayRef, LengthError, U1, U2, U3, U4};
+use generic_array::{ArrayLength, GenericArrayRef, LengthError, U2, U3, U4};
 use std::io::ErrorKind;
 use std::test::Fail;
 
@@ -18,14 +17,6 @@ fn last_of_each(bytes: &[u8]) -> Result<[Option<usize>; 3], LengthError>
 {
     let block: RecordBlock<'_, U2> = RecordBlock::open(bytes)?;
     Ok([block.last_with(2), block.last_with(1), block.last_with(9)])
-}
-
-/// Three bytes aren't records of two.
-fn records_of_three(bytes: &[u8]) -> Result<RecordBlock<'_, U2>, LengthError>
-    requires { bytes.now ≡ 1 ∷ 2 ∷ 3 ∷ [] }
-    ensures { IsErr result }
-{
-    RecordBlock::open(bytes)
 }
 
 /// The last record with the byte.
@@ -108,24 +99,9 @@ fn are_written_in<N: ArrayLength<u8>>(bytes: &[u8], writes: usize) -> bool
 }
 
 #[test]
-fn many_records_are_written_whole(rt: HostRuntime) -> Result<(), Fail> {
-    let alloc = rt.alloc();
+fn records_are_written_whole(rt: HostRuntime) {
     assert!(rt; are_written_in::<U2>(&[], 0));
     assert!(rt; are_written_in::<U2>(&[1, 2, 3, 2], 1));
-    for count in [
-        1, 2, 31, 32, 33, 64, 512, 513, 32767, 32768, 32769, 65536, 131_073,
-    ] {
-        let ones = rising(alloc, count)?;
-        assert!(rt; are_written_in::<U1>(ones.as_slice(), 1), "{count} of one");
-        let twos = rising(alloc, count.saturating_mul(2))?;
-        assert!(rt; are_written_in::<U2>(twos.as_slice(), 1), "{count} of two");
-        let threes = rising(alloc, count.saturating_mul(3))?;
-        assert!(rt;
-            are_written_in::<U3>(threes.as_slice(), 1),
-            "{count} of three"
-        );
-    }
-    Ok(())
 }
 
 #[test]
@@ -135,16 +111,5 @@ fn a_writers_fault_leaves_the_records(rt: HostRuntime) -> Result<(), Fail> {
     let fault = four.write_to(&mut broken);
     assert!(rt; fault.is_err_and(|fault| fault.kind() == ErrorKind::StorageFull));
     assert!(rt; broken.is_left_at_its_fault() && is(four.record(0), b"abcd"));
-    Ok(())
-}
-
-#[test]
-fn each_write_of_records_fails_in_turn(rt: HostRuntime) -> Result<(), Fail> {
-    for (len, writes) in [(0, 0), (4, 1), (8, 1), (100, 1), (1000, 1)] {
-        let bytes = rising(rt.alloc(), len)?;
-        let call = Call::Records(bytes.as_slice());
-        let is_right = each_fails(call, None, bytes.as_slice(), writes);
-        assert!(rt; is_right, "{len} bytes in {writes} writes");
-    }
     Ok(())
 }

@@ -2,7 +2,6 @@
 ghost use Rattle.generic_array.specs.Length.{FitsInline};
 ghost use Rattle.std.specs.Prelude.{◌≡◌, ◌*◌, ◌<◌, length};
 
-use crate::tests::items::Held;
 use ga_test_items::answers::gives;
 use ga_test_items::items::from_one;
 use generic_array::sequence::{
@@ -11,21 +10,6 @@ use generic_array::sequence::{
 use generic_array::{
     ArrayLength, GenericArray, GenericArrayMut, InlineLength, U0, U1, U2, U3, U4, U5, U6, arr,
 };
-use std::rc::Rc;
-
-/// Six items beside the one that they are of.
-fn six_of(one: &Rc<()>) -> GenericArray<Held, U6> {
-    let four: GenericArray<Held, U4> = GenericArray::generate(|_| Held::of(one));
-    let five: GenericArray<Held, U5> = four.append(Held::of(one));
-    five.prepend(Held::of(one))
-}
-
-// The check of a function of any lengths takes half the time of one of named lengths.
-
-fn split_and_joined<N: ArrayLength<Held>>(items: GenericArray<Held, N>) -> GenericArray<Held, N> {
-    let (none, all): (GenericArray<Held, U0>, GenericArray<Held, N>) = items.split();
-    all.concat(none)
-}
 
 /// Nothing, and all items.
 fn split_at_the_front<N: ArrayLength<u32>>(
@@ -52,30 +36,6 @@ fn cut_into_rows_and_joined<
 {
     let rows: GenericArray<GenericArray<T, W>, R> = items.unflatten();
     (rows.as_slice().len(), rows.flatten())
-}
-
-/// How many there are of the one once six were taken apart, and before these are dropped.
-fn taken_apart(six: GenericArray<Held, U6>, one: &Rc<()>) -> usize {
-    let (five, _last): (GenericArray<Held, U5>, Held) = six.pop_back();
-    let (_first, four): (Held, GenericArray<Held, U4>) = five.pop_front();
-    let (_second, three): (Held, GenericArray<Held, U3>) = four.remove(1);
-    let (_third, _two): (Held, GenericArray<Held, U2>) = three.swap_remove(0);
-    Rc::strong_count(one)
-}
-
-/// How many rows six items are cut into, how many of the one there are once they are joined again,
-/// and once they are taken apart.
-fn through_all_shapes(one: &Rc<()>) -> (usize, usize, usize) {
-    let six = split_and_joined(six_of(one));
-    let (rows, six) = cut_into_rows_and_joined::<Held, U6, U3, U2>(six);
-    let joined = Rc::strong_count(one);
-    (rows, joined, taken_apart(six, one))
-}
-
-#[test]
-fn an_item_is_dropped_once_whatever_shapes_it_went_through(rt: HostRuntime) {
-    let one = Rc::new(rt.alloc(), ()).expect(&rt, "no memory");
-    assert!(rt; through_all_shapes(&one) == (2, 7, 7) && Rc::strong_count(&one) == 1);
 }
 
 // 9 at the first place of the first half, and 8 at the third of the second.
