@@ -1,5 +1,5 @@
 //! Boxed arrays: builds, writes and walks, and threads.
-ghost use Rattle.std.specs.Prelude.{◌≡◌, ℕ, ◌∷◌, [], ◌^◌, ◌<◌, ◌⊎◌, IfErr, IfOk, IsOk, Ok, OnOk, length, reverse, slice_set, sum};
+ghost use Rattle.std.specs.Prelude.{◌≡◌, ℕ, ◌∷◌, [], ◌^◌, ◌<◌, ◌⊎◌, IfErr, IfOk, IsOk, Ok, OnOk, Some, length, reverse, slice_get, slice_set, sum};
 
 use ga_core_examples::digits::decimal_digit;
 use generic_array::{
