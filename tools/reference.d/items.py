@@ -1,9 +1,9 @@
 """Shows an item, a definition, a lemma or a module whole, as lines of text."""
 import re
 
-from imports import is_in, terms, without_texts
+from imports import atoms_of, is_in
 from layout import indented, laid_out, one_line, prose
-from lemmas import is_passed_on
+from lemmas import is_declared
 from lookup import impl_of
 from meanings import WITH_A_PAGE, base_name, declared, header
 from paths import OF_FILES
@@ -154,7 +154,7 @@ class Items(Text):
     def lemma(self, item):
         """A lemma: its notes, its statement, and how proofs and attributes name it."""
         lines = [*self.said(item.notes), *self.code("\n".join([*item.context, item.head]))]
-        if not is_passed_on(item.file):
+        if not is_declared(item.file, "pub "):
             return [*lines, *self.said("Proofs of its own crate alone can cite it.")]
         uses = [f"use {path}.{{{item.name}}}" for path in self.modules_of(item)]
         crate, *above, name = self.names.path(item)
@@ -183,8 +183,8 @@ class Items(Text):
 
     def needed(self, item, code):
         """The lines of `use` that a sample's code needs, for its names and for calls of traits."""
-        in_terms = {name for _, names in terms(without_texts(code)) for name in names}
-        for kind, atoms in (("ghost use", in_terms), ("use", set(re.findall(r"\w+", code)))):
+        words = set(re.findall(r"\w+", code))
+        for kind, atoms in (("ghost use", atoms_of(code)), ("use", words)):
             by_module = {}
             heads = "\n".join(use.head for use in item.module.of_kind(kind))
             for name, (module, there) in imports_of(heads).items():

@@ -62,7 +62,7 @@ class Answers(Items):
         lines = self.said(TITLE)
         for sentence, items in carriers(self.names):
             lines += [sentence, ""]
-            for item in filter(None, items):
+            for item in filter(None, items.values()):
                 lines += [f"    {self.names.full_name(item)}  {self.names.place(item)}",
                           *indented(self.part(self.written(item.clauses)))]
         return lines
