@@ -6,10 +6,9 @@ from layout import indented, laid_out, one_line, prose
 from lemmas import is_declared
 from lookup import impl_of
 from meanings import WITH_A_PAGE, base_name, declared, header
-from paths import OF_FILES
 from samples import code_of, is_test
 from sources import imports_of
-from text import Text, becomes, first_sentence, spelled, use_line
+from text import Text, becomes, first_sentence, use_line
 
 # What a module's lists are called, in their order.
 LISTS = {"Modules": ["mod"], "Types": ["struct", "enum"], "Traits": ["trait"], "Aliases": ["type"],
@@ -108,16 +107,6 @@ class Items(Text):
         passes = of and of.kind in WITH_A_PAGE and "<" in item.head.partition("=")[0]
         return [*self.code(item.head), *self.docs(item), *(self.type(of) if passes else ())]
 
-    def foreign(self, item):
-        """A type of another library that a crate passes on, with the files of words that come with
-        it."""
-        crate, library = self.site.path(item.home)[0], item.head.split()[1].split("::")[0]
-        specs = (self.site.top / "crates" / crate / "specs" / "Lib.antt").read_text("utf-8")
-        words = re.findall(rf"(?m)^pub use Rattle\.{library}\.specs\.(\w+)$", specs)
-        uses = [f"ghost use Rattle.{crate}.specs.{word}.{{..}};" for word in words
-                if word == item.name or item.name not in words]
-        return [*self.call(item), *self.part(uses, "Its words")]
-
     def module(self, module):
         """A module: its docs, and what is public there, or of one of examples or of tests what
         stands there."""
@@ -209,7 +198,7 @@ class Items(Text):
     def shown(self, item):
         """What is shown of an item or a definition below its name."""
         whole = {"word": self.definition, "lemma": self.lemma, "file": self.file,
-                 "mod": self.module, "macro": self.macro, "foreign": self.foreign}.get(item.kind)
+                 "mod": self.module, "macro": self.macro}.get(item.kind)
         if whole:
             return whole(item)
         if item not in self.names.paths:
