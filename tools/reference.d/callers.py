@@ -130,28 +130,33 @@ class Callers:
         return False
 
 
-def uncalled(site):
-    """Looks for a caller of each public call, and among those that have none for each pattern's."""
-    samples, without = Samples(site), {}
+@functools.lru_cache(None)
+def calls(site):
+    """The public calls of the libraries, each with whether something calls it."""
+    samples = Samples(site)
     callers = Callers(site, samples)
     above_them = [item for item in site.items if site.path(item.module)[0] not in LIBRARIES]
     functions = [Function(item) for item in
                  samples.of(lambda crate: crate.endswith(EXAMPLES)) + above_them
                  if item.kind == "fn" and not is_test(item)
                  and item.module.text[item.end - 1] == "}"]
-    for item in site.shown():
-        of_trait = item.owner and item.owner.kind == "impl" and item.owner.of_trait
-        is_ours = item.kind in ("fn", "macro") and site.path(item.module)[0] in LIBRARIES
-        if is_ours and not of_trait and not site.is_law(item):
-            if any(callers.may_call(function, item) for function in functions):
-                yield None
-            else:
-                without[site.full_name(item)] = item
+    found = [item for item in site.shown() if item.kind in ("fn", "macro")
+             and site.path(item.module)[0] in LIBRARIES and not site.is_law(item)
+             and not (item.owner.kind == "impl" and item.owner.of_trait)]
+    return {item: any(callers.may_call(function, item) for function in functions)
+            for item in found}
+
+
+def uncalled(site):
+    """Looks for a caller of each public call, and among those that have none for each pattern's."""
     lines = [line.partition("\t") for line in LIST.read_text("utf-8").splitlines()]
-    for name, item in without.items():
+    without = []
+    for item, is_called in calls(site).items():
+        name = site.full_name(item)
+        without += [] if is_called else [name]
         listed = any(fnmatch.fnmatchcase(name, pattern) for pattern, _, _ in lines)
         wrong = f"{item.file.relative_to(site.top)}:{item.line}: nothing calls {name}"
-        yield None if listed else wrong
+        yield wrong if not is_called and not listed else None
     for pattern, _, why in lines:
         right = why and fnmatch.filter(without, pattern)
         yield None if right else f"{LIST.name}: {pattern} has a caller, or nothing says why"

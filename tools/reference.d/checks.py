@@ -1,24 +1,95 @@
-"""Checks what no compiler sees, of documents, names, imports, tables of tests and wrong bodies.
+"""Checks what no compiler sees, of documents, names, imports and wrong bodies.
 
 Each check gives what it tried, one after the other: what is wrong, or nothing.
 """
+import pathlib
+import re
+
 from callers import uncalled
-from checks_of_documents import dangling, misquoted, unwritten
-from checks_of_names import misled, unnamed
-from edits import unfit
+from checks_of_documents import dangling, misquoted, unrowed, unwritten
 from imports import unused
 from lookup import Names
-from promise import unkept
-from promise_page import stale
+from meanings import LIBRARIES, WITH_A_PAGE
+from promise import stale, unkept
+from public import changed
+from rows import CODE, names_in
+
+# A name of each kind that readers look up, with the item that it leads to, or what its row tells.
+NAMES, TELLS = pathlib.Path(__file__).resolve().parent / "rust_names.txt", "tells "
+# The wrong bodies that the gate tries, and those that it leaves out, each with where its path names
+# the crate.
+EDITS = {"crates/*/must-fail/*.edit": 1, "tools/twins/*/*.edit": 2}
+# The crates of the port, and a rule by which DIFFERENCES names many at once: what ends so is named.
+PORT = (*LIBRARIES, "ga_records", "ga_rows")
+ENDINGS = re.compile(r"\bends in ((?:`_\w+`(?:, | or | and )?)+)")
+
+
+def misled(names):
+    """Asks for a name of each kind: what is shown first is the item, or the text of a row."""
+    for name, _, wanted in map(lambda it: it.partition("\t"), NAMES.read_text("utf-8").splitlines()):
+        asked, shown = names.asked(name), "nothing"
+        told = next((row for row in asked.rows if row.ours or row.told), None) or next(
+            iter(names.told_rows(name, asked)), None)
+        if asked.first:
+            shown = names.full_name(asked.first)
+        elif told:
+            shown = TELLS + " ".join(cell for _, cell in told.cells)
+        tells = wanted.startswith(TELLS) and shown.startswith(TELLS)
+        right = wanted.removeprefix(TELLS) in shown if tells else shown == wanted
+        yield None if right else f"tools/reference {name}: shows {shown[:80]}, not {wanted}"
+
+
+def unnamed(site):
+    """Looks in the document that lists them for each public item of the port's crates, but for
+    modules, laws, lengths, which it lists together, and what traits of others ask for."""
+    text = " ".join((site.top / "docs" / "DIFFERENCES.md").read_text("utf-8").split())
+    listed = {part for code in CODE.findall(text) for parts in names_in(code) for part in parts}
+    endings = tuple(end for rule in ENDINGS.findall(text) for end in CODE.findall(rule))
+    for item in site.shown():
+        inner = item.owner is not None and item.owner.kind in ("impl", "trait", *WITH_A_PAGE)
+        of_trait = inner and item.owner.kind == "impl" and item.owner.of_trait
+        if site.path(item.module)[0] in PORT and item.name and item.public and not of_trait:
+            if item.kind in ("fn", "macro", "type", "const", *WITH_A_PAGE):
+                by_rule = item.name.endswith(endings) or re.fullmatch(r"U\d+", item.name)
+                place = f"{item.file.relative_to(site.top)}:{item.line}"
+                wrong = f"{place}: DIFFERENCES.md doesn't list {site.full_name(item)}"
+                yield None if by_rule or item.name in listed or site.is_law(item) else wrong
+
+
+def misfit(text, crate):
+    """Why an edit doesn't fit the files of its crate, by the rule that `rt help` tells, or
+    nothing."""
+    path, old, texts = "", "", {}
+    for line in text.split("\n"):
+        kind, _, said = line.partition(": ")
+        if kind == "file":
+            path = said.strip()
+        elif kind == "old":
+            old = said
+        elif line.startswith("new:"):
+            if not old or not (crate / path).is_file():
+                return f"no old line, or no file {path}"
+            before = texts.get(path) or (crate / path).read_text("utf-8")
+            if before.count(old) != 1:
+                return f"{path} has {before.count(old)} times, not once: {old.strip()}"
+            texts[path], old = before.replace(old, line[4:].removeprefix(" ")), ""
+    return "" if texts else "it changes nothing"
+
+
+def unfit(site):
+    """Applies each wrong body, pair by pair."""
+    for pattern, at in EDITS.items():
+        for edit in sorted(site.top.glob(pattern)):
+            place = edit.relative_to(site.top)
+            wrong = misfit(edit.read_text("utf-8"), site.top / "crates" / place.parts[at])
+            yield f"{place}: {wrong}" if wrong else None
 
 
 # What each check looks at. Those of names ask as a reader of `tools/reference NAME` does.
-OF_SITE = {
-    "examples": unwritten, "imports": unused, "public items": unnamed, "wrong bodies": unfit,
-    "callers": uncalled,
-}
+OF_SITE = {"examples": unwritten, "imports": unused, "public items": unnamed, "public": changed,
+           "wrong bodies": unfit, "callers": uncalled}
 OF_NAMES = {"names": misled, "promise": unkept, "page": stale, "contracts": misquoted,
-            "documents": dangling}
+            "walls": unrowed, "documents": dangling}
 
 
 def check(site):

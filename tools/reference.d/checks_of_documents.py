@@ -11,7 +11,7 @@ import functools
 import re
 
 from layout import indented
-from rows import BAR, CODE, FENCED, names_in
+from rows import BAR, CODE, FENCED, names_in, plain, stands_in
 from sources import STD
 from text import Text
 
@@ -163,3 +163,17 @@ def dangling(names):
             lost = [parts for parts in names_of(code)
                     if not known.is_found(*parts) and not known.is_file(code)]
             yield f"{place}:{line}: nothing is called {'::'.join(lost[0])}" if lost else None
+
+
+def unrowed(names):
+    """Looks for the row of STUCK that each wall names: by a part of its message, by a goal that stays
+    open, or in the row's own words."""
+    seen = [plain(row.cells[0][1]) for row in names.messages if OF_SEEN in row.place]
+    for wall in sorted((names.site.top / "tools" / "walls").glob("*.rattle")):
+        head = wall.read_text("utf-8").partition("\n// mend\n")[0]
+        named = [plain(part) for part in re.findall(r"(?m)^// says: (.*)$", head)]
+        named += map(plain, re.findall(r"(?m)^// open: (?!returns$)(.*)$", head))
+        own = {plain(line.rstrip(".")) for line in re.findall(r"(?m)^//! (.*)$", head)}
+        right = own & {*seen} or any(stands_in(part, row) for part in named for row in seen)
+        wrong = f"{wall.relative_to(names.site.top)}: no row of {OF_SEEN} is seen so"
+        yield None if right else wrong

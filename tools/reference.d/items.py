@@ -1,15 +1,14 @@
 """Shows an item, a definition, a lemma or a module whole, as lines of text."""
 import re
 
-from imports import is_in, terms, without_texts
+from imports import atoms_of, is_in
 from layout import indented, laid_out, one_line, prose
-from lemmas import is_passed_on
+from lemmas import is_declared
 from lookup import impl_of
 from meanings import WITH_A_PAGE, base_name, declared, header
-from paths import OF_FILES
 from samples import code_of, is_test
 from sources import imports_of
-from text import Text, becomes, first_sentence, spelled, use_line
+from text import Text, becomes, first_sentence, use_line
 
 # What a module's lists are called, in their order.
 LISTS = {"Modules": ["mod"], "Types": ["struct", "enum"], "Traits": ["trait"], "Aliases": ["type"],
@@ -108,16 +107,6 @@ class Items(Text):
         passes = of and of.kind in WITH_A_PAGE and "<" in item.head.partition("=")[0]
         return [*self.code(item.head), *self.docs(item), *(self.type(of) if passes else ())]
 
-    def foreign(self, item):
-        """A type of another library that a crate passes on, with the files of words that come with
-        it."""
-        crate, library = self.site.path(item.home)[0], item.head.split()[1].split("::")[0]
-        specs = (self.site.top / "crates" / crate / "specs" / "Lib.antt").read_text("utf-8")
-        words = re.findall(rf"(?m)^pub use Rattle\.{library}\.specs\.(\w+)$", specs)
-        uses = [f"ghost use Rattle.{crate}.specs.{word}.{{..}};" for word in words
-                if word == item.name or item.name not in words]
-        return [*self.call(item), *self.part(uses, "Its words")]
-
     def module(self, module):
         """A module: its docs, and what is public there, or of one of examples or of tests what
         stands there."""
@@ -154,7 +143,7 @@ class Items(Text):
     def lemma(self, item):
         """A lemma: its notes, its statement, and how proofs and attributes name it."""
         lines = [*self.said(item.notes), *self.code("\n".join([*item.context, item.head]))]
-        if not is_passed_on(item.file):
+        if not is_declared(item.file, "pub "):
             return [*lines, *self.said("Proofs of its own crate alone can cite it.")]
         uses = [f"use {path}.{{{item.name}}}" for path in self.modules_of(item)]
         crate, *above, name = self.names.path(item)
@@ -183,8 +172,8 @@ class Items(Text):
 
     def needed(self, item, code):
         """The lines of `use` that a sample's code needs, for its names and for calls of traits."""
-        in_terms = {name for _, names in terms(without_texts(code)) for name in names}
-        for kind, atoms in (("ghost use", in_terms), ("use", set(re.findall(r"\w+", code)))):
+        words = set(re.findall(r"\w+", code))
+        for kind, atoms in (("ghost use", atoms_of(code)), ("use", words)):
             by_module = {}
             heads = "\n".join(use.head for use in item.module.of_kind(kind))
             for name, (module, there) in imports_of(heads).items():
@@ -209,7 +198,7 @@ class Items(Text):
     def shown(self, item):
         """What is shown of an item or a definition below its name."""
         whole = {"word": self.definition, "lemma": self.lemma, "file": self.file,
-                 "mod": self.module, "macro": self.macro, "foreign": self.foreign}.get(item.kind)
+                 "mod": self.module, "macro": self.macro}.get(item.kind)
         if whole:
             return whole(item)
         if item not in self.names.paths:

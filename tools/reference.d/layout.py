@@ -54,32 +54,22 @@ def laid_out(text, width):
     return [piece for line in text.split("\n") for piece in cut(line, width)]
 
 
-def paragraphs(text):
-    """The parts of docs, each with whether it stays as it is: a paragraph, an item of a list, or a
-    line of code or of a table."""
-    paragraph, in_code = [], False
-    for line in [*text.split("\n"), ""]:
-        alone = in_code or not line or line.startswith(("```", "|", "#"))
-        if paragraph and (alone or line.startswith("- ")):
-            yield " ".join(paragraph), False
-            paragraph = []
-        if line.startswith("```"):
-            in_code = not in_code
-        elif alone:
-            yield "    " * in_code + line, True
-        else:
-            paragraph.append(line.strip())
-
-
 def prose(text, width):
-    """The lines of docs."""
-    if not text.strip():
-        return []
+    """The lines of docs: code and tables stay as they are, all else is wrapped."""
     lines = []
-    for part, as_it_is in paragraphs(text.strip()):
-        deeper = "  " * part.startswith("- ")
-        lines += cut(part, width) if as_it_is else wrapped(part, width, deeper)
-    return lines[:-1]
+    for at, part in enumerate(re.split(r"(?m)^```.*$", text.strip())):
+        part = part.strip("\n")
+        lines += [""] if lines and part else []
+        if at % 2:
+            lines += indented(laid_out(part, width - 4))
+            continue
+        # A line goes on with the next, but for an item of a list, a table and a title.
+        joined = re.sub(r"(?<=[^\n])(?<!\|)\n(?=[^\n|#-]|-\S)", " ", part)
+        for line in joined.split("\n") if part else ():
+            deeper = "  " * line.startswith("- ")
+            is_whole = line.startswith(("|", "#"))
+            lines += [line] if is_whole else wrapped(line, width, deeper) or [""]
+    return lines
 
 
 def columns(pairs, width):

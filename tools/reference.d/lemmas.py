@@ -15,20 +15,11 @@ TITLE = re.compile(r"(?:-- \S.*\n)*")
 
 def is_declared(file, how="(?:pub )?"):
     """Whether a file of proofs/ is a module of its crate, and so is each that it is a part of."""
-    parts = file.with_suffix("").parts
-    begin = len(parts) - parts[::-1].index("proofs")
-    root = file.parents[len(parts) - begin - 1]
-    for at in range(begin, len(parts)):
-        above = root.joinpath(*(parts[begin:at] or ["Lib"])).with_suffix(".antt")
-        if not above.exists() or not re.search(rf"(?m)^{how}mod {re.escape(parts[at])}$",
-                                               above.read_text("utf-8")):
-            return False
-    return True
-
-
-def is_passed_on(file):
-    """Whether other crates can cite what stands in a file of proofs/."""
-    return is_declared(file, "pub ")
+    folder = file.parent
+    above = folder / "Lib.antt" if folder.name == "proofs" else folder.with_suffix(".antt")
+    line = re.compile(rf"(?m)^{how}mod {re.escape(file.stem)}$")
+    is_here = above.exists() and bool(line.search(above.read_text("utf-8")))
+    return is_here and (above.stem == "Lib" or is_declared(above, how))
 
 
 def as_module(site, file):
@@ -50,19 +41,17 @@ def lemmas_of(site, file):
     """The lemmas of a file that other files cite, and its lists of such, each with the lists that
     it is in."""
     text, of = file.read_text("utf-8"), as_module(site, file)
-    lists = list(RULESET.finditer(text))
+    lists = {found["name"]: re.split(r",\s*", found["names"]) for found in RULESET.finditer(text)}
     told = {"folder": of.folder, "module": f"{of.module}.{of.name}"}
     for word in site.library.definitions(file).values():
         if re.search(r"\bpub ", word.head.split(":")[0]):
-            held = [found["name"] for found in lists
-                    if word.name in re.split(r",\s*", found["names"])]
+            held = [name for name, names in lists.items() if word.name in names]
             yield Item("lemma", word.name, statement(word), file, word.line, notes=word.notes,
                        context=word.context, lists=held, **told)
-    for found in lists:
+    for found in RULESET.finditer(text):
         line = text.count("\n", 0, found.start("head")) + 1
         notes = " ".join(re.findall("-- (.*)", found["notes"]))
-        yield Item("lemma", found["name"], found["head"], file, line, notes=notes, context=[],
-                   lists=[], **told)
+        yield Item("lemma", found["name"], found["head"], file, line, notes=notes, lists=[], **told)
 
 
 def of_files(site):

@@ -80,7 +80,7 @@ class Scope:
             self.near |= {member.name: member for member in part.of_kind("ghost")}
         if part.kind in ("trait", "impl"):
             self.bounds["Self"] = [part.name if part.kind == "trait" else part.of_trait]
-        self.bounds |= {self.site.path_of(name): told for name, told in bounds.items()}
+        self.bounds |= bounds
 
     def enter_definition(self, word):
         """Takes in what a definition's file imports and defines, and what its equations bind."""
@@ -90,37 +90,34 @@ class Scope:
         bound = re.findall(r"[^\s(){}]+", " ".join(equations))
         self.local = set(bound) - {*self.imports, *self.near}
 
-    def closure(self, bounds):
-        """The traits of bounds and those that stand above them, each once."""
-        found, left = [], list(bounds)
-        while left:
-            name = base_name(left.pop(0))
-            for trait in self.site.traits(name, self.item) or self.site.library.std_traits(name):
+    def named(self, name):
+        """The traits that a name means here, of ours or of std."""
+        return self.site.traits(name, self.item) or self.site.library.std_traits(name)
+
+    def traits_of(self, name):
+        """The traits that a type has by its bounds, and those that stand above these, each once, and
+        behind them those of the types in them."""
+        found, left = [], list(self.bounds[name])
+        inner = [bound for path, told in self.bounds.items() if path.startswith(f"{name}.")
+                 for bound in told]
+        while left or inner:
+            for trait in self.named(base_name((left or inner).pop(0))):
                 if trait not in found:
                     found.append(trait)
                     left += above(trait)
+                    for member in trait.of_kind("type"):
+                        inner += parted(member.head.partition(":")[2], "+")
         return found
 
-    def below(self, prefix, traits, path):
-        """What a path below a type means, or None."""
-        name, rest = UNDER_A_BOUND.get(path[0], path[0]), path[1:]
-        found = next((member for trait in traits
-                      for member in (trait, *trait.of_kind("ghost", "type"))
-                      if member.name == name), None)
-        if not found or found.kind == "ghost" or not rest:
-            return found if found and found.kind != "type" else None
-        deeper = []
-        if found.kind == "type":
-            deeper = parted(found.head.partition(":")[2], "+")
-            deeper += self.bounds.get(f"{prefix}.{name}", [])
-        inner = f"{prefix}.{name}" if deeper else prefix
-        return self.below(inner, self.closure(deeper) or [found], rest)
-
     def meaning(self, atom, bound):
-        """The item or the definition that an atom of a term names, or None."""
+        """The item or the definition that an atom of a term names, or None. What is below a type is
+        a trait that it has, or a ghost member of one, whose name may stand in front."""
         name, *path = atom.rstrip(".").split(".")
         if path and name in self.bounds and name not in bound:
-            return self.below(name, self.closure(self.bounds[name]), path)
+            last = UNDER_A_BOUND.get(path[-1], path[-1])
+            traits = [trait for part in path[:-1] for trait in self.named(part)]
+            return next((member for trait in traits or self.traits_of(name)
+                         for member in (trait, *trait.of_kind("ghost")) if member.name == last), None)
         if name in bound or name in self.local or name in VALUES:
             return None
         if name in self.imports:
@@ -193,22 +190,6 @@ class Site:
             if "cfg(test)" not in member.attributes:
                 self.module(member, folder / f"{member.name}.rt")
         return module
-
-    def path_of(self, name):
-        """The path by which terms name a type: an alias is what it stands for, and what stands
-        behind `<X as Trait>` goes on from X."""
-        if name.startswith("<"):
-            end = closing(name, 0, ANGLE)
-            of = name[1:end - 1].rpartition(" as ")[0]
-            return self.path_of(of) + name[end:].replace("::", ".")
-        head, _, given = name.partition("<")
-        alias = next((item for item in self.by_name.get(head, []) if item.kind == "type"), None)
-        if not alias or not given:
-            return name
-        inside, behind = generics(alias.head)
-        types = dict(zip(parted(inside), parted(given[:-1])))
-        told = behind.partition("=")[2].strip(" ;\n")
-        return self.path_of(re.sub(r"\w+", lambda found: types.get(found[0], found[0]), told))
 
     def note_uses(self, module):
         """Notes what a module exports of the crates, and the names that it has from elsewhere."""

@@ -47,7 +47,8 @@ class Pages:
         self.rust_names = list(self.note_rust())
         self.rust_text, self.crates_drawn = self.told_of_rust(), self.drawing()
         self.names = Names(site)
-        self.promise, self.promise_title = carriers(self.names), TITLE
+        self.promise_title = TITLE
+        self.promise = [(text, items.values()) for text, items in carriers(self.names)]
         self.templates = Environment(loader=FileSystemLoader(TEMPLATES), trim_blocks=True,
                                      lstrip_blocks=True, undefined=StrictUndefined,
                                      autoescape=lambda name: name.endswith(".html"))

@@ -1,42 +1,70 @@
-"""What the library promises: each sentence with the functions whose clauses say it.
+"""What the library promises: each sentence with the functions whose clauses say it, and its page.
 
 The sentences and the names stand in promise.txt; the clauses are read from the sources.
 """
+import os
 import pathlib
 
+from layout import prose
+from text import WIDEST, Text
+
 SENTENCES = pathlib.Path(__file__).resolve().parent / "promise.txt"
-# The crate that has nothing but parts of the promise.
-HEADLINE = "ga_headline"
+# The crate that has nothing but parts of the promise, and the page.
+HEADLINE, PAGE = "ga_headline", "crates/ga_headline/PROMISE.md"
 TITLE = "What the library promises, a sentence at a time, and whose clauses say it."
-
-
-def sentences():
-    """The sentences, each with the names of the functions that carry it."""
-    found = []
-    for line in SENTENCES.read_text("utf-8").splitlines():
-        if line.startswith("\t"):
-            found[-1][1].append(line.strip())
-        elif line:
-            found.append((line, []))
-    return found
+TOLD = (f"{TITLE} `tools/reference NAME` prints a function whole, with the words that its clauses "
+        "cite. This page is written by `tools/reference --write-promise`.")
 
 
 def carriers(names):
-    """The sentences, each with the items that carry it: of a name that nothing has, None."""
+    """The sentences, each with the names and the items of the functions that carry it: of a name
+    that nothing has, None."""
     known = {names.full_name(item): item for item in names.paths if item.kind == "fn"}
-    return [(text, [known.get(name) for name in carrying]) for text, carrying in sentences()]
+    found = []
+    for line in SENTENCES.read_text("utf-8").splitlines():
+        if line.startswith("\t"):
+            found[-1][1][line.strip()] = known.get(line.strip())
+        elif line:
+            found.append((line, {}))
+    return found
 
 
 def unkept(names):
     """Looks for each function that carries a sentence, and for a sentence for each function of the
     headline."""
     carried = carriers(names)
-    for (text, named), (_, items) in zip(sentences(), carried):
-        for name, item in zip(named, items):
+    for text, items in carried:
+        for name, item in items.items():
             says = item and any(clause.keyword == "ensures" for clause in item.clauses)
             yield None if says else f"promise.txt: {name} says nothing of: {text}"
-    named = {item for _, items in carried for item in items}
+    named = {item for _, items in carried for item in items.values()}
     for item in names.paths:
         if item.kind == "fn" and names.path(item)[0] == HEADLINE:
             place = names.place(item)
             yield None if item in named else f"{place}: promise.txt has no sentence for {item.name}"
+
+
+def lines_of(names):
+    """The lines of the page: a heading for each sentence, and for each function that carries it its
+    name and its contract."""
+    text, folder = Text(names), (names.site.top / PAGE).parent
+    yield from ("# The promise", "", *prose(TOLD, WIDEST))
+    for sentence, items in carriers(names):
+        yield from ("", f"## {sentence.rstrip('.')}")
+        for name, item in items.items():
+            if item:
+                link = f"[`{name}`]({os.path.relpath(item.file, folder)})"
+                yield from ("", link, "", "```text", *text.written(item.clauses), "```")
+
+
+def write_promise(names):
+    """Writes the page."""
+    text = "".join(f"{line}\n" for line in lines_of(names))
+    (names.site.top / PAGE).write_text(text, "utf-8")
+
+
+def stale(names):
+    """Looks whether the page is what is printed."""
+    file = names.site.top / PAGE
+    is_right = file.exists() and file.read_text("utf-8").splitlines() == [*lines_of(names)]
+    yield None if is_right else f"{PAGE} is stale: tools/reference --write-promise writes it anew"

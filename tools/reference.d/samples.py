@@ -8,8 +8,6 @@ from meanings import WITH_A_PAGE, base_name, declared, header
 from paths import OF_FILES
 from sources import Item, items_of
 
-# How a function is called that shows what happens where there is nothing.
-EMPTY = re.compile(r"no_|none|nothing")
 OF_SLICES = re.compile(r"(?m)^impl(?:<.*>)? \[(?:\w+|\[T; N\])\](?= |$)")
 
 
@@ -100,18 +98,15 @@ class Samples:
 
     def order(self, item):
         """Where a sample stands among others: first what the documents show, then what has clauses,
-        what isn't about nothing, what is of any length or type, and what is shorter."""
+        what isn't of nothing, what is of any length or type, and what is shorter."""
         bounds = declared(item.head)[0] if item.kind == "fn" else {}
-        return (item.name not in self.documents[1], not item.clauses, bool(EMPTY.match(item.name)),
+        return (item.name not in self.documents[1], not item.clauses, item.name.startswith("no"),
                 not any(bounds.values()), item.end - item.begin)
 
     def likeliest(self, item):
         """Where a sample, a lemma or a file stands among those of one name: first a method of std,
         then what the documents name with its module, and tests last."""
-        if not item.file.is_relative_to(self.site.top):
-            return ()
-        if item.kind in OF_FILES:
-            return False, f"::{item.name})" not in self.documents[0], True, item.kind == "file"
-        named = f"`{item.name}` of `{item.module.name}`" in self.documents[0]
-        return (is_test(item), not named, False, item.kind == "mod", item.file not in self.files,
-                self.order(item))
+        is_own, is_whole = item.file.is_relative_to(self.site.top), item.kind in ("mod", "file")
+        named = f"::{item.name})" if item.kind in OF_FILES else f"`{item.name}` of `{item.module.name}`"
+        return (is_own, is_test(item), named not in self.documents[0], is_whole,
+                item.file not in self.files, self.order(item))

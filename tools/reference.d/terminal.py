@@ -5,41 +5,14 @@ import subprocess
 import sys
 
 from items import Items
-from layout import indented, prose
-from lookup import parts_of
-from promise import TITLE, carriers
-from rows import OF_MESSAGES, names_in
-from text import first_sentence
+from layout import indented
+from rows import OF_MESSAGES
 
-MOST_OTHERS, MOST_HERE, MOST_TOLD = 8, 6, 4
+MOST_OTHERS, MOST_TOLD = 8, 4
 
 
 class Answers(Items):
     """What is shown for a name."""
-
-    def rows(self, rows, title):
-        """What the documents tell of the Rust crate's names, a paragraph for each row."""
-        lines = []
-        for row in rows:
-            text = "; ".join([row.ours.rstrip(".") or "the same name", *row.told]).rstrip(".")
-            place = f"{row.place}, under {row.section}" if row.section else row.place
-            lines += prose(f"- {row.theirs}: {text} ({place})", self.width - 4)
-        return self.part(lines, title)
-
-    def here(self, name, rows):
-        """The items that rows name as what stands here, each with its first sentence. Of a row that
-        says that names are the same it is the one that was asked for; where nothing stands here,
-        those whose docs have the name."""
-        found, parts = [], parts_of(name)
-        for row in rows:
-            for here in [here for code in row.names_here for here in names_in(code)]:
-                if row.ours or here[-1] == parts[-1]:
-                    items = filter(self.names.is_of_library, self.names.named(here))
-                    found += sorted(items, key=self.names.order)[:1]
-        if all(row.left_out for row in rows):
-            found += self.names.told_in_docs(parts)
-        return self.listed("Here", [(self.names.full_name(item), first_sentence(item))
-                                    for item in [*dict.fromkeys(found)][:MOST_HERE]])
 
     def others(self, items):
         """The names and the places of what else has a name: it is asked for by either."""
@@ -52,32 +25,21 @@ class Answers(Items):
         """So many rows of the documents' tables, each with its document and heading."""
         lines = []
         for row in rows[:most]:
-            cells = [(title, cell) for title, cell in row.cells if cell]
-            lines += self.listed(f"{row.place}, under {row.heading}", cells)
+            cells = [(title, cell or "the same name") for title, cell in row.cells
+                     if cell or title == "here"]
+            title = f"{row.place}, under {row.section or row.heading}"
+            lines += self.listed(title, cells) if row.cells[0][0] else (
+                self.said(": ".join(cell for _, cell in cells), title))
         more = len(rows) - most
         return [*lines, *self.said(f"And {more} more rows have it." if more > 0 else "")]
 
-    def promise(self):
-        """What the library promises: each sentence, with the clauses of those that carry it."""
-        lines = self.said(TITLE)
-        for sentence, items in carriers(self.names):
-            lines += [sentence, ""]
-            for item in filter(None, items):
-                lines += [f"    {self.names.full_name(item)}  {self.names.place(item)}",
-                          *indented(self.part(self.written(item.clauses)))]
-        return lines
-
-    def asked(self, name, asked):
-        """All that is shown for a name."""
-        first, others, rows = asked
-        telling = [row for row in rows if row.told or row.ours and not row.left_out]
-        if first:
-            return [*self.item(first), *self.rows(telling, "From Rust"), *self.others(others)]
-        rows = telling or rows
-        of_clauses = rows and all(row in self.names.clauses for row in rows)
-        title = "a name of clauses" if of_clauses else "for who comes from Rust"
-        return [*self.rows(rows, f"{name}, {title}"), *(self.here(name, rows) if rows else ()),
-                *self.others(others)]
+    def asked(self, asked):
+        """All that is shown for a name: the item that comes first, rows that tell of it, or else
+        all rows, and what else has the name."""
+        telling = [row for row in asked.rows if row.told or row.ours and not row.left_out]
+        rows = telling if asked.first else telling or asked.rows
+        return [*(self.item(asked.first) if asked.first else ()), *self.told(rows, len(rows)),
+                *self.others(asked.others)]
 
 
 def of_kit(name):
@@ -107,14 +69,8 @@ def show(names, name):
     asked, text = names.asked(name), Answers(names, shutil.get_terminal_size().columns)
     told = names.told_rows(name, asked)
     is_known = asked.first or asked.rows
-    lines = text.asked(name, asked) if is_known else of_kit(name)
+    lines = text.asked(asked) if is_known else of_kit(name)
     lines = [*lines, *text.told(told, MOST_TOLD if is_known else len(told))]
     sys.stdout.write("".join(f"{line}\n" for line in lines).rstrip("\n") + "\n" * bool(lines))
     sys.stderr.write("".join(f"{line}\n" for line in unknown(names, name)) if not lines else "")
     return bool(lines)
-
-
-def show_promise(names):
-    """Shows what the library promises."""
-    text = Answers(names, shutil.get_terminal_size().columns)
-    print("\n".join(text.promise()).rstrip("\n"))

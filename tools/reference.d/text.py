@@ -3,7 +3,6 @@ import re
 
 from layout import columns, indented, laid_out, one_line, prose, signature
 from meanings import Scope, header
-from sources import imports_of
 
 WIDEST, NARROWEST = 100, 40
 # The crates by which a crate above the library imports a word, the highest first.

@@ -1,0 +1,39 @@
+"""Checks that no derive, impl or public call goes unseen: public.txt has each public type with its
+traits, and behind a bar those of its calls that nothing calls, as the sources say."""
+import collections
+import pathlib
+import textwrap
+
+from callers import calls
+from meanings import WITH_A_PAGE
+
+LIST = pathlib.Path(__file__).resolve().parent / "public.txt"
+
+
+def lines_of(site):
+    """The lines of the list. A trait that a type has by several impls has their number."""
+    uncalled = collections.defaultdict(list)
+    for item, is_called in calls(site).items():
+        uncalled[item.of_whom] += [] if is_called else [item.name]
+    for item in site.items:
+        if item.home and item.kind in WITH_A_PAGE:
+            traits = [impl.of_trait for impl in item.blocks if impl.of_trait] + item.derived()
+            count = collections.Counter(traits)
+            told = [f"{it}*{count[it]}" if count[it] > 1 else it for it in sorted(count)]
+            told += ["|", *sorted(uncalled[item])] if uncalled[item] else []
+            line = " ".join([f"{site.path(item.home)[0]}::{item.name}:", *told])
+            yield from textwrap.wrap(line, 100, subsequent_indent="    ") if told else ()
+
+
+def write_public(site):
+    """Writes the list."""
+    LIST.write_text("".join(f"{line}\n" for line in lines_of(site)), "utf-8")
+
+
+def changed(site):
+    """Looks for each line in the list, and for each of its lines in the sources."""
+    listed, now = LIST.read_text("utf-8").splitlines(), [*lines_of(site)]
+    for line in dict.fromkeys([*listed, *now]):
+        where = "the sources lack" if line in listed else f"{LIST.name} lacks"
+        right = line in listed and line in now
+        yield None if right else f"{where}: {line}; tools/reference --write-public writes it anew"
