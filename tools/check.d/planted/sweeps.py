@@ -11,7 +11,7 @@ PLANTED = {
         "an_output_costs_a_tag_for_each_digest_of_at_most_255"),
     "a piece of text is handed over before it is full": (
         "crates/ga_rows/src/output.rt", "= 5 + 16 * 4 + 1", "= 5 + 16 * 8 + 1",
-        "a_line_that_no_longer_fits_begins_the_next_piece"),
+        "a_million_bytes_are_written_in_full_pieces"),
 }
 
 
