@@ -1,5 +1,5 @@
-"""Shows each part of `tools/check`, and trials/bench and trials/diff, a fault of each kind that it
-looks for: it has to tell it.
+"""Shows each part of `tools/check`, and what stands in `trials`, a fault of each kind that it looks
+for: it has to tell it.
 
 The faults stand in copies of this checkout, or in what made-up commands answer in place of `rt`,
 `cargo` and `valgrind` (planted/bin). Nothing is proved.
@@ -10,11 +10,11 @@ import tempfile
 import traceback
 from concurrent.futures import ThreadPoolExecutor
 
-from planted import bench, diff, parts, reference, start
+from planted import bench, diff, parts, reference, start, sweeps
 from tally import Tally
 
 # The longest first.
-PLANTED = {it.__name__.split(".")[1]: it for it in (start, parts, reference, bench, diff)}
+PLANTED = {it.__name__.split(".")[1]: it for it in (sweeps, start, parts, reference, bench, diff)}
 
 
 def play_one(tally, name):

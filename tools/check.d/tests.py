@@ -54,15 +54,15 @@ def file(crate, name):
     return (crate / name).read_bytes() if (crate / name).exists() else b""
 
 
-def has_tests(crate):
-    return any(TEST.search(it.read_text("utf-8")) for it in crate.glob("src/**/*.rt"))
-
-
 @functools.lru_cache(None)
 def runs():
+    """The tests of each crate that has some, the longest first, and the programs."""
     crates = sorted((TOP / "crates").iterdir())
+    files = {crate: sorted(crate.glob("src/**/*.rt")) for crate in crates}
+    texts = {crate: "".join(it.read_text("utf-8") for it in files[crate]) for crate in crates}
+    with_tests = [it for it in crates if TEST.search(texts[it])]
     programs = [Program(it) for it in crates if (it / "src" / "main.rt").exists()]
-    return [*(Tests(it) for it in crates if has_tests(it)), *programs]
+    return [*map(Tests, sorted(with_tests, key=lambda it: -len(texts[it]))), *programs]
 
 
 def play(tally, words):

@@ -37,7 +37,8 @@ FILES = {
     "trials/sweeps/vectors/sums.rattle": TEST,
     "trials/sweeps/ga_deep/tests/more.rattle": "// More.\n",
     "tools/walls/stands.rattle": WALL, "tools/walls/unmended.rattle": WALL,
-    "tools/walls/fell.rattle": "// open: goal\n", "tools/walls/early.rattle": "// says: it is early\n",
+    "tools/walls/fell.rattle": "// open: goal\n",
+    "tools/walls/early.rattle": "// says: it is early\n",
     "tools/twins/ga_deep/right.edit": EDIT, "tools/twins/ga_deep/proved.edit": EDIT,
     "tools/twins/ga_deep/untried.edit": EDIT,
 }
@@ -48,7 +49,7 @@ MADE_UP = {
     "try_in_ga_deep": "[ -e src/tests/more.rt ] && echo $(cat src/tests.rt) && exit 1\n",
     "must-fail": "echo must-fail ga_deep/right.edit: refused, as it must be: it\n"
                  "echo must-fail ga_deep/proved.edit: NOT REFUSED: it; exit 1\n",
-    "check_in_walls": "[ -e src/early.rt ] && echo 'src/early.rt:1:1: error: it is early' && exit 1\n"
+    "check_in_walls": "[ -e src/early.rt ] && echo 'src/early.rt:1: error: it is early' && exit 1\n"
                       "echo 'src/stands.rt:1:1: it stands'; echo 'src/stands_mend.rt:1:1: proved'\n"
                       "echo 'src/fell.rt:1:1: it fell'; echo 'src/unmended.rt:1:1: it stands'\n"
                       "echo 'src/unmended_mend.rt:1:1: no proof'; echo logic=it; exit 1\n",
@@ -88,10 +89,10 @@ TOLD = {
     "a twin that is proved": "ga_deep/proved.edit: NOT REFUSED: it\n",
     "a twin that isn't tried": "ga_deep/untried.edit: it isn't tried: ",
     "a wall that fell": "fell: it fell: '(`goal`)' isn't printed, but src/fell.rt:1:1: it fell\n",
-    "a mend that isn't proved": "unmended: its mend isn't proved: src/unmended_mend.rt:1:1: no proof",
+    "a mend that isn't proved": "unmended: its mend isn't proved: src/unmended_mend.rt:1:1: no ",
 }
-# Three of these are told in one line. There are 20 more streams that fail, two more crates without a
-# program, and the status of `rt must-fail`.
+# Three of these are told in one line. There are 20 more streams that fail, two more crates without
+# a program, and the status of `rt must-fail`.
 SUMS = f"\n26 passed, {len(TOLD) - 2 + 20 + 2 + 1} failed\n"
 
 

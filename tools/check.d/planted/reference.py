@@ -10,7 +10,8 @@ PLANTED = {
         "\npub fn planted() {}\n\nghost use Rattle.std.specs.Prelude.{idle};\n\nimpl Planted {\n"
         "    ghost use Rattle.std.specs.Prelude.{idle_within};\n}\n",
     "crates/ga_headline/src/lists.rt+":
-        "\npub fn silent(count: usize)\n    requires few { count ≤ 3 }\n{}\n\npub fn unpromised() {}\n",
+        "\npub fn silent(count: usize)\n    requires few { count ≤ 3 }\n{}\n\n"
+        "pub fn unpromised() {}\n",
     "docs/CALLING.md+": "\n`nothing_is_called_so`\n\n```rust\nfn stands_nowhere() {}\n```\n",
     "crates/ga_views/README.md+":
         "\n[`write_hex`](src/hex_text.rt)\n\n```text\npub fn write_hex()\n```\n",

@@ -35,7 +35,7 @@ def test(name):
 
 def rows(mode):
     """`hex 2` makes five requests. Where the second is refused it loses memory, at the third it
-    writes a row, at the fourth it doesn't say what it lacks, and at the fifth its status is wrong."""
+    writes a row, at the fourth it doesn't say what it lacks, at the fifth its status is wrong."""
     global lost
     missed = [it for it in range(5 + (mode == "last")) if not ask()]
     lost = missed == [1]
