@@ -1,9 +1,9 @@
 """Finds a caller of each call in the crates of examples, and checks that each public call of the
 libraries has one there or in a crate above.
 
-It reads no types: what a method is called on is told by the head of the function, by a `let`, or by
-what the call in front returns. Where that says nothing, no caller is found, and for the check a
-method counts by its name. Impls of traits need no caller: the trait's own call does.
+It reads no types: what a method is called on is told by the function's head, by a `let`, or by what
+the call in front returns. Where that says nothing, no caller is found, and the check goes by the
+method's name. Impls of traits need no caller: the trait's own call does.
 """
 import fnmatch
 import functools
@@ -82,9 +82,8 @@ class Callers:
                    for impl in item.blocks if not impl.of_trait for member in impl.members)
 
     def receivers(self, function, code, before):
-        """The names of the types that code may have, which stands behind other code: of a name by
-        the last `let` of it, or else by the function's head; of a call what it returns, of a
-        `Result` or an `Option` inside."""
+        """The names of the types that code may have: of a name by the last `let` of it, or else by
+        the function's head; of a call what it returns, of a `Result` or an `Option` inside."""
         if found := NAMED.search(code):
             told = re.search(rf"(?<![\w.]){found['name']}: ([^,()=]+)", function.head)
             for let in re.finditer(

@@ -42,8 +42,8 @@ class Items(Text):
                 *self.imports([item]), *self.caller(item)]
 
     def of_trait(self, item):
-        """A member of an impl of a trait: what it says, or else what the trait says of it, and the
-        ghost members of the impl that are named there, or all where nothing is said."""
+        """A member of an impl of a trait: what it says, or else the trait of it, and the ghost
+        members of the impl that are named there, or all where nothing is said."""
         impl = item.owner
         traits = [impl.trait] if impl.trait else self.site.library.std_traits(impl.of_trait)
         above = [member for trait in traits for member in trait.members
@@ -108,8 +108,7 @@ class Items(Text):
         return [*self.code(item.head), *self.docs(item), *(self.type(of) if passes else ())]
 
     def module(self, module):
-        """A module: its docs, and what is public there, or of one of examples or of tests what
-        stands there."""
+        """A module: its docs, and what is public there, or stands there in examples or tests."""
         is_public, found = module in self.names.paths, module.members
         if is_public:
             found = [it for it in self.site.items if it is not module and it.home is (
@@ -157,8 +156,7 @@ class Items(Text):
                 *self.part([*using, *prose(told, self.width - 4)], "Above a function")]
 
     def sample(self, item):
-        """A function of an example, or a type with its impls: the code, what it imports, and the
-        files that prove it, those of a few lines whole."""
+        """A function of an example, or a type with its impls: its code, imports and proofs."""
         code = "\n\n".join(code_of(part) for part in (item, *item.blocks))
         crate, *rest = self.names.path(item)
         proofs = []

@@ -38,8 +38,7 @@ def statement(word):
 
 
 def lemmas_of(site, file):
-    """The lemmas of a file that other files cite, and its lists of such, each with the lists that
-    it is in."""
+    """The lemmas of a file that others cite, each with the lists that it is in, and its lists."""
     text, of = file.read_text("utf-8"), as_module(site, file)
     lists = {found["name"]: re.split(r",\s*", found["names"]) for found in RULESET.finditer(text)}
     told = {"folder": of.folder, "module": f"{of.module}.{of.name}"}
@@ -55,8 +54,7 @@ def lemmas_of(site, file):
 
 
 def of_files(site):
-    """All lemmas, the definitions that no page has, and the files of proofs/ and specs/ as
-    modules."""
+    """All lemmas, the definitions that no page has, and the files of both as modules."""
     crates = site.top / "crates"
     proofs = [file for file in sorted(crates.glob("*/proofs/**/*.antt")) if is_declared(file)]
     specs = [file for file in sorted(crates.glob("*/specs/**/*.antt")) if file.stem != "Lib"]

@@ -45,7 +45,11 @@ class Pages:
         placed = [item for item in [*self.own_words, *site.shown()] if item.url]
         self.places = {site.full_name(item): item for item in placed}
         self.rust_names = list(self.note_rust())
-        self.rust_text, self.crates_drawn = self.told_of_rust(), self.drawing()
+        rust, architecture = ((site.top / "docs" / f"{name}.md").read_text("utf-8")
+                              for name in (OF_RUST[0], "ARCHITECTURE"))
+        # The list of the Rust crate's names without its links to files, and what stands on what.
+        self.rust_text = re.sub(r"\[([^\]]*)\]\([^)]*\)", r"\1", rust)
+        self.crates_drawn = re.search(r"(?ms)^```text\n(.*?)^```", architecture)[1]
         self.names = Names(site)
         self.promise_title = TITLE
         self.promise = [(text, items.values()) for text, items in carriers(self.names)]
@@ -166,16 +170,6 @@ class Pages:
                     target = None if row.left_out else next(iter(called), None)
                     yield code, target, " ".join([row.ours, *row.told]).replace("`", "")
 
-    def told_of_rust(self):
-        """The document that lists the Rust crate's names, without its links to files."""
-        text = (self.site.top / "docs" / f"{OF_RUST[0]}.md").read_text("utf-8")
-        return re.sub(r"\[([^\]]*)\]\([^)]*\)", r"\1", text)
-
-    def drawing(self):
-        """What stands on what, as the document draws it."""
-        text = (self.site.top / "docs" / "ARCHITECTURE.md").read_text("utf-8")
-        return re.search(r"(?ms)^```text\n(.*?)^```", text)[1]
-
     def write(self):
         """Writes all pages, and what stands beside them. Gives the links that lead nowhere."""
         for item in self.site.items:
@@ -185,7 +179,7 @@ class Pages:
             self.page("words.html", words[0].url.partition("#")[0], words=words)
         for name in FILES:
             self.page(name, name)
-        shutil.copy(self.site.top / "bench" / "speed.svg", self.folder)
+        shutil.copy(next(iter(self.site.top.glob("**/bench/speed.svg"))), self.folder)
         return list(self.lost_links())
 
     def lost_links(self):

@@ -1,5 +1,4 @@
-"""Reads what no page has: functions and types of examples, of tests, and of no public module, each
-with its code."""
+"""Reads what no page has: functions and types of examples, of tests, and of hidden modules."""
 import functools
 import inspect
 import re
@@ -90,23 +89,23 @@ class Samples:
 
     @functools.cached_property
     def documents(self):
-        """The text of the documents that readers begin with, and the names of the functions that it
-        shows."""
+        """The text of the documents, and the names of the functions that it shows."""
         files = sorted((self.site.top / "docs").glob("*.md"))
         text = " ".join(file.read_text("utf-8") for file in files)
         return " ".join(text.split()), set(re.findall(r"\bfn (\w+)", text))
 
     def order(self, item):
         """Where a sample stands among others: first what the documents show, then what has clauses,
-        what isn't of nothing, what is of any length or type, and what is shorter."""
+        isn't of nothing, is of any length or type, and is shorter."""
         bounds = declared(item.head)[0] if item.kind == "fn" else {}
         return (item.name not in self.documents[1], not item.clauses, item.name.startswith("no"),
                 not any(bounds.values()), item.end - item.begin)
 
     def likeliest(self, item):
-        """Where a sample, a lemma or a file stands among those of one name: first a method of std,
-        then what the documents name with its module, and tests last."""
+        """Where what stands on no page stands among those of one name: first a method of std, then
+        what the documents name with its module, and tests last."""
         is_own, is_whole = item.file.is_relative_to(self.site.top), item.kind in ("mod", "file")
-        named = f"::{item.name})" if item.kind in OF_FILES else f"`{item.name}` of `{item.module.name}`"
-        return (is_own, is_test(item), named not in self.documents[0], is_whole,
+        named = (f"::{item.name})" if item.kind in OF_FILES else
+                 f"`{item.name}` of `{item.module.name}`") in self.documents[0]
+        return (is_own, is_test(item), not named, is_whole,
                 item.file not in self.files, self.order(item))

@@ -24,7 +24,7 @@ def use_line(kind, module, names):
 
 
 def spelled(names, item):
-    """An item's head, in which a name that an item of ours and one of std have is its whole path."""
+    """An item's head, in which a name that an item of ours and one of std have is the whole path."""
     head = item.head
     for name in names.twice - {item.name} if names.is_own(item) else ():
         ours = names.site.item_named(name, item)
@@ -40,8 +40,7 @@ def becomes(names, item):
 
 
 def kinds(site, item):
-    """What the conditions of a trait's call are at each kind: the ghost members of an impl that they
-    name, and the heads of all impls where these read so."""
+    """What the conditions of a trait's call are at each kind: ghost members of impls, and which."""
     found, named = {}, {}
     if item.owner is not None and item.owner.kind == "trait":
         for clause in [it for it in item.clauses if it.keyword == "requires"]:
@@ -78,9 +77,7 @@ class Text:
 
     def title(self, item, place=None):
         """The name of an item and its place."""
-        name, place = self.names.full_name(item), place or self.names.place(item)
-        room = self.width - len(name) - len(place)
-        return [f"{name}{' ' * room}{place}", ""] if room > 1 else [name, place, ""]
+        return [f"{self.names.full_name(item)}  {place or self.names.place(item)}", ""]
 
     def code(self, text):
         """A signature, a declaration or a definition, and nothing for none."""
@@ -112,8 +109,7 @@ class Text:
         return lines
 
     def cited(self, items):
-        """What the clauses of items name: our definitions and ghost members, each with its name
-        there, and the words of others."""
+        """What the clauses of items name: our definitions, ghost members, and words of others."""
         ours, others = {}, {}
         for _, atom, thing in self.site.named(items):
             if thing in items or thing.kind not in ("word", "ghost"):
@@ -141,8 +137,7 @@ class Text:
         return self.part(lines, "Here")
 
     def modules_of(self, word):
-        """The modules by which crates import a word of ours: those of the crates above it that pass
-        it on, the highest first, and its own crate's."""
+        """The modules by which crates import a word of ours: that of the highest crate first."""
         crate, _, rest = word.module.removeprefix("Rattle.").partition(".")
         paths = [f"Rattle.{reader}.{word.folder}.{rest}" for reader in (*READERS, crate)]
         return [path for path in dict.fromkeys(paths)
@@ -150,11 +145,11 @@ class Text:
 
     def imports(self, items):
         """The lines by which a crate above the library imports what the clauses of items name, and
-        the lower library from which all that is ours can be imported too."""
+        the lower library that has all of ours too."""
         lines, crates = {}, []
         for item in items:
             scope = Scope(self.site, item)
-            for atom, word in [piece for clause in item.clauses for piece in scope.pieces(clause.term)]:
+            for atom, word in [it for clause in item.clauses for it in scope.pieces(clause.term)]:
                 module, there = scope.imports.get(atom.rstrip("."), ("", ""))
                 if module and word and word.kind == "word":
                     paths = self.modules_of(word)
