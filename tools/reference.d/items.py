@@ -34,33 +34,26 @@ class Items(Text):
     """Items and definitions, each as a page of text."""
 
     def call(self, item):
-        """What has a signature, docs and clauses alone: a function, a constant, a field."""
-        impl = impl_of(item)
-        clauses = [clause for clause in item.clauses if clause.keyword != "ghost"]
-        return [*(self.head(impl) if impl else ()), *self.head(item), *self.docs(item),
-                *self.part(self.written(clauses)), *self.conditions(item), *self.words([item]),
-                *self.imports([item]), *self.caller(item)]
-
-    def of_trait(self, item):
-        """A member of an impl of a trait: what it says, or else the trait of it, and the ghost
-        members of the impl that are named there, or all where nothing is said."""
-        impl = item.owner
-        traits = [impl.trait] if impl.trait else self.site.library.std_traits(impl.of_trait)
-        above = [member for trait in traits for member in trait.members
-                 if (member.kind, member.name) == (item.kind, item.name)]
-        told = item if item.clauses or not above else above[0]
-        terms = " ".join(clause.term for clause in told.clauses)
-        ghosts = [member for member in impl.of_kind("ghost") if member is not item
-                  and (not terms or re.search(rf"\b{re.escape(member.name)}\b", terms))]
+        """What has a signature, docs and clauses alone: a function, a constant, a field. A member
+        of an impl that says nothing has what its trait says of it, and the ghost members of the
+        impl that are named there, or all where nothing is."""
+        impl, told, ghosts, docs = impl_of(item), item, [], [item]
+        if impl and impl.of_trait:
+            traits = [impl.trait] if impl.trait else self.site.library.std_traits(impl.of_trait)
+            above = [member for trait in traits for member in trait.members
+                     if (member.kind, member.name) == (item.kind, item.name)]
+            told = item if item.clauses or not above else above[0]
+            terms = " ".join(clause.term for clause in told.clauses)
+            ghosts = [member for member in impl.of_kind("ghost") if member is not item
+                      and (not terms or re.search(rf"\b{re.escape(member.name)}\b", terms))]
+            docs = [item, *(above if impl.trait else ()), impl, *above]
         cited = [*([told] if told.module else ()), *ghosts]
-        with_docs = [part for part in (item, *(above if impl.trait else ()), impl, *above)
-                     if part.docs]
-        with_notes = [part for part in (item, impl, *above) if part.notes]
-        return [*self.head(impl), *self.head(item),
-                *self.docs((with_docs or with_notes or [item])[0]),
-                *self.part(self.written(told.clauses if item.kind == "fn" else ())),
-                *self.laid([ghost.head for ghost in ghosts], "Here"),
-                *self.words(cited), *self.imports(cited), *self.caller(item)]
+        clauses = [clause for clause in told.clauses if clause.keyword != "ghost"]
+        docs = [it for it in docs if it.docs] or [it for it in docs if it.notes] or [item]
+        return [*(self.head(impl) if impl else ()), *self.head(item), *self.docs(docs[0]),
+                *self.part(self.written(clauses)), *self.conditions(item),
+                *self.laid([ghost.head for ghost in ghosts], "Here"), *self.words(cited),
+                *self.imports(cited), *self.caller(item)]
 
     def macro(self, item):
         """A macro: its docs, and what is known of the calls that its forms become."""
@@ -207,5 +200,4 @@ class Items(Text):
             return [*self.head(item), *self.docs(item), *self.trait(item)]
         if item.kind in WITH_A_PAGE:
             return [*self.code(declaration(item, self.width)), *self.docs(item), *self.type(item)]
-        of_trait = impl_of(item) and impl_of(item).of_trait
-        return self.of_trait(item) if of_trait else self.call(item)
+        return self.call(item)

@@ -116,7 +116,9 @@ class Names(Paths):
             return self.asked(other)
         words, rows = self.of_std(name), self.told_of(name, bool(items))
         is_above = not items or not self.is_of_library(items[0])
-        if rows and (is_above and not leads or self.is_of_rust(name, rows)):
+        is_of_rust = len(parts) > 1 and not self.named(parts) and any(
+            parts in row.names for row in rows)
+        if rows and (is_above and not leads or is_of_rust):
             return Asked(None, [*(item for item in items if not is_detail(item)), *words], rows)
         if is_above and not leads and not (items := [*words, *items]):
             if rows := [row for row in self.clauses if row.fit(parts) or row.mentions(parts)]:
@@ -164,11 +166,6 @@ class Names(Paths):
                 return rows[:MOST_ROWS]
         return []
 
-    def is_of_rust(self, name, rows):
-        """Whether a name with its path is one of a row's, and leads to no item."""
-        parts = parts_of(name)
-        return len(parts) > 1 and not self.named(parts) and any(parts in row.names for row in rows)
-
     def other_name(self, parts):
         """The name that one of typenum, of std or of another crate is looked up by, if any."""
         if re.fullmatch(r"[UPN]\d+", parts[-1]):
@@ -182,7 +179,7 @@ class Names(Paths):
             return self.placed(self, name)
         parts = parts_of(name)
         exact = self.named(parts)
-        found = exact or self.of_trait(parts) or self.inherited(parts)
+        found = exact or self.inherited(parts)
         if not found and len(parts) > 1 and not self.outside.named(parts):
             found = self.named(parts[-1:])
         # Of our traits for types of others only where nothing else has the name.
@@ -197,11 +194,6 @@ class Names(Paths):
             found = [item for item in found if name.startswith("&") == bool(
                 impl_of(item) and " for &" in header(impl_of(item)))] or found
         return [item for item in found if not is_detail(item)] or found
-
-    def of_trait(self, parts):
-        """The members of impls by their trait too, as `GenericArray::AsSlice::as_slice`."""
-        named = self.named([*parts[:-2], parts[-1]]) if len(parts) > 2 else []
-        return [item for item in named if impl_of(item) and impl_of(item).of_trait == parts[-2]]
 
     def inherited(self, parts):
         """The members of traits that a type has by an impl that doesn't write them."""
