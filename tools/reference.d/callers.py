@@ -10,8 +10,8 @@ import functools
 import pathlib
 import re
 
+from beside import Samples, is_test
 from meanings import LIBRARIES, WITH_A_PAGE, above, base_name, declared
-from samples import Samples, is_test
 
 EXAMPLES = "_examples"
 # The patterns of the calls that have no caller, each with why.

@@ -41,25 +41,21 @@ BELOW = re.compile(r"(?:^\w+|[)\]]\??)\.|^(?:[A-Z]|Self)::")
 INDEXED = re.compile(r"&?[a-z]\w*\[")
 
 
-def parts_of_examples(text):
-    """The parts of a document's examples, but for imports, each with its example's line."""
-    for example in EXAMPLE.finditer(text):
-        line = text.count("\n", 0, example.start(1)) + 1
-        code = re.sub(r"(?m)^(?:ghost )?use .*\n", "", example[1])
-        yield from ((line, part.strip()) for part in re.split(r"\n\n+", code) if part.strip())
-
-
 def unwritten(site):
-    """Looks for each part of an example in the crates."""
+    """Looks for each part of an example, but for its imports, in the crates."""
     files = sorted((site.top / "crates").glob("*/src/**/*.rt"))
     sources = [LAYOUT.sub("", file.read_text("utf-8")) for file in files]
     documents = [site.top / "README.md", *(site.top / "docs").glob("*.md"),
                  *(site.top / "crates").glob("*/README.md")]
     for document in sorted(documents):
-        for line, part in parts_of_examples(document.read_text("utf-8")):
-            stands = any(LAYOUT.sub("", part) in source for source in sources)
-            wrong = f"{document.relative_to(site.top)}:{line}: no crate has {part.splitlines()[0]}"
-            yield None if stands else wrong
+        text = document.read_text("utf-8")
+        for example in EXAMPLE.finditer(text):
+            line = text.count("\n", 0, example.start(1)) + 1
+            place = f"{document.relative_to(site.top)}:{line}"
+            code = re.sub(r"(?m)^(?:ghost )?use .*\n", "", example[1])
+            for part in filter(None, map(str.strip, re.split(r"\n\n+", code))):
+                stands = any(LAYOUT.sub("", part) in source for source in sources)
+                yield None if stands else f"{place}: no crate has {part.splitlines()[0]}"
 
 
 def misquoted(names):

@@ -1,12 +1,11 @@
 """Shows an item, a definition, a lemma or a module whole, as lines of text."""
 import re
 
+from beside import code_of, is_declared, is_test
 from imports import atoms_of, is_in
 from layout import indented, laid_out, one_line, prose
-from lemmas import is_declared
 from lookup import impl_of
 from meanings import WITH_A_PAGE, base_name, declared, header
-from samples import code_of, is_test
 from sources import imports_of
 from text import Text, becomes, first_sentence, use_line
 
@@ -117,8 +116,9 @@ class Items(Text):
 
     def file(self, item):
         """A file of specs/ or proofs/ as a module: what it is, and what others import from it."""
-        pairs = [(word.name.strip("◌"), self.site.line(word))
-                 for word in self.names.of_file(item.file)]
+        words = [it for it in self.names.outside.paths if (it.kind, it.file) == ("lemma", item.file)]
+        words = words or self.site.library.definitions(item.file).values()
+        pairs = [(word.name.strip("◌"), self.site.line(word)) for word in words]
         title = "Lemmas" if item.folder == "proofs" else "Words"
         return [*self.said(item.notes), *self.listed(title, pairs)]
 
@@ -168,16 +168,12 @@ class Items(Text):
             by_module = {}
             heads = "\n".join(use.head for use in item.module.of_kind(kind))
             for name, (module, there) in imports_of(heads).items():
-                if is_in(name, atoms) or kind == "use" and self.has_call(name, atoms):
+                traits = [*self.site.by_name.get(name, []), *self.site.library.std_traits(name)]
+                calls = {call.name for trait in traits for call in trait.of_kind("fn")}
+                if is_in(name, atoms) or kind == "use" and calls & atoms:
                     whole = there if there in ("", name) else f"{there} as {name}"
                     by_module.setdefault(module, []).append(whole)
             yield from (use_line(kind, *told) for told in sorted(by_module.items()))
-
-    def has_call(self, name, atoms):
-        """Whether code has a function of a trait of this name."""
-        traits = [*self.site.by_name.get(name, []), *self.site.library.std_traits(name)]
-        return any(member.kind == "fn" and member.name in atoms
-                   for trait in traits for member in trait.members)
 
     def item(self, item):
         """All that is shown of an item or a definition."""

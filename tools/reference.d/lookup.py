@@ -6,14 +6,13 @@ import functools
 import pathlib
 import re
 
+from beside import Samples, hidden, of_files, slice_methods
 from callers import Callers
-from lemmas import of_files
 from meanings import LIBRARIES, header
 from paths import Index, Paths, is_named
 from rows import (
     CODE, FORMAT, FORMATS, OF_CLAUSES, OF_MESSAGES, OF_RUST, having, names_in, naming, rows,
 )
-from samples import Samples, hidden, slice_methods
 from sources import ANGLE, closing, imports_of
 
 MOST_NEAR, MOST_ROWS = 8, 4
@@ -140,11 +139,6 @@ class Names(Paths):
         index = self.outside
         found = self.placed(index, name) if is_place(name) else index.named(parts_of(name))
         return sorted(found, key=self.samples.likeliest)
-
-    def of_file(self, file):
-        """What others import from a file of specs/ or proofs/."""
-        lemmas = [item for item in self.outside.paths if (item.kind, item.file) == ("lemma", file)]
-        return lemmas or self.site.library.definitions(file).values()
 
     def placed(self, index, place):
         """The items of an index that begin at a place, as `array.rt:39`."""

@@ -161,8 +161,10 @@ class Site:
     @functools.cached_property
     def words(self):
         """The definitions of the crates, by their files."""
-        files = [file for crate in CRATES for file in self.library.word_files(crate)]
-        return {file: list(self.library.definitions(file).values()) for file in files}
+        files = [file for crate in CRATES
+                 for file in sorted((self.top / "crates" / crate / "specs").rglob("*.antt"))]
+        return {file: list(self.library.definitions(file).values()) for file in files
+                if file.name != "Lib.antt"}
 
     def crate(self, name):
         """A crate's root with all that stands below it. A program's is main.rt."""

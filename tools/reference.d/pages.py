@@ -11,11 +11,11 @@ import markdown
 from jinja2 import Environment, FileSystemLoader, StrictUndefined
 from markupsafe import Markup
 
+from beside import code_of
 from lookup import Names
 from meanings import WITH_A_PAGE, Scope
 from promise import TITLE, carriers
 from rows import CODE, OF_RUST, rows
-from samples import code_of
 from text import becomes
 
 TEMPLATES = pathlib.Path(__file__).resolve().parent / "pages"

@@ -3,13 +3,11 @@
 A row of the Rust crate's names has these in front, then what stands here, or nothing where it is
 the same name, then what else is told. One of what to write has a message of the check in front.
 """
-import functools
 import re
 
 # The documents of the Rust crate's names, of names of clauses, and of messages.
 OF_RUST, OF_CLAUSES = ("DIFFERENCES", "CALLING"), ("DEFINITIONS",)
 OF_MESSAGES = ("STUCK", "CALLING")
-LEFT_OUT, OWN = "left out", "Own items"
 CODE = re.compile(r"`([^`]+)`")
 # What parts a line's cells, and its names from what is said of them: none of it stands in code.
 IN_CODE = r"(?=(?:[^`]*`[^`]*`)*[^`]*$)"
@@ -37,31 +35,19 @@ class Row:
         self.text = plain(" ".join(cells))
         self.names = [parts for code in CODE.findall(self.theirs) for parts in names_in(code)]
         self.names += [[name] for name in self.theirs.split(", ") if re.fullmatch(r"\w+", name)]
-
-    @property
-    def left_out(self):
-        """Whether nothing stands here."""
-        return self.ours.startswith(LEFT_OUT)
-
-    @functools.cached_property
-    def ends_told(self):
-        """The ends of the names that are told as code."""
-        codes = CODE.findall(" ".join([self.ours, *self.told]))
-        return {name[-1] for code in codes for name in names_in(code)}
+        # Whether nothing stands here, or else its names, as code.
+        self.left_out = self.ours.startswith("left out")
+        self.names_here = [] if self.left_out else CODE.findall(self.ours or self.theirs)
 
     def mentions(self, parts):
         """Whether what is told has code that ends in a name."""
-        return parts[-1] in self.ends_told
+        codes = CODE.findall(" ".join([self.ours, *self.told]))
+        return any(name[-1] == parts[-1] for code in codes for name in names_in(code))
 
     def stands_for(self, parts):
         """Whether what stands here has this name in front."""
         first = CODE.match(self.ours)
         return bool(first) and any(name[-1] == parts[-1] for name in names_in(first[1]))
-
-    @property
-    def names_here(self):
-        """The names of what stands here, as code."""
-        return [] if self.left_out else CODE.findall(self.ours or self.theirs)
 
     def fit(self, parts):
         """How well the row fits a name: 0 where it doesn't, more for each part that it tells."""
@@ -107,7 +93,7 @@ def rows_of(place, text):
                 first, *cells = [cell.strip().replace(r"\|", "|") for cell in BAR.split(row)]
                 section = first.strip("*") if first.startswith("**") else section
                 yield Row(f"{place}:{number}", heading, section, titles, [first.strip("*"), *cells])
-        elif lines[0].startswith("- ") and heading != OWN:
+        elif lines[0].startswith("- ") and heading != "Own items":
             for bullet in re.split(r"\n(?=- )", "\n".join(lines)):
                 theirs, *said = COLON.split(" ".join(bullet[2:].split()), maxsplit=1)
                 if said and theirs.startswith("`"):

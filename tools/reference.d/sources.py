@@ -221,11 +221,6 @@ class Library:
         """Whether a crate is the repository's."""
         return (self.top / "crates" / crate).exists()
 
-    def word_files(self, crate):
-        """The files of a crate's specs/ that have definitions."""
-        found = sorted((self.top / "crates" / crate / "specs").rglob("*.antt"))
-        return [file for file in found if file.name != "Lib.antt"]
-
     @functools.lru_cache(None)
     def module_file(self, path):
         """The file of a module, through what other modules of its crate pass on, or None."""

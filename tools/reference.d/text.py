@@ -39,23 +39,6 @@ def becomes(names, item):
     return [call for owner, name in made for call in names.named([owner, name]) if call.clauses]
 
 
-def kinds(site, item):
-    """What the conditions of a trait's call are at each kind: ghost members of impls, and which."""
-    found, named = {}, {}
-    if item.owner is not None and item.owner.kind == "trait":
-        for clause in [it for it in item.clauses if it.keyword == "requires"]:
-            for _, thing in Scope(site, item).pieces(clause.term):
-                if thing and thing.kind == "ghost" and thing.owner.home:
-                    named.setdefault(thing.owner, set()).add(thing.name)
-    for trait, names in named.items():
-        for impl in [impl for impl in site.impls if impl.trait is trait]:
-            ghosts = [ghost for ghost in impl.of_kind("ghost") if ghost.name in names]
-            if ghosts:
-                key = " ".join(ghost.head for ghost in ghosts)
-                found.setdefault(key, (ghosts, []))[1].append(one_line(header(impl)))
-    return list(found.values())
-
-
 class Text:
     """Parts of a page as lines of text. Each ends with an empty line, or is none."""
 
@@ -129,11 +112,23 @@ class Text:
         return self.listed("Words", [*pairs, *told.items()])
 
     def conditions(self, item):
-        """What the conditions of a trait's call are at each kind."""
+        """What the conditions of a trait's call are at each kind: the heads of impls, and below
+        them their ghost members that the conditions name."""
+        found, named = {}, {}
+        if item.owner is not None and item.owner.kind == "trait":
+            for clause in [it for it in item.clauses if it.keyword == "requires"]:
+                for _, thing in Scope(self.site, item).pieces(clause.term):
+                    if thing and thing.kind == "ghost" and thing.owner.home:
+                        named.setdefault(thing.owner, set()).add(thing.name)
+        for trait, names in named.items():
+            for impl in [impl for impl in self.site.impls if impl.trait is trait]:
+                ghosts = [it.head for it in impl.of_kind("ghost") if it.name in names]
+                if ghosts:
+                    found.setdefault(tuple(ghosts), []).append(one_line(header(impl)))
         lines = []
-        for ghosts, heads in kinds(self.site, item):
+        for ghosts, heads in found.items():
             lines += [line for head in heads for line in laid_out(head, self.width - 4)]
-            lines += indented(it for ghost in ghosts for it in laid_out(ghost.head, self.width - 8))
+            lines += indented(it for ghost in ghosts for it in laid_out(ghost, self.width - 8))
         return self.part(lines, "Here")
 
     def modules_of(self, word):
