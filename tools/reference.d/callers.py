@@ -1,17 +1,17 @@
 """Finds a caller of each call in the crates of examples, and checks that each public call of the
 libraries has one there or in a crate above.
 
-It reads no types: what a method is called on is told by the head of the function, by a `let`, or by
-what the call in front returns. Where that says nothing, no caller is found, and for the check a
-method counts by its name. Impls of traits need no caller: the trait's own call does.
+It reads no types: what a method is called on is told by the function's head, by a `let`, or by what
+the call in front returns. Where that says nothing, no caller is found, and the check goes by the
+method's name. Impls of traits need no caller: the trait's own call does.
 """
 import fnmatch
 import functools
 import pathlib
 import re
 
+from beside import Samples, is_test
 from meanings import LIBRARIES, WITH_A_PAGE, above, base_name, declared
-from samples import Samples, is_test
 
 EXAMPLES = "_examples"
 # The patterns of the calls that have no caller, each with why.
@@ -81,53 +81,42 @@ class Callers:
         return any(member.name == name for item in self.site.by_name.get(type_name, [])
                    for impl in item.blocks if not impl.of_trait for member in impl.members)
 
-    def receivers(self, function, code, before):
-        """The names of the types that code may have, which stands behind other code: of a name by
-        the last `let` of it, or else by the function's head; of a call what it returns, of a
-        `Result` or an `Option` inside."""
+    def receivers(self, function, code):
+        """The names of the types that code may have at its end: of a name by the `let` of it, or
+        else by the function's head; of a call what it returns, of a `Result` or an `Option`
+        inside."""
         if found := NAMED.search(code):
             told = re.search(rf"(?<![\w.]){found['name']}: ([^,()=]+)", function.head)
-            for let in re.finditer(
-                    rf"\blet (?:mut )?{found['name']}(?:: ([^=;]+))? = ([^;]+);", before):
+            for let in re.finditer(rf"\blet (?:mut )?{found['name']}(?:: ([^=;]+))? = ([^;]+);", code):
                 if not let[1]:
-                    return self.receivers(function, let[2], before[:let.start()])
+                    return self.receivers(function, code[:let.start()] + let[2])
                 told = let
             return {base_name(BORROWED.sub("", told[1].strip(), count=1))} if told else set()
         found, types = MADE.search(code), set()
         for item in self.named.get(found["name"], []) if found else []:
-            told = WRAPPED.sub("", item.head.rpartition("->")[2].strip())
-            if self.is_called(item, function, code[:found.start()], before):
+            if self.is_called(item, function, code[:found.start()]):
+                told = WRAPPED.sub("", item.head.rpartition("->")[2].strip())
                 types.add(item.of_whom.name if re.match(r"Self\b(?!::)", told) else base_name(told))
         return types
 
-    def is_called(self, item, function, code, before):
-        """Whether a name behind this code of a function is a call of an item."""
+    def is_called(self, item, function, code, by_name=False):
+        """Whether a name behind this code of a function is a call of an item. A method of what has
+        no known type counts by its name, if that is wanted."""
         found, owner = BEFORE.search(code), item.of_whom
-        if item.kind == "macro":
-            return True
-        if owner.kind not in WITH_A_PAGE:
-            return not found or bool(found["path"]) and found["path"][:1].islower()
+        if item.kind == "macro" or owner.kind not in WITH_A_PAGE:
+            return item.kind == "macro" or not found or (found["path"] or "")[:1].islower()
         types = {found["path"]} if found and found["path"] else (
-            self.receivers(function, code[:found.start()], before) if found else ())
-        return any(owner.name in self.owners(name, function) for name in types
-                   if not (owner.kind == "trait" and self.is_inherent(name, item.name)))
+            self.receivers(function, code[:found.start()]) if found else ())
+        return bool(by_name and found and not types) or any(
+            owner.name in self.owners(name, function) for name in types
+            if not (owner.kind == "trait" and self.is_inherent(name, item.name)))
 
     @functools.lru_cache(None)
     def of(self, item):
         """A caller of an item, which is a sample, or None."""
         functions = self.functions if item.kind in ("fn", "macro") else ()
         return next((it.item for it in functions for code in it.before(item)
-                     if self.is_called(item, it, code, code)), None)
-
-    def may_call(self, function, item):
-        """Whether a function may call an item."""
-        for code in function.before(item):
-            found = BEFORE.search(code)
-            method = found and found["dot"] and item.of_whom.kind in WITH_A_PAGE
-            if method and not self.receivers(function, code[:found.start()], code) or (
-                    self.is_called(item, function, code, code)):
-                return True
-        return False
+                     if self.is_called(item, it, code)), None)
 
 
 @functools.lru_cache(None)
@@ -143,7 +132,8 @@ def calls(site):
     found = [item for item in site.shown() if item.kind in ("fn", "macro")
              and site.path(item.module)[0] in LIBRARIES and not site.is_law(item)
              and not (item.owner.kind == "impl" and item.owner.of_trait)]
-    return {item: any(callers.may_call(function, item) for function in functions)
+    return {item: any(callers.is_called(item, function, code, by_name=True)
+                      for function in functions for code in function.before(item))
             for item in found}
 
 

@@ -26,7 +26,8 @@ ENDINGS = re.compile(r"\bends in ((?:`_\w+`(?:, | or | and )?)+)")
 
 def misled(names):
     """Asks for a name of each kind: what is shown first is the item, or the text of a row."""
-    for name, _, wanted in map(lambda it: it.partition("\t"), NAMES.read_text("utf-8").splitlines()):
+    for line in NAMES.read_text("utf-8").splitlines():
+        name, _, wanted = line.partition("\t")
         asked, shown = names.asked(name), "nothing"
         told = next((row for row in asked.rows if row.ours or row.told), None) or next(
             iter(names.told_rows(name, asked)), None)

@@ -26,8 +26,12 @@ DOCUMENTS = ("docs/CALLING.md", "docs/STUCK.md", "docs/DIFFERENCES.md", "docs/DE
 OF_SEEN = "STUCK.md"
 # The document whose rows list the names of the Rust crate.
 RUST = "docs/DIFFERENCES.md"
-# Words of the language, and of the program's command line.
-EXEMPT = set("requires ensures now old ghost final for while impl mut use dec ruleset data".split())
+# Words of the language, of clauses, and of command lines.
+EXEMPT = set("requires ensures now old ghost final for while impl mut use ruleset data dec rt".split())
+# What declares a name, or calls it.
+DECLARED = re.compile(
+    r"(?m)\b(?:fn|struct|enum|trait|type|mod|const|macro_rules!) (\w+)|^pub use [\w:]+::(\w+);"
+    r"|^ +(\w+)(?:\(.*\))?,$|[.:](\w+)\(|^ *(?:(?:pub|abbrev|unfoldable|record|data) )+(\w+)")
 # A path that an attribute or an import names, and a word that is applied to others.
 PATH = re.compile(r"\busing\(([\w:]+)\)|^use ([\w:]+);$")
 APPLIED = re.compile(r"([\w:]+)(?: [\w.\[\](){},]+)+")
@@ -35,28 +39,23 @@ FILE = re.compile(r"[\w.-]+(?:/[\w.-]*)+|\w+\.(?:rt|antt|md|py|txt)")
 # What is below a value or a type parameter, and a place of a value.
 BELOW = re.compile(r"(?:^\w+|[)\]]\??)\.|^(?:[A-Z]|Self)::")
 INDEXED = re.compile(r"&?[a-z]\w*\[")
-COMMAND = "rt"
-
-
-def parts_of_examples(text):
-    """The parts of a document's examples, but for imports, each with its example's line."""
-    for example in EXAMPLE.finditer(text):
-        line = text.count("\n", 0, example.start(1)) + 1
-        code = re.sub(r"(?m)^(?:ghost )?use .*\n", "", example[1])
-        yield from ((line, part.strip()) for part in re.split(r"\n\n+", code) if part.strip())
 
 
 def unwritten(site):
-    """Looks for each part of an example in the crates."""
+    """Looks for each part of an example, but for its imports, in the crates."""
     files = sorted((site.top / "crates").glob("*/src/**/*.rt"))
     sources = [LAYOUT.sub("", file.read_text("utf-8")) for file in files]
     documents = [site.top / "README.md", *(site.top / "docs").glob("*.md"),
                  *(site.top / "crates").glob("*/README.md")]
     for document in sorted(documents):
-        for line, part in parts_of_examples(document.read_text("utf-8")):
-            stands = any(LAYOUT.sub("", part) in source for source in sources)
-            wrong = f"{document.relative_to(site.top)}:{line}: no crate has {part.splitlines()[0]}"
-            yield None if stands else wrong
+        text = document.read_text("utf-8")
+        for example in EXAMPLE.finditer(text):
+            line = text.count("\n", 0, example.start(1)) + 1
+            place = f"{document.relative_to(site.top)}:{line}"
+            code = re.sub(r"(?m)^(?:ghost )?use .*\n", "", example[1])
+            for part in filter(None, map(str.strip, re.split(r"\n\n+", code))):
+                stands = any(LAYOUT.sub("", part) in source for source in sources)
+                yield None if stands else f"{place}: no crate has {part.splitlines()[0]}"
 
 
 def misquoted(names):
@@ -83,68 +82,20 @@ def names_of(code):
         code = applied[1]
     found = [] if INDEXED.match(code) else names_in(code)
     found = [parts[-1:] if BELOW.search(code) else parts for parts in found]
-    return [parts for parts in found if len(parts[-1]) > 1 and parts[-1] not in EXEMPT]
+    return [parts for parts in found if len(parts[-1]) > 1]
 
 
-class Known:
-    """What the reference finds, and what else documents name."""
-
-    def __init__(self, names):
-        self.names, self.library, self.top = names, names.site.library, names.site.top
-        self.rust_rows = [row for row in names.rows if row.place.startswith(RUST)]
-        self.clauses = {clause.name for item in names.site.shown() for clause in item.clauses}
-        lines = re.sub("#.*", "", (self.top / "crates.txt").read_text("utf-8"))
-        self.crates = set(re.findall(r"\w+", lines))
-
-    @functools.cached_property
-    def foreign_lines(self):
-        """The lines of std and of the libraries that the crates name, and of their specs."""
-        kit = self.library.kit
-        folders = [kit / name / part for part in ("src", "specs")
-                   for name in (*STD, *sorted(self.crates))] if kit else []
-        files = [file for folder in folders for file in folder.rglob("*.*t")]
-        return [line for file in files for line in file.read_text("utf-8").split("\n")]
-
-    def is_of_others(self, name):
-        """Whether std or a library that the crates name declares a name, or calls it: some calls of
-        numbers are built in. Without a toolchain this isn't known."""
-        declares = re.compile(
-            rf"(?:fn|struct|enum|trait|type|mod|const|macro_rules!) {name}\b"
-            rf"|^pub use [\w:]+::{name};|^ +{name}(?:\(.*\))?,$|[.:]{name}\("
-            rf"|^ *(?:(?:pub|abbrev|unfoldable|record|data) )+{name}\b")
-        return not self.library.kit or name in self.crates or any(
-            declares.search(line) for line in self.foreign_lines if name in line)
-
-    @functools.cached_property
-    def files(self):
-        """The files and folders of the repository, each as its path behind a slash."""
-        folders = [folder for folder in self.top.iterdir() if folder.name != ".git"]
-        found = [*folders, *(file for folder in folders for file in folder.rglob("*"))]
-        return [f"/{file.relative_to(self.top)}" for file in found]
-
-    def is_file(self, code):
-        """Whether code is a file or a folder, with or without its ending, or a command."""
-        word = code.split()[0]
-        ends = tuple(f"/{word.rstrip('/')}{ending}" for ending in ("", ".rt", ".antt"))
-        return word == COMMAND or any(file.endswith(ends) for file in self.files)
-
-    @functools.lru_cache(None)
-    def is_found(self, *parts):
-        """Whether a name is found: an item, a word, a lemma, a module, a sample, the end of a name,
-        a name of the Rust crate, one that is looked up by another or stands in docs, one of a
-        clause, or one of std or of another library."""
-        names, last = self.names, parts[-1]
-        return bool(
-            names.named(parts) or names.inherited(parts) or names.other_name(parts)
-            or any(row.fit(parts) > 1 for row in self.rust_rows) or last in self.clauses
-            or last.startswith("_") and any(end.endswith(last) for end in names.by_end)
-            or names.outside.named(parts) or names.told_in_docs(parts)
-            or self.is_of_others(last) or names.of_std(last))
+def names_of_others(library, crates):
+    """The names that std and the libraries that the crates name declare, or call: some calls of
+    numbers are built in."""
+    files = [file for crate in ((*STD, *crates) if library.kit else ()) for part in ("src", "specs")
+             for file in (library.kit / crate / part).rglob("*.*t")]
+    return {name for file in files for found in DECLARED.findall(file.read_text("utf-8"))
+            for name in found}
 
 
 def documents(site):
-    """The documents, each with its place and its text without what is set apart as code, and
-    without what is seen."""
+    """The documents, each with its text without what is set apart as code, or seen."""
     for file in sorted(file for pattern in DOCUMENTS for file in site.top.glob(pattern)):
         text = FENCED.sub(lambda code: "\n" * code[0].count("\n"), file.read_text("utf-8"))
         if file.name == OF_SEEN:
@@ -154,20 +105,37 @@ def documents(site):
 
 
 def dangling(names):
-    """Looks up each name that a document has as code."""
-    known = Known(names)
-    for place, text in documents(names.site):
+    """Looks up each name that a document has as code: here, in the Rust crate, as the end of a name,
+    in docs, as the name of a clause, a file or a command, or in std or another library."""
+    site, rust = names.site, [row for row in names.rows if row.place.startswith(RUST)]
+    clauses = {clause.name for item in site.shown() for clause in item.clauses}
+    lines = re.sub("#.*", "", (site.top / "crates.txt").read_text("utf-8"))
+    others = {*EXEMPT, *re.findall(r"\w+", lines)}
+    others |= names_of_others(site.library, sorted(others)) | clauses
+    folders = [folder for folder in site.top.iterdir() if folder.name != ".git"]
+    files = [f"/{file.relative_to(site.top)}" for folder in folders
+             for file in (folder, *folder.rglob("*"))]
+
+    @functools.lru_cache(None)
+    def is_found(code, parts):
+        file, last = code.split()[0].rstrip("/"), parts[-1]
+        ends = tuple(f"/{file}{ending}" for ending in ("", ".rt", ".antt"))
+        return (names.named(parts) or names.inherited(parts) or names.other_name(parts)
+                or any(row.fit(parts) > 1 for row in rust) or last in others
+                or last.startswith("_") and any(end.endswith(last) for end in names.by_end)
+                or names.outside.named(parts) or names.told_in_docs(parts) or names.of_std(last)
+                or not site.library.kit or any(path.endswith(ends) for path in files))
+
+    for place, text in documents(site):
         for found in CODE.finditer(text):
             code = " ".join(found[1].split())
             line = text.count("\n", 0, found.start()) + 1
-            lost = [parts for parts in names_of(code)
-                    if not known.is_found(*parts) and not known.is_file(code)]
+            lost = [parts for parts in names_of(code) if not is_found(code, tuple(parts))]
             yield f"{place}:{line}: nothing is called {'::'.join(lost[0])}" if lost else None
 
 
 def unrowed(names):
-    """Looks for the row of STUCK that each wall names: by a part of its message, by a goal that stays
-    open, or in the row's own words."""
+    """Looks for the row that each wall names: by its message, its goal, or the row's own words."""
     seen = [plain(row.cells[0][1]) for row in names.messages if OF_SEEN in row.place]
     for wall in sorted((names.site.top / "tools" / "walls").glob("*.rattle")):
         head = wall.read_text("utf-8").partition("\n// mend\n")[0]

@@ -1,12 +1,11 @@
 """Shows an item, a definition, a lemma or a module whole, as lines of text."""
 import re
 
+from beside import code_of, is_declared, is_test
 from imports import atoms_of, is_in
 from layout import indented, laid_out, one_line, prose
-from lemmas import is_declared
 from lookup import impl_of
 from meanings import WITH_A_PAGE, base_name, declared, header
-from samples import code_of, is_test
 from sources import imports_of
 from text import Text, becomes, first_sentence, use_line
 
@@ -34,33 +33,26 @@ class Items(Text):
     """Items and definitions, each as a page of text."""
 
     def call(self, item):
-        """What has a signature, docs and clauses alone: a function, a constant, a field."""
-        impl = impl_of(item)
-        clauses = [clause for clause in item.clauses if clause.keyword != "ghost"]
-        return [*(self.head(impl) if impl else ()), *self.head(item), *self.docs(item),
-                *self.part(self.written(clauses)), *self.conditions(item), *self.words([item]),
-                *self.imports([item]), *self.caller(item)]
-
-    def of_trait(self, item):
-        """A member of an impl of a trait: what it says, or else what the trait says of it, and the
-        ghost members of the impl that are named there, or all where nothing is said."""
-        impl = item.owner
-        traits = [impl.trait] if impl.trait else self.site.library.std_traits(impl.of_trait)
-        above = [member for trait in traits for member in trait.members
-                 if (member.kind, member.name) == (item.kind, item.name)]
-        told = item if item.clauses or not above else above[0]
-        terms = " ".join(clause.term for clause in told.clauses)
-        ghosts = [member for member in impl.of_kind("ghost") if member is not item
-                  and (not terms or re.search(rf"\b{re.escape(member.name)}\b", terms))]
+        """What has a signature, docs and clauses alone: a function, a constant, a field. A member
+        of an impl that says nothing has what its trait says of it, and the ghost members of the
+        impl that are named there, or all where nothing is."""
+        impl, told, ghosts, docs = impl_of(item), item, [], [item]
+        if impl and impl.of_trait:
+            traits = [impl.trait] if impl.trait else self.site.library.std_traits(impl.of_trait)
+            above = [member for trait in traits for member in trait.members
+                     if (member.kind, member.name) == (item.kind, item.name)]
+            told = item if item.clauses or not above else above[0]
+            terms = " ".join(clause.term for clause in told.clauses)
+            ghosts = [member for member in impl.of_kind("ghost") if member is not item
+                      and (not terms or re.search(rf"\b{re.escape(member.name)}\b", terms))]
+            docs = [item, *(above if impl.trait else ()), impl, *above]
         cited = [*([told] if told.module else ()), *ghosts]
-        with_docs = [part for part in (item, *(above if impl.trait else ()), impl, *above)
-                     if part.docs]
-        with_notes = [part for part in (item, impl, *above) if part.notes]
-        return [*self.head(impl), *self.head(item),
-                *self.docs((with_docs or with_notes or [item])[0]),
-                *self.part(self.written(told.clauses if item.kind == "fn" else ())),
-                *self.laid([ghost.head for ghost in ghosts], "Here"),
-                *self.words(cited), *self.imports(cited), *self.caller(item)]
+        clauses = [clause for clause in told.clauses if clause.keyword != "ghost"]
+        docs = [it for it in docs if it.docs] or [it for it in docs if it.notes] or [item]
+        return [*(self.head(impl) if impl else ()), *self.head(item), *self.docs(docs[0]),
+                *self.part(self.written(clauses)), *self.conditions(item),
+                *self.laid([ghost.head for ghost in ghosts], "Here"), *self.words(cited),
+                *self.imports(cited), *self.caller(item)]
 
     def macro(self, item):
         """A macro: its docs, and what is known of the calls that its forms become."""
@@ -108,8 +100,7 @@ class Items(Text):
         return [*self.code(item.head), *self.docs(item), *(self.type(of) if passes else ())]
 
     def module(self, module):
-        """A module: its docs, and what is public there, or of one of examples or of tests what
-        stands there."""
+        """A module: its docs, and what is public there, or stands there in examples or tests."""
         is_public, found = module in self.names.paths, module.members
         if is_public:
             found = [it for it in self.site.items if it is not module and it.home is (
@@ -125,8 +116,9 @@ class Items(Text):
 
     def file(self, item):
         """A file of specs/ or proofs/ as a module: what it is, and what others import from it."""
-        pairs = [(word.name.strip("◌"), self.site.line(word))
-                 for word in self.names.of_file(item.file)]
+        words = [it for it in self.names.outside.paths if (it.kind, it.file) == ("lemma", item.file)]
+        words = words or self.site.library.definitions(item.file).values()
+        pairs = [(word.name.strip("◌"), self.site.line(word)) for word in words]
         title = "Lemmas" if item.folder == "proofs" else "Words"
         return [*self.said(item.notes), *self.listed(title, pairs)]
 
@@ -157,8 +149,7 @@ class Items(Text):
                 *self.part([*using, *prose(told, self.width - 4)], "Above a function")]
 
     def sample(self, item):
-        """A function of an example, or a type with its impls: the code, what it imports, and the
-        files that prove it, those of a few lines whole."""
+        """A function of an example, or a type with its impls: its code, imports and proofs."""
         code = "\n\n".join(code_of(part) for part in (item, *item.blocks))
         crate, *rest = self.names.path(item)
         proofs = []
@@ -177,16 +168,12 @@ class Items(Text):
             by_module = {}
             heads = "\n".join(use.head for use in item.module.of_kind(kind))
             for name, (module, there) in imports_of(heads).items():
-                if is_in(name, atoms) or kind == "use" and self.has_call(name, atoms):
+                traits = [*self.site.by_name.get(name, []), *self.site.library.std_traits(name)]
+                calls = {call.name for trait in traits for call in trait.of_kind("fn")}
+                if is_in(name, atoms) or kind == "use" and calls & atoms:
                     whole = there if there in ("", name) else f"{there} as {name}"
                     by_module.setdefault(module, []).append(whole)
             yield from (use_line(kind, *told) for told in sorted(by_module.items()))
-
-    def has_call(self, name, atoms):
-        """Whether code has a function of a trait of this name."""
-        traits = [*self.site.by_name.get(name, []), *self.site.library.std_traits(name)]
-        return any(member.kind == "fn" and member.name in atoms
-                   for trait in traits for member in trait.members)
 
     def item(self, item):
         """All that is shown of an item or a definition."""
@@ -209,5 +196,4 @@ class Items(Text):
             return [*self.head(item), *self.docs(item), *self.trait(item)]
         if item.kind in WITH_A_PAGE:
             return [*self.code(declaration(item, self.width)), *self.docs(item), *self.type(item)]
-        of_trait = impl_of(item) and impl_of(item).of_trait
-        return self.of_trait(item) if of_trait else self.call(item)
+        return self.call(item)

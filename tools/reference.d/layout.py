@@ -28,8 +28,8 @@ def depth(line, at):
 
 
 def cuts(line, width):
-    """The places of a line of code at which it may be cut, the best ones: before a sign, before a
-    bracket that is an argument, or behind a comma; or else at the last space."""
+    """The best places of a line of code to cut it: before a sign or a bracket that is an argument,
+    or behind a comma; or else at the last space."""
     begin = len(line) - len(line.lstrip())
     spaces = [at for at in range(begin + 1, min(width + 1, len(line)))
               if line[at] == " " and line[at + 1] != "}"]
@@ -73,8 +73,7 @@ def prose(text, width):
 
 
 def columns(pairs, width):
-    """The lines of a list of names and what is said of each: the name stands beside what is said
-    where it is short, and above it else."""
+    """The lines of a list of names and what is said of each: beside a name, or below a long one."""
     widest = max((len(name) for name, _ in pairs if len(name) <= COLUMN), default=2)
     for name, said in pairs:
         beside = wrapped(said, width - widest - 2)
@@ -94,8 +93,8 @@ def one_line(head):
 
 
 def signature(head, width):
-    """A function's head on one line. Where that is too long it stands without its type parameters,
-    then without the types of what it takes, then without its end."""
+    """A function's head on one line: where it is too long without its type parameters, then without
+    the types of what it takes, then without its end."""
     line = re.sub(r"^pub |(?:(?<=\()|(?<=, ))mut ", "", one_line(head))
     if len(line) > width:
         line = re.sub(r"(fn \w+)<.*?>\(", r"\1<..>(", line, count=1)

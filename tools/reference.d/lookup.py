@@ -6,14 +6,13 @@ import functools
 import pathlib
 import re
 
+from beside import Samples, hidden, of_files, slice_methods
 from callers import Callers
-from lemmas import of_files
 from meanings import LIBRARIES, header
 from paths import Index, Paths, is_named
 from rows import (
     CODE, FORMAT, FORMATS, OF_CLAUSES, OF_MESSAGES, OF_RUST, having, names_in, naming, rows,
 )
-from samples import Samples, hidden, slice_methods
 from sources import ANGLE, closing, imports_of
 
 MOST_NEAR, MOST_ROWS = 8, 4
@@ -31,14 +30,8 @@ def is_place(name):
     return bool(re.search(r"\.(rt|antt):\d+$", name))
 
 
-def is_word(name):
-    """Whether a name is that of a word or a lemma with its module."""
-    return ".specs." in name or ".proofs." in name
-
-
 def parts_of(name):
-    """The parts of a name, without type parameters and brackets: `GenericArray<u8, U4>::split()`
-    has the two that `GenericArray::split` has. A format has its trait's name."""
+    """The parts of a name, without type parameters and brackets; a format has its trait's name."""
     if sign := FORMAT.fullmatch(name):
         return [FORMATS[sign[1]]]
     name = name.removeprefix("Rattle.").replace("::<", "<").replace("[T]::", "slice::")
@@ -77,8 +70,7 @@ class Names(Paths):
 
     @functools.cached_property
     def outside(self):
-        """What stands on no page, by its names: samples, what isn't public, lemmas, files of
-        definitions, and methods of slices, also by our types that are slices too."""
+        """What stands on no page: samples, what isn't public, lemmas, files, methods of slices."""
         private = [item for item in hidden(self.site) if item not in self.paths]
         found = Index()
         for item in (*self.samples.of(), *private, *of_files(self.site)):
@@ -93,8 +85,7 @@ class Names(Paths):
         return in_library or item.kind == "foreign trait"
 
     def order(self, item):
-        """Where an item stands among those that a name means: what stands above the library behind
-        the library, and a part of another behind a whole one."""
+        """Where an item stands among those that a name means: the library's whole items first."""
         owner, impl = self.path(item)[-2:][0], impl_of(item)
         place = FIRST.index(owner) if owner in FIRST else len(FIRST)
         of_trait = item.kind == "fn" and item.owner.kind == "trait"
@@ -102,8 +93,8 @@ class Names(Paths):
                 item.kind == "word", 0.5 if of_trait else place, bool(impl and impl.of_trait))
 
     def told_rows(self, name, asked):
-        """The rows of the tables that tell what to write: for a name those that have it as code and
-        that aren't told, and for what is none those that have its words."""
+        """The rows that tell what to write: for a name those that have it as code, and for what is
+        none those that have its words."""
         if not asked.first and not asked.rows:
             return having(self.messages, name)
         known = {row.place for row in asked.rows}
@@ -111,9 +102,9 @@ class Names(Paths):
         return [row for row in named if row.place not in known]
 
     def asked(self, name):
-        """What a name means, sorted by what a reader most likely means: items of the library, then
-        what the documents tell, words that crates import, what stands above the library or on no
-        page, names of clauses, and items whose docs name it."""
+        """What a name most likely means: items of the library, then what the documents tell, words
+        that crates import, what stands above the library or on no page, names of clauses, and
+        items whose docs name it."""
         parts = parts_of(name)
         items = self.items_of(name) or self.beside_of(name)
         leads = len(parts) > 1 and any(
@@ -124,7 +115,9 @@ class Names(Paths):
             return self.asked(other)
         words, rows = self.of_std(name), self.told_of(name, bool(items))
         is_above = not items or not self.is_of_library(items[0])
-        if rows and (is_above and not leads or self.is_of_rust(name, rows)):
+        is_of_rust = len(parts) > 1 and not self.named(parts) and any(
+            parts in row.names for row in rows)
+        if rows and (is_above and not leads or is_of_rust):
             return Asked(None, [*(item for item in items if not is_detail(item)), *words], rows)
         if is_above and not leads and not (items := [*words, *items]):
             if rows := [row for row in self.clauses if row.fit(parts) or row.mentions(parts)]:
@@ -134,10 +127,9 @@ class Names(Paths):
         return Asked(first, others, [] if is_above else rows)
 
     def items_of(self, name):
-        """The items that a name may mean, in their order. A name of typenum or of std means none of
-        what stands above the library."""
-        parts = parts_of(name)
-        found = self.named(parts) if is_word(name) else self.found(name)
+        """The items that a name may mean, in their order: one of typenum or of std none above the
+        library."""
+        parts, found = parts_of(name), self.found(name)
         if self.other_name(parts) or parts[-1] in self.other_names.values():
             found = [item for item in found if self.is_of_library(item)]
         return sorted(found, key=self.order)
@@ -147,11 +139,6 @@ class Names(Paths):
         index = self.outside
         found = self.placed(index, name) if is_place(name) else index.named(parts_of(name))
         return sorted(found, key=self.samples.likeliest)
-
-    def of_file(self, file):
-        """What others import from a file of specs/ or proofs/."""
-        lemmas = [item for item in self.outside.paths if (item.kind, item.file) == ("lemma", file)]
-        return lemmas or self.site.library.definitions(file).values()
 
     def placed(self, index, place):
         """The items of an index that begin at a place, as `array.rt:39`."""
@@ -163,37 +150,30 @@ class Names(Paths):
             name[-1] == parts[-1] for code in CODE.findall(item.docs) for name in names_in(code))]
 
     def told_of(self, name, is_ours):
-        """The rows of the documents for a name. For a name of ours also what it stands for, or the
-        rows for the name that it is looked up by, and for another one what names it."""
+        """The rows of the documents for a name: those that have it in front, or else, for one of
+        ours, those that it stands for, and for another those that name it."""
         other = self.other_name(parts_of(name)) if is_ours else ""
-        for asked in (() if is_word(name) else (name, other) if other else (name,)):
-            parts = parts_of(asked)
+        for parts in map(parts_of, filter(None, (name, other))):
             told = [row for row in self.rows
                     if (row.stands_for(parts) if is_ours else row.mentions(parts))]
             if rows := self.rows_of(parts) or sorted(told, key=lambda row: -row.around(parts)):
                 return rows[:MOST_ROWS]
         return []
 
-    def is_of_rust(self, name, rows):
-        """Whether a name with its path is one of a row's, and leads to no item."""
-        parts = parts_of(name)
-        return len(parts) > 1 and not self.named(parts) and any(parts in row.names for row in rows)
-
     def other_name(self, parts):
-        """The name that a name of typenum, of std or of another crate is looked up by, or
-        nothing."""
+        """The name that one of typenum, of std or of another crate is looked up by, if any."""
         if re.fullmatch(r"[UPN]\d+", parts[-1]):
             return "typenum"
         return self.other_names.get("::".join(parts)) or self.other_names.get(parts[-1], "")
 
     def found(self, name):
-        """The items that a name may mean. A place, as `array.rt:39`, means what begins there. A
-        name that leads nowhere, not even to what no page has, means what has its end as a name."""
+        """The items that a name may mean, or a place, as `array.rt:39`. A name that leads nowhere,
+        not even to what no page has, means what has its end as a name."""
         if is_place(name):
             return self.placed(self, name)
         parts = parts_of(name)
         exact = self.named(parts)
-        found = exact or self.of_trait(parts) or self.inherited(parts)
+        found = exact or self.inherited(parts)
         if not found and len(parts) > 1 and not self.outside.named(parts):
             found = self.named(parts[-1:])
         # Of our traits for types of others only where nothing else has the name.
@@ -209,12 +189,6 @@ class Names(Paths):
                 impl_of(item) and " for &" in header(impl_of(item)))] or found
         return [item for item in found if not is_detail(item)] or found
 
-    def of_trait(self, parts):
-        """The members of impls that a name tells with their trait in front, as
-        `GenericArray::AsSlice::as_slice`."""
-        named = self.named([*parts[:-2], parts[-1]]) if len(parts) > 2 else []
-        return [item for item in named if impl_of(item) and impl_of(item).of_trait == parts[-2]]
-
     def inherited(self, parts):
         """The members of traits that a type has by an impl that doesn't write them."""
         owners = self.named(parts[-2:-1]) if len(parts) > 1 else []
@@ -224,13 +198,13 @@ class Names(Paths):
                 if member.name == parts[-1]]
 
     def rows_of(self, parts):
-        """The rows of the documents that have a name in front, those first that tell most of it, or
-        else those that have it as a part of one. A module's row that says nothing stands for the
-        rows below it."""
+        """The rows that have a name in front, those first that tell most of it, or else those that
+        have it as a part of one. A module's row that says nothing stands for those below it."""
         fits = sorted(((row.fit(parts), row) for row in self.rows), key=lambda fit: -fit[0])
         rows = [row for fit, row in fits if fit > 1] or [row for fit, row in fits if fit]
-        if len(rows) == 1 and rows[0].is_title:
-            rows = [row for row in self.rows if row.section == rows[0].section and row != rows[0]]
+        first = rows[0] if len(rows) == 1 else None
+        if first and first.section == first.theirs and not first.ours and not first.told:
+            rows = [row for row in self.rows if row.section == first.section and row != first]
         return rows
 
     @functools.cached_property
@@ -243,10 +217,8 @@ class Names(Paths):
         """The word of another library that a name means, as of where it is imported from."""
         *above, last = parts_of(name)
         module, there = self.imported.get(last, ("", ""))
-        if is_word(name):
-            module, there = f"Rattle.{name.removeprefix('Rattle.').rpartition('.')[0]}", last
-        word = self.site.library.word(module, there) if there and not is_place(name) else None
-        if not word or not word.file or self.is_own(word) or above and not is_word(name):
+        word = self.site.library.word(module, there) if there else None
+        if not word or not word.file or self.is_own(word) or above and "specs" not in above:
             return []
         word = copy.copy(word)
         word.module = module.removeprefix("Rattle.").replace(".specs.", ".", 1)

@@ -23,8 +23,7 @@ def generics(head):
 
 
 def declared(head):
-    """What a head declares: its type parameters and the paths of its `where` with their bounds, and
-    the names of its parameters."""
+    """What a head declares: its types with their bounds, and the names of its parameters."""
     inside, behind = generics(head)
     behind, _, where = re.sub(r"\bwhere\b", "\0", behind).partition("\0")
     bounds = {}
@@ -47,8 +46,7 @@ def base_name(bound):
 
 
 def header(impl):
-    """What an impl is of, on one line, without its parameters and conditions: a type, or a trait
-    for a type."""
+    """What an impl is of, on one line, without parameters: a type, or a trait for a type."""
     head = impl.head[impl.head.index("impl"):]
     behind = generics(head)[1] if head.startswith("impl<") else head[5:]
     return " ".join(re.split(r"\bwhere\b", behind)[0].split())
@@ -95,8 +93,7 @@ class Scope:
         return self.site.traits(name, self.item) or self.site.library.std_traits(name)
 
     def traits_of(self, name):
-        """The traits that a type has by its bounds, and those that stand above these, each once, and
-        behind them those of the types in them."""
+        """The traits that a type has by its bounds, those above these, and those of their types."""
         found, left = [], list(self.bounds[name])
         inner = [bound for path, told in self.bounds.items() if path.startswith(f"{name}.")
                  for bound in told]
@@ -116,8 +113,9 @@ class Scope:
         if path and name in self.bounds and name not in bound:
             last = UNDER_A_BOUND.get(path[-1], path[-1])
             traits = [trait for part in path[:-1] for trait in self.named(part)]
-            return next((member for trait in traits or self.traits_of(name)
-                         for member in (trait, *trait.of_kind("ghost")) if member.name == last), None)
+            found = [member for trait in traits or self.traits_of(name)
+                     for member in (trait, *trait.of_kind("ghost")) if member.name == last]
+            return next(iter(found), None)
         if name in bound or name in self.local or name in VALUES:
             return None
         if name in self.imports:
@@ -163,8 +161,10 @@ class Site:
     @functools.cached_property
     def words(self):
         """The definitions of the crates, by their files."""
-        files = [file for crate in CRATES for file in self.library.word_files(crate)]
-        return {file: list(self.library.definitions(file).values()) for file in files}
+        files = [file for crate in CRATES
+                 for file in sorted((self.top / "crates" / crate / "specs").rglob("*.antt"))]
+        return {file: list(self.library.definitions(file).values()) for file in files
+                if file.name != "Lib.antt"}
 
     def crate(self, name):
         """A crate's root with all that stands below it. A program's is main.rt."""
@@ -219,8 +219,7 @@ class Site:
         return "/".join([*self.path(item.home), name])
 
     def home(self, item):
-        """The public module that an item is found in: where it stands, or above a hidden module,
-        which exports what is public there."""
+        """The public module that an item is found in: its own, or one above that exports it."""
         if item.kind == "mod":
             return item if not item.owner or item.public and self.home(item.owner) else None
         if self.is_law(item):
@@ -255,8 +254,7 @@ class Site:
                 and self.path(other.module)[0] == crate]
 
     def place(self, impl):
-        """Notes an impl's type, or else its trait, where readers find it, and tells whether they
-        see it."""
+        """Notes an impl's type, or else its trait, and tells whether readers see it."""
         told = header(impl)
         trait, _, of = told.rpartition(" for ")
         impl.of_trait = base_name(trait)

@@ -11,11 +11,11 @@ import markdown
 from jinja2 import Environment, FileSystemLoader, StrictUndefined
 from markupsafe import Markup
 
+from beside import code_of
 from lookup import Names
 from meanings import WITH_A_PAGE, Scope
 from promise import TITLE, carriers
 from rows import CODE, OF_RUST, rows
-from samples import code_of
 from text import becomes
 
 TEMPLATES = pathlib.Path(__file__).resolve().parent / "pages"
@@ -45,7 +45,11 @@ class Pages:
         placed = [item for item in [*self.own_words, *site.shown()] if item.url]
         self.places = {site.full_name(item): item for item in placed}
         self.rust_names = list(self.note_rust())
-        self.rust_text, self.crates_drawn = self.told_of_rust(), self.drawing()
+        rust, architecture = ((site.top / "docs" / f"{name}.md").read_text("utf-8")
+                              for name in (OF_RUST[0], "ARCHITECTURE"))
+        # The list of the Rust crate's names without its links to files, and what stands on what.
+        self.rust_text = re.sub(r"\[([^\]]*)\]\([^)]*\)", r"\1", rust)
+        self.crates_drawn = re.search(r"(?ms)^```text\n(.*?)^```", architecture)[1]
         self.names = Names(site)
         self.promise_title = TITLE
         self.promise = [(text, items.values()) for text, items in carriers(self.names)]
@@ -165,16 +169,6 @@ class Pages:
                 if not same or same.name != code:
                     target = None if row.left_out else next(iter(called), None)
                     yield code, target, " ".join([row.ours, *row.told]).replace("`", "")
-
-    def told_of_rust(self):
-        """The document that lists the Rust crate's names, without its links to files."""
-        text = (self.site.top / "docs" / f"{OF_RUST[0]}.md").read_text("utf-8")
-        return re.sub(r"\[([^\]]*)\]\([^)]*\)", r"\1", text)
-
-    def drawing(self):
-        """What stands on what, as the document draws it."""
-        text = (self.site.top / "docs" / "ARCHITECTURE.md").read_text("utf-8")
-        return re.search(r"(?ms)^```text\n(.*?)^```", text)[1]
 
     def write(self):
         """Writes all pages, and what stands beside them. Gives the links that lead nowhere."""

@@ -17,8 +17,7 @@ TOLD = (f"{TITLE} `tools/reference NAME` prints a function whole, with the words
 
 
 def carriers(names):
-    """The sentences, each with the names and the items of the functions that carry it: of a name
-    that nothing has, None."""
+    """The sentences, each with the functions that carry it, by name: None where there is none."""
     known = {names.full_name(item): item for item in names.paths if item.kind == "fn"}
     found = []
     for line in SENTENCES.read_text("utf-8").splitlines():
@@ -30,8 +29,7 @@ def carriers(names):
 
 
 def unkept(names):
-    """Looks for each function that carries a sentence, and for a sentence for each function of the
-    headline."""
+    """Looks for each function that carries a sentence, and for one for each of the headline's."""
     carried = carriers(names)
     for text, items in carried:
         for name, item in items.items():
@@ -45,8 +43,7 @@ def unkept(names):
 
 
 def lines_of(names):
-    """The lines of the page: a heading for each sentence, and for each function that carries it its
-    name and its contract."""
+    """The lines of the page: a heading for each sentence, below it each name with its contract."""
     text, folder = Text(names), (names.site.top / PAGE).parent
     yield from ("# The promise", "", *prose(TOLD, WIDEST))
     for sentence, items in carriers(names):

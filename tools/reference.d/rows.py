@@ -1,15 +1,13 @@
 """Reads what the documents tell: the rows of their tables and lists.
 
-Of the Rust crate's names a row has these in front, then what stands here, then what else is told.
-Where a table's cell for what stands here is empty, it is the same name. Of what to write where a
-check says no, a row has the message in front.
+A row of the Rust crate's names has these in front, then what stands here, or nothing where it is
+the same name, then what else is told. One of what to write has a message of the check in front.
 """
-import functools
 import re
 
 # The documents of the Rust crate's names, of names of clauses, and of messages.
-OF_RUST, OF_CLAUSES, OF_MESSAGES = ("DIFFERENCES", "CALLING"), ("DEFINITIONS",), ("STUCK", "CALLING")
-LEFT_OUT, OWN = "left out", "Own items"
+OF_RUST, OF_CLAUSES = ("DIFFERENCES", "CALLING"), ("DEFINITIONS",)
+OF_MESSAGES = ("STUCK", "CALLING")
 CODE = re.compile(r"`([^`]+)`")
 # What parts a line's cells, and its names from what is said of them: none of it stands in code.
 IN_CODE = r"(?=(?:[^`]*`[^`]*`)*[^`]*$)"
@@ -26,9 +24,8 @@ WORD = re.compile(r"[^\W_]\w*")
 
 
 class Row:
-    """A row: its document and line, the heading above it, the module or type that it is of, and its
-    cells behind their columns' titles; of these the Rust crate's names, ours, and what else is
-    told."""
+    """A row: its place, the heading above it, the module or type that it is of, its cells behind
+    their columns' titles, and of these the Rust crate's names, ours, and what else is told."""
 
     def __init__(self, place, heading, section, titles, cells):
         self.place, self.heading, self.section = place, heading, section
@@ -38,41 +35,22 @@ class Row:
         self.text = plain(" ".join(cells))
         self.names = [parts for code in CODE.findall(self.theirs) for parts in names_in(code)]
         self.names += [[name] for name in self.theirs.split(", ") if re.fullmatch(r"\w+", name)]
-
-    @property
-    def left_out(self):
-        """Whether nothing stands here."""
-        return self.ours.startswith(LEFT_OUT)
-
-    @property
-    def is_title(self):
-        """Whether the row only begins a module."""
-        begins = bool(self.section) and self.section == self.theirs
-        return begins and not self.ours and not self.told
-
-    @functools.cached_property
-    def ends_told(self):
-        """The ends of the names that are told as code."""
-        codes = CODE.findall(" ".join([self.ours, *self.told]))
-        return {name[-1] for code in codes for name in names_in(code)}
+        # Whether nothing stands here, or else its names, as code.
+        self.left_out = self.ours.startswith("left out")
+        self.names_here = [] if self.left_out else CODE.findall(self.ours or self.theirs)
 
     def mentions(self, parts):
         """Whether what is told has code that ends in a name."""
-        return parts[-1] in self.ends_told
+        codes = CODE.findall(" ".join([self.ours, *self.told]))
+        return any(name[-1] == parts[-1] for code in codes for name in names_in(code))
 
     def stands_for(self, parts):
         """Whether what stands here has this name in front."""
         first = CODE.match(self.ours)
         return bool(first) and any(name[-1] == parts[-1] for name in names_in(first[1]))
 
-    @property
-    def names_here(self):
-        """The names of what stands here, as code."""
-        return [] if self.left_out else CODE.findall(self.ours or self.theirs)
-
     def fit(self, parts):
-        """How well the row fits a name's parts: 0 where it doesn't, least where one of its names
-        has the last in front, and more for each other that it tells."""
+        """How well the row fits a name: 0 where it doesn't, more for each part that it tells."""
         last = parts[-1]
         ends = any(name[-1] == last for name in self.names)
         best = 2 * ends or last[:1].isupper() and any(last in name for name in self.names)
@@ -89,8 +67,8 @@ def plain(text):
 
 
 def names_in(code):
-    """The names that a piece of code is looked up by, each as its parts, without arguments and type
-    parameters: of a chain of calls the last one's, and of a format its trait's."""
+    """The names that code is looked up by, each as its parts, without arguments and parameters: of
+    a chain of calls the last one's, and of a format its trait's."""
     yield from ([FORMATS[sign[1]]] for sign in FORMAT.finditer(code))
     code = code.replace("::<", "<").replace("->", "")
     for bracket in (r"\([^()]*\)", r"\[[^\[\]]*\]", r"<[^<>]*>"):
@@ -103,8 +81,7 @@ def names_in(code):
 
 def rows_of(place, text):
     """The rows of a document: of its tables, where one whose first cell is bold begins a module,
-    and of its lists what is told of the names that begin a line, behind a colon. What it lists of
-    our own items are none, and code that is set apart is none."""
+    and of its lists, but for our own items, what is told behind a name and a colon."""
     heading, text = "", FENCED.sub(lambda code: "\n" * code[0].count("\n"), text)
     for block in BLOCK.finditer(text):
         line, lines = text.count("\n", 0, block.start()) + 1, block[0].rstrip("\n").split("\n")
@@ -116,7 +93,7 @@ def rows_of(place, text):
                 first, *cells = [cell.strip().replace(r"\|", "|") for cell in BAR.split(row)]
                 section = first.strip("*") if first.startswith("**") else section
                 yield Row(f"{place}:{number}", heading, section, titles, [first.strip("*"), *cells])
-        elif lines[0].startswith("- ") and heading != OWN:
+        elif lines[0].startswith("- ") and heading != "Own items":
             for bullet in re.split(r"\n(?=- )", "\n".join(lines)):
                 theirs, *said = COLON.split(" ".join(bullet[2:].split()), maxsplit=1)
                 if said and theirs.startswith("`"):
@@ -139,8 +116,7 @@ def stands_in(phrase, text):
 
 
 def having(rows, text):
-    """The rows in which a text stands, or else all its words, in any order; or else these without
-    what differs from one code to another."""
+    """The rows in which a text stands, or else all its words, or else these but for names."""
     for asked in (plain(text), plain(DIFFERS.sub(" ", text))):
         phrase, words = asked.strip(" .,:;"), set(WORD.findall(asked))
         found = [row for row in rows if phrase and stands_in(phrase, row.text)]

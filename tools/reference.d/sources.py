@@ -1,8 +1,5 @@
-"""Reads the sources of crates: items with their docs, signatures and clauses, and the definitions
-of specs/.
-
-It knows the forms that these sources have, and not the whole language. It needs no library.
-"""
+"""Reads the sources of crates, in the forms that they have here: items with their docs, signatures
+and clauses, and the definitions of specs/."""
 import collections
 import functools
 import inspect
@@ -10,8 +7,7 @@ import json
 import re
 import textwrap
 
-# What a scan stops at: texts, characters and comments, in which brackets mean nothing, then
-# brackets and ends.
+# What a scan stops at: texts, characters and comments, then brackets and ends.
 SIGN = re.compile(
     r'"(?:\\[\s\S]|[^"\\])*"'
     r"|'(?:\\.[^']*|[^\\'])'"
@@ -57,11 +53,8 @@ Clause = collections.namedtuple("Clause", "keyword star name term")
 
 
 class Item:
-    """An item, a member of one, or a definition. What it has beyond its text is noted here later.
-
-    `begin` and `end` are the places of its text in the file's; `attributes` stand above it.
-    `folder` is that of a definition's file.
-    """
+    """An item, a member of one, or a definition, with the places of its text in the file's, the
+    attributes above it and the folder of a definition. What else it has is noted here later."""
 
     def __init__(self, kind, name, head, file, line, docs="", notes="", owner=None, **more):
         self.kind, self.name, self.head, self.file, self.line = kind, name, head, file, line
@@ -115,10 +108,7 @@ def parted(text, separator=","):
 
 
 def imports_of(text):
-    """The names that lines of `use` give, each with its module and its name there.
-
-    A name that stands for a whole path has none there.
-    """
+    """The names that lines of `use` give, each with its module and its name there, if any."""
     found = {}
     for _, module, names, alias in USE.findall(text):
         for name in filter(None, map(str.strip, names.split(","))):
@@ -163,10 +153,7 @@ def docs_and_notes(above):
 
 
 def fields(body, item, first):
-    """The fields of a struct or the variants of an enum, each of which begins a line.
-
-    `first` is the line on which the body begins.
-    """
+    """The fields of a struct or the variants of an enum, whose body begins on the first line."""
     body = textwrap.dedent(body)
     for found in FIELD.finditer(body):
         above, head, name = found.groups()
@@ -234,11 +221,6 @@ class Library:
         """Whether a crate is the repository's."""
         return (self.top / "crates" / crate).exists()
 
-    def word_files(self, crate):
-        """The files of a crate's specs/ that have definitions."""
-        found = sorted((self.top / "crates" / crate / "specs").rglob("*.antt"))
-        return [file for file in found if file.name != "Lib.antt"]
-
     @functools.lru_cache(None)
     def module_file(self, path):
         """The file of a module, through what other modules of its crate pass on, or None."""
@@ -267,7 +249,7 @@ class Library:
     @functools.lru_cache(None)
     def definitions(self, file):
         """The definitions of a file of specs/ or proofs/, by name, each with the module blocks that
-        it stands in and the lines of notes above it, or else above the innermost block."""
+        it stands in and the notes above it, or else above the innermost block."""
         crates = self.top / "crates"
         place = file.relative_to(crates if file.is_relative_to(crates) else self.kit)
         folder = "proofs" if place.parts[1] == "proofs" else "specs"

@@ -34,8 +34,7 @@ class Answers(Items):
         return [*lines, *self.said(f"And {more} more rows have it." if more > 0 else "")]
 
     def asked(self, asked):
-        """All that is shown for a name: the item that comes first, rows that tell of it, or else
-        all rows, and what else has the name."""
+        """What is shown for a name: the first item, rows that tell of it, and what else has it."""
         telling = [row for row in asked.rows if row.told or row.ours and not row.left_out]
         rows = telling if asked.first else telling or asked.rows
         return [*(self.item(asked.first) if asked.first else ()), *self.told(rows, len(rows)),
@@ -64,8 +63,7 @@ def unknown(names, name):
 
 
 def show(names, name):
-    """Shows what a name means, or the rows that have a message's words, and tells whether there is
-    such."""
+    """Shows what a name means, or the rows that have a message's words, if there is such."""
     asked, text = names.asked(name), Answers(names, shutil.get_terminal_size().columns)
     told = names.told_rows(name, asked)
     is_known = asked.first or asked.rows

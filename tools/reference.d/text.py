@@ -24,7 +24,7 @@ def use_line(kind, module, names):
 
 
 def spelled(names, item):
-    """An item's head, in which a name that an item of ours and one of std have is its whole path."""
+    """An item's head, in which a name that an item of ours and one of std have is the whole path."""
     head = item.head
     for name in names.twice - {item.name} if names.is_own(item) else ():
         ours = names.site.item_named(name, item)
@@ -37,24 +37,6 @@ def becomes(names, item):
     """The calls that a macro's forms become, of those that say something."""
     made = dict.fromkeys(item.made if item.kind == "macro" else ())
     return [call for owner, name in made for call in names.named([owner, name]) if call.clauses]
-
-
-def kinds(site, item):
-    """What the conditions of a trait's call are at each kind: the ghost members of an impl that they
-    name, and the heads of all impls where these read so."""
-    found, named = {}, {}
-    if item.owner is not None and item.owner.kind == "trait":
-        for clause in [it for it in item.clauses if it.keyword == "requires"]:
-            for _, thing in Scope(site, item).pieces(clause.term):
-                if thing and thing.kind == "ghost" and thing.owner.home:
-                    named.setdefault(thing.owner, set()).add(thing.name)
-    for trait, names in named.items():
-        for impl in [impl for impl in site.impls if impl.trait is trait]:
-            ghosts = [ghost for ghost in impl.of_kind("ghost") if ghost.name in names]
-            if ghosts:
-                key = " ".join(ghost.head for ghost in ghosts)
-                found.setdefault(key, (ghosts, []))[1].append(one_line(header(impl)))
-    return list(found.values())
 
 
 class Text:
@@ -78,9 +60,7 @@ class Text:
 
     def title(self, item, place=None):
         """The name of an item and its place."""
-        name, place = self.names.full_name(item), place or self.names.place(item)
-        room = self.width - len(name) - len(place)
-        return [f"{name}{' ' * room}{place}", ""] if room > 1 else [name, place, ""]
+        return [f"{self.names.full_name(item)}  {place or self.names.place(item)}", ""]
 
     def code(self, text):
         """A signature, a declaration or a definition, and nothing for none."""
@@ -112,8 +92,7 @@ class Text:
         return lines
 
     def cited(self, items):
-        """What the clauses of items name: our definitions and ghost members, each with its name
-        there, and the words of others."""
+        """What the clauses of items name: our definitions, ghost members, and words of others."""
         ours, others = {}, {}
         for _, atom, thing in self.site.named(items):
             if thing in items or thing.kind not in ("word", "ghost"):
@@ -133,16 +112,27 @@ class Text:
         return self.listed("Words", [*pairs, *told.items()])
 
     def conditions(self, item):
-        """What the conditions of a trait's call are at each kind."""
+        """What the conditions of a trait's call are at each kind: the heads of impls, and below
+        them their ghost members that the conditions name."""
+        found, named = {}, {}
+        if item.owner is not None and item.owner.kind == "trait":
+            for clause in [it for it in item.clauses if it.keyword == "requires"]:
+                for _, thing in Scope(self.site, item).pieces(clause.term):
+                    if thing and thing.kind == "ghost" and thing.owner.home:
+                        named.setdefault(thing.owner, set()).add(thing.name)
+        for trait, names in named.items():
+            for impl in [impl for impl in self.site.impls if impl.trait is trait]:
+                ghosts = [it.head for it in impl.of_kind("ghost") if it.name in names]
+                if ghosts:
+                    found.setdefault(tuple(ghosts), []).append(one_line(header(impl)))
         lines = []
-        for ghosts, heads in kinds(self.site, item):
+        for ghosts, heads in found.items():
             lines += [line for head in heads for line in laid_out(head, self.width - 4)]
-            lines += indented(it for ghost in ghosts for it in laid_out(ghost.head, self.width - 8))
+            lines += indented(it for ghost in ghosts for it in laid_out(ghost, self.width - 8))
         return self.part(lines, "Here")
 
     def modules_of(self, word):
-        """The modules by which crates import a word of ours: those of the crates above it that pass
-        it on, the highest first, and its own crate's."""
+        """The modules by which crates import a word of ours: that of the highest crate first."""
         crate, _, rest = word.module.removeprefix("Rattle.").partition(".")
         paths = [f"Rattle.{reader}.{word.folder}.{rest}" for reader in (*READERS, crate)]
         return [path for path in dict.fromkeys(paths)
@@ -150,11 +140,11 @@ class Text:
 
     def imports(self, items):
         """The lines by which a crate above the library imports what the clauses of items name, and
-        the lower library from which all that is ours can be imported too."""
+        the lower library that has all of ours too."""
         lines, crates = {}, []
         for item in items:
             scope = Scope(self.site, item)
-            for atom, word in [piece for clause in item.clauses for piece in scope.pieces(clause.term)]:
+            for atom, word in [it for clause in item.clauses for it in scope.pieces(clause.term)]:
                 module, there = scope.imports.get(atom.rstrip("."), ("", ""))
                 if module and word and word.kind == "word":
                     paths = self.modules_of(word)
