@@ -3,14 +3,14 @@
 ghost use Rattle.generic_array.specs.Length.{FitsInline};
 
 use ga_test_items::counted::{Counted, Counts};
-use ga_test_items::played::{Item, boxed_items, inline_items};
+use ga_test_items::items::{boxed_items, inline_items};
 use ga_test_items::scripted::Given;
 use generic_array::{AllocError, ArrayLength, U4, Unsigned};
 use std::alloc::Global;
 use std::test::Fail;
 
 /// How many items of an array are dropped once so many are taken from each end, and in the end.
-fn drops_of_an_array<'a, T: Item + Given<'a>, N: ArrayLength<T>>(
+fn drops_of_an_array<'a, T: Given<'a> + Default, N: ArrayLength<T>>(
     counts: &'a Counts,
     front: u32,
     back: u32,
@@ -30,7 +30,7 @@ fn drops_of_an_array<'a, T: Item + Given<'a>, N: ArrayLength<T>>(
 }
 
 /// The same of a block.
-fn drops_of_a_block<'a, T: Item + Given<'a>, N: Unsigned>(
+fn drops_of_a_block<'a, T: Given<'a>, N: Unsigned>(
     alloc: Global,
     counts: &'a Counts,
     front: u32,

@@ -5,17 +5,9 @@
 #[cfg(test)]
 mod both_ends;
 #[cfg(test)]
-mod drops;
-#[cfg(test)]
 mod fill_outcomes;
 #[cfg(test)]
-mod lengths;
-#[cfg(test)]
 mod liars;
-#[cfg(test)]
-mod many_steps;
-#[cfg(test)]
-mod random_steps;
 #[cfg(test)]
 mod refused_memory;
 #[cfg(test)]

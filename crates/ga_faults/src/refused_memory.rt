@@ -1,156 +1,21 @@
-//! Each call that takes or makes items, or that may ask for memory, while memory is refused: it leaves
-//! no item and makes as many requests as its row says. And what stays as it was.
+//! Single calls while memory is refused: what comes of them, and what stays as it was.
 //!
-//! Where a call was refused memory, all are played once more. So one that always finds none is seen,
-//! at the gate too.
+//! Where a case was refused memory, it is played once more. So a call that always finds none is
+//! seen, at the gate too.
 ghost use Rattle.generic_array.specs.Length.{FitsInline};
 
-use crate::drops::first_wrong_of;
-use ga_calls::first_wrong_at;
 use ga_test_items::answers::gives;
 use ga_test_items::counted::{Counted, Counts};
+use ga_test_items::items::inline_items;
 use ga_test_items::outcome::{Outcome, play};
-use ga_test_items::played::{Item, inline_items};
-use ga_test_items::samples::{Plain, Sample};
-use ga_test_items::scripted::{Given, digits};
+use ga_test_items::scripted::{Given, Numbered, digits};
 use generic_array::functional::FunctionalSequence;
 use generic_array::steps::{Reply, Step, run_steps};
 use generic_array::{
-    AllocError, ArrayLength, BoxedArray, BoxedArrayIter, Const, LengthError, U0, U1, U2, U3, U4,
-    U7, Unsigned, box_arr,
+    AllocError, ArrayLength, BoxedArray, BoxedArrayIter, LengthError, U0, U2, U3, U4, Unsigned,
+    box_arr,
 };
 use std::alloc::Global;
-use std::process::Abort;
-
-/// Whether a call was refused memory, of which a line is printed. Stops a test where one was played
-/// wrongly.
-fn is_refused<R: Abort + Print>(rt: &R, counts: &Counts, wrong: Option<&str>) -> bool {
-    assert!(rt; wrong.is_none(), "{wrong:?}");
-    let is_refused = counts.errors() > 0;
-    if is_refused {
-        let _ = println!(rt; "refused: a call");
-    }
-    is_refused
-}
-
-/// Prints how many requests all calls made. Stops a test where one was played wrongly, or a second
-/// one was refused memory.
-fn end<R: Abort + Print>(rt: &R, counts: &Counts, wrong: Option<&str>) {
-    assert!(rt; wrong.is_none() && counts.errors() <= 1, "{wrong:?}");
-    let made = counts.requests();
-    let _ = println!(rt; "requests: {made}");
-}
-
-/// Plays the calls of a case with counted items.
-fn play_case<R: Abort + AllocGlobal + Print>(rt: &R, case: u32) {
-    let counts = Counts::new();
-    let mut wrong = first_wrong_of(rt.alloc(), &counts, case);
-    if is_refused(rt, &counts, wrong) {
-        wrong = first_wrong_of(rt.alloc(), &counts, case);
-    }
-    end(rt, &counts, wrong);
-}
-
-#[test]
-fn no_call_at_no_item_leaves_one(rt: HostRuntime) {
-    play_case(&rt, 0);
-}
-
-#[test]
-fn no_call_at_an_item_leaves_one(rt: HostRuntime) {
-    play_case(&rt, 1);
-}
-
-#[test]
-fn no_call_at_two_items_leaves_one(rt: HostRuntime) {
-    play_case(&rt, 2);
-}
-
-#[test]
-fn no_call_at_65_items_leaves_one(rt: HostRuntime) {
-    play_case(&rt, 3);
-}
-
-#[test]
-fn no_call_at_rows_leaves_an_item(rt: HostRuntime) {
-    play_case(&rt, 4);
-}
-
-/// Plays the calls at N items that are counted nowhere, and prints how many requests they made.
-pub(crate) fn play_at<
-    T: Sample,
-    N: ArrayLength<Plain<T>> + ArrayLength<u32>,
-    R: Abort + AllocGlobal + Print,
->(rt: &R)
-    requires { FitsInline N.USIZE }
-{
-    let counts = Counts::blind();
-    let mut wrong = first_wrong_at::<Plain<T>, N>(rt.alloc(), &counts);
-    if is_refused(rt, &counts, wrong) {
-        wrong = first_wrong_at::<Plain<T>, N>(rt.alloc(), &counts);
-    }
-    end(rt, &counts, wrong);
-}
-
-#[test]
-fn calls_at_no_bytes(rt: HostRuntime) {
-    play_at::<u8, U0, _>(&rt);
-}
-
-#[test]
-fn calls_at_one_byte(rt: HostRuntime) {
-    play_at::<u8, U1, _>(&rt);
-}
-
-#[test]
-fn calls_at_two_bytes(rt: HostRuntime) {
-    play_at::<u8, U2, _>(&rt);
-}
-
-#[test]
-fn calls_at_three_bytes(rt: HostRuntime) {
-    play_at::<u8, U3, _>(&rt);
-}
-
-#[test]
-fn calls_at_7_bytes(rt: HostRuntime) {
-    play_at::<u8, U7, _>(&rt);
-}
-
-#[test]
-fn calls_at_65_bytes(rt: HostRuntime) {
-    play_at::<u8, Const<65>, _>(&rt);
-}
-
-#[test]
-fn calls_at_no_of_nine_words(rt: HostRuntime) {
-    play_at::<[u64; 9], U0, _>(&rt);
-}
-
-#[test]
-fn calls_at_one_of_nine_words(rt: HostRuntime) {
-    play_at::<[u64; 9], U1, _>(&rt);
-}
-
-#[test]
-fn calls_at_two_of_nine_words(rt: HostRuntime) {
-    play_at::<[u64; 9], U2, _>(&rt);
-}
-
-#[test]
-fn calls_at_three_of_nine_words(rt: HostRuntime) {
-    play_at::<[u64; 9], U3, _>(&rt);
-}
-
-#[test]
-fn calls_at_7_of_nine_words(rt: HostRuntime) {
-    play_at::<[u64; 9], U7, _>(&rt);
-}
-
-#[test]
-fn calls_at_65_of_nine_words(rt: HostRuntime) {
-    play_at::<[u64; 9], Const<65>, _>(&rt);
-}
 
 /// A block of three, or that its memory was refused.
 fn outcome_of_block(made: Result<BoxedArray<u32, U3>, AllocError>, wanted: u32) -> Outcome {
@@ -339,7 +204,7 @@ fn builds_of_blocks_are_refused_before_any_call_or_item(rt: HostRuntime) {
 }
 
 /// A vector of the items of an array, which are dropped where it is refused.
-fn of_vector<'a, T: Item + Given<'a>, N: ArrayLength<T>>(
+fn of_vector<'a, T: Given<'a> + Numbered + Default, N: ArrayLength<T>>(
     alloc: Global,
     counts: &'a Counts,
     wanted: u32,

@@ -3,9 +3,8 @@
 ghost use Rattle.generic_array.specs.Length.{FitsInline};
 
 use ga_test_items::counted::{Counted, Counts};
-use ga_test_items::items::TooMany;
-use ga_test_items::played::{Item, inline_items, nth_item, nth_or_error};
-use ga_test_items::scripted::{Given, digits};
+use ga_test_items::items::{TooMany, inline_items, nth_item, nth_or_error};
+use ga_test_items::scripted::{Given, Numbered, digits};
 use generic_array::{
     AllocError, ArrayLength, BoxedArray, GenericArray, U0, U1, U3, U4, U5, Unsigned,
 };
@@ -14,7 +13,9 @@ use std::test::Fail;
 
 /// Whether a build of an array stopped at an error, how many calls it made, and how many items were
 /// dropped.
-fn stopped_array<'a, T: Item + Given<'a>, N: ArrayLength<T>>(counts: &'a Counts) -> (bool, u32, u32)
+fn stopped_array<'a, T: Given<'a> + Numbered + Default + Clone, N: ArrayLength<T>>(
+    counts: &'a Counts,
+) -> (bool, u32, u32)
     requires { FitsInline N.USIZE }
 {
     let mut make = |index: usize| -> Result<T, u32> { nth_or_error(counts, index) };
@@ -23,7 +24,7 @@ fn stopped_array<'a, T: Item + Given<'a>, N: ArrayLength<T>>(counts: &'a Counts)
 }
 
 /// The same of a block.
-fn stopped_block<'a, T: Item + Given<'a>, N: Unsigned>(
+fn stopped_block<'a, T: Given<'a> + Numbered + Default + Clone, N: Unsigned>(
     alloc: Global,
     counts: &'a Counts,
 ) -> Result<(bool, u32, u32), AllocError> {
@@ -50,7 +51,7 @@ fn a_build_of_five_stops_at_each_error_and_drops_what_it_made(rt: HostRuntime) -
 
 /// Whether an array of copies was refused, how many clones were asked for, and how many items were
 /// dropped in the end.
-fn repeated_array<'a, T: Item + Given<'a>, N: ArrayLength<T>>(
+fn repeated_array<'a, T: Given<'a> + Numbered + Default + Clone, N: ArrayLength<T>>(
     counts: &'a Counts,
 ) -> (bool, u32, u32)
     requires { FitsInline N.USIZE }
@@ -60,7 +61,7 @@ fn repeated_array<'a, T: Item + Given<'a>, N: ArrayLength<T>>(
 }
 
 /// The same of a block.
-fn repeated_block<'a, T: Item + Given<'a>, N: Unsigned>(
+fn repeated_block<'a, T: Given<'a> + Numbered + Default + Clone, N: Unsigned>(
     alloc: Global,
     counts: &'a Counts,
 ) -> (bool, u32, u32) {
@@ -92,7 +93,9 @@ fn four_copies_stop_at_each_clone_that_is_refused(rt: HostRuntime) {
 
 /// Whether the clone of an array was refused, how many items were dropped of it, and the array
 /// behind it as digits.
-fn cloned_array<'a, T: Item + Given<'a>, N: ArrayLength<T>>(counts: &'a Counts) -> (bool, u32, u32)
+fn cloned_array<'a, T: Given<'a> + Numbered + Default + Clone, N: ArrayLength<T>>(
+    counts: &'a Counts,
+) -> (bool, u32, u32)
     requires { FitsInline N.USIZE }
 {
     let array = inline_items::<T, N>(counts);
