@@ -1,9 +1,8 @@
 """Finds a caller of each call in the crates of examples, and checks that each public call of the
 libraries has one there or in a crate above.
 
-It reads no types: what a method is called on is told by the function's head, by a `let`, or by what
-the call in front returns. Where that says nothing, no caller is found, and the check goes by the
-method's name. Impls of traits need no caller: the trait's own call does.
+It reads no types: what a method is called on is told by the function's head, a `let`, or what the
+call in front returns. Else no caller is found, and the check goes by the method's name.
 """
 import fnmatch
 import functools
@@ -82,12 +81,12 @@ class Callers:
                    for impl in item.blocks if not impl.of_trait for member in impl.members)
 
     def receivers(self, function, code):
-        """The names of the types that code may have at its end: of a name by the `let` of it, or
-        else by the function's head; of a call what it returns, of a `Result` or an `Option`
-        inside."""
+        """The names of the types that code may have at its end: of a name by its `let`, or else by
+        the function's head; of a call what it returns, of a `Result` or an `Option` inside."""
         if found := NAMED.search(code):
-            told = re.search(rf"(?<![\w.]){found['name']}: ([^,()=]+)", function.head)
-            for let in re.finditer(rf"\blet (?:mut )?{found['name']}(?:: ([^=;]+))? = ([^;]+);", code):
+            name = found["name"]
+            told = re.search(rf"(?<![\w.]){name}: ([^,()=]+)", function.head)
+            for let in re.finditer(rf"\blet (?:mut )?{name}(?:: ([^=;]+))? = ([^;]+);", code):
                 if not let[1]:
                     return self.receivers(function, code[:let.start()] + let[2])
                 told = let

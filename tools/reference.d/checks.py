@@ -1,7 +1,5 @@
-"""Checks what no compiler sees, of documents, names, imports and wrong bodies.
-
-Each check gives what it tried, one after the other: what is wrong, or nothing.
-"""
+"""Checks what no compiler sees. Each check gives what it tried, one after the other: what is wrong,
+or nothing."""
 import pathlib
 import re
 

@@ -1,11 +1,9 @@
-"""Checks that the examples of documents stand in the crates, that a contract that a README quotes
-is the one of the source, and that each name that a document has as code is found.
+"""Checks that examples of documents stand in the crates, that a contract that a README quotes is
+that of the source, that each name that a document has as code is found, and that walls have rows.
 
-Of code in a line this looks up what is a name: a path, a call or a type, without what stands in
-brackets; of words without a sign between them the first; of `using(..)` and `use ..;` the path. Of
-what begins with a value or a type parameter it looks up the last name. A single letter is a
-variable, and so is what is indexed. Other code, such as a term, isn't looked up, nor what a row of
-STUCK begins with: a message, and code that isn't accepted.
+Of code in a line its name is looked up: a path, a call or a type; of words without a sign the
+first, of `using(..)` and `use ..;` the path, of what begins with a value or a type parameter the
+last. Single letters, what is indexed and terms aren't, nor what a row of STUCK shows first.
 """
 import functools
 import re
@@ -27,7 +25,7 @@ OF_SEEN = "STUCK.md"
 # The document whose rows list the names of the Rust crate.
 RUST = "docs/DIFFERENCES.md"
 # Words of the language, of clauses, and of command lines.
-EXEMPT = set("requires ensures now old ghost final for while impl mut use ruleset data dec rt".split())
+EXEMPT = {"requires", "ensures", "mut", "while", "data", "rt"}
 # What declares a name, or calls it.
 DECLARED = re.compile(
     r"(?m)\b(?:fn|struct|enum|trait|type|mod|const|macro_rules!) (\w+)|^pub use [\w:]+::(\w+);"
@@ -105,8 +103,8 @@ def documents(site):
 
 
 def dangling(names):
-    """Looks up each name that a document has as code: here, in the Rust crate, as the end of a name,
-    in docs, as the name of a clause, a file or a command, or in std or another library."""
+    """Looks up each name that a document has as code: here, in the Rust crate, in docs, as the end
+    of one, as the name of a clause, a file or a command, or in std or another library."""
     site, rust = names.site, [row for row in names.rows if row.place.startswith(RUST)]
     clauses = {clause.name for item in site.shown() for clause in item.clauses}
     lines = re.sub("#.*", "", (site.top / "crates.txt").read_text("utf-8"))

@@ -116,8 +116,9 @@ class Items(Text):
 
     def file(self, item):
         """A file of specs/ or proofs/ as a module: what it is, and what others import from it."""
-        words = [it for it in self.names.outside.paths if (it.kind, it.file) == ("lemma", item.file)]
-        words = words or self.site.library.definitions(item.file).values()
+        lemmas = [it for it in self.names.outside.paths if it.kind == "lemma"]
+        words = [it for it in lemmas if it.file == item.file] or (
+            self.site.library.definitions(item.file).values())
         pairs = [(word.name.strip("◌"), self.site.line(word)) for word in words]
         title = "Lemmas" if item.folder == "proofs" else "Words"
         return [*self.said(item.notes), *self.listed(title, pairs)]

@@ -10,9 +10,9 @@ SIGNS = ("× ", "⊎ ", "→ ", "↔ ", "≡ ", "≢ ", "≤ ", "< ", "++ ", "->
 COLUMN = 26
 
 
-def indented(lines, by=4):
+def indented(lines):
     """Lines that begin deeper, but for empty ones."""
-    return [" " * by + line if line else line for line in lines]
+    return [f"    {line}" if line else line for line in lines]
 
 
 def wrapped(text, width, deeper=""):

@@ -64,9 +64,9 @@ class Names(Paths):
         self.callers = Callers(site, self.samples)
         lines = [line.partition("\t") for line in OTHER_NAMES.read_text("utf-8").splitlines()]
         self.other_names = {name: meant for names, _, meant in lines for name in names.split()}
-        foreign = {name for module in site.items if module.kind == "mod" for name in module.foreign}
         # The names that an item of ours and one of others have.
-        self.twice = {name for name in foreign if name in site.by_name}
+        self.twice = {name for module in site.items for name in module.foreign
+                      if name in site.by_name}
 
     @functools.cached_property
     def outside(self):

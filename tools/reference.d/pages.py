@@ -91,7 +91,7 @@ class Pages:
         made = DECLARED.match(str(thing.module))
         types = self.site.by_name.get(made[2], []) if made else []
         own = thing.file and thing.file.is_relative_to(self.site.top) or (
-            made and self.site.library.own(made[1]))
+            made and made[1] in self.site.crates)
         if own and not types:
             return None
         name = thing.name

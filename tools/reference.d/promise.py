@@ -1,7 +1,5 @@
-"""What the library promises: each sentence with the functions whose clauses say it, and its page.
-
-The sentences and the names stand in promise.txt; the clauses are read from the sources.
-"""
+"""What the library promises, and its page: the sentences of promise.txt, each with its functions'
+clauses from the sources."""
 import os
 import pathlib
 

@@ -217,17 +217,14 @@ class Library:
                  for file in sorted((self.kit / name / "src").rglob("*.rt"))]
         return [(file, file.read_text("utf-8")) for file in files]
 
-    def own(self, crate):
-        """Whether a crate is the repository's."""
-        return (self.top / "crates" / crate).exists()
-
     @functools.lru_cache(None)
     def module_file(self, path):
         """The file of a module, through what other modules of its crate pass on, or None."""
         root, *rest = path.split(".")
         if root != "Rattle":
             return self.logic_file(root, rest)
-        base = self.top / "crates" if self.own(rest[0]) or not self.kit else self.kit
+        own = self.top / "crates"
+        base = own if (own / rest[0]).exists() or not self.kit else self.kit
         folder, rest = base / rest[0] / rest[1], rest[2:]
         file = folder.joinpath(*rest).with_suffix(".antt")
         for count in range(0 if file.exists() else len(rest), 0, -1):

@@ -24,7 +24,7 @@ def use_line(kind, module, names):
 
 
 def spelled(names, item):
-    """An item's head, in which a name that an item of ours and one of std have is the whole path."""
+    """An item's head. A name that an item of ours and one of std have is the whole path there."""
     head = item.head
     for name in names.twice - {item.name} if names.is_own(item) else ():
         ours = names.site.item_named(name, item)
