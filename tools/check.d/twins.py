@@ -10,7 +10,7 @@ import tempfile
 from copies import TOP, copy_crates
 from playing import run
 
-SAID = re.compile(r"(?m)^must-fail (\S+): (.*)$")
+SAID = re.compile(r"(?m)^rt: must-fail (\S+): (.*)$")
 
 
 def play(tally, words):

@@ -47,8 +47,8 @@ MADE_UP = {
     "try_in_ga_fails": "echo it; exit 1\n",
     "try_in_vectors": "echo $(cat src/lib.rt ../../crates.txt); exit 1\n",
     "try_in_ga_deep": "[ -e src/tests/more.rt ] && echo $(cat src/tests.rt) && exit 1\n",
-    "must-fail": "echo must-fail ga_deep/right.edit: refused, as it must be: it\n"
-                 "echo must-fail ga_deep/proved.edit: NOT REFUSED: it; exit 1\n",
+    "must-fail": "echo rt: must-fail ga_deep/right.edit: refused, as it must be: it\n"
+                 "echo rt: must-fail ga_deep/proved.edit: NOT REFUSED: it; exit 1\n",
     "check_in_walls": "[ -e src/early.rt ] && echo 'src/early.rt:1: error: it is early' && exit 1\n"
                       "echo 'src/stands.rt:1:1: it stands'; echo 'src/stands_mend.rt:1:1: proved'\n"
                       "echo 'src/fell.rt:1:1: it fell'; echo 'src/unmended.rt:1:1: it stands'\n"
