@@ -75,6 +75,8 @@ fn an_item_that_is_replaced_is_taken(rt: HostRuntime) -> Result<(), Fail> {
     taken_and_replaced(alloc, &mut numbers, &mut replies)?;
     let text = format!(in alloc; "{:?} {replies:?}", Step::Set(0, 9u8))?;
     assert_eq!(rt;
-        text.as_str(), "Set(0, 9) [Item(Some(1)), Old(3), Outside(8), Item(Some(9))]");
+        text.as_str(),
+        "Set(0, 9) [Item(Some(1)), Old(3), Outside(8), Item(Some(9))]"
+    );
     Ok(())
 }
