@@ -1,5 +1,5 @@
 //! Callers of the iterator by value, each proved.
-ghost use Rattle.std.specs.Prelude.{◌≡◌, ◌^◌, ◌<◌, All, IfOk, IsOk, Ok, Some, fold, length, max, reverse, slice_get, sum};
+ghost use Rattle.std.specs.Prelude.{◌≡◌, ◌+◌, ◌^◌, ◌<◌, All, IfOk, IsOk, Ok, drop, fold, length, max, reverse, slice_get, sum};
 
 use ga_core::{AllocError, ArrayLength, GenericArray, GenericArrayIter, LengthError, U3};
 use std::mem;
@@ -25,15 +25,13 @@ fn reversed<N: ArrayLength<u8>>(
 }
 
 /// The item behind so many others, and how many are left behind it.
-fn item_behind<N: ArrayLength<u8>>(
-    left: &mut GenericArrayIter<u8, N>,
-    count: usize,
-) -> (Option<u8>, (usize, Option<usize>))
-    ensures item { result.0 ≡ slice_get left.old count }
-    ensures left { result.1 ≡ (length left.new, Some (length left.new)) }
+fn item_behind<N: ArrayLength<u8>>(array: GenericArray<u8, N>, count: usize) -> (Option<u8>, usize)
+    ensures item { result.0 ≡ slice_get array count }
+    ensures left { result.1 ≡ length (drop (count + 1) array) }
 {
+    let mut left = array.into_iter();
     let item = left.nth(count);
-    (item, left.size_hint())
+    (item, left.size_hint().0)
 }
 
 fn left_copied<N: ArrayLength<u8>>(

@@ -1,5 +1,5 @@
 //! Boxed arrays: builds, writes and walks, and threads.
-ghost use Rattle.std.specs.Prelude.{◌≡◌, ℕ, ◌∷◌, [], ◌^◌, ◌<◌, ◌⊎◌, IfErr, IfOk, IsOk, Ok, OnOk, Some, length, reverse, slice_get, slice_set, sum};
+ghost use Rattle.std.specs.Prelude.{◌≡◌, ℕ, ◌+◌, ◌∷◌, [], ◌^◌, ◌<◌, ◌⊎◌, IfErr, IfOk, IsOk, Ok, OnOk, drop, length, reverse, slice_get, slice_set, sum};
 
 use ga_core_examples::digits::decimal_digit;
 use generic_array::{
@@ -108,12 +108,13 @@ fn sum_of_references<N: Unsigned>(array: &BoxedArray<u8, N>) -> u64
 }
 
 /// The item behind so many others, and how many are left behind it.
-fn item_behind(left: &mut BoxedArrayIter<u8>, count: usize) -> (Option<u8>, (usize, Option<usize>))
-    ensures item { result.0 ≡ slice_get left.old count }
-    ensures left { result.1 ≡ (length left.new, Some (length left.new)) }
+fn item_behind<N: Unsigned>(array: BoxedArray<u8, N>, count: usize) -> (Option<u8>, usize)
+    ensures item { result.0 ≡ slice_get array count }
+    ensures left { result.1 ≡ length (drop (count + 1) array) }
 {
+    let mut left = array.into_iter();
     let item = left.nth(count);
-    (item, left.size_hint())
+    (item, left.size_hint().0)
 }
 
 fn reversed<N: Unsigned>(
