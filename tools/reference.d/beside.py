@@ -16,7 +16,6 @@ RULESET = re.compile(
     r"^ *pub (?P<head>ruleset (?P<name>\S+) = \((?P<names>[^)]*)\))$")
 # The notes with which a file begins, up to an empty line or a list.
 TITLE = re.compile(r"(?:-- \S.*\n)*")
-# An impl of a slice's methods.
 OF_SLICES = re.compile(r"(?m)^impl(?:<.*>)? \[(?:\w+|\[T; N\])\](?= |$)")
 
 

@@ -16,8 +16,6 @@ from rows import (
 from sources import ANGLE, closing, imports_of
 
 MOST_NEAR, MOST_ROWS = 8, 4
-# The names that are looked up by those of others: of typenum, of std, of other crates.
-OTHER_NAMES = pathlib.Path(__file__).resolve().parent / "other_names.txt"
 # In which order the members of types stand where several have a name. The first four are slices.
 FIRST = ("GenericArray", "BoxedArray", "GenericArrayRef", "GenericArrayMut", "GenericArrayIter")
 # What a name means: the item that comes first, the others, and the rows of the documents that tell
@@ -62,8 +60,10 @@ class Names(Paths):
         self.messages = [row for row in rows(site.top, OF_MESSAGES) if row.cells[0][0]]
         self.samples = Samples(site)
         self.callers = Callers(site, self.samples)
-        lines = [line.partition("\t") for line in OTHER_NAMES.read_text("utf-8").splitlines()]
-        self.other_names = {name: meant for names, _, meant in lines for name in names.split()}
+        # The names of typenum, std and other crates, each with the one that it is looked up by.
+        lines = (pathlib.Path(__file__).resolve().parent / "other_names.txt").read_text("utf-8")
+        self.other_names = {name: meant for line in lines.splitlines() for names, _, meant in
+                            [line.partition("\t")] for name in names.split()}
         # The names that an item of ours and one of others have.
         self.twice = {name for module in site.items for name in module.foreign
                       if name in site.by_name}

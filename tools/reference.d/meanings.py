@@ -7,7 +7,6 @@ from sources import ANGLE, Item, closing, imports_of, items_of, parted
 
 LIBRARIES = "ga_views ga_core ga_boxed generic_array".split()
 CRATES = [*LIBRARIES, *"ga_headline ga_records ga_hashes ga_ciphers ga_uses ga_rows".split()]
-NOTATION = pathlib.Path(__file__).resolve().parent / "pages" / "notation.txt"
 WITH_A_PAGE = ("struct", "enum", "trait")
 ATOM = re.compile(r'"[^"]*"|//.*|[^\s(){},;]+|[\s(){},;]+')
 BINDERS = re.compile(r"λ ([^.]*?)\.(?=\s)|(?:[({;]|\blet)\s*((?:[^\s(){};λ.≡]+ )+?)[:=] ")
@@ -155,8 +154,8 @@ class Site:
     @functools.cached_property
     def notation(self):
         """The signs and words of std that clauses use most, each with its line."""
-        lines = NOTATION.read_text("utf-8").split("\n")
-        return dict(line.split("\t") for line in lines if line)
+        file = pathlib.Path(__file__).resolve().parent / "pages" / "notation.txt"
+        return dict(line.split("\t") for line in file.read_text("utf-8").splitlines())
 
     @functools.cached_property
     def words(self):

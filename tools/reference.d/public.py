@@ -1,5 +1,5 @@
 """Checks that no derive, impl or public call goes unseen: public.txt has each public type with its
-traits, and behind a bar those of its calls that nothing calls, as the sources say."""
+traits, and behind a bar its calls that nothing calls, also of modules, as the sources say."""
 import collections
 import pathlib
 import textwrap
@@ -8,20 +8,22 @@ from callers import calls
 from meanings import WITH_A_PAGE
 
 LIST = pathlib.Path(__file__).resolve().parent / "public.txt"
+HEAD = "Public types, their traits, and behind a bar their calls that nothing calls: --write-public"
 
 
 def lines_of(site):
     """The lines of the list. A trait that a type has by several impls has their number."""
+    yield HEAD
     uncalled = collections.defaultdict(list)
     for item, is_called in calls(site).items():
         uncalled[item.of_whom] += [] if is_called else [item.name]
     for item in site.items:
-        if item.home and item.kind in WITH_A_PAGE:
+        if item.kind == "mod" or item.home and item.kind in WITH_A_PAGE:
             traits = [impl.of_trait for impl in item.blocks if impl.of_trait] + item.derived()
             count = collections.Counter(traits)
             told = [f"{it}*{count[it]}" if count[it] > 1 else it for it in sorted(count)]
             told += ["|", *sorted(uncalled[item])] if uncalled[item] else []
-            line = " ".join([f"{site.path(item.home)[0]}::{item.name}:", *told])
+            line = " ".join([f"{site.path(item.module)[0]}::{item.name}:", *told])
             yield from textwrap.wrap(line, 100, subsequent_indent="    ") if told else ()
 
 

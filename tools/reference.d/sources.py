@@ -18,8 +18,6 @@ ANGLE = re.compile(r"<|(?<![-=])>")
 CLAUSE = re.compile(r"\b(requires|ensures)(\*?)\s*(\w*)\s*$")
 # What stands before a `{` that begins no body: a ghost member's, or the names of an import.
 NO_BODY = re.compile(r"(?:\bghost \w+\s*[=:]|\}\s*=|::|\.)\s*$")
-# What ends with a `;`, whatever brackets stand in it.
-VALUES = ("const", "static")
 # Comments and attributes above an item.
 ABOVE = re.compile(r"(?:\s*(?://.*|#!?\[(?:[^\[\]]|\[[^\]]*\])*\]))*\s*")
 DERIVE = re.compile(r"#\[derive\(([^)]*)\)\]")
@@ -135,7 +133,9 @@ def head_and_clauses(text, at, kind="fn"):
             raise ValueError("an item has no end")
         place = closing(text, sign.start()) if sign[0] in "([{" else sign.end()
         clause = CLAUSE.search(text, at, sign.start()) if sign[0] == "{" else None
-        body = sign[0] == "{" and kind not in VALUES and not NO_BODY.search(text, at, sign.start())
+        # A constant ends with its `;`, whatever brackets stand in it.
+        body = sign[0] == "{" and kind not in ("const", "static") and (
+            not NO_BODY.search(text, at, sign.start()))
         if clause:
             term = inspect.cleandoc(text[sign.start() + 1:place - 1].strip())
             clauses.append(Clause(*clause.groups(), term))
