@@ -99,7 +99,7 @@ def add_sides(ours):
 def add_sweeps(ours):
     """Adds the crates of sweeps to a copy of the crates, and returns their names. Where the checkout
     has a crate of such a name, the files are added to it, each as a module of the one above it."""
-    lists = [it for it in (TOP / "crates.txt", SWEEPS / "crates.txt") if it.exists()]
+    lists = [it for it in (TOP / "crates.txt", SWEEPS / "libraries.txt") if it.exists()]
     put(ours / "crates.txt", "".join(it.read_text() for it in lists))
     files = sorted(SWEEPS.glob("*/**/*.rattle"))
     for file in files:
