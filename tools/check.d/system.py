@@ -1,4 +1,5 @@
 """The program `ga_rows` on streams that are slow, full, closed or of the wrong kind."""
+import functools
 import os
 import resource
 import signal
@@ -13,6 +14,7 @@ from playing import Seen, file_of, play, read_again
 
 SIX = bytes(range(1, 7))
 MANY = bytes(range(256)) * 400 + b"rest"
+FAULTY, MEANINGLESS = Seen(4, b"", FAULT), Seen(2, b"", USAGE)
 
 
 def give_byte_by_byte(data):
@@ -49,62 +51,55 @@ def take_one_byte(pipe):
         return pipe.read(1)
 
 
-def closing(*descriptors):
-    return lambda: [os.close(it) for it in descriptors]
+def closing(descriptor):
+    return lambda: os.close(descriptor)
 
 
-def play_slow_pipes(tally, program):
-    for mode in MODES:
-        data = SIX * 6 + SIX[:3]
-        seen = play(program, [mode], give=give_byte_by_byte(data))
-        tally.compare(f"{mode}: the input comes byte by byte", seen, whole(mode, 4, data))
-        with file_of(MANY) as given:
-            seen = play(program, [mode, "16"], stdin=given, take=take_byte_by_byte)
-        tally.compare(f"{mode} 16: the output goes byte by byte", seen, whole(mode, 16, MANY))
+def play_case(tally, program, name, wanted, words=(), data=b"", signals=(), left=None, **how):
+    """A case: the program on these bytes, or on the streams of `how`. `left` reads what counts as
+    its output where that is a file."""
+    with file_of(data) as given:
+        seen = play(program, words, **(how if "give" in how else {"stdin": given, **how}))
+        if left:
+            seen = seen._replace(out=left(given))
+    tally.compare(name, seen, wanted, *signals)
 
 
-def play_full_disks(tally, program):
+def play_outputs(case):
+    text, limit = text_of("dec", 4, MANY), (10_000, 10_000)
     with open("/dev/full", "wb") as full:
-        for data in (SIX, MANY):
-            with file_of(data) as given:
-                seen = play(program, stdin=given, stdout=full)
-            tally.compare(f"a full disk, {len(data)} bytes", seen, Seen(4, b"", FAULT))
-        seen = play(program, stdin=DEVNULL, stdout=full)
-        tally.compare("a full disk and nothing to write", seen, Seen(0, b"", b""))
-        seen = play(program, ["dec", "3"], stderr=full)
-        tally.compare("a usage text that goes nowhere", seen, Seen(2, b"", b""))
-    limit = lambda: resource.setrlimit(resource.RLIMIT_FSIZE, (10_000, 10_000))
-    with file_of(MANY) as given, file_of() as out:
-        seen = play(program, stdin=given, stdout=out, before=limit)._replace(out=read_again(out))
-    wanted = Seen(4, text_of("dec", 4, MANY)[:10_000], FAULT)
-    tally.compare("a disk that is full after 10,000 bytes", seen, wanted, signal.SIGXFSZ)
+        case("a full disk, 6 bytes", FAULTY, data=SIX, stdout=full)
+        case("a full disk, 102,404 bytes", FAULTY, data=MANY, stdout=full)
+        case("a full disk and nothing to write", Seen(0, b"", b""), stdout=full)
+        case("a usage text that goes nowhere", Seen(2, b"", b""), ["dec", "3"], stderr=full)
+    with file_of() as out:
+        case("a disk that is full after 10,000 bytes", FAULTY._replace(out=text[:10_000]),
+             data=MANY, signals=[signal.SIGXFSZ], stdout=out, left=lambda given: read_again(out),
+             before=lambda: resource.setrlimit(resource.RLIMIT_FSIZE, limit))
+    case("a closed output", FAULTY, data=SIX, stdout=DEVNULL, before=closing(1))
+    case("a reader that leaves after a byte", FAULTY._replace(out=text[:1]), data=MANY,
+         signals=[signal.SIGPIPE], take=take_one_byte)
 
 
-def play_broken_streams(tally, program):
-    fault = Seen(4, b"", FAULT)
-    with file_of(SIX) as given:
-        seen = play(program, stdin=given, stdout=DEVNULL, before=closing(1))
-    tally.compare("a closed output", seen, fault)
-    with file_of(MANY) as given:
-        seen = play(program, stdin=given, take=take_one_byte)
-    wanted = fault._replace(out=text_of("dec", 4, MANY)[:1])
-    tally.compare("a reader that leaves after a byte", seen, wanted, signal.SIGPIPE)
-    seen = play(program, stdin=DEVNULL, before=closing(0))
-    tally.compare("a closed input", seen, fault)
-    folder = os.open(tempfile.tempdir, os.O_RDONLY)
-    tally.compare("a directory as input", play(program, stdin=folder), fault)
-    seen = play(program, ["dec", "3"], stdin=folder, before=closing(1))
-    tally.compare("meaningless words before either", seen, Seen(2, b"", USAGE))
+def play_inputs(case):
+    case("a closed input", FAULTY, before=closing(0))
+    folder = os.open(tempfile.gettempdir(), os.O_RDONLY)
+    case("a directory as input", FAULTY, stdin=folder)
+    case("meaningless words before either", MEANINGLESS, ["dec", "3"], stdin=folder,
+         before=closing(1))
     os.close(folder)
-    with file_of(SIX) as given:
-        seen = play(program, ["rows"], stdin=given)
-        left = Seen(seen.status, given.read(), seen.err)
-    tally.compare("meaningless words, and the input is left", left, Seen(2, SIX, USAGE))
-    seen = play(program, give=give_past_the_memory)
-    tally.compare("more input than there is memory", seen, Seen(3, b"", NO_MEMORY))
+    case("meaningless words, and the input is left", MEANINGLESS._replace(out=SIX), ["rows"], SIX,
+         left=lambda given: given.read())
+    case("more input than there is memory", Seen(3, b"", NO_MEMORY), give=give_past_the_memory)
 
 
 def play_system_faults(tally, program):
-    play_slow_pipes(tally, program)
-    play_full_disks(tally, program)
-    play_broken_streams(tally, program)
+    case = functools.partial(play_case, tally, program)
+    for mode in MODES:
+        data = SIX * 6 + SIX[:3]
+        case(f"{mode}: the input comes byte by byte", whole(mode, 4, data), [mode],
+             give=give_byte_by_byte(data))
+        case(f"{mode} 16: the output goes byte by byte", whole(mode, 16, MANY), [mode, "16"], MANY,
+             take=take_byte_by_byte)
+    play_outputs(case)
+    play_inputs(case)

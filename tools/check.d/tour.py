@@ -65,8 +65,8 @@ class Page:
         wrong = f"it doesn't print {lacks!r}" if lacks else ""
         if status and not wanted.strip():
             wrong = f"it ends with {status}"
-        name = f"{self.page}: {command}, {time.monotonic() - begun:.0f} s"
-        self.tally.case(name, wrong and f"{wrong}, but {said[-2000:]}")
+        took = "" if wrong else f", {time.monotonic() - begun:.0f} s"
+        self.tally.case(f"{self.page}: {command}{took}", wrong and f"{wrong}, but {said[-2000:]}")
 
     def file(self, kind, file, text):
         """Writes a file, or changes it."""
