@@ -9,7 +9,7 @@ use crate::fill_outcomes::{
 };
 use ga_test_items::counted::{Counted, Counts};
 use ga_test_items::scripted::{Given, Numbered, Script, Scripted};
-use generic_array::{ArrayBuilder, ArrayLength, BoxedArray, Const, GenericArray, U3};
+use generic_array::{ArrayBuilder, ArrayLength, BoxedArray, Const, GenericArray};
 use std::alloc::Global;
 
 /// What a build came to, how often it asked, how many items were dropped, and the number that its
@@ -176,35 +176,6 @@ fn a_fill_believes_no_hint_and_asks_nothing_after_the_end(rt: HostRuntime) {
     let too_long = run_with(Outcome::WrongLength, 1, 1, 2);
     let builder = run_with(Outcome::Made(0), 0, 0, 1);
     assert!(rt; all_run::<0>(alloc, LIES, too_long, builder));
-}
-
-/// The error of a fill of three items from an "x" and a 1, with a hint of five, and what comes next.
-fn filled_behind_a_hint<'a, N: ArrayLength<Counted<'a>>>(
-    counts: &'a Counts,
-) -> (Option<&'static str>, Option<u32>)
-    requires { FitsInline N.USIZE }
-{
-    let script = Script {
-        answers: &[Some(Err(7)), Some(Ok(1))],
-        hinted: 5,
-    };
-    let items: Scripted<'a, Result<Counted<'a>, u32>> = Scripted::new(script, counts);
-    let mut items = items.map(|came| came.map_err(|_seven| "x"));
-    let error = match GenericArray::<Counted, N>::try_from_fallible_iter_ref(&mut items) {
-        Ok(Err(error)) => Some(error),
-        _ => None,
-    };
-    let next = match items.next() {
-        Some(Ok(item)) => Some(item.place()),
-        _ => None,
-    };
-    (error, next)
-}
-
-#[test]
-fn an_error_is_returned_whatever_the_hint(rt: HostRuntime) {
-    let counts = Counts::new();
-    assert!(rt; filled_behind_a_hint::<U3>(&counts) == (Some("x"), Some(1)));
 }
 
 /// How fills of four items run on six results, of which that at this place is an error, and how a
