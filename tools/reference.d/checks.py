@@ -32,7 +32,7 @@ def misled(names):
         if asked.first:
             shown = names.full_name(asked.first)
         elif told:
-            shown = " ".join([TELLS, *(cell for _, cell in told.cells)])
+            shown = TELLS + " ".join(cell for _, cell in told.cells)
         tells = wanted.startswith(TELLS) and shown.startswith(TELLS)
         right = wanted.removeprefix(TELLS) in shown if tells else shown == wanted
         yield None if right else f"tools/reference {name}: shows {shown[:80]}, not {wanted}"
