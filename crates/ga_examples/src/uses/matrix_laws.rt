@@ -26,23 +26,33 @@ where
     transposed(turned)
 }
 
-/// The identity times the matrix, and that times the other identity.
 #[tactic(auto, using(ga_uses::proofs::MatrixLemmas::matrix_laws))]
-fn between_identities<K, C, const R: usize, const L: usize>(
-    _left: PhantomData<Matrix<K, R>>,
+fn times_identity<C, const R: usize, const L: usize>(
     matrix: Matrix<C, R>,
-    _right: PhantomData<Matrix<C, L>>,
+    _identity: PhantomData<Matrix<C, L>>,
+) -> Matrix<C, R>
+where
+    C: ArrayLength<u64> + InlineLength,
+    requires { L ≡ C.USIZE }
+    ensures { result ≡ matrix }
+{
+    let identity: Matrix<C, L> = identity();
+    product(matrix, identity)
+}
+
+#[tactic(auto, using(ga_uses::proofs::MatrixLemmas::matrix_laws))]
+fn identity_times<K, C, const R: usize>(
+    _identity: PhantomData<Matrix<K, R>>,
+    matrix: Matrix<C, R>,
 ) -> Matrix<C, R>
 where
     K: ArrayLength<u64> + InlineLength,
     C: ArrayLength<u64> + InlineLength,
-    requires rows { R ≡ K.USIZE }
-    requires columns { L ≡ C.USIZE }
+    requires { R ≡ K.USIZE }
     ensures { result ≡ matrix }
 {
-    let left: Matrix<K, R> = identity();
-    let right: Matrix<C, L> = identity();
-    product(product(left, matrix), right)
+    let identity: Matrix<K, R> = identity();
+    product(identity, matrix)
 }
 
 fn trace_of_product<C, const R: usize>(left: Matrix<C, R>, right: Matrix<C, R>) -> u64
