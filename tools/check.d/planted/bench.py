@@ -79,17 +79,6 @@ def answers():
     return files
 
 
-def play_list(tally):
-    """Looks at the cases that are written for the program."""
-    table, thirds = sides.table(), sum(len(it.kinds) for it in sides.ALL if it.part.third)
-    asked = {(it.name, kind.name) for it in sides.ALL for kind in it.kinds}
-    written = {*re.findall(r'name: "(\w+)",\n        kind: "(\w+)"', table)}
-    tally.case("bench: each case at each kind", asked ^ written)
-    alike = re.findall(r"(?:original|third): .*ours_\w+|ours: \((?!ours_)\w+", table)
-    tally.case("bench: none is ours on two sides", alike)
-    tally.case("bench: each third side", table.count("third: Some(") != thirds and f"not {thirds}")
-
-
 def play_comparison(tally, room):
     """Plays what compares and measures, on the cases of bench.rs."""
     driver, dumps = room / "cases", room / "counted"
@@ -112,7 +101,8 @@ def play_comparison(tally, room):
 
 
 def play(tally, room):
-    play_list(tally)
+    alike = re.findall(r"(?:original|third): .*ours_\w+|ours: \((?!ours_)\w+", sides.table())
+    tally.case("bench: no case is ours on two sides", alike)
     play_comparison(tally, room)
     copy_beside(room)
     files = answers() | FEWER
