@@ -3,15 +3,16 @@ clauses from the sources."""
 import os
 import pathlib
 
-from layout import prose
+from layout import indented, prose
 from text import WIDEST, Text
 
 SENTENCES = pathlib.Path(__file__).resolve().parent / "promise.txt"
 # The crate that has nothing but parts of the promise, and the page.
 HEADLINE, PAGE = "ga_headline", "crates/ga_headline/PROMISE.md"
 TITLE = "What the library promises, a sentence at a time, and whose clauses say it."
-TOLD = (f"{TITLE} `tools/reference NAME` prints a function whole, with the words that its clauses "
-        "cite. This page is written by `tools/reference --write-promise`.")
+TOLD = (f"{TITLE} Behind a function are the names of its clauses, where it has more than one. "
+        "`tools/reference promise` prints the clauses too. This page is written by `tools/reference "
+        "--write-promise`.")
 
 
 def carriers(names):
@@ -41,25 +42,36 @@ def unkept(names):
 
 
 def lines_of(names):
-    """The lines of the page: a heading for each sentence, below it each name with its contract."""
-    text, folder = Text(names), (names.site.top / PAGE).parent
-    yield from ("# The promise", "", *prose(TOLD, WIDEST))
+    """The sentences, below each the contracts of its functions."""
+    text = Text(names)
     for sentence, items in carriers(names):
-        yield from ("", f"## {sentence.rstrip('.')}")
+        yield from ("", sentence)
         for name, item in items.items():
             if item:
-                link = f"[`{name}`]({os.path.relpath(item.file, folder)})"
-                yield from ("", link, "", "```text", *text.written(item.clauses), "```")
+                yield from ("", *indented([name, *indented(text.written(item.clauses))]))
+
+
+def page_of(names):
+    """The lines of the page: the sentences, below each its functions and the clauses that say it."""
+    folder = (names.site.top / PAGE).parent
+    yield from ("# The promise", "", *prose(TOLD, WIDEST))
+    for sentence, items in carriers(names):
+        yield from ("", f"## {sentence.rstrip('.')}", "")
+        for name, item in items.items():
+            if item:
+                said = [f"`{it.name}`" for it in item.clauses if it.keyword == "ensures" and it.name]
+                link = f"- [`{name}`]({os.path.relpath(item.file, folder)})"
+                yield link + (f": {', '.join(said)}" if said else "")
 
 
 def write_promise(names):
     """Writes the page."""
-    text = "".join(f"{line}\n" for line in lines_of(names))
+    text = "".join(f"{line}\n" for line in page_of(names))
     (names.site.top / PAGE).write_text(text, "utf-8")
 
 
 def stale(names):
-    """Looks whether the page is what is printed."""
+    """Looks whether the page is what the sources say."""
     file = names.site.top / PAGE
-    is_right = file.exists() and file.read_text("utf-8").splitlines() == [*lines_of(names)]
+    is_right = file.exists() and file.read_text("utf-8").splitlines() == [*page_of(names)]
     yield None if is_right else f"{PAGE} is stale: tools/reference --write-promise writes it anew"
