@@ -11,8 +11,8 @@ mod steps;
 
 use crate::items_left::ItemsLeft;
 use crate::length::ArrayLength;
-use crate::slots::{are_long, are_many, move_items, take_at};
-use crate::store::Store;
+use crate::slots::{exceed_512, move_as_one, move_items};
+use crate::store::{Store, take_at};
 use std::fmt;
 use std::marker::{Model, PhantomData};
 
@@ -173,9 +173,9 @@ impl<T: Default + Drop, N: ArrayLength<T>> GenericArrayIter<T, N> {
         ensures left { self.new ≡ drop (length slots.old) self.old }
     {
         let count = slots.len();
-        if count == room && are_long(slots) {
+        if count == room && exceed_512(slots) {
             self.exchange::<S>(slots);
-        } else if count == N::USIZE && are_many(slots) {
+        } else if count == N::USIZE && move_as_one(slots) {
             self.exchange::<N::ArrayType>(slots);
         } else {
             self.move_to(slots);

@@ -9,8 +9,8 @@ ghost use Rattle.std.specs.List.{zip};
 ghost use Rattle.std.specs.Prelude.{◌≡◌, List, Result, length, map, ⊤};
 
 use crate::array::GenericArray;
+use crate::closures::{try_write_mapped_ref, write_mapped_ref, write_zipped_ref};
 use crate::length::ArrayLength;
-use crate::mapping::{try_write_mapped_ref, write_mapped_ref, write_zipped_ref};
 use ga_views::{GenericArrayRef, Unsigned};
 
 /// Borrowed items: those of a read-only view, or of an inline array by reference.

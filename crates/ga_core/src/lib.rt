@@ -14,11 +14,11 @@ mod array;
 mod array_iter;
 mod borrowed_items;
 mod builder;
+mod closures;
 mod errors;
 /// The folds of both iterators by value.
 pub mod items_left;
 mod length;
-mod mapping;
 mod slices_compared;
 mod slots;
 mod store;

@@ -1,54 +1,10 @@
-//! Writing over slots: over those of a slice in order, and over one of a store.
-ghost use Rattle.ga_core.specs.Calls.{MayGenerate, MayTryGenerate};
+//! The slots of a slice: moves of their items, and what is written over them in order.
 ghost use Rattle.ga_core.specs.Copies.{Repeats};
-ghost use Rattle.ga_core.specs.Runs.{ClosureRun, TryClosureRun};
-ghost use Rattle.ga_views.specs.Length.{FitsInline};
-ghost use Rattle.std.specs.List.{All, AllZip, range_with_len};
-ghost use Rattle.std.specs.Prelude.{◌≡◌, ◌<◌, ◌≤◌, IsOk, Ok, OnOk, length, slice_index_or, slice_set};
-ghost use Rattle.std.specs.Result.{result_and};
+ghost use Rattle.std.specs.List.{All, AllZip};
+ghost use Rattle.std.specs.Prelude.{◌≡◌, ◌≤◌, IsOk, OnOk, length};
 
 use crate::errors::AllocError;
-use crate::store::Store;
-use ga_views::MAX_INLINE;
 use std::mem;
-
-// So few items are moved one by one, where they take more than a word.
-const FEW: usize = 8;
-
-const WORD: usize = 8;
-
-// Up to so many bytes, a loop over the slots of a whole builder takes less than an exchange.
-const LONG: usize = 512;
-
-// Writes `f(0)`, `f(1)` and so on over the slots, each called once, in this order.
-#[inline]
-pub(crate) fn write_answers<T: Drop, F: FnMut(usize) -> T>(slots: &mut [T], f: &mut F)
-    requires callable { MayGenerate F.pre F.step f.old (length slots.old) }
-    ensures run { ClosureRun F.step f.old (range_with_len 0 (length slots.old)) slots.new f.new }
-{
-    for (index, slot) in slots.iter_mut().enumerate() {
-        *slot = f(index);
-    }
-}
-
-// `write_answers` of a closure that may fail, up to its first error, which is returned.
-#[inline]
-pub(crate) fn try_write_answers<T: Drop, E, F: FnMut(usize) -> Result<T, E>>(
-    slots: &mut [T],
-    f: &mut F,
-) -> Result<(), E>
-    requires callable { MayTryGenerate F.pre F.step f.old (length slots.old) }
-    ensures run { TryClosureRun F.step f.old (range_with_len 0 (length slots.old))
-        (result_and result (Ok slots.new)) f.new }
-{
-    for (index, slot) in slots.iter_mut().enumerate() {
-        match f(index) {
-            Ok(item) => *slot = item,
-            Err(error) => return Err(error),
-        }
-    }
-    Ok(())
-}
 
 // Moves the items of a slice over those of another of the same length, which are dropped, and
 // leaves defaults. Compiles to a copy where the length is known.
@@ -83,16 +39,18 @@ pub(crate) fn write_defaults_back<T: Default + Drop>(slots: &mut [T])
     }
 }
 
-// Whether items are moved in one piece. Of a few, the compiler keeps each in a register.
+// Whether items are moved in one piece. Up to eight that take more than a word aren't: the compiler
+// keeps each in a register.
 #[inline(always)]
-pub(crate) fn are_many<T>(items: &[T]) -> bool {
-    items.len() > FEW || mem::size_of_val(items) <= WORD
+pub(crate) fn move_as_one<T>(items: &[T]) -> bool {
+    items.len() > 8 || mem::size_of_val(items) <= mem::size_of::<usize>()
 }
 
-// Whether items take more than some hundred bytes.
+// Whether items take more than 512 bytes. Up to these, a loop over the slots of a whole builder
+// takes less than an exchange.
 #[inline(always)]
-pub(crate) fn are_long<T>(items: &[T]) -> bool {
-    mem::size_of_val(items) > LONG
+pub(crate) fn exceed_512<T>(items: &[T]) -> bool {
+    mem::size_of_val(items) > 512
 }
 
 // Exchanges the items of two slices of `N`, in one piece: without a loop, the compiler leaves out
@@ -166,25 +124,4 @@ pub(crate) fn write_copies<T: Clone>(slots: &mut [T], item: T) -> Result<(), All
         slots[last] = item;
     }
     Ok(())
-}
-
-// Writes `item` over the item of a slot, which is dropped.
-#[inline]
-pub(crate) fn put_at<T: Drop, S: Store<T>>(store: &mut S, slot: usize, item: T)
-    requires { slot < length (S.items store.old) }
-    ensures { S.items store.new ≡ slice_set (S.items store.old) slot item }
-{
-    *store.item_mut(slot) = item;
-}
-
-// Takes the item of a slot, and leaves a default there. `slot % MAX_INLINE` is the slot: by it the
-// compiler sees that the write reaches nothing before the store.
-#[inline]
-pub(crate) fn take_at<T: Default + Drop, S: Store<T>>(store: &mut S, slot: usize) -> T
-    requires fits { FitsInline (length (S.items store.old)) }
-    requires in_bounds { slot < length (S.items store.old) }
-    ensures item { result ≡ slice_index_or (S.items store.old) slot result }
-    ensures left { (blank : T) × (S.items store.new ≡ slice_set (S.items store.old) slot blank) }
-{
-    mem::take(store.item_mut(slot % MAX_INLINE))
 }

@@ -8,7 +8,9 @@ ghost use Rattle.std.specs.Prelude.{◌≡◌, ℕ, ◌+◌, ◌<◌, ◌≤◌,
 
 use crate::slots::{move_items, swap_arrays};
 use arrayvec::ArrayVec;
+use ga_views::MAX_INLINE;
 use std::default::MadeWith;
+use std::mem;
 
 /// A list with a capacity, kept in the value itself. It never asks for memory.
 ///
@@ -173,6 +175,27 @@ impl<T: MadeWith<()> + Drop, const N: usize> Store<T> for ArrayVec<T, N> {
     fn swap_slices(left: &mut [T], right: &mut [T]) {
         swap_arrays::<T, N>(left, right);
     }
+}
+
+// Writes `item` over the item of a slot, which is dropped.
+#[inline]
+pub(crate) fn put_at<T: Drop, S: Store<T>>(store: &mut S, slot: usize, item: T)
+    requires { slot < length (S.items store.old) }
+    ensures { S.items store.new ≡ slice_set (S.items store.old) slot item }
+{
+    *store.item_mut(slot) = item;
+}
+
+// Takes the item of a slot, and leaves a default there. `slot % MAX_INLINE` is the slot: by it the
+// compiler sees that the write reaches nothing before the store.
+#[inline]
+pub(crate) fn take_at<T: Default + Drop, S: Store<T>>(store: &mut S, slot: usize) -> T
+    requires fits { FitsInline (length (S.items store.old)) }
+    requires in_bounds { slot < length (S.items store.old) }
+    ensures item { result ≡ slice_index_or (S.items store.old) slot result }
+    ensures left { (blank : T) × (S.items store.new ≡ slice_set (S.items store.old) slot blank) }
+{
+    mem::take(store.item_mut(slot % MAX_INLINE))
 }
 
 // The full store of the items of a native array.

@@ -96,6 +96,7 @@ impl<'a, T, N: Unsigned> GenericArrayRef<'a, T, N> {
     }
 
     /// The number of items, which is `N`.
+    #[inline]
     pub fn len(&self) -> usize
         ensures { result ≡ N.USIZE }
     {

@@ -7,6 +7,7 @@ ghost use Rattle.std.specs.Iterator.{YieldsFirstBy, YieldsLastBy, item_count};
 ghost use Rattle.std.specs.Option.{option_map};
 ghost use Rattle.std.specs.Prelude.{◌≡◌, ◌*◌, ◌^◌, ◌<◌, ◌≤◌, [], false, length, true};
 
+use crate::chunks_ref::count_of_rows;
 use crate::{GenericArrayRef, Unsigned};
 use std::marker::{Model, PhantomData};
 
@@ -59,10 +60,7 @@ impl<'a, T, N: Unsigned> ChunkIter<'a, T, N> {
     pub fn len(&self) -> usize
         ensures { result ≡ length self.now }
     {
-        match N::USIZE {
-            0 => 0,
-            width => self.left.len() / width,
-        }
+        count_of_rows(self.left.len(), N::USIZE)
     }
 
     /// Skips `n` rows and returns the next one. If at most `n` rows are left, consumes them all

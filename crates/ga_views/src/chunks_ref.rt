@@ -2,7 +2,7 @@
 ghost use Rattle.ga_views.specs.RowIteration.{RowsInOrder, RowsInReverse};
 ghost use Rattle.ga_views.specs.Rows.{chunk_count, chunk_rest, row_at, rows};
 ghost use Rattle.std.specs.Option.{option_map};
-ghost use Rattle.std.specs.Prelude.{◌≡◌, ◌*◌, ◌/◌, ◌^◌, ◌<◌, ◌↔◌, ◌⊎◌, IfSome, IsSome, ◌++◌, length, slice_get, ⊤};
+ghost use Rattle.std.specs.Prelude.{◌≡◌, ◌*◌, ◌/◌, ◌^◌, ◌<◌, ◌≤◌, ◌↔◌, ◌⊎◌, IfSome, IsSome, ◌++◌, length, slice_get, ⊤};
 
 use crate::{ChunkIter, GenericArrayRef, Unsigned};
 use std::alloc::AllocError;
@@ -70,10 +70,7 @@ impl<'a, T, N: Unsigned> ChunksRef<'a, T, N> {
         ensures count { result ≡ chunk_count N.USIZE (items_of_chunks self.now) }
         ensures rows { result ≡ length (rows N.USIZE (items_of_chunks self.now)) }
     {
-        match N::USIZE {
-            0 => 0,
-            width => self.slice.len() / width,
-        }
+        count_of_rows(self.slice.len(), N::USIZE)
     }
 
     // Where the row at `index` starts among the items. They lie in a slice, so this fits a `usize`.
@@ -138,13 +135,22 @@ impl<'a, T, N: Unsigned> ChunksRef<'a, T, N> {
     }
 }
 
+// How many whole rows of a width lie in `len` items. Of the width 0 there are none.
+#[inline]
+pub(crate) fn count_of_rows(len: usize, width: usize) -> usize
+    ensures count { result ≡ len / width }
+    ensures within { result * width ≤ len }
+{
+    match width {
+        0 => 0,
+        width => len / width,
+    }
+}
+
 // How many of `len` items lie in whole rows of a width.
 #[inline]
 pub(crate) fn len_of_rows(len: usize, width: usize) -> usize
     ensures { result ≡ len / width * width }
 {
-    match width {
-        0 => 0,
-        width => len / width * width,
-    }
+    count_of_rows(len, width) * width
 }

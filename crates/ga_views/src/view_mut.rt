@@ -157,6 +157,7 @@ impl<S: ReborrowSlice<T>, T, N: Unsigned> ViewMut<S, T, N> {
     }
 
     /// The number of items, which is `N`.
+    #[inline]
     pub fn len(&self) -> usize
         ensures { result ≡ N.USIZE }
     {

@@ -10,8 +10,8 @@ ghost use Rattle.std.specs.Prelude.{◌≡◌, ℕ, ◌+◌, IfOk, OnErr, Result
 
 use crate::array::GenericArray;
 use crate::builder::ArrayBuilder;
+use crate::closures::{try_write_generated, write_generated};
 use crate::length::ArrayLength;
-use crate::slots::{try_write_answers, write_answers};
 use ga_views::LengthError;
 
 impl<T: Default + Drop, N: ArrayLength<T>> GenericArray<T, N> {
@@ -37,7 +37,7 @@ impl<T: Default + Drop, N: ArrayLength<T>> GenericArray<T, N> {
             → result ≡ map h (range_with_len 0 N.USIZE) }
     {
         let mut array = Self::default();
-        write_answers(array.as_mut_slice(), f);
+        write_generated(array.as_mut_slice(), f);
         array.repacked()
     }
 
@@ -64,7 +64,7 @@ impl<T: Default + Drop, N: ArrayLength<T>> GenericArray<T, N> {
             → result ≡ try_map h (range_with_len 0 N.USIZE) }
     {
         let mut array = Self::default();
-        match try_write_answers(array.as_mut_slice(), f) {
+        match try_write_generated(array.as_mut_slice(), f) {
             Ok(()) => Ok(array.repacked()),
             Err(error) => Err(error),
         }

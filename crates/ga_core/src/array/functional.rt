@@ -12,8 +12,8 @@ ghost use Rattle.std.specs.List.{zip};
 ghost use Rattle.std.specs.Prelude.{◌≡◌, Result, map};
 
 use crate::array::GenericArray;
+use crate::closures::{try_write_mapped, write_mapped, write_zipped};
 use crate::length::ArrayLength;
-use crate::mapping::{try_write_mapped, write_mapped, write_zipped};
 
 impl<T: Default + Drop, N: ArrayLength<T>> GenericArray<T, N> {
     /// The array of what `f` returns at each item, called in order. Takes the items by value.

@@ -1,8 +1,0 @@
-use Rattle.ga_core.proofs.slots.write_answers.Given as goal
-use Rattle.ga_core.specs.Runs.{ClosureRun}
-use Rattle.std.proofs.Common.{take}
-use Rattle.std.specs.List.{range_with_len}
-
--- the calls so far gave what is written
-abbrev pub invariant-loop-index : goal.invariant-loop-index
-invariant-loop-index g l = ClosureRun (goal.F-step g) l.initial.f (range_with_len 0 l.index) (take l.index l.slots) l.f

@@ -1,0 +1,15 @@
+use Rattle.ga_core.proofs.SlotLemmas.{refill-set}
+use Rattle.ga_core.proofs.store.take_at.Goals as goal
+use Rattle.std.proofs.Common.{◌≡◌, ◌%◌, ◌∙◌, ap, arith, refl, slice_set, mod-eq_of_lt}
+
+pub returns-clause-left : goal.returns-clause-left
+returns-clause-left g c =
+    let items = g.S.Store.items c.args.store.now in
+    let at = c.args.slot % 65536 in
+    let here : at ≡ c.args.slot = mod-eq_of_lt (omega (arith, c.requires.fits, c.requires.in_bounds)) in
+    let blank = c.take.new.dest in
+    let after = g.S.Store.store_with c.args.store.now (slice_set items at blank) in (
+      blank,
+      refill-set items items (g.S.Store.items after.0) at blank refl after.1
+          ∙ ap (λ k. slice_set items k blank) here,
+    )
