@@ -55,6 +55,25 @@ module _ {T : Type 0} (before after : List T) (item : T) (grows : after ≡ befo
   pub filled_more : (room less all : ℕ) → less + 1 ≡ room → length before + room ≡ all → length after + less ≡ all
   filled_more room less all fewer fits = omega (arith, fewer, fits, ap length grows ∙ length_push before item)
 
+-- The calls at the items passed so far, of which there are n, gave what the block holds, and it has room for what the
+-- others give. Run says which calls, with which results, led to the state that was reached.
+pub record PutSoFar {F X Y : Type 0} (Run : List X → List Y → F → Type 0) (passed : List X) (n all : ℕ) (block : Live Y)
+    (reached : F) : Type 0 where
+  pub run : Run passed block.items reached
+  pub long : length block.items ≡ n
+  pub room : n + block.room ≡ all
+
+module _ {F X Y : Type 0} {Run : List X → List Y → F → Type 0} {passed : List X} {n all : ℕ} {block : Live Y} {reached : F} where
+  -- one more call was made, and what it gave was put
+  pub put-next : {after : Live Y} (y : Y) (longer : List X) (last : F) → PutSoFar Run passed n all block reached
+      → after.items ≡ block.items ++ y ∷ [] → after.room + 1 ≡ block.room → Run longer (block.items ++ y ∷ []) last
+      → PutSoFar Run longer (n + 1) all after last
+  put-next {after} y longer last so_far grows fewer run = record {
+    run = subst (λ ys. Run longer ys last) (sym grows) run;
+    long = long_more block.items after.items y grows n so_far.long;
+    room = one_more n block.room after.room all so_far.room fewer;
+  }
+
 -- the block between its bounds, and as it is seen
 module _ {T : Type 0} (start end : ℕ) (block now : Live T) (seen : block ≡ now)
     (long : start + length block.items ≡ end) where

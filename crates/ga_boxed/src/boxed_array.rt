@@ -42,6 +42,18 @@ impl<T, N: Unsigned> Model for BoxedArray<T, N> {
 impl<T, N: Unsigned> BoxedArray<T, N> {
     ghost use Rattle.ga_core.specs.Lends.{LendsItems, LendsIter};
 
+    // The array of the items of a block. Moves none of them.
+    #[inline]
+    pub(crate) fn from_block(block: LiveBlock<T>) -> Self
+        requires len { length block.items ≡ N.USIZE }
+        ensures { result ≡ block.items }
+    {
+        BoxedArray {
+            items: block,
+            of: PhantomData,
+        }
+    }
+
     /// All items, in order. O(1).
     #[inline]
     pub fn as_slice(&self) -> &[T]
@@ -62,6 +74,7 @@ impl<T, N: Unsigned> BoxedArray<T, N> {
     }
 
     /// The number of items, which is `N`. O(1).
+    #[inline]
     pub fn len(&self) -> usize
         ensures { result ≡ N.USIZE }
     {
@@ -69,6 +82,7 @@ impl<T, N: Unsigned> BoxedArray<T, N> {
     }
 
     /// The items by reference, in order.
+    #[inline]
     pub fn iter(&self) -> slice::Iter<'_, T>
         ensures { IteratesOver self.now N.USIZE result }
     {

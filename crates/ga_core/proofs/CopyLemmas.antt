@@ -21,17 +21,19 @@ module _ {T : Type 0} where
   all_equal item (x ∷ items) all = λ i. All-head (λ y. y ≡ item) x items all i
       ∷ all_equal item items (All-tail (λ y. y ≡ item) x items all) i
 
+  -- clones that equal the item, and the item behind them
+  pub same-with_last : (is_clone : T → T → Type 0) (item : T) (n : ℕ) (clones : List T) → IsExact is_clone item
+      → All (is_clone item) clones → length clones + 1 ≡ n → clones ++ item ∷ [] ≡ replicate n item
+  same-with_last is_clone item n clones equal all long =
+      ap (λ front. front ++ item ∷ []) (all_equal item clones (λ k d within. equal (slice_index_or clones k d) (all k d within)))
+      ∙ (replicate-append-replicate (length clones) 1 item ∙ ap (λ k. replicate k item) long)
+
   -- where a clone equals its source, the copies are equal
-  pub Repeats-same : (is_clone : T → T → Type 0) (item : T) (n : ℕ) (array : List T)
-      → ((copy : T) → is_clone item copy → copy ≡ item) → Repeats is_clone item n array → array ≡ replicate n item
+  pub Repeats-same : (is_clone : T → T → Type 0) (item : T) (n : ℕ) (array : List T) → IsExact is_clone item
+      → Repeats is_clone item n array → array ≡ replicate n item
   Repeats-same is_clone item zero array equal none = none
   Repeats-same is_clone item (suc n) array equal (clones, made, long, all) =
-      let same : clones ≡ replicate n item =
-      all_equal item clones (λ k d within. equal (slice_index_or clones k d) (all k d within))
-      ∙ ap (λ k. replicate k item) long in
-      let more : n + 1 ≡ suc n = omega arith in
-      made ∙ (ap (λ front. front ++ item ∷ []) same
-      ∙ (replicate-append-replicate n 1 item ∙ ap (λ k. replicate k item) more))
+      made ∙ same-with_last is_clone item (suc n) clones equal all (omega (arith, long))
 
   -- where each clone of an item equals it, clones of the items are the items
   pub AllZip-same : (is_clone : T → T → Type 0) (items copies : List T) → All (IsExact is_clone) items

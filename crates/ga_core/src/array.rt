@@ -114,6 +114,7 @@ impl<T, N: ArrayLength<T>> GenericArray<T, N> {
     }
 
     /// The items by reference, in order.
+    #[inline]
     pub fn iter(&self) -> slice::Iter<'_, T>
         ensures { IteratesOver self.now N.USIZE result }
     {

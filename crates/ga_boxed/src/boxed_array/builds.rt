@@ -12,7 +12,6 @@ use crate::boxed_array::BoxedArray;
 use crate::live_block::LiveBlock;
 use ga_core::{AllocError, FillError, LengthError, Unsigned};
 use std::alloc::Global;
-use std::marker::PhantomData;
 
 impl<T, N: Unsigned> BoxedArray<T, N> {
     /// The array of `f(0)` to `f(N - 1)`, each called once, in this order.
@@ -40,16 +39,11 @@ impl<T, N: Unsigned> BoxedArray<T, N> {
         ensures err { OnErr result (f.new ≡ f.old) }
         ensures empty { N.USIZE ≡ 0 → IsOk result }
     {
-        let Ok(mut items) = LiveBlock::new(alloc, N::USIZE) else {
-            return Err(AllocError);
-        };
+        let mut block = LiveBlock::new(alloc, N::USIZE)?;
         for index in 0..N::USIZE {
-            items.put(f(index));
+            block.put(f(index));
         }
-        Ok(BoxedArray {
-            items,
-            of: PhantomData,
-        })
+        Ok(BoxedArray::from_block(block))
     }
 }
 
@@ -85,19 +79,14 @@ impl<T: Drop, N: Unsigned> BoxedArray<T, N> {
         ensures err { OnErr result (f.new ≡ f.old) }
         ensures empty { N.USIZE ≡ 0 → IsOk result }
     {
-        let Ok(mut good) = LiveBlock::new(alloc, N::USIZE) else {
-            return Err(AllocError);
-        };
+        let mut block = LiveBlock::new(alloc, N::USIZE)?;
         for index in 0..N::USIZE {
             match f(index) {
-                Ok(item) => good.put(item),
+                Ok(item) => block.put(item),
                 Err(error) => return Ok(Err(error)),
             }
         }
-        Ok(Ok(BoxedArray {
-            items: good,
-            of: PhantomData,
-        }))
+        Ok(Ok(BoxedArray::from_block(block)))
     }
 
     /// The array of all items of `items`, or `LengthError` if they aren't exactly `N`.
@@ -129,20 +118,15 @@ impl<T: Drop, N: Unsigned> BoxedArray<T, N> {
         ensures err { OnErr result (items.new ≡ items.old) }
         ensures empty { N.USIZE ≡ 0 → IsOk result }
     {
-        let Ok(mut taken) = LiveBlock::new(alloc, N::USIZE) else {
-            return Err(AllocError);
-        };
-        while taken.room() > 0 {
+        let mut block = LiveBlock::new(alloc, N::USIZE)?;
+        while block.room() > 0 {
             match items.next() {
-                Some(item) => taken.put(item),
+                Some(item) => block.put(item),
                 None => return Ok(Err(LengthError)),
             }
         }
         match items.next() {
-            None => Ok(Ok(BoxedArray {
-                items: taken,
-                of: PhantomData,
-            })),
+            None => Ok(Ok(BoxedArray::from_block(block))),
             Some(_surplus) => Ok(Err(LengthError)),
         }
     }
@@ -186,21 +170,18 @@ impl<T: Drop, N: Unsigned> BoxedArray<T, N> {
             → items.new ≡ items.old }
         ensures empty { N.USIZE ≡ 0 → IsPlaced result }
     {
-        let Ok(mut values) = LiveBlock::new(alloc, N::USIZE) else {
+        let Ok(mut block) = LiveBlock::new(alloc, N::USIZE) else {
             return Err(FillError::Place(AllocError));
         };
-        while values.room() > 0 {
+        while block.room() > 0 {
             match items.next() {
-                Some(Ok(item)) => values.put(item),
+                Some(Ok(item)) => block.put(item),
                 Some(Err(error)) => return Err(FillError::Item(error)),
                 None => return Err(FillError::Length(LengthError)),
             }
         }
         match items.next() {
-            None => Ok(BoxedArray {
-                items: values,
-                of: PhantomData,
-            }),
+            None => Ok(BoxedArray::from_block(block)),
             Some(_surplus) => Err(FillError::Length(LengthError)),
         }
     }

@@ -7,7 +7,6 @@ use crate::live_block::LiveBlock;
 use ga_core::{AllocError, ArrayLength, Const, GenericArray, LengthError, Unsigned};
 use std::alloc::Global;
 use std::boxed::BoxedSlice;
-use std::marker::PhantomData;
 use std::mem;
 
 impl<T: Default + Drop, N: ArrayLength<T>> BoxedArray<T, N> {
@@ -20,16 +19,11 @@ impl<T: Default + Drop, N: ArrayLength<T>> BoxedArray<T, N> {
         ensures empty { N.USIZE ≡ 0 → IsOk result }
     {
         let slots = array.as_mut_slice();
-        let Ok(mut block) = LiveBlock::new(alloc, N::USIZE) else {
-            return Err(AllocError);
-        };
+        let mut block = LiveBlock::new(alloc, N::USIZE)?;
         for slot in slots.iter_mut() {
             block.put(mem::take(slot));
         }
-        Ok(BoxedArray {
-            items: block,
-            of: PhantomData,
-        })
+        Ok(BoxedArray::from_block(block))
     }
 }
 
@@ -42,13 +36,7 @@ impl<T: Drop, const U: usize> BoxedArray<T, Const<U>> {
         ensures ok { IfOk result (λ boxed. boxed ≡ items) }
         ensures empty { U ≡ 0 → IsOk result }
     {
-        match LiveBlock::from_array(alloc, items) {
-            Ok(block) => Ok(BoxedArray {
-                items: block,
-                of: PhantomData,
-            }),
-            Err(refused) => Err(refused),
-        }
+        Ok(BoxedArray::from_block(LiveBlock::from_array(alloc, items)?))
     }
 }
 
@@ -115,9 +103,6 @@ impl<T: Drop, N: Unsigned> BoxedArray<T, N> {
         ensures ok { IfOk result (λ items. boxed_slice_items items ≡ self) }
         ensures empty { N.USIZE ≡ 0 → IsOk result }
     {
-        match self.into_vec() {
-            Ok(items) => Ok(items.into_boxed_slice()),
-            Err(refused) => Err(refused),
-        }
+        Ok(self.into_vec()?.into_boxed_slice())
     }
 }

@@ -7,7 +7,6 @@ use crate::boxed_array::BoxedArray;
 use crate::live_block::LiveBlock;
 use ga_core::{AllocError, Unsigned};
 use std::alloc::Global;
-use std::marker::PhantomData;
 
 impl<T: Default, N: Unsigned> BoxedArray<T, N> {
     /// The array of `N` defaults. No clause and no test tells how often and in which order
@@ -47,21 +46,16 @@ impl<T: Clone, N: Unsigned> BoxedArray<T, N> {
             → IfOk result (λ array. array ≡ replicate N.USIZE item) }
         ensures empty { N.USIZE ≡ 0 → IsOk result }
     {
-        let Ok(mut items) = LiveBlock::new(alloc, N::USIZE) else {
-            return Err(AllocError);
-        };
-        if N::USIZE > 0 {
-            for _clone in 1..N::USIZE {
-                let Ok(copy) = item.clone() else {
-                    return Err(AllocError);
-                };
-                items.put(copy);
-            }
-            items.put(item);
+        let mut block = LiveBlock::new(alloc, N::USIZE)?;
+        for _clone in 1..N::USIZE {
+            let Ok(copy) = item.clone() else {
+                return Err(AllocError);
+            };
+            block.put(copy);
         }
-        Ok(BoxedArray {
-            items,
-            of: PhantomData,
-        })
+        if N::USIZE > 0 {
+            block.put(item);
+        }
+        Ok(BoxedArray::from_block(block))
     }
 }

@@ -11,7 +11,6 @@ ghost use Rattle.std.specs.Prelude.{◌≡◌, IfOk, IsOk, OnErr, Result, map};
 use crate::boxed_array::BoxedArray;
 use crate::live_block::LiveBlock;
 use ga_core::{AllocError, GenericArrayRef, Unsigned};
-use std::marker::PhantomData;
 
 impl<T, N: Unsigned> BoxedArray<T, N> {
     /// The boxed array of what `f` returns at each item by reference, called in order.
@@ -43,16 +42,11 @@ impl<T, N: Unsigned> BoxedArray<T, N> {
         ensures err { OnErr result (f.new ≡ f.old) }
         ensures empty { N.USIZE ≡ 0 → IsOk result }
     {
-        let Ok(mut items) = LiveBlock::new(self.items.allocator(), N::USIZE) else {
-            return Err(AllocError);
-        };
+        let mut block = LiveBlock::new(self.items.allocator(), N::USIZE)?;
         for item in self.as_slice() {
-            items.put(f(item));
+            block.put(f(item));
         }
-        Ok(BoxedArray {
-            items,
-            of: PhantomData,
-        })
+        Ok(BoxedArray::from_block(block))
     }
 
     /// `map_ref` with a closure that may fail: the boxed array of its values, or its first error.
@@ -86,19 +80,14 @@ impl<T, N: Unsigned> BoxedArray<T, N> {
         ensures err { OnErr result (f.new ≡ f.old) }
         ensures empty { N.USIZE ≡ 0 → IsOk result }
     {
-        let Ok(mut good) = LiveBlock::new(self.items.allocator(), N::USIZE) else {
-            return Err(AllocError);
-        };
+        let mut block = LiveBlock::new(self.items.allocator(), N::USIZE)?;
         for item in self.as_slice() {
             match f(item) {
-                Ok(value) => good.put(value),
+                Ok(value) => block.put(value),
                 Err(error) => return Ok(Err(error)),
             }
         }
-        Ok(Ok(BoxedArray {
-            items: good,
-            of: PhantomData,
-        }))
+        Ok(Ok(BoxedArray::from_block(block)))
     }
 
     /// The boxed array of what `f` returns at each item and that of `rhs` in its place, both by
@@ -141,16 +130,11 @@ impl<T, N: Unsigned> BoxedArray<T, N> {
         ensures err { OnErr result (f.new ≡ f.old) }
         ensures empty { N.USIZE ≡ 0 → IsOk result }
     {
-        let Ok(mut items) = LiveBlock::new(self.items.allocator(), N::USIZE) else {
-            return Err(AllocError);
-        };
+        let mut block = LiveBlock::new(self.items.allocator(), N::USIZE)?;
         let (left, right) = (self.as_slice(), rhs.as_slice());
         for index in 0..N::USIZE {
-            items.put(f(&left[index], &right[index]));
+            block.put(f(&left[index], &right[index]));
         }
-        Ok(BoxedArray {
-            items,
-            of: PhantomData,
-        })
+        Ok(BoxedArray::from_block(block))
     }
 }

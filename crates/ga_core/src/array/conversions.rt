@@ -97,13 +97,11 @@ impl<T: Default + Drop, N: ArrayLength<T>> GenericArray<T, N> {
         ensures ok { IfOk result (λ items. items.items ≡ self) }
         ensures empty { N.USIZE ≡ 0 → IsOk result }
     {
-        match Vec::with_capacity(alloc, N::USIZE) {
-            Ok(mut items) => {
-                push_items(self.as_mut_slice(), &mut items);
-                Ok(items)
-            }
-            Err(_) => Err(AllocError),
-        }
+        let Ok(mut items) = Vec::with_capacity(alloc, N::USIZE) else {
+            return Err(AllocError);
+        };
+        push_items(self.as_mut_slice(), &mut items);
+        Ok(items)
     }
 
     /// The items as a boxed slice: see `into_vec`.
@@ -111,10 +109,7 @@ impl<T: Default + Drop, N: ArrayLength<T>> GenericArray<T, N> {
         ensures ok { IfOk result (λ items. boxed_slice_items items ≡ self) }
         ensures empty { N.USIZE ≡ 0 → IsOk result }
     {
-        match self.into_vec(alloc) {
-            Ok(items) => Ok(items.into_boxed_slice()),
-            Err(refused) => Err(refused),
-        }
+        Ok(self.into_vec(alloc)?.into_boxed_slice())
     }
 }
 

@@ -21,14 +21,11 @@ loop-slot-preserved g c =
       room = one_more _ _ _ _ at.invariant.room c.put.ensures.room;
     }
 
-pub returns-in_default : goal.returns-in_default
-returns-in_default g c = record { ok = tt; empty = λ none. c.in_default.ensures.empty (c.USIZE.ensures ∙ none) }
-
 pub returns : goal.returns
 returns g c =
     let at = c.loop-slot in
     let past = subst (λ n. n ≤ at.slot-index) (ap length c.as_mut_slice-slots.ensures.items) c.loop-slot-test.false in
     record {
-      ok = at.invariant.moved.0 ∙ take_all at.slot-index c.args.array past;
+      ok = c.from_block.ensures ∙ at.invariant.moved.0 ∙ take_all at.slot-index c.args.array past;
       empty = λ none. refl;
     }

@@ -1,4 +1,4 @@
-use Rattle.ga_boxed.proofs.BlockLemmas.{long_more, one_more}
+use Rattle.ga_boxed.proofs.BlockLemmas.{put-next}
 use Rattle.ga_boxed.proofs.boxed_array.BoxedArray.map_ref_by.Goals as goal
 use Rattle.ga_core.proofs.CallLemmas.{may_map-at}
 use Rattle.ga_core.proofs.CutLemmas.{cut-at, take-one}
@@ -6,7 +6,7 @@ use Rattle.ga_core.proofs.EntryActs.{answers_at_entries}
 use Rattle.ga_core.proofs.RunLemmas.{ClosureRun-snoc}
 use Rattle.ga_core.specs.Entries.{CallAt}
 use Rattle.ga_core.specs.Runs.{ClosureRun}
-use Rattle.std.proofs.Common.{◌∙◌, refl, subst, sym, take}
+use Rattle.std.proofs.Common.{◌+◌, ◌∙◌, refl, subst, sym, take}
 use Rattle.std.proofs.lemmas.List.{take_all}
 
 pub f-requires : goal.f-requires
@@ -15,31 +15,25 @@ f-requires g c =
     let given = c.as_slice-item-items in
     let here = cut-at at.item-index given.result.now c.item-item.result c.loop-item-test.true c.item-item.is in
     may_map-at (λ item. item.now) _ _ _ _ c.requires.callable (take at.item-index given.result.now) c.item-item.result
-    _ _ _ (sym given.ensures.items ∙ here) at.invariant.ran _ refl
+    _ _ _ (sym given.ensures.items ∙ here) at.invariant.run _ refl
 
 pub loop-item-preserved : goal.loop-item-preserved
 loop-item-preserved g c =
     let at = c.loop-item in
     let given = c.as_slice-item-items.result.now in
-    record {
-      ran = rw (
-        c.put.ensures.items,
-        take-one at.item-index given c.item-item.result c.loop-item-test.true c.item-item.is,
-      )
-          (ClosureRun-snoc (CallAt (λ item. item.now) (goal.F-step g)) c.args.f.now (take at.item-index given)
-          at.items.items at.f c.item-item.result c.f.result c.f.new.self at.invariant.ran (_, refl, c.f.ensures));
-      long = long_more _ _ _ c.put.ensures.items _ at.invariant.long;
-      room = one_more _ _ _ _ at.invariant.room c.put.ensures.room;
-    }
+    put-next c.f.result (take (at.item-index + 1) given) c.f.new.self at.invariant c.put.ensures.items c.put.ensures.room
+    (rw (take-one at.item-index given c.item-item.result c.loop-item-test.true c.item-item.is)
+    (ClosureRun-snoc (CallAt (λ item. item.now) (goal.F-step g)) c.args.f.now (take at.item-index given)
+    at.block.items at.f c.item-item.result c.f.result c.f.new.self at.invariant.run (_, refl, c.f.ensures)))
 
 pub returns : goal.returns
 returns g c =
     let at = c.loop-item in
     let given = c.as_slice-item-items in
     let step = CallAt (λ item. item.now) (goal.F-step g) in
-    let run = subst (λ passed. ClosureRun step c.args.f.now passed at.items.items at.f)
-    (take_all at.item-index given.result.now c.loop-item-test.false ∙ given.ensures.items) at.invariant.ran in
-    record {
+    let run = subst (λ passed. ClosureRun step c.args.f.now passed at.block.items at.f)
+    (take_all at.item-index given.result.now c.loop-item-test.false ∙ given.ensures.items) at.invariant.run in
+    rw c.from_block.ensures record {
       run = run;
       acts = λ h acts. answers_at_entries (λ item. item.now) _ _ h acts _ _ _ run;
       err = tt;

@@ -27,7 +27,7 @@ loop-items-preserved g c =
     record {
       can = c.in-Some-Ok.ensures.goes.keeps;
       taken = rw (c.put.ensures.items, map-append)
-          (Yields-more g.I.Iterator.next_gives c.args.items.now (map Ok at.values.items) at.items
+          (Yields-more g.I.Iterator.next_gives c.args.items.now (map Ok at.block.items) at.items
           (Ok c.in-Some-Ok.item) _ at.invariant.taken came);
       room = filled_more _ _ _ c.put.ensures.items _ _ _ c.put.ensures.room at.invariant.room;
     }
@@ -47,7 +47,7 @@ returns-in-Some-Err g c =
     let came = rw c.in-Some-Err.field-0-is at c.in-Some-Err.ensures.steps in
     let few = not_all _ _ _ _ at.invariant.room c.room.ensures c.loop-items-test.true in
     let fill = told g c.args.items.now (Ok (Err error)) c.next.new.self
-    (at.values.items, Some (Err error), (at.items, at.invariant.taken, came), (refl, few)) in
+    (at.block.items, Some (Err error), (at.items, at.invariant.taken, came), (refl, few)) in
     let can = c.in-Some-Err.ensures.goes.keeps in
     record { fill = fill.0; runs = fill.1; can_on = λ error is. can; err = λ refused is. cc is; empty = λ none. tt }
 
@@ -56,21 +56,21 @@ returns-in-None g c =
     let at = c.loop-items in
     let few = not_all _ _ _ _ at.invariant.room c.room.ensures c.loop-items-test.true in
     let fill = told g c.args.items.now (Err (record {})) c.next.new.self
-    (at.values.items, None, (at.items, at.invariant.taken, c.in-None.ensures.steps), few) in
+    (at.block.items, None, (at.items, at.invariant.taken, c.in-None.ensures.steps), few) in
     record { fill = fill.0; runs = fill.1; can_on = λ error is. cc is; err = λ refused is. cc is; empty = λ none. tt }
 
 pub returns-in-None-next : goal.returns-in-None-next
 returns-in-None-next g c =
     let at = c.loop-items in
     let all = all_there _ _ _ _ at.invariant.room c.room.ensures c.loop-items-test.false in
-    let fill = told g c.args.items.now (Ok (Ok at.values.items)) c.next-2.new.self
-    (at.values.items, None, (at.items, at.invariant.taken, c.in-None-next.ensures.steps), (refl, all, refl)) in
-    record { fill = fill.0; runs = fill.1; can_on = λ error is. cc is; err = λ refused is. cc is; empty = λ none. tt }
+    let fill = told g c.args.items.now (Ok (Ok at.block.items)) c.next-2.new.self
+    (at.block.items, None, (at.items, at.invariant.taken, c.in-None-next.ensures.steps), (refl, all, refl)) in
+    rw c.from_block.ensures record { fill = fill.0; runs = fill.1; can_on = λ error is. cc is; err = λ refused is. cc is; empty = λ none. tt }
 
 pub returns-in-Some : goal.returns-in-Some
 returns-in-Some g c =
     let at = c.loop-items in
     let all = all_there _ _ _ _ at.invariant.room c.room.ensures c.loop-items-test.false in
     let fill = told g c.args.items.now (Err (record {})) c.next-2.new.self
-    (at.values.items, Some c.in-Some._surplus, (at.items, at.invariant.taken, c.in-Some.ensures.steps), all) in
+    (at.block.items, Some c.in-Some._surplus, (at.items, at.invariant.taken, c.in-Some.ensures.steps), all) in
     record { fill = fill.0; runs = fill.1; can_on = λ error is. cc is; err = λ refused is. cc is; empty = λ none. tt }

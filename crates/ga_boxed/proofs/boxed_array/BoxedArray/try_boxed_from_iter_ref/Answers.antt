@@ -4,17 +4,8 @@ use Rattle.ga_boxed.proofs.boxed_array.BoxedArray.try_boxed_from_iter_ref.Goals 
 use Rattle.ga_core.proofs.FillLemmas.{Asks-from_fill, FillRuns-from_fill}
 use Rattle.ga_core.specs.Fill.{Asks, FillRuns, Fills}
 use Rattle.ga_core.specs.declared.LengthError.{LengthError}
-use Rattle.std.proofs.Common.{◌+◌, ◌∙◌, Err, List, None, Ok, Result, Some, refl}
+use Rattle.std.proofs.Common.{◌+◌, Err, List, None, Ok, Result, Some, refl}
 use Rattle.std.proofs.iter.Next.{Yields-more}
-
-pub returns-in_default : goal.returns-in_default
-returns-in_default g c = record {
-  fill = tt;
-  runs = tt;
-  asks = tt;
-  err = refl;
-  empty = λ none. c.in_default.ensures.empty (c.USIZE.ensures ∙ none);
-}
 
 pub put-requires : goal.put-requires
 put-requires g c = record { room = rw (← c.room.ensures) c.loop-items-test.true }
@@ -25,7 +16,7 @@ loop-items-preserved g c =
     record {
       can = c.in-Some.ensures.goes.keeps;
       taken = rw c.put.ensures.items
-          (Yields-more g.I.Iterator.next_gives c.args.items.now at.taken.items at.items c.in-Some.item _
+          (Yields-more g.I.Iterator.next_gives c.args.items.now at.block.items at.items c.in-Some.item _
           at.invariant.taken c.in-Some.ensures.steps);
       room = filled_more _ _ _ c.put.ensures.items _ _ _ c.put.ensures.room at.invariant.room;
     }
@@ -44,21 +35,21 @@ returns-in-None g c =
     let at = c.loop-items in
     let few = not_all _ _ _ _ at.invariant.room c.room.ensures c.loop-items-test.true in
     let fill = told g c.args.items.now (Err (record {})) c.next.new.self
-    (at.taken.items, None, (at.items, at.invariant.taken, c.in-None.ensures.steps), few) in
+    (at.block.items, None, (at.items, at.invariant.taken, c.in-None.ensures.steps), few) in
     record { fill = fill.0; runs = fill.1; asks = fill.2; err = tt; empty = λ none. refl }
 
 pub returns-in-None-next : goal.returns-in-None-next
 returns-in-None-next g c =
     let at = c.loop-items in
     let all = all_there _ _ _ _ at.invariant.room c.room.ensures c.loop-items-test.false in
-    let fill = told g c.args.items.now (Ok at.taken.items) c.next-2.new.self
-    (at.taken.items, None, (at.items, at.invariant.taken, c.in-None-next.ensures.steps), (refl, all, refl)) in
-    record { fill = fill.0; runs = fill.1; asks = fill.2; err = tt; empty = λ none. refl }
+    let fill = told g c.args.items.now (Ok at.block.items) c.next-2.new.self
+    (at.block.items, None, (at.items, at.invariant.taken, c.in-None-next.ensures.steps), (refl, all, refl)) in
+    rw c.from_block.ensures record { fill = fill.0; runs = fill.1; asks = fill.2; err = tt; empty = λ none. refl }
 
 pub returns-in-Some-next : goal.returns-in-Some-next
 returns-in-Some-next g c =
     let at = c.loop-items in
     let all = all_there _ _ _ _ at.invariant.room c.room.ensures c.loop-items-test.false in
     let fill = told g c.args.items.now (Err (record {})) c.next-2.new.self
-    (at.taken.items, Some c.in-Some-next._surplus, (at.items, at.invariant.taken, c.in-Some-next.ensures.steps), all) in
+    (at.block.items, Some c.in-Some-next._surplus, (at.items, at.invariant.taken, c.in-Some-next.ensures.steps), all) in
     record { fill = fill.0; runs = fill.1; asks = fill.2; err = tt; empty = λ none. refl }

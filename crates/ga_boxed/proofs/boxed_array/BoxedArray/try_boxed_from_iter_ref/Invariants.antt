@@ -6,10 +6,10 @@ use Rattle.std.specs.Iterator.{Yields}
 abbrev pub invariant-loop-items : goal.invariant-loop-items
 invariant-loop-items g l = record {
   can : g.I.Iterator.can_next l.items;
-  taken : Yields g.I.Iterator.next_gives l.fn.items l.taken.items l.items;
-  room : length l.taken.items + l.taken.room ≡ g.N.Unsigned.USIZE;
+  taken : Yields g.I.Iterator.next_gives l.fn.items l.block.items l.items;
+  room : length l.block.items + l.block.room ≡ g.N.Unsigned.USIZE;
 }
 
 -- the slots that are left; an iterator that never ends is asked all the same
 abbrev pub decreases-loop-items : goal.decreases-loop-items
-decreases-loop-items g l = l.taken.room
+decreases-loop-items g l = l.block.room

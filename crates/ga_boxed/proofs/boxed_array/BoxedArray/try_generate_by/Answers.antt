@@ -1,25 +1,17 @@
-use Rattle.ga_boxed.proofs.BlockLemmas.{all_counted, long_more, more_room, one_more}
+use Rattle.ga_boxed.proofs.BlockLemmas.{all_counted, more_room, put-next}
 use Rattle.ga_boxed.proofs.boxed_array.BoxedArray.try_generate_by.Goals as goal
 use Rattle.ga_core.proofs.ActsLemmas.{answers_until_error}
 use Rattle.ga_core.proofs.CallLemmas.{may_try_generate-at}
 use Rattle.ga_core.proofs.RunLemmas.{ClosureRun-good, TryClosureRun-at, TryClosureRun-good, below-add_one}
 use Rattle.ga_core.specs.Runs.{TryClosureRun}
-use Rattle.std.proofs.Common.{◌<◌, ◌∙◌, Err, Ok, refl, subst}
+use Rattle.std.proofs.Common.{◌<◌, ◌+◌, ◌∙◌, Err, Ok, refl, subst}
 use Rattle.std.specs.List.{range_with_len}
-
-pub returns-in_default : goal.returns-in_default
-returns-in_default g c = record {
-  run = tt;
-  acts = tt;
-  err = refl;
-  empty = λ none. c.in_default.ensures.empty (c.USIZE.ensures ∙ none);
-}
 
 pub f-requires : goal.f-requires
 f-requires g c =
     let at = c.loop-index in
     may_try_generate-at (goal.F-pre g) (goal.F-step g) c.args.f.now g.N.Unsigned.USIZE c.requires.callable at.index
-    at.good.items at.f (subst (λ n. at.index < n) c.USIZE-index-end.ensures c.loop-index-test.true) at.invariant.ran
+    at.block.items at.f (subst (λ n. at.index < n) c.USIZE-index-end.ensures c.loop-index-test.true) at.invariant.run
 
 pub put-requires : goal.put-requires
 put-requires g c = record {
@@ -29,12 +21,17 @@ put-requires g c = record {
 pub loop-index-preserved : goal.loop-index-preserved
 loop-index-preserved g c =
     let at = c.loop-index in
+    put-next c.in-Ok.item (range_with_len 0 (at.index + 1)) c.f.new.self at.invariant c.put.ensures.items
+    c.put.ensures.room
+    (rw below-add_one (ClosureRun-good (goal.F-step g) c.args.f.now (range_with_len 0 at.index) at.block.items at.f
+    at.index c.in-Ok.item c.f.new.self at.invariant.run c.in-Ok.ensures))
+
+pub from_block-requires : goal.from_block-requires
+from_block-requires g c =
+    let at = c.loop-index in
     record {
-      ran = rw (c.put.ensures.items, below-add_one)
-          (ClosureRun-good (goal.F-step g) c.args.f.now (range_with_len 0 at.index) at.good.items at.f at.index
-          c.in-Ok-f.item c.f.new.self at.invariant.ran c.in-Ok-f.ensures);
-      long = long_more _ _ _ c.put.ensures.items _ at.invariant.long;
-      room = one_more _ _ _ _ at.invariant.room c.put.ensures.room;
+      len = at.invariant.long
+          ∙ all_counted _ _ _ c.loop-index-test.false at.auto.index-end c.USIZE-index-end.ensures;
     }
 
 pub returns-in-Err : goal.returns-in-Err
@@ -42,8 +39,8 @@ returns-in-Err g c =
     let at = c.loop-index in
     let below = range_with_len 0 g.N.Unsigned.USIZE in
     let run : TryClosureRun (goal.F-step g) c.args.f.now below (Err c.in-Err.error) c.f.new.self =
-    TryClosureRun-at (goal.F-step g) c.args.f.now at.index g.N.Unsigned.USIZE at.good.items at.f c.in-Err.error
-    c.f.new.self (subst (λ n. at.index < n) c.USIZE-index-end.ensures c.loop-index-test.true) at.invariant.ran
+    TryClosureRun-at (goal.F-step g) c.args.f.now at.index g.N.Unsigned.USIZE at.block.items at.f c.in-Err.error
+    c.f.new.self (subst (λ n. at.index < n) c.USIZE-index-end.ensures c.loop-index-test.true) at.invariant.run
     c.in-Err.ensures in
     record {
       run = run;
@@ -57,13 +54,13 @@ pub returns : goal.returns
 returns g c =
     let at = c.loop-index in
     let below = range_with_len 0 g.N.Unsigned.USIZE in
-    let run : TryClosureRun (goal.F-step g) c.args.f.now below (Ok at.good.items) at.f =
-    subst (λ n. TryClosureRun (goal.F-step g) c.args.f.now (range_with_len 0 n) (Ok at.good.items) at.f)
+    let run : TryClosureRun (goal.F-step g) c.args.f.now below (Ok at.block.items) at.f =
+    subst (λ n. TryClosureRun (goal.F-step g) c.args.f.now (range_with_len 0 n) (Ok at.block.items) at.f)
     (all_counted _ _ _ c.loop-index-test.false at.auto.index-end c.USIZE-index-end.ensures)
-    (TryClosureRun-good (goal.F-step g) c.args.f.now (range_with_len 0 at.index) at.good.items at.f at.invariant.ran) in
-    record {
+    (TryClosureRun-good (goal.F-step g) c.args.f.now (range_with_len 0 at.index) at.block.items at.f at.invariant.run) in
+    rw c.from_block.ensures record {
       run = run;
-      acts = λ h acts. answers_until_error (goal.F-step g) c.args.f.now h acts below (Ok at.good.items) at.f run;
+      acts = λ h acts. answers_until_error (goal.F-step g) c.args.f.now h acts below (Ok at.block.items) at.f run;
       err = tt;
       empty = λ none. refl;
     }

@@ -1,4 +1,4 @@
-use Rattle.ga_boxed.proofs.BlockLemmas.{long_more, one_more}
+use Rattle.ga_boxed.proofs.BlockLemmas.{put-next}
 use Rattle.ga_boxed.proofs.boxed_array.BoxedArray.try_map_ref_by.Goals as goal
 use Rattle.ga_core.proofs.CallLemmas.{may_try_map-at}
 use Rattle.ga_core.proofs.CutLemmas.{cut-at, take-one}
@@ -15,23 +15,17 @@ f-requires g c =
     let given = c.as_slice-item-items in
     let here = cut-at at.item-index given.result.now c.item-item.result c.loop-item-test.true c.item-item.is in
     may_try_map-at (λ item. item.now) _ _ _ _ c.requires.callable (take at.item-index given.result.now)
-    c.item-item.result _ at.good.items _ (sym given.ensures.items ∙ here) at.invariant.ran _ refl
+    c.item-item.result _ at.block.items _ (sym given.ensures.items ∙ here) at.invariant.run _ refl
 
 pub loop-item-preserved : goal.loop-item-preserved
 loop-item-preserved g c =
     let at = c.loop-item in
     let given = c.as_slice-item-items.result.now in
-    record {
-      ran = rw (
-        c.put.ensures.items,
-        take-one at.item-index given c.item-item.result c.loop-item-test.true c.item-item.is,
-      )
-          (ClosureRun-good (CallAt (λ item. item.now) (goal.F-step g)) c.args.f.now (take at.item-index given)
-          at.good.items at.f c.item-item.result c.in-Ok-f.value c.f.new.self at.invariant.ran
-          (_, refl, c.in-Ok-f.ensures));
-      long = long_more _ _ _ c.put.ensures.items _ at.invariant.long;
-      room = one_more _ _ _ _ at.invariant.room c.put.ensures.room;
-    }
+    put-next c.in-Ok.value (take (at.item-index + 1) given) c.f.new.self at.invariant c.put.ensures.items
+    c.put.ensures.room
+    (rw (take-one at.item-index given c.item-item.result c.loop-item-test.true c.item-item.is)
+    (ClosureRun-good (CallAt (λ item. item.now) (goal.F-step g)) c.args.f.now (take at.item-index given)
+    at.block.items at.f c.item-item.result c.in-Ok.value c.f.new.self at.invariant.run (_, refl, c.in-Ok.ensures)))
 
 pub returns-in-Err : goal.returns-in-Err
 returns-in-Err g c =
@@ -42,8 +36,8 @@ returns-in-Err g c =
     let here = cut-at at.item-index given.result.now item c.loop-item-test.true c.item-item.is in
     let run = subst (λ items. TryClosureRun step c.args.f.now items (Err c.in-Err.error) c.f.new.self)
     (sym here ∙ given.ensures.items)
-    (TryClosureRun-error step c.args.f.now (take at.item-index given.result.now) at.good.items at.f item
-    (drop (at.item-index + 1) given.result.now) c.in-Err.error c.f.new.self at.invariant.ran (_, refl, c.in-Err.ensures)) in
+    (TryClosureRun-error step c.args.f.now (take at.item-index given.result.now) at.block.items at.f item
+    (drop (at.item-index + 1) given.result.now) c.in-Err.error c.f.new.self at.invariant.run (_, refl, c.in-Err.ensures)) in
     record {
       run = run;
       acts = λ h acts. tries_at_entries (λ item. item.now) (goal.F-step g) c.args.f.now h acts _ _ _ run;
@@ -56,10 +50,10 @@ returns g c =
     let at = c.loop-item in
     let given = c.as_slice-item-items in
     let step = CallAt (λ item. item.now) (goal.F-step g) in
-    let run = subst (λ items. TryClosureRun step c.args.f.now items (Ok at.good.items) at.f)
+    let run = subst (λ items. TryClosureRun step c.args.f.now items (Ok at.block.items) at.f)
     (take_all at.item-index given.result.now c.loop-item-test.false ∙ given.ensures.items)
-    (TryClosureRun-good step c.args.f.now (take at.item-index given.result.now) at.good.items at.f at.invariant.ran) in
-    record {
+    (TryClosureRun-good step c.args.f.now (take at.item-index given.result.now) at.block.items at.f at.invariant.run) in
+    rw c.from_block.ensures record {
       run = run;
       acts = λ h acts. tries_at_entries (λ item. item.now) (goal.F-step g) c.args.f.now h acts _ _ _ run;
       err = tt;

@@ -1,4 +1,4 @@
-use Rattle.ga_boxed.proofs.BlockLemmas.{long_more, one_more}
+use Rattle.ga_boxed.proofs.BlockLemmas.{put-next}
 use Rattle.ga_boxed.proofs.boxed_array.BoxedArray.zip_ref_by.Goals as goal
 use Rattle.ga_core.proofs.CallLemmas.{may_zip-at}
 use Rattle.ga_core.proofs.CutLemmas.{cut-at, take-one}
@@ -7,7 +7,7 @@ use Rattle.ga_core.proofs.RunLemmas.{ClosureRun-snoc}
 use Rattle.ga_core.proofs.ZipLemmas.{pair-here, pair-in, pairs-in, same-pairs}
 use Rattle.ga_core.specs.Entries.{CallAtPair}
 use Rattle.ga_core.specs.Runs.{ClosureRun}
-use Rattle.std.proofs.Common.{◌≤◌, ◌<◌, ◌∙◌, arith, refl, subst, sym, take, zip}
+use Rattle.std.proofs.Common.{◌≤◌, ◌<◌, ◌+◌, ◌∙◌, arith, refl, subst, sym, take, zip}
 use Rattle.std.proofs.lemmas.List.{take_all}
 
 pub f-requires : goal.f-requires
@@ -20,7 +20,7 @@ f-requires g c =
     (c.index-left-index.result, c.index-right-index.result) _ _ _
     (sym (same-pairs c.as_slice-left.ensures.items c.as_slice-right.ensures.items)
     ∙ cut-at at.index (zip left right) _ (pair-in left right below c.as_slice-left.ensures.len c.as_slice-right.ensures.len)
-    (pair-here at.index left right c.index-left-index.is c.index-right-index.is)) at.invariant.ran _ _ refl refl
+    (pair-here at.index left right c.index-left-index.is c.index-right-index.is)) at.invariant.run _ _ refl refl
 
 pub loop-index-preserved : goal.loop-index-preserved
 loop-index-preserved g c =
@@ -28,21 +28,16 @@ loop-index-preserved g c =
     let left = c.as_slice-left.result.now in
     let right = c.as_slice-right.result.now in
     let below : at.index < g.N.Unsigned.USIZE = omega (arith, c.loop-index-test.true, c.USIZE-index-end.ensures) in
-    record {
-      ran = rw (
-        c.put.ensures.items,
-        take-one at.index (zip left right)
-            (c.index-left-index.result, c.index-right-index.result)
-            (pair-in left right below c.as_slice-left.ensures.len c.as_slice-right.ensures.len)
-            (pair-here at.index left right c.index-left-index.is c.index-right-index.is),
-      )
-          (ClosureRun-snoc (CallAtPair (λ item. item.now) (λ item. item.now) (goal.F-step g)) c.args.f.now
-          (take at.index (zip left right)) at.items.items at.f
-          (c.index-left-index.result, c.index-right-index.result) c.f.result c.f.new.self at.invariant.ran
-          (_, _, refl, refl, c.f.ensures));
-      long = long_more _ _ _ c.put.ensures.items _ at.invariant.long;
-      room = one_more _ _ _ _ at.invariant.room c.put.ensures.room;
-    }
+    put-next c.f.result (take (at.index + 1) (zip left right)) c.f.new.self at.invariant c.put.ensures.items
+    c.put.ensures.room
+    (rw (take-one at.index (zip left right)
+    (c.index-left-index.result, c.index-right-index.result)
+    (pair-in left right below c.as_slice-left.ensures.len c.as_slice-right.ensures.len)
+    (pair-here at.index left right c.index-left-index.is c.index-right-index.is))
+    (ClosureRun-snoc (CallAtPair (λ item. item.now) (λ item. item.now) (goal.F-step g)) c.args.f.now
+    (take at.index (zip left right)) at.block.items at.f
+    (c.index-left-index.result, c.index-right-index.result) c.f.result c.f.new.self at.invariant.run
+    (_, _, refl, refl, c.f.ensures)))
 
 pub returns : goal.returns
 returns g c =
@@ -52,10 +47,10 @@ returns g c =
     let past : g.N.Unsigned.USIZE ≤ at.index = omega (arith, c.loop-index-test.false, c.USIZE-index-end.ensures) in
     let step = CallAtPair (λ item. item.now) (λ item. item.now) (goal.F-step g) in
     let pairs = zip left right in
-    let run = subst (λ items. ClosureRun step c.args.f.now items at.items.items at.f)
+    let run = subst (λ items. ClosureRun step c.args.f.now items at.block.items at.f)
     (take_all at.index pairs (pairs-in left right past c.as_slice-left.ensures.len)
-    ∙ same-pairs c.as_slice-left.ensures.items c.as_slice-right.ensures.items) at.invariant.ran in
-    record {
+    ∙ same-pairs c.as_slice-left.ensures.items c.as_slice-right.ensures.items) at.invariant.run in
+    rw c.from_block.ensures record {
       run = run;
       acts = λ h acts. answers_at_pairs (λ item. item.now) (λ item. item.now) _ _ h acts _ _ _ run;
       err = tt;
