@@ -77,6 +77,7 @@ impl<T, N: ArrayLength<T>> GenericArray<T, N> {
     }
 
     /// The number of items, which is that of the type.
+    #[inline]
     pub const fn len() -> usize
         ensures { result ≡ N.USIZE }
     {

@@ -11,6 +11,7 @@ use crate::array::GenericArray;
 use crate::array_iter::GenericArrayIter;
 use crate::length::ArrayLength;
 use crate::store::{Store, put_at};
+pub use edits::carry_to_end;
 use ga_views::LengthError;
 use std::marker::{Model, PhantomData};
 

@@ -26,7 +26,7 @@ mod store;
 pub use array::{ConstGenericArray, GenericArray, Len};
 pub use array_iter::GenericArrayIter;
 pub use borrowed_items::BorrowedItems;
-pub use builder::ArrayBuilder;
+pub use builder::{ArrayBuilder, carry_to_end};
 pub use errors::{AllocError, FillError, Never, always};
 pub use ga_views::{
     ChunkIter, ChunksMut, ChunksRef, ChunksViewMut, Const, GenericArrayMut, GenericArrayRef,

@@ -1,5 +1,5 @@
 //! Arrays as slices: the methods of slices, ranges, and loops over references.
-ghost use Rattle.std.specs.Prelude.{◌≡◌, ℕ, ◌-◌, ◌<◌, ◌≤◌, ◌^◌, [], drop, get_or, length, reverse, slice_index, sum};
+ghost use Rattle.std.specs.Prelude.{◌≡◌, ℕ, ◌-◌, ◌<◌, ◌≤◌, ◌^◌, [], drop, length, reverse, slice_index, slice_index_or, sum};
 
 use ga_core::{ArrayLength, GenericArray, Len, U3};
 
@@ -34,7 +34,7 @@ fn turned_round<N: ArrayLength<u8>>(array: &mut GenericArray<u8, N>)
 /// Looks at each array of a slice, so that a proof knows of each that it has N items.
 fn each_has_its_length<N: ArrayLength<u8>>(blocks: &[GenericArray<u8, N>])
     ensures { (place : ℕ) → place < length blocks.now
-        → length (get_or blocks.now place []) ≡ N.USIZE }
+        → length (slice_index_or blocks.now place []) ≡ N.USIZE }
 {
     for block in blocks {
         let _items = block.as_slice();

@@ -14,6 +14,7 @@ const LONG_TEXT: usize = 2048;
 // How many digits `HexText` makes at once: a buffer for the few of a digest is quickly cleared.
 const SHORT_TEXT: usize = 128;
 
+// Not inlined, so that no caller's frame holds the buffer of 2 KiB.
 /// Writes two hex digits for each byte, the high half first, in lower case or, if `upper` is set,
 /// in upper case; at most `limit` digits. An odd limit cuts inside a byte.
 ///
@@ -22,7 +23,6 @@ const SHORT_TEXT: usize = 128;
 ///
 /// The counterpart of `fmt::LowerHex` and `fmt::UpperHex` of an array, with `limit` for a
 /// formatter's precision.
-// Not inlined, so that no caller's frame holds the buffer of 2 KiB.
 #[inline(never)]
 pub fn write_hex<W: Write>(
     bytes: &[u8],

@@ -162,9 +162,11 @@ fn carry_from_end<T>(items: &mut [T], index: usize)
     items[index..].rotate_right(1);
 }
 
-// Carries the item at `index` behind all others, which are left in order.
+/// Carries the item at `index` behind all others, which are left in order. For the crates above:
+/// `remove` of an array carries so too. O(items behind it).
+#[doc(hidden)]
 #[inline]
-fn carry_to_end<T>(items: &mut [T], index: usize)
+pub fn carry_to_end<T>(items: &mut [T], index: usize)
     requires { index < length items.old }
     ensures { (item : T) → items.new ≡ remove items.old index ++ slice_index_or items.old index item ∷ [] }
 {

@@ -4,10 +4,10 @@
 //! reordered is reordered before that: so it knows the iterator's bounds.
 ghost use Rattle.ga_core.specs.Length.{FitsInline};
 ghost use Rattle.std.specs.List.{swap_remove};
-ghost use Rattle.std.specs.Prelude.{◌≡◌, ◌+◌, ◌*◌, ◌<◌, ◌≤◌, [], ◌∷◌, ◌++◌, drop, get_or, length, map, remove, take};
+ghost use Rattle.std.specs.Prelude.{◌≡◌, ◌+◌, ◌*◌, ◌<◌, ◌≤◌, [], ◌∷◌, ◌++◌, drop, length, map, slice_index_or, take};
 
 use crate::sequence::shapes::{Concat, Flatten, Lengthen, Remove, Row, Shorten, Split, Unflatten};
-use ga_core::{ArrayBuilder, ArrayLength, GenericArray, GenericArrayIter};
+use ga_core::{ArrayBuilder, ArrayLength, GenericArray, GenericArrayIter, carry_to_end};
 
 impl<T: Default + Drop, N: ArrayLength<T>, M: ArrayLength<T>> Lengthen<T, GenericArray<T, M>>
     for GenericArray<T, N> {
@@ -211,21 +211,12 @@ fn next_array<T: Default + Drop, N: ArrayLength<T>, M: ArrayLength<T>>(
     array.finish()
 }
 
-// Carries the item at `index` behind all others, which are left in order.
-#[inline]
-fn carry_to_end<T>(items: &mut [T], index: usize)
-    requires { index < length items.old }
-    ensures { (item : T) → items.new ≡ remove items.old index ++ get_or items.old index item ∷ [] }
-{
-    items[index..].rotate_left(1);
-}
-
 // Swaps the item at `index` with the last.
 #[inline]
 fn swap_to_end<T>(items: &mut [T], index: usize)
     requires { index < length items.old }
     ensures { (item : T) → items.new ≡ swap_remove items.old index item
-        ++ get_or items.old index item ∷ [] }
+        ++ slice_index_or items.old index item ∷ [] }
 {
     let last = items.len() - 1;
     items.swap(index, last);
