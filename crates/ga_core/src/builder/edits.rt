@@ -1,6 +1,6 @@
 //! A builder as a list of at most `N` items, edited by the calls of a `Vec`.
 ghost use Rattle.std.specs.List.{All, AllZip, swap_remove};
-ghost use Rattle.std.specs.Prelude.{◌≡◌, ◌+◌, ◌-◌, ◌<◌, ◌≤◌, ◌↔◌, IfNone, IfSome, IsOk, IsSome, None, OnErr, OnOk, Some, List, [], ◌∷◌, ◌++◌, insert, length, remove, slice_get, slice_index_or, take};
+ghost use Rattle.std.specs.Prelude.{◌≡◌, ◌+◌, ◌-◌, ◌<◌, ◌≤◌, ◌↔◌, IfNone, IfSome, IsOk, IsSome, OnErr, OnOk, Some, List, [], ◌∷◌, ◌++◌, insert, length, remove, slice_get, slice_index_or, take};
 
 use crate::builder::ArrayBuilder;
 use crate::errors::AllocError;
