@@ -18,7 +18,7 @@ fn row_sums(slice: &[Item]) -> u64 {
 }
 
 case!(
-    rows_of(sum),
+    rows(sum),
     poked(array = GenericArray::<Item, U4099>::generate(|index| Item::make(sum, index))),
     { mixed(sum, row_sums(array.as_slice())) }
 );
