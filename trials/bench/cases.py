@@ -55,23 +55,19 @@ LONGER = "longer { (M.USIZE ≡ N.USIZE + 1) × FitsInline M.USIZE }"
 SHORTER = "shorter { N.USIZE ≡ M.USIZE + 1 }"
 DOUBLE = "both { (M.USIZE ≡ N.USIZE + N.USIZE) × FitsInline M.USIZE }"
 HALF = "halves { N.USIZE ≡ M.USIZE + M.USIZE }"
-IN_BOUNDS = "in_bounds { at < N.USIZE }"
-# By their names.
-REQUIRED = {it.split()[0]: it for it in (FITS, LONGER, SHORTER, DOUBLE, HALF, IN_BOUNDS)}
+# What a function requires by a name.
+OTHERS = ("in_bounds { at < N.USIZE }", "width { (0 < N.USIZE) ⊎ (length slice.now ≡ 0) }")
+REQUIRED = {it.split()[0]: it for it in (FITS, LONGER, SHORTER, DOUBLE, HALF, *OTHERS)}
 
 ARRAY = "GenericArray<T, N>"
 ROWS_OF_ITEMS = "GenericArray<GenericArray<ITEM, Const<WIDTH>>, Const<ROWS>>"
 INLINE = Form("{item}, Const<{length}>", "T: Word, N: ArrayLength<T>", False, [FITS], ARRAY)
 LISTED = INLINE._replace(alloc=True)
-ROWS_OF = Form(
-    "{item}, Const<{length}>, Const<4099>",
-    "T: Word, N: Unsigned, M: ArrayLength<T>",
-    False,
-    ["width { 0 < N.USIZE }", "fits { FitsInline M.USIZE }"],
-    "GenericArray<T, M>",
-)
+WIDE = ["width { 0 < N.USIZE }", "fits { FitsInline M.USIZE }"]
+ROWS_OF = Form("{item}, Const<{length}>, Const<4099>", "T: Word, N: Unsigned, M: ArrayLength<T>",
+               False, WIDE, "GenericArray<T, M>")
 BYTES = Form("Const<{length}>", "N: ArrayLength<u8>", True, [FITS], "GenericArray<u8, N>")
-NO_TYPES = Form(None, None, False, [], "GenericArray<ITEM, Const<LENGTH>>")
+NO_TYPES = Form("", "", False, [], "GenericArray<ITEM, Const<LENGTH>>")
 BOX = Form("{item}, Const<{length}>", "T: Word, N: Unsigned", True, [], "BoxedArray<T, N>")
 BOX_OF_ITEMS = Form("Const<{length}>", "N: Unsigned", True, [], "BoxedArray<ITEM, N>")
 BOX_OF_BYTES = BOX_OF_ITEMS._replace(array="BoxedArray<u8, N>")

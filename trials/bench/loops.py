@@ -3,8 +3,8 @@
     include!("NAME.rs");     the text NAME.rs of driver/, which the other sides have too
     //@ LINE                 a line of ours alone
     // requires A, B         above a function: clauses of cases.py, by their names
-    Item, Array, LENGTH      what the form of the module says, as other words do; a function that
-                             names one of them has the form's types
+    Item, Array, LENGTH      what the form of the module says, as other words do; a function has
+                             the form's types that it names
 
     case!(NAME(sum), poked(a, b), kept(c), before { .. }, each(d), { .. });
 
@@ -17,7 +17,7 @@ writes the checksum itself. A case with a `?` ends with 1 at an error.
 """
 import pathlib
 import re
-import textwrap
+from textwrap import dedent, indent
 
 from cases import REQUIRED
 
@@ -57,10 +57,6 @@ pub fn {name}_of{types}({given}) -> u64 {{
 """
 
 
-def indented(text):
-    return textwrap.indent(text, "    ")
-
-
 def made(form, name, seed="sum"):
     """Makes an array of a form."""
     if not form.array.startswith("Boxed"):
@@ -93,13 +89,13 @@ def loop(form, words, then, text):
     before = [made(form, f"mut {it}") for it in changed + named.get("made", [])]
     before += [made(form, it, OTHER_SEED) for it in named.get("kept", [])]
     if found := BEFORE.search(words):
-        before.append(textwrap.dedent(found[1]).strip())
+        before.append(dedent(found[1]).strip())
     repeated = [poked(form, it) for it in changed]
     repeated += [made(form, *it) for it in zip(named.get("each", []), ("sum", OTHER_SEED))]
-    lines = textwrap.dedent(text).strip().split("\n")
+    lines = dedent(text).strip().split("\n")
     repeated += lines if then else carried(lines)
     before = "".join(f"{it}\n" for it in before)
-    return LOOP.format(before=before, repeated=indented("\n".join(repeated)))
+    return LOOP.format(before=before, repeated=indent("\n".join(repeated), "    "))
 
 
 def clauses(requires):
@@ -112,17 +108,19 @@ def function(form, name, words, then, text):
         "types": f"<{form.declared}>" if form.declared else "",
         "given": f"{'alloc: Global, ' if form.alloc else ''}seed: u64, reps: u64",
         "requires": f"{clauses(form.requires)}\n" if form.requires else "",
-        "loop": indented(loop(form, words, then, text)),
+        "loop": indent(loop(form, words, then, text), "    "),
     }
     return (TRIED if "?" in words + text else FUNCTION).format(name=name, **how).rstrip("\n")
 
 
-def written(form, words, above, requires, name, rest):
-    """A function with the form's types, where it has its words, and with what it requires."""
-    types = f"<{form.declared}>" if form.declared and words.search(rest) else ""
+def written(form, above, requires, name, rest):
+    """A function with the form's types that it names, and with what it requires."""
+    declared = form.declared.split(", ")
+    named = [it for it in declared if it and re.search(rf"\b{it[0]}\b", rest)]
+    types = f"<{', '.join(named)}>" if named else ""
     if requires:
-        named = clauses(REQUIRED[it] for it in requires.split(", "))
-        rest = rest.replace(" {\n", f"{named}\n{{\n", 1)
+        required = clauses(REQUIRED[it] for it in requires.split(", "))
+        rest = rest.replace(" {\n", f"{required}\n{{\n", 1)
     return f"{above}\n{name}{types}{rest}" if above else f"{name}{types}{rest}"
 
 
@@ -131,6 +129,6 @@ def laid_out(text, form, forms):
     text = INCLUDED.sub(lambda it: (DRIVER / it[1]).read_text().rstrip("\n"), text)
     text = OURS_ALONE.sub(r"\1", text)
     words = re.compile(rf"(?<!specs\.)\b({'|'.join(form.words)})\b")
-    text = WRITTEN.sub(lambda it: written(form, words, *it.groups()), text)
     text = words.sub(lambda it: form.words[it[0]], text)
+    text = WRITTEN.sub(lambda it: written(form, *it.groups()), text)
     return CASE.sub(lambda it: function(forms[it[1]], *it.groups()), text)

@@ -15,7 +15,7 @@ case!(zip_boxed(sum), {
 
 case!(fold_boxed(sum), { mixed(sum, summed(build(sum))) });
 
-// A borrowed box is mapped and zipped by a build of its indexes: `map` of a reference makes an array.
+// Borrowed boxes are mapped and zipped by a build of indexes: `map` of a reference makes an array.
 
 #[inline(never)]
 fn mapped_ref(array: &Array) -> Array {

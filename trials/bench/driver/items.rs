@@ -22,10 +22,7 @@ pub fn touch_done(seed: u64, items: &[u8], len: usize, is_done: bool) -> u64 {
 /// Writes one item at a place that only the seed tells.
 #[inline]
 pub fn poke<T: Word>(seed: u64, items: &mut [T]) {
-    let at = ((seed >> 20) as usize) & items.len().saturating_sub(1);
-    if let Some(item) = items.get_mut(at) {
-        *item = T::make(seed, 5);
-    }
+    poke_items(seed, items, items.len());
 }
 
 /// Writes the function of a case, which repeats the block: it returns the next checksum by the

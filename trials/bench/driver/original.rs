@@ -10,6 +10,7 @@ use std::fmt::Write;
 
 type U2000 = Sum<U1024, Sum<U512, Sum<U256, Sum<U128, Sum<U64, U16>>>>>;
 type U4099 = Sum<U4096, U3>;
+type ChunksRef<T, N> = GenericArray<T, N>;
 
 /// A place that only the seed tells.
 fn place<T, N: Unsigned>(seed: u64) -> usize {
@@ -46,7 +47,14 @@ macro_rules! arrays {
             pub use self::{zip as zip_inline, zip_view as zip_inline_ref};
             include!("shapes.rs");
             include!("concrete.rs");
-            include!("rows.rs");
+            include!("row_sums.rs");
+            case!(
+                rows(sum),
+                poked(
+                    array = GenericArray::<Item, U4099>::generate(|index| Item::make(sum, index))
+                ),
+                { mixed(sum, row_sums(array.as_slice())) }
+            );
             include!("lists.rs");
         }
     };

@@ -37,3 +37,12 @@ pub fn touch_items<T: Word>(seed: u64, items: &[T], len: usize) -> u64 {
         None => 0,
     }
 }
+
+/// Writes one item of a slice, whose length is known, at a place that only the seed tells.
+#[inline]
+pub fn poke_items<T: Word>(seed: u64, items: &mut [T], len: usize) {
+    let at = (seed >> 20) as usize & len.saturating_sub(1);
+    if let Some(item) = items.get_mut(at) {
+        *item = T::make(seed, 5);
+    }
+}
