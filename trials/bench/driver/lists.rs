@@ -1,4 +1,4 @@
-// Two slices in an array of the original's, and vectors of std that have room for as many items as an array.
+// Slices in arrays of the original's, and vectors of std that have room for as many items.
 
 #[inline(never)]
 fn joined_slices(first: &[Item], second: &[Item]) -> Array {

@@ -33,7 +33,6 @@ macro_rules! arrays {
             const LENGTH: usize = <$length>::USIZE;
             const ROWS: usize = <$rows>::USIZE;
             include!("builds.rs");
-            include!("original_calls.rs");
             include!("original_and_native.rs");
             include!("by_value.rs");
             include!("arrays.rs");
@@ -43,18 +42,12 @@ macro_rules! arrays {
             // What stands beside our calls in plain types.
             pub use self::{
                 map as map_inline, map_view as map_inline_ref, try_map as try_map_inline,
+                zip as zip_inline, zip_view as zip_inline_ref,
             };
-            pub use self::{zip as zip_inline, zip_view as zip_inline_ref};
             include!("shapes.rs");
             include!("concrete.rs");
             include!("row_sums.rs");
-            case!(
-                rows(sum),
-                poked(
-                    array = GenericArray::<Item, U4099>::generate(|index| Item::make(sum, index))
-                ),
-                { mixed(sum, row_sums(array.as_slice())) }
-            );
+            include!("original_calls.rs");
             include!("lists.rs");
         }
     };

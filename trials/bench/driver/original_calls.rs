@@ -70,3 +70,9 @@ case!(try_from_vec(sum), each(array), {
     let items = listed(array);
     of_list(items).map_or(2, |array| touch(sum, &array))
 });
+
+case!(
+    rows(sum),
+    poked(array = GenericArray::<Item, U4099>::generate(|index| Item::make(sum, index))),
+    { mixed(sum, row_sums(array.as_slice())) }
+);
