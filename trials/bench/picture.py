@@ -2,39 +2,37 @@
 """Draws what trials/bench/run measured: a dot a case, by group, at ours/original.
 
     trials/bench/picture.py TABLE PICTURE     of FOLDER/table.txt
-
-One table has one picture, byte for byte. It needs matplotlib: apt-get install python3-matplotlib
 """
 import collections
-import io
 import math
-import os
 import pathlib
-import re
 import statistics
 import sys
 
-# Debian's own Python, which Debian's packages belong to.
-DEBIANS = "/usr/bin/python3"
-
 # All lengths are in points; a picture of 622.5 points is 830 pixels wide.
 WIDTH, LEFT, RIGHT, BETWEEN, TOP, BOTTOM = 622.5, 92, 1, 12, 22, 28
+WIDE = (WIDTH - LEFT - RIGHT - BETWEEN) / 2
 # A dot's width, how far dots of a column are apart, and the least height of a group, in dots.
 DOT, APART, LEAST = 2.4, 1.9, 9
-BLUE, ORANGE, INK, SOFT, LINE = "#1b5fa8", "#c25700", "#1d2125", "#5b6570", "#dde1e5"
 TICKS, MANY = (0.05, 0.1, 0.2, 0.5, 1, 2, 5, 10, 20), 2
 PANELS = ("instructions", "time")
 LEGEND = "ours/original: a dot is a case, left of 1 ours takes less; each group's worst is named"
-FONT = "'DejaVu Sans'"
-STYLE = {
-    "svg.hashsalt": "speed",
-    "svg.fonttype": "none",  # Text stays text.
-    "path.simplify": False,  # A line without a length is a dot.
-    "font.family": FONT.strip("'"),
-    "font.size": 7.5,
-    "text.color": INK,
-    "axes.edgecolor": LINE,
-}
+HEAD = """\
+<svg xmlns="http://www.w3.org/2000/svg" width="{0}pt" height="{1}pt" viewBox="0 0 {0} {1}">
+<style>
+text {{ font: 7.5px 'DejaVu Sans', Verdana, sans-serif; fill: #1d2125 }}
+.title {{ font-size: 8.5px }}
+.worst {{ font-size: 6.5px }}
+.tick {{ text-anchor: middle }}
+.tick, .worst, .legend {{ fill: #5b6570 }}
+.worst.many {{ fill: #c25700 }}
+path {{ fill: none; stroke: #dde1e5; stroke-width: 0.8 }}
+.line {{ stroke-width: 0.5 }}
+.one {{ stroke: #1d2125 }}
+.dots {{ stroke: #1b5fa8; stroke-width: 2.4; stroke-linecap: round }}
+.dots.many {{ stroke: #c25700 }}
+</style>
+<rect width="100%" height="100%" fill="#ffffff"/>"""
 
 # A case with its two ratios, by instructions and by time.
 Case = collections.namedtuple("Case", "name ratios")
@@ -46,19 +44,31 @@ def read(text):
     for line in text.splitlines():
         cells = [it.strip() for it in line.split("|")]
         if len(cells) == 9 and cells[0] != "case":
-            case = Case(" ".join(cells[:2]), (float(cells[3]), float(cells[7])))
+            # What is shown as 0.00 stands at half of the least that is shown.
+            ratios = [max(float(cells[it]), 0.005) for it in (3, 7)]
+            case = Case(" ".join(cells[:2]), tuple(ratios))
             groups.setdefault(cells[8], []).append(case)
     return groups
 
 
-def ends(groups):
-    """Where the axis begins and ends: a name has room behind the last dot."""
-    ratios = [it for cases in groups.values() for case in cases for it in case.ratios]
-    return min(ratios) / 1.3, max(ratios) * 11
+def number(it):
+    """A length with at most two decimals."""
+    return f"{round(it, 2):g}"
+
+
+def text(x, y, words, kind):
+    return f'<text class="{kind}" x="{number(x)}" y="{number(y)}">{words}</text>'
+
+
+def path(kind, *points):
+    """Lines by the commands of a path, each with its numbers."""
+    drawn = "".join(it if isinstance(it, str) else f"{number(it)} " for it in points)
+    return f'<path class="{kind}" d="{drawn.rstrip()}"/>'
 
 
 def stacked(ratios, wide):
-    """Each ratio with its height in dots: those of one column stand above and below each other."""
+    """Each ratio with its height in dots: those of one column stand above and below each other. A
+    column is so wide on the axis."""
     taken, places = collections.Counter(), []
     for ratio in sorted(ratios):
         column = round(math.log(ratio) / wide)
@@ -68,8 +78,7 @@ def stacked(ratios, wide):
 
 
 def laid_out(groups, wide):
-    """Of each group its middle, in dots from the top, its height, and its dots on both panels. A
-    column is so wide on the axis."""
+    """Of each group its middle, in dots from the top, its height, and its dots on both panels."""
     begin, rows = 0, {}
     for name, cases in groups.items():
         sides = [stacked([it.ratios[side] for it in cases], wide) for side in (0, 1)]
@@ -79,106 +88,88 @@ def laid_out(groups, wide):
     return rows, begin
 
 
-def draw_axis(axes, begin, end, total):
-    """The axis of a panel, with a line at 1."""
-    axes.set_xscale("log")
-    axes.set_xlim(begin, end)
-    axes.set_ylim(total, 0)
-    ticks = [it for it in TICKS if begin <= it <= end / 8]
-    axes.set_xticks(ticks, [str(it) for it in ticks], color=SOFT)
-    axes.set_xticks([], minor=True)
-    axes.set_yticks([])
-    axes.tick_params(length=0)
-    axes.grid(axis="x", color=LINE, linewidth=0.5)
-    axes.axvline(1, color=INK, linewidth=0.8, zorder=1)
-    axes.set_axisbelow(True)
+class Picture:
+    """The lines of a picture, on both panels: a line for each tick and for each group."""
+
+    def __init__(self, groups):
+        self.groups = groups
+        self.ratios = [
+            [case.ratios[side] for cases in groups.values() for case in cases] for side in (0, 1)
+        ]
+        # Where the axis begins and ends: a name has room behind the last dot.
+        self.begin, self.end = min(map(min, self.ratios)) / 1.3, max(map(max, self.ratios)) * 11
+        self.rows, total = laid_out(groups, math.log(self.end / self.begin) * DOT / WIDE)
+        self.bottom = TOP + total * APART
+        self.tall = self.bottom + BOTTOM
+
+    def across(self, side, ratio):
+        part = math.log(ratio / self.begin) / math.log(self.end / self.begin)
+        return LEFT + side * (WIDE + BETWEEN) + part * WIDE
+
+    def down(self, dots):
+        return TOP + dots * APART
+
+    def tick(self, side, ratio):
+        x = self.across(side, ratio)
+        label = text(x, self.bottom + 9.2, ratio, "tick")
+        return path("line", "M", x, self.bottom, "V", TOP) + label
+
+    def panel(self, side):
+        """The edges of a panel, a line at 1, and what stands above it."""
+        left, one, right = (self.across(side, it) for it in (self.begin, 1, self.end))
+        ratios = self.ratios[side]
+        many = sum(it > MANY for it in ratios)
+        said = f"by {PANELS[side]}: median {statistics.median(ratios):.2f}, {many} above {MANY}"
+        edges = path("edge", "M", left, TOP, "H", right, "V", self.bottom, "H", left, "z")
+        line = path("one", "M", one, self.bottom, "V", TOP)
+        return edges + line + text(left, TOP - 5, said, "title")
+
+    def group(self, side, name):
+        """The dots of a group by one measure, and the name of its worst case."""
+        middle, tall, places = self.rows[name]
+        left, right = (self.across(side, it) for it in (self.begin, self.end))
+        drawn = path("line", "M", left, self.down(middle + tall / 2), "H", right)
+        for kind in ("dots", "dots many"):
+            # A dot is a line without a length whose ends are round.
+            dots = [
+                ("M", self.across(side, ratio), self.down(middle + up), "h0")
+                for ratio, up in places[side] if (ratio > MANY) == (kind == "dots many")
+            ]
+            drawn += path(kind, *(it for dot in dots for it in dot)) if dots else ""
+        worst = max(self.groups[name], key=lambda it: it.ratios[side])
+        ratio = worst.ratios[side]
+        kind = "worst many" if ratio > MANY else "worst"
+        x, y = self.across(side, ratio * 1.1), self.down(middle) + 1.7
+        return drawn + text(x, y, f"{worst.name}: {ratio:.2f}", kind)
+
+    def lines(self):
+        yield HEAD.format(WIDTH, number(self.tall))
+        for tick in TICKS:
+            if self.begin <= tick <= self.end / 8:
+                yield self.tick(0, tick) + self.tick(1, tick)
+        yield self.panel(0) + self.panel(1)
+        for name, cases in self.groups.items():
+            label = text(1, self.down(self.rows[name][0]) + 2.07, f"{name} ({len(cases)})", "group")
+            yield label + self.group(0, name) + self.group(1, name)
+        yield text(LEFT, self.tall - 3, LEGEND, "legend")
+        yield "</svg>\n"
 
 
-def draw_panel(axes, groups, rows, side):
-    """The dots of each group by one measure, and the name of its worst case."""
-    for name, cases in groups.items():
-        middle, tall, places = rows[name]
-        axes.axhline(middle + tall / 2, color=LINE, linewidth=0.5)
-        for is_many, color in ((False, BLUE), (True, ORANGE)):
-            dots = [it for it in places[side] if (it[0] > MANY) == is_many]
-            # All dots as one path, of lines without a length whose ends are round.
-            across = [it for ratio, _ in dots for it in (ratio, ratio, None)]
-            down = [it for _, height in dots for it in (middle + height, middle + height, None)]
-            axes.plot(across, down, color=color, linewidth=DOT, solid_capstyle="round", zorder=3,
-                      clip_on=False)
-        worst = max(cases, key=lambda it: it.ratios[side])
-        said = f"{worst.name}: {worst.ratios[side]:.2f}"
-        color = ORANGE if worst.ratios[side] > MANY else SOFT
-        axes.text(worst.ratios[side] * 1.1, middle, said, color=color, size=6.5, va="center")
-    ratios = [it.ratios[side] for cases in groups.values() for it in cases]
-    many = sum(it > MANY for it in ratios)
-    said = f"by {PANELS[side]}: median {statistics.median(ratios):.2f}, {many} above {MANY}"
-    axes.set_title(said, size=8.5, loc="left", pad=5)
-
-
-def plain(text):
-    """A picture with at most two decimals a number, a line for each path, and fonts that stand for
-    the first where that is missing."""
-    text = re.sub(r"\d+\.\d{3,}", lambda number: f"{round(float(number[0]), 2):g}", text)
-    text = re.sub(r" \n(?=[A-Zz])", " ", text).replace(' \n"', '"').replace('\n"', '"')
-    text = re.sub(r' transform="rotate\(-0 .*?\)"', "", text)
-    return ungrouped(text[text.index("<svg"):].replace(FONT, f"{FONT}, Verdana, sans-serif"))
-
-
-def ungrouped(text):
-    """The picture without the groups that have only a name, by which nothing is called."""
-    kept, is_kept = [], []
-    for line in text.splitlines():
-        line = line.strip()
-        is_bare = re.fullmatch(r'<g( id="[^"]*")?/?>', line)
-        if line.startswith(("<g ", "<g>")) and not line.endswith("/>"):
-            is_kept.append(not is_bare)
-        if not is_bare and (line != "</g>" or is_kept.pop()):
-            kept.append(f"{line}\n")
-    return "".join(kept)
-
-
-def draw(groups, picture):
-    """Writes the picture."""
-    import matplotlib
-    matplotlib.use("svg")
-    matplotlib.rcdefaults()
-    from matplotlib import pyplot
-    wide, (begin, end) = (WIDTH - LEFT - RIGHT - BETWEEN) / 2, ends(groups)
-    rows, total = laid_out(groups, math.log(end / begin) * DOT / wide)
-    tall = TOP + total * APART + BOTTOM
-    with pyplot.rc_context(STYLE):
-        figure = pyplot.figure(figsize=(WIDTH / 72, tall / 72), facecolor="white")
-        for side in (0, 1):
-            left = LEFT + side * (wide + BETWEEN)
-            place = (left / WIDTH, BOTTOM / tall, wide / WIDTH, total * APART / tall)
-            axes = figure.add_axes(place)
-            draw_axis(axes, begin, end, total)
-            draw_panel(axes, groups, rows, side)
-        for name, cases in groups.items():
-            y = 1 - (TOP + rows[name][0] * APART) / tall
-            figure.text(1 / WIDTH, y, f"{name} ({len(cases)})", va="center")
-        figure.text(LEFT / WIDTH, 3 / tall, LEGEND, color=SOFT)
-        drawn = io.StringIO()
-        figure.savefig(drawn, metadata=dict.fromkeys(("Date", "Creator", "Format", "Type")))
-    pathlib.Path(picture).write_text(plain(drawn.getvalue()), "utf-8")
+def draw(table, picture):
+    """Draws a table, or stops where it has no cases."""
+    groups = read(pathlib.Path(table).read_text("utf-8"))
+    if not groups:
+        raise ValueError(f"{table} has no cases")
+    pathlib.Path(picture).write_text("\n".join(Picture(groups).lines()), "utf-8")
 
 
 def main():
     if len(sys.argv) != 3:
         sys.exit(__doc__)
-    table, picture = sys.argv[1:]
     try:
-        groups = read(pathlib.Path(table).read_text("utf-8"))
-        if not groups:
-            sys.exit(f"trials/bench/picture.py: {table} has no cases")
-        draw(groups, picture)
+        draw(*sys.argv[1:])
     except (OSError, ValueError) as why:
         sys.exit(f"trials/bench/picture.py: {why}")
-    except ModuleNotFoundError as missing:
-        if sys.executable != DEBIANS and os.path.exists(DEBIANS):
-            os.execv(DEBIANS, [DEBIANS, *sys.argv])
-        sys.exit(f"trials/bench/picture.py: no {missing.name}: apt-get install python3-matplotlib")
 
 
 if __name__ == "__main__":

@@ -1,9 +1,9 @@
 """The texts of both sides, laid out from calls/ and driver/ and written from the list of cases."""
 import pathlib
 
-from cases import APART_CASES, BOXED, CASES, ROWS, SMALL, TUPLES
+from cases import APART_CASES, BOXED, CASES, NO_TYPES, ROWS, SMALL, TUPLES
 from exports import crate, declared, export, texts_of
-from loops import with_functions
+from loops import laid_out
 
 HERE = pathlib.Path(__file__).resolve().parent
 LIBRARIES = ["ga_core", "ga_views", "ga_boxed", "ga_ciphers", "generic_array"]
@@ -29,13 +29,8 @@ pub static CASES: &[Case] = &[
 """
 
 ENTRY = """    Case {{
-        name: "{case}",
-        kind: "{kind}",
-        ours: (ours_{case}, {number}),
-        original: {original},
-        third: {third},
-        length: {length},
-        is_apart: {is_apart},
+        name: "{case}", kind: "{kind}", ours: (ours_{case}, {number}), original: {original},
+        third: {third}, length: {length}, is_apart: {is_apart},
     }},"""
 
 
@@ -72,7 +67,12 @@ def words_of(kind):
 def our_modules():
     """Each module of the crate that is laid out over ours, by its name."""
     forms = {case.name: case.part.form for case in ALL}
-    texts = {name: with_functions(it, forms) for name, it in texts_of(HERE / "calls").items()}
+    # The form of a module is that of its first case.
+    modules = {case.part.module.split("_{")[0]: case.part.form for case in reversed(ALL)}
+    texts = {
+        name: laid_out(it, modules.get(name, NO_TYPES), forms)
+        for name, it in texts_of(HERE / "calls").items()
+    }
     concrete = ("ITEM", "LENGTH", "WIDTH", "ROWS")
     made = {
         "concrete": {it.name: dict(zip(concrete, (*it, *ROWS[it.length]))) for it in SMALL},

@@ -1,19 +1,18 @@
 """The tables: each case, each group, and what they come to."""
 import statistics
 
-from cases import CASES, GROUPS
+from cases import APART_CASES, CASES, GROUPS
 
-HEAD = [
-    "case",
-    "kind",
-    "instructions, ours/original/third",
-    "ours/original",
-    "ours/third",
-    "ours/original without what it contains",
-    "nanoseconds, ours/original/third",
-    "ours/original",
-    "group",
-]
+HEAD = (
+    "case | kind | instructions, ours/original/third | ours/original | ours/third"
+    " | ours/original without what it contains | nanoseconds, ours/original/third | ours/original"
+    " | group"
+).split(" | ")
+# Of the cases beside plain Rust, for one byte.
+HEAD_APART = (
+    "case | bytes | instructions a byte, ours/plain/box | ours/plain | ours/box"
+    " | ns a byte, ours/plain/box | ours/plain | ours/box"
+).split(" | ")
 SIDES = ("ours", "original", "third")
 
 
@@ -80,6 +79,26 @@ def aligned(lines):
 
 def whole_table(rows):
     return aligned([HEAD, *(row.cells() for row in rows)])
+
+
+def cells_apart(sides, length):
+    """What each side takes for one byte, and the ratios of ours to the others."""
+    each = "/".join(f"{it / length:.2f}" for it in sides)
+    ratios = [f"{sides[0] / it:.2f}" for it in sides[1:]]
+    return [each, *ratios, "", ""][:3]
+
+
+def line_apart(case, kind, counted, times):
+    """A case at a length: the longest ones aren't counted."""
+    counts = [counted[it] for side in SIDES if (it := (case.name, kind.name, side)) in counted]
+    took = cells_apart(times[case.name, kind.name], kind.length)
+    return [case.name, f"{kind.length:,}", *cells_apart(counts, kind.length), *took]
+
+
+def table_apart(counted, times):
+    """The table of the cases beside plain Rust."""
+    lines = [line_apart(case, kind, counted, times) for case in APART_CASES for kind in case.kinds]
+    return aligned([HEAD_APART, *lines])
 
 
 def extract(text):

@@ -1,53 +1,34 @@
 // The original's boxed arrays: boxes of arrays.
 
 #[inline(never)]
-fn boxed(seed: u64) -> Boxed {
-    Boxed::generate(|index| Item::make(seed, index))
+fn build(seed: u64) -> Array {
+    Array::generate(|index| Item::make(seed, index))
 }
 
-#[inline(never)]
-fn mapped(array: Boxed) -> Boxed {
-    array.map(|item: Item| Item::make(item.word().rotate_left(3), 1))
-}
-
-case!(map_boxed_of(sum), {
-    touch_items(sum, mapped(boxed(sum)).as_slice(), LENGTH)
+case!(map_boxed(sum), {
+    touch_items(sum, mapped(build(sum)).as_slice(), LENGTH)
 });
 
-#[inline(never)]
-fn zipped(left: Boxed, right: Boxed) -> Boxed {
-    left.zip(right, |left: Item, right: Item| {
-        Item::make(left.word() ^ right.word(), 2)
-    })
-}
-
-case!(zip_boxed_of(sum), {
-    touch_items(sum, zipped(boxed(sum), boxed(sum >> 3)).as_slice(), LENGTH)
+case!(zip_boxed(sum), {
+    touch_items(sum, zipped(build(sum), build(sum >> 3)).as_slice(), LENGTH)
 });
 
-#[inline(never)]
-fn summed(array: Boxed) -> u64 {
-    FunctionalSequence::fold(array, 0u64, |sum: u64, item: Item| {
-        sum.rotate_left(5) ^ item.word()
-    })
-}
+case!(fold_boxed(sum), { mixed(sum, summed(build(sum))) });
 
-case!(fold_boxed_of(sum), { mixed(sum, summed(boxed(sum))) });
-
-// A borrowed box is mapped and zipped to a box by a build of its indexes: `map` of a reference makes an array.
+// Borrowed boxes are mapped and zipped by a build of indexes: `map` of a reference makes an array.
 
 #[inline(never)]
-fn mapped_ref(array: &Boxed) -> Boxed {
-    Boxed::generate(|index| Item::make(array[index].word().rotate_left(3), 1))
+fn mapped_ref(array: &Array) -> Array {
+    Array::generate(|index| Item::make(array[index].word().rotate_left(3), 1))
 }
 
-case!(map_ref_boxed_of(sum), poked(array = boxed(sum)), {
+case!(map_ref_boxed(sum), poked(array), {
     touch_items(sum, mapped_ref(&array).as_slice(), LENGTH)
 });
 
 #[inline(never)]
-fn tried_ref(array: &Boxed, bad: u64) -> Result<Result<Boxed, u64>, generic_array::AllocError> {
-    <Boxed as FallibleGenericSequence<Item>>::try_generate(|index| {
+fn tried_ref(array: &Array, bad: u64) -> Result<Result<Array, u64>, generic_array::AllocError> {
+    <Array as FallibleGenericSequence<Item>>::try_generate(|index| {
         let word = array[index].word();
         if word == bad {
             Err(word)
@@ -57,7 +38,7 @@ fn tried_ref(array: &Boxed, bad: u64) -> Result<Result<Boxed, u64>, generic_arra
     })
 }
 
-case!(try_map_ref_boxed_of(sum), poked(array = boxed(sum)), {
+case!(try_map_ref_boxed(sum), poked(array), {
     match tried_ref(&array, sum ^ 0x0F00_0000_0000_0000) {
         Ok(Ok(made)) => touch_items(sum, made.as_slice(), LENGTH),
         Ok(Err(_)) => 1,
@@ -66,117 +47,69 @@ case!(try_map_ref_boxed_of(sum), poked(array = boxed(sum)), {
 });
 
 #[inline(never)]
-fn zipped_ref(left: &Boxed, right: &Boxed) -> Boxed {
-    Boxed::generate(|index| Item::make(left[index].word() ^ right[index].word(), 2))
+fn zipped_ref(left: &Array, right: &Array) -> Array {
+    Array::generate(|index| Item::make(left[index].word() ^ right[index].word(), 2))
 }
 
-case!(
-    zip_ref_boxed_of(sum),
-    poked(left = boxed(sum)),
-    made(right = boxed(sum >> 3)),
-    { touch_items(sum, zipped_ref(&left, &right).as_slice(), LENGTH) }
-);
+case!(zip_ref_boxed(sum), poked(left), kept(right), {
+    touch_items(sum, zipped_ref(&left, &right).as_slice(), LENGTH)
+});
 
 #[inline(never)]
-fn summed_ref(array: &Boxed) -> u64 {
+fn summed_ref(array: &Array) -> u64 {
     FunctionalSequence::fold(&**array, 0u64, |sum: u64, item: &Item| {
         sum.rotate_left(5) ^ item.word()
     })
 }
 
-case!(fold_ref_boxed_of(sum), poked(array = boxed(sum)), {
+case!(fold_ref_boxed(sum), poked(array), {
     mixed(sum, summed_ref(&array))
 });
 
-case!(boxed_generate_of(sum), {
-    touch_items(sum, boxed(sum).as_slice(), LENGTH)
+case!(boxed_generate(sum), {
+    touch_items(sum, build(sum).as_slice(), LENGTH)
 });
 
 #[inline(never)]
-fn filled(seed: u64) -> Result<Boxed, LengthError> {
+fn filled(seed: u64) -> Result<Array, LengthError> {
     GenericArray::try_boxed_from_iter((0..LENGTH).map(|index| Item::make(seed, index)))
 }
 
-case!(boxed_from_iter_of(sum), {
+case!(boxed_from_iter(sum), {
     filled(sum).map_or(1, |array| touch_items(sum, array.as_slice(), LENGTH))
 });
 
-#[inline(never)]
-fn front(array: Boxed) -> u64 {
-    let mut sum = 0u64;
-    for item in array {
-        sum = sum.rotate_left(5) ^ item.word();
-    }
-    sum
-}
+case!(boxed_front(sum), { mixed(sum, front(build(sum))) });
 
-case!(boxed_front_of(sum), { mixed(sum, front(boxed(sum))) });
+case!(boxed_back(sum), { mixed(sum, back(build(sum))) });
 
-#[inline(never)]
-fn back(array: Boxed) -> u64 {
-    let mut sum = 0u64;
-    for item in array.into_iter().rev() {
-        sum = sum.rotate_left(5) ^ item.word();
-    }
-    sum
-}
+case!(boxed_both(sum), { mixed(sum, both(build(sum))) });
 
-case!(boxed_back_of(sum), { mixed(sum, back(boxed(sum))) });
-
-#[inline(never)]
-fn both(array: Boxed) -> u64 {
-    let mut sum = 0u64;
-    let mut items = array.into_iter();
-    for _pair in 0..LENGTH / 2 {
-        if let Some(item) = items.next() {
-            sum = sum.rotate_left(5) ^ item.word();
-        }
-        if let Some(item) = items.next_back() {
-            sum = sum.rotate_left(5) ^ item.word();
-        }
-    }
-    sum
-}
-
-case!(boxed_both_of(sum), { mixed(sum, both(boxed(sum))) });
-
-#[inline(never)]
-fn each_fourth(array: Boxed) -> u64 {
-    let mut sum = 0u64;
-    let mut items = array.into_iter();
-    for _step in 0..LENGTH / 4 {
-        if let Some(item) = items.nth(3) {
-            sum = sum.rotate_left(5) ^ item.word();
-        }
-    }
-    sum
-}
-
-case!(boxed_nth3_of(sum), { mixed(sum, each_fourth(boxed(sum))) });
+case!(boxed_nth3(sum), { mixed(sum, each_fourth(build(sum))) });
 
 #[inline(never)]
 fn copied(items: &std::vec::IntoIter<Item>) -> std::vec::IntoIter<Item> {
     items.clone()
 }
 
-case!(boxed_clone_of(sum), {
-    touch_items(sum, copied(&boxed(sum).into_iter()).as_slice(), LENGTH)
+case!(boxed_clone(sum), {
+    touch_items(sum, copied(&build(sum).into_iter()).as_slice(), LENGTH)
 });
 
 #[inline(never)]
-fn listed(array: Boxed) -> Vec<Item> {
+fn listed(array: Array) -> Vec<Item> {
     array.into_vec()
 }
 
-case!(boxed_into_vec_of(sum), {
-    touch_items(sum, &listed(boxed(sum)), LENGTH)
+case!(boxed_into_vec(sum), {
+    touch_items(sum, &listed(build(sum)), LENGTH)
 });
 
 #[inline(never)]
-fn back_again(array: Boxed) -> Result<Boxed, LengthError> {
+fn back_again(array: Array) -> Result<Array, LengthError> {
     GenericArray::try_from_boxed_slice(array.into_boxed_slice())
 }
 
-case!(boxed_slice_of(sum), {
-    back_again(boxed(sum)).map_or(2, |array| touch_items(sum, array.as_slice(), LENGTH))
+case!(boxed_slice(sum), {
+    back_again(build(sum)).map_or(2, |array| touch_items(sum, array.as_slice(), LENGTH))
 });

@@ -122,8 +122,8 @@ macro_rules! applies {
     };
 }
 
-applies!(cipher_of, applied);
-applies!(cipher_pieces_of, applied_in_pieces);
+applies!(cipher, applied);
+applies!(cipher_pieces, applied_in_pieces);
 
 /// XTEA: 32 cycles, each of two rounds, under a key of four words.
 struct Xtea {
@@ -168,7 +168,7 @@ fn blocks<const LENGTH: usize>(seed: u64) -> Vec<[u8; 8]> {
 }
 
 case!(
-    cipher_blocks_of::<LENGTH>(sum),
+    cipher_blocks::<LENGTH>(sum),
     made(
         cipher = Xtea::new(&bytes(sum)),
         blocks = blocks::<LENGTH>(sum)

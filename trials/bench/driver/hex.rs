@@ -32,7 +32,7 @@ fn plain(array: &Array, text: &mut String, digits: &[u8; 16]) -> bool {
 
 macro_rules! writes {
     ($name:ident, $write:ident $(, $digits:expr)?) => {
-        case!($name(sum), poked(array = build(sum)), made(text = String::new()), {
+        case!($name(sum), poked(array), made(text = String::new()), {
             text.clear();
             let is_written = $write(&array, &mut text $(, $digits)?);
             touch_done(sum, text.as_bytes(), LENGTH, is_written)
@@ -40,7 +40,7 @@ macro_rules! writes {
     };
 }
 
-writes!(hex_lower_of, lower);
-writes!(hex_upper_of, upper);
+writes!(hex_lower, lower);
+writes!(hex_upper, upper);
 writes!(hex_lower_by_table, plain, b"0123456789abcdef");
 writes!(hex_upper_by_table, plain, b"0123456789ABCDEF");

@@ -1,4 +1,4 @@
-// Two slices in an array of the original's, and vectors of std that have room for as many items as an array.
+// Slices in arrays of the original's, and vectors of std that have room for as many items.
 
 #[inline(never)]
 fn joined_slices(first: &[Item], second: &[Item]) -> Array {
@@ -9,7 +9,7 @@ fn joined_slices(first: &[Item], second: &[Item]) -> Array {
     array
 }
 
-case!(list_joined_of(sum), poked(array = build(sum)), {
+case!(list_joined(sum), poked(array), {
     let (first, second) = array.split_at(LENGTH / 2);
     touch(sum, &joined_slices(first, second))
 });
@@ -21,7 +21,7 @@ fn cloned_items(items: &[Item]) -> Array {
     array
 }
 
-case!(list_cloned_of(sum), poked(array = build(sum)), {
+case!(list_cloned(sum), poked(array), {
     touch(sum, &cloned_items(&array))
 });
 
@@ -43,7 +43,7 @@ fn edited(list: &mut Vec<Item>, to: usize, from: usize, item: Item) -> u64 {
     list.remove(from).word()
 }
 
-case!(list_edit_of(sum), made(list = list_of(&build(sum))), {
+case!(list_edit(sum), made(list = list_of(&build(sum))), {
     let within = (LENGTH / 2).saturating_sub(1);
     let to = (sum >> 20) as usize & within;
     let from = (sum >> 40) as usize & within;
@@ -58,16 +58,11 @@ fn cut_and_filled(list: &mut Vec<Item>, len: usize, items: &[Item]) {
     }
 }
 
-case!(
-    list_cut_of(sum),
-    poked(array = build(sum)),
-    made(list = list_of(&array)),
-    {
-        let (first, _second) = array.split_at(LENGTH / 2);
-        cut_and_filled(&mut list, LENGTH / 2, first);
-        match list.last() {
-            Some(item) => mixed(sum, item.word()),
-            None => 1,
-        }
+case!(list_cut(sum), poked(array), made(list = list_of(&array)), {
+    let (first, _second) = array.split_at(LENGTH / 2);
+    cut_and_filled(&mut list, LENGTH / 2, first);
+    match list.last() {
+        Some(item) => mixed(sum, item.word()),
+        None => 1,
     }
-);
+});

@@ -91,11 +91,7 @@ impl Case {
     fn time(&self, rounds: u64) {
         let sides = self.sides();
         let repeats = self.repeats_of_a_millisecond();
-        let rounds = if self.is_huge() {
-            rounds.min(5)
-        } else {
-            rounds
-        };
+        let rounds = rounds.min(if self.is_huge() { 5 } else { u64::MAX });
         let mut times = vec![vec![]; sides.len()];
         for round in 0..rounds {
             for ((_, side), times) in sides.iter().zip(&mut times) {
@@ -111,12 +107,8 @@ impl Case {
     }
 
     fn nanoseconds_of_one(&self, side: Side, seed: u64, repeats: u64) -> f64 {
-        let before = if self.is_apart {
-            nanoseconds(side, seed, 0)
-        } else {
-            0.0
-        };
-        (nanoseconds(side, seed, repeats) - before) / repeats as f64
+        let before = self.is_apart.then(|| nanoseconds(side, seed, 0));
+        (nanoseconds(side, seed, repeats) - before.unwrap_or(0.0)) / repeats as f64
     }
 
     fn repeats_of_a_millisecond(&self) -> u64 {

@@ -12,6 +12,8 @@ macro_rules! kind {
             type Array = [$item; LENGTH];
             const LENGTH: usize = $length;
             include!("native_builds.rs");
+            include!("original_and_native.rs");
+            include!("by_value.rs");
             include!("arrays.rs");
         }
     };

@@ -10,6 +10,12 @@ use std::fmt::Write;
 
 type U2000 = Sum<U1024, Sum<U512, Sum<U256, Sum<U128, Sum<U64, U16>>>>>;
 type U4099 = Sum<U4096, U3>;
+type ChunksRef<T, N> = GenericArray<T, N>;
+
+/// A place that only the seed tells.
+fn place<T, N: Unsigned>(seed: u64) -> usize {
+    (seed as usize) & N::USIZE.saturating_sub(1)
+}
 
 macro_rules! arrays {
     ($kind:ident, $item:ty, $length:ty, half $half:ty, rows $rows:ty, width $width:ty) => {
@@ -21,15 +27,27 @@ macro_rules! arrays {
             type HalfLength = $half;
             type Half = GenericArray<Item, HalfLength>;
             type Rows = GenericArray<GenericArray<Item, $width>, $rows>;
+            type Longer = GenericArray<Item, Add1<Length>>;
+            type Shorter = GenericArray<Item, Sub1<Length>>;
+            type Joined = GenericArray<Item, Sum<Length, Length>>;
             const LENGTH: usize = <$length>::USIZE;
             const ROWS: usize = <$rows>::USIZE;
-            include!("original_builds.rs");
+            include!("builds.rs");
+            include!("original_and_native.rs");
+            include!("by_value.rs");
             include!("arrays.rs");
+            include!("original_by_value.rs");
             include!("closures.rs");
-            include!("plain.rs");
+            include!("closure_cases.rs");
+            // What stands beside our calls in plain types.
+            pub use self::{
+                map as map_inline, map_view as map_inline_ref, try_map as try_map_inline,
+                zip as zip_inline, zip_view as zip_inline_ref,
+            };
             include!("shapes.rs");
-            include!("conversions.rs");
-            include!("rows.rs");
+            include!("concrete.rs");
+            include!("row_sums.rs");
+            include!("original_calls.rs");
             include!("lists.rs");
         }
     };
@@ -47,8 +65,10 @@ macro_rules! boxes {
         pub mod $kind {
             use super::super::*;
             type Item = $item;
-            type Boxed = Box<GenericArray<$item, $length>>;
+            type Array = Box<GenericArray<$item, $length>>;
             const LENGTH: usize = <$length>::USIZE;
+            include!("by_value.rs");
+            include!("original_by_value.rs");
             include!("boxed.rs");
         }
     };
@@ -98,10 +118,11 @@ macro_rules! tuples {
             fn tuple(seed: u64) -> Tuple {
                 ($(Item::make(seed, $place),)+)
             }
-            fn ends(tuple: &Tuple) -> u64 {
-                tuple.0.word() ^ tuple.$last.word()
-            }
             include!("tuples.rs");
+            case!(into_tuple(sum), {
+                let made = tuple_of(array_of(tuple(sum)));
+                mixed(sum, made.0.word() ^ made.$last.word())
+            });
         }
     };
 }

@@ -10,25 +10,7 @@ fn added(sum: u64, item: u8) -> u64 {
     sum.rotate_left(5) ^ item.word()
 }
 
-/// Takes all and counts the bytes. It adds the first of each piece, so that the digits are needed.
-struct Counted {
-    count: usize,
-}
-
-impl Write for Counted {
-    #[inline(never)]
-    fn write(&mut self, bytes: &[u8]) -> io::Result<usize> {
-        if let Some(first) = bytes.first() {
-            self.count = self.count.wrapping_add(usize::from(*first));
-        }
-        self.count = self.count.wrapping_add(bytes.len());
-        Ok(bytes.len())
-    }
-
-    fn flush(&mut self) -> io::Result<()> {
-        Ok(())
-    }
-}
+include!("counted.rs");
 
 const DIGITS: &[u8; 16] = b"0123456789abcdef";
 
@@ -56,13 +38,13 @@ fn digits_of(items: &[u8]) -> usize {
 
 macro_rules! calls {
     () => {
-        case!(scale_build_of::<LENGTH>(sum), {
+        case!(scale_build::<LENGTH>(sum), {
             let items = build::<LENGTH>(sum);
             touch_items(sum, &items[..], LENGTH)
         });
 
         case!(
-            scale_map_of::<LENGTH>(sum),
+            scale_map::<LENGTH>(sum),
             made(items = build::<LENGTH>(sum)),
             {
                 items = mapped(items);
@@ -70,12 +52,12 @@ macro_rules! calls {
             }
         );
 
-        case!(scale_build_fold_of::<LENGTH>(sum), {
+        case!(scale_build_fold::<LENGTH>(sum), {
             mixed(sum, folded(build::<LENGTH>(sum)))
         });
 
         case!(
-            scale_hex_of::<LENGTH>(sum),
+            scale_hex::<LENGTH>(sum),
             made(items = build::<LENGTH>(sum)),
             { mixed(sum, digits_of(&items[..]) as u64) }
         );

@@ -1,95 +1,84 @@
-// The original's arrays made of the items of others.
+// Arrays made of the items of others.
 
-#[inline(never)]
-fn appended(array: Array, item: Item) -> GenericArray<Item, Add1<Length>> {
+#[inline(never)] // requires longer
+fn appended(array: Array, item: Item) -> Longer {
     array.append(item)
 }
 
-case!(append_of(sum), {
-    touch(sum, &appended(build(sum), Item::make(sum, 9)))
+case!(append(sum), each(array), {
+    let longer: Longer = appended(array, Item::make(sum, 9));
+    touch(sum, &longer)
 });
 
-#[inline(never)]
-fn prepended(array: Array, item: Item) -> GenericArray<Item, Add1<Length>> {
+#[inline(never)] // requires longer
+fn prepended(array: Array, item: Item) -> Longer {
     array.prepend(item)
 }
 
-case!(prepend_of(sum), {
-    touch(sum, &prepended(build(sum), Item::make(sum, 9)))
+case!(prepend(sum), each(array), {
+    let longer: Longer = prepended(array, Item::make(sum, 9));
+    touch(sum, &longer)
 });
 
-#[inline(never)]
-fn without_back(array: Array) -> (GenericArray<Item, Sub1<Length>>, Item) {
+#[inline(never)] // requires shorter
+fn without_back(array: Array) -> (Shorter, Item) {
     array.pop_back()
 }
 
-case!(pop_back_of(sum), {
-    let array = build(sum);
-    let (shorter, item) = without_back(array);
+case!(pop_back(sum), each(array), {
+    let (shorter, item): (Shorter, Item) = without_back(array);
     mixed(touch(sum, &shorter), item.word())
 });
 
-#[inline(never)]
-fn without_front(array: Array) -> (Item, GenericArray<Item, Sub1<Length>>) {
+#[inline(never)] // requires shorter
+fn without_front(array: Array) -> (Item, Shorter) {
     array.pop_front()
 }
 
-case!(pop_front_of(sum), {
-    let array = build(sum);
-    let (item, shorter) = without_front(array);
+case!(pop_front(sum), each(array), {
+    let (item, shorter): (Item, Shorter) = without_front(array);
     mixed(touch(sum, &shorter), item.word())
 });
 
-#[inline(never)]
-fn without(array: Array, at: usize) -> (Item, GenericArray<Item, Sub1<Length>>) {
+#[inline(never)] // requires shorter, in_bounds
+fn without(array: Array, at: usize) -> (Item, Shorter) {
+    //@ let _ = array.as_slice();
     array.remove(at)
 }
 
-case!(remove_of(sum), {
-    let array = build(sum);
-    let at = (sum as usize) & (LENGTH - 1);
+case!(remove(sum), each(array), then {
+    let at = place::<Item, Length>(sum);
     if at < LENGTH {
-        let (item, shorter) = without(array, at);
-        mixed(touch(sum, &shorter), item.word())
-    } else {
-        sum
+        let (item, shorter): (Item, Shorter) = without(array, at);
+        sum = mixed(touch(sum, &shorter), item.word());
     }
 });
 
-#[inline(never)]
-fn swapped_out(array: Array, at: usize) -> (Item, GenericArray<Item, Sub1<Length>>) {
+#[inline(never)] // requires shorter, in_bounds
+fn swapped_out(array: Array, at: usize) -> (Item, Shorter) {
+    //@ let _ = array.as_slice();
     array.swap_remove(at)
 }
 
-case!(swap_remove_of(sum), {
-    let array = build(sum);
-    let at = (sum as usize) & (LENGTH - 1);
+case!(swap_remove(sum), each(array), then {
+    let at = place::<Item, Length>(sum);
     if at < LENGTH {
-        let (item, shorter) = swapped_out(array, at);
-        mixed(touch(sum, &shorter), item.word())
-    } else {
-        sum
+        let (item, shorter): (Item, Shorter) = swapped_out(array, at);
+        sum = mixed(touch(sum, &shorter), item.word());
     }
 });
 
-#[inline(never)]
-fn joined(left: Array, right: Array) -> GenericArray<Item, Sum<Length, Length>> {
+#[inline(never)] // requires both
+fn joined(left: Array, right: Array) -> Joined {
     left.concat(right)
 }
 
-case!(concat_of(sum), {
-    let left = build(sum);
-    let right = build(sum >> 3);
-    touch(sum, &joined(left, right))
+case!(concat(sum), each(left, right), {
+    let both: Joined = joined(left, right);
+    touch(sum, &both)
 });
 
-#[inline(never)]
-fn cut(array: Array) -> (Half, Half) {
-    Split::<Item, HalfLength>::split(array)
-}
-
-case!(split_of(sum), {
-    let array = build(sum);
-    let (first, second) = cut(array);
+case!(split(sum), each(array), {
+    let (first, second): (Half, Half) = cut(array);
     touch(touch(sum, &first), &second)
 });

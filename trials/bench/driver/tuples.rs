@@ -1,17 +1,16 @@
-// The original's arrays made of tuples, and tuples of its arrays.
+// Arrays made of tuples, and tuples of arrays.
 
 #[inline(never)]
 fn array_of(tuple: Tuple) -> Array {
-    Array::from(tuple)
+    GenericArray::from(tuple)
 }
 
-case!(from_tuple_of(sum), { touch(sum, &array_of(tuple(sum))) });
+case!(from_tuple(sum), {
+    let array = array_of(tuple(sum));
+    touch(sum, &array)
+});
 
 #[inline(never)]
 fn tuple_of(array: Array) -> Tuple {
     array.into()
 }
-
-case!(into_tuple_of(sum), {
-    mixed(sum, ends(&tuple_of(array_of(tuple(sum)))))
-});

@@ -1,8 +1,8 @@
-// The rows of a slice, by the original.
+// The rows of a slice.
 
-#[inline(never)]
+#[inline(never)] // requires width
 fn row_sums(slice: &[Item]) -> u64 {
-    let (rows, rest) = Array::chunks_from_slice(slice);
+    let (rows, rest) = ChunksRef::<Item, Length>::chunks_from_slice(slice);
     let mut sum = 0u64;
     for row in rows.iter() {
         let mut part = 0u64;
@@ -16,9 +16,3 @@ fn row_sums(slice: &[Item]) -> u64 {
     }
     sum
 }
-
-case!(
-    rows_of(sum),
-    poked(array = GenericArray::<Item, U4099>::generate(|index| Item::make(sum, index))),
-    { mixed(sum, row_sums(array.as_slice())) }
-);

@@ -1,25 +1,4 @@
-// The builds of the original's arrays.
-
-#[inline(never)]
-fn build(seed: u64) -> Array {
-    GenericArray::generate(|index| Item::make(seed, index))
-}
-
-#[inline(never)]
-fn fill(seed: u64) -> Result<Array, LengthError> {
-    GenericArray::try_from_iter((0..LENGTH).map(|index| Item::make(seed, index)))
-}
-
-#[inline(never)]
-fn fill_fallibly(seed: u64, bad: usize) -> Result<Result<Array, usize>, LengthError> {
-    GenericArray::try_from_fallible_iter((0..LENGTH).map(|index| {
-        if index == bad {
-            Err(index)
-        } else {
-            Ok(Item::make(seed, index))
-        }
-    }))
-}
+// What the original calls in its own way.
 
 #[inline(never)]
 fn try_build(seed: u64, bad: usize) -> Result<Array, usize> {
@@ -34,11 +13,6 @@ fn try_build(seed: u64, bad: usize) -> Result<Array, usize> {
         Ok(built) => built,
         Err(never) => match never {},
     }
-}
-
-#[inline(never)]
-fn blank() -> Array {
-    GenericArray::default()
 }
 
 #[inline(never)]
@@ -74,10 +48,31 @@ fn built_in_two(seed: u64) -> Option<Array> {
 }
 
 #[inline(never)]
-fn table(seed: u64) -> GenericArray<GenericArray<u8, U4>, U4> {
-    GenericArray::generate(|row: usize| {
-        GenericArray::generate(|column: usize| {
-            u8::make(seed, row.wrapping_mul(4).wrapping_add(column))
-        })
-    })
+fn cut(array: Array) -> (Half, Half) {
+    Split::<Item, HalfLength>::split(array)
 }
+
+#[inline(never)]
+fn listed(array: Array) -> Vec<Item> {
+    Vec::from(array)
+}
+
+case!(into_vec(sum), each(array), {
+    touch_items(sum, &listed(array), LENGTH)
+});
+
+#[inline(never)]
+fn of_list(items: Vec<Item>) -> Result<Array, LengthError> {
+    Array::try_from(items)
+}
+
+case!(try_from_vec(sum), each(array), {
+    let items = listed(array);
+    of_list(items).map_or(2, |array| touch(sum, &array))
+});
+
+case!(
+    rows(sum),
+    poked(array = GenericArray::<Item, U4099>::generate(|index| Item::make(sum, index))),
+    { mixed(sum, row_sums(array.as_slice())) }
+);
