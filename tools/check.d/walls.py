@@ -10,10 +10,16 @@ checked again. All take ten to fifteen minutes of one core, where the libraries 
 import collections
 import pathlib
 import re
+import sys
 import tempfile
 
 from copies import TOP, copy_crates, take_proved, write
 from playing import run
+
+sys.path.insert(0, str(TOP / "tools" / "reference.d"))
+
+from imports import atoms_of, is_in
+from text import use_line
 
 CRATE, MEND = "walls", "_mend"
 LINE = f"{CRATE}: generic_array ga_core ga_boxed ga_views\n"
@@ -22,17 +28,45 @@ SEEN = re.compile(r"// (says|open): (.*)\n")
 OF = re.compile(rf"\bsrc/(\w+)\.rt|\b{CRATE}::(\w+)::|\bproofs/(\w+)/")
 ERROR, UNPROVED = re.compile(r": error(?:\[|:)"), re.compile(r": (?:no proof|not proved)\b")
 MOST = 600
+# What a module without imports may name, in its terms or else in its code, by where it is.
+IMPORTS = {
+    "Rattle.generic_array.specs.Fill": "TakeRuns",
+    "Rattle.generic_array.specs.Length": "FitsInline",
+    "Rattle.generic_array.specs.Rows": "chunk_count rows",
+    "Rattle.generic_array.specs.Views": "items_of_chunks items_of_view",
+    "Rattle.std.specs.Int": "from_be_bytes w16",
+    "Rattle.std.specs.Int.Bits": "bit_xor",
+    "Rattle.std.specs.List": "All list_any range_with_len starts_with",
+    "Rattle.std.specs.Prelude": "◌≡◌ ◌↔◌ ◌<◌ ◌≤◌ ◌+◌ ◌-◌ ◌*◌ ◌%◌ ◌^◌ ◌++◌ ◌∷◌ [] IfOk IsTrue OnErr OnOk"
+    " drop fold length map nat_eq replicate reverse slice_index slice_index_or slice_set sum take",
+    "generic_array": "AllocError ArrayBuilder ArrayLength BoxedArray ChunksMut ChunksRef Const"
+    " GenericArray GenericArrayMut GenericArrayRef InlineLength LengthError U2 U3 U4 U6 Unsigned",
+    "std::alloc": "Global", "std::marker": "Model PhantomData",
+}
 
 
 def plain(text):
     return " ".join(text.split())
 
 
+def with_imports(module):
+    """A module, behind the imports of what it names if it has none."""
+    docs, code = re.fullmatch(r"((?://!.*\n)*)([\s\S]*)", module).groups()
+    if re.match("(?:ghost )?use |$", code):
+        return module
+    lines, atoms, names = [], atoms_of(code), re.findall(r"\w+", code)
+    for path, known in IMPORTS.items():
+        kind, used = ("ghost use", atoms) if "." in path else ("use", names)
+        if named := [it for it in known.split() if is_in(it, used)]:
+            lines.append(use_line(kind, path, named))
+    return docs + "\n".join([*lines, "", code])
+
+
 def read(file):
     """The parts that are to be seen of a wall, its module, and that of its mend."""
     wall, _, mend = file.read_text("utf-8").partition("\n// mend\n")
     seen = [plain(it) if kind == "says" else f"(`{it}`)" for kind, it in SEEN.findall(wall)]
-    return seen, SEEN.sub("", wall) + "\n", mend
+    return seen, with_imports(SEEN.sub("", wall) + "\n"), with_imports(mend)
 
 
 def printed(said, modules):
