@@ -2,10 +2,11 @@
 
 A file NAME.rattle is a module. Its first lines tell what a check prints of it: `// says: ..` a part
 of a message, `// open: ..` the name of a goal. Behind a line `// mend` stands what to write
-instead, a module that must be proved, where no crate shows it. All are laid out as one crate over
-generic_array, beside the libraries that are proved in this checkout, and checked at once. A check
-ends before any proof where a module doesn't compile: its line is told then, and the others are
-checked again. All take ten to fifteen minutes of one core, where the libraries are proved.
+instead, a module that must be proved, where no crate shows it. A module that has no imports gets
+those of what it names. All are laid out as one crate over generic_array, beside the libraries that
+are proved in this checkout, and checked at once. A check ends before any proof where a module
+doesn't compile: its line is told then, and the others are checked again. All take ten to fifteen
+minutes of one core, where the libraries are proved.
 """
 import collections
 import pathlib

@@ -9,7 +9,7 @@ import functools
 import pathlib
 import re
 
-from beside import Samples, is_test
+from beside import is_test
 from meanings import LIBRARIES, WITH_A_PAGE, above, base_name, declared
 
 EXAMPLES = "_examples"
@@ -119,28 +119,27 @@ class Callers:
 
 
 @functools.lru_cache(None)
-def calls(site):
+def calls(names):
     """The public calls of the libraries, each with whether something calls it."""
-    samples = Samples(site)
-    callers = Callers(site, samples)
+    site = names.site
     above_them = [item for item in site.items if site.path(item.module)[0] not in LIBRARIES]
     functions = [Function(item) for item in
-                 samples.of(lambda crate: crate.endswith(EXAMPLES)) + above_them
+                 names.samples.of(lambda crate: crate.endswith(EXAMPLES)) + above_them
                  if item.kind == "fn" and not is_test(item)
                  and item.module.text[item.end - 1] == "}"]
     found = [item for item in site.shown() if item.kind in ("fn", "macro")
              and site.path(item.module)[0] in LIBRARIES and not site.is_law(item)
              and not (item.owner.kind == "impl" and item.owner.of_trait)]
-    return {item: any(callers.is_called(item, function, code, by_name=True)
+    return {item: any(names.callers.is_called(item, function, code, by_name=True)
                       for function in functions for code in function.before(item))
             for item in found}
 
 
-def uncalled(site):
+def uncalled(names):
     """Looks for a caller of each public call, and among those that have none for each pattern's."""
     lines = [line.partition("\t") for line in LIST.read_text("utf-8").splitlines()]
-    without = []
-    for item, is_called in calls(site).items():
+    without, site = [], names.site
+    for item, is_called in calls(names).items():
         name = site.full_name(item)
         without += [] if is_called else [name]
         listed = any(fnmatch.fnmatchcase(name, pattern) for pattern, _, _ in lines)

@@ -6,7 +6,6 @@ import re
 from callers import uncalled
 from checks_of_documents import dangling, misquoted, unrowed, unwritten
 from imports import unused
-from lookup import Names
 from meanings import LIBRARIES, WITH_A_PAGE
 from promise import stale, unkept
 from public import changed
@@ -38,9 +37,10 @@ def misled(names):
         yield None if right else f"tools/reference {name}: shows {shown[:80]}, not {wanted}"
 
 
-def unnamed(site):
+def unnamed(names):
     """Looks in the document that lists them for each public item of the port's crates, but for
     modules, laws, lengths, which it lists together, and what traits of others ask for."""
+    site = names.site
     text = " ".join((site.top / "docs" / "DIFFERENCES.md").read_text("utf-8").split())
     listed = {part for code in CODE.findall(text) for parts in names_in(code) for part in parts}
     endings = tuple(end for rule in ENDINGS.findall(text) for end in CODE.findall(rule))
@@ -75,30 +75,17 @@ def misfit(text, crate):
     return "" if texts else "it changes nothing"
 
 
-def unfit(site):
+def unfit(names):
     """Applies each wrong body, pair by pair."""
+    top = names.site.top
     for pattern, at in EDITS.items():
-        for edit in sorted(site.top.glob(pattern)):
-            place = edit.relative_to(site.top)
-            wrong = misfit(edit.read_text("utf-8"), site.top / "crates" / place.parts[at])
+        for edit in sorted(top.glob(pattern)):
+            place = edit.relative_to(top)
+            wrong = misfit(edit.read_text("utf-8"), top / "crates" / place.parts[at])
             yield f"{place}: {wrong}" if wrong else None
 
 
-# What each check looks at. Those of names ask as a reader of `tools/reference NAME` does.
-OF_SITE = {"examples": unwritten, "imports": unused, "public items": unnamed, "public": changed,
-           "wrong bodies": unfit, "callers": uncalled}
-OF_NAMES = {"names": misled, "promise": unkept, "page": stale, "contracts": misquoted,
-            "walls": unrowed, "documents": dangling}
-
-
-def check(site):
-    """Prints what is wrong, and how much each check passes, and tells whether nothing is wrong."""
-    names = Names(site)
-    tried = {name: list(part(site)) for name, part in OF_SITE.items()}
-    tried |= {name: list(part(names)) for name, part in OF_NAMES.items()}
-    failures = [found for each in tried.values() for found in each if found]
-    print("".join(f"{failure}\n" for failure in failures), end="")
-    passed = {name: each.count(None) for name, each in tried.items()}
-    print("".join(f"{name}: {count} passed\n" for name, count in passed.items()), end="")
-    print(f"reference: {sum(passed.values())} passed, {len(failures)} failed")
-    return not failures
+# The checks by their names. Those of names ask as a reader of `tools/reference NAME` does.
+CHECKS = {"examples": unwritten, "imports": unused, "public items": unnamed, "public": changed,
+          "wrong bodies": unfit, "callers": uncalled, "names": misled, "promise": unkept,
+          "page": stale, "contracts": misquoted, "walls": unrowed, "documents": dangling}

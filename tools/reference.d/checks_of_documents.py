@@ -39,17 +39,17 @@ BELOW = re.compile(r"(?:^\w+|[)\]]\??)\.|^(?:[A-Z]|Self)::")
 INDEXED = re.compile(r"&?[a-z]\w*\[")
 
 
-def unwritten(site):
+def unwritten(names):
     """Looks for each part of an example, but for its imports, in the crates."""
-    files = sorted((site.top / "crates").glob("*/src/**/*.rt"))
-    sources = [LAYOUT.sub("", file.read_text("utf-8")) for file in files]
-    documents = [site.top / "README.md", *(site.top / "docs").glob("*.md"),
-                 *(site.top / "crates").glob("*/README.md")]
-    for document in sorted(documents):
+    top = names.site.top
+    sources = [LAYOUT.sub("", it.read_text("utf-8")) for it in top.glob("crates/*/src/**/*.rt")]
+    documents = (file for it in ("README.md", "docs/*.md", "crates/*/README.md")
+                 for file in sorted(top.glob(it)))
+    for document in documents:
         text = document.read_text("utf-8")
         for example in EXAMPLE.finditer(text):
             line = text.count("\n", 0, example.start(1)) + 1
-            place = f"{document.relative_to(site.top)}:{line}"
+            place = f"{document.relative_to(top)}:{line}"
             code = re.sub(r"(?m)^(?:ghost )?use .*\n", "", example[1])
             for part in filter(None, map(str.strip, re.split(r"\n\n+", code))):
                 stands = any(LAYOUT.sub("", part) in source for source in sources)

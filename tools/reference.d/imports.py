@@ -26,13 +26,14 @@ def is_in(name, atoms):
     return name in atoms or all(piece in atoms for piece in name.split("◌") if piece)
 
 
-def unused(site):
+def unused(names):
     """Looks for each imported word in the terms of its file."""
-    for file in sorted((site.top / "crates").glob("*/src/**/*.rt")):
+    top = names.site.top
+    for file in sorted((top / "crates").glob("*/src/**/*.rt")):
         text = file.read_text("utf-8")
         atoms = atoms_of(text)
         for use in re.finditer(r"(?m)^ *ghost use [^;]*;", text):
             line = text.count("\n", 0, use.start()) + 1
-            place = f"{file.relative_to(site.top)}:{line}"
+            place = f"{file.relative_to(top)}:{line}"
             for name in imports_of(use[0]):
                 yield None if is_in(name, atoms) else f"{place}: {name} is imported and not used"

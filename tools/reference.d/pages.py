@@ -12,7 +12,6 @@ from jinja2 import Environment, FileSystemLoader, StrictUndefined
 from markupsafe import Markup
 
 from beside import code_of
-from lookup import Names
 from meanings import WITH_A_PAGE, Scope
 from promise import TITLE, carriers
 from rows import CODE, OF_RUST, rows
@@ -32,8 +31,9 @@ DECLARED = re.compile(
 class Pages:
     """The pages, and the links between them."""
 
-    def __init__(self, site, folder):
-        self.site, self.folder, self.depth, self.std = site, folder, 0, {}
+    def __init__(self, names, folder):
+        self.names, self.site, self.folder, self.depth, self.std = names, names.site, folder, 0, {}
+        site = self.site
         self.markdown = markdown.Markdown(extensions=["fenced_code", "tables"])
         # A `<` outside of code is text: docs have no HTML of their own.
         self.markdown.preprocessors.deregister("html_block")
@@ -50,7 +50,6 @@ class Pages:
         # The list of the Rust crate's names without its links to files, and what stands on what.
         self.rust_text = re.sub(r"\[([^\]]*)\]\([^)]*\)", r"\1", rust)
         self.crates_drawn = re.search(r"(?ms)^```text\n(.*?)^```", architecture)[1]
-        self.names = Names(site)
         self.promise_title = TITLE
         self.promise = [(text, items.values()) for text, items in carriers(self.names)]
         self.templates = Environment(loader=FileSystemLoader(TEMPLATES), trim_blocks=True,

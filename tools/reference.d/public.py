@@ -11,11 +11,11 @@ LIST = pathlib.Path(__file__).resolve().parent / "public.txt"
 HEAD = "Public types, their traits, and behind a bar their calls that nothing calls: --write-public"
 
 
-def lines_of(site):
+def lines_of(names):
     """The lines of the list. A trait that a type has by several impls has their number."""
     yield HEAD
-    uncalled = collections.defaultdict(list)
-    for item, is_called in calls(site).items():
+    uncalled, site = collections.defaultdict(list), names.site
+    for item, is_called in calls(names).items():
         uncalled[item.of_whom] += [] if is_called else [item.name]
     for item in site.items:
         if item.kind == "mod" or item.home and item.kind in WITH_A_PAGE:
@@ -27,14 +27,14 @@ def lines_of(site):
             yield from textwrap.wrap(line, 100, subsequent_indent="    ") if told else ()
 
 
-def write_public(site):
+def write_public(names):
     """Writes the list."""
-    LIST.write_text("".join(f"{line}\n" for line in lines_of(site)), "utf-8")
+    LIST.write_text("".join(f"{line}\n" for line in lines_of(names)), "utf-8")
 
 
-def changed(site):
+def changed(names):
     """Looks for each line in the list, and for each of its lines in the sources."""
-    listed, now = LIST.read_text("utf-8").splitlines(), [*lines_of(site)]
+    listed, now = LIST.read_text("utf-8").splitlines(), [*lines_of(names)]
     for line in dict.fromkeys([*listed, *now]):
         where = "the sources lack" if line in listed else f"{LIST.name} lacks"
         right = line in listed and line in now

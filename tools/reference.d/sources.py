@@ -4,7 +4,10 @@ import collections
 import functools
 import inspect
 import json
+import pathlib
 import re
+import shutil
+import subprocess
 import textwrap
 
 # What a scan stops at: texts, characters and comments, then brackets and ends.
@@ -198,6 +201,14 @@ def items_of(text, file, owner=None, at=0, end=None):
             item.head, item.made = macro_head(name, body), MADE.findall(body)
         yield item
         above = ABOVE.match(text, at, end)
+
+
+def toolchain():
+    """The folder of the toolchain's sources, or None where there is no `rt`."""
+    if not shutil.which("rt"):
+        return None
+    said = subprocess.run(["rt", "doc"], capture_output=True, text=True).stdout
+    return pathlib.Path(said.split("\n")[0]).parent / "rattle"
 
 
 class Library:
