@@ -15,7 +15,7 @@ from rows import CODE, names_in
 NAMES, TELLS = pathlib.Path(__file__).resolve().parent / "rust_names.txt", "tells "
 # The wrong bodies that the gate tries, and those that it leaves out, each with where its path names
 # the crate.
-EDITS = {"crates/*/must-fail/*.edit": 1, "tools/twins/*/*.edit": 2}
+EDITS = {"crates/*/must-fail/*.edit": 1, "tools/twins/*/**/*.edit": 2}
 # The crates of the port, and a rule by which DIFFERENCES names many at once: what ends so is named.
 PORT = (*LIBRARIES, "ga_records", "ga_rows")
 ENDINGS = re.compile(r"\bends in ((?:`_\w+`(?:, | or | and )?)+)")
@@ -55,6 +55,13 @@ def unnamed(names):
                 yield None if by_rule or item.name in listed or site.is_law(item) else wrong
 
 
+def text_of(edit):
+    """The text of an edit, with the file that it changes: in tools/twins its folder names it."""
+    text, folder = edit.read_text("utf-8"), edit.parent.as_posix().rpartition("/twins/")[2]
+    is_whole = text.startswith("file: ")
+    return text if is_whole else f"file: src/{folder.partition('/')[2]}.rt\n{text}"
+
+
 def misfit(text, crate):
     """Why an edit doesn't fit the files of its crate, by the rule that `rt help` tells, or
     nothing."""
@@ -81,7 +88,7 @@ def unfit(names):
     for pattern, at in EDITS.items():
         for edit in sorted(top.glob(pattern)):
             place = edit.relative_to(top)
-            wrong = misfit(edit.read_text("utf-8"), top / "crates" / place.parts[at])
+            wrong = misfit(text_of(edit), top / "crates" / place.parts[at])
             yield f"{place}: {wrong}" if wrong else None
 
 

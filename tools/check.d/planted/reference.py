@@ -23,7 +23,7 @@ PLANTED = {
     "tools/walls/rowless.rattle": "// says: it isn't there\n",
     "tools/reference.d/passes.txt": "examples: 100000 passed\npage: 0 passed\n",
     "tools/twins/ga_views/twice.edit": EDIT.format("array_ref", "pub fn"),
-    "tools/twins/ga_views/no_file.edit": EDIT.format("none", "pub fn"),
+    "tools/twins/ga_views/none/no_file.edit": "old: pub fn\nnew: nothing\n",
     "crates/ga_views/must-fail/nowhere.edit": EDIT.format("array_ref", "no such text"),
     "crates/ga_views/must-fail/empty.edit": "",
 }
@@ -36,7 +36,7 @@ TOLD = {
                " anew"],
     "walls": ["tools/walls/rowless.rattle: no row of STUCK.md is seen so"],
     "wrong bodies": ["twins/ga_views/twice.edit: src/array_ref.rt has 10 times, not once: pub fn",
-                     "twins/ga_views/no_file.edit: no old line, or no file src/none.rt",
+                     "twins/ga_views/none/no_file.edit: no old line, or no file src/none.rt",
                      "nowhere.edit: src/array_ref.rt has 0 times, not once: no such text",
                      "must-fail/empty.edit: it changes nothing"],
     "callers": ["nothing calls planted", "arr! has a caller, or nothing says why"],
