@@ -19,8 +19,7 @@ from playing import run
 
 sys.path.insert(0, str(TOP / "tools" / "start.d"))
 
-from crates import LICENSE, LIST, ON, OURS, line_of, needed, texts_of
-from taking import is_proved, library
+from crates import LICENSE, LIST, ON, OURS, is_proved, library, line_of, needed, texts_of
 
 # Calls that must be refused: what they are, their words, a part of what is said.
 BAD_CALLS = [

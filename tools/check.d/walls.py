@@ -19,8 +19,7 @@ from playing import run
 
 sys.path.insert(0, str(TOP / "tools" / "reference.d"))
 
-from imports import atoms_of, is_in
-from sources import imports_of
+from sources import atoms_of, imports_of, is_in
 from text import use_line
 
 CRATE, MEND = "walls", "_mend"

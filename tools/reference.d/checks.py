@@ -5,11 +5,11 @@ import re
 
 from callers import uncalled
 from checks_of_documents import dangling, misquoted, unrowed, unwritten
-from imports import unused
 from meanings import LIBRARIES, WITH_A_PAGE
 from promise import stale, unkept
 from public import changed
 from rows import CODE, names_in
+from sources import atoms_of, imports_of, is_in
 
 # A name of each kind that readers look up, with the item that it leads to, or what its row tells.
 NAMES, TELLS = pathlib.Path(__file__).resolve().parent / "rust_names.txt", "tells "
@@ -35,6 +35,19 @@ def misled(names):
         tells = wanted.startswith(TELLS) and shown.startswith(TELLS)
         right = wanted.removeprefix(TELLS) in shown if tells else shown == wanted
         yield None if right else f"tools/reference {name}: shows {shown[:80]}, not {wanted}"
+
+
+def unused(names):
+    """Looks for each imported word in the terms of its file."""
+    top = names.site.top
+    for file in sorted((top / "crates").glob("*/src/**/*.rt")):
+        text = file.read_text("utf-8")
+        atoms = atoms_of(text)
+        for use in re.finditer(r"(?m)^ *ghost use [^;]*;", text):
+            line = text.count("\n", 0, use.start()) + 1
+            place = f"{file.relative_to(top)}:{line}"
+            for name in imports_of(use[0]):
+                yield None if is_in(name, atoms) else f"{place}: {name} is imported and not used"
 
 
 def unnamed(names):

@@ -2,11 +2,10 @@
 import re
 
 from beside import code_of, is_declared, is_test
-from imports import atoms_of, is_in
 from layout import indented, laid_out, one_line, prose
 from lookup import impl_of
 from meanings import WITH_A_PAGE, base_name, declared, header
-from sources import imports_of
+from sources import atoms_of, imports_of, is_in
 from text import Text, becomes, first_sentence, use_line
 
 # What a module's lists are called, in their order.

@@ -46,6 +46,12 @@ DEFINED = re.compile(
     r"|(?P<head> *(?:(?:abbrev|unfoldable|pub|record|data|axiom) )*"
     r"(?!--|use |mod |module )(?P<name>[^\s({]+)(?:(?:\n *| ?)[({].*?[)}])*(?:\n +| ):(?: .*|$)"
     r"(?:\n(?:(?P=indent)(?: .*|(?P=name)(?: .*|$))| *$))*))")
+# What stands before the `{` of a term: of a clause, or of a ghost member's type or value.
+TERM = re.compile(
+    r"\b(?:requires|ensures)\*?\s*\w*\s*(?={)"
+    r"|\bghost \w+\s*[:=]\s*(?={)"
+    r"|(?<=})\s*=\s*(?={)")
+ATOM = re.compile(r"[^\s(){},;]+")
 
 # The crates of the toolchain that std is made of.
 STD = ("core", "std", "std_alloc", "std_heap", "std_io")
@@ -108,6 +114,21 @@ def parted(text, separator=","):
     return [part.strip() for part in marked.split("\0") if part.strip()]
 
 
+def atoms_of(text):
+    """What stands in the terms of code: names, and the parts in front of their dots."""
+    def blank(sign):
+        return re.sub(r"[^\n]", " ", sign[0]) if len(sign[0]) > 1 else sign[0]
+    code = SIGN.sub(blank, text)  # Texts and comments are spaces.
+    atoms = {atom for begin in TERM.finditer(code)
+             for atom in ATOM.findall(code[begin.end():closing(code, begin.end())])}
+    return atoms | {atom.split(".")[0] for atom in atoms}
+
+
+def is_in(name, atoms):
+    """Whether a name is one of the atoms, or all pieces of an operator are."""
+    return name in atoms or all(piece in atoms for piece in name.split("◌") if piece)
+
+
 def imports_of(text):
     """The names that lines of `use` give, each with its module and its name there, if any."""
     found = {}
@@ -115,16 +136,9 @@ def imports_of(text):
         for name in filter(None, map(str.strip, names.split(","))):
             there, _, here = name.partition(" as ")
             found[here or there] = module, there
-        if "self" in names.split(", "):
-            found[re.split("[.:]", module)[-1]] = module, ""
-        if not names:
+        if not names or "self" in names.split(", "):
             found[alias or re.split("[.:]", module)[-1]] = module, ""
     return found
-
-
-def passed_on(text):
-    """The names that a module passes on, each with its module and its name there."""
-    return imports_of("\n".join(use[0] for use in USE.finditer(text) if use[1]))
 
 
 def head_and_clauses(text, at, kind="fn"):
@@ -286,7 +300,8 @@ class Library:
         if not file:  # The compiler makes such modules, of types and of what is built in.
             made = re.search(r"\.(declared|contracts)\.|^Prim\.", path)
             return Item("word", name, "", None, 0, module=path) if made else None
-        passed, defined = passed_on(file.read_text("utf-8")), self.definitions(file)
+        uses, defined = USE.finditer(file.read_text("utf-8")), self.definitions(file)
+        passed = imports_of("\n".join(use[0] for use in uses if use[1]))
         if name in passed and name not in defined:
             return self.word(*passed[name])
         part = re.compile(rf"(?m)^ +(?:pub )?{re.escape(name)} :")
