@@ -75,10 +75,6 @@ def give_past_the_memory(process):
         process.stdin.write(bytes(10**6))
 
 
-def take_byte_by_byte(pipe):
-    return b"".join(iter(lambda: pipe.read(1), b""))
-
-
 def take_one_byte(pipe):
     with pipe:
         return pipe.read(1)
@@ -133,6 +129,6 @@ def play_system_faults(tally, program):
         case(f"{mode}: the input comes byte by byte", whole(mode, 4, data), [mode],
              give=give_byte_by_byte(data))
         case(f"{mode} 16: the output goes byte by byte", whole(mode, 16, MANY), [mode, "16"], MANY,
-             take=take_byte_by_byte)
+             take=lambda pipe: b"".join(iter(lambda: pipe.read(1), b"")))
     play_outputs(case)
     play_inputs(case)

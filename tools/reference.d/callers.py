@@ -138,13 +138,12 @@ def calls(names):
 def uncalled(names):
     """Looks for a caller of each public call, and among those that have none for each pattern's."""
     lines = [line.partition("\t") for line in LIST.read_text("utf-8").splitlines()]
-    without, site = [], names.site
+    without = []
     for item, is_called in calls(names).items():
-        name = site.full_name(item)
+        name = names.site.full_name(item)
         without += [] if is_called else [name]
         listed = any(fnmatch.fnmatchcase(name, pattern) for pattern, _, _ in lines)
-        wrong = f"{item.file.relative_to(site.top)}:{item.line}: nothing calls {name}"
-        yield wrong if not is_called and not listed else None
+        yield None if is_called or listed else f"{names.place(item)}: nothing calls {name}"
     for pattern, _, why in lines:
         right = why and fnmatch.filter(without, pattern)
         yield None if right else f"{LIST.name}: {pattern} has a caller, or nothing says why"

@@ -5,6 +5,7 @@ import re
 
 from callers import uncalled
 from checks_of_documents import dangling, misquoted, unrowed, unwritten
+from lookup import impl_of
 from meanings import LIBRARIES, WITH_A_PAGE
 from promise import stale, unkept
 from public import changed
@@ -25,13 +26,10 @@ def misled(names):
     """Asks for a name of each kind: what is shown first is the item, or the text of a row."""
     for line in NAMES.read_text("utf-8").splitlines():
         name, _, wanted = line.partition("\t")
-        asked, shown = names.asked(name), "nothing"
-        told = next((row for row in asked.rows if row.ours or row.told), None) or next(
-            iter(names.told_rows(name, asked)), None)
-        if asked.first:
-            shown = names.full_name(asked.first)
-        elif told:
-            shown = TELLS + " ".join(cell for _, cell in told.cells)
+        asked = names.asked(name)
+        rows = [row for row in asked.rows if row.ours or row.told] or names.told_rows(name, asked)
+        shown = names.full_name(asked.first) if asked.first else (
+            TELLS + " ".join(cell for _, cell in rows[0].cells) if rows else "nothing")
         tells = wanted.startswith(TELLS) and shown.startswith(TELLS)
         right = wanted.removeprefix(TELLS) in shown if tells else shown == wanted
         yield None if right else f"tools/reference {name}: shows {shown[:80]}, not {wanted}"
@@ -58,14 +56,13 @@ def unnamed(names):
     listed = {part for code in CODE.findall(text) for parts in names_in(code) for part in parts}
     endings = tuple(end for rule in ENDINGS.findall(text) for end in CODE.findall(rule))
     for item in site.shown():
-        inner = item.owner is not None and item.owner.kind in ("impl", "trait", *WITH_A_PAGE)
-        of_trait = inner and item.owner.kind == "impl" and item.owner.of_trait
-        if site.path(item.module)[0] in PORT and item.name and item.public and not of_trait:
-            if item.kind in ("fn", "macro", "type", "const", *WITH_A_PAGE):
-                by_rule = item.name.endswith(endings) or re.fullmatch(r"U\d+", item.name)
-                place = f"{item.file.relative_to(site.top)}:{item.line}"
-                wrong = f"{place}: DIFFERENCES.md doesn't list {site.full_name(item)}"
-                yield None if by_rule or item.name in listed or site.is_law(item) else wrong
+        impl = impl_of(item)
+        if (site.path(item.module)[0] in PORT and item.name and item.public
+                and item.kind in ("fn", "macro", "type", "const", *WITH_A_PAGE)
+                and not (impl and impl.of_trait)):
+            by_rule = item.name.endswith(endings) or re.fullmatch(r"U\d+", item.name)
+            wrong = f"{names.place(item)}: DIFFERENCES.md doesn't list {site.full_name(item)}"
+            yield None if by_rule or item.name in listed or site.is_law(item) else wrong
 
 
 def text_of(edit):

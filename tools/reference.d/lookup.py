@@ -46,8 +46,8 @@ def impl_of(item):
 
 def is_detail(item):
     """Whether an item is a part of another that isn't called: one is told by the name of both."""
-    inner = item.kind != "word" and item.owner is not None and item.owner.kind != "mod"
-    return inner and item.kind != "fn"
+    is_inner = item.owner is not None and item.owner.kind != "mod"
+    return is_inner and item.kind not in ("word", "fn")
 
 
 class Names(Paths):

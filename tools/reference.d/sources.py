@@ -35,7 +35,8 @@ START = re.compile(
 USE = re.compile(
     r"(?m)^\s*(?:unfoldable )?(pub )?(?:ghost )?use ([^\s;{]+?)"
     r"(?:(?:\.|::)\{([^}]*)\})?(?: as ([\w-]+))?;?\s*$")
-# What a macro's form becomes: a call of a type's function.
+# A macro's form, and what it becomes: a call of a type's function.
+FORM = re.compile(r"(?m)^    (\(.*\)) => \{$")
 MADE = re.compile(r"\$crate::(\w+)(?:::<[^;]*>)?::(\w+)\(")
 # A definition with the notes above it and all lines below that are deeper or begin with its name;
 # or the beginning of a module block, of any number of lines.
@@ -116,9 +117,8 @@ def parted(text, separator=","):
 
 def atoms_of(text):
     """What stands in the terms of code: names, and the parts in front of their dots."""
-    def blank(sign):
-        return re.sub(r"[^\n]", " ", sign[0]) if len(sign[0]) > 1 else sign[0]
-    code = SIGN.sub(blank, text)  # Texts and comments are spaces.
+    # Texts and comments are spaces.
+    code = SIGN.sub(lambda it: re.sub(r"[^\n]", " ", it[0]) if len(it[0]) > 1 else it[0], text)
     atoms = {atom for begin in TERM.finditer(code)
              for atom in ATOM.findall(code[begin.end():closing(code, begin.end())])}
     return atoms | {atom.split(".")[0] for atom in atoms}
@@ -182,12 +182,6 @@ def fields(body, item, first):
         yield Item(kind, name, head.rstrip(","), item.file, line, docs, notes, item, public=public)
 
 
-def macro_head(name, body):
-    """A macro's forms without what they become, and without the form that refuses the others."""
-    arms = [arm for arm in re.findall(r"(?m)^    (\(.*\)) => \{$", body) if "$other" not in arm]
-    return "\n".join([f"macro_rules! {name} {{", *(f"    {arm} => {{ .. }};" for arm in arms), "}"])
-
-
 def items_of(text, file, owner=None, at=0, end=None):
     """The items between two places of a file's text."""
     end = len(text) if end is None else end
@@ -212,7 +206,10 @@ def items_of(text, file, owner=None, at=0, end=None):
         elif kind in ("struct", "enum"):
             item.members = list(fields(body, item, text.count("\n", 0, stop) + 1))
         elif kind == "macro":
-            item.head, item.made = macro_head(name, body), MADE.findall(body)
+            # Its forms without what they become, and without the one that refuses the others.
+            arms = [f"    {arm} => {{ .. }};" for arm in FORM.findall(body) if "$other" not in arm]
+            item.head = "\n".join([f"macro_rules! {name} {{", *arms, "}"])
+            item.made = MADE.findall(body)
         yield item
         above = ABOVE.match(text, at, end)
 

@@ -114,18 +114,16 @@ class Text:
     def conditions(self, item):
         """What the conditions of a trait's call are at each kind: the heads of impls, and below
         them their ghost members that the conditions name."""
-        found, named = {}, {}
-        if item.owner is not None and item.owner.kind == "trait":
-            for clause in [it for it in item.clauses if it.keyword == "requires"]:
-                for _, thing in Scope(self.site, item).pieces(clause.term):
-                    if thing and thing.kind == "ghost" and thing.owner.home:
-                        named.setdefault(thing.owner, set()).add(thing.name)
-        for trait, names in named.items():
-            for impl in [impl for impl in self.site.impls if impl.trait is trait]:
-                ghosts = [it.head for it in impl.of_kind("ghost") if it.name in names]
-                if ghosts:
-                    found.setdefault(tuple(ghosts), []).append(one_line(header(impl)))
-        lines = []
+        if item.owner is None or item.owner.kind != "trait":
+            return []
+        found, lines, terms = {}, [], [it.term for it in item.clauses if it.keyword == "requires"]
+        named = {(thing.owner, thing.name)
+                 for _, thing in Scope(self.site, item).pieces("\n".join(terms))
+                 if thing and thing.kind == "ghost" and thing.owner.home}
+        for impl in self.site.impls:
+            ghosts = [it.head for it in impl.of_kind("ghost") if (impl.trait, it.name) in named]
+            if ghosts:
+                found.setdefault(tuple(ghosts), []).append(one_line(header(impl)))
         for ghosts, heads in found.items():
             lines += [line for head in heads for line in laid_out(head, self.width - 4)]
             lines += indented(it for ghost in ghosts for it in laid_out(ghost, self.width - 8))
