@@ -1,12 +1,13 @@
 """The walls of docs/STUCK.md: whether each is still there.
 
 A file NAME.rattle is a module. Its first lines tell what a check prints of it: `// says: ..` a part
-of a message, `// open: ..` the name of a goal. Behind a line `// mend` stands what to write
-instead, a module that must be proved, where no crate shows it. A module gets the
-imports that it lacks of what it names, but where this is the wall. All are laid out as one crate
-over generic_array, beside the libraries that are proved in this checkout, and checked at once. A
-check ends before any proof where a module doesn't compile: its line is told then, and the others
-are checked again. All take ten to fifteen minutes of one core, where the libraries are proved.
+of a message, `// open: ..` the name of a goal, and where neither stands it is `returns`. Behind a line
+`// mend` stands what to write instead, a module that must be proved, where no crate shows it. A
+module gets the imports that it lacks of what it names, but where that is the wall. All are laid out
+as one crate over generic_array, beside the libraries that are proved in this checkout, and checked
+at once. A check ends before any proof where a module doesn't compile: its line is told then, and
+the others are checked again. All take ten to fifteen minutes of one core, where the libraries are
+proved.
 """
 import collections
 import pathlib
@@ -68,6 +69,7 @@ def read(file):
     """The parts that are to be seen of a wall, its module, and that of its mend."""
     wall, _, mend = file.read_text("utf-8").partition("\n// mend\n")
     seen = [plain(it) if kind == "says" else f"(`{it}`)" for kind, it in SEEN.findall(wall)]
+    seen = seen or ["(`returns`)"]
     wall, is_whole = SEEN.sub("", wall) + "\n", "` is not in scope" in " ".join(seen)
     return seen, wall if is_whole else with_imports(wall), mend and with_imports(mend)
 

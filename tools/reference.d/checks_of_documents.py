@@ -83,15 +83,6 @@ def names_of(code):
     return [parts for parts in found if len(parts[-1]) > 1]
 
 
-def names_of_others(library, crates):
-    """The names that std and the libraries that the crates name declare, or call: some calls of
-    numbers are built in."""
-    files = [file for crate in ((*STD, *crates) if library.kit else ()) for part in ("src", "specs")
-             for file in (library.kit / crate / part).rglob("*.*t")]
-    return {name for file in files for found in DECLARED.findall(file.read_text("utf-8"))
-            for name in found}
-
-
 def documents(site):
     """The documents, each with its text without what is set apart as code, or seen."""
     for file in sorted(file for pattern in DOCUMENTS for file in site.top.glob(pattern)):
@@ -106,10 +97,13 @@ def dangling(names):
     """Looks up each name that a document has as code: here, in the Rust crate, in docs, as the end
     of one, as the name of a clause, a file or a command, or in std or another library."""
     site, rust = names.site, [row for row in names.rows if row.place.startswith(RUST)]
-    clauses = {clause.name for item in site.shown() for clause in item.clauses}
-    lines = re.sub("#.*", "", (site.top / "crates.txt").read_text("utf-8"))
-    others = {*EXEMPT, *re.findall(r"\w+", lines)}
-    others |= names_of_others(site.library, sorted(others)) | clauses
+    lines, kit = re.sub("#.*", "", (site.top / "crates.txt").read_text("utf-8")), site.library.kit
+    crates = {*re.findall(r"\w+", lines)}
+    # The names that std and the libraries declare, or call: some calls of numbers are built in.
+    texts = [file.read_text("utf-8") for crate in ((*STD, *crates) if kit else ())
+             for part in ("src", "specs") for file in (kit / crate / part).rglob("*.*t")]
+    others = {name for text in texts for found in DECLARED.findall(text) for name in found}
+    others |= EXEMPT | crates | {it.name for item in site.shown() for it in item.clauses}
     folders = [folder for folder in site.top.iterdir() if folder.name != ".git"]
     files = [f"/{file.relative_to(site.top)}" for folder in folders
              for file in (folder, *folder.rglob("*"))]
@@ -122,7 +116,7 @@ def dangling(names):
                 or any(row.fit(parts) > 1 for row in rust) or last in others
                 or last.startswith("_") and any(end.endswith(last) for end in names.by_end)
                 or names.outside.named(parts) or names.told_in_docs(parts) or names.of_std(last)
-                or not site.library.kit or any(path.endswith(ends) for path in files))
+                or not kit or any(path.endswith(ends) for path in files))
 
     for place, text in documents(site):
         for found in CODE.finditer(text):
@@ -137,8 +131,7 @@ def unrowed(names):
     seen = [plain(row.cells[0][1]) for row in names.messages if OF_SEEN in row.place]
     for wall in sorted((names.site.top / "tools" / "walls").glob("*.rattle")):
         head = wall.read_text("utf-8").partition("\n// mend\n")[0]
-        named = [plain(part) for part in re.findall(r"(?m)^// says: (.*)$", head)]
-        named += map(plain, re.findall(r"(?m)^// open: (?!returns$)(.*)$", head))
+        named = [plain(part) for part in re.findall(r"(?m)^// (?:says|open): (.*)$", head)]
         own = {plain(line.rstrip(".")) for line in re.findall(r"(?m)^//! (.*)$", head)}
         right = own & {*seen} or any(stands_in(part, row) for part in named for row in seen)
         wrong = f"{wall.relative_to(names.site.top)}: no row of {OF_SEEN} is seen so"

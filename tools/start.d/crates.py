@@ -3,7 +3,6 @@ libraries that are proved in this checkout. `rt` uses one at any path, proves it
 stamp isn't that of the sources, and refuses one in which a file is changed."""
 import hashlib
 import json
-import math
 import pathlib
 import re
 import shutil
@@ -18,11 +17,6 @@ ON = {line.split()[0]: line for line in FIRST}
 # What of a crate `rt` reads. Its wrong bodies and documents stay in this checkout.
 PARTS = ("src", "specs", "proofs")
 LIST, RECORD, LICENSE = "crates.txt", "laid.json", "LICENSE"
-# Seconds of one core that a proof of each crate takes.
-SECONDS = {
-    "ga_views": 80, "ga_core": 200, "ga_boxed": 80, "generic_array": 180, "ga_records": 20,
-    "ga_hashes": 60, "ga_ciphers": 80, "ga_uses": 190,
-}
 ABOUT = ("What tools/start copied here from generic_array, and a sum of each file, by which"
          " tools/start --update knows what you changed: leave it as it is")
 
@@ -151,8 +145,7 @@ def take_along(folder, names, anew=()):
     if not lacking:
         return (f"these come proved: {', '.join(names)}. The next check takes seconds, and proves"
                 " again what was changed since")
-    minutes = math.ceil(sum(SECONDS.get(it, 60) for it in lacking) / 60)
     below = {it for name in lacking for it in libraries_of(name)}
     tops = " and ".join(f"crates/{it}" for it in lacking if it not in below)
-    return (f"the next check proves {', '.join(lacking)} too, in about {minutes} min of one core:"
-            f" `rt lib` in {tops} of this checkout does so once for all that is started later")
+    return (f"the next check proves {', '.join(lacking)} too, in minutes: `rt lib` in {tops} of this"
+            " checkout does so once for all that is started later")
