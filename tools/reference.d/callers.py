@@ -13,7 +13,7 @@ from beside import is_test
 from meanings import LIBRARIES, WITH_A_PAGE, above, base_name, declared
 
 EXAMPLES = "_examples"
-# The patterns of the calls that have no caller, each with why.
+# The patterns of the calls that have no caller, each with how many it means and why.
 LIST = pathlib.Path(__file__).resolve().parent / "without_caller.txt"
 # What stands in front of a call's name: the dot of a method, or the end of a path.
 BEFORE = re.compile(r"(?P<dot>\.)\s*$|(?P<path>\w+)(?:::<[^()=]*>|<[^()=]*>)?::$")
@@ -118,7 +118,6 @@ class Callers:
                      if self.is_called(item, it, code)), None)
 
 
-@functools.lru_cache(None)
 def calls(names):
     """The public calls of the libraries, each with whether something calls it."""
     site = names.site
@@ -136,14 +135,15 @@ def calls(names):
 
 
 def uncalled(names):
-    """Looks for a caller of each public call, and among those that have none for each pattern's."""
-    lines = [line.partition("\t") for line in LIST.read_text("utf-8").splitlines()]
+    """Looks for a caller of each public call, and for as many that have none as a pattern means."""
+    lines = [line.split("\t") for line in LIST.read_text("utf-8").splitlines()]
     without = []
     for item, is_called in calls(names).items():
         name = names.site.full_name(item)
         without += [] if is_called else [name]
         listed = any(fnmatch.fnmatchcase(name, pattern) for pattern, _, _ in lines)
         yield None if is_called or listed else f"{names.place(item)}: nothing calls {name}"
-    for pattern, _, why in lines:
-        right = why and fnmatch.filter(without, pattern)
-        yield None if right else f"{LIST.name}: {pattern} has a caller, or nothing says why"
+    for pattern, count, _ in lines:
+        seen = len(fnmatch.filter(without, pattern))
+        wrong = f"{LIST.name}: {seen} calls of {pattern} have no caller, not {count}"
+        yield None if seen == int(count) else wrong

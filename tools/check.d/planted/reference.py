@@ -18,7 +18,7 @@ PLANTED = {
     "tools/reference.d/promise.txt+":
         "It says nothing.\n\tga_headline::lists::silent\n\tga_headline::lists::gone\n",
     "tools/reference.d/rust_names.txt+": "arr!\tga_core::GenericArray\nserde\ttells nothing\n",
-    "tools/reference.d/without_caller.txt+": "arr!\tit has one\n",
+    "tools/reference.d/without_caller.txt+": "arr!\t1\tit has one\n",
     "tools/reference.d/public.txt+": "ga_views::Gone: Clone\n",
     "tools/walls/rowless.rattle": "// says: it isn't there\n",
     "tools/reference.d/passes.txt": "examples: 100000 passed\npage: 0 passed\n",
@@ -39,7 +39,7 @@ TOLD = {
                      "twins/ga_views/none/no_file.edit: no old line, or no file src/none.rt",
                      "nowhere.edit: src/array_ref.rt has 0 times, not once: no such text",
                      "must-fail/empty.edit: it changes nothing"],
-    "callers": ["nothing calls planted", "arr! has a caller, or nothing says why"],
+    "callers": ["nothing calls planted", "0 calls of arr! have no caller, not 1"],
     "names": ["reference arr!: shows generic_array::arr!, not ga_core::GenericArray",
               "const_default`, not tells nothing"],
     "promise": ["ga_headline::lists::silent says nothing of: It says nothing.",
