@@ -32,14 +32,13 @@ class Pages:
     """The pages, and the links between them."""
 
     def __init__(self, names, folder):
-        self.names, self.site, self.folder, self.depth, self.std = names, names.site, folder, 0, {}
-        site = self.site
+        site = names.site
+        self.names, self.site, self.folder, self.depth, self.std = names, site, folder, 0, {}
         self.markdown = markdown.Markdown(extensions=["fenced_code", "tables"])
         # A `<` outside of code is text: docs have no HTML of their own.
         self.markdown.preprocessors.deregister("html_block")
         self.markdown.inlinePatterns.deregister("html")
-        self.words = site.words
-        self.own_words = [word for words in self.words.values() for word in words]
+        self.own_words = [word for words in site.words.values() for word in words]
         self.place_members()
         self.note_users()
         placed = [item for item in [*self.own_words, *site.shown()] if item.url]
@@ -174,7 +173,7 @@ class Pages:
         for item in self.site.items:
             if item.home and item.kind in ("mod", *WITH_A_PAGE):
                 self.page("module.html" if item.kind == "mod" else "type.html", item.url, item=item)
-        for words in self.words.values():
+        for words in self.site.words.values():
             self.page("words.html", words[0].url.partition("#")[0], words=words)
         for name in FILES:
             self.page(name, name)
