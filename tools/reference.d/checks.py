@@ -234,7 +234,11 @@ def unrowed(names):
         yield None if right else wrong
 
 
-# The checks by their names. Those of names ask as a reader of `tools/reference NAME` does.
-CHECKS = {"examples": unwritten, "imports": unused, "public items": unnamed, "public": changed,
-          "wrong bodies": unfit, "callers": uncalled, "names": misled, "promise": unkept,
-          "page": stale, "contracts": misquoted, "walls": unrowed, "documents": dangling}
+# The checks by their names, each with how many pass at least: one that passes less may have gone
+# blind. Those of names ask as a reader of `tools/reference NAME` does.
+CHECKS = {
+    "examples": (unwritten, 24), "imports": (unused, 2072), "public items": (unnamed, 323),
+    "public": (changed, 51), "wrong bodies": (unfit, 180), "callers": (uncalled, 263),
+    "names": (misled, 26), "promise": (unkept, 68), "page": (stale, 1), "contracts": (misquoted, 17),
+    "walls": (unrowed, 68), "documents": (dangling, 1794),
+}

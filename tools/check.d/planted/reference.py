@@ -21,7 +21,7 @@ PLANTED = {
     "tools/reference.d/without_caller.txt+": "arr!\t1\tit has one\n",
     "tools/reference.d/public.txt+": "ga_views::Gone: Clone\n",
     "tools/walls/rowless.rattle": "// says: it isn't there\n",
-    "tools/reference.d/passes.txt": "examples: 100000 passed\npage: 0 passed\n",
+    "tools/reference.d/checks.py+": "\nCHECKS['examples'] = unwritten, 100000\n",
     "tools/twins/ga_views/twice.edit": EDIT.format("array_ref", "pub fn"),
     "tools/twins/ga_views/none/no_file.edit": "old: pub fn\nnew: nothing\n",
     "crates/ga_views/must-fail/nowhere.edit": EDIT.format("array_ref", "no such text"),
@@ -29,7 +29,7 @@ PLANTED = {
 }
 # What each check has to tell of it.
 TOLD = {
-    "examples": ["no crate has fn stands_nowhere() {}", "passed, and passes.txt has 100000"],
+    "examples": ["no crate has fn stands_nowhere() {}", "passed, and not 100000"],
     "imports": ["idle is imported and not used", "idle_within is imported and not used"],
     "public items": ["DIFFERENCES.md doesn't list planted"],
     "public": ["the sources lack: ga_views::Gone: Clone; tools/reference --write-public writes it"

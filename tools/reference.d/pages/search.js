@@ -68,8 +68,7 @@ field.form.addEventListener("submit", event => {
 });
 list.addEventListener("click", close);
 document.addEventListener("keydown", event => {
-  const typing = /^(INPUT|TEXTAREA|SELECT)$/.test(event.target.tagName);
-  if (event.key === "/" && !typing && !event.ctrlKey && !event.metaKey) {
+  if (event.key === "/" && event.target !== field && !event.ctrlKey && !event.metaKey) {
     event.preventDefault();
     field.focus();
     field.select();
