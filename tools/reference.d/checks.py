@@ -26,6 +26,7 @@ NAMES, TELLS = pathlib.Path(__file__).resolve().parent / "rust_names.txt", "tell
 # The wrong bodies that the gate tries, and those that it leaves out, each with where its path names
 # the crate.
 EDITS = {"crates/*/must-fail/*.edit": 1, "tools/twins/*/**/*.edit": 2}
+PAIR = re.compile(r"(?m)(?:^file: (.*)\n)?^old: (.*)\nnew: ?(.*)$")
 # The crates of the port, and a rule by which DIFFERENCES names many at once: what ends so is named.
 PORT = (*LIBRARIES, "ga_records", "ga_rows")
 ENDINGS = re.compile(r"\bends in ((?:`_\w+`(?:, | or | and )?)+)")
@@ -108,21 +109,17 @@ def text_of(edit):
 def misfit(text, crate):
     """Why an edit doesn't fit the files of its crate, by the rule that `rt help` tells, or
     nothing."""
-    path, old, texts = "", "", {}
-    for line in text.split("\n"):
-        kind, _, said = line.partition(": ")
-        if kind == "file":
-            path = said.strip()
-        elif kind == "old":
-            old = said
-        elif line.startswith("new:"):
-            if not old or not (crate / path).is_file():
-                return f"no old line, or no file {path}"
-            before = texts.get(path) or (crate / path).read_text("utf-8")
-            if before.count(old) != 1:
-                return f"{path} has {before.count(old)} times, not once: {old.strip()}"
-            texts[path], old = before.replace(old, line[4:].removeprefix(" ")), ""
-    return "" if texts else "it changes nothing"
+    path, texts = "", {}
+    for file, old, new in PAIR.findall(text):
+        path = file.strip() or path
+        if not (crate / path).is_file():
+            return f"no file {path}"
+        before = texts.get(path) or (crate / path).read_text("utf-8")
+        if before.count(old) != 1:
+            return f"{path} has {before.count(old)} times, not once: {old.strip()}"
+        texts[path] = before.replace(old, new)
+    other = PAIR.sub("", text).strip()
+    return f"it has another line: {other}" if other else "" if texts else "it changes nothing"
 
 
 def unfit(names):

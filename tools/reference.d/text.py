@@ -91,25 +91,20 @@ class Text:
             lines += laid_out(f"{begin} {{ {term} }}", self.width - 4)
         return lines
 
-    def cited(self, items):
-        """What the clauses of items name: our definitions, ghost members, and words of others."""
+    def words(self, items):
+        """The list of what the clauses of items name: our definitions and ghost members, and of the
+        words of others what has a line."""
         ours, others = {}, {}
         for _, atom, thing in self.site.named(items):
-            if thing in items or thing.kind not in ("word", "ghost"):
-                continue
-            if self.names.is_own(thing):
-                ours.setdefault(thing, atom.rstrip("."))
-            elif thing.kind == "word" and re.match(r"[A-Za-z]\w*$", atom.rstrip(".")):
-                others.setdefault(thing, atom.rstrip("."))
-        return ours, others
-
-    def words(self, items):
-        """The list of what the clauses of items name: ours, and of others' what has a line."""
-        ours, others = self.cited(items)
-        told = {name: self.site.said(thing) for thing, name in others.items()}
-        told = {name: said for name, said in told.items() if said and name not in ours.values()}
+            name = atom.rstrip(".")
+            if thing not in items and thing.kind in ("word", "ghost"):
+                if self.names.is_own(thing):
+                    ours.setdefault(thing, name)
+                elif thing.kind == "word" and re.match(r"[A-Za-z]\w*$", name):
+                    others[name] = self.site.said(thing)
         pairs = [(name, self.site.line(thing)) for thing, name in ours.items()]
-        return self.listed("Words", [*pairs, *told.items()])
+        pairs += [it for it in others.items() if it[1] and it[0] not in ours.values()]
+        return self.listed("Words", pairs)
 
     def conditions(self, item):
         """What the conditions of a trait's call are at each kind: the heads of impls, and below

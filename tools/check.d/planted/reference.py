@@ -36,7 +36,7 @@ TOLD = {
                " anew"],
     "walls": ["tools/walls/rowless.rattle: no row of STUCK.md is seen so"],
     "wrong bodies": ["twins/ga_views/twice.edit: src/array_ref.rt has 10 times, not once: pub fn",
-                     "twins/ga_views/none/no_file.edit: no old line, or no file src/none.rt",
+                     "twins/ga_views/none/no_file.edit: no file src/none.rt",
                      "nowhere.edit: src/array_ref.rt has 0 times, not once: no such text",
                      "must-fail/empty.edit: it changes nothing"],
     "callers": ["nothing calls planted", "0 calls of arr! have no caller, not 1"],
