@@ -112,10 +112,11 @@ class Text:
         if item.owner is None or item.owner.kind != "trait":
             return []
         found, lines, terms = {}, [], [it.term for it in item.clauses if it.keyword == "requires"]
-        named = {(thing.owner, thing.name)
+        named = [(thing.owner, thing.name)
                  for _, thing in Scope(self.site, item).pieces("\n".join(terms))
-                 if thing and thing.kind == "ghost" and thing.owner.home}
-        for impl in self.site.impls:
+                 if thing and thing.kind == "ghost" and thing.owner.home]
+        traits = dict.fromkeys(trait for trait, _ in named)
+        for impl in [it for trait in traits for it in self.site.impls if it.trait is trait]:
             ghosts = [it.head for it in impl.of_kind("ghost") if (impl.trait, it.name) in named]
             if ghosts:
                 found.setdefault(tuple(ghosts), []).append(one_line(header(impl)))
