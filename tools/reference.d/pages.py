@@ -88,9 +88,7 @@ class Pages:
         words. None where it has none."""
         made = DECLARED.match(str(thing.module))
         types = self.site.by_name.get(made[2], []) if made else []
-        own = thing.file and thing.file.is_relative_to(self.site.top) or (
-            made and made[1] in self.site.crates)
-        if own and not types:
+        if not types and (self.names.is_own(thing) or made and made[1] in self.site.crates):
             return None
         name = thing.name
         if thing.kind not in ("word", "trait"):
