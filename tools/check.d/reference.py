@@ -1,13 +1,8 @@
 """What no compiler sees: that documents, names, imports, tables of tests and wrong bodies fit the
 sources.
 """
-import sys
-
-from copies import TOP
-
-sys.path.insert(0, str(TOP / "tools" / "reference.d"))
-
 from checks import CHECKS
+from copies import TOP
 from lookup import Names
 from meanings import Site
 from sources import Library, toolchain

@@ -4,15 +4,11 @@ It proves the crates first, in a copy. tools/twins/README.md says why the gate l
 """
 import pathlib
 import re
-import sys
 import tempfile
 
+from checks import text_of
 from copies import TOP, copy_crates
 from playing import run
-
-sys.path.insert(0, str(TOP / "tools" / "reference.d"))
-
-from checks import text_of
 
 SAID = re.compile(r"(?m)^rt: must-fail (\S+): (.*)$")
 

@@ -1,25 +1,21 @@
 """The walls of docs/STUCK.md: whether each is still there.
 
 A file NAME.rattle is a module. Its first lines tell what a check prints of it: `// says: ..` a part
-of a message, `// open: ..` the name of a goal, and where neither stands it is `returns`. Behind a line
-`// mend` stands what to write instead, a module that must be proved, where no crate shows it. A
-module gets the imports that it lacks of what it names, but where that is the wall. All are laid out
-as one crate over generic_array, beside the libraries that are proved in this checkout, and checked
-at once. A check ends before any proof where a module doesn't compile: its line is told then, and
-the others are checked again. All take ten to fifteen minutes of one core, where the libraries are
-proved.
+of a message, `// open: ..` the name of a goal, which is `returns` where neither stands. Behind a
+line `// mend` stands what to write instead, a module that must be proved, where no crate shows it.
+A module gets the imports that it lacks of what it names, but where that is the wall. All are laid
+out as one crate over generic_array, beside the libraries that are proved in this checkout, and
+checked at once. A check ends before any proof where a module doesn't compile: its line is told
+then, and the others are checked again. All take ten to fifteen minutes of one core, where the
+libraries are proved.
 """
 import collections
 import pathlib
 import re
-import sys
 import tempfile
 
 from copies import TOP, copy_crates, take_proved, write
 from playing import run
-
-sys.path.insert(0, str(TOP / "tools" / "reference.d"))
-
 from sources import atoms_of, imports_of, is_in
 from text import use_line
 
@@ -39,8 +35,9 @@ IMPORTS = {
     "Rattle.std.specs.Int": "from_be_bytes w16",
     "Rattle.std.specs.Int.Bits": "bit_xor",
     "Rattle.std.specs.List": "All flat_map list_any range_with_len starts_with zip",
-    "Rattle.std.specs.Prelude": "◌≡◌ ◌↔◌ ◌<◌ ◌≤◌ ◌+◌ ◌-◌ ◌*◌ ◌%◌ ◌^◌ ◌++◌ ◌∷◌ [] IfOk IsTrue OnErr OnOk"
-    " drop fold length map nat_eq replicate reverse slice_index slice_index_or slice_set sum take",
+    "Rattle.std.specs.Prelude": "◌≡◌ ◌↔◌ ◌<◌ ◌≤◌ ◌+◌ ◌-◌ ◌*◌ ◌%◌ ◌^◌ ◌++◌ ◌∷◌ [] IfOk IsTrue OnErr"
+    " OnOk drop fold length map nat_eq replicate reverse slice_index slice_index_or slice_set sum"
+    " take",
     "generic_array": "AllocError ArrayBuilder ArrayLength BoxedArray ChunksMut ChunksRef Const"
     " GenericArray GenericArrayMut GenericArrayRef InlineLength LengthError U2 U3 U4 U5 U6 Unsigned"
     " ViewMut always arr",

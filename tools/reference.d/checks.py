@@ -1,7 +1,7 @@
 """Checks what no compiler sees: that names lead to items, that each public item is listed and each
 import used, that wrong bodies fit, that examples of documents stand in the crates, that a contract
 that a README quotes is that of the source, that each name that a document has as code is found, and
-that walls have rows. Each check gives what it tried, one after the other: what is wrong, or nothing.
+that walls have rows. Each check gives what it tried, one after the other: what is wrong, or None.
 
 Of code in a line its name is looked up: a path, a call or a type; of words without a sign the
 first, of `using(..)` and `use ..;` the path, of what begins with a value or a type parameter the
@@ -236,6 +236,6 @@ def unrowed(names):
 CHECKS = {
     "examples": (unwritten, 24), "imports": (unused, 2072), "public items": (unnamed, 323),
     "public": (changed, 51), "wrong bodies": (unfit, 180), "callers": (uncalled, 263),
-    "names": (misled, 26), "promise": (unkept, 68), "page": (stale, 1), "contracts": (misquoted, 17),
-    "walls": (unrowed, 68), "documents": (dangling, 1794),
+    "names": (misled, 26), "promise": (unkept, 68), "page": (stale, 1),
+    "contracts": (misquoted, 17), "walls": (unrowed, 68), "documents": (dangling, 1794),
 }

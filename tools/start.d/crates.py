@@ -147,5 +147,5 @@ def take_along(folder, names, anew=()):
                 " again what was changed since")
     below = {it for name in lacking for it in libraries_of(name)}
     tops = " and ".join(f"crates/{it}" for it in lacking if it not in below)
-    return (f"the next check proves {', '.join(lacking)} too, in minutes: `rt lib` in {tops} of this"
-            " checkout does so once for all that is started later")
+    return (f"the next check proves {', '.join(lacking)} too, in minutes: `rt lib` in {tops} of"
+            " this checkout does so once for all that is started later")
