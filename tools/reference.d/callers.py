@@ -42,8 +42,8 @@ class Function:
 class Callers:
     """The callers in the crates of examples."""
 
-    def __init__(self, site, samples):
-        self.site, self.samples = site, samples
+    def __init__(self, names):
+        self.names, self.site, self.samples = names, names.site, names.samples
 
     @functools.cached_property
     def functions(self):
@@ -51,15 +51,6 @@ class Callers:
         items = [item for item in self.samples.of(lambda crate: crate.endswith(EXAMPLES))
                  if item.kind == "fn" and item.owner.kind == "mod" and not is_test(item)]
         return [Function(item) for item in sorted(items, key=self.samples.order)]
-
-    @functools.cached_property
-    def named(self):
-        """The functions that readers see, by their names."""
-        found = {}
-        for item in self.site.shown():
-            if item.kind == "fn":
-                found.setdefault(item.name, []).append(item)
-        return found
 
     def owners(self, type_name, function):
         """The names of the type and the traits that a name of a type stands for in a function."""
@@ -92,8 +83,8 @@ class Callers:
                 told = let
             return {base_name(BORROWED.sub("", told[1].strip(), count=1))} if told else set()
         found, types = MADE.search(code), set()
-        for item in self.named.get(found["name"], []) if found else []:
-            if self.is_called(item, function, code[:found.start()]):
+        for item in self.names.named([found["name"]]) if found else []:
+            if item.kind == "fn" and self.is_called(item, function, code[:found.start()]):
                 told = WRAPPED.sub("", item.head.rpartition("->")[2].strip())
                 types.add(item.of_whom.name if re.match(r"Self\b(?!::)", told) else base_name(told))
         return types

@@ -59,7 +59,7 @@ class Names(Paths):
         # Of lists a row's cells have no titles.
         self.messages = [row for row in rows(site.top, OF_MESSAGES) if row.cells[0][0]]
         self.samples = Samples(site)
-        self.callers = Callers(site, self.samples)
+        self.callers = Callers(self)
         # The names of typenum, std and other crates, each with the one that it is looked up by.
         lines = (pathlib.Path(__file__).resolve().parent / "other_names.txt").read_text("utf-8")
         self.other_names = {name: meant for line in lines.splitlines() for names, _, meant in
