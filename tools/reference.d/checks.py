@@ -101,8 +101,9 @@ def unnamed(names):
 
 def text_of(edit):
     """The text of an edit, with the file that it changes: in tools/twins its folder names it."""
-    text, folder = edit.read_text("utf-8"), edit.parent.as_posix().rpartition("/twins/")[2]
-    is_whole = text.startswith("file: ")
+    text = edit.read_text("utf-8")
+    _, is_twin, folder = edit.parent.as_posix().rpartition("/twins/")
+    is_whole = not is_twin or text.startswith("file: ")
     return text if is_whole else f"file: src/{folder.partition('/')[2]}.rt\n{text}"
 
 
