@@ -16,9 +16,8 @@ import tempfile
 import tests
 import trials
 from building import SECONDS, play_runs, refusing, unfit
-from ga_rows import MODES, NO_MEMORY, PROGRAM, whole
+from ga_rows import MODES, NO_MEMORY, PROGRAM, play_system_faults, whole
 from playing import Seen, file_of, play as run_program, read_again, shown
-from system import play_system_faults
 
 # The tests in modules of this name pass whether or not one of their requests for memory is refused,
 # and print a line 'refused: ..' where one was. Other tests presume that memory is ample.

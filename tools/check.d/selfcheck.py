@@ -7,7 +7,6 @@ The faults stand in copies of this checkout, or in what made-up commands answer 
 import pathlib
 import sys
 import tempfile
-import traceback
 from concurrent.futures import ThreadPoolExecutor
 
 from planted import bench, diff, parts, reference, start, sweeps
@@ -15,14 +14,6 @@ from tally import Tally
 
 # The longest first.
 PLANTED = {it.__name__.split(".")[1]: it for it in (sweeps, start, parts, reference, bench, diff)}
-
-
-def play_one(tally, name):
-    """Plays one in a folder. What stops it is a case that fails."""
-    try:
-        PLANTED[name].play(tally, pathlib.Path(tempfile.mkdtemp(prefix=f"{name}-")))
-    except Exception:
-        tally.case(f"{name}: all is played", traceback.format_exc())
 
 
 def is_counting():
@@ -41,4 +32,5 @@ def play(tally, words):
     with ThreadPoolExecutor() as pool:
         for name in PLANTED:
             if name in words or not words:
-                pool.submit(play_one, tally, name)
+                room = pathlib.Path(tempfile.mkdtemp(prefix=f"{name}-"))
+                pool.submit(tally.whole, name, PLANTED[name].play, tally, room)

@@ -15,12 +15,8 @@ import tempfile
 from concurrent.futures import ThreadPoolExecutor
 
 from copies import TOP, copy, write
+from crates import LICENSE, LIST, ON, OURS, is_proved, library, line_of, needed, texts_of
 from playing import run
-
-sys.path.insert(0, str(TOP / "tools" / "start.d"))
-
-from crates import LICENSE, LIST, ON, OURS, line_of, needed, texts_of
-from taking import is_proved, library
 
 # Calls that must be refused: what they are, their words, a part of what is said.
 BAD_CALLS = [

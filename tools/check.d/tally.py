@@ -1,6 +1,7 @@
 """Cases with a line each, and their count."""
 import collections
 import threading
+import traceback
 
 from playing import differences
 
@@ -17,6 +18,13 @@ class Tally:
         with self.lock:
             self.count[word] += 1
             self.say(": ".join([f"{word:7} {name}", *map(str, filter(None, [lacks or wrong]))]))
+
+    def whole(self, name, play, *arguments):
+        """Plays cases. What stops them is a case that fails."""
+        try:
+            play(*arguments)
+        except Exception:
+            self.case(f"{name}: all is played", traceback.format_exc())
 
     def skip(self, names, lacks):
         for it in names:

@@ -1,16 +1,12 @@
 """The tests of trials/sweeps, unproved, in a copy of the checkout where they stand as crates."""
 import functools
 import pathlib
-import sys
 import tempfile
 
 from building import play_runs
-from copies import TOP, copy_crates
-from tests import Tests
-
-sys.path.insert(0, str(TOP / "trials"))
-
+from copies import copy_crates
 from lay import add_sweeps
+from tests import Tests
 
 
 @functools.lru_cache(None)

@@ -4,9 +4,9 @@ It proves the crates first, in a copy. tools/twins/README.md says why the gate l
 """
 import pathlib
 import re
-import shutil
 import tempfile
 
+from checks import text_of
 from copies import TOP, copy_crates
 from playing import run
 
@@ -16,10 +16,10 @@ SAID = re.compile(r"(?m)^rt: must-fail (\S+): (.*)$")
 def play(tally, words):
     room, twins = pathlib.Path(tempfile.mkdtemp()), TOP / "tools" / "twins"
     copy_crates(room)
-    for edit in twins.glob("*/*.edit"):
-        folder = room / "crates" / edit.parent.name / "must-fail"
+    for edit in twins.glob("*/**/*.edit"):
+        folder = room / "crates" / edit.relative_to(twins).parts[0] / "must-fail"
         folder.mkdir(exist_ok=True)
-        shutil.copy(edit, folder)
+        (folder / edit.name).write_text(text_of(edit), "utf-8")
     status, text = run("rt", "must-fail", *words, cwd=room)
     said = dict(SAID.findall(text))
     edits = [f"{it.parent.parent.name}/{it.name}" for it in room.glob("crates/*/must-fail/*.edit")]

@@ -1,11 +1,13 @@
 """The walls of docs/STUCK.md: whether each is still there.
 
 A file NAME.rattle is a module. Its first lines tell what a check prints of it: `// says: ..` a part
-of a message, `// open: ..` the name of a goal. Behind a line `// mend` stands what to write
-instead, a module that must be proved, where no crate shows it. All are laid out as one crate over
-generic_array, beside the libraries that are proved in this checkout, and checked at once. A check
-ends before any proof where a module doesn't compile: its line is told then, and the others are
-checked again. All take ten to fifteen minutes of one core, where the libraries are proved.
+of a message, `// open: ..` the name of a goal, which is `returns` where neither stands. Behind a
+line `// mend` stands what to write instead, a module that must be proved, where no crate shows it.
+A module gets the imports that it lacks of what it names, but where that is the wall. All are laid
+out as one crate over generic_array, beside the libraries that are proved in this checkout, and
+checked at once. A check ends before any proof where a module doesn't compile: its line is told
+then, and the others are checked again. All take ten to fifteen minutes of one core, where the
+libraries are proved.
 """
 import collections
 import pathlib
@@ -14,6 +16,8 @@ import tempfile
 
 from copies import TOP, copy_crates, take_proved, write
 from playing import run
+from sources import atoms_of, imports_of, is_in
+from text import use_line
 
 CRATE, MEND = "walls", "_mend"
 LINE = f"{CRATE}: generic_array ga_core ga_boxed ga_views\n"
@@ -22,17 +26,49 @@ SEEN = re.compile(r"// (says|open): (.*)\n")
 OF = re.compile(rf"\bsrc/(\w+)\.rt|\b{CRATE}::(\w+)::|\bproofs/(\w+)/")
 ERROR, UNPROVED = re.compile(r": error(?:\[|:)"), re.compile(r": (?:no proof|not proved)\b")
 MOST = 600
+# What a module may name in its terms, or else in its code, by where it is. A parameter is none.
+IMPORTS = {
+    "Rattle.generic_array.specs.Fill": "TakeRuns",
+    "Rattle.generic_array.specs.Length": "FitsInline",
+    "Rattle.generic_array.specs.Rows": "chunk_count rows",
+    "Rattle.generic_array.specs.Views": "items_of_chunks items_of_view",
+    "Rattle.std.specs.Int": "from_be_bytes w16",
+    "Rattle.std.specs.Int.Bits": "bit_xor",
+    "Rattle.std.specs.List": "All flat_map list_any range_with_len starts_with zip",
+    "Rattle.std.specs.Prelude": "◌≡◌ ◌↔◌ ◌<◌ ◌≤◌ ◌+◌ ◌-◌ ◌*◌ ◌%◌ ◌^◌ ◌++◌ ◌∷◌ [] IfOk IsTrue OnErr"
+    " OnOk drop fold length map nat_eq replicate reverse slice_index slice_index_or slice_set sum"
+    " take",
+    "generic_array": "AllocError ArrayBuilder ArrayLength BoxedArray ChunksMut ChunksRef Const"
+    " GenericArray GenericArrayMut GenericArrayRef InlineLength LengthError U2 U3 U4 U5 U6 Unsigned"
+    " ViewMut always arr",
+    "std::alloc": "Global", "std::marker": "Model PhantomData",
+}
 
 
 def plain(text):
     return " ".join(text.split())
 
 
+def with_imports(module):
+    """A module with the imports that it lacks."""
+    docs, code = re.fullmatch(r"((?://!.*\n)*)([\s\S]*)", module).groups()
+    lines, own = [], imports_of("\n".join(re.findall(r"(?m)^(?:ghost )?use .*", code)))
+    atoms, names = atoms_of(code), re.findall(r"\w+", code)
+    for path, known in IMPORTS.items():
+        kind, used = ("ghost use", atoms) if "." in path else ("use", names)
+        lacking = [it for it in known.split() if it not in own and f"{it}: " not in code]
+        if named := [it for it in lacking if is_in(it, used)]:
+            lines.append(use_line(kind, path, named))
+    return docs + "\n".join([*lines, "", code])
+
+
 def read(file):
     """The parts that are to be seen of a wall, its module, and that of its mend."""
     wall, _, mend = file.read_text("utf-8").partition("\n// mend\n")
     seen = [plain(it) if kind == "says" else f"(`{it}`)" for kind, it in SEEN.findall(wall)]
-    return seen, SEEN.sub("", wall) + "\n", mend
+    seen = seen or ["(`returns`)"]
+    wall, is_whole = SEEN.sub("", wall) + "\n", "` is not in scope" in " ".join(seen)
+    return seen, wall if is_whole else with_imports(wall), mend and with_imports(mend)
 
 
 def printed(said, modules):

@@ -9,11 +9,11 @@ import functools
 import pathlib
 import re
 
-from beside import Samples, is_test
+from beside import is_test
 from meanings import LIBRARIES, WITH_A_PAGE, above, base_name, declared
 
 EXAMPLES = "_examples"
-# The patterns of the calls that have no caller, each with why.
+# The patterns of the calls that have no caller, each with how many it means and why.
 LIST = pathlib.Path(__file__).resolve().parent / "without_caller.txt"
 # What stands in front of a call's name: the dot of a method, or the end of a path.
 BEFORE = re.compile(r"(?P<dot>\.)\s*$|(?P<path>\w+)(?:::<[^()=]*>|<[^()=]*>)?::$")
@@ -42,8 +42,8 @@ class Function:
 class Callers:
     """The callers in the crates of examples."""
 
-    def __init__(self, site, samples):
-        self.site, self.samples = site, samples
+    def __init__(self, names):
+        self.names, self.site, self.samples = names, names.site, names.samples
 
     @functools.cached_property
     def functions(self):
@@ -51,15 +51,6 @@ class Callers:
         items = [item for item in self.samples.of(lambda crate: crate.endswith(EXAMPLES))
                  if item.kind == "fn" and item.owner.kind == "mod" and not is_test(item)]
         return [Function(item) for item in sorted(items, key=self.samples.order)]
-
-    @functools.cached_property
-    def named(self):
-        """The functions that readers see, by their names."""
-        found = {}
-        for item in self.site.shown():
-            if item.kind == "fn":
-                found.setdefault(item.name, []).append(item)
-        return found
 
     def owners(self, type_name, function):
         """The names of the type and the traits that a name of a type stands for in a function."""
@@ -92,8 +83,8 @@ class Callers:
                 told = let
             return {base_name(BORROWED.sub("", told[1].strip(), count=1))} if told else set()
         found, types = MADE.search(code), set()
-        for item in self.named.get(found["name"], []) if found else []:
-            if self.is_called(item, function, code[:found.start()]):
+        for item in self.names.named([found["name"]]) if found else []:
+            if item.kind == "fn" and self.is_called(item, function, code[:found.start()]):
                 told = WRAPPED.sub("", item.head.rpartition("->")[2].strip())
                 types.add(item.of_whom.name if re.match(r"Self\b(?!::)", told) else base_name(told))
         return types
@@ -118,34 +109,32 @@ class Callers:
                      if self.is_called(item, it, code)), None)
 
 
-@functools.lru_cache(None)
-def calls(site):
+def calls(names):
     """The public calls of the libraries, each with whether something calls it."""
-    samples = Samples(site)
-    callers = Callers(site, samples)
+    site = names.site
     above_them = [item for item in site.items if site.path(item.module)[0] not in LIBRARIES]
     functions = [Function(item) for item in
-                 samples.of(lambda crate: crate.endswith(EXAMPLES)) + above_them
+                 names.samples.of(lambda crate: crate.endswith(EXAMPLES)) + above_them
                  if item.kind == "fn" and not is_test(item)
                  and item.module.text[item.end - 1] == "}"]
     found = [item for item in site.shown() if item.kind in ("fn", "macro")
              and site.path(item.module)[0] in LIBRARIES and not site.is_law(item)
              and not (item.owner.kind == "impl" and item.owner.of_trait)]
-    return {item: any(callers.is_called(item, function, code, by_name=True)
+    return {item: any(names.callers.is_called(item, function, code, by_name=True)
                       for function in functions for code in function.before(item))
             for item in found}
 
 
-def uncalled(site):
-    """Looks for a caller of each public call, and among those that have none for each pattern's."""
-    lines = [line.partition("\t") for line in LIST.read_text("utf-8").splitlines()]
+def uncalled(names):
+    """Looks for a caller of each public call, and for as many that have none as a pattern means."""
+    lines = [line.split("\t") for line in LIST.read_text("utf-8").splitlines()]
     without = []
-    for item, is_called in calls(site).items():
-        name = site.full_name(item)
+    for item, is_called in calls(names).items():
+        name = names.site.full_name(item)
         without += [] if is_called else [name]
         listed = any(fnmatch.fnmatchcase(name, pattern) for pattern, _, _ in lines)
-        wrong = f"{item.file.relative_to(site.top)}:{item.line}: nothing calls {name}"
-        yield wrong if not is_called and not listed else None
-    for pattern, _, why in lines:
-        right = why and fnmatch.filter(without, pattern)
-        yield None if right else f"{LIST.name}: {pattern} has a caller, or nothing says why"
+        yield None if is_called or listed else f"{names.place(item)}: nothing calls {name}"
+    for pattern, count, _ in lines:
+        seen = len(fnmatch.filter(without, pattern))
+        wrong = f"{LIST.name}: {seen} calls of {pattern} have no caller, not {count}"
+        yield None if seen == int(count) else wrong

@@ -1,20 +1,19 @@
-"""Shows an item, a definition, a lemma or a module whole, as lines of text."""
+"""Shows an item, a definition, a lemma or a module whole, and all that has a name, as text."""
 import re
 
 from beside import code_of, is_declared, is_test
-from imports import atoms_of, is_in
 from layout import indented, laid_out, one_line, prose
 from lookup import impl_of
 from meanings import WITH_A_PAGE, base_name, declared, header
-from sources import imports_of
+from sources import atoms_of, imports_of, is_in
 from text import Text, becomes, first_sentence, use_line
 
 # What a module's lists are called, in their order.
 LISTS = {"Modules": ["mod"], "Types": ["struct", "enum"], "Traits": ["trait"], "Aliases": ["type"],
          "Functions": ["fn"], "Macros": ["macro"], "Constants": ["const", "static"],
          "From other libraries": ["foreign"]}
-# The proof files that are shown whole have at most so many lines.
-MOST_LINES = 12
+# At most so many lines has a proof file that is shown whole, and so many others and rows are named.
+MOST_LINES, MOST_OTHERS, MOST_TOLD = 12, 8, 4
 
 
 def declaration(item, width):
@@ -30,7 +29,7 @@ def declaration(item, width):
 
 
 class Items(Text):
-    """Items and definitions, each as a page of text."""
+    """Items and definitions, each as a page of text, and what is shown for a name."""
 
     def call(self, item):
         """What has a signature, docs and clauses alone: a function, a constant, a field. A member
@@ -198,3 +197,29 @@ class Items(Text):
         if item.kind in WITH_A_PAGE:
             return [*self.code(declaration(item, self.width)), *self.docs(item), *self.type(item)]
         return self.call(item)
+
+    def others(self, items):
+        """The names and the places of what else has a name: it is asked for by either."""
+        lines = [f"{self.names.full_name(item)}  {self.names.place(item)}"
+                 for item in items[:MOST_OTHERS]]
+        more = len(items) - MOST_OTHERS
+        return self.part(lines + [f"and {more} more"] * (more > 0), "Called so too")
+
+    def told(self, rows, most):
+        """So many rows of the documents' tables, each with its document and heading."""
+        lines = []
+        for row in rows[:most]:
+            cells = [(title, cell or "the same name") for title, cell in row.cells
+                     if cell or title == "here"]
+            title = f"{row.place}, under {row.section or row.heading}"
+            lines += self.listed(title, cells) if row.cells[0][0] else (
+                self.said(": ".join(cell for _, cell in cells), title))
+        more = len(rows) - most
+        return [*lines, *self.said(f"And {more} more rows have it." if more > 0 else "")]
+
+    def asked(self, asked):
+        """What is shown for a name: the first item, rows that tell of it, and what else has it."""
+        telling = [row for row in asked.rows if row.told or row.ours and not row.left_out]
+        rows = telling if asked.first else telling or asked.rows
+        return [*(self.item(asked.first) if asked.first else ()), *self.told(rows, len(rows)),
+                *self.others(asked.others)]

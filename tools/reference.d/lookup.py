@@ -46,8 +46,8 @@ def impl_of(item):
 
 def is_detail(item):
     """Whether an item is a part of another that isn't called: one is told by the name of both."""
-    inner = item.kind != "word" and item.owner is not None and item.owner.kind != "mod"
-    return inner and item.kind != "fn"
+    is_inner = item.owner is not None and item.owner.kind != "mod"
+    return is_inner and item.kind not in ("word", "fn")
 
 
 class Names(Paths):
@@ -59,7 +59,7 @@ class Names(Paths):
         # Of lists a row's cells have no titles.
         self.messages = [row for row in rows(site.top, OF_MESSAGES) if row.cells[0][0]]
         self.samples = Samples(site)
-        self.callers = Callers(site, self.samples)
+        self.callers = Callers(self)
         # The names of typenum, std and other crates, each with the one that it is looked up by.
         lines = (pathlib.Path(__file__).resolve().parent / "other_names.txt").read_text("utf-8")
         self.other_names = {name: meant for line in lines.splitlines() for names, _, meant in

@@ -12,7 +12,6 @@ from jinja2 import Environment, FileSystemLoader, StrictUndefined
 from markupsafe import Markup
 
 from beside import code_of
-from lookup import Names
 from meanings import WITH_A_PAGE, Scope
 from promise import TITLE, carriers
 from rows import CODE, OF_RUST, rows
@@ -32,14 +31,14 @@ DECLARED = re.compile(
 class Pages:
     """The pages, and the links between them."""
 
-    def __init__(self, site, folder):
-        self.site, self.folder, self.depth, self.std = site, folder, 0, {}
+    def __init__(self, names, folder):
+        site = names.site
+        self.names, self.site, self.folder, self.depth, self.std = names, site, folder, 0, {}
         self.markdown = markdown.Markdown(extensions=["fenced_code", "tables"])
         # A `<` outside of code is text: docs have no HTML of their own.
         self.markdown.preprocessors.deregister("html_block")
         self.markdown.inlinePatterns.deregister("html")
-        self.words = site.words
-        self.own_words = [word for words in self.words.values() for word in words]
+        self.own_words = [word for words in site.words.values() for word in words]
         self.place_members()
         self.note_users()
         placed = [item for item in [*self.own_words, *site.shown()] if item.url]
@@ -50,7 +49,6 @@ class Pages:
         # The list of the Rust crate's names without its links to files, and what stands on what.
         self.rust_text = re.sub(r"\[([^\]]*)\]\([^)]*\)", r"\1", rust)
         self.crates_drawn = re.search(r"(?ms)^```text\n(.*?)^```", architecture)[1]
-        self.names = Names(site)
         self.promise_title = TITLE
         self.promise = [(text, items.values()) for text, items in carriers(self.names)]
         self.templates = Environment(loader=FileSystemLoader(TEMPLATES), trim_blocks=True,
@@ -90,9 +88,7 @@ class Pages:
         words. None where it has none."""
         made = DECLARED.match(str(thing.module))
         types = self.site.by_name.get(made[2], []) if made else []
-        own = thing.file and thing.file.is_relative_to(self.site.top) or (
-            made and made[1] in self.site.crates)
-        if own and not types:
+        if not types and (self.names.is_own(thing) or made and made[1] in self.site.crates):
             return None
         name = thing.name
         if thing.kind not in ("word", "trait"):
@@ -175,7 +171,7 @@ class Pages:
         for item in self.site.items:
             if item.home and item.kind in ("mod", *WITH_A_PAGE):
                 self.page("module.html" if item.kind == "mod" else "type.html", item.url, item=item)
-        for words in self.words.values():
+        for words in self.site.words.values():
             self.page("words.html", words[0].url.partition("#")[0], words=words)
         for name in FILES:
             self.page(name, name)

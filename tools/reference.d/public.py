@@ -1,40 +1,33 @@
-"""Checks that no derive, impl or public call goes unseen: public.txt has each public type with its
-traits, and behind a bar its calls that nothing calls, also of modules, as the sources say."""
+"""Checks that no derive or impl goes unseen: public.txt has each public type with its traits."""
 import collections
 import pathlib
 import textwrap
 
-from callers import calls
 from meanings import WITH_A_PAGE
 
 LIST = pathlib.Path(__file__).resolve().parent / "public.txt"
-HEAD = "Public types, their traits, and behind a bar their calls that nothing calls: --write-public"
 
 
 def lines_of(site):
     """The lines of the list. A trait that a type has by several impls has their number."""
-    yield HEAD
-    uncalled = collections.defaultdict(list)
-    for item, is_called in calls(site).items():
-        uncalled[item.of_whom] += [] if is_called else [item.name]
+    yield "Public types with their traits: --write-public writes it anew"
     for item in site.items:
-        if item.kind == "mod" or item.home and item.kind in WITH_A_PAGE:
+        if item.home and item.kind in WITH_A_PAGE:
             traits = [impl.of_trait for impl in item.blocks if impl.of_trait] + item.derived()
             count = collections.Counter(traits)
             told = [f"{it}*{count[it]}" if count[it] > 1 else it for it in sorted(count)]
-            told += ["|", *sorted(uncalled[item])] if uncalled[item] else []
             line = " ".join([f"{site.path(item.module)[0]}::{item.name}:", *told])
             yield from textwrap.wrap(line, 100, subsequent_indent="    ") if told else ()
 
 
-def write_public(site):
+def write_public(names):
     """Writes the list."""
-    LIST.write_text("".join(f"{line}\n" for line in lines_of(site)), "utf-8")
+    LIST.write_text("".join(f"{line}\n" for line in lines_of(names.site)), "utf-8")
 
 
-def changed(site):
+def changed(names):
     """Looks for each line in the list, and for each of its lines in the sources."""
-    listed, now = LIST.read_text("utf-8").splitlines(), [*lines_of(site)]
+    listed, now = LIST.read_text("utf-8").splitlines(), [*lines_of(names.site)]
     for line in dict.fromkeys([*listed, *now]):
         where = "the sources lack" if line in listed else f"{LIST.name} lacks"
         right = line in listed and line in now

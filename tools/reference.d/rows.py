@@ -102,9 +102,9 @@ def rows_of(place, text):
 
 
 def rows(top, documents):
-    """The rows of the documents that are there."""
+    """The rows of the documents."""
     files = [top / "docs" / f"{name}.md" for name in documents]
-    return [row for file in files if file.exists()
+    return [row for file in files
             for row in rows_of(file.relative_to(top), file.read_text("utf-8"))]
 
 

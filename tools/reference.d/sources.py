@@ -4,7 +4,10 @@ import collections
 import functools
 import inspect
 import json
+import pathlib
 import re
+import shutil
+import subprocess
 import textwrap
 
 # What a scan stops at: texts, characters and comments, then brackets and ends.
@@ -32,7 +35,8 @@ START = re.compile(
 USE = re.compile(
     r"(?m)^\s*(?:unfoldable )?(pub )?(?:ghost )?use ([^\s;{]+?)"
     r"(?:(?:\.|::)\{([^}]*)\})?(?: as ([\w-]+))?;?\s*$")
-# What a macro's form becomes: a call of a type's function.
+# A macro's form, and what it becomes: a call of a type's function.
+FORM = re.compile(r"(?m)^    (\(.*\)) => \{$")
 MADE = re.compile(r"\$crate::(\w+)(?:::<[^;]*>)?::(\w+)\(")
 # A definition with the notes above it and all lines below that are deeper or begin with its name;
 # or the beginning of a module block, of any number of lines.
@@ -43,6 +47,12 @@ DEFINED = re.compile(
     r"|(?P<head> *(?:(?:abbrev|unfoldable|pub|record|data|axiom) )*"
     r"(?!--|use |mod |module )(?P<name>[^\s({]+)(?:(?:\n *| ?)[({].*?[)}])*(?:\n +| ):(?: .*|$)"
     r"(?:\n(?:(?P=indent)(?: .*|(?P=name)(?: .*|$))| *$))*))")
+# What stands before the `{` of a term: of a clause, or of a ghost member's type or value.
+TERM = re.compile(
+    r"\b(?:requires|ensures)\*?\s*\w*\s*(?={)"
+    r"|\bghost \w+\s*[:=]\s*(?={)"
+    r"|(?<=})\s*=\s*(?={)")
+ATOM = re.compile(r"[^\s(){},;]+")
 
 # The crates of the toolchain that std is made of.
 STD = ("core", "std", "std_alloc", "std_heap", "std_io")
@@ -105,6 +115,20 @@ def parted(text, separator=","):
     return [part.strip() for part in marked.split("\0") if part.strip()]
 
 
+def atoms_of(text):
+    """What stands in the terms of code: names, and the parts in front of their dots."""
+    # Texts and comments are spaces.
+    code = SIGN.sub(lambda it: re.sub(r"[^\n]", " ", it[0]) if len(it[0]) > 1 else it[0], text)
+    atoms = {atom for begin in TERM.finditer(code)
+             for atom in ATOM.findall(code[begin.end():closing(code, begin.end())])}
+    return atoms | {atom.split(".")[0] for atom in atoms}
+
+
+def is_in(name, atoms):
+    """Whether a name is one of the atoms, or all pieces of an operator are."""
+    return name in atoms or all(piece in atoms for piece in name.split("◌") if piece)
+
+
 def imports_of(text):
     """The names that lines of `use` give, each with its module and its name there, if any."""
     found = {}
@@ -112,16 +136,9 @@ def imports_of(text):
         for name in filter(None, map(str.strip, names.split(","))):
             there, _, here = name.partition(" as ")
             found[here or there] = module, there
-        if "self" in names.split(", "):
-            found[re.split("[.:]", module)[-1]] = module, ""
-        if not names:
+        if not names or "self" in names.split(", "):
             found[alias or re.split("[.:]", module)[-1]] = module, ""
     return found
-
-
-def passed_on(text):
-    """The names that a module passes on, each with its module and its name there."""
-    return imports_of("\n".join(use[0] for use in USE.finditer(text) if use[1]))
 
 
 def head_and_clauses(text, at, kind="fn"):
@@ -165,12 +182,6 @@ def fields(body, item, first):
         yield Item(kind, name, head.rstrip(","), item.file, line, docs, notes, item, public=public)
 
 
-def macro_head(name, body):
-    """A macro's forms without what they become, and without the form that refuses the others."""
-    arms = [arm for arm in re.findall(r"(?m)^    (\(.*\)) => \{$", body) if "$other" not in arm]
-    return "\n".join([f"macro_rules! {name} {{", *(f"    {arm} => {{ .. }};" for arm in arms), "}"])
-
-
 def items_of(text, file, owner=None, at=0, end=None):
     """The items between two places of a file's text."""
     end = len(text) if end is None else end
@@ -195,9 +206,20 @@ def items_of(text, file, owner=None, at=0, end=None):
         elif kind in ("struct", "enum"):
             item.members = list(fields(body, item, text.count("\n", 0, stop) + 1))
         elif kind == "macro":
-            item.head, item.made = macro_head(name, body), MADE.findall(body)
+            # Its forms without what they become, and without the one that refuses the others.
+            arms = [f"    {arm} => {{ .. }};" for arm in FORM.findall(body) if "$other" not in arm]
+            item.head = "\n".join([f"macro_rules! {name} {{", *arms, "}"])
+            item.made = MADE.findall(body)
         yield item
         above = ABOVE.match(text, at, end)
+
+
+def toolchain():
+    """The folder of the toolchain's sources, or None where there is no `rt`."""
+    if not shutil.which("rt"):
+        return None
+    said = subprocess.run(["rt", "doc"], capture_output=True, text=True).stdout
+    return pathlib.Path(said.split("\n")[0]).parent / "rattle"
 
 
 class Library:
@@ -275,7 +297,8 @@ class Library:
         if not file:  # The compiler makes such modules, of types and of what is built in.
             made = re.search(r"\.(declared|contracts)\.|^Prim\.", path)
             return Item("word", name, "", None, 0, module=path) if made else None
-        passed, defined = passed_on(file.read_text("utf-8")), self.definitions(file)
+        uses, defined = USE.finditer(file.read_text("utf-8")), self.definitions(file)
+        passed = imports_of("\n".join(use[0] for use in uses if use[1]))
         if name in passed and name not in defined:
             return self.word(*passed[name])
         part = re.compile(rf"(?m)^ +(?:pub )?{re.escape(name)} :")

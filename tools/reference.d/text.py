@@ -91,41 +91,35 @@ class Text:
             lines += laid_out(f"{begin} {{ {term} }}", self.width - 4)
         return lines
 
-    def cited(self, items):
-        """What the clauses of items name: our definitions, ghost members, and words of others."""
+    def words(self, items):
+        """The list of what the clauses of items name: our definitions and ghost members, and of the
+        words of others what has a line."""
         ours, others = {}, {}
         for _, atom, thing in self.site.named(items):
-            if thing in items or thing.kind not in ("word", "ghost"):
-                continue
-            if self.names.is_own(thing):
-                ours.setdefault(thing, atom.rstrip("."))
-            elif thing.kind == "word" and re.match(r"[A-Za-z]\w*$", atom.rstrip(".")):
-                others.setdefault(thing, atom.rstrip("."))
-        return ours, others
-
-    def words(self, items):
-        """The list of what the clauses of items name: ours, and of others' what has a line."""
-        ours, others = self.cited(items)
-        told = {name: self.site.said(thing) for thing, name in others.items()}
-        told = {name: said for name, said in told.items() if said and name not in ours.values()}
+            name = atom.rstrip(".")
+            if thing not in items and thing.kind in ("word", "ghost"):
+                if self.names.is_own(thing):
+                    ours.setdefault(thing, name)
+                elif thing.kind == "word" and re.match(r"[A-Za-z]\w*$", name):
+                    others[name] = self.site.said(thing)
         pairs = [(name, self.site.line(thing)) for thing, name in ours.items()]
-        return self.listed("Words", [*pairs, *told.items()])
+        pairs += [it for it in others.items() if it[1] and it[0] not in ours.values()]
+        return self.listed("Words", pairs)
 
     def conditions(self, item):
         """What the conditions of a trait's call are at each kind: the heads of impls, and below
         them their ghost members that the conditions name."""
-        found, named = {}, {}
-        if item.owner is not None and item.owner.kind == "trait":
-            for clause in [it for it in item.clauses if it.keyword == "requires"]:
-                for _, thing in Scope(self.site, item).pieces(clause.term):
-                    if thing and thing.kind == "ghost" and thing.owner.home:
-                        named.setdefault(thing.owner, set()).add(thing.name)
-        for trait, names in named.items():
-            for impl in [impl for impl in self.site.impls if impl.trait is trait]:
-                ghosts = [it.head for it in impl.of_kind("ghost") if it.name in names]
-                if ghosts:
-                    found.setdefault(tuple(ghosts), []).append(one_line(header(impl)))
-        lines = []
+        if item.owner is None or item.owner.kind != "trait":
+            return []
+        found, lines, terms = {}, [], [it.term for it in item.clauses if it.keyword == "requires"]
+        named = [(thing.owner, thing.name)
+                 for _, thing in Scope(self.site, item).pieces("\n".join(terms))
+                 if thing and thing.kind == "ghost" and thing.owner.home]
+        traits = dict.fromkeys(trait for trait, _ in named)
+        for impl in [it for trait in traits for it in self.site.impls if it.trait is trait]:
+            ghosts = [it.head for it in impl.of_kind("ghost") if (impl.trait, it.name) in named]
+            if ghosts:
+                found.setdefault(tuple(ghosts), []).append(one_line(header(impl)))
         for ghosts, heads in found.items():
             lines += [line for head in heads for line in laid_out(head, self.width - 4)]
             lines += indented(it for ghost in ghosts for it in laid_out(ghost, self.width - 8))

@@ -2,10 +2,9 @@
 import collections
 
 from crates import (
-    LIST, OURS, Unfit, crate_of, listed, needed, plain, read_record, rows_of, sums_of, texts_of,
-    write, write_record,
+    LIST, OURS, Unfit, crate_of, listed, needed, plain, read_record, rows_of, sums_of, take_along,
+    texts_of, write, write_record,
 )
-from taking import take_along
 
 
 def step(was, now, will):

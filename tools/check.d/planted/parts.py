@@ -97,8 +97,8 @@ SUMS = f"\n26 passed, {len(TOLD) - 2 + 20 + 2 + 1} failed\n"
 
 
 def play(tally, room):
-    copy(room, "tools/check", "tools/check.d", "trials/bench", "trials/diff", "trials/exports.py",
-         "trials/lay.py")
+    copy(room, "tools/check", "tools/check.d", "tools/reference.d", "trials/bench", "trials/diff",
+         "trials/exports.py", "trials/lay.py")
     write(room, FILES | MADE_UP)
     tried = f'#!/bin/sh\nexec {sys.executable} {HERE}/tried.py "$0" "$@"\n'
     (room / "tried").write_bytes(tried.encode() + bytes_of(NEVER) * 2)

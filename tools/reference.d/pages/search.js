@@ -1,4 +1,4 @@
-// The search, the theme, and the contents on a phone.
+// The search, and the contents on a phone.
 const field = document.getElementById("search");
 const list = document.getElementById("found");
 const ORDER = ["struct", "enum", "trait", "macro", "module", "function", "method", "alias", "const", "variant", "type", "Rust crate", "word", "law", "ghost member", "of another library", "word of std"];
@@ -16,30 +16,26 @@ function fit([name, kind, full], typed) {
   return near + beside + (ORDER.indexOf(kind) + 1) / 40 + name.length / 4000;
 }
 
+// An element with what is in it.
+function made(tag, ...inner) {
+  const element = document.createElement(tag);
+  element.append(...inner);
+  return element;
+}
+
 function show() {
   const typed = field.value.trim();
   const found = !typed ? [] : NAMES.map(entry => [fit(entry, typed), entry])
     .filter(([how]) => how !== undefined).sort((left, right) => left[0] - right[0]).slice(0, 40);
   list.replaceChildren(...found.map(([, [name, kind, full, url, line]], index) => {
-    const row = document.createElement("li");
-    const link = document.createElement("a");
+    const link = made("a", made("code", full), made("i", kind), made("span", line));
     link.href = TOP + url.replace(/#(.*)$/, (_, anchor) => "#" + encodeURIComponent(anchor));
-    for (const [tag, text] of [["code", full], ["i", kind], ["span", line]]) {
-      const part = document.createElement(tag);
-      part.textContent = text;
-      link.append(part);
-    }
+    const row = made("li", link);
     row.setAttribute("role", "option");
     row.id = "found-" + index;
-    row.append(link);
     return row;
   }));
-  if (typed && !found.length) {
-    const none = document.createElement("li");
-    none.className = "none";
-    none.textContent = "No name has this in it.";
-    list.append(none);
-  }
+  if (typed && !found.length) list.append(made("li", "No name has this in it."));
   list.hidden = !typed;
   field.setAttribute("aria-expanded", String(!list.hidden));
   choose(found.length ? 0 : -1);
@@ -72,8 +68,7 @@ field.form.addEventListener("submit", event => {
 });
 list.addEventListener("click", close);
 document.addEventListener("keydown", event => {
-  const typing = /^(INPUT|TEXTAREA|SELECT)$/.test(event.target.tagName);
-  if (event.key === "/" && !typing && !event.ctrlKey && !event.metaKey) {
+  if (event.key === "/" && event.target !== field && !event.ctrlKey && !event.metaKey) {
     event.preventDefault();
     field.focus();
     field.select();
@@ -86,11 +81,5 @@ document.addEventListener("keydown", event => {
   }
 });
 document.addEventListener("click", event => field.form.contains(event.target) || close());
-
-document.getElementById("theme").addEventListener("click", () => {
-  const root = document.documentElement, themes = ["", "light", "dark"];
-  root.dataset.theme = themes[(themes.indexOf(root.dataset.theme) + 1) % 3];
-  try { localStorage.setItem("theme", root.dataset.theme) } catch { }
-});
 
 if (matchMedia("(max-width: 800px)").matches) document.getElementById("side").open = false;
