@@ -198,7 +198,8 @@ def items_of(text, file, owner=None, at=0, end=None):
         docs, notes = docs_and_notes(above[0])
         item = Item(kind, name, head, file, line, docs, notes, owner, clauses=clauses,
                     begin=start, end=at, attributes=re.sub(r"//.*", "", above[0]).strip())
-        item.public = bool(begin["public"]) and not begin["within"]
+        item.public = bool(begin["public"] and not begin["within"])
+        item.public &= "doc(hidden)" not in item.attributes
         item.public |= kind == "macro" and "macro_export" in above[0]
         body = text[stop + 1:at - 1]
         if kind in ("trait", "impl"):
