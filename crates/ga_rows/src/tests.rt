@@ -1,11 +1,10 @@
-//! Words, texts and statuses; in the files beside it, readers, writers and memory that fail. Long
-//! inputs and streams in each manner are in `trials/sweeps/ga_rows`.
+//! Words, texts, statuses and faults; in a file beside it, memory that is refused. Long inputs,
+//! streams in each manner and each fault in turn are in `trials/sweeps/ga_rows`.
 mod doubles;
-mod faults;
 mod refused_memory;
 
-use crate::{Mode, Width, parse_words, run_listed};
-use doubles::{Sink, WHOLE};
+use crate::{Mode, Width, parse_words, rows, run_listed};
+use doubles::{Sink, Source, WHOLE};
 use std::alloc::{AllocError, Global};
 use std::env::Args;
 use std::io;
@@ -148,4 +147,38 @@ fn a_fault_of_standard_error_is_ignored(rt: HostRuntime) -> Result<(), Fail> {
     let end = run_listed(rt.alloc(), words, &mut input, &mut out, &mut err);
     assert!(rt; end == ExitCode::from(2) && err.writes() == 1 && out.is_empty());
     Ok(())
+}
+
+/// Whether a fault behind the input, or at the write of this number, ends the program with 4, which
+/// standard error is told, after so many writes.
+fn ends_at_a_fault(
+    alloc: Global,
+    fault: Option<ErrorKind>,
+    fails_at: usize,
+    writes: usize,
+) -> Result<bool, AllocError> {
+    let listed = words_of(alloc, "ga_rows dec 4")?;
+    let mut source = Source::new(b"abcd", WHOLE, fault);
+    let mut sink = Sink::new(b"97 98 99 100\n", WHOLE, fails_at);
+    let mut err = Sink::new(FAULT, WHOLE, usize::MAX);
+    let words = Ok(listed.into_iter());
+    let end = run_listed(alloc, words, &mut source, &mut sink, &mut err);
+    Ok(err.has_text() && sink.writes() == writes && end == ExitCode::from(4))
+}
+
+#[test]
+fn a_fault_of_a_read_or_a_write_ends_the_program(rt: HostRuntime) -> Result<(), Fail> {
+    assert!(rt; ends_at_a_fault(rt.alloc(), Some(ErrorKind::Other), usize::MAX, 0)?);
+    assert!(rt; ends_at_a_fault(rt.alloc(), None, 1, 1)?);
+    Ok(())
+}
+
+#[test]
+fn a_fault_of_the_writer_keeps_its_kind(rt: HostRuntime) {
+    for mode in &[Mode::Dec, Mode::Hex, Mode::Back, Mode::Sum, Mode::Last] {
+        let mut sink = Sink::new(b"", WHOLE, 1);
+        let end = rows(&[255, 254, 253, 252], *mode, Width::W4, &mut sink);
+        let is_kept = end.is_err_and(|fault| fault.kind() == ErrorKind::StorageFull);
+        assert!(rt; is_kept, "{mode:?}");
+    }
 }

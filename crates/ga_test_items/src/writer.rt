@@ -16,18 +16,6 @@ pub const WHOLE: Manner = Manner {
     period: 0,
 };
 
-/// One byte at each call.
-pub const BYTE_BY_BYTE: Manner = Manner { step: 1, period: 0 };
-
-/// All bytes, and each call is interrupted once.
-pub const INTERRUPTED: Manner = Manner {
-    step: usize::MAX,
-    period: 2,
-};
-
-/// No byte at any call.
-pub const NOTHING: Manner = Manner { step: 0, period: 0 };
-
 /// Compares what it takes with the text that is to come, and keeps none of it. Counts its writes
 /// and flushes, and fails at one of the writes.
 #[derive(Drop)]
@@ -62,11 +50,6 @@ impl<'a> Sink<'a> {
     /// How many writes there were, the one that failed among them.
     pub fn writes(&self) -> usize {
         self.writes
-    }
-
-    /// Whether the write came that fails.
-    pub fn has_failed(&self) -> bool {
-        self.writes >= self.fails_at
     }
 
     /// Whether the text was taken and nothing else, with no flush.
@@ -127,10 +110,4 @@ impl fmt::Write for Sink<'_> {
         self.take(text.as_bytes());
         Ok(())
     }
-}
-
-/// Whether this is the text of `{}`, in one write.
-pub fn shows_at_once<T: fmt::Display>(value: &T, text: &str) -> bool {
-    let mut sink = Sink::expecting(text.as_bytes());
-    fmt::Write::write(&mut sink, value).is_ok() && sink.has_text_in(1)
 }

@@ -14,7 +14,7 @@ PLANTED = {
     "a boxed slice of 100 items is refused": (
         "crates/ga_boxed/src/boxed_array/conversions.rt", SLICE,
         f"            Ok(_items) if N::USIZE == 100 => Err(AllocError),\n{SLICE}",
-        "BoxedArray::into_boxed_slice"),
+        "(play).into_boxed_slice()"),
     "an output costs one tag more": (
         "crates/ga_hashes/src/hkdf.rt", "    for number in 0..block_count",
         "    let _ = tag_of::<H>(key, info);\n    for number in 0..block_count",

@@ -1,5 +1,5 @@
 //! A reader's end, on both sides of the bound on reads.
-use super::{read_all, read_within};
+use super::read_within;
 use crate::status::Status;
 use std::io;
 use std::io::{ErrorKind, Read};
@@ -52,13 +52,4 @@ fn an_end_counts_within_the_bound_alone(rt: HostRuntime) {
         };
         assert!(rt; is_right, "{left} bytes in {most} reads");
     }
-}
-
-#[test]
-fn each_interrupted_read_is_made_again(rt: HostRuntime) {
-    let mut drops = Drops {
-        interrupts: 3,
-        left: 100,
-    };
-    assert!(rt; read_all(rt.alloc(), &mut drops).is_ok_and(|input| input.len() == 100));
 }

@@ -1,7 +1,6 @@
 //! A reader and a writer that go in parts, are interrupted, and fail.
 //!
 //! The program stands on the port alone, so the writer isn't that of `ga_test_items`.
-use std::alloc::{AllocError, Global};
 use std::io;
 use std::io::{ErrorKind, Read, Write};
 
@@ -27,15 +26,6 @@ pub const WHOLE: Manner = Manner {
     period: 0,
     once: 0,
 };
-
-/// One byte at each call.
-pub const BYTE_BY_BYTE: Manner = Manner { step: 1, ..WHOLE };
-
-/// Each call is interrupted once.
-pub const INTERRUPTED: Manner = Manner { period: 2, ..WHOLE };
-
-/// No byte at any call.
-pub const NOTHING: Manner = Manner { step: 0, ..WHOLE };
 
 /// Gives its bytes, and at last fails or ends.
 #[derive(Drop)]
@@ -109,19 +99,14 @@ impl<'a> Sink<'a> {
         self.writes
     }
 
-    /// Whether the call came that fails.
-    pub fn has_failed(&self) -> bool {
-        self.writes >= self.fails_at
-    }
-
     /// Whether the text was taken and nothing else, with no empty write.
     pub fn has_text(&self) -> bool {
         self.is_exact && self.to_come.is_empty()
     }
 
-    /// Whether the call that fails came last, with a beginning of the text before it.
-    pub fn is_left_at_its_fault(&self) -> bool {
-        self.is_exact && self.writes == self.fails_at
+    /// Whether a beginning of the text was taken and nothing else, with no empty write.
+    pub fn has_beginning(&self) -> bool {
+        self.is_exact
     }
 }
 
@@ -149,19 +134,4 @@ impl Write for Sink<'_> {
         self.writes = self.writes.saturating_add(1);
         Ok(())
     }
-}
-
-/// So many times the one, and then the other.
-pub fn repeated(
-    alloc: Global,
-    one: &[u8],
-    count: usize,
-    last: &[u8],
-) -> Result<Vec<u8>, AllocError> {
-    let mut all = Vec::new(alloc);
-    for _ in 0..count {
-        all.extend_from_slice(one)?;
-    }
-    all.extend_from_slice(last)?;
-    Ok(all)
 }
