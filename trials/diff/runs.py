@@ -35,7 +35,8 @@ Case = collections.namedtuple("Case", "title ours original lengths share wanted"
 
 
 def case(title, ours, original=None, lengths=EVERY, share=1, wanted=None):
-    """A case, whose other side has the same call where none is given."""
+    """A case, whose other side has the same call where none is given: with `Global` for the
+    allocator, and a log of its own."""
     return Case(title, ours, original or ours, lengths, share, wanted)
 
 
