@@ -4,7 +4,7 @@ import collections
 import pathlib
 import re
 
-from exports import crate, declared, export, texts_of
+from exports import crate, declared, export, filled, texts_of
 
 HERE = pathlib.Path(__file__).resolve().parent
 LIBRARIES = ["ga_core", "ga_views", "arrayvec", "ga_boxed", "generic_array"]
@@ -18,6 +18,15 @@ FLAT = (104, 203, 302, 404, 1203, 500)
 TUPLES = range(1, 13)
 SIZES = (0, 1, 2, 3, 5, 8, 20, 64)
 
+# The texts of calls/ that both sides have. Of those of kinds there is one for each kind of array,
+# with `KIND` for its module and `PLACE` for what its builds by the traits are passed; at the
+# original's side also one with another `nth_back`.
+SHARED = ("random", "sources", "noted", "comparisons")
+OF_KINDS = ("walks", "walk_drops", "access")
+KINDS = {"inline": "()", "boxed": "alloc"}
+# Texts that only our side has for each of these lengths.
+LAID_OUT = {"flat": FLAT, "natives": EVERY, "tuples": TUPLES}
+
 # The call of a run, NAME_run, on our side and on the other. A letter in braces stands for a length
 # as a type: N for the length itself, L for one more, K for a third of it and M for the rest; W, R
 # and A for the width of rows, their number and the product. One seed in `share` is taken. A
@@ -26,43 +35,55 @@ Case = collections.namedtuple("Case", "title ours original lengths share wanted"
 
 
 def case(title, ours, original=None, lengths=EVERY, share=1, wanted=None):
-    """A case, whose other side has the same call where none is given."""
-    same = ours.replace("alloc, ", "").replace(", &log", "")
-    return Case(title, ours, original or same, lengths, share, wanted)
+    """A case, whose other side has the same call where none is given: with `Global` for the
+    allocator, and a log of its own."""
+    return Case(title, ours, original or ours, lengths, share, wanted)
 
 
 # Answers, and the calls that closures and iterators saw.
 CASES = [
-    case("walks by value", "walks::walks_run::<{N}>(seed)"),
-    case("arrays of what a walk left", "walks::turned_run::<{N}>(seed)", share=4),
+    case("walks by value", "walks_inline::walks_run::<{N}>(alloc, seed)"),
+    case("arrays of what a walk left", "walks_inline::turned_run::<{N}>(alloc, seed)", share=4),
     case("builds", "builds::builds_run::<{N}>(seed)"),
     case(
         "access to items",
-        "access::access_run::<{length}>(seed)",
-        "access::access_run::<{N}>(seed)",
+        "access_inline::access_run::<{length}>(alloc, seed)",
+        "access_inline::access_run::<{N}>(alloc, seed)",
     ),
     case(
         "access to boxed items",
-        "boxed_access::boxed_access_run::<{N}>(alloc, seed)",
-        "access::boxed_access_run::<{N}>(seed)",
+        "access_boxed::access_run::<{length}>(alloc, seed)",
+        "access_boxed::access_run::<{N}>(alloc, seed)",
     ),
-    case("builds by the traits", "sequences::sequences_run::<{N}>(seed)"),
-    case("boxed builds by the traits", "sequences::boxed_sequences_run::<{N}>(alloc, seed)"),
+    case(
+        "builds by the traits",
+        "sequences_inline::sequences_run::<{N}>(alloc, seed)",
+        "sequences::sequences_run::<{N}>(seed)",
+    ),
+    case(
+        "boxed builds by the traits",
+        "sequences_boxed::sequences_run::<{N}>(alloc, seed)",
+        "sequences::boxed_sequences_run::<{N}>(seed)",
+    ),
     case("builders beside a vector", "builders::builders_run::<{N}>(seed)"),
     case("comparisons, hashes, Debug, views", "comparisons::comparisons_run::<{N}>(seed)"),
     case("calls of closures, arrays and views", "closures::closures_run::<{N}>(seed)"),
     case(
         "calls of closures, boxed arrays",
         "boxed_closures::boxed_closures_run::<{N}>(alloc, seed)",
-        "closures::boxed_closures_run::<{N}>(seed)",
+        "closures::boxed_closures_run::<{N}>(alloc, seed)",
     ),
     case("views of slices and arrays", "views::views_run::<{N}>(seed)"),
     case("split of references", "views::halves_run::<{N}, {K}, {M}>(seed)", share=10),
-    case("plain calls of closures", "plain_calls::plain_calls_run::<{N}>(seed)"),
+    case(
+        "plain calls of closures",
+        "plain_calls::plain_calls_run::<{N}>(seed)",
+        "closures::plain_calls_run::<{N}>(seed)",
+    ),
     case(
         "calls of closures, references to arrays",
         "references::references_run::<{N}>(seed)",
-        "plain_calls::references_run::<{N}>(seed)",
+        "closures::references_run::<{N}>(seed)",
     ),
     case("arr!, box_arr!", "macros::macros_run(alloc, {length}, seed)", lengths=(0, 1, 3, 6)),
     case("append, prepend, pops", "shapes::ends_run::<{N}, {L}>(seed)"),
@@ -98,9 +119,9 @@ CASES = [
         "conversions::tuples_run({length}, seed)",
         TUPLES,
     ),
-    case("boxed builds and conversions", "boxed::boxed_builds_run::<{N}>(alloc, seed)"),
-    case("boxed walks by value", "boxed::boxed_walks_run::<{N}>(alloc, seed)"),
-    case("boxed to inline", "boxed::boxed_turned_run::<{N}>(alloc, seed)", share=10),
+    case("boxed builds and conversions", "boxed_builds::boxed_builds_run::<{N}>(alloc, seed)"),
+    case("boxed walks by value", "walks_boxed::walks_run::<{N}>(alloc, seed)"),
+    case("boxed to inline", "walks_boxed::turned_run::<{N}>(alloc, seed)", share=10),
     case("blocks beside a deque", "blocks::blocks_run(alloc, {length}, seed)", lengths=SIZES),
 ]
 
@@ -108,11 +129,11 @@ CASES = [
 DROPS = [
     case(
         "drops of walks by value",
-        "walk_drops::walk_drops_run::<{N}>(ordered, seed, &log)",
+        "walk_drops_inline::walk_drops_run::<{N}>(alloc, ordered, seed, &log)",
         lengths=SOME,
         wanted=(
             "nth_back of an iterator drops from the back",
-            "walk_drops::stepwise_run::<{N}>(ordered, seed)",
+            "walk_drops_inline_stepwise::walk_drops_run::<{N}>(alloc, ordered, seed, &log)",
         ),
     ),
     case("drops of builds", "drops::build_drops_run::<{N}>(ordered, seed, &log)", lengths=SOME),
@@ -124,35 +145,36 @@ DROPS = [
     case(
         "drops of shapes",
         "drops::shape_drops_run::<{N}, {L}>(ordered, seed, &log)",
-        "shapes::shape_drops_run::<{N}, {L}>(ordered, seed)",
+        "shapes::shape_drops_run::<{N}, {L}>(ordered, seed, &log)",
         SOME,
     ),
     case(
         "drops of flatten, unflatten",
         "flat_{length}::flat_drops_run(ordered, seed, &log)",
-        "flat::flat_drops_run::<{W}, {R}, {A}>(ordered, seed)",
+        "flat::flat_drops_run::<{W}, {R}, {A}>(ordered, seed, &log)",
         FLAT,
         10,
     ),
     case(
         "drops of concat, split, vectors",
         "drops::joined_drops_run::<{N}, {K}, {M}>(alloc, ordered, seed, &log)",
-        "shapes::joined_drops_run::<{N}, {K}, {M}>(ordered, seed)",
+        "shapes::joined_drops_run::<{N}, {K}, {M}>(ordered, seed, &log)",
         SOME,
         10,
     ),
     case(
         "drops of boxed calls and builds",
         "boxed_drops::boxed_build_drops_run::<{N}>(alloc, ordered, seed, &log)",
+        "drops::boxed_build_drops_run::<{N}>(alloc, ordered, seed, &log)",
         lengths=SOME,
     ),
     case(
         "drops of boxed walks",
-        "boxed_drops::boxed_walk_drops_run::<{N}>(alloc, ordered, seed, &log)",
+        "walk_drops_boxed::walk_drops_run::<{N}>(alloc, ordered, seed, &log)",
         lengths=SOME,
         wanted=(
             "nth_back of a boxed iterator drops from the back",
-            "boxed_drops::stepwise_run::<{N}>(ordered, seed)",
+            "walk_drops_boxed_stepwise::walk_drops_run::<{N}>(alloc, ordered, seed, &log)",
         ),
     ),
 ]
@@ -175,7 +197,9 @@ pub extern "C" fn ours_size(which: u32) -> usize {{
 """
 
 CASE_TABLE = """//! The cases, written by trials/diff/run from its list.
+use crate::arrays::Global;
 use crate::compare::{{Case, Wanted}};
+use crate::noted::Log;
 use crate::{{{modules}}};
 use generic_array::typenum::*;
 
@@ -212,7 +236,7 @@ def call(text, length, type_of):
 
 
 def name_of(it):
-    return re.search(r"(\w+)_run", it.ours)[1]
+    return re.sub(r"\W+", "_", it.title.lower()).strip("_")
 
 
 def numbers_of(it):
@@ -220,16 +244,14 @@ def numbers_of(it):
 
 
 def exports():
-    """The module of the functions that Rust calls: cases of the same call have one."""
-    calls = collections.defaultdict(dict)
+    """The module of the functions that Rust calls, one of each case."""
+    text, modules = "", {"texts"}
     for it in CASES + DROPS:
-        calls[it.ours] |= {kind: call(it.ours, kind, "Const<{}>".format) for kind in it.lengths}
-    modules = {text.split("::")[0] for of in calls.values() for text in of.values()} | {"texts"}
-    text = EXPORTS.format(modules=", ".join(sorted(modules)))
-    for it in {it.ours: it for it in CASES + DROPS}.values():
+        calls = {kind: call(it.ours, kind, "Const<{}>".format) for kind in it.lengths}
+        modules |= {one.split("::")[0] for one in calls.values()}
         before = "    let log = Log::new();\n" if "&log" in it.ours else ""
-        text += export(name_of(it), numbers_of(it), calls[it.ours], "alloc" in it.ours, before)
-    return text
+        text += export(name_of(it), numbers_of(it), calls, "alloc" in it.ours, before)
+    return EXPORTS.format(modules=", ".join(sorted(modules))) + text
 
 
 def words_of(length):
@@ -241,16 +263,38 @@ def words_of(length):
     return words | {word: ", ".join(them) for word, them in lists.items()}
 
 
+def kinds(clone, nth_back="nth_back", suffix=""):
+    """What stands for the words of a text that is laid out for each kind of array."""
+    words = {"CLONE": clone, "NTH_BACK": nth_back}
+    return {f"{it}{suffix}": {"KIND": it, "PLACE": place, **words} for it, place in KINDS.items()}
+
+
 def our_modules():
     """The modules of ga_diff by name: those of calls/, and the exports."""
-    laid_out = {"flat": FLAT, "natives": EVERY, "tuples": TUPLES}
-    made = {name: {it: words_of(it) for it in lengths} for name, lengths in laid_out.items()}
+    made = {name: {it: words_of(it) for it in lengths} for name, lengths in LAID_OUT.items()}
+    made |= dict.fromkeys([*OF_KINDS, "sequences"], kinds("clone"))
     return crate(texts_of(HERE / "calls"), made, exports())
+
+
+def as_rust(text):
+    """A text of both sides as rustc reads it: without proofs, with lengths as types."""
+    text = re.sub(r"ghost use .*\n+|\n    requires .*|#\[derive\(Drop\)\]", "", text)
+    text = text.replace("fn drop(self)", "fn drop(&mut self)").replace("= self;", "= *self;")
+    return text.replace("const U: usize", "N: Length").replace("Const<U>", "N")
+
+
+def shared_modules():
+    """The texts of calls/ that both sides have, as the Rust files of the other one."""
+    texts = {name: as_rust(text) for name, text in texts_of(HERE / "calls").items()}
+    words = kinds("try_clone") | kinds("try_clone", "stepwise_nth_back", "_stepwise")
+    made = {f"{name}_{it}": filled(texts[name], words[it]) for name in OF_KINDS for it in words}
+    return {f"{name}.rs": text for name, text in ({it: texts[it] for it in SHARED} | made).items()}
 
 
 def run_of(it, text, ordered):
     """The original's run of a call, as a closure of Rust."""
-    text = text.replace("ordered", str(ordered))
+    text = text.replace("ordered", str(ordered)).replace("alloc", "Global")
+    text = text.replace("&log", "&Log::new()")
     arms = [f"            {kind} => {call(text, kind, typenum)}," for kind in it.lengths]
     return RUN.format(arms="\n".join(arms))
 
@@ -276,8 +320,9 @@ def entry(it, ordered=None):
 def driver_sources():
     """The Rust files of the program, by their names below src/."""
     functions = {name_of(it): numbers_of(it) for it in CASES + DROPS}
-    modules = sorted({it.original.split("::")[0] for it in CASES + DROPS})
     entries = [entry(it) for it in CASES] + [entry(it, order) for order in (0, 1) for it in DROPS]
-    table = {"declared": declared(functions), "entries": "\n".join(entries)}
+    entries = "\n".join(entries)
+    modules = ", ".join(sorted({*re.findall(r"(\w+)::\w+_run", entries)}))
+    table = CASE_TABLE.format(modules=modules, declared=declared(functions), entries=entries)
     sources = {it.name: it.read_text() for it in (HERE / "driver").glob("*.rs")}
-    return {**sources, "cases.rs": CASE_TABLE.format(modules=", ".join(modules), **table)}
+    return {**sources, **shared_modules(), "cases.rs": table}

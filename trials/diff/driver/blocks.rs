@@ -1,4 +1,5 @@
 //! What a block of memory stands for: a deque, and the room behind it.
+use crate::arrays::Global;
 use crate::random::{all, mixed, Random};
 use std::collections::VecDeque;
 
@@ -28,7 +29,7 @@ fn step(sum: u64, items: &mut VecDeque<u64>, room: &mut usize, way: u64, word: u
     }
 }
 
-pub fn blocks_run(size: u32, seed: u64) -> u64 {
+pub fn blocks_run(_: Global, size: u32, seed: u64) -> u64 {
     let mut random = Random::of(seed);
     let mut sum = seed;
     let (mut items, mut room) = (VecDeque::new(), size as usize);

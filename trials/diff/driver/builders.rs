@@ -1,5 +1,6 @@
 //! What a builder that goes on at its position stands for: a vector with room for some items.
-use crate::random::{all, array_of, mixed, seen, Random};
+use crate::arrays::array_of;
+use crate::random::{all, mixed, seen, Random};
 use crate::sources::{Source, Trials};
 use generic_array::ArrayLength;
 

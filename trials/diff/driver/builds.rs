@@ -1,5 +1,7 @@
 //! Builds from closures and iterators.
-use crate::random::{all, mixed, seen, Array, Random};
+use crate::arrays::Array;
+use crate::closures::{by_index, noting, told, trying};
+use crate::random::{all, mixed, seen, Random};
 use crate::sources::{Source, Trials};
 use generic_array::internals::ArrayBuilder;
 use generic_array::sequence::{FallibleGenericSequence, GenericSequence};
@@ -36,32 +38,6 @@ fn filled_fallibly<N: ArrayLength>(sum: u64, left: usize, bad: u64) -> u64 {
     mixed(sum, trials.asked)
 }
 
-fn generated<N: ArrayLength>(sum: u64) -> u64 {
-    let mut calls = 0;
-    let array: Array<N> = GenericArray::generate(|index| {
-        calls = mixed(calls, index as u64);
-        calls
-    });
-    mixed(all(sum, &array), calls)
-}
-
-fn generated_fallibly<N: ArrayLength>(sum: u64, bad: usize) -> u64 {
-    let mut calls = 0;
-    let Ok(built) = <Array<N> as FallibleGenericSequence<u64>>::try_generate(|index| {
-        calls = mixed(calls, index as u64);
-        if index == bad {
-            Err(index)
-        } else {
-            Ok(calls)
-        }
-    });
-    let sum = match built {
-        Ok(array) => all(sum, &array),
-        Err(error) => mixed(sum, error as u64),
-    };
-    mixed(sum, calls)
-}
-
 fn extended<N: ArrayLength>(sum: u64, left: usize) -> u64 {
     let mut source = Source::of(left);
     let mut builder: ArrayBuilder<u64, N> = ArrayBuilder::new();
@@ -84,12 +60,18 @@ pub fn builds_run<N: ArrayLength>(seed: u64) -> u64 {
     let mut random = Random::of(seed);
     let near = random.near(N::USIZE);
     let bad = random.word() % 20;
-    match random.word() % 6 {
-        0 => filled::<N>(seed, near),
-        1 => filled_fallibly::<N>(seed, near, bad),
-        2 => generated::<N>(seed),
-        3 => generated_fallibly::<N>(seed, bad as usize),
-        4 => extended::<N>(seed, near),
-        _ => of_one_value::<N>(seed),
-    }
+    let mut calls = 0;
+    let built: Result<Array<N>, u64> = match random.word() % 6 {
+        0 => return filled::<N>(seed, near),
+        1 => return filled_fallibly::<N>(seed, near, bad),
+        2 => Ok(GenericArray::generate(by_index(noting(&mut calls)))),
+        3 => {
+            let call = by_index(trying(&mut calls, bad));
+            let Ok(built) = <Array<N> as FallibleGenericSequence<u64>>::try_generate(call);
+            built
+        }
+        4 => return extended::<N>(seed, near),
+        _ => return of_one_value::<N>(seed),
+    };
+    told(seed, calls, built)
 }

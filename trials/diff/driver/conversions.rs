@@ -1,5 +1,6 @@
 //! Inline arrays from and to vectors, boxed slices and tuples.
-use crate::random::{all, array_of, list_of, mixed, Array, Random};
+use crate::arrays::{array_of, list_of, Array, Global};
+use crate::random::{all, mixed, Random};
 use generic_array::typenum::*;
 use generic_array::{ArrayLength, LengthError};
 
@@ -10,7 +11,7 @@ fn built_of<N: ArrayLength>(seed: u64, built: Result<Array<N>, LengthError>) -> 
     }
 }
 
-pub fn conversions_run<N: ArrayLength>(seed: u64) -> u64 {
+pub fn conversions_run<N: ArrayLength>(_: Global, seed: u64) -> u64 {
     let mut random = Random::of(seed);
     let base = random.word();
     let count = random.near(N::USIZE);

@@ -1,22 +1,12 @@
-//! Drops and clones in builds and calls of closures of inline arrays.
-use crate::noted::{item_of, noted_of, Log, Noted, NotedArray};
+//! Drops and clones in builds and calls of closures, of inline and of boxed arrays.
+use crate::arrays::{kept, noted_box_of, noted_of, Global, NotedArray};
+use crate::noted::{item_of, joined, numbered, renewed, summed, tried, Log, Noted};
 use crate::random::{mixed, Random};
 use crate::sources::{Source, Trials};
 use generic_array::functional::FunctionalSequence;
 use generic_array::internals::ArrayBuilder;
 use generic_array::sequence::{FallibleGenericSequence, GenericSequence};
 use generic_array::ArrayLength;
-
-fn generated_fallibly<N: ArrayLength>(log: &Log, bad: usize) {
-    let build = |index| {
-        if index == bad {
-            Err(index)
-        } else {
-            Ok(item_of(log, index as u64 + 1))
-        }
-    };
-    drop(<NotedArray<'_, N> as FallibleGenericSequence<Noted<'_>>>::try_generate(build));
-}
 
 fn filled<N: ArrayLength>(ordered: u64, log: &Log, left: usize) -> u64 {
     let mut source = Source::of(left);
@@ -34,22 +24,6 @@ fn filled<N: ArrayLength>(ordered: u64, log: &Log, left: usize) -> u64 {
         }
         Err(_) => mixed(sum, 3),
     }
-}
-
-fn filled_fallibly<N: ArrayLength>(ordered: u64, log: &Log, left: usize, bad: u64) -> u64 {
-    let mut trials = Trials::of(left, bad);
-    let items = (&mut trials).map(|trial| trial.map(|id| item_of(log, id)));
-    let built = NotedArray::<'_, N>::try_from_fallible_iter(items);
-    let sum = log.told(ordered);
-    drop(built);
-    sum
-}
-
-fn repeated<N: ArrayLength>(ordered: u64, log: &Log) -> u64 {
-    let copies = <NotedArray<'_, N> as GenericSequence<Noted<'_>>>::repeat(item_of(log, 7));
-    let sum = log.told(ordered);
-    drop(copies);
-    sum
 }
 
 /// A builder with some items, which is dropped as it is or finished.
@@ -72,98 +46,95 @@ fn built<N: ArrayLength>(ordered: u64, log: &Log, count: usize) -> u64 {
 }
 
 /// Drops and clones of builds.
-pub fn build_drops_run<N: ArrayLength>(ordered: u64, seed: u64) -> u64 {
-    let log = &Log::default();
+pub fn build_drops_run<N: ArrayLength>(ordered: u64, seed: u64, log: &Log) -> u64 {
     let mut random = Random::of(seed);
     let near = random.near(N::USIZE);
     let bad = random.word() % 20;
-    let mut sum = seed;
-    match random.word() % 5 {
-        0 => generated_fallibly::<N>(log, bad as usize),
-        1 => sum = filled::<N>(ordered, log, near),
-        2 => sum = filled_fallibly::<N>(ordered, log, near, bad),
-        3 => sum = built::<N>(ordered, log, near),
-        _ => sum = repeated::<N>(ordered, log),
-    }
+    let sum = match random.word() % 5 {
+        0 => {
+            let build = |index| numbered(log, index, bad as usize);
+            let built = <NotedArray<'_, N> as FallibleGenericSequence<_>>::try_generate(build);
+            kept(ordered, log, built)
+        }
+        1 => filled::<N>(ordered, log, near),
+        2 => {
+            let mut trials = Trials::of(near, bad);
+            let items = (&mut trials).map(|trial| trial.map(|id| item_of(log, id)));
+            kept(
+                ordered,
+                log,
+                NotedArray::<'_, N>::try_from_fallible_iter(items),
+            )
+        }
+        3 => built::<N>(ordered, log, near),
+        _ => {
+            let item = item_of(log, 7);
+            let copies = <NotedArray<'_, N> as GenericSequence<_>>::repeat(item);
+            kept(ordered, log, copies)
+        }
+    };
     mixed(sum, log.told(ordered))
 }
 
-fn mapped<N: ArrayLength>(log: &Log) {
-    drop(noted_of::<N>(log).map(|item: Noted<'_>| item_of(log, item.id.wrapping_add(100))));
-}
-
-fn tried<N: ArrayLength>(ordered: u64, log: &Log, bad: u64) -> u64 {
-    let call = |item: Noted<'_>| {
-        if item.id == bad {
-            Err(item_of(log, 80))
-        } else {
-            Ok(item_of(log, item.id.wrapping_add(100)))
-        }
-    };
-    let built = noted_of::<N>(log).try_map(call);
-    let sum = log.told(ordered);
-    drop(built);
-    sum
-}
-
-fn zipped<N: ArrayLength>(ordered: u64, log: &Log) -> u64 {
-    let call = |left: Noted<'_>, right: Noted<'_>| item_of(log, mixed(left.id, right.id));
-    let made = noted_of::<N>(log).zip(noted_of::<N>(log), call);
-    let sum = log.told(ordered);
-    drop(made);
-    sum
-}
-
-fn trait_tried<N: ArrayLength>(log: &Log, bad: u64) {
-    let call = |item: Noted<'_>| {
-        if item.id == bad {
-            Err(bad)
-        } else {
-            Ok(item_of(log, item.id.wrapping_add(100)))
-        }
-    };
-    drop(noted_of::<N>(log).try_map(call));
-}
-
-fn trait_zipped<N: ArrayLength>(log: &Log) {
-    let right = noted_of::<N>(log);
-    let call = |left: Noted<'_>, right: Noted<'_>| item_of(log, mixed(left.id, right.id));
-    drop(noted_of::<N>(log).zip(right, call));
-}
-
-fn folded<N: ArrayLength>(log: &Log) -> u64 {
-    let call = |sum, item: Noted<'_>| mixed(sum, item.id);
-    FunctionalSequence::fold(noted_of::<N>(log), 0, call)
-}
-
-fn tried_fold<N: ArrayLength>(log: &Log, bad: u64) -> u64 {
-    let call = |sum, item: Noted<'_>| {
-        if item.id == bad {
-            Err(sum)
-        } else {
-            Ok(mixed(sum, item.id))
-        }
-    };
-    match FunctionalSequence::try_fold(noted_of::<N>(log), 0, call) {
-        Ok(word) => word,
-        Err(word) => mixed(word, 3),
-    }
-}
-
 /// Drops of calls of closures.
-pub fn closure_drops_run<N: ArrayLength>(ordered: u64, seed: u64) -> u64 {
-    let log = &Log::default();
+pub fn closure_drops_run<N: ArrayLength>(ordered: u64, seed: u64, log: &Log) -> u64 {
     let mut random = Random::of(seed);
     let bad = random.word() % 20;
-    let mut sum = seed;
-    match random.word() & 7 {
-        0 | 4 => mapped::<N>(log),
-        1 => sum = folded::<N>(log),
-        2 => sum = tried::<N>(ordered, log, bad),
-        3 => sum = zipped::<N>(ordered, log),
-        5 => trait_tried::<N>(log, bad),
-        6 => trait_zipped::<N>(log),
-        _ => sum = tried_fold::<N>(log, bad),
-    }
+    let array = noted_of::<N>(log);
+    let renew = |item: Noted<'_>| renewed(log, item);
+    let join = |left: Noted<'_>, right: Noted<'_>| joined(log, left, right);
+    let sum = match random.word() & 7 {
+        0 | 4 => kept(ordered, log, array.map(renew)),
+        1 => FunctionalSequence::fold(array, 0, |sum, item: Noted<'_>| mixed(sum, item.id)),
+        2 => {
+            let call = |item: Noted<'_>| tried(log, item, bad).map_err(|_| item_of(log, 80));
+            kept(ordered, log, array.try_map(call))
+        }
+        3 | 6 => kept(ordered, log, array.zip(noted_of::<N>(log), join)),
+        5 => kept(
+            ordered,
+            log,
+            array.try_map(|item: Noted<'_>| tried(log, item, bad)),
+        ),
+        _ => {
+            let call = |sum, item: Noted<'_>| summed(sum, item, bad);
+            FunctionalSequence::try_fold(array, 0, call).unwrap_or_else(|word| mixed(word, 3))
+        }
+    };
+    mixed(sum, log.told(ordered))
+}
+
+/// Drops of calls of closures and of builds of boxed arrays, some of which stop at an error.
+pub fn boxed_build_drops_run<N: ArrayLength>(_: Global, ordered: u64, seed: u64, log: &Log) -> u64 {
+    let mut random = Random::of(seed);
+    let bad = random.word() % 20;
+    let way = random.word() % 5;
+    let array_of = || noted_box_of::<N>(log);
+    let sum = match way {
+        0 => kept(
+            ordered,
+            log,
+            array_of().try_map(|item: Noted<'_>| tried(log, item, bad)),
+        ),
+        1 => kept(
+            ordered,
+            log,
+            array_of().map(|item: Noted<'_>| renewed(log, item)),
+        ),
+        2 => {
+            let join = |left: Noted<'_>, right: Noted<'_>| joined(log, left, right);
+            kept(ordered, log, array_of().zip(array_of(), join))
+        }
+        3 => {
+            let call = |sum, item: Noted<'_>| summed(sum, item, bad);
+            let answer = FunctionalSequence::try_fold(array_of(), seed, call);
+            answer.unwrap_or_else(|word| mixed(word, 3))
+        }
+        _ => {
+            let build = |index| numbered(log, index, bad as usize);
+            let built = <Box<NotedArray<'_, N>> as FallibleGenericSequence<_>>::try_generate(build);
+            kept(ordered, log, built)
+        }
+    };
     mixed(sum, log.told(ordered))
 }

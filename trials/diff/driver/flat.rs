@@ -1,6 +1,7 @@
 //! Arrays cut into rows and joined.
-use crate::noted::{noted_of, Log, Noted, NotedArray};
-use crate::random::{all, array_of, mixed, Array};
+use crate::arrays::{array_of, noted_of, Array, NotedArray};
+use crate::noted::{Log, Noted};
+use crate::random::{all, mixed};
 use generic_array::sequence::{Flatten, Unflatten};
 use generic_array::{ArrayLength, GenericArray};
 use std::ops::{Div, Mul};
@@ -41,6 +42,7 @@ where
 pub fn flat_drops_run<W: ArrayLength, R: ArrayLength, N: ArrayLength>(
     ordered: u64,
     seed: u64,
+    log: &Log,
 ) -> u64
 where
     N: Div<W, Output = R>,
@@ -48,7 +50,6 @@ where
     for<'a> NotedArray<'a, N>: Unflatten<Noted<'a>, N, W, Output = NotedRows<'a, W, R>>,
     for<'a> NotedRows<'a, W, R>: Flatten<Noted<'a>, W, R, Output = NotedArray<'a, N>>,
 {
-    let log = &Log::default();
     let rows = noted_of::<N>(log).unflatten();
     let sum = mixed(seed, log.told(ordered));
     if seed & 1 == 0 {

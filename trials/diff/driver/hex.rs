@@ -1,4 +1,5 @@
 //! Bytes as hex text.
+use crate::arrays::Global;
 use crate::random::{all_bytes, made, mixed, Random};
 use generic_array::sequence::GenericSequence;
 use generic_array::typenum::Sum;
@@ -25,7 +26,7 @@ fn limit_of(random: &mut Random, way: u64, len: usize) -> Option<usize> {
     }
 }
 
-pub fn hex_run<N: ArrayLength + Add<N>>(seed: u64) -> u64
+pub fn hex_run<N: ArrayLength + Add<N>>(_: Global, seed: u64) -> u64
 where
     Sum<N, N>: ArrayLength,
 {

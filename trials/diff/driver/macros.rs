@@ -1,5 +1,6 @@
 //! `arr!` and `box_arr!`: items written out, and one item as often as a length or a number says.
-use crate::random::{all, Array, Random};
+use crate::arrays::{Array, Global};
+use crate::random::{all, Random};
 use generic_array::typenum::{U0, U1, U3, U6};
 use generic_array::{arr, box_arr, GenericArray};
 
@@ -48,7 +49,7 @@ fn boxed_repeated(seed: u64, len: u32, random: &mut Random) -> u64 {
     }
 }
 
-pub fn macros_run(len: u32, seed: u64) -> u64 {
+pub fn macros_run(_: Global, len: u32, seed: u64) -> u64 {
     let mut random = Random::of(seed);
     match random.word() & 3 {
         0 => written(seed, len, &mut random),

@@ -1,10 +1,12 @@
 //! Makes random calls of our library and of generic-array, and compares the checksums of all that
 //! they answered and dropped.
-mod access;
+mod access_boxed;
+mod access_inline;
+mod arrays;
 mod asked;
 mod blocks;
 mod boxed;
-mod boxed_drops;
+mod boxed_builds;
 mod builders;
 mod builds;
 mod cases;
@@ -16,18 +18,21 @@ mod drops;
 mod flat;
 mod forever;
 mod hex;
+mod inline;
 mod macros;
 mod noted;
-mod nth_back;
-mod plain_calls;
 mod random;
 mod rows;
 mod sequences;
 mod shapes;
 mod sources;
 mod views;
-mod walk_drops;
-mod walks;
+mod walk_drops_boxed;
+mod walk_drops_boxed_stepwise;
+mod walk_drops_inline;
+mod walk_drops_inline_stepwise;
+mod walks_boxed;
+mod walks_inline;
 
 use compare::Tally;
 use generic_array::typenum::{U4, U64};

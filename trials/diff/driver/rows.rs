@@ -1,5 +1,6 @@
 //! Rows of a slice, and walks over them from both ends.
-use crate::random::{all, array_of, mixed, put, told_size, Array, Random};
+use crate::arrays::{array_of, Array};
+use crate::random::{all, mixed, put, told_size, Random};
 use generic_array::typenum::{U40, U64};
 use generic_array::{ArrayLength, GenericArray};
 use std::slice;
@@ -31,7 +32,7 @@ fn step<N: ArrayLength>(
         2 | 3 => seen_row(sum, rows.next_back()),
         4 => seen_row(sum, rows.nth(count)),
         5 => seen_row(sum, rows.nth_back(count)),
-        6 => told_size(sum, rows),
+        6 => told_size(sum, rows.len(), rows.size_hint()),
         _ => mixed(sum, rows.len() as u64),
     }
 }

@@ -1,6 +1,7 @@
 //! Arrays made of the items of others, and what they drop.
-use crate::noted::{item_of, noted_of, Log, Noted, NotedArray};
-use crate::random::{all, array_of, made, mixed, put, Array, Random};
+use crate::arrays::{array_of, noted_of, Array, NotedArray};
+use crate::noted::{item_of, Log, Noted};
+use crate::random::{all, made, mixed, put, Random};
 use generic_array::sequence::{Concat, Lengthen, Remove, Shorten, Split};
 use generic_array::typenum::Const;
 use generic_array::{ArrayLength, ConstGenericArray, GenericArray, IntoArrayLength, LengthError};
@@ -117,13 +118,12 @@ where
 }
 
 /// Drops of shapes: `L` is one longer than `N`.
-pub fn shape_drops_run<N: ArrayLength, L: ArrayLength>(ordered: u64, seed: u64) -> u64
+pub fn shape_drops_run<N: ArrayLength, L: ArrayLength>(ordered: u64, seed: u64, log: &Log) -> u64
 where
     for<'a> NotedArray<'a, N>: Lengthen<Noted<'a>, Longer = NotedArray<'a, L>>,
     for<'a> NotedArray<'a, L>: Shorten<Noted<'a>, Shorter = NotedArray<'a, N>>
         + Remove<Noted<'a>, L, Output = NotedArray<'a, N>>,
 {
-    let log = &Log::default();
     let mut random = Random::of(seed);
     let way = random.word() & 1;
     let at = (random.word() % 17) as usize;
@@ -158,6 +158,7 @@ where
 pub fn joined_drops_run<N: ArrayLength, K: ArrayLength, M: ArrayLength>(
     ordered: u64,
     seed: u64,
+    log: &Log,
 ) -> u64
 where
     for<'a> NotedArray<'a, N>:
@@ -165,7 +166,6 @@ where
     for<'a> NotedArray<'a, K>:
         Concat<Noted<'a>, M, Rest = NotedArray<'a, M>, Output = NotedArray<'a, N>>,
 {
-    let log = &Log::default();
     let (first, second) = noted_of::<N>(log).split();
     let sum = mixed(seed, log.told(ordered));
     let both = first.concat(second);

@@ -1,5 +1,6 @@
 //! Views of slices and of inline arrays, made and used in each way that there is.
-use crate::random::{all, array_of, mixed, put, seen, Array, Random};
+use crate::arrays::{array_of, Array};
+use crate::random::{all, mixed, put, seen, Random};
 use generic_array::sequence::Split;
 use generic_array::typenum::U20;
 use generic_array::{ArrayLength, LengthError};
