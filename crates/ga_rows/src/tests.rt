@@ -3,7 +3,7 @@
 mod doubles;
 mod refused_memory;
 
-use crate::{Mode, Width, parse_words, rows, run_listed};
+use crate::{Mode, Status, Width, parse_words, rows, run, run_listed};
 use doubles::{Sink, Source, WHOLE};
 use std::alloc::{AllocError, Global};
 use std::env::Args;
@@ -171,6 +171,25 @@ fn a_fault_of_a_read_or_a_write_ends_the_program(rt: HostRuntime) -> Result<(), 
     assert!(rt; ends_at_a_fault(rt.alloc(), Some(ErrorKind::Other), usize::MAX, 0)?);
     assert!(rt; ends_at_a_fault(rt.alloc(), None, 1, 1)?);
     Ok(())
+}
+
+#[test]
+fn a_run_ends_at_the_first_write_that_fails(rt: HostRuntime) {
+    for (fails_at, status) in [(1, Status::Fault), (2, Status::Rest)] {
+        let mut source = Source::new(&[1, 2, 3, 4, 5, 6], WHOLE, None);
+        let mut sink = Sink::new(b"1 2 3 4\nrest 5 6\n", WHOLE, fails_at);
+        let end = run(rt.alloc(), &[], &mut source, &mut sink);
+        assert!(rt; end == status && sink.writes() == 1, "{fails_at}");
+        assert!(rt; sink.has_text() == (status == Status::Rest), "{fails_at}");
+    }
+}
+
+#[test]
+fn a_reader_that_fails_behind_five_bytes_leaves_nothing_written(rt: HostRuntime) {
+    let mut source = Source::new(&[1, 2, 3, 4, 5], WHOLE, Some(ErrorKind::Other));
+    let mut sink = Sink::new(b"", WHOLE, usize::MAX);
+    let end = run(rt.alloc(), &[], &mut source, &mut sink);
+    assert!(rt; end == Status::Fault && sink.writes() == 0);
 }
 
 #[test]
