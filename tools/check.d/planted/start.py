@@ -23,7 +23,7 @@ TOLD = {
     "a call that isn't refused": "refused: a file as a folder: ",
     "no specs": "what is copied of each crate: ['crates/ga_boxed/specs/",
     "commands elsewhere": "tools/start there on_both --on ga_hashes,generic_array: its commands",
-    "a folder left empty": "it copies the rest: ['crates/ga_views/proofs/",
+    "a folder left empty": "it copies the rest: ['crates/ga_views/src/",
     "a test that fails": "on_ga_core: its test passes: ",
     "another layout": "on_ga_records: its test passes: ",
     "a proof of what is below": "on_ga_views: it is proved, and nothing below: ",

@@ -4,7 +4,7 @@ from copies import copy, write
 from playing import run
 
 # The faults: what takes the place of a text in a file, and what is told of it.
-SLICE = "            Ok(items) => Ok(items.into_boxed_slice()),"
+SLICE = "        Ok(self.into_vec()?.into_boxed_slice())"
 TEXT = '        f.write_str("LengthError: '
 PLANTED = {
     "a format flag is a fault": (
@@ -13,7 +13,7 @@ PLANTED = {
         "::errors_have_the_texts_of_the_rust_crate ... FAILED\n"),
     "a boxed slice of 100 items is refused": (
         "crates/ga_boxed/src/boxed_array/conversions.rt", SLICE,
-        f"            Ok(_items) if N::USIZE == 100 => Err(AllocError),\n{SLICE}",
+        f"        if N::USIZE == 100 {{\n            return Err(AllocError);\n        }}\n{SLICE}",
         "(play).into_boxed_slice()"),
     "an output costs one tag more": (
         "crates/ga_hashes/src/hkdf.rt", "    for number in 0..block_count",
