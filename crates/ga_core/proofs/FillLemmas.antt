@@ -86,6 +86,30 @@ module _ {S T : Type 0} (next_gives : S → Option T → S → Type 0) where
   TakeRuns-from_takes P before room taken after (inr (calls, short)) holds =
       (ended before taken after calls, refl, (holds, inr (refl, short)))
 
+  -- what is taken behind other items, as one run with these
+  pub takes-on : (before mid after : S) (first taken : List T) (n : ℕ) → Yields next_gives before first mid
+      → Takes next_gives mid n taken after → Takes next_gives before (length first + n) (first ++ taken) after
+  takes-on before mid after [] taken n calls (inl (gave, all)) =
+      inl (subst (λ s. Yields next_gives s taken after) (sym calls) gave, omega (arith, all))
+  takes-on before mid after [] taken n calls (inr (gave, short)) =
+      inr (subst (λ s. YieldsThen next_gives s taken None after) (sym calls) gave, omega (arith, short))
+  takes-on before mid after (item ∷ first) taken n calls takes =
+      elim (takes-on calls.0 mid after first taken n calls.2 takes) [
+        | inl all ↦ inl ((calls.0, calls.1, all.0), omega (arith, all.1))
+        | inr short ↦ inr ((short.0.0, (calls.0, calls.1, short.0.1), short.0.2), omega (arith, short.1))
+      ]
+
+  -- where as many were taken as there was room for, or fewer
+  pub takes-of_all : (before after : S) (taken : List T) (n : ℕ) → Takes next_gives before n taken after → length taken ≡ n
+      → Yields next_gives before taken after
+  takes-of_all before after taken n (inl (gave, all)) _ = gave
+  takes-of_all before after taken n (inr (gave, short)) long = absurd (omega (arith, short, long))
+
+  pub takes-of_few : (before after : S) (taken : List T) (n more : ℕ) → Takes next_gives before n taken after
+      → length taken < n → n ≤ more → Takes next_gives before more taken after
+  takes-of_few before after taken n more (inl (gave, all)) few _ = absurd (omega (arith, all, few))
+  takes-of_few before after taken n more (inr (gave, short)) few least = inr (gave, omega (arith, few, least))
+
   -- so many items are so many calls
   asks_all : (before : S) (taken : List T) (n : ℕ) (after : S) → length taken ≡ n
       → Yields next_gives before taken after → Asks next_gives before n after

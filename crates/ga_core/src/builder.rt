@@ -3,12 +3,13 @@ ghost use Rattle.ga_core.specs.Fill.{Asks, TakeGoodRuns, TakeRuns, Takes, TakesG
 ghost use Rattle.ga_core.specs.Lends.{LendsItems};
 ghost use Rattle.ga_views.specs.Length.{FitsInline};
 ghost use Rattle.std.specs.Borrow.{sem};
-ghost use Rattle.std.specs.Prelude.{◌≡◌, ◌≢◌, ◌⊎◌, ◌+◌, ◌-◌, ◌<◌, ◌≤◌, ◌↔◌, IfOk, IsTrue, None, OnErr, Some, List, [], ◌∷◌, ◌++◌, drop, length, take};
+ghost use Rattle.std.specs.Prelude.{◌≡◌, ◌≢◌, ◌⊎◌, ◌+◌, ◌-◌, ◌<◌, ◌≤◌, ◌↔◌, IfOk, IsFalse, IsTrue, None, OnErr, Some, List, [], ◌∷◌, ◌++◌, drop, length, take};
 
 mod edits;
 
 use crate::array::GenericArray;
 use crate::array_iter::GenericArrayIter;
+use crate::closures::BLOCK;
 use crate::length::ArrayLength;
 use crate::store::{Store, put_at};
 pub use edits::carry_to_end;
@@ -161,12 +162,47 @@ impl<T: Default + Drop, N: ArrayLength<T>> ArrayBuilder<T, N> {
         ensures bound { length self.new ≤ N.USIZE }
         ensures can { length self.new ≡ N.USIZE → I.can_next items.new }
     {
-        while !self.is_full() {
-            match items.next() {
-                Some(item) => self.push(item),
-                None => return,
+        let room = N::USIZE - self.position();
+        self.take_some(items, room);
+    }
+
+    // `extend` of a builder whose position the compiler knows: it unrolls the loop over blocks.
+    #[inline(always)]
+    pub(crate) fn fill<I: Iterator<Item = T>>(&mut self, items: &mut I)
+        requires can { I.can_next items.old }
+        ensures taken { (taken : List T) × (self.new ≡ self.old ++ taken)
+            × Takes I.next_gives items.old (N.USIZE - length self.old) taken items.new }
+        ensures can { length self.new ≡ N.USIZE → I.can_next items.new }
+    {
+        while N::USIZE - self.position() >= BLOCK {
+            if !self.take_some(items, BLOCK) {
+                return;
             }
         }
+        let room = N::USIZE - self.position();
+        self.take_some(items, room);
+    }
+
+    // Appends the next `count` items, and returns whether there were as many.
+    #[inline(always)]
+    fn take_some<I: Iterator<Item = T>>(&mut self, items: &mut I, count: usize) -> bool
+        requires room { length self.old + count ≤ N.USIZE }
+        requires can { I.can_next items.old }
+        ensures taken { (taken : List T) × (self.new ≡ self.old ++ taken)
+            × Takes I.next_gives items.old count taken items.new }
+        ensures all { IsTrue result → length self.new ≡ length self.old + count }
+        ensures short { IsFalse result → length self.new < length self.old + count }
+        ensures can { length self.new ≡ length self.old + count → I.can_next items.new }
+        ensures bound { length self.new ≤ N.USIZE }
+    {
+        let end = self.position() + count;
+        while self.position() != end {
+            match items.next() {
+                Some(item) => self.push(item),
+                None => return false,
+            }
+        }
+        true
     }
 
     /// Appends the `Ok` values of `items`, as `extend` does, up to the first `Err`, which it

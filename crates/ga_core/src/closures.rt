@@ -4,19 +4,47 @@ ghost use Rattle.ga_core.specs.Calls.{MayGenerate, MayMap, MayTryGenerate, MayTr
 ghost use Rattle.ga_core.specs.Entries.{CallAt, CallAtPair};
 ghost use Rattle.ga_core.specs.Runs.{ClosureRun, TryClosureRun};
 ghost use Rattle.std.specs.List.{range_with_len, zip};
-ghost use Rattle.std.specs.Prelude.{◌≡◌, Ok, length};
+ghost use Rattle.std.specs.Prelude.{◌≡◌, ◌+◌, ◌≤◌, Ok, length, take};
 ghost use Rattle.std.specs.Result.{result_and};
 
 use std::mem;
 
-// Writes `f(0)`, `f(1)` and so on over the slots, each called once, in this order.
-#[inline]
+// So many results are written, or items taken, in a turn of a loop that the compiler unrolls.
+pub(crate) const BLOCK: usize = 8;
+
+// Up to so many slots, the compiler unrolls the loop over blocks too.
+const MOST_UNROLLED: usize = 64;
+
+// Writes `f(0)`, `f(1)` and so on over the slots, each called once, in this order. Many slots are
+// written one by one: of a closure over other arrays the compiler makes vector code then.
+#[inline(always)]
 pub(crate) fn write_generated<T: Drop, F: FnMut(usize) -> T>(slots: &mut [T], f: &mut F)
     requires callable { MayGenerate F.pre F.step f.old (length slots.old) }
     ensures run { ClosureRun F.step f.old (range_with_len 0 (length slots.old)) slots.new f.new }
 {
-    for (index, slot) in slots.iter_mut().enumerate() {
-        *slot = f(index);
+    let mut done = 0;
+    while slots.len() <= MOST_UNROLLED && slots.len() - done >= BLOCK {
+        write_some(slots, done, BLOCK, f);
+        done += BLOCK;
+    }
+    let left = slots.len() - done;
+    write_some(slots, done, left, f);
+}
+
+// Writes `f(first)` and so on over `count` slots from `first` on. What the calls before gave stands
+// in the slots before.
+#[inline(always)]
+fn write_some<T: Drop, F: FnMut(usize) -> T>(slots: &mut [T], first: usize, count: usize, f: &mut F)
+    requires room { first + count ≤ length slots.old }
+    requires callable { (begun : F) × MayGenerate F.pre F.step begun (length slots.old)
+        × ClosureRun F.step begun (range_with_len 0 first) (take first slots.old) f.old }
+    ensures run { (begun : F)
+        → ClosureRun F.step begun (range_with_len 0 first) (take first slots.old) f.old
+        → ClosureRun F.step begun (range_with_len 0 (first + count))
+        (take (first + count) slots.new) f.new }
+{
+    for index in 0..count {
+        slots[first + index] = f(first + index);
     }
 }
 

@@ -95,7 +95,7 @@ impl<T: Default + Drop, N: ArrayLength<T>> GenericArray<T, N> {
         ensures asks { Asks I.next_gives items.old (N.USIZE + 1) items.new }
     {
         let mut builder = ArrayBuilder::new();
-        builder.extend(items);
+        builder.fill(items);
         builder.finish_at_end(items)
     }
 

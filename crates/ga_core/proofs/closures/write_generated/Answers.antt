@@ -1,22 +1,38 @@
-use Rattle.ga_core.proofs.CallLemmas.{may_generate-at}
 use Rattle.ga_core.proofs.NextCalls.{run-of_numbers}
-use Rattle.ga_core.proofs.RunLemmas.{ClosureRun-snoc, below-add_one}
 use Rattle.ga_core.proofs.closures.write_generated.Goals as goal
 use Rattle.ga_core.specs.Runs.{ClosureRun}
-use Rattle.std.proofs.Common.{arith}
-use Rattle.std.proofs.lemmas.List.{take_more_set}
+use Rattle.std.proofs.Common.{◌∙◌, arith}
 
-pub f-requires : goal.f-requires
-f-requires g c = may_generate-at _ _ _ _ c.requires.callable c.loop-index.index _ _ (omega arith) c.loop-index.invariant
+pub write_some-requires : goal.write_some-requires
+write_some-requires g c = record {
+  room = omega arith;
+  callable = (
+    c.args.f.now,
+    λ k ys reached below. c.requires.callable k ys reached (omega (arith, below, c.loop-slots.auto.slots)),
+    c.loop-slots.invariant.ran,
+  );
+}
 
-pub loop-index-preserved : goal.loop-index-preserved
-loop-index-preserved g c =
-    rw (take_more_set c.loop-index.slots c.loop-index.index c.f.result (omega arith), below-add_one)
-    (ClosureRun-snoc _ _ _ _ _ _ _ _ c.loop-index.invariant c.f.ensures)
+pub loop-slots-preserved : goal.loop-slots-preserved
+loop-slots-preserved g c = record {
+  within = omega (arith, c.write_some.auto.slots);
+  ran = c.write_some.ensures.run c.args.f.now c.loop-slots.invariant.ran;
+}
+
+pub write_some-requires-2 : goal.write_some-requires-2
+write_some-requires-2 g c = record {
+  room = omega arith;
+  callable = (
+    c.args.f.now,
+    λ k ys reached below. c.requires.callable k ys reached (omega (arith, below, c.loop-slots.auto.slots)),
+    c.loop-slots.invariant.ran,
+  );
+}
 
 pub returns : goal.returns
 returns g c = record {
-  run = run-of_numbers (λ numbers made. ClosureRun (goal.F-step g) c.args.f.now numbers made c.loop-index.f)
-      c.loop-index.slots c.loop-index-test.false c.loop-index.auto.index-end c.loop-index.auto.slots
-      c.loop-index.invariant;
+  run = run-of_numbers (λ numbers made. ClosureRun (goal.F-step g) c.args.f.now numbers made c.write_some-2.new.f)
+      c.write_some-2.new.slots (omega (arith, c.loop-slots.auto.slots)) (omega (arith, c.loop-slots.auto.slots))
+      (c.write_some-2.auto.slots ∙ c.loop-slots.auto.slots)
+      (c.write_some-2.ensures.run c.args.f.now c.loop-slots.invariant.ran);
 }

@@ -9,8 +9,8 @@ returns g c =
     let n = g.N.Unsigned.USIZE in
     let result = c.finish_at_end.result in
     let after = c.finish_at_end.new.items in
-    let taken = c.extend.ensures.taken in
-    let ends = fill-ends next (λ items. items) (λ items. refl) c.args.items.now c.extend.new.items after n taken.0
+    let taken = c.fill.ensures.taken in
+    let ends = fill-ends next (λ items. items) (λ items. refl) c.args.items.now c.fill.new.items after n taken.0
     c.new-builder.ensures taken.1 result taken.2 c.finish_at_end.ensures.ok c.finish_at_end.ensures.err in
     let fill : Fills next c.args.items.now n result after = (taken.0, ends.0, ends.1, ends.2) in
     record {

@@ -1,15 +1,15 @@
-use Rattle.ga_core.proofs.builder.ArrayBuilder.extend.Given as goal
+use Rattle.ga_core.proofs.builder.ArrayBuilder.fill.Given as goal
 use Rattle.std.proofs.Common.{◌≡◌, List, ◌++◌, ◌-◌, length}
 use Rattle.std.specs.Iterator.{Yields}
 
 -- what was taken so far is appended, and the iterator may be asked on
-abbrev pub invariant-loop-items : goal.invariant-loop-items
-invariant-loop-items g l = record {
+abbrev pub invariant-loop-self : goal.invariant-loop-self
+invariant-loop-self g l = record {
   can : g.I.Iterator.can_next l.items;
   taken : (taken : List g.row.T.Denot) × (l.self ≡ l.initial.self ++ taken)
       × Yields g.I.Iterator.next_gives l.initial.items taken l.items;
 }
 
--- the slots that are left; an iterator that never ends is asked all the same
-abbrev pub decreases-loop-items : goal.decreases-loop-items
-decreases-loop-items g l = g.N.Unsigned.USIZE - length l.self
+-- the slots that are left
+abbrev pub decreases-loop-self : goal.decreases-loop-self
+decreases-loop-self g l = g.N.Unsigned.USIZE - length l.self
