@@ -13,13 +13,26 @@ pub returns-then-not-take_some-clause-taken : goal.returns-then-not-take_some-cl
 returns-then-not-take_some-clause-taken g c =
     let so_far = c.loop-self.invariant.taken in
     let more = c.take_some.ensures.taken in
-    let takes = takes-on g.I.Iterator.next_gives _ _ _ so_far.0 more.0 _ so_far.2 more.2 in
-    (so_far.0 ++ more.0, joined c.args.self.now so_far.0 more.0 so_far.1 more.1,
-    takes-of_few g.I.Iterator.next_gives _ _ _ _ _ takes
-    (omega (arith, c.take_some.ensures.short c.if-not-take_some.true, ap length more.1, length-append c.loop-self.self more.0,
-    length-append so_far.0 more.0))
-    (omega (arith, c.loop-self-test.true, c.USIZE.ensures, c.position.ensures.len, ap length so_far.1,
-    length-append c.args.self.now so_far.0)))
+    let takes = takes-on g.I.Iterator.next_gives _ _ _ so_far.0 more.0 _ so_far.2 more.2 in (
+      so_far.0 ++ more.0,
+      joined c.args.self.now so_far.0 more.0 so_far.1 more.1,
+      takes-of_few g.I.Iterator.next_gives _ _ _ _ _ takes
+          (omega (
+            arith,
+            c.take_some.ensures.short c.if-not-take_some.true,
+            ap length more.1,
+            length-append c.loop-self.self more.0,
+            length-append so_far.0 more.0,
+          ))
+          (omega (
+            arith,
+            c.loop-self-test.true,
+            c.USIZE.ensures,
+            c.position.ensures.len,
+            ap length so_far.1,
+            length-append c.args.self.now so_far.0,
+          )),
+    )
 
 pub loop-self-preserved : goal.loop-self-preserved
 loop-self-preserved g c =
@@ -29,9 +42,12 @@ loop-self-preserved g c =
     let all = c.take_some.ensures.all c.if-not-take_some.false in
     record {
       can = c.take_some.ensures.can all;
-      taken = (so_far.0 ++ more.0, joined c.args.self.now so_far.0 more.0 so_far.1 more.1,
-          takes-of_all g.I.Iterator.next_gives _ _ _ _ takes
-          (omega (arith, all, ap length more.1, length-append c.loop-self.self more.0, length-append so_far.0 more.0)));
+      taken = (
+        so_far.0 ++ more.0,
+        joined c.args.self.now so_far.0 more.0 so_far.1 more.1,
+        takes-of_all g.I.Iterator.next_gives _ _ _ _ takes
+            (omega (arith, all, ap length more.1, length-append c.loop-self.self more.0, length-append so_far.0 more.0)),
+      );
     }
 
 pub returns-clause-taken : goal.returns-clause-taken
@@ -40,8 +56,16 @@ returns-clause-taken g c =
     let so_far = c.loop-self.invariant.taken in
     let more = c.take_some-2.ensures.taken in
     let all : length so_far.0 + (c.USIZE-2.result - c.position-2.result) ≡ g.N.Unsigned.USIZE - length c.args.self.now =
-    omega (arith, c.USIZE-2.ensures, c.position-2.ensures.len, c.position-2.ensures.bound, ap length so_far.1,
-    length-append c.args.self.now so_far.0) in
-    (so_far.0 ++ more.0, joined c.args.self.now so_far.0 more.0 so_far.1 more.1,
-    subst (λ n. Takes next c.args.items.now n (so_far.0 ++ more.0) c.take_some-2.new.items) all
-    (takes-on next _ _ _ so_far.0 more.0 _ so_far.2 more.2))
+    omega (
+      arith,
+      c.USIZE-2.ensures,
+      c.position-2.ensures.len,
+      c.position-2.ensures.bound,
+      ap length so_far.1,
+      length-append c.args.self.now so_far.0,
+    ) in (
+      so_far.0 ++ more.0,
+      joined c.args.self.now so_far.0 more.0 so_far.1 more.1,
+      subst (λ n. Takes next c.args.items.now n (so_far.0 ++ more.0) c.take_some-2.new.items) all
+          (takes-on next _ _ _ so_far.0 more.0 _ so_far.2 more.2),
+    )
