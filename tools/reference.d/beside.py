@@ -117,6 +117,12 @@ def of_files(site):
             *(as_module(site, file) for file in (*proofs, *specs))]
 
 
+def proofs_of(names, item):
+    """The files that prove a function of an example."""
+    crate, *rest = names.path(item)
+    return sorted(names.site.top.joinpath("crates", crate, "proofs", *rest).glob("*.antt"))
+
+
 class Samples:
     """The crates and modules that no page is of."""
 
@@ -154,6 +160,10 @@ class Samples:
         files = sorted((self.site.top / "docs").glob("*.md"))
         text = " ".join(file.read_text("utf-8") for file in files)
         return " ".join(text.split()), set(re.findall(r"\bfn (\w+)", text))
+
+    def is_told(self, item):
+        """Whether a document shows or names a function."""
+        return item.name in self.documents[1] or f"`{item.name}`" in self.documents[0]
 
     def order(self, item):
         """Where a sample stands among others: first what the documents show, then what has clauses,
