@@ -23,7 +23,7 @@ def play(tally, words):
     status, said = run(TOP / "tools" / "reference", folder)
     lacks = "apt-get" in said and said.strip()
     tally.case("pages: they are written, and no link leads nowhere", status and said, lacks)
-    names = re.findall(r'(?m)^  "(.*)": (?:async )?\(', here.read_text("utf-8"))
+    names = re.findall(r'(?m)^  "(.*)": \[', here.read_text("utf-8"))
     browser = next(filter(None, map(shutil.which, BROWSERS)), None)
     if lacks or not browser:
         return tally.skip([f"pages: {it}" for it in names], lacks or "a browser: apt-get install chromium")

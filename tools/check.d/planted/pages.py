@@ -9,7 +9,7 @@ PLANTED = {
     "the kinds are drawn": ("style.css", "svg { width: 100%;", "svg { display: none !important;"),
     "the search finds map_inline": ("search.js", "choose(found.length ? 0", "choose(found ? 1"),
     "a caller unfolds": ("style.css", ".place {", ".caller pre { display: none; }\n.place {"),
-    "light pages are light, dark ones dark": ("style.css", "color-scheme: light dark", ""),
+    "a dark page is dark": ("style.css", "color-scheme: light dark", ""),
     "no page is too wide for a phone": ("style.css", ".docs { ", ".docs { min-width: 30rem; "),
 }
 
