@@ -15,11 +15,11 @@ from callers import uncalled
 from layout import indented
 from lookup import impl_of
 from meanings import LIBRARIES, WITH_A_PAGE
-from promise import stale, unkept
-from public import changed
+from promise import unkept
 from rows import BAR, CODE, FENCED, names_in, plain, stands_in
 from sources import STD, atoms_of, imports_of, is_in
 from text import Text
+from written import stale
 
 # A name of each kind that readers look up, with the item that it leads to, or what its row tells.
 NAMES, TELLS = pathlib.Path(__file__).resolve().parent / "rust_names.txt", "tells "
@@ -236,7 +236,7 @@ def unrowed(names):
 # blind. Those of names ask as a reader of `tools/reference NAME` does.
 CHECKS = {
     "examples": (unwritten, 24), "imports": (unused, 2072), "public items": (unnamed, 323),
-    "public": (changed, 51), "wrong bodies": (unfit, 180), "callers": (uncalled, 263),
-    "names": (misled, 26), "promise": (unkept, 68), "page": (stale, 1),
+    "written": (stale, 268), "wrong bodies": (unfit, 180), "callers": (uncalled, 263),
+    "names": (misled, 27), "promise": (unkept, 68),
     "contracts": (misquoted, 17), "walls": (unrowed, 68), "documents": (dangling, 1794),
 }
