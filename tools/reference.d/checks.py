@@ -136,7 +136,8 @@ def unfit(names):
 def unwritten(names):
     """Looks for each part of an example, but for its imports, in the crates."""
     top = names.site.top
-    sources = [LAYOUT.sub("", it.read_text("utf-8")) for it in top.glob("crates/*/src/**/*.rt")]
+    written = (*top.glob("crates/*/src/**/*.rt"), *top.glob("tools/start.d/*.rattle"))
+    sources = [LAYOUT.sub("", it.read_text("utf-8")) for it in written]
     documents = (file for it in ("README.md", "docs/*.md", "crates/*/README.md")
                  for file in sorted(top.glob(it)))
     for document in documents:
