@@ -36,6 +36,7 @@ LAYOUT = re.compile(r"\s+|,(?=\s*[)\]}>])|\bpub(?:\(\w+\))?\s")
 # A contract that is quoted: a line with the function's name as a link, and the code below it.
 QUOTED = re.compile(r"(?ms)^\[`([\w:]+)`\]\((\S+)\)\n\n```text\n(.*?)^```")
 DOCUMENTS = ("docs/CALLING.md", "docs/STUCK.md", "docs/DIFFERENCES.md", "docs/DEFINITIONS.md",
+             "docs/TRUST.md",
              "crates/*/README.md")
 # The document whose rows begin with two cells of what is seen.
 OF_SEEN = "STUCK.md"
