@@ -36,6 +36,7 @@ LAYOUT = re.compile(r"\s+|,(?=\s*[)\]}>])|\bpub(?:\(\w+\))?\s")
 # A contract that is quoted: a line with the function's name as a link, and the code below it.
 QUOTED = re.compile(r"(?ms)^\[`([\w:]+)`\]\((\S+)\)\n\n```text\n(.*?)^```")
 DOCUMENTS = ("docs/CALLING.md", "docs/STUCK.md", "docs/DIFFERENCES.md", "docs/DEFINITIONS.md",
+             "docs/TRUST.md",
              "crates/*/README.md")
 # The document whose rows begin with two cells of what is seen.
 OF_SEEN = "STUCK.md"
@@ -136,7 +137,8 @@ def unfit(names):
 def unwritten(names):
     """Looks for each part of an example, but for its imports, in the crates."""
     top = names.site.top
-    sources = [LAYOUT.sub("", it.read_text("utf-8")) for it in top.glob("crates/*/src/**/*.rt")]
+    written = (*top.glob("crates/*/src/**/*.rt"), *top.glob("tools/start.d/*.rattle"))
+    sources = [LAYOUT.sub("", it.read_text("utf-8")) for it in written]
     documents = (file for it in ("README.md", "docs/*.md", "crates/*/README.md")
                  for file in sorted(top.glob(it)))
     for document in documents:
