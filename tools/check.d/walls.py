@@ -35,7 +35,7 @@ IMPORTS = {
     "Rattle.std.specs.Int.Bits": "bit_xor",
     "Rattle.std.specs.List": "All flat_map list_any range_with_len starts_with zip",
     "Rattle.std.specs.Prelude": "◌≡◌ ◌↔◌ ◌<◌ ◌≤◌ ◌+◌ ◌-◌ ◌*◌ ◌%◌ ◌^◌ ◌++◌ ◌∷◌ [] IfOk IsTrue OnErr"
-    " OnOk drop fold length map nat_eq replicate reverse slice_index slice_index_or slice_set sum"
+    " OnOk drop fold length map nat_eq pos replicate reverse slice_index slice_index_or slice_set sum"
     " take",
     "generic_array": "AllocError ArrayBuilder ArrayLength BoxedArray ChunksMut ChunksRef Const"
     " GenericArray GenericArrayMut GenericArrayRef InlineLength LengthError U2 U3 U4 U5 U6 Unsigned"

@@ -159,6 +159,7 @@ class Samples:
         """The text of the documents, and the names of the functions that it shows."""
         files = sorted((self.site.top / "docs").glob("*.md"))
         text = " ".join(file.read_text("utf-8") for file in files)
+        text = re.sub(r"`(\w+)::(\w+)`", r"`\2` of `\1`", text)
         return " ".join(text.split()), set(re.findall(r"\bfn (\w+)", text))
 
     def is_told(self, item):
