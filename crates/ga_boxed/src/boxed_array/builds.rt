@@ -10,7 +10,8 @@ ghost use Rattle.std.specs.Prelude.{◌≡◌, ℕ, ◌+◌, ◌≤◌, IfOk, Is
 
 use crate::boxed_array::BoxedArray;
 use crate::live_block::LiveBlock;
-use ga_core::{AllocError, BLOCK, FillError, LengthError, Unsigned, holds_a_word};
+use ga_core::closures::{BLOCK, holds_a_word};
+use ga_core::{AllocError, FillError, LengthError, Unsigned};
 use std::alloc::Global;
 
 impl<T, N: Unsigned> BoxedArray<T, N> {
