@@ -25,8 +25,9 @@ def play(tally, words):
     tally.case("pages: they are written, and no link leads nowhere", status and said, lacks)
     names = re.findall(r'(?m)^  "(.*)": \[', here.read_text("utf-8"))
     browser = next(filter(None, map(shutil.which, BROWSERS)), None)
-    if lacks or not browser:
-        return tally.skip([f"pages: {it}" for it in names], lacks or "a browser: apt-get install chromium")
+    lacks = lacks or not browser and "a browser: apt-get install chromium"
+    if lacks:
+        return tally.skip([f"pages: {it}" for it in names], lacks)
     shutil.copy(here, folder)
     _, seen = run(browser, *FLAGS, f"--user-data-dir={tempfile.mkdtemp()}", folder / here.name)
     played = dict(map(html.unescape, it) for it in CASE.findall(seen))

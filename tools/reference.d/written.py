@@ -40,9 +40,9 @@ def promise_page(names, folder):
         yield from ("", f"## {sentence.rstrip('.')}", "")
         for name, item in items.items():
             if item:
-                said = [f"`{it.name}`" for it in item.clauses if it.keyword == "ensures" and it.name]
+                ensures = [it.name for it in item.clauses if it.keyword == "ensures" and it.name]
                 link = f"- [`{name}`]({os.path.relpath(item.file, folder)})"
-                yield link + (f": {', '.join(said)}" if said else "")
+                yield link + (f": `{'`, `'.join(ensures)}`" if ensures else "")
 
 
 def with_table(names, readme):
