@@ -3,6 +3,7 @@ mod NextCalls
 mod TupleLemmas
 pub mod CopyLemmas
 pub mod EntryActs
+pub mod Everyday
 pub mod FillLemmas
 pub mod JoinLemmas
 pub mod JoinedRuns
@@ -12,7 +13,9 @@ pub mod MoveLemmas
 pub mod NestedLemmas
 pub mod PairLemmas
 pub mod PlaceLemmas
+pub mod RingLemmas
 pub mod RunLemmas
+pub mod SignedLemmas
 pub mod SlotLemmas
 pub mod ZipLemmas
 pub mod walks
