@@ -1,6 +1,7 @@
 mod MadeLemmas
 mod NextCalls
 mod TupleLemmas
+pub mod BitLemmas
 pub mod CopyLemmas
 pub mod EntryActs
 pub mod FillLemmas
@@ -14,6 +15,7 @@ pub mod PairLemmas
 pub mod PlaceLemmas
 pub mod RunLemmas
 pub mod SlotLemmas
+pub mod WordLemmas
 pub mod ZipLemmas
 pub mod walks
 pub use Rattle.arrayvec.proofs.IterLemmas
