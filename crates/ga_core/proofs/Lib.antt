@@ -1,6 +1,7 @@
 mod MadeLemmas
 mod NextCalls
 mod TupleLemmas
+pub mod BitLemmas
 pub mod CopyLemmas
 pub mod EntryActs
 pub mod Everyday
@@ -17,6 +18,7 @@ pub mod RingLemmas
 pub mod RunLemmas
 pub mod SignedLemmas
 pub mod SlotLemmas
+pub mod WordLemmas
 pub mod ZipLemmas
 pub mod walks
 pub use Rattle.arrayvec.proofs.IterLemmas
