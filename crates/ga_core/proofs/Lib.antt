@@ -1,8 +1,10 @@
 mod MadeLemmas
 mod NextCalls
 mod TupleLemmas
+pub mod BitLemmas
 pub mod CopyLemmas
 pub mod EntryActs
+pub mod Everyday
 pub mod FillLemmas
 pub mod JoinLemmas
 pub mod JoinedRuns
@@ -12,8 +14,11 @@ pub mod MoveLemmas
 pub mod NestedLemmas
 pub mod PairLemmas
 pub mod PlaceLemmas
+pub mod RingLemmas
 pub mod RunLemmas
+pub mod SignedLemmas
 pub mod SlotLemmas
+pub mod WordLemmas
 pub mod ZipLemmas
 pub mod walks
 pub use Rattle.arrayvec.proofs.IterLemmas

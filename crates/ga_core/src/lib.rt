@@ -18,6 +18,8 @@ mod builder;
 #[doc(hidden)]
 pub mod closures;
 mod errors;
+/// That numbers fit their type, as facts for a proof.
+pub mod item_ranges;
 /// The folds of both iterators by value.
 pub mod items_left;
 mod length;

@@ -7,7 +7,7 @@
 
 /// Messages of any length, in blocks of one length.
 pub mod block_buffer;
-/// Bytes compared so that each is looked at.
+/// Bytes compared, and one of two arrays chosen, so that each byte is looked at.
 pub mod compare;
 /// Hash functions whose sizes are lengths.
 pub mod hash_function;
