@@ -17,13 +17,12 @@ returns-then-len-USIZE g c =
 
 pub returns : goal.returns
 returns g c =
-    let result = c.try_boxed_from_iter.result in
     let long = sym c.args.items.ok.0 ∙ (sym c.len.ensures ∙ (c.if-len-USIZE.false ∙ c.USIZE.ensures)) in
     let all = filled into_iter_steps into_iter_items c.into_iter.ensures.runs c.into_iter.result c.args.items.items
-    g.N.Unsigned.USIZE c.into_iter.ensures.rest long result c.try_boxed_from_iter.ensures.runs in
+    g.N.Unsigned.USIZE c.into_iter.ensures.rest long c.try_boxed_from_iter.result c.try_boxed_from_iter.ensures.runs in
     record {
-      variant = IfOk-weaker result _ _ (λ built good. (λ _. long, λ _. good.0)) all;
-      ok = IfOk-weaker result _ _ (λ built good. good.1) all;
+      variant = IfOk-weaker c.try_boxed_from_iter.result _ _ (λ built good. (λ _. long, λ _. good.0)) all;
+      ok = IfOk-weaker c.try_boxed_from_iter.result _ _ (λ built good. good.1) all;
       other = λ wrong. absurd (wrong long);
       empty = c.try_boxed_from_iter.ensures.empty;
     }
