@@ -2,7 +2,7 @@
 -- items.
 use Rattle.ga_boxed.specs.Live.{Live}
 use Rattle.ga_core.proofs.CutLemmas.{taken-more}
-use Rattle.std.proofs.Common.{◌≡◌, ◌≢◌, ℕ, suc, ◌+◌, ◌*◌, ◌^◌, ◌<◌, ◌≤◌, List, [], ◌∷◌, ◌++◌, length, ap, sym, ◌∙◌}
+use Rattle.std.proofs.Common.{◌≡◌, ◌≢◌, ℕ, ◌+◌, ◌*◌, ◌^◌, ◌<◌, ◌≤◌, List, [], ◌∷◌, ◌++◌, length, ap, sym, ◌∙◌}
 use Rattle.std.proofs.Common.{arith, MatchOption, None, Option, Some, drop, length-drop, pos_of_ne-zero, subst, zero-mul}
 use Rattle.std.proofs.iter.Next.{Yields-more}
 use Rattle.std.proofs.lemmas.List.{length_push, nil_from_length}
@@ -11,10 +11,6 @@ use Rattle.std.specs.Iterator.{Yields, YieldsFirst, YieldsLast}
 -- none of any size fit
 pub none_fits : (n size : ℕ) → n ≡ 0 → n * size < 2 ^ 63
 none_fits n size none = subst (λ k. k * size < 2 ^ 63) (sym none) (omega (arith, zero-mul size))
-
--- one more was counted, and one fewer is left
-pub one_counted : (count left others all : ℕ) → left ≡ suc others → count + left ≡ all → count + 1 + others ≡ all
-one_counted count left others all some so_far = omega arith
 
 module _ (i k n end : ℕ) where
   -- before the end there is room for one more

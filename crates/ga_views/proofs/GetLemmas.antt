@@ -3,8 +3,7 @@ use Rattle.std.proofs.Common.{arith, length, sym}
 use Rattle.std.proofs.lemmas.Option.{slice_get_past, slice_get_read}
 use Rattle.std.specs.Borrow.{Bor}
 use Rattle.std.specs.Option.{option_copied}
-use Rattle.std.specs.Prelude.{◌≡◌, ℕ, ◌<◌, ◌≤◌, ◌↔◌, IsSome, List, None, Option, Some, refl, slice_get}
-use Rattle.std.specs.Prelude.{slice_index_or}
+use Rattle.std.specs.Prelude.{◌≡◌, ℕ, ◌<◌, ◌≤◌, ◌↔◌, IsSome, List, None, Option, Some, refl, slice_get, slice_index_or}
 use Rattle.std.specs.Slice.{IsItemAt}
 
 -- the n items of a view, where their number stands under the name m

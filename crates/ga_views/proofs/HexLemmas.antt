@@ -77,12 +77,7 @@ module _ (upper : Bool) where
   module _ (count : ℕ) (left piece behind text : List ℕ) (parts : left ≡ piece ++ behind)
       (is : text ≡ take count (hex_digits upper piece)) where
     text-long : length text ≡ min count (2 * length piece)
-    text-long = omega (
-      arith,
-      ap length is,
-      length-take count (hex_digits upper piece),
-      length-hex_digits piece,
-    )
+    text-long = omega (arith, ap length is, length-take count (hex_digits upper piece), length-hex_digits piece)
 
     -- what was written and what was to be written of all are that, the text, and the others of the second part
     pub piece-next : (whole done : List ℕ) → whole ≡ done ++ take count (hex_digits upper left)

@@ -3,15 +3,13 @@ use Rattle.ga_views.proofs.PartLemmas.{part-before, part-behind, part-within, re
 use Rattle.ga_views.proofs.RowLemmas.{length-row, length-rows, row-within, rows-dropped, rows-of_whole, rows-taken}
 use Rattle.ga_views.specs.Parts.{part_set}
 use Rattle.ga_views.specs.Rows.{chunk_count, chunk_rest, row_at, rows}
-use Rattle.std.proofs.Common.{◌≡◌, ℕ, suc, ◌+◌, ◌-◌, ◌*◌, ◌/◌, ◌<◌, ◌≤◌, List, [], ◌∷◌, ◌++◌, ◌∙◌, ap, arith}
-use Rattle.std.proofs.Common.{append_assoc, drop, get_or, length, length-append, length-drop, map, refl, sym, take}
+use Rattle.std.proofs.Common.{◌≡◌, ℕ, suc, ◌+◌, ◌*◌, ◌/◌, ◌<◌, ◌≤◌, List, ◌++◌, ◌∙◌, ap, arith, drop, get_or}
+use Rattle.std.proofs.Common.{length, length-append, map, refl, sym, take}
 use Rattle.std.proofs.Math.Seq.{drop-append_seam, take-append_seam}
-use Rattle.std.proofs.lemmas.List.{append-nil, drop_all, drop_more, get_or_at, length-map, set-get_or, set_at}
-use Rattle.std.proofs.lemmas.List.{set_split, take-append-drop, take_all}
+use Rattle.std.proofs.lemmas.List.{append-nil, drop_all, length-map, set-get_or, set_split, take-append-drop, take_all}
 use Rattle.std.proofs.lemmas.List.Edits.{map_over_more}
-use Rattle.std.proofs.lemmas.List.FromFn.{get_or-map-range_with_len, length-map-range_with_len}
-use Rattle.std.proofs.lemmas.List.FromFn.{map-range_with_len_more}
-use Rattle.std.specs.List.{length_refill, range_with_len, refill}
+use Rattle.std.proofs.lemmas.List.FromFn.{get_or-map-range_with_len}
+use Rattle.std.specs.List.{length_refill, refill}
 use Rattle.std.specs.Prelude.{slice_set}
 
 get_or-rows : {X : Type 0} (width : ℕ) (items : List X) (index : ℕ) (otherwise : List X)
@@ -78,44 +76,6 @@ module _ {X : Type 0} (f : List X → List X) (shown : List (List X)) (width : �
   rows_mapped_all past =
       let enough : length shown ≤ index = omega (arith, as_many, past) in
       so_far ∙ rw (take_all index shown enough, drop_all index shown enough) (append-nil (map f shown))
-
--- a loop that writes the row made for each index: the same
-module _ {X : Type 0} (made : ℕ → List X) (width : ℕ) (old items : List X) (index : ℕ)
-    (so_far : rows width items ≡ map made (range_with_len 0 index) ++ drop index (rows width old)) where
-  made_long : length (map made (range_with_len 0 index)) ≡ index
-  made_long = length-map-range_with_len made 0 index
-
-  as_few : chunk_count width items ≡ index + (chunk_count width old - index)
-  as_few = sym (length-rows width items) ∙ (ap length so_far ∙ simp (length-append, length-drop, length-rows)
-      (ap (λ n. n + (chunk_count width old - index)) made_long))
-
-  pub rows_made_more : (row after : List X) → index < chunk_count width items
-      → (row_at width items index ≡ row_at width old index → row ≡ made index) → length row ≡ width
-      → after ≡ refill (length items) items (part_set (index * width) width items row)
-      → rows width after ≡ map made (range_with_len 0 (index + 1)) ++ drop (index + 1) (rows width old)
-  rows_made_more row after below is_made long written =
-      let there : index < chunk_count width old = omega (arith, as_few, below) in
-      let first = map made (range_with_len 0 index) in
-      let left = drop (index + 1) (rows width old) in
-      let was = row_at width old index in
-      let others = drop_more (rows width old) index was (omega (arith, length-rows width old, there))
-      ∙ ap (λ r. r ∷ left) (get_or-rows width old index was there) in
-      let split : rows width items ≡ first ++ was ∷ left = so_far ∙ ap (λ l. first ++ l) others in
-      let still = sym (get_or-rows width items index was below) ∙ (ap (λ l. get_or l index was) split
-      ∙ get_or_at first was left was index made_long) in
-      rows-set width items row after index below long written
-      ∙ (ap (λ l. slice_set l index row) split
-      ∙ (set_at first was left row index made_long
-      ∙ (ap (λ r. first ++ r ∷ left) (is_made still)
-      ∙ (sym (append_assoc first (made index ∷ []) left)
-      ∙ ap (λ l. l ++ left) (sym (map-range_with_len_more made 0 index index (omega arith)))))))
-
-  pub rows_made_all : index ≡ chunk_count width old
-      → rows width items ≡ map made (range_with_len 0 (chunk_count width old))
-  rows_made_all ends =
-      so_far ∙ (ap (λ l. map made (range_with_len 0 index) ++ l)
-      (drop_all index (rows width old) (omega (arith, length-rows width old, ends)))
-      ∙ (append-nil (map made (range_with_len 0 index)) ∙ ap (λ n. map made (range_with_len 0 n)) ends))
 
 -- items cut behind their whole rows: the rows are those of the first part, and the rest is the second
 module _ {X : Type 0} (width : ℕ) (items whole rest : List X) (parts : whole ++ rest ≡ items)

@@ -23,13 +23,7 @@ module _ (more : ℕ) (outlives : List (Outlives (suc more))) (X : RattleType) (
 
   abbrev ended : Ended
   ended = record {
-    signature = record {
-      lifetimes = suc more;
-      outlives = outlives;
-      params = taken ∷ [];
-      result =
-          result;
-    };
+    signature = record { lifetimes = suc more; outlives = outlives; params = taken ∷ []; result = result };
     kept = (no, tt);
   }
 

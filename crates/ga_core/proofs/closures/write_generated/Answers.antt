@@ -3,15 +3,12 @@ use Rattle.ga_core.proofs.closures.write_generated.Goals as goal
 use Rattle.ga_core.specs.Runs.{ClosureRun}
 use Rattle.std.proofs.Common.{◌∙◌, arith}
 
-pub write_some-requires : goal.write_some-requires
-write_some-requires g c = record {
-  room = omega arith;
-  callable = (
-    c.args.f.now,
-    λ k ys reached below. c.requires.callable k ys reached (omega (arith, below, c.loop-slots.auto.slots)),
-    c.loop-slots.invariant.ran,
-  );
-}
+pub write_some-requires-clause-callable : goal.write_some-requires-clause-callable
+write_some-requires-clause-callable g c = (
+  c.args.f.now,
+  λ k ys reached below. c.requires.callable k ys reached (omega (arith, below, c.loop-slots.auto.slots)),
+  c.loop-slots.invariant.ran,
+)
 
 pub loop-slots-preserved : goal.loop-slots-preserved
 loop-slots-preserved g c = record {
@@ -19,15 +16,12 @@ loop-slots-preserved g c = record {
   ran = c.write_some.ensures.run c.args.f.now c.loop-slots.invariant.ran;
 }
 
-pub write_some-requires-2 : goal.write_some-requires-2
-write_some-requires-2 g c = record {
-  room = omega arith;
-  callable = (
-    c.args.f.now,
-    λ k ys reached below. c.requires.callable k ys reached (omega (arith, below, c.loop-slots.auto.slots)),
-    c.loop-slots.invariant.ran,
-  );
-}
+pub write_some-requires-2-clause-callable : goal.write_some-requires-2-clause-callable
+write_some-requires-2-clause-callable g c = (
+  c.args.f.now,
+  λ k ys reached below. c.requires.callable k ys reached (omega (arith, below, c.loop-slots.auto.slots)),
+  c.loop-slots.invariant.ran,
+)
 
 pub returns : goal.returns
 returns g c = record {

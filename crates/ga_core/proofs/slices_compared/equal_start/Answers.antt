@@ -20,10 +20,9 @@ loop-start-preserved g c =
 
 pub returns-then-parts_match-clause-equal : goal.returns-then-parts_match-clause-equal
 returns-then-parts_match-clause-equal g c =
-    let at = c.loop-start in
     let end = length c.args.left.now in
-    block-equal g.T.PartialEq.eq at.start (end - at.start) end c.args.left.now c.args.right.now
-    (omega arith) at.invariant.equal c.if-parts_match.ensures.equal
+    block-equal g.T.PartialEq.eq c.loop-start.start (end - c.loop-start.start) end c.args.left.now c.args.right.now
+    (omega arith) c.loop-start.invariant.equal c.if-parts_match.ensures.equal
 
 pub returns-else-parts_match-clause-differs : goal.returns-else-parts_match-clause-differs
 returns-else-parts_match-clause-differs g c some =

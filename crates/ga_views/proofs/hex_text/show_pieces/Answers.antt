@@ -34,7 +34,6 @@ loop-count-smaller g c =
 -- one piece more is written
 pub loop-count-preserved : goal.loop-count-preserved
 loop-count-preserved g c =
-    let parts = c.split_at.ensures.by_index.0 in
     let is = c.put_piece-shown.ensures in
     let text = c.put_piece-shown.result.now in
     record {
@@ -42,8 +41,8 @@ loop-count-preserved g c =
           let before = c.loop-count.invariant.text flush in (
             before.0 ++ text,
             has_written_styled_append _ _ before.0 _ text _ before.1 (search rules),
-            piece-next c.args.upper _ _ _ _ _ parts is _ before.0 before.2,
+            piece-next c.args.upper _ _ _ _ _ c.split_at.ensures.by_index.0 is _ before.0 before.2,
           );
       none = λ none. omega (arith, c.loop-count.invariant.none none);
-      count = piece-left c.args.upper _ _ _ _ _ parts is c.loop-count.invariant.count;
+      count = piece-left c.args.upper _ _ _ _ _ c.split_at.ensures.by_index.0 is c.loop-count.invariant.count;
     }

@@ -21,7 +21,6 @@ loop-count-smaller g c =
 -- one piece more is written
 pub loop-count-preserved : goal.loop-count-preserved
 loop-count-preserved g c =
-    let contents = g.W.Write.contents in
     let so_far = c.loop-count.invariant.text in
     let parts = c.split_at.ensures.by_index.0 in
     let is = c.put_piece-text.ensures in
@@ -29,8 +28,8 @@ loop-count-preserved g c =
     record {
       text = (
         so_far.0 ++ text,
-        Appends-trans (contents c.args.w.now) (contents c.loop-count.w)
-            (contents c.write_all.new.self) so_far.0 text so_far.1 c.in_default.ensures.bytes,
+        Appends-trans (g.W.Write.contents c.args.w.now) (g.W.Write.contents c.loop-count.w)
+            (g.W.Write.contents c.write_all.new.self) so_far.0 text so_far.1 c.in_default.ensures.bytes,
         piece-next c.args.upper _ _ _ _ _ parts is _ so_far.0 so_far.2,
       );
       count = piece-left c.args.upper _ _ _ _ _ parts is c.loop-count.invariant.count;

@@ -1,7 +1,7 @@
 use Rattle.ga_boxed.proofs.boxed_array.BoxedArray.generate_by.Goals as goal
 use Rattle.ga_core.proofs.ActsLemmas.{answers_of_run}
 use Rattle.ga_core.specs.Runs.{ClosureRun}
-use Rattle.std.proofs.Common.{◌≡◌, ◌+◌, arith, length, refl, subst}
+use Rattle.std.proofs.Common.{◌≡◌, arith, length, refl, subst}
 use Rattle.std.specs.List.{range_with_len}
 
 pub put_some-requires-clause-callable : goal.put_some-requires-clause-callable

@@ -27,12 +27,10 @@ loop-index-preserved g c =
     at.index c.in-Ok.item c.f.new.self at.invariant.run c.in-Ok.ensures))
 
 pub from_block-requires : goal.from_block-requires
-from_block-requires g c =
-    let at = c.loop-index in
-    record {
-      len = at.invariant.long
-          ∙ all_counted _ _ _ c.loop-index-test.false at.auto.index-end c.USIZE-index-end.ensures;
-    }
+from_block-requires g c = record {
+  len = c.loop-index.invariant.long
+      ∙ all_counted _ _ _ c.loop-index-test.false c.loop-index.auto.index-end c.USIZE-index-end.ensures;
+}
 
 pub returns-in-Err : goal.returns-in-Err
 returns-in-Err g c =

@@ -11,11 +11,10 @@ use Rattle.std.proofs.lemmas.List.{take_all}
 
 pub f-requires : goal.f-requires
 f-requires g c =
-    let at = c.loop-item in
     let given = c.as_slice-item-items in
-    let here = cut-at at.item-index given.result.now c.item-item.result c.loop-item-test.true c.item-item.is in
-    may_try_map-at (λ item. item.now) _ _ _ _ c.requires.callable (take at.item-index given.result.now)
-    c.item-item.result _ at.block.items _ (sym given.ensures.items ∙ here) at.invariant.run _ refl
+    let here = cut-at c.loop-item.item-index given.result.now c.item-item.result c.loop-item-test.true c.item-item.is in
+    may_try_map-at (λ item. item.now) _ _ _ _ c.requires.callable (take c.loop-item.item-index given.result.now)
+    c.item-item.result _ c.loop-item.block.items _ (sym given.ensures.items ∙ here) c.loop-item.invariant.run _ refl
 
 pub loop-item-preserved : goal.loop-item-preserved
 loop-item-preserved g c =

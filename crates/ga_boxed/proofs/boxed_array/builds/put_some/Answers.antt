@@ -18,9 +18,7 @@ f-requires g c =
     (at.invariant.run begun c.requires.callable.2))
 
 pub put-requires : goal.put-requires
-put-requires g c = record {
-  room = omega (arith, c.requires.room, c.loop-put.invariant.room, c.loop-put-test.true);
-}
+put-requires g c = record { room = omega (arith, c.requires.room, c.loop-put.invariant.room, c.loop-put-test.true) }
 
 pub loop-put-preserved : goal.loop-put-preserved
 loop-put-preserved g c =
@@ -37,10 +35,8 @@ loop-put-preserved g c =
     }
 
 pub returns : goal.returns
-returns g c =
-    let at = c.loop-put in
-    record {
-      run = at.invariant.run;
-      long = omega (arith, at.invariant.long, c.loop-put-test.false, at.auto._put-end);
-      room = omega (arith, at.invariant.room, c.loop-put-test.false, at.auto._put-end);
-    }
+returns g c = record {
+  run = c.loop-put.invariant.run;
+  long = omega (arith, c.loop-put.invariant.long, c.loop-put-test.false, c.loop-put.auto._put-end);
+  room = omega (arith, c.loop-put.invariant.room, c.loop-put-test.false, c.loop-put.auto._put-end);
+}

@@ -9,24 +9,21 @@ pub put-requires : goal.put-requires
 put-requires g c = record { room = more_room _ _ _ _ c.loop-item.invariant.room c.loop-item-test.true refl }
 
 pub loop-item-preserved : goal.loop-item-preserved
-loop-item-preserved g c =
-    let at = c.loop-item in
-    record {
-      long = long_more _ _ _ c.put.ensures.items _ at.invariant.long;
-      room = one_more _ _ _ _ at.invariant.room c.put.ensures.room;
-      clones = rw c.put.ensures.items
-          (all_zip_more g.T.Clone.is_clone c.as_slice-item-items.result.now at.clones.items at.item-index
-          c.item-item.result c.in-Ok-clone.copy c.loop-item-test.true c.item-item.is at.invariant.clones
-          c.in-Ok-clone.ensures.cases);
-    }
+loop-item-preserved g c = record {
+  long = long_more _ _ _ c.put.ensures.items _ c.loop-item.invariant.long;
+  room = one_more _ _ _ _ c.loop-item.invariant.room c.put.ensures.room;
+  clones = rw c.put.ensures.items
+      (all_zip_more g.T.Clone.is_clone c.as_slice-item-items.result.now c.loop-item.clones.items c.loop-item.item-index
+      c.item-item.result c.in-Ok-clone.copy c.loop-item-test.true c.item-item.is c.loop-item.invariant.clones
+      c.in-Ok-clone.ensures.cases);
+}
 
 pub returns : goal.returns
 returns g c =
-    let at = c.loop-item in
     let items = c.as_slice-item-items in
     record {
       cases = subst (λ copy. AllZip g.T.Clone.is_clone c.args.self.now copy) (sym c.from_block.ensures)
-          (subst (λ items. AllZip g.T.Clone.is_clone items at.clones.items)
-          (take_all at.item-index items.result.now c.loop-item-test.false ∙ items.ensures)
-          at.invariant.clones);
+          (subst (λ items. AllZip g.T.Clone.is_clone items c.loop-item.clones.items)
+          (take_all c.loop-item.item-index items.result.now c.loop-item-test.false ∙ items.ensures)
+          c.loop-item.invariant.clones);
     }

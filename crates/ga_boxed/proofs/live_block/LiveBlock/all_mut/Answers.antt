@@ -13,8 +13,5 @@ slice_mut-requires g c = record {
 pub returns : goal.returns
 returns g c = (
   (refl, λ w. ap (λ b. live (refill (length b.items) b.items w) b.room) c.self.view_is),
-  record {
-    writes_back = tt;
-    items = c.slice_mut.ensures.items ∙ ap (λ b. b.items) c.self.view_is;
-  },
+  record { writes_back = tt; items = c.slice_mut.ensures.items ∙ ap (λ b. b.items) c.self.view_is },
 )

@@ -9,9 +9,7 @@ take_first-requires g c = record {
 }
 
 pub returns : goal.returns
-returns g c =
-    let took = c.take_first.ensures in
-    record {
-      items = sym (ap (λ b. b.items) c.self.view_is) ∙ took.items;
-      room = took.room ∙ ap (λ b. b.room) c.self.view_is;
-    }
+returns g c = record {
+  items = sym (ap (λ b. b.items) c.self.view_is) ∙ c.take_first.ensures.items;
+  room = c.take_first.ensures.room ∙ ap (λ b. b.room) c.self.view_is;
+}

@@ -6,9 +6,7 @@ pub returns-then-self : goal.returns-then-self
 returns-then-self g c = (none_held _ _ _ _ c.self.view_is c.self.invariant.items c.if-self.true, refl)
 
 pub take_first-requires : goal.take_first-requires
-take_first-requires g c = record {
-  enough = some_held _ _ _ _ c.self.view_is c.self.invariant.items c.if-self.false;
-}
+take_first-requires g c = record { enough = some_held _ _ _ _ c.self.view_is c.self.invariant.items c.if-self.false }
 
 pub returns : goal.returns
 returns g c = (c.take_first.ensures.items, c.take_first.ensures.room)

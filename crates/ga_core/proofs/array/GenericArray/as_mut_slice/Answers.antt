@@ -23,8 +23,7 @@ returns g c =
       record {
         writes_back = tt;
         items = shown;
-        len =
-            ap length (shown ∙ sym c.self.view_is) ∙ c.self.invariant.0;
+        len = ap length (shown ∙ sym c.self.view_is) ∙ c.self.invariant.0;
         fits = c.self.invariant.1;
       },
     )

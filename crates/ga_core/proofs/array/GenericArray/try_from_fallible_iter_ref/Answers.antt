@@ -25,15 +25,14 @@ returns-in-Ok g c =
 
 pub returns-in-Err : goal.returns-in-Err
 returns-in-Err g c =
-    let next = g.I.Iterator.next_gives in
     let n = g.N.Unsigned.USIZE in
     let taken = c.in-Err.ensures.taken in
     let made : Made g = Ok (Err c.in-Err.error) in
-    let fill : FillsFallibly next c.args.items.now n made c.try_extend.new.items =
+    let fill : FillsFallibly g.I.Iterator.next_gives c.args.items.now n made c.try_extend.new.items =
     (taken.0, Some (Err c.in-Err.error), taken.2.0, (refl, omega (arith, taken.2.1))) in
     record {
       fill = fill;
-      runs = FillFalliblyRuns-from_fill next c.args.items.now n made _ fill;
+      runs = FillFalliblyRuns-from_fill g.I.Iterator.next_gives c.args.items.now n made _ fill;
       can_on = c.in-Err.ensures.can_on;
     }
 

@@ -12,11 +12,7 @@ returns-then-not-has_row-clause-steps g c =
 
 pub from_slice-requires : goal.from_slice-requires
 from_slice-requires g c = record {
-  len = omega (
-    arith,
-    (c.has_row.ensures.some c.if-not-has_row.false).1,
-    c.split_at.ensures.back_len,
-  );
+  len = omega (arith, (c.has_row.ensures.some c.if-not-has_row.false).1, c.split_at.ensures.back_len);
 }
 
 -- what is split off is the last of the rows that are left

@@ -134,10 +134,7 @@ chunks_from_slice_mut_spec 𝓤 𝓛 𝓜 𝓡 wired X N LX LN g d bound =
     -- [the second part; the first part; what follows; the tokens of κ, T; the token of N]
     lands_as ! refl refl (
       tt,
-      (
-        (tt, (record { fits = parts.first_fits }, tt)),
-        ((tt, (record { fits = parts.second_fits }, tt)), tt),
-      ),
+      ((tt, (record { fits = parts.first_fits }, tt)), ((tt, (record { fits = parts.second_fits }, tt)), tt)),
     ) $
     sets ! (of_opd ! (get_in ! (fld ! refl (stop !)) (sub ! 0 refl (whole !)))) refl
     (tt, (tt, (record { fits = parts.first_fits }, tt))) $

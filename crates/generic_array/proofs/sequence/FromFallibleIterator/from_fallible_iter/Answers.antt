@@ -1,6 +1,4 @@
 use Rattle.generic_array.proofs.sequence.FromFallibleIterator.from_fallible_iter.Goals as goal
 
-pub returns : goal.returns
-returns g c =
-    let told = c.from_fallible_iter_ref.ensures in
-    record { fill = (c.from_fallible_iter_ref.new.items, told.fill); runs = told.runs; promised = told.promised }
+pub returns-clause-fill : goal.returns-clause-fill
+returns-clause-fill g c = (c.from_fallible_iter_ref.new.items, c.from_fallible_iter_ref.ensures.fill)

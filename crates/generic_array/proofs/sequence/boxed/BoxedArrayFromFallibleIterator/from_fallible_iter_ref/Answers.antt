@@ -3,12 +3,11 @@ use Rattle.generic_array.proofs.sequence.boxed.BoxedArrayFromFallibleIterator.fr
 
 pub returns : goal.returns
 returns g c =
-    let told = c.try_boxed_from_fallible_iter_ref.ensures in
     let same = built_items-same c.try_boxed_from_fallible_iter_ref.result in
     record {
-      fill = rw same told.fill;
-      runs = rw same told.runs;
-      can_on = told.can_on;
-      err = told.err;
-      promised = told.empty;
+      fill = rw same c.try_boxed_from_fallible_iter_ref.ensures.fill;
+      runs = rw same c.try_boxed_from_fallible_iter_ref.ensures.runs;
+      can_on = c.try_boxed_from_fallible_iter_ref.ensures.can_on;
+      err = c.try_boxed_from_fallible_iter_ref.ensures.err;
+      promised = c.try_boxed_from_fallible_iter_ref.ensures.empty;
     }

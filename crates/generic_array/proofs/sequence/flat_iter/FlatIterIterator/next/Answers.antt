@@ -16,14 +16,13 @@ returns-in-Some g c =
 
 pub returns-in-None : goal.returns-in-None
 returns-in-None g c =
-    let row = c.in_default.ensures.steps in
     let rows = c.in-None.ensures.steps in
     let row_left = iter_rest c.loop-item.self-inside.row in
     let rows_left = iter_rest c.loop-item.self-inside.rows in
     let none : row_left ++ flat_map (λ r. r) rows_left ≡ [] =
-    rw (nil_from_length row_left row.0, nil_from_length rows_left rows.0) in
+    rw (nil_from_length row_left c.in_default.ensures.steps.0, nil_from_length rows_left rows.0) in
     record {
-      steps = (sym c.loop-item.invariant ∙ none, rw (row.1, rows.1) none);
+      steps = (sym c.loop-item.invariant ∙ none, rw (c.in_default.ensures.steps.1, rows.1) none);
       goes = record { on = λ _. tt; keeps = tt; rests = λ _. tt };
     }
 

@@ -8,14 +8,13 @@ pub returns : goal.returns
 returns g c =
     let self = c.args.self in
     let index = c.args.index in
-    let items = c.into_iter-items.result in
     let carried = c.swap_to_end.new.items in
     let left = c.next_back.new.self in
     let item = c.unwrap.result in
     let borrowed : c.as_mut_slice.result.now ≡ self =
     c.as_mut_slice.ensures.items ∙ ap (λ array. array.now) c.view_mut-view.ensures.slice in
     let same : length carried ≡ length self = c.swap_to_end.auto.items ∙ ap length borrowed in
-    let ends : items ≡ carried = grind (arith, common_steps, same, borrowed) in
+    let ends : c.into_iter-items.result ≡ carried = grind (arith, common_steps, same, borrowed) in
     let taken : carried ≡ left ++ item ∷ [] = sym ends ∙ rw c.unwrap.ensures at c.next_back.ensures.steps in
     let order : carried ≡ swap_remove self index item ++ get_or self index item ∷ [] =
     rw borrowed at (c.swap_to_end.ensures item) in

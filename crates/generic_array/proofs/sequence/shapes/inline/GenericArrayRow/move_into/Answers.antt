@@ -3,13 +3,12 @@ use Rattle.std.proofs.Common.{◌≡◌, ◌∷◌, ap, arith, length, length-ap
 
 pub push-requires : goal.push-requires
 push-requires g c =
-    let at = c.loop-item in
-    let first : at.item-iterator ≡ c.in-Some.item ∷ c.next.new.self = c.in-Some.ensures.steps in record {
+    let first : c.loop-item.item-iterator ≡ c.in-Some.item ∷ c.next.new.self = c.in-Some.ensures.steps in record {
       room = omega (
         arith,
         ap length first,
-        ap length at.invariant.same,
-        length-append at.joined at.item-iterator,
+        ap length c.loop-item.invariant.same,
+        length-append c.loop-item.joined c.loop-item.item-iterator,
         length-append c.args.joined.now c.args.self,
         c.into_iter-item-iterator.ensures.into_iter_gives.3,
         c.requires.room,

@@ -32,7 +32,6 @@ loop-row-preserved g c =
 
 pub returns-clause-cut : goal.returns-clause-cut
 returns-clause-cut g c =
-    let w = g.W.Unsigned.USIZE in
     let items = c.args.self in
     let long = c.into_iter-items.ensures.into_iter_gives.3 ∙ c.requires.0 in
     let all : length c.loop-row.rows ≡ g.R.Unsigned.USIZE = omega (
@@ -43,8 +42,8 @@ returns-clause-cut g c =
       c.USIZE-row-end.ensures,
     ) in
     c.finish.ensures ∙ (c.loop-row.invariant.made
-    ∙ (ap (λ n. map (row_at w items) (range_with_len 0 n)) all
-    ∙ map-row_at w g.R.Unsigned.USIZE items c.requires.1 long))
+    ∙ (ap (λ n. map (row_at g.W.Unsigned.USIZE items) (range_with_len 0 n)) all
+    ∙ map-row_at g.W.Unsigned.USIZE g.R.Unsigned.USIZE items c.requires.1 long))
 
 pub returns-clause-joined : goal.returns-clause-joined
 returns-clause-joined g c =
