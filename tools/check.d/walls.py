@@ -122,11 +122,11 @@ def play(tally, words):
     room = pathlib.Path(tempfile.mkdtemp())
     copy_crates(room)
     take_proved(room)
-    write(room, {"crates.txt+": LINE})
     # Before the checks, which would else tell of the libraries as of the walls.
     status, text = run("rt", "lib", cwd=room / "crates" / "generic_array")
     if status:
         raise ValueError(text[-MOST:])
+    write(room, {"crates.txt+": LINE})
     said = check_all(room / "crates" / CRATE, modules)
     for name, (seen, _, mend) in walls.items():
         of_mend = said.get(name + MEND, []) if mend else None
