@@ -26,6 +26,3 @@ returns g c =
       other = λ wrong. absurd (wrong long);
       empty = c.try_boxed_from_iter.ensures.empty;
     }
-
-pub try_boxed_from_iter-requires : goal.try_boxed_from_iter-requires
-try_boxed_from_iter-requires g c = record { can = tt }
