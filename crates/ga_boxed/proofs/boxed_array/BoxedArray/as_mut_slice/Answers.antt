@@ -1,9 +1,6 @@
 use Rattle.ga_boxed.proofs.boxed_array.BoxedArray.as_mut_slice.Goals as goal
-use Rattle.std.proofs.Common.{◌∙◌, ap, length, refl, sym}
+use Rattle.std.proofs.Common.{◌∙◌, ap, length, refl}
 use Rattle.std.specs.List.{refill}
-
-pub all_mut-requires : goal.all_mut-requires
-all_mut-requires g c = record { len = c.USIZE.ensures ∙ sym c.self.invariant }
 
 pub returns : goal.returns
 returns g c = (

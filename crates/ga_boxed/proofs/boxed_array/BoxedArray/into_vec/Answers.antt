@@ -1,15 +1,12 @@
 use Rattle.ga_core.proofs.LeftLemmas.{all_moved}
 use Rattle.ga_boxed.proofs.BlockLemmas.{moved_more, none_left, some_left}
 use Rattle.ga_boxed.proofs.boxed_array.BoxedArray.into_vec.Goals as goal
-use Rattle.std.proofs.Common.{◌∙◌, ap, arith, length, refl}
+use Rattle.std.proofs.Common.{ap, arith, length, refl}
 
 pub take_first-requires : goal.take_first-requires
 take_first-requires g c = record {
   enough = some_left _ _ _ _ c.loop-moved.invariant.left c.loop-moved-test.true c.USIZE-moved-end.ensures;
 }
-
-pub push_reserved-requires : goal.push_reserved-requires
-push_reserved-requires g c = omega (arith, ap length c.take_first.ensures.items, c.loop-moved.invariant.room)
 
 pub loop-moved-preserved : goal.loop-moved-preserved
 loop-moved-preserved g c =
@@ -20,9 +17,6 @@ loop-moved-preserved g c =
       left = omega (arith, ap length step, c.loop-moved.invariant.left);
       room = omega (arith, ap length step, c.loop-moved.invariant.room, pushed.len, pushed.capacity);
     }
-
-pub returns-in_default : goal.returns-in_default
-returns-in_default g c = record { ok = tt; empty = λ none. c.in_default.ensures.succeeds (c.USIZE.ensures ∙ none) }
 
 pub returns : goal.returns
 returns g c =

@@ -17,9 +17,6 @@ returns-in_default g c = record {
   empty = λ none. cc (c.in_default.ensures.empty (c.USIZE.ensures ∙ none));
 }
 
-pub put-requires : goal.put-requires
-put-requires g c = record { room = rw (← c.room.ensures) c.loop-items-test.true }
-
 pub loop-items-preserved : goal.loop-items-preserved
 loop-items-preserved g c =
     let at = c.loop-items in

@@ -6,20 +6,12 @@ use Rattle.ga_core.specs.Fill.{Asks, FillRuns, Fills}
 use Rattle.ga_core.specs.declared.LengthError.{LengthError}
 use Rattle.std.proofs.Common.{◌<◌, ◌+◌, Err, arith, length, List, None, Ok, Result, Some, refl}
 
-pub put-requires : goal.put-requires
-put-requires g c = record {
-  room = omega (arith, c.loop-less.invariant.within, c.room-in-loop-less.ensures, c.loop-less-test.true);
-}
-
 pub loop-less-preserved : goal.loop-less-preserved
 loop-less-preserved g c = record {
   so_far = taken-next c.in-Some.item c.next.new.self c.loop-less.invariant.so_far c.put.ensures.items c.put.ensures.room
       c.in-Some.ensures.steps c.in-Some.ensures.goes.keeps;
   within = omega (arith, c.loop-less.invariant.within, c.room-in-loop-less.ensures, c.loop-less-test.true, c.put.ensures.room);
 }
-
-pub put-requires-in-Some-next : goal.put-requires-in-Some-next
-put-requires-in-Some-next g c = record { room = rw (← c.room-in-loop-items.ensures) c.loop-items-test.true }
 
 pub loop-items-preserved : goal.loop-items-preserved
 loop-items-preserved g c =

@@ -1,4 +1,4 @@
-use Rattle.ga_boxed.proofs.BlockLemmas.{all_counted, more_room, put-next}
+use Rattle.ga_boxed.proofs.BlockLemmas.{all_counted, put-next}
 use Rattle.ga_boxed.proofs.boxed_array.BoxedArray.try_generate_by.Goals as goal
 use Rattle.ga_core.proofs.ActsLemmas.{answers_until_error}
 use Rattle.ga_core.proofs.CallLemmas.{may_try_generate-at}
@@ -12,11 +12,6 @@ f-requires g c =
     let at = c.loop-index in
     may_try_generate-at (goal.F-pre g) (goal.F-step g) c.args.f.now g.N.Unsigned.USIZE c.requires.callable at.index
     at.block.items at.f (subst (λ n. at.index < n) c.USIZE-index-end.ensures c.loop-index-test.true) at.invariant.run
-
-pub put-requires : goal.put-requires
-put-requires g c = record {
-  room = more_room _ _ _ _ c.loop-index.invariant.room c.loop-index-test.true c.USIZE-index-end.ensures;
-}
 
 pub loop-index-preserved : goal.loop-index-preserved
 loop-index-preserved g c =

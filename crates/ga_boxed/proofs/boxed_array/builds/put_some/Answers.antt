@@ -17,9 +17,6 @@ f-requires g c =
     (subst (λ n. ClosureRun (goal.F-step g) begun (range_with_len 0 n) at.block.items at.f) (sym c.len-index.ensures)
     (at.invariant.run begun c.requires.callable.2))
 
-pub put-requires : goal.put-requires
-put-requires g c = record { room = omega (arith, c.requires.room, c.loop-put.invariant.room, c.loop-put-test.true) }
-
 pub loop-put-preserved : goal.loop-put-preserved
 loop-put-preserved g c =
     let at = c.loop-put in
@@ -33,10 +30,3 @@ loop-put-preserved g c =
       long = omega (arith, long_more _ _ _ c.put.ensures.items _ at.invariant.long);
       room = omega (arith, c.put.ensures.room, at.invariant.room);
     }
-
-pub returns : goal.returns
-returns g c = record {
-  run = c.loop-put.invariant.run;
-  long = omega (arith, c.loop-put.invariant.long, c.loop-put-test.false, c.loop-put.auto._put-end);
-  room = omega (arith, c.loop-put.invariant.room, c.loop-put-test.false, c.loop-put.auto._put-end);
-}

@@ -4,9 +4,6 @@ use Rattle.ga_boxed.proofs.BlockLemmas.{last-came, none_behind}
 use Rattle.std.proofs.Common.{◌≡◌, ◌≤◌, ◌∙◌, ap, arith, drop, length, min, reverse, sym}
 use Rattle.std.proofs.lemmas.List.{drop_min, length-reverse}
 
-pub loop-passed_back-init : goal.loop-passed_back-init
-loop-passed_back-init g c = ap reverse c.self.view_is
-
 pub loop-passed_back-preserved : goal.loop-passed_back-preserved
 loop-passed_back-preserved g c =
     let at = c.loop-passed_back in

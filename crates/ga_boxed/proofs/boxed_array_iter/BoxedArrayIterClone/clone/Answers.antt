@@ -1,12 +1,9 @@
-use Rattle.ga_boxed.proofs.BlockLemmas.{long_more, more_room, one_more}
+use Rattle.ga_boxed.proofs.BlockLemmas.{long_more, one_more}
 use Rattle.ga_boxed.proofs.boxed_array_iter.BoxedArrayIterClone.clone.Goals as goal
-use Rattle.std.proofs.Common.{◌∙◌, refl, subst, sym}
+use Rattle.std.proofs.Common.{◌∙◌, subst, sym}
 use Rattle.std.proofs.lemmas.List.{take_all}
 use Rattle.std.proofs.lemmas.List.Elements.{all_zip_more}
 use Rattle.std.specs.List.{AllZip}
-
-pub put-requires : goal.put-requires
-put-requires g c = record { room = more_room _ _ _ _ c.loop-item.invariant.room c.loop-item-test.true refl }
 
 pub loop-item-preserved : goal.loop-item-preserved
 loop-item-preserved g c = record {

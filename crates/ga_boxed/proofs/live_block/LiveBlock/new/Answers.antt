@@ -3,17 +3,11 @@ use Rattle.ga_boxed.proofs.live_block.LiveBlock.new.Goals as goal
 use Rattle.ga_boxed.specs.Live.{live}
 use Rattle.std.proofs.Common.{[], ◌∙◌, ap, refl}
 
-pub allocate-requires : goal.allocate-requires
-allocate-requires g c = record { fits = c.if-not-fits.ensures.0 refl }
-
 pub returns-then-not-fits : goal.returns-then-not-fits
 returns-then-not-fits g c = record {
   block = tt;
   empty = λ none. c.if-not-fits.ensures.1 (none_fits c.args.size _ none);
 }
-
-pub returns-in_default : goal.returns-in_default
-returns-in_default g c = record { block = tt; empty = c.in_default.ensures.empty }
 
 pub returns : goal.returns
 returns g c =

@@ -1,5 +1,5 @@
 use Rattle.ga_boxed.proofs.live_block.LiveBlock.put.Goals as goal
-use Rattle.std.proofs.Common.{◌+◌, ◌<◌, ◌∙◌, [], ◌∷◌, ◌++◌, ap, length, subst, sym}
+use Rattle.std.proofs.Common.{◌+◌, ◌<◌, ◌∙◌, ap, length, subst, sym}
 
 pub put-requires : goal.put-requires
 put-requires g c =
@@ -9,9 +9,3 @@ put-requires g c =
       index = sym (ap (λ passed. passed + length c.self.inside.cells.items) held.passed ∙ held.items);
       room = subst (λ room. 0 < room) (sym (ap (λ b. b.room) c.self.view_is)) c.requires.room;
     }
-
-pub returns : goal.returns
-returns g c = record {
-  items = c.put.ensures.items ∙ ap (λ b. b.items ++ c.args.item ∷ []) c.self.view_is;
-  room = c.put.ensures.room ∙ ap (λ b. b.room) c.self.view_is;
-}

@@ -7,6 +7,3 @@ returns-then-self g c = (none_held _ _ _ _ c.self.view_is c.self.invariant.items
 
 pub take_last-requires : goal.take_last-requires
 take_last-requires g c = record { enough = some_held _ _ _ _ c.self.view_is c.self.invariant.items c.if-self.false }
-
-pub returns : goal.returns
-returns g c = (c.take_last.ensures.items, c.take_last.ensures.room)

@@ -7,6 +7,3 @@ returns-then-self g c = (none_held _ _ _ _ c.self.view_is c.self.invariant.items
 
 pub take_first-requires : goal.take_first-requires
 take_first-requires g c = record { enough = some_held _ _ _ _ c.self.view_is c.self.invariant.items c.if-self.false }
-
-pub returns : goal.returns
-returns g c = (c.take_first.ensures.items, c.take_first.ensures.room)

@@ -1,6 +1,6 @@
 use Rattle.ga_boxed.proofs.BlockLemmas.{bounds_apart}
 use Rattle.ga_boxed.proofs.live_block.LiveBlock.take_last.Goals as goal
-use Rattle.std.proofs.Common.{◌+◌, ◌∙◌, ap, arith, sym}
+use Rattle.std.proofs.Common.{◌∙◌, ap, arith, sym}
 
 pub take_last-requires : goal.take_last-requires
 take_last-requires g c =
@@ -10,9 +10,3 @@ take_last-requires g c =
       index = omega (arith, c.self.invariant.passed, c.self.invariant.items, apart);
       enough = λ none. c.requires.enough (sym (ap (λ b. b.items) c.self.view_is) ∙ none);
     }
-
-pub returns : goal.returns
-returns g c = record {
-  items = sym (ap (λ b. b.items) c.self.view_is) ∙ c.take_last.ensures.items;
-  room = c.take_last.ensures.room ∙ ap (λ b. b.room + 1) c.self.view_is;
-}
