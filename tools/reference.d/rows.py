@@ -6,7 +6,7 @@ the same name, then what else is told. One of what to write has a message of the
 import re
 
 # The documents of the Rust crate's names, of names of clauses, and of messages.
-OF_RUST, OF_CLAUSES = ("DIFFERENCES", "CALLING"), ("DEFINITIONS",)
+OF_RUST, OF_CLAUSES = ("DIFFERENCES",), ("DEFINITIONS",)
 OF_MESSAGES = ("STUCK", "CALLING")
 CODE = re.compile(r"`([^`]+)`")
 # What parts a line's cells, and its names from what is said of them: none of it stands in code.

@@ -4,6 +4,7 @@ mod TupleLemmas
 pub mod BitLemmas
 pub mod CopyLemmas
 pub mod EntryActs
+pub mod Everyday
 pub mod FillLemmas
 pub mod JoinLemmas
 pub mod JoinedRuns
@@ -13,7 +14,9 @@ pub mod MoveLemmas
 pub mod NestedLemmas
 pub mod PairLemmas
 pub mod PlaceLemmas
+pub mod RingLemmas
 pub mod RunLemmas
+pub mod SignedLemmas
 pub mod SlotLemmas
 pub mod WordLemmas
 pub mod ZipLemmas

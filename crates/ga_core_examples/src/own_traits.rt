@@ -17,17 +17,17 @@ trait Turner {
     // What a block is turned to.
     ghost turned: { List ℕ → List ℕ };
 
-    /// The block, turned.
-    fn turn<N: ArrayLength<u8>>(block: GenericArray<u8, N>) -> GenericArray<u8, N>
-        requires { N.USIZE ≡ Self.Size.USIZE }
-        ensures { result ≡ turned block };
-
     /// A view of a block, turned.
     fn turned_copy<N: ArrayLength<u8>>(
         block: GenericArrayRef<'_, u8, N>,
     ) -> GenericArray<u8, Self::Size>
         requires { N.USIZE ≡ Self.Size.USIZE }
         ensures { result ≡ turned (items_of_view block.entry) };
+
+    /// The block, turned.
+    fn turn<N: ArrayLength<u8>>(block: GenericArray<u8, N>) -> GenericArray<u8, N>
+        requires { N.USIZE ≡ Self.Size.USIZE }
+        ensures { result ≡ turned block };
 }
 
 /// Swaps the halves of blocks of any length; of an odd one the second is longer.
@@ -40,15 +40,15 @@ impl<L: ArrayLength<u8> + InlineLength> Turner for Swap<L> {
 
     ghost turned = { λ block. drop (L.USIZE / 2) block ++ take (L.USIZE / 2) block };
 
-    fn turn<N: ArrayLength<u8>>(mut block: GenericArray<u8, N>) -> GenericArray<u8, N> {
-        block.rotate_left(N::USIZE / 2);
-        block
-    }
-
     fn turned_copy<N: ArrayLength<u8>>(block: GenericArrayRef<'_, u8, N>) -> GenericArray<u8, L> {
         let mut copy = GenericArray::from_view(GenericArrayRef::from_slice(block.into_slice()));
         copy.rotate_left(L::USIZE / 2);
         copy
+    }
+
+    fn turn<N: ArrayLength<u8>>(mut block: GenericArray<u8, N>) -> GenericArray<u8, N> {
+        block.rotate_left(N::USIZE / 2);
+        block
     }
 }
 

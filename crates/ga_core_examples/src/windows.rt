@@ -2,7 +2,7 @@
 ghost use Rattle.ga_core.specs.Length.{FitsInline};
 ghost use Rattle.std.specs.List.Sorted.{IsNonDecreasing, IsPartitionPoint};
 ghost use Rattle.std.specs.List.{IsFirstMaxByKey, range_with_len};
-ghost use Rattle.std.specs.Prelude.{◌≡◌, ◌==◌, ◌/◌, ◌<◌, ◌≤◌, ◌++◌, ◌∷◌, [], ℕ, IfErr, IfOk, IsPermutation, count_by, drop, length, map, slice_index};
+ghost use Rattle.std.specs.Prelude.{◌≡◌, ◌==◌, ◌-◌, ◌/◌, ◌<◌, ◌≤◌, ◌++◌, ◌∷◌, [], ℕ, IfErr, IfOk, IsPermutation, count_by, drop, length, map, nat_lt, reverse, slice_index, take, take_while};
 
 use ga_core::{ArrayBuilder, ArrayLength, GenericArray};
 
@@ -21,6 +21,73 @@ fn count_in<N: ArrayLength<u64>>(window: &GenericArray<u64, N>, width: u64, buck
     ensures { result ≡ count_by (λ x. x / width == bucket) window.now }
 {
     window.iter().filter(|x| **x / width == bucket).count() as u64
+}
+
+/// How many numbers are above a level, by a loop in place of a chain.
+fn above<N: ArrayLength<u64>>(window: &GenericArray<u64, N>, level: u64) -> usize
+    ensures { result ≡ count_by (λ x. nat_lt level x) window.now }
+{
+    let items = window.as_slice();
+    let mut count = 0;
+    for item in items {
+        if *item > level {
+            count += 1;
+        }
+    }
+    count
+}
+
+/// How many numbers from the first on are as the first.
+fn run_length(items: &[u64]) -> usize
+    requires { 0 < length items.now }
+    ensures { result ≡ length (take_while (λ x. x == slice_index items.now 0) items.now) }
+{
+    let first = items[0];
+    items.iter().take_while(|x| **x == first).count()
+}
+
+/// How many zeros stand in front.
+fn zeros_in_front(items: &[u64]) -> usize
+    ensures { result ≡ length (take_while (λ x. x == 0) items.now) }
+{
+    items.iter().take_while(|x| **x == 0).count()
+}
+
+/// How many zeros stand at the end.
+fn zeros_at_end(items: &[u64]) -> usize
+    ensures { result ≡ length (take_while (λ x. x == 0) (reverse items.now)) }
+{
+    items.iter().rev().take_while(|x| **x == 0).count()
+}
+
+/// The numbers without the zeros in front and then without those at the end.
+fn trimmed<N: ArrayLength<u64>>(window: &GenericArray<u64, N>) -> &[u64]
+    ensures { let rest = drop (length (take_while (λ x. x == 0) window.now)) window.now in
+        result.now ≡ take (length rest - length (take_while (λ x. x == 0) (reverse rest))) rest }
+{
+    let zeros = zeros_in_front(window);
+    let rest = &window[zeros..];
+    let zeros = zeros_at_end(rest);
+    &rest[0..rest.len() - zeros]
+}
+
+/// Where the numbers begin and end that have only zeros before and behind them, by two loops.
+fn part_between_zeros<N: ArrayLength<u64>>(window: &GenericArray<u64, N>) -> (usize, usize)
+    ensures order { result.0 ≤ result.1 }
+    ensures bound { result.1 ≤ N.USIZE }
+    ensures front { (k : ℕ) → k < result.0 → slice_index window.now k ≡ 0 }
+    ensures end { (k : ℕ) → result.1 ≤ k → k < N.USIZE → slice_index window.now k ≡ 0 }
+{
+    let items = window.as_slice();
+    let mut from = 0;
+    let mut to = items.len();
+    while from < to && items[from] == 0 {
+        from += 1;
+    }
+    while from < to && items[to - 1] == 0 {
+        to -= 1;
+    }
+    (from, to)
 }
 
 /// How many numbers fall into each of the first K buckets. Those above them aren't counted.

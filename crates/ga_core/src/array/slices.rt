@@ -45,7 +45,8 @@ impl<T, N: ArrayLength<T>> AsSlice<T> for GenericArray<T, N> {
 impl<T, N: ArrayLength<T>> DerefSlice for GenericArray<T, N> {
     type Elem = T;
 
-    ghost deref_gives = { λ array items. (items ≡ array) × (length items ≡ N.USIZE) };
+    ghost deref_gives = { λ array items. (items ≡ array) × (length items ≡ N.USIZE)
+        × FitsInline N.USIZE };
 
     #[inline]
     fn deref(&self) -> &[T] {
@@ -59,6 +60,7 @@ impl<T, N: ArrayLength<T>> DerefSliceMut for GenericArray<T, N> {
         ensures* writes_back { sem 𝓛 (LendsItems T.row self.entry result) }
         ensures items { result.now ≡ self.old }
         ensures len { length result.now ≡ N.USIZE }
+        ensures fits { FitsInline N.USIZE }
     {
         self.as_mut_slice()
     }
