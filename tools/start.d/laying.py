@@ -10,8 +10,10 @@ from crates import (
     write, write_record,
 )
 
+# The libraries with lemmas for callers, the widest first: a first crate's root names those.
+WITH_LEMMAS = ("generic_array", "ga_core")
 # The root of a first crate, and its parts.
-ROOT = """{}#![tactic(auto)]
+ROOT = """{}#![tactic(auto{})]
 
 {}
 {}
@@ -27,11 +29,13 @@ PARTS = re.compile(r"((?://!.*\n)+)((?:ghost use .*\n)+)((?:use .*\n)+)([^\0]+)-
                    r"((?:use .*\n)+)((?://[^\0]+\n\n)?)(fn [^\0]+\n)")
 
 
-def root_of(library):
-    """The root of a first crate over a library."""
-    *parts, uses, values, test = PARTS.fullmatch(FIRST[ON[library]]).groups()
+def root_of(on):
+    """The root of a first crate over these libraries. Its functions are over the first."""
+    docs, *parts, uses, values, test = PARTS.fullmatch(FIRST[ON[on[0]]]).groups()
     tests = [textwrap.indent(it, "    ") for it in (uses, values, test)]
-    return ROOT.format(*parts, *tests).encode()
+    named = [word for it in on for word in ON[it].split()]
+    lemmas = [f", using({it}::proofs::Everyday::arrays)" for it in WITH_LEMMAS if it in named][:1]
+    return ROOT.format(docs, "".join(lemmas), *parts, *tests).encode()
 
 
 def check_name(name):
@@ -96,7 +100,7 @@ def start(folder, name, on, names):
     files, mine = read_record(folder)["files"], f"crates/{name}"
     new = new_crates(folder, names, files)
     texts = texts_of(new)
-    write(folder, texts | {f"{mine}/src/lib.rt": root_of(on[0]), f"{mine}/specs/Lib.antt": b""})
+    write(folder, texts | {f"{mine}/src/lib.rt": root_of(on), f"{mine}/specs/Lib.antt": b""})
     add_lines(folder / LIST, [*(OURS[it] for it in new), line_of(name, on)])
     write_record(folder, files | sums_of(texts))
     if not os.path.lexists(folder / "HANDLES"):

@@ -6,13 +6,11 @@ use Rattle.ga_core.proofs.PlaceLemmas.{repeated}
 use Rattle.ga_core.proofs.RingLemmas.{ring}
 use Rattle.ga_core.proofs.SignedLemmas.{kept}
 use Rattle.ga_views.proofs.RowSetLemmas.{row_writes, rows_mapped_all, rows_mapped_more}
-use Rattle.std.proofs.lemmas.Cmp.{nat_list_cmp_total}
 use Rattle.std.proofs.lemmas.List.{length-append}
 use Rattle.std.proofs.lemmas.List.Sorted.{searched}
-use Rattle.std.proofs.lemmas.Map.Lookups.{exact_bytes}
 
--- `grind` takes so many instances at most, so each lemma is here for a caller that needs it: std's `common_steps` beside
--- `kept` loses sums of signed results
+-- `grind` takes so many instances at most. So each lemma is here for a caller that needs it, and no other is: beside
+-- `nat_list_cmp_total` the mean of two signed items stays open, and beside `common_steps` sums of signed results too.
 pub ruleset arrays = (
   takings,
   row_joins,
@@ -23,8 +21,6 @@ pub ruleset arrays = (
   rows_decide,
   unchanged,
   repeated,
-  exact_bytes,
-  nat_list_cmp_total,
   searched,
   ring,
   kept,

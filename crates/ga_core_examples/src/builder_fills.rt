@@ -31,7 +31,6 @@ fn with_inner<T: Default + Drop, N: ArrayLength<T>, M: ArrayLength<T>>(
 }
 
 /// As many items of an array as there is room for.
-#[tactic(auto, using(ga_core::proofs::FillLemmas::takings))]
 fn with_some<T: Default + Drop, N: ArrayLength<T>, M: ArrayLength<T>>(
     list: &mut ArrayBuilder<T, N>,
     array: GenericArray<T, M>,

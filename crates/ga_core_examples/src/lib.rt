@@ -2,7 +2,7 @@
 //! those who use it alone.
 //!
 //! `specs/` cites `records`, and the examples over all kinds read by `digits`.
-#![tactic(auto)]
+#![tactic(auto, using(ga_core::proofs::Everyday::arrays))]
 
 #[cfg(test)]
 mod builder_fills;
@@ -40,6 +40,8 @@ mod row_searches;
 mod row_writes;
 #[cfg(test)]
 mod rows;
+#[cfg(test)]
+mod signed;
 #[cfg(test)]
 mod slices;
 #[cfg(test)]

@@ -84,7 +84,6 @@ where
 // Zeros: the result alone names the rows.
 
 /// The matrix of zeros.
-#[tactic(auto, using(ga_core::proofs::PlaceLemmas::repeated))]
 fn zeros<C: ArrayLength<u64> + InlineLength, const R: usize>() -> Matrix<C, R>
     requires { FitsInline R }
     ensures { result ≡ replicate R (replicate C.USIZE 0) }

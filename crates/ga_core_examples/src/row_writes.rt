@@ -4,7 +4,6 @@ ghost use Rattle.std.specs.Prelude.{◌≡◌, ◌*◌, ◌<◌, length, map, re
 
 use ga_core::{ChunksMut, U0, U3, Unsigned};
 
-#[tactic(auto, using(ga_views::proofs::RowSetLemmas::row_writes))]
 fn blank<N: Unsigned>(bytes: &mut [u8], index: usize)
     requires whole { length bytes.old ≡ chunk_count N.USIZE bytes.old * N.USIZE }
     requires in_bounds { index < chunk_count N.USIZE bytes.old }

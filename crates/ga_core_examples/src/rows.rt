@@ -43,7 +43,6 @@ fn firsts_of_rows<W: ArrayLength<u8>, N: ArrayLength<u8>>(
 }
 
 /// Keeps those bytes of a message, fed by pieces, that fill no row yet.
-#[tactic(auto, using(ga_core::proofs::JoinLemmas::row_joins, std::proofs::lemmas::Grind::common_steps))]
 fn rest_kept<N: ArrayLength<u8>>(kept: &mut ArrayBuilder<u8, N>, bytes: &[u8])
     requires few { length kept.old < N.USIZE }
     ensures { kept.new ≡ chunk_rest N.USIZE (kept.old ++ bytes.now) }

@@ -1,5 +1,6 @@
 //! Arrays as slices: the methods of slices, ranges, and loops over references.
-ghost use Rattle.std.specs.Prelude.{◌≡◌, ℕ, ◌-◌, ◌<◌, ◌≤◌, ◌^◌, [], drop, length, reverse, slice_index, slice_index_or, sum};
+ghost use Rattle.std.specs.List.{sum_by, zip};
+ghost use Rattle.std.specs.Prelude.{◌≡◌, ℕ, ◌-◌, ◌*◌, ◌<◌, ◌≤◌, ◌^◌, [], drop, length, reverse, slice_index, slice_index_or, sum, take};
 
 use ga_core::{ArrayLength, GenericArray, Len, U3};
 
@@ -23,6 +24,47 @@ fn sum_of_references<N: ArrayLength<u8>>(array: &GenericArray<u8, N>) -> u64
     ensures { result ≡ sum array.now }
 {
     array.into_iter().map(|item: &u8| u64::from(*item)).sum()
+}
+
+// Sums of wider numbers, which fit where a slice has at most so many items. An array passes its
+// slice, or a part of it.
+
+fn sum_of(readings: &[u16]) -> u64
+    requires { length readings.now ≤ 65536 }
+    ensures { result ≡ sum readings.now }
+{
+    readings.iter().map(|x| u64::from(*x)).sum()
+}
+
+fn sum_of_first<N: ArrayLength<u16>>(row: &GenericArray<u16, N>, count: usize) -> u64
+    requires { count ≤ N.USIZE }
+    ensures { result ≡ sum (take count row.now) }
+{
+    sum_of(&row[0..count])
+}
+
+/// The sum of the products in the same place.
+fn weighed_sum(left: &[u16], right: &[u16]) -> u64
+    requires { length left.now ≤ 65536 }
+    ensures { result ≡ sum_by (λ p. p.0 * p.1) (zip left.now right.now) }
+{
+    left.iter()
+        .zip(right.iter())
+        .map(|(x, y)| u64::from(*x) * u64::from(*y))
+        .sum()
+}
+
+fn sum_of_squares(readings: &[u16]) -> u64
+    requires { length readings.now ≤ 65536 }
+    ensures { result ≡ sum_by (λ x. x * x) readings.now }
+{
+    readings.iter().map(|x| u64::from(*x) * u64::from(*x)).sum()
+}
+
+fn energy_of<N: ArrayLength<u16>>(window: &GenericArray<u16, N>) -> u64
+    ensures { result ≡ sum_by (λ x. x * x) window.now }
+{
+    sum_of_squares(window.as_slice())
 }
 
 fn turned_round<N: ArrayLength<u8>>(array: &mut GenericArray<u8, N>)

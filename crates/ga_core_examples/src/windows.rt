@@ -1,18 +1,67 @@
-//! Windows of numbers, of any length: moved on, counted, searched and kept in order.
+//! Windows of numbers, of any length: moved on, kept in a ring, counted, searched and in order.
 ghost use Rattle.ga_core.specs.Length.{FitsInline};
 ghost use Rattle.std.specs.List.Sorted.{IsNonDecreasing, IsPartitionPoint};
 ghost use Rattle.std.specs.List.{IsFirstMaxByKey, range_with_len};
-ghost use Rattle.std.specs.Prelude.{◌≡◌, ◌==◌, ◌-◌, ◌/◌, ◌<◌, ◌≤◌, ◌++◌, ◌∷◌, [], ℕ, IfErr, IfOk, IsPermutation, count_by, drop, length, map, nat_lt, reverse, slice_index, take, take_while};
+ghost use Rattle.std.specs.Prelude.{◌≡◌, ◌==◌, ◌-◌, ◌/◌, ◌<◌, ◌≤◌, ◌++◌, ◌∷◌, [], ℕ, IfErr, IfOk, IsPermutation, count_by, drop, length, map, nat_lt, pos, replicate, reverse, slice_index, slice_index_or, take, take_while};
 
-use ga_core::{ArrayBuilder, ArrayLength, GenericArray};
+use ga_core::{ArrayBuilder, ArrayLength, GenericArray, InlineLength};
+use std::marker::Model;
 
-fn moved_on<N: ArrayLength<u64>>(window: &mut GenericArray<u64, N>, item: u64)
+fn moved_on<N: ArrayLength<i32>>(window: &mut GenericArray<i32, N>, sample: i32)
     requires { 0 < N.USIZE }
-    ensures { window.new ≡ drop 1 window.old ++ item ∷ [] }
+    ensures { window.new ≡ drop 1 window.old ++ sample ∷ [] }
 {
+    let samples = window.as_mut_slice();
     // Before the turn: behind it the clause stays open.
-    window[0] = item;
-    window.rotate_left(1);
+    samples[0] = sample;
+    samples.rotate_left(1);
+}
+
+/// The last `N` samples, in a ring: contracts see them from the oldest to the newest.
+#[derive(Drop)]
+struct DelayLine<N: ArrayLength<i16>> {
+    samples: GenericArray<i16, N>,
+    /// The index of the oldest.
+    at: usize,
+}
+
+impl<N: ArrayLength<i16>> Model for DelayLine<N> {
+    ghost use Rattle.ga_core.specs.Length.{FitsInline};
+    ghost use Rattle.std.specs.Prelude.{◌<◌, ◌++◌, ℤ, List, drop, take};
+
+    ghost Value = { List ℤ };
+
+    ghost view = { λ line. drop line.at line.samples ++ take line.at line.samples };
+
+    ghost invariant = { λ line. (line.at < N.USIZE) × FitsInline N.USIZE };
+}
+
+impl<N: ArrayLength<i16> + InlineLength> DelayLine<N> {
+    /// A line of zeros.
+    fn new() -> Self
+        requires { 0 < N.USIZE }
+        ensures { result ≡ replicate N.USIZE (pos 0) }
+    {
+        DelayLine {
+            samples: GenericArray::from_copies(0),
+            at: 0,
+        }
+    }
+
+    /// Takes a sample in and returns the oldest.
+    fn push(&mut self, sample: i16) -> i16
+        ensures oldest { result ≡ slice_index_or self.old 0 (pos 0) }
+        ensures line { self.new ≡ drop 1 self.old ++ sample ∷ [] }
+    {
+        let oldest = self.samples[self.at];
+        self.samples[self.at] = sample;
+        self.at = if self.at + 1 == N::USIZE {
+            0
+        } else {
+            self.at + 1
+        };
+        oldest
+    }
 }
 
 /// How many numbers fall into a bucket. Bucket 0 holds those below the width.
@@ -142,7 +191,6 @@ fn inserted<N: ArrayLength<u64>>(list: &mut ArrayBuilder<u64, N>, item: u64)
 }
 
 /// An index of the number, or else that at which it would stand.
-#[tactic(auto, using(std::proofs::lemmas::List::Sorted::searched))]
 fn searched<N: ArrayLength<u64>>(array: &GenericArray<u64, N>, item: u64) -> Result<usize, usize>
     requires { IsNonDecreasing array.now }
     ensures found { IfOk result (λ i. (i < N.USIZE) × (slice_index array.now i ≡ item)) }

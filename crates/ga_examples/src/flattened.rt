@@ -1,15 +1,14 @@
-//! Rows made by a map and joined, of any length, and bytes cut into words.
+//! Rows made by a map and joined, of any length, and bytes cut into samples.
 ghost use Rattle.generic_array.specs.Length.{FitsInline};
 ghost use Rattle.generic_array.specs.Rows.{rows};
-ghost use Rattle.std.specs.Int.{from_be_bytes, w16};
+ghost use Rattle.std.specs.Int.{cast_signed, from_be_bytes, w16};
 ghost use Rattle.std.specs.List.{flat_map, zip};
 ghost use Rattle.std.specs.Prelude.{◌≡◌, ◌*◌, ◌/◌, ◌%◌, ◌↔◌, ◌∷◌, [], IfOk, IsOk, length, map};
 
 use generic_array::sequence::{Flatten, Unflatten};
-use generic_array::{ArrayLength, GenericArray, GenericArrayRef, LengthError, U2, U4, U8, arr};
+use generic_array::{ArrayLength, GenericArray, GenericArrayRef, LengthError, U2, arr};
 
-/// The halves of bytes, the high one first. The items of the rows are those of what is mapped: no
-/// lemma is named.
+/// The halves of bytes, the high one first.
 fn halves_of<N: ArrayLength<u8> + ArrayLength<GenericArray<u8, U2>>, M: ArrayLength<u8>>(
     bytes: GenericArray<u8, N>,
 ) -> GenericArray<u8, M>
@@ -24,29 +23,40 @@ fn halves_of<N: ArrayLength<u8> + ArrayLength<GenericArray<u8, U2>>, M: ArrayLen
     pairs.flatten()
 }
 
-/// The lanes of two arrays in turn. What is mapped are pairs: the lemma is named.
-#[tactic(auto, using(generic_array::proofs::ShapeLemmas::flat_map_by_rows))]
-fn interleaved<N: ArrayLength<u32> + ArrayLength<GenericArray<u32, U2>>, M: ArrayLength<u32>>(
-    left: GenericArray<u32, N>,
-    right: GenericArray<u32, N>,
-) -> GenericArray<u32, M>
+/// The samples of two channels in turn.
+fn interleaved<N: ArrayLength<i16> + ArrayLength<GenericArray<i16, U2>>, M: ArrayLength<i16>>(
+    left: GenericArray<i16, N>,
+    right: GenericArray<i16, N>,
+) -> GenericArray<i16, M>
     requires fits { FitsInline M.USIZE }
     requires twice { M.USIZE ≡ N.USIZE * 2 }
     ensures { result ≡ flat_map (λ p. p.0 ∷ p.1 ∷ []) (zip left right) }
 {
-    let pairs: GenericArray<GenericArray<u32, U2>, N> = left.zip_inline(
+    let pairs: GenericArray<GenericArray<i16, U2>, N> = left.zip_inline(
         right,
-        |l: u32, r: u32| arr![l, r],
+        |l: i16, r: i16| arr![l, r],
     );
     pairs.flatten()
 }
 
-/// The words of a header in network order, as UDP has it.
-fn words_of(header: &[u8]) -> Result<GenericArray<u16, U4>, LengthError>
-    ensures variant { IsOk result ↔ (length header.now ≡ 8) }
-    ensures ok { IfOk result (λ words. words ≡ map (from_be_bytes w16) (rows 2 header.now)) }
+/// The sample of two bytes in network order.
+fn sample_of(bytes: GenericArray<u8, U2>) -> i16
+    ensures { result ≡ cast_signed w16 (from_be_bytes w16 bytes) }
 {
-    let view: GenericArrayRef<u8, U8> = GenericArrayRef::try_from_slice(header)?;
-    let pairs: GenericArray<GenericArray<u8, U2>, U4> = GenericArray::from_view(view).unflatten();
-    Ok(pairs.map_inline(|pair: GenericArray<u8, U2>| u16::from_be_bytes(pair.into_array())))
+    i16::from_be_bytes(bytes.into_array())
+}
+
+/// The samples of so many bytes.
+fn samples_of<N: ArrayLength<i16> + ArrayLength<GenericArray<u8, U2>>, M: ArrayLength<u8>>(
+    bytes: &[u8],
+) -> Result<GenericArray<i16, N>, LengthError>
+    requires fits { FitsInline M.USIZE }
+    requires twice { M.USIZE ≡ N.USIZE * 2 }
+    ensures variant { IsOk result ↔ (length bytes.now ≡ M.USIZE) }
+    ensures ok { IfOk result (λ samples.
+        samples ≡ map (λ row. cast_signed w16 (from_be_bytes w16 row)) (rows 2 bytes.now)) }
+{
+    let view = GenericArrayRef::<u8, M>::try_from_slice(bytes)?;
+    let pairs: GenericArray<GenericArray<u8, U2>, N> = GenericArray::from_view(view).unflatten();
+    Ok(pairs.map_inline(sample_of))
 }

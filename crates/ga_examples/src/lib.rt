@@ -1,6 +1,6 @@
 //! Examples, each proved: what the contracts of `generic_array` and `ga_headline` give to those who
 //! use them.
-#![tactic(auto)]
+#![tactic(auto, using(generic_array::proofs::Everyday::arrays))]
 
 #[cfg(test)]
 mod any_length;

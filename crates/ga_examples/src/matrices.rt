@@ -90,7 +90,6 @@ where
 }
 
 /// The rows of a native array of arrays.
-#[tactic(auto, using(ga_core::proofs::NestedLemmas::unchanged))]
 fn of_native<T, C, const R: usize, const WIDTH: usize>(rows: &[[T; WIDTH]; R]) -> Rows<T, C, R>
 where
     T: Copy + Default + Drop,
@@ -112,7 +111,6 @@ where
 }
 
 /// A copy of the rows.
-#[tactic(auto, using(ga_core::proofs::NestedLemmas::unchanged))]
 fn copy_of<T, C, const R: usize>(rows: &Rows<T, C, R>) -> Rows<T, C, R>
 where
     T: Copy + Default + Drop,
@@ -123,7 +121,6 @@ where
 }
 
 /// Whether the rows are the same. Compares slices: `==` of arrays of rows says nothing to a proof.
-#[tactic(auto, using(ga_core::proofs::NestedLemmas::rows_decide))]
 fn are_equal<C, const R: usize>(left: &Rows<i64, C, R>, right: &Rows<i64, C, R>) -> bool
 where
     C: ArrayLength<i64> + InlineLength,
