@@ -1,12 +1,13 @@
 -- Key streams by pieces, and texts under a key by pieces and twice.
 use Rattle.ga_ciphers.specs.Keystream.{IsCurrent, key_byte, key_bytes, under}
 use Rattle.std.proofs.Common.{◌≡◌, ℕ, zero, suc, ◌+◌, ◌-◌, ◌*◌, ◌/◌, ◌%◌, ◌<◌, ◌≤◌, List, [], ◌∷◌, ◌++◌, ap, ap₂, arith}
-use Rattle.std.proofs.Common.{bit_xor, drop, get_or, inl, inr, length, length-take, map, min, refl, slice_range, sym}
+use Rattle.std.proofs.Common.{bit_xor, drop, get_or, inl, inr, length, length-drop, length-take, map, min, refl, slice_range, sym}
 use Rattle.std.proofs.Common.{take, ◌∙◌}
 use Rattle.std.proofs.Math.Nat.{add-mul-mod_self_right, mod-lt, mod_self}
 use Rattle.std.proofs.Math.Seq.{drop-cons, take-add}
 use Rattle.std.proofs.lemmas.Bool.{cases_lt}
-use Rattle.std.proofs.lemmas.List.{drop-drop, drop_at, map-append, take_at}
+use Rattle.std.proofs.lemmas.Grind.{common_steps}
+use Rattle.std.proofs.lemmas.List.{drop-drop, drop_at, map-append, take-append-drop, take_at}
 use Rattle.std.proofs.lemmas.List.FromFn.{length-map-range_with_len}
 use Rattle.std.proofs.lemmas.Nat.{div-add-mod', div-mul-add, mod-mul-add}
 use Rattle.std.specs.Int.Bits.{xor_assoc, xor_self, xor_zero_r}
@@ -196,3 +197,13 @@ module _ (block : ℕ → List ℕ) (width start : ℕ) (text : List ℕ) (some 
       (place_is width some position)) in
       under_so_far-more block width start text done count count-le_text now key so_far
       (in_stream ∙ ap (λ p. key_bytes block width p count) at)
+
+-- a list that is turned by k places, and then by the n others
+pub turned_back : {A : Type 0} → (n k : ℕ) (xs : List A) → length xs ≡ n + k
+    → drop n (drop k xs ++ take k xs) ++ take n (drop k xs ++ take k xs) ≡ xs
+turned_back n k xs long =
+    let rest : length (drop k xs) ≡ n = omega (arith, length-drop k xs, long) in
+    rw (drop_at (drop k xs) (take k xs) n rest, take_at (drop k xs) (take k xs) n rest) (take-append-drop k xs)
+
+-- texts and blocks under a key, there and back
+pub ruleset keystreams = (common_steps, length-under, turned_back, under_in_pieces, under_taken_off, under_twice)

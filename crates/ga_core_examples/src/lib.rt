@@ -1,9 +1,13 @@
 //! Examples of inline arrays, views and rows, each proved: what the contracts of `ga_core` give to
 //! those who use it alone.
 //!
-//! `specs/` cites `records`, and the examples over all kinds read by `digits`.
+//! `specs/` cites `messages` and `records`, and the examples over all kinds read by `digits`.
 #![tactic(auto, using(ga_core::proofs::Everyday::arrays))]
 
+#[cfg(test)]
+mod bits;
+#[cfg(test)]
+mod buckets;
 #[cfg(test)]
 mod builder_fills;
 #[cfg(test)]
@@ -22,6 +26,8 @@ mod hex_text;
 mod iterators;
 #[cfg(test)]
 mod keys;
+/// Messages as bytes and back.
+pub mod messages;
 #[cfg(test)]
 mod own_errors;
 #[cfg(test)]
