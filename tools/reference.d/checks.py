@@ -238,5 +238,5 @@ CHECKS = {
     "examples": (unwritten, 24), "imports": (unused, 2072), "public items": (unnamed, 323),
     "public": (changed, 51), "wrong bodies": (unfit, 180), "callers": (uncalled, 263),
     "names": (misled, 26), "promise": (unkept, 68), "page": (stale, 1),
-    "contracts": (misquoted, 17), "walls": (unrowed, 68), "documents": (dangling, 1794),
+    "contracts": (misquoted, 17), "walls": (unrowed, 68), "documents": (dangling, 1780),
 }
