@@ -136,14 +136,17 @@ def play(tally, words):
     play_runs(tally, [it for it in runs if not it.seen], words)
     # A crate with sweeps is played with them alone.
     runs = {(it.name, type(it)): it for it in reversed(runs) if it.seen}
-    has_told = False
-    for (name, kind), run in sorted(runs.items(), key=lambda it: it[0][0]):
+
+    def again(item):
+        (name, kind), run = item
         if wrong := unfit(run.program):
-            tally.case(f"{name}: requests for memory", wrong)
-        elif kind is tests.Tests:
-            has_told |= play_tests(tally, run)
-        elif name == PROGRAM:
+            return tally.case(f"{name}: requests for memory", wrong)
+        if kind is tests.Tests:
+            return play_tests(tally, run)
+        if name == PROGRAM:
             play_program(tally, run.program)
             play_system_faults(tally, run.program)
+
+    has_told = any([*at_once(again, sorted(runs.items(), key=lambda it: it[0][0]))])
     if not words:
         tally.case("a test tells how often it asks", "" if has_told else "none does")

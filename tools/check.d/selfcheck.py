@@ -9,11 +9,12 @@ import sys
 import tempfile
 from concurrent.futures import ThreadPoolExecutor
 
-from planted import bench, diff, parts, reference, start, sweeps
+from planted import bench, diff, pages, parts, reference, start, sweeps
 from tally import Tally
 
 # The longest first.
-PLANTED = {it.__name__.split(".")[1]: it for it in (sweeps, start, parts, reference, bench, diff)}
+PLANTED = (sweeps, start, parts, pages, reference, bench, diff)
+PLANTED = {it.__name__.split(".")[1]: it for it in PLANTED}
 
 
 def is_counting():

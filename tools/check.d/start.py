@@ -72,7 +72,7 @@ class Room:
         for it in needed(*ON):
             if all(is_unchanged(below) for below in needed(it)):
                 (self.checkout / "crates" / it / "out").symlink_to(TOP / "crates" / it / "out")
-        write(self.room, FILES)
+        write(self.room, FILES | {"checkout/CHANGELOG.md": "## 0.1.0, now\n"})
 
     def call(self, words):
         """Calls tools/start of the copy. Returns its status, and what it wrote to either stream."""
@@ -146,7 +146,7 @@ class Room:
                   "HANDLES": "Handles allowed: none.\n"}
         case("a new repository's own files", texts_other_than(wanted, fresh))
         before = seen(fresh)
-        self.update("an update where nothing changed", "nothing changed\n")
+        self.update("an update where nothing changed", "nothing changed\n", "0.1.0", "0.1.0")
         case("it changes nothing", sorted({*before.items()} ^ {*seen(fresh).items()}))
         later = self.later()
         status, _, err = self.call("fresh other --on ga_views")
@@ -156,14 +156,14 @@ class Room:
         write(fresh, mine)
         (fresh / DELETED).unlink()
         shutil.rmtree(fresh / "crates" / "ga_views" / "out")
-        self.update("an update from a later checkout", UPDATED)
+        self.update("an update from a later checkout", UPDATED, "0.2.0", "0.1.0")
         wanted = {**mine, CHANGED: later[CHANGED], ADDED: "",
                   LIST: "ga_views: hex ga_later\nmine: ga_views\nga_later:\n"}
         gone = (REMOVED, os.path.dirname(REMOVED), DELETED)
         there = [it for it in gone if (fresh / it).exists()]
         case("it copies the rest", texts_other_than(wanted, fresh) + there)
         case("it takes proofs along", "" if is_proved(fresh, "ga_views") else "there is none")
-        self.update("the next update names what is kept again", KEPT)
+        self.update("the next update names what is kept again", KEPT, "0.2.0", "0.2.0")
 
     def later(self):
         """Makes a later checkout of the copy, and returns the texts that are changed."""
@@ -171,15 +171,16 @@ class Room:
         later = {it: (self.checkout / it).read_text("utf-8") + "// Later.\n" for it in paths}
         list_later = "ga_later:\nga_views: hex ga_later\n"
         added = {ADDED: "", LIST: list_later, "crates/ga_later/src/lib.rt": ""}
-        write(self.checkout, later | added)
+        write(self.checkout, later | added | {"CHANGELOG.md": "## 0.2.0\n"})
         (self.checkout / REMOVED).unlink()
         return later
 
-    def update(self, what, wanted):
-        """A case: an update says this, and behind it the commits and what the next check proves."""
+    def update(self, what, wanted, now, before):
+        """A case: an update says this, and behind it of which version the crates are and were, and
+        what the next check proves."""
         status, out, err = self.call("--update fresh")
-        is_told = not status and "".join(out.splitlines(keepends=True)[:-2]) == wanted
-        self.tally.case(what, "" if is_told else out + err)
+        told = re.escape(f"{wanted}fresh: of ") + f"{now}, .*, before of {before}, .*\n.*\n"
+        self.tally.case(what, "" if not status and re.fullmatch(told, out) else out + err)
 
 
 def seen(folder):

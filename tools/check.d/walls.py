@@ -4,10 +4,9 @@ A file NAME.rattle is a module. Its first lines tell what a check prints of it: 
 of a message, `// open: ..` the name of a goal, which is `returns` where neither stands. Behind a
 line `// mend` stands what to write instead, a module that must be proved, where no crate shows it.
 A module gets the imports that it lacks of what it names, but where that is the wall. All are laid
-out as one crate over generic_array, beside the libraries that are proved in this checkout, and
-checked at once. A check ends before any proof where a module doesn't compile: its line is told
-then, and the others are checked again. All take ten to fifteen minutes of one core, where the
-libraries are proved.
+out as one crate over generic_array and checked at once. The libraries are proved first where this
+checkout has no proofs of them. A check ends before any proof where a module doesn't compile: its
+line is told then, and the others are checked again. All take ten to fifteen minutes of one core.
 """
 import collections
 import pathlib
@@ -124,6 +123,10 @@ def play(tally, words):
     copy_crates(room)
     take_proved(room)
     write(room, {"crates.txt+": LINE})
+    # Before the checks, which would else tell of the libraries as of the walls.
+    status, text = run("rt", "lib", cwd=room / "crates" / "generic_array")
+    if status:
+        raise ValueError(text[-MOST:])
     said = check_all(room / "crates" / CRATE, modules)
     for name, (seen, _, mend) in walls.items():
         of_mend = said.get(name + MEND, []) if mend else None

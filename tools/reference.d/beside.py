@@ -16,7 +16,8 @@ RULESET = re.compile(
     r"^ *pub (?P<head>ruleset (?P<name>\S+) = \((?P<names>[^)]*)\))$")
 # The notes with which a file begins, up to an empty line or a list.
 TITLE = re.compile(r"(?:-- \S.*\n)*")
-OF_SLICES = re.compile(r"(?m)^impl(?:<.*>)? \[(?:\w+|\[T; N\])\](?= |$)")
+# An impl of std for slices, or for a type of integers.
+OF_STD = re.compile(r"(?m)^impl(?:<.*>)? (?:\[(?:\w+|\[T; N\])\]|([iu](?:\d+|size)))(?= |$)")
 
 
 def is_test(item):
@@ -51,18 +52,18 @@ def hidden(site):
             and (item.owner.kind == "mod" or item.owner.kind == "impl" and item.owner.of)]
 
 
-def slice_methods(library):
-    """The methods of slices, as those of a type of std: our arrays and views are slices too."""
+def std_methods(library):
+    """The methods of slices and of integers, as those of types of std, by the type's name: our
+    arrays and views are slices too."""
     std = Item("mod", "std", "", None, 1)
-    slices = Item("struct", "slice", "", None, 1, owner=std, home=std)
     for file, text in library.std:
-        if OF_SLICES.search(text):
+        if OF_STD.search(text):
             module = Item("mod", file.stem, "", file, 1)
             module.members = list(items_of(text, file, module))
             for impl in module.of_kind("impl"):
-                impl.of = slices
-                if OF_SLICES.match(impl.head):
-                    yield from (member for member in impl.of_kind("fn") if member.public)
+                if of := OF_STD.match(impl.head):
+                    impl.of = Item("struct", of[1] or "slice", "", None, 1, owner=std, home=std)
+                    yield from ((impl.of.name, it) for it in impl.of_kind("fn") if it.public)
 
 
 def is_declared(file, how="(?:pub )?"):
@@ -116,6 +117,12 @@ def of_files(site):
             *(as_module(site, file) for file in (*proofs, *specs))]
 
 
+def proofs_of(names, item):
+    """The files that prove a function of an example."""
+    crate, *rest = names.path(item)
+    return sorted(names.site.top.joinpath("crates", crate, "proofs", *rest).glob("*.antt"))
+
+
 class Samples:
     """The crates and modules that no page is of."""
 
@@ -154,6 +161,10 @@ class Samples:
         text = " ".join(file.read_text("utf-8") for file in files)
         text = re.sub(r"`(\w+)::(\w+)`", r"`\2` of `\1`", text)
         return " ".join(text.split()), set(re.findall(r"\bfn (\w+)", text))
+
+    def is_told(self, item):
+        """Whether a document shows or names a function."""
+        return item.name in self.documents[1] or f"`{item.name}`" in self.documents[0]
 
     def order(self, item):
         """Where a sample stands among others: first what the documents show, then what has clauses,

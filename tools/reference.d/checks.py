@@ -15,11 +15,11 @@ from callers import uncalled
 from layout import indented
 from lookup import impl_of
 from meanings import LIBRARIES, WITH_A_PAGE
-from promise import stale, unkept
-from public import changed
+from promise import unkept
 from rows import BAR, CODE, FENCED, names_in, plain, stands_in
 from sources import STD, atoms_of, imports_of, is_in
 from text import Text
+from written import stale
 
 # A name of each kind that readers look up, with the item that it leads to, or what its row tells.
 NAMES, TELLS = pathlib.Path(__file__).resolve().parent / "rust_names.txt", "tells "
@@ -36,6 +36,7 @@ LAYOUT = re.compile(r"\s+|,(?=\s*[)\]}>])|\bpub(?:\(\w+\))?\s")
 # A contract that is quoted: a line with the function's name as a link, and the code below it.
 QUOTED = re.compile(r"(?ms)^\[`([\w:]+)`\]\((\S+)\)\n\n```text\n(.*?)^```")
 DOCUMENTS = ("docs/CALLING.md", "docs/STUCK.md", "docs/DIFFERENCES.md", "docs/DEFINITIONS.md",
+             "docs/TRUST.md",
              "crates/*/README.md")
 # The document whose rows begin with two cells of what is seen.
 OF_SEEN = "STUCK.md"
@@ -136,7 +137,8 @@ def unfit(names):
 def unwritten(names):
     """Looks for each part of an example, but for its imports, in the crates."""
     top = names.site.top
-    sources = [LAYOUT.sub("", it.read_text("utf-8")) for it in top.glob("crates/*/src/**/*.rt")]
+    written = (*top.glob("crates/*/src/**/*.rt"), *top.glob("tools/start.d/*.rattle"))
+    sources = [LAYOUT.sub("", it.read_text("utf-8")) for it in written]
     documents = (file for it in ("README.md", "docs/*.md", "crates/*/README.md")
                  for file in sorted(top.glob(it)))
     for document in documents:
@@ -236,7 +238,7 @@ def unrowed(names):
 # blind. Those of names ask as a reader of `tools/reference NAME` does.
 CHECKS = {
     "examples": (unwritten, 24), "imports": (unused, 2072), "public items": (unnamed, 323),
-    "public": (changed, 51), "wrong bodies": (unfit, 180), "callers": (uncalled, 263),
-    "names": (misled, 26), "promise": (unkept, 68), "page": (stale, 1),
-    "contracts": (misquoted, 17), "walls": (unrowed, 68), "documents": (dangling, 1780),
+    "written": (stale, 268), "wrong bodies": (unfit, 180), "callers": (uncalled, 263),
+    "names": (misled, 27), "promise": (unkept, 68),
+    "contracts": (misquoted, 17), "walls": (unrowed, 68), "documents": (dangling, 1794),
 }

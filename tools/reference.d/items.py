@@ -1,7 +1,7 @@
 """Shows an item, a definition, a lemma or a module whole, and all that has a name, as text."""
 import re
 
-from beside import code_of, is_declared, is_test
+from beside import code_of, is_declared, is_test, proofs_of
 from layout import indented, laid_out, one_line, prose
 from lookup import impl_of
 from meanings import WITH_A_PAGE, base_name, declared, header
@@ -151,9 +151,8 @@ class Items(Text):
     def sample(self, item):
         """A function of an example, or a type with its impls: its code, imports and proofs."""
         code = "\n\n".join(code_of(part) for part in (item, *item.blocks))
-        crate, *rest = self.names.path(item)
         proofs = []
-        for file in sorted(self.site.top.joinpath("crates", crate, "proofs", *rest).glob("*.antt")):
+        for file in proofs_of(self.names, item):
             text = file.read_text("utf-8").rstrip("\n")
             proofs.append(str(file.relative_to(self.site.top)))
             if text.count("\n") < MOST_LINES:

@@ -6,7 +6,7 @@ import functools
 import pathlib
 import re
 
-from beside import Samples, hidden, of_files, slice_methods
+from beside import Samples, hidden, of_files, std_methods
 from callers import Callers
 from meanings import LIBRARIES, header
 from paths import Index, Paths, is_named
@@ -70,13 +70,14 @@ class Names(Paths):
 
     @functools.cached_property
     def outside(self):
-        """What stands on no page: samples, what isn't public, lemmas, files, methods of slices."""
+        """What stands on no page: samples, what isn't public, lemmas, files, methods of std."""
         private = [item for item in hidden(self.site) if item not in self.paths]
         found = Index()
         for item in (*self.samples.of(), *private, *of_files(self.site)):
             found.add(item, self.path(item))
-        for item in slice_methods(self.site.library):
-            found.add(item, self.path(item), *([owner, item.name] for owner in FIRST[:4]))
+        for of, item in std_methods(self.site.library):
+            owners = FIRST[:4] if of == "slice" else ()
+            found.add(item, self.path(item), *([owner, item.name] for owner in owners))
         return found
 
     def is_of_library(self, item):

@@ -5,7 +5,11 @@ import html
 import pathlib
 import re
 import shutil
+import sys
 import urllib.parse
+
+# Debian's packages serve another Python 3 too.
+sys.path.append("/usr/lib/python3/dist-packages")
 
 import markdown
 from jinja2 import Environment, FileSystemLoader, StrictUndefined

@@ -1,18 +1,13 @@
-"""What the library promises, and its page: the sentences of promise.txt, each with its functions'
-clauses from the sources."""
-import os
+"""What the library promises: the sentences of promise.txt, each with its functions' clauses."""
 import pathlib
 
-from layout import indented, prose
-from text import WIDEST, Text
+from layout import indented
+from text import Text
 
 SENTENCES = pathlib.Path(__file__).resolve().parent / "promise.txt"
-# The crate that has nothing but parts of the promise, and the page.
-HEADLINE, PAGE = "ga_headline", "crates/ga_headline/PROMISE.md"
+# The crate that has nothing but parts of the promise.
+HEADLINE = "ga_headline"
 TITLE = "What the library promises, a sentence at a time, and whose clauses say it."
-TOLD = (f"{TITLE} Behind a function are the names of its clauses, where it has more than one. "
-        "`tools/reference promise` prints the clauses too. This page is written by `tools/reference "
-        "--write-promise`.")
 
 
 def carriers(names):
@@ -49,29 +44,3 @@ def lines_of(names):
         for name, item in items.items():
             if item:
                 yield from ("", *indented([name, *indented(text.written(item.clauses))]))
-
-
-def page_of(names):
-    """The lines of the page: the sentences, below each its functions and the clauses that say it."""
-    folder = (names.site.top / PAGE).parent
-    yield from ("# The promise", "", *prose(TOLD, WIDEST))
-    for sentence, items in carriers(names):
-        yield from ("", f"## {sentence.rstrip('.')}", "")
-        for name, item in items.items():
-            if item:
-                said = [f"`{it.name}`" for it in item.clauses if it.keyword == "ensures" and it.name]
-                link = f"- [`{name}`]({os.path.relpath(item.file, folder)})"
-                yield link + (f": {', '.join(said)}" if said else "")
-
-
-def write_promise(names):
-    """Writes the page."""
-    text = "".join(f"{line}\n" for line in page_of(names))
-    (names.site.top / PAGE).write_text(text, "utf-8")
-
-
-def stale(names):
-    """Looks whether the page is what the sources say."""
-    file = names.site.top / PAGE
-    is_right = file.exists() and file.read_text("utf-8").splitlines() == [*page_of(names)]
-    yield None if is_right else f"{PAGE} is stale: tools/reference --write-promise writes it anew"

@@ -10,11 +10,15 @@ from rows import OF_MESSAGES
 
 
 def of_kit(name):
-    """What the kit says of a word or a lemma of std that has a name."""
-    command = shutil.which("rt") and re.fullmatch(r"[^\s:.]+", name)
-    said = command and subprocess.run(["rt", "lemma", name], capture_output=True, text=True).stdout
-    found = re.findall(rf"(?m)^use \S+\.{{{re.escape(name)}}}.*\n(?: .*\n)*", said or "")
-    return [f"Of std, by `rt lemma {name}`", "", *"".join(found).splitlines()] if found else []
+    """What the kit says of a word or a lemma of std that has a name, or else of those that have it
+    as a part: of `wrapping_mul`, which is built in, `int_wrapping_mul`."""
+    last = re.split(r"::|\.", name)[-1]
+    command = shutil.which("rt") and re.fullmatch(r"\S+", last)
+    said = command and subprocess.run(["rt", "lemma", last], capture_output=True, text=True).stdout
+    for named in (re.escape(last), rf"(?:\w+[_-])?{re.escape(last)}(?:[_-]\w+)?"):
+        if found := re.findall(rf"(?m)^use \S+\.{{{named}}}.*\n(?: .*\n)*", said or ""):
+            return [f"Of std, by `rt lemma {last}`", "", *"".join(found).splitlines()]
+    return []
 
 
 def unknown(names, name):

@@ -91,28 +91,34 @@ def crate_of(path):
 
 
 def read_record(top):
-    """What was copied into a repository: of which commit, and the files' sums."""
+    """What was copied into a repository: of which version, and the files' sums."""
     path = top / RECORD
     try:
         record = json.loads(path.read_text("utf-8"))
-        return {it: record[it] for it in ("commit", "files")}
+        return of_record(record), record["files"]
     except FileNotFoundError:
-        return {"commit": "", "files": {}}
+        return "", {}
     except (ValueError, TypeError, KeyError):
         raise Unfit(f"{path} isn't as tools/start wrote it") from None
 
 
+def of_record(record):
+    """The version and the commit of a record, as they are told. An older record has no version."""
+    return f"{record.get('version', 'an older version')}, commit {record['commit']}"
+
+
 def write_record(top, files):
-    """Writes what is copied now. Returns of which commit it is, with a sign for changes since."""
+    """Writes what is copied now. Returns of which version it is, which CHANGELOG's first heading
+    names, and of which commit, with a sign for changes since."""
     command = ["git", "describe", "--always", "--dirty", "--exclude=*"]
     try:
         done = subprocess.run(command, cwd=TOP, capture_output=True, text=True).stdout.strip()
     except OSError:
         done = ""
-    record = {"about": ABOUT, "commit": done or "unknown", "files": files}
+    version = re.search(r"(?m)^## ([^\s,]+)", (TOP / "CHANGELOG.md").read_text("utf-8"))[1]
+    record = {"about": ABOUT, "version": version, "commit": done or "unknown", "files": files}
     (top / RECORD).write_text(json.dumps(record, indent=1, sort_keys=True) + "\n", "utf-8")
-    return record["commit"]
-
+    return of_record(record)
 
 
 def library(top, name):

@@ -97,7 +97,7 @@ def start(folder, name, on, names):
     check_folder(folder)
     if is_taken(folder, name):
         raise Unfit(f"{folder}/crates/{name} is there already")
-    files, mine = read_record(folder)["files"], f"crates/{name}"
+    files, mine = read_record(folder)[1], f"crates/{name}"
     new = new_crates(folder, names, files)
     texts = texts_of(new)
     write(folder, texts | {f"{mine}/src/lib.rt": root_of(on), f"{mine}/specs/Lib.antt": b""})

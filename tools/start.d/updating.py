@@ -66,18 +66,17 @@ def told(files, lines, gone):
 
 def update(folder):
     """Copies the crates anew. Returns what to say of it, in lines."""
-    record = read_record(folder)
-    there = {crate_of(it) for it in record["files"]}
+    before, sums = read_record(folder)
+    there = {crate_of(it) for it in sums}
     if not there:
         raise Unfit(f"{folder} has no crates that tools/start copied")
     names = needed(*(there & OURS.keys()))
     texts, gone = texts_of(names), sorted(there - OURS.keys())
-    left = {path: it for path, it in record["files"].items() if crate_of(path) in gone}
-    sums = {path: it for path, it in record["files"].items() if path not in left}
+    left = {path: sums.pop(path) for path in [*sums] if crate_of(path) in gone}
     files, lines = update_files(folder, sums, texts), update_lines(folder, names)
     # What was kept is known by what stands here now, and so is named the next time too.
     now = write_record(folder, left | sums_of(texts))
     yield from list(told(files, lines, gone)) or ["nothing changed"]
-    yield f"{folder}: of commit {now}, before of {record['commit']}"
+    yield f"{folder}: of {now}, before of {before}"
     changed = {crate_of(it) for it in files if files[it] not in ("same", "kept")} | {*lines}
     yield take_along(folder, names, [it for it in names if changed & {*needed(it)}])

@@ -112,7 +112,7 @@ PARTS = [
           " zip - generate - generate, zip_view, inverted_zip - generate,"
           " inverted_zip2 - generate - generate, fold_array - generate, fold_view, try_fold_view"),
     small("closures, plain", "plain", "map_inline - generate, map_inline_ref,"
-          " try_map_inline - generate, zip_inline - generate - generate"),
+          " try_map_inline - generate, zip_inline - generate - generate, generate_from"),
     small("closures, plain", CONCRETE, "zip_inline_ref", NO_TYPES),
     boxed("closures, boxed", "boxed", "map_boxed - boxed_generate,"
           " zip_boxed - boxed_generate - boxed_generate, fold_boxed - boxed_generate,"
@@ -130,10 +130,10 @@ PARTS = [
     Part("tuples", "tuples_{item}_{length}", NO_TYPES, "from_tuple, into_tuple - from_tuple",
          TUPLES, ORIGINAL_TUPLE, None),
     Part("hex text", "hex", BYTES, "hex_lower, hex_upper", TEXTS, ORIGINAL_TEXT, TABLE_OF_DIGITS),
-    boxed("boxed arrays", "boxed", "boxed_generate, boxed_from_iter, boxed_front - boxed_generate,"
-          " boxed_back - boxed_generate, boxed_both - boxed_generate, boxed_nth3 - boxed_generate,"
-          " boxed_clone - boxed_generate, boxed_into_vec - boxed_generate,"
-          " boxed_slice - boxed_generate"),
+    boxed("boxed arrays", "boxed", "boxed_generate, boxed_generate_from, boxed_from_iter,"
+          " boxed_front - boxed_generate, boxed_back - boxed_generate, boxed_both - boxed_generate,"
+          " boxed_nth3 - boxed_generate, boxed_clone - boxed_generate,"
+          " boxed_into_vec - boxed_generate, boxed_slice - boxed_generate"),
 ]
 # Beside plain Rust, not the original crate: they have lines of their own, and are in no group.
 APART = [

@@ -4,8 +4,9 @@ use Rattle.ga_boxed.specs.Live.{Live}
 use Rattle.ga_core.proofs.CutLemmas.{taken-more}
 use Rattle.std.proofs.Common.{◌≡◌, ◌≢◌, ℕ, suc, ◌+◌, ◌*◌, ◌^◌, ◌<◌, ◌≤◌, List, [], ◌∷◌, ◌++◌, length, ap, sym, ◌∙◌}
 use Rattle.std.proofs.Common.{arith, MatchOption, None, Option, Some, drop, length-drop, pos_of_ne-zero, subst, zero-mul}
+use Rattle.std.proofs.iter.Next.{Yields-more}
 use Rattle.std.proofs.lemmas.List.{length_push, nil_from_length}
-use Rattle.std.specs.Iterator.{YieldsFirst, YieldsLast}
+use Rattle.std.specs.Iterator.{Yields, YieldsFirst, YieldsLast}
 
 -- none of any size fit
 pub none_fits : (n size : ℕ) → n ≡ 0 → n * size < 2 ^ 63
@@ -73,6 +74,24 @@ module _ {F X Y : Type 0} {Run : List X → List Y → F → Type 0} {passed : L
     long = long_more block.items after.items y grows n so_far.long;
     room = one_more n block.room after.room all so_far.room fewer;
   }
+
+-- What a block holds was taken from an iterator, which may be asked on, and there is room for the others of all.
+pub record TakenSoFar {I T : Type 0} (can_next : I → Type 0) (next_gives : I → Option T → I → Type 0) (first : I) (all : ℕ)
+    (block : Live T) (items : I) : Type 0 where
+  pub can : can_next items
+  pub taken : Yields next_gives first block.items items
+  pub room : length block.items + block.room ≡ all
+
+-- one more was taken, and put
+pub taken-next : {I T : Type 0} {can_next : I → Type 0} {next_gives : I → Option T → I → Type 0} {first : I} {all : ℕ}
+    {block after : Live T} {items : I} (item : T) (left : I) → TakenSoFar can_next next_gives first all block items
+    → after.items ≡ block.items ++ item ∷ [] → after.room + 1 ≡ block.room → next_gives items (Some item) left → can_next left
+    → TakenSoFar can_next next_gives first all after left
+taken-next {next_gives} {first} {block} {after} item left so_far grows fewer gives can = record {
+  can = can;
+  taken = rw grows (Yields-more next_gives first block.items _ item left so_far.taken gives);
+  room = filled_more block.items after.items item grows _ _ _ fewer so_far.room;
+}
 
 -- the block between its bounds, and as it is seen
 module _ {T : Type 0} (start end : ℕ) (block now : Live T) (seen : block ≡ now)

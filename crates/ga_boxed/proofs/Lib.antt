@@ -1,4 +1,3 @@
 pub mod AnswerLemmas
 pub mod BlockLemmas
-pub mod VecLemmas
 pub mod walks

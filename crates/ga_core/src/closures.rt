@@ -9,26 +9,36 @@ ghost use Rattle.std.specs.Result.{result_and};
 
 use std::mem;
 
-// So many results are written, or items taken, in a turn of a loop that the compiler unrolls.
-pub(crate) const BLOCK: usize = 8;
+/// How many results are written, or items taken, in a turn of a loop that the compiler unrolls.
+#[doc(hidden)]
+pub const BLOCK: usize = 8;
 
 // Up to so many slots, the compiler unrolls the loop over blocks too.
 const MOST_UNROLLED: usize = 64;
 
 // Writes `f(0)`, `f(1)` and so on over the slots, each called once, in this order. Many slots are
-// written one by one: of a closure over other arrays the compiler makes vector code then.
+// written one by one where the closure holds more than a word: of one that reads other arrays the
+// compiler makes vector code then.
 #[inline(always)]
 pub(crate) fn write_generated<T: Drop, F: FnMut(usize) -> T>(slots: &mut [T], f: &mut F)
     requires callable { MayGenerate F.pre F.step f.old (length slots.old) }
     ensures run { ClosureRun F.step f.old (range_with_len 0 (length slots.old)) slots.new f.new }
 {
+    let in_blocks = slots.len() <= MOST_UNROLLED || holds_a_word(f);
     let mut done = 0;
-    while slots.len() <= MOST_UNROLLED && slots.len() - done >= BLOCK {
+    while in_blocks && slots.len() - done >= BLOCK {
         write_some(slots, done, BLOCK, f);
         done += BLOCK;
     }
     let left = slots.len() - done;
     write_some(slots, done, left, f);
+}
+
+/// Whether a closure holds at most a word. One that walks over another sequence holds two.
+#[doc(hidden)]
+#[inline(always)]
+pub fn holds_a_word<F>(f: &F) -> bool {
+    mem::size_of_val(f) <= mem::size_of::<usize>()
 }
 
 // Writes `f(first)` and so on over `count` slots from `first` on. What the calls before gave stands

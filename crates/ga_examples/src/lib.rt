@@ -30,3 +30,5 @@ mod runs_of_steps;
 mod shapes;
 #[cfg(test)]
 mod uses;
+#[cfg(test)]
+mod words;

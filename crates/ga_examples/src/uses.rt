@@ -4,5 +4,6 @@ mod ciphers;
 mod digests;
 mod key_table;
 mod keys;
+mod keystreams;
 mod matrix_laws;
 mod udp;

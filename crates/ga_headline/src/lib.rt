@@ -8,7 +8,7 @@
 //! - a sequence is such a list: `lists`;
 //! - a build of good items succeeds exactly where they are N: `builds`;
 //! - runs of closure calls over joined lists are one over each in turn: `joined_runs`;
-//! - shapes undo each other: `shapes`;
+//! - shapes of inline arrays undo each other: `shapes`;
 //! - every run of two-ended iterator calls gives what a list cut from both ends gives: `steps`;
 //! - and one call that maps and walks, or builds before, means these one after the other: `whole`.
 //!
@@ -21,7 +21,7 @@ pub mod builds;
 pub mod joined_runs;
 /// A sequence of any kind is a list of exactly N items.
 pub mod lists;
-/// Shapes undo each other.
+/// Shapes of inline arrays undo each other.
 pub mod shapes;
 /// Any run of two-ended calls is a list cut from both ends.
 pub mod steps;

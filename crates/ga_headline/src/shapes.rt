@@ -1,5 +1,5 @@
-//! Shapes undo each other: what is done and undone is as it was, and what stood in between is
-//! known.
+//! Shapes of inline arrays undo each other: what is done and undone is as it was, and what stood in
+//! between is known.
 //!
 //! Each function but the last makes a shape and undoes it, of any lengths that fit together. `see`
 //! is called with what stands in between, and need be callable with just that.

@@ -17,6 +17,12 @@ def run_made_up(made_up, *command, **variables):
     return run(*command, env={**os.environ, **variables})
 
 
+def change(room, changes):
+    """Makes changes in a copy: of each the file, and what takes the place of a text in it."""
+    for path, old, new in changes:
+        write(room, {path: (room / path).read_text("utf-8").replace(old, new, 1)})
+
+
 def copy_beside(room):
     """Copies bench and diff with an empty crate, of which they lay out a copy."""
     copy(room, "trials", "tools/check.d", "crates.txt", "HANDLES")

@@ -33,6 +33,7 @@ FILES = {
     "crates/ga_bare/src/lib.rt": f"mod refused_memory;\n{TEST}",
     "crates/ga_deep/src/lib.rt": "mod tests;\n", "crates/ga_deep/src/tests.rt": TEST,
     "crates/ga_rows/src/main.rt": TEST, "crates/ga_rows/stdout": "1 2 3 4\n",
+    "crates/generic_array/src/lib.rt": "",
     "trials/sweeps/libraries.txt": "vectors:\n", "trials/sweeps/vectors/lib.rattle": "mod sums;\n",
     "trials/sweeps/vectors/sums.rattle": TEST,
     "trials/sweeps/ga_deep/tests/more.rattle": "// More.\n",

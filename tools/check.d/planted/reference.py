@@ -1,6 +1,7 @@
 """The part `reference`, in a copy of the checkout with a fault of each kind for each check."""
 from copies import copy, write
 from playing import run
+from written import ANEW
 
 EDIT = "file: src/{}.rt\nold: {}\nnew: nothing\n"
 # An item without a caller or a line in DIFFERENCES, and imports that nothing reads; a function that
@@ -20,6 +21,7 @@ PLANTED = {
     "tools/reference.d/rust_names.txt+": "arr!\tga_core::GenericArray\nserde\ttells nothing\n",
     "tools/reference.d/without_caller.txt+": "arr!\t1\tit has one\n",
     "tools/reference.d/public.txt+": "ga_views::Gone: Clone\n",
+    "crates/ga_examples/README.md+": "gone\n",
     "tools/walls/rowless.rattle": "// says: it isn't there\n",
     "tools/reference.d/checks.py+": "\nCHECKS['examples'] = unwritten, 100000\n",
     "tools/twins/ga_views/twice.edit": EDIT.format("array_ref", "pub fn"),
@@ -32,8 +34,8 @@ TOLD = {
     "examples": ["no crate has fn stands_nowhere() {}", "passed, and not 100000"],
     "imports": ["idle is imported and not used", "idle_within is imported and not used"],
     "public items": ["DIFFERENCES.md doesn't list planted"],
-    "public": ["the sources lack: ga_views::Gone: Clone; tools/reference --write-public writes it"
-               " anew"],
+    "written": [f"public.txt: - ga_views::Gone: Clone: {ANEW}",
+                f"PROMISE.md: + ## It says nothing: {ANEW}", f"README.md: - gone: {ANEW}"],
     "walls": ["tools/walls/rowless.rattle: no row of STUCK.md is seen so"],
     "wrong bodies": ["twins/ga_views/twice.edit: src/array_ref.rt has 10 times, not once: pub fn",
                      "twins/ga_views/none/no_file.edit: no file src/none.rt",
@@ -45,7 +47,6 @@ TOLD = {
     "promise": ["ga_headline::lists::silent says nothing of: It says nothing.",
                 "ga_headline::lists::gone says nothing of: It says nothing.",
                 "promise.txt has no sentence for unpromised"],
-    "page": ["PROMISE.md is stale: tools/reference --write-promise writes it anew"],
     "contracts": ["write_hex says otherwise"],
     "documents": ["nothing is called nothing_is_called_so"],
 }

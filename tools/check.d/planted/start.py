@@ -1,6 +1,6 @@
 """The part `start`, over a made-up `rt`, in a copy where tools/start has faults."""
 from copies import copy, write
-from planted import run_made_up
+from planted import change, run_made_up
 
 LAYING = "tools/start.d/laying.py"
 # The faults: what takes the place of a text in a file, or a script of the made-up `rt`.
@@ -33,8 +33,7 @@ TOLD = {
 def play(tally, room):
     copy(room, "tools", "crates", "crates.txt", "HANDLES", "LICENSE")
     write(room, MADE_UP)
-    for path, old, new in PLANTED.values():
-        write(room, {path: (room / path).read_text("utf-8").replace(old, new)})
+    change(room, PLANTED.values())
     seen = run_made_up(room, room / "tools" / "check", "start")
     for name, text in TOLD.items():
         tally.said(f"start: {name}", seen, 1, f"FAILED  {text}")

@@ -1,6 +1,7 @@
 """The crates of trials/sweeps, in a copy of the checkout where the libraries have faults that no
 contract rules out."""
-from copies import copy, write
+from copies import copy
+from planted import change
 from playing import run
 
 # The faults: what takes the place of a text in a file, and what is told of it.
@@ -27,8 +28,7 @@ PLANTED = {
 
 def play(tally, room):
     copy(room)
-    for path, old, new, _ in PLANTED.values():
-        write(room, {path: (room / path).read_text("utf-8").replace(old, new, 1)})
+    change(room, (it[:3] for it in PLANTED.values()))
     seen = run(room / "tools" / "check", "trials")
     for name, (*_, told) in PLANTED.items():
         tally.said(f"sweeps: {name}", seen, 1, told)

@@ -55,6 +55,10 @@ case!(zip_ref_boxed(sum), poked(left), kept(right), {
     touch_items(sum, zipped_ref(&left, &right).as_slice(), LENGTH)
 });
 
+case!(boxed_generate_from(sum), poked(left), kept(right), {
+    touch_items(sum, zipped_ref(&left, &right).as_slice(), LENGTH)
+});
+
 #[inline(never)]
 fn summed_ref(array: &Array) -> u64 {
     FunctionalSequence::fold(&**array, 0u64, |sum: u64, item: &Item| {

@@ -16,6 +16,15 @@ fn try_build(seed: u64, bad: usize) -> Result<Array, usize> {
 }
 
 #[inline(never)]
+fn combined(left: &Array, right: &Array) -> Array {
+    Array::generate(|index| Item::make(left[index].word() ^ right[index].word(), 2))
+}
+
+case!(generate_from(sum), poked(left), kept(right), {
+    touch(sum, &combined(&left, &right))
+});
+
+#[inline(never)]
 fn repeated(item: Item) -> Array {
     <Array as GenericSequence<Item>>::repeat(item)
 }

@@ -6,10 +6,11 @@ ghost use Rattle.ga_core.specs.Runs.{ClosureRun, TryClosureRun};
 ghost use Rattle.ga_core.specs.Tries.{try_map};
 ghost use Rattle.std.specs.Iterator.{ActsAs};
 ghost use Rattle.std.specs.List.{range_with_len};
-ghost use Rattle.std.specs.Prelude.{◌≡◌, ℕ, ◌+◌, IfOk, IsOk, OnErr, OnOk, Result, map};
+ghost use Rattle.std.specs.Prelude.{◌≡◌, ℕ, ◌+◌, ◌≤◌, IfOk, IsOk, OnErr, OnOk, Result, length, map};
 
 use crate::boxed_array::BoxedArray;
 use crate::live_block::LiveBlock;
+use ga_core::closures::{BLOCK, holds_a_word};
 use ga_core::{AllocError, FillError, LengthError, Unsigned};
 use std::alloc::Global;
 
@@ -40,10 +41,34 @@ impl<T, N: Unsigned> BoxedArray<T, N> {
         ensures empty { N.USIZE ≡ 0 → IsOk result }
     {
         let mut block = LiveBlock::new(alloc, N::USIZE)?;
-        for index in 0..N::USIZE {
-            block.put(f(index));
+        let in_blocks = holds_a_word(f);
+        while in_blocks && block.room() >= BLOCK {
+            put_some(&mut block, BLOCK, f);
         }
+        let left = block.room();
+        put_some(&mut block, left, f);
         Ok(BoxedArray::from_block(block))
+    }
+}
+
+// Puts `f(n)` and so on behind the items, of which there are `n`, `count` times. The items are what
+// the calls before returned.
+#[inline(always)]
+fn put_some<T, F: FnMut(usize) -> T>(block: &mut LiveBlock<T>, count: usize, f: &mut F)
+    requires room { count ≤ block.old.room }
+    requires callable { (begun : F)
+        × MayGenerate F.pre F.step begun (length block.old.items + count)
+        × ClosureRun F.step begun (range_with_len 0 (length block.old.items)) block.old.items f.old }
+    ensures run { (begun : F)
+        → ClosureRun F.step begun (range_with_len 0 (length block.old.items)) block.old.items f.old
+        → ClosureRun F.step begun (range_with_len 0 (length block.new.items)) block.new.items
+        f.new }
+    ensures long { length block.new.items ≡ length block.old.items + count }
+    ensures room { block.new.room + count ≡ block.old.room }
+{
+    for _put in 0..count {
+        let index = block.len();
+        block.put(f(index));
     }
 }
 
@@ -119,6 +144,15 @@ impl<T: Drop, N: Unsigned> BoxedArray<T, N> {
         ensures empty { N.USIZE ≡ 0 → IsOk result }
     {
         let mut block = LiveBlock::new(alloc, N::USIZE)?;
+        while block.room() >= BLOCK {
+            let less = block.room() - BLOCK;
+            while block.room() != less {
+                match items.next() {
+                    Some(item) => block.put(item),
+                    None => return Ok(Err(LengthError)),
+                }
+            }
+        }
         while block.room() > 0 {
             match items.next() {
                 Some(item) => block.put(item),

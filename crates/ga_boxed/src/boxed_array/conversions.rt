@@ -58,7 +58,12 @@ impl<T: Drop, N: Unsigned> BoxedArray<T, N> {
         if items.len() != N::USIZE {
             return Ok(Err(LengthError));
         }
-        Self::try_boxed_from_iter(alloc, items.into_iter())
+        let mut block = LiveBlock::new(alloc, N::USIZE)?;
+        // One by one, though fills take blocks: of so plain a loop the compiler makes vector code.
+        for item in items {
+            block.put(item);
+        }
+        Ok(Ok(BoxedArray::from_block(block)))
     }
 
     /// `try_from_vec` of a boxed slice. The counterpart of `GenericArray::try_from_boxed_slice`.

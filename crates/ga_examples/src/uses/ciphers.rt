@@ -16,7 +16,7 @@ use generic_array::{ArrayLength, GenericArray, U8, U12, U16, U32};
 
 /// Applies the key stream to two pieces in turn: the pieces joined are what it makes of the whole
 /// text.
-#[tactic(auto, using(ga_ciphers::proofs::KeystreamLemmas::under_in_pieces))]
+#[tactic(auto, using(ga_ciphers::proofs::KeystreamLemmas::keystreams))]
 fn in_two_pieces<C: BlockStream>(
     mode: &mut CounterMode<C>,
     first: &mut [u8],
@@ -31,7 +31,7 @@ fn in_two_pieces<C: BlockStream>(
 }
 
 /// Applies the key stream to a text twice from its start: the text is what it was.
-#[tactic(auto, using(ga_ciphers::proofs::KeystreamLemmas::under_taken_off))]
+#[tactic(auto, using(ga_ciphers::proofs::KeystreamLemmas::keystreams))]
 fn there_and_back<C: BlockStream>(cipher: C, bytes: &mut [u8]) -> Result<(), StreamEnd>
     ensures variant { IsOk result ↔ (length bytes.old ≤ C.BLOCKS * C.BlockSize.USIZE) }
     ensures text { bytes.new ≡ bytes.old }

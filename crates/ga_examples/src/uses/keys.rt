@@ -4,9 +4,10 @@ ghost use Rattle.ga_hashes.specs.Hmac.{hmac_of};
 ghost use Rattle.ga_hashes.specs.OneTimePassword.{code_of, digit_count};
 ghost use Rattle.ga_hashes.specs.Sha256.{sha256};
 ghost use Rattle.std.specs.Int.NonZero.{non_zero_u64_get};
-ghost use Rattle.std.specs.Prelude.{◌≡◌, ◌≤◌, ◌*◌, ◌/◌, ◌↔◌, ◌∷◌, ◌++◌, [], IfOk, IsOk, IsTrue};
+ghost use Rattle.std.specs.Prelude.{◌≡◌, ◌≢◌, ◌≤◌, ◌*◌, ◌/◌, ◌↔◌, ◌∷◌, ◌++◌, [], IfOk, IsOk, IsTrue};
 
 use ga_core::{ArrayLength, GenericArray, InlineLength, LengthError};
+use ga_hashes::compare::chosen;
 use ga_hashes::hkdf::{derive, expand, extract};
 use ga_hashes::hmac::{Hmac, tag_of, verify};
 use ga_hashes::one_time_password::{Digits, LongDigest, counter_code, time_code};
@@ -72,13 +73,6 @@ fn labelled_key<H: HashFunction, N: ArrayLength<u8> + InlineLength>(
     Ok(key)
 }
 
-/// Whether two keys are the same.
-fn is_same_key<N: ArrayLength<u8>>(left: &GenericArray<u8, N>, right: &GenericArray<u8, N>) -> bool
-    ensures { IsTrue result ↔ (left.now ≡ right.now) }
-{
-    same_bytes(left, right)
-}
-
 fn is_code<H: LongDigest>(key: &[u8], counter: u64, digits: Digits, code: u32) -> bool
     ensures { IsTrue result
         ↔ (code ≡ code_of H.digest H.BlockSize.USIZE key.now counter (digit_count digits)) }
@@ -91,4 +85,17 @@ fn is_code_now<H: LongDigest>(key: &[u8], elapsed: u64, step: NonZeroU64, code: 
         (elapsed / non_zero_u64_get step) 6) }
 {
     time_code::<H>(key, elapsed, step, Digits::Six) == code
+}
+
+/// The key if both codes are the same, else the other one.
+fn key_if_same<N: ArrayLength<u8>, M: ArrayLength<u8>>(
+    code: &GenericArray<u8, M>,
+    expected: &GenericArray<u8, M>,
+    key: &GenericArray<u8, N>,
+    other: &GenericArray<u8, N>,
+) -> GenericArray<u8, N>
+    ensures same { code.now ≡ expected.now → result ≡ key.now }
+    ensures other { code.now ≢ expected.now → result ≡ other.now }
+{
+    chosen(same_bytes(code, expected), key, other)
 }

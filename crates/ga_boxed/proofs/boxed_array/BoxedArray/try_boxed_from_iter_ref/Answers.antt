@@ -1,25 +1,30 @@
-use Rattle.ga_boxed.proofs.BlockLemmas.{all_there, filled_more, not_all}
+use Rattle.ga_boxed.proofs.BlockLemmas.{all_there, not_all, taken-next}
 use Rattle.ga_boxed.proofs.boxed_array.BoxedArray.try_boxed_from_iter_ref.Given as given
 use Rattle.ga_boxed.proofs.boxed_array.BoxedArray.try_boxed_from_iter_ref.Goals as goal
 use Rattle.ga_core.proofs.FillLemmas.{Asks-from_fill, FillRuns-from_fill}
 use Rattle.ga_core.specs.Fill.{Asks, FillRuns, Fills}
 use Rattle.ga_core.specs.declared.LengthError.{LengthError}
-use Rattle.std.proofs.Common.{◌+◌, Err, List, None, Ok, Result, Some, refl}
-use Rattle.std.proofs.iter.Next.{Yields-more}
+use Rattle.std.proofs.Common.{◌<◌, ◌+◌, Err, arith, length, List, None, Ok, Result, Some, refl}
 
 pub put-requires : goal.put-requires
-put-requires g c = record { room = rw (← c.room.ensures) c.loop-items-test.true }
+put-requires g c = record {
+  room = omega (arith, c.loop-less.invariant.within, c.room-in-loop-less.ensures, c.loop-less-test.true);
+}
+
+pub loop-less-preserved : goal.loop-less-preserved
+loop-less-preserved g c = record {
+  so_far = taken-next c.in-Some.item c.next.new.self c.loop-less.invariant.so_far c.put.ensures.items c.put.ensures.room
+      c.in-Some.ensures.steps c.in-Some.ensures.goes.keeps;
+  within = omega (arith, c.loop-less.invariant.within, c.room-in-loop-less.ensures, c.loop-less-test.true, c.put.ensures.room);
+}
+
+pub put-requires-in-Some-next : goal.put-requires-in-Some-next
+put-requires-in-Some-next g c = record { room = rw (← c.room-in-loop-items.ensures) c.loop-items-test.true }
 
 pub loop-items-preserved : goal.loop-items-preserved
 loop-items-preserved g c =
-    let at = c.loop-items in
-    record {
-      can = c.in-Some.ensures.goes.keeps;
-      taken = rw c.put.ensures.items
-          (Yields-more g.I.Iterator.next_gives c.args.items.now at.block.items at.items c.in-Some.item _
-          at.invariant.taken c.in-Some.ensures.steps);
-      room = filled_more _ _ _ c.put.ensures.items _ _ _ c.put.ensures.room at.invariant.room;
-    }
+    taken-next c.in-Some-next.item c.next-in-loop-items.new.self c.loop-items.invariant c.put-in-Some-next.ensures.items
+    c.put-in-Some-next.ensures.room c.in-Some-next.ensures.steps c.in-Some-next.ensures.goes.keeps
 
 -- what a fill says of its calls
 told : (g : given.Over) (items : g.row.I.Denot) (built : Result (List g.row.T.Denot) LengthError) (left : g.row.I.Denot)
@@ -32,24 +37,33 @@ told g items built left fill =
 
 pub returns-in-None : goal.returns-in-None
 returns-in-None g c =
-    let at = c.loop-items in
-    let few = not_all _ _ _ _ at.invariant.room c.room.ensures c.loop-items-test.true in
+    let at = c.loop-less in
+    let few : length at.block.items < g.N.Unsigned.USIZE =
+    omega (arith, at.invariant.so_far.room, at.invariant.within, c.room-in-loop-less.ensures, c.loop-less-test.true) in
     let fill = told g c.args.items.now (Err (record {})) c.next.new.self
-    (at.block.items, None, (at.items, at.invariant.taken, c.in-None.ensures.steps), few) in
+    (at.block.items, None, (at.items, at.invariant.so_far.taken, c.in-None.ensures.steps), few) in
     record { fill = fill.0; runs = fill.1; asks = fill.2; err = tt; empty = λ none. refl }
 
 pub returns-in-None-next : goal.returns-in-None-next
 returns-in-None-next g c =
     let at = c.loop-items in
-    let all = all_there _ _ _ _ at.invariant.room c.room.ensures c.loop-items-test.false in
+    let few = not_all _ _ _ _ at.invariant.room c.room-in-loop-items.ensures c.loop-items-test.true in
+    let fill = told g c.args.items.now (Err (record {})) c.next-in-loop-items.new.self
+    (at.block.items, None, (at.items, at.invariant.taken, c.in-None-next.ensures.steps), few) in
+    record { fill = fill.0; runs = fill.1; asks = fill.2; err = tt; empty = λ none. refl }
+
+pub returns-in-None-next-2 : goal.returns-in-None-next-2
+returns-in-None-next-2 g c =
+    let at = c.loop-items in
+    let all = all_there _ _ _ _ at.invariant.room c.room-in-loop-items.ensures c.loop-items-test.false in
     let fill = told g c.args.items.now (Ok at.block.items) c.next-2.new.self
-    (at.block.items, None, (at.items, at.invariant.taken, c.in-None-next.ensures.steps), (refl, all, refl)) in
+    (at.block.items, None, (at.items, at.invariant.taken, c.in-None-next-2.ensures.steps), (refl, all, refl)) in
     rw c.from_block.ensures record { fill = fill.0; runs = fill.1; asks = fill.2; err = tt; empty = λ none. refl }
 
-pub returns-in-Some-next : goal.returns-in-Some-next
-returns-in-Some-next g c =
+pub returns-in-Some-next-2 : goal.returns-in-Some-next-2
+returns-in-Some-next-2 g c =
     let at = c.loop-items in
-    let all = all_there _ _ _ _ at.invariant.room c.room.ensures c.loop-items-test.false in
+    let all = all_there _ _ _ _ at.invariant.room c.room-in-loop-items.ensures c.loop-items-test.false in
     let fill = told g c.args.items.now (Err (record {})) c.next-2.new.self
-    (at.block.items, Some c.in-Some-next._surplus, (at.items, at.invariant.taken, c.in-Some-next.ensures.steps), all) in
+    (at.block.items, Some c.in-Some-next-2._surplus, (at.items, at.invariant.taken, c.in-Some-next-2.ensures.steps), all) in
     record { fill = fill.0; runs = fill.1; asks = fill.2; err = tt; empty = λ none. refl }

@@ -1,0 +1,46 @@
+use Rattle.ga_boxed.proofs.BlockLemmas.{long_more}
+use Rattle.ga_boxed.proofs.boxed_array.builds.put_some.Goals as goal
+use Rattle.ga_core.proofs.CallLemmas.{may_generate-at}
+use Rattle.ga_core.proofs.RunLemmas.{ClosureRun-snoc, below-add_one}
+use Rattle.ga_core.specs.Runs.{ClosureRun}
+use Rattle.std.proofs.Common.{◌+◌, ◌++◌, ◌∷◌, [], arith, length, subst, sym}
+use Rattle.std.proofs.lemmas.List.{length_push}
+use Rattle.std.specs.List.{range_with_len}
+
+pub f-requires : goal.f-requires
+f-requires g c =
+    let begun = c.requires.callable.0 in
+    let at = c.loop-put in
+    may_generate-at (goal.F-pre g) (goal.F-step g) begun (length c.args.block.now.items + c.args.count)
+    c.requires.callable.1 c.len-index.result at.block.items at.f
+    (omega (arith, c.len-index.ensures, at.invariant.long, c.loop-put-test.true))
+    (subst (λ n. ClosureRun (goal.F-step g) begun (range_with_len 0 n) at.block.items at.f) (sym c.len-index.ensures)
+    (at.invariant.run begun c.requires.callable.2))
+
+pub put-requires : goal.put-requires
+put-requires g c = record {
+  room = omega (arith, c.requires.room, c.loop-put.invariant.room, c.loop-put-test.true);
+}
+
+pub loop-put-preserved : goal.loop-put-preserved
+loop-put-preserved g c =
+    let at = c.loop-put in
+    record {
+      run = λ begun ran.
+          rw (c.put.ensures.items, length_push at.block.items c.f.result, below-add_one (length at.block.items))
+          (subst (λ n. ClosureRun (goal.F-step g) begun (range_with_len 0 (length at.block.items) ++ n ∷ [])
+          (at.block.items ++ c.f.result ∷ []) c.f.new.self) c.len-index.ensures
+          (ClosureRun-snoc (goal.F-step g) begun (range_with_len 0 (length at.block.items)) at.block.items at.f
+          c.len-index.result c.f.result c.f.new.self (at.invariant.run begun ran) c.f.ensures));
+      long = omega (arith, long_more _ _ _ c.put.ensures.items _ at.invariant.long);
+      room = omega (arith, c.put.ensures.room, at.invariant.room);
+    }
+
+pub returns : goal.returns
+returns g c =
+    let at = c.loop-put in
+    record {
+      run = at.invariant.run;
+      long = omega (arith, at.invariant.long, c.loop-put-test.false, at.auto._put-end);
+      room = omega (arith, at.invariant.room, c.loop-put-test.false, at.auto._put-end);
+    }
