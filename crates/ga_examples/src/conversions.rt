@@ -7,13 +7,6 @@ use generic_array::{
 };
 use std::alloc::Global;
 
-fn through_a_native_array(array: GenericArray<u8, U3>) -> GenericArray<u8, U3>
-    ensures { result ≡ array }
-{
-    let items: [u8; 3] = array.into();
-    GenericArray::from(items)
-}
-
 fn from_vector<N: ArrayLength<u8> + InlineLength>(
     items: Vec<u8>,
 ) -> Result<GenericArray<u8, N>, LengthError>
@@ -48,16 +41,6 @@ fn boxed_through_a_vector<N: ArrayLength<u32>>(
         return Ok(Err(LengthError));
     };
     BoxedArray::try_from_boxed_slice(alloc, boxed.into_boxed_slice()?)
-}
-
-// `?` makes std's error of the library's.
-fn vector_as_in_std<N: ArrayLength<u32>>(
-    alloc: Global,
-    array: GenericArray<u32, N>,
-) -> Result<Vec<u32>, std::alloc::AllocError>
-    ensures { IfOk result (λ items. items.items ≡ array) }
-{
-    Ok(array.into_vec(alloc)?)
 }
 
 // A type with a length as its parameter, with derives.
