@@ -1,12 +1,11 @@
-//! Bits: packed beside each other, asked for by a mask, and taken apart. The set `bits` stands at the
-//! head of the module.
+//! Bits: packed beside each other, and asked for by a mask. The set `bits` stands at the head of the
+//! module.
 #![tactic(auto, using(ga_core::proofs::BitLemmas::bits))]
 
-ghost use Rattle.ga_core_examples.specs.Digits.{number_of};
 ghost use Rattle.std.specs.Int.{bit_at};
 ghost use Rattle.std.specs.Prelude.{◌≡◌, ◌+◌, ◌*◌, ◌/◌, ◌%◌, ◌<◌, ◌^◌, ◌↔◌, ◌∷◌, [], All, IsTrue, fold, if◌then◌else◌};
 
-use ga_core::{GenericArray, U2, U4, U5, U8};
+use ga_core::{GenericArray, U2, U4};
 
 fn packed(a: u8, b: u8, c: u8, d: u8) -> u8
     requires a { a < 4 }
@@ -57,23 +56,4 @@ fn fragment_bytes(fragment: Fragment) -> GenericArray<u8, U2>
     let high = (fragment.offset >> 8) as u8;
     let flags = u8::from(fragment.alone) << 6 | u8::from(fragment.more) << 5;
     GenericArray::from_array([flags | high, (fragment.offset & 255) as u8])
-}
-
-// Base32: five bytes and eight groups of five bits are one number, whose highest digit comes first.
-
-fn groups_of(bytes: GenericArray<u8, U5>) -> GenericArray<u8, U8>
-    ensures number { number_of 32 result ≡ number_of 256 bytes }
-    ensures each { All (λ group. group < 32) result }
-{
-    let [a, b, c, d, e]: [u8; 5] = bytes.into_array();
-    GenericArray::from_array([
-        a >> 3,
-        (a & 7) << 2 | b >> 6,
-        b >> 1 & 31,
-        (b & 1) << 4 | c >> 4,
-        (c & 15) << 1 | d >> 7,
-        d >> 2 & 31,
-        (d & 3) << 3 | e >> 5,
-        e & 31,
-    ])
 }

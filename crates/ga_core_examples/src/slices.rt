@@ -1,5 +1,5 @@
 //! Arrays as slices: the methods of slices, ranges, and loops over references.
-ghost use Rattle.std.specs.List.{sum_by, zip};
+ghost use Rattle.std.specs.List.{sum_by};
 ghost use Rattle.std.specs.Prelude.{◌≡◌, ℕ, ◌-◌, ◌*◌, ◌<◌, ◌≤◌, ◌^◌, [], length, slice_index, slice_index_or, sum, take};
 
 use ga_core::{ArrayLength, GenericArray, Len, U3};
@@ -34,17 +34,6 @@ fn sum_of_first<N: ArrayLength<u16>>(row: &GenericArray<u16, N>, count: usize) -
     ensures { result ≡ sum (take count row.now) }
 {
     sum_of(&row[0..count])
-}
-
-/// The sum of the products in the same place.
-fn weighed_sum(left: &[u16], right: &[u16]) -> u64
-    requires { length left.now ≤ 65536 }
-    ensures { result ≡ sum_by (λ p. p.0 * p.1) (zip left.now right.now) }
-{
-    left.iter()
-        .zip(right.iter())
-        .map(|(x, y)| u64::from(*x) * u64::from(*y))
-        .sum()
 }
 
 fn sum_of_squares(readings: &[u16]) -> u64

@@ -5,17 +5,17 @@ ghost use Rattle.ga_core_examples.specs.Digits.{digit_of};
 ghost use Rattle.generic_array.specs.Views.{items_of_view};
 ghost use Rattle.std.specs.Int.Bits.{bit_xor};
 ghost use Rattle.std.specs.List.{range_with_len, zip};
-ghost use Rattle.std.specs.Prelude.{◌≡◌, ℕ, ◌+◌, ◌*◌, ◌%◌, ◌^◌, ◌<◌, IfOk, Ok, fold, length, map, reverse, sum};
+ghost use Rattle.std.specs.Prelude.{◌≡◌, ℕ, ◌+◌, ◌*◌, ◌%◌, ◌^◌, ◌<◌, IfOk, fold, map, reverse, sum};
 
 use ga_core_examples::digits::digit_in;
 use generic_array::checks::total_by;
 use generic_array::functional::{
     FunctionalSequence, MappedError, MappedGenericSequence, MappedPlace, MappedSequence, MapsInline,
 };
-use generic_array::sequence::{FromFallibleIterator, GenericSequence};
+use generic_array::sequence::GenericSequence;
 use generic_array::{
-    AllocError, ArrayLength, BorrowedItems, BoxedArray, FillError, GenericArray, GenericArrayRef,
-    Unsigned, always,
+    AllocError, ArrayLength, BorrowedItems, BoxedArray, GenericArray, GenericArrayRef, Unsigned,
+    always,
 };
 use std::alloc::Global;
 
@@ -132,21 +132,4 @@ fn digits_of_view<N: ArrayLength<u8>>(
     ensures { result ≡ try_map (digit_of base) (items_of_view text.entry) }
 {
     always(text.try_map((), |byte: &u8| digit_in(base, *byte)))
-}
-
-/// The digits of a text, of any kind that has room for just these.
-fn digits_of_text<S: FromFallibleIterator<u8>>(
-    place: S::Place,
-    text: &[u8],
-    base: u8,
-) -> Result<S, FillError<u8, S::Error>>
-    requires fits { S.Fits }
-    ensures len { IfOk result (λ made. length text.now ≡ S.Length.USIZE) }
-    ensures digits { IfOk result (λ made.
-        try_map (λ digit. digit) (map (digit_of base) text.now) ≡ Ok (S.items made)) }
-{
-    S::from_fallible_iter(
-        place,
-        text.iter().copied().map(|byte: u8| digit_in(base, byte)),
-    )
 }

@@ -1,9 +1,9 @@
-//! Conversions by the traits of std, and types with a length.
+//! Conversions by the traits of std, and a header of two arrays.
 ghost use Rattle.std.specs.Prelude.{◌≡◌, ◌↔◌, IfOk, IsOk, Ok, drop, length, take};
 
 use generic_array::sequence::{Concat, Split};
 use generic_array::{
-    AllocError, ArrayLength, BoxedArray, GenericArray, InlineLength, LengthError, U2, U3, U4, U6,
+    AllocError, ArrayLength, BoxedArray, GenericArray, InlineLength, LengthError, U2, U4, U6,
 };
 use std::alloc::Global;
 
@@ -44,18 +44,6 @@ fn boxed_through_a_vector<N: ArrayLength<u32>>(
 }
 
 // A type with a length as its parameter, with derives.
-
-#[derive(Clone, Copy, Debug, Default, PartialEq, Eq, Hash)]
-struct Numbered<N> {
-    of: N,
-    number: u8,
-}
-
-#[test]
-fn a_type_with_a_length_has_derives(rt: HostRuntime) {
-    let of = U3::default();
-    assert!(rt; Numbered::<U3>::default() == Numbered { of, number: 0 });
-}
 
 // A header that is made by `concat`, and read by `split`.
 
