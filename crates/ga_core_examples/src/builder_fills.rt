@@ -1,6 +1,6 @@
 //! Builders that are filled, of any length: by what an array's iterator has left, and in a loop.
 ghost use Rattle.std.specs.List.{range_with_len};
-ghost use Rattle.std.specs.Prelude.{◌≡◌, ◌+◌, ◌-◌, ◌<◌, ◌≤◌, ◌^◌, ◌++◌, drop, length, map, reverse, sum, take};
+ghost use Rattle.std.specs.Prelude.{◌≡◌, ◌+◌, ◌<◌, ◌≤◌, ◌^◌, ◌++◌, drop, length, map, reverse, sum, take};
 
 use ga_core::{ArrayBuilder, ArrayLength, GenericArray};
 
@@ -28,16 +28,6 @@ fn with_inner<T: Default + Drop, N: ArrayLength<T>, M: ArrayLength<T>>(
     let _ = items.next_back();
     let count = items.len();
     list.take_from(&mut items, count);
-}
-
-/// As many items of an array as there is room for.
-fn with_some<T: Default + Drop, N: ArrayLength<T>, M: ArrayLength<T>>(
-    list: &mut ArrayBuilder<T, N>,
-    array: GenericArray<T, M>,
-)
-    ensures { list.new ≡ list.old ++ take (N.USIZE - length list.old) array }
-{
-    list.extend(&mut array.into_iter());
 }
 
 /// The sum of the items up to each place.

@@ -1,7 +1,7 @@
 //! A list with room for `N` items, kept inline: a builder that is never finished.
 ghost use Rattle.ga_core.specs.Fill.{TakeRuns};
 ghost use Rattle.ga_core.specs.Length.{FitsInline};
-ghost use Rattle.std.specs.Prelude.{◌≡◌, ◌-◌, ◌<◌, ◌≤◌, ◌↔◌, ◌++◌, ◌∷◌, [], IfErr, IfNone, IfSome, IsOk, IsSome, OnOk, drop, length, slice_get, take};
+ghost use Rattle.std.specs.Prelude.{◌≡◌, ◌-◌, ◌<◌, ◌≤◌, ◌++◌, ◌∷◌, [], drop, length, slice_get, take};
 
 use ga_core::{ArrayBuilder, ArrayLength};
 use std::marker::Model;
@@ -28,19 +28,6 @@ impl<T: Default + Drop, N: ArrayLength<T>> FixedList<T, N> {
         FixedList { items }
     }
 
-    // Appends the item, or returns it where there is no room.
-    fn push(&mut self, item: T) -> Result<(), T>
-        ensures variant { IsOk result ↔ (length self.old < N.USIZE) }
-        ensures ok { OnOk result (self.new ≡ self.old ++ item ∷ []) }
-        ensures err { IfErr result (λ refused. (refused ≡ item) × (self.new ≡ self.old)) }
-    {
-        if self.items.is_full() {
-            return Err(item);
-        }
-        self.items.push(item);
-        Ok(())
-    }
-
     // Appends the item. Requires that there is room.
     fn push_back(&mut self, item: T)
         requires room { length self.old < N.USIZE }
@@ -57,15 +44,6 @@ impl<T: Default + Drop, N: ArrayLength<T>> FixedList<T, N> {
             self.new ≡ self.old ++ taken) }
     {
         self.items.extend(items);
-    }
-
-    fn pop(&mut self) -> Option<T>
-        ensures variant { IsSome result ↔ (0 < length self.old) }
-        ensures some { IfSome result (λ item. self.old ≡ self.new ++ item ∷ []) }
-        ensures none { IfNone result (self.new ≡ self.old) }
-        ensures bound { length self.old ≤ N.USIZE }
-    {
-        self.items.pop()
     }
 
     fn pop_front(&mut self) -> Option<T>

@@ -1,9 +1,9 @@
 //! A trait of one's own over arrays of a length that each impl chooses, whose calls take them by
 //! value.
 ghost use Rattle.ga_core.specs.Views.{items_of_view};
-ghost use Rattle.std.specs.Prelude.{◌≡◌, ℕ, ◌/◌, ◌++◌, ◌∷◌, [], List, drop, take};
+ghost use Rattle.std.specs.Prelude.{◌≡◌, ℕ, ◌/◌, ◌++◌, List, drop, take};
 
-use ga_core::{ArrayLength, GenericArray, GenericArrayRef, InlineLength, U4, Unsigned};
+use ga_core::{ArrayLength, GenericArray, GenericArrayRef, InlineLength, Unsigned};
 use std::marker::PhantomData;
 
 /// Turns blocks of one length.
@@ -56,11 +56,4 @@ fn turned_twice<T: Turner>(block: GenericArray<u8, T::Size>) -> GenericArray<u8,
     ensures { result ≡ T.turned (T.turned block) }
 {
     T::turn(T::turned_copy(block.view()))
-}
-
-fn there_and_back(block: GenericArray<u8, U4>) -> GenericArray<u8, U4>
-    requires { block ≡ 1 ∷ 2 ∷ 3 ∷ 4 ∷ [] }
-    ensures { result ≡ block }
-{
-    turned_twice::<Swap<U4>>(block)
 }

@@ -1,7 +1,7 @@
 //! Parts of arrays that are written, of a field too.
 ghost use Rattle.std.specs.Prelude.{◌≡◌, ◌++◌, ◌≤◌, ◌+◌, ◌-◌, drop, length, replicate, take};
 
-use ga_core::{ArrayLength, GenericArray, InlineLength, U2, U4};
+use ga_core::{ArrayLength, GenericArray, InlineLength};
 use std::marker::Model;
 
 fn front_set<N: ArrayLength<u8>>(array: &mut GenericArray<u8, N>, bytes: &[u8])
@@ -9,13 +9,6 @@ fn front_set<N: ArrayLength<u8>>(array: &mut GenericArray<u8, N>, bytes: &[u8])
     ensures { array.new ≡ bytes.now ++ drop (length bytes.now) array.old }
 {
     array[0..bytes.len()].copy_from_slice(bytes);
-}
-
-/// An array where a slice is wanted.
-fn front_half_set(array: &mut GenericArray<u8, U4>, half: &GenericArray<u8, U2>)
-    ensures { array.new ≡ half.now ++ drop 2 array.old }
-{
-    front_set(array, half);
 }
 
 #[derive(Drop)]

@@ -1,18 +1,8 @@
 //! Rows of a slice written over, of any width: one, and each in a loop.
 ghost use Rattle.ga_core.specs.Rows.{chunk_count, chunk_rest, rows};
-ghost use Rattle.std.specs.Prelude.{◌≡◌, ◌*◌, ◌<◌, length, map, replicate, reverse, slice_set};
+ghost use Rattle.std.specs.Prelude.{◌≡◌, ◌*◌, ◌<◌, length, map, reverse};
 
 use ga_core::{ChunksMut, U0, U3, Unsigned};
-
-fn blank<N: Unsigned>(bytes: &mut [u8], index: usize)
-    requires whole { length bytes.old ≡ chunk_count N.USIZE bytes.old * N.USIZE }
-    requires in_bounds { index < chunk_count N.USIZE bytes.old }
-    ensures { rows N.USIZE bytes.new
-        ≡ slice_set (rows N.USIZE bytes.old) index (replicate N.USIZE 0) }
-{
-    let mut rows = ChunksMut::<u8, N>::over(bytes);
-    rows.row_mut(index).fill(0);
-}
 
 /// Turns each row round, of as many items as whole rows have.
 fn rows_turned<N: Unsigned>(slice: &mut [u8])

@@ -1,6 +1,6 @@
 //! Arrays as slices: the methods of slices, ranges, and loops over references.
-ghost use Rattle.std.specs.List.{sum_by, zip};
-ghost use Rattle.std.specs.Prelude.{◌≡◌, ℕ, ◌-◌, ◌*◌, ◌<◌, ◌≤◌, ◌^◌, [], drop, length, reverse, slice_index, slice_index_or, sum, take};
+ghost use Rattle.std.specs.List.{sum_by};
+ghost use Rattle.std.specs.Prelude.{◌≡◌, ℕ, ◌-◌, ◌*◌, ◌<◌, ◌≤◌, ◌^◌, [], length, slice_index, slice_index_or, sum, take};
 
 use ga_core::{ArrayLength, GenericArray, Len, U3};
 
@@ -10,13 +10,6 @@ fn last_of<N: ArrayLength<u32>>(numbers: &GenericArray<u32, N>) -> u32
     ensures { result ≡ slice_index numbers.now (N.USIZE - 1) }
 {
     numbers[numbers.len() - 1]
-}
-
-fn behind_first<N: ArrayLength<u8>>(array: &GenericArray<u8, N>) -> &[u8]
-    requires { 1 ≤ N.USIZE }
-    ensures { result.now ≡ drop 1 array.now }
-{
-    &array[1..]
 }
 
 fn sum_of_references<N: ArrayLength<u8>>(array: &GenericArray<u8, N>) -> u64
@@ -43,17 +36,6 @@ fn sum_of_first<N: ArrayLength<u16>>(row: &GenericArray<u16, N>, count: usize) -
     sum_of(&row[0..count])
 }
 
-/// The sum of the products in the same place.
-fn weighed_sum(left: &[u16], right: &[u16]) -> u64
-    requires { length left.now ≤ 65536 }
-    ensures { result ≡ sum_by (λ p. p.0 * p.1) (zip left.now right.now) }
-{
-    left.iter()
-        .zip(right.iter())
-        .map(|(x, y)| u64::from(*x) * u64::from(*y))
-        .sum()
-}
-
 fn sum_of_squares(readings: &[u16]) -> u64
     requires { length readings.now ≤ 65536 }
     ensures { result ≡ sum_by (λ x. x * x) readings.now }
@@ -65,12 +47,6 @@ fn energy_of<N: ArrayLength<u16>>(window: &GenericArray<u16, N>) -> u64
     ensures { result ≡ sum_by (λ x. x * x) window.now }
 {
     sum_of_squares(window.as_slice())
-}
-
-fn turned_round<N: ArrayLength<u8>>(array: &mut GenericArray<u8, N>)
-    ensures { array.new ≡ reverse array.old }
-{
-    array.reverse();
 }
 
 /// Looks at each array of a slice, so that a proof knows of each that it has N items.

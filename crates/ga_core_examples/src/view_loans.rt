@@ -1,11 +1,10 @@
 //! Views as slices, and what a proof follows through the views that write.
 ghost use Rattle.ga_core.specs.Views.{items_of_view};
-ghost use Rattle.std.specs.Prelude.{◌≡◌, ◌-◌, ◌∷◌, [], ◌<◌, ◌≤◌, ◌↔◌, IsOk, Some, length, replicate, slice_get, slice_set};
+ghost use Rattle.std.specs.Prelude.{◌≡◌, ◌-◌, ◌∷◌, [], ◌<◌, ◌≤◌, ◌↔◌, IsOk, Some, length, slice_get, slice_set};
 
 use ga_core::reborrow::{ReborrowPart, ReborrowSlice};
 use ga_core::{
-    ArrayLength, ChunksMut, GenericArray, GenericArrayMut, GenericArrayRef, LengthError, U2,
-    Unsigned, ViewMut,
+    ChunksMut, GenericArray, GenericArrayMut, GenericArrayRef, LengthError, U2, Unsigned, ViewMut,
 };
 use std::marker::PhantomData;
 
@@ -14,13 +13,6 @@ fn last_of<N: Unsigned>(view: GenericArrayRef<'_, u8, N>) -> u8
     ensures { slice_get (items_of_view view.entry) (N.USIZE - 1) ≡ Some result }
 {
     view[view.len() - 1]
-}
-
-fn array_filled<N: ArrayLength<u8>>(array: &mut GenericArray<u8, N>)
-    ensures { array.new ≡ replicate N.USIZE 7 }
-{
-    let mut view = array.view_mut();
-    view.fill(7);
 }
 
 // A function over any view that writes, called of an array's.
@@ -110,6 +102,4 @@ fn what_views_write_stands_in_their_slice(rt: HostRuntime) {
     first_of_array_set(&mut array);
     array_set_through_a_literal(&mut array);
     assert!(rt; array.as_slice() == [6, 6].as_slice());
-    array_filled(&mut array);
-    assert!(rt; array.as_slice() == [7, 7].as_slice());
 }

@@ -5,7 +5,6 @@ ghost use Rattle.std.specs.Prelude.{◌≡◌, ◌∷◌, [], ◌↔◌, IfOk, I
 use ga_core::{
     Const, GenericArray, GenericArrayMut, GenericArrayRef, LengthError, U2, U3, Unsigned,
 };
-use std::alloc::AllocError;
 
 fn second_got(slice: &mut [u8])
     requires { length slice.old ≡ 2 }
@@ -57,14 +56,6 @@ fn are_three_for_writing(slice: &mut [u8]) -> bool
     ensures { IsTrue result ↔ (length slice.old ≡ 3) }
 {
     GenericArray::<u8, U3>::try_from_mut_slice(slice).is_ok()
-}
-
-fn shown_by_a_clone<'a>(view: &GenericArrayRef<'a, u8, U2>) -> Result<&'a [u8], AllocError>
-    ensures succeeds { IsOk result }
-    ensures items { IfOk result (λ items. items.now ≡ items_of_view view.now) }
-{
-    let copy = view.clone()?;
-    Ok(copy.into_slice())
 }
 
 fn greatest_of<N: Unsigned>(row: GenericArrayRef<'_, u32, N>) -> u32

@@ -5,17 +5,17 @@ ghost use Rattle.ga_core_examples.specs.Digits.{digit_of};
 ghost use Rattle.generic_array.specs.Views.{items_of_view};
 ghost use Rattle.std.specs.Int.Bits.{bit_xor};
 ghost use Rattle.std.specs.List.{range_with_len, zip};
-ghost use Rattle.std.specs.Prelude.{◌≡◌, ℕ, ◌+◌, ◌*◌, ◌%◌, ◌^◌, ◌<◌, IfOk, Ok, fold, length, map, reverse, sum};
+ghost use Rattle.std.specs.Prelude.{◌≡◌, ℕ, ◌+◌, ◌*◌, ◌%◌, ◌^◌, ◌<◌, IfOk, fold, map, reverse, sum};
 
 use ga_core_examples::digits::digit_in;
 use generic_array::checks::total_by;
 use generic_array::functional::{
     FunctionalSequence, MappedError, MappedGenericSequence, MappedPlace, MappedSequence, MapsInline,
 };
-use generic_array::sequence::{FromFallibleIterator, GenericSequence};
+use generic_array::sequence::GenericSequence;
 use generic_array::{
-    AllocError, ArrayLength, BorrowedItems, BoxedArray, FillError, GenericArray, GenericArrayRef,
-    InlineLength, Unsigned, always,
+    AllocError, ArrayLength, BorrowedItems, BoxedArray, GenericArray, GenericArrayRef, Unsigned,
+    always,
 };
 use std::alloc::Global;
 
@@ -31,16 +31,6 @@ fn masked_view<N: ArrayLength<u8>>(key: GenericArrayRef<'_, u8, N>, mask: u8) ->
     ensures { result ≡ map (λ b. bit_xor b mask) (items_of_view key.entry) }
 {
     always(key.map((), |b: &u8| *b ^ mask))
-}
-
-fn masked_boxed<N: Unsigned>(
-    alloc: Global,
-    key: BoxedArray<u8, N>,
-    mask: u8,
-) -> Result<BoxedArray<u8, N>, AllocError>
-    ensures { IfOk result (λ made. made ≡ map (λ b. bit_xor b mask) key) }
-{
-    key.map(alloc, |b: u8| b ^ mask)
 }
 
 // The same over the traits alone: where entries are the items, and where they may be references.
@@ -82,17 +72,6 @@ where
     always(sums.map((), |sum: u32| sum.wrapping_add(1)))
 }
 
-// The same of an inline and a boxed array.
-fn one_more_than_sums_of_both<N: ArrayLength<u32> + InlineLength>(
-    left: GenericArray<u32, N>,
-    right: BoxedArray<u32, N>,
-) -> GenericArray<u32, N>
-    ensures { result ≡ map (λ sum. (sum + 1) % 2 ^ 32)
-        (map (λ p. (p.0 + p.1) % 2 ^ 32) (zip left right)) }
-{
-    one_more_than_sums(left, right)
-}
-
 fn checksum_of_any<S: GenericSequence<u8>>(bytes: &S) -> u8
     ensures { result ≡ fold (λ total b. (total + b) % 2 ^ 8) 0 (S.items bytes.now) }
 {
@@ -112,32 +91,7 @@ fn place_sums<N: ArrayLength<u32>>(
     left.zip_inline_ref(right, |l: &u32, r: &u32| l.wrapping_add(*r))
 }
 
-fn scaled_sums<N: ArrayLength<u32>>(
-    alloc: Global,
-    left: BoxedArray<u32, N>,
-    right: GenericArray<u32, N>,
-    scale: u32,
-) -> Result<BoxedArray<u32, N>, AllocError>
-    ensures { IfOk result (λ made.
-        made ≡ map (λ p. (p.0 + p.1 * scale % 2 ^ 32) % 2 ^ 32) (zip left right)) }
-{
-    left.zip(
-        alloc,
-        right,
-        |l: u32, r: u32| l.wrapping_add(r.wrapping_mul(scale)),
-    )
-}
-
-// The value of a polynomial at x, with the highest coefficient first, and last.
-
-fn value_from_highest<N: Unsigned>(coefficients: BoxedArray<u32, N>, x: u32) -> u32
-    ensures { result ≡ fold (λ value c. (value * x % 2 ^ 32 + c) % 2 ^ 32) 0 coefficients }
-{
-    coefficients.into_iter().fold(
-        0,
-        |value: u32, c: u32| value.wrapping_mul(x).wrapping_add(c),
-    )
-}
+// The value of a polynomial at x, with the highest coefficient last.
 
 fn value_from_lowest<N: Unsigned>(coefficients: BoxedArray<u32, N>, x: u32) -> u32
     ensures { result ≡ fold (λ value c. (value * x % 2 ^ 32 + c) % 2 ^ 32) 0
@@ -179,22 +133,3 @@ fn digits_of_view<N: ArrayLength<u8>>(
 {
     always(text.try_map((), |byte: &u8| digit_in(base, *byte)))
 }
-
-/// The digits of a text, of any kind that has room for just these.
-fn digits_of_text<S: FromFallibleIterator<u8>>(
-    place: S::Place,
-    text: &[u8],
-    base: u8,
-) -> Result<S, FillError<u8, S::Error>>
-    requires fits { S.Fits }
-    ensures len { IfOk result (λ made. length text.now ≡ S.Length.USIZE) }
-    ensures digits { IfOk result (λ made.
-        try_map (λ digit. digit) (map (digit_of base) text.now) ≡ Ok (S.items made)) }
-{
-    S::from_fallible_iter(
-        place,
-        text.iter().copied().map(|byte: u8| digit_in(base, byte)),
-    )
-}
-
-// A number's bytes behind zeros, as a field of fixed width has them.

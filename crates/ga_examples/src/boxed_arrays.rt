@@ -1,19 +1,9 @@
-//! Boxed arrays: builds, writes and walks, and threads.
-ghost use Rattle.std.specs.Prelude.{◌≡◌, ℕ, ◌+◌, ◌∷◌, [], ◌^◌, ◌<◌, ◌⊎◌, IfErr, IfOk, IsOk, Ok, OnOk, drop, length, reverse, slice_get, slice_set, sum};
+//! Boxed arrays: builds, writes and walks.
+ghost use Rattle.std.specs.Prelude.{◌≡◌, ℕ, ◌+◌, ◌∷◌, [], ◌<◌, ◌⊎◌, IfErr, IfOk, IsOk, OnOk, drop, length, reverse, slice_get, slice_set};
 
 use ga_core_examples::digits::decimal_digit;
-use generic_array::{
-    AllocError, BoxedArray, BoxedArrayIter, FillError, LengthError, LiveBlock, U0, U2, U3, U4,
-    Unsigned,
-};
+use generic_array::{AllocError, BoxedArray, FillError, LengthError, U2, U3, U4, Unsigned};
 use std::alloc::Global;
-use std::marker::{Send, Sync};
-
-fn none(alloc: Global) -> Result<BoxedArray<usize, U0>, AllocError>
-    ensures { result ≡ Ok [] }
-{
-    BoxedArray::generate(alloc, |index| index)
-}
 
 fn calls_made(alloc: Global) -> u32
     ensures { (result ≡ 0) ⊎ (result ≡ 3) }
@@ -100,13 +90,6 @@ fn items_counted<N: Unsigned>(array: &BoxedArray<u8, N>) -> (usize, usize)
     (array.len(), array.iter().count())
 }
 
-fn sum_of_references<N: Unsigned>(array: &BoxedArray<u8, N>) -> u64
-    requires bound { sum array.now < 2 ^ 64 }
-    ensures { result ≡ sum array.now }
-{
-    array.into_iter().map(|item: &u8| u64::from(*item)).sum()
-}
-
 /// The item behind so many others, and how many are left behind it.
 fn item_behind<N: Unsigned>(array: BoxedArray<u8, N>, count: usize) -> (Option<u8>, usize)
     ensures item { result.0 ≡ slice_get array count }
@@ -125,25 +108,4 @@ fn reversed<N: Unsigned>(
     ensures items { IfOk result (λ built. IfOk built (λ turned. turned ≡ reverse array)) }
 {
     BoxedArray::try_boxed_from_iter(alloc, array.into_iter().rev())
-}
-
-/// What may go to another thread.
-fn sent<A: Send>(value: A) -> A
-    ensures { result ≡ value }
-{
-    value
-}
-
-/// What threads may share.
-fn shared<A: Sync>(_value: &A) {}
-
-fn all_sent<T: Send + Sync, N: Unsigned + Send + Sync>(
-    array: BoxedArray<T, N>,
-    items: BoxedArrayIter<T>,
-    block: LiveBlock<T>,
-) -> (BoxedArray<T, N>, BoxedArrayIter<T>, LiveBlock<T>)
-    ensures { result ≡ (array, items, block) }
-{
-    shared(&array);
-    (sent(array), sent(items), sent(block))
 }

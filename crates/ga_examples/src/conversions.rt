@@ -1,18 +1,11 @@
-//! Conversions by the traits of std, and types with a length.
+//! Conversions by the traits of std, and a header of two arrays.
 ghost use Rattle.std.specs.Prelude.{◌≡◌, ◌↔◌, IfOk, IsOk, Ok, drop, length, take};
 
 use generic_array::sequence::{Concat, Split};
 use generic_array::{
-    AllocError, ArrayLength, BoxedArray, GenericArray, InlineLength, LengthError, U2, U3, U4, U6,
+    AllocError, ArrayLength, BoxedArray, GenericArray, InlineLength, LengthError, U2, U4, U6,
 };
 use std::alloc::Global;
-
-fn through_a_native_array(array: GenericArray<u8, U3>) -> GenericArray<u8, U3>
-    ensures { result ≡ array }
-{
-    let items: [u8; 3] = array.into();
-    GenericArray::from(items)
-}
 
 fn from_vector<N: ArrayLength<u8> + InlineLength>(
     items: Vec<u8>,
@@ -50,29 +43,7 @@ fn boxed_through_a_vector<N: ArrayLength<u32>>(
     BoxedArray::try_from_boxed_slice(alloc, boxed.into_boxed_slice()?)
 }
 
-// `?` makes std's error of the library's.
-fn vector_as_in_std<N: ArrayLength<u32>>(
-    alloc: Global,
-    array: GenericArray<u32, N>,
-) -> Result<Vec<u32>, std::alloc::AllocError>
-    ensures { IfOk result (λ items. items.items ≡ array) }
-{
-    Ok(array.into_vec(alloc)?)
-}
-
 // A type with a length as its parameter, with derives.
-
-#[derive(Clone, Copy, Debug, Default, PartialEq, Eq, Hash)]
-struct Numbered<N> {
-    of: N,
-    number: u8,
-}
-
-#[test]
-fn a_type_with_a_length_has_derives(rt: HostRuntime) {
-    let of = U3::default();
-    assert!(rt; Numbered::<U3>::default() == Numbered { of, number: 0 });
-}
 
 // A header that is made by `concat`, and read by `split`.
 

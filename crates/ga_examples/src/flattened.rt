@@ -2,7 +2,7 @@
 ghost use Rattle.generic_array.specs.Length.{FitsInline};
 ghost use Rattle.generic_array.specs.Rows.{rows};
 ghost use Rattle.std.specs.Int.{cast_signed, from_be_bytes, w16};
-ghost use Rattle.std.specs.List.{flat_map, zip};
+ghost use Rattle.std.specs.List.{flat_map};
 ghost use Rattle.std.specs.Prelude.{◌≡◌, ◌*◌, ◌/◌, ◌%◌, ◌↔◌, ◌∷◌, [], IfOk, IsOk, length, map};
 
 use generic_array::sequence::{Flatten, Unflatten};
@@ -20,22 +20,6 @@ fn halves_of<N: ArrayLength<u8> + ArrayLength<GenericArray<u8, U2>>, M: ArrayLen
         byte / 16,
         byte % 16
     ]);
-    pairs.flatten()
-}
-
-/// The samples of two channels in turn.
-fn interleaved<N: ArrayLength<i16> + ArrayLength<GenericArray<i16, U2>>, M: ArrayLength<i16>>(
-    left: GenericArray<i16, N>,
-    right: GenericArray<i16, N>,
-) -> GenericArray<i16, M>
-    requires fits { FitsInline M.USIZE }
-    requires twice { M.USIZE ≡ N.USIZE * 2 }
-    ensures { result ≡ flat_map (λ p. p.0 ∷ p.1 ∷ []) (zip left right) }
-{
-    let pairs: GenericArray<GenericArray<i16, U2>, N> = left.zip_inline(
-        right,
-        |l: i16, r: i16| arr![l, r],
-    );
     pairs.flatten()
 }
 

@@ -1,6 +1,6 @@
 //! Functions that know the traits alone.
 ghost use Rattle.std.specs.List.{range_with_len};
-ghost use Rattle.std.specs.Prelude.{◌≡◌, ℕ, ◌+◌, ◌<◌, ◌⊎◌, IfOk, IsOk, OnOk, length, map, refl, replicate};
+ghost use Rattle.std.specs.Prelude.{◌≡◌, ℕ, ◌<◌, ◌⊎◌, IfOk, IsOk, OnOk, length, map, refl, replicate};
 
 use ga_core_examples::digits::decimal_digit;
 use generic_array::sequence::{FromFallibleIterator, GenericSequence, Lengthen, Shorten};
@@ -49,15 +49,6 @@ fn popped_and_appended<T, S: ShortenAndLengthen<T, L>, L: Lengthen<T, S>>(sequen
 {
     let (others, last) = sequence.pop_back();
     others.append(last)
-}
-
-fn popped_and_appended_at_any_length<T: Default + Drop, N: ArrayLength<T>, M: ArrayLength<T>>(
-    array: GenericArray<T, N>,
-) -> GenericArray<T, N>
-    requires { N.USIZE ≡ M.USIZE + 1 }
-    ensures { result ≡ array }
-{
-    popped_and_appended::<T, GenericArray<T, N>, GenericArray<T, M>>(array)
 }
 
 /// The digits that the bytes stand for, or why there are none. The iterator is borrowed.

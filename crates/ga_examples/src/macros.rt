@@ -45,21 +45,3 @@ fn boxed_evaluated_in_order(alloc: Global) -> (Result<BoxedArray<u32, U2>, Alloc
     let array = box_arr!(counted!(number, alloc), [next!(number), next!(number),,]);
     (array, number)
 }
-
-fn boxed_evaluated_once(alloc: Global) -> (Result<BoxedArray<u32, U3>, AllocError>, u32)
-    ensures array { IfOk result.0 (λ array. array ≡ replicate 3 2) }
-    ensures count { result.1 ≡ 2 }
-{
-    let mut number = 0u32;
-    let array = box_arr!(counted!(number, alloc), [next!(number); U3]);
-    (array, number)
-}
-
-fn boxed_number_evaluated_once(alloc: Global) -> (Result<BoxedArray<u32, U3>, AllocError>, u32)
-    ensures array { IfOk result.0 (λ array. array ≡ replicate 3 2) }
-    ensures count { result.1 ≡ 2 }
-{
-    let mut number = 0u32;
-    let array = box_arr!(counted!(number, alloc), [next!(number); 3]);
-    (array, number)
-}

@@ -1,6 +1,6 @@
 //! Callers of runs of steps, each proved: known steps over any iterator with two ends.
 ghost use Rattle.generic_array.specs.declared.steps.step.Reply.TheVariants.{Item, Old, Outside};
-ghost use Rattle.std.specs.Prelude.{◌≡◌, ◌^◌, ◌<◌, [], ◌∷◌, ◌++◌, IfOk, OnOk, Some, length, sum};
+ghost use Rattle.std.specs.Prelude.{◌≡◌, ◌^◌, ◌<◌, [], ◌∷◌, ◌++◌, OnOk, Some, length, sum};
 
 mod any_steps;
 
@@ -42,29 +42,6 @@ fn taken_and_replaced<I: TwoEnded<u32>>(
         Step::NextBack,
     ]?;
     run_steps(numbers, steps, &mut total, replies)
-}
-
-/// How often a closure that counts its calls was called.
-fn looks_counted<I: TwoEnded<u32>>(
-    alloc: Global,
-    numbers: &mut I,
-    replies: &mut Vec<Reply<u32, usize>>,
-) -> Result<usize, AllocError>
-    requires three { I.items numbers.old ≡ 1 ∷ 2 ∷ 3 ∷ [] }
-    ensures looks { IfOk result (λ looks. looks ≡ 2) }
-{
-    let steps = vec![in alloc; Step::Look, Step::Next, Step::Look]?;
-    let mut looks = 0usize;
-    run_steps(
-        numbers,
-        steps,
-        &mut |live: &[u32]| -> usize {
-            looks = looks.wrapping_add(1);
-            live.len()
-        },
-        replies,
-    )?;
-    Ok(looks)
 }
 
 #[test]

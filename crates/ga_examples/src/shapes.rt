@@ -1,37 +1,15 @@
 //! Callers of the shapes, with the items that they get.
-ghost use Rattle.generic_array.specs.Views.{items_of_view};
 ghost use Rattle.std.specs.List.{flat_map};
 ghost use Rattle.std.specs.Prelude.{◌≡◌, ◌∷◌, [], IfOk};
 
 use generic_array::sequence::{Remove, Split, iter_flat};
-use generic_array::{
-    GenericArray, GenericArrayMut, GenericArrayRef, LengthError, U1, U2, U3, U4, U5,
-};
+use generic_array::{GenericArray, GenericArrayMut, LengthError, U1, U2, U3, U4, U5};
 
 /// Two rows of two.
 type Square = GenericArray<GenericArray<u32, U2>, U2>;
 
 /// The first item of three, and the others.
-type Cut<'a> = (GenericArrayRef<'a, u32, U1>, GenericArrayRef<'a, u32, U2>);
-
-/// These for writing.
 type CutMut<'a> = (GenericArrayMut<'a, u32, U1>, GenericArrayMut<'a, u32, U2>);
-
-fn view_cut_after_the_first<'a>(view: GenericArrayRef<'a, u32, U3>) -> Cut<'a>
-    requires { items_of_view view ≡ 1 ∷ 2 ∷ 3 ∷ [] }
-    ensures first { items_of_view result.0 ≡ 1 ∷ [] }
-    ensures second { items_of_view result.1 ≡ 2 ∷ 3 ∷ [] }
-{
-    view.split()
-}
-
-fn reference_cut_after_the_first<'a>(array: &'a GenericArray<u32, U3>) -> Cut<'a>
-    requires { array.now ≡ 1 ∷ 2 ∷ 3 ∷ [] }
-    ensures first { items_of_view result.0 ≡ 1 ∷ [] }
-    ensures second { items_of_view result.1 ≡ 2 ∷ 3 ∷ [] }
-{
-    array.split()
-}
 
 fn writing_view_cut_after_the_first<'a>(view: GenericArrayMut<'a, u32, U3>) -> CutMut<'a>
     requires { view.slice.now ≡ 1 ∷ 2 ∷ 3 ∷ [] }
@@ -39,14 +17,6 @@ fn writing_view_cut_after_the_first<'a>(view: GenericArrayMut<'a, u32, U3>) -> C
     ensures second { result.1.slice.now ≡ 2 ∷ 3 ∷ [] }
 {
     view.split()
-}
-
-fn writing_view_of_an_array_cut<'a>(array: &'a mut GenericArray<u32, U3>) -> CutMut<'a>
-    requires { array.old ≡ 1 ∷ 2 ∷ 3 ∷ [] }
-    ensures first { result.0.slice.now ≡ 1 ∷ [] }
-    ensures second { result.1.slice.now ≡ 2 ∷ 3 ∷ [] }
-{
-    array.view_mut().split()
 }
 
 /// A proof learns what both halves write where it follows the slice, and each half is made a view.

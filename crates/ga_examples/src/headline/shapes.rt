@@ -1,5 +1,4 @@
 //! Shapes and their inverses, at any lengths and items.
-ghost use Rattle.generic_array.specs.Length.{FitsInline};
 ghost use Rattle.generic_array.specs.Views.{items_of_view};
 ghost use Rattle.std.specs.Prelude.{◌≡◌, ◌+◌, ◌*◌, ◌<◌, ◌++◌, List, length};
 
@@ -32,27 +31,6 @@ where
         array,
         |rows| rows.as_slice().len(),
     )
-}
-
-// Rows joined and cut again. The checker doesn't cover a call of this: the test below names the
-// lengths.
-fn joined_and_cut<
-    T: Default + Drop,
-    N: ArrayLength<T>,
-    W: ArrayLength<T>,
-    R: ArrayLength<GenericArray<T, W>>,
->(rows: GenericArray<GenericArray<T, W>, R>) -> GenericArray<GenericArray<T, W>, R>
-where
-    GenericArray<T, W>: Default,
-    requires area { N.USIZE ≡ R.USIZE * W.USIZE }
-    requires width { 0 < W.USIZE }
-    requires fits { FitsInline N.USIZE }
-    ensures { result ≡ rows }
-{
-    flatten_then_unflatten::<T, GenericArray<T, N>, GenericArray<GenericArray<T, W>, R>, _, _>(
-        rows,
-        |_items| (),
-    ).0
 }
 
 // The last M items of a view, told by what the parts joined are.

@@ -1,5 +1,4 @@
 //! Texts and blocks under ciphers, there and back.
-ghost use Rattle.ga_ciphers.specs.Cbc.{cbc_encrypted};
 ghost use Rattle.ga_ciphers.specs.ChaCha20.{chacha20_block, initial_state};
 ghost use Rattle.ga_ciphers.specs.Keystream.{key_bytes, under};
 ghost use Rattle.ga_ciphers.specs.Xtea.{key_words, xtea_encrypted};
@@ -76,20 +75,6 @@ fn blocks_there_and_back<C: BlockCipher>(cipher: &C, blocks: &mut [GenericArray<
 {
     cipher.encrypt_blocks(blocks);
     cipher.decrypt_blocks(blocks);
-}
-
-/// Encrypts a text from a vector on, which stays for the reader.
-fn chained_from<C: BlockCipher>(
-    cipher: &C,
-    vector: &GenericArray<u8, C::BlockSize>,
-    text: &mut [u8],
-)
-    requires whole { length text.old % C.BlockSize.USIZE ≡ 0 }
-    ensures { text.new
-        ≡ cbc_encrypted (C.encrypted cipher.now) C.BlockSize.USIZE vector.now text.old }
-{
-    let mut before = GenericArray::from_view(vector.view());
-    encrypt_blocks(cipher, &mut before, text);
 }
 
 /// Encrypts a text and decrypts it from the same first vector: it is what it was.
