@@ -3,18 +3,10 @@ ghost use Rattle.ga_core.specs.HexText.{hex_digits};
 ghost use Rattle.std.specs.Io.KnownBytes.{Appends};
 ghost use Rattle.std.specs.Prelude.{◌≡◌, ◌++◌, IfOk, OnOk, codes, false, string_bytes, take, true};
 
-use ga_core::hex_text::write_hex;
 use ga_core::{ArrayLength, GenericArray, U3};
 use std::alloc::{AllocError, Allocator};
 use std::io;
 use std::io::Write;
-
-#[tactic(auto, unfolding(hex::specs::Hex::encode_with))]
-fn three_digits_written<W: Write>(w: &mut W) -> Result<(), io::Error>
-    ensures { OnOk result (Appends (W.contents w.old) (W.contents w.new) (codes "0a1")) }
-{
-    write_hex(&[10, 20, 30], false, Some(3), w)
-}
 
 /// Writes the bytes as hex text in upper case.
 pub fn upper_digits_written<N: ArrayLength<u8>, W: Write>(

@@ -77,13 +77,6 @@ fn second_place_set(array: &mut BoxedArray<u8, U2>)
     array.as_mut_slice()[1] = 6;
 }
 
-fn item_set<N: Unsigned>(array: &mut BoxedArray<u8, N>, index: usize)
-    requires { index < N.USIZE }
-    ensures { array.new ≡ slice_set array.old index 9 }
-{
-    array[index] = 9;
-}
-
 fn items_counted<N: Unsigned>(array: &BoxedArray<u8, N>) -> (usize, usize)
     ensures { result ≡ (N.USIZE, N.USIZE) }
 {
