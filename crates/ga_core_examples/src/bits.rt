@@ -1,9 +1,9 @@
-//! Bits: packed beside each other, and asked for by a mask. The set `bits` stands at the head of the
-//! module.
+//! Bits: packed beside each other, asked for by a mask, and taken apart again. The set `bits` stands
+//! at the head of the module.
 #![tactic(auto, using(ga_core::proofs::BitLemmas::bits))]
 
 ghost use Rattle.std.specs.Int.{bit_at};
-ghost use Rattle.std.specs.Prelude.{◌≡◌, ◌+◌, ◌*◌, ◌/◌, ◌%◌, ◌<◌, ◌^◌, ◌↔◌, ◌∷◌, [], All, IsTrue, fold, if◌then◌else◌};
+ghost use Rattle.std.specs.Prelude.{◌≡◌, ◌+◌, ◌*◌, ◌/◌, ◌%◌, ◌<◌, ◌^◌, ◌↔◌, ◌∷◌, [], All, IsTrue, fold, if◌then◌else◌, slice_index};
 
 use ga_core::{GenericArray, U2, U4};
 
@@ -56,4 +56,23 @@ fn fragment_bytes(fragment: Fragment) -> GenericArray<u8, U2>
     let high = (fragment.offset >> 8) as u8;
     let flags = u8::from(fragment.alone) << 6 | u8::from(fragment.more) << 5;
     GenericArray::from_array([flags | high, (fragment.offset & 255) as u8])
+}
+
+fn fragment_of(bytes: &GenericArray<u8, U2>) -> Fragment
+    ensures alone { IsTrue result.alone ↔ (slice_index bytes.now 0 / 64 % 2 ≡ 1) }
+    ensures more { IsTrue result.more ↔ (slice_index bytes.now 0 / 32 % 2 ≡ 1) }
+    ensures offset { result.offset ≡ slice_index bytes.now 0 % 32 * 256 + slice_index bytes.now 1 }
+{
+    Fragment {
+        alone: bytes[0] & 64 != 0,
+        more: bytes[0] & 32 != 0,
+        offset: u16::from(bytes[0] & 31) << 8 | u16::from(bytes[1]),
+    }
+}
+
+fn fragment_there_and_back(fragment: Fragment) -> Fragment
+    requires { fragment.offset < 2 ^ 13 }
+    ensures { result ≡ fragment }
+{
+    fragment_of(&fragment_bytes(fragment))
 }
