@@ -20,6 +20,8 @@ from text import use_line
 
 CRATE, MEND = "walls", "_mend"
 LINE = f"{CRATE}: generic_array ga_core ga_boxed ga_views\n"
+# As `tools/start` begins a crate.
+ROOT = "//! Walls.\n#![tactic(auto, using(generic_array::proofs::Everyday::arrays))]\n\n"
 SEEN = re.compile(r"// (says|open): (.*)\n")
 # A line of a check names the module that it is of; one that doesn't is of the module before.
 OF = re.compile(rf"\bsrc/(\w+)\.rt|\b{CRATE}::(\w+)::|\bproofs/(\w+)/")
@@ -50,7 +52,7 @@ def plain(text):
 
 def with_imports(module):
     """A module with the imports that it lacks."""
-    docs, code = re.fullmatch(r"((?://!.*\n)*)([\s\S]*)", module).groups()
+    docs, code = re.fullmatch(r"((?:(?://!|#!\[).*\n)*)([\s\S]*)", module).groups()
     lines, own = [], imports_of("\n".join(re.findall(r"(?m)^(?:ghost )?use .*", code)))
     atoms, names = atoms_of(code), re.findall(r"\w+", code)
     for path, known in IMPORTS.items():
@@ -87,7 +89,7 @@ def check_all(crate, modules):
     printed of each."""
     said, left = {}, dict(modules)
     while left:
-        root = "//! Walls.\n#![tactic(auto)]\n\n" + "".join(f"mod {it};\n" for it in left)
+        root = ROOT + "".join(f"mod {it};\n" for it in left)
         write(crate / "src", {f"{it}.rt": text for it, text in {**left, "lib": root}.items()})
         found = printed(run("rt", "check", cwd=crate)[1], left)
         if any(line.startswith("logic=") for line in found[None]):

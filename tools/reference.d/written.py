@@ -18,7 +18,7 @@ LIST, PAGE = pathlib.Path(__file__).with_name("public.txt"), "PROMISE.md"
 TOLD = (f"{TITLE} Behind a function are the names of its clauses, where it has more than one. "
         "`tools/reference promise` prints the clauses too. `tools/reference --write` writes this "
         "page.")
-TABLE = "function that a document names | what it shows | its proof, where it needs more than code"
+TABLE = "functions that documents name | what they show | the proof, where it needs more than code"
 
 
 def public_types(site):
@@ -46,8 +46,9 @@ def promise_page(names, folder):
 
 
 def with_table(names, readme):
-    """A README with a row for each function of its crate that a document names."""
-    folder = readme.parent
+    """A README with the functions of its crate that documents name: in one row those that show the
+    same."""
+    folder, rows = readme.parent, collections.defaultdict(list)
     yield from readme.read_text("utf-8").partition(TABLE)[0].rstrip().splitlines()
     yield from ("", TABLE, "---|---|---")
     for item in names.samples.of(lambda crate: crate == folder.name):
@@ -56,8 +57,9 @@ def with_table(names, readme):
             name = "::".join(names.path(item)[1:])
             shows = (first_sentence(item) or first_sentence(item.module)).replace("|", r"\|")
             proofs = [f"[{it.stem}]({it.relative_to(folder)})" for it in proofs_of(names, item)]
-            row = f"[`{name}`]({item.file.relative_to(folder)}) | {shows} | {', '.join(proofs)}"
-            yield row.rstrip()
+            rows[shows, ", ".join(proofs)].append(f"[`{name}`]({item.file.relative_to(folder)})")
+    for (shows, proofs), functions in rows.items():
+        yield f"{', '.join(functions)} | {shows} | {proofs}".rstrip()
 
 
 def files(names):

@@ -1,6 +1,5 @@
 -- Messages as bytes and back.
 use Rattle.ga_core_examples.specs.Messages.{message_in}
-use Rattle.ga_core_examples.specs.declared.messages.Message.{Message}
 use Rattle.ga_core_examples.specs.declared.messages.Message.TheVariants.{Put}
 use Rattle.std.proofs.Common.{◌≡◌, ◌<◌, ◌^◌, ◌++◌, ◌∷◌, ℕ, List, Some, arith, length, length-append, refl}
 use Rattle.std.proofs.lemmas.List.{drop_at, take_at}

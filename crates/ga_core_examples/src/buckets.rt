@@ -1,7 +1,7 @@
 //! Lists of at most N items that are arrays: with the number as a parameter, or with the array in a
 //! struct, which has a length type as any item has.
 ghost use Rattle.ga_core.specs.Length.{FitsInline};
-ghost use Rattle.std.specs.Prelude.{◌≡◌, ◌-◌, ◌<◌, ◌↔◌, ◌∷◌, [], Contains, IfSome, IsNone, IsOk, OnErr, OnOk, length, slice_index_or, take};
+ghost use Rattle.std.specs.Prelude.{◌≡◌, ◌-◌, ◌<◌, ◌↔◌, ◌++◌, ◌∷◌, [], Contains, IfNone, IfSome, IsNone, IsOk, IsSome, OnErr, OnOk, length, slice_index_or, take};
 
 use ga_core::{ArrayBuilder, ArrayLength, Const, GenericArray, U20};
 
@@ -34,6 +34,14 @@ impl<const N: usize> Bucket<N> {
         self.ids.insert(0, id);
     }
 
+    fn evict_last(&mut self) -> Option<Id>
+        ensures variant { IsSome result ↔ (0 < length self.old.ids) }
+        ensures some { IfSome result (λ last. self.old.ids ≡ self.new.ids ++ last ∷ []) }
+        ensures none { IfNone result (self.new.ids ≡ self.old.ids) }
+    {
+        self.ids.pop()
+    }
+
     fn position_of(&self, id: &Id) -> Option<usize>
         ensures some { IfSome result (λ index. (index < length self.now.ids)
             × (slice_index_or self.now.ids index [] ≡ id.now)) }
@@ -43,7 +51,7 @@ impl<const N: usize> Bucket<N> {
     }
 }
 
-#[derive(Default, Drop)]
+#[derive(Default, Drop, PartialEq, Eq)]
 struct Node {
     id: Id,
 }
@@ -72,5 +80,14 @@ impl<N: ArrayLength<Node>> Nodes<N> {
         }
         self.nodes.insert(0, node);
         Ok(())
+    }
+
+    // The item that is looked for stands for a default in the clause.
+    fn position_of(&self, node: &Node) -> Option<usize>
+        ensures some { IfSome result (λ index. (index < length self.now.nodes)
+            × (slice_index_or self.now.nodes index node.now ≡ node.now)) }
+        ensures none { IsNone result → ¬ Contains self.now.nodes node.now }
+    {
+        self.nodes.as_slice().iter().position(|other| other == node)
     }
 }

@@ -2,7 +2,7 @@
 ghost use Rattle.ga_core.specs.Rows.{chunk_count, chunk_rest, rows};
 ghost use Rattle.std.specs.Prelude.{◌≡◌, ◌*◌, ◌<◌, length, map, reverse};
 
-use ga_core::{ChunksMut, U0, U3, Unsigned};
+use ga_core::{ChunksMut, Unsigned};
 
 /// Turns each row round, of as many items as whole rows have.
 fn rows_turned<N: Unsigned>(slice: &mut [u8])
@@ -24,12 +24,4 @@ fn whole_rows_turned<N: Unsigned>(slice: &mut [u8])
 {
     let (whole, _) = ChunksMut::<u8, N>::whole_and_rest(slice);
     rows_turned::<N>(whole);
-}
-
-#[test]
-fn each_whole_row_is_turned_round(rt: HostRuntime) {
-    let mut items = [1, 2, 3, 4, 5, 6, 7, 8];
-    whole_rows_turned::<U3>(&mut items);
-    assert!(rt; items == [3, 2, 1, 6, 5, 4, 7, 8]);
-    rows_turned::<U0>(&mut []);
 }

@@ -7,7 +7,7 @@ ghost use Rattle.std.specs.Prelude.{◌≡◌, ◌-◌, ◌/◌, ◌<◌, ◌↔
 
 use ga_core::{
     ArrayBuilder, ArrayLength, ChunksMut, ChunksRef, GenericArray, GenericArrayRef, LengthError,
-    U0, U2, U3, Unsigned,
+    U2, U3, Unsigned,
 };
 
 fn second_row_and_rest(slice: &[u8]) -> (Option<GenericArrayRef<'_, u8, U3>>, &[u8])
@@ -82,30 +82,11 @@ fn last_row<'a, T, N: Unsigned>(
     (row, left.len())
 }
 
-/// Whether there is this row.
-fn is(row: Option<GenericArrayRef<'_, u8, U3>>, items: &[u8]) -> bool {
-    row.is_some_and(|row| row.into_slice() == items)
-}
-
-/// Whether there are two rows, which are these items.
-fn are_two_rows(chunks: ChunksRef<'_, u8, U3>, items: &[u8]) -> bool {
-    chunks.len() == 2
-        && chunks.get(2).is_none()
-        && chunks.as_slice() == items
-        && chunks.into_slice() == items
-}
-
-#[test]
-fn a_slice_is_cut_into_rows_and_a_rest(rt: HostRuntime) {
-    let items = [1, 2, 3, 4, 5, 6, 7];
-    let (row, rest) = second_row_and_rest(&items);
-    assert!(rt; is(row, &[4, 5, 6]) && rest == [7].as_slice());
-    let (chunks, _) = ChunksRef::<u8, U3>::chunks_from_slice(&items);
-    let (last, left) = last_row(&chunks);
-    assert!(rt; is(last, &[4, 5, 6]) && left == 1 && is(row_behind(&chunks, 0), &[1, 2, 3]));
-    assert!(rt; are_two_rows(chunks, &[1, 2, 3, 4, 5, 6]));
-    let (none, rest) = ChunksRef::<u8, U0>::chunks_from_slice(&[]);
-    assert!(rt; none.len() == 0 && none.iter().next().is_none() && rest.is_empty());
+/// The items of all rows, for as long as the slice is borrowed.
+fn items_of_rows<'a>(chunks: ChunksRef<'a, u8, U3>) -> &'a [u8]
+    ensures { result.now ≡ items_of_chunks chunks.entry }
+{
+    chunks.into_slice()
 }
 
 /// Writes 9 in front in row 1 and 6 in front of all, and returns how many bytes no row has.
@@ -121,6 +102,11 @@ fn written_through_rows(items: &mut [u8]) -> usize
         *first = 6;
     }
     count
+}
+
+/// Whether there is this row.
+fn is(row: Option<GenericArrayRef<'_, u8, U3>>, items: &[u8]) -> bool {
+    row.is_some_and(|row| row.into_slice() == items)
 }
 
 /// Whether rows for writing show one row of three, and no second.

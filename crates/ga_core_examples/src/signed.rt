@@ -1,6 +1,6 @@
-//! Signed items: weighed sums, a filter's step, and channels mixed.
-ghost use Rattle.ga_core_examples.specs.Weighed.{weighed};
-ghost use Rattle.std.specs.Int.{int_wrapping_sub, w64};
+//! Signed items: weighed sums, a filter's step, channels mixed, and the parts of a returned pair.
+ghost use Rattle.ga_core_examples.specs.Weighed.{saturated, weighed};
+ghost use Rattle.std.specs.Int.{int_wrapping_add, int_wrapping_sub, w32, w64};
 ghost use Rattle.std.specs.Prelude.{◌≡◌, ◌∷◌, [], ◌+ℤ◌, int_div, map, pos, slice_index_or};
 
 use ga_core::{ArrayLength, BorrowedItems, Const, GenericArray, U2};
@@ -15,6 +15,20 @@ fn weighed_sum<N: ArrayLength<i64>>(
         .zip_inline_ref(taps.view(), |x: &i64, tap: &i64| x.wrapping_mul(*tap))
         .view()
         .fold(0, |total: i64, x: &i64| total.wrapping_add(*x))
+}
+
+/// The same, where each step stays at the least or the greatest number. The proof names the lemma
+/// on numbers that are kept, since only a search finds what is saturated.
+fn saturated_sum<N: ArrayLength<i32>>(
+    window: &GenericArray<i32, N>,
+    taps: &GenericArray<i32, N>,
+) -> i32
+    ensures { result ≡ saturated window.now taps.now }
+{
+    window
+        .zip_inline_ref(taps.view(), |x: &i32, tap: &i32| x.saturating_mul(*tap))
+        .view()
+        .fold(0, |total: i32, x: &i32| total.saturating_add(*x))
 }
 
 /// A filter of two taps on each side, with what went in and came out last, the newer first.
@@ -63,4 +77,21 @@ fn mixed_down<const N: usize>(
         +ℤ slice_index_or frame 1 (pos 0)) (pos 2)) frames.now }
 {
     frames.map_inline_ref(mono)
+}
+
+fn sum_and_difference(a: i32, b: i32) -> (i32, i32)
+    ensures { result ≡ (int_wrapping_add w32 a b, int_wrapping_sub w32 a b) }
+{
+    (a.wrapping_add(b), a.wrapping_sub(b))
+}
+
+/// Hadamard's transform of two samples.
+fn transformed(pair: GenericArray<i32, U2>) -> GenericArray<i32, U2>
+    ensures { result ≡
+        int_wrapping_add w32 (slice_index_or pair 0 (pos 0)) (slice_index_or pair 1 (pos 0))
+        ∷ int_wrapping_sub w32 (slice_index_or pair 0 (pos 0)) (slice_index_or pair 1 (pos 0))
+        ∷ [] }
+{
+    let (sum, difference) = sum_and_difference(pair[0], pair[1]);
+    GenericArray::from_array([sum, difference])
 }

@@ -88,18 +88,3 @@ fn second_set_if_two(slice: &mut [u8]) -> Result<(), LengthError>
     view[1] = 6;
     Ok(())
 }
-
-#[test]
-fn what_views_write_stands_in_their_slice(rt: HostRuntime) {
-    let mut items = [4u8, 5];
-    slice_set_behind_a_pattern(&mut items);
-    assert!(rt; items == [4, 6] && second_set_if_two(&mut items[..1]).is_err());
-    assert_eq!(rt; last_of::<U2>(GenericArrayRef::from_slice(&items)), 6);
-    let mut five = [1u8, 2, 3, 4, 5];
-    row_and_rest_set(&mut five);
-    assert!(rt; five == [1, 2, 9, 4, 8]);
-    let mut array: GenericArray<u8, U2> = GenericArray::from([1, 2]);
-    first_of_array_set(&mut array);
-    array_set_through_a_literal(&mut array);
-    assert!(rt; array.as_slice() == [6, 6].as_slice());
-}

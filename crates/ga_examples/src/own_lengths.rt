@@ -2,9 +2,7 @@
 //! one's own.
 ghost use Rattle.std.specs.Prelude.{◌≡◌, ◌++◌};
 
-use crate::any_length::masked;
 use arrayvec::ArrayVec;
-use ga_test_items::answers::has;
 use generic_array::sequence::Concat;
 use generic_array::{ArrayLength, GenericArray, InlineLength, Store, U10, Unsigned};
 use std::marker::Model;
@@ -113,16 +111,4 @@ fn joined(left: GenericArray<u8, Week>, right: GenericArray<u8, Sides>) -> Gener
     ensures { result ≡ left ++ right }
 {
     left.concat(right)
-}
-
-#[test]
-fn arrays_of_lengths_of_ones_own_are_as_all_arrays(rt: HostRuntime) {
-    let week = masked(GenericArray::<u8, Week>::default());
-    let mut sides = masked(GenericArray::<u8, Sides>::default());
-    sides[2] = 9;
-    let both = joined(week, sides);
-    assert!(rt; has(both, &[54, 54, 54, 54, 54, 54, 54, 54, 54, 9]));
-    let mut sides: GenericArray<u8, Sides> = GenericArray::from_copies(7);
-    sides[0] = 8;
-    assert!(rt; sides.as_slice() == [8, 7, 7].as_slice());
 }
