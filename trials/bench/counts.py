@@ -42,23 +42,17 @@ def read_dump(path):
     return name, total
 
 
-def named_dumps(dumps):
-    """Each dump by its case, kind and side, and by its repeats."""
-    named = collections.defaultdict(dict)
-    for path in dumps.iterdir():
-        name, total = read_dump(path)
-        if name and total is not None:
-            case, kind, side, repeats = name.split("/")
-            named[case, kind, side][int(repeats)] = (total, path)
-    return {call: by for call, by in named.items() if len(by) == 2}
-
-
 def instructions(dumps):
     """Those of one operation, by case, kind and side: what more repeats cost more."""
-    counted = {}
-    for call, by in named_dumps(dumps).items():
-        few, many = sorted(by)
-        counted[call] = (by[many][0] - by[few][0]) / (many - few)
+    named, counted = collections.defaultdict(dict), {}
+    for name, total in map(read_dump, dumps.iterdir()):
+        if name and total is not None:
+            case, kind, side, repeats = name.split("/")
+            named[case, kind, side][int(repeats)] = total
+    for call, by in named.items():
+        if len(by) == 2:
+            few, many = sorted(by)
+            counted[call] = (by[many] - by[few]) / (many - few)
     return counted
 
 

@@ -124,9 +124,3 @@ fn five_of(a: u8, b: u8, c: u8, d: u8, e: u8, f: u8, g: u8, h: u8) -> GenericArr
         (g & 7) << 5 | h,
     ])
 }
-
-fn bytes_there_and_back(bytes: GenericArray<u8, U5>) -> GenericArray<u8, U5>
-    ensures { number_of 256 result ≡ number_of 256 bytes }
-{
-    bytes_of(groups_of(bytes))
-}

@@ -1,19 +1,11 @@
 //! Views as slices, and what a proof follows through the views that write.
-ghost use Rattle.ga_core.specs.Views.{items_of_view};
-ghost use Rattle.std.specs.Prelude.{◌≡◌, ◌-◌, ◌∷◌, [], ◌<◌, ◌≤◌, ◌↔◌, IsOk, Some, length, slice_get, slice_set};
+ghost use Rattle.std.specs.Prelude.{◌≡◌, ◌∷◌, [], ◌≤◌, ◌↔◌, IsOk, length, slice_set};
 
 use ga_core::reborrow::{ReborrowPart, ReborrowSlice};
 use ga_core::{
-    ChunksMut, GenericArray, GenericArrayMut, GenericArrayRef, LengthError, U2, Unsigned, ViewMut,
+    ChunksMut, GenericArray, GenericArrayMut, GenericArrayRef, LengthError, U2, ViewMut,
 };
 use std::marker::PhantomData;
-
-fn last_of<N: Unsigned>(view: GenericArrayRef<'_, u8, N>) -> u8
-    requires { 0 < N.USIZE }
-    ensures { slice_get (items_of_view view.entry) (N.USIZE - 1) ≡ Some result }
-{
-    view[view.len() - 1]
-}
 
 // A function over any view that writes, called of an array's.
 
