@@ -7,7 +7,7 @@ ghost use Rattle.std.specs.Prelude.{◌≡◌, ◌-◌, ◌/◌, ◌<◌, ◌↔
 
 use ga_core::{
     ArrayBuilder, ArrayLength, ChunksMut, ChunksRef, GenericArray, GenericArrayRef, LengthError,
-    U2, U3, Unsigned,
+    U0, U2, U3, Unsigned,
 };
 
 fn second_row_and_rest(slice: &[u8]) -> (Option<GenericArrayRef<'_, u8, U3>>, &[u8])
@@ -82,11 +82,25 @@ fn last_row<'a, T, N: Unsigned>(
     (row, left.len())
 }
 
-/// The items of all rows, for as long as the slice is borrowed.
-fn items_of_rows<'a>(chunks: ChunksRef<'a, u8, U3>) -> &'a [u8]
-    ensures { result.now ≡ items_of_chunks chunks.entry }
-{
-    chunks.into_slice()
+/// Whether there is this row.
+fn is(row: Option<GenericArrayRef<'_, u8, U3>>, items: &[u8]) -> bool {
+    row.is_some_and(|row| row.into_slice() == items)
+}
+
+#[test]
+fn a_slice_is_cut_into_rows_and_a_rest(rt: HostRuntime) {
+    let (rows, rest) = ChunksRef::<u8, U3>::chunks_from_slice(&[1, 2, 3, 4, 5, 6, 7]);
+    assert!(rt; rows.len() == 2 && rest == [7].as_slice());
+    assert!(rt; is(rows.get(0), &[1, 2, 3]) && is(rows.get(1), &[4, 5, 6]));
+    assert!(rt; rows.into_slice() == [1, 2, 3, 4, 5, 6].as_slice());
+    let (none, rest) = ChunksRef::<u8, U0>::chunks_from_slice(&[]);
+    assert!(rt; none.len() == 0 && rest.is_empty());
+}
+
+#[test]
+fn fewer_items_than_a_row_has_are_the_rest(rt: HostRuntime) {
+    let (none, rest) = ChunksRef::<u8, U3>::chunks_from_slice(&[1, 2]);
+    assert!(rt; none.len() == 0 && rest == [1, 2].as_slice());
 }
 
 /// Writes 9 in front in row 1 and 6 in front of all, and returns how many bytes no row has.
@@ -102,11 +116,6 @@ fn written_through_rows(items: &mut [u8]) -> usize
         *first = 6;
     }
     count
-}
-
-/// Whether there is this row.
-fn is(row: Option<GenericArrayRef<'_, u8, U3>>, items: &[u8]) -> bool {
-    row.is_some_and(|row| row.into_slice() == items)
 }
 
 /// Whether rows for writing show one row of three, and no second.

@@ -94,8 +94,10 @@ fn raised(slice: &mut [u8]) {
 #[test]
 fn a_view_writes_a_slice_of_its_length_alone(rt: HostRuntime) {
     let mut items = [4u8, 5];
+    second_got(&mut items);
+    assert!(rt; items == [4, 6]);
     raised(&mut items);
-    assert!(rt; items == [5, 6]);
+    assert!(rt; items == [5, 7]);
     let mut items = [1u8, 2, 3];
     raised(&mut items);
     assert!(rt; items == [1, 2, 3]);

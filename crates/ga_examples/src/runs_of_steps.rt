@@ -4,9 +4,10 @@ ghost use Rattle.std.specs.Prelude.{◌≡◌, ◌^◌, ◌<◌, [], ◌∷◌, 
 
 mod any_steps;
 
-use generic_array::AllocError;
 use generic_array::steps::{Reply, Step, TwoEnded, run_steps};
+use generic_array::{AllocError, BoxedArray, U3};
 use std::alloc::Global;
+use std::test::Fail;
 
 /// The sum of the numbers, which has to fit.
 fn total(numbers: &[u32]) -> u32
@@ -41,4 +42,18 @@ fn taken_and_replaced<I: TwoEnded<u32>>(
         Step::NextBack,
     ]?;
     run_steps(numbers, steps, &mut total, replies)
+}
+
+#[test]
+fn an_item_that_is_replaced_is_taken(rt: HostRuntime) -> Result<(), Fail> {
+    let alloc = rt.alloc();
+    let mut replies = Vec::new(alloc);
+    let mut numbers = BoxedArray::<u32, U3>::from_array(alloc, [1, 2, 3])?.into_iter();
+    taken_and_replaced(alloc, &mut numbers, &mut replies)?;
+    let text = format!(in alloc; "{:?} {replies:?}", Step::Set(0, 9u8))?;
+    assert_eq!(rt;
+        text.as_str(),
+        "Set(0, 9) [Item(Some(1)), Old(3), Outside(8), Item(Some(9))]"
+    );
+    Ok(())
 }
