@@ -57,9 +57,12 @@ def with_table(names, readme):
             name = "::".join(names.path(item)[1:])
             shows = (first_sentence(item) or first_sentence(item.module)).replace("|", r"\|")
             proofs = [f"[{it.stem}]({it.relative_to(folder)})" for it in proofs_of(names, item)]
-            rows[shows, ", ".join(proofs)].append(f"[`{name}`]({item.file.relative_to(folder)})")
-    for (shows, proofs), functions in rows.items():
-        yield f"{', '.join(functions)} | {shows} | {proofs}".rstrip()
+            link = f"[`{name}`]({item.file.relative_to(folder)})"
+            rows[shows].append((link, f"`{item.name}`: ", ", ".join(proofs)))
+    for shows, functions in rows.items():
+        proofs = [(who if functions[1:] else "") + proof for _, who, proof in functions if proof]
+        links = ", ".join(link for link, _, _ in functions)
+        yield f"{links} | {shows} | {'; '.join(proofs)}".rstrip()
 
 
 def files(names):

@@ -98,6 +98,17 @@ fn a_slice_is_cut_into_rows_and_a_rest(rt: HostRuntime) {
 }
 
 #[test]
+fn rows_are_walked_from_both_ends(rt: HostRuntime) {
+    let (rows, _) = ChunksRef::<u8, U3>::chunks_from_slice(&[1, 2, 3, 4, 5, 6, 7]);
+    let (mut left, mut other) = (rows.iter(), rows.iter());
+    assert!(rt; is(left.next_back(), &[4, 5, 6]) && is(left.next(), &[1, 2, 3]));
+    assert!(rt; left.next_back().is_none());
+    assert!(rt; is(other.nth_back(1), &[1, 2, 3]) && other.len() == 0);
+    let (none, _) = ChunksRef::<u8, U0>::chunks_from_slice(&[]);
+    assert!(rt; none.iter().next_back().is_none());
+}
+
+#[test]
 fn fewer_items_than_a_row_has_are_the_rest(rt: HostRuntime) {
     let (none, rest) = ChunksRef::<u8, U3>::chunks_from_slice(&[1, 2]);
     assert!(rt; none.len() == 0 && rest == [1, 2].as_slice());

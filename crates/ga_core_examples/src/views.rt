@@ -100,5 +100,5 @@ fn a_view_writes_a_slice_of_its_length_alone(rt: HostRuntime) {
     assert!(rt; items == [5, 7]);
     let mut items = [1u8, 2, 3];
     raised(&mut items);
-    assert!(rt; items == [1, 2, 3]);
+    assert!(rt; items == [1, 2, 3] && are_three(&items) && !are_three(&[1, 2, 3, 4]));
 }

@@ -77,12 +77,6 @@ fn second_place_set(array: &mut BoxedArray<u8, U2>)
     array.as_mut_slice()[1] = 6;
 }
 
-fn items_counted<N: Unsigned>(array: &BoxedArray<u8, N>) -> (usize, usize)
-    ensures { result ≡ (N.USIZE, N.USIZE) }
-{
-    (array.len(), array.iter().count())
-}
-
 /// The item behind so many others, and how many are left behind it.
 fn item_behind<N: Unsigned>(array: BoxedArray<u8, N>, count: usize) -> (Option<u8>, usize)
     ensures item { result.0 ≡ slice_get array count }

@@ -6,11 +6,11 @@ ghost use Rattle.generic_array.specs.Length.{FitsInline};
 
 use ga_test_items::answers::gives;
 use ga_test_items::counted::{Counted, Counts};
-use ga_test_items::items::inline_items;
+use ga_test_items::items::{from_one, inline_items};
 use ga_test_items::outcome::{Outcome, play};
 use ga_test_items::scripted::{Given, Numbered, digits};
 use generic_array::functional::FunctionalSequence;
-use generic_array::steps::{Reply, Step, run_steps};
+use generic_array::steps::{Reply, Step, TwoEnded, run_steps};
 use generic_array::{
     AllocError, ArrayLength, BoxedArray, BoxedArrayIter, LengthError, U0, U2, U3, U4, Unsigned,
     box_arr,
@@ -95,7 +95,7 @@ fn a_refused_run_of_steps_leaves_all_as_it_was(rt: HostRuntime) {
 }
 
 /// What a run of no steps over 1 and 2 comes to, which needs no memory, so that it is never refused.
-fn outcome_of_no_steps(alloc: Global, items: &mut BoxedArrayIter<u32>) -> Outcome {
+fn outcome_of_no_steps<I: TwoEnded<u32>>(alloc: Global, items: &mut I) -> Outcome {
     let mut looks = 0u32;
     let mut look = |live: &[u32]| {
         looks = looks.wrapping_add(1);
@@ -103,11 +103,14 @@ fn outcome_of_no_steps(alloc: Global, items: &mut BoxedArrayIter<u32>) -> Outcom
     };
     let mut replies: Vec<Reply<u32, usize>> = Vec::new(alloc);
     let run = run_steps(items, Vec::new(alloc), &mut look, &mut replies);
-    let is_unchanged = looks == 0 && replies.is_empty() && items.next() == Some(1);
+    let is_unchanged = looks == 0 && replies.is_empty() && items.front() == Some(1);
     Outcome::exact_if(run.is_ok() && is_unchanged)
 }
 
-fn of_no_steps(alloc: Global, _number: u32) -> Outcome {
+fn of_no_steps(alloc: Global, number: u32) -> Outcome {
+    if number == 0 {
+        return outcome_of_no_steps(alloc, &mut from_one::<U2>().into_iter());
+    }
     match BoxedArray::<u32, U2>::from_array(alloc, [1, 2]) {
         Ok(array) => outcome_of_no_steps(alloc, &mut array.into_iter()),
         Err(AllocError) => Outcome::Refused,
@@ -116,7 +119,7 @@ fn of_no_steps(alloc: Global, _number: u32) -> Outcome {
 
 #[test]
 fn a_run_of_no_steps_is_never_refused(rt: HostRuntime) {
-    let wrong = play(&rt, 1, of_no_steps);
+    let wrong = play(&rt, 2, of_no_steps);
     assert!(rt; wrong.is_none());
 }
 

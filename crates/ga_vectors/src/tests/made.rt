@@ -12,29 +12,29 @@ fn same(index: usize) -> Result<usize, u8> {
     Ok(index)
 }
 
-/// Whether a kind makes the squares, copies of 7, and the numbers of three places by a closure that
+/// Whether a kind makes these squares, copies of 7, and the numbers of its places by a closure that
 /// may fail.
-fn makes_three<S: FallibleGenericSequence<usize>>(place: S::Place) -> bool
+fn makes<S: FallibleGenericSequence<usize>>(place: S::Place, all: [&[usize]; 3]) -> bool
 where
     S::Place: Copy,
     S::Sequence: Drop,
     S::Error: Drop,
     requires { S.Fits }
 {
-    let (squares, sevens) = (S::generate(place, square), S::repeat(place, 7));
+    let [squares, sevens, numbers] = all;
     let are_numbers = match S::try_generate(place, same) {
-        Ok(numbers) => gives(numbers, &[0, 1, 2]),
+        Ok(made) => gives(made, numbers),
         Err(_refused) => false,
     };
-    gives(squares, &[0, 1, 4]) && gives(sevens, &[7, 7, 7]) && are_numbers
+    gives(S::generate(place, square), squares) && gives(S::repeat(place, 7), sevens) && are_numbers
 }
 
-/// Whether each kind of a length makes all. One function for all calls hands over what they share
+/// Whether each kind of a length makes these. One function for all calls hands over what they share
 /// once.
-fn each_makes_three<N: ArrayLength<usize> + InlineLength>(alloc: Global) -> bool {
-    makes_three::<GenericArray<usize, N>>(())
-        && makes_three::<GenericArrayRef<usize, N>>(())
-        && makes_three::<BoxedArray<usize, N>>(alloc)
+fn each_makes<N: ArrayLength<usize> + InlineLength>(alloc: Global, all: [&[usize]; 3]) -> bool {
+    makes::<GenericArray<usize, N>>((), all)
+        && makes::<GenericArrayRef<usize, N>>((), all)
+        && makes::<BoxedArray<usize, N>>(alloc, all)
 }
 
 /// Whether a kind is filled by 4 and 5, each given as `Ok`.
@@ -50,7 +50,8 @@ where
 
 #[test]
 fn each_kind_is_made_by_the_calls_of_the_traits(rt: HostRuntime) {
-    assert!(rt; each_makes_three::<U3>(rt.alloc()));
+    assert!(rt; each_makes::<U3>(rt.alloc(), [&[0, 1, 4], &[7, 7, 7], &[0, 1, 2]]));
+    assert!(rt; each_makes::<U2>(rt.alloc(), [&[0, 1], &[7, 7], &[0, 1]]));
     assert!(rt; is_filled::<GenericArray<u32, U2>>(()));
     assert!(rt; is_filled::<BoxedArray<u32, U2>>(rt.alloc()));
 }
