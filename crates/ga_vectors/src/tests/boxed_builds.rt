@@ -60,8 +60,9 @@ fn an_error_behind_the_last_item_of_a_block_is_one_item_too_many(rt: HostRuntime
 }
 
 #[test]
-fn a_block_is_of_defaults_or_of_what_an_iterator_gives(rt: HostRuntime) -> Result<(), Fail> {
+fn a_block_is_of_copies_or_of_what_an_iterator_gives(rt: HostRuntime) -> Result<(), Fail> {
     assert!(rt; gives(BoxedArray::<u8, U2>::default_boxed(rt.alloc()), &[0, 0]));
+    assert!(rt; gives(BoxedArray::<u8, U3>::repeat(rt.alloc(), 7), &[7, 7, 7]));
     let mut items = 4..6u32;
     let filled = BoxedArray::<u32, U2>::try_boxed_from_iter(rt.alloc(), &mut items)?;
     assert!(rt; gives(filled, &[4, 5]));
