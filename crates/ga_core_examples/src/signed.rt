@@ -17,8 +17,8 @@ fn weighed_sum<N: ArrayLength<i64>>(
         .fold(0, |total: i64, x: &i64| total.wrapping_add(*x))
 }
 
-/// The same, where each step stays at the least or the greatest number. The proof names the lemma
-/// on numbers that are kept, since only a search finds what is saturated.
+/// A weighed sum of which each step stays at the least or the greatest number. It has a proof file,
+/// since the set's lemmas aren't tried in a search.
 fn saturated_sum<N: ArrayLength<i32>>(
     window: &GenericArray<i32, N>,
     taps: &GenericArray<i32, N>,

@@ -1,18 +1,8 @@
 //! Views of slices, read and written, whose length need not fit inline.
 ghost use Rattle.ga_core.specs.Views.{items_of_view};
-ghost use Rattle.std.specs.Prelude.{◌≡◌, ◌∷◌, [], ◌↔◌, IfOk, IsOk, IsTrue, fold, length, max, slice_get, slice_set, sum};
+ghost use Rattle.std.specs.Prelude.{◌≡◌, ◌∷◌, [], ◌↔◌, IfOk, IsOk, IsTrue, fold, length, max, slice_get, sum};
 
 use ga_core::{GenericArray, GenericArrayMut, GenericArrayRef, LengthError, U2, U3, Unsigned};
-
-fn second_got(slice: &mut [u8])
-    requires { length slice.old ≡ 2 }
-    ensures { slice.new ≡ slice_set slice.old 1 6 }
-{
-    let mut view: GenericArrayMut<u8, U2> = GenericArrayMut::from_mut_slice(slice);
-    if let Some(item) = view.get_mut(1) {
-        *item = 6;
-    }
-}
 
 fn count_for_writing(slice: &mut [u8]) -> usize
     requires { length slice.old ≡ 2 }
@@ -92,13 +82,23 @@ fn raised(slice: &mut [u8]) {
 }
 
 #[test]
-fn a_view_writes_a_slice_of_its_length_alone(rt: HostRuntime) {
+fn what_is_written_to_a_view_stands_in_its_slice(rt: HostRuntime) {
     let mut items = [4u8, 5];
-    second_got(&mut items);
+    let mut view = GenericArray::<u8, U2>::from_mut_slice(&mut items);
+    view[1] = 6;
     assert!(rt; items == [4, 6]);
-    raised(&mut items);
-    assert!(rt; items == [5, 7]);
-    let mut items = [1u8, 2, 3];
-    raised(&mut items);
-    assert!(rt; items == [1, 2, 3] && are_three(&items) && !are_three(&[1, 2, 3, 4]));
+}
+
+#[test]
+fn a_slice_of_four_is_no_view_of_three(rt: HostRuntime) {
+    let view = GenericArrayRef::<u8, U3>::try_from_slice(&[1, 2, 3, 4]);
+    assert!(rt; matches!(view, Err(LengthError)));
+}
+
+#[test]
+fn a_view_writes_a_slice_of_its_length_alone(rt: HostRuntime) {
+    let (mut two, mut three) = ([4u8, 5], [1u8, 2, 3]);
+    raised(&mut two);
+    raised(&mut three);
+    assert!(rt; two == [5, 6] && three == [1, 2, 3]);
 }
