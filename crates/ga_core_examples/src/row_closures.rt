@@ -6,7 +6,9 @@ ghost use Rattle.ga_core.specs.Length.{FitsInline};
 ghost use Rattle.std.specs.List.{range_with_len};
 ghost use Rattle.std.specs.Prelude.{◌≡◌, ◌+◌, ◌-◌, ◌%◌, ◌^◌, ◌<◌, [], All, length, map, replicate, reverse, slice_index, slice_index_or};
 
-use ga_core::{ArrayLength, BorrowedItems, Const, GenericArray, GenericArrayRef, InlineLength};
+use ga_core::{
+    ArrayLength, BorrowedItems, Const, GenericArray, GenericArrayRef, InlineLength, U2, U3,
+};
 use std::marker::PhantomData;
 
 /// `R` rows of `C` items each.
@@ -188,4 +190,23 @@ fn differences<N: ArrayLength<u64>, M: ArrayLength<u64>>(
             requires { i + 1 < length items.now }
         { items[i + 1].wrapping_sub(items[i]) },
     )
+}
+
+#[test]
+fn rows_are_turned_and_picked(rt: HostRuntime) {
+    let matrix: Matrix<U3, 2> = GenericArray::from_array([
+        GenericArray::from_array([1, 2, 3]),
+        GenericArray::from_array([4, 5, 6]),
+    ]);
+    let pairs: Matrix<U2, 3> = transposed(&matrix);
+    assert!(rt; pairs[2].as_slice() == [3, 6].as_slice());
+    let other = permuted(&matrix, GenericArray::from_array([1, 0]));
+    assert!(rt; other[0].as_slice() == [4, 5, 6].as_slice());
+    let square: Matrix<U3, 3> = zeros();
+    assert!(rt; diagonal(&square).as_slice() == [0, 0, 0].as_slice());
+    let slabs: Tensor<U2, U3, 2> = GenericArray::from_array([pairs, transposed(&other)]);
+    assert!(rt; tube(&slabs, 1, 0).as_slice() == [2, 5].as_slice());
+    assert!(rt; tube(&slabs_turned(slabs), 0, 0).as_slice() == [3, 6].as_slice());
+    let two: GenericArray<u64, U2> = differences(&matrix[0]);
+    assert!(rt; two.as_slice() == [1, 1].as_slice());
 }

@@ -1,5 +1,5 @@
 //! Boxed arrays: builds, writes and walks.
-ghost use Rattle.std.specs.Prelude.{◌≡◌, ℕ, ◌+◌, ◌∷◌, [], ◌<◌, ◌⊎◌, IfErr, IfOk, IsOk, OnOk, drop, length, reverse, slice_get, slice_set};
+ghost use Rattle.std.specs.Prelude.{◌≡◌, ℕ, ◌+◌, ◌∷◌, [], ◌<◌, ◌⊎◌, IfErr, IfOk, IsOk, OnOk, drop, length, reverse, slice_get};
 
 use ga_core_examples::digits::decimal_digit;
 use generic_array::{AllocError, BoxedArray, FillError, LengthError, U2, U3, U4, Unsigned};
@@ -69,12 +69,6 @@ fn blank(alloc: Global) -> Result<BoxedArray<u8, U3>, AllocError>
     ensures { IfOk result (λ array. array ≡ 0 ∷ 0 ∷ 0 ∷ []) }
 {
     BoxedArray::default_boxed(alloc)
-}
-
-fn second_place_set(array: &mut BoxedArray<u8, U2>)
-    ensures { array.new ≡ slice_set array.old 1 6 }
-{
-    array.as_mut_slice()[1] = 6;
 }
 
 /// The item behind so many others, and how many are left behind it.

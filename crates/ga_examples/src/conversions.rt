@@ -1,9 +1,9 @@
-//! Conversions by the traits of std, a type with a length, and a header of two arrays.
+//! Conversions by the traits of std, and a header of two arrays.
 ghost use Rattle.std.specs.Prelude.{◌≡◌, ◌↔◌, IfOk, IsOk, Ok, drop, length, take};
 
 use generic_array::sequence::{Concat, Split};
 use generic_array::{
-    AllocError, ArrayLength, BoxedArray, GenericArray, InlineLength, LengthError, U2, U3, U4, U6,
+    AllocError, ArrayLength, BoxedArray, GenericArray, InlineLength, LengthError, U2, U4, U6,
 };
 use std::alloc::Global;
 
@@ -41,19 +41,6 @@ fn boxed_through_a_vector<N: ArrayLength<u32>>(
         return Ok(Err(LengthError));
     };
     BoxedArray::try_from_boxed_slice(alloc, boxed.into_boxed_slice()?)
-}
-
-#[derive(Clone, Copy, Debug, Default, PartialEq, Eq, Hash)]
-struct Numbered<N> {
-    of: N,
-    number: u8,
-}
-
-// A type with a length as its parameter has derives.
-fn first_of_three() -> Numbered<U3>
-    ensures { result.number ≡ 0 }
-{
-    Numbered::default()
 }
 
 // A header that is made by `concat`, and read by `split`.

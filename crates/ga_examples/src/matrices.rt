@@ -3,11 +3,12 @@ ghost use Rattle.generic_array.specs.Length.{FitsInline};
 ghost use Rattle.generic_array.specs.Rows.{rows};
 ghost use Rattle.std.specs.Int.{int_wrapping_add, w64};
 ghost use Rattle.std.specs.List.{flat_map, range_with_len, zip};
-ghost use Rattle.std.specs.Prelude.{◌≡◌, ℕ, ◌+◌, ◌*◌, ◌%◌, ◌^◌, ◌<◌, ◌↔◌, IsTrue, map};
+ghost use Rattle.std.specs.Prelude.{◌≡◌, ℕ, ◌+◌, ◌*◌, ◌%◌, ◌^◌, ◌<◌, ◌↔◌, IsTrue, length, map};
 
+use ga_test_items::answers::has;
 use generic_array::sequence::{Flatten, Unflatten};
 use generic_array::{
-    ArrayLength, BorrowedItems, Const, GenericArray, GenericArrayRef, InlineLength,
+    ArrayLength, BorrowedItems, Const, GenericArray, GenericArrayRef, InlineLength, U2, U3, U6,
 };
 use std::marker::PhantomData;
 
@@ -170,4 +171,23 @@ impl Formula for CountedOn {
             .wrapping_mul(self.width)
             .wrapping_add(column as u64)
     }
+}
+
+fn three_pairs() -> Rows<i64, U2, 3>
+    ensures { length result ≡ 3 }
+{
+    of_native(&[[1, -2], [3, 4], [5, 6]])
+}
+
+#[test]
+fn pairs_are_made_added_and_joined(rt: HostRuntime) {
+    let pairs = three_pairs();
+    assert!(rt; are_equal(&pairs, &three_pairs()));
+    let sums: GenericArray<i64, U6> = flat(added(pairs, three_pairs()));
+    assert!(rt; has(sums, &[2, -4, 6, 8, 10, 12]));
+    let threes: Rows<i64, U3, 2> = reshaped(three_pairs(), PhantomData::<GenericArray<i64, U6>>);
+    assert!(rt; threes[1].as_slice() == [4, 5, 6].as_slice());
+    let counted: Rows<u64, U2, 3> = by_formula(&CountedOn { width: 2 });
+    let counted: GenericArray<u64, U6> = flat(counted);
+    assert!(rt; has(counted, &[0, 1, 2, 3, 4, 5]));
 }

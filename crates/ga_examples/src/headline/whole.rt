@@ -1,19 +1,17 @@
 //! A map and a walk, and a build before both: half of each number of three, walked over.
-ghost use Rattle.ga_headline.specs.Whole.{MatchStopped};
 ghost use Rattle.generic_array.specs.Views.{items_of_view};
 ghost use Rattle.generic_array.specs.declared.steps.step.Reply.TheVariants.{Item, Old, Seen};
 ghost use Rattle.generic_array.specs.declared.steps.step.Step.TheVariants.{Look, Next, NextBack, Set};
-ghost use Rattle.std.specs.Prelude.{◌≡◌, ◌/◌, ◌%◌, [], ◌∷◌, ◌++◌, Err, IfErr, IfOk, IsErr, ⊤, Ok, OnOk, Some, if◌then◌else◌, nat_eq};
+ghost use Rattle.std.specs.Prelude.{◌≡◌, ◌/◌, ◌%◌, [], ◌∷◌, ◌++◌, Err, IfOk, Ok, OnOk, Some, if◌then◌else◌, nat_eq};
 
 use super::steps::steps;
 use crate::runs_of_steps::count_of;
 use ga_headline::whole::{Stopped, build_map_walk, map_walk};
 use generic_array::steps::{Reply, Step};
 use generic_array::{
-    AllocError, ArrayLength, BoxedArray, BoxedArrayIter, FillError, GenericArray, GenericArrayIter,
-    GenericArrayRef, InlineLength, Never, U3,
+    ArrayLength, FillError, GenericArray, GenericArrayIter, GenericArrayRef, InlineLength, Never,
+    U3,
 };
-use std::alloc::Global;
 use std::test::Fail;
 
 /// Half of an even number, or an error of an odd one.
@@ -65,30 +63,6 @@ fn whole_inline<N: ArrayLength<u32> + InlineLength>(
         (),
         &mut results.into_iter(),
         (),
-        &mut halved,
-        steps,
-        &mut count_of::<u32>,
-        replies,
-    )
-}
-
-// An odd number among three stops the map, after the build and before the walk.
-fn whole_stopped(
-    alloc: Global,
-    results: Vec<Result<u32, u8>>,
-    steps: Vec<Step<u32>>,
-    replies: &mut Vec<Reply<u32, usize>>,
-) -> Result<BoxedArrayIter<u32>, Stopped<FillError<u8, AllocError>, u32, AllocError>>
-    requires results { results.items ≡ Ok 2 ∷ Ok 5 ∷ Ok 7 ∷ [] }
-    requires steps { steps.items ≡ Next ∷ Look ∷ Set 1 9 ∷ NextBack ∷ [] }
-    ensures err { IsErr result }
-    ensures why { IfErr result (λ why. MatchStopped why (λ _. ⊤) (λ error. error ≡ 5) (λ _. ⊤) ⊥) }
-    ensures replies { replies.new.items ≡ replies.old.items }
-{
-    build_map_walk::<u32, u8, u32, u32, usize, BoxedArray<u32, U3>, _, _, _>(
-        alloc,
-        &mut results.into_iter(),
-        alloc,
         &mut halved,
         steps,
         &mut count_of::<u32>,
