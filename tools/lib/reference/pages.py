@@ -17,7 +17,7 @@ from markupsafe import Markup
 
 from reference.beside import code_of
 from reference.meanings import WITH_A_PAGE, Scope
-from reference.promise import TITLE, carriers
+from reference.promise import TITLE, sentences
 from reference.rows import CODE, OF_RUST, rows
 from reference.text import becomes
 
@@ -54,7 +54,8 @@ class Pages:
         self.rust_text = re.sub(r"\[([^\]]*)\]\([^)]*\)", r"\1", rust)
         self.crates_drawn = re.search(r"(?ms)^```text\n(.*?)^```", architecture)[1]
         self.promise_title = TITLE
-        self.promise = [(text, items.values()) for text, items in carriers(self.names)]
+        self.promise = [(it.text, [item for _, item, *_ in it.carriers])
+                        for it in sentences(self.names)]
         self.templates = Environment(loader=FileSystemLoader(TEMPLATES), trim_blocks=True,
                                      lstrip_blocks=True, undefined=StrictUndefined,
                                      autoescape=lambda name: name.endswith(".html"))
