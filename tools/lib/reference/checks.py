@@ -1,7 +1,8 @@
 """Checks what no compiler sees: that names lead to items, that each public item is listed and each
 import used, that wrong bodies fit, that examples of documents stand in the crates, that a contract
 that a README quotes is that of the source, that each name that a document has as code is found, and
-that limits have rows. Each check gives what it tried, one after the other: what is wrong, or None.
+that what documents call tested is. Each check gives what it tried, one after the other: what is
+wrong, or None.
 
 Of code in a line its name is looked up: a path, a call or a type; of words without a sign the
 first, of `using(..)` and `use ..;` the path, of what begins with a value or a type parameter the
@@ -12,11 +13,12 @@ import pathlib
 import re
 
 from reference.callers import uncalled
+from reference.claims import unwitnessed
 from reference.layout import indented
 from reference.lookup import impl_of
 from reference.meanings import LIBRARIES, WITH_A_PAGE
 from reference.promise import unkept
-from reference.rows import BAR, CODE, FENCED, names_in, plain, stands_in
+from reference.rows import BAR, CODE, FENCED, names_in
 from reference.sources import STD, atoms_of, imports_of, is_in
 from reference.text import Text
 from reference.written import stale
@@ -222,23 +224,11 @@ def dangling(names):
             yield f"{place}:{line}: nothing is called {'::'.join(lost[0])}" if lost else None
 
 
-def unrowed(names):
-    """Looks for the row that each wall names: by its message, its goal, or the row's own words."""
-    seen = [plain(row.cells[0][1]) for row in names.messages if OF_SEEN in row.place]
-    for wall in sorted((names.site.top / "trials" / "limits").glob("*.rattle")):
-        head = wall.read_text("utf-8").partition("\n// mend\n")[0]
-        named = [plain(part) for part in re.findall(r"(?m)^// (?:says|open): (.*)$", head)]
-        own = {plain(line.rstrip(".")) for line in re.findall(r"(?m)^//! (.*)$", head)}
-        right = own & {*seen} or any(stands_in(part, row) for part in named for row in seen)
-        wrong = f"{wall.relative_to(names.site.top)}: no row of {OF_SEEN} is seen so"
-        yield None if right else wrong
-
-
 # The checks by their names, each with how many pass at least: one that passes less may have gone
 # blind. Those of names ask as a reader of `tools/reference NAME` does.
 CHECKS = {
     "examples": (unwritten, 24), "imports": (unused, 2072), "public items": (unnamed, 323),
     "written": (stale, 264), "wrong bodies": (unfit, 180), "callers": (uncalled, 263),
     "names": (misled, 27), "promise": (unkept, 68),
-    "contracts": (misquoted, 17), "limits": (unrowed, 68), "documents": (dangling, 1794),
+    "contracts": (misquoted, 17), "tests": (unwitnessed, 150), "documents": (dangling, 1794),
 }
