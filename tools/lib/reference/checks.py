@@ -13,7 +13,7 @@ import pathlib
 import re
 
 from reference.callers import uncalled
-from reference.claims import unwitnessed
+from reference.claims import PATH as OF_TEST, unwitnessed
 from reference.layout import indented
 from reference.lookup import impl_of
 from reference.meanings import LIBRARIES, WITH_A_PAGE
@@ -220,7 +220,9 @@ def dangling(names):
         for found in CODE.finditer(text):
             code = " ".join(found[1].split())
             line = text.count("\n", 0, found.start()) + 1
-            lost = [parts for parts in names_of(code) if not is_found(code, tuple(parts))]
+            # Paths that may be those of tests are looked up by the check of tests.
+            lost = [parts for parts in (() if OF_TEST.fullmatch(code) else names_of(code))
+                    if not is_found(code, tuple(parts))]
             yield f"{place}:{line}: nothing is called {'::'.join(lost[0])}" if lost else None
 
 
