@@ -4,8 +4,6 @@ import textwrap
 
 from reference.sources import closing, parted
 
-# Where a long line of code is cut, if it can be: in front of these.
-SIGNS = ("× ", "⊎ ", "→ ", "↔ ", "≡ ", "≢ ", "≤ ", "< ", "++ ", "-> ", "for ")
 # The widest name of a list that has its line beside it.
 COLUMN = 26
 
@@ -21,37 +19,17 @@ def wrapped(text, width, deeper=""):
                          break_on_hyphens=False)
 
 
-def depth(line, at):
-    """In how many brackets a place of a line stands. A `<` is one behind a name, and no `->`."""
-    begun, ended = r"[(\[{]|(?<=[\w:])<", r"[)\]}]|(?<=[\w\])>])>"
-    return len(re.findall(begun, line[:at])) - len(re.findall(ended, line[:at]))
-
-
-def cuts(line, width):
-    """The best places of a line of code to cut it: before a sign or a bracket that is an argument,
-    or behind a comma; or else at the last space."""
-    begin = len(line) - len(line.lstrip())
-    spaces = [at for at in range(begin + 1, min(width + 1, len(line)))
-              if line[at] == " " and line[at + 1] != "}"]
-    good = [at for at in spaces if line.startswith(SIGNS, at + 1) or line[at - 1] == ","
-            or line[at + 1] == "(" and re.match(r"[\w)]", line[at - 1])]
-    return good or spaces[-1:]
-
-
-def cut(line, width):
-    """A line of code in pieces no wider than this, the later ones deeper. Each ends at the last
-    place that stands in the fewest brackets."""
-    pieces, deeper = [], " " * (len(line) - len(line.lstrip()) + 4)
-    while len(line) > width and (places := cuts(line, width)):
-        best = min(places, key=lambda at: (depth(line, at), -at))
-        pieces.append(line[:best])
-        line = deeper + line[best + 1:]
-    return [*pieces, line]
-
-
 def laid_out(text, width):
-    """The lines of code as they are written, but for those that are too wide."""
-    return [piece for line in text.split("\n") for piece in cut(line, width)]
+    """The lines of code as they are written, but for those that are too wide. The rest of such a
+    line begins deeper, and neither behind a sign nor in a short bracket."""
+    whole, lines = re.compile(r"[({][^(){}]{,50}[)}]|\w<[^<>]{,50}>|(?<= )[^\w\s(){}]+ | (?=})"), []
+    for line in text.split("\n"):
+        begin = " " * (len(line) - len(line.lstrip()))
+        kept = whole.sub(lambda part: part[0].replace(" ", "\0"), line.strip())
+        pieces = textwrap.wrap(kept, width, initial_indent=begin, subsequent_indent=begin + " " * 4,
+                               break_long_words=False, break_on_hyphens=False)
+        lines += [it.replace("\0", " ") for it in pieces] if len(line) > width else [line]
+    return lines
 
 
 def prose(text, width):
