@@ -41,7 +41,7 @@ class Copy:
     def __init__(self, tally):
         self.tally, self.folder = tally, pathlib.Path(tempfile.mkdtemp())
         self.checkout, self.there = self.folder / "checkout", self.folder / "there"
-        copy(self.checkout, "tools", "crates", LIST, LICENSE, "CHANGELOG.md")
+        copy(self.checkout, "tools", "crates", "docs", LIST, LICENSE, "CHANGELOG.md")
         for it in needed(*ON):
             if all(map(is_unchanged, needed(it))):
                 (self.checkout / "crates" / it / "out").symlink_to(TOP / "crates" / it / "out")
