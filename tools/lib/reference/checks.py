@@ -139,7 +139,7 @@ def unfit(names):
 def unwritten(names):
     """Looks for each part of an example, but for its imports, in the crates."""
     top = names.site.top
-    written = (*top.glob("crates/*/src/**/*.rt"), *top.glob("tools/lib/start/*.rattle"))
+    written = (*top.glob("crates/*/src/**/*.rt"), top / "docs" / "FIRST_CRATES.md")
     sources = [LAYOUT.sub("", it.read_text("utf-8")) for it in written]
     documents = (file for it in ("README.md", "docs/*.md", "crates/*/README.md")
                  for file in sorted(top.glob(it)))

@@ -1,9 +1,11 @@
 """Commands, and programs that are run with streams of the caller's own."""
 import collections
 import contextlib
+import os
 import subprocess
 import tempfile
 import threading
+from concurrent.futures import ThreadPoolExecutor
 from io import FileIO
 from subprocess import DEVNULL, PIPE, STDOUT
 
@@ -13,11 +15,17 @@ Seen = collections.namedtuple("Seen", "status out err")
 STARTING = threading.Lock()
 
 
-def run(*command, **how):
+def call(*command, **how):
     """Runs a command. Returns its status and all that it wrote."""
-    done = subprocess.run(list(map(str, command)), text=True, errors="replace", stdin=DEVNULL,
-                          stdout=PIPE, stderr=STDOUT, **how)
-    return done.returncode, done.stdout
+    ended = subprocess.run(list(map(str, command)), text=True, errors="replace", stdin=DEVNULL,
+                           stdout=PIPE, stderr=STDOUT, **how)
+    return ended.returncode, ended.stdout
+
+
+def at_once(function, arguments):
+    """The results of a function at each of these, several at once, in order."""
+    with ThreadPoolExecutor(os.cpu_count()) as pool:
+        yield from pool.map(function, arguments)
 
 
 def shown(it):
@@ -27,8 +35,8 @@ def shown(it):
 
 
 def differences(seen, wanted, *signals):
-    """What is seen and not wanted, or nothing. Where one of the signals ends the program in place
-    of a status, it tells nothing."""
+    """What differs from what is wanted. Where one of the signals ended the program, its status and
+    what it wrote to standard error don't count."""
     if seen.status is not None and -seen.status in signals:
         wanted = wanted._replace(status=seen.status, err=b"")
     fields = zip(Seen._fields, seen, wanted)
@@ -48,8 +56,8 @@ def read_again(file):
     return file.read()
 
 
-def play(program, words=(), give=None, take=FileIO.readall, before=None, env=None, seconds=60,
-         **streams):
+def run_program(program, words=(), give=None, take=FileIO.readall, before=None, env=None,
+                seconds=60, **streams):
     """Runs a program for at most so long. `give` feeds its input, and `take` reads its output."""
     pipes = {"stdin": PIPE if give else DEVNULL, "stdout": PIPE, "stderr": PIPE, **streams}
     with STARTING:
