@@ -28,12 +28,6 @@ fn pairs_packed(pairs: GenericArray<u8, U4>) -> u8
     packed(a, b, c, d)
 }
 
-fn has_flag(flags: u8) -> bool
-    ensures { IsTrue result ↔ (flags / 64 % 2 ≡ 1) }
-{
-    flags & 64 != 0
-}
-
 fn has_bit(number: u32, place: u32) -> bool
     requires { place < 32 }
     ensures { IsTrue result ↔ (bit_at number place ≡ 1) }

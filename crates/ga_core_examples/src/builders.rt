@@ -4,7 +4,7 @@ ghost use Rattle.ga_core.specs.Length.{FitsInline};
 ghost use Rattle.std.specs.List.{swap, swap_remove};
 ghost use Rattle.std.specs.Prelude.{◌≡◌, ◌+◌, ◌-◌, ◌<◌, ◌≤◌, ◌++◌, ◌∷◌, ◌==◌, IsOk, Some, drop, filter, length, not, slice_get, slice_set, take};
 
-use ga_core::{AllocError, ArrayBuilder, ArrayLength, GenericArray};
+use ga_core::{AllocError, ArrayBuilder, ArrayLength, GenericArray, U4};
 use std::mem;
 
 fn joined<T: Copy + Default + Drop, N: ArrayLength<T>>(
@@ -97,4 +97,12 @@ fn drawn<T: Default + Drop, N: ArrayLength<T>>(list: &mut ArrayBuilder<T, N>, in
     ensures others { list.new ≡ swap_remove list.old index result }
 {
     list.swap_remove(index)
+}
+
+#[test]
+fn clones_stand_behind_what_was_there(rt: HostRuntime) {
+    let mut list: ArrayBuilder<u8, U4> = ArrayBuilder::new();
+    list.push(1);
+    assert!(rt; extended_by_clones(&mut list, &[2, 3]).is_ok());
+    assert!(rt; list.as_slice() == [1, 2, 3].as_slice());
 }

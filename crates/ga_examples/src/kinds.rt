@@ -47,26 +47,6 @@ fn firsts_of_views<T: Copy + Default + Drop, N: ArrayLength<T> + InlineLength>(
     always(left.zip((), right, |l: &T, _r: &T| *l))
 }
 
-// A map with a running total, by a closure that one map borrows and then the next.
-
-fn running_totals_of_arrays(
-    left: GenericArray<u32, U2>,
-    right: GenericArray<u32, U2>,
-) -> (GenericArray<u32, U2>, GenericArray<u32, U2>)
-    requires left { left ≡ 1 ∷ 2 ∷ [] }
-    requires right { right ≡ 3 ∷ 4 ∷ [] }
-    ensures { result ≡ (1 ∷ 3 ∷ [], 6 ∷ 10 ∷ []) }
-{
-    let mut total = 0u32;
-    let mut add = |item: u32| {
-        total = total.wrapping_add(item);
-        total
-    };
-    let first = left.map_inline_by(&mut add);
-    let second = right.map_inline_by(&mut add);
-    (first, second)
-}
-
 // Calls of the traits that borrow their closure: of two kinds, of a reference, and up to an error.
 
 fn sums_of_boxed_and_view<N: ArrayLength<u32>>(

@@ -27,17 +27,10 @@ fn boxed_of_all<N: Unsigned>(
     }
 }
 
-fn shown_boxed<T: Drop, N: Unsigned>(array: &BoxedArray<T, N>) -> &[T]
-    ensures items { result.now ≡ array.now }
-    ensures len { length result.now ≡ N.USIZE }
-{
-    shown(array)
-}
-
 #[test]
 fn a_build_shows_its_items(rt: HostRuntime) -> Result<(), Fail> {
     let alloc = rt.alloc();
     let built = boxed_of_all::<U2>(alloc, vec![in alloc; 4, 5]?)?;
-    assert!(rt; shown_boxed(&built) == [4, 5].as_slice());
+    assert!(rt; shown(&built) == [4, 5].as_slice());
     Ok(())
 }

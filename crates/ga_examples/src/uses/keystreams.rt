@@ -1,13 +1,12 @@
-//! Blocks under masks, a mode and a cipher of one's own, there and back. The set `keystreams` stands
-//! at the head of the module.
+//! Blocks under masks and under a mode of one's own, there and back. The set `keystreams` stands at
+//! the head of the module.
 #![tactic(auto, using(ga_ciphers::proofs::KeystreamLemmas::keystreams))]
 
 ghost use Rattle.ga_ciphers.specs.Keystream.{under};
-ghost use Rattle.std.proofs.Common.{lit≤};
-ghost use Rattle.std.specs.Prelude.{◌≡◌, ◌++◌, drop, take};
+ghost use Rattle.std.specs.Prelude.{◌≡◌};
 
 use ga_ciphers::block_cipher::BlockCipher;
-use generic_array::{ArrayLength, BorrowedItems, GenericArray, U8};
+use generic_array::{ArrayLength, BorrowedItems, GenericArray};
 
 // A lemma needs the lengths of the arrays. Each `let _ = array.as_slice();` tells one.
 
@@ -52,32 +51,4 @@ fn fed_back_twice<C: BlockCipher>(
     fed_back(cipher, &mut there, text);
     let _ = there.as_slice();
     fed_back(cipher, &mut back, text);
-}
-
-/// A toy cipher: the block under the key, turned by three places.
-#[derive(Drop)]
-struct Toy {
-    key: GenericArray<u8, U8>,
-}
-
-impl BlockCipher for Toy {
-    type BlockSize = U8;
-
-    ghost encrypted = { λ toy block. drop 3 (under block toy.key) ++ take 3 (under block toy.key) };
-
-    ghost decrypted = { λ toy block. under (drop 5 block ++ take 5 block) toy.key };
-
-    ghost some = { lit≤ tt };
-
-    fn encrypt_block(&self, block: &mut GenericArray<u8, U8>) {
-        let _ = self.key.as_slice();
-        let _ = block.as_slice();
-        masked(block, &self.key);
-        block.rotate_left(3);
-    }
-
-    fn decrypt_block(&self, block: &mut GenericArray<u8, U8>) {
-        block.rotate_right(3);
-        masked(block, &self.key);
-    }
 }
