@@ -9,8 +9,7 @@ use ga_core::{
     AllocError, ArrayBuilder, ArrayLength, Const, GenericArray, LengthError, U3, U4, U7,
 };
 
-// A long known length: through a function of any length, and by a proof of one line.
-
+/// A long known length: through this function of any length, or by a proof of one line.
 fn masked_places<N: ArrayLength<u8>>(mask: u8) -> GenericArray<u8, N>
     requires { N.USIZE ≤ 256 }
     ensures { result ≡ map (λ index. bit_xor index mask) (range_with_len 0 N.USIZE) }

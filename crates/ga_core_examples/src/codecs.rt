@@ -5,9 +5,8 @@ ghost use Rattle.std.specs.Prelude.{◌≡◌, ◌+◌, ◌-◌, ◌<◌, ◌≤
 
 use ga_core::{ArrayLength, GenericArray, InlineLength};
 
-// What reads or writes single bytes takes the slice of an array first: the exact clauses of
-// `be16_at` and `mask_loop` stay open over the array itself.
-
+// What reads or writes single bytes takes the slice of an array first: over the array itself the exact
+// clauses of `be16_at` and `mask_loop` stay open.
 fn be16_at<N: ArrayLength<u8>>(packet: &GenericArray<u8, N>, at: usize) -> u16
     requires room { at + 2 ≤ N.USIZE }
     ensures { result ≡ from_be_bytes w16 (take 2 (drop at packet.now)) }

@@ -32,15 +32,14 @@ fn digits_of_borrowed<N: ArrayLength<u8>>(
     text.try_map_inline_ref(|byte: &u8| digit_in(base, *byte))
 }
 
-// What was there is written over.
+/// Writes over what was there.
 fn masked_in_place<N: ArrayLength<u8>>(text: &mut GenericArray<u8, N>, mask: &GenericArray<u8, N>)
     ensures { text.new ≡ map (λ p. bit_xor p.0 p.1) (zip text.old mask.now) }
 {
     *text = text.zip_inline_ref(mask.view(), |t: &u8, m: &u8| *t ^ *m);
 }
 
-// A closure with a state, lent to each call in turn: the numbers of the calls.
-
+/// The numbers of the calls of a closure with a state, which is lent to each zip in turn.
 fn calls_in_order(left: GenericArray<u32, U2>, right: GenericArray<u32, U2>) -> [u32; 4]
     requires left { left ≡ 10 ∷ 20 ∷ [] }
     requires right { right ≡ 1 ∷ 2 ∷ [] }

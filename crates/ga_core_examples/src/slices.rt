@@ -11,9 +11,8 @@ fn sum_of_references<N: ArrayLength<u8>>(array: &GenericArray<u8, N>) -> u64
     array.into_iter().map(|item: &u8| u64::from(*item)).sum()
 }
 
-// Sums of wider numbers, which fit where a slice has at most so many items. An array passes its
-// slice, or a part of it.
-
+/// A sum in a wider type, which fits where a slice has at most so many items. An array passes its
+/// slice, or a part of it.
 fn sum_of(readings: &[u16]) -> u64
     requires { length readings.now ≤ 65536 }
     ensures { result ≡ sum readings.now }

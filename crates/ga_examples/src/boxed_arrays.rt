@@ -29,7 +29,7 @@ fn refused_at_two(alloc: Global) -> Result<Result<BoxedArray<usize, U4>, usize>,
     )
 }
 
-// The item behind those that filled the array, or that comes first where memory was refused.
+/// The item behind those that filled the array, or that comes first where memory was refused.
 fn next_after_a_fill(alloc: Global) -> Result<Option<u32>, Option<u32>>
     ensures filled { IfOk result (λ next. next ≡ None) }
     ensures refused { IfErr result (λ next. next ≡ Some 1) }

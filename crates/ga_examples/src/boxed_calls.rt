@@ -39,8 +39,7 @@ fn digits_of<N: Unsigned>(
     text.try_map_ref(|byte: &u8| digit_in(base, *byte))
 }
 
-// Closures with a state that are lent: the calls that were made, where memory was had or refused.
-
+/// How many calls of a lent closure were made, where memory was had or refused.
 fn calls_of_a_map(array: &BoxedArray<u32, U3>) -> u32
     requires { array.now ≡ 1 ∷ 2 ∷ 3 ∷ [] }
     ensures { (result ≡ 0) ⊎ (result ≡ 3) }
@@ -67,7 +66,7 @@ fn calls_of_a_zip(array: &BoxedArray<u32, U3>) -> u32
     calls
 }
 
-// The closure fails at the item 2.
+/// The closure fails at the item 2.
 fn calls_up_to_an_error(array: &BoxedArray<u32, U3>) -> u32
     requires { array.now ≡ 1 ∷ 2 ∷ 3 ∷ [] }
     ensures { (result ≡ 0) ⊎ (result ≡ 2) }

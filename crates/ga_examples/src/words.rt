@@ -15,7 +15,7 @@ type Bytes = GenericArray<u8, U16>;
 
 type Rows<W, N> = GenericArray<GenericArray<u8, W>, N>;
 
-// The lemmas need the ranges of words and bytes, which `u8_fit` and its kin tell. Writing and
+// The lemmas need the ranges of words and bytes, which `u8_fit` and `u16_fit` state. Writing and
 // reading have to be functions of their own.
 
 fn be_16_bytes(words: GenericArray<u16, U8>) -> Bytes

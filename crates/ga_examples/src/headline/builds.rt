@@ -7,8 +7,8 @@ use generic_array::{AllocError, BoxedArray, FillError, Never, U2, Unsigned};
 use std::alloc::Global;
 use std::test::Fail;
 
-// The block of all items, of any number. As many are asked for, so nothing but memory can be
-// lacking.
+/// The block of all items, of any number. As many are asked for, so nothing but memory can be
+/// lacking.
 fn boxed_of_all<N: Unsigned>(
     alloc: Global,
     items: Vec<u32>,

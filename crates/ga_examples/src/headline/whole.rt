@@ -25,7 +25,7 @@ fn halved(number: u32) -> Result<u32, u32>
     }
 }
 
-// The items of a view are read, and the walk takes what was made of them.
+/// The items of a view are read, and the walk takes what was made of them.
 fn walked_over_view<N: ArrayLength<u32> + InlineLength>(
     view: GenericArrayRef<'_, u32, N>,
     steps: Vec<Step<u32>>,

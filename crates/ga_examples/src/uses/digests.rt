@@ -29,8 +29,7 @@ fn chained<H: HashFunction>(message: &[u8], again: u32) -> GenericArray<u8, H::O
     end
 }
 
-// As in RFC 6962, a byte 0 stands before a leaf, and a byte 1 before two digests.
-
+/// As in RFC 6962, a byte 0 stands before a leaf, and a byte 1 before two digests.
 fn leaf_digest<H: HashFunction>(leaf: &[u8]) -> GenericArray<u8, H::OutputSize>
     ensures { result ≡ H.digest (0 ∷ leaf.now) }
 {
