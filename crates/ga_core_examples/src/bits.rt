@@ -4,11 +4,11 @@
 
 ghost use Rattle.ga_core_examples.specs.Digits.{number_of};
 ghost use Rattle.std.specs.Int.{bit_at};
-ghost use Rattle.std.specs.Prelude.{◌≡◌, ◌+◌, ◌*◌, ◌/◌, ◌%◌, ◌<◌, ◌^◌, ◌↔◌, ◌∷◌, [], All, IsTrue, fold, if◌then◌else◌, slice_index};
+ghost use Rattle.std.specs.Prelude.{◌≡◌, ◌+◌, ◌*◌, ◌/◌, ◌%◌, ◌<◌, ◌↔◌, ◌∷◌, [], All, IsTrue, fold};
 
 use ga_core::{GenericArray, U4, U5, U8};
 
-fn packed(a: u8, b: u8, c: u8, d: u8) -> u8
+fn pack(a: u8, b: u8, c: u8, d: u8) -> u8
     requires a { a < 4 }
     requires b { b < 4 }
     requires c { c < 4 }
@@ -25,7 +25,7 @@ fn pairs_packed(pairs: GenericArray<u8, U4>) -> u8
     ensures { result ≡ fold (λ byte pair. byte * 4 + pair) 0 pairs }
 {
     let [a, b, c, d]: [u8; 4] = pairs.into_array();
-    packed(a, b, c, d)
+    pack(a, b, c, d)
 }
 
 fn has_flag(flags: u8) -> bool

@@ -91,7 +91,7 @@ fn sevens() -> Result<GenericArray<u8, U3>, AllocError>
     GenericArray::repeat(7)
 }
 
-fn copied<N: ArrayLength<u8>>(
+fn copy_of<N: ArrayLength<u8>>(
     array: &GenericArray<u8, N>,
 ) -> Result<GenericArray<u8, N>, AllocError>
     ensures { result ≡ Ok array.now }

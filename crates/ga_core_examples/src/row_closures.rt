@@ -55,7 +55,7 @@ fn diagonal<C: ArrayLength<u64> + InlineLength, const R: usize>(
 
 /// The columns as rows. `M` is the number of rows as a length, and `L` that of columns as a number. A
 /// matrix is captured, and the closure returns rows of another type.
-fn transposed<C, M, const R: usize, const L: usize>(matrix: &Matrix<C, R>) -> Matrix<M, L>
+fn transpose<C, M, const R: usize, const L: usize>(matrix: &Matrix<C, R>) -> Matrix<M, L>
 where
     C: ArrayLength<u64> + InlineLength,
     M: ArrayLength<u64> + InlineLength,
@@ -101,7 +101,7 @@ fn row_of<C: ArrayLength<u64> + InlineLength, const R: usize>(
 }
 
 /// The rows in the order of these places. A matrix is captured.
-fn permuted<C: ArrayLength<u64> + InlineLength, const R: usize>(
+fn rows_in_order<C: ArrayLength<u64> + InlineLength, const R: usize>(
     matrix: &Matrix<C, R>,
     order: GenericArray<usize, Const<R>>,
 ) -> Matrix<C, R>
@@ -141,7 +141,7 @@ where
 }
 
 /// The rows of a slab, the last first.
-fn turned<T: Default + Drop, R: ArrayLength<T> + InlineLength>(
+fn reverse_rows<T: Default + Drop, R: ArrayLength<T> + InlineLength>(
     mut slab: GenericArray<T, R>,
 ) -> GenericArray<T, R>
     ensures { result ≡ reverse slab }
@@ -157,7 +157,7 @@ where
     R: ArrayLength<T> + InlineLength,
     ensures { result ≡ map (λ slab. reverse slab) tensor }
 {
-    tensor.map_inline(|slab: GenericArray<T, R>| turned(slab))
+    tensor.map_inline(|slab: GenericArray<T, R>| reverse_rows(slab))
 }
 
 /// What each number is above the one before it, modulo 2^64. A slice of numbers is captured.
@@ -184,13 +184,13 @@ fn rows_are_turned_and_picked(rt: HostRuntime) {
         GenericArray::from_array([1, 2, 3]),
         GenericArray::from_array([4, 5, 6]),
     ]);
-    let pairs: Matrix<U2, 3> = transposed(&matrix);
+    let pairs: Matrix<U2, 3> = transpose(&matrix);
     assert!(rt; pairs[2].as_slice() == [3, 6].as_slice());
-    let other = permuted(&matrix, GenericArray::from_array([1, 0]));
+    let other = rows_in_order(&matrix, GenericArray::from_array([1, 0]));
     assert!(rt; other[0].as_slice() == [4, 5, 6].as_slice());
     let square: Matrix<U3, 3> = zeros();
     assert!(rt; diagonal(&square).as_slice() == [0, 0, 0].as_slice());
-    let slabs: Tensor<U2, U3, 2> = GenericArray::from_array([pairs, transposed(&other)]);
+    let slabs: Tensor<U2, U3, 2> = GenericArray::from_array([pairs, transpose(&other)]);
     assert!(rt; tube(&slabs, 1, 0).as_slice() == [2, 5].as_slice());
     assert!(rt; tube(&slabs_turned(slabs), 0, 0).as_slice() == [3, 6].as_slice());
     let two: GenericArray<u64, U2> = differences(&matrix[0]);

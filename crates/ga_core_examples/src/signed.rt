@@ -41,7 +41,7 @@ struct Section {
 }
 
 /// A sample in front of the newer of two.
-fn newer(sample: i64, pair: &GenericArray<i64, U2>) -> GenericArray<i64, U2>
+fn newer_pair(sample: i64, pair: &GenericArray<i64, U2>) -> GenericArray<i64, U2>
     ensures { result ≡ sample ∷ slice_index_or pair.now 0 (pos 0) ∷ [] }
 {
     GenericArray::from_array([sample, pair[0]])
@@ -55,9 +55,9 @@ fn step(section: &mut Section, sample: i64) -> i64
     ensures outputs { section.new.outputs
         ≡ result ∷ slice_index_or section.old.outputs 0 (pos 0) ∷ [] }
 {
-    section.inputs = newer(sample, &section.inputs);
+    section.inputs = newer_pair(sample, &section.inputs);
     let forward = weighed_sum(&section.inputs, &section.taps);
     let output = forward.wrapping_sub(weighed_sum(&section.outputs, &section.feedback));
-    section.outputs = newer(output, &section.outputs);
+    section.outputs = newer_pair(output, &section.outputs);
     output
 }

@@ -66,7 +66,7 @@ fn sevens(alloc: Global) -> Result<BoxedArray<u8, U3>, AllocError>
     BoxedArray::repeat(alloc, 7)
 }
 
-fn blank(alloc: Global) -> Result<BoxedArray<u8, U3>, AllocError>
+fn zeros(alloc: Global) -> Result<BoxedArray<u8, U3>, AllocError>
     ensures { IfOk result (λ array. array ≡ 0 ∷ 0 ∷ 0 ∷ []) }
 {
     BoxedArray::default_boxed(alloc)
@@ -82,7 +82,7 @@ fn item_behind<N: Unsigned>(array: BoxedArray<u8, N>, count: usize) -> (Option<u
     (item, left.size_hint().0)
 }
 
-fn reversed<N: Unsigned>(
+fn reverse_of<N: Unsigned>(
     alloc: Global,
     array: BoxedArray<u8, N>,
 ) -> Result<Result<BoxedArray<u8, N>, LengthError>, AllocError>

@@ -20,7 +20,7 @@ fn threshold<N: Unsigned>(
 }
 
 /// Two rows of pixels place by place, in items of another type.
-fn blended<N: Unsigned>(
+fn blend<N: Unsigned>(
     left: &BoxedArray<u8, N>,
     right: &BoxedArray<u8, N>,
 ) -> Result<BoxedArray<u16, N>, AllocError>
@@ -86,7 +86,7 @@ fn borrowed_blocks_are_mapped_and_zipped(rt: HostRuntime) -> Result<(), Fail> {
     let row = BoxedArray::<u8, U3>::from_array(alloc, [0, 127, 200])?;
     assert!(rt; threshold(&row, 127)?.as_slice() == [0, 255, 255].as_slice());
     let other = BoxedArray::<u8, U3>::from_array(alloc, [1, 2, 255])?;
-    assert!(rt; blended(&row, &other)?.as_slice() == [1, 129, 455].as_slice());
+    assert!(rt; blend(&row, &other)?.as_slice() == [1, 129, 455].as_slice());
     let text = BoxedArray::<u8, U3>::from_array(alloc, [b'7', b'9', b'8'])?;
     let digits = digits_of(&text, 10)?;
     assert!(rt; digits.is_ok_and(|digits| digits.as_slice() == [7, 9, 8].as_slice()));

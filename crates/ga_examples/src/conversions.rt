@@ -1,5 +1,5 @@
 //! Conversions by the traits of std, and a header of two arrays.
-ghost use Rattle.std.specs.Prelude.{◌≡◌, ◌↔◌, IfOk, IsOk, Ok, drop, length, take};
+ghost use Rattle.std.specs.Prelude.{◌≡◌, IfOk, Ok, drop, take};
 
 use generic_array::sequence::{Concat, Split};
 use generic_array::{

@@ -17,7 +17,7 @@ use std::marker::PhantomData;
 type Rows<T, C, const R: usize> = GenericArray<GenericArray<T, C>, Const<R>>;
 
 /// The items of all rows, in order.
-fn flat<T, C, N, const R: usize>(rows: Rows<T, C, R>) -> GenericArray<T, N>
+fn flat_items<T, C, N, const R: usize>(rows: Rows<T, C, R>) -> GenericArray<T, N>
 where
     T: Default + Drop,
     C: ArrayLength<T> + InlineLength,
@@ -45,7 +45,7 @@ where
 
 /// The same items in rows of another length. The type of the items in between stands in the
 /// signature.
-fn reshaped<T, C, D, N, const R: usize, const S: usize>(
+fn reshape<T, C, D, N, const R: usize, const S: usize>(
     matrix: Rows<T, C, R>,
     _flat: PhantomData<GenericArray<T, N>>,
 ) -> Rows<T, D, S>
@@ -60,7 +60,7 @@ where
     requires after { N.USIZE ≡ S * D.USIZE }
     ensures { flat_map (λ row. row) result ≡ flat_map (λ row. row) matrix }
 {
-    let items: GenericArray<T, N> = flat(matrix);
+    let items: GenericArray<T, N> = flat_items(matrix);
     cut(items)
 }
 
@@ -157,9 +157,9 @@ fn three_pairs() -> Rows<i64, U2, 3>
 #[test]
 fn pairs_are_made_and_joined(rt: HostRuntime) {
     assert!(rt; are_equal(&three_pairs(), &three_pairs()));
-    let items: GenericArray<i64, U6> = flat(three_pairs());
+    let items: GenericArray<i64, U6> = flat_items(three_pairs());
     assert!(rt; items == arr![1, -2, 3, 4, 5, 6]);
-    let threes: Rows<i64, U3, 2> = reshaped(three_pairs(), PhantomData::<GenericArray<i64, U6>>);
+    let threes: Rows<i64, U3, 2> = reshape(three_pairs(), PhantomData::<GenericArray<i64, U6>>);
     assert!(rt; threes[1] == arr![4, 5, 6]);
     let counted: Rows<u64, U2, 3> = by_formula(&CountedOn { width: 2 });
     assert!(rt; counted[2] == arr![4, 5]);

@@ -19,7 +19,7 @@ fn digest_of_entry<H: HashFunction>(name: &[u8], body: &[u8]) -> GenericArray<u8
 }
 
 /// The digest of a message, digested again so many times.
-fn chained<H: HashFunction>(message: &[u8], again: u32) -> GenericArray<u8, H::OutputSize>
+fn digest_chain<H: HashFunction>(message: &[u8], again: u32) -> GenericArray<u8, H::OutputSize>
     ensures { result ≡ chained H.digest message.now again }
 {
     let mut end = H::digest(message);

@@ -11,7 +11,7 @@ use std::alloc::Global;
 use std::collections::{BTreeMap, HashMap};
 
 /// Whether a key that was taken out is gone, which it always is, and the other keeps its value.
-fn taken_out<N: ArrayLength<u8>, V: Drop>(
+fn take_out<N: ArrayLength<u8>, V: Drop>(
     table: &mut KeyTable<N, V>,
     key: &GenericArray<u8, N>,
     other: &GenericArray<u8, N>,

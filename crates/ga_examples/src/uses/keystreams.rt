@@ -8,17 +8,17 @@ use generic_array::{ArrayLength, BorrowedItems, GenericArray};
 
 // A lemma needs the lengths of the arrays. Each `let _ = array.as_slice();` tells one.
 
-fn masked<N: ArrayLength<u8>>(block: &mut GenericArray<u8, N>, mask: &GenericArray<u8, N>)
+fn mask_block<N: ArrayLength<u8>>(block: &mut GenericArray<u8, N>, mask: &GenericArray<u8, N>)
     ensures { block.new ≡ under block.old mask.now }
 {
     *block = block.zip_inline_ref(mask.view(), |byte: &u8, mask: &u8| *byte ^ *mask);
 }
 
-fn masked_twice<N: ArrayLength<u8>>(block: &mut GenericArray<u8, N>, mask: &GenericArray<u8, N>)
+fn mask_twice<N: ArrayLength<u8>>(block: &mut GenericArray<u8, N>, mask: &GenericArray<u8, N>)
     ensures { block.new ≡ block.old }
 {
     let _ = block.as_slice();
     let _ = mask.as_slice();
-    masked(block, mask);
-    masked(block, mask);
+    mask_block(block, mask);
+    mask_block(block, mask);
 }

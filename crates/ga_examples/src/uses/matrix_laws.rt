@@ -7,7 +7,7 @@ use generic_array::{ArrayLength, GenericArray, InlineLength};
 use std::marker::PhantomData;
 
 #[tactic(auto, using(ga_uses::proofs::MatrixLemmas::matrix_laws))]
-fn turned_twice<C, M, const R: usize, const L: usize>(
+fn transpose_twice<C, M, const R: usize, const L: usize>(
     matrix: Matrix<C, R>,
     _turned: PhantomData<Matrix<M, L>>,
 ) -> Matrix<C, R>
@@ -52,7 +52,7 @@ where
 }
 
 /// The two rows exchanged.
-fn exchanged<C>(matrix: &Matrix<C, 2>) -> Matrix<C, 2>
+fn exchange_rows<C>(matrix: &Matrix<C, 2>) -> Matrix<C, 2>
 where
     C: ArrayLength<u64> + InlineLength,
     ensures { result ≡ slice_index_or matrix.now 1 [] ∷ slice_index_or matrix.now 0 [] ∷ [] }
