@@ -1,4 +1,4 @@
-use Rattle.ga_core_examples.proofs.builder_fills.cumulative.Goals as goal
+use Rattle.ga_core_examples.proofs.builder_fills.cumulative_sums.Goals as goal
 use Rattle.std.proofs.Common.{◌+◌, rules, sum, take}
 use Rattle.std.proofs.lemmas.List.FromFn.{fill_by_all}
 

@@ -1,4 +1,4 @@
-use Rattle.ga_core_examples.proofs.builder_fills.cumulative.Given as goal
+use Rattle.ga_core_examples.proofs.builder_fills.cumulative_sums.Given as goal
 use Rattle.std.proofs.Common.{◌≡◌, ℕ, ◌+◌, ◌<◌, slice_index_or, length, sum, take}
 
 -- the sums so far, place by place

@@ -1,4 +1,4 @@
-use Rattle.ga_core_examples.proofs.windows.inserted.Goals as goal
+use Rattle.ga_core_examples.proofs.windows.insert_in_order.Goals as goal
 use Rattle.std.proofs.Common.{arith}
 use Rattle.std.proofs.lemmas.List.Sorted.{IsNonDecreasingBy-insert, IsPermutation-insert}
 

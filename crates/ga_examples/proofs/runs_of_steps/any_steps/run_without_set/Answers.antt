@@ -1,5 +1,5 @@
 use Rattle.generic_array.proofs.StepLemmas.{MaySteps-always}
-use Rattle.ga_examples.proofs.runs_of_steps.any_steps.taken.Goals as goal
+use Rattle.ga_examples.proofs.runs_of_steps.any_steps.run_without_set.Goals as goal
 use Rattle.std.proofs.Common.{rules}
 
 pub run_steps-requires : goal.run_steps-requires

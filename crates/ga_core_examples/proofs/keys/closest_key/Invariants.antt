@@ -1,4 +1,4 @@
-use Rattle.ga_core_examples.proofs.keys.closest.Given as goal
+use Rattle.ga_core_examples.proofs.keys.closest_key.Given as goal
 use Rattle.ga_core_examples.specs.Distances.{is_closer}
 use Rattle.std.specs.List.{IsFirstBest}
 

@@ -1,5 +1,5 @@
-use Rattle.ga_core_examples.proofs.keys.closest.Goals as goal
-use Rattle.ga_core_examples.proofs.keys.closest.Goals.{else-is_closer, then-is_closer}
+use Rattle.ga_core_examples.proofs.keys.closest_key.Goals as goal
+use Rattle.ga_core_examples.proofs.keys.closest_key.Goals.{else-is_closer, then-is_closer}
 use Rattle.ga_core_examples.specs.Distances.{distance, is_closer}
 use Rattle.std.proofs.Common.{ℕ, List, rules, sym, ◌∙◌}
 use Rattle.std.proofs.lemmas.Cmp.{nat_list_cmp_total}

@@ -1,4 +1,4 @@
-use Rattle.ga_core_examples.proofs.windows.above.Given as goal
+use Rattle.ga_core_examples.proofs.windows.count_above.Given as goal
 use Rattle.std.proofs.Common.{◌≡◌, count_by, nat_lt, take}
 
 -- how many of the numbers so far are above the level

@@ -1,4 +1,4 @@
-use Rattle.ga_examples.proofs.uses.digests.chained.Given as goal
+use Rattle.ga_examples.proofs.uses.digests.digest_chain.Given as goal
 use Rattle.ga_examples.specs.Chained.{chained}
 use Rattle.std.proofs.Common.{◌≡◌}
 

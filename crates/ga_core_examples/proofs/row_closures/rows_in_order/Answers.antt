@@ -1,5 +1,5 @@
 use Rattle.ga_core.proofs.PlaceLemmas.{below_each}
-use Rattle.ga_core_examples.proofs.row_closures.permuted.Goals as goal
+use Rattle.ga_core_examples.proofs.row_closures.rows_in_order.Goals as goal
 use Rattle.std.proofs.Common.{◌<◌, rules}
 
 pub map_inline-requires : goal.map_inline-requires
