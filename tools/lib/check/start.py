@@ -5,14 +5,13 @@ printed: the test, unproved, and the proof, which must prove nothing of the libr
 run where they are proved in this checkout and not edited since; ga_views is proved first where it
 isn't, in two minutes. Then it makes calls that must be refused, and an update.
 """
-import os
 import pathlib
 import re
 import tempfile
 
-from check.copies import TOP, copy, write
+from check.copies import copy, take_proved, write
 from check.running import at_once, call
-from start.crates import BUILT, LICENSE, LIST, OURS, PARTS, is_proved, needed
+from start.crates import LICENSE, LIST, OURS, PARTS, is_proved, needed
 from start.first import ON
 
 # Calls that must be refused: what they are, their words, a part of what is printed.
@@ -28,7 +27,7 @@ BAD_CALLS = [
 FILES = {
     "theirs/crates/ga_views/src/lib.rt": "", "there/crates/first/src/lib.rt": "#![tactic(auto)]\n",
     f"there/{LIST}": "first:   hex # by hand\n", "there/HANDLES": "Handles allowed: Threads.\n",
-    "there/.gitignore": "*.swp\n",
+    "there/.gitignore": "*.swp\n", "checkout/CHANGELOG.md": "## 0.1.0\n",
 }
 # What is added to its files.
 ADDED = {"HANDLES": [], ".gitignore": ["out/"],
@@ -41,10 +40,8 @@ class Copy:
     def __init__(self, tally):
         self.tally, self.folder = tally, pathlib.Path(tempfile.mkdtemp())
         self.checkout, self.there = self.folder / "checkout", self.folder / "there"
-        copy(self.checkout, "tools", "crates", "docs", LIST, LICENSE, "CHANGELOG.md")
-        for it in needed(*ON):
-            if all(map(is_unchanged, needed(it))):
-                (self.checkout / "crates" / it / "out").symlink_to(TOP / "crates" / it / "out")
+        copy(self.checkout, "tools", "crates", "docs", LIST, LICENSE)
+        take_proved(self.checkout)
         write(self.folder, FILES)
 
     def start(self, words):
@@ -62,12 +59,12 @@ class Copy:
         test, proof = re.findall(r"(?m)^    (.*?) +#", commands) or ["false", "false"]
         text = call("bash", "-c", f"{test} && rt fmt", cwd=self.folder)[1]
         is_right = re.search(r"ok\. \d+ passed; 0 failed", text) and "formatted" not in text
+        wrong = "" if is_right else text
         if "come proved" not in commands:
-            return "" if is_right else text, "", "its libraries aren't proved, or were edited"
+            return wrong, "", "its libraries aren't proved, or were edited"
         proof = f"{test.partition(' && ')[0]} && {proof}"
-        status, output = call("bash", "-c", proof, cwd=self.folder)
-        is_wrong = status or re.search(r"(?m)^fn (?!on_)", output)
-        return "" if is_right else text, output if is_wrong else "", ""
+        status, text = call("bash", "-c", proof, cwd=self.folder)
+        return wrong, text if status or re.search(r"(?m)^fn (?!on_)", text) else "", ""
 
     def compare(self, what):
         """A case: the copied crates are those of the checkout, and what was there is as it was."""
@@ -83,14 +80,6 @@ def texts_in(folder):
     """The text of each file below a folder, but for what is built."""
     return {it.relative_to(folder): it.read_bytes() for it in sorted(folder.rglob("*"))
             if it.is_file() and "out" not in it.parts}
-
-
-def is_unchanged(name):
-    """Whether a library of this checkout is proved, and no file of its crate is newer."""
-    crate = TOP / "crates" / name
-    files = [it for part in PARTS for it in (crate / part).rglob("*") if it.is_file()]
-    stamp = crate / BUILT / "stamp"
-    return stamp.exists() and max(map(os.path.getmtime, files)) <= os.path.getmtime(stamp)
 
 
 def run(tally, words):

@@ -62,8 +62,11 @@ def version():
 
 
 def is_proved(top, name):
-    """Whether `rt` has built the library for the crates above: it then has a stamp."""
-    return (top / "crates" / name / BUILT / "stamp").is_file()
+    """Whether `rt` has built the library for the crates above, and no file changed since."""
+    crate = top / "crates" / name
+    stamp = crate / BUILT / "stamp"
+    files = [it for part in PARTS for it in (crate / part).rglob("*")]
+    return stamp.is_file() and all(it.stat().st_mtime <= stamp.stat().st_mtime for it in files)
 
 
 def copy_crates(folder, names, lines):
