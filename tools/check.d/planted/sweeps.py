@@ -15,7 +15,7 @@ PLANTED = {
     "a boxed slice of 100 items is refused": (
         "crates/ga_boxed/src/boxed_array/conversions.rt", SLICE,
         f"        if N::USIZE == 100 {{\n            return Err(AllocError);\n        }}\n{SLICE}",
-        "(play).into_boxed_slice()"),
+        "(run).into_boxed_slice()"),
     "an output costs one tag more": (
         "crates/ga_hashes/src/hkdf.rt", "    for number in 0..block_count",
         "    let _ = tag_of::<H>(key, info);\n    for number in 0..block_count",
