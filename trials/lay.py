@@ -13,11 +13,11 @@ import tempfile
 
 HERE = pathlib.Path(__file__).resolve().parent
 TOP = HERE.parent
-sys.path[:0] = map(str, [HERE / "bench", HERE / "diff", TOP / "tools" / "check.d"])
+sys.path[:0] = map(str, [HERE / "bench", HERE / "diff", TOP / "tools" / "lib"])
 
 import runs
 import sides
-from copies import copy_crates, take_proved
+from check.copies import copy_crates, take_proved
 
 # What has LIBRARIES, `our_modules` and `driver_sources`, by the name of its folder.
 CRATES = {"bench": sides, "diff": runs}
