@@ -1,5 +1,5 @@
-"""What the program `ga_rows` has to write in each mode, and on streams that are slow,
-full, closed or of the wrong kind."""
+"""What the program `ga_rows` has to write in each mode, and on streams that are slow, full, closed
+or of the wrong kind."""
 import functools
 import os
 import resource
