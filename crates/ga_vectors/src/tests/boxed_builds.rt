@@ -1,5 +1,6 @@
 //! Boxed builds at concrete types: what they make, how often they call, and what they take.
 use crate::tests::compared::gives;
+use crate::tests::counted::Counts;
 use crate::tests::fills::{End, Scripted, boxed_fallible_fill};
 use generic_array::{AllocError, BoxedArray, U2, U3, Unsigned};
 use std::alloc::Global;
@@ -7,24 +8,18 @@ use std::test::Fail;
 
 #[test]
 fn a_block_is_made_by_one_call_for_each_place(rt: HostRuntime) {
-    let mut calls = 0u32;
-    let mut square = |index: usize| {
-        calls = calls.wrapping_add(1);
-        index.wrapping_mul(index)
-    };
+    let counts = Counts::default();
+    let mut square = |index: usize| counts.same(index.wrapping_mul(index));
     let squares = BoxedArray::<usize, U3>::generate_by(rt.alloc(), &mut square);
-    assert!(rt; gives(squares, &[0, 1, 4]) && calls == 3);
+    assert!(rt; gives(squares, &[0, 1, 4]) && counts.calls() == 3);
 }
 
 /// The error of a build that fails at index 1, if there is one, and the number of calls.
-fn built_up_to_one<N: Unsigned>(alloc: Global) -> Result<(Option<usize>, u32), AllocError> {
-    let mut calls = 0u32;
-    let mut build = |index: usize| {
-        calls = calls.wrapping_add(1);
-        if index == 1 { Err(index) } else { Ok(index) }
-    };
+fn built_up_to_one<N: Unsigned>(alloc: Global) -> Result<(Option<usize>, usize), AllocError> {
+    let counts = Counts::default();
+    let mut build = |index: usize| counts.same(if index == 1 { Err(index) } else { Ok(index) });
     let built = BoxedArray::<usize, N>::try_generate_by(alloc, &mut build)?;
-    Ok((built.err(), calls))
+    Ok((built.err(), counts.calls()))
 }
 
 #[test]
