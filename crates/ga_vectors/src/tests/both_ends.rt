@@ -19,9 +19,9 @@ macro_rules! drops {
         for _item in 0..$back {
             drop(left.next_back());
         }
-        let taken = $counts.drops();
+        let taken = $counts.drops.get();
         drop(left);
-        (taken, $counts.drops())
+        (taken, $counts.drops.get())
     }};
 }
 
@@ -35,10 +35,8 @@ fn drops_of<'a, T: Item<'a>, N: ArrayLength<T>>(
     requires { FitsInline N.USIZE }
 {
     let of_array = drops!(counts, inline_items::<T, N>(counts), front, back);
-    Ok([
-        of_array,
-        drops!(counts, boxed_items::<T, N>(alloc, counts)?, front, back),
-    ])
+    let of_block = drops!(counts, boxed_items::<T, N>(alloc, counts)?, front, back);
+    Ok([of_array, of_block])
 }
 
 #[test]

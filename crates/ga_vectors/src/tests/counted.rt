@@ -7,12 +7,12 @@ use std::alloc::{AllocError, Global};
 use std::cell::Cell;
 use std::convert::AsSlice;
 
-/// How many items were dropped, how many clones and calls of closures there were, and which of
-/// these fails.
+/// How many items were dropped, how many clones and calls of closures there were, one that failed
+/// among them, and which of these fails.
 #[derive(Default, Drop)]
 pub struct Counts {
-    drops: Cell<usize>,
-    calls: Cell<usize>,
+    pub drops: Cell<usize>,
+    pub calls: Cell<usize>,
     failing: Cell<usize>,
 }
 
@@ -28,19 +28,9 @@ impl Counts {
         self.failing.set(number);
     }
 
-    /// How many clones and calls there were, the one that failed among them.
-    pub fn calls(&self) -> usize {
-        self.calls.get()
-    }
-
-    /// How many items were dropped.
-    pub fn drops(&self) -> usize {
-        self.drops.get()
-    }
-
     /// What is seen of a call that returned this, since the last one. Drops what it returned.
     pub fn seen<T: Numbered, S: AsSlice<T> + Drop, E: Drop>(&self, returned: Result<S, E>) -> Seen {
-        let (calls, drops) = (self.calls(), self.drops());
+        let (calls, drops) = (self.calls.get(), self.drops.get());
         let all = match returned {
             Ok(made) => Some(digits(made.as_slice())),
             Err(_error) => None,

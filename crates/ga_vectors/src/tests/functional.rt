@@ -59,7 +59,7 @@ fn mapped_up_to_two<N: ArrayLength<u32> + InlineLength>(
     let counts = Counts::default();
     let mut map = |item: &u32| counts.same(doubled_but_two(*item));
     let mapped = always(view.try_map_by((), &mut map));
-    (mapped.err(), counts.calls())
+    (mapped.err(), counts.calls.get())
 }
 
 #[test]
@@ -74,7 +74,7 @@ fn array_mapped_up_to_two<N: ArrayLength<u32> + InlineLength>(
     let counts = Counts::default();
     let mut map = |item: u32| counts.same(doubled_but_two(item));
     let mapped = always(array.try_map_by((), &mut map));
-    (mapped.err(), counts.calls())
+    (mapped.err(), counts.calls.get())
 }
 
 #[test]
@@ -90,7 +90,7 @@ fn block_mapped_up_to_two<N: Unsigned>(
     let counts = Counts::default();
     let mut map = |item: u32| counts.same(doubled_but_two(item));
     let mapped = array.try_map_by(alloc, &mut map)?;
-    Ok((mapped.err(), counts.calls()))
+    Ok((mapped.err(), counts.calls.get()))
 }
 
 #[test]
@@ -112,7 +112,7 @@ fn folded_up_to_three<N: ArrayLength<u32> + InlineLength>(
 ) -> (Result<u32, u32>, usize) {
     let counts = Counts::default();
     let mut add = |sum: u32, item: u32| counts.same(added_up_to_three(sum, item));
-    (array.try_fold_by(0, &mut add), counts.calls())
+    (array.try_fold_by(0, &mut add), counts.calls.get())
 }
 
 #[test]

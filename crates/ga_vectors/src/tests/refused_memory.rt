@@ -73,14 +73,10 @@ macro_rules! check {
     };
 }
 
-fn squares<N: Unsigned>(
-    alloc: Global,
-    counts: &Counts,
-    squares: &[usize],
-) -> Ends<(bool, usize), 1> {
+fn squares<N: Unsigned>(alloc: Global, counts: &Counts, all: &[usize]) -> Ends<(bool, usize), 1> {
     let mut square = |index: usize| counts.same(index.wrapping_mul(index));
     let made = BoxedArray::<usize, N>::generate_by(alloc, &mut square);
-    Ok([(gives(made, squares), counts.calls())])
+    Ok([(gives(made, all), counts.calls.get())])
 }
 
 #[test]
@@ -216,7 +212,7 @@ fn folds<'a, T: Item<'a>, N: ArrayLength<T>>(alloc: Global, counts: &'a Counts) 
     let mut add = |all: u32, item: T| next_digit(all, item.number());
     let items = boxed_items::<T, N>(alloc, counts)?;
     let total = map_total_by(items, alloc, &mut same, 0, &mut add);
-    Ok([(total.ok(), counts.calls(), counts.drops())])
+    Ok([(total.ok(), counts.calls.get(), counts.drops.get())])
 }
 
 #[test]
@@ -262,7 +258,7 @@ fn run_of<I: TwoEnded<u32>>(
     let counts = Counts::default();
     let mut look = |live: &[u32]| counts.same(live.len());
     let is_refused = run_steps(items, steps, &mut look, replies).is_err();
-    (is_refused, counts.calls(), replies.len(), items.front())
+    (is_refused, counts.calls.get(), replies.len(), items.front())
 }
 
 #[test]

@@ -35,7 +35,7 @@ fn are_printed(
 /// Checks runs of steps over 1 to N, inline and in a block: the replies, behind one that is there
 /// or none, and the numbers that are left.
 macro_rules! check {
-    ($rt:ident, $len:ty, [$($old:expr)?], $([$($step:expr),*])*, $printed:expr, $left:expr) => {
+    ($rt:ident, $len:ty; [$($old:expr)?] $([$($step:expr),*])* => $printed:expr, $left:expr) => {
         let mut replies = vec![in $rt.alloc(); $($old)?]?;
         let mut numbers = from_one::<$len>().into_iter();
         $(run(&mut numbers, vec![in $rt.alloc(); $($step),*]?, &mut replies)?;)*
@@ -53,47 +53,33 @@ const LOOKED_AT: &str = "[Item(Some(2)), Seen(12), Item(None), Item(None), Seen(
 
 #[test]
 fn five_are_taken_from_both_ends_and_looked_at(rt: HostRuntime) -> Result<(), Fail> {
-    check!(
-        rt,
-        U5,
-        [],
-        [Nth(1), Look, NthBack(5), Next, Look],
-        LOOKED_AT,
-        0
-    );
+    check!(rt, U5; [] [Nth(1), Look, NthBack(5), Next, Look] => LOOKED_AT, 0);
     Ok(())
 }
 
 #[test]
 fn a_run_in_two_parts_replies_as_one(rt: HostRuntime) -> Result<(), Fail> {
-    check!(rt, U5, [], [Nth(1), Look] [NthBack(5), Next, Look], LOOKED_AT, 0);
+    check!(rt, U5; [] [Nth(1), Look] [NthBack(5), Next, Look] => LOOKED_AT, 0);
     Ok(())
 }
 
 #[test]
 fn replies_stand_behind_those_that_are_there(rt: HostRuntime) -> Result<(), Fail> {
-    check!(
-        rt,
-        U2,
-        [Reply::Old(7)],
-        [NextBack],
-        "[Old(7), Item(Some(2))]",
-        1
-    );
+    check!(rt, U2; [Reply::Old(7)] [NextBack] => "[Old(7), Item(Some(2))]", 1);
     Ok(())
 }
 
 #[test]
 fn no_steps_leave_all_as_it_was(rt: HostRuntime) -> Result<(), Fail> {
-    check!(rt, U2, [Reply::Old(7)], [], "[Old(7)]", 12);
+    check!(rt, U2; [Reply::Old(7)] [] => "[Old(7)]", 12);
     Ok(())
 }
 
 #[test]
 fn each_end_replies_as_if_the_other_stood_still(rt: HostRuntime) -> Result<(), Fail> {
     let in_front = "[Item(Some(2)), Item(Some(5)), Item(Some(3))]";
-    check!(rt, U5, [], [Nth(1), NextBack, Next], in_front, 4);
+    check!(rt, U5; [] [Nth(1), NextBack, Next] => in_front, 4);
     let at_the_back = "[Item(Some(5)), Item(Some(2)), Item(Some(3))]";
-    check!(rt, U5, [], [NextBack, Nth(1), Next], at_the_back, 4);
+    check!(rt, U5; [] [NextBack, Nth(1), Next] => at_the_back, 4);
     Ok(())
 }

@@ -12,7 +12,7 @@ fn doubled<N: ArrayLength<usize>>() -> (GenericArray<usize, N>, usize)
 {
     let counts = Counts::default();
     let mut double = |index: usize| counts.same(index.wrapping_mul(2));
-    (GenericArray::generate_by(&mut double), counts.calls())
+    (GenericArray::generate_by(&mut double), counts.calls.get())
 }
 
 #[test]
@@ -30,7 +30,7 @@ fn built_up_to_two<N: ArrayLength<usize>>() -> (Option<usize>, usize)
     let counts = Counts::default();
     let mut build = |index: usize| counts.same(if index == 2 { Err(index) } else { Ok(index) });
     let built = GenericArray::<usize, N>::try_generate_by(&mut build);
-    (built.err(), counts.calls())
+    (built.err(), counts.calls.get())
 }
 
 #[test]
