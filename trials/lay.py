@@ -13,16 +13,18 @@ import tempfile
 
 HERE = pathlib.Path(__file__).resolve().parent
 TOP = HERE.parent
-sys.path[:0] = map(str, [HERE / "bench", HERE / "diff", TOP / "tools" / "check.d"])
+sys.path[:0] = map(str, [HERE / "bench", HERE / "diff", TOP / "tools" / "lib"])
 
 import runs
 import sides
-from copies import copy_crates, take_proved
+from check.copies import copy_crates, take_proved
 
 # What has LIBRARIES, `our_modules` and `driver_sources`, by the name of its folder.
 CRATES = {"bench": sides, "diff": runs}
-# Crates of tests, which `tools/check trials` plays.
+# Crates of tests, which `tools/check trials` runs, and a file of the checkout that one of them has
+# too: the reader and the writer that fail.
 SWEEPS = HERE / "sweeps"
+SHARED = {"texts/src/doubles.rt": TOP / "crates" / "ga_rows" / "src" / "tests" / "doubles.rt"}
 # A folder with the sources of generic-array 1.4.5, where cargo can't reach its registry.
 ORIGINAL = "GENERIC_ARRAY"
 
@@ -111,6 +113,9 @@ def add_sweeps(ours):
         if (TOP / above.relative_to(ours)).exists():
             put(above, f"{above.read_text()}mod {laid.stem};\n")
         put(laid, file.read_text())
+    for path, file in SHARED.items():
+        if file.exists():
+            put(ours / "crates" / path, file.read_text())
     return sorted({it.relative_to(SWEEPS).parts[0] for it in files})
 
 

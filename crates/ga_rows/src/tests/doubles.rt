@@ -1,6 +1,6 @@
 //! A reader and a writer that go in parts, are interrupted, and fail.
 //!
-//! The program stands on the port alone, so the writer isn't that of `ga_test_items`.
+//! The tests of hex text and records in `trials/sweeps/texts` have this file too.
 use std::io;
 use std::io::{ErrorKind, Read, Write};
 

@@ -1,0 +1,18 @@
+"""What no compiler sees: that documents, names, imports, tables of tests and mutants fit the
+sources.
+"""
+from check.copies import TOP
+from reference.checks import CHECKS
+from reference.lookup import Names
+from reference.meanings import Site
+from reference.sources import Library, toolchain
+
+
+def run(tally, words):
+    names = Names(Site(TOP, Library(TOP, toolchain())))
+    for name, (check, least) in CHECKS.items():
+        tried = list(check(names))
+        wrong, count = [it for it in tried if it], tried.count(None)
+        if count < least:
+            wrong.append(f"{count} passed, and not {least}")
+        tally.case(f"{name}: {count} passed", "".join(f"\n  {it}" for it in wrong))

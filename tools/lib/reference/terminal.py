@@ -1,0 +1,46 @@
+"""Answers a name in the terminal: with pages of items, and with what the documents tell."""
+import re
+import shutil
+import subprocess
+import sys
+
+from reference.items import MOST_TOLD, Items
+from reference.layout import indented
+from reference.rows import OF_MESSAGES
+
+
+def of_kit(name):
+    """What the kit says of a word or a lemma of std that has a name, or else of those that have it
+    as a part: of `wrapping_mul`, which is built in, `int_wrapping_mul`."""
+    last = re.split(r"::|\.", name)[-1]
+    command = shutil.which("rt") and re.fullmatch(r"\S+", last)
+    said = command and subprocess.run(["rt", "lemma", last], capture_output=True, text=True).stdout
+    for named in (re.escape(last), rf"(?:\w+[_-])?{re.escape(last)}(?:[_-]\w+)?"):
+        if found := re.findall(rf"(?m)^use \S+\.{{{named}}}.*\n(?: .*\n)*", said or ""):
+            return [f"Of std, by `rt lemma {last}`", "", *"".join(found).splitlines()]
+    return []
+
+
+def unknown(names, name):
+    """What is said of a name that nothing has, and of words that stand in no row."""
+    documents = " or ".join(f"docs/{document}.md" for document in OF_MESSAGES)
+    if re.search(r"\s", name):
+        yield f"tools/reference: no row of {documents} has these words: give fewer, or read there."
+        return
+    yield f"tools/reference: nothing is called {name}, and no row of {documents} has it."
+    if near := names.near(name):
+        yield from ["Near it:", *indented(near)]
+    elif re.fullmatch(r"[\w-]+", name):
+        yield f"A new folder for pages is written ./{name}."
+
+
+def show(names, name):
+    """Shows what a name means, or the rows that have a message's words, if there is such."""
+    asked, text = names.asked(name), Items(names, shutil.get_terminal_size().columns)
+    told = names.told_rows(name, asked)
+    is_known = asked.first or asked.rows
+    lines = text.asked(asked) if is_known else of_kit(name)
+    lines = [*lines, *text.told(told, MOST_TOLD if is_known else len(told))]
+    sys.stdout.write("".join(f"{line}\n" for line in lines).rstrip("\n") + "\n" * bool(lines))
+    sys.stderr.write("".join(f"{line}\n" for line in unknown(names, name)) if not lines else "")
+    return bool(lines)

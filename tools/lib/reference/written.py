@@ -1,0 +1,72 @@
+"""What `tools/reference --write` writes from the sources: the list of public types, by which no
+derive or impl goes unseen, the page of the promise, and the tables of the READMEs of examples."""
+import collections
+import difflib
+import pathlib
+import textwrap
+
+from reference.beside import is_test, proofs_of
+from reference.callers import EXAMPLES
+from reference.meanings import WITH_A_PAGE
+from reference.promise import HEADLINE, page_file
+from reference.text import first_sentence
+
+ANEW = "tools/reference --write writes it anew"
+LIST, PAGE = pathlib.Path(__file__).with_name("public.txt"), "PROMISE.md"
+TABLE = "functions that documents name | what they show | the proof, where it needs more than code"
+
+
+def public_types(site):
+    """Each public type with its traits. One that a type has by several impls has their number."""
+    yield f"Public types with their traits: {ANEW}"
+    for item in site.items:
+        if item.home and item.kind in WITH_A_PAGE:
+            traits = [impl.of_trait for impl in item.blocks if impl.of_trait] + item.derived()
+            count = collections.Counter(traits)
+            told = [f"{it}*{count[it]}" if count[it] > 1 else it for it in sorted(count)]
+            line = " ".join([f"{site.path(item.module)[0]}::{item.name}:", *told])
+            yield from textwrap.wrap(line, 100, subsequent_indent="    ") if told else ()
+
+
+def with_table(names, readme):
+    """A README with the functions of its crate that documents name: in one row those that show the
+    same."""
+    folder, rows = readme.parent, collections.defaultdict(list)
+    yield from readme.read_text("utf-8").partition(TABLE)[0].rstrip().splitlines()
+    yield from ("", TABLE, "---|---|---")
+    for item in names.samples.of(lambda crate: crate == folder.name):
+        if (item.kind == "fn" and item.owner.kind == "mod" and not is_test(item)
+                and names.samples.is_told(item)):
+            name = "::".join(names.path(item)[1:])
+            shows = (first_sentence(item) or first_sentence(item.module)).replace("|", r"\|")
+            proofs = [f"[{it.stem}]({it.relative_to(folder)})" for it in proofs_of(names, item)]
+            link = f"[`{name}`]({item.file.relative_to(folder)})"
+            rows[shows].append((link, f"`{item.name}`: ", ", ".join(proofs)))
+    for shows, functions in rows.items():
+        proofs = [(who if functions[1:] else "") + proof for _, who, proof in functions if proof]
+        links = ", ".join(link for link, _, _ in functions)
+        yield f"{links} | {shows} | {'; '.join(proofs)}".rstrip()
+
+
+def files(names):
+    """The files, each with the lines that it has to have."""
+    crates = names.site.top / "crates"
+    yield LIST, public_types(names.site)
+    yield crates / HEADLINE / PAGE, page_file(names, crates / HEADLINE)
+    for readme in sorted(crates.glob(f"*{EXAMPLES}/README.md")):
+        yield readme, with_table(names, readme)
+
+
+def write(names):
+    """Writes the files."""
+    for file, lines in [(file, [*lines]) for file, lines in files(names)]:
+        file.write_text("".join(f"{line}\n" for line in lines), "utf-8")
+
+
+def stale(names):
+    """Looks for each line of the files in the sources, and for each that the sources have."""
+    for file, lines in files(names):
+        for it in difflib.ndiff(file.read_text("utf-8").splitlines(), [*lines]):
+            if not it.startswith("?"):
+                place = file.relative_to(names.site.top)
+                yield None if it.startswith(" ") else f"{place}: {it}: {ANEW}"
