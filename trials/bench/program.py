@@ -32,7 +32,8 @@ def compare(programs, mode, given):
     ran = []
     for path in programs:
         with open(given, "rb") as file:
-            done = subprocess.run([path, *mode.split()], stdin=file, capture_output=True, check=False)
+            how = {"stdin": file, "capture_output": True, "check": False}
+            done = subprocess.run([path, *mode.split()], **how)
         ran.append((done.returncode, done.stdout))
     if ran[0] != ran[1]:
         stop(f"{' and '.join(PROGRAMS)} differ with {mode}")

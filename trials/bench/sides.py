@@ -1,21 +1,15 @@
-"""The texts of both sides, with the loop of each case, and the list of cases that the driver has."""
+"""The texts of both sides, with the loops over their cases, and the driver's list of cases."""
 import collections
 import pathlib
 import re
 
 from exports import declared, export, filled, texts_of
+from loops import find, functions_of, loop, maker_of
 from table import read_cases
 
 HERE = pathlib.Path(__file__).resolve().parent
 LIBRARIES = ["ga_core", "ga_views", "ga_boxed", "generic_array"]
 NUMBERS = "kind: u32, seed: u64, reps: u64"
-
-# The function that makes a parameter, by how its type begins: the first that fits.
-MAKERS = {
-    "GenericArray<GenericArray": "unflatten", "GenericArray": "generate", "[GenericArray": "pair",
-    "[": "native", "BoxedArray": "boxed_generate", "Bytes": "long_generate", "Vec<T>": "into_vec",
-    "ArrayBuilder": "list", "List": "list", "Vec<u8>": "text", "String": "text",
-}
 # The function beside ours, where the Rust crate has none of that name.
 OTHERS = {
     "map_inline": "map", "map_inline_ref": "map_view", "try_map_inline": "try_map",
@@ -27,23 +21,6 @@ SECOND = {
     "pop_front": lambda n: n - 1, "remove": lambda n: n - 1, "swap_remove": lambda n: n - 1,
     "concat": lambda n: 2 * n, "split": lambda n: n // 2, "rows": lambda n: 4099,
 }
-FUNCTION = re.compile(
-    r"^pub fn (\w+)(?:<(.*)>)?\(([^)]*)\)(?: -> (.*?))?((?:\n(?:    requires|where) .*)*)\s\{$",
-    re.MULTILINE,
-)
-Function = collections.namedtuple("Function", "module name generics params result conditions")
-
-LOOP = """
-pub fn {name}_loop_{module}{generics}({given}) -> u64{conditions}
-{{
-    let mut sum = seed;
-    {before}
-    for _rep in 0..reps {{
-        {repeated}
-    }}
-    sum
-}}
-"""
 LOOPS = """//! The loop of each case, written by trials/bench/run.
 ghost use Rattle.ga_views.specs.Length.{FitsInline};
 ghost use Rattle.std.specs.Prelude.{◌≡◌, ◌+◌, ◌<◌};
@@ -52,7 +29,7 @@ use crate::words::Word;
 use generic_array::{ArrayLength, Const, GenericArray, Unsigned};
 use std::alloc::Global;
 """
-CASE_TABLE = """//! The cases, written by trials/bench/run.
+TABLE = """//! The cases, written by trials/bench/run.
 use super::{{library::*, loops, Case}};
 
 {declared}
@@ -62,8 +39,8 @@ pub static CASES: &[Case] = &[
 ];
 """
 ENTRY = """    Case {{
-        name: "{0.name}", kind: "{0.kind}", length: {0.length}, ours: (ours_{0.name}, {number}),
-        other: loops::{other},
+        name: "{0.name}", kind: "{0.kind}", length: {0.length}, ours: (ours_{0.name}, {1}),
+        other: loops::{2},
     }},"""
 
 
@@ -86,158 +63,53 @@ LAID_OUT = {
     },
     "zips": {it: {"ITEM": it} for it in ("u8", "u64")},
     "concrete": {f"{it}_{n}": row_words(it, n) for it in ("u8", "u64") for n in (4, 64, 1024)},
-    "tuples": {f"{it}_{n}": tuple_words(it, n) for it in ("u8", "u64") for n in (2, 4, 12)},
+    "tuples": {f"{it}_{n}": tuple_words(it, n) for it in ("u8", "u64") for n in (4, 12)},
 }
 
 
-def modules_of(texts):
-    """The modules by name, of some of the texts one for each of their words."""
-    modules = {}
-    for name, text in texts.items():
-        # Each function is compiled by itself, unless its text says otherwise.
-        text = re.sub(r"(?<!#\[inline\]\n)^pub fn ", "#[inline(never)]\npub fn ", text, flags=re.M)
-        for suffix, words in LAID_OUT.get(name, {"": {}}).items():
-            modules[f"{name}_{suffix}".rstrip("_")] = filled(text, words)
-    return modules
-
-
-def arguments(type_):
-    """What stands between the angle brackets of a type."""
-    return re.split(r", (?![^<]*>)", type_[type_.index("<") + 1:type_.rindex(">")])
-
-
-def pattern(result, name):
-    for head, word in (("Result<", "Ok"), ("Option<", "Some")):
-        if result.startswith(head):
-            return f"{word}({pattern(result[len(head):], name)})"
-    return name
-
-
-def bound(name, call, result, is_changed=False):
-    """A line that gives a name to what a call returns. Where that is an error, the loop ends."""
-    end = " else { return 1; };" if result.startswith(("Result<", "Option<")) else ";"
-    return f"let {pattern(result, f'mut {name}' if is_changed else name)} = {call}{end}"
-
-
 class Side:
-    """The modules of one side, and the loop over each of their functions that is a case."""
+    """The modules of one side by name, the functions in them, and what a loop is given."""
 
     def __init__(self, texts, given):
-        self.given = given
-        self.modules = modules_of(texts)
-        self.functions = collections.defaultdict(list)
-        for module, text in self.modules.items():
-            for name, generics, params, result, conditions in FUNCTION.findall(text):
-                params = re.split(r",\s*(?=\w+: )", params.strip().rstrip(","))
-                params = [it.split(": ") for it in params if it]
-                conditions = conditions.split("\n")[1:]
-                function = Function(module, name, generics, params, result, conditions)
-                self.functions[name].append(function)
-
-    def find(self, name, *modules):
-        """A function by its name: of one of these modules, if it has several."""
-        if name not in self.functions:
-            raise ValueError(f"table.txt has the case {name}, and no text has its function")
-        found = self.functions[name]
-        return next((it for it in found if it.module.endswith(modules)), found[0])
+        self.given, self.modules = given, {}
+        for name, text in texts.items():
+            # Each function is compiled by itself, unless its text says otherwise.
+            text = re.sub(r"(?m)(?<!#\[inline\]\n)^pub fn ", "#[inline(never)]\npub fn ", text)
+            for suffix, words in LAID_OUT.get(name, {"": {}}).items():
+                self.modules[f"{name}_{suffix}".rstrip("_")] = filled(text, words)
+        self.functions = [it for found in self.modules.items() for it in functions_of(*found)]
 
     def of_case(self, case):
-        name = case.name if case.name in self.functions else OTHERS.get(case.name, case.name)
-        return self.find(name, f"_{case.kind}", f"_{case.item}")
-
-    def maker(self, type_, function):
-        name = next(name for head, name in MAKERS.items() if type_.startswith(head))
-        return self.find(name, function.module)
+        is_there = any(it.name == case.name for it in self.functions)
+        name = case.name if is_there else OTHERS.get(case.name, case.name)
+        return find(self.functions, name, f"_{case.kind}", f"_{case.item}")
 
     def contained(self, case):
-        """The functions that a case calls at each repeat, to make what it takes by value."""
+        """The functions that make what a case takes by value."""
         function = self.of_case(case)
-        types = [type_ for _, type_ in function.params if re.match(r"[A-Z\[](?!lobal)", type_)]
-        return [self.maker(type_, function).name for type_ in types]
-
-    def make(self, function, name, type_, seed, is_changed=False):
-        """The lines that make a parameter of a function, and what they require."""
-        maker = self.maker(type_, function)
-        names = re.findall(r"(\w+):", maker.generics)
-        types = arguments(type_) if names else []
-        types += names[len(types):]
-        lines, given = [], []
-        conditions = [
-            re.sub(r"\b[TN]\b", lambda it: dict(zip(names, types))[it[0]], line)
-            for line in maker.conditions if function.generics
-        ]
-        for its_name, its_type in maker.params:
-            if its_type in ("Global", "u64"):
-                given.append(seed if its_type == "u64" else "alloc")
-            else:
-                given.append(f"{name}_{its_name}")
-                more, required = self.make(function, given[-1], its_type, seed)
-                lines, conditions = lines + more, conditions + required
-        turbofish = f"::<{', '.join(types)}>" if types else ""
-        call = f"crate::{maker.module}::{maker.name}{turbofish}({', '.join(given)})"
-        return [*lines, bound(name, call, maker.result, is_changed)], conditions
-
-    def loop(self, function):
-        """The loop of a case."""
-        before, repeated, after, given = [], [], [], []
-        conditions, seed = [*function.conditions], "sum"
-        for name, type_ in function.params:
-            own = type_.removeprefix("&mut ").removeprefix("&")
-            if type_ in ("Global", "u64"):
-                given.append("sum" if type_ == "u64" else "alloc")
-                continue
-            if type_ == "usize":
-                repeated.append(f"let {name} = place(sum, N::USIZE);")
-                repeated.append(f"if {name} >= N::USIZE {{ return 1; }}")
-                given.append(name)
-                continue
-            is_first = seed == "sum"
-            lines, required = self.make(function, name, own, seed, own != type_ and (is_first or "&mut" in type_))
-            conditions += required
-            if own == type_:
-                repeated += lines
-            else:
-                before += lines
-                if type_.startswith("&mut"):
-                    after.append(f"sum = Check::check(&{name}, sum);")
-                elif is_first:
-                    repeated.append(f"Poke::poke(&mut {name}, sum);")
-            given.append(type_.removesuffix(own) + name)
-            seed = "sum >> 3"
-        types = ", ".join(re.findall(r"(\w+):", function.generics))
-        call = f"crate::{function.module}::{function.name}{f'::<{types}>' if types else ''}"
-        call += f"({', '.join(given)})"
-        if function.result:
-            repeated += [bound("value", call, function.result), "sum = Check::check(&value, sum);"]
-        else:
-            repeated.append(f"{call};")
-        return LOOP.format(
-            name=function.name, module=function.module, given=self.given,
-            generics=f"<{function.generics}>" if function.generics else "",
-            conditions="".join(f"\n{it}" for it in dict.fromkeys(conditions)),
-            before="\n    ".join(before), repeated="\n        ".join(repeated + after),
-        )
+        types = [it for _, it in function.params if it[0].isupper() and it != "Global"]
+        return [maker_of(self.functions, it, function.module).name for it in types]
 
     def loops(self):
         """The module of all loops."""
-        functions = dict.fromkeys((it.module, it.name) for it in map(self.of_case, read_cases()))
-        found = [self.find(name, module) for module, name in functions]
-        return LOOPS + "".join(map(self.loop, found))
+        functions = dict.fromkeys(map(self.of_case, read_cases()))
+        return LOOPS + "".join(loop(self.functions, it, self.given) for it in functions)
 
-    def call(self, case, length):
-        """The name of a case's loop, with its types."""
+    def call(self, case, length_type):
+        """A case's loop at its types."""
         function = self.of_case(case)
-        types = {"T": case.item, "N": length(case.length)}
+        types = {"T": case.item, "N": length_type(case.length)}
         if case.name in SECOND:
-            types["M"] = length(SECOND[case.name](case.length))
-        types = ", ".join(types[it] for it in re.findall(r"(\w+):", function.generics))
-        return f"{function.name}_loop_{function.module}{f'::<{types}>' if types else ''}"
+            types["M"] = length_type(SECOND[case.name](case.length))
+        types = ", ".join(types[it] for it in function.types)
+        return f"{function.loop_name}::<{types}>" if types else function.loop_name
 
 
 def rust_length(number):
     """A length of the Rust crate, which has no name for some."""
-    is_named = number <= 1024 or re.fullmatch("10+", f"{number:b}") or re.fullmatch("10+", f"{number}")
-    return f"Const<{number}>" if is_named else f"Sum<U1024, {rust_length(number - 1024)}>"
+    if number <= 1024 or re.fullmatch("10+", f"{number:b}") or re.fullmatch("10+", f"{number}"):
+        return f"Const<{number}>"
+    return f"Sum<U1024, {rust_length(number - 1024)}>"
 
 
 def as_rust(text):
@@ -246,13 +118,10 @@ def as_rust(text):
     return re.sub(r"^use generic_array::.*;$", "use crate::library::*;", text, flags=re.M)
 
 
-def as_ours(text):
-    return re.sub(r"^where .*\n", "", text, flags=re.M)
-
-
 def ours():
     texts = texts_of(HERE / "both") | texts_of(HERE / "ours")
-    return Side({name: as_ours(it) for name, it in texts.items()}, "alloc: Global, seed: u64, reps: u64")
+    texts = {name: re.sub(r"^where .*\n", "", it, flags=re.M) for name, it in texts.items()}
+    return Side(texts, "alloc: Global, seed: u64, reps: u64")
 
 
 def rust():
@@ -261,8 +130,7 @@ def rust():
     return Side(texts, "seed: u64, reps: u64")
 
 
-def kinds_by_name():
-    """The cases of each call."""
+def cases_by_name():
     found = collections.defaultdict(list)
     for case in read_cases():
         found[case.name].append(case)
@@ -273,28 +141,25 @@ def our_modules():
     """The modules of ga_bench, by name."""
     side = ours()
     text = side.loops()
-    for name, cases in kinds_by_name().items():
-        calls = [f"{side.call(case, 'Const<{}>'.format)}(alloc, seed, reps)" for case in cases]
+    for name, cases in cases_by_name().items():
+        calls = [f"{side.call(it, 'Const<{}>'.format)}(alloc, seed, reps)" for it in cases]
         text += export(name, NUMBERS, dict(enumerate(calls)), alloc=True)
     modules = side.modules | {"loops": text}
-    declarations = "".join(f"mod {it};\n" for it in sorted(modules.keys() - {"lib"}))
-    return modules | {"lib": f"{modules['lib']}\n{declarations}"}
+    names = "".join(f"mod {it};\n" for it in sorted(modules.keys() - {"lib"}))
+    return modules | {"lib": f"{modules['lib']}\n{names}"}
 
 
 def driver_sources():
     """The Rust files of the driver, by their names below src/, and the program beside ours."""
-    side = rust()
-    functions = kinds_by_name()
+    side, cases = rust(), cases_by_name()
     entries = [
-        ENTRY.format(case, number=number, other=side.call(case, rust_length))
-        for cases in functions.values() for number, case in enumerate(cases)
+        ENTRY.format(case, number, side.call(case, rust_length))
+        for them in cases.values() for number, case in enumerate(them)
     ]
-    table = CASE_TABLE.format(
-        declared=declared(dict.fromkeys(functions, NUMBERS)), entries="\n".join(entries)
-    )
-    modules = side.modules | {"loops": as_rust(side.loops()) , "cases": table}
-    names = sorted(modules.keys() - {"main"})
+    functions = declared(dict.fromkeys(cases, NUMBERS))
+    table = TABLE.format(declared=functions, entries="\n".join(entries))
+    modules = side.modules | {"loops": as_rust(side.loops()), "cases": table}
     sources = {f"{name}.rs": text for name, text in modules.items()}
-    sources["modules.rs"] = "".join(f"mod {it};\n" for it in names)
+    sources["modules.rs"] = "".join(f"mod {it};\n" for it in sorted(modules.keys() - {"main"}))
     sources["bin/rows_careful.rs"] = (HERE / "rows" / "rows_careful.rs").read_text()
     return sources

@@ -1,5 +1,6 @@
 //! Boxes of arrays. Borrowed ones are mapped and zipped by a build of indexes: `map` of a reference
 //! makes an array.
+use crate::items::mix;
 use crate::library::*;
 use crate::words::Word;
 
@@ -58,7 +59,7 @@ pub fn try_map_ref_boxed<T: Word, N: ArrayLength<T>>(
     array: &BoxedArray<T, N>,
     seed: u64,
 ) -> Result<Result<BoxedArray<T, N>, u64>, generic_array::AllocError> {
-    let bad = seed ^ 0x0F00_0000_0000_0000;
+    let bad = mix(seed, 1);
     BoxedArray::<T, N>::try_generate(|index| {
         let word = array[index].word();
         if word == bad { Err(word) } else { Ok(T::make(word, 1)) }

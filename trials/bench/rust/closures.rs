@@ -1,4 +1,5 @@
 //! Calls of a closure at all items, of arrays and of references to them.
+use crate::items::mix;
 use crate::library::*;
 use crate::words::Word;
 
@@ -14,7 +15,7 @@ pub fn try_map<T: Word, N: ArrayLength<T>>(
     array: GenericArray<T, N>,
     seed: u64,
 ) -> Result<GenericArray<T, N>, u64> {
-    let bad = seed ^ 0x0F00_0000_0000_0000;
+    let bad = mix(seed, 1);
     array.try_map(|item: T| {
         let word = item.word();
         if word == bad { Err(word) } else { Ok(T::make(word, 1)) }

@@ -4,8 +4,11 @@ use crate::library::*;
 use crate::words::Word;
 use std::marker::PhantomData;
 
-pub fn list_joined<T: Word, N: ArrayLength<T>>(array: &GenericArray<T, N>) -> GenericArray<T, N> {
-    let (first, second) = array.split_at(N::USIZE / 2);
+pub fn list_joined<T: Word, N: ArrayLength<T>>(
+    array: &GenericArray<T, N>,
+    at: usize,
+) -> GenericArray<T, N> {
+    let (first, second) = array.split_at(at);
     let mut joined = GenericArray::<T, N>::default();
     let (front, back) = joined.split_at_mut(first.len());
     front.copy_from_slice(first);
@@ -13,9 +16,9 @@ pub fn list_joined<T: Word, N: ArrayLength<T>>(array: &GenericArray<T, N>) -> Ge
     joined
 }
 
-pub fn list_cloned<T: Word, N: ArrayLength<T>>(array: &GenericArray<T, N>) -> GenericArray<T, N> {
+pub fn list_cloned<T: Word, N: ArrayLength<T>>(items: &[T]) -> GenericArray<T, N> {
     let mut copy = GenericArray::<T, N>::default();
-    copy.clone_from_slice(array);
+    copy.clone_from_slice(items);
     copy
 }
 
