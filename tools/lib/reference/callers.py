@@ -1,20 +1,15 @@
-"""Finds a caller of each call in the crates of examples, and checks that each public call of the
-libraries has one there or in a crate above.
+"""Finds a caller of each call in the crates of examples.
 
-It reads no types: what a method is called on is told by the function's head, a `let`, or what the
-call in front returns. Else no caller is found, and the check goes by the method's name.
+It reads no types: what a method is called on follows from the function's head, a `let`, or what the
+call in front returns. Else no caller is found.
 """
-import fnmatch
 import functools
-import pathlib
 import re
 
 from reference.beside import is_test
-from reference.meanings import LIBRARIES, WITH_A_PAGE, above, base_name, declared
+from reference.meanings import WITH_A_PAGE, above, base_name, declared
 
 EXAMPLES = "_examples"
-# The patterns of the calls that have no caller, each with how many it means and why.
-LIST = pathlib.Path(__file__).resolve().parent / "without_caller.txt"
 # What stands in front of a call's name: the dot of a method, or the end of a path.
 BEFORE = re.compile(r"(?P<dot>\.)\s*$|(?P<path>\w+)(?:::<[^()=]*>|<[^()=]*>)?::$")
 # What a method is called on: a name, or what another call made.
@@ -89,17 +84,15 @@ class Callers:
                 types.add(item.of_whom.name if re.match(r"Self\b(?!::)", told) else base_name(told))
         return types
 
-    def is_called(self, item, function, code, by_name=False):
-        """Whether a name behind this code of a function is a call of an item. A method of what has
-        no known type counts by its name, if that is wanted."""
+    def is_called(self, item, function, code):
+        """Whether a name behind this code of a function is a call of an item."""
         found, owner = BEFORE.search(code), item.of_whom
         if item.kind == "macro" or owner.kind not in WITH_A_PAGE:
             return item.kind == "macro" or not found or (found["path"] or "")[:1].islower()
         types = {found["path"]} if found and found["path"] else (
             self.receivers(function, code[:found.start()]) if found else ())
-        return bool(by_name and found and not types) or any(
-            owner.name in self.owners(name, function) for name in types
-            if not (owner.kind == "trait" and self.is_inherent(name, item.name)))
+        return any(owner.name in self.owners(name, function) for name in types
+                   if not (owner.kind == "trait" and self.is_inherent(name, item.name)))
 
     @functools.lru_cache(None)
     def of(self, item):
@@ -107,34 +100,3 @@ class Callers:
         functions = self.functions if item.kind in ("fn", "macro") else ()
         return next((it.item for it in functions for code in it.before(item)
                      if self.is_called(item, it, code)), None)
-
-
-def calls(names):
-    """The public calls of the libraries, each with whether something calls it."""
-    site = names.site
-    above_them = [item for item in site.items if site.path(item.module)[0] not in LIBRARIES]
-    functions = [Function(item) for item in
-                 names.samples.of(lambda crate: crate.endswith(EXAMPLES)) + above_them
-                 if item.kind == "fn" and not is_test(item)
-                 and item.module.text[item.end - 1] == "}"]
-    found = [item for item in site.shown() if item.kind in ("fn", "macro")
-             and site.path(item.module)[0] in LIBRARIES and not site.is_law(item)
-             and not (item.owner.kind == "impl" and item.owner.of_trait)]
-    return {item: any(names.callers.is_called(item, function, code, by_name=True)
-                      for function in functions for code in function.before(item))
-            for item in found}
-
-
-def uncalled(names):
-    """Looks for a caller of each public call, and for as many that have none as a pattern means."""
-    lines = [line.split("\t") for line in LIST.read_text("utf-8").splitlines()]
-    without = []
-    for item, is_called in calls(names).items():
-        name = names.site.full_name(item)
-        without += [] if is_called else [name]
-        listed = any(fnmatch.fnmatchcase(name, pattern) for pattern, _, _ in lines)
-        yield None if is_called or listed else f"{names.place(item)}: nothing calls {name}"
-    for pattern, count, _ in lines:
-        seen = len(fnmatch.filter(without, pattern))
-        wrong = f"{LIST.name}: {seen} calls of {pattern} have no caller, not {count}"
-        yield None if seen == int(count) else wrong

@@ -12,15 +12,15 @@ import functools
 import pathlib
 import re
 
-from reference.callers import uncalled
 from reference.claims import unwitnessed
-from reference.layout import indented
+from reference.layout import indented, laid_out
 from reference.lookup import impl_of
 from reference.meanings import LIBRARIES, WITH_A_PAGE
 from reference.promise import unkept
 from reference.rows import BAR, CODE, FENCED, names_in
 from reference.sources import STD, atoms_of, imports_of, is_in
-from reference.text import Text
+from reference.items import Items
+from reference.text import WIDEST, Text
 from reference.written import stale
 
 # A name of each kind that readers look up, with the item that it leads to, or what its row tells.
@@ -64,7 +64,7 @@ def misled(names):
     for line in NAMES.read_text("utf-8").splitlines():
         name, _, wanted = line.partition("\t")
         asked = names.asked(name)
-        rows = [row for row in asked.rows if row.ours or row.told] or names.told_rows(name, asked)
+        rows = [row for row in asked.rows if row.ours or row.told] or names.rows_of_messages(name, asked)
         shown = names.full_name(asked.first) if asked.first else (
             TELLS + " ".join(cell for _, cell in rows[0].cells) if rows else "nothing")
         tells = wanted.startswith(TELLS) and shown.startswith(TELLS)
@@ -156,12 +156,13 @@ def unwritten(names):
 
 def misquoted(names):
     """Looks whether each contract that a README quotes is what `tools/reference NAME` prints."""
-    text = Text(names)
+    items, text = Items(names), Text(names)
     for document in sorted((names.site.top / "crates").glob("*/README.md")):
         readme = document.read_text("utf-8")
         for quoted in QUOTED.finditer(readme):
             item, file = names.asked(quoted[1]).first, (document.parent / quoted[2]).resolve()
-            lines = item and [*text.head(item)[:-1], *indented(text.written(item.clauses))]
+            lines = item and [*laid_out(items.head(item)[0].content, WIDEST),
+                              *indented(text.written(item.clauses))]
             line = readme.count("\n", 0, quoted.start()) + 1
             wrong = f"{document.relative_to(names.site.top)}:{line}: {quoted[1]} says otherwise"
             is_right = lines == quoted[3].splitlines() and file == item.file
@@ -228,7 +229,7 @@ def dangling(names):
 # blind. Those of names ask as a reader of `tools/reference NAME` does.
 CHECKS = {
     "examples": (unwritten, 24), "imports": (unused, 2072), "public items": (unnamed, 323),
-    "written": (stale, 264), "wrong bodies": (unfit, 180), "callers": (uncalled, 263),
+    "written": (stale, 264), "wrong bodies": (unfit, 180),
     "names": (misled, 27), "promise": (unkept, 68),
     "contracts": (misquoted, 17), "tests": (unwitnessed, 150), "documents": (dangling, 1794),
 }

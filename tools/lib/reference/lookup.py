@@ -93,7 +93,7 @@ class Names(Paths):
         return (not self.is_of_library(item), is_detail(item) and item.owner.kind != "trait",
                 item.kind == "word", 0.5 if of_trait else place, bool(impl and impl.of_trait))
 
-    def told_rows(self, name, asked):
+    def rows_of_messages(self, name, asked):
         """The rows that tell what to write: for a name those that have it as code, and for what is
         none those that have its words."""
         if not asked.first and not asked.rows:

@@ -3,6 +3,7 @@ import functools
 import pathlib
 import re
 
+from reference.rows import CODE, OF_CLAUSES, OF_STD, rows
 from reference.sources import ANGLE, Item, closing, imports_of, items_of, parted
 
 LIBRARIES = "ga_views ga_core ga_boxed generic_array".split()
@@ -140,7 +141,6 @@ class Site:
         for item in self.items:
             item.home = self.home(item)
             if item.home:
-                item.url = self.url(item)
                 self.by_name.setdefault(item.name, []).append(item)
         self.impls = [item for item in self.items if item.kind == "impl" and self.place(item)]
         for impl in self.impls:
@@ -154,8 +154,8 @@ class Site:
     @functools.cached_property
     def notation(self):
         """The signs and words of std that clauses use most, each with its line."""
-        file = pathlib.Path(__file__).resolve().parent / "pages" / "notation.txt"
-        return dict(line.split("\t") for line in file.read_text("utf-8").splitlines())
+        return {code: row.ours for row in rows(self.top, OF_CLAUSES) if row.heading == OF_STD
+                for code in CODE.findall(row.theirs)}
 
     @functools.cached_property
     def words(self):
@@ -208,14 +208,6 @@ class Site:
     def path(self, module):
         """The names of a module and of those above it."""
         return [*self.path(module.owner), module.name] if module.owner else [module.name]
-
-    def url(self, item):
-        """The page of an item, or its place on its module's."""
-        name = f"{item.kind}.{item.name}.html"
-        if item.kind not in WITH_A_PAGE:
-            anchor = f"#{item.kind if item.public else 'law'}.{item.name}"
-            name = "index.html" + anchor * (item.kind != "mod")
-        return "/".join([*self.path(item.home), name])
 
     def home(self, item):
         """The public module that an item is found in: its own, or one above that exports it."""

@@ -8,6 +8,8 @@ import re
 # The documents of the Rust crate's names, of names of clauses, and of messages.
 OF_RUST, OF_CLAUSES = ("DIFFERENCES",), ("DEFINITIONS",)
 OF_MESSAGES = ("STUCK", "CALLING")
+# The heading above the signs and words of std.
+OF_STD = "Signs and words of std"
 CODE = re.compile(r"`([^`]+)`")
 # What parts a line's cells, and its names from what is said of them: none of it stands in code.
 IN_CODE = r"(?=(?:[^`]*`[^`]*`)*[^`]*$)"

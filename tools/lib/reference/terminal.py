@@ -4,9 +4,11 @@ import shutil
 import subprocess
 import sys
 
-from reference.items import MOST_TOLD, Items
+from reference.items import Items, part
 from reference.layout import indented
+from reference.lookup import MOST_ROWS
 from reference.rows import OF_MESSAGES
+from reference.text import Text
 
 
 def of_kit(name):
@@ -36,11 +38,12 @@ def unknown(names, name):
 
 def show(names, name):
     """Shows what a name means, or the rows that have a message's words, if there is such."""
-    asked, text = names.asked(name), Items(names, shutil.get_terminal_size().columns)
-    told = names.told_rows(name, asked)
-    is_known = asked.first or asked.rows
-    lines = text.asked(asked) if is_known else of_kit(name)
-    lines = [*lines, *text.told(told, MOST_TOLD if is_known else len(told))]
+    asked, items = names.asked(name), Items(names)
+    is_known, rows = asked.first or asked.rows, names.rows_of_messages(name, asked)
+    most = MOST_ROWS if is_known else len(rows)
+    parts = [*(items.asked(asked) if is_known else ()), *items.rows(rows[:most]),
+             *part("docs", f"And {len(rows) - most} more rows have it." * (len(rows) > most))]
+    text = Text(names, shutil.get_terminal_size().columns)
+    lines = [*([] if is_known else of_kit(name)), *text.lines(parts)]
     sys.stdout.write("".join(f"{line}\n" for line in lines).rstrip("\n") + "\n" * bool(lines))
     sys.stderr.write("".join(f"{line}\n" for line in unknown(names, name)) if not lines else "")
-    return bool(lines)

@@ -11,7 +11,8 @@ from reference.callers import EXAMPLES
 from reference.layout import prose
 from reference.meanings import WITH_A_PAGE
 from reference.promise import HEADLINE, TITLE, carriers
-from reference.text import WIDEST, first_sentence
+from reference.items import first_sentence
+from reference.text import WIDEST
 
 ANEW = "tools/reference --write writes it anew"
 LIST, PAGE = pathlib.Path(__file__).with_name("public.txt"), "PROMISE.md"
