@@ -21,11 +21,15 @@ SIZES = (0, 1, 2, 3, 5, 8, 20, 64)
 # The texts of calls/ that both sides have. Of those of kinds there is one for each kind of array,
 # with `KIND` for its module and `PLACE` for what its builds by the traits are passed; at the
 # original's side also one with another `nth_back`.
-SHARED = ("random", "sources", "noted", "comparisons")
-OF_KINDS = ("walks", "walk_drops", "access")
+SHARED = (
+    "random", "sources", "noted", "comparisons", "closures", "references", "boxed_closures",
+    "builds", "build_drops", "boxed_drops", "views", "rows", "macros",
+)
+OF_KINDS = ("walks", "walk_drops", "access", "sequences")
 KINDS = {"inline": "()", "boxed": "alloc"}
-# Texts that only our side has for each of these lengths.
-LAID_OUT = {"flat": FLAT, "natives": EVERY, "tuples": TUPLES}
+# Those that are laid out for each of these lengths, and one that only our side has.
+OF_LENGTHS = {"natives": EVERY, "tuples": TUPLES}
+OURS_OF_LENGTHS = {"flat": FLAT}
 
 # The call of a run, NAME_run, on our side and on the other. A letter in braces stands for a length
 # as a type: N for the length itself, L for one more, K for a third of it and M for the rest; W, R
@@ -43,7 +47,7 @@ def case(title, ours, original=None, lengths=EVERY, share=1, wanted=None):
 # Answers, and the calls that closures and iterators saw.
 CASES = [
     case("walks by value", "walks_inline::walks_run::<{N}>(alloc, seed)"),
-    case("arrays of what a walk left", "walks_inline::turned_run::<{N}>(alloc, seed)", share=4),
+    case("arrays of what a walk left", "walks_inline::reverse_run::<{N}>(alloc, seed)", share=4),
     case("builds", "builds::builds_run::<{N}>(seed)"),
     case(
         "access to items",
@@ -55,40 +59,20 @@ CASES = [
         "access_boxed::access_run::<{length}>(alloc, seed)",
         "access_boxed::access_run::<{N}>(alloc, seed)",
     ),
-    case(
-        "builds by the traits",
-        "sequences_inline::sequences_run::<{N}>(alloc, seed)",
-        "sequences::sequences_run::<{N}>(seed)",
-    ),
-    case(
-        "boxed builds by the traits",
-        "sequences_boxed::sequences_run::<{N}>(alloc, seed)",
-        "sequences::boxed_sequences_run::<{N}>(seed)",
-    ),
+    case("builds by the traits", "sequences_inline::sequences_run::<{N}>(alloc, seed)"),
+    case("boxed builds by the traits", "sequences_boxed::sequences_run::<{N}>(alloc, seed)"),
     case("builders beside a vector", "builders::builders_run::<{N}>(seed)"),
     case("comparisons, hashes, Debug, views", "comparisons::comparisons_run::<{N}>(seed)"),
     case("calls of closures, arrays and views", "closures::closures_run::<{N}>(seed)"),
-    case(
-        "calls of closures, boxed arrays",
-        "boxed_closures::boxed_closures_run::<{N}>(alloc, seed)",
-        "closures::boxed_closures_run::<{N}>(alloc, seed)",
-    ),
+    case("calls of closures, boxed arrays", "boxed_closures::boxed_closures_run::<{N}>(alloc, seed)"),
     case("views of slices and arrays", "views::views_run::<{N}>(seed)"),
-    case("split of references", "views::halves_run::<{N}, {K}, {M}>(seed)", share=10),
-    case(
-        "plain calls of closures",
-        "plain_calls::plain_calls_run::<{N}>(seed)",
-        "closures::plain_calls_run::<{N}>(seed)",
-    ),
-    case(
-        "calls of closures, references to arrays",
-        "references::references_run::<{N}>(seed)",
-        "closures::references_run::<{N}>(seed)",
-    ),
+    case("split of references", "shapes::halves_run::<{N}, {K}, {M}>(seed)", share=10),
+    case("plain calls of closures", "plain_calls::plain_calls_run::<{N}>(seed)"),
+    case("calls of closures, references to arrays", "references::references_run::<{N}>(seed)"),
     case("arr!, box_arr!", "macros::macros_run(alloc, {length}, seed)", lengths=(0, 1, 3, 6)),
     case("append, prepend, pops", "shapes::ends_run::<{N}, {L}>(seed)"),
-    case("remove, swap_remove", "shapes::removed_run::<{N}, {L}>(seed)"),
-    case("concat, split", "shapes::joined_run::<{N}, {K}, {M}>(seed)"),
+    case("remove, swap_remove", "shapes::remove_run::<{N}, {L}>(seed)"),
+    case("concat, split", "shapes::join_run::<{N}, {K}, {M}>(seed)"),
     case(
         "flatten, unflatten",
         "flat_{length}::flat_run(seed)",
@@ -101,27 +85,12 @@ CASES = [
     case("hex text, short", "hex::hex_run::<{N}>(alloc, seed)", lengths=SHORT_HEX),
     case("hex text, long", "hex::hex_run::<{N}>(alloc, seed)", lengths=LONG_HEX, share=10),
     case("vectors, boxed slices", "conversions::conversions_run::<{N}>(alloc, seed)"),
-    case(
-        "native arrays",
-        "conversions::native_run::<{length}>(seed)",
-        "shapes::native_run::<{N}, {length}>(seed)",
-        share=4,
-    ),
-    case(
-        "From and into of native arrays",
-        "natives_{length}::natives_run(seed)",
-        "shapes::natives_run::<{N}, {length}>(seed)",
-        share=4,
-    ),
-    case(
-        "tuples",
-        "tuples_{length}::tuples_run(seed)",
-        "conversions::tuples_run({length}, seed)",
-        TUPLES,
-    ),
+    case("native arrays", "natives_{length}::native_run(seed)", share=4),
+    case("From and into of native arrays", "natives_{length}::from_native_run(seed)", share=4),
+    case("tuples", "tuples_{length}::tuples_run(seed)", lengths=TUPLES),
     case("boxed builds and conversions", "boxed_builds::boxed_builds_run::<{N}>(alloc, seed)"),
     case("boxed walks by value", "walks_boxed::walks_run::<{N}>(alloc, seed)"),
-    case("boxed to inline", "walks_boxed::turned_run::<{N}>(alloc, seed)", share=10),
+    case("boxed to inline", "walks_boxed::reverse_run::<{N}>(alloc, seed)", share=10),
     case("blocks beside a deque", "blocks::blocks_run(alloc, {length}, seed)", lengths=SIZES),
 ]
 
@@ -136,7 +105,11 @@ DROPS = [
             "walk_drops_inline_stepwise::walk_drops_run::<{N}>(alloc, ordered, seed, &log)",
         ),
     ),
-    case("drops of builds", "drops::build_drops_run::<{N}>(ordered, seed, &log)", lengths=SOME),
+    case(
+        "drops of builds",
+        "build_drops::build_drops_run::<{N}>(ordered, seed, &log)",
+        lengths=SOME,
+    ),
     case(
         "drops of calls of closures",
         "drops::closure_drops_run::<{N}>(ordered, seed, &log)",
@@ -145,8 +118,7 @@ DROPS = [
     case(
         "drops of shapes",
         "drops::shape_drops_run::<{N}, {L}>(ordered, seed, &log)",
-        "shapes::shape_drops_run::<{N}, {L}>(ordered, seed, &log)",
-        SOME,
+        lengths=SOME,
     ),
     case(
         "drops of flatten, unflatten",
@@ -158,14 +130,13 @@ DROPS = [
     case(
         "drops of concat, split, vectors",
         "drops::joined_drops_run::<{N}, {K}, {M}>(alloc, ordered, seed, &log)",
-        "shapes::joined_drops_run::<{N}, {K}, {M}>(ordered, seed, &log)",
+        "drops::joined_drops_run::<{N}, {K}, {M}>(ordered, seed, &log)",
         SOME,
         10,
     ),
     case(
         "drops of boxed calls and builds",
         "boxed_drops::boxed_build_drops_run::<{N}>(alloc, ordered, seed, &log)",
-        "drops::boxed_build_drops_run::<{N}>(alloc, ordered, seed, &log)",
         lengths=SOME,
     ),
     case(
@@ -201,7 +172,7 @@ use crate::arrays::Global;
 use crate::compare::{{Case, Wanted}};
 use crate::noted::Log;
 use crate::{{{modules}}};
-use generic_array::typenum::*;
+use original::typenum::*;
 
 {declared}
 
@@ -259,8 +230,13 @@ def words_of(length):
     width, rows = divmod(length, 100)
     names = [chr(ord("a") + it) for it in range(length)] if length in TUPLES else []
     words = {"LENGTH": length, "AREA": width * rows, "WIDTH": width, "ROWS": rows}
-    lists = {"NAMES": names, "TURNED": names[1:] + names[:1], "TYPES": ["u64"] * len(names)}
+    lists = {"NAMES": names, "ROTATED": names[1:] + names[:1], "TYPES": ["u64"] * len(names)}
     return words | {word: ", ".join(them) for word, them in lists.items()}
+
+
+def of_lengths(texts):
+    """What stands for the words of each of these texts, for each of its lengths."""
+    return {name: {it: words_of(it) for it in lengths} for name, lengths in texts.items()}
 
 
 def kinds(clone, nth_back="nth_back", suffix=""):
@@ -271,24 +247,26 @@ def kinds(clone, nth_back="nth_back", suffix=""):
 
 def our_modules():
     """The modules of ga_diff by name: those of calls/, and the exports."""
-    made = {name: {it: words_of(it) for it in lengths} for name, lengths in LAID_OUT.items()}
-    made |= dict.fromkeys([*OF_KINDS, "sequences"], kinds("clone"))
+    made = dict.fromkeys(OF_KINDS, kinds("clone")) | of_lengths(OF_LENGTHS | OURS_OF_LENGTHS)
     return crate(texts_of(HERE / "calls"), made, exports())
 
 
 def as_rust(text):
     """A text of both sides as rustc reads it: without proofs, with lengths as types."""
-    text = re.sub(r"ghost use .*\n+|\n    requires .*|#\[derive\(Drop\)\]", "", text)
+    text = re.sub(r"ghost use .*\n+|\n    requires .*| \+ Drop\b", "", text)
     text = text.replace("fn drop(self)", "fn drop(&mut self)").replace("= self;", "= *self;")
+    text = text.replace("#[derive(Drop)]", "#[derive(Clone)]")
     return text.replace("const U: usize", "N: Length").replace("Const<U>", "N")
 
 
 def shared_modules():
-    """The texts of calls/ that both sides have, as the Rust files of the other one."""
+    """The texts of calls/ that both sides have, as the Rust modules of the other one."""
     texts = {name: as_rust(text) for name, text in texts_of(HERE / "calls").items()}
-    words = kinds("try_clone") | kinds("try_clone", "stepwise_nth_back", "_stepwise")
-    made = {f"{name}_{it}": filled(texts[name], words[it]) for name in OF_KINDS for it in words}
-    return {f"{name}.rs": text for name, text in ({it: texts[it] for it in SHARED} | made).items()}
+    made = dict.fromkeys(OF_KINDS, kinds("try_clone")) | of_lengths(OF_LENGTHS)
+    made["walk_drops"] |= kinds("try_clone", "stepwise_nth_back", "_stepwise")
+    shared = {name: texts[name] for name in SHARED}
+    return shared | {f"{name}_{it}": filled(texts[name], stands)
+                     for name, kinds in made.items() for it, stands in kinds.items()}
 
 
 def run_of(it, text, ordered):
@@ -324,5 +302,7 @@ def driver_sources():
     entries = "\n".join(entries)
     modules = ", ".join(sorted({*re.findall(r"(\w+)::\w+_run", entries)}))
     table = CASE_TABLE.format(modules=modules, declared=declared(functions), entries=entries)
-    sources = {it.name: it.read_text() for it in (HERE / "driver").glob("*.rs")}
-    return {**sources, **shared_modules(), "cases.rs": table}
+    modules = {it.stem: it.read_text() for it in (HERE / "driver").glob("*.rs")}
+    modules |= shared_modules() | {"cases": table}
+    modules["main"] += "".join(f"mod {it};\n" for it in sorted(modules.keys() - {"main"}))
+    return {f"{name}.rs": text for name, text in modules.items()}

@@ -51,7 +51,7 @@ impl<const N: usize> Bucket<N> {
     }
 }
 
-#[derive(Default, Drop, PartialEq, Eq)]
+#[derive(Default, Drop)]
 struct Node {
     id: Id,
 }
@@ -80,14 +80,5 @@ impl<N: ArrayLength<Node>> Nodes<N> {
         }
         self.nodes.insert(0, node);
         Ok(())
-    }
-
-    // The item that is looked for stands for a default in the clause.
-    fn position_of(&self, node: &Node) -> Option<usize>
-        ensures some { IfSome result (λ index. (index < length self.now.nodes)
-            × (slice_index_or self.now.nodes index node.now ≡ node.now)) }
-        ensures none { IsNone result → ¬ Contains self.now.nodes node.now }
-    {
-        self.nodes.as_slice().iter().position(|other| other == node)
     }
 }

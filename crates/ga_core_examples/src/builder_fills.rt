@@ -31,7 +31,7 @@ fn with_inner<T: Default + Drop, N: ArrayLength<T>, M: ArrayLength<T>>(
 }
 
 /// The sum of the items up to each place.
-fn cumulative<N: ArrayLength<u64>>(window: &GenericArray<u64, N>) -> GenericArray<u64, N>
+fn cumulative_sums<N: ArrayLength<u64>>(window: &GenericArray<u64, N>) -> GenericArray<u64, N>
     requires { sum window.now < 2 ^ 64 }
     ensures { result ≡ map (λ index. sum (take (index + 1) window.now)) (range_with_len 0 N.USIZE) }
 {

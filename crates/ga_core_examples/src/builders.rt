@@ -4,10 +4,10 @@ ghost use Rattle.ga_core.specs.Length.{FitsInline};
 ghost use Rattle.std.specs.List.{swap, swap_remove};
 ghost use Rattle.std.specs.Prelude.{◌≡◌, ◌+◌, ◌-◌, ◌<◌, ◌≤◌, ◌++◌, ◌∷◌, ◌==◌, IsOk, Some, drop, filter, length, not, slice_get, slice_set, take};
 
-use ga_core::{AllocError, ArrayBuilder, ArrayLength, GenericArray};
+use ga_core::{AllocError, ArrayBuilder, ArrayLength, GenericArray, U4};
 use std::mem;
 
-fn joined<T: Copy + Default + Drop, N: ArrayLength<T>>(
+fn join<T: Copy + Default + Drop, N: ArrayLength<T>>(
     first: &[T],
     second: &[T],
 ) -> GenericArray<T, N>
@@ -22,7 +22,7 @@ fn joined<T: Copy + Default + Drop, N: ArrayLength<T>>(
 }
 
 /// The first item goes behind the others.
-fn turned<T: Default + Drop, N: ArrayLength<T>>(list: &mut ArrayBuilder<T, N>)
+fn rotate<T: Default + Drop, N: ArrayLength<T>>(list: &mut ArrayBuilder<T, N>)
     requires { 0 < length list.old }
     ensures { list.new ≡ drop 1 list.old ++ take 1 list.old }
 {
@@ -31,7 +31,7 @@ fn turned<T: Default + Drop, N: ArrayLength<T>>(list: &mut ArrayBuilder<T, N>)
 }
 
 /// Clones of bytes, which can't fail.
-fn extended_by_clones<N: ArrayLength<u8>>(
+fn extend_by_clones<N: ArrayLength<u8>>(
     list: &mut ArrayBuilder<u8, N>,
     items: &[u8],
 ) -> Result<(), AllocError>
@@ -43,7 +43,7 @@ fn extended_by_clones<N: ArrayLength<u8>>(
 }
 
 /// A second list of the same items: that the first is read tells that `N` items fit inline.
-fn copied<T: Copy + Default + Drop, N: ArrayLength<T>>(
+fn copy_of<T: Copy + Default + Drop, N: ArrayLength<T>>(
     list: &ArrayBuilder<T, N>,
 ) -> ArrayBuilder<T, N>
     ensures { result ≡ list.now }
@@ -73,7 +73,7 @@ fn touch<N: ArrayLength<u32>>(keys: &mut ArrayBuilder<u32, N>, key: u32)
 }
 
 /// Puts an item in the place of another, which it returns.
-fn replaced<T, N: ArrayLength<T>>(list: &mut ArrayBuilder<T, N>, index: usize, item: T) -> T
+fn replace<T, N: ArrayLength<T>>(list: &mut ArrayBuilder<T, N>, index: usize, item: T) -> T
     requires { index < length list.old }
     ensures item { slice_get list.old index ≡ Some result }
     ensures items { list.new ≡ slice_set list.old index item }
@@ -91,10 +91,18 @@ fn swap_top<T, N: ArrayLength<T>>(stack: &mut ArrayBuilder<T, N>)
 }
 
 /// Takes an item out of a list whose order doesn't matter.
-fn drawn<T: Default + Drop, N: ArrayLength<T>>(list: &mut ArrayBuilder<T, N>, index: usize) -> T
+fn draw<T: Default + Drop, N: ArrayLength<T>>(list: &mut ArrayBuilder<T, N>, index: usize) -> T
     requires { index < length list.old }
     ensures item { slice_get list.old index ≡ Some result }
     ensures others { list.new ≡ swap_remove list.old index result }
 {
     list.swap_remove(index)
+}
+
+#[test]
+fn clones_stand_behind_what_was_there(rt: HostRuntime) {
+    let mut list: ArrayBuilder<u8, U4> = ArrayBuilder::new();
+    list.push(1);
+    assert!(rt; extend_by_clones(&mut list, &[2, 3]).is_ok());
+    assert!(rt; list.as_slice() == [1, 2, 3].as_slice());
 }

@@ -9,8 +9,7 @@ use ga_core::{
     AllocError, ArrayBuilder, ArrayLength, Const, GenericArray, LengthError, U3, U4, U7,
 };
 
-// A long known length: through a function of any length, and by a proof of one line.
-
+/// A long known length: through this function of any length, or by a proof of one line.
 fn masked_places<N: ArrayLength<u8>>(mask: u8) -> GenericArray<u8, N>
     requires { N.USIZE ≤ 256 }
     ensures { result ≡ map (λ index. bit_xor index mask) (range_with_len 0 N.USIZE) }
@@ -92,7 +91,7 @@ fn sevens() -> Result<GenericArray<u8, U3>, AllocError>
     GenericArray::repeat(7)
 }
 
-fn copied<N: ArrayLength<u8>>(
+fn copy_of<N: ArrayLength<u8>>(
     array: &GenericArray<u8, N>,
 ) -> Result<GenericArray<u8, N>, AllocError>
     ensures { result ≡ Ok array.now }

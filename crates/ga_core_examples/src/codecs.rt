@@ -1,12 +1,11 @@
-//! Bytes read and written as numbers and text, of any length, each with its exact result.
+//! Bytes read and written as numbers and text, of any length, each with its exact result. What reads
+//! or writes single bytes takes the slice of an array first: over the array itself the exact clauses of
+//! `be16_at` and `mask_loop` stay open.
 ghost use Rattle.std.specs.Int.Bits.{bit_xor};
 ghost use Rattle.std.specs.Int.{from_be_bytes, w16};
 ghost use Rattle.std.specs.Prelude.{◌≡◌, ◌+◌, ◌-◌, ◌<◌, ◌≤◌, ◌++◌, ◌∷◌, All, drop, if◌then◌else◌, length, map, nat_lt, replicate, take};
 
 use ga_core::{ArrayLength, GenericArray, InlineLength};
-
-// What reads or writes single bytes takes the slice of an array first: the exact clauses of
-// `be16_at` and `mask_loop` stay open over the array itself.
 
 fn be16_at<N: ArrayLength<u8>>(packet: &GenericArray<u8, N>, at: usize) -> u16
     requires room { at + 2 ≤ N.USIZE }
@@ -25,7 +24,7 @@ fn mask_loop<N: ArrayLength<u8>>(text: &mut GenericArray<u8, N>, mask: u8)
     }
 }
 
-fn padded<N: ArrayLength<u8> + InlineLength>(message: &[u8]) -> GenericArray<u8, N>
+fn padded_block<N: ArrayLength<u8> + InlineLength>(message: &[u8]) -> GenericArray<u8, N>
     requires room { length message.now < N.USIZE }
     ensures { result ≡ message.now ++ 128 ∷ replicate (N.USIZE - length message.now - 1) 0 }
 {

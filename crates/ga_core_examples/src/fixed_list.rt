@@ -60,7 +60,7 @@ impl<T: Default + Drop, N: ArrayLength<T>> FixedList<T, N> {
 
 /// The first item goes behind the others. What `pop_front` says of the bound tells that there is
 /// room for it.
-fn turned<T: Default + Drop, N: ArrayLength<T>>(list: &mut FixedList<T, N>)
+fn rotate<T: Default + Drop, N: ArrayLength<T>>(list: &mut FixedList<T, N>)
     ensures { list.new ≡ drop 1 list.old ++ take 1 list.old }
 {
     if let Some(item) = list.pop_front() {

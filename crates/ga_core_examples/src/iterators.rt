@@ -15,7 +15,7 @@ fn total<N: ArrayLength<u32>>(array: GenericArray<u32, N>) -> u32
     total
 }
 
-fn reversed<N: ArrayLength<u8>>(
+fn reverse_of<N: ArrayLength<u8>>(
     array: GenericArray<u8, N>,
 ) -> Result<GenericArray<u8, N>, LengthError>
     ensures ok { IsOk result }
@@ -43,7 +43,7 @@ fn left_copied<N: ArrayLength<u8>>(
 }
 
 /// Leaves zeros behind.
-fn moved_over(key: &mut GenericArray<u8, U3>, place: &mut GenericArray<u8, U3>)
+fn move_over(key: &mut GenericArray<u8, U3>, place: &mut GenericArray<u8, U3>)
     ensures moved { place.new ≡ key.old }
     ensures wiped { All (λ byte. byte ≡ 0) key.new }
 {
@@ -51,7 +51,7 @@ fn moved_over(key: &mut GenericArray<u8, U3>, place: &mut GenericArray<u8, U3>)
 }
 
 /// By a named function.
-fn greatest<N: ArrayLength<u32>>(lanes: GenericArray<u32, N>) -> u32
+fn greatest_item<N: ArrayLength<u32>>(lanes: GenericArray<u32, N>) -> u32
     ensures { result ≡ fold (λ best lane. max best lane) 0 lanes }
 {
     lanes.into_iter().fold(0, u32::max)

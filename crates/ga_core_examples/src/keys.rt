@@ -43,7 +43,7 @@ fn is_closer<N: ArrayLength<u8>>(
 }
 
 /// The index of the key that is closest to the target, the first of several.
-fn closest<N: ArrayLength<u8>>(
+fn closest_key<N: ArrayLength<u8>>(
     target: &GenericArray<u8, N>,
     keys: &[GenericArray<u8, N>],
 ) -> Option<usize>

@@ -3,7 +3,7 @@ ghost use Rattle.ga_core_examples.specs.Digits.{digit_of};
 ghost use Rattle.ga_core.specs.Tries.{try_map};
 ghost use Rattle.std.specs.Int.Bits.{bit_xor};
 ghost use Rattle.std.specs.List.{zip};
-ghost use Rattle.std.specs.Prelude.{◌≡◌, ◌+◌, ◌∷◌, [], ◌%◌, ◌^◌, map};
+ghost use Rattle.std.specs.Prelude.{◌≡◌, ◌∷◌, [], map};
 
 use crate::digits::digit_in;
 use ga_core::{ArrayLength, BorrowedItems, GenericArray, U2, U3};
@@ -32,15 +32,14 @@ fn digits_of_borrowed<N: ArrayLength<u8>>(
     text.try_map_inline_ref(|byte: &u8| digit_in(base, *byte))
 }
 
-// What was there is written over.
+/// Writes over what was there.
 fn masked_in_place<N: ArrayLength<u8>>(text: &mut GenericArray<u8, N>, mask: &GenericArray<u8, N>)
     ensures { text.new ≡ map (λ p. bit_xor p.0 p.1) (zip text.old mask.now) }
 {
     *text = text.zip_inline_ref(mask.view(), |t: &u8, m: &u8| *t ^ *m);
 }
 
-// A closure with a state, lent to each call in turn: the numbers of the calls.
-
+/// The numbers of the calls of a closure with a state, which is lent to each zip in turn.
 fn calls_in_order(left: GenericArray<u32, U2>, right: GenericArray<u32, U2>) -> [u32; 4]
     requires left { left ≡ 10 ∷ 20 ∷ [] }
     requires right { right ≡ 1 ∷ 2 ∷ [] }
@@ -56,10 +55,19 @@ fn calls_in_order(left: GenericArray<u32, U2>, right: GenericArray<u32, U2>) -> 
     [seen[0], seen[1], moved[0], moved[1]]
 }
 
-fn raised_by_reference<N: ArrayLength<u32>>(array: &GenericArray<u32, N>) -> GenericArray<u32, N>
-    ensures { result ≡ map (λ item. (item + 1) % 2 ^ 32) array.now }
+/// The running totals of two maps that share the closure.
+fn running_totals(array: GenericArray<u32, U2>) -> (GenericArray<u32, U2>, GenericArray<u32, U2>)
+    requires { array ≡ 1 ∷ 2 ∷ [] }
+    ensures { result ≡ (1 ∷ 3 ∷ [], 4 ∷ 6 ∷ []) }
 {
-    array.map_inline_ref_by(&mut |item: &u32| item.wrapping_add(1))
+    let mut total = 0u32;
+    let mut add = |item: u32| {
+        total = total.wrapping_add(item);
+        total
+    };
+    let by_reference = array.map_inline_ref_by(&mut |item: &u32| add(*item));
+    let by_value = array.map_inline_by(&mut add);
+    (by_reference, by_value)
 }
 
 /// The running totals above 3 at which two maps stop that share the closure.

@@ -20,9 +20,7 @@ type Matrix<C, const R: usize> = GenericArray<GenericArray<u64, C>, Const<R>>;
 /// `D` slabs of `R` rows of `C` numbers each.
 type Tensor<C, R, const D: usize> = GenericArray<GenericArray<GenericArray<u64, C>, R>, Const<D>>;
 
-// Columns: the row is the closure's argument.
-
-/// The numbers of a column, from the first row to the last.
+/// The numbers of a column, from the first row to the last. The row is the closure's argument.
 fn column<C, M, const R: usize>(matrix: &Matrix<C, R>, column: usize) -> GenericArray<u64, M>
 where
     C: ArrayLength<u64> + InlineLength,
@@ -38,9 +36,8 @@ where
     )
 }
 
-// The diagonal: a slice of rows is captured, and indexed twice.
-
-/// The numbers whose row is their column, from the first row to the last.
+/// The numbers whose row is their column, from the first row to the last. A slice of rows is captured,
+/// and indexed twice.
 fn diagonal<C: ArrayLength<u64> + InlineLength, const R: usize>(
     matrix: &Matrix<C, R>,
 ) -> GenericArray<u64, C>
@@ -56,10 +53,9 @@ fn diagonal<C: ArrayLength<u64> + InlineLength, const R: usize>(
     )
 }
 
-// The columns as rows: a matrix is captured, and a closure returns rows of another type.
-
-/// The columns as rows. `M` is the number of rows as a length, and `L` that of columns as a number.
-fn transposed<C, M, const R: usize, const L: usize>(matrix: &Matrix<C, R>) -> Matrix<M, L>
+/// The columns as rows. `M` is the number of rows as a length, and `L` that of columns as a number. A
+/// matrix is captured, and the closure returns rows of another type.
+fn transpose<C, M, const R: usize, const L: usize>(matrix: &Matrix<C, R>) -> Matrix<M, L>
 where
     C: ArrayLength<u64> + InlineLength,
     M: ArrayLength<u64> + InlineLength,
@@ -81,9 +77,7 @@ where
     )
 }
 
-// Zeros: the result alone names the rows.
-
-/// The matrix of zeros.
+/// The matrix of zeros. The result alone names the type of its rows.
 fn zeros<C: ArrayLength<u64> + InlineLength, const R: usize>() -> Matrix<C, R>
     requires { FitsInline R }
     ensures { result ≡ replicate R (replicate C.USIZE 0) }
@@ -94,8 +88,6 @@ fn zeros<C: ArrayLength<u64> + InlineLength, const R: usize>() -> Matrix<C, R>
         GenericArray::<u64, C>::from_copies(0)
     })
 }
-
-// Rows in another order: a matrix is captured, and the places are the items of an array.
 
 /// A copy of a row.
 fn row_of<C: ArrayLength<u64> + InlineLength, const R: usize>(
@@ -108,8 +100,8 @@ fn row_of<C: ArrayLength<u64> + InlineLength, const R: usize>(
     GenericArray::from_view(matrix[row].view())
 }
 
-/// The rows in the order of these places.
-fn permuted<C: ArrayLength<u64> + InlineLength, const R: usize>(
+/// The rows in the order of these places. A matrix is captured.
+fn rows_in_order<C: ArrayLength<u64> + InlineLength, const R: usize>(
     matrix: &Matrix<C, R>,
     order: GenericArray<usize, Const<R>>,
 ) -> Matrix<C, R>
@@ -127,8 +119,6 @@ fn permuted<C: ArrayLength<u64> + InlineLength, const R: usize>(
         },
     )
 }
-
-// Three levels, borrowed.
 
 /// The number in row `j` and column `k` of each slab.
 fn tube<C, R, const D: usize>(
@@ -150,10 +140,8 @@ where
     )
 }
 
-// Three levels, by value: the row is the item type.
-
 /// The rows of a slab, the last first.
-fn turned<T: Default + Drop, R: ArrayLength<T> + InlineLength>(
+fn reverse_rows<T: Default + Drop, R: ArrayLength<T> + InlineLength>(
     mut slab: GenericArray<T, R>,
 ) -> GenericArray<T, R>
     ensures { result ≡ reverse slab }
@@ -162,19 +150,17 @@ fn turned<T: Default + Drop, R: ArrayLength<T> + InlineLength>(
     slab
 }
 
-/// The rows of each slab, the last first.
+/// The rows of each slab, the last first: three levels by value, with the row as the item type.
 fn slabs_turned<T, R, const D: usize>(tensor: Rows<T, R, D>) -> Rows<T, R, D>
 where
     T: Default + Drop,
     R: ArrayLength<T> + InlineLength,
     ensures { result ≡ map (λ slab. reverse slab) tensor }
 {
-    tensor.map_inline(|slab: GenericArray<T, R>| turned(slab))
+    tensor.map_inline(|slab: GenericArray<T, R>| reverse_rows(slab))
 }
 
-// Neighbours of one list: a slice of numbers is captured.
-
-/// What each number is above the one before it, modulo 2^64.
+/// What each number is above the one before it, modulo 2^64. A slice of numbers is captured.
 fn differences<N: ArrayLength<u64>, M: ArrayLength<u64>>(
     window: &GenericArray<u64, N>,
 ) -> GenericArray<u64, M>
@@ -198,13 +184,13 @@ fn rows_are_turned_and_picked(rt: HostRuntime) {
         GenericArray::from_array([1, 2, 3]),
         GenericArray::from_array([4, 5, 6]),
     ]);
-    let pairs: Matrix<U2, 3> = transposed(&matrix);
+    let pairs: Matrix<U2, 3> = transpose(&matrix);
     assert!(rt; pairs[2].as_slice() == [3, 6].as_slice());
-    let other = permuted(&matrix, GenericArray::from_array([1, 0]));
+    let other = rows_in_order(&matrix, GenericArray::from_array([1, 0]));
     assert!(rt; other[0].as_slice() == [4, 5, 6].as_slice());
     let square: Matrix<U3, 3> = zeros();
     assert!(rt; diagonal(&square).as_slice() == [0, 0, 0].as_slice());
-    let slabs: Tensor<U2, U3, 2> = GenericArray::from_array([pairs, transposed(&other)]);
+    let slabs: Tensor<U2, U3, 2> = GenericArray::from_array([pairs, transpose(&other)]);
     assert!(rt; tube(&slabs, 1, 0).as_slice() == [2, 5].as_slice());
     assert!(rt; tube(&slabs_turned(slabs), 0, 0).as_slice() == [3, 6].as_slice());
     let two: GenericArray<u64, U2> = differences(&matrix[0]);

@@ -1,9 +1,9 @@
-//! Signed items: weighed sums, a filter's step, channels mixed, and the parts of a returned pair.
+//! Signed items: weighed sums and a filter's step.
 ghost use Rattle.ga_core_examples.specs.Weighed.{saturated, weighed};
-ghost use Rattle.std.specs.Int.{int_wrapping_add, int_wrapping_sub, w32, w64};
-ghost use Rattle.std.specs.Prelude.{◌≡◌, ◌∷◌, [], ◌+ℤ◌, int_div, map, pos, slice_index_or};
+ghost use Rattle.std.specs.Int.{int_wrapping_sub, w64};
+ghost use Rattle.std.specs.Prelude.{◌≡◌, ◌∷◌, [], pos, slice_index_or};
 
-use ga_core::{ArrayLength, BorrowedItems, Const, GenericArray, U2};
+use ga_core::{ArrayLength, BorrowedItems, GenericArray, U2};
 
 fn weighed_sum<N: ArrayLength<i64>>(
     window: &GenericArray<i64, N>,
@@ -41,7 +41,7 @@ struct Section {
 }
 
 /// A sample in front of the newer of two.
-fn newer(sample: i64, pair: &GenericArray<i64, U2>) -> GenericArray<i64, U2>
+fn newer_pair(sample: i64, pair: &GenericArray<i64, U2>) -> GenericArray<i64, U2>
     ensures { result ≡ sample ∷ slice_index_or pair.now 0 (pos 0) ∷ [] }
 {
     GenericArray::from_array([sample, pair[0]])
@@ -55,43 +55,9 @@ fn step(section: &mut Section, sample: i64) -> i64
     ensures outputs { section.new.outputs
         ≡ result ∷ slice_index_or section.old.outputs 0 (pos 0) ∷ [] }
 {
-    section.inputs = newer(sample, &section.inputs);
+    section.inputs = newer_pair(sample, &section.inputs);
     let forward = weighed_sum(&section.inputs, &section.taps);
     let output = forward.wrapping_sub(weighed_sum(&section.outputs, &section.feedback));
-    section.outputs = newer(output, &section.outputs);
+    section.outputs = newer_pair(output, &section.outputs);
     output
-}
-
-/// The mean of both channels, rounded to zero.
-fn mono(frame: &GenericArray<i16, U2>) -> i16
-    ensures { result ≡ int_div (slice_index_or frame.now 0 (pos 0)
-        +ℤ slice_index_or frame.now 1 (pos 0)) (pos 2) }
-{
-    ((i32::from(frame[0]) + i32::from(frame[1])) / 2) as i16
-}
-
-fn mixed_down<const N: usize>(
-    frames: &GenericArray<GenericArray<i16, U2>, Const<N>>,
-) -> GenericArray<i16, Const<N>>
-    ensures { result ≡ map (λ frame. int_div (slice_index_or frame 0 (pos 0)
-        +ℤ slice_index_or frame 1 (pos 0)) (pos 2)) frames.now }
-{
-    frames.map_inline_ref(mono)
-}
-
-fn sum_and_difference(a: i32, b: i32) -> (i32, i32)
-    ensures { result ≡ (int_wrapping_add w32 a b, int_wrapping_sub w32 a b) }
-{
-    (a.wrapping_add(b), a.wrapping_sub(b))
-}
-
-/// Hadamard's transform of two samples.
-fn transformed(pair: GenericArray<i32, U2>) -> GenericArray<i32, U2>
-    ensures { result ≡
-        int_wrapping_add w32 (slice_index_or pair 0 (pos 0)) (slice_index_or pair 1 (pos 0))
-        ∷ int_wrapping_sub w32 (slice_index_or pair 0 (pos 0)) (slice_index_or pair 1 (pos 0))
-        ∷ [] }
-{
-    let (sum, difference) = sum_and_difference(pair[0], pair[1]);
-    GenericArray::from_array([sum, difference])
 }

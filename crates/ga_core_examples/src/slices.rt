@@ -1,16 +1,8 @@
 //! Arrays as slices: the methods of slices, ranges, and loops over references.
 ghost use Rattle.std.specs.List.{sum_by};
-ghost use Rattle.std.specs.Prelude.{◌≡◌, ℕ, ◌-◌, ◌*◌, ◌<◌, ◌≤◌, ◌^◌, [], length, slice_index, slice_index_or, sum, take};
+ghost use Rattle.std.specs.Prelude.{◌≡◌, ℕ, ◌*◌, ◌<◌, ◌≤◌, ◌^◌, [], length, slice_index, slice_index_or, sum, take};
 
-use ga_core::{ArrayLength, GenericArray, Len, U3};
-
-/// The last item, by a number that the length tells.
-fn last_of<N: ArrayLength<u32>>(numbers: &GenericArray<u32, N>) -> u32
-    requires { 0 < N.USIZE }
-    ensures { result ≡ slice_index numbers.now (N.USIZE - 1) }
-{
-    numbers[numbers.len() - 1]
-}
+use ga_core::{ArrayLength, GenericArray, U3};
 
 fn sum_of_references<N: ArrayLength<u8>>(array: &GenericArray<u8, N>) -> u64
     requires bound { sum array.now < 2 ^ 64 }
@@ -19,9 +11,8 @@ fn sum_of_references<N: ArrayLength<u8>>(array: &GenericArray<u8, N>) -> u64
     array.into_iter().map(|item: &u8| u64::from(*item)).sum()
 }
 
-// Sums of wider numbers, which fit where a slice has at most so many items. An array passes its
-// slice, or a part of it.
-
+/// A sum in a wider type, which fits where a slice has at most so many items. An array passes its
+/// slice, or a part of it.
 fn sum_of(readings: &[u16]) -> u64
     requires { length readings.now ≤ 65536 }
     ensures { result ≡ sum readings.now }

@@ -7,8 +7,7 @@ use ga_core::{
 };
 use std::marker::PhantomData;
 
-// A function over any view that writes, called of an array's.
-
+/// Any view that writes, as an array's.
 fn first_set<S: ReborrowSlice<u8>>(view: &mut ViewMut<S, u8, U2>)
     ensures items { S.items view.new.slice ≡ slice_set (S.items view.old.slice) 0 6 }
     ensures stays { S.stays view.old.slice view.new.slice }
@@ -31,8 +30,6 @@ fn second_and_first_set<S: ReborrowPart<u8>>(slice: &mut S)
     *slice.item_mut(1) = 9;
     slice.part_mut(0, 1)[0] = 6;
 }
-
-// A view made by a literal, and one taken apart by a pattern.
 
 fn array_set_through_a_literal(array: &mut GenericArray<u8, U2>)
     ensures { array.new ≡ slice_set array.old 1 6 }
@@ -57,8 +54,6 @@ fn slice_set_behind_a_pattern(slice: &mut [u8])
     items[1] = 6;
 }
 
-// The rows and the rest of a slice, both written.
-
 fn row_and_rest_set(slice: &mut [u8])
     requires { slice.old ≡ 1 ∷ 2 ∷ 3 ∷ 4 ∷ 5 ∷ [] }
     ensures { slice.new ≡ 1 ∷ 2 ∷ 9 ∷ 4 ∷ 8 ∷ [] }
@@ -69,8 +64,7 @@ fn row_and_rest_set(slice: &mut [u8])
     rest[0] = 8;
 }
 
-// A length that is tested by `?`.
-
+/// A length that `?` checks.
 fn second_set_if_two(slice: &mut [u8]) -> Result<(), LengthError>
     ensures variant { IsOk result ↔ (length slice.old ≡ 2) }
     ensures ok { IsOk result → slice.new ≡ slice_set slice.old 1 6 }

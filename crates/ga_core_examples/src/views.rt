@@ -27,7 +27,7 @@ fn item_got<N: Unsigned>(view: GenericArrayRef<'_, u8, N>, index: usize) -> Opti
     view.get(index).copied()
 }
 
-fn viewed(slice: &[u8]) -> Result<GenericArrayRef<'_, u8, U3>, LengthError>
+fn view_of(slice: &[u8]) -> Result<GenericArrayRef<'_, u8, U3>, LengthError>
     ensures variant { IsOk result ↔ (length slice.now ≡ 3) }
     ensures ok { IfOk result (λ view. items_of_view view ≡ slice.now) }
 {
@@ -73,7 +73,7 @@ fn digits_of_both(
 }
 
 /// Raises each item of a slice of two.
-fn raised(slice: &mut [u8]) {
+fn raise_items(slice: &mut [u8]) {
     if let Ok(mut view) = GenericArrayMut::<u8, U2>::try_from_mut_slice(slice) {
         for item in view.iter_mut() {
             *item = item.wrapping_add(1);
@@ -98,7 +98,7 @@ fn a_slice_of_four_is_no_view_of_three(rt: HostRuntime) {
 #[test]
 fn a_view_writes_a_slice_of_its_length_alone(rt: HostRuntime) {
     let (mut two, mut three) = ([4u8, 5], [1u8, 2, 3]);
-    raised(&mut two);
-    raised(&mut three);
+    raise_items(&mut two);
+    raise_items(&mut three);
     assert!(rt; two == [5, 6] && three == [1, 2, 3]);
 }

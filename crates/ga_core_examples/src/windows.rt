@@ -7,7 +7,7 @@ ghost use Rattle.std.specs.Prelude.{◌≡◌, ◌==◌, ◌-◌, ◌/◌, ◌<�
 use ga_core::{ArrayBuilder, ArrayLength, GenericArray, InlineLength};
 use std::marker::Model;
 
-fn moved_on<N: ArrayLength<i32>>(window: &mut GenericArray<i32, N>, sample: i32)
+fn move_on<N: ArrayLength<i32>>(window: &mut GenericArray<i32, N>, sample: i32)
     requires { 0 < N.USIZE }
     ensures { window.new ≡ drop 1 window.old ++ sample ∷ [] }
 {
@@ -73,7 +73,7 @@ fn count_in<N: ArrayLength<u64>>(window: &GenericArray<u64, N>, width: u64, buck
 }
 
 /// How many numbers are above a level, by a loop in place of a chain.
-fn above<N: ArrayLength<u64>>(window: &GenericArray<u64, N>, level: u64) -> usize
+fn count_above<N: ArrayLength<u64>>(window: &GenericArray<u64, N>, level: u64) -> usize
     ensures { result ≡ count_by (λ x. nat_lt level x) window.now }
 {
     let items = window.as_slice();
@@ -110,7 +110,7 @@ fn zeros_at_end(items: &[u64]) -> usize
 }
 
 /// The numbers without the zeros in front and then without those at the end.
-fn trimmed<N: ArrayLength<u64>>(window: &GenericArray<u64, N>) -> &[u64]
+fn trim<N: ArrayLength<u64>>(window: &GenericArray<u64, N>) -> &[u64]
     ensures { let rest = drop (length (take_while (λ x. x == 0) window.now)) window.now in
         result.now ≡ take (length rest - length (take_while (λ x. x == 0) (reverse rest))) rest }
 {
@@ -180,7 +180,7 @@ fn place_behind(items: &[u64], item: u64) -> usize
     items.partition_point(|x| *x <= item)
 }
 
-fn inserted<N: ArrayLength<u64>>(list: &mut ArrayBuilder<u64, N>, item: u64)
+fn insert_in_order<N: ArrayLength<u64>>(list: &mut ArrayBuilder<u64, N>, item: u64)
     requires room { length list.old < N.USIZE }
     requires order { IsNonDecreasing list.old }
     ensures same { IsPermutation (item ∷ list.old) list.new }
@@ -191,7 +191,10 @@ fn inserted<N: ArrayLength<u64>>(list: &mut ArrayBuilder<u64, N>, item: u64)
 }
 
 /// An index of the number, or else that at which it would stand.
-fn searched<N: ArrayLength<u64>>(array: &GenericArray<u64, N>, item: u64) -> Result<usize, usize>
+fn search_sorted<N: ArrayLength<u64>>(
+    array: &GenericArray<u64, N>,
+    item: u64,
+) -> Result<usize, usize>
     requires { IsNonDecreasing array.now }
     ensures found { IfOk result (λ i. (i < N.USIZE) × (slice_index array.now i ≡ item)) }
     ensures absent { IfErr result (λ i. (i ≤ N.USIZE)

@@ -20,7 +20,7 @@ use generic_array::{
 use std::alloc::Global;
 
 /// A mask over every byte, as a digest makes of a key.
-pub fn masked<N: ArrayLength<u8>>(key: GenericArray<u8, N>) -> GenericArray<u8, N>
+pub fn masked_key<N: ArrayLength<u8>>(key: GenericArray<u8, N>) -> GenericArray<u8, N>
     ensures { result ≡ map (λ b. bit_xor b 0x36) key }
 {
     key.map_inline(|b: u8| b ^ 0x36)
@@ -33,8 +33,7 @@ fn masked_view<N: ArrayLength<u8>>(key: GenericArrayRef<'_, u8, N>, mask: u8) ->
     always(key.map((), |b: &u8| *b ^ mask))
 }
 
-// The same over the traits alone: where entries are the items, and where they may be references.
-
+/// The same over the traits alone, where entries are the items.
 fn masked_sequence<
     S: FunctionalSequence<u8> + MappedGenericSequence<u8, u8> + IntoIterator<Item = u8>,
 >(
@@ -50,7 +49,7 @@ fn masked_sequence<
     key.map(place, |b: u8| b ^ mask)
 }
 
-// One more than each sum: a chain over any kind of which inline arrays are made.
+/// One more than each sum: a chain over any kind of which inline arrays are made.
 fn one_more_than_sums<A, B>(
     left: A,
     right: B,
@@ -80,8 +79,7 @@ fn checksum_of_any<S: GenericSequence<u8>>(bytes: &S) -> u8
         .fold(0, |total: u8, b: &u8| total.wrapping_add(*b))
 }
 
-// Sums place by place of two kinds.
-
+/// Sums place by place of two kinds.
 fn place_sums<N: ArrayLength<u32>>(
     left: GenericArray<u32, N>,
     right: GenericArrayRef<'_, u32, N>,
@@ -91,8 +89,7 @@ fn place_sums<N: ArrayLength<u32>>(
     left.zip_inline_ref(right, |l: &u32, r: &u32| l.wrapping_add(*r))
 }
 
-// The value of a polynomial at x, with the highest coefficient last.
-
+/// The value of a polynomial at x, with the highest coefficient last.
 fn value_from_lowest<N: Unsigned>(coefficients: BoxedArray<u32, N>, x: u32) -> u32
     ensures { result ≡ fold (λ value c. (value * x % 2 ^ 32 + c) % 2 ^ 32) 0
         (reverse coefficients) }
@@ -103,8 +100,7 @@ fn value_from_lowest<N: Unsigned>(coefficients: BoxedArray<u32, N>, x: u32) -> u
     )
 }
 
-// The sum, where it fits its type. Its condition is one line of proof.
-
+/// The sum, where it fits its type. Its condition is one line of proof.
 fn sum_of<N: ArrayLength<u32>>(view: GenericArrayRef<'_, u32, N>) -> u32
     requires bound { sum (items_of_view view) < 2 ^ 32 }
     ensures { result ≡ sum (items_of_view view.entry) }
@@ -122,8 +118,7 @@ fn counted_up_boxed<N: Unsigned>(
     BoxedArray::generate(alloc, |index| first.wrapping_add(index))
 }
 
-// Digits in some base, or the first byte that is none.
-
+/// Digits in some base, or the first byte that is none.
 fn digits_of_view<N: ArrayLength<u8>>(
     text: GenericArrayRef<'_, u8, N>,
     base: u8,

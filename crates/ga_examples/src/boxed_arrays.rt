@@ -4,6 +4,7 @@ ghost use Rattle.std.specs.Prelude.{◌≡◌, ℕ, ◌+◌, ◌∷◌, [], ◌<
 use ga_core_examples::digits::decimal_digit;
 use generic_array::{AllocError, BoxedArray, FillError, LengthError, U2, U3, U4, Unsigned};
 use std::alloc::Global;
+use std::test::Fail;
 
 fn calls_made(alloc: Global) -> u32
     ensures { (result ≡ 0) ⊎ (result ≡ 3) }
@@ -28,7 +29,7 @@ fn refused_at_two(alloc: Global) -> Result<Result<BoxedArray<usize, U4>, usize>,
     )
 }
 
-// The item behind those that filled the array, or that comes first where memory was refused.
+/// The item behind those that filled the array, or that comes first where memory was refused.
 fn next_after_a_fill(alloc: Global) -> Result<Option<u32>, Option<u32>>
     ensures filled { IfOk result (λ next. next ≡ None) }
     ensures refused { IfErr result (λ next. next ≡ Some 1) }
@@ -65,7 +66,7 @@ fn sevens(alloc: Global) -> Result<BoxedArray<u8, U3>, AllocError>
     BoxedArray::repeat(alloc, 7)
 }
 
-fn blank(alloc: Global) -> Result<BoxedArray<u8, U3>, AllocError>
+fn zeros(alloc: Global) -> Result<BoxedArray<u8, U3>, AllocError>
     ensures { IfOk result (λ array. array ≡ 0 ∷ 0 ∷ 0 ∷ []) }
 {
     BoxedArray::default_boxed(alloc)
@@ -81,7 +82,7 @@ fn item_behind<N: Unsigned>(array: BoxedArray<u8, N>, count: usize) -> (Option<u
     (item, left.size_hint().0)
 }
 
-fn reversed<N: Unsigned>(
+fn reverse_of<N: Unsigned>(
     alloc: Global,
     array: BoxedArray<u8, N>,
 ) -> Result<Result<BoxedArray<u8, N>, LengthError>, AllocError>
@@ -89,4 +90,15 @@ fn reversed<N: Unsigned>(
     ensures items { IfOk result (λ built. IfOk built (λ turned. turned ≡ reverse array)) }
 {
     BoxedArray::try_boxed_from_iter(alloc, array.into_iter().rev())
+}
+
+#[test]
+fn a_build_stops_at_the_first_error(rt: HostRuntime) -> Result<(), Fail> {
+    let alloc = rt.alloc();
+    let digits = four_digits(alloc, &[b'1', b'2', b'3', b'4']);
+    assert!(rt; digits.is_ok_and(|digits| digits.as_slice() == [1, 2, 3, 4].as_slice()));
+    let other = four_digits(alloc, &[b'1', b'x', b'3', b'y']);
+    assert!(rt; matches!(other, Err(FillError::Item(b'x'))));
+    assert!(rt; matches!(refused_at_two(alloc)?, Err(2)));
+    Ok(())
 }

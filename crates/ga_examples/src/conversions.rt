@@ -1,5 +1,5 @@
 //! Conversions by the traits of std, and a header of two arrays.
-ghost use Rattle.std.specs.Prelude.{◌≡◌, ◌↔◌, IfOk, IsOk, Ok, drop, length, take};
+ghost use Rattle.std.specs.Prelude.{◌≡◌, IfOk, Ok, drop, take};
 
 use generic_array::sequence::{Concat, Split};
 use generic_array::{
@@ -7,17 +7,7 @@ use generic_array::{
 };
 use std::alloc::Global;
 
-fn from_vector<N: ArrayLength<u8> + InlineLength>(
-    items: Vec<u8>,
-) -> Result<GenericArray<u8, N>, LengthError>
-    ensures variant { IsOk result ↔ (length items.items ≡ N.USIZE) }
-    ensures ok { IfOk result (λ array. array ≡ items.items) }
-{
-    items.try_into()
-}
-
-// To a vector, and from what that gave to a boxed slice.
-
+/// To a vector, and from what that gave to a boxed slice.
 fn through_a_vector<N: ArrayLength<u32> + InlineLength>(
     alloc: Global,
     array: GenericArray<u32, N>,
@@ -43,8 +33,7 @@ fn boxed_through_a_vector<N: ArrayLength<u32>>(
     BoxedArray::try_from_boxed_slice(alloc, boxed.into_boxed_slice()?)
 }
 
-// A header that is made by `concat`, and read by `split`.
-
+/// A header that is made by `concat`, and read by `split`.
 #[derive(Drop)]
 struct Header {
     kind: GenericArray<u8, U2>,

@@ -41,8 +41,8 @@ impl<T: Default + Drop, N: ArrayLength<T>, M: ArrayLength<T>> ShortenAndLengthen
     ghost longer_agrees = { λ longer. refl };
 }
 
-// The last item popped and appended again, of whatever sequences these are.
-fn popped_and_appended<T, S: ShortenAndLengthen<T, L>, L: Lengthen<T, S>>(sequence: S) -> S
+/// The last item popped and appended again, of whatever sequences these are.
+fn pop_and_append<T, S: ShortenAndLengthen<T, L>, L: Lengthen<T, S>>(sequence: S) -> S
     requires shorter { S.IsOneShorter }
     requires longer { L.IsOneLonger }
     ensures { S.items result ≡ S.items sequence }

@@ -1,6 +1,6 @@
-//! Examples of the headline: every function of `ga_headline`, in modules named after its own.
+//! Examples of the headline: each function of `ga_headline` but the laws of `joined_runs`, which
+//! nothing calls, in modules named after its own.
 mod builds;
-mod joined_runs;
 mod shapes;
 mod steps;
 mod whole;

@@ -16,7 +16,7 @@ use generic_array::{
 use std::alloc::Global;
 use std::convert::AsSlice;
 
-// The dot product of two sequences, which may be of two kinds, over the traits alone.
+/// The dot product of two sequences, which may be of two kinds, over the traits alone.
 fn dot_of<S, R>(
     left: S,
     place: MappedPlace<S, u32, u32>,
@@ -37,7 +37,7 @@ where
     Ok(items.fold(0, |total: u32, x: &u32| total.wrapping_add(*x)))
 }
 
-// The first of each two items of two views, where the type of the items is open.
+/// The first of each two items of two views, where the type of the items is open.
 fn firsts_of_views<T: Copy + Default + Drop, N: ArrayLength<T> + InlineLength>(
     left: GenericArrayRef<'_, T, N>,
     right: GenericArrayRef<'_, T, N>,
@@ -47,28 +47,7 @@ fn firsts_of_views<T: Copy + Default + Drop, N: ArrayLength<T> + InlineLength>(
     always(left.zip((), right, |l: &T, _r: &T| *l))
 }
 
-// A map with a running total, by a closure that one map borrows and then the next.
-
-fn running_totals_of_arrays(
-    left: GenericArray<u32, U2>,
-    right: GenericArray<u32, U2>,
-) -> (GenericArray<u32, U2>, GenericArray<u32, U2>)
-    requires left { left ≡ 1 ∷ 2 ∷ [] }
-    requires right { right ≡ 3 ∷ 4 ∷ [] }
-    ensures { result ≡ (1 ∷ 3 ∷ [], 6 ∷ 10 ∷ []) }
-{
-    let mut total = 0u32;
-    let mut add = |item: u32| {
-        total = total.wrapping_add(item);
-        total
-    };
-    let first = left.map_inline_by(&mut add);
-    let second = right.map_inline_by(&mut add);
-    (first, second)
-}
-
-// Calls of the traits that borrow their closure: of two kinds, of a reference, and up to an error.
-
+/// A zip of two kinds, which borrows its closure.
 fn sums_of_boxed_and_view<N: ArrayLength<u32>>(
     alloc: Global,
     left: BoxedArray<u32, N>,
@@ -104,8 +83,7 @@ fn stopped_past_three_in_view(view: GenericArrayRef<'_, u32, U3>) -> Result<u32,
     view.try_fold_by(0, &mut up_to_three)
 }
 
-// The fold of a map.
-
+/// The fold of a map.
 fn digits_of_boxed(alloc: Global, array: BoxedArray<u32, U3>) -> Result<u32, AllocError>
     requires { array ≡ 1 ∷ 2 ∷ 3 ∷ [] }
     ensures { IfOk result (λ total. total ≡ 246) }
@@ -119,8 +97,7 @@ fn digits_of_boxed(alloc: Global, array: BoxedArray<u32, U3>) -> Result<u32, All
     )
 }
 
-// Zips told from the right side.
-
+/// A zip that its right side makes.
 fn less_by_boxed(s: BoxedArray<u32, U2>, lhs: GenericArray<u32, U2>) -> GenericArray<u32, U2>
     requires s { s ≡ 1 ∷ 2 ∷ [] }
     requires lhs { lhs ≡ 10 ∷ 20 ∷ [] }
@@ -141,8 +118,7 @@ fn boxed_less_by_view<N: ArrayLength<u32>>(
     inverted_zip2_by(s, alloc, lhs, &mut |l: u32, r: &u32| l.wrapping_sub(*r))
 }
 
-// Calls that were made, and items that were taken, where memory was had or refused.
-
+/// How many calls were made, where memory was had or refused.
 fn calls_of_a_boxed_map(alloc: Global, array: BoxedArray<u32, U3>) -> u32
     requires { array ≡ 1 ∷ 2 ∷ 3 ∷ [] }
     ensures { (result ≡ 0) ⊎ (result ≡ 3) }

@@ -20,24 +20,23 @@ macro_rules! counted {
     }};
 }
 
-fn evaluated_in_order() -> (GenericArray<u32, U3>, u32)
-    ensures { result ≡ (1 ∷ 2 ∷ 3 ∷ [], 3) }
+/// Five items by three macros, and the number of the last.
+fn items_in_order() -> (
+    GenericArray<u32, U3>,
+    GenericArray<u32, U3>,
+    GenericArray<u32, U3>,
+    u32,
+)
+    ensures { result ≡ (1 ∷ 2 ∷ 3 ∷ [], replicate 3 4, replicate 3 5, 5) }
 {
     let mut number = 0u32;
-    let array = arr![next!(number), next!(number), next!(number),,];
-    (array, number)
-}
-
-fn evaluated_once() -> (GenericArray<u32, U3>, GenericArray<u32, U3>, u32)
-    ensures { result ≡ (replicate 3 1, replicate 3 2, 2) }
-{
-    let mut number = 0u32;
+    let listed = arr![next!(number), next!(number), next!(number),,];
     let of_a_length = arr![next!(number); U3];
     let of_a_number = arr![next!(number); 3];
-    (of_a_length, of_a_number, number)
+    (listed, of_a_length, of_a_number, number)
 }
 
-fn boxed_evaluated_in_order(alloc: Global) -> (Result<BoxedArray<u32, U2>, AllocError>, u32)
+fn boxed_items_in_order(alloc: Global) -> (Result<BoxedArray<u32, U2>, AllocError>, u32)
     ensures array { IfOk result.0 (λ array. array ≡ 2 ∷ 3 ∷ []) }
     ensures count { result.1 ≡ 3 }
 {

@@ -107,7 +107,7 @@ impl<T: Default + Drop, const N: usize> Store<T> for Lender<T, N> {
     }
 }
 
-fn joined(left: GenericArray<u8, Week>, right: GenericArray<u8, Sides>) -> GenericArray<u8, U10>
+fn join(left: GenericArray<u8, Week>, right: GenericArray<u8, Sides>) -> GenericArray<u8, U10>
     ensures { result ≡ left ++ right }
 {
     left.concat(right)

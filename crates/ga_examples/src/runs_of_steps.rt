@@ -25,7 +25,7 @@ pub fn count_of<T>(items: &[T]) -> usize
 }
 
 /// The first of three numbers, another in the place of the last, and this one taken again.
-fn taken_and_replaced<I: TwoEnded<u32>>(
+fn take_and_replace<I: TwoEnded<u32>>(
     alloc: Global,
     numbers: &mut I,
     replies: &mut Vec<Reply<u32, u32>>,
@@ -49,7 +49,7 @@ fn an_item_that_is_replaced_is_taken(rt: HostRuntime) -> Result<(), Fail> {
     let alloc = rt.alloc();
     let mut replies = Vec::new(alloc);
     let mut numbers = BoxedArray::<u32, U3>::from_array(alloc, [1, 2, 3])?.into_iter();
-    taken_and_replaced(alloc, &mut numbers, &mut replies)?;
+    take_and_replace(alloc, &mut numbers, &mut replies)?;
     let text = format!(in alloc; "{:?} {replies:?}", Step::Set(0, 9u8))?;
     assert_eq!(rt;
         text.as_str(),

@@ -152,7 +152,7 @@ pub fn is_symmetric<C, const R: usize>(matrix: &Matrix<C, R>) -> bool
 where
     C: ArrayLength<u64> + InlineLength,
     requires { R ≡ C.USIZE }
-    ensures { IsTrue result ↔ matrix.now ≡ transpose C.USIZE matrix.now }
+    ensures { IsTrue result ↔ (matrix.now ≡ transpose C.USIZE matrix.now) }
 {
     let rows = matrix.as_slice();
     let columns: Matrix<C, R> = turned(rows);

@@ -1,10 +1,12 @@
 -- Where a closure may be called in turn, it may be called in each state that its calls lead to.
+use Rattle.ga_views.proofs.CutLemmas.{taken-some}
 use Rattle.ga_views.specs.Calls.{MayFold, MayGenerate, MayMap, MayTryGenerate, MayTryMap, MayZip, Stays}
 use Rattle.ga_views.specs.Entries.{CallAt, CallAtPair, FoldAt}
 use Rattle.ga_views.specs.Runs.{ClosureRun, FoldRun}
-use Rattle.std.proofs.Common.{◌≡◌, ℕ, ◌<◌, List, [], ◌∷◌, ◌++◌, Ok, Result, ap, map, refl, subst, sym}
+use Rattle.std.proofs.Common.{◌≡◌, ◌∙◌, ℕ, ◌<◌, List, [], ◌∷◌, ◌++◌, Ok, Result, ap, append_assoc, map, refl, subst, sym}
+use Rattle.std.proofs.lemmas.List.{append-nil}
 use Rattle.std.proofs.lemmas.List.Elements.{All-head, All-tail}
-use Rattle.std.specs.List.{All, range_with_len, zip}
+use Rattle.std.specs.List.{All, FoldsTo, range_with_len, zip}
 
 -- what holds of all items holds of the one that a walk has come to: a closure that asks for it may be called
 pub holds-within : {T : Type 0} (P : T → Type 0) (items passed others : List T) (item : T) → All P items
@@ -101,3 +103,49 @@ module _ {F A I T : Type 0} (entry : I → T) (pre : F → A → I → Type 0) w
       (λ here stays. subst (λ s. pre s value item)
       (sym (stays-fold (FoldAt entry step) f (λ b v c g call. stays b call.0 c g call.2) a passed value reached run))
       here)
+
+-- a run of steps goes on where another ended
+FoldsTo-append : {P X : Type 0} (step : P → X → P → Type 0) (p : P) (xs : List X) (q : P) (ys : List X) (r : P)
+    → FoldsTo step p xs q → FoldsTo step q ys r → FoldsTo step p (xs ++ ys) r
+FoldsTo-append step p [] q ys r same further = subst (λ s. FoldsTo step s ys r) (sym same) further
+FoldsTo-append step p (x ∷ xs) q ys r run further =
+    (run.0, run.1, FoldsTo-append step run.0 xs q ys r run.2 further)
+
+-- Calls at the items passed led from f and init to the state and the value reached, and the others are left.
+pub record FoldedSoFar {F A T : Type 0} (step : F → A → T → A → F → Type 0) (f : F) (init : A) (all left : List T)
+    (reached : F) (value : A) : Type 0 where
+  pub passed : List T
+  pub whole : all ≡ passed ++ left
+  pub run : FoldRun step f init passed value reached
+
+module _ {F A T : Type 0} (step : F → A → T → A → F → Type 0) where
+  -- no call was made
+  pub folded-none : (f : F) (init : A) (all : List T) → FoldedSoFar step f init all all f init
+  folded-none f init all = record { passed = []; whole = refl; run = refl }
+
+module _ {F A T : Type 0} {step : F → A → T → A → F → Type 0} {f : F} {init : A} {all left : List T} {reached : F}
+    {value : A} (so_far : FoldedSoFar step f init all left reached value) where
+  -- calls at some more items followed
+  pub folded-more : (part others : List T) (b : A) (g : F) → left ≡ part ++ others
+      → FoldRun step reached value part b g → FoldedSoFar step f init all others g b
+  folded-more part others b g came run = record {
+    passed = so_far.passed ++ part;
+    whole = taken-some all so_far.passed left part others so_far.whole came;
+    run = FoldsTo-append _ (f, init) so_far.passed (reached, value) part (g, b) so_far.run run;
+  }
+
+  -- calls at all others followed
+  pub folded-rest : (b : A) (g : F) → FoldRun step reached value left b g → FoldRun step f init all b g
+  folded-rest b g run =
+      let end = folded-more left [] b g (sym (append-nil left)) run in
+      subst (λ items. FoldRun step f init items b g) (sym (end.whole ∙ append-nil end.passed)) end.run
+
+module _ {F A I T : Type 0} {entry : I → T} {step : F → A → I → A → F → Type 0} {f : F} {init : A} {all left : List T}
+    {reached : F} {value : A} (so_far : FoldedSoFar (FoldAt entry step) f init all left reached value) where
+  -- the calls at some more items may be made
+  pub folded-callable : (pre : F → A → I → Type 0) → MayFold entry pre step f init all → (part others : List T)
+      → left ≡ part ++ others → MayFold entry pre step reached value part
+  folded-callable pre may part others came = λ before item behind next v within run at is _.
+      let end = folded-more so_far before (item ∷ (behind ++ others)) v next
+      (came ∙ (ap (λ xs. xs ++ others) within ∙ append_assoc before (item ∷ behind) others)) run in
+      may_fold-at entry pre step f init all may end.passed item (behind ++ others) next v end.whole end.run at is

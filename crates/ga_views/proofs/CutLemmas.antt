@@ -67,11 +67,16 @@ module _ {T : Type 0} where
   next_back-reversed items None left ended = (ap reverse ended.0, ap reverse ended.1)
   next_back-reversed items (Some item) left came = ap reverse came ∙ reverse-append left (item ∷ [])
 
+  -- some items more were taken from the front
+  pub taken-some : (all taken left more others : List T) → all ≡ taken ++ left → left ≡ more ++ others
+      → all ≡ (taken ++ more) ++ others
+  taken-some all taken left more others so_far step =
+      so_far ∙ (ap (λ rest. taken ++ rest) step ∙ sym (append_assoc taken more others))
+
   -- one item more was taken from the front
   pub taken-more : (all taken left : List T) (item : T) (others : List T) → all ≡ taken ++ left → left ≡ item ∷ others
       → all ≡ (taken ++ item ∷ []) ++ others
-  taken-more all taken left item others so_far step =
-      so_far ∙ (ap (λ rest. taken ++ rest) step ∙ sym (append_assoc taken (item ∷ []) others))
+  taken-more all taken left item others so_far step = taken-some all taken left (item ∷ []) others so_far step
 
   -- one item more was passed over
   pub passed-more : (n : ℕ) (items left : List T) (reply : Option T) (after : List T) → left ≡ drop n items

@@ -3,12 +3,12 @@ use Rattle.ga_views.specs.HexText.{hex_digits, hex_text}
 use Rattle.hex.proofs.HexLemmas.{IsAscii-encode_with, length-encode_with}
 use Rattle.hex.specs.Hex.{encode_lower, encode_with, lower_digits, upper_digits}
 use Rattle.std.proofs.Common.{◌≡◌, ℕ, ◌+◌, ◌-◌, ◌*◌, ◌/◌, ◌%◌, ◌≤◌, inl, inr, Bool, true, false, if◌then◌else◌, List}
-use Rattle.std.proofs.Common.{[], ◌∷◌, ◌++◌, Option, None, Some, MatchOption, refl, sym, ap, ◌∙◌, arith, length, map}
-use Rattle.std.proofs.Common.{append_assoc, length-append, length-take, nat_lt, min, take, ◌<◌}
+use Rattle.std.proofs.Common.{[], ◌∷◌, ◌++◌, Option, None, Some, refl, sym, ap, ◌∙◌, arith, length, map}
+use Rattle.std.proofs.Common.{length-append, length-take, nat_lt, min, take, ◌<◌, subst, unwrap_or}
 use Rattle.std.proofs.Math.ListN.{get_or-map}
-use Rattle.std.proofs.Math.Seq.{take-append-add}
+use Rattle.std.proofs.Math.Seq.{take-append-add, take-append_seam}
 use Rattle.std.proofs.lemmas.Bool.{cases_lt, ltb-true}
-use Rattle.std.proofs.lemmas.List.{append-nil, take_all, take-append-le}
+use Rattle.std.proofs.lemmas.List.{append-nil, take_all, take-append-le, take_min}
 use Rattle.std.proofs.lemmas.List.Sums.{AllPass-from_list_all}
 use Rattle.std.proofs.lemmas.Str.{IsAscii-take, IsUtf8-from_ascii}
 use Rattle.std.proofs.lemmas.Str.Ascii.{IsAscii-from_all}
@@ -59,6 +59,17 @@ IsAscii-from_test : (text : List ℕ) → list_all (λ b. nat_lt b 128) text ≡
 IsAscii-from_test text pass = IsAscii-from_all text
     (λ k d lt. ltb-true _ 128 (AllPass-from_list_all (λ b. nat_lt b 128) text pass k d lt))
 
+-- a text with a part that isn't empty isn't empty
+pub not_empty : (whole done left text others : List ℕ) → whole ≡ done ++ left → left ≡ text ++ others → 0 < length text
+    → whole ≡ [] → ⊥
+not_empty whole done left text others so_far next some none = omega (
+  arith,
+  ap length (sym none ∙ so_far),
+  length-append done left,
+  ap length next,
+  length-append text others,
+)
+
 -- each digit of a table is ASCII
 IsAscii-table : (upper : Bool) → IsAscii (if upper then upper_digits else lower_digits)
 IsAscii-table true = IsAscii-from_test upper_digits refl
@@ -69,9 +80,21 @@ module _ (upper : Bool) where
   pub length-hex_digits : (bytes : List ℕ) → length (hex_digits upper bytes) ≡ 2 * length bytes
   length-hex_digits bytes = length-encode_with _ bytes
 
-  -- digits are text, wherever they are cut
-  pub IsUtf8-hex_digits : (n : ℕ) (bytes : List ℕ) → IsUtf8 (take n (hex_digits upper bytes))
-  IsUtf8-hex_digits n bytes = IsUtf8-from_ascii _ (IsAscii-take _ n (IsAscii-encode_with _ bytes (IsAscii-table upper)))
+  -- the text is as many digits as the limit lets through
+  pub hex_text-counted : (limit : Option ℕ) (bytes : List ℕ) → hex_text upper limit bytes
+      ≡ take (min (unwrap_or limit (2 * length bytes)) (2 * length bytes)) (hex_digits upper bytes)
+  hex_text-counted None bytes = sym (take_all _ (hex_digits upper bytes) (omega (arith, length-hex_digits bytes)))
+  hex_text-counted (Some most) bytes =
+      rw (← length-hex_digits bytes) (sym (take_min most (hex_digits upper bytes)))
+
+  -- what stands in front of digits is text
+  pub IsUtf8-front : (count : ℕ) (bytes text left : List ℕ) → take count (hex_digits upper bytes) ≡ text ++ left
+      → IsUtf8 text
+  IsUtf8-front count bytes text left parts =
+      let is : text ≡ take (length text) (take count (hex_digits upper bytes)) =
+      sym (take-append_seam text left) ∙ ap (take (length text)) (sym parts) in
+      let ascii = IsAscii-encode_with _ bytes (IsAscii-table upper) in
+      IsUtf8-from_ascii text (subst IsAscii (sym is) (IsAscii-take _ _ (IsAscii-take _ count ascii)))
 
   -- bytes in two parts, and the text of the first: of so many digits, as many as it has
   module _ (count : ℕ) (left piece behind text : List ℕ) (parts : left ≡ piece ++ behind)
@@ -79,14 +102,12 @@ module _ (upper : Bool) where
     text-long : length text ≡ min count (2 * length piece)
     text-long = omega (arith, ap length is, length-take count (hex_digits upper piece), length-hex_digits piece)
 
-    -- what was written and what was to be written of all are that, the text, and the others of the second part
-    pub piece-next : (whole done : List ℕ) → whole ≡ done ++ take count (hex_digits upper left)
-        → whole ≡ (done ++ text) ++ take (count - length text) (hex_digits upper behind)
-    piece-next whole done told =
+    -- the digits of all are that text and the others of the second part
+    pub piece-next : take count (hex_digits upper left) ≡ text ++ take (count - length text) (hex_digits upper behind)
+    piece-next =
         let all = ap (hex_digits upper) parts ∙ encode_with-append _ piece behind in
-        let cut = ap (take count) all ∙ take-append count (hex_digits upper piece) (hex_digits upper behind) in
         let front = ap (λ t. t ++ take (count - length t) (hex_digits upper behind)) (sym is) in
-        told ∙ (ap (λ l. done ++ l) (cut ∙ front) ∙ sym (append_assoc done text _))
+        ap (take count) all ∙ (take-append count (hex_digits upper piece) (hex_digits upper behind) ∙ front)
 
     -- the text has a digit where there are bytes and room for two digits
     pub piece-some : (cut room : ℕ) → 0 < count → count ≤ 2 * length left → 2 ≤ room
@@ -96,30 +117,3 @@ module _ (upper : Bool) where
     -- and the second part has as many as are left
     pub piece-left : count ≤ 2 * length left → count - length text ≤ 2 * length behind
     piece-left enough = omega (arith, text-long, ap length parts, length-append piece behind)
-
-  -- where the text is empty, no digits are left to write
-  pub no-digits : (whole done bytes : List ℕ) (count : ℕ) → whole ≡ done ++ take count (hex_digits upper bytes)
-      → count ≤ 2 * length bytes → whole ≡ [] → count ≡ 0
-  no-digits whole done bytes count told enough none = omega (
-    arith,
-    ap length (sym none ∙ told),
-    length-append done (take count (hex_digits upper bytes)),
-    length-take count (hex_digits upper bytes),
-    length-hex_digits bytes,
-  )
-
-  -- the text is as many digits as the limit lets through
-  pub hex_text-counted : (limit : Option ℕ) (bytes : List ℕ) (count : ℕ)
-      → MatchOption limit (count ≡ 2 * length bytes) (λ most. count ≡ min most (2 * length bytes))
-      → (hex_text upper limit bytes ≡ take count (hex_digits upper bytes)) × (count ≤ 2 * length bytes)
-  hex_text-counted None bytes count is =
-      (sym (take_all count (hex_digits upper bytes) (omega (arith, length-hex_digits bytes))), omega arith)
-  hex_text-counted (Some most) bytes count is =
-      let digits = hex_digits upper bytes in
-      let long = length-hex_digits bytes in (
-        elim (cases_lt most (2 * length bytes)) [
-          | inl short ↦ ap (λ n. take n digits) (omega arith)
-          | inr all ↦ take_all most digits (omega (arith, long)) ∙ sym (take_all count digits (omega (arith, long)))
-        ],
-        omega arith,
-      )

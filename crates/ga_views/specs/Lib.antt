@@ -1,6 +1,7 @@
 pub mod Calls
 pub mod ViewMut
 pub mod Cut
+pub mod Digits
 pub mod Entries
 pub mod HexText
 pub mod Iteration

@@ -13,6 +13,9 @@ use std::marker::PhantomData;
 use std::ops::DerefSlice;
 use std::slice;
 
+// How many items a fold takes at once.
+const BLOCK: usize = 8;
+
 /// A view of exactly `N` items of a slice. Copying it copies no item.
 ///
 /// The counterpart of `&GenericArray<T, N>` made of a slice. The length has no bound.
@@ -139,11 +142,28 @@ impl<'a, T, N: Unsigned> GenericArrayRef<'a, T, N> {
             → result ≡ fold h init (items_of_view self.entry) }
     {
         let mut answer = init;
-        for item in self.as_slice() {
-            answer = f(answer, item);
+        let mut left = self.as_slice();
+        while left.len() >= BLOCK {
+            let (block, behind) = left.split_at(BLOCK);
+            answer = fold_items(block, answer, f);
+            left = behind;
         }
-        answer
+        fold_items(left, answer, f)
     }
+}
+
+// Folds the items of a slice, in order. Of a whole block their number is known, so that the
+// compiler unrolls the loop.
+#[inline(always)]
+fn fold_items<T, A, F: FnMut(A, &T) -> A>(items: &[T], init: A, f: &mut F) -> A
+    requires { MayFold (λ item. item.now) F.pre F.step f.old init items.now }
+    ensures { FoldRun (FoldAt (λ item. item.now) F.step) f.old init items.now result f.new }
+{
+    let mut answer = init;
+    for item in items {
+        answer = f(answer, item);
+    }
+    answer
 }
 
 /// The methods of slices, and `view[index]`.

@@ -2,7 +2,7 @@
 ghost use Rattle.ga_views.specs.HexText.{hex_digits, hex_text};
 ghost use Rattle.std.specs.Fmt.{WritesStyledOnOk, spec_precision};
 ghost use Rattle.std.specs.Io.KnownBytes.{Appends};
-ghost use Rattle.std.specs.Prelude.{◌≡◌, ◌*◌, ◌≤◌, [], Bool, IsOk, OnOk, Some, length, take};
+ghost use Rattle.std.specs.Prelude.{◌≡◌, ◌*◌, ◌<◌, ◌≤◌, [], ◌++◌, IfSome, IsNone, IsOk, OnOk, Some, length, take};
 
 use hex::encode_to_slice;
 use std::io::Write;
@@ -14,7 +14,6 @@ const LONG_TEXT: usize = 2048;
 // How many digits `HexText` makes at once: a buffer for the few of a digest is quickly cleared.
 const SHORT_TEXT: usize = 128;
 
-// Not inlined, so that no caller's frame holds the buffer of 2 KiB.
 /// Writes two hex digits for each byte, the high half first, in lower case or, if `upper` is set,
 /// in upper case; at most `limit` digits. An odd limit cuts inside a byte.
 ///
@@ -23,7 +22,9 @@ const SHORT_TEXT: usize = 128;
 ///
 /// The counterpart of `fmt::LowerHex` and `fmt::UpperHex` of an array, with `limit` for a
 /// formatter's precision.
-#[inline(never)]
+// Inlined, so that where the number of bytes is known, no more of the buffer is cleared than the
+// text takes. The price is a caller's frame that may hold all 2 KiB.
+#[inline]
 pub fn write_hex<W: Write>(
     bytes: &[u8],
     upper: bool,
@@ -34,17 +35,10 @@ pub fn write_hex<W: Write>(
         (hex_text upper limit bytes.now)) }
     ensures empty { hex_text upper limit bytes.now ≡ [] → IsOk result }
 {
-    let mut digits = [0; LONG_TEXT];
-    let mut count = count_digits(bytes, limit);
-    let mut left = bytes;
-    while count > 0 {
-        let (piece, behind) = left.split_at(left.len().min(LONG_TEXT / 2));
-        let text = put_piece(piece, upper, count, &mut digits);
-        if let Err(error) = w.write_all(text) {
-            return Err(error);
-        }
-        count -= text.len();
-        left = behind;
+    let mut buffer = [0; LONG_TEXT];
+    let mut digits = Digits::new(bytes, upper, limit);
+    while let Some(text) = digits.next_text(&mut buffer) {
+        w.write_all(text)?;
     }
     Ok(())
 }
@@ -87,35 +81,58 @@ fn show_pieces<W: fmt::Write>(
         (hex_text upper limit bytes.now) f.new }
     ensures empty { hex_text upper limit bytes.now ≡ [] → IsOk result }
 {
-    let mut digits = [0; SHORT_TEXT];
-    let mut count = count_digits(bytes, limit);
-    let mut left = bytes;
-    while count > 0 {
-        let (piece, behind) = left.split_at(left.len().min(SHORT_TEXT / 2));
-        let shown = put_piece(piece, upper, count, &mut digits);
+    let mut buffer = [0; SHORT_TEXT];
+    let mut digits = Digits::new(bytes, upper, limit);
+    while let Some(shown) = digits.next_text(&mut buffer) {
         let Ok(text) = str::from_utf8(shown) else {
             unreachable!();
         };
-        if let Err(error) = f.write_str(text) {
-            return Err(error);
-        }
-        count -= shown.len();
-        left = behind;
+        f.write_str(text)?;
     }
     Ok(())
 }
 
-// How many digits are to be written: two for each byte, but no more than the limit.
-#[inline]
-fn count_digits(bytes: &[u8], limit: Option<usize>) -> usize
-    ensures text { (upper : Bool)
-        → hex_text upper limit bytes.now ≡ take result (hex_digits upper bytes.now) }
-    ensures few { result ≤ 2 * length bytes.now }
-{
-    let all = 2 * bytes.len();
-    match limit {
-        Some(limit) => limit.min(all),
-        None => all,
+// The first `count` digits of the bytes: those that are still to be written.
+#[derive(Drop)]
+struct Digits<'a> {
+    bytes: &'a [u8],
+    upper: bool,
+    count: usize,
+    ghost enough: { count ≤ 2 * length bytes.now },
+}
+
+impl<'a> Digits<'a> {
+    ghost use Rattle.ga_views.specs.Digits.{digits_left};
+
+    // All digits, or as many as the limit lets through.
+    #[inline]
+    fn new(bytes: &'a [u8], upper: bool, limit: Option<usize>) -> Self
+        ensures { digits_left result ≡ hex_text upper limit bytes.now }
+    {
+        let all = 2 * bytes.len();
+        Digits {
+            bytes,
+            upper,
+            count: limit.unwrap_or(all).min(all),
+        }
+    }
+
+    // Takes the next digits, as many as the buffer has room for whole bytes. Puts them there.
+    #[inline(always)]
+    fn next_text<'b>(&mut self, buffer: &'b mut [u8]) -> Option<&'b [u8]>
+        requires { 2 ≤ length buffer.old }
+        ensures none { IsNone result → digits_left self.old ≡ [] }
+        ensures some { IfSome result (λ text. (0 < length text.now)
+            × (digits_left self.old ≡ text.now ++ digits_left self.new)) }
+    {
+        if self.count == 0 {
+            return None;
+        }
+        let (piece, behind) = self.bytes.split_at(self.bytes.len().min(buffer.len() / 2));
+        let text = put_piece(piece, self.upper, self.count, buffer);
+        self.bytes = behind;
+        self.count -= text.len();
+        Some(text)
     }
 }
 

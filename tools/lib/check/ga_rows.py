@@ -1,4 +1,4 @@
-"""What the program `ga_rows` has to write and to tell, in each mode, and on streams that are slow,
+"""What the program `ga_rows` has to write in each mode, and on streams that are slow,
 full, closed or of the wrong kind."""
 import functools
 import os
@@ -10,7 +10,7 @@ from fcntl import ioctl
 from subprocess import DEVNULL
 from termios import FIONREAD
 
-from check.playing import Seen, file_of, play, read_again
+from check.running import Seen, differences, file_of, read_again, run_program
 
 
 def numbers(row):
@@ -84,17 +84,17 @@ def closing(descriptor):
     return lambda: os.close(descriptor)
 
 
-def play_case(tally, program, name, wanted, words=(), data=b"", signals=(), left=None, **how):
+def run_case(tally, program, name, wanted, words=(), data=b"", signals=(), left=None, **how):
     """A case: the program on these bytes, or on the streams of `how`. `left` reads what counts as
     its output where that is a file."""
     with file_of(data) as given:
-        seen = play(program, words, **(how if "give" in how else {"stdin": given, **how}))
+        seen = run_program(program, words, **(how if "give" in how else {"stdin": given, **how}))
         if left:
             seen = seen._replace(out=left(given))
-    tally.compare(name, seen, wanted, *signals)
+    tally.case(name, differences(seen, wanted, *signals))
 
 
-def play_outputs(case):
+def run_outputs(case):
     text, limit = text_of("dec", 4, MANY), (10_000, 10_000)
     with open("/dev/full", "wb") as full:
         case("a full disk, 6 bytes", FAULTY, data=SIX, stdout=full)
@@ -110,7 +110,7 @@ def play_outputs(case):
          signals=[signal.SIGPIPE], take=take_one_byte)
 
 
-def play_inputs(case):
+def run_inputs(case):
     case("a closed input", FAULTY, before=closing(0))
     folder = os.open(tempfile.gettempdir(), os.O_RDONLY)
     case("a directory as input", FAULTY, stdin=folder)
@@ -122,13 +122,13 @@ def play_inputs(case):
     case("more input than there is memory", Seen(3, b"", NO_MEMORY), give=give_past_the_memory)
 
 
-def play_system_faults(tally, program):
-    case = functools.partial(play_case, tally, program)
+def run_system_faults(tally, program):
+    case = functools.partial(run_case, tally, program)
     for mode in MODES:
         data = SIX * 6 + SIX[:3]
         case(f"{mode}: the input comes byte by byte", whole(mode, 4, data), [mode],
              give=give_byte_by_byte(data))
         case(f"{mode} 16: the output goes byte by byte", whole(mode, 16, MANY), [mode, "16"], MANY,
              take=lambda pipe: b"".join(iter(lambda: pipe.read(1), b"")))
-    play_outputs(case)
-    play_inputs(case)
+    run_outputs(case)
+    run_inputs(case)

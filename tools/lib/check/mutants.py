@@ -1,29 +1,30 @@
-"""The wrong bodies of trials/mutants, each of which the prover has to refuse, with those of the gate.
+"""The mutants of trials/mutants, each of which the prover has to refuse, with those of `must-fail`.
 
-It proves the crates first, in a copy. trials/mutants/README.md says why the gate leaves them out.
+It proves the crates first, in a copy. trials/mutants/README.md says why `rt ci` leaves them out.
 """
 import pathlib
 import re
 import tempfile
 
-from reference.checks import text_of
 from check.copies import TOP, copy_crates
-from check.playing import run
+from check.running import call
+from reference.checks import text_of
 
-SAID = re.compile(r"(?m)^rt: must-fail (\S+): (.*)$")
+RESULT = re.compile(r"(?m)^rt: must-fail (\S+): (.*)$")
 
 
-def play(tally, words):
-    room, mutants = pathlib.Path(tempfile.mkdtemp()), TOP / "trials" / "mutants"
-    copy_crates(room)
+def run(tally, words):
+    copy, mutants = pathlib.Path(tempfile.mkdtemp()), TOP / "trials" / "mutants"
+    copy_crates(copy)
     for edit in mutants.glob("*/**/*.edit"):
-        folder = room / "crates" / edit.relative_to(mutants).parts[0] / "must-fail"
+        folder = copy / "crates" / edit.relative_to(mutants).parts[0] / "must-fail"
         folder.mkdir(exist_ok=True)
         (folder / edit.name).write_text(text_of(edit), "utf-8")
-    status, text = run("rt", "must-fail", *words, cwd=room)
-    said = dict(SAID.findall(text))
-    edits = [f"{it.parent.parent.name}/{it.name}" for it in room.glob("crates/*/must-fail/*.edit")]
+    status, text = call("rt", "must-fail", *words, cwd=copy)
+    results = dict(RESULT.findall(text))
+    edits = [f"{it.parent.parent.name}/{it.name}" for it in copy.glob("crates/*/must-fail/*.edit")]
     for name in sorted(it for it in edits if not words or it.split("/")[0] in words):
-        is_refused = said.get(name, "").startswith("refused, as it must be")
-        tally.case(name, "" if is_refused else said.get(name, f"it isn't tried: {text[-2000:]}"))
+        is_refused = results.get(name, "").startswith("refused, as it must be")
+        wrong = results.get(name, f"it isn't tried: {text[-2000:]}")
+        tally.case(name, "" if is_refused else wrong)
     tally.case("rt must-fail", status and f"status {status}: {text[-2000:]}")

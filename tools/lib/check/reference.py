@@ -1,14 +1,14 @@
-"""What no compiler sees: that documents, names, imports, tables of tests and wrong bodies fit the
+"""What no compiler sees: that documents, names, imports, tables of tests and mutants fit the
 sources.
 """
-from reference.checks import CHECKS
 from check.copies import TOP
+from reference.checks import CHECKS
 from reference.lookup import Names
 from reference.meanings import Site
 from reference.sources import Library, toolchain
 
 
-def play(tally, words):
+def run(tally, words):
     names = Names(Site(TOP, Library(TOP, toolchain())))
     for name, (check, least) in CHECKS.items():
         tried = list(check(names))

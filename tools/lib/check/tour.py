@@ -14,14 +14,15 @@ import tempfile
 import time
 
 from check.copies import TOP
-from check.playing import run
+from check.running import call
 
 PAGES = ("README.md", "docs/TOUR.md")
 BLOCK = re.compile(r"(?ms)^```(rust|antt|diff|console) ?(\S*)\n(.*?)^```$")
-THERE = "../mine"
+COMMAND = re.compile(r"(?m)^\$ (.*?)(?: *#.*)?\n((?:(?!\$ ).*\n)*)")
+MINE = "../mine"
 
 
-def changed(text, change):
+def changed_text(text, change):
     """A file's text with the lines of a change: those with `-` go, those with `+` stand there then.
     A change without `-` is added at the end."""
     lines = change.splitlines()
@@ -34,61 +35,50 @@ def changed(text, change):
     return text.replace(old, new)
 
 
-def missing(said, wanted):
+def missing(text, wanted):
     """The first of the wanted parts that isn't printed behind the others, or nothing: a part is a
     line, or what stands between two `..` of one."""
-    said, at = " ".join(said.split()), 0
+    text, at = " ".join(text.split()), 0
     for part in (" ".join(it.split()) for line in wanted.splitlines() for it in line.split("..")):
-        at = said.find(part, at)
+        at = text.find(part, at)
         if at < 0:
             return part
         at += len(part)
     return None
 
 
-class Page:
-    """A page in a room of its own."""
-
-    def __init__(self, tally, page):
-        self.tally, self.page = tally, page
-        self.there, self.folder = pathlib.Path(tempfile.mkdtemp()) / "mine", TOP
-
-    def command(self, command, wanted):
-        """Runs a command, which prints what is wanted."""
-        here = command.replace(THERE, str(self.there))
-        if here.startswith("cd "):
-            self.folder = self.folder / here[3:]
-            return
-        begun = time.monotonic()
-        status, said = run("bash", "-c", here, cwd=self.folder)
-        lacks = missing(said.replace(str(self.there), THERE), wanted)
-        wrong = f"it doesn't print {lacks!r}" if lacks else ""
-        if status and not wanted.strip():
-            wrong = f"it ends with {status}"
-        took = "" if wrong else f", {time.monotonic() - begun:.0f} s"
-        self.tally.case(f"{self.page}: {command}{took}", wrong and f"{wrong}, but {said[-2000:]}")
-
-    def file(self, kind, file, text):
-        """Writes a file, or changes it."""
-        path = self.folder / file
-        path.parent.mkdir(parents=True, exist_ok=True)
-        try:
-            path.write_text(changed(path.read_text(), text) if kind == "diff" else text)
-        except (OSError, ValueError) as why:
-            self.tally.case(f"{self.page}: a change of {file}", why)
-
-    def play(self):
-        blocks = BLOCK.findall((TOP / self.page).read_text("utf-8"))
-        self.tally.case(f"{self.page}: blocks of commands", "" if blocks else "there are none")
-        for kind, file, text in blocks:
-            if kind == "console":
-                for told in re.split(r"(?m)^\$ ", text)[1:]:
-                    command, _, wanted = told.partition("\n")
-                    self.command(command.partition(" #")[0].strip(), wanted)
-            elif file:
-                self.file(kind, file, text)
+def run_command(tally, page, command, wanted, folder, mine):
+    """Runs a command, which prints what is wanted."""
+    begun = time.monotonic()
+    status, text = call("bash", "-c", command.replace(MINE, mine), cwd=folder)
+    lacks = missing(text.replace(mine, MINE), wanted)
+    wrong = f"it doesn't print {lacks!r}" if lacks else ""
+    if status and not wanted.strip():
+        wrong = f"it ends with {status}"
+    took = "" if wrong else f", {time.monotonic() - begun:.0f} s"
+    tally.case(f"{page}: {command}{took}", wrong and f"{wrong}, but {text[-2000:]}")
 
 
-def play(tally, words):
+def run_page(tally, page):
+    mine, folder = f"{tempfile.mkdtemp()}/mine", TOP
+    blocks = BLOCK.findall((TOP / page).read_text("utf-8"))
+    tally.case(f"{page}: blocks of commands", "" if blocks else "there are none")
+    for kind, file, text in blocks:
+        path = folder / file
+        if kind == "console":
+            for command, wanted in COMMAND.findall(text):
+                if command.startswith("cd "):
+                    folder = folder / command[3:].replace(MINE, mine)
+                else:
+                    run_command(tally, page, command, wanted, folder, mine)
+        elif file:
+            path.parent.mkdir(parents=True, exist_ok=True)
+            try:
+                path.write_text(changed_text(path.read_text(), text) if kind == "diff" else text)
+            except (OSError, ValueError) as why:
+                tally.case(f"{page}: a change of {file}", why)
+
+
+def run(tally, words):
     for page in words or PAGES:
-        Page(tally, page).play()
+        run_page(tally, page)

@@ -3,10 +3,10 @@ import functools
 import pathlib
 import tempfile
 
-from check.building import play_runs
+from check.building import run_all
 from check.copies import copy_crates
-from lay import add_sweeps
 from check.tests import Tests
+from lay import add_sweeps
 
 
 @functools.lru_cache(None)
@@ -16,7 +16,7 @@ def runs():
     return [Tests(copy / "crates" / it, "trials") for it in add_sweeps(copy)]
 
 
-def play(tally, words):
-    play_runs(tally, runs(), words)
+def run(tally, words):
+    run_all(tally, runs(), words)
     if not runs():
         tally.case("trials: the crates of sweeps", "there are none")

@@ -12,14 +12,14 @@ import functools
 import pathlib
 import re
 
-from reference.claims import unwitnessed
+from reference.claims import PATH as OF_TEST, unwitnessed
+from reference.items import Items
 from reference.layout import indented, laid_out
 from reference.lookup import impl_of
 from reference.meanings import LIBRARIES, WITH_A_PAGE
 from reference.promise import unkept
 from reference.rows import BAR, CODE, FENCED, names_in
 from reference.sources import STD, atoms_of, imports_of, is_in
-from reference.items import Items
 from reference.text import WIDEST, Text
 from reference.written import stale
 
@@ -139,7 +139,7 @@ def unfit(names):
 def unwritten(names):
     """Looks for each part of an example, but for its imports, in the crates."""
     top = names.site.top
-    written = (*top.glob("crates/*/src/**/*.rt"), *top.glob("tools/lib/start/*.rattle"))
+    written = (*top.glob("crates/*/src/**/*.rt"), top / "docs" / "FIRST_CRATES.md")
     sources = [LAYOUT.sub("", it.read_text("utf-8")) for it in written]
     documents = (file for it in ("README.md", "docs/*.md", "crates/*/README.md")
                  for file in sorted(top.glob(it)))
@@ -221,7 +221,9 @@ def dangling(names):
         for found in CODE.finditer(text):
             code = " ".join(found[1].split())
             line = text.count("\n", 0, found.start()) + 1
-            lost = [parts for parts in names_of(code) if not is_found(code, tuple(parts))]
+            # Paths that may be those of tests are looked up by the check of tests.
+            lost = [parts for parts in (() if OF_TEST.fullmatch(code) else names_of(code))
+                    if not is_found(code, tuple(parts))]
             yield f"{place}:{line}: nothing is called {'::'.join(lost[0])}" if lost else None
 
 

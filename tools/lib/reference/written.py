@@ -2,23 +2,17 @@
 derive or impl goes unseen, the page of the promise, and the tables of the READMEs of examples."""
 import collections
 import difflib
-import os
 import pathlib
 import textwrap
 
 from reference.beside import is_test, proofs_of
 from reference.callers import EXAMPLES
-from reference.layout import prose
 from reference.meanings import WITH_A_PAGE
-from reference.promise import HEADLINE, TITLE, carriers
 from reference.items import first_sentence
-from reference.text import WIDEST
+from reference.promise import HEADLINE, page_file
 
 ANEW = "tools/reference --write writes it anew"
 LIST, PAGE = pathlib.Path(__file__).with_name("public.txt"), "PROMISE.md"
-TOLD = (f"{TITLE} Behind a function are the names of its clauses, where it has more than one. "
-        "`tools/reference promise` prints the clauses too. `tools/reference --write` writes this "
-        "page.")
 TABLE = "functions that documents name | what they show | the proof, where it needs more than code"
 
 
@@ -32,18 +26,6 @@ def public_types(site):
             told = [f"{it}*{count[it]}" if count[it] > 1 else it for it in sorted(count)]
             line = " ".join([f"{site.path(item.module)[0]}::{item.name}:", *told])
             yield from textwrap.wrap(line, 100, subsequent_indent="    ") if told else ()
-
-
-def promise_page(names, folder):
-    """The sentences of the promise, below each its functions and the clauses that say it."""
-    yield from ("# The promise", "", *prose(TOLD, WIDEST))
-    for sentence, items in carriers(names):
-        yield from ("", f"## {sentence.rstrip('.')}", "")
-        for name, item in items.items():
-            if item:
-                ensures = [it.name for it in item.clauses if it.keyword == "ensures" and it.name]
-                link = f"- [`{name}`]({os.path.relpath(item.file, folder)})"
-                yield link + (f": `{'`, `'.join(ensures)}`" if ensures else "")
 
 
 def with_table(names, readme):
@@ -70,7 +52,7 @@ def files(names):
     """The files, each with the lines that it has to have."""
     crates = names.site.top / "crates"
     yield LIST, public_types(names.site)
-    yield crates / HEADLINE / PAGE, promise_page(names, crates / HEADLINE)
+    yield crates / HEADLINE / PAGE, page_file(names, crates / HEADLINE)
     for readme in sorted(crates.glob(f"*{EXAMPLES}/README.md")):
         yield readme, with_table(names, readme)
 

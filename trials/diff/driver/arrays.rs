@@ -1,10 +1,13 @@
 //! What the texts of both sides name, on the original's side: kinds of arrays, and lengths.
 use crate::noted::{item_of, Log, Noted};
-use crate::random::made;
+use crate::random::small_number;
+use crate::sources::Source;
 use std::convert::Infallible;
 
-pub use generic_array::sequence::GenericSequence;
-pub use generic_array::{ArrayLength as Length, ArrayLength as ByteLength, GenericArray};
+pub use crate::adapter::*;
+pub use original::{
+    ArrayLength as Length, ArrayLength as ByteLength, ConstGenericArray as ConstArray,
+};
 
 pub type Array<N> = GenericArray<u64, N>;
 pub type NotedArray<'a, N> = GenericArray<Noted<'a>, N>;
@@ -24,7 +27,7 @@ impl Clone for Noted<'_> {
     }
 }
 
-/// `clone` as ours answers it.
+/// `clone` as ours returns it.
 pub trait TryClone: Clone {
     fn try_clone(&self) -> Result<Self, Infallible> {
         Ok(self.clone())
@@ -46,30 +49,41 @@ pub trait Stepwise: DoubleEndedIterator + ExactSizeIterator {
 impl<I: DoubleEndedIterator + ExactSizeIterator> Stepwise for I {}
 
 pub fn array_of<N: Length>(base: u64) -> Array<N> {
-    GenericArray::generate(|index| made(base, index))
+    GenericArray::generate(|index| small_number(base, index))
 }
 
 pub fn view_of<N: Length>(array: &Array<N>) -> &Array<N> {
     array
 }
 
-pub fn boxed_of<N: Length>(base: u64) -> Box<Array<N>> {
-    Box::<Array<N>>::generate(|index| made(base, index))
+pub fn boxed_of<N: Length>(_: Global, base: u64) -> Result<BoxedArray<u64, N>, AllocError> {
+    Ok(Box::new(array_of(base)))
 }
 
 pub fn noted_of<N: Length>(log: &Log) -> NotedArray<'_, N> {
     GenericArray::generate(|index| item_of(log, index as u64 + 1))
 }
 
-pub fn noted_box_of<N: Length>(log: &Log) -> Box<NotedArray<'_, N>> {
-    Box::<NotedArray<'_, N>>::generate(|index| item_of(log, index as u64 + 1))
-}
-
-/// What was noted up to here, where the value is dropped.
-pub fn kept<T>(ordered: u64, log: &Log, _value: T) -> u64 {
-    log.told(ordered)
+pub fn noted_box_of<N: Length>(
+    _: Global,
+    log: &Log,
+) -> Result<BoxedArray<Noted<'_>, N>, AllocError> {
+    Ok(Box::new(noted_of(log)))
 }
 
 pub fn list_of(base: u64, count: usize) -> Vec<u64> {
-    (0..count).map(|index| made(base, index)).collect()
+    (0..count).map(|index| small_number(base, index)).collect()
+}
+
+pub fn collect_of_right_length<N: Length>(source: &mut Source) -> Result<Array<N>, LengthError> {
+    Ok(source.collect())
+}
+
+/// The checksum of what was noted before the value is dropped.
+pub fn sum_before_drop<T>(ordered: u64, log: &Log, _value: T) -> u64 {
+    log.sum(ordered)
+}
+
+pub fn answer_of(run: Result<u64, AllocError>) -> u64 {
+    run.unwrap_or(1)
 }

@@ -1,6 +1,6 @@
 //! What a block of memory stands for: a deque, and the room behind it.
 use crate::arrays::Global;
-use crate::random::{all, mixed, Random};
+use crate::random::{all, mix, Random};
 use std::collections::VecDeque;
 
 fn step(sum: u64, items: &mut VecDeque<u64>, room: &mut usize, way: u64, word: u64) -> u64 {
@@ -10,21 +10,21 @@ fn step(sum: u64, items: &mut VecDeque<u64>, room: &mut usize, way: u64, word: u
                 items.push_back(word);
                 *room -= 1;
             }
-            mixed(sum, *room as u64)
+            mix(sum, *room as u64)
         }
-        3 | 4 => mixed(sum, items.pop_front().unwrap_or(99)),
+        3 | 4 => mix(sum, items.pop_front().unwrap_or(99)),
         5 | 6 => match items.pop_back() {
             Some(item) => {
                 *room += 1;
-                mixed(sum, item)
+                mix(sum, item)
             }
-            None => mixed(sum, 98),
+            None => mix(sum, 98),
         },
         _ => {
             if let Some(item) = items.get_mut((word & 7) as usize) {
                 *item = word;
             }
-            mixed(sum, items.len() as u64)
+            mix(sum, items.len() as u64)
         }
     }
 }
@@ -36,7 +36,7 @@ pub fn blocks_run(_: Global, size: u32, seed: u64) -> u64 {
     let steps = random.word() & 63;
     for _step in 0..steps {
         sum = step(sum, &mut items, &mut room, random.word(), random.word());
-        sum = mixed(all(sum, items.make_contiguous()), room as u64);
+        sum = mix(all(sum, items.make_contiguous()), room as u64);
     }
     sum
 }

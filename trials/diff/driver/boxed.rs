@@ -1,16 +1,10 @@
 //! Boxed arrays, as the texts that are laid out for both kinds name them.
-use crate::arrays::{self, Global, Length, NotedArray};
-use crate::noted::Log;
-use std::convert::Infallible;
+use crate::arrays::BoxedArray;
+use crate::noted::Noted;
 
-pub use crate::inline::{cloned, referred, Array};
-pub type Items<N> = <Box<Array<N>> as IntoIterator>::IntoIter;
-pub type NotedItems<'a, N> = <Box<NotedArray<'a, N>> as IntoIterator>::IntoIter;
+pub use crate::arrays::{boxed_of as array_of, noted_box_of as noted_of};
+pub use crate::inline::{mix_clone, mix_references, Array};
 
-pub fn array_of<N: Length>(_: Global, base: u64) -> Result<Box<Array<N>>, Infallible> {
-    Ok(arrays::boxed_of(base))
-}
-
-pub fn noted_of<N: Length>(_: Global, log: &Log) -> Result<Box<NotedArray<'_, N>>, Infallible> {
-    Ok(arrays::noted_box_of(log))
-}
+pub type Sequence<N> = BoxedArray<u64, N>;
+pub type Items<N> = <Sequence<N> as IntoIterator>::IntoIter;
+pub type NotedItems<'a, N> = <BoxedArray<Noted<'a>, N> as IntoIterator>::IntoIter;

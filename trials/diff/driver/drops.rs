@@ -1,140 +1,94 @@
-//! Drops and clones in builds and calls of closures, of inline and of boxed arrays.
-use crate::arrays::{kept, noted_box_of, noted_of, Global, NotedArray};
-use crate::noted::{item_of, joined, numbered, renewed, summed, tried, Log, Noted};
-use crate::random::{mixed, Random};
-use crate::sources::{Source, Trials};
-use generic_array::functional::FunctionalSequence;
-use generic_array::internals::ArrayBuilder;
-use generic_array::sequence::{FallibleGenericSequence, GenericSequence};
-use generic_array::ArrayLength;
-
-fn filled<N: ArrayLength>(ordered: u64, log: &Log, left: usize) -> u64 {
-    let mut source = Source::of(left);
-    let items = (&mut source).map(|id| item_of(log, id));
-    let built = NotedArray::<'_, N>::try_from_iter(items);
-    let sum = log.told(ordered);
-    match built {
-        Ok(array) => {
-            let copy = array.clone();
-            let sum = mixed(sum, log.told(ordered));
-            drop(array);
-            let sum = mixed(sum, log.told(ordered));
-            drop(copy);
-            sum
-        }
-        Err(_) => mixed(sum, 3),
-    }
-}
-
-/// A builder with some items, which is dropped as it is or finished.
-fn built<N: ArrayLength>(ordered: u64, log: &Log, count: usize) -> u64 {
-    let mut builder: ArrayBuilder<Noted<'_>, N> = ArrayBuilder::new();
-    // The items before the position are written, and no others.
-    let (places, position) = unsafe { builder.iter_position() };
-    for (place, id) in places.zip(0..count as u64) {
-        place.write(item_of(log, id + 1));
-        *position += 1;
-    }
-    let sum = log.told(ordered);
-    if builder.is_full() {
-        // It is full.
-        let array = unsafe { builder.assume_init() };
-        mixed(sum, array.len() as u64)
-    } else {
-        sum
-    }
-}
-
-/// Drops and clones of builds.
-pub fn build_drops_run<N: ArrayLength>(ordered: u64, seed: u64, log: &Log) -> u64 {
-    let mut random = Random::of(seed);
-    let near = random.near(N::USIZE);
-    let bad = random.word() % 20;
-    let sum = match random.word() % 5 {
-        0 => {
-            let build = |index| numbered(log, index, bad as usize);
-            let built = <NotedArray<'_, N> as FallibleGenericSequence<_>>::try_generate(build);
-            kept(ordered, log, built)
-        }
-        1 => filled::<N>(ordered, log, near),
-        2 => {
-            let mut trials = Trials::of(near, bad);
-            let items = (&mut trials).map(|trial| trial.map(|id| item_of(log, id)));
-            kept(
-                ordered,
-                log,
-                NotedArray::<'_, N>::try_from_fallible_iter(items),
-            )
-        }
-        3 => built::<N>(ordered, log, near),
-        _ => {
-            let item = item_of(log, 7);
-            let copies = <NotedArray<'_, N> as GenericSequence<_>>::repeat(item);
-            kept(ordered, log, copies)
-        }
-    };
-    mixed(sum, log.told(ordered))
-}
+//! Drops in calls of closures, shapes and conversions of inline arrays.
+use crate::arrays::{noted_of, sum_before_drop, NotedArray};
+use crate::noted::{item_of, join, renew, try_renew, try_sum, Log, Noted};
+use crate::random::{mix, Random};
+use original::functional::FunctionalSequence;
+use original::sequence::{Concat, Lengthen, Remove, Shorten, Split};
+use original::{ArrayLength, LengthError};
 
 /// Drops of calls of closures.
 pub fn closure_drops_run<N: ArrayLength>(ordered: u64, seed: u64, log: &Log) -> u64 {
     let mut random = Random::of(seed);
     let bad = random.word() % 20;
     let array = noted_of::<N>(log);
-    let renew = |item: Noted<'_>| renewed(log, item);
-    let join = |left: Noted<'_>, right: Noted<'_>| joined(log, left, right);
+    let renewal = |item: Noted<'_>| renew(log, item);
+    let joint = |left: Noted<'_>, right: Noted<'_>| join(log, left, right);
     let sum = match random.word() & 7 {
-        0 | 4 => kept(ordered, log, array.map(renew)),
-        1 => FunctionalSequence::fold(array, 0, |sum, item: Noted<'_>| mixed(sum, item.id)),
+        0 | 4 => sum_before_drop(ordered, log, array.map(renewal)),
+        1 => FunctionalSequence::fold(array, 0, |sum, item: Noted<'_>| mix(sum, item.id)),
         2 => {
-            let call = |item: Noted<'_>| tried(log, item, bad).map_err(|_| item_of(log, 80));
-            kept(ordered, log, array.try_map(call))
+            let call = |item: Noted<'_>| try_renew(log, item, bad).map_err(|_| item_of(log, 80));
+            sum_before_drop(ordered, log, array.try_map(call))
         }
-        3 | 6 => kept(ordered, log, array.zip(noted_of::<N>(log), join)),
-        5 => kept(
+        3 | 6 => sum_before_drop(ordered, log, array.zip(noted_of::<N>(log), joint)),
+        5 => sum_before_drop(
             ordered,
             log,
-            array.try_map(|item: Noted<'_>| tried(log, item, bad)),
+            array.try_map(|item: Noted<'_>| try_renew(log, item, bad)),
         ),
         _ => {
-            let call = |sum, item: Noted<'_>| summed(sum, item, bad);
-            FunctionalSequence::try_fold(array, 0, call).unwrap_or_else(|word| mixed(word, 3))
+            let call = |sum, item: Noted<'_>| try_sum(sum, item, bad);
+            FunctionalSequence::try_fold(array, 0, call).unwrap_or_else(|word| mix(word, 3))
         }
     };
-    mixed(sum, log.told(ordered))
+    mix(sum, log.sum(ordered))
 }
 
-/// Drops of calls of closures and of builds of boxed arrays, some of which stop at an error.
-pub fn boxed_build_drops_run<N: ArrayLength>(_: Global, ordered: u64, seed: u64, log: &Log) -> u64 {
+/// Drops of shapes: `L` is one longer than `N`.
+pub fn shape_drops_run<N: ArrayLength, L: ArrayLength>(ordered: u64, seed: u64, log: &Log) -> u64
+where
+    for<'a> NotedArray<'a, N>: Lengthen<Noted<'a>, Longer = NotedArray<'a, L>>,
+    for<'a> NotedArray<'a, L>: Shorten<Noted<'a>, Shorter = NotedArray<'a, N>>
+        + Remove<Noted<'a>, L, Output = NotedArray<'a, N>>,
+{
     let mut random = Random::of(seed);
-    let bad = random.word() % 20;
-    let way = random.word() % 5;
-    let array_of = || noted_box_of::<N>(log);
-    let sum = match way {
-        0 => kept(
-            ordered,
-            log,
-            array_of().try_map(|item: Noted<'_>| tried(log, item, bad)),
-        ),
-        1 => kept(
-            ordered,
-            log,
-            array_of().map(|item: Noted<'_>| renewed(log, item)),
-        ),
-        2 => {
-            let join = |left: Noted<'_>, right: Noted<'_>| joined(log, left, right);
-            kept(ordered, log, array_of().zip(array_of(), join))
-        }
-        3 => {
-            let call = |sum, item: Noted<'_>| summed(sum, item, bad);
-            let answer = FunctionalSequence::try_fold(array_of(), seed, call);
-            answer.unwrap_or_else(|word| mixed(word, 3))
-        }
-        _ => {
-            let build = |index| numbered(log, index, bad as usize);
-            let built = <Box<NotedArray<'_, N>> as FallibleGenericSequence<_>>::try_generate(build);
-            kept(ordered, log, built)
-        }
+    let way = random.word() & 1;
+    let at = (random.word() % 17) as usize;
+    let array = noted_of::<N>(log);
+    let longer = if way == 0 {
+        array.append(item_of(log, 90))
+    } else {
+        array.prepend(item_of(log, 90))
     };
-    mixed(sum, log.told(ordered))
+    let mut sum = mix(seed, log.sum(ordered));
+    // What a pattern binds is dropped from its end on, here as there.
+    if at < L::USIZE && random.word() & 1 == 0 {
+        let (item, _shorter) = if way == 0 {
+            longer.remove(at)
+        } else {
+            longer.swap_remove(at)
+        };
+        sum = mix(mix(sum, item.id), log.sum(ordered));
+    } else {
+        let (_shorter, item) = if way == 0 {
+            longer.pop_back()
+        } else {
+            let (item, shorter) = longer.pop_front();
+            (shorter, item)
+        };
+        sum = mix(mix(sum, item.id), log.sum(ordered));
+    }
+    mix(sum, log.sum(ordered))
+}
+
+/// Drops of arrays that are cut and joined, and of vectors.
+pub fn joined_drops_run<N: ArrayLength, K: ArrayLength, M: ArrayLength>(
+    ordered: u64,
+    seed: u64,
+    log: &Log,
+) -> u64
+where
+    for<'a> NotedArray<'a, N>:
+        Split<Noted<'a>, K, First = NotedArray<'a, K>, Second = NotedArray<'a, M>>,
+    for<'a> NotedArray<'a, K>:
+        Concat<Noted<'a>, M, Rest = NotedArray<'a, M>, Output = NotedArray<'a, N>>,
+{
+    let (first, second) = noted_of::<N>(log).split();
+    let sum = mix(seed, log.sum(ordered));
+    let both = first.concat(second);
+    let sum = mix(sum, log.sum(ordered));
+    let built: Result<NotedArray<'_, M>, LengthError> = Vec::from(both).try_into();
+    let sum = mix(mix(sum, built.is_ok().into()), log.sum(ordered));
+    drop(built);
+    mix(sum, log.sum(ordered))
 }

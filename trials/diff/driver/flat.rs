@@ -1,9 +1,9 @@
 //! Arrays cut into rows and joined.
 use crate::arrays::{array_of, noted_of, Array, NotedArray};
 use crate::noted::{Log, Noted};
-use crate::random::{all, mixed};
-use generic_array::sequence::{Flatten, Unflatten};
-use generic_array::{ArrayLength, GenericArray};
+use crate::random::{all, mix};
+use original::sequence::{Flatten, Unflatten};
+use original::{ArrayLength, GenericArray};
 use std::ops::{Div, Mul};
 
 type Rows<W, R> = GenericArray<Array<W>, R>;
@@ -34,7 +34,7 @@ where
         sum = all(sum, row);
     }
     for item in (&rows).flatten().as_slice() {
-        sum = mixed(sum, *item);
+        sum = mix(sum, *item);
     }
     all(sum, &rows.flatten())
 }
@@ -51,14 +51,14 @@ where
     for<'a> NotedRows<'a, W, R>: Flatten<Noted<'a>, W, R, Output = NotedArray<'a, N>>,
 {
     let rows = noted_of::<N>(log).unflatten();
-    let sum = mixed(seed, log.told(ordered));
+    let sum = mix(seed, log.sum(ordered));
     if seed & 1 == 0 {
         drop(rows);
-        mixed(sum, log.told(ordered))
+        mix(sum, log.sum(ordered))
     } else {
         let array = rows.flatten();
-        let sum = mixed(sum, log.told(ordered));
+        let sum = mix(sum, log.sum(ordered));
         drop(array);
-        mixed(sum, log.told(ordered))
+        mix(sum, log.sum(ordered))
     }
 }

@@ -1,15 +1,15 @@
 //! Bytes as hex text.
 use crate::arrays::Global;
-use crate::random::{all_bytes, made, mixed, Random};
-use generic_array::sequence::GenericSequence;
-use generic_array::typenum::Sum;
-use generic_array::{ArrayLength, GenericArray};
+use crate::random::{all_bytes, small_number, mix, Random};
+use original::sequence::GenericSequence;
+use original::typenum::Sum;
+use original::{ArrayLength, GenericArray};
 use std::ops::Add;
 
 fn bytes_of<N: ArrayLength>(base: u64) -> GenericArray<u8, N> {
     GenericArray::generate(|index| {
-        let high = made(base, index).wrapping_mul(32);
-        (high.wrapping_add(made(base >> 5, index)) & 255) as u8
+        let high = small_number(base, index).wrapping_mul(32);
+        (high.wrapping_add(small_number(base >> 5, index)) & 255) as u8
     })
 }
 
@@ -40,5 +40,5 @@ where
         (false, None) => format!("{array:X}"),
         (false, Some(limit)) => format!("{array:.limit$X}"),
     };
-    all_bytes(mixed(seed, 1), text.as_bytes())
+    all_bytes(mix(seed, 1), text.as_bytes())
 }

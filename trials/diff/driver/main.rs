@@ -1,42 +1,15 @@
 //! Makes random calls of our library and of generic-array, and compares the checksums of all that
 //! they answered and dropped.
-mod access_boxed;
-mod access_inline;
-mod arrays;
-mod asked;
-mod blocks;
-mod boxed;
-mod boxed_builds;
-mod builders;
-mod builds;
-mod cases;
-mod closures;
-mod compare;
-mod comparisons;
-mod conversions;
-mod drops;
-mod flat;
-mod forever;
-mod hex;
-mod inline;
-mod macros;
-mod noted;
-mod random;
-mod rows;
-mod sequences;
-mod shapes;
-mod sources;
-mod views;
-mod walk_drops_boxed;
-mod walk_drops_boxed_stepwise;
-mod walk_drops_inline;
-mod walk_drops_inline_stepwise;
-mod walks_boxed;
-mod walks_inline;
+// Of a text of both sides, what only our side needs.
+#![allow(irrefutable_let_patterns, unstable_name_collisions, unused_mut, unused_variables)]
 
+// The texts of both sides name `generic_array`: here it is this crate, with our names.
+extern crate generic_array as original;
+extern crate self as generic_array;
+
+pub(crate) use adapter::*;
 use compare::Tally;
-use generic_array::typenum::{U4, U64};
-use generic_array::{AllocError, GenericArray, LengthError};
+use original::typenum::{U4, U64};
 use std::mem::size_of;
 use std::process::ExitCode;
 

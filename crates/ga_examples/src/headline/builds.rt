@@ -7,8 +7,8 @@ use generic_array::{AllocError, BoxedArray, FillError, Never, U2, Unsigned};
 use std::alloc::Global;
 use std::test::Fail;
 
-// The block of all items, of any number. As many are asked for, so nothing but memory can be
-// lacking.
+/// The block of all items, of any number. As many are asked for, so nothing but memory can be
+/// lacking.
 fn boxed_of_all<N: Unsigned>(
     alloc: Global,
     items: Vec<u32>,
@@ -27,17 +27,10 @@ fn boxed_of_all<N: Unsigned>(
     }
 }
 
-fn shown_boxed<T: Drop, N: Unsigned>(array: &BoxedArray<T, N>) -> &[T]
-    ensures items { result.now ≡ array.now }
-    ensures len { length result.now ≡ N.USIZE }
-{
-    shown(array)
-}
-
 #[test]
 fn a_build_shows_its_items(rt: HostRuntime) -> Result<(), Fail> {
     let alloc = rt.alloc();
     let built = boxed_of_all::<U2>(alloc, vec![in alloc; 4, 5]?)?;
-    assert!(rt; shown_boxed(&built) == [4, 5].as_slice());
+    assert!(rt; shown(&built) == [4, 5].as_slice());
     Ok(())
 }

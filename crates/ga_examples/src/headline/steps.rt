@@ -12,7 +12,7 @@ use std::test::Fail;
 
 /// Takes the first item, looks at how many are left, and takes the next: two runs, with one list
 /// of replies for both.
-fn walked_in_two<N: ArrayLength<u32>>(
+fn walk_in_two<N: ArrayLength<u32>>(
     array: GenericArray<u32, N>,
     first: Vec<Step<u32>>,
     second: Vec<Step<u32>>,
@@ -43,7 +43,7 @@ fn a_walk_goes_on(rt: HostRuntime) -> Result<(), Fail> {
     let alloc = rt.alloc();
     let mut replies = Vec::with_capacity(alloc, 2)?;
     let (first, second) = (vec![in alloc; Step::Next]?, vec![in alloc; Step::Next]?);
-    let (left, seen) = walked_in_two(arr![1, 2, 3], first, second, &mut replies)?;
+    let (left, seen) = walk_in_two(arr![1, 2, 3], first, second, &mut replies)?;
     assert!(rt; seen == 2 && left.as_slice() == [3].as_slice() && replies.capacity() == 2);
     Ok(())
 }

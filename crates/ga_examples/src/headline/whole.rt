@@ -15,7 +15,7 @@ use generic_array::{
 use std::test::Fail;
 
 /// Half of an even number, or an error of an odd one.
-fn halved(number: u32) -> Result<u32, u32>
+fn half_of(number: u32) -> Result<u32, u32>
     ensures { result ≡ (if nat_eq (number % 2) 0 then Ok (number / 2) else Err number) }
 {
     if number % 2 == 0 {
@@ -25,8 +25,8 @@ fn halved(number: u32) -> Result<u32, u32>
     }
 }
 
-// The items of a view are read, and the walk takes what was made of them.
-fn walked_over_view<N: ArrayLength<u32> + InlineLength>(
+/// The items of a view are read, and the walk takes what was made of them.
+fn walk_over_view<N: ArrayLength<u32> + InlineLength>(
     view: GenericArrayRef<'_, u32, N>,
     steps: Vec<Step<u32>>,
     replies: &mut Vec<Reply<u32, usize>>,
@@ -40,7 +40,7 @@ fn walked_over_view<N: ArrayLength<u32> + InlineLength>(
     map_walk(
         view,
         (),
-        &mut |item: &u32| halved(*item),
+        &mut |item: &u32| half_of(*item),
         steps,
         &mut count_of::<u32>,
         replies,
@@ -63,7 +63,7 @@ fn whole_inline<N: ArrayLength<u32> + InlineLength>(
         (),
         &mut results.into_iter(),
         (),
-        &mut halved,
+        &mut half_of,
         steps,
         &mut count_of::<u32>,
         replies,
@@ -75,7 +75,7 @@ fn the_whole_runs_to_its_end(rt: HostRuntime) -> Result<(), Fail> {
     let alloc = rt.alloc();
     let mut replies = Vec::new(alloc);
     let view = GenericArrayRef::<u32, U3>::from_slice(&[2, 4, 6]);
-    let left = walked_over_view(view, steps(alloc)?, &mut replies);
+    let left = walk_over_view(view, steps(alloc)?, &mut replies);
     assert!(rt; left.is_ok_and(|left| left.as_slice() == [2].as_slice()) && replies.len() == 4);
     let results = vec![in alloc; Ok(2), Ok(4), Ok(6)]?;
     let left = whole_inline::<U3>(results, steps(alloc)?, &mut replies);

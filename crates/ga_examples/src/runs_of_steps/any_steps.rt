@@ -7,7 +7,7 @@ use generic_array::AllocError;
 use generic_array::steps::{Reply, Step, TwoEnded, run_steps};
 
 /// Any steps without a Set: what went from the two ends and what is left are what there was.
-fn taken<T: Drop, I: TwoEnded<T>>(
+fn run_without_set<T: Drop, I: TwoEnded<T>>(
     items: &mut I,
     steps: Vec<Step<T>>,
     replies: &mut Vec<Reply<T, usize>>,

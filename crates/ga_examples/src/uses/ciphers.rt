@@ -1,8 +1,7 @@
 //! Texts and blocks under ciphers, there and back.
 ghost use Rattle.ga_ciphers.specs.ChaCha20.{chacha20_block, initial_state};
 ghost use Rattle.ga_ciphers.specs.Keystream.{key_bytes, under};
-ghost use Rattle.ga_ciphers.specs.Xtea.{key_words, xtea_encrypted};
-ghost use Rattle.std.specs.Prelude.{◌≡◌, ◌+◌, ◌*◌, ◌%◌, ◌^◌, ◌<◌, ◌≤◌, ◌↔◌, ◌++◌, IsOk, IsTrue, OnOk, length, map};
+ghost use Rattle.std.specs.Prelude.{◌≡◌, ◌+◌, ◌*◌, ◌%◌, ◌^◌, ◌<◌, ◌≤◌, ◌↔◌, ◌++◌, IsOk, IsTrue, OnOk, length};
 
 use ga_ciphers::block_cipher::BlockCipher;
 use ga_ciphers::cbc::{decrypt_blocks, encrypt_blocks};
@@ -10,8 +9,7 @@ use ga_ciphers::chacha20::ChaCha20;
 use ga_ciphers::counter_mode::{BlockStream, CounterMode};
 use ga_ciphers::padding::{pad, unpad};
 use ga_ciphers::stream_end::StreamEnd;
-use ga_ciphers::xtea::Xtea;
-use generic_array::{ArrayLength, GenericArray, U8, U12, U16, U32};
+use generic_array::{ArrayLength, GenericArray, U12, U32};
 
 /// Applies the key stream to two pieces in turn: the pieces joined are what it makes of the whole
 /// text.
@@ -51,30 +49,6 @@ fn under_chacha20(
         (key_bytes (chacha20_block (initial_state key.now nonce.now)) 64 0 (length text.old))) }
 {
     CounterMode::new(ChaCha20::new(key, nonce)).apply(text)
-}
-
-fn under_xtea(key: &GenericArray<u8, U16>, block: GenericArray<u8, U8>) -> GenericArray<u8, U8>
-    ensures { result ≡ xtea_encrypted (key_words key.now) block }
-{
-    Xtea::new(key).encrypt(block)
-}
-
-/// Encrypts a block and decrypts it: it is what it was.
-fn block_there_and_back<C: BlockCipher>(
-    cipher: &C,
-    block: GenericArray<u8, C::BlockSize>,
-) -> GenericArray<u8, C::BlockSize>
-    ensures { result ≡ block }
-{
-    cipher.decrypt(cipher.encrypt(block))
-}
-
-/// Encrypts blocks where they lie and decrypts them.
-fn blocks_there_and_back<C: BlockCipher>(cipher: &C, blocks: &mut [GenericArray<u8, C::BlockSize>])
-    ensures { blocks.new ≡ map (C.decrypted cipher.now) (map (C.encrypted cipher.now) blocks.old) }
-{
-    cipher.encrypt_blocks(blocks);
-    cipher.decrypt_blocks(blocks);
 }
 
 /// Encrypts a text and decrypts it from the same first vector: it is what it was.

@@ -1,13 +1,12 @@
 //! Digests of pieces, of digests and of the leaves of a tree, and messages cut into blocks.
 ghost use Rattle.ga_examples.specs.Chained.{chained};
-ghost use Rattle.ga_hashes.specs.BlockBuffer.{TakesBlocks, with_padding};
 ghost use Rattle.ga_hashes.specs.Length.{FitsInline};
 ghost use Rattle.std.specs.List.{range_with_len};
 ghost use Rattle.std.specs.Prelude.{◌≡◌, ◌+◌, ◌*◌, ◌^◌, ◌<◌, ◌++◌, ◌∷◌, [], length, map, slice_index_or};
 
 use ga_core::{ArrayLength, BorrowedItems, GenericArray, GenericArrayRef, InlineLength, U64};
 use ga_hashes::HashFunction;
-use ga_hashes::block_buffer::{BlockBuffer, padded_blocks};
+use ga_hashes::block_buffer::padded_blocks;
 use std::marker::PhantomData;
 
 fn digest_of_entry<H: HashFunction>(name: &[u8], body: &[u8]) -> GenericArray<u8, H::OutputSize>
@@ -20,7 +19,7 @@ fn digest_of_entry<H: HashFunction>(name: &[u8], body: &[u8]) -> GenericArray<u8
 }
 
 /// The digest of a message, digested again so many times.
-fn chained<H: HashFunction>(message: &[u8], again: u32) -> GenericArray<u8, H::OutputSize>
+fn digest_chain<H: HashFunction>(message: &[u8], again: u32) -> GenericArray<u8, H::OutputSize>
     ensures { result ≡ chained H.digest message.now again }
 {
     let mut end = H::digest(message);
@@ -30,8 +29,7 @@ fn chained<H: HashFunction>(message: &[u8], again: u32) -> GenericArray<u8, H::O
     end
 }
 
-// As in RFC 6962, a byte 0 stands before a leaf, and a byte 1 before two digests.
-
+/// As in RFC 6962, a byte 0 stands before a leaf, and a byte 1 before two digests.
 fn leaf_digest<H: HashFunction>(leaf: &[u8]) -> GenericArray<u8, H::OutputSize>
     ensures { result ≡ H.digest (0 ∷ leaf.now) }
 {
@@ -94,18 +92,6 @@ where
             node_digest::<H>(&digests[2 * i], &digests[2 * i + 1])
         },
     )
-}
-
-/// Calls `f` at the blocks of a message in two pieces, and of its padding.
-fn blocks_of_two<F: FnMut(&[u8])>(first: &[u8], second: &[u8], f: &mut F)
-    requires len { length first.now + length second.now < 2 ^ 61 }
-    requires callable { (g : F) (block : _) → F.pre g block }
-    ensures { TakesBlocks F.step 64 f.old (with_padding 64 (first.now ++ second.now)) f.new }
-{
-    let mut buffer = BlockBuffer::<U64>::new();
-    buffer.feed(first, f);
-    buffer.feed(second, f);
-    buffer.finish(f);
 }
 
 /// The first bytes of the blocks of a message in three pieces, added up. The closure is told the

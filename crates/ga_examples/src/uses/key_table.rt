@@ -1,32 +1,17 @@
-//! Keys of a table: put in, taken out and listed; and the same keys in std's maps, since arrays have
-//! an order and a hash.
+//! Keys of a table: taken out and listed; and the same keys in std's maps, since arrays have an order
+//! and a hash.
 ghost use Rattle.ga_uses.specs.KeyTable.{entries_from_to, value_at, with_entry};
 ghost use Rattle.std.specs.Cmp.Lexicographic.{pointwise};
 ghost use Rattle.std.specs.HashMap as hash;
-ghost use Rattle.std.specs.Prelude.{◌≡◌, ◌≢◌, [], IfOk, IsTrue, OnErr, OnOk, Some, map, nat_eq};
+ghost use Rattle.std.specs.Prelude.{◌≡◌, ◌≢◌, IfOk, IsTrue, OnErr, OnOk, Some, map, nat_eq};
 
 use ga_uses::key_table::KeyTable;
 use generic_array::{AllocError, ArrayLength, GenericArray};
 use std::alloc::Global;
 use std::collections::{BTreeMap, HashMap};
 
-/// A table of two entries, of which the second stays where the keys are the same.
-fn table_of_two<N: ArrayLength<u8>>(
-    alloc: Global,
-    first: (GenericArray<u8, N>, u64),
-    second: (GenericArray<u8, N>, u64),
-) -> Result<KeyTable<N, u64>, AllocError>
-    ensures { IfOk result (λ table. table
-        ≡ with_entry (with_entry [] first.0 first.1) second.0 second.1) }
-{
-    let mut table = KeyTable::new(alloc);
-    let _none = table.insert(first.0, first.1)?;
-    let _old = table.insert(second.0, second.1)?;
-    Ok(table)
-}
-
 /// Whether a key that was taken out is gone, which it always is, and the other keeps its value.
-fn taken_out<N: ArrayLength<u8>, V: Drop>(
+fn take_out<N: ArrayLength<u8>, V: Drop>(
     table: &mut KeyTable<N, V>,
     key: &GenericArray<u8, N>,
     other: &GenericArray<u8, N>,

@@ -1,7 +1,7 @@
 //! Boxed builds at concrete types: what they make, how often they call, and what they take.
-use crate::tests::compared::End;
-use ga_test_items::answers::gives;
-use generic_array::{AllocError, BoxedArray, FillError, U2, U3, Unsigned};
+use crate::tests::compared::gives;
+use crate::tests::fills::{End, Scripted, boxed_fallible_fill};
+use generic_array::{AllocError, BoxedArray, U2, U3, Unsigned};
 use std::alloc::Global;
 use std::test::Fail;
 
@@ -33,30 +33,18 @@ fn a_build_of_a_block_stops_at_an_error(rt: HostRuntime) -> Result<(), Fail> {
     Ok(())
 }
 
-/// How a fill of N items from these results ends, and what its iterator gives next.
-fn filled<N: Unsigned>(
-    alloc: Global,
-    results: &[Result<u32, &'static str>],
-) -> (End, Option<Result<u32, &'static str>>) {
-    let mut left = results.iter().copied();
-    let end = match BoxedArray::<u32, N>::try_boxed_from_fallible_iter_ref(alloc, &mut left) {
-        Ok(_made) => End::Made,
-        Err(FillError::Item(error)) => End::Item(error),
-        Err(FillError::Length(_other)) => End::WrongLength,
-        Err(FillError::Place(AllocError)) => End::NoMemory,
-    };
-    (end, left.next())
-}
-
 #[test]
 fn a_fill_of_a_block_stops_at_an_error(rt: HostRuntime) {
-    assert!(rt; filled::<U2>(rt.alloc(), &[Ok(1), Err("x")]) == (End::Item("x"), None));
+    let results = [Ok(1), Err("x")].map(Some);
+    let run = boxed_fallible_fill::<U2>(rt.alloc(), Scripted::new(&results));
+    assert!(rt; run == (End::Item("x"), 2, None));
 }
 
 #[test]
 fn an_error_behind_the_last_item_of_a_block_is_one_item_too_many(rt: HostRuntime) {
-    let end = filled::<U2>(rt.alloc(), &[Ok(1), Ok(2), Err("x")]);
-    assert!(rt; end == (End::WrongLength, None));
+    let results = [Ok(1), Ok(2), Err("x")].map(Some);
+    let run = boxed_fallible_fill::<U2>(rt.alloc(), Scripted::new(&results));
+    assert!(rt; run == (End::WrongLength, 3, None));
 }
 
 #[test]

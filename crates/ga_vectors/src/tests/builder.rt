@@ -1,5 +1,5 @@
 //! Builders at concrete types.
-use ga_test_items::scripted::digits;
+use crate::tests::numbers::digits;
 use generic_array::{ArrayBuilder, U0, U3, U4};
 
 /// The position of a builder after 1 and 2, the items that it has behind 3 to 9, as digits, and

@@ -1,19 +1,15 @@
-//! Comparisons that tests share, each proved once.
-use generic_array::{ArrayLength, GenericArray};
+//! Comparisons of what calls made, each proved once.
+use std::convert::AsSlice;
 
-/// Whether the array has exactly these items.
-pub fn holds<T: PartialEq + Drop, N: ArrayLength<T>>(
-    array: GenericArray<T, N>,
-    items: &[T],
-) -> bool {
-    array.as_slice() == items
+/// Whether a sequence has exactly these items.
+pub fn has<T: PartialEq, S: AsSlice<T> + Drop>(made: S, items: &[T]) -> bool {
+    made.as_slice() == items
 }
 
-/// How a fill from results ends.
-#[derive(Clone, Copy, PartialEq, Eq)]
-pub enum End {
-    Made,
-    Item(&'static str),
-    WrongLength,
-    NoMemory,
+/// Whether there is a sequence, of exactly these items.
+pub fn gives<T: PartialEq, S: AsSlice<T> + Drop, E: Drop>(made: Result<S, E>, items: &[T]) -> bool {
+    match made {
+        Ok(made) => has(made, items),
+        Err(_refused) => false,
+    }
 }

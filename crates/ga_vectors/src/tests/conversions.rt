@@ -1,6 +1,5 @@
 //! Items that go from one kind of array to another, through vectors, boxed slices and tuples.
-use crate::tests::compared::holds;
-use ga_test_items::answers::gives;
+use crate::tests::compared::{gives, has};
 use generic_array::{AllocError, BoxedArray, GenericArray, U0, U1, U2, U3, U4, U12, arr, box_arr};
 use std::alloc::Global;
 use std::test::Fail;
@@ -29,7 +28,8 @@ fn twelve_items_are_a_tuple(rt: HostRuntime) {
     let numbers = [1, 2, 3, 4, 5, 6, 7, 8, 9, 10, 11, 12];
     let array: GenericArray<u8, U12> = (1, 2, 3, 4, 5, 6, 7, 8, 9, 10, 11, 12).into();
     assert!(rt; array.as_slice() == numbers.as_slice());
-    assert!(rt; holds(twelve(array).into(), &numbers));
+    let again: GenericArray<u8, U12> = twelve(array).into();
+    assert!(rt; has(again, &numbers));
 }
 
 /// Whether a boxed array goes to a vector and back.

@@ -1,5 +1,5 @@
 //! Each example, by the call that it shows.
-use crate::tests::compared::holds;
+use crate::tests::compared::has;
 use generic_array::functional::FunctionalSequence;
 use generic_array::sequence::{Flatten, Lengthen, Remove, Shorten, Unflatten};
 use generic_array::{AllocError, Const, GenericArray, U2, U3, U4, U5, U6, always, arr, box_arr};
@@ -8,8 +8,8 @@ use std::alloc::Global;
 #[test]
 fn arrays_are_built(rt: HostRuntime) {
     let doubled: GenericArray<usize, U4> = GenericArray::generate(|index| 2 * index);
-    assert!(rt; holds(doubled, &[0, 2, 4, 6]));
-    assert!(rt; holds(GenericArray::<i32, U5>::default(), &[0; 5]) && arr![1, 2, 3][2] == 3);
+    assert!(rt; has(doubled, &[0, 2, 4, 6]));
+    assert!(rt; has(GenericArray::<i32, U5>::default(), &[0; 5]) && arr![1, 2, 3][2] == 3);
 }
 
 #[test]
@@ -22,31 +22,31 @@ fn items_are_referred_to(rt: HostRuntime) {
 #[test]
 fn arrays_grow(rt: HostRuntime) {
     let longer: GenericArray<i32, U4> = arr![1, 2, 3].append(4);
-    assert!(rt; holds(longer, &[1, 2, 3, 4]));
+    assert!(rt; has(longer, &[1, 2, 3, 4]));
     let longer: GenericArray<i32, U4> = arr![1, 2, 3].prepend(4);
-    assert!(rt; holds(longer, &[4, 1, 2, 3]));
+    assert!(rt; has(longer, &[4, 1, 2, 3]));
 }
 
 #[test]
 fn arrays_shrink(rt: HostRuntime) {
     let (init, last): (GenericArray<i32, U3>, i32) = arr![1, 2, 3, 4].pop_back();
-    assert!(rt; last == 4 && holds(init, &[1, 2, 3]));
+    assert!(rt; last == 4 && has(init, &[1, 2, 3]));
     let (head, tail): (i32, GenericArray<i32, U3>) = arr![1, 2, 3, 4].pop_front();
-    assert!(rt; head == 1 && holds(tail, &[2, 3, 4]));
+    assert!(rt; head == 1 && has(tail, &[2, 3, 4]));
 }
 
 #[test]
 fn items_are_removed(rt: HostRuntime) {
     let (removed, others): (i32, GenericArray<i32, U3>) = arr![1, 2, 3, 4].remove(2);
-    assert!(rt; removed == 3 && holds(others, &[1, 2, 4]));
+    assert!(rt; removed == 3 && has(others, &[1, 2, 4]));
     let (removed, others): (i32, GenericArray<i32, U3>) = arr![1, 2, 3, 4].swap_remove(1);
-    assert!(rt; removed == 2 && holds(others, &[1, 4, 3]));
+    assert!(rt; removed == 2 && has(others, &[1, 4, 3]));
 }
 
 #[test]
 fn rows_are_joined_and_cut(rt: HostRuntime) {
     let all: GenericArray<i32, U6> = arr![arr![1, 2], arr![3, 4], arr![5, 6]].flatten();
-    assert!(rt; holds(all, &[1, 2, 3, 4, 5, 6]));
+    assert!(rt; has(all, &[1, 2, 3, 4, 5, 6]));
     let rows: GenericArray<GenericArray<i32, U2>, U3> = arr![1, 2, 3, 4, 5, 6].unflatten();
     assert!(rt; rows_are(&rows, [[1, 2], [3, 4], [5, 6]]));
 }

@@ -1,7 +1,5 @@
-//! Maps and inverted zips of the traits: what they return. Where they stop, and what is made boxed,
-//! is told in `ga_faults`.
-use ga_test_items::items::{boxed_from_one, from_one};
-use ga_test_items::scripted::next_digit;
+//! Maps, zips and folds of the traits: what they return, and where they stop.
+use crate::tests::numbers::{boxed_from_one, from_one, next_digit};
 use generic_array::checks::map_total_by;
 use generic_array::functional::{FunctionalSequence, inverted_zip, inverted_zip2};
 use generic_array::sequence::Concat;

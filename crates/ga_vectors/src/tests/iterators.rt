@@ -1,8 +1,7 @@
 //! Walks of both iterators by value from both ends.
 ghost use Rattle.generic_array.specs.Length.{FitsInline};
 
-use ga_test_items::items::{boxed_from_one, from_one};
-use ga_test_items::scripted::{digits, next_digit};
+use crate::tests::numbers::{boxed_from_one, digits, from_one, next_digit};
 use generic_array::{AllocError, ArrayLength, U3, U4, U5};
 use std::alloc::Global;
 use std::test::Fail;

@@ -1,5 +1,5 @@
 //! What the builds of the traits make of each kind.
-use ga_test_items::answers::gives;
+use crate::tests::compared::gives;
 use generic_array::sequence::{FallibleGenericSequence, FromFallibleIterator};
 use generic_array::{ArrayLength, BoxedArray, GenericArray, GenericArrayRef, InlineLength, U2, U3};
 use std::alloc::Global;

@@ -4,9 +4,10 @@ ghost use Rattle.ga_records.specs.Records.{has};
 ghost use Rattle.generic_array.specs.Views.{items_of_view};
 ghost use Rattle.std.specs.Prelude.{◌≡◌, ◌<◌, ◌∷◌, [], IfSome, None, Ok, Some, true};
 
+use crate::tests::sink::Sink;
 use ga_records::RecordBlock;
-use ga_test_items::writer::{Sink, WHOLE};
 use generic_array::{ArrayLength, GenericArrayRef, LengthError, U2, U3, U4};
+use std::alloc::Global;
 use std::io::ErrorKind;
 use std::test::Fail;
 
@@ -88,28 +89,28 @@ fn records_are_walked_from_both_ends(rt: HostRuntime) -> Result<(), Fail> {
 }
 
 /// Whether the records of bytes are written in so many writes, with no flush.
-fn are_written_in<N: ArrayLength<u8>>(bytes: &[u8], writes: usize) -> bool
+fn are_written_in<N: ArrayLength<u8>>(alloc: Global, bytes: &[u8], writes: usize) -> bool
     requires { 0 < N.USIZE }
 {
-    let mut sink = Sink::expecting(bytes);
+    let mut sink = Sink::failing_at(alloc, 0);
     match RecordBlock::<'_, N>::open(bytes) {
-        Ok(block) => block.write_to(&mut sink).is_ok() && sink.has_text_in(writes),
+        Ok(block) => block.write_to(&mut sink).is_ok() && sink.has(bytes, writes),
         Err(LengthError) => false,
     }
 }
 
 #[test]
 fn records_are_written_whole(rt: HostRuntime) {
-    assert!(rt; are_written_in::<U2>(&[], 0));
-    assert!(rt; are_written_in::<U2>(&[1, 2, 3, 2], 1));
+    assert!(rt; are_written_in::<U2>(rt.alloc(), &[], 0));
+    assert!(rt; are_written_in::<U2>(rt.alloc(), &[1, 2, 3, 2], 1));
 }
 
 #[test]
 fn a_writers_fault_leaves_the_records(rt: HostRuntime) -> Result<(), Fail> {
     let four: RecordBlock<'_, U4> = RecordBlock::open(b"abcd")?;
-    let mut broken = Sink::new(b"abcd", WHOLE, 1);
+    let mut broken = Sink::failing_at(rt.alloc(), 1);
     let fault = four.write_to(&mut broken);
     assert!(rt; fault.is_err_and(|fault| fault.kind() == ErrorKind::StorageFull));
-    assert!(rt; broken.is_left_at_its_fault() && is(four.record(0), b"abcd"));
+    assert!(rt; broken.has(&[], 1) && is(four.record(0), b"abcd"));
     Ok(())
 }

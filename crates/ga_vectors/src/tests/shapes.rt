@@ -2,8 +2,8 @@
 ghost use Rattle.generic_array.specs.Length.{FitsInline};
 ghost use Rattle.std.specs.Prelude.{◌≡◌, ◌*◌, ◌<◌, length};
 
-use ga_test_items::answers::gives;
-use ga_test_items::items::from_one;
+use crate::tests::compared::gives;
+use crate::tests::numbers::from_one;
 use generic_array::sequence::{
     Concat, Flatten, Lengthen, Remove, Shorten, Split, Unflatten, iter_flat,
 };

@@ -1,5 +1,5 @@
 //! Runs of known steps over an inline and over a boxed iterator: the replies, and what is left.
-use ga_test_items::items::{boxed_from_one, from_one};
+use crate::tests::numbers::{boxed_from_one, from_one};
 use generic_array::steps::{Reply, Step, TwoEnded, run_steps};
 use generic_array::{AllocError, U2, U5};
 use std::alloc::Global;

@@ -1,36 +1,22 @@
-use Rattle.ga_views.proofs.HexLemmas.{no-digits, piece-left, piece-next, piece-some}
+use Rattle.ga_views.proofs.CutLemmas.{taken-some}
+use Rattle.ga_views.proofs.HexLemmas.{not_empty}
 use Rattle.ga_views.proofs.hex_text.write_hex.Goals as goal
-use Rattle.std.proofs.Common.{◌≤◌, ◌++◌, arith, lit≤}
+use Rattle.std.proofs.Common.{◌++◌}
 use Rattle.std.proofs.KnownBytes.{Appends-trans}
 
 -- a writer fails only where there are digits to write
-pub returns-in-Err-clause-empty : goal.returns-in-Err-clause-empty
-returns-in-Err-clause-empty g c none =
-    let zero = no-digits c.args.upper _ _ c.loop-count.left.now _ c.loop-count.invariant.text.2
-    c.loop-count.invariant.count none in
-    absurd (omega (arith, zero, c.loop-count-test.true))
+pub returns-in_err-write_all-clause-empty : goal.returns-in_err-write_all-clause-empty
+returns-in_err-write_all-clause-empty g c = λ none.
+    let next = c.in-Some.ensures.some in
+    absurd (not_empty _ _ _ _ _ c.loop-text.invariant.2 next.1 next.0 none)
 
-pub loop-count-smaller : goal.loop-count-smaller
-loop-count-smaller g c =
-    let parts = c.split_at.ensures.by_index.0 in
-    let two : 2 ≤ 2048 = lit≤ tt in
-    let some = piece-some c.args.upper _ _ _ _ _ parts c.put_piece-text.ensures _ _ c.loop-count-test.true
-    c.loop-count.invariant.count two c.min.ensures c.split_at.ensures.front_len in
-    omega (arith, some)
-
--- one piece more is written
-pub loop-count-preserved : goal.loop-count-preserved
-loop-count-preserved g c =
-    let so_far = c.loop-count.invariant.text in
-    let parts = c.split_at.ensures.by_index.0 in
-    let is = c.put_piece-text.ensures in
-    let text = c.put_piece-text.result.now in
-    record {
-      text = (
-        so_far.0 ++ text,
-        Appends-trans (g.W.Write.contents c.args.w.now) (g.W.Write.contents c.loop-count.w)
-            (g.W.Write.contents c.write_all.new.self) so_far.0 text so_far.1 c.in_default.ensures.bytes,
-        piece-next c.args.upper _ _ _ _ _ parts is _ so_far.0 so_far.2,
-      );
-      count = piece-left c.args.upper _ _ _ _ _ parts is c.loop-count.invariant.count;
-    }
+-- one text more is written
+pub loop-text-preserved : goal.loop-text-preserved
+loop-text-preserved g c =
+    let so_far = c.loop-text.invariant in
+    let contents = g.W.Write.contents in (
+      so_far.0 ++ c.in-Some.text.now,
+      Appends-trans (contents c.args.w.now) (contents c.loop-text.w) (contents c.write_all.new.self) so_far.0 _ so_far.1
+          c.in_ok-write_all.ensures.bytes,
+      taken-some _ so_far.0 _ _ _ so_far.2 c.in-Some.ensures.some.1,
+    )

@@ -1,34 +1,25 @@
 use Rattle.ga_views.proofs.ActsLemmas.{fold_at_entries}
-use Rattle.ga_views.proofs.CallLemmas.{may_fold-at}
-use Rattle.ga_views.proofs.CutLemmas.{cut-at, take-one}
+use Rattle.ga_views.proofs.CallLemmas.{folded-callable, folded-more, folded-none, folded-rest}
 use Rattle.ga_views.proofs.array_ref.GenericArrayRef.fold_by.Goals as goal
-use Rattle.ga_views.specs.Entries.{FoldAt}
-use Rattle.ga_views.specs.Runs.{FoldRun}
-use Rattle.std.proofs.Common.{◌∙◌, refl, subst, sym, take}
-use Rattle.std.proofs.lemmas.Fn.{FoldsTo-push}
-use Rattle.std.proofs.lemmas.List.{take_all}
+use Rattle.std.proofs.Common.{[], sym}
+use Rattle.std.proofs.lemmas.List.{append-nil}
 
-pub f-answer-requires : goal.f-answer-requires
-f-answer-requires g c =
-    let at = c.loop-item in
-    let items = c.as_slice-item-items in
-    let here = cut-at at.item-index items.result.now c.item-item.result c.loop-item-test.true c.item-item.is in
-    may_fold-at (λ item. item.now) _ _ _ _ _ c.requires.callable (take at.item-index items.result.now) c.item-item.result _
-    at.f at.answer (sym items.ensures.items ∙ here) at.invariant _ refl
+pub loop-left-init : goal.loop-left-init
+loop-left-init g c = rw (← c.as_slice-left.ensures.items) (folded-none _ c.args.f.now c.args.init _)
 
-pub loop-item-preserved : goal.loop-item-preserved
-loop-item-preserved g c =
-    let at = c.loop-item in
-    let items = c.as_slice-item-items.result.now in
-    rw (take-one at.item-index items c.item-item.result c.loop-item-test.true c.item-item.is)
-    (FoldsTo-push _ (c.args.f.now, c.args.init) (take at.item-index items) (at.f, at.answer) c.item-item.result
-    (c.f-answer.new.self, c.f-answer.result) at.invariant (_, refl, c.f-answer.ensures))
+pub fold_items-answer-requires : goal.fold_items-answer-requires
+fold_items-answer-requires g c =
+    folded-callable c.loop-left.invariant _ c.requires.callable _ _ c.split_at.ensures.by_index.0
+
+pub loop-left-preserved : goal.loop-left-preserved
+loop-left-preserved g c =
+    folded-more c.loop-left.invariant _ _ _ _ c.split_at.ensures.by_index.0 c.fold_items-answer.ensures
+
+pub fold_items-requires : goal.fold_items-requires
+fold_items-requires g c =
+    folded-callable c.loop-left.invariant _ c.requires.callable _ [] (sym (append-nil _))
 
 pub returns : goal.returns
 returns g c =
-    let at = c.loop-item in
-    let items = c.as_slice-item-items in
-    let step = FoldAt (λ item. item.now) (goal.F-step g) in
-    let run = subst (λ passed. FoldRun step c.args.f.now c.args.init passed at.answer at.f)
-    (take_all at.item-index items.result.now c.loop-item-test.false ∙ items.ensures.items) at.invariant in
+    let run = folded-rest c.loop-left.invariant _ _ c.fold_items.ensures in
     record { run = run; acts = λ h acts. fold_at_entries (λ item. item.now) _ _ h acts _ _ _ _ run }
