@@ -63,7 +63,7 @@ def write(names):
         file.write_text("".join(f"{line}\n" for line in lines), "utf-8")
 
 
-def stale(names):
+def check_written(names):
     """Looks for each line of the files in the sources, and for each that the sources have."""
     for file, lines in files(names):
         for it in difflib.ndiff(file.read_text("utf-8").splitlines(), [*lines]):
