@@ -137,7 +137,11 @@ class Site:
 
     def __init__(self, top, library):
         self.top, self.library, self.items, self.by_name = top, library, [], {}
-        self.crates = {name: self.crate(name) for name in CRATES}
+        # The modules of tests, and of crates that no page is of.
+        self.samples = []
+        others = {folder.name for folder in (top / "crates").iterdir()} - {*CRATES}
+        self.crates = {name: self.crate(name, name in others) for name in (*CRATES, *others)}
+        self.crates = {name: self.crates[name] for name in CRATES}
         for item in self.items:
             item.home = self.home(item)
             if item.home:
@@ -165,10 +169,11 @@ class Site:
         return {file: list(self.library.definitions(file).values()) for file in files
                 if file.name != "Lib.antt"}
 
-    def crate(self, name):
+    def crate(self, name, is_sample):
         """A crate's root with all that stands below it. A program's is main.rt."""
         files = [self.top / "crates" / name / "src" / file for file in ("lib.rt", "main.rt")]
-        return self.module(Item("mod", name, "", None, 1), next(filter(pathlib.Path.exists, files)))
+        file = next(filter(pathlib.Path.exists, files), None)
+        return file and self.module(Item("mod", name, "", None, 1), file, is_sample)
 
     def read(self, module, file):
         """Reads what stands in a module's file."""
@@ -179,15 +184,19 @@ class Site:
         module.members = list(items_of(module.text, file, module))
         self.note_uses(module)
 
-    def module(self, module, file):
-        """A module with all that stands in its file and below, but for tests."""
+    def module(self, module, file, is_sample):
+        """A module with all that stands in its file and below."""
         self.read(module, file)
-        self.items += [module] if not module.owner else []
-        self.items += [item for member in module.members for item in (member, *member.members)]
+        if is_sample:
+            module.file, module.line = file, 1
+            self.samples.append(module)
+        else:
+            self.items += [module] if not module.owner else []
+            self.items += [item for member in module.members for item in (member, *member.members)]
         folder = file.parent if file.name in ("lib.rt", "main.rt") else file.with_suffix("")
         for member in module.of_kind("mod"):
-            if "cfg(test)" not in member.attributes:
-                self.module(member, folder / f"{member.name}.rt")
+            is_test = "cfg(test)" in member.attributes
+            self.module(member, folder / f"{member.name}.rt", is_sample or is_test)
         return module
 
     def note_uses(self, module):

@@ -34,8 +34,8 @@ def with_table(names, readme):
     folder, rows = readme.parent, collections.defaultdict(list)
     yield from readme.read_text("utf-8").partition(TABLE)[0].rstrip().splitlines()
     yield from ("", TABLE, "---|---|---")
-    for item in names.samples.of(lambda crate: crate == folder.name):
-        if (item.kind == "fn" and item.owner.kind == "mod" and not is_test(item)
+    for item in names.samples.items:
+        if (item.kind == "fn" and names.path(item)[0] == folder.name and item.owner.kind == "mod" and not is_test(item)
                 and names.samples.is_told(item)):
             name = "::".join(names.path(item)[1:])
             shows = (first_sentence(item) or first_sentence(item.module)).replace("|", r"\|")
