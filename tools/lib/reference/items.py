@@ -17,6 +17,8 @@ LISTS = {"Modules": ["mod"], "Types": ["struct", "enum"], "Traits": ["trait"], "
          "From other libraries": ["foreign"]}
 # A proof file that is shown whole has at most so many lines, and so many others are named.
 MOST_LINES, MOST_OTHERS = 12, 8
+# A link of a document.
+LINK = re.compile(r"\[[^\]]*\]\((?:\.\./)?([^)]*)\)")
 # The crates by which a crate above the library imports a word, the highest first.
 READERS = ("generic_array", "ga_core")
 
@@ -305,8 +307,8 @@ class Items:
     def rows(self, rows):
         """Rows of the documents' tables, each with its document and heading."""
         for row in rows:
-            cells = [(title, cell or "the same name") for title, cell in row.cells
-                     if cell or title == "here"]
+            cells = [(title, LINK.sub(r"\1", cell) or "the same name")
+                     for title, cell in row.cells if cell or title == "here"]
             title = f"{row.place}, under {row.section or row.heading}"
             yield from part("listed", cells, title) if row.cells[0][0] else (
                 part("docs", ": ".join(cell for _, cell in cells), title))

@@ -4,7 +4,6 @@ import collections
 import html
 import pathlib
 import re
-import shutil
 import sys
 import urllib.parse
 
@@ -19,7 +18,6 @@ from reference.beside import code_of
 from reference.items import Items, part
 from reference.lookup import impl_of, parts_of
 from reference.meanings import WITH_A_PAGE, Scope
-from reference.rows import CODE, OF_RUST, rows
 from reference.sources import Item
 
 TEMPLATES = pathlib.Path(__file__).resolve().parent / "pages"
@@ -29,7 +27,6 @@ KEYWORDS = set("pub const fn struct enum trait type impl for where mut dyn final
 DOCUMENTS = {"promise.html": ("What is promised", "crates/ga_headline/PROMISE.md"),
              "rust.html": ("The Rust crate's names", "docs/DIFFERENCES.md"),
              "clauses.html": ("Words in clauses", "docs/DEFINITIONS.md")}
-PICTURE = "trials/bench/speed.svg"
 # What a module's page shows whole, what a trait's does, and what a type's; and the other files.
 WHOLE = {"Aliases": ["type"], "Functions": ["fn"], "Macros": ["macro"],
          "Constants": ["const", "static"], "From other libraries": ["foreign"]}
@@ -49,7 +46,6 @@ class Pages:
     def __init__(self, names, folder):
         self.names, self.site, self.folder = names, names.site, folder
         self.items, self.depth, self.std = Items(names), 0, {}
-        self.documents, self.has_picture = DOCUMENTS, (self.site.top / PICTURE).exists()
         self.markdown = markdown.Markdown(extensions=["fenced_code", "tables"])
         # A `<` outside of code is text: docs have no HTML of their own.
         self.markdown.preprocessors.deregister("html_block")
@@ -58,14 +54,13 @@ class Pages:
         self.note_places()
         placed = [item for item in (*self.words, *self.site.shown()) if item.url]
         self.places = {self.site.full_name(item): item for item in placed}
-        self.rust_names = list(self.note_rust())
         self.templates = Environment(loader=FileSystemLoader(TEMPLATES), trim_blocks=True,
                                      lstrip_blocks=True, undefined=StrictUndefined,
                                      autoescape=lambda name: name.endswith(".html"))
         filters = (self.code, self.docs, self.term, self.link, self.shown, code_of)
         self.templates.filters |= {filter.__name__: filter for filter in filters}
         self.templates.filters["line"] = self.site.line
-        self.templates.globals |= {"site": self.site, "pages": self}
+        self.templates.globals |= {"site": self.site, "pages": self, "documents": DOCUMENTS}
 
     def note_places(self):
         """Gives each item, member and definition its place: a page, or an anchor of one."""
@@ -150,21 +145,6 @@ class Pages:
         found += [it for it in self.names.named(parts_of(name)) if it.url] if "::" in name else []
         return next(iter(found), None)
 
-    def note_rust(self):
-        """Notes the Rust crate's names at their counterparts, as the documents tell them. Gives
-        those that have another name here, or none: each with its counterpart, if any, and what its
-        row says."""
-        for row in rows(self.site.top, OF_RUST):
-            ours = [item for code in row.names_here if (item := self.meant(code, "GenericArray"))]
-            called = [item for item in ours if item.kind == "fn"] or ours
-            for code in CODE.findall(row.theirs):
-                same = self.meant(code, row.section.strip("`"), "GenericArray")
-                for item in [same] if same and not row.left_out else called:
-                    item.rust.append(code)
-                if not same or same.name != code:
-                    target = None if row.left_out else next(iter(called), None)
-                    yield code, target, " ".join([row.ours, *row.told]).replace("`", "")
-
     def shown(self, item):
         """The parts of an item on a page: without those that links tell, and of a member of an impl
         that says nothing of its own the head alone."""
@@ -209,8 +189,6 @@ class Pages:
         self.page("words/std.html", "Words of std", [], [Group("", None, std)])
         for name in FILES:
             self.render(name, name)
-        if self.has_picture:
-            shutil.copy(self.site.top / PICTURE, self.folder)
         return list(self.lost_links())
 
     def lost_links(self):

@@ -71,7 +71,7 @@ class Item:
         self.home, self.url, self.public = None, "", True
         self.trait, self.of_trait, self.of = None, "", None
         self.begin, self.end, self.attributes, self.folder = 0, 0, "", "specs"
-        self.clauses, self.members, self.users, self.rust = [], [], [], []
+        self.clauses, self.members = [], []
         self.blocks, self.exported, self.foreign = [], [], {}
         self.context, self.imports = [], {}
         self.__dict__.update(more)

@@ -1,4 +1,4 @@
-"""Answers a name in the terminal: with pages of items, and with what the documents tell."""
+"""Answers a name in the terminal: with items, and with rows of the documents."""
 import re
 import shutil
 import subprocess
@@ -25,15 +25,11 @@ def of_kit(name):
 
 def unknown(names, name):
     """What is said of a name that nothing has, and of words that stand in no row."""
-    documents = " or ".join(f"docs/{document}.md" for document in OF_MESSAGES)
+    rows = "no row of " + " or ".join(f"docs/{document}.md" for document in OF_MESSAGES)
     if re.search(r"\s", name):
-        yield f"tools/reference: no row of {documents} has these words: give fewer, or read there."
-        return
-    yield f"tools/reference: nothing is called {name}, and no row of {documents} has it."
-    if near := names.near(name):
-        yield from ["Near it:", *indented(near)]
-    elif re.fullmatch(r"[\w-]+", name):
-        yield f"A new folder for pages is written ./{name}."
+        return [f"tools/reference: {rows} has these words: give fewer, or read there."]
+    return [f"tools/reference: nothing is called {name}, and {rows} has it. Near it:",
+            *indented(names.near(name))]
 
 
 def show(names, name):
@@ -45,5 +41,5 @@ def show(names, name):
              *part("docs", f"And {len(rows) - most} more rows have it." * (len(rows) > most))]
     text = Text(names, shutil.get_terminal_size().columns)
     lines = [*([] if is_known else of_kit(name)), *text.lines(parts)]
-    sys.stdout.write("".join(f"{line}\n" for line in lines).rstrip("\n") + "\n" * bool(lines))
-    sys.stderr.write("".join(f"{line}\n" for line in unknown(names, name)) if not lines else "")
+    print("\n".join(lines or unknown(names, name)).rstrip("\n"),
+          file=sys.stdout if lines else sys.stderr)

@@ -12,7 +12,4 @@ const NAMES = [
 {% for thing in pages.std.values() %}
 {{ [thing.name.strip("◌"), "word of std", thing.module ~ "." ~ thing.name, thing.url, thing|line]|tojson }},
 {% endfor %}
-{% for name, item, line in pages.rust_names %}
-{{ [name.split("::")[-1], "Rust crate", name, item.url if item else "rust.html", line]|tojson }},
-{% endfor %}
 ];
