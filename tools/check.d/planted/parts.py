@@ -6,7 +6,7 @@ from building import NEVER, bytes_of
 from copies import copy, write
 from planted import HERE, run_made_up
 
-# The tests: the faults are those of ga_faults.
+# The tests: the faults are those of ga_vectors.
 TEST = "\n#[test]\nfn test() {}\n"
 PAGE = """```console
 $ echo one
@@ -29,7 +29,7 @@ EDIT = "file: src/lib.rt\nold: a\nnew: b\n"
 WALL = "// says: it stands\n\n// mend\n// It.\n"
 FILES = {
     "crates.txt": "ga_deep:\n", "HANDLES": "", "README.md": PAGE, "docs/TOUR.md": "",
-    "crates/ga_faults/src/lib.rt": TEST, "crates/ga_fails/src/lib.rt": TEST,
+    "crates/ga_vectors/src/lib.rt": TEST, "crates/ga_fails/src/lib.rt": TEST,
     "crates/ga_bare/src/lib.rt": f"mod refused_memory;\n{TEST}",
     "crates/ga_deep/src/lib.rt": "mod tests;\n", "crates/ga_deep/src/tests.rt": TEST,
     "crates/ga_rows/src/main.rt": TEST, "crates/ga_rows/stdout": "1 2 3 4\n",
@@ -55,11 +55,11 @@ MADE_UP = {
                       "echo 'src/fell.rt:1:1: it fell'; echo 'src/unmended.rt:1:1: it stands'\n"
                       "echo 'src/unmended_mend.rt:1:1: no proof'; echo logic=it; exit 1\n",
 }
-AMPLE = "ga_faults: tests, with ample memory: "
+AMPLE = "ga_vectors: tests, with ample memory: "
 LEAK = "refused_memory::leaks: 16 byte(s) leaked in 1 allocation(s).; "
 TOLD_LESS = "refused_memory::tells_one_less: 2 requests, and 1 are told; "
 SILENT = "refused_memory::says_nothing: doesn't say so, and makes 2 with ample memory"
-REFUSED, ROWS = "ga_faults: tests, request {} is refused in {} of 4: ", "ga_rows hex 2: request"
+REFUSED, ROWS = "ga_vectors: tests, request {} is refused in {} of 4: ", "ga_rows hex 2: request"
 PARTS = ["tests", "trials", "refuse", "tour", "twins", "walls"]
 # The faults, and what has to be told of each.
 TOLD = {

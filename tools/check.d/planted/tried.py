@@ -55,7 +55,7 @@ if word.startswith("refused_memory::"):
     status = test(word[16:])
 elif word == "--list":
     module = "other" if "/ga_bare_" in file else "refused_memory"
-    for it in TESTS[:7 if "/ga_faults_" in file else 1]:
+    for it in TESTS[:7 if "/ga_vectors_" in file else 1]:
         print(f"{module}::{it}: test")
 elif word != "--start":
     status = rows(word)

@@ -1,6 +1,6 @@
 //! A reader and a writer that go in parts, are interrupted, and fail.
 //!
-//! The program stands on the port alone, so the writer isn't that of `ga_test_items`.
+//! The program stands on the port alone, so the writer isn't that of `ga_vectors`.
 use std::io;
 use std::io::{ErrorKind, Read, Write};
 
