@@ -1,7 +1,7 @@
 """Lays out a copy of this checkout, outside the repository, with the crates of bench and diff or
 those of sweeps.
 
-For bench and diff it also builds the Rust program that runs our crate beside the original one. Both
+For bench and diff it also builds the Rust program that runs our crate and the original one. Both
 take the same copy, `ours/` in their folder, so that the libraries are proved once.
 """
 import os
@@ -74,8 +74,8 @@ def said(command, log, advice="", **how):
         done = subprocess.run(command, stdout=file, stderr=subprocess.STDOUT, **how)
     if done.returncode:
         lines = log.read_text(errors="replace").splitlines()[-5:]
-        told = [f"{' '.join(map(str, command))} failed:", *lines, f"(all of it: {log})", advice]
-        stop("\n".join(filter(None, told)))
+        why = [f"{' '.join(map(str, command))} failed:", *lines, f"(all of it: {log})", advice]
+        stop("\n".join(filter(None, why)))
 
 
 def put(path, text):

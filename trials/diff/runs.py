@@ -61,7 +61,7 @@ CASES = [
     ),
     case("builds by the traits", "sequences_inline::sequences_run::<{N}>(alloc, seed)"),
     case("boxed builds by the traits", "sequences_boxed::sequences_run::<{N}>(alloc, seed)"),
-    case("builders beside a vector", "builders::builders_run::<{N}>(seed)"),
+    case("builders compared with a vector", "builders::builders_run::<{N}>(seed)"),
     case("comparisons, hashes, Debug, views", "comparisons::comparisons_run::<{N}>(seed)"),
     case("calls of closures, arrays and views", "closures::closures_run::<{N}>(seed)"),
     case("calls of closures, boxed arrays", "boxed_closures::boxed_closures_run::<{N}>(alloc, seed)"),
@@ -91,10 +91,10 @@ CASES = [
     case("boxed builds and conversions", "boxed_builds::boxed_builds_run::<{N}>(alloc, seed)"),
     case("boxed walks by value", "walks_boxed::walks_run::<{N}>(alloc, seed)"),
     case("boxed to inline", "walks_boxed::reverse_run::<{N}>(alloc, seed)", share=10),
-    case("blocks beside a deque", "blocks::blocks_run(alloc, {length}, seed)", lengths=SIZES),
+    case("blocks compared with a deque", "blocks::blocks_run(alloc, {length}, seed)", lengths=SIZES),
 ]
 
-# Drops and clones, each played by number and in order. A wanted difference is one of order.
+# Drops and clones, each run by number and in order. A wanted difference is one of order.
 DROPS = [
     case(
         "drops of walks by value",

@@ -1,5 +1,5 @@
-//! Bits: packed beside each other, asked for by a mask, and taken apart again. The set `bits` stands
-//! at the head of the module.
+//! Bits: packed beside each other, read by a mask, and unpacked. The set `bits` stands at the head
+//! of the module.
 #![tactic(auto, using(ga_core::proofs::BitLemmas::bits))]
 
 ghost use Rattle.ga_core_examples.specs.Digits.{number_of};

@@ -21,7 +21,7 @@ fn join<T: Copy + Default + Drop, N: ArrayLength<T>>(
     both.finish()
 }
 
-/// The first item goes behind the others.
+/// Moves the first item behind the others.
 fn rotate<T: Default + Drop, N: ArrayLength<T>>(list: &mut ArrayBuilder<T, N>)
     requires { 0 < length list.old }
     ensures { list.new ≡ drop 1 list.old ++ take 1 list.old }
@@ -30,7 +30,7 @@ fn rotate<T: Default + Drop, N: ArrayLength<T>>(list: &mut ArrayBuilder<T, N>)
     list.push(item);
 }
 
-/// Clones of bytes, which can't fail.
+/// Appends clones of bytes, which can't fail.
 fn extend_by_clones<N: ArrayLength<u8>>(
     list: &mut ArrayBuilder<u8, N>,
     items: &[u8],
@@ -42,7 +42,7 @@ fn extend_by_clones<N: ArrayLength<u8>>(
     list.extend_from_clones(items)
 }
 
-/// A second list of the same items: that the first is read tells that `N` items fit inline.
+/// Returns a second list of the same items. That the first is read shows that `N` items fit inline.
 fn copy_of<T: Copy + Default + Drop, N: ArrayLength<T>>(
     list: &ArrayBuilder<T, N>,
 ) -> ArrayBuilder<T, N>
@@ -54,7 +54,7 @@ fn copy_of<T: Copy + Default + Drop, N: ArrayLength<T>>(
     copy
 }
 
-/// A key in front of the others, of which the last is dropped where there is no room for it.
+/// Puts a key in front of the others. Where there is no room, the last is dropped.
 fn touch<N: ArrayLength<u32>>(keys: &mut ArrayBuilder<u32, N>, key: u32)
     requires { 0 < N.USIZE }
     ensures { keys.new
@@ -81,7 +81,7 @@ fn replace<T, N: ArrayLength<T>>(list: &mut ArrayBuilder<T, N>, index: usize, it
     mem::replace(&mut list.as_mut_slice()[index], item)
 }
 
-/// The two topmost items of a stack in each other's place.
+/// Swaps the two topmost items of a stack.
 fn swap_top<T, N: ArrayLength<T>>(stack: &mut ArrayBuilder<T, N>)
     requires { 2 ≤ length stack.old }
     ensures { stack.new ≡ swap stack.old (length stack.old - 2) (length stack.old - 1) }

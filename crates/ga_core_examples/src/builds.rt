@@ -29,7 +29,7 @@ fn packet_at_once(mask: u8) -> GenericArray<u8, Const<188>>
     GenericArray::generate(|index| index as u8 ^ mask)
 }
 
-/// The sum of each three neighbours, by a closure that reads a slice and says where it may.
+/// The sum of each three neighbours, by a closure that reads a slice and has a `requires` for it.
 fn sums_of_three<N: ArrayLength<u32>>(bytes: &[u8]) -> GenericArray<u32, N>
     requires fits { FitsInline N.USIZE }
     requires len { length bytes.now ≡ N.USIZE + 2 }

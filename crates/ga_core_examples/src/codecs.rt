@@ -30,7 +30,7 @@ fn padded_block<N: ArrayLength<u8> + InlineLength>(message: &[u8]) -> GenericArr
 {
     let mut block = GenericArray::default();
     let len = message.len();
-    // Before the copy: behind it the clause stays open.
+    // Before the copy: after it the clause stays open.
     block[len] = 128;
     block[0..len].copy_from_slice(message);
     block
@@ -48,7 +48,7 @@ fn base32_digit(group: u8) -> u8
     }
 }
 
-/// The text of groups of five bits, by a call that asks for something of each.
+/// Returns the text of groups of five bits, by a call that has a `requires` for each.
 fn base32<N: ArrayLength<u8>>(groups: GenericArray<u8, N>) -> GenericArray<u8, N>
     requires { All (λ group. group < 32) groups }
     ensures { result ≡ map (λ group. if nat_lt group 26 then group + 65 else group + 24) groups }

@@ -24,7 +24,7 @@ fn reverse_of<N: ArrayLength<u8>>(
     GenericArray::try_from_iter(array.into_iter().rev())
 }
 
-/// The item behind so many others, and how many are left behind it.
+/// Returns the item behind `count` others, and how many are left behind it.
 fn item_behind<N: ArrayLength<u8>>(array: GenericArray<u8, N>, count: usize) -> (Option<u8>, usize)
     ensures item { result.0 ≡ slice_get array count }
     ensures left { result.1 ≡ length (drop (count + 1) array) }
@@ -42,7 +42,7 @@ fn left_copied<N: ArrayLength<u8>>(
     left.clone()
 }
 
-/// Leaves zeros behind.
+/// Moves the bytes of the key to `place`, and leaves zeros in the key.
 fn move_over(key: &mut GenericArray<u8, U3>, place: &mut GenericArray<u8, U3>)
     ensures moved { place.new ≡ key.old }
     ensures wiped { All (λ byte. byte ≡ 0) key.new }
@@ -50,7 +50,7 @@ fn move_over(key: &mut GenericArray<u8, U3>, place: &mut GenericArray<u8, U3>)
     mem::take(key).into_iter().move_to(place.as_mut_slice());
 }
 
-/// By a named function.
+/// Returns the greatest item, or 0 of none, by a fold with a named function.
 fn greatest_item<N: ArrayLength<u32>>(lanes: GenericArray<u32, N>) -> u32
     ensures { result ≡ fold (λ best lane. max best lane) 0 lanes }
 {

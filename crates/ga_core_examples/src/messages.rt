@@ -62,7 +62,7 @@ pub fn decode(bytes: &[u8]) -> Option<Message>
     }
 }
 
-/// A message as bytes and back: it is what it was.
+/// Encodes a message and decodes its bytes, which returns the message.
 pub fn there_and_back(message: &Message) -> Option<Message>
     ensures { result ≡ Some message.now }
 {

@@ -39,7 +39,7 @@ fn masked_in_place<N: ArrayLength<u8>>(text: &mut GenericArray<u8, N>, mask: &Ge
     *text = text.zip_inline_ref(mask.view(), |t: &u8, m: &u8| *t ^ *m);
 }
 
-/// The numbers of the calls of a closure with a state, which is lent to each zip in turn.
+/// Two zips borrow one closure, which adds the number of its call to each sum.
 fn calls_in_order(left: GenericArray<u32, U2>, right: GenericArray<u32, U2>) -> [u32; 4]
     requires left { left ≡ 10 ∷ 20 ∷ [] }
     requires right { right ≡ 1 ∷ 2 ∷ [] }
@@ -55,7 +55,7 @@ fn calls_in_order(left: GenericArray<u32, U2>, right: GenericArray<u32, U2>) -> 
     [seen[0], seen[1], moved[0], moved[1]]
 }
 
-/// The running totals of two maps that share the closure.
+/// The running totals of two maps that borrow one closure.
 fn running_totals(array: GenericArray<u32, U2>) -> (GenericArray<u32, U2>, GenericArray<u32, U2>)
     requires { array ≡ 1 ∷ 2 ∷ [] }
     ensures { result ≡ (1 ∷ 3 ∷ [], 4 ∷ 6 ∷ []) }
@@ -70,7 +70,7 @@ fn running_totals(array: GenericArray<u32, U2>) -> (GenericArray<u32, U2>, Gener
     (by_reference, by_value)
 }
 
-/// The running totals above 3 at which two maps stop that share the closure.
+/// The running totals above 3 at which two maps stop that borrow one closure.
 fn stopped_totals(
     array: GenericArray<u32, U3>,
 ) -> (

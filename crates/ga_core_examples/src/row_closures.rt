@@ -141,7 +141,7 @@ where
 }
 
 /// The rows of a slab, the last first.
-fn reverse_rows<T: Default + Drop, R: ArrayLength<T> + InlineLength>(
+fn reverse_slab<T: Default + Drop, R: ArrayLength<T> + InlineLength>(
     mut slab: GenericArray<T, R>,
 ) -> GenericArray<T, R>
     ensures { result ≡ reverse slab }
@@ -151,13 +151,13 @@ fn reverse_rows<T: Default + Drop, R: ArrayLength<T> + InlineLength>(
 }
 
 /// The rows of each slab, the last first: three levels by value, with the row as the item type.
-fn slabs_turned<T, R, const D: usize>(tensor: Rows<T, R, D>) -> Rows<T, R, D>
+fn reverse_slabs<T, R, const D: usize>(tensor: Rows<T, R, D>) -> Rows<T, R, D>
 where
     T: Default + Drop,
     R: ArrayLength<T> + InlineLength,
     ensures { result ≡ map (λ slab. reverse slab) tensor }
 {
-    tensor.map_inline(|slab: GenericArray<T, R>| reverse_rows(slab))
+    tensor.map_inline(|slab: GenericArray<T, R>| reverse_slab(slab))
 }
 
 /// What each number is above the one before it, modulo 2^64. A slice of numbers is captured.
@@ -192,7 +192,7 @@ fn rows_are_turned_and_picked(rt: HostRuntime) {
     assert!(rt; diagonal(&square).as_slice() == [0, 0, 0].as_slice());
     let slabs: Tensor<U2, U3, 2> = GenericArray::from_array([pairs, transpose(&other)]);
     assert!(rt; tube(&slabs, 1, 0).as_slice() == [2, 5].as_slice());
-    assert!(rt; tube(&slabs_turned(slabs), 0, 0).as_slice() == [3, 6].as_slice());
+    assert!(rt; tube(&reverse_slabs(slabs), 0, 0).as_slice() == [3, 6].as_slice());
     let two: GenericArray<u64, U2> = differences(&matrix[0]);
     assert!(rt; two.as_slice() == [1, 1].as_slice());
 }

@@ -21,7 +21,7 @@ fn one_begins<N: Unsigned>(all: &ChunksRef<'_, u8, N>, prefix: &[u8]) -> bool
     all.iter().any(|row| row.starts_with(prefix))
 }
 
-/// How many rows stand behind the last that begins so.
+/// Returns how many rows stand behind the last one that begins with the prefix.
 fn place_from_back<N: Unsigned>(all: &ChunksRef<'_, u8, N>, prefix: &[u8]) -> Option<usize>
     ensures { result ≡ position (λ row. starts_with nat_eq row prefix.now)
         (reverse (rows N.USIZE (items_of_chunks all.now))) }

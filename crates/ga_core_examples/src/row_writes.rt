@@ -4,8 +4,8 @@ ghost use Rattle.std.specs.Prelude.{◌≡◌, ◌*◌, ◌<◌, length, map, re
 
 use ga_core::{ChunksMut, Unsigned};
 
-/// Turns each row round, of as many items as whole rows have.
-fn rows_turned<N: Unsigned>(slice: &mut [u8])
+/// Reverses each row of a slice without a rest.
+fn reverse_rows<N: Unsigned>(slice: &mut [u8])
     requires whole { length slice.old ≡ chunk_count N.USIZE slice.old * N.USIZE }
     ensures { rows N.USIZE slice.new ≡ map reverse (rows N.USIZE slice.old) }
 {
@@ -16,12 +16,12 @@ fn rows_turned<N: Unsigned>(slice: &mut [u8])
     }
 }
 
-/// Turns each whole row of a slice round, and leaves the rest as it is.
-fn whole_rows_turned<N: Unsigned>(slice: &mut [u8])
+/// Reverses each whole row of a slice. The rest stays as it is.
+fn reverse_whole_rows<N: Unsigned>(slice: &mut [u8])
     requires wide { 0 < N.USIZE }
     ensures rows { rows N.USIZE slice.new ≡ map reverse (rows N.USIZE slice.old) }
     ensures rest { chunk_rest N.USIZE slice.new ≡ chunk_rest N.USIZE slice.old }
 {
     let (whole, _) = ChunksMut::<u8, N>::whole_and_rest(slice);
-    rows_turned::<N>(whole);
+    reverse_rows::<N>(whole);
 }

@@ -42,7 +42,7 @@ fn firsts_of_rows<W: ArrayLength<u8>, N: ArrayLength<u8>>(
     GenericArray::try_from_iter(rows.iter().map(|row| row[0]))
 }
 
-/// Keeps those bytes of a message, fed by pieces, that fill no row yet.
+/// Takes a piece of a message, and keeps the bytes that fill no row yet.
 fn rest_kept<N: ArrayLength<u8>>(kept: &mut ArrayBuilder<u8, N>, bytes: &[u8])
     requires few { length kept.old < N.USIZE }
     ensures { kept.new ≡ chunk_rest N.USIZE (kept.old ++ bytes.now) }
@@ -58,7 +58,7 @@ fn rest_kept<N: ArrayLength<u8>>(kept: &mut ArrayBuilder<u8, N>, bytes: &[u8])
     kept.extend_from_slice(rest);
 }
 
-/// The row behind so many others.
+/// Returns the row that stands behind `count` others.
 fn row_behind<'a, T, N: Unsigned>(
     chunks: &'a ChunksRef<'_, T, N>,
     count: usize,
@@ -69,7 +69,7 @@ fn row_behind<'a, T, N: Unsigned>(
     chunks.iter().nth(count)
 }
 
-/// The last row, and how many stand before it.
+/// Returns the last row, and how many stand before it.
 fn last_row<'a, T, N: Unsigned>(
     chunks: &'a ChunksRef<'_, T, N>,
 ) -> (Option<GenericArrayRef<'a, T, N>>, usize)

@@ -12,7 +12,7 @@ fn move_on<N: ArrayLength<i32>>(window: &mut GenericArray<i32, N>, sample: i32)
     ensures { window.new ≡ drop 1 window.old ++ sample ∷ [] }
 {
     let samples = window.as_mut_slice();
-    // Before the turn: behind it the clause stays open.
+    // Before the rotation: after it the clause stays open.
     samples[0] = sample;
     samples.rotate_left(1);
 }
@@ -48,7 +48,7 @@ impl<N: ArrayLength<i16> + InlineLength> DelayLine<N> {
         }
     }
 
-    /// Takes a sample in and returns the oldest.
+    /// Puts a sample in the place of the oldest, which it returns.
     fn push(&mut self, sample: i16) -> i16
         ensures oldest { result ≡ slice_index_or self.old 0 (pos 0) }
         ensures line { self.new ≡ drop 1 self.old ++ sample ∷ [] }

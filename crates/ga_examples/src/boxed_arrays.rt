@@ -29,7 +29,7 @@ fn refused_at_two(alloc: Global) -> Result<Result<BoxedArray<usize, U4>, usize>,
     )
 }
 
-/// The item behind those that filled the array, or that comes first where memory was refused.
+/// Returns the item behind those that filled the array, or the first where memory was refused.
 fn next_after_a_fill(alloc: Global) -> Result<Option<u32>, Option<u32>>
     ensures filled { IfOk result (λ next. next ≡ None) }
     ensures refused { IfErr result (λ next. next ≡ Some 1) }
@@ -72,7 +72,7 @@ fn zeros(alloc: Global) -> Result<BoxedArray<u8, U3>, AllocError>
     BoxedArray::default_boxed(alloc)
 }
 
-/// The item behind so many others, and how many are left behind it.
+/// Returns the item behind `count` others, and how many are left behind it.
 fn item_behind<N: Unsigned>(array: BoxedArray<u8, N>, count: usize) -> (Option<u8>, usize)
     ensures item { result.0 ≡ slice_get array count }
     ensures left { result.1 ≡ length (drop (count + 1) array) }

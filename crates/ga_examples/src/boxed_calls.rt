@@ -39,7 +39,7 @@ fn digits_of<N: Unsigned>(
     text.try_map_ref(|byte: &u8| digit_in(base, *byte))
 }
 
-/// How many calls of a lent closure were made, where memory was had or refused.
+/// Returns how many calls of a borrowed closure were made: none where memory was refused.
 fn calls_of_a_map(array: &BoxedArray<u32, U3>) -> u32
     requires { array.now ≡ 1 ∷ 2 ∷ 3 ∷ [] }
     ensures { (result ≡ 0) ⊎ (result ≡ 3) }

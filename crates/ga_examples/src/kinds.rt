@@ -118,7 +118,7 @@ fn boxed_less_by_view<N: ArrayLength<u32>>(
     inverted_zip2_by(s, alloc, lhs, &mut |l: u32, r: &u32| l.wrapping_sub(*r))
 }
 
-/// How many calls were made, where memory was had or refused.
+/// Returns how many calls were made: none where memory was refused.
 fn calls_of_a_boxed_map(alloc: Global, array: BoxedArray<u32, U3>) -> u32
     requires { array ≡ 1 ∷ 2 ∷ 3 ∷ [] }
     ensures { (result ≡ 0) ⊎ (result ≡ 3) }

@@ -3,7 +3,6 @@ mod arrays;
 mod both_ends;
 mod boxed_builds;
 mod builder;
-mod calls;
 mod compared;
 mod conversions;
 mod counted;

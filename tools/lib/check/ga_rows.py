@@ -1,5 +1,4 @@
-"""What the program `ga_rows` has to write in each mode, and on streams that are slow,
-full, closed or of the wrong kind."""
+"""The program `ga_rows` on streams that are slow, full, closed or of the wrong kind."""
 import functools
 import os
 import resource
@@ -13,41 +12,31 @@ from termios import FIONREAD
 from check.running import Seen, differences, file_of, read_again, run_program
 
 
-def numbers(row):
-    return " ".join(map(str, row))
-
-
 PROGRAM = "ga_rows"
-# Each mode by its word: the lines of its rows.
+# Each mode by its word, and what it writes of the bytes 1 to 8.
 MODES = {
-    "dec": lambda rows: [numbers(row) for row in rows],
-    "hex": lambda rows: [row.hex() for row in rows],
-    "back": lambda rows: [numbers(row[::-1]) for row in rows],
-    "sum": lambda rows: [str(sum(row)) for row in rows],
-    "last": lambda rows: [numbers(row) for row in reversed(rows)],
+    "dec": b"1 2 3 4\n5 6 7 8\n",
+    "hex": b"01020304\n05060708\n",
+    "back": b"4 3 2 1\n8 7 6 5\n",
+    "sum": b"10\n26\n",
+    "last": b"5 6 7 8\n1 2 3 4\n",
 }
 USAGE = f"usage: ga_rows [{'|'.join(MODES)}] [1|2|4|8|16]\n".encode()
 NO_MEMORY = b"ga_rows: out of memory\n"
-FAULT = b"ga_rows: read or write fault\n"
-
-
-def text_of(mode, width, data):
-    rows = [data[at : at + width] for at in range(0, len(data) - width + 1, width)]
-    lines = MODES[mode](rows)
-    rest = data[len(rows) * width :]
-    if rest:
-        lines.append("rest " + numbers(rest))
-    return "".join(line + "\n" for line in lines).encode()
-
-
-def whole(mode, width, data):
-    """What a run has to come to in which nothing fails."""
-    return Seen(1 if len(data) % width else 0, text_of(mode, width, data), b"")
-
-
+FAULTY, MEANINGLESS = Seen(4, b"", b"ga_rows: read or write fault\n"), Seen(2, b"", USAGE)
+# How often these bytes are repeated where the input is long.
+MANY = 12_800
 SIX = bytes(range(1, 7))
-MANY = bytes(range(256)) * 400 + b"rest"
-FAULTY, MEANINGLESS = Seen(4, b"", FAULT), Seen(2, b"", USAGE)
+
+
+def input_of(count):
+    """The bytes 1 to 8 so many times, and a rest."""
+    return bytes(range(1, 9)) * count + b"\x09\x0a"
+
+
+def whole(mode, count):
+    """What a run over this input has to come to in which nothing fails."""
+    return Seen(1, MODES[mode] * count + b"rest 9 10\n", b"")
 
 
 def give_byte_by_byte(data):
@@ -95,18 +84,18 @@ def run_case(tally, program, name, wanted, words=(), data=b"", signals=(), left=
 
 
 def run_outputs(case):
-    text, limit = text_of("dec", 4, MANY), (10_000, 10_000)
+    data, text, limit = input_of(MANY), whole("dec", MANY).out, (10_000, 10_000)
     with open("/dev/full", "wb") as full:
         case("a full disk, 6 bytes", FAULTY, data=SIX, stdout=full)
-        case("a full disk, 102,404 bytes", FAULTY, data=MANY, stdout=full)
+        case("a full disk, 102,402 bytes", FAULTY, data=data, stdout=full)
         case("a full disk and nothing to write", Seen(0, b"", b""), stdout=full)
         case("a usage text that goes nowhere", Seen(2, b"", b""), ["dec", "3"], stderr=full)
     with file_of() as out:
         case("a disk that is full after 10,000 bytes", FAULTY._replace(out=text[:10_000]),
-             data=MANY, signals=[signal.SIGXFSZ], stdout=out, left=lambda given: read_again(out),
+             data=data, signals=[signal.SIGXFSZ], stdout=out, left=lambda given: read_again(out),
              before=lambda: resource.setrlimit(resource.RLIMIT_FSIZE, limit))
     case("a closed output", FAULTY, data=SIX, stdout=DEVNULL, before=closing(1))
-    case("a reader that leaves after a byte", FAULTY._replace(out=text[:1]), data=MANY,
+    case("a reader that leaves after a byte", FAULTY._replace(out=text[:1]), data=data,
          signals=[signal.SIGPIPE], take=take_one_byte)
 
 
@@ -125,10 +114,9 @@ def run_inputs(case):
 def run_system_faults(tally, program):
     case = functools.partial(run_case, tally, program)
     for mode in MODES:
-        data = SIX * 6 + SIX[:3]
-        case(f"{mode}: the input comes byte by byte", whole(mode, 4, data), [mode],
-             give=give_byte_by_byte(data))
-        case(f"{mode} 16: the output goes byte by byte", whole(mode, 16, MANY), [mode, "16"], MANY,
+        case(f"{mode}: the input comes byte by byte", whole(mode, 5), [mode],
+             give=give_byte_by_byte(input_of(5)))
+        case(f"{mode}: the output goes byte by byte", whole(mode, MANY), [mode], input_of(MANY),
              take=lambda pipe: b"".join(iter(lambda: pipe.read(1), b"")))
     run_outputs(case)
     run_inputs(case)

@@ -2,6 +2,7 @@
 sources.
 """
 from check.copies import TOP
+from check.limits import STUCK, document
 from reference.checks import CHECKS
 from reference.lookup import Names
 from reference.meanings import Site
@@ -16,3 +17,5 @@ def run(tally, words):
         if count < least:
             wrong.append(f"{count} passed, and not {least}")
         tally.case(f"{name}: {count} passed", "".join(f"\n  {it}" for it in wrong))
+    is_stale = document() != STUCK.read_text("utf-8")
+    tally.case("rows of limits stand in STUCK", is_stale and "tools/check limits --write does that")

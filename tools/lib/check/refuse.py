@@ -15,7 +15,7 @@ import tempfile
 
 from check import tests, trials
 from check.building import SECONDS, refusing, run_all
-from check.ga_rows import MODES, NO_MEMORY, PROGRAM, run_system_faults, whole
+from check.ga_rows import MANY, MODES, NO_MEMORY, PROGRAM, input_of, run_system_faults, whole
 from check.running import Seen, at_once, differences, file_of, read_again, run_program, shown
 
 # The tests in modules of this name pass whether or not one of their requests for memory is refused,
@@ -100,15 +100,15 @@ def run_rows(tally, program):
     Runs over no bytes make as many requests as one whose word means nothing, and which doesn't
     read: so none of them is for the bytes.
     """
-    words, data = ["hex", "2"], bytes(range(251)) * 279
+    words, data = ["hex"], input_of(MANY)
     most = run_counted(program, words, data)[1]
     for number in range(1, most + 2):
         with file_of(data) as given, refusing(program, number) as copy:
             seen = run_program(copy, words, env={"ASAN_OPTIONS": "detect_leaks=1"}, stdin=given)
         is_refused = number == 1 or (number <= most and seen.status == 3)
-        wanted = Seen(3, b"", NO_MEMORY) if is_refused else whole("hex", 2, data)
+        wanted = Seen(3, b"", NO_MEMORY) if is_refused else whole("hex", MANY)
         answer = "refused" if is_refused else "the whole answer"
-        name = f"{PROGRAM} hex 2: request {number} of {most}, {answer}"
+        name = f"{PROGRAM} hex: request {number} of {most}, {answer}"
         tally.case(name, differences(seen, wanted))
     unread = run_counted(program, ["none"])[1]
     for mode in MODES:

@@ -4,7 +4,7 @@ use crate::compare::{Case, Tally};
 use crate::forever;
 use std::process::ExitCode;
 
-fn ended(is_right: bool) -> ExitCode {
+fn exit_code(is_right: bool) -> ExitCode {
     match is_right {
         true => ExitCode::SUCCESS,
         false => ExitCode::FAILURE,
@@ -19,13 +19,13 @@ fn compare_all(cases: &[Case], once: fn(&mut Tally), seeds: u64) -> ExitCode {
         tally.control(case);
         tally.compare(case, seeds);
     }
-    ended(tally.end())
+    exit_code(tally.end())
 }
 
 fn compare_forever(cases: &[Case]) -> ExitCode {
     let mut tally = Tally::default();
     forever::run(&mut tally, cases);
-    ended(tally.end())
+    exit_code(tally.end())
 }
 
 /// One run, by the name of its case, its length and its seed.
@@ -38,7 +38,7 @@ fn replay(cases: &[Case], name: &str, n: u32, seed: u64) -> ExitCode {
         }
         return ExitCode::from(2);
     };
-    ended(Tally::default().replay(case, n, seed))
+    exit_code(Tally::default().replay(case, n, seed))
 }
 
 /// Runs these cases as the words of the call ask for.

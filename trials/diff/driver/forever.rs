@@ -29,7 +29,7 @@ fn stop_where_input_ends() {
 pub fn run(tally: &mut Tally, cases: &[Case]) {
     stop_where_input_ends();
     let mut number = first_number();
-    let mut told = Instant::now();
+    let mut printed = Instant::now();
     loop {
         for case in cases {
             if STOPPED.load(Ordering::Relaxed) {
@@ -40,9 +40,9 @@ pub fn run(tally: &mut Tally, cases: &[Case]) {
                 println!("once more: trials/diff/run FOLDER '{}' {n} {seed}", case.name);
                 return;
             }
-            if told.elapsed() >= BETWEEN_LINES {
+            if printed.elapsed() >= BETWEEN_LINES {
                 println!("so far: {} runs", tally.runs());
-                told = Instant::now();
+                printed = Instant::now();
             }
         }
         number += TURN;

@@ -1,6 +1,6 @@
 //! Bytes as hex text.
 use crate::arrays::Global;
-use crate::random::{all_bytes, small_number, mix, Random};
+use crate::random::{all_bytes, mix, small_number, Random};
 use original::sequence::GenericSequence;
 use original::typenum::Sum;
 use original::{ArrayLength, GenericArray};

@@ -2,13 +2,13 @@
 ghost use Rattle.std.specs.Prelude.{◌≡◌, IfOk, length};
 
 use ga_headline::builds::build_of_items;
-use ga_headline::lists::shown;
+use ga_headline::lists::items_of;
 use generic_array::{AllocError, BoxedArray, FillError, Never, U2, Unsigned};
 use std::alloc::Global;
 use std::test::Fail;
 
-/// The block of all items, of any number. As many are asked for, so nothing but memory can be
-/// lacking.
+/// Builds a block of all items, of any number. They are as many as it has places, so only memory can
+/// be short.
 fn boxed_of_all<N: Unsigned>(
     alloc: Global,
     items: Vec<u32>,
@@ -31,6 +31,6 @@ fn boxed_of_all<N: Unsigned>(
 fn a_build_shows_its_items(rt: HostRuntime) -> Result<(), Fail> {
     let alloc = rt.alloc();
     let built = boxed_of_all::<U2>(alloc, vec![in alloc; 4, 5]?)?;
-    assert!(rt; shown(&built) == [4, 5].as_slice());
+    assert!(rt; items_of(&built) == [4, 5].as_slice());
     Ok(())
 }

@@ -10,8 +10,7 @@ use generic_array::{AllocError, ArrayLength, GenericArray, GenericArrayIter, arr
 use std::alloc::Global;
 use std::test::Fail;
 
-/// Takes the first item, looks at how many are left, and takes the next: two runs, with one list
-/// of replies for both.
+/// Takes the first item, counts those left, and takes the next: two runs with one list of replies.
 fn walk_in_two<N: ArrayLength<u32>>(
     array: GenericArray<u32, N>,
     first: Vec<Step<u32>>,

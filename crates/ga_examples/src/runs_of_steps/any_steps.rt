@@ -6,7 +6,7 @@ use super::count_of;
 use generic_array::AllocError;
 use generic_array::steps::{Reply, Step, TwoEnded, run_steps};
 
-/// Any steps without a Set: what went from the two ends and what is left are what there was.
+/// Runs any steps without a Set: the items taken at both ends, joined with those left, are all items.
 fn run_without_set<T: Drop, I: TwoEnded<T>>(
     items: &mut I,
     steps: Vec<Step<T>>,

@@ -10,7 +10,7 @@ use generic_array::{AllocError, ArrayLength, GenericArray};
 use std::alloc::Global;
 use std::collections::{BTreeMap, HashMap};
 
-/// Whether a key that was taken out is gone, which it always is, and the other keeps its value.
+/// Takes a key out, and returns whether it is gone, which it always is. The other keeps its value.
 fn take_out<N: ArrayLength<u8>, V: Drop>(
     table: &mut KeyTable<N, V>,
     key: &GenericArray<u8, N>,

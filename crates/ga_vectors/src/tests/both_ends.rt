@@ -3,7 +3,7 @@
 ghost use Rattle.generic_array.specs.Length.{FitsInline};
 
 use crate::tests::counted::{Counted, Counts, Item, boxed_items, inline_items};
-use generic_array::{AllocError, ArrayLength, U4, Unsigned};
+use generic_array::{AllocError, ArrayLength, U4};
 use std::alloc::Global;
 use std::test::Fail;
 
@@ -11,6 +11,7 @@ use std::test::Fail;
 /// iterator was.
 macro_rules! drops {
     ($counts:ident, $items:expr, $front:ident, $back:ident) => {{
+        $counts.fail_at(0);
         let mut left = $items.into_iter();
         for _item in 0..$front {
             drop(left.next());
@@ -18,42 +19,33 @@ macro_rules! drops {
         for _item in 0..$back {
             drop(left.next_back());
         }
-        let taken = $counts.drops();
+        let taken = $counts.drops.get();
         drop(left);
-        (taken, $counts.drops())
+        (taken, $counts.drops.get())
     }};
 }
 
-fn drops_of_array<'a, T: Item<'a>, N: ArrayLength<T>>(
-    counts: &'a Counts,
-    front: u32,
-    back: u32,
-) -> (u32, u32)
-    requires { FitsInline N.USIZE }
-{
-    drops!(counts, inline_items::<T, N>(counts), front, back)
-}
-
-fn drops_of_block<'a, T: Item<'a>, N: Unsigned>(
+/// Inline and in a block.
+fn drops_of<'a, T: Item<'a>, N: ArrayLength<T>>(
     alloc: Global,
     counts: &'a Counts,
-    front: u32,
-    back: u32,
-) -> Result<(u32, u32), AllocError> {
-    Ok(drops!(counts, boxed_items::<T, N>(alloc, counts)?, front, back))
+    front: usize,
+    back: usize,
+) -> Result<[(usize, usize); 2], AllocError>
+    requires { FitsInline N.USIZE }
+{
+    let of_array = drops!(counts, inline_items::<T, N>(counts), front, back);
+    let of_block = drops!(counts, boxed_items::<T, N>(alloc, counts)?, front, back);
+    Ok([of_array, of_block])
 }
 
 #[test]
 fn four_items_are_dropped_once_however_many_are_taken(rt: HostRuntime) -> Result<(), Fail> {
-    let mut cases = 0u32;
-    for front in 0..5u32 {
+    let (counts, mut cases) = (Counts::default(), 0u32);
+    for front in 0..5usize {
         for back in 0..5 - front {
-            let counts = Counts::default();
-            let drops = drops_of_array::<Counted, U4>(&counts, front, back);
-            assert!(rt; drops == (front + back, 4), "an array, {front} and {back}");
-            let counts = Counts::default();
-            let drops = drops_of_block::<Counted, U4>(rt.alloc(), &counts, front, back)?;
-            assert!(rt; drops == (front + back, 4), "a block, {front} and {back}");
+            let drops = drops_of::<Counted, U4>(rt.alloc(), &counts, front, back)?;
+            assert!(rt; drops == [(front + back, 4); 2], "{front} and {back}");
             cases = cases.wrapping_add(1);
         }
     }

@@ -1,35 +1,24 @@
 //! Boxed builds at concrete types: what they make, how often they call, and what they take.
 use crate::tests::compared::gives;
+use crate::tests::counted::Counts;
 use crate::tests::fills::{End, Scripted, boxed_fallible_fill};
-use generic_array::{AllocError, BoxedArray, U2, U3, Unsigned};
-use std::alloc::Global;
+use generic_array::{BoxedArray, U2, U3};
 use std::test::Fail;
 
 #[test]
 fn a_block_is_made_by_one_call_for_each_place(rt: HostRuntime) {
-    let mut calls = 0u32;
-    let mut square = |index: usize| {
-        calls = calls.wrapping_add(1);
-        index.wrapping_mul(index)
-    };
+    let counts = Counts::default();
+    let mut square = |index: usize| counts.same(index.wrapping_mul(index));
     let squares = BoxedArray::<usize, U3>::generate_by(rt.alloc(), &mut square);
-    assert!(rt; gives(squares, &[0, 1, 4]) && calls == 3);
-}
-
-/// The error of a build that fails at index 1, if there is one, and the number of calls.
-fn built_up_to_one<N: Unsigned>(alloc: Global) -> Result<(Option<usize>, u32), AllocError> {
-    let mut calls = 0u32;
-    let mut build = |index: usize| {
-        calls = calls.wrapping_add(1);
-        if index == 1 { Err(index) } else { Ok(index) }
-    };
-    let built = BoxedArray::<usize, N>::try_generate_by(alloc, &mut build)?;
-    Ok((built.err(), calls))
+    assert!(rt; gives(squares, &[0, 1, 4]) && counts.calls.get() == 3);
 }
 
 #[test]
 fn a_build_of_a_block_stops_at_an_error(rt: HostRuntime) -> Result<(), Fail> {
-    assert!(rt; built_up_to_one::<U3>(rt.alloc())? == (Some(1), 2));
+    let counts = Counts::default();
+    let mut build = |index: usize| counts.same(if index == 1 { Err(index) } else { Ok(index) });
+    let built = BoxedArray::<usize, U3>::try_generate_by(rt.alloc(), &mut build)?;
+    assert!(rt; built.err() == Some(1) && counts.calls.get() == 2);
     Ok(())
 }
 

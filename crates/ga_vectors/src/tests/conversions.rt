@@ -1,7 +1,6 @@
 //! Items that go from one kind of array to another, through vectors, boxed slices and tuples.
 use crate::tests::compared::{gives, has};
 use generic_array::{AllocError, BoxedArray, GenericArray, U0, U1, U2, U3, U4, U12, arr, box_arr};
-use std::alloc::Global;
 use std::test::Fail;
 
 type Twelve = (u8, u8, u8, u8, u8, u8, u8, u8, u8, u8, u8, u8);
@@ -32,42 +31,30 @@ fn twelve_items_are_a_tuple(rt: HostRuntime) {
     assert!(rt; has(again, &numbers));
 }
 
-/// Whether a boxed array goes to a vector and back.
-fn vector_and_back(alloc: Global) -> Result<bool, AllocError> {
-    let items = box_arr!(alloc, [1u8, 2, 3])?.into_vec()?;
-    let again = BoxedArray::<u8, U3>::try_from_vec(alloc, items)?;
-    Ok(gives(again, &[1, 2, 3]))
-}
-
-/// Whether three items are neither an inline nor a boxed array of four.
-fn three_are_no_four(alloc: Global) -> Result<bool, AllocError> {
-    let items = vec![in alloc; 1u8, 2, 3]?;
-    let is_inline = GenericArray::<u8, U4>::try_from_vec(items).is_ok();
-    let items = vec![in alloc; 1u8, 2, 3]?;
-    Ok(!is_inline && BoxedArray::<u8, U4>::try_from_vec(alloc, items)?.is_err())
-}
-
-/// Whether an inline array goes to a vector of just its number, and to a boxed slice.
-fn inline_to_vectors(alloc: Global) -> Result<bool, AllocError> {
-    let vector = arr![1u8, 2].into_vec(alloc)?;
-    let is_vector = vector.as_slice() == [1, 2].as_slice() && vector.capacity() == 2;
-    Ok(is_vector && arr![1u8, 2].into_boxed_slice(alloc)?.as_slice() == [1, 2].as_slice())
-}
-
-/// Whether an inline array goes through a block to a boxed slice and back.
-fn boxed_slice_and_back(alloc: Global) -> Result<bool, AllocError> {
-    let items = BoxedArray::from_inline(alloc, arr![1u8, 2])?.into_boxed_slice()?;
-    let is_kept = items.as_slice() == [1, 2].as_slice();
-    let again = BoxedArray::<u8, U2>::try_from_boxed_slice(alloc, items)?;
-    Ok(is_kept && gives(again, &[1, 2]))
-}
-
 #[test]
 fn items_go_through_blocks_and_back(rt: HostRuntime) -> Result<(), Fail> {
-    assert!(rt; vector_and_back(rt.alloc())?);
-    assert!(rt; three_are_no_four(rt.alloc())?);
-    assert!(rt; inline_to_vectors(rt.alloc())?);
-    assert!(rt; boxed_slice_and_back(rt.alloc())?);
+    let items = box_arr!(rt.alloc(), [1u8, 2, 3])?.into_vec()?;
+    assert!(rt;
+        gives(
+            BoxedArray::<u8, U3>::try_from_vec(rt.alloc(), items)?,
+            &[1, 2, 3]
+        )
+    );
+    let items = vec![in rt.alloc(); 1u8, 2, 3]?;
+    assert!(rt; GenericArray::<u8, U4>::try_from_vec(items).is_err());
+    let items = vec![in rt.alloc(); 1u8, 2, 3]?;
+    assert!(rt; BoxedArray::<u8, U4>::try_from_vec(rt.alloc(), items)?.is_err());
+    let items = arr![1u8, 2].into_vec(rt.alloc())?;
+    assert!(rt; items.capacity() == 2 && has(items, &[1, 2]));
+    assert!(rt; gives(arr![1u8, 2].into_boxed_slice(rt.alloc()), &[1, 2]));
+    let items = BoxedArray::from_inline(rt.alloc(), arr![1u8, 2])?.into_boxed_slice()?;
+    assert!(rt; items.as_slice() == [1, 2].as_slice());
+    assert!(rt;
+        gives(
+            BoxedArray::<u8, U2>::try_from_boxed_slice(rt.alloc(), items)?,
+            &[1, 2]
+        )
+    );
     Ok(())
 }
 

@@ -1,44 +1,48 @@
 //! Items whose drops and clones are counted, and what closures do that count their calls.
 ghost use Rattle.generic_array.specs.Length.{FitsInline};
 
-use crate::tests::numbers::{Numbered, number_at};
+use crate::tests::numbers::{Numbered, digits, number_at};
 use generic_array::{ArrayLength, BoxedArray, GenericArray, Unsigned};
 use std::alloc::{AllocError, Global};
 use std::cell::Cell;
+use std::convert::AsSlice;
 
-/// How many items were dropped, how many clones and calls of closures there were, and which of
-/// these fails.
+/// How many items were dropped, how many clones and calls of closures there were, one that failed
+/// among them, and which of these fails.
 #[derive(Default, Drop)]
 pub struct Counts {
-    drops: Cell<u32>,
-    calls: Cell<u32>,
-    failing: u32,
+    pub drops: Cell<usize>,
+    pub calls: Cell<usize>,
+    failing: Cell<usize>,
 }
 
+/// What a call returned, as the digits of its items, or `None` for an error; how many clones and
+/// calls of closures it made; and how many items it dropped.
+pub type Seen = (Option<u32>, usize, usize);
+
 impl Counts {
-    /// Counts from 0. The clone or call of this number fails, from 1.
-    pub fn failing_at(number: u32) -> Self {
-        Counts {
-            drops: Cell::new(0),
-            calls: Cell::new(0),
-            failing: number,
-        }
+    /// Counts from 0 again. The clone or call of this number fails, from 1.
+    pub fn fail_at(&self, number: usize) {
+        self.drops.set(0);
+        self.calls.set(0);
+        self.failing.set(number);
     }
 
-    /// How many clones and calls there were, the one that failed among them.
-    pub fn calls(&self) -> u32 {
-        self.calls.get()
-    }
-
-    /// How many items were dropped.
-    pub fn drops(&self) -> u32 {
-        self.drops.get()
+    /// What is seen of a call that returned this, since the last one. Drops what it returned.
+    pub fn seen<T: Numbered, S: AsSlice<T> + Drop, E: Drop>(&self, returned: Result<S, E>) -> Seen {
+        let (calls, drops) = (self.calls.get(), self.drops.get());
+        let all = match returned {
+            Ok(made) => Some(digits(made.as_slice())),
+            Err(_error) => None,
+        };
+        self.fail_at(self.failing.get());
+        (all, calls, drops)
     }
 
     // Counts a clone or call, and returns whether it fails.
     fn fails(&self) -> bool {
         count(&self.calls);
-        self.calls.get() == self.failing
+        self.calls.get() == self.failing.get()
     }
 
     /// A closure's call that makes the item of an index, unless it fails.
@@ -46,14 +50,8 @@ impl Counts {
         if self.fails() {
             Err(0)
         } else {
-            Ok(item_at(self, index))
+            Ok(T::at(self, index))
         }
-    }
-
-    /// The same of a closure that can't fail.
-    pub fn make<'a, T: Item<'a>>(&'a self, index: usize) -> T {
-        count(&self.calls);
-        item_at(self, index)
     }
 
     /// A closure's call that returns its argument.
@@ -63,13 +61,14 @@ impl Counts {
     }
 }
 
-fn count(number: &Cell<u32>) {
+fn count(number: &Cell<usize>) {
     number.set(number.get().wrapping_add(1));
 }
 
 /// A counted item. Tests know `Counted` by this bound alone, since that is cheaper to prove.
 pub trait Item<'a>: Numbered + Default + Clone + Drop {
-    fn new(counts: &'a Counts, number: u32) -> Self;
+    /// The item of this index, numbered from 1.
+    fn at(counts: &'a Counts, index: usize) -> Self;
 }
 
 /// Counts its drop, and its clones. One made by `default` has the number 0 and counts nothing.
@@ -86,10 +85,10 @@ impl Numbered for Counted<'_> {
 }
 
 impl<'a> Item<'a> for Counted<'a> {
-    fn new(counts: &'a Counts, number: u32) -> Self {
+    fn at(counts: &'a Counts, index: usize) -> Self {
         Counted {
             counts: Some(counts),
-            number,
+            number: number_at(index),
         }
     }
 }
@@ -115,16 +114,20 @@ impl Clone for Counted<'_> {
     }
 }
 
-/// The item of this index.
-pub fn item_at<'a, T: Item<'a>>(counts: &'a Counts, index: usize) -> T {
-    T::new(counts, number_at(index))
+/// A result with one kind of error for two.
+pub fn flat<S, E: Drop, P: Drop>(returned: Result<Result<S, E>, P>) -> Result<S, ()> {
+    match returned {
+        Ok(Ok(made)) => Ok(made),
+        Ok(Err(_error)) => Err(()),
+        Err(_refused) => Err(()),
+    }
 }
 
 /// The array of N items, numbered from 1.
 pub fn inline_items<'a, T: Item<'a>, N: ArrayLength<T>>(counts: &'a Counts) -> GenericArray<T, N>
     requires { FitsInline N.USIZE }
 {
-    GenericArray::generate(|index: usize| item_at(counts, index))
+    GenericArray::generate(|index: usize| T::at(counts, index))
 }
 
 /// The same in a block.
@@ -132,5 +135,5 @@ pub fn boxed_items<'a, T: Item<'a>, N: Unsigned>(
     alloc: Global,
     counts: &'a Counts,
 ) -> Result<BoxedArray<T, N>, generic_array::AllocError> {
-    BoxedArray::generate(alloc, |index: usize| item_at(counts, index))
+    BoxedArray::generate(alloc, |index: usize| T::at(counts, index))
 }

@@ -2,8 +2,7 @@
 use crate::tests::compared::has;
 use generic_array::functional::FunctionalSequence;
 use generic_array::sequence::{Flatten, Lengthen, Remove, Shorten, Unflatten};
-use generic_array::{AllocError, Const, GenericArray, U2, U3, U4, U5, U6, always, arr, box_arr};
-use std::alloc::Global;
+use generic_array::{Const, GenericArray, U2, U3, U4, U5, U6, always, arr, box_arr};
 
 #[test]
 fn arrays_are_built(rt: HostRuntime) {
@@ -48,15 +47,7 @@ fn rows_are_joined_and_cut(rt: HostRuntime) {
     let all: GenericArray<i32, U6> = arr![arr![1, 2], arr![3, 4], arr![5, 6]].flatten();
     assert!(rt; has(all, &[1, 2, 3, 4, 5, 6]));
     let rows: GenericArray<GenericArray<i32, U2>, U3> = arr![1, 2, 3, 4, 5, 6].unflatten();
-    assert!(rt; rows_are(&rows, [[1, 2], [3, 4], [5, 6]]));
-}
-
-/// Whether the rows are these.
-fn rows_are(rows: &GenericArray<GenericArray<i32, U2>, U3>, wanted: [[i32; 2]; 3]) -> bool {
-    let [first, second, third] = wanted;
-    rows[0].as_slice() == first.as_slice()
-        && rows[1].as_slice() == second.as_slice()
-        && rows[2].as_slice() == third.as_slice()
+    assert!(rt; rows == arr![arr![1, 2], arr![3, 4], arr![5, 6]]);
 }
 
 fn add(left: &i32, right: i32) -> i32 {
@@ -84,13 +75,8 @@ fn bytes_are_hex_digits(rt: HostRuntime) {
     assert!(rt; text.as_slice() == b"0a141e".as_slice());
 }
 
-/// Whether a million items are written to a block, each of which is 1.
-fn is_a_million_ones(alloc: Global) -> Result<bool, AllocError> {
-    let ones = box_arr!(alloc, [1u128; Const<1000000>])?;
-    Ok(ones.as_slice().len() == 1_000_000 && ones.as_slice().iter().all(|one| *one == 1))
-}
-
 #[test]
 fn a_million_items_are_written_to_a_block(rt: HostRuntime) {
-    assert!(rt; is_a_million_ones(rt.alloc()).expect(&rt, "no memory"));
+    let ones = box_arr!(rt.alloc(), [1u128; Const<1000000>]).expect(&rt, "no memory");
+    assert!(rt; ones.len() == 1_000_000 && ones.iter().all(|one| *one == 1));
 }

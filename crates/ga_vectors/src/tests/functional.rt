@@ -1,4 +1,5 @@
 //! Maps, zips and folds of the traits: what they return, and where they stop.
+use crate::tests::counted::Counts;
 use crate::tests::numbers::{boxed_from_one, from_one, next_digit};
 use generic_array::checks::map_total_by;
 use generic_array::functional::{FunctionalSequence, inverted_zip, inverted_zip2};
@@ -10,6 +11,10 @@ use generic_array::{
 use std::alloc::Global;
 use std::test::Fail;
 
+type Inline<N> = GenericArray<u32, N>;
+
+type Boxed<N> = BoxedArray<u32, N>;
+
 fn doubled(item: u32) -> u32 {
     item.wrapping_mul(2)
 }
@@ -19,17 +24,14 @@ fn doubled_seen(item: &u32) -> u32 {
 }
 
 /// `map_total_by` of a view and of an inline array.
-fn totals<N: ArrayLength<u32> + InlineLength>(array: GenericArray<u32, N>) -> [u32; 2] {
+fn totals<N: ArrayLength<u32> + InlineLength>(array: Inline<N>) -> [u32; 2] {
     let of_view = always(map_total_by(array.view(), (), &mut doubled_seen, 0, &mut next_digit));
     let of_array = always(map_total_by(array, (), &mut doubled, 0, &mut next_digit));
     [of_view, of_array]
 }
 
 /// `map_total_by` of a boxed array.
-fn total_of_boxed<N: Unsigned>(
-    alloc: Global,
-    array: BoxedArray<u32, N>,
-) -> Result<u32, AllocError> {
+fn total_of_boxed<N: Unsigned>(alloc: Global, array: Boxed<N>) -> Result<u32, AllocError> {
     map_total_by(array, alloc, &mut doubled, 0, &mut next_digit)
 }
 
@@ -42,11 +44,11 @@ fn a_map_is_folded_in_order(rt: HostRuntime) -> Result<(), Fail> {
 }
 
 /// Twice the item, but an error for 2.
-fn doubled_but_two(item: &u32) -> Result<u32, u32> {
-    if *item == 2 {
-        Err(*item)
+fn doubled_but_two(item: u32) -> Result<u32, u32> {
+    if item == 2 {
+        Err(item)
     } else {
-        Ok(item.wrapping_mul(2))
+        Ok(doubled(item))
     }
 }
 
@@ -54,13 +56,10 @@ fn doubled_but_two(item: &u32) -> Result<u32, u32> {
 fn mapped_up_to_two<N: ArrayLength<u32> + InlineLength>(
     view: GenericArrayRef<'_, u32, N>,
 ) -> (Option<u32>, usize) {
-    let mut calls = 0usize;
-    let mut map = |item: &u32| {
-        calls = calls.wrapping_add(1);
-        doubled_but_two(item)
-    };
+    let counts = Counts::default();
+    let mut map = |item: &u32| counts.same(doubled_but_two(*item));
     let mapped = always(view.try_map_by((), &mut map));
-    (mapped.err(), calls)
+    (mapped.err(), counts.calls.get())
 }
 
 #[test]
@@ -70,15 +69,12 @@ fn a_map_of_a_view_stops_at_an_error(rt: HostRuntime) {
 
 /// The same of a map of an inline array.
 fn array_mapped_up_to_two<N: ArrayLength<u32> + InlineLength>(
-    array: GenericArray<u32, N>,
+    array: Inline<N>,
 ) -> (Option<u32>, usize) {
-    let mut calls = 0usize;
-    let mut map = |item: u32| {
-        calls = calls.wrapping_add(1);
-        doubled_but_two(&item)
-    };
+    let counts = Counts::default();
+    let mut map = |item: u32| counts.same(doubled_but_two(item));
     let mapped = always(array.try_map_by((), &mut map));
-    (mapped.err(), calls)
+    (mapped.err(), counts.calls.get())
 }
 
 #[test]
@@ -89,15 +85,12 @@ fn a_map_of_an_array_stops_at_an_error(rt: HostRuntime) {
 /// The same of a map of a boxed array.
 fn block_mapped_up_to_two<N: Unsigned>(
     alloc: Global,
-    array: BoxedArray<u32, N>,
+    array: Boxed<N>,
 ) -> Result<(Option<u32>, usize), AllocError> {
-    let mut calls = 0usize;
-    let mut doubled = |item: u32| {
-        calls = calls.wrapping_add(1);
-        doubled_but_two(&item)
-    };
-    let mapped = array.try_map_by(alloc, &mut doubled)?;
-    Ok((mapped.err(), calls))
+    let counts = Counts::default();
+    let mut map = |item: u32| counts.same(doubled_but_two(item));
+    let mapped = array.try_map_by(alloc, &mut map)?;
+    Ok((mapped.err(), counts.calls.get()))
 }
 
 #[test]
@@ -115,15 +108,11 @@ fn added_up_to_three(sum: u32, item: u32) -> Result<u32, u32> {
 
 /// What a fold up to a sum of 3 returns, and the number of calls.
 fn folded_up_to_three<N: ArrayLength<u32> + InlineLength>(
-    array: GenericArray<u32, N>,
+    array: Inline<N>,
 ) -> (Result<u32, u32>, usize) {
-    let mut calls = 0usize;
-    let mut add = |sum: u32, item: u32| {
-        calls = calls.wrapping_add(1);
-        added_up_to_three(sum, item)
-    };
-    let folded = array.try_fold_by(0, &mut add);
-    (folded, calls)
+    let counts = Counts::default();
+    let mut add = |sum: u32, item: u32| counts.same(added_up_to_three(sum, item));
+    (array.try_fold_by(0, &mut add), counts.calls.get())
 }
 
 #[test]
@@ -133,9 +122,9 @@ fn a_fold_stops_at_an_error(rt: HostRuntime) {
 
 /// The running sums of the items of both arrays, by one closure.
 fn running_sums<N: ArrayLength<u32> + InlineLength>(
-    first: GenericArray<u32, N>,
-    second: GenericArray<u32, N>,
-) -> (GenericArray<u32, N>, GenericArray<u32, N>) {
+    first: Inline<N>,
+    second: Inline<N>,
+) -> (Inline<N>, Inline<N>) {
     let mut sum = 0u32;
     let mut add = |item: u32| {
         sum = sum.wrapping_add(item);
@@ -159,18 +148,18 @@ fn less_on_the_left(left: u32, right: u32) -> u32 {
 
 /// The boxed items less the inline ones: by a zip of an inline array with a boxed one.
 fn less_of_inline<N: ArrayLength<u32> + InlineLength>(
-    inline: GenericArray<u32, N>,
-    boxed: BoxedArray<u32, N>,
-) -> GenericArray<u32, N> {
+    inline: Inline<N>,
+    boxed: Boxed<N>,
+) -> Inline<N> {
     always(inline.zip((), boxed, less_on_the_left))
 }
 
 /// The same by a zip of the boxed array with the inline one.
 fn less_of_boxed<N: ArrayLength<u32> + InlineLength>(
     alloc: Global,
-    boxed: BoxedArray<u32, N>,
-    inline: GenericArray<u32, N>,
-) -> Result<BoxedArray<u32, N>, AllocError> {
+    boxed: Boxed<N>,
+    inline: Inline<N>,
+) -> Result<Boxed<N>, AllocError> {
     boxed.zip(alloc, inline, u32::wrapping_sub)
 }
 
@@ -190,27 +179,24 @@ fn two(first: u32, second: u32) -> GenericArray<u32, U2> {
 }
 
 /// `inverted_zip` of inline arrays.
-fn inverted<N: ArrayLength<u32> + InlineLength>(
-    array: GenericArray<u32, N>,
-    left: GenericArray<u32, N>,
-) -> GenericArray<u32, N> {
+fn inverted<N: ArrayLength<u32> + InlineLength>(array: Inline<N>, left: Inline<N>) -> Inline<N> {
     inverted_zip(array, left, u32::wrapping_sub)
 }
 
 /// `inverted_zip2` of inline arrays.
 fn inverted_second<N: ArrayLength<u32> + InlineLength>(
-    array: GenericArray<u32, N>,
-    left: GenericArray<u32, N>,
-) -> GenericArray<u32, N> {
+    array: Inline<N>,
+    left: Inline<N>,
+) -> Inline<N> {
     always(inverted_zip2(array, (), left, u32::wrapping_sub))
 }
 
 /// `inverted_zip2` of an inline array, with a boxed one on the left.
 fn inverted_boxed<N: ArrayLength<u32> + InlineLength>(
     alloc: Global,
-    array: GenericArray<u32, N>,
-    left: BoxedArray<u32, N>,
-) -> Result<BoxedArray<u32, N>, AllocError> {
+    array: Inline<N>,
+    left: Boxed<N>,
+) -> Result<Boxed<N>, AllocError> {
     inverted_zip2(array, alloc, left, u32::wrapping_sub)
 }
 

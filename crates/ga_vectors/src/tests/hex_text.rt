@@ -7,19 +7,6 @@ use std::alloc::Global;
 use std::io::ErrorKind;
 use std::test::Fail;
 
-/// Whether the bytes are written as this text, in so many writes and with no flush.
-fn is_written(
-    alloc: Global,
-    bytes: &[u8],
-    upper: bool,
-    limit: Option<usize>,
-    text: &[u8],
-    writes: usize,
-) -> bool {
-    let mut sink = Sink::failing_at(alloc, 0);
-    write_hex(bytes, upper, limit, &mut sink).is_ok() && sink.has(text, writes)
-}
-
 #[test]
 fn few_bytes_give_their_digits_as_far_as_the_limit_lets_them(rt: HostRuntime) {
     let cases = [
@@ -31,16 +18,12 @@ fn few_bytes_give_their_digits_as_far_as_the_limit_lets_them(rt: HostRuntime) {
         (false, Some(7), "0a141e"),
     ];
     for (upper, limit, text) in cases {
-        let writes = text.len().min(1);
-        let is_right = is_written(
-            rt.alloc(),
-            &[10, 20, 30],
-            upper,
-            limit,
-            text.as_bytes(),
-            writes,
+        let mut sink = Sink::failing_at(rt.alloc(), 0);
+        assert!(rt;
+            write_hex(&[10, 20, 30], upper, limit, &mut sink).is_ok(),
+            "{text}"
         );
-        assert!(rt; is_right, "{text}");
+        assert!(rt; sink.has(text.as_bytes(), text.len().min(1)), "{text}");
     }
 }
 
@@ -64,16 +47,9 @@ fn text_up_to(alloc: Global, bytes: usize, limit: usize) -> Result<Vec<u8>, Allo
 #[test]
 fn an_odd_limit_cuts_inside_a_byte(rt: HostRuntime) -> Result<(), Fail> {
     let text = text_up_to(rt.alloc(), 1025, 2049)?;
-    assert!(rt;
-        is_written(
-            rt.alloc(),
-            &[171; 1025],
-            false,
-            Some(2049),
-            text.as_slice(),
-            2
-        )
-    );
+    let mut sink = Sink::failing_at(rt.alloc(), 0);
+    assert!(rt; write_hex(&[171; 1025], false, Some(2049), &mut sink).is_ok());
+    assert!(rt; sink.has(text.as_slice(), 2));
     Ok(())
 }
 
@@ -97,15 +73,9 @@ fn each_write_of_2500_bytes_fails_in_turn(rt: HostRuntime) -> Result<(), Fail> {
 fn a_limit_leaves_writes_out(rt: HostRuntime) -> Result<(), Fail> {
     for (limit, writes) in [(2048, 1), (2049, 2), (0, 0)] {
         let text = text_up_to(rt.alloc(), 2500, limit)?;
-        let is_right = is_written(
-            rt.alloc(),
-            &[171; 2500],
-            false,
-            Some(limit),
-            text.as_slice(),
-            writes,
-        );
-        assert!(rt; is_right, "{limit}");
+        let mut sink = Sink::failing_at(rt.alloc(), 0);
+        assert!(rt; write_hex(&[171; 2500], false, Some(limit), &mut sink).is_ok());
+        assert!(rt; sink.has(text.as_slice(), writes), "{limit}");
     }
     Ok(())
 }

@@ -1,7 +1,10 @@
 //! What the builds of the traits make of each kind.
 use crate::tests::compared::gives;
+use crate::tests::fills::{Answer, Scripted};
 use generic_array::sequence::{FallibleGenericSequence, FromFallibleIterator};
-use generic_array::{ArrayLength, BoxedArray, GenericArray, GenericArrayRef, InlineLength, U2, U3};
+use generic_array::{
+    ArrayLength, BoxedArray, GenericArray, GenericArrayRef, InlineLength, U0, U2, U3,
+};
 use std::alloc::Global;
 
 fn square(index: usize) -> usize {
@@ -37,21 +40,26 @@ fn each_makes<N: ArrayLength<usize> + InlineLength>(alloc: Global, all: [&[usize
         && makes::<BoxedArray<usize, N>>(alloc, all)
 }
 
-/// Whether a kind is filled by 4 and 5, each given as `Ok`.
-fn is_filled<S: FromFallibleIterator<u32>>(place: S::Place) -> bool
+/// Whether a kind is filled by these results with these items.
+fn is_filled<S: FromFallibleIterator<u32> + Drop>(
+    place: S::Place,
+    results: &[Option<Answer>],
+    items: &[u32],
+) -> bool
 where
-    S: Drop,
     S::Error: Drop,
     requires { S.Fits }
 {
-    let items: [Result<u32, u8>; 2] = [Ok(4), Ok(5)];
-    gives(S::from_fallible_iter(place, items.into_iter()), &[4, 5])
+    gives(S::from_fallible_iter(place, Scripted::new(results)), items)
 }
 
 #[test]
 fn each_kind_is_made_by_the_calls_of_the_traits(rt: HostRuntime) {
     assert!(rt; each_makes::<U3>(rt.alloc(), [&[0, 1, 4], &[7, 7, 7], &[0, 1, 2]]));
+    assert!(rt; each_makes::<U0>(rt.alloc(), [&[], &[], &[]]));
     assert!(rt; each_makes::<U2>(rt.alloc(), [&[0, 1], &[7, 7], &[0, 1]]));
-    assert!(rt; is_filled::<GenericArray<u32, U2>>(()));
-    assert!(rt; is_filled::<BoxedArray<u32, U2>>(rt.alloc()));
+    let two = [Some(Ok(4)), Some(Ok(5))];
+    assert!(rt; is_filled::<GenericArray<u32, U2>>((), &two, &[4, 5]));
+    assert!(rt; is_filled::<GenericArray<u32, U0>>((), &[], &[]));
+    assert!(rt; is_filled::<BoxedArray<u32, U2>>(rt.alloc(), &two, &[4, 5]));
 }

@@ -2,12 +2,12 @@
 //! exact results.
 ghost use Rattle.ga_records.specs.Records.{has};
 ghost use Rattle.generic_array.specs.Views.{items_of_view};
-ghost use Rattle.std.specs.Prelude.{◌≡◌, ◌<◌, ◌∷◌, [], IfSome, None, Ok, Some, true};
+ghost use Rattle.std.specs.Prelude.{◌≡◌, ◌∷◌, [], IfSome, None, Ok, Some, true};
 
+use crate::tests::compared::gives;
 use crate::tests::sink::Sink;
 use ga_records::RecordBlock;
 use generic_array::{ArrayLength, GenericArrayRef, LengthError, U2, U3, U4};
-use std::alloc::Global;
 use std::io::ErrorKind;
 use std::test::Fail;
 
@@ -30,30 +30,13 @@ fn last_record_with<'a, N: ArrayLength<u8>>(
     block.record(block.last_with(byte)?)
 }
 
-/// Whether there is a record of exactly these bytes.
-fn is<N: ArrayLength<u8>>(record: Option<GenericArrayRef<'_, u8, N>>, bytes: &[u8]) -> bool {
-    match record {
-        Some(record) => record.into_slice() == bytes,
-        None => false,
-    }
-}
-
-/// The indices of the last records with these bytes.
-fn last_with<N: ArrayLength<u8>>(block: &RecordBlock<'_, N>, bytes: [u8; 3]) -> [Option<usize>; 3] {
-    let [first, second, third] = bytes;
-    [
-        block.last_with(first),
-        block.last_with(second),
-        block.last_with(third),
-    ]
-}
-
 #[test]
 fn records_are_found_by_index(rt: HostRuntime) -> Result<(), Fail> {
     let none: RecordBlock<'_, U2> = RecordBlock::open(&[])?;
     assert!(rt; none.len() == 0 && none.record(0).is_none());
     let pairs: RecordBlock<'_, U2> = RecordBlock::open(&[1, 2, 3, 2])?;
-    assert!(rt; pairs.len() == 2 && is(pairs.record(1), &[3, 2]) && pairs.record(2).is_none());
+    assert!(rt; pairs.len() == 2 && pairs.record(2).is_none());
+    assert!(rt; gives(pairs.record(1).ok_or(()), &[3, 2]));
     Ok(())
 }
 
@@ -62,9 +45,11 @@ fn records_are_found_by_byte(rt: HostRuntime) -> Result<(), Fail> {
     let none: RecordBlock<'_, U2> = RecordBlock::open(&[])?;
     assert!(rt; none.last_with(0).is_none());
     let pairs: RecordBlock<'_, U2> = RecordBlock::open(&[1, 2, 3, 2])?;
-    assert!(rt; last_with(&pairs, [2, 1, 9]) == [Some(1), Some(0), None]);
+    assert!(rt; pairs.last_with(2) == Some(1) && pairs.last_with(1) == Some(0));
+    assert!(rt; pairs.last_with(9).is_none());
     let threes: RecordBlock<'_, U3> = RecordBlock::open(&[7, 7, 7, 0, 7, 0])?;
-    assert!(rt; last_with(&threes, [7, 0, 5]) == [Some(1), Some(1), None]);
+    assert!(rt; threes.last_with(7) == Some(1) && threes.last_with(0) == Some(1));
+    assert!(rt; threes.last_with(5).is_none());
     Ok(())
 }
 
@@ -74,35 +59,26 @@ fn a_rest_is_no_record(rt: HostRuntime) {
     assert!(rt; odd.is_err());
 }
 
-/// Whether the records of 1, 2, 3, 2 come from both ends, and no third.
-fn walk_is_right(block: RecordBlock<'_, U2>) -> bool {
-    let mut left = block.iter();
-    is(left.next_back(), &[3, 2]) && is(left.next(), &[1, 2]) && left.next().is_none()
-}
-
 #[test]
 fn records_are_walked_from_both_ends(rt: HostRuntime) -> Result<(), Fail> {
     let pairs: RecordBlock<'_, U2> = RecordBlock::open(&[1, 2, 3, 2])?;
     let copy = pairs;
-    assert!(rt; walk_is_right(copy) && walk_is_right(pairs));
+    for block in [copy, pairs] {
+        let mut left = block.iter();
+        assert!(rt; gives(left.next_back().ok_or(()), &[3, 2]));
+        assert!(rt; gives(left.next().ok_or(()), &[1, 2]) && left.next().is_none());
+    }
     Ok(())
 }
 
-/// Whether the records of bytes are written in so many writes, with no flush.
-fn are_written_in<N: ArrayLength<u8>>(alloc: Global, bytes: &[u8], writes: usize) -> bool
-    requires { 0 < N.USIZE }
-{
-    let mut sink = Sink::failing_at(alloc, 0);
-    match RecordBlock::<'_, N>::open(bytes) {
-        Ok(block) => block.write_to(&mut sink).is_ok() && sink.has(bytes, writes),
-        Err(LengthError) => false,
-    }
-}
-
 #[test]
-fn records_are_written_whole(rt: HostRuntime) {
-    assert!(rt; are_written_in::<U2>(rt.alloc(), &[], 0));
-    assert!(rt; are_written_in::<U2>(rt.alloc(), &[1, 2, 3, 2], 1));
+fn records_are_written_whole(rt: HostRuntime) -> Result<(), Fail> {
+    for (bytes, writes) in [([].as_slice(), 0), ([1, 2, 3, 2].as_slice(), 1)] {
+        let pairs: RecordBlock<'_, U2> = RecordBlock::open(bytes)?;
+        let mut sink = Sink::failing_at(rt.alloc(), 0);
+        assert!(rt; pairs.write_to(&mut sink).is_ok() && sink.has(bytes, writes));
+    }
+    Ok(())
 }
 
 #[test]
@@ -111,6 +87,6 @@ fn a_writers_fault_leaves_the_records(rt: HostRuntime) -> Result<(), Fail> {
     let mut broken = Sink::failing_at(rt.alloc(), 1);
     let fault = four.write_to(&mut broken);
     assert!(rt; fault.is_err_and(|fault| fault.kind() == ErrorKind::StorageFull));
-    assert!(rt; broken.has(&[], 1) && is(four.record(0), b"abcd"));
+    assert!(rt; broken.has(&[], 1) && gives(four.record(0).ok_or(()), b"abcd"));
     Ok(())
 }

@@ -1,247 +1,251 @@
 //! Calls while memory is refused: what they return then, what they drop, and what stays as it was.
-//!
-//! A case that was refused memory is run again. So a call that never finds any fails its test,
-//! whether or not memory is ample.
-use crate::tests::calls::{Call, Seen, seen_of};
-use crate::tests::counted::{Counted, Counts};
+ghost use Rattle.generic_array.specs.Length.{FitsInline};
+
+use crate::tests::compared::gives;
+use crate::tests::counted::{Counted, Counts, Item, Seen, boxed_items, flat, inline_items};
 use crate::tests::fills::{End, Scripted, boxed_fallible_fill, boxed_fill, boxed_fill_by_trait};
-use crate::tests::numbers::{boxed_from_one, from_one};
-use crate::tests::stopped::cloned_boxed_iterator;
+use crate::tests::numbers::{boxed_from_one, from_one, next_digit};
+use crate::tests::stopped::cloned_block;
+use generic_array::checks::map_total_by;
+use generic_array::functional::{FunctionalSequence, inverted_zip2};
+use generic_array::sequence::{FallibleGenericSequence, GenericSequence};
 use generic_array::steps::{Reply, Step, TwoEnded, run_steps};
-use generic_array::{AllocError, BoxedArray, LengthError, U0, U2, U3, U4, box_arr};
+use generic_array::{
+    AllocError, ArrayLength, BoxedArray, LengthError, LiveBlock, U0, U2, U3, U4, Unsigned, box_arr,
+};
 use std::alloc::Global;
-use std::fmt::Debug;
 
-/// What came of a case.
-#[derive(Clone, Copy)]
-enum Outcome {
-    /// The exact result.
-    Exact,
-    /// A request for memory was refused, and all was then as it has to be.
-    Refused,
-    Wrong,
-}
+/// How calls end, or that what they are given found no memory.
+type Ends<S, const CALLS: usize> = Result<[S; CALLS], AllocError>;
 
-impl Outcome {
-    fn of(is_exact: bool, is_refused: bool) -> Self {
-        if is_exact {
-            Outcome::Exact
-        } else if is_refused {
-            Outcome::Refused
-        } else {
-            Outcome::Wrong
-        }
-    }
-}
-
-/// Runs each case, again where memory was refused in it: its result has to be exact then, since
-/// `rt try --test --fail-alloc K` refuses one request of a test. Says where one was refused, and
-/// returns the first case that isn't exact.
-fn run_cases<R: AllocGlobal + Print, C: Copy + Debug, F: Fn(Global, C) -> Outcome>(
-    rt: &R,
-    cases: &[C],
-    run: F,
-) -> Option<C>
-    requires { F.IsAlwaysCallable run }
+/// Whether each of these calls ends as `exact`, or else as `refused`. What is never refused is given
+/// the same for both.
+///
+/// Makes the calls twice, and prints whether memory was refused in them. `rt try --test
+/// --fail-alloc K` refuses one request of a test: what is refused twice never finds memory.
+fn are_right<R, S, F, const CALLS: usize>(rt: &R, exact: S, refused: S, calls: F) -> bool
+where
+    R: AllocGlobal + Print,
+    S: PartialEq + Drop,
+    F: Fn(Global, &Counts) -> Ends<S, CALLS>,
+    requires { F.IsAlwaysCallable calls }
 {
-    for case in cases {
-        let mut outcome = run(rt.alloc(), *case);
-        if let Outcome::Refused = outcome {
-            let _ = println!(rt; "refused: case {case:?}");
-            outcome = run(rt.alloc(), *case);
-        }
-        if !matches!(outcome, Outcome::Exact) {
-            return Some(*case);
+    let mut refusals = 0u32;
+    for _time in 0..2 {
+        match calls(rt.alloc(), &Counts::default()) {
+            Ok(ends) => {
+                for end in ends.as_slice() {
+                    if *end == refused && exact != refused {
+                        refusals = refusals.wrapping_add(1);
+                    } else if *end != exact {
+                        return false;
+                    }
+                }
+            }
+            Err(AllocError) => refusals = refusals.wrapping_add(1),
         }
     }
-    None
-}
-
-/// What is seen of a call at three items, how many items it drops where it is refused memory, and
-/// how many at no items.
-fn wanted(call: Call) -> (Seen, u32, u32) {
-    match call {
-        Call::InlineTryGenerate
-        | Call::Generate
-        | Call::TryGenerate
-        | Call::GenerateByTrait
-        | Call::TryGenerateByTrait => ((Some(123), 3, 0), 0, 0),
-        Call::InlineRepeat | Call::Repeat | Call::RepeatByTrait => ((Some(111), 2, 0), 1, 1),
-        Call::Defaults | Call::EmptyBlock => ((Some(0), 0, 0), 0, 0),
-        Call::Copies => ((Some(777), 0, 0), 0, 0),
-        Call::Map | Call::TryMap => ((Some(123), 3, 0), 3, 0),
-        Call::Zip | Call::InvertedZip => ((Some(123), 3, 3), 6, 0),
-        Call::MapTotal => ((Some(123), 3, 3), 3, 0),
-        _ => ((Some(123), 0, 0), 3, 0),
+    if refusals > 0 {
+        let _ = println!(rt; "refused: a request");
     }
+    refusals < 2
 }
 
-/// A call at three items, which calls and clones nothing where memory is refused.
-fn of_three(alloc: Global, call: Call) -> Outcome {
-    let counts = Counts::default();
-    match seen_of::<Counted, U3>(alloc, &counts, call) {
-        Ok(seen) => {
-            let (exact, refused, _none) = wanted(call);
-            Outcome::of(seen == exact, seen == (None, 0, refused))
-        }
-        Err(AllocError) => Outcome::Refused,
-    }
+// What is seen of three items, made by as many calls or moved, and of none; and of a refusal, by the
+// number of items that it drops.
+const MADE: Seen = (Some(123), 3, 0);
+
+const MOVED: Seen = (Some(123), 0, 0);
+
+const NONE: Seen = (Some(0), 0, 0);
+
+fn refused(drops: usize) -> Seen {
+    (None, 0, drops)
 }
 
-/// A call at no items, which is never refused.
-fn of_none(alloc: Global, call: Call) -> Outcome {
-    let counts = Counts::default();
-    let seen = seen_of::<Counted, U0>(alloc, &counts, call);
-    let (_exact, _refused, drops) = wanted(call);
-    Outcome::of(seen == Ok((Some(0), 0, drops)), false)
-}
-
-/// A fill by three numbers, of which none is taken where memory is refused.
-fn of_fill(alloc: Global, _case: ()) -> Outcome {
-    let run = boxed_fill::<U3>(alloc, Scripted::new(&[Some(1), Some(2), Some(3)]));
-    Outcome::of(
-        run == (End::Made(123), 4, None),
-        run == (End::NoMemory, 0, Some(1)),
-    )
-}
-
-/// The same of a fallible fill, by the trait's call or the type's.
-fn of_fallible_fill(alloc: Global, is_by_trait: bool) -> Outcome {
-    let items = Scripted::new(&[Some(Ok(1)), Some(Ok(2)), Some(Ok(3))]);
-    let run = if is_by_trait {
-        boxed_fill_by_trait::<U3>(alloc, items)
-    } else {
-        boxed_fallible_fill::<U3>(alloc, items)
+/// Checks calls at three items, and at none, which are never refused.
+macro_rules! check {
+    ($rt:ident, $calls:ident, $exact:expr, $refused:expr, $none:expr) => {
+        let calls = |alloc: Global, counts: &Counts| $calls::<Counted, U3>(alloc, counts);
+        assert!($rt; are_right(&$rt, $exact, $refused, calls), "three items");
+        let calls = |alloc: Global, counts: &Counts| $calls::<Counted, U0>(alloc, counts);
+        assert!($rt; are_right(&$rt, $none, $none, calls), "no items");
     };
-    Outcome::of(
-        run == (End::Made(123), 4, None),
-        run == (End::NoMemory, 0, Some(Ok(1))),
-    )
 }
 
-/// A fill by no numbers, which is never refused.
-fn of_fill_by_none(alloc: Global, is_by_trait: bool) -> Outcome {
-    let run = if is_by_trait {
-        boxed_fill_by_trait::<U0>(alloc, Scripted::new(&[]))
-    } else {
-        boxed_fallible_fill::<U0>(alloc, Scripted::new(&[]))
-    };
-    Outcome::of(run == (End::Made(0), 1, None), false)
+fn squares<N: Unsigned>(alloc: Global, counts: &Counts, all: &[usize]) -> Ends<(bool, usize), 1> {
+    let mut square = |index: usize| counts.same(index.wrapping_mul(index));
+    let made = BoxedArray::<usize, N>::generate_by(alloc, &mut square);
+    Ok([(gives(made, all), counts.calls.get())])
 }
 
-/// Whether these calls are right at three items and at none.
-fn are_right<R: AllocGlobal + Print>(rt: &R, calls: &[Call]) -> bool {
-    run_cases(rt, calls, of_three).is_none() && run_cases(rt, calls, of_none).is_none()
+#[test]
+fn a_block_of_squares_is_refused_before_any_call_and_one_of_none_never(rt: HostRuntime) {
+    let three = |alloc: Global, counts: &Counts| squares::<U3>(alloc, counts, &[0, 1, 4]);
+    assert!(rt; are_right(&rt, (true, 3), (false, 0), three));
+    let none = |alloc: Global, counts: &Counts| squares::<U0>(alloc, counts, &[]);
+    assert!(rt; are_right(&rt, (true, 0), (true, 0), none));
+}
+
+/// Builds by a closure.
+fn builds<'a, T: Item<'a>, N: ArrayLength<T>>(alloc: Global, counts: &'a Counts) -> Ends<Seen, 4> {
+    let mut make = |index: usize| -> T { counts.same(T::at(counts, index)) };
+    let try_make = |index: usize| -> Result<T, u32> { counts.try_make(index) };
+    let made = <BoxedArray<T, N> as FallibleGenericSequence<T>>::try_generate(alloc, try_make);
+    Ok([
+        counts.seen(flat(made)),
+        counts.seen(<BoxedArray<T, N> as GenericSequence<T>>::generate(alloc, make)),
+        counts.seen(flat(BoxedArray::<T, N>::try_generate(alloc, try_make))),
+        counts.seen(BoxedArray::<T, N>::generate_by(alloc, &mut make)),
+    ])
+}
+
+fn maps<'a, T: Item<'a>, N: ArrayLength<T>>(alloc: Global, counts: &'a Counts) -> Ends<Seen, 2> {
+    let mut same = |item: T| -> T { counts.same(item) };
+    let try_same = |item: T| -> Result<T, u32> { Ok(counts.same(item)) };
+    let made = boxed_items::<T, N>(alloc, counts)?.map_by(alloc, &mut same);
+    let made = counts.seen(made);
+    let items = boxed_items::<T, N>(alloc, counts)?;
+    Ok([made, counts.seen(flat(items.try_map(alloc, try_same)))])
 }
 
 #[test]
 fn builds_of_blocks_are_refused_before_any_call_or_item(rt: HostRuntime) {
-    assert!(rt; run_cases(&rt, &[Call::Generate, Call::Map], of_three).is_none());
-    assert!(rt; run_cases(&rt, &[()], of_fill).is_none());
+    check!(rt, builds, MADE, refused(0), NONE);
+    check!(rt, maps, MADE, refused(3), NONE);
+    let fill = |alloc: Global, _counts: &Counts| {
+        Ok([boxed_fill::<U3>(alloc, Scripted::new(&[Some(1), Some(2), Some(3)]))])
+    };
+    let (made, refused) = ((End::Made(123), 4, None), (End::NoMemory, 0, Some(1)));
+    assert!(rt; are_right(&rt, made, refused, fill));
 }
 
 #[test]
-fn a_block_of_three_is_refused_before_any_call_and_one_of_none_never(rt: HostRuntime) {
-    assert!(rt; are_right(&rt, &[Call::Generate]));
+fn fallible_fills_are_refused_before_any_item(rt: HostRuntime) {
+    let results = [1, 2, 3].map(|number| Some(Ok(number)));
+    let fills = |alloc: Global, _counts: &Counts| {
+        let made = boxed_fallible_fill::<U3>(alloc, Scripted::new(&results));
+        let by_trait = boxed_fill_by_trait::<U3>(alloc, Scripted::new(&results));
+        Ok([made, by_trait])
+    };
+    let (made, refused) = ((End::Made(123), 4, None), (End::NoMemory, 0, Some(Ok(1))));
+    assert!(rt; are_right(&rt, made, refused, fills));
+    let none = boxed_fill_by_trait::<U0>(rt.alloc(), Scripted::new(&[]));
+    assert!(rt; none == (End::Made(0), 1, None));
 }
 
-#[test]
-fn three_items_that_find_no_vector_are_dropped_and_none_always_find_one(rt: HostRuntime) {
-    assert!(rt; are_right(&rt, &[Call::InlineIntoVec]));
+/// Copies of 1, which is dropped where they are refused.
+fn copies<'a, T: Item<'a>, N: ArrayLength<T>>(alloc: Global, counts: &'a Counts) -> Ends<Seen, 2> {
+    let made = counts.seen(BoxedArray::<T, N>::repeat(alloc, T::at(counts, 0)));
+    let item = T::at(counts, 0);
+    let by_trait = <BoxedArray<T, N> as GenericSequence<T>>::repeat(alloc, item);
+    Ok([made, counts.seen(by_trait)])
 }
 
-#[test]
-fn other_builds_are_refused_before_any_call_or_item(rt: HostRuntime) {
-    assert!(rt;
-        are_right(
-            &rt,
-            &[
-                Call::TryGenerate,
-                Call::GenerateByTrait,
-                Call::TryGenerateByTrait
-            ]
-        )
-    );
-    assert!(rt; run_cases(&rt, &[false, true], of_fallible_fill).is_none());
-    assert!(rt; run_cases(&rt, &[false, true], of_fill_by_none).is_none());
+/// Zeros, and defaults, whose number is 0.
+fn zeros<'a, T: Item<'a>, N: ArrayLength<T>>(alloc: Global, counts: &'a Counts) -> Ends<Seen, 2> {
+    let copies = BoxedArray::<u32, N>::from_copies(alloc, 0);
+    let copies = counts.seen(copies);
+    Ok([
+        copies,
+        counts.seen(BoxedArray::<T, N>::default_boxed(alloc)),
+    ])
 }
 
 #[test]
 fn defaults_and_copies_report_refused_memory(rt: HostRuntime) {
-    assert!(rt; are_right(&rt, &[Call::Defaults, Call::Copies, Call::EmptyBlock]));
-    assert!(rt; are_right(&rt, &[Call::Repeat, Call::RepeatByTrait]));
+    check!(rt, zeros, (Some(0), 0, 0), refused(0), NONE);
+    check!(rt, copies, (Some(111), 2, 0), refused(1), (Some(0), 0, 1));
+    let block = |alloc: Global, _counts: &Counts| Ok([LiveBlock::<u32>::new(alloc, 3).is_ok()]);
+    assert!(rt; are_right(&rt, true, false, block));
+}
+
+fn vector<'a, T: Item<'a>, N: ArrayLength<T>>(alloc: Global, counts: &'a Counts) -> Ends<Seen, 1>
+    requires { FitsInline N.USIZE }
+{
+    Ok([counts.seen(inline_items::<T, N>(counts).into_vec(alloc))])
+}
+
+#[test]
+fn three_items_that_find_no_vector_are_dropped_and_none_always_find_one(rt: HostRuntime) {
+    check!(rt, vector, MOVED, refused(3), NONE);
+}
+
+/// The other conversions.
+fn moves<'a, T: Item<'a>, N: ArrayLength<T>>(alloc: Global, counts: &'a Counts) -> Ends<Seen, 6>
+    requires { FitsInline N.USIZE }
+{
+    let items = inline_items::<T, N>(counts).into_vec(alloc)?;
+    let from_vector = counts.seen(flat(BoxedArray::<T, N>::try_from_vec(alloc, items)));
+    let items = inline_items::<T, N>(counts).into_boxed_slice(alloc)?;
+    let from_slice = flat(BoxedArray::<T, N>::try_from_boxed_slice(alloc, items));
+    Ok([
+        from_vector,
+        counts.seen(from_slice),
+        counts.seen(inline_items::<T, N>(counts).into_boxed_slice(alloc)),
+        counts.seen(BoxedArray::from_inline(alloc, inline_items::<T, N>(counts))),
+        counts.seen(boxed_items::<T, N>(alloc, counts)?.into_vec()),
+        counts.seen(boxed_items::<T, N>(alloc, counts)?.into_boxed_slice()),
+    ])
 }
 
 #[test]
 fn conversions_drop_their_items_where_memory_is_refused(rt: HostRuntime) {
-    assert!(rt;
-        are_right(
-            &rt,
-            &[Call::FromInline, Call::FromVec, Call::FromBoxedSlice]
-        )
-    );
-    assert!(rt; are_right(&rt, &[Call::IntoVec, Call::IntoBoxedSlice]));
-    assert!(rt; are_right(&rt, &[Call::InlineIntoBoxedSlice]));
+    check!(rt, moves, MOVED, refused(3), NONE);
+}
+
+/// Zips to their left item.
+fn zips<'a, T: Item<'a>, N: ArrayLength<T>>(alloc: Global, counts: &'a Counts) -> Ends<Seen, 2> {
+    let left_of = |left: T, _right: T| -> T { counts.same(left) };
+    let left = boxed_items::<T, N>(alloc, counts)?;
+    let right = boxed_items::<T, N>(alloc, counts)?;
+    let zipped = counts.seen(left.zip(alloc, right, left_of));
+    let left = boxed_items::<T, N>(alloc, counts)?;
+    let right = boxed_items::<T, N>(alloc, counts)?;
+    let inverted = inverted_zip2(right, alloc, left, left_of);
+    Ok([zipped, counts.seen(inverted)])
+}
+
+/// The fold of a map to the digits of its items.
+fn folds<'a, T: Item<'a>, N: ArrayLength<T>>(alloc: Global, counts: &'a Counts) -> Ends<Seen, 1> {
+    let mut same = |item: T| -> T { counts.same(item) };
+    let mut add = |all: u32, item: T| next_digit(all, item.number());
+    let items = boxed_items::<T, N>(alloc, counts)?;
+    let total = map_total_by(items, alloc, &mut same, 0, &mut add);
+    Ok([(total.ok(), counts.calls.get(), counts.drops.get())])
 }
 
 #[test]
-fn maps_drop_their_items_where_memory_is_refused(rt: HostRuntime) {
-    assert!(rt;
-        are_right(
-            &rt,
-            &[Call::TryMap, Call::MapTotal, Call::Zip, Call::InvertedZip]
-        )
-    );
-}
-
-/// The clone of the iterator of a block, which has all items whether or not memory is refused.
-fn of_clone(alloc: Global, _case: ()) -> Outcome {
-    let counts = Counts::default();
-    match cloned_boxed_iterator::<Counted, U3>(alloc, &counts) {
-        Ok(cloned) => Outcome::of(cloned == (false, 3, 123), cloned == (true, 0, 123)),
-        Err(AllocError) => Outcome::Refused,
-    }
-}
-
-fn of_clone_of_none(alloc: Global, _case: ()) -> Outcome {
-    let counts = Counts::default();
-    let cloned = cloned_boxed_iterator::<Counted, U0>(alloc, &counts);
-    Outcome::of(cloned == Ok((false, 0, 0)), false)
+fn zips_and_folds_drop_their_items_where_memory_is_refused(rt: HostRuntime) {
+    check!(rt, zips, (Some(123), 3, 3), refused(6), NONE);
+    check!(rt, folds, (Some(123), 3, 3), refused(3), NONE);
 }
 
 #[test]
 fn a_clone_that_is_refused_memory_leaves_the_iterator(rt: HostRuntime) {
-    assert!(rt; run_cases(&rt, &[()], of_clone).is_none());
-    assert!(rt; run_cases(&rt, &[()], of_clone_of_none).is_none());
-}
-
-/// A block of no items, which is made without memory.
-fn of_box_of_none(alloc: Global, is_written_out: bool) -> Outcome {
-    let made: Result<BoxedArray<u32, U0>, AllocError> = if is_written_out {
-        box_arr!(alloc, [])
-    } else {
-        BoxedArray::from_array(alloc, [])
-    };
-    Outcome::of(made.is_ok_and(|made| made.as_slice().is_empty()), false)
+    check!(
+        rt,
+        cloned_block,
+        (true, 3, 3, 123),
+        (false, 0, 0, 123),
+        (true, 0, 0, 0)
+    );
 }
 
 #[test]
 fn a_box_of_none_is_made_with_all_memory_refused(rt: HostRuntime) {
-    assert!(rt; run_cases(&rt, &[false, true], of_box_of_none).is_none());
-}
-
-/// A vector of three is no block of four, which is seen before any memory is asked for.
-fn of_three_for_four(alloc: Global, _case: ()) -> Outcome {
-    let Ok(three) = vec![in alloc; 1u32, 2, 3] else {
-        return Outcome::Refused;
-    };
-    let made = BoxedArray::<u32, U4>::try_from_vec(alloc, three);
-    Outcome::of(matches!(made, Ok(Err(LengthError))), false)
+    let written_out: Result<BoxedArray<u32, U0>, AllocError> = box_arr!(rt.alloc(), []);
+    assert!(rt; gives(written_out, &[]));
+    assert!(rt; gives(BoxedArray::<u32, U0>::from_array(rt.alloc(), []), &[]));
 }
 
 #[test]
 fn a_wrong_length_is_seen_before_memory(rt: HostRuntime) {
-    assert!(rt; run_cases(&rt, &[()], of_three_for_four).is_none());
+    let three_for_four = |alloc: Global, _counts: &Counts| {
+        let made = BoxedArray::<u32, U4>::try_from_vec(alloc, vec![in alloc; 1u32, 2, 3]?);
+        Ok([matches!(made, Ok(Err(LengthError)))])
+    };
+    assert!(rt; are_right(&rt, true, true, three_for_four));
 }
 
 /// What a run of these steps over 1 and 2 comes to: whether it was refused, how often it looked, how
@@ -250,51 +254,34 @@ fn run_of<I: TwoEnded<u32>>(
     items: &mut I,
     steps: Vec<Step<u32>>,
     replies: &mut Vec<Reply<u32, usize>>,
-) -> (bool, u32, usize, Option<u32>) {
-    let mut looks = 0u32;
-    let mut look = |live: &[u32]| {
-        looks = looks.wrapping_add(1);
-        live.len()
-    };
+) -> (bool, usize, usize, Option<u32>) {
+    let counts = Counts::default();
+    let mut look = |live: &[u32]| counts.same(live.len());
     let is_refused = run_steps(items, steps, &mut look, replies).is_err();
-    (is_refused, looks, replies.len(), items.front())
-}
-
-/// A run of `Next` and `Look` in a block, behind a reply that is there.
-fn run_of_two(alloc: Global) -> Result<Outcome, AllocError> {
-    let array: BoxedArray<u32, U2> = BoxedArray::from_array(alloc, [1, 2])?;
-    let steps = vec![in alloc; Step::Next, Step::Look]?;
-    let mut replies = vec![in alloc; Reply::Old(7)]?;
-    let run = run_of(&mut array.into_iter(), steps, &mut replies);
-    let is_kept = matches!(replies.first(), Some(Reply::Old(7)));
-    let (exact, refused) = ((false, 1, 3, Some(2)), (true, 0, 1, Some(1)));
-    Ok(Outcome::of(is_kept && run == exact, is_kept && run == refused))
-}
-
-fn of_run(alloc: Global, _case: ()) -> Outcome {
-    run_of_two(alloc).unwrap_or(Outcome::Refused)
+    (is_refused, counts.calls.get(), replies.len(), items.front())
 }
 
 #[test]
 fn a_refused_run_of_steps_leaves_all_as_it_was(rt: HostRuntime) {
-    assert!(rt; run_cases(&rt, &[()], of_run).is_none());
-}
-
-/// A run of no steps, inline or in a block, which needs no memory.
-fn of_no_steps(alloc: Global, is_boxed: bool) -> Outcome {
-    let (steps, mut replies) = (Vec::new(alloc), Vec::new(alloc));
-    let run = if is_boxed {
-        match boxed_from_one::<U2>(alloc) {
-            Ok(array) => run_of(&mut array.into_iter(), steps, &mut replies),
-            Err(AllocError) => return Outcome::Refused,
-        }
-    } else {
-        run_of(&mut from_one::<U2>().into_iter(), steps, &mut replies)
+    let run = |alloc: Global, _counts: &Counts| {
+        let mut items = boxed_from_one::<U2>(alloc)?.into_iter();
+        let steps = vec![in alloc; Step::Next, Step::Look]?;
+        let mut replies = vec![in alloc; Reply::Old(7)]?;
+        let run = run_of(&mut items, steps, &mut replies);
+        Ok([(run, matches!(replies.first(), Some(Reply::Old(7))))])
     };
-    Outcome::of(run == (false, 0, 0, Some(1)), false)
+    let (exact, refused) = ((false, 1, 3, Some(2)), (true, 0, 1, Some(1)));
+    assert!(rt; are_right(&rt, (exact, true), (refused, true), run));
 }
 
 #[test]
 fn a_run_of_no_steps_is_never_refused(rt: HostRuntime) {
-    assert!(rt; run_cases(&rt, &[false, true], of_no_steps).is_none());
+    let runs = |alloc: Global, _counts: &Counts| {
+        let (mut inline, mut replies) = (from_one::<U2>().into_iter(), Vec::new(alloc));
+        let mut boxed = boxed_from_one::<U2>(alloc)?.into_iter();
+        let run = run_of(&mut inline, Vec::new(alloc), &mut replies);
+        Ok([run, run_of(&mut boxed, Vec::new(alloc), &mut replies)])
+    };
+    let unchanged = (false, 0, 0, Some(1));
+    assert!(rt; are_right(&rt, unchanged, unchanged, runs));
 }

@@ -1,41 +1,17 @@
 //! Items that go through each shape.
-ghost use Rattle.generic_array.specs.Length.{FitsInline};
-ghost use Rattle.std.specs.Prelude.{◌≡◌, ◌*◌, ◌<◌, length};
+ghost use Rattle.std.specs.Prelude.{◌≡◌, length};
 
 use crate::tests::compared::gives;
 use crate::tests::numbers::from_one;
 use generic_array::sequence::{
     Concat, Flatten, Lengthen, Remove, Shorten, Split, Unflatten, iter_flat,
 };
-use generic_array::{
-    ArrayLength, GenericArray, GenericArrayMut, InlineLength, U0, U1, U2, U3, U4, U5, U6, arr,
-};
-
-/// Nothing, and all items.
-fn split_at_the_front<N: ArrayLength<u32>>(
-    items: GenericArray<u32, N>,
-) -> (GenericArray<u32, U0>, GenericArray<u32, N>) {
-    items.split()
-}
+use generic_array::{GenericArray, GenericArrayMut, U0, U1, U2, U3, U4, U5, U6, arr};
 
 #[test]
 fn a_split_at_the_front_gives_nothing_and_all(rt: HostRuntime) {
-    let (none, all) = split_at_the_front(from_one::<U3>());
+    let (none, all): (GenericArray<u32, U0>, GenericArray<u32, U3>) = from_one::<U3>().split();
     assert!(rt; none.as_slice().is_empty() && all.as_slice() == [1, 2, 3].as_slice());
-}
-
-/// Into how many rows items are cut, and the items, of rows that are joined again.
-fn cut_into_rows_and_joined<
-    T: Default + Drop,
-    N: ArrayLength<T>,
-    W: ArrayLength<T> + InlineLength,
-    R: ArrayLength<GenericArray<T, W>>,
->(items: GenericArray<T, N>) -> (usize, GenericArray<T, N>)
-    requires width { 0 < W.USIZE }
-    requires area { N.USIZE ≡ R.USIZE * W.USIZE }
-{
-    let rows: GenericArray<GenericArray<T, W>, R> = items.unflatten();
-    (rows.as_slice().len(), rows.flatten())
 }
 
 // 9 at the first place of the first half, and 8 at the third of the second.
@@ -78,26 +54,16 @@ fn an_array_may_be_without_items(rt: HostRuntime) {
     assert!(rt; two.as_slice() == [1, 2].as_slice());
 }
 
-/// Whether rows without items have none, as they stand and joined.
-fn have_no_items<
-    M: ArrayLength<u32>,
-    W: ArrayLength<u32> + InlineLength,
-    R: ArrayLength<GenericArray<u32, W>> + InlineLength,
->() -> bool
-    requires fits { FitsInline M.USIZE }
-    requires area { M.USIZE ≡ R.USIZE * W.USIZE }
-{
-    let rows: GenericArray<GenericArray<u32, W>, R> = GenericArray::default();
-    let has_none = iter_flat(rows.view()).next().is_none();
-    let joined: GenericArray<u32, M> = rows.flatten();
-    has_none && joined.as_slice().is_empty()
-}
-
 #[test]
 fn there_may_be_no_rows_or_rows_without_items(rt: HostRuntime) {
-    let (count, none) = cut_into_rows_and_joined::<u32, U0, U2, U0>(from_one::<U0>());
-    assert!(rt; count == 0 && none.as_slice().is_empty());
-    assert!(rt; have_no_items::<U0, U0, U3>());
+    let rows: GenericArray<GenericArray<u32, U2>, U0> = from_one::<U0>().unflatten();
+    assert!(rt; rows.as_slice().is_empty());
+    let none: GenericArray<u32, U0> = rows.flatten();
+    assert!(rt; none.as_slice().is_empty());
+    let rows: GenericArray<GenericArray<u32, U0>, U3> = GenericArray::default();
+    assert!(rt; iter_flat(rows.view()).next().is_none());
+    let none: GenericArray<u32, U0> = rows.flatten();
+    assert!(rt; none.as_slice().is_empty());
 }
 
 #[test]

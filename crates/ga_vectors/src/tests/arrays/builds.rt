@@ -2,19 +2,17 @@
 ghost use Rattle.generic_array.specs.Length.{FitsInline};
 
 use crate::tests::compared::{gives, has};
+use crate::tests::counted::Counts;
 use crate::tests::fills::{End, Scripted, inline_fallible_fill, inline_fill};
 use generic_array::{ArrayLength, GenericArray, U0, U2, U3, U4, U5};
 
 /// The array of doubled places, and how often the closure was called.
-fn doubled<N: ArrayLength<usize>>() -> (GenericArray<usize, N>, u32)
+fn doubled<N: ArrayLength<usize>>() -> (GenericArray<usize, N>, usize)
     requires { FitsInline N.USIZE }
 {
-    let mut calls = 0u32;
-    let array = GenericArray::generate_by(&mut |index: usize| {
-        calls = calls.wrapping_add(1);
-        index.wrapping_mul(2)
-    });
-    (array, calls)
+    let counts = Counts::default();
+    let mut double = |index: usize| counts.same(index.wrapping_mul(2));
+    (GenericArray::generate_by(&mut double), counts.calls.get())
 }
 
 #[test]
@@ -26,15 +24,13 @@ fn a_closure_is_called_once_for_each_place(rt: HostRuntime) {
 }
 
 /// The error of a build that fails at index 2, if there is one, and the number of calls.
-fn built_up_to_two<N: ArrayLength<usize>>() -> (Option<usize>, u32)
+fn built_up_to_two<N: ArrayLength<usize>>() -> (Option<usize>, usize)
     requires { FitsInline N.USIZE }
 {
-    let mut calls = 0u32;
-    let built = GenericArray::<usize, N>::try_generate_by(&mut |index: usize| {
-        calls = calls.wrapping_add(1);
-        if index == 2 { Err(index) } else { Ok(index) }
-    });
-    (built.err(), calls)
+    let counts = Counts::default();
+    let mut build = |index: usize| counts.same(if index == 2 { Err(index) } else { Ok(index) });
+    let built = GenericArray::<usize, N>::try_generate_by(&mut build);
+    (built.err(), counts.calls.get())
 }
 
 #[test]

@@ -1,6 +1,6 @@
 use Rattle.ga_rows.proofs.TableLemmas.{table-at}
-use Rattle.ga_rows.proofs.decimal.digits_of.Goals as goal
-use Rattle.ga_rows.specs.declared.decimal.TheConstants.{TEXTS}
+use Rattle.ga_rows.proofs.buffer.decimal.digits_of.Goals as goal
+use Rattle.ga_rows.specs.declared.buffer.decimal.TheConstants.{TEXTS}
 use Rattle.std.proofs.Common.{[], ap, arith, decimal, get_or, take, ◌∙◌}
 
 pub returns-clause-digits : goal.returns-clause-digits

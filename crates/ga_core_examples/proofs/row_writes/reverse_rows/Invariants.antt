@@ -1,5 +1,5 @@
 use Rattle.ga_core.specs.Rows.{rows}
-use Rattle.ga_core_examples.proofs.row_writes.rows_turned.Given as goal
+use Rattle.ga_core_examples.proofs.row_writes.reverse_rows.Given as goal
 use Rattle.std.proofs.Common.{◌≡◌, ◌++◌, drop, map, reverse, take}
 
 -- the rows so far are turned, and the others are as they were

@@ -1,5 +1,5 @@
 use Rattle.ga_core.proofs.RowSetLemmas.{chunk_rest-whole_set, rows-whole, rows-whole_set}
-use Rattle.ga_core_examples.proofs.row_writes.whole_rows_turned.Goals as goal
+use Rattle.ga_core_examples.proofs.row_writes.reverse_whole_rows.Goals as goal
 use Rattle.std.proofs.Common.{ap, map, reverse, sym, ◌∙◌}
 
 pub returns : goal.returns

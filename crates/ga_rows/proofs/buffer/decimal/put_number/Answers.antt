@@ -1,5 +1,5 @@
 use Rattle.ga_rows.proofs.TextLemmas.{take-put}
-use Rattle.ga_rows.proofs.decimal.put_number.Goals as goal
+use Rattle.ga_rows.proofs.buffer.decimal.put_number.Goals as goal
 use Rattle.std.proofs.Common.{◌++◌, ap, arith, take, ◌∙◌}
 
 pub returns-clause-text : goal.returns-clause-text

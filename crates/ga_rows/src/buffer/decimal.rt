@@ -1,6 +1,8 @@
-//! Bytes in decimal, from a table.
+//! Numbers in decimal behind a piece of text: bytes from a table, sums digit by digit.
 ghost use Rattle.ga_rows.specs.Text.{numbers_text};
-ghost use Rattle.std.specs.Prelude.{◌≡◌, ◌+◌, ◌*◌, ◌≤◌, ◌++◌, decimal, length, reverse, take};
+ghost use Rattle.std.specs.Prelude.{◌≡◌, ◌+◌, ◌*◌, ◌<◌, ◌≤◌, [], ◌∷◌, ◌++◌, decimal, length, reverse, take};
+
+use super::{PIECE_SIZE, Piece};
 
 // How many bytes a text of the table has, and so how many are put for each number.
 const TEXT_SIZE: usize = 4;
@@ -50,45 +52,94 @@ static DIGITS: [u8; 256] = [
     3, 3, 3, 3, 3, 3, 3, 3, 3, 3, 3, 3, 3, 3, 3, 3, 3, 3, 3, 3, 3, 3, 3, 3, 3, 3, 3, 3, 3, 3, 3, 3,
 ];
 
-/// Writes numbers in decimal, joined by one space, into `text` from `start` on, and returns where
-/// they end. What is behind that end may change too, up to four bytes for each number.
-#[inline]
-pub fn put_numbers(text: &mut [u8], start: usize, numbers: &[u8]) -> usize
-    requires { start + 4 * length numbers.now ≤ length text.old }
-    ensures text { take result text.new ≡ take start text.old ++ numbers_text numbers.now }
-    ensures bytes { result ≤ start + 4 * length numbers.now }
-{
-    let Some((first, others)) = numbers.split_first() else {
-        return start;
-    };
-    let mut end = put_number(text, start, *first);
-    for number in others {
-        text[end] = b' ';
-        end = put_number(text, end + 1, *number);
+impl Piece {
+    /// Appends a number of at most four digits in decimal, without leading zeros. There is room for
+    /// four.
+    #[inline]
+    #[tactic(auto, using(std::proofs::lemmas::Fmt::decimal_digit))]
+    pub fn push_decimal(&mut self, number: u16)
+        requires small { number < 10000 }
+        requires room { length self.old + 4 ≤ PIECE_SIZE }
+        ensures text { self.new ≡ self.old ++ decimal number }
+        ensures digits { length self.new ≤ length self.old + 4 }
+    {
+        if number < 1000 {
+            self.push_below_1000(number);
+        } else {
+            self.push_below_1000(number / 10);
+            self.push_digit(number % 10);
+        }
     }
-    end
+
+    #[inline]
+    #[tactic(auto, using(std::proofs::lemmas::Fmt::decimal_digit))]
+    fn push_below_1000(&mut self, number: u16)
+        requires small { number < 1000 }
+        requires room { length self.old + 3 ≤ PIECE_SIZE }
+        ensures text { self.new ≡ self.old ++ decimal number }
+        ensures digits { length self.new ≤ length self.old + 3 }
+    {
+        if number < 10 {
+            self.push_digit(number);
+        } else if number < 100 {
+            self.push_digit(number / 10);
+            self.push_digit(number % 10);
+        } else {
+            self.push_digit(number / 100);
+            self.push_digit(number / 10 % 10);
+            self.push_digit(number % 10);
+        }
+    }
+
+    #[inline]
+    fn push_digit(&mut self, digit: u16)
+        requires small { digit < 10 }
+        requires room { length self.old < PIECE_SIZE }
+        ensures { self.new ≡ self.old ++ (48 + digit) ∷ [] }
+    {
+        self.push(b'0' + digit as u8);
+    }
+
+    /// Appends numbers in decimal, joined by one space. There is room for four bytes each.
+    #[inline]
+    pub fn push_numbers(&mut self, numbers: &[u8])
+        requires { length self.old + 4 * length numbers.now ≤ PIECE_SIZE }
+        ensures text { self.new ≡ self.old ++ numbers_text numbers.now }
+        ensures bytes { length self.new ≤ length self.old + 4 * length numbers.now }
+    {
+        let Some((first, others)) = numbers.split_first() else {
+            return;
+        };
+        let mut end = put_number(&mut self.bytes, self.len, *first);
+        for number in others {
+            self.bytes[end] = b' ';
+            end = put_number(&mut self.bytes, end + 1, *number);
+        }
+        self.len = end;
+    }
+
+    /// Appends numbers in decimal, from the last to the first, joined by one space. There is room
+    /// for four bytes each.
+    #[inline]
+    pub fn push_numbers_back(&mut self, numbers: &[u8])
+        requires { length self.old + 4 * length numbers.now ≤ PIECE_SIZE }
+        ensures text { self.new ≡ self.old ++ numbers_text (reverse numbers.now) }
+        ensures bytes { length self.new ≤ length self.old + 4 * length numbers.now }
+    {
+        let Some((last, others)) = numbers.split_last() else {
+            return;
+        };
+        let mut end = put_number(&mut self.bytes, self.len, *last);
+        for number in others.iter().rev() {
+            self.bytes[end] = b' ';
+            end = put_number(&mut self.bytes, end + 1, *number);
+        }
+        self.len = end;
+    }
 }
 
-/// Puts numbers in decimal, from the last to the first, as `put_numbers` does.
-#[inline]
-pub fn put_numbers_back(text: &mut [u8], start: usize, numbers: &[u8]) -> usize
-    requires { start + 4 * length numbers.now ≤ length text.old }
-    ensures text { take result text.new ≡ take start text.old
-        ++ numbers_text (reverse numbers.now) }
-    ensures bytes { result ≤ start + 4 * length numbers.now }
-{
-    let Some((last, others)) = numbers.split_last() else {
-        return start;
-    };
-    let mut end = put_number(text, start, *last);
-    for number in others.iter().rev() {
-        text[end] = b' ';
-        end = put_number(text, end + 1, *number);
-    }
-    end
-}
-
-// Puts one number in decimal.
+// Puts one number in decimal into the text from `start` on, and returns where it ends. What is
+// behind that end may change too, as far as the table's text goes.
 #[inline]
 fn put_number(text: &mut [u8], start: usize, number: u8) -> usize
     requires { start + 4 ≤ length text.old }
