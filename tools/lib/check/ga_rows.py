@@ -11,7 +11,6 @@ from termios import FIONREAD
 
 from check.running import Seen, differences, file_of, read_again, run_program
 
-
 PROGRAM = "ga_rows"
 # Each mode by its word, and what it writes of the bytes 1 to 8.
 MODES = {
@@ -64,15 +63,6 @@ def give_past_the_memory(process):
         process.stdin.write(bytes(10**6))
 
 
-def take_one_byte(pipe):
-    with pipe:
-        return pipe.read(1)
-
-
-def closing(descriptor):
-    return lambda: os.close(descriptor)
-
-
 def run_case(tally, program, name, wanted, words=(), data=b"", signals=(), left=None, **how):
     """A case: the program on these bytes, or on the streams of `how`. `left` reads what counts as
     its output where that is a file."""
@@ -94,17 +84,17 @@ def run_outputs(case):
         case("a disk that is full after 10,000 bytes", FAULTY._replace(out=text[:10_000]),
              data=data, signals=[signal.SIGXFSZ], stdout=out, left=lambda given: read_again(out),
              before=lambda: resource.setrlimit(resource.RLIMIT_FSIZE, limit))
-    case("a closed output", FAULTY, data=SIX, stdout=DEVNULL, before=closing(1))
+    case("a closed output", FAULTY, data=SIX, stdout=DEVNULL, before=functools.partial(os.close, 1))
     case("a reader that leaves after a byte", FAULTY._replace(out=text[:1]), data=data,
-         signals=[signal.SIGPIPE], take=take_one_byte)
+         signals=[signal.SIGPIPE], take=lambda pipe: (pipe.read(1), pipe.close())[0])
 
 
 def run_inputs(case):
-    case("a closed input", FAULTY, before=closing(0))
+    case("a closed input", FAULTY, before=functools.partial(os.close, 0))
     folder = os.open(tempfile.gettempdir(), os.O_RDONLY)
     case("a directory as input", FAULTY, stdin=folder)
     case("meaningless words before either", MEANINGLESS, ["dec", "3"], stdin=folder,
-         before=closing(1))
+         before=functools.partial(os.close, 1))
     os.close(folder)
     case("meaningless words, and the input is left", MEANINGLESS._replace(out=SIX), ["rows"], SIX,
          left=lambda given: given.read())

@@ -1,7 +1,7 @@
 """The limits of docs/STUCK.md: whether each still holds.
 
 A file of trials/limits is a module. Its first lines are its rows of docs/STUCK.md, behind the name
-of their table. `--write` puts them there, a new one at the table's end: moved, it stays where it is.
+of their table. `--write` puts them there, a new one at its end: moved, it stays where it is.
 A check has to print of `says` what one sees, with `..` or `: help:` for any text, of `open` and
 `library` the goals that the row begins with, of `returns` that goal; or else what a line
 `// prints: ..` has. Where `//+` and `//-` stand, what to write instead has to be proved: the module
@@ -49,8 +49,8 @@ IMPORTS = {
     "Rattle.std.specs.Int.Bits": "bit_xor",
     "Rattle.std.specs.List": "All flat_map list_any range_with_len starts_with zip",
     "Rattle.std.specs.Prelude": "◌≡◌ ◌↔◌ ◌<◌ ◌≤◌ ◌+◌ ◌-◌ ◌*◌ ◌%◌ ◌^◌ ◌++◌ ◌∷◌ [] IfOk IsTrue OnErr"
-    " OnOk drop fold length map nat_eq pos replicate reverse slice_index slice_index_or slice_set sum"
-    " take",
+    " OnOk drop fold length map nat_eq pos replicate reverse slice_index slice_index_or slice_set"
+    " sum take",
     "generic_array": "AllocError ArrayBuilder ArrayLength BoxedArray ChunksMut ChunksRef Const"
     " GenericArray GenericArrayMut GenericArrayRef InlineLength LengthError U2 U3 U4 U5 U6 Unsigned"
     " ViewMut always arr",

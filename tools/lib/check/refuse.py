@@ -1,15 +1,11 @@
 """Memory that is lost, asked for without need, or refused, and a system that fails.
 
-    tools/check refuse [CRATE..]    what the parts `tests` and `trials` built, or build now
-    tools/check refuse PROGRAM      the system's faults alone, as of crates/ga_rows/out/ga_rows
-
-`rt try` links the address sanitizer, which reports at the end of a run how often it asked for
-memory, and whether some was neither given back nor can be reached. `rt try` doesn't report whether
-a run came to the request that it was to refuse: so each test is also run with one more refused than
-it makes.
+It runs what the parts `tests` and `trials` built, or builds it. `rt try` links the address
+sanitizer, which reports at the end of a run how often it asked for memory, and whether some was
+neither given back nor can be reached. `rt try` doesn't report whether a run came to the request
+that it was to refuse: so each test is also run with one more refused than it makes.
 """
 import collections
-import os
 import re
 import tempfile
 
@@ -118,8 +114,6 @@ def run_rows(tally, program):
 
 
 def run(tally, words):
-    if words and os.path.isfile(words[0]):
-        return run_system_faults(tally, words[0])
     built = [*trials.runs(), *tests.runs()]
     run_all(tally, [it for it in built if not it.seen], words)
     # A crate with sweeps is run with them alone.

@@ -1,7 +1,7 @@
 """Every test of every crate, and each program, unproved: `rt ci` proves them.
 
-A program is run as `rt ci` runs it: with the files `stdin`, `args` and `data/` of its crate, to
-print what `stdout` has and to end with `status`.
+A program is run as `rt ci` runs it: with the file `stdin` of its crate, to print what `stdout` has
+and to end with `status`.
 """
 import functools
 import re
@@ -34,11 +34,7 @@ class Program(Run):
     """A crate that is a program, with the files beside its src/."""
 
     def __init__(self, crate):
-        files = [it for it in sorted((crate / "data").rglob("*")) if it.is_file()]
-        flags = [word for it in files
-                 for word in ("--data", f"{it.relative_to(crate / 'data')}={it}")]
-        words = bytes_in(crate, "args").decode().splitlines()
-        super().__init__(crate, "program", flags, words, bytes_in(crate, "stdin"))
+        super().__init__(crate, "program", given=bytes_in(crate, "stdin"))
 
     def judge(self):
         ended = ENDED.search(self.seen.err)
