@@ -24,8 +24,7 @@ SECOND = {
 LOOPS = """//! The loop of each case, written by trials/bench/run.
 ghost use Rattle.ga_views.specs.Length.{FitsInline};
 ghost use Rattle.std.specs.Prelude.{◌≡◌, ◌+◌, ◌<◌};
-use crate::items::{Check, Poke, place};
-use crate::words::Word;
+use crate::items::{Check, Poke, Word, place};
 use generic_array::{ArrayLength, Const, GenericArray, Unsigned};
 use std::alloc::Global;
 """

@@ -121,6 +121,6 @@ impl<T: Drop, N: Unsigned> IntoIterator for BoxedArray<T, N> {
     #[inline]
     fn into_iter(self) -> BoxedArrayIter<T> {
         let BoxedArray { items, of: _ } = self;
-        BoxedArrayIter::from_block(items.counted(N::USIZE))
+        BoxedArrayIter::from_block(items.with_len(N::USIZE))
     }
 }

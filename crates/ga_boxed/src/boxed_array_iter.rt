@@ -10,7 +10,7 @@ ghost use Rattle.std.specs.Prelude.{◌≡◌, ◌-◌, IfOk, IsOk, fold, length
 
 use crate::live_block::LiveBlock;
 use ga_core::AllocError;
-use ga_core::items_left::{ItemsLeft, fold_remaining, rfold_remaining};
+use ga_core::items_left::{TwoEnded, fold_remaining, rfold_remaining};
 use std::alloc;
 use std::marker::Model;
 
@@ -64,15 +64,6 @@ impl<T> BoxedArrayIter<T> {
     {
         self.items.as_mut_slice()
     }
-
-    /// The number of items that are left, twice: they are no fewer and no more.
-    #[inline]
-    pub fn size_hint(&self) -> (usize, Option<usize>)
-        ensures { result ≡ (length self.now, Some (length self.now)) }
-    {
-        let len = self.len();
-        (len, Some(len))
-    }
 }
 
 impl<T: Drop> Iterator for BoxedArrayIter<T> {
@@ -88,11 +79,13 @@ impl<T: Drop> Iterator for BoxedArrayIter<T> {
         self.items.take_front()
     }
 
+    /// The number of items that are left, twice: they are no fewer and no more.
     #[inline]
     fn size_hint(&self) -> (usize, Option<usize>)
         ensures { result ≡ (length self.now, Some (length self.now)) }
     {
-        BoxedArrayIter::size_hint(self)
+        let len = self.len();
+        (len, Some(len))
     }
 }
 
@@ -106,17 +99,40 @@ impl<T: Drop> DoubleEndedIterator for BoxedArrayIter<T> {
     }
 }
 
-impl<T: Drop> ItemsLeft<T> for BoxedArrayIter<T> {
+impl<T: Drop> TwoEnded<T> for BoxedArrayIter<T> {
+    ghost use Rattle.std.specs.List.{refill};
+    ghost use Rattle.std.specs.Prelude.{length, refl};
+
     ghost items = { λ left. left };
 
     #[inline]
-    fn take_front(&mut self) -> Option<T> {
+    fn front(&mut self) -> Option<T> {
         self.next()
     }
 
     #[inline]
-    fn take_back(&mut self) -> Option<T> {
+    fn back(&mut self) -> Option<T> {
         self.next_back()
+    }
+
+    fn front_nth(&mut self, n: usize) -> Option<T> {
+        BoxedArrayIter::nth(self, n)
+    }
+
+    fn back_nth(&mut self, n: usize) -> Option<T> {
+        BoxedArrayIter::nth_back(self, n)
+    }
+
+    #[inline]
+    fn live(&self) -> &[T] {
+        self.as_slice()
+    }
+
+    ghost left_with = { λ left written. (refill (length left) left written, refl) };
+
+    #[inline]
+    fn live_mut(&mut self) -> &mut [T] {
+        self.as_mut_slice()
     }
 }
 
@@ -167,8 +183,7 @@ impl<T: Drop> BoxedArrayIter<T> {
         self.fold_by(init, &mut f)
     }
 
-    /// `fold` that borrows the closure, which can be used again in the state that it reached. One
-    /// pass.
+    /// `fold`: `f` is borrowed. One pass.
     pub fn fold_by<A, F: FnMut(A, T) -> A>(self, init: A, f: &mut F) -> A
         requires callable { MayFold (λ item. item) F.pre F.step f.old init self }
         ensures run { FoldRun F.step f.old init self result f.new }
@@ -187,8 +202,7 @@ impl<T: Drop> BoxedArrayIter<T> {
         self.rfold_by(init, &mut f)
     }
 
-    /// `rfold` that borrows the closure, which can be used again in the state that it reached. One
-    /// pass.
+    /// `rfold`: `f` is borrowed. One pass.
     pub fn rfold_by<A, F: FnMut(A, T) -> A>(self, init: A, f: &mut F) -> A
         requires callable { MayFold (λ item. item) F.pre F.step f.old init (reverse self) }
         ensures run { FoldRun F.step f.old init (reverse self) result f.new }
@@ -210,10 +224,11 @@ impl<T: Clone> BoxedArrayIter<T> {
         ensures same { All (IsExact T.is_clone) self.now → IfOk result (λ copy. copy ≡ self.now) }
         ensures empty { length self.now ≡ 0 → IsOk result }
     {
-        match Clone::clone(self) {
-            Ok(copy) => Ok(copy),
-            Err(_) => Err(AllocError),
+        let mut clones = LiveBlock::new(self.items.allocator(), self.len())?;
+        for item in self.as_slice() {
+            clones.put(item.clone()?);
         }
+        Ok(BoxedArrayIter::from_block(clones))
     }
 }
 
@@ -223,15 +238,9 @@ impl<T: Clone> Clone for BoxedArrayIter<T> {
     ghost is_infallible = { λ left. length left ≡ 0 };
 
     fn clone(&self) -> Result<Self, alloc::AllocError> {
-        let Ok(mut clones) = LiveBlock::new(self.items.allocator(), self.len()) else {
-            return Err(alloc::AllocError);
-        };
-        for item in self.as_slice() {
-            let Ok(copy) = item.clone() else {
-                return Err(alloc::AllocError);
-            };
-            clones.put(copy);
+        match BoxedArrayIter::clone(self) {
+            Ok(copy) => Ok(copy),
+            Err(_) => Err(alloc::AllocError),
         }
-        Ok(BoxedArrayIter::from_block(clones))
     }
 }

@@ -58,9 +58,7 @@ impl<T> LiveBlock<T> {
         if !fits::<T>(size) {
             return Err(AllocError);
         }
-        let Ok((base, cells, deed)) = allocate(&alloc, size) else {
-            return Err(AllocError);
-        };
+        let (base, cells, deed) = allocate(&alloc, size)?;
         Ok(LiveBlock {
             base,
             size,
@@ -96,7 +94,7 @@ impl<T> LiveBlock<T> {
 
     // The same block. The caller says how many items it has, so that the compiler knows it too.
     #[inline]
-    pub(crate) fn counted(mut self, len: usize) -> Self
+    pub(crate) fn with_len(mut self, len: usize) -> Self
         requires len { len ≡ length self.items }
         ensures { result ≡ self }
     {
@@ -218,22 +216,10 @@ impl<T> LiveBlock<T> {
         ensures items { IfOk result (λ block. block ≡ live items 0) }
         ensures empty { U ≡ 0 → IsOk result }
     {
-        if !fits::<T>(U) {
-            return Err(AllocError);
-        }
-        let Ok((base, mut cells, deed)) = allocate(&alloc, U) else {
-            return Err(AllocError);
-        };
-        cells.put_array(base, items);
-        Ok(LiveBlock {
-            base,
-            size: U,
-            start: 0,
-            end: U,
-            cells,
-            deed,
-            alloc,
-        })
+        let mut block = LiveBlock::new(alloc, U)?;
+        block.end = U;
+        block.cells.put_array(block.base, items);
+        Ok(block)
     }
 
     // Deallocates the block.

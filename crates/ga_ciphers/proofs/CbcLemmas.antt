@@ -33,6 +33,16 @@ under-comm [] (y ∷ ys) = refl
 under-comm (x ∷ xs) [] = refl
 under-comm (x ∷ xs) (y ∷ ys) = ap₂ ◌∷◌ (xor_comm x y) (under-comm xs ys)
 
+-- The blocks before a place are done: with what `result` makes of the others, from the vector on, they are what it
+-- makes of all. The vector is the last block that was sent.
+pub record BlocksDone (width : ℕ) (result : List ℕ → List ℕ → List ℕ) (first start vector now sent : List ℕ)
+    (done : ℕ) : Type 0 where
+  pub within : done ≤ length now
+  pub whole : (length now - done) % width ≡ 0
+  pub left : drop done now ≡ drop done start
+  pub last : vector ≡ drop done (first ++ take done sent)
+  pub text : take done now ++ result vector (drop done now) ≡ result first start
+
 -- A turn of a loop over the blocks: at a place, as many bytes as the vector has are written over by a part, and the
 -- next place lies behind them.
 pub record Turn (width : ℕ) (vector start now new part : List ℕ) (done next : ℕ) : Type 0 where
@@ -43,6 +53,45 @@ pub record Turn (width : ℕ) (vector start now new part : List ℕ) (done next 
   pub long : length new ≡ length now
   pub left : drop done now ≡ drop done start
   pub is : new ≡ take done now ++ part ++ drop (done + width) now
+
+-- no block is done
+pub blocks-none : (width : ℕ) (result : List ℕ → List ℕ → List ℕ) (first start sent : List ℕ)
+    → length start % width ≡ 0 → BlocksDone width result first start first start sent 0
+blocks-none width result first start sent whole = record {
+  within = omega arith;
+  whole = let same : length start - 0 ≡ length start = omega arith in ap (λ n. n % width) same ∙ whole;
+  left = refl;
+  last = sym (append-nil first);
+  text = refl;
+}
+
+module _ {width : ℕ} {result : List ℕ → List ℕ → List ℕ} {first start vector now sent : List ℕ} {done : ℕ}
+    (so_far : BlocksDone width result first start vector now sent done) where
+  pub turn-from : {new part : List ℕ} {next : ℕ} → next ≡ done + width → done < length now → length vector ≡ width
+      → length new ≡ length now → new ≡ take done now ++ part ++ drop (done + width) now
+      → Turn width vector start now new part done next
+  turn-from goes below wide long is = record {
+    goes = goes;
+    whole = so_far.whole;
+    below = below;
+    wide = wide;
+    long = long;
+    left = so_far.left;
+    is = is;
+  }
+
+  -- all blocks are done
+  module _ (ended : length now ≤ done) where
+    pub text-ended : result vector [] ≡ [] → now ≡ result first start
+    text-ended none =
+        let all : take done now ≡ now = take_all done now ended in
+        let rest : result vector (drop done now) ≡ [] = ap (result vector) (drop_all done now ended) ∙ none in
+        sym (append-nil now) ∙ (sym (ap₂ ◌++◌ all rest) ∙ so_far.text)
+
+    pub last-ended : length sent ≡ length now → vector ≡ drop (length sent) (first ++ sent)
+    last-ended long =
+        let end : done ≡ length sent = omega (arith, so_far.within) in
+        so_far.last ∙ ap₂ (λ n xs. drop n (first ++ xs)) end (take_all done sent (omega arith))
 
 module _ (width : ℕ) (some : 0 < width) (encrypted decrypted : List ℕ → List ℕ) where
   -- the first block of a text, and the others
@@ -57,58 +106,34 @@ module _ (width : ℕ) (some : 0 < width) (encrypted decrypted : List ℕ → Li
   decrypted-behind vector block rest full =
       ap (decrypted_blocks decrypted vector) (rows-behind width some block rest (block ++ rest) refl full)
 
-  decrypted-none : (vector : List ℕ) → cbc_decrypted decrypted width vector [] ≡ []
+  pub decrypted-none : (vector : List ℕ) → cbc_decrypted decrypted width vector [] ≡ []
   decrypted-none vector = ap (decrypted_blocks decrypted vector) (rows-few width [] some)
 
-  -- at the end of a text nothing is left
-  module _ (first vector start now : List ℕ) (done : ℕ) (ended : done ≡ length now) where
-    all_done : take done now ≡ now
-    all_done = take_all done now (omega arith)
+  pub encrypted-none : (vector : List ℕ) → cbc_encrypted encrypted width vector [] ≡ []
+  encrypted-none vector = ap (encrypted_blocks encrypted vector) (rows-few width [] some)
 
-    none_left : drop done now ≡ []
-    none_left = drop_all done now (omega arith)
-
-    pub encrypted-ended :
-        take done now ++ cbc_encrypted encrypted width vector (drop done now) ≡ cbc_encrypted encrypted width first start
-        → now ≡ cbc_encrypted encrypted width first start
-    encrypted-ended so_far =
-        let none : cbc_encrypted encrypted width vector (drop done now) ≡ [] =
-        ap (cbc_encrypted encrypted width vector) none_left
-        ∙ ap (encrypted_blocks encrypted vector) (rows-few width [] some) in
-        sym (append-nil now) ∙ (sym (ap₂ ◌++◌ all_done none) ∙ so_far)
-
-    pub decrypted-ended :
-        take done now ++ cbc_decrypted decrypted width vector (drop done now) ≡ cbc_decrypted decrypted width first start
-        → now ≡ cbc_decrypted decrypted width first start
-    decrypted-ended so_far =
-        let none : cbc_decrypted decrypted width vector (drop done now) ≡ [] =
-        ap (cbc_decrypted decrypted width vector) none_left ∙ decrypted-none vector in
-        sym (append-nil now) ∙ (sym (ap₂ ◌++◌ all_done none) ∙ so_far)
-
-    pub vector-ended : vector ≡ drop done (first ++ take done now) → vector ≡ drop (length now) (first ++ now)
-    vector-ended is = is ∙ ap₂ (λ n xs. drop n (first ++ xs)) ended all_done
-
-    pub back-ended : length start ≡ length now
-        → ((rest : List ℕ) → cbc_decrypted decrypted width first (take done now ++ rest)
-        ≡ take done start ++ cbc_decrypted decrypted width vector rest)
-        → cbc_decrypted decrypted width first now ≡ start
-    back-ended long back =
-        ap (cbc_decrypted decrypted width first) (sym (append-nil now) ∙ ap (λ xs. xs ++ []) (sym all_done))
-        ∙ (back [] ∙ (ap₂ ◌++◌ (take_all done start (omega arith)) (decrypted-none vector) ∙ append-nil start))
+  pub back-ended : (first vector start now : List ℕ) (done : ℕ) → done ≡ length now → length start ≡ length now
+      → ((rest : List ℕ) → cbc_decrypted decrypted width first (take done now ++ rest)
+      ≡ take done start ++ cbc_decrypted decrypted width vector rest)
+      → cbc_decrypted decrypted width first now ≡ start
+  back-ended first vector start now done ended long back =
+      ap (cbc_decrypted decrypted width first)
+      (sym (append-nil now) ∙ ap (λ xs. xs ++ []) (sym (take_all done now (omega arith))))
+      ∙ (back [] ∙ (ap₂ ◌++◌ (take_all done start (omega arith)) (decrypted-none vector) ∙ append-nil start))
 
   module _ {vector start now new part : List ℕ} {done next : ℕ} (first : List ℕ)
       (turn : Turn width vector start now new part done next) where
     within : done + width ≤ length now
     within = block_within width (length now) done next turn.whole turn.below
 
-    pub next-within : next ≤ length new
+    next-within : next ≤ length new
     next-within = omega (arith, within, turn.goes, turn.long)
 
-    pub next-whole : (length new - next) % width ≡ 0
+    next-whole : (length new - next) % width ≡ 0
     next-whole = ap (λ n. (n - next) % width) turn.long
         ∙ whole_behind width (length now) done next turn.whole turn.below turn.goes
 
-    abbrev pub row : List ℕ
+    abbrev row : List ℕ
     row = slice_range now done (done + width)
 
     row_is : row ≡ take width (drop done now)
@@ -141,7 +166,7 @@ module _ (width : ℕ) (some : 0 < width) (encrypted decrypted : List ℕ → Li
     rest_is : drop next new ≡ drop width (drop done now)
     rest_is = behind_is ∙ sym (drop-drop width done now)
 
-    pub next-left : drop next new ≡ drop next start
+    next-left : drop next new ≡ drop next start
     next-left = rest_is ∙ (ap (drop width) turn.left ∙ (drop-drop width done start ∙ ap (λ n. drop n start) (sym turn.goes)))
 
     -- the first bytes of the text as it was
@@ -164,45 +189,45 @@ module _ (width : ℕ) (some : 0 < width) (encrypted decrypted : List ℕ → Li
         ) in
         sym (ap (drop next) (sym (append_assoc first before block)) ∙ drop_at (first ++ before) block next front)
 
-    pub encrypted_vector-more : vector ≡ drop done (first ++ take done now) → part ≡ drop next (first ++ take next new)
-    encrypted_vector-more same =
-        vector_is (take done now) part (omega (arith, within, length-take done now)) same
-        ∙ ap (λ xs. drop next (first ++ xs)) (sym front_is)
-
-    pub decrypted_vector-more : length start ≡ length now → vector ≡ drop done (first ++ take done start)
-        → (block : List ℕ) → block ≡ row → block ≡ drop next (first ++ take next start)
-    decrypted_vector-more far same block taken =
-        taken ∙ (vector_is (take done start) row (omega (arith, within, length-take done start)) same
-        ∙ ap (λ xs. drop next (first ++ xs)) (sym start_is))
+    -- one block more is done
+    blocks-more : (result : List ℕ → List ℕ → List ℕ) (sent later block : List ℕ)
+        → BlocksDone width result first start vector now sent done
+        → result vector (drop done now) ≡ part ++ result block (drop width (drop done now))
+        → block ≡ drop next (first ++ take next later) → BlocksDone width result first start block new later next
+    blocks-more result sent later block so_far one last = record {
+      within = next-within;
+      whole = next-whole;
+      left = next-left;
+      last = last;
+      text = ap₂ (λ xs ys. xs ++ result block ys) front_is rest_is
+          ∙ (append_assoc (take done now) part (result block (drop width (drop done now)))
+          ∙ (ap (λ xs. take done now ++ xs) (sym one) ∙ so_far.text));
+    }
 
     pub encrypted-more : part ≡ encrypted (under vector row)
-        → take done now ++ cbc_encrypted encrypted width vector (drop done now) ≡ cbc_encrypted encrypted width first start
-        → take next new ++ cbc_encrypted encrypted width part (drop next new) ≡ cbc_encrypted encrypted width first start
+        → BlocksDone width (cbc_encrypted encrypted width) first start vector now now done
+        → BlocksDone width (cbc_encrypted encrypted width) first start part new new next
     encrypted-more made so_far =
         let block : part ≡ encrypted (under vector (take width (drop done now))) =
         made ∙ ap (λ xs. encrypted (under vector xs)) row_is in
-        let one : part ++ cbc_encrypted encrypted width part (drop width (drop done now))
-        ≡ cbc_encrypted encrypted width vector (drop done now) =
-        ap (λ xs. xs ++ cbc_encrypted encrypted width xs (drop width (drop done now))) block
-        ∙ sym (encrypted-first vector (drop done now) (omega (arith, within, length-drop done now))) in
-        ap₂ (λ xs ys. xs ++ cbc_encrypted encrypted width part ys) front_is rest_is
-        ∙ (append_assoc (take done now) part (cbc_encrypted encrypted width part (drop width (drop done now)))
-        ∙ (ap (λ xs. take done now ++ xs) one ∙ so_far))
+        blocks-more (cbc_encrypted encrypted width) now new part so_far
+        (encrypted-first vector (drop done now) (omega (arith, within, length-drop done now))
+        ∙ ap (λ xs. xs ++ cbc_encrypted encrypted width xs (drop width (drop done now))) (sym block))
+        (vector_is (take done now) part (omega (arith, within, length-take done now)) so_far.last
+        ∙ ap (λ xs. drop next (first ++ xs)) (sym front_is))
 
-    pub decrypted-more : (block : List ℕ) → block ≡ row → part ≡ under (decrypted row) vector
-        → take done now ++ cbc_decrypted decrypted width vector (drop done now) ≡ cbc_decrypted decrypted width first start
-        → take next new ++ cbc_decrypted decrypted width block (drop next new) ≡ cbc_decrypted decrypted width first start
-    decrypted-more block taken made so_far =
+    pub decrypted-more : length start ≡ length now → (block : List ℕ) → block ≡ row → part ≡ under (decrypted row) vector
+        → BlocksDone width (cbc_decrypted decrypted width) first start vector now start done
+        → BlocksDone width (cbc_decrypted decrypted width) first start block new start next
+    decrypted-more far block taken made so_far =
         let split : drop done now ≡ row ++ drop width (drop done now) =
         sym (ap (λ xs. xs ++ drop width (drop done now)) row_is ∙ take-append-drop width (drop done now)) in
-        let one : part ++ cbc_decrypted decrypted width block (drop width (drop done now))
-        ≡ cbc_decrypted decrypted width vector (drop done now) =
-        ap₂ (λ xs b. xs ++ cbc_decrypted decrypted width b (drop width (drop done now))) made taken
-        ∙ sym (ap (cbc_decrypted decrypted width vector) split
-        ∙ decrypted-behind vector row (drop width (drop done now)) row_len) in
-        ap₂ (λ xs ys. xs ++ cbc_decrypted decrypted width block ys) front_is rest_is
-        ∙ (append_assoc (take done now) part (cbc_decrypted decrypted width block (drop width (drop done now)))
-        ∙ (ap (λ xs. take done now ++ xs) one ∙ so_far))
+        blocks-more (cbc_decrypted decrypted width) start start block so_far
+        (ap (cbc_decrypted decrypted width vector) split
+        ∙ (decrypted-behind vector row (drop width (drop done now)) row_len
+        ∙ ap₂ (λ xs b. xs ++ cbc_decrypted decrypted width b (drop width (drop done now))) (sym made) (sym taken)))
+        (taken ∙ (vector_is (take done start) row (omega (arith, within, length-take done start)) so_far.last
+        ∙ ap (λ xs. drop next (first ++ xs)) (sym start_is)))
 
     -- what decrypting makes of the blocks before the place, and of any that follow
     pub back-more : decrypted part ≡ under vector row

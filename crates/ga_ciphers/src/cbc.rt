@@ -1,7 +1,7 @@
-//! Cipher block chaining (CBC; NIST SP 800-38A) over any block cipher, where the text lies.
+//! Cipher block chaining (CBC; NIST SP 800-38A) over any block cipher, in place.
 //!
-//! No first vector serves two texts under one key, and nobody may foresee it. Nothing tells whether
-//! a text was changed.
+//! Each text under a key needs a first vector of its own, which nobody can foresee. Decrypting
+//! doesn't show whether a text was changed.
 ghost use Rattle.ga_ciphers.specs.Cbc.{cbc_decrypted, cbc_encrypted};
 ghost use Rattle.ga_ciphers.specs.Keystream.{under};
 ghost use Rattle.std.specs.Prelude.{◌≡◌, ◌+◌, ◌%◌, ◌≤◌, ◌++◌, drop, length, slice_range, take};
@@ -10,8 +10,8 @@ use crate::block_cipher::BlockCipher;
 use crate::counter_mode::xor;
 use generic_array::{GenericArray, GenericArrayRef, Unsigned};
 
-/// Encrypts a text of whole blocks where it lies, from this vector on. `decrypt_blocks` from the
-/// same vector gives it back.
+/// Encrypts a text of whole blocks in place, from this vector on. `decrypt_blocks` from the same
+/// vector decrypts it.
 ///
 /// The vector is then the last encrypted block: with it the next call goes on with the text.
 /// Allocates nothing, and copies each block once. RustCrypto's counterpart is `cbc::Encryptor`.
@@ -34,7 +34,7 @@ pub fn encrypt_blocks<C: BlockCipher>(
     }
 }
 
-/// Decrypts a text of whole blocks where it lies, from this vector on.
+/// Decrypts a text of whole blocks in place, from this vector on.
 ///
 /// The vector is then the last block as it came: with it the next call goes on with the text.
 /// Allocates nothing, and copies each block three times. RustCrypto's counterpart is

@@ -7,7 +7,7 @@ use crate::stream_end::StreamEnd;
 use generic_array::{ArrayLength, GenericArray, Unsigned};
 use std::marker::Model;
 
-/// A cipher whose key stream comes in blocks of one length, each told by its number.
+/// A cipher whose key stream comes in blocks of one length, one for each number.
 pub trait BlockStream: Drop {
     /// How many bytes a block has, as a length.
     type BlockSize: ArrayLength<u8>;

@@ -1,15 +1,15 @@
 -- A fill, or what is taken of an iterator, as one run of calls, and as so many calls.
+pub use Rattle.ga_core.proofs.callers.TakenLemmas.{taken-front, takings}
 use Rattle.ga_core.specs.Fill.{Asks, FillFalliblyRuns, FillRuns, Fills, FillsFallibly, TakeGoodRuns, TakeRuns, Takes}
 use Rattle.ga_core.specs.Fill.{TakesGood}
 use Rattle.ga_core.specs.Tries.{result_and_then, try_map}
 use Rattle.std.proofs.Common.{◌≡◌, ◌≢◌, ◌∙◌, ◌⊎◌, ℕ, zero, suc, ◌+◌, ◌-◌, ◌<◌, ◌≤◌, List, [], ◌∷◌, ◌++◌, length}
-use Rattle.std.proofs.Common.{length-append, map, take, ap, arith, refl, subst, sym, true, false, inl, inr, Option, None}
+use Rattle.std.proofs.Common.{length-append, map, ap, arith, refl, subst, sym, true, false, inl, inr, Option, None}
 use Rattle.std.proofs.Common.{Some, Result, Ok, Err, IfOk, IsOkAnd, MatchOption, MatchResult, OnErr, true≢false}
-use Rattle.std.proofs.Math.Seq.{take-append_seam}
-use Rattle.std.proofs.lemmas.List.{append-nil, length-map, take_all}
+use Rattle.std.proofs.lemmas.List.{length-map}
 use Rattle.std.proofs.iter.Next.{Yields-more}
 use Rattle.std.proofs.iter.runs.Made.{run, to_end, to_item}
-use Rattle.std.specs.Iterator.{Yields, YieldsFirst, YieldsThen}
+use Rattle.std.specs.Iterator.{Yields, YieldsThen}
 use Rattle.std.specs.Iterator.Runs.{Run}
 
 -- a builder that isn't full has room
@@ -186,25 +186,3 @@ module _ {S T E F : Type 0} (next_gives : S → Option (Result T E) → S → Ty
       let long = length-map {B = Result T E} good Ok in
       FillRuns-from_fill next_gives before n (Err refused) after
       (map Ok good, last, calls, subst (λ k. MatchOption last (k < n) (λ _. k ≡ n)) (sym long) short)
-
-module _ {T : Type 0} where
-  -- what calls gave of a list stood in front of what they left
-  given-front : (before taken after : List T) → Yields (YieldsFirst (λ left. left)) before taken after
-      → before ≡ taken ++ after
-  given-front before [] after calls = calls
-  given-front before (item ∷ taken) after (next, step, calls) =
-      step ∙ ap (λ items. item ∷ items) (given-front next taken after calls)
-
-  -- what a builder took of an iterator that is a list: its first items, as many as there was room for
-  pub taken-front : (room : ℕ) (before taken after : List T)
-      → Takes (YieldsFirst (λ left. left)) before room taken after → taken ≡ take room before
-  taken-front room before taken after (inl (calls, full)) =
-      sym (ap (λ k. take k before) (sym full) ∙ (ap (take (length taken)) (given-front before taken after calls)
-      ∙ take-append_seam taken after))
-  taken-front room before taken after (inr ((left, calls, end), few)) =
-      let all : before ≡ taken = given-front before taken left calls
-      ∙ (ap (λ items. taken ++ items) end.0 ∙ append-nil taken) in
-      sym all ∙ sym (take_all room before (omega (arith, few, ap length all)))
-
--- for a caller of `extend` by what an array's iterator has left: what it names by `using`
-pub ruleset takings = (taken-front)

@@ -6,8 +6,8 @@ use Rattle.ga_views.specs.Parts.{part_set}
 use Rattle.std.proofs.Common.{◌≡◌, ℕ, ◌+◌, ◌-◌, ◌%◌, ◌<◌, ◌≤◌, List, [], ◌∷◌, ◌++◌, length, drop, take}
 use Rattle.std.proofs.Common.{ap, ◌∙◌, arith, get_or, slice_get, slice_set, length-append, length-drop, length-take}
 use Rattle.std.proofs.Common.{Option, None, Some, refl, sym, mod-eq_of_lt}
-use Rattle.std.proofs.lemmas.List.{append-nil, length_push, nil_from_length}
-use Rattle.std.proofs.lemmas.List.{drop-drop, drop-take, take-take, take_all}
+use Rattle.std.proofs.lemmas.List.{append-nil, nil_from_length}
+use Rattle.std.proofs.lemmas.List.{drop-drop, drop-take, drop_more, get_or-take, length-take-le, take-take, take_all}
 use Rattle.std.specs.Iterator.{YieldsLast}
 use Rattle.std.specs.List.{refill, slice_range}
 
@@ -20,10 +20,6 @@ module _ {T : Type 0} where
   -- one fewer is left, from either end
   pub one_gone : (left : List T) (item : T) (others : List T) → left ≡ item ∷ others → length others < length left
   one_gone left item others step = omega (arith, ap length step)
-
-  pub one_gone-back : (left : List T) (item : T) (others : List T) → left ≡ others ++ item ∷ []
-      → length others < length left
-  one_gone-back left item others step = omega (arith, ap length step ∙ length_push others item)
 
   -- where none is left, all were moved
   pub all_moved : (moved left all : List T) → moved ++ left ≡ all → length left ≡ 0 → moved ≡ all
@@ -81,6 +77,24 @@ module _ {T : Type 0} {front back n : ℕ} (items left : List T)
   left-last {item = item} some here written =
       sym shown ∙ (slice_range_last items front back item written.0 (left-some some).0 lies.1 here
       ∙ ap (λ slots. slice_range slots front (back - 1) ++ item ∷ []) (sym written.1))
+
+  -- the item behind those passed is the last of the part that holds both. Its first slot is written as a remainder.
+  pub left-item : (passed : ℕ) (item : T) (part : List T) → passed < length left
+      → part ≡ take (passed + 1) (drop (front % 65536) items) → item ≡ get_or part (length part - 1) item
+      → drop passed left ≡ item ∷ drop (passed + 1) left
+  left-item passed item part some is last =
+      let first : front % 65536 ≡ front = mod-eq_of_lt (omega (arith, count)) in
+      let same : take (passed + 1) (drop front items) ≡ take (passed + 1) left =
+      sym (take-take (passed + 1) (back - front) (drop front items) (omega (arith, count)))
+      ∙ ap (take (passed + 1)) shown in
+      let here : part ≡ take (passed + 1) left =
+      is ∙ (ap (λ k. take (passed + 1) (drop k items)) first ∙ same) in
+      let long : length part - 1 ≡ passed =
+      omega (arith, ap length here, length-take-le (passed + 1) left (omega arith)) in
+      let this : item ≡ get_or left passed item =
+      last ∙ (ap (λ k. get_or part k item) long
+      ∙ (ap (λ l. get_or l passed item) here ∙ get_or-take (passed + 1) left passed item (omega arith))) in
+      drop_more left passed item some ∙ ap (λ x. x ∷ drop (passed + 1) left) (sym this)
 
   -- a list that was written over, as long as it was: two slots that lay in it still do
   pub left-kept : (after written : List T) {from to : ℕ} → from ≤ to → to ≤ length items

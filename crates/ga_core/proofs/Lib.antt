@@ -1,25 +1,18 @@
 mod MadeLemmas
 mod NextCalls
 mod TupleLemmas
-pub mod BitLemmas
 pub mod CopyLemmas
 pub mod EntryActs
-pub mod Everyday
 pub mod FillLemmas
-pub mod JoinLemmas
 pub mod JoinedRuns
-pub mod KeyLemmas
 pub mod LeftLemmas
 pub mod MoveLemmas
-pub mod NestedLemmas
 pub mod PairLemmas
-pub mod PlaceLemmas
-pub mod RingLemmas
 pub mod RunLemmas
-pub mod SignedLemmas
 pub mod SlotLemmas
-pub mod WordLemmas
+pub mod TwoEndedLemmas
 pub mod ZipLemmas
+pub mod callers
 pub mod walks
 pub use Rattle.arrayvec.proofs.IterLemmas
 pub use Rattle.ga_views.proofs.ActsLemmas
@@ -28,3 +21,12 @@ pub use Rattle.ga_views.proofs.CutLemmas
 pub use Rattle.ga_views.proofs.HexLemmas
 pub use Rattle.ga_views.proofs.RowLemmas
 pub use Rattle.ga_views.proofs.RowSetLemmas
+pub use Rattle.ga_core.proofs.callers.BitLemmas
+pub use Rattle.ga_core.proofs.callers.Everyday
+pub use Rattle.ga_core.proofs.callers.JoinLemmas
+pub use Rattle.ga_core.proofs.callers.KeyLemmas
+pub use Rattle.ga_core.proofs.callers.NestedLemmas
+pub use Rattle.ga_core.proofs.callers.PlaceLemmas
+pub use Rattle.ga_core.proofs.callers.RingLemmas
+pub use Rattle.ga_core.proofs.callers.SignedLemmas
+pub use Rattle.ga_core.proofs.callers.WordLemmas

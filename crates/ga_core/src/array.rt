@@ -69,7 +69,7 @@ impl<T, N: ArrayLength<T>> GenericArray<T, N> {
     // Taken apart and put together again, it is copied once on its way through inlined functions; a
     // variable that is returned is copied in each.
     #[inline(always)]
-    pub(crate) fn repacked(self) -> Self
+    pub(crate) fn repack(self) -> Self
         ensures { result ≡ self }
     {
         let GenericArray { store, of: _ } = self;

@@ -9,9 +9,9 @@ mod copies;
 mod folds;
 mod steps;
 
-use crate::items_left::ItemsLeft;
+use crate::items_left::TwoEnded;
 use crate::length::ArrayLength;
-use crate::slots::{exceed_512, move_as_one, move_items};
+use crate::slots::{is_exchange_cheaper, move_as_one, move_items};
 use crate::store::{Store, take_at};
 use std::fmt;
 use std::marker::{Model, PhantomData};
@@ -78,15 +78,6 @@ impl<T, N: ArrayLength<T>> GenericArrayIter<T, N> {
     {
         &self.store.as_slice()[self.front..self.back]
     }
-
-    /// The number of items that are left, twice: they are no fewer and no more.
-    #[inline]
-    pub fn size_hint(&self) -> (usize, Option<usize>)
-        ensures { result ≡ (length self.now, Some (length self.now)) }
-    {
-        let len = self.len();
-        (len, Some(len))
-    }
 }
 
 impl<T: Default + Drop, N: ArrayLength<T>> Iterator for GenericArrayIter<T, N> {
@@ -105,11 +96,13 @@ impl<T: Default + Drop, N: ArrayLength<T>> Iterator for GenericArrayIter<T, N> {
         Some(self.take_first())
     }
 
+    /// The number of items that are left, twice: they are no fewer and no more.
     #[inline]
     fn size_hint(&self) -> (usize, Option<usize>)
         ensures { result ≡ (length self.now, Some (length self.now)) }
     {
-        GenericArrayIter::size_hint(self)
+        let len = self.len();
+        (len, Some(len))
     }
 }
 
@@ -126,17 +119,40 @@ impl<T: Default + Drop, N: ArrayLength<T>> DoubleEndedIterator for GenericArrayI
     }
 }
 
-impl<T: Default + Drop, N: ArrayLength<T>> ItemsLeft<T> for GenericArrayIter<T, N> {
+impl<T: Default + Drop, N: ArrayLength<T>> TwoEnded<T> for GenericArrayIter<T, N> {
+    ghost use Rattle.std.specs.List.{refill};
+    ghost use Rattle.std.specs.Prelude.{length, refl};
+
     ghost items = { λ left. left };
 
     #[inline]
-    fn take_front(&mut self) -> Option<T> {
+    fn front(&mut self) -> Option<T> {
         self.next()
     }
 
     #[inline]
-    fn take_back(&mut self) -> Option<T> {
+    fn back(&mut self) -> Option<T> {
         self.next_back()
+    }
+
+    fn front_nth(&mut self, n: usize) -> Option<T> {
+        GenericArrayIter::nth(self, n)
+    }
+
+    fn back_nth(&mut self, n: usize) -> Option<T> {
+        GenericArrayIter::nth_back(self, n)
+    }
+
+    #[inline]
+    fn live(&self) -> &[T] {
+        self.as_slice()
+    }
+
+    ghost left_with = { λ left written. (refill (length left) left written, refl) };
+
+    #[inline]
+    fn live_mut(&mut self) -> &mut [T] {
+        self.as_mut_slice()
     }
 }
 
@@ -173,7 +189,7 @@ impl<T: Default + Drop, N: ArrayLength<T>> GenericArrayIter<T, N> {
         ensures left { self.new ≡ drop (length slots.old) self.old }
     {
         let count = slots.len();
-        if count == room && exceed_512(slots) {
+        if count == room && is_exchange_cheaper(slots) {
             self.exchange::<S>(slots);
         } else if count == N::USIZE && move_as_one(slots) {
             self.exchange::<N::ArrayType>(slots);

@@ -9,7 +9,7 @@ ghost use Rattle.std.specs.List.{zip};
 ghost use Rattle.std.specs.Prelude.{◌≡◌, List, Result, length, map, ⊤};
 
 use crate::array::GenericArray;
-use crate::closures::{try_write_mapped_ref, write_mapped_ref, write_zipped_ref};
+use crate::call_results::{try_write_mapped_ref, write_mapped_ref, write_zipped_ref};
 use crate::length::ArrayLength;
 use ga_views::{GenericArrayRef, Unsigned};
 
@@ -49,8 +49,7 @@ pub trait BorrowedItems<T, N: Unsigned> {
         self.map_inline_ref_by(&mut f)
     }
 
-    /// `map_inline_ref` with a borrowed closure, which can be used again in the state that it
-    /// reached.
+    /// `map_inline_ref`: `f` is borrowed.
     #[inline(always)]
     final fn map_inline_ref_by<U: Default + Drop, F: FnMut(&T) -> U>(
         &self,
@@ -68,7 +67,7 @@ pub trait BorrowedItems<T, N: Unsigned> {
         let items = self.as_slice();
         let mut made = GenericArray::<U, N>::default();
         write_mapped_ref(items, made.as_mut_slice(), f);
-        made.repacked()
+        made.repack()
     }
 
     /// `map_inline_ref` with a closure that may fail: the array of what it returns, or its first
@@ -92,8 +91,7 @@ pub trait BorrowedItems<T, N: Unsigned> {
         self.try_map_inline_ref_by(&mut f)
     }
 
-    /// `try_map_inline_ref` with a borrowed closure, which can be used again in the state that it
-    /// reached.
+    /// `try_map_inline_ref`: `f` is borrowed.
     #[inline(always)]
     final fn try_map_inline_ref_by<U: Default + Drop, F: FnMut(&T) -> Result<U, E>, E>(
         &self,
@@ -112,7 +110,7 @@ pub trait BorrowedItems<T, N: Unsigned> {
         let items = self.as_slice();
         let mut made = GenericArray::<U, N>::default();
         match try_write_mapped_ref(items, made.as_mut_slice(), f) {
-            Ok(()) => Ok(made.repacked()),
+            Ok(()) => Ok(made.repack()),
             Err(error) => Err(error),
         }
     }
@@ -141,8 +139,7 @@ pub trait BorrowedItems<T, N: Unsigned> {
         self.zip_inline_ref_by(rhs, &mut f)
     }
 
-    /// `zip_inline_ref` with a borrowed closure, which can be used again in the state that it
-    /// reached.
+    /// `zip_inline_ref`: `f` is borrowed.
     #[inline(always)]
     final fn zip_inline_ref_by<B, U: Default + Drop, F: FnMut(&T, &B) -> U>(
         &self,
@@ -163,7 +160,7 @@ pub trait BorrowedItems<T, N: Unsigned> {
         let items = self.as_slice();
         let mut made = GenericArray::<U, N>::default();
         write_zipped_ref(items, rhs.as_slice(), made.as_mut_slice(), f);
-        made.repacked()
+        made.repack()
     }
 }
 

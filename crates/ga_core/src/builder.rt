@@ -9,7 +9,7 @@ mod edits;
 
 use crate::array::GenericArray;
 use crate::array_iter::GenericArrayIter;
-use crate::closures::BLOCK;
+use crate::blocks::BLOCK;
 use crate::length::ArrayLength;
 use crate::store::{Store, put_at};
 pub use edits::carry_to_end;
@@ -42,8 +42,8 @@ impl<T, N: ArrayLength<T>> Model for ArrayBuilder<T, N> {
 }
 
 impl<T: Default + Drop, N: ArrayLength<T>> ArrayBuilder<T, N> {
-    // Inlined always, so that the compiler knows the position.
     /// A builder without items. Requires `N <= MAX_INLINE`. Fills its `N` slots with defaults.
+    // Inlined always, so that the compiler knows the position.
     #[inline(always)]
     pub fn new() -> Self
         requires fits { FitsInline N.USIZE }
@@ -51,7 +51,7 @@ impl<T: Default + Drop, N: ArrayLength<T>> ArrayBuilder<T, N> {
     {
         ArrayBuilder {
             position: 0,
-            store: Store::filled(N::USIZE),
+            store: Store::with_defaults(N::USIZE),
             of: PhantomData,
         }
     }
@@ -162,17 +162,17 @@ impl<T: Default + Drop, N: ArrayLength<T>> ArrayBuilder<T, N> {
         ensures bound { length self.new ≤ N.USIZE }
         ensures can { length self.new ≡ N.USIZE → I.can_next items.new }
     {
-        let room = N::USIZE - self.position();
-        self.take_some(items, room);
+        self.fill(items);
     }
 
-    // `extend` of a builder whose position the compiler knows: it unrolls the loop over blocks.
+    // `extend` in blocks, which the compiler unrolls.
     #[inline(always)]
     pub(crate) fn fill<I: Iterator<Item = T>>(&mut self, items: &mut I)
         requires can { I.can_next items.old }
         ensures taken { (taken : List T) × (self.new ≡ self.old ++ taken)
             × Takes I.next_gives items.old (N.USIZE - length self.old) taken items.new }
         ensures can { length self.new ≡ N.USIZE → I.can_next items.new }
+        ensures bound { length self.new ≤ N.USIZE }
     {
         while N::USIZE - self.position() >= BLOCK {
             if !self.take_some(items, BLOCK) {
@@ -195,12 +195,13 @@ impl<T: Default + Drop, N: ArrayLength<T>> ArrayBuilder<T, N> {
         ensures can { length self.new ≡ length self.old + count → I.can_next items.new }
         ensures bound { length self.new ≤ N.USIZE }
     {
-        let end = self.position() + count;
-        while self.position() != end {
+        let mut turn = 0;
+        while is_below(turn, count) {
             match items.next() {
                 Some(item) => self.push(item),
                 None => return false,
             }
+            turn += 1;
         }
         true
     }
@@ -251,4 +252,13 @@ impl<T: Default + Drop, N: ArrayLength<T>> ArrayBuilder<T, N> {
         }
         Err(LengthError)
     }
+}
+
+// `<`. By a call, since the checker asks of a loop that counts that its iterator ends.
+#[inline(always)]
+fn is_below(turn: usize, count: usize) -> bool
+    ensures more { IsTrue result → turn < count }
+    ensures done { IsFalse result → count ≤ turn }
+{
+    turn < count
 }

@@ -12,15 +12,15 @@
 
 mod array;
 mod array_iter;
+/// Loops in blocks. For the crates above.
+#[doc(hidden)]
+pub mod blocks;
 mod borrowed_items;
 mod builder;
-/// What a closure returns, written over slots. For the crates above.
-#[doc(hidden)]
-pub mod closures;
+mod call_results;
 mod errors;
-/// That numbers fit their type, as facts for a proof.
 pub mod item_ranges;
-/// The folds of both iterators by value.
+/// Both iterators by value as one trait, and folds over it.
 pub mod items_left;
 mod length;
 mod slices_compared;

@@ -1,7 +1,7 @@
 //! The slots of a slice: moves of their items, and what is written over them in order.
 ghost use Rattle.ga_core.specs.Copies.{Repeats};
 ghost use Rattle.std.specs.List.{All, AllZip};
-ghost use Rattle.std.specs.Prelude.{◌≡◌, ◌≤◌, IsOk, OnOk, length};
+ghost use Rattle.std.specs.Prelude.{◌≡◌, ◌-◌, ◌<◌, ◌≤◌, IsOk, OnOk, length, slice_index_or};
 
 use crate::errors::AllocError;
 use std::mem;
@@ -29,6 +29,19 @@ pub(crate) fn write_defaults<T: Default + Drop>(slots: &mut [T])
     }
 }
 
+// Takes the item of the last slot, and writes defaults over all others, in order.
+#[inline]
+pub(crate) fn take_last_slot<T: Default + Drop>(slots: &mut [T]) -> T
+    requires some { 0 < length slots.old }
+    ensures item { result ≡ slice_index_or slots.old (length slots.old - 1) result }
+    ensures len { length slots.new ≡ length slots.old }
+{
+    let last = slots.len() - 1;
+    let item = mem::take(&mut slots[last]);
+    write_defaults(&mut slots[..last]);
+    item
+}
+
 // `write_defaults` from the last slot to the first.
 #[inline]
 pub(crate) fn write_defaults_back<T: Default + Drop>(slots: &mut [T])
@@ -46,10 +59,10 @@ pub(crate) fn move_as_one<T>(items: &[T]) -> bool {
     items.len() > 8 || mem::size_of_val(items) <= mem::size_of::<usize>()
 }
 
-// Whether items take more than 512 bytes. Up to these, a loop over the slots of a whole builder
-// takes less than an exchange.
+// Whether an exchange of the items takes less than a loop over them: above 512 bytes it does, where
+// they are those of a whole builder.
 #[inline(always)]
-pub(crate) fn exceed_512<T>(items: &[T]) -> bool {
+pub(crate) fn is_exchange_cheaper<T>(items: &[T]) -> bool {
     mem::size_of_val(items) > 512
 }
 
@@ -79,10 +92,7 @@ pub(crate) fn write_clones<T: Clone>(slots: &mut [T], items: &[T]) -> Result<(),
     ensures succeeds { All T.is_infallible items.now → IsOk result }
 {
     for (index, slot) in slots.iter_mut().enumerate() {
-        match items[index].clone() {
-            Ok(copy) => *slot = copy,
-            Err(_) => return Err(AllocError),
-        }
+        *slot = items[index].clone()?;
     }
     Ok(())
 }
@@ -116,10 +126,7 @@ pub(crate) fn write_copies<T: Clone>(slots: &mut [T], item: T) -> Result<(), All
     if count > 0 {
         let last = count - 1;
         for slot in slots[..last].iter_mut() {
-            match item.clone() {
-                Ok(copy) => *slot = copy,
-                Err(_) => return Err(AllocError),
-            }
+            *slot = item.clone()?;
         }
         slots[last] = item;
     }

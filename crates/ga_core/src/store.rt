@@ -15,7 +15,7 @@ use std::mem;
 /// A list with a capacity, kept in the value itself. It never asks for memory.
 ///
 /// Who writes one gives the six calls without a body. The others stand on them. Arrays, builders and
-/// iterators keep theirs full: they make one by `filled`, and call neither `push` nor `pop` nor
+/// iterators keep theirs full: they make one by `with_defaults`, and call neither `push` nor `pop` nor
 /// `remove_at`, which are for who keeps items in a store alone.
 pub trait Store<T>: Sized + Drop {
     // The items, in order.
@@ -65,7 +65,7 @@ pub trait Store<T>: Sized + Drop {
     ///
     /// The body here appends each to an empty store. A store that fills its spare slots with
     /// defaults can do without the second pass.
-    fn filled(capacity: usize) -> Self
+    fn with_defaults(capacity: usize) -> Self
     where
         T: Default,
         requires fits { FitsInline CAPACITY }
@@ -122,7 +122,7 @@ pub trait Store<T>: Sized + Drop {
 
 /// The defaults in the spare slots of an `ArrayVec` count as no items.
 // `MadeWith<()>` is what each type with a `Default` has. With that bound in its place there would
-// be two defaults in `filled`, of which no proof shows that they agree.
+// be two defaults in `with_defaults`, of which no proof shows that they agree.
 impl<T: MadeWith<()> + Drop, const N: usize> Store<T> for ArrayVec<T, N> {
     ghost use Rattle.arrayvec.specs.ArrayVec.{with_items};
     ghost use Rattle.std.specs.Prelude.{refl};
@@ -164,7 +164,7 @@ impl<T: MadeWith<()> + Drop, const N: usize> Store<T> for ArrayVec<T, N> {
     }
 
     #[inline]
-    fn filled(_capacity: usize) -> Self
+    fn with_defaults(_capacity: usize) -> Self
     where
         T: Default,
     {

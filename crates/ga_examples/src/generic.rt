@@ -9,7 +9,7 @@ use generic_array::{AllocError, ArrayLength, FillError, GenericArray};
 fn sevens<S: GenericSequence<u8>>(place: S::Place) -> Result<S::Sequence, AllocError>
     requires fits { S.Fits }
     ensures items { IfOk result (λ made. S.Sequence.items made ≡ replicate S.Length.USIZE 7) }
-    ensures given { S.IsPromised → IsOk result }
+    ensures given { S.NeedsNoMemory → IsOk result }
 {
     S::repeat(place, 7)
 }
@@ -18,7 +18,7 @@ fn places<S: GenericSequence<usize>>(place: S::Place) -> Result<S::Sequence, S::
     requires fits { S.Fits }
     ensures items { IfOk result (λ made.
         S.Sequence.items made ≡ map (λ place. place) (range_with_len 0 S.Length.USIZE)) }
-    ensures given { S.IsPromised → IsOk result }
+    ensures given { S.NeedsNoMemory → IsOk result }
 {
     S::generate(place, |index| index)
 }

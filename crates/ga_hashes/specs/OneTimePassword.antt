@@ -16,9 +16,9 @@ abbrev pub offset_of : List ℕ → ℕ
 offset_of tag = slice_index tag (length tag - 1) % 2 ^ 4
 
 -- those bytes as a number, high byte first, without the highest bit
-abbrev pub truncated : List ℕ → ℕ
-truncated tag = from_be_bytes w32 (take 4 (drop (offset_of tag) tag)) % 2 ^ 31
+abbrev pub truncation : List ℕ → ℕ
+truncation tag = from_be_bytes w32 (take 4 (drop (offset_of tag) tag)) % 2 ^ 31
 
 -- the code of a counter under a key: the last decimal digits of that number
 abbrev pub code_of : (List ℕ → List ℕ) → ℕ → List ℕ → ℕ → ℕ → ℕ
-code_of digest block key counter digits = truncated (hmac_of digest block key (to_be_bytes w64 counter)) % 10 ^ digits
+code_of digest block key counter digits = truncation (hmac_of digest block key (to_be_bytes w64 counter)) % 10 ^ digits

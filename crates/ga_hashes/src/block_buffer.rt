@@ -80,7 +80,7 @@ impl<N: ArrayLength<u8>> BlockBuffer<N> {
         self.len = self.len.saturating_add(bytes.len() as u64);
         let missing = N::USIZE - self.kept.position();
         if bytes.len() < missing {
-            append(&mut self.kept, bytes);
+            self.kept.extend_from_slice(bytes);
             return;
         }
         if missing == N::USIZE {
@@ -191,14 +191,6 @@ fn zeros<N: ArrayLength<u8>>() -> GenericArray<u8, N>
     GenericArray::default()
 }
 
-// Appends bytes for which there is room.
-fn append<N: ArrayLength<u8>>(builder: &mut ArrayBuilder<u8, N>, bytes: &[u8])
-    requires room { length builder.old + length bytes.now ≤ N.USIZE }
-    ensures { builder.new ≡ builder.old ++ bytes.now }
-{
-    builder.extend(&mut bytes.iter().copied());
-}
-
 // The block that is full with the first of these bytes, and those that follow it.
 fn complete<'a, N: ArrayLength<u8>>(
     builder: &mut ArrayBuilder<u8, N>,
@@ -211,7 +203,7 @@ fn complete<'a, N: ArrayLength<u8>>(
     ensures none_left { builder.new ≡ [] }
 {
     let (front, behind) = bytes.split_at(N::USIZE - builder.position());
-    append(builder, front);
+    builder.extend_from_slice(front);
     (mem::replace(builder, ArrayBuilder::new()).finish(), behind)
 }
 
@@ -231,5 +223,5 @@ fn hand_on_rows<N: ArrayLength<u8>, F: FnMut(&[u8])>(
     for block in blocks.iter() {
         f(block.as_slice());
     }
-    append(kept, rest);
+    kept.extend_from_slice(rest);
 }

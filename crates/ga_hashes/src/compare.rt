@@ -37,13 +37,13 @@ pub fn chosen<N: ArrayLength<u8>>(
 ) -> GenericArray<u8, N>
     ensures { result ≡ if flag then left.now else right.now }
 {
-    // The proof needs the lengths of both, which a look tells.
+    // The proof needs the lengths of both.
     let _ = left.as_slice();
     let _ = right.as_slice();
-    each_chosen(flag, left, right)
+    choose_each(flag, left, right)
 }
 
-fn each_chosen<N: ArrayLength<u8>>(
+fn choose_each<N: ArrayLength<u8>>(
     flag: bool,
     left: &GenericArray<u8, N>,
     right: &GenericArray<u8, N>,

@@ -13,8 +13,8 @@ use ga_core::{GenericArray, LengthError};
 // How many blocks there are at most: a block's number is a byte, and the first is 1.
 const MAX_BLOCKS: usize = 255;
 
-/// The pseudorandom key of key material under a salt: HKDF-Extract. An empty salt stands for as
-/// many zeros as a digest has bytes. Costs one tag.
+/// The pseudorandom key of key material under a salt: HKDF-Extract. An empty salt is the
+/// same as as many zeros as a digest has bytes. Costs one tag.
 pub fn extract<H: HashFunction>(salt: &[u8], material: &[u8]) -> GenericArray<u8, H::OutputSize>
     ensures { result ≡ hmac_of H.digest H.BlockSize.USIZE salt.now material.now }
 {

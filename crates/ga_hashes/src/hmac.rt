@@ -31,8 +31,8 @@ impl<H: HashFunction> Hmac<H> {
     {
         let block = block_of_key::<H>(key);
         Hmac {
-            inner: keyed(&block, INNER),
-            outer: keyed(&block, OUTER),
+            inner: start_with_key(&block, INNER),
+            outer: start_with_key(&block, OUTER),
         }
     }
 
@@ -83,7 +83,7 @@ pub fn verify<H: HashFunction>(key: &[u8], message: &[u8], tag: &[u8]) -> bool
 }
 
 // The bytes, followed by zeros up to the length.
-fn padded<N: ArrayLength<u8>>(bytes: &[u8]) -> GenericArray<u8, N>
+fn pad_with_zeros<N: ArrayLength<u8>>(bytes: &[u8]) -> GenericArray<u8, N>
     requires fits { FitsInline N.USIZE }
     requires room { length bytes.now ≤ N.USIZE }
     ensures { result ≡ bytes.now ++ replicate (N.USIZE - length bytes.now) 0 }
@@ -99,14 +99,14 @@ fn block_of_key<H: HashFunction>(key: &[u8]) -> GenericArray<u8, H::BlockSize>
     ensures { result ≡ key_block H.digest H.BlockSize.USIZE key.now }
 {
     if key.len() > GenericArray::<u8, H::BlockSize>::len() {
-        padded(H::digest_of(&[key]).as_slice())
+        pad_with_zeros(H::digest_of(&[key]).as_slice())
     } else {
-        padded(key)
+        pad_with_zeros(key)
     }
 }
 
 // A hash function that was fed the key under a mask.
-fn keyed<H: HashFunction>(block: &GenericArray<u8, H::BlockSize>, mask: u8) -> H
+fn start_with_key<H: HashFunction>(block: &GenericArray<u8, H::BlockSize>, mask: u8) -> H
     ensures { H.holds result (with_mask mask block.now) }
 {
     let mut hasher = H::start();

@@ -1,7 +1,7 @@
 //! One-time passwords: HOTP (RFC 4226), which counts, and TOTP (RFC 6238), which goes by the time.
 //!
 //! Nothing here allocates, and nothing fails.
-ghost use Rattle.ga_hashes.specs.OneTimePassword.{code_of, digit_count, truncated};
+ghost use Rattle.ga_hashes.specs.OneTimePassword.{code_of, digit_count, truncation};
 ghost use Rattle.std.proofs.Common.{lit≤};
 ghost use Rattle.std.specs.Int.NonZero.{non_zero_u64_get};
 ghost use Rattle.std.specs.Prelude.{◌≡◌, ◌/◌, ◌^◌, ◌<◌, ◌≤◌, length};
@@ -51,7 +51,7 @@ pub fn counter_code<H: LongDigest>(key: &[u8], counter: u64, digits: Digits) -> 
         (digit_count digits) }
     ensures short { result < 10 ^ digit_count digits }
 {
-    truncated(tag_of::<H>(key, &counter.to_be_bytes()).as_slice()) % code_count(digits)
+    truncation(tag_of::<H>(key, &counter.to_be_bytes()).as_slice()) % code_count(digits)
 }
 
 /// The code of a time: TOTP. Costs one tag.
@@ -77,9 +77,9 @@ fn code_count(digits: Digits) -> u32
 }
 
 // The number that a tag is cut to, of 31 bits.
-fn truncated(tag: &[u8]) -> u32
+fn truncation(tag: &[u8]) -> u32
     requires { 20 ≤ length tag.now }
-    ensures { result ≡ truncated tag.now }
+    ensures { result ≡ truncation tag.now }
 {
     let offset = (tag[tag.len() - 1] % 16) as usize;
     let bytes = [

@@ -14,7 +14,7 @@ pub fn build_of_items<T: Drop, S: FromFallibleIterator<T>>(
     requires fits { S.Fits }
     ensures only { IfOk result (λ made. length items.items ≡ S.Length.USIZE) }
     ensures items { IfOk result (λ made. S.items made ≡ items.items) }
-    ensures exactly { S.IsPromised → length items.items ≡ S.Length.USIZE → IsOk result }
+    ensures exactly { S.NeedsNoMemory → length items.items ≡ S.Length.USIZE → IsOk result }
     ensures other { (error : LengthError) → result ≡ Err (FillError.Length error)
         → length items.items ≢ S.Length.USIZE }
 {
@@ -31,7 +31,7 @@ fn build_of_results<T: Drop, E: Drop, S: FromFallibleIterator<T>>(
     ensures only { IfOk result (λ made. length items.items ≡ S.Length.USIZE) }
     ensures good { IfOk result (λ made.
         try_map (λ (item : Result T E). item) (map Ok items.items) ≡ Ok (S.items made)) }
-    ensures exactly { S.IsPromised → length items.items ≡ S.Length.USIZE → IsOk result }
+    ensures exactly { S.NeedsNoMemory → length items.items ≡ S.Length.USIZE → IsOk result }
     ensures other { (error : LengthError) → result ≡ Err (FillError.Length error)
         → length items.items ≢ S.Length.USIZE }
 {

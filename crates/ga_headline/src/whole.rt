@@ -70,7 +70,7 @@ where
         MapStoppedAt (TryClosureRun (CallAt S.entry F.step)) f.old (S.items s) why f.new) }
     ensures unwalked { OnErr result ((look.new ≡ look.old)
         × (replies.new.items ≡ replies.old.items)) }
-    ensures promised { IfErr result (λ why. MapKeepsPromises S.Mapped.IsPromised
+    ensures promised { IfErr result (λ why. MapKeepsPromises S.Mapped.NeedsNoMemory
         (vec_len replies.old + length steps.items ≤ vec_capacity replies.old) why) }
     ensures kept { vec_capacity replies.old ≤ vec_capacity replies.new }
 {
@@ -138,7 +138,7 @@ where
         (TryClosureRun (CallAt S.entry F.step)) items.old f.old why items.new f.new) }
     ensures unwalked { OnErr result ((look.new ≡ look.old)
         × (replies.new.items ≡ replies.old.items)) }
-    ensures promised { IfErr result (λ why. KeepsPromises S.IsPromised S.Mapped.IsPromised
+    ensures promised { IfErr result (λ why. KeepsPromises S.NeedsNoMemory S.Mapped.NeedsNoMemory
         (vec_len replies.old + length steps.items ≤ vec_capacity replies.old) why) }
     ensures kept { vec_capacity replies.old ≤ vec_capacity replies.new }
 {

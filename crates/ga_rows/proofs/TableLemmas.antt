@@ -1,5 +1,5 @@
 -- The table of decimal texts, held against `decimal` at each of its places by computing.
-use Rattle.ga_rows.specs.declared.decimal.TheConstants.{DIGITS, TEXTS}
+use Rattle.ga_rows.specs.declared.buffer.decimal.TheConstants.{DIGITS, TEXTS}
 use Rattle.std.proofs.Common.{◌≡◌, ℕ, zero, suc, ◌<◌, Bool, true, ◌&&◌, List, [], decimal, get_or, nat_lt, refl, take}
 use Rattle.std.proofs.lemmas.Bool.Decides.{Decides-and, Decides-below_and, Decides-ltb}
 use Rattle.std.proofs.lemmas.Slice.Eq.{bytes_eq-Decides}

@@ -7,7 +7,7 @@ ghost use Rattle.std.specs.Prelude.{◌≡◌, IfErr, IfOk, drop, map, string_by
 use crate::status::Status;
 use std::alloc::Global;
 
-/// The text that tells which words mean something, without the end of its line.
+/// The words that are valid, as a line without its end.
 pub const USAGE: &str = "usage: ga_rows [dec|hex|back|sum|last] [1|2|4|8|16]";
 
 /// How a row is written, and in which order the rows are.
@@ -27,7 +27,7 @@ pub enum Mode {
 
 impl Mode {
     // The mode of a name.
-    fn named(name: &str) -> Option<Mode>
+    fn from_name(name: &str) -> Option<Mode>
         ensures { result ≡ mode_named name.now }
     {
         match name {
@@ -58,7 +58,7 @@ pub enum Width {
 
 impl Width {
     // The width of a number of bytes.
-    fn named(name: &str) -> Option<Width>
+    fn from_name(name: &str) -> Option<Width>
         ensures { result ≡ width_named name.now }
     {
         match name {
@@ -80,8 +80,8 @@ pub fn parse_words(words: &[String]) -> Option<(Mode, Width)>
 {
     match words {
         [] => Some((Mode::Dec, Width::W4)),
-        [mode] => Some((Mode::named(mode.as_str())?, Width::W4)),
-        [mode, width] => Some((Mode::named(mode.as_str())?, Width::named(width.as_str())?)),
+        [mode] => Some((Mode::from_name(mode.as_str())?, Width::W4)),
+        [mode, width] => Some((Mode::from_name(mode.as_str())?, Width::from_name(width.as_str())?)),
         _ => None,
     }
 }

@@ -1,8 +1,8 @@
 //! Text that a writer has not been given yet.
-ghost use Rattle.ga_rows.specs.Text.{numbers_text};
-ghost use Rattle.std.specs.Prelude.{◌≡◌, ◌+◌, ◌-◌, ◌*◌, ◌<◌, ◌≤◌, ◌↔◌, IsTrue, IsOk, OnErr, OnOk, [], ◌∷◌, ◌++◌, decimal, length, min, reverse, take};
+ghost use Rattle.std.specs.Prelude.{◌≡◌, ◌+◌, ◌-◌, ◌<◌, ◌≤◌, ◌↔◌, IsTrue, IsOk, OnErr, OnOk, [], ◌∷◌, ◌++◌, length, min, take};
 
-use crate::decimal::{put_numbers, put_numbers_back};
+mod decimal;
+
 use std::io;
 use std::io::{ErrorKind, Write};
 use std::marker::Model;
@@ -72,74 +72,6 @@ impl Piece {
         let len = self.len;
         self.bytes[len] = byte;
         self.len = len + 1;
-    }
-
-    /// Appends a number of at most four digits in decimal, without leading zeros. There is room for
-    /// four.
-    #[inline]
-    #[tactic(auto, using(std::proofs::lemmas::Fmt::decimal_digit))]
-    pub fn push_decimal(&mut self, number: u16)
-        requires small { number < 10000 }
-        requires room { length self.old + 4 ≤ PIECE_SIZE }
-        ensures text { self.new ≡ self.old ++ decimal number }
-        ensures digits { length self.new ≤ length self.old + 4 }
-    {
-        if number < 1000 {
-            self.push_below_1000(number);
-        } else {
-            self.push_below_1000(number / 10);
-            self.push_digit(number % 10);
-        }
-    }
-
-    #[inline]
-    #[tactic(auto, using(std::proofs::lemmas::Fmt::decimal_digit))]
-    fn push_below_1000(&mut self, number: u16)
-        requires small { number < 1000 }
-        requires room { length self.old + 3 ≤ PIECE_SIZE }
-        ensures text { self.new ≡ self.old ++ decimal number }
-        ensures digits { length self.new ≤ length self.old + 3 }
-    {
-        if number < 10 {
-            self.push_digit(number);
-        } else if number < 100 {
-            self.push_digit(number / 10);
-            self.push_digit(number % 10);
-        } else {
-            self.push_digit(number / 100);
-            self.push_digit(number / 10 % 10);
-            self.push_digit(number % 10);
-        }
-    }
-
-    #[inline]
-    fn push_digit(&mut self, digit: u16)
-        requires small { digit < 10 }
-        requires room { length self.old < PIECE_SIZE }
-        ensures { self.new ≡ self.old ++ (48 + digit) ∷ [] }
-    {
-        self.push(b'0' + digit as u8);
-    }
-
-    /// Appends numbers in decimal, joined by one space. There is room for four bytes each.
-    #[inline]
-    pub fn push_numbers(&mut self, numbers: &[u8])
-        requires { length self.old + 4 * length numbers.now ≤ PIECE_SIZE }
-        ensures text { self.new ≡ self.old ++ numbers_text numbers.now }
-        ensures bytes { length self.new ≤ length self.old + 4 * length numbers.now }
-    {
-        self.len = put_numbers(&mut self.bytes, self.len, numbers);
-    }
-
-    /// Appends numbers in decimal, from the last to the first, joined by one space. There is room
-    /// for four bytes each.
-    #[inline]
-    pub fn push_numbers_back(&mut self, numbers: &[u8])
-        requires { length self.old + 4 * length numbers.now ≤ PIECE_SIZE }
-        ensures text { self.new ≡ self.old ++ numbers_text (reverse numbers.now) }
-        ensures bytes { length self.new ≤ length self.old + 4 * length numbers.now }
-    {
-        self.len = put_numbers_back(&mut self.bytes, self.len, numbers);
     }
 
     /// Appends a text. There is room.

@@ -12,7 +12,7 @@ const READ_SIZE: usize = 65_536;
 /// All bytes of `r`, or the status of what kept it from being read.
 ///
 /// An interrupted read is made again. A reader that doesn't end within `u64::MAX` reads counts as
-/// faulty. No clause says that one that ends sooner doesn't: tests play some 100,000 reads.
+/// faulty. No clause says that one that ends sooner doesn't: tests make some 100,000 reads.
 pub fn read_all<R: Read>(alloc: Global, r: &mut R) -> Result<Vec<u8>, Status>
     ensures bytes { IfOk result (λ input.
         IfSome (R.remaining r.old) (λ bytes. input.items ≡ bytes)) }

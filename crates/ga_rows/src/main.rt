@@ -9,7 +9,6 @@
 
 mod arguments;
 mod buffer;
-mod decimal;
 mod input;
 mod output;
 mod program;

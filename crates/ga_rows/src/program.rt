@@ -58,7 +58,7 @@ pub fn run_listed<I: Iterator<Item = String>, R: Read, W: Write, E: Write>(
 /// read, where its bytes are known; of another reader the clause says nothing. No clause says that
 /// these two come only if the input can't be allocated, or if the reader or the writer fails. An
 /// interrupted read is made again; a reader that doesn't end within `u64::MAX` reads counts as
-/// faulty. Tests play some 100,000 reads. Allocates for the input alone.
+/// faulty. Tests make some 100,000 reads. Allocates for the input alone.
 pub fn run<R: Read, W: Write>(alloc: Global, words: &[String], r: &mut R, w: &mut W) -> Status
     ensures { Ends R.remaining W.contents (meaning_of_words (map string_bytes words.now))
         result r.old r.new w.old w.new }

@@ -12,7 +12,7 @@ use std::io::ErrorKind;
 use std::process::ExitCode;
 use std::test::Fail;
 
-/// The words of a text, which stand behind one space each.
+/// The words of a text, which are separated by one space.
 fn words_of(alloc: Global, text: &str) -> Result<Vec<String>, AllocError> {
     let mut words = Vec::new(alloc);
     for word in text.split(' ') {

@@ -5,6 +5,7 @@ use Rattle.std.proofs.Math.Nat.{mod-eq_of_lt, mul_comm}
 use Rattle.std.proofs.lemmas.Bool.{eq-eqb, ne_eqb}
 use Rattle.std.proofs.lemmas.List.{get_or-map, length-map}
 use Rattle.std.proofs.lemmas.List.Elements.{All-head, All-map, All-tail}
+use Rattle.std.proofs.lemmas.List.Folds.{map_fixed}
 use Rattle.std.proofs.lemmas.List.FromFn.{fill_by_all, get_or-map-range_with_len}
 use Rattle.std.proofs.lemmas.Simd.{map-map}
 use Rattle.std.specs.List.{All, fold, range_with_len, zip}
@@ -65,12 +66,6 @@ module _ (place : ℕ) (unit : ℕ → ℕ) (one : unit place ≡ 1) (others : (
       let first : (0 + (x * unit start) % 2 ^ 64) % 2 ^ 64 ≡ 0 = rw product refl in
       rw first (one_remains numbers (start + 1) ahead (All-tail (λ number. number < 2 ^ 64) x numbers fit)
       (omega (arith, here)) (omega (arith, within)))
-
--- what a map changes nothing of
-map_fixed : {T : Type 0} (f : T → T) (items : List T) → All (λ item. f item ≡ item) items → map f items ≡ items
-map_fixed f [] all = refl
-map_fixed f (x ∷ items) all =
-    λ i. All-head (λ item. f item ≡ item) x items all i ∷ map_fixed f items (All-tail (λ item. f item ≡ item) x items all) i
 
 -- a matrix times the identity is the matrix
 pub product_identity : (rows columns : ℕ) (matrix : List (List ℕ)) → IsMatrix rows columns matrix

@@ -120,12 +120,12 @@ where
 {
     let rows = matrix.as_slice();
     look_at_rows(rows);
-    turned(rows)
+    transpose_rows(rows)
 }
 
 // The columns as rows, of borrowed rows.
 #[tactic(auto, unfolding(crate::specs::Matrix::transpose))]
-fn turned<C, M, const L: usize>(rows: &[GenericArray<u64, C>]) -> Matrix<M, L>
+fn transpose_rows<C, M, const L: usize>(rows: &[GenericArray<u64, C>]) -> Matrix<M, L>
 where
     C: ArrayLength<u64> + InlineLength,
     M: ArrayLength<u64> + InlineLength,
@@ -155,7 +155,7 @@ where
     ensures { IsTrue result ↔ (matrix.now ≡ transpose C.USIZE matrix.now) }
 {
     let rows = matrix.as_slice();
-    let columns: Matrix<C, R> = turned(rows);
+    let columns: Matrix<C, R> = transpose_rows(rows);
     rows == columns.as_slice()
 }
 

@@ -158,8 +158,7 @@ fn with_carry(sum: u16, word: u16) -> u16
     (total % 0x1_0000 + total / 0x1_0000) as u16
 }
 
-/// Writes the header of a datagram whose payload stands in the slice already, behind the eight
-/// bytes of the header.
+/// Writes the header of a datagram into the first eight bytes. The payload is behind them already.
 pub fn write_header(
     datagram: &mut [u8],
     source_address: GenericArrayRef<'_, u8, U4>,

@@ -7,8 +7,8 @@ ghost use Rattle.std.specs.Prelude.{◌≡◌, ℕ, ◌+◌, ◌<◌, ◌≤◌,
 /// A reference through which a slice can be written: `&mut [T]`, or one to an array of `ga_core`.
 /// Writing doesn't change the slice's length.
 ///
-/// The writing view is generic over it: a contract can say what a view ends as, where its slice is
-/// borrowed on, only if the slice stands behind a bound.
+/// The writing view is generic over it. A contract can say what a view ends as after its slice was
+/// reborrowed only if the slice's type is a parameter with a bound.
 pub trait ReborrowSlice<T>: Drop {
     // The items of the slice.
     ghost items: { Self → List T };

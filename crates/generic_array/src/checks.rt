@@ -54,7 +54,7 @@ pub fn map_total_by<
         → ActsOnEntry S.entry F.step f.old h
         → ActsAsOnTwo G.FnMut g.old k → total ≡ fold k init (map h (S.items s))) }
     ensures err { OnErr result ((f.new ≡ f.old) × (g.new ≡ g.old)) }
-    ensures promised { S.Mapped.IsPromised → IsOk result }
+    ensures promised { S.Mapped.NeedsNoMemory → IsOk result }
 {
     match s.map_by(place, f) {
         Ok(mapped) => Ok(fold_made::<U, Mapped<S, T, U>, A, G>(mapped, init, g)),

@@ -74,12 +74,12 @@ pub trait FunctionalSequence<T>: GenericSequence<T> {
             (Self.Mapped.Sequence.items made) last) }
         ensures acts { IfOk result (λ made. (h : T → U) → ActsOnEntry Self.entry F.step f h
             → Self.Mapped.Sequence.items made ≡ map h (Self.items self)) }
-        ensures promised { Self.Mapped.IsPromised → IsOk result }
+        ensures promised { Self.Mapped.NeedsNoMemory → IsOk result }
     {
         self.map_by(place, &mut f)
     }
 
-    /// `map` that borrows the closure, which can be used again in the state that it reached.
+    /// `map`: `f` is borrowed.
     #[inline(always)]
     final fn map_by<U, F: FnMut(Self::Item) -> U>(
         self,
@@ -98,7 +98,7 @@ pub trait FunctionalSequence<T>: GenericSequence<T> {
         ensures acts { IfOk result (λ made. (h : T → U) → ActsOnEntry Self.entry F.step f.old h
             → Self.Mapped.Sequence.items made ≡ map h (Self.items self)) }
         ensures err { OnErr result (f.new ≡ f.old) }
-        ensures promised { Self.Mapped.IsPromised → IsOk result }
+        ensures promised { Self.Mapped.NeedsNoMemory → IsOk result }
     {
         map_entries::<T, Self::IntoIter, U, Mapped<Self, T, U>, F>(entries_of(self), place, f)
     }
@@ -125,12 +125,12 @@ pub trait FunctionalSequence<T>: GenericSequence<T> {
         ensures acts { IfOk result (λ built. (h : T → Result U E)
             → ActsOnEntry Self.entry F.step f h
             → built_items Self.Mapped.Sequence.items built ≡ try_map h (Self.items self)) }
-        ensures promised { Self.Mapped.IsPromised → IsOk result }
+        ensures promised { Self.Mapped.NeedsNoMemory → IsOk result }
     {
         self.try_map_by(place, &mut f)
     }
 
-    /// `try_map` that borrows the closure, which can be used again in the state that it reached.
+    /// `try_map`: `f` is borrowed.
     #[inline(always)]
     final fn try_map_by<U, F: FnMut(Self::Item) -> Result<U, E>, E>(
         self,
@@ -151,7 +151,7 @@ pub trait FunctionalSequence<T>: GenericSequence<T> {
             → ActsOnEntry Self.entry F.step f.old h
             → built_items Self.Mapped.Sequence.items built ≡ try_map h (Self.items self)) }
         ensures err { OnErr result (f.new ≡ f.old) }
-        ensures promised { Self.Mapped.IsPromised → IsOk result }
+        ensures promised { Self.Mapped.NeedsNoMemory → IsOk result }
     {
         try_map_entries::<T, Self::IntoIter, U, E, Mapped<Self, T, U>, F>(
             entries_of(self),
@@ -185,12 +185,12 @@ pub trait FunctionalSequence<T>: GenericSequence<T> {
         ensures acts { IfOk result (λ made. (h : T × B → U)
             → ActsOnEntries Self.entry Rhs.entry F.step f h
             → Self.Mapped.Sequence.items made ≡ map h (zip (Self.items self) (Rhs.items rhs))) }
-        ensures promised { Self.Mapped.IsPromised → IsOk result }
+        ensures promised { Self.Mapped.NeedsNoMemory → IsOk result }
     {
         inverted_zip2(rhs, place, self, f)
     }
 
-    /// `zip` that borrows the closure, which can be used again in the state that it reached.
+    /// `zip`: `f` is borrowed.
     #[inline(always)]
     final fn zip_by<B, Rhs: GenericSequence<B>, U, F: FnMut(Self::Item, Rhs::Item) -> U>(
         self,
@@ -213,7 +213,7 @@ pub trait FunctionalSequence<T>: GenericSequence<T> {
             → ActsOnEntries Self.entry Rhs.entry F.step f.old h
             → Self.Mapped.Sequence.items made ≡ map h (zip (Self.items self) (Rhs.items rhs))) }
         ensures err { OnErr result (f.new ≡ f.old) }
-        ensures promised { Self.Mapped.IsPromised → IsOk result }
+        ensures promised { Self.Mapped.NeedsNoMemory → IsOk result }
     {
         inverted_zip2_by(rhs, place, self, f)
     }
@@ -230,7 +230,7 @@ pub trait FunctionalSequence<T>: GenericSequence<T> {
         self.fold_by(init, &mut f)
     }
 
-    /// `fold` that borrows the closure, which can be used again in the state that it reached.
+    /// `fold`: `f` is borrowed.
     #[inline(always)]
     final fn fold_by<A, F: FnMut(A, Self::Item) -> A>(self, init: A, f: &mut F) -> A
         requires callable { MayFold Self.entry F.pre F.step f.old init (Self.items self) }
@@ -259,7 +259,7 @@ pub trait FunctionalSequence<T>: GenericSequence<T> {
         self.try_fold_by(init, &mut f)
     }
 
-    /// `try_fold` that borrows the closure, which can be used again in the state that it reached.
+    /// `try_fold`: `f` is borrowed.
     #[inline(always)]
     final fn try_fold_by<A, F: FnMut(A, Self::Item) -> Result<A, E>, E>(
         self,

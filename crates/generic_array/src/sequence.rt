@@ -51,8 +51,8 @@ pub trait GenericSequence<T>: Sized + AsSlice<T> + IntoIterator {
     // The value that an entry stands for.
     ghost entry: { Self.Item → T };
 
-    // Allocating a sequence of this kind and length never fails.
-    ghost IsPromised: { Type 0 };
+    // A sequence of this kind and length is built without a request for memory.
+    ghost NeedsNoMemory: { Type 0 };
 
     /// Whether a sequence of this kind may have this length, which calls that build one require.
     fn fits() -> bool
@@ -78,12 +78,12 @@ pub trait GenericSequence<T>: Sized + AsSlice<T> + IntoIterator {
             (Self.Sequence.items made) last) }
         ensures acts { IfOk result (λ made. (h : ℕ → T) → ActsAs F.FnMut f h
             → Self.Sequence.items made ≡ map h (range_with_len 0 Self.Length.USIZE)) }
-        ensures promised { IsPromised → IsOk result }
+        ensures promised { NeedsNoMemory → IsOk result }
     {
         Self::generate_by(place, &mut f)
     }
 
-    /// `generate` that borrows the closure, which can be used again in the state that it reached.
+    /// `generate`: `f` is borrowed.
     fn generate_by<F: FnMut(usize) -> T>(
         place: Self::Place,
         f: &mut F,
@@ -97,7 +97,7 @@ pub trait GenericSequence<T>: Sized + AsSlice<T> + IntoIterator {
         ensures acts { IfOk result (λ made. (h : ℕ → T) → ActsAs F.FnMut f.old h
             → Self.Sequence.items made ≡ map h (range_with_len 0 Self.Length.USIZE)) }
         ensures err { OnErr result (f.new ≡ f.old) }
-        ensures promised { IsPromised → IsOk result };
+        ensures promised { NeedsNoMemory → IsOk result };
 
     /// The sequence of `Length` values: clones of `item`, made in order, and `item` itself last.
     ///
@@ -110,11 +110,11 @@ pub trait GenericSequence<T>: Sized + AsSlice<T> + IntoIterator {
             Repeats T.is_clone item Self.Length.USIZE (Self.Sequence.items made)) }
         ensures same { IsExact T.is_clone item
             → IfOk result (λ made. Self.Sequence.items made ≡ replicate Self.Length.USIZE item) }
-        ensures few { IsPromised → Self.Length.USIZE ≤ 1 → IsOk result }
-        ensures succeeds { IsPromised → T.is_infallible item → IsOk result };
+        ensures few { NeedsNoMemory → Self.Length.USIZE ≤ 1 → IsOk result }
+        ensures succeeds { NeedsNoMemory → T.is_infallible item → IsOk result };
 
-    // Allocating no items never fails.
-    ghost empty_is_promised: { Self.Length.USIZE ≡ 0 → IsPromised };
+    // So is one of no items.
+    ghost empty_needs_no_memory: { Self.Length.USIZE ≡ 0 → NeedsNoMemory };
 
     // `into_iter` gives an entry for each item, in order, and then ends.
     ghost gives_entries: { GivesEntriesOf Self.IntoIter.can_next Self.IntoIter.next_gives
@@ -146,13 +146,12 @@ pub trait FallibleGenericSequence<T>: GenericSequence<T> {
         ensures acts { IfOk result (λ built. (h : ℕ → Result T E) → ActsAs F.FnMut f h
             → built_items Self.Sequence.items built
             ≡ try_map h (range_with_len 0 Self.Length.USIZE)) }
-        ensures promised { Self.IsPromised → IsOk result }
+        ensures promised { Self.NeedsNoMemory → IsOk result }
     {
         Self::try_generate_by(place, &mut f)
     }
 
-    /// `try_generate` that borrows the closure, which can be used again in the state that it
-    /// reached.
+    /// `try_generate`: `f` is borrowed.
     fn try_generate_by<F: FnMut(usize) -> Result<T, E>, E>(
         place: Self::Place,
         f: &mut F,
@@ -168,7 +167,7 @@ pub trait FallibleGenericSequence<T>: GenericSequence<T> {
             → built_items Self.Sequence.items built
             ≡ try_map h (range_with_len 0 Self.Length.USIZE)) }
         ensures err { OnErr result (f.new ≡ f.old) }
-        ensures promised { Self.IsPromised → IsOk result };
+        ensures promised { Self.NeedsNoMemory → IsOk result };
 }
 
 /// A sequence that can be filled from an iterator whose items may be errors.
@@ -189,7 +188,7 @@ pub trait FromFallibleIterator<T>: GenericSequence<T> {
             FillsFallibly I.next_gives items Self.Length.USIZE built after) }
         ensures runs { IfPlaced (built_items Self.items result) (λ built.
             FillFalliblyRuns I.next_gives items Self.Length.USIZE built) }
-        ensures promised { Self.IsPromised → IsPlaced result }
+        ensures promised { Self.NeedsNoMemory → IsPlaced result }
     {
         Self::from_fallible_iter_ref(place, &mut items)
     }
@@ -211,5 +210,5 @@ pub trait FromFallibleIterator<T>: GenericSequence<T> {
         ensures can_on { (error : E) → result ≡ Err (FillError.Item error) → I.can_next items.new }
         ensures err { (refused : Self.Error) → result ≡ Err (FillError.Place refused)
             → items.new ≡ items.old }
-        ensures promised { Self.IsPromised → IsPlaced result };
+        ensures promised { Self.NeedsNoMemory → IsPlaced result };
 }

@@ -3,12 +3,9 @@
 //! A run does to the items what it would do to a list that is cut from both ends. Each step has its
 //! reply and leaves a list (`StepGivesReply`), a run is these one after the other, and the account
 //! of a run (`Account`) says that no item is lost or doubled.
-ghost use Rattle.ga_core.specs.Cut.{StepGives, back, front};
 ghost use Rattle.generic_array.specs.Account.{Account};
 ghost use Rattle.ga_core.specs.Entries.{CallAt, MayCallAt};
 ghost use Rattle.generic_array.specs.Steps.{MayStep, MaySteps, StepGivesReply, StepsRun};
-ghost use Rattle.std.specs.Borrow.{Array, Lends, sem};
-ghost use Rattle.std.specs.List.{refill};
 ghost use Rattle.std.specs.Prelude.{◌≡◌, ◌+◌, ◌≤◌, IsOk, List, OnErr, OnOk, [], ◌++◌, length};
 ghost use Rattle.std.specs.Vec.{vec_capacity, vec_len};
 
@@ -17,54 +14,9 @@ mod step;
 
 use crate::sequence::GenericSequence;
 use ga_core::AllocError;
+pub use ga_core::items_left::TwoEnded;
 use std::mem;
 pub use step::{Reply, Step};
-
-/// An iterator by value whose items can be taken from both ends, seen and replaced:
-/// `GenericArrayIter` and `BoxedArrayIter`. No call allocates.
-pub trait TwoEnded<T> {
-    // The items that are left, in order.
-    ghost items: { Self → List T };
-
-    /// Takes the first item, as `next` does.
-    #[inline]
-    final fn front(&mut self) -> Option<T>
-        ensures step { StepGives (front 0) (items self.old) result (items self.new) }
-    {
-        self.front_nth(0)
-    }
-
-    /// Takes the last item, as `next_back` does.
-    #[inline]
-    final fn back(&mut self) -> Option<T>
-        ensures step { StepGives (back 0) (items self.old) result (items self.new) }
-    {
-        self.back_nth(0)
-    }
-
-    /// Drops `n` items from the front, or as many as are left, and takes the next. O(n).
-    fn front_nth(&mut self, n: usize) -> Option<T>
-        ensures step { StepGives (front n) (items self.old) result (items self.new) };
-
-    /// Drops `n` items from the back, or as many as are left, and takes the last of those before
-    /// them. O(n).
-    fn back_nth(&mut self, n: usize) -> Option<T>
-        ensures step { StepGives (back n) (items self.old) result (items self.new) };
-
-    /// All items that are left, in order.
-    fn live(&self) -> &[T]
-        ensures { result.now ≡ items self.now };
-
-    // The iterator with these items written over those that are left.
-    ghost left_with: { (left : Self) (written : List T) → (after : Self)
-        × (items after ≡ refill (length (items left)) (items left) written) };
-
-    /// All items that are left, in order, for writing.
-    fn live_mut(&mut self) -> &mut [T]
-        ensures* writes_back { sem 𝓛 (Lends Self.row (Array T.row 0)
-            self.entry result (λ written. (left_with self.old written).0)) }
-        ensures items { result.now ≡ items self.old };
-}
 
 /// A sequence that owns its items, and whose iterator by value has two ends: an inline or a boxed
 /// array.

@@ -16,8 +16,9 @@ RULESET = re.compile(
     r"^ *pub (?P<head>ruleset (?P<name>\S+) = \((?P<names>[^)]*)\))$")
 # The notes with which a file begins, up to an empty line or a list.
 TITLE = re.compile(r"(?:-- \S.*\n)*")
-# An impl of std for slices, or for a type of integers.
-OF_STD = re.compile(r"(?m)^impl(?:<.*>)? (?:\[(?:\w+|\[T; N\])\]|([iu](?:\d+|size)))(?= |$)")
+# An impl of std for slices or for a type of integers, or a trait of iterators.
+OF_STD = re.compile(r"(?m)^impl(?:<.*>)? (?:\[(?:\w+|\[T; N\])\]|([iu](?:\d+|size)))(?= |$)"
+                    r"|^pub trait ((?:DoubleEnded)?Iterator)\b")
 
 
 def is_test(item):
@@ -53,17 +54,19 @@ def hidden(site):
 
 
 def std_methods(library):
-    """The methods of slices and of integers, as those of types of std, by the type's name: our
-    arrays and views are slices too."""
+    """The methods of slices, integers and iterators, as those of types of std, by the type's name:
+    our arrays and views are slices too."""
     std = Item("mod", "std", "", None, 1)
     for file, text in library.std:
         if OF_STD.search(text):
             module = Item("mod", file.stem, "", file, 1)
             module.members = list(items_of(text, file, module))
-            for impl in module.of_kind("impl"):
+            for impl in module.of_kind("impl", "trait"):
                 if of := OF_STD.match(impl.head):
-                    impl.of = Item("struct", of[1] or "slice", "", None, 1, owner=std, home=std)
-                    yield from ((impl.of.name, it) for it in impl.of_kind("fn") if it.public)
+                    name = of[1] or of[2] or "slice"
+                    impl.home = std
+                    impl.of = Item("struct", name, "", None, 1, owner=std, home=std)
+                    yield from ((name, it) for it in impl.of_kind("fn") if it.public or of[2])
 
 
 def is_declared(file, how="(?:pub )?"):
@@ -124,35 +127,11 @@ def proofs_of(names, item):
 
 
 class Samples:
-    """The crates and modules that no page is of."""
+    """The crates and modules that no page is of, in the order of their files."""
 
     def __init__(self, site):
-        self.site, self.modules, self.files = site, {}, {}
-        known = {item.file for item in site.items}
-        for file in sorted((site.top / "crates").glob("*/src/**/*.rt")):
-            if file not in known:
-                crate, _, *parts = file.relative_to(site.top / "crates").with_suffix("").parts
-                self.files[file] = crate, *(part for part in parts if part not in ("lib", "main"))
-
-    def module(self, path):
-        """The module that a path leads to."""
-        if path not in self.modules:
-            owner = self.module(path[:-1]) if path[1:] else None
-            root = None if owner else self.site.crates.get(path[0])
-            self.modules[path] = root or Item("mod", path[-1], "", None, 1, owner=owner)
-        return self.modules[path]
-
-    @functools.lru_cache(None)
-    def read(self, file):
-        """The module of a file, and what stands in it."""
-        module = self.module(self.files[file])
-        self.site.read(module, file)
-        return [module, *members_of(module)]
-
-    def of(self, is_wanted=lambda crate: True):
-        """The modules of some crates or of all, and what stands in them."""
-        return [item for file, path in self.files.items() if is_wanted(path[0])
-                for item in self.read(file)]
+        self.site, modules = site, sorted(site.samples, key=lambda module: module.file)
+        self.items = [it for module in modules for it in (module, *members_of(module))]
 
     @functools.cached_property
     def documents(self):
@@ -180,4 +159,4 @@ class Samples:
         named = (f"::{item.name})" if item.kind in OF_FILES else
                  f"`{item.name}` of `{item.module.name}`") in self.documents[0]
         return (is_own, is_test(item), not named, is_whole,
-                item.file not in self.files, self.order(item))
+                item.module not in self.site.samples, self.order(item))

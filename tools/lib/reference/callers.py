@@ -1,61 +1,44 @@
-"""Finds a caller of each call in the crates of examples, and checks that each public call of the
-libraries has one there or in a crate above.
+"""Finds a caller of each call in the crates of examples.
 
-It reads no types: what a method is called on is told by the function's head, a `let`, or what the
-call in front returns. Else no caller is found, and the check goes by the method's name.
+It reads no types: what a method is called on follows from the function's head, a `let`, or what the
+call in front returns. Else no caller is found.
 """
-import fnmatch
 import functools
-import pathlib
 import re
 
 from reference.beside import is_test
-from reference.meanings import LIBRARIES, WITH_A_PAGE, above, base_name, declared
+from reference.meanings import WITH_A_PAGE, above, base_name, declared
 
 EXAMPLES = "_examples"
-# The patterns of the calls that have no caller, each with how many it means and why.
-LIST = pathlib.Path(__file__).resolve().parent / "without_caller.txt"
 # What stands in front of a call's name: the dot of a method, or the end of a path.
 BEFORE = re.compile(r"(?P<dot>\.)\s*$|(?P<path>\w+)(?:::<[^()=]*>|<[^()=]*>)?::$")
 # What a method is called on: a name, or what another call made.
-NAMED = re.compile(r"(?<![.\w])(?P<name>\w+)\s*$")
-MADE = re.compile(r"(?P<name>\w+)(?:::<[^()]*>)?\((?:[^()]|\([^()]*\))*\)\??\s*$")
+NAME = re.compile(r"(?<![.\w])(\w+)\s*$")
+CALL = re.compile(r"(\w+)(?:::<[^()]*>)?\((?:[^()]|\([^()]*\))*\)\??\s*$")
 # What stands in front of a type's name, and what a call with `?` takes off.
-BORROWED, WRAPPED = re.compile(r"&?(?:'\w+ )?(?:mut )?"), re.compile(r"(?:Result|Option)<")
-
-
-class Function:
-    """A function: its item, its head and its body."""
-
-    def __init__(self, item):
-        self.item, self.head, text = item, item.head, item.module.text
-        self.body = re.sub(r"//.*", "", text[text.index("{", item.begin):item.end])
-        self.bounds, _ = declared(item.head)
-
-    def before(self, item):
-        """The code before each place of the body where a call has an item's name."""
-        mark = "!" if item.kind == "macro" else r"(?:::<[^()]*>)?\("
-        calls = re.finditer(rf"\b{re.escape(item.name)}{mark}", self.body)
-        return [self.body[:found.start()] for found in calls]
+BORROW, WRAPPER = re.compile(r"&?(?:'\w+ )?(?:mut )?"), re.compile(r"(?:Result|Option)<")
 
 
 class Callers:
     """The callers in the crates of examples."""
 
     def __init__(self, names):
-        self.names, self.site, self.samples = names, names.site, names.samples
+        self.names, self.site = names, names.site
 
     @functools.cached_property
     def functions(self):
-        """The functions of the examples that aren't tests, in the order of samples."""
-        items = [item for item in self.samples.of(lambda crate: crate.endswith(EXAMPLES))
-                 if item.kind == "fn" and item.owner.kind == "mod" and not is_test(item)]
-        return [Function(item) for item in sorted(items, key=self.samples.order)]
+        """The functions of the examples that aren't tests, each with its body, in their order."""
+        items = [it for it in self.names.samples.items if it.kind == "fn" and it.owner.kind == "mod"
+                 and not is_test(it) and self.names.path(it)[0].endswith(EXAMPLES)]
+        texts = [it.module.text[it.module.text.index("{", it.begin):it.end] for it in items]
+        bodies = dict(zip(items, (re.sub("//.*", "", text) for text in texts)))
+        return [(it, bodies[it]) for it in sorted(items, key=self.names.samples.order)]
 
+    @functools.lru_cache(None)
     def owners(self, type_name, function):
         """The names of the type and the traits that a name of a type stands for in a function."""
         names = {type_name}
-        left = [base_name(bound) for bound in function.bounds.get(type_name, [])]
+        left = [base_name(bound) for bound in declared(function.head)[0].get(type_name, [])]
         for item in self.site.by_name.get(type_name, []):
             names |= {impl.of_trait for impl in item.blocks if impl.of_trait}
             left += [base_name(item.head.partition("=")[2])] if item.kind == "type" else []
@@ -74,67 +57,37 @@ class Callers:
     def receivers(self, function, code):
         """The names of the types that code may have at its end: of a name by its `let`, or else by
         the function's head; of a call what it returns, of a `Result` or an `Option` inside."""
-        if found := NAMED.search(code):
-            name = found["name"]
-            told = re.search(rf"(?<![\w.]){name}: ([^,()=]+)", function.head)
+        if found := NAME.search(code):
+            name = found[1]
+            typed = re.search(rf"(?<![\w.]){name}: ([^,()=]+)", function.head)
             for let in re.finditer(rf"\blet (?:mut )?{name}(?:: ([^=;]+))? = ([^;]+);", code):
                 if not let[1]:
                     return self.receivers(function, code[:let.start()] + let[2])
-                told = let
-            return {base_name(BORROWED.sub("", told[1].strip(), count=1))} if told else set()
-        found, types = MADE.search(code), set()
-        for item in self.names.named([found["name"]]) if found else []:
+                typed = let
+            return {base_name(BORROW.sub("", typed[1].strip(), count=1))} if typed else set()
+        found, types = CALL.search(code), set()
+        for item in self.names.named([found[1]]) if found else []:
             if item.kind == "fn" and self.is_called(item, function, code[:found.start()]):
-                told = WRAPPED.sub("", item.head.rpartition("->")[2].strip())
-                types.add(item.of_whom.name if re.match(r"Self\b(?!::)", told) else base_name(told))
+                type_ = WRAPPER.sub("", item.head.rpartition("->")[2].strip())
+                types.add(item.of_whom.name if re.match(r"Self\b(?!::)", type_) else base_name(type_))
         return types
 
-    def is_called(self, item, function, code, by_name=False):
-        """Whether a name behind this code of a function is a call of an item. A method of what has
-        no known type counts by its name, if that is wanted."""
+    def is_called(self, item, function, code):
+        """Whether a name behind this code of a function is a call of an item. A type's own function
+        goes before that of a trait."""
         found, owner = BEFORE.search(code), item.of_whom
         if item.kind == "macro" or owner.kind not in WITH_A_PAGE:
             return item.kind == "macro" or not found or (found["path"] or "")[:1].islower()
         types = {found["path"]} if found and found["path"] else (
             self.receivers(function, code[:found.start()]) if found else ())
-        return bool(by_name and found and not types) or any(
-            owner.name in self.owners(name, function) for name in types
-            if not (owner.kind == "trait" and self.is_inherent(name, item.name)))
+        return any(owner.name in self.owners(name, function) for name in types
+                   if not (owner.kind == "trait" and self.is_inherent(name, item.name)))
 
     @functools.lru_cache(None)
     def of(self, item):
         """A caller of an item, which is a sample, or None."""
+        mark = "!" if item.kind == "macro" else r"(?:::<[^()]*>)?\("
+        call = re.compile(rf"\b{re.escape(item.name)}{mark}")
         functions = self.functions if item.kind in ("fn", "macro") else ()
-        return next((it.item for it in functions for code in it.before(item)
-                     if self.is_called(item, it, code)), None)
-
-
-def calls(names):
-    """The public calls of the libraries, each with whether something calls it."""
-    site = names.site
-    above_them = [item for item in site.items if site.path(item.module)[0] not in LIBRARIES]
-    functions = [Function(item) for item in
-                 names.samples.of(lambda crate: crate.endswith(EXAMPLES)) + above_them
-                 if item.kind == "fn" and not is_test(item)
-                 and item.module.text[item.end - 1] == "}"]
-    found = [item for item in site.shown() if item.kind in ("fn", "macro")
-             and site.path(item.module)[0] in LIBRARIES and not site.is_law(item)
-             and not (item.owner.kind == "impl" and item.owner.of_trait)]
-    return {item: any(names.callers.is_called(item, function, code, by_name=True)
-                      for function in functions for code in function.before(item))
-            for item in found}
-
-
-def uncalled(names):
-    """Looks for a caller of each public call, and for as many that have none as a pattern means."""
-    lines = [line.split("\t") for line in LIST.read_text("utf-8").splitlines()]
-    without = []
-    for item, is_called in calls(names).items():
-        name = names.site.full_name(item)
-        without += [] if is_called else [name]
-        listed = any(fnmatch.fnmatchcase(name, pattern) for pattern, _, _ in lines)
-        yield None if is_called or listed else f"{names.place(item)}: nothing calls {name}"
-    for pattern, count, _ in lines:
-        seen = len(fnmatch.filter(without, pattern))
-        wrong = f"{LIST.name}: {seen} calls of {pattern} have no caller, not {count}"
-        yield None if seen == int(count) else wrong
+        return next((function for function, body in functions for found in call.finditer(body)
+                     if self.is_called(item, function, body[:found.start()])), None)

@@ -1,32 +1,27 @@
 """Checks what no compiler sees: that names lead to items, that each public item is listed and each
-import used, that wrong bodies fit, that examples of documents stand in the crates, that a contract
-that a README quotes is that of the source, that each name that a document has as code is found, and
-that what documents call tested is. Each check gives what it tried, one after the other: what is
-wrong, or None.
-
-Of code in a line its name is looked up: a path, a call or a type; of words without a sign the
-first, of `using(..)` and `use ..;` the path, of what begins with a value or a type parameter the
-last. Single letters, what is indexed and terms aren't, nor what a row of STUCK shows first.
+import used, that the text that a mutant replaces stands once, that examples of documents stand in
+the crates, that a contract that a README quotes is that of the source, that whatever documents have
+as code exists, and that what they call tested is. Each check gives what it tried, one after the
+other: what is wrong, or None.
 """
-import functools
 import pathlib
 import re
 
-from reference.callers import uncalled
-from reference.claims import PATH as OF_TEST, unwitnessed
-from reference.layout import indented
+from reference.claims import Tests, check_claims
+from reference.items import Items
+from reference.layout import indented, laid_out
 from reference.lookup import impl_of
 from reference.meanings import LIBRARIES, WITH_A_PAGE
 from reference.promise import unkept
 from reference.rows import BAR, CODE, FENCED, names_in
 from reference.sources import STD, atoms_of, imports_of, is_in
-from reference.text import Text
-from reference.written import stale
+from reference.text import WIDEST, Text
+from reference.written import check_written
 
-# A name of each kind that readers look up, with the item that it leads to, or what its row tells.
-NAMES, TELLS = pathlib.Path(__file__).resolve().parent / "rust_names.txt", "tells "
-# The wrong bodies that the gate tries, and those that it leaves out, each with where its path names
-# the crate.
+# A name of each kind that readers look up, with the item that it leads to, or what its row says.
+NAMES, SAYS = pathlib.Path(__file__).resolve().parent / "rust_names.txt", "says "
+# The mutants that `rt ci` tries, and those that it leaves out, each with where its path names the
+# crate.
 EDITS = {"crates/*/must-fail/*.edit": 1, "trials/mutants/*/**/*.edit": 2}
 PAIR = re.compile(r"(?m)(?:^file: (.*)\n)?^old: (.*)\nnew: ?(.*)$")
 # The crates of the port, and a rule by which DIFFERENCES names many at once: what ends so is named.
@@ -37,55 +32,44 @@ EXAMPLE = re.compile(r"(?ms)^```rust\n(.*?)^```")
 LAYOUT = re.compile(r"\s+|,(?=\s*[)\]}>])|\bpub(?:\(\w+\))?\s")
 # A contract that is quoted: a line with the function's name as a link, and the code below it.
 QUOTED = re.compile(r"(?ms)^\[`([\w:]+)`\]\((\S+)\)\n\n```text\n(.*?)^```")
-DOCUMENTS = ("docs/CALLING.md", "docs/STUCK.md", "docs/DIFFERENCES.md", "docs/DEFINITIONS.md",
-             "docs/TRUST.md",
-             "crates/*/README.md")
-# The document whose rows begin with two cells of what is seen.
+# The documents whose code is looked up, and of these the one whose rows begin with two cells of
+# what is seen. Documents on design and history name what is gone, too.
+DOCUMENTS = ("README.md", "crates/*/README.md", *(
+    f"docs/{name}.md" for name in "CALLING DEFINITIONS DIFFERENCES STUCK TRUST".split()))
 OF_SEEN = "STUCK.md"
-# The document whose rows list the names of the Rust crate.
-RUST = "docs/DIFFERENCES.md"
-# Words of the language, of clauses, and of command lines.
-EXEMPT = {"requires", "ensures", "mut", "while", "data", "rt"}
-# What declares a name, or calls it.
-DECLARED = re.compile(
-    r"(?m)\b(?:fn|struct|enum|trait|type|mod|const|macro_rules!) (\w+)|^pub use [\w:]+::(\w+);"
-    r"|^ +(\w+)(?:\(.*\))?,$|[.:](\w+)\(|^ *(?:(?:pub|abbrev|unfoldable|record|data) )+(\w+)")
-# A path that an attribute or an import names, and a word that is applied to others.
-PATH = re.compile(r"\busing\(([\w:]+)\)|^use ([\w:]+);$")
-APPLIED = re.compile(r"([\w:]+)(?: [\w.\[\](){},]+)+")
-FILE = re.compile(r"[\w.-]+(?:/[\w.-]*)+|\w+\.(?:rt|antt|md|py|txt)")
-# What is below a value or a type parameter, and a place of a value.
-BELOW = re.compile(r"(?:^\w+|[)\]]\??)\.|^(?:[A-Z]|Self)::")
-INDEXED = re.compile(r"&?[a-z]\w*\[")
+# The sources whose words documents may use, and what the kit prints, or stands for another name.
+SOURCES = (".rt", ".antt", ".rattle", ".rs", ".edit", ".txt")
+EXEMPT = {"ci", "trusted", "board", "player", "mine", "ENUM"}
+FILE, WORD, PATH = re.compile(r"[\w.-]+(?:/[\w.-]+)+"), re.compile(r"\b[A-Za-z_]\w+"), re.compile(
+    r"\w+(?:::\w+)+")
 
 
-def misled(names):
+def check_names(names):
     """Asks for a name of each kind: what is shown first is the item, or the text of a row."""
     for line in NAMES.read_text("utf-8").splitlines():
         name, _, wanted = line.partition("\t")
         asked = names.asked(name)
-        rows = [row for row in asked.rows if row.ours or row.told] or names.told_rows(name, asked)
+        rows = [it for it in asked.rows if it.ours or it.told] or names.rows_of_messages(name, asked)
         shown = names.full_name(asked.first) if asked.first else (
-            TELLS + " ".join(cell for _, cell in rows[0].cells) if rows else "nothing")
-        tells = wanted.startswith(TELLS) and shown.startswith(TELLS)
-        right = wanted.removeprefix(TELLS) in shown if tells else shown == wanted
+            SAYS + " ".join(cell for _, cell in rows[0].cells) if rows else "nothing")
+        by_row = wanted.startswith(SAYS) and shown.startswith(SAYS)
+        right = wanted.removeprefix(SAYS) in shown if by_row else shown == wanted
         yield None if right else f"tools/reference {name}: shows {shown[:80]}, not {wanted}"
 
 
-def unused(names):
+def check_imports(names):
     """Looks for each imported word in the terms of its file."""
     top = names.site.top
     for file in sorted((top / "crates").glob("*/src/**/*.rt")):
         text = file.read_text("utf-8")
         atoms = atoms_of(text)
         for use in re.finditer(r"(?m)^ *ghost use [^;]*;", text):
-            line = text.count("\n", 0, use.start()) + 1
-            place = f"{file.relative_to(top)}:{line}"
+            place = f"{file.relative_to(top)}:{text.count(chr(10), 0, use.start()) + 1}"
             for name in imports_of(use[0]):
                 yield None if is_in(name, atoms) else f"{place}: {name} is imported and not used"
 
 
-def unnamed(names):
+def check_items(names):
     """Looks in the document that lists them for each public item of the port's crates, but for
     modules, laws, lengths, which it lists together, and what traits of others ask for."""
     site = names.site
@@ -105,132 +89,108 @@ def unnamed(names):
 def text_of(edit):
     """The text of an edit, with the file that it changes: in trials/mutants its folder names it."""
     text = edit.read_text("utf-8")
-    _, is_twin, folder = edit.parent.as_posix().rpartition("/mutants/")
-    is_whole = not is_twin or text.startswith("file: ")
+    _, is_mutant, folder = edit.parent.as_posix().rpartition("/mutants/")
+    is_whole = not is_mutant or text.startswith("file: ")
     return text if is_whole else f"file: src/{folder.partition('/')[2]}.rt\n{text}"
 
 
-def misfit(text, crate):
-    """Why an edit doesn't fit the files of its crate, by the rule that `rt help` tells, or
-    nothing."""
-    path, texts = "", {}
-    for file, old, new in PAIR.findall(text):
-        path = file.strip() or path
-        if not (crate / path).is_file():
-            return f"no file {path}"
-        before = texts.get(path) or (crate / path).read_text("utf-8")
-        if before.count(old) != 1:
-            return f"{path} has {before.count(old)} times, not once: {old.strip()}"
-        texts[path] = before.replace(old, new)
-    other = PAIR.sub("", text).strip()
-    return f"it has another line: {other}" if other else "" if texts else "it changes nothing"
-
-
-def unfit(names):
-    """Applies each wrong body, pair by pair."""
+def check_edits(names):
+    """Looks for what each mutant replaces, one text after the other: it stands once in its file."""
     top = names.site.top
     for pattern, at in EDITS.items():
         for edit in sorted(top.glob(pattern)):
-            place = edit.relative_to(top)
-            wrong = misfit(text_of(edit), top / "crates" / place.parts[at])
-            yield f"{place}: {wrong}" if wrong else None
+            place, file, texts, wrong = edit.relative_to(top), "", {}, []
+            for named, old, new in PAIR.findall(text_of(edit)):
+                file = named or file
+                source = top / "crates" / place.parts[at] / file
+                text = texts.get(file) or (source.read_text("utf-8") if source.is_file() else "")
+                wrong += [f"{file} has {text.count(old)} times: {old}"] * (text.count(old) != 1)
+                texts[file] = text.replace(old, new)
+            wrong += ["it replaces nothing"] * (not texts)
+            yield f"{place}: {wrong[0]}" if wrong else None
 
 
-def unwritten(names):
+def check_examples(names):
     """Looks for each part of an example, but for its imports, in the crates."""
     top = names.site.top
-    written = (*top.glob("crates/*/src/**/*.rt"), top / "docs" / "FIRST_CRATES.md")
-    sources = [LAYOUT.sub("", it.read_text("utf-8")) for it in written]
-    documents = (file for it in ("README.md", "docs/*.md", "crates/*/README.md")
-                 for file in sorted(top.glob(it)))
-    for document in documents:
-        text = document.read_text("utf-8")
+    files = (*top.glob("crates/*/src/**/*.rt"), top / "docs" / "FIRST_CRATES.md")
+    sources = [LAYOUT.sub("", it.read_text("utf-8")) for it in files]
+    for place, text in documents(top, "README.md", "docs/*.md", "crates/*/README.md"):
         for example in EXAMPLE.finditer(text):
             line = text.count("\n", 0, example.start(1)) + 1
-            place = f"{document.relative_to(top)}:{line}"
             code = re.sub(r"(?m)^(?:ghost )?use .*\n", "", example[1])
             for part in filter(None, map(str.strip, re.split(r"\n\n+", code))):
                 stands = any(LAYOUT.sub("", part) in source for source in sources)
-                yield None if stands else f"{place}: no crate has {part.splitlines()[0]}"
+                yield None if stands else f"{place}:{line}: no crate has {part.splitlines()[0]}"
 
 
-def misquoted(names):
+def check_contracts(names):
     """Looks whether each contract that a README quotes is what `tools/reference NAME` prints."""
-    text = Text(names)
-    for document in sorted((names.site.top / "crates").glob("*/README.md")):
-        readme = document.read_text("utf-8")
+    items, text, top = Items(names), Text(names), names.site.top
+    for place, readme in documents(top, "crates/*/README.md"):
         for quoted in QUOTED.finditer(readme):
-            item, file = names.asked(quoted[1]).first, (document.parent / quoted[2]).resolve()
-            lines = item and [*text.head(item)[:-1], *indented(text.written(item.clauses))]
+            item, file = names.asked(quoted[1]).first, (top / place.parent / quoted[2]).resolve()
+            lines = item and [*laid_out(items.head(item)[0].content, WIDEST),
+                              *indented(text.written(item.clauses))]
             line = readme.count("\n", 0, quoted.start()) + 1
-            wrong = f"{document.relative_to(names.site.top)}:{line}: {quoted[1]} says otherwise"
             is_right = lines == quoted[3].splitlines() and file == item.file
-            yield None if is_right else wrong
+            yield None if is_right else f"{place}:{line}: {quoted[1]} says otherwise"
 
 
-def names_of(code):
-    """The names that code is looked up by, each as its parts."""
-    if paths := [path for found in PATH.findall(code) for path in found if path]:
-        return [path.split("::") for path in paths]
-    if file := FILE.fullmatch(code.split()[0]):
-        return [[file[0]]]
-    if applied := APPLIED.fullmatch(code):
-        code = applied[1]
-    found = [] if INDEXED.match(code) else names_in(code)
-    found = [parts[-1:] if BELOW.search(code) else parts for parts in found]
-    return [parts for parts in found if len(parts[-1]) > 1]
+def documents(top, *patterns):
+    """The documents, each with its text."""
+    for file in sorted(file for pattern in patterns for file in top.glob(pattern)):
+        yield file.relative_to(top), file.read_text("utf-8")
 
 
-def documents(site):
-    """The documents, each with its text without what is set apart as code, or seen."""
-    for file in sorted(file for pattern in DOCUMENTS for file in site.top.glob(pattern)):
-        text = FENCED.sub(lambda code: "\n" * code[0].count("\n"), file.read_text("utf-8"))
-        if file.name == OF_SEEN:
-            lines = map(BAR.split, text.split("\n"))
-            text = "\n".join(" ".join(cells[2:] or cells) for cells in lines)
-        yield file.relative_to(site.top), text
+def files_and_words(names):
+    """The files here, and the words of all sources, of the names of files, of the kit's libraries
+    and of the names of the Rust crate."""
+    top, kit = names.site.top, names.site.library.kit
+    crates = re.findall(r"\w+", re.sub("#.*", "", (top / "crates.txt").read_text("utf-8")))
+    files = [it for part in ("crates", "trials", "docs", "tools") for it in (top / part).rglob("*")]
+    sources = [it for it in files if it.suffix in SOURCES] + [
+        it for crate in (*STD, *crates) for part in ("src", "specs") if kit
+        for it in (kit / crate / part).rglob("*.*t")]
+    files = [f"/{it.relative_to(top)}" for it in files]
+    texts = [*files, *(it.read_text("utf-8") for it in sources), *(it.theirs for it in names.rows)]
+    return files, EXEMPT.union(*(re.findall(r"\w+", text) for text in texts))
 
 
-def dangling(names):
-    """Looks up each name that a document has as code: here, in the Rust crate, in docs, as the end
-    of one, as the name of a clause, a file or a command, or in std or another library."""
-    site, rust = names.site, [row for row in names.rows if row.place.startswith(RUST)]
-    lines, kit = re.sub("#.*", "", (site.top / "crates.txt").read_text("utf-8")), site.library.kit
-    crates = {*re.findall(r"\w+", lines)}
-    # The names that std and the libraries declare, or call: some calls of numbers are built in.
-    texts = [file.read_text("utf-8") for crate in ((*STD, *crates) if kit else ())
-             for part in ("src", "specs") for file in (kit / crate / part).rglob("*.*t")]
-    others = {name for text in texts for found in DECLARED.findall(text) for name in found}
-    others |= EXEMPT | crates | {it.name for item in site.shown() for it in item.clauses}
-    folders = [folder for folder in site.top.iterdir() if folder.name != ".git"]
-    files = [f"/{file.relative_to(site.top)}" for folder in folders
-             for file in (folder, *folder.rglob("*"))]
-
-    @functools.lru_cache(None)
-    def is_found(code, parts):
-        file, last = code.split()[0].rstrip("/"), parts[-1]
-        ends = tuple(f"/{file}{ending}" for ending in ("", ".rt", ".antt"))
-        return (names.named(parts) or names.inherited(parts) or names.other_name(parts)
-                or any(row.fit(parts) > 1 for row in rust) or last in others
-                or last.startswith("_") and any(end.endswith(last) for end in names.by_end)
-                or names.outside.named(parts) or names.told_in_docs(parts) or names.of_std(last)
-                or not kit or any(path.endswith(ends) for path in files))
-
-    for place, text in documents(site):
-        for found in CODE.finditer(text):
-            code = " ".join(found[1].split())
-            line = text.count("\n", 0, found.start()) + 1
-            # Paths that may be those of tests are looked up by the check of tests.
-            lost = [parts for parts in (() if OF_TEST.fullmatch(code) else names_of(code))
-                    if not is_found(code, tuple(parts))]
-            yield f"{place}:{line}: nothing is called {'::'.join(lost[0])}" if lost else None
+def check_documents(names):
+    """Looks for each word that a document has as code in the sources, for one that begins with `_`
+    as the end of another, for each path below a name of ours at an item or a test, and for each
+    file."""
+    (files, known), tests = files_and_words(names), Tests(names.site.top)
+    known |= {word[at:] for word in known for at in range(len(word)) if word[at] == "_"}
+    ours = {*tests.modules, *(end for index in (names, names.outside) for end, items in
+                              index.by_end.items() if any(it.kind != "foreign" for it in items))}
+    for place, text in documents(names.site.top, *DOCUMENTS) if names.site.library.kit else ():
+        text = FENCED.sub(lambda code: "\n" * code[0].count("\n"), text)
+        if place.name == OF_SEEN:
+            rows = map(BAR.split, text.split("\n"))
+            text = "\n".join(" ".join(cells[2:] or cells) for cells in rows)
+        for code in CODE.finditer(text):
+            lost = [word for word in WORD.findall(code[1]) if word not in known]
+            path = re.sub(r"\(.*|::<.*?>", "", code[1])
+            parts = path.split("::")
+            if PATH.fullmatch(path) and parts[0] in ours and not lost:
+                is_known = (tests.has(path) or names.named(parts) or names.inherited(parts)
+                            or names.outside.named(parts))
+                lost = [] if is_known else [path]
+            ends = tuple(f"/{path}{suffix}" for suffix in ("", ".rt", ".antt"))
+            if FILE.fullmatch(path) and not any(it.endswith(ends) for it in files):
+                lost.append(path)
+            line = text.count("\n", 0, code.start()) + 1
+            yield f"{place}:{line}: nothing is called {lost[0]}" if lost else None
 
 
 # The checks by their names, each with how many pass at least: one that passes less may have gone
 # blind. Those of names ask as a reader of `tools/reference NAME` does.
 CHECKS = {
-    "examples": (unwritten, 24), "imports": (unused, 2072), "public items": (unnamed, 323),
-    "written": (stale, 264), "wrong bodies": (unfit, 180), "callers": (uncalled, 263),
-    "names": (misled, 27), "promise": (unkept, 68),
-    "contracts": (misquoted, 17), "tests": (unwitnessed, 150), "documents": (dangling, 1794),
+    "examples": (check_examples, 24), "imports": (check_imports, 2000),
+    "public items": (check_items, 320), "written": (check_written, 700),
+    "mutants": (check_edits, 180), "names": (check_names, 27), "promise": (unkept, 68),
+    "contracts": (check_contracts, 17), "claims": (check_claims, 40),
+    "documents": (check_documents, 2200),
 }

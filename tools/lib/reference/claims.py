@@ -1,4 +1,4 @@
-"""Checks that whatever a document calls tested names its test, and that each such name is a test's.
+"""Checks that whatever a document calls tested names its test.
 
 A claim is a paragraph, an item of a list or a cell of a table that says "tested", or that stands
 below a heading, a lead-in or a column's title that does. It names a test as `module::test`, a file
@@ -9,14 +9,9 @@ import re
 from reference.paths import is_named
 from reference.rows import BAR, BLOCK, CODE, FENCED, RULE
 
-# The documents whose names of tests are looked up, and those whose claims are looked at.
-DOCUMENTS = ("README.md", "CONTRIBUTING.md", "docs/*.md", "crates/*/README.md",
-             "trials/**/README.md")
-CLAIMING = ("README.md", "TRUST.md")
+DOCUMENTS = ("README.md", "docs/TRUST.md", "crates/*/README.md", "trials/**/README.md")
 TEST = re.compile(r"(?m)^ *#\[test\]\n(?: *#\[.*\n)* *fn (\w+)")
 TESTED, UNTESTED = re.compile(r"(?i)\btested\b"), re.compile(r"(?i)\b(?:not|nor)\s+tested\b")
-# The path of a function whose name has several words, as that of each test has.
-PATH = re.compile(r"[a-z]\w*(?:::[a-z]\w*)*::[a-z]+_\w+")
 PART = re.compile(r"tools/check (\w+)")
 
 
@@ -24,11 +19,12 @@ class Tests:
     """The tests of the crates and of trials/, by their names, with the parts of their paths."""
 
     def __init__(self, top):
-        self.top, self.paths = top, {}
+        self.top, self.paths, self.modules = top, {}, set()
         for file in (*top.glob("crates/*/src/**/*.rt"), *top.glob("trials/**/*.rattle")):
             path = file.relative_to(top).with_suffix("").parts
             for name in TEST.findall(file.read_text("utf-8")):
                 self.paths.setdefault(name, []).append([*path, name])
+                self.modules.add(path[-1])
 
     def has(self, code):
         """Whether code is the path of a test."""
@@ -66,18 +62,12 @@ def claims_of(text):
                 line += part.count("\n") + 1
 
 
-def unwitnessed(names):
-    """Looks at each claim for a test, and for each name of a test as code for that test."""
+def check_claims(names):
+    """Looks at each claim for its test."""
     top, tests = names.site.top, Tests(names.site.top)
     for file in sorted(file for pattern in DOCUMENTS for file in top.glob(pattern)):
-        place = file.relative_to(top)
         text = FENCED.sub(lambda code: "\n" * code[0].count("\n"), file.read_text("utf-8"))
-        for line, claim in claims_of(text) if file.name in CLAIMING else ():
+        for line, claim in claims_of(text):
             is_right = any(map(tests.is_witness, CODE.findall(claim)))
-            yield None if is_right else f"{place}:{line}: it names no test: {claim}"
-        for code in CODE.finditer(text):
-            if PATH.fullmatch(code[1]):
-                parts = code[1].split("::")
-                is_known = tests.has(code[1]) or names.named(parts) or names.outside.named(parts)
-                line = text.count("\n", 0, code.start()) + 1
-                yield None if is_known else f"{place}:{line}: no test or item is {code[1]}"
+            place = f"{file.relative_to(top)}:{line}"
+            yield None if is_right else f"{place}: it names no test: {claim}"

@@ -1,65 +1,169 @@
-"""Shows an item, a definition, a lemma or a module whole, and all that has a name, as text."""
+"""What is shown of an item, a definition, a lemma or a module, in parts that a page or the terminal
+lays out."""
+import collections
 import re
+import textwrap
 
 from reference.beside import code_of, is_declared, is_test, proofs_of
-from reference.layout import indented, laid_out, one_line, prose
+from reference.layout import one_line, prose
 from reference.lookup import impl_of
-from reference.meanings import WITH_A_PAGE, base_name, declared, header
+from reference.meanings import WITH_A_PAGE, Scope, base_name, declared, header
 from reference.sources import atoms_of, imports_of, is_in
-from reference.text import Text, becomes, first_sentence, use_line
+from reference.text import use_line
 
 # What a module's lists are called, in their order.
 LISTS = {"Modules": ["mod"], "Types": ["struct", "enum"], "Traits": ["trait"], "Aliases": ["type"],
          "Functions": ["fn"], "Macros": ["macro"], "Constants": ["const", "static"],
          "From other libraries": ["foreign"]}
-# At most so many lines has a proof file that is shown whole, and so many others and rows are named.
-MOST_LINES, MOST_OTHERS, MOST_TOLD = 12, 8, 4
+# A proof file that is shown whole has at most so many lines, and so many others are named.
+MOST_LINES, MOST_OTHERS = 12, 8
+# A link of a document.
+LINK = re.compile(r"\[[^\]]*\]\((?:\.\./)?([^)]*)\)")
+# The crates by which a crate above the library imports a word, the highest first.
+READERS = ("generic_array", "ga_core")
+
+# A part: its kind, which is a method of `Text`, its content, its title, and the item whose names it
+# uses. The content of `docs` and `code` is a text, of `listed` names with what is said of each.
+Part = collections.namedtuple("Part", "kind content title item")
 
 
-def declaration(item, width):
+def part(kind, content, title="", item=None):
+    """A part, or none where it is empty."""
+    return [Part(kind, content, title, item)] if content else []
+
+
+def first_sentence(item):
+    """The sentence that a list has of an item."""
+    text = " ".join((item.docs or item.notes).partition("\n\n")[0].split())
+    return re.split(r"(?<=[a-z0-9`)]\.) ", text)[0]
+
+
+def docs(item):
+    """The docs of an item, or else its notes."""
+    return part("docs", item.docs or item.notes, item=item)
+
+
+def declaration(item):
     """What a type is declared as, with those of its fields or variants that readers see."""
     lines = [f"{item.head} {{"]
     for member in item.members:
         if member.public:
-            lines += [f"    /// {line}".rstrip() for line in prose(member.docs, width - 8)]
-            lines += indented(f"{member.head},".split("\n"))
+            lines += [f"    /// {line}".rstrip() for line in member.docs.splitlines()]
+            lines += [textwrap.indent(f"{member.head},", "    ")]
     if not all(member.public for member in item.members):
         lines.append("    // private fields")
     return "\n".join([*lines, "}"]) if len(lines) > 1 else item.head
 
 
-class Items(Text):
-    """Items and definitions, each as a page of text, and what is shown for a name."""
+class Items:
+    """What is shown of items and definitions, and for a name."""
+
+    def __init__(self, names):
+        self.names, self.site = names, names.site
+
+    def head(self, item):
+        """An item's head. A name that an item of ours and one of std have is the whole path."""
+        head = item.head
+        for name in self.names.twice - {item.name} if self.names.is_own(item) else ():
+            ours = self.site.item_named(name, item)
+            path = self.names.full_name(ours) if ours else item.module.foreign.get(name, name)
+            head = re.sub(rf"(?<![\w:]){name}\b", path, head)
+        return part("code", head, item=item)
 
     def call(self, item):
         """What has a signature, docs and clauses alone: a function, a constant, a field. A member
         of an impl that says nothing has what its trait says of it, and the ghost members of the
         impl that are named there, or all where nothing is."""
-        impl, told, ghosts, docs = impl_of(item), item, [], [item]
+        impl, said, ghosts, texts = impl_of(item), item, [], [item]
         if impl and impl.of_trait:
             traits = [impl.trait] if impl.trait else self.site.library.std_traits(impl.of_trait)
             above = [member for trait in traits for member in trait.members
                      if (member.kind, member.name) == (item.kind, item.name)]
-            told = item if item.clauses or not above else above[0]
-            terms = " ".join(clause.term for clause in told.clauses)
+            said = item if item.clauses or not above else above[0]
+            terms = " ".join(clause.term for clause in said.clauses)
             ghosts = [member for member in impl.of_kind("ghost") if member is not item
                       and (not terms or re.search(rf"\b{re.escape(member.name)}\b", terms))]
-            docs = [item, *(above if impl.trait else ()), impl, *above]
-        cited = [*([told] if told.module else ()), *ghosts]
-        clauses = [clause for clause in told.clauses if clause.keyword != "ghost"]
-        docs = [it for it in docs if it.docs] or [it for it in docs if it.notes] or [item]
-        return [*(self.head(impl) if impl else ()), *self.head(item), *self.docs(docs[0]),
-                *self.part(self.written(clauses)), *self.conditions(item),
-                *self.laid([ghost.head for ghost in ghosts], "Here"), *self.words(cited),
+            texts = [item, *(above if impl.trait else ()), impl, *above]
+        cited = [*([said] if said.module else ()), *ghosts]
+        clauses = [clause for clause in said.clauses if clause.keyword != "ghost"]
+        texts = [it for it in texts if it.docs] or [it for it in texts if it.notes] or [item]
+        return [*(self.head(impl) if impl else ()), *self.head(item), *docs(texts[0]),
+                *part("written", clauses, item=said), *self.conditions(item),
+                *part("laid", [ghost.head for ghost in ghosts], "Here"), *self.words(cited),
                 *self.imports(cited), *self.caller(item)]
+
+    def conditions(self, item):
+        """What the conditions of a trait's call are at each kind: the heads of impls, and below
+        them their ghost members that the conditions name."""
+        if item.owner is None or item.owner.kind != "trait":
+            return []
+        found, terms = {}, [it.term for it in item.clauses if it.keyword == "requires"]
+        named = [(thing.owner, thing.name)
+                 for _, thing in Scope(self.site, item).pieces("\n".join(terms))
+                 if thing and thing.kind == "ghost" and thing.owner.home]
+        traits = dict.fromkeys(trait for trait, _ in named)
+        for impl in [it for trait in traits for it in self.site.impls if it.trait is trait]:
+            ghosts = [it.head for it in impl.of_kind("ghost") if (impl.trait, it.name) in named]
+            if ghosts:
+                found.setdefault(tuple(ghosts), []).append(one_line(header(impl)))
+        lines = [line for ghosts, heads in found.items()
+                 for line in (*heads, *(textwrap.indent(ghost, "    ") for ghost in ghosts))]
+        return part("laid", lines, "Here")
+
+    def words(self, items):
+        """The list of what the clauses of items name: our definitions and ghost members, and of the
+        words of others what has a line."""
+        ours, others = {}, {}
+        for _, atom, thing in self.site.named(items):
+            name = atom.rstrip(".")
+            if thing not in items and thing.kind in ("word", "ghost"):
+                if self.names.is_own(thing):
+                    ours.setdefault(thing, name)
+                elif thing.kind == "word" and re.match(r"[A-Za-z]\w*$", name):
+                    others[name] = self.site.said(thing)
+        pairs = [(name, self.site.line(thing)) for thing, name in ours.items()]
+        pairs += [it for it in others.items() if it[1] and it[0] not in ours.values()]
+        return part("listed", pairs, "Words")
+
+    def modules_of(self, word):
+        """The modules by which crates import a word of ours: that of the highest crate first."""
+        crate, _, rest = word.module.removeprefix("Rattle.").partition(".")
+        paths = [f"Rattle.{reader}.{word.folder}.{rest}" for reader in (*READERS, crate)]
+        return [path for path in dict.fromkeys(paths)
+                if self.names.is_own(word) and self.site.library.module_file(path) == word.file]
+
+    def imports(self, items):
+        """The lines by which a crate above the library imports what the clauses of items name, and
+        the lower library that has all of ours too."""
+        lines, crates = {}, []
+        for item in items:
+            scope = Scope(self.site, item)
+            for atom, word in [it for clause in item.clauses for it in scope.pieces(clause.term)]:
+                module, there = scope.imports.get(atom.rstrip("."), ("", ""))
+                if module and word and word.kind == "word":
+                    paths = self.modules_of(word)
+                    module = paths[0] if paths else module.replace("Rattle.core.", "Rattle.std.")
+                    lines.setdefault(module, set()).add(there)
+                    crates += [{path.split(".")[1] for path in paths[1:]}] if paths else []
+        lower = [{self.site.path(item.module)[0] for item in items if item.module}, *crates]
+        lower = sorted(set.intersection(*lower)) if crates else ()
+        return part("laid", [*(use_line("ghost use", *it) for it in sorted(lines.items())),
+                             *(f"A crate over `{name}` alone: from `Rattle.{name}.specs`."
+                               for name in lower)], "Imports")
+
+    def caller(self, item):
+        """A caller of an item, in the examples."""
+        return part("caller", self.names.callers.of(item))
 
     def macro(self, item):
         """A macro: its docs, and what is known of the calls that its forms become."""
-        lines, calls = [*self.code(item.head), *self.docs(item)], becomes(self.names, item)
+        made = dict.fromkeys(item.made)
+        calls = [call for path in made for call in self.names.named([*path]) if call.clauses]
+        lines = [*part("code", item.head), *docs(item)]
         for call in calls:
             passed = ", ".join(declared(call.head)[1])
-            lines += self.part(self.written(call.clauses),
-                               f"Known, by {self.site.full_name(call)}({passed})")
+            title = f"Known, by {self.site.full_name(call)}({passed})"
+            lines += part("written", call.clauses, title, call)
         return [*lines, *self.words(calls), *self.imports(calls), *self.caller(item)]
 
     def type(self, item):
@@ -68,8 +172,8 @@ class Items(Text):
                      for member in self.site.public_members(block) if member.kind == "fn"]
         names = {*(block.of_trait for block in item.blocks), *item.derived()}
         names -= {"", *(trait.name for trait in self.site.hidden)}
-        return [*self.signatures("Functions", functions),
-                *self.said(", ".join(sorted(names, key=str.lower)), "Traits"),
+        return [*part("signatures", functions, "Functions"),
+                *part("docs", ", ".join(sorted(names, key=str.lower)), "Traits"),
                 *self.words(item.of_kind("ghost"))]
 
     def trait(self, item):
@@ -78,25 +182,26 @@ class Items(Text):
         impls = [impl for impl in self.site.impls if item in self.site.traits(impl.of_trait, impl)]
         owners = dict.fromkeys(one_line(header(impl)).rpartition(" for ")[2] for impl in impls)
         plain = ", ".join(owner for owner in owners if owner.isidentifier())
-        return [*self.listed("Ghost members", ghosts),
-                *self.signatures("Types and constants", item.of_kind("type", "const")),
-                *self.signatures("Functions", item.of_kind("fn")),
-                *self.part([*(owner for owner in owners if not owner.isidentifier()),
-                            *prose(plain, self.width - 4)], "Who has it")]
+        others = [owner for owner in owners if not owner.isidentifier()]
+        return [*part("listed", ghosts, "Ghost members"),
+                *part("signatures", item.of_kind("type", "const"), "Types and constants"),
+                *part("signatures", item.of_kind("fn"), "Functions"),
+                *part("laid", others + [plain] * bool(plain), "Who has it")]
 
     def foreign_trait(self, item):
         """A trait of others: its impls for our types, and the calls that these have."""
         calls = [self.site.full_name(member) for impl in item.blocks
                  for member in self.site.public_members(impl) if member.kind == "fn"]
-        heads = [one_line(header(impl)) for impl in item.blocks]
-        return [*self.laid(dict.fromkeys(heads), "Who has it"),
-                *self.said(", ".join(f"`{call}`" for call in dict.fromkeys(calls)), "Calls")]
+        heads = dict.fromkeys(one_line(header(impl)) for impl in item.blocks)
+        return [*part("laid", [*heads], "Who has it"),
+                *part("docs", ", ".join(f"`{call}`" for call in dict.fromkeys(calls)), "Calls")]
 
     def alias(self, item):
         """A name of a type: what the type has, where the name passes parameters on."""
         of = self.site.item_named(base_name(item.head.partition("=")[2]), item)
         passes = of and of.kind in WITH_A_PAGE and "<" in item.head.partition("=")[0]
-        return [*self.code(item.head), *self.docs(item), *(self.type(of) if passes else ())]
+        return [*part("code", item.head, item=item), *docs(item),
+                *(self.type(of) if passes else ())]
 
     def module(self, module):
         """A module: its docs, and what is public there, or stands there in examples or tests."""
@@ -105,13 +210,13 @@ class Items(Text):
             found = [it for it in self.site.items if it is not module and it.home is (
                 it if it.kind == "mod" and it.owner is module else module)]
         tests = [] if all(map(is_test, module.of_kind("fn"))) else [*filter(is_test, found)]
-        lines = self.docs(module)
+        parts = docs(module)
         for title, kinds in LISTS.items():
             items = [item for item in found if item.kind in kinds and item not in tests]
-            pairs = [(item.name, first_sentence(item)) for item in items]
-            lines += self.listed(title, pairs) if is_public or title != "Functions" else (
-                self.signatures(title, items))
-        return lines
+            pairs = [(item.name, first_sentence(item), item) for item in items]
+            parts += part("listed", pairs, title) if is_public or title != "Functions" else (
+                part("signatures", items, title))
+        return parts
 
     def file(self, item):
         """A file of specs/ or proofs/ as a module: what it is, and what others import from it."""
@@ -119,46 +224,47 @@ class Items(Text):
         words = [it for it in lemmas if it.file == item.file] or (
             self.site.library.definitions(item.file).values())
         pairs = [(word.name.strip("◌"), self.site.line(word)) for word in words]
-        title = "Lemmas" if item.folder == "proofs" else "Words"
-        return [*self.said(item.notes), *self.listed(title, pairs)]
+        return [*part("docs", item.notes),
+                *part("listed", pairs, "Lemmas" if item.folder == "proofs" else "Words")]
 
     def definition(self, word):
         """A word of specs/: its line, its definition, and how it is imported."""
         paths = self.modules_of(word) or [f"Rattle.{word.module.replace('.', '.specs.', 1)}"]
         lines = [use_line("ghost use", path, [word.name]) for path in paths]
         over = [f"  over {path.split('.')[1]}" for path in paths] if paths[1:] else [""]
-        lines = [line.ljust(max(map(len, lines))) + told for line, told in zip(lines, over)]
-        return [*self.said(self.site.notation.get(word.name.strip("◌")) or word.notes),
-                *self.code("\n".join([*word.context, word.head])), *self.part(lines, "Imports"),
+        lines = [line.ljust(max(map(len, lines))) + end for line, end in zip(lines, over)]
+        return [*part("docs", self.site.notation.get(word.name.strip("◌")) or word.notes),
+                *part("code", "\n".join([*word.context, word.head]), item=word),
+                *part("laid", lines, "Imports"),
                 *self.words([word] if self.names.is_own(word) else [])]
 
     def lemma(self, item):
         """A lemma: its notes, its statement, and how proofs and attributes name it."""
-        lines = [*self.said(item.notes), *self.code("\n".join([*item.context, item.head]))]
+        parts = [*docs(item), *part("code", "\n".join([*item.context, item.head]))]
         if not is_declared(item.file, "pub "):
-            return [*lines, *self.said("Proofs of its own crate alone can cite it.")]
+            return [*parts, *part("docs", "Proofs of its own crate alone can cite it.")]
         uses = [f"use {path}.{{{item.name}}}" for path in self.modules_of(item)]
         crate, *above, name = self.names.path(item)
         # A name that isn't one of Rust's is put into a list first.
         plain = [name] if re.fullmatch(r"\w+", name) else item.lists
         using = [f"#[tactic(auto, using({'::'.join([crate, *above, each])}))]" for each in plain]
-        told = (f"Your crate's line of `crates.txt` has to name `{crate}`." if plain else
+        said = (f"Your crate's line of `crates.txt` has to name `{crate}`." if plain else
                 f"In a list of yours: `pub ruleset facts = ({name})` in a file of `proofs/` that "
                 "your `proofs/Lib.antt` declares by `pub mod`.")
-        return [*lines, *self.part(uses, "Imports, in a proof"),
-                *self.part([*using, *prose(told, self.width - 4)], "Above a function")]
+        return [*parts, *part("laid", uses, "Imports, in a proof"),
+                *part("laid", [*using, *prose(said, 96)], "Above a function")]
 
     def sample(self, item):
         """A function of an example, or a type with its impls: its code, imports and proofs."""
-        code = "\n\n".join(code_of(part) for part in (item, *item.blocks))
+        code = "\n\n".join(code_of(each) for each in (item, *item.blocks))
         proofs = []
         for file in proofs_of(self.names, item):
             text = file.read_text("utf-8").rstrip("\n")
             proofs.append(str(file.relative_to(self.site.top)))
-            if text.count("\n") < MOST_LINES:
-                proofs += indented(laid_out(text, self.width - 8))
-        return [*self.docs(item), *self.code(code), *self.laid(self.needed(item, code), "Imports"),
-                *self.part(proofs, "Proved by")]
+            proofs += [textwrap.indent(text, "    ")] * (text.count("\n") < MOST_LINES)
+        return [*docs(item), *part("code", code),
+                *part("laid", [*self.needed(item, code)], "Imports"),
+                *part("laid", proofs, "Proved by")]
 
     def needed(self, item, code):
         """The lines of `use` that a sample's code needs, for its names and for calls of traits."""
@@ -172,19 +278,20 @@ class Items(Text):
                 if is_in(name, atoms) or kind == "use" and calls & atoms:
                     whole = there if there in ("", name) else f"{there} as {name}"
                     by_module.setdefault(module, []).append(whole)
-            yield from (use_line(kind, *told) for told in sorted(by_module.items()))
+            yield from (use_line(kind, *it) for it in sorted(by_module.items()))
 
     def item(self, item):
         """All that is shown of an item or a definition."""
+        place, shown = self.names.place(item), self.shown(item)
         if item.kind == "foreign trait":
             place = f"a trait of {item.path[0] if item.path[1:] else 'std'}"
-            return [*self.title(item, place), *self.foreign_trait(item)]
-        return [*self.title(item), *self.shown(item)]
+        return [*part("code", f"{self.names.full_name(item)}  {place}"), *shown]
 
     def shown(self, item):
         """What is shown of an item or a definition below its name."""
         whole = {"word": self.definition, "lemma": self.lemma, "file": self.file,
-                 "mod": self.module, "macro": self.macro}.get(item.kind)
+                 "mod": self.module, "macro": self.macro,
+                 "foreign trait": self.foreign_trait}.get(item.kind)
         if whole:
             return whole(item)
         if item not in self.names.paths:
@@ -192,33 +299,25 @@ class Items(Text):
         if item.kind == "type" and item.owner.kind == "mod":
             return self.alias(item)
         if item.kind == "trait":
-            return [*self.head(item), *self.docs(item), *self.trait(item)]
+            return [*self.head(item), *docs(item), *self.trait(item)]
         if item.kind in WITH_A_PAGE:
-            return [*self.code(declaration(item, self.width)), *self.docs(item), *self.type(item)]
+            return [*part("code", declaration(item), item=item), *docs(item), *self.type(item)]
         return self.call(item)
 
-    def others(self, items):
-        """The names and the places of what else has a name: it is asked for by either."""
-        lines = [f"{self.names.full_name(item)}  {self.names.place(item)}"
-                 for item in items[:MOST_OTHERS]]
-        more = len(items) - MOST_OTHERS
-        return self.part(lines + [f"and {more} more"] * (more > 0), "Called so too")
-
-    def told(self, rows, most):
-        """So many rows of the documents' tables, each with its document and heading."""
-        lines = []
-        for row in rows[:most]:
-            cells = [(title, cell or "the same name") for title, cell in row.cells
-                     if cell or title == "here"]
+    def rows(self, rows):
+        """Rows of the documents' tables, each with its document and heading."""
+        for row in rows:
+            cells = [(title, LINK.sub(r"\1", cell) or "the same name")
+                     for title, cell in row.cells if cell or title == "here"]
             title = f"{row.place}, under {row.section or row.heading}"
-            lines += self.listed(title, cells) if row.cells[0][0] else (
-                self.said(": ".join(cell for _, cell in cells), title))
-        more = len(rows) - most
-        return [*lines, *self.said(f"And {more} more rows have it." if more > 0 else "")]
+            yield from part("listed", cells, title) if row.cells[0][0] else (
+                part("docs", ": ".join(cell for _, cell in cells), title))
 
     def asked(self, asked):
         """What is shown for a name: the first item, rows that tell of it, and what else has it."""
         telling = [row for row in asked.rows if row.told or row.ours and not row.left_out]
-        rows = telling if asked.first else telling or asked.rows
-        return [*(self.item(asked.first) if asked.first else ()), *self.told(rows, len(rows)),
-                *self.others(asked.others)]
+        rows, others = telling if asked.first else telling or asked.rows, asked.others
+        lines = [f"{self.names.full_name(it)}  {self.names.place(it)}" for it in others]
+        lines[MOST_OTHERS:] = [f"and {len(lines) - MOST_OTHERS} more"] * (len(lines) > MOST_OTHERS)
+        return [*(self.item(asked.first) if asked.first else ()), *self.rows(rows),
+                *part("laid", lines, "Called so too")]

@@ -11,11 +11,14 @@ from reference.callers import Callers
 from reference.meanings import LIBRARIES, header
 from reference.paths import Index, Paths, is_named
 from reference.rows import (
-    CODE, FORMAT, FORMATS, OF_CLAUSES, OF_MESSAGES, OF_RUST, having, names_in, naming, rows,
+    CODE, FORMAT, FORMATS, OF_CLAUSES, OF_MESSAGES, OF_RUST, names_in, rows, rows_naming,
+    rows_with,
 )
 from reference.sources import ANGLE, closing, imports_of
 
 MOST_NEAR, MOST_ROWS = 8, 4
+# The modules of std whose words are found though no crate imports them.
+OF_ALL = ("Rattle.std.specs.Prelude", "Rattle.std.specs.Ordering")
 # In which order the members of types stand where several have a name. The first four are slices.
 FIRST = ("GenericArray", "BoxedArray", "GenericArrayRef", "GenericArrayMut", "GenericArrayIter")
 # What a name means: the item that comes first, the others, and the rows of the documents that tell
@@ -73,7 +76,7 @@ class Names(Paths):
         """What stands on no page: samples, what isn't public, lemmas, files, methods of std."""
         private = [item for item in hidden(self.site) if item not in self.paths]
         found = Index()
-        for item in (*self.samples.of(), *private, *of_files(self.site)):
+        for item in (*self.samples.items, *private, *of_files(self.site)):
             found.add(item, self.path(item))
         for of, item in std_methods(self.site.library):
             owners = FIRST[:4] if of == "slice" else ()
@@ -93,38 +96,44 @@ class Names(Paths):
         return (not self.is_of_library(item), is_detail(item) and item.owner.kind != "trait",
                 item.kind == "word", 0.5 if of_trait else place, bool(impl and impl.of_trait))
 
-    def told_rows(self, name, asked):
+    def rows_of_messages(self, name, asked):
         """The rows that tell what to write: for a name those that have it as code, and for what is
         none those that have its words."""
         if not asked.first and not asked.rows:
-            return having(self.messages, name)
+            return rows_with(self.messages, name)
         known = {row.place for row in asked.rows}
-        named = naming(self.messages, parts_of(name)[-1])
+        named = rows_naming(self.messages, parts_of(name)[-1])
         return [row for row in named if row.place not in known]
 
     def asked(self, name):
-        """What a name most likely means: items of the library, then what the documents tell, words
-        that crates import, what stands above the library or on no page, names of clauses, and
-        items whose docs name it."""
+        """What a name most likely means: what it is looked up by, then items of the library, what
+        the documents tell, words that crates import, what stands above the library or on no page,
+        names of clauses, and items whose docs name it."""
         parts = parts_of(name)
         items = self.items_of(name) or self.beside_of(name)
+        if name in self.by_end and name in self.other_names:
+            first, others, rows = self.asked(self.other_names[name])
+            others = [it for it in dict.fromkeys([*items, *others]) if it is not first]
+            return Asked(first, others, self.told_of(name, True) or rows)
         leads = len(parts) > 1 and any(
             item.file and self.is_own(item) or is_named(self.path(item), parts)
             for item in (*self.named(parts), *self.outside.named(parts)))
         known = leads or items and items[0] in self.paths or self.told_of(name, False)
         if other := "" if known else self.other_name(parts):
             return self.asked(other)
-        words, rows = self.of_std(name), self.told_of(name, bool(items))
+        words, rows = self.of_std(name, self.imported), self.told_of(name, bool(items))
+        others = [*(it for it in self.outside.named(parts) if not self.is_own(it)),
+                  *self.of_std(name, self.passed_on)] if len(parts) == 1 else []
         is_above = not items or not self.is_of_library(items[0])
         is_of_rust = len(parts) > 1 and not self.named(parts) and any(
             parts in row.names for row in rows)
         if rows and (is_above and not leads or is_of_rust):
             return Asked(None, [*(item for item in items if not is_detail(item)), *words], rows)
-        if is_above and not leads and not (items := [*words, *items]):
+        if is_above and not leads and not (items := [*words, *items, *others]):
             if rows := [row for row in self.clauses if row.fit(parts) or row.mentions(parts)]:
                 return Asked(None, [], rows)
             items = self.told_in_docs(parts)
-        first, *others = dict.fromkeys([*items, *words]) or [None]
+        first, *others = dict.fromkeys([*items, *words, *others]) or [None]
         return Asked(first, others, [] if is_above else rows)
 
     def items_of(self, name):
@@ -214,15 +223,23 @@ class Names(Paths):
         lines = [use.head for use in self.site.items if use.kind == "ghost use"]
         return imports_of("\n".join(lines))
 
-    def of_std(self, name):
+    @functools.cached_property
+    def passed_on(self):
+        """The words that std has for all and the crates don't import, likewise."""
+        library = self.site.library
+        return {name: (module, name) for module in OF_ALL for name in library.passed_on(
+            library.module_file(module)) if name not in self.imported}
+
+    def of_std(self, name, known):
         """The word of another library that a name means, as of where it is imported from."""
         *above, last = parts_of(name)
-        module, there = self.imported.get(last, ("", ""))
+        module, there = known.get(last, ("", ""))
         word = self.site.library.word(module, there) if there else None
-        if not word or not word.file or self.is_own(word) or above and "specs" not in above:
+        is_new = word and (word.file or known is self.passed_on) and not self.is_own(word)
+        if not is_new or above and "specs" not in above:
             return []
         word = copy.copy(word)
-        word.module = module.removeprefix("Rattle.").replace(".specs.", ".", 1)
+        word.module, word.name = module.removeprefix("Rattle.").replace(".specs.", ".", 1), there
         return [word]
 
     def near(self, name):

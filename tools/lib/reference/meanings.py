@@ -3,6 +3,7 @@ import functools
 import pathlib
 import re
 
+from reference.rows import CODE, OF_CLAUSES, OF_STD, rows
 from reference.sources import ANGLE, Item, closing, imports_of, items_of, parted
 
 LIBRARIES = "ga_views ga_core ga_boxed generic_array".split()
@@ -136,11 +137,14 @@ class Site:
 
     def __init__(self, top, library):
         self.top, self.library, self.items, self.by_name = top, library, [], {}
-        self.crates = {name: self.crate(name) for name in CRATES}
+        # The modules of tests, and of crates that no page is of.
+        self.samples = []
+        others = {folder.name for folder in (top / "crates").iterdir()} - {*CRATES}
+        self.crates = {name: self.crate(name, name in others) for name in (*CRATES, *others)}
+        self.crates = {name: self.crates[name] for name in CRATES}
         for item in self.items:
             item.home = self.home(item)
             if item.home:
-                item.url = self.url(item)
                 self.by_name.setdefault(item.name, []).append(item)
         self.impls = [item for item in self.items if item.kind == "impl" and self.place(item)]
         for impl in self.impls:
@@ -154,8 +158,8 @@ class Site:
     @functools.cached_property
     def notation(self):
         """The signs and words of std that clauses use most, each with its line."""
-        file = pathlib.Path(__file__).resolve().parent / "pages" / "notation.txt"
-        return dict(line.split("\t") for line in file.read_text("utf-8").splitlines())
+        return {code: row.ours for row in rows(self.top, OF_CLAUSES) if row.heading == OF_STD
+                for code in CODE.findall(row.theirs)}
 
     @functools.cached_property
     def words(self):
@@ -165,10 +169,11 @@ class Site:
         return {file: list(self.library.definitions(file).values()) for file in files
                 if file.name != "Lib.antt"}
 
-    def crate(self, name):
+    def crate(self, name, is_sample):
         """A crate's root with all that stands below it. A program's is main.rt."""
         files = [self.top / "crates" / name / "src" / file for file in ("lib.rt", "main.rt")]
-        return self.module(Item("mod", name, "", None, 1), next(filter(pathlib.Path.exists, files)))
+        file = next(filter(pathlib.Path.exists, files), None)
+        return file and self.module(Item("mod", name, "", None, 1), file, is_sample)
 
     def read(self, module, file):
         """Reads what stands in a module's file."""
@@ -179,15 +184,19 @@ class Site:
         module.members = list(items_of(module.text, file, module))
         self.note_uses(module)
 
-    def module(self, module, file):
-        """A module with all that stands in its file and below, but for tests."""
+    def module(self, module, file, is_sample):
+        """A module with all that stands in its file and below."""
         self.read(module, file)
-        self.items += [module] if not module.owner else []
-        self.items += [item for member in module.members for item in (member, *member.members)]
+        if is_sample:
+            module.file, module.line = file, 1
+            self.samples.append(module)
+        else:
+            self.items += [module] if not module.owner else []
+            self.items += [item for member in module.members for item in (member, *member.members)]
         folder = file.parent if file.name in ("lib.rt", "main.rt") else file.with_suffix("")
         for member in module.of_kind("mod"):
-            if "cfg(test)" not in member.attributes:
-                self.module(member, folder / f"{member.name}.rt")
+            is_test = "cfg(test)" in member.attributes
+            self.module(member, folder / f"{member.name}.rt", is_sample or is_test)
         return module
 
     def note_uses(self, module):
@@ -208,14 +217,6 @@ class Site:
     def path(self, module):
         """The names of a module and of those above it."""
         return [*self.path(module.owner), module.name] if module.owner else [module.name]
-
-    def url(self, item):
-        """The page of an item, or its place on its module's."""
-        name = f"{item.kind}.{item.name}.html"
-        if item.kind not in WITH_A_PAGE:
-            anchor = f"#{item.kind if item.public else 'law'}.{item.name}"
-            name = "index.html" + anchor * (item.kind != "mod")
-        return "/".join([*self.path(item.home), name])
 
     def home(self, item):
         """The public module that an item is found in: its own, or one above that exports it."""

@@ -1,10 +1,9 @@
-"""Writes the pages of a reference from the templates of reference/pages."""
+"""Writes the pages of a reference from the templates of reference/pages: what `tools/reference NAME`
+prints of each item, with links."""
 import collections
-import functools
 import html
 import pathlib
 import re
-import shutil
 import sys
 import urllib.parse
 
@@ -16,171 +15,180 @@ from jinja2 import Environment, FileSystemLoader, StrictUndefined
 from markupsafe import Markup
 
 from reference.beside import code_of
+from reference.items import Items, part
+from reference.lookup import impl_of, parts_of
 from reference.meanings import WITH_A_PAGE, Scope
-from reference.promise import TITLE, sentences
-from reference.rows import CODE, OF_RUST, rows
-from reference.text import becomes
+from reference.sources import Item
 
 TEMPLATES = pathlib.Path(__file__).resolve().parent / "pages"
 KEYWORDS = set("pub const fn struct enum trait type impl for where mut dyn final self Self as ref "
                "unsafe macro_rules".split())
-# The pages that stand once, and what they need beside them.
-FILES = ("words/std.html", "words/index.html", "rust.html", "promise.html", "index.html",
-         "names.js", "search.js", "style.css")
-# A definition that the compiler makes of a type.
-DECLARED = re.compile(
-    r"Rattle\.(\w+)\.specs\.(?:declared|contracts)\.(?:.*\.)?(\w+?)(?:\.TheVariants)?$")
+# The documents that are pages too, each with its title and file.
+DOCUMENTS = {"promise.html": ("What is promised", "crates/ga_headline/PROMISE.md"),
+             "rust.html": ("The Rust crate's names", "docs/DIFFERENCES.md"),
+             "clauses.html": ("Words in clauses", "docs/DEFINITIONS.md")}
+# What a module's page shows whole, what a trait's does, and what a type's; and the other files.
+WHOLE = {"Aliases": ["type"], "Functions": ["fn"], "Macros": ["macro"],
+         "Constants": ["const", "static"], "From other libraries": ["foreign"]}
+OF_TRAIT = {"Ghost members": ["ghost"], "Types and constants": ["type", "const"],
+            "Functions": ["fn"]}
+OF_TYPE = {"Fields and variants": ["field", "variant", "ghost"]}
+# What of an item's parts a page tells by links, and by what stands below.
+OF_LINKS = ("Words", "Ghost members")
+FILES = ("index.html", "names.js", "search.js", "style.css")
+# Some items of a page, below a title or an impl's head.
+Group = collections.namedtuple("Group", "title impl items")
 
 
 class Pages:
     """The pages, and the links between them."""
 
     def __init__(self, names, folder):
-        site = names.site
-        self.names, self.site, self.folder, self.depth, self.std = names, site, folder, 0, {}
+        self.names, self.site, self.folder = names, names.site, folder
+        self.items, self.depth, self.std = Items(names), 0, {}
         self.markdown = markdown.Markdown(extensions=["fenced_code", "tables"])
         # A `<` outside of code is text: docs have no HTML of their own.
         self.markdown.preprocessors.deregister("html_block")
         self.markdown.inlinePatterns.deregister("html")
-        self.own_words = [word for words in site.words.values() for word in words]
-        self.place_members()
-        self.note_users()
-        placed = [item for item in [*self.own_words, *site.shown()] if item.url]
-        self.places = {site.full_name(item): item for item in placed}
-        self.rust_names = list(self.note_rust())
-        rust, architecture = ((site.top / "docs" / f"{name}.md").read_text("utf-8")
-                              for name in (OF_RUST[0], "ARCHITECTURE"))
-        # The list of the Rust crate's names without its links to files, and what stands on what.
-        self.rust_text = re.sub(r"\[([^\]]*)\]\([^)]*\)", r"\1", rust)
-        self.crates_drawn = re.search(r"(?ms)^```text\n(.*?)^```", architecture)[1]
-        self.promise_title = TITLE
-        self.promise = [(it.text, [item for _, item, *_ in it.carriers])
-                        for it in sentences(self.names)]
+        self.words = [word for words in self.site.words.values() for word in words]
+        self.note_places()
+        placed = [item for item in (*self.words, *self.site.shown()) if item.url]
+        self.places = {self.site.full_name(item): item for item in placed}
         self.templates = Environment(loader=FileSystemLoader(TEMPLATES), trim_blocks=True,
                                      lstrip_blocks=True, undefined=StrictUndefined,
                                      autoescape=lambda name: name.endswith(".html"))
-        filters = (self.code, self.docs, self.inline, self.term, self.link)
+        filters = (self.code, self.docs, self.term, self.link, self.shown, code_of)
         self.templates.filters |= {filter.__name__: filter for filter in filters}
-        self.templates.filters |= {"line": site.line, "code_of": code_of}
-        self.templates.globals |= {"site": site, "pages": self, "members": site.public_members,
-                                   "becomes": functools.partial(becomes, self.names)}
+        self.templates.filters["line"] = self.site.line
+        self.templates.globals |= {"site": self.site, "pages": self, "documents": DOCUMENTS}
 
-    def place_members(self):
-        """Gives each definition and each member of a page its anchor; no two members of a page have
-        the same."""
-        for word in self.own_words:
+    def note_places(self):
+        """Gives each item, member and definition its place: a page, or an anchor of one."""
+        for word in self.words:
             word.url = f"words/{word.module.replace('.', '/', 1)}.html#{word.name}"
-        with_a_page = [item for item in self.site.items if item.home and item.kind in WITH_A_PAGE]
-        for item in with_a_page:
+        for item in [item for item in self.site.items if item.home]:
+            anchor = f"{item.kind if item.public else 'law'}.{item.name}"
+            page = f"{anchor}.html" if item.kind in WITH_A_PAGE else "index.html"
+            at = "" if item.kind in ("mod", *WITH_A_PAGE) else f"#{anchor}"
+            item.url = "/".join([*self.site.path(item.home), page + at])
+        for item in [item for item in self.site.items if item.home and item.kind in WITH_A_PAGE]:
             taken, owners = collections.Counter(), (item, *item.blocks)
-            members = [member for owner in owners for member in self.site.public_members(owner)]
+            members = [member for it in owners for member in self.site.public_members(it)]
             for member in [*item.blocks, *members]:
                 anchor = f"{member.kind}.{member.name or member.of_trait}"
-                repeated = f"-{taken[anchor]}" * (taken[anchor] > 0)
-                member.url = f"{item.url}#{anchor}{repeated}"
+                member.url = f"{item.url}#{anchor}" + f"-{taken[anchor]}" * (taken[anchor] > 0)
                 taken[anchor] += 1
-
-    def note_users(self):
-        """Notes at each definition and ghost member who names it. Those of std get their places by
-        the way; a member of a hidden trait has none."""
-        for user, _, thing in self.site.named([*self.site.shown(), *self.own_words]):
-            if thing is user or not (thing.url or self.place_of_std(thing)):
-                continue
-            thing.users += [user] if user not in thing.users else []
-
-    def place_of_std(self, thing):
-        """The place of a thing that has no page of its own: on its type's, or on that of std's
-        words. None where it has none."""
-        made = DECLARED.match(str(thing.module))
-        types = self.site.by_name.get(made[2], []) if made else []
-        if not types and (self.names.is_own(thing) or made and made[1] in self.site.crates):
-            return None
-        name = thing.name
-        if thing.kind not in ("word", "trait"):
-            name = f"{thing.owner.name}.{name}"
-        if name in self.std:
-            name = f"{thing.module}.{name}"
-        thing.url = types[0].url if types else f"words/std.html#{name}"
-        self.std |= {} if types else {name: thing}
-        return thing.url
 
     def link(self, url):
         """A place, seen from the page that is written."""
         page, _, anchor = url.partition("#")
         return "../" * self.depth + page + ("#" + urllib.parse.quote(anchor) if anchor else "")
 
-    def shown(self, pieces, item):
-        """Pieces of a term or of code as HTML."""
-        template = self.templates.get_template("pieces.html")
-        return Markup(template.render(pieces=pieces, item=item))
+    def pieces(self, pieces, item):
+        """Pieces of a term or of code as HTML: each with what it means, and whether it is a word
+        of the language. A word of std gets its place by the way."""
+        made = []
+        for text, to, is_keyword in pieces:
+            if to and not to.url and to.kind == "word" and not self.names.is_own(to) and to.file:
+                to.url = f"words/std.html#{to.module}.{to.name}"
+                self.std[to.url] = to
+            said = self.site.line(to) if to else self.site.notation.get(text, "")
+            title, shown = f' title="{html.escape(said)}"' * bool(said), html.escape(text)
+            if to and to is item:
+                shown = f"<strong>{shown}</strong>"
+            elif to and to.url:
+                shown = f'<a href="{html.escape(self.link(to.url))}"{title}>{shown}</a>'
+            elif said:
+                shown = f"<span{title}>{shown}</span>"
+            made.append(f"<b>{shown}</b>" if is_keyword else shown)
+        return Markup("".join(made))
 
     def term(self, text, item):
         """A term as HTML, in which each name leads to its definition."""
-        pieces = Scope(self.site, item).pieces(text)
-        notation = self.site.notation
-        return self.shown([(atom, to, notation.get(atom), False) for atom, to in pieces], item)
+        pieces = Scope(self.site, item).pieces(text) if item.module else [(text, None)]
+        return self.pieces([(atom, to, False) for atom, to in pieces], item)
 
     def code(self, text, item):
         """Code as HTML, in which the names of items lead to them."""
+        if item and item.kind in ("word", "ghost") and self.names.is_own(item):
+            return self.term(text, item)
         pieces = []
         for number, line in enumerate(text.splitlines(keepends=True)):
             for name in filter(None, re.split(r"(//.*|'?\b[A-Za-z_]\w*\b)", line)):
-                other = self.site.item_named(name, item) if name[:1].isupper() else None
-                target = item if name == item.name and number == 0 else other
-                pieces.append((name, target, None, name in KEYWORDS))
-        return self.shown(pieces, item)
+                is_type = item and isinstance(item.module, Item) and name[:1].isupper()
+                other = self.site.item_named(name, item) if is_type else None
+                is_own = item and name == item.name and number == 0
+                pieces.append((name, item if is_own else other, name in KEYWORDS))
+        return self.pieces(pieces, item)
 
-    def docs(self, text, item=None, owner=None):
+    def docs(self, text, item=None):
         """Docs as HTML, in which names of items and definitions lead to them."""
-        owners = [owner or (item and self.site.full_name(item).partition("::")[0])]
+        owners = [self.site.full_name(item).partition("::")[0] if item else ""]
 
-        def shown(found):
+        def linked(found):
             name = html.unescape(found[1])
-            other = self.meant(name, *(owners[:1] if item else ()), owners[-1])
+            other = self.meant(name, owners[0], owners[-1])
             with_a_page = other and other.kind in WITH_A_PAGE
             owners.append(re.sub(r"<.*|\W", "", name) if with_a_page else owners[-1])
             if not other or other is item:
                 return found[0]
             return f'<a href="{html.escape(self.link(other.url))}">{found[0]}</a>'
         made = self.markdown.reset().convert(text)
-        return Markup(re.sub(r"<code>([^<]+)</code>", shown, made))
-
-    def inline(self, text):
-        """Docs of one paragraph as HTML for a heading."""
-        return Markup(str(self.docs(text)).removeprefix("<p>").removesuffix("</p>"))
+        return Markup(re.sub(r"<code>([^<]+)</code>", linked, made))
 
     def meant(self, name, *owners):
         """What a name in docs means: a member beside it or of the type named last, or else an item
         or a definition."""
         name = re.sub(r"<.*>|[()!&]", "", name)
-        names = (*(f"{owner}::{name}" for owner in owners), name)
-        return next((self.places[full] for full in names if full in self.places), None)
+        full = (*(f"{owner}::{name}" for owner in owners), name)
+        found = [self.places[it] for it in full if it in self.places]
+        found += [it for it in self.names.named(parts_of(name)) if it.url] if "::" in name else []
+        return next(iter(found), None)
 
-    def note_rust(self):
-        """Notes the Rust crate's names at their counterparts, as the documents tell them. Gives
-        those that have another name here, or none: each with its counterpart, if any, and what its
-        row says."""
-        for row in rows(self.site.top, OF_RUST):
-            ours = [item for code in row.names_here if (item := self.meant(code, "GenericArray"))]
-            called = [item for item in ours if item.kind == "fn"] or ours
-            for code in CODE.findall(row.theirs):
-                same = self.meant(code, row.section.strip("`"), "GenericArray")
-                for item in [same] if same and not row.left_out else called:
-                    item.rust.append(code)
-                if not same or same.name != code:
-                    target = None if row.left_out else next(iter(called), None)
-                    yield code, target, " ".join([row.ours, *row.told]).replace("`", "")
+    def shown(self, item):
+        """The parts of an item on a page: without those that links tell, and of a member of an impl
+        that says nothing of its own the head alone."""
+        impl, parts = impl_of(item), self.items.shown(item)
+        parts = [it for it in parts if it.kind != "signatures" and it.title not in OF_LINKS
+                 and not (impl and it.item is impl and it.kind == "code")]
+        is_silent = impl and impl.of_trait and item.kind == "fn" and not (item.clauses or item.docs)
+        return parts[:1] if is_silent else parts
+
+    def groups_of(self, item):
+        """What stands on an item's page below its own parts."""
+        if item.kind == "mod":
+            below = [it for it in self.site.items if it.home is item and it.name]
+            groups = [Group(title, None, [it for it in below if it.kind in kinds and it.public and (
+                      it.kind != "type" or "<" in it.head.partition("=")[0])])
+                      for title, kinds in WHOLE.items()]
+            laws = [it for it in below if not it.public and it.kind == "fn"]
+            return [*groups, Group("Laws, which nothing calls", None, laws)]
+        members, kinds = self.site.public_members(item), OF_TRAIT if item.kind == "trait" else OF_TYPE
+        groups = [Group(title, None, [it for it in members if it.kind in of])
+                  for title, of in kinds.items()]
+        blocks = sorted(item.blocks, key=lambda impl: bool(impl.of_trait))
+        return groups + [Group("", impl, self.site.public_members(impl)) for impl in blocks]
 
     def write(self):
         """Writes all pages, and what stands beside them. Gives the links that lead nowhere."""
         for item in self.site.items:
             if item.home and item.kind in ("mod", *WITH_A_PAGE):
-                self.page("module.html" if item.kind == "mod" else "type.html", item.url, item=item)
-        for words in self.site.words.values():
-            self.page("words.html", words[0].url.partition("#")[0], words=words)
+                self.page(item.url, item.name, self.shown(item), self.groups_of(item), item)
+        lists = []
+        for file, words in self.site.words.items():
+            title = f"Words of {self.names.path(words[0])[0]}: {file.stem}"
+            self.page(words[0].url.partition("#")[0], title, [], [Group("", None, words)])
+            pairs = [(word.name, self.site.line(word), word) for word in words]
+            lists += part("listed", pairs, title)
+        self.page("words/index.html", "Words", lists)
+        for url, (title, file) in DOCUMENTS.items():
+            # Its links lead to files, and the names in them are links themselves.
+            _, _, text = (self.site.top / file).read_text("utf-8").partition("\n")
+            self.page(url, title, part("docs", re.sub(r"\[([^\]]*)\]\([^)]*\)", r"\1", text)))
+        std = sorted(self.std.values(), key=lambda word: word.name.strip("◌"))
+        self.page("words/std.html", "Words of std", [], [Group("", None, std)])
         for name in FILES:
-            self.page(name, name)
-        shutil.copy(self.site.top / "trials" / "bench" / "speed.svg", self.folder)
+            self.render(name, name)
         return list(self.lost_links())
 
     def lost_links(self):
@@ -195,8 +203,13 @@ class Pages:
                 if to not in files or place and urllib.parse.unquote(place) not in places[to]:
                     yield f"{file.name}: a link to {link}"
 
-    def page(self, template, url, **given):
-        """Writes a page."""
+    def page(self, url, title, parts, groups=(), item=None):
+        """Writes a page of parts and of groups of items."""
+        groups = [group for group in groups if group.items or group.impl]
+        self.render("page.html", url, title=title, parts=parts, groups=groups, item=item)
+
+    def render(self, template, url, **given):
+        """Writes a file from its template."""
         self.depth = url.count("/")
         (self.folder / url).parent.mkdir(parents=True, exist_ok=True)
         made = self.templates.get_template(template)

@@ -8,6 +8,8 @@ import re
 # The documents of the Rust crate's names, of names of clauses, and of messages.
 OF_RUST, OF_CLAUSES = ("DIFFERENCES",), ("DEFINITIONS",)
 OF_MESSAGES = ("STUCK", "CALLING")
+# The heading above the signs and words of std.
+OF_STD = "Signs and words of std"
 CODE = re.compile(r"`([^`]+)`")
 # What parts a line's cells, and its names from what is said of them: none of it stands in code.
 IN_CODE = r"(?=(?:[^`]*`[^`]*`)*[^`]*$)"
@@ -20,7 +22,10 @@ FORMATS = {"x": "LowerHex", "X": "UpperHex", "?": "Debug", "": "Display"}
 FORMAT = re.compile(r"\{\w*(?::[^{}]*?)?([xX?]?)\}")
 # What of a message differs from one code to another: the place in front, and names.
 DIFFERS = re.compile(r"^(?:(?:note|error(?:\[[\w-]+\])?|\S+:\d+:\d+): *)+|`[^`]*`|\w+(?=-requires)")
+OF_LOOP = re.compile(r"(?<=loop-)\w+(?=-preserved)")
 WORD = re.compile(r"[^\W_]\w*")
+# A message that has fewer signs without its names isn't looked for in a text.
+SHORTEST = 15
 
 
 class Row:
@@ -115,19 +120,22 @@ def stands_in(phrase, text):
     return bool(re.search(begin + re.escape(phrase) + end, text))
 
 
-def having(rows, text):
-    """The rows in which a text stands, or else all its words, or else these but for names."""
-    for asked in (plain(text), plain(DIFFERS.sub(" ", text))):
+def rows_with(rows, text):
+    """The rows in which a text stands, or else all its words, or else these but for names, or else
+    those whose message stands in the text but for what differs from one code to another."""
+    for asked in map(plain, (text, DIFFERS.sub(" ", text), OF_LOOP.sub("x", text))):
         phrase, words = asked.strip(" .,:;"), set(WORD.findall(asked))
         found = [row for row in rows if phrase and stands_in(phrase, row.text)]
         found = found or [row for row in rows if len(words) > 1
                           and words <= set(WORD.findall(row.text))]
         if found:
             return found
-    return []
+    pieces = {row: [plain(it) for it in re.split(r"\.\.|`[^`]*`", row.theirs)] for row in rows}
+    return [row for row in rows if len("".join(pieces[row])) > SHORTEST and all(
+        piece.strip(" .,:;") in plain(text) for piece in pieces[row])]
 
 
-def naming(rows, name):
+def rows_naming(rows, name):
     """The rows that have a name in code, first those that begin with such code."""
     found = {row: [any(stands_in(name, code) for code in CODE.findall(cell))
                    for _, cell in row.cells] for row in rows}

@@ -71,7 +71,7 @@ class Item:
         self.home, self.url, self.public = None, "", True
         self.trait, self.of_trait, self.of = None, "", None
         self.begin, self.end, self.attributes, self.folder = 0, 0, "", "specs"
-        self.clauses, self.members, self.users, self.rust = [], [], [], []
+        self.clauses, self.members = [], []
         self.blocks, self.exported, self.foreign = [], [], {}
         self.context, self.imports = [], {}
         self.__dict__.update(more)
@@ -292,14 +292,19 @@ class Library:
         return found
 
     @functools.lru_cache(None)
+    def passed_on(self, file):
+        """The names that a module passes on, each with its module and its name there."""
+        uses = USE.finditer(file.read_text("utf-8")) if file else ()
+        return imports_of("\n".join(use[0] for use in uses if use[1]))
+
+    @functools.lru_cache(None)
     def word(self, path, name):
         """The definition that a name of a module stands for, or None."""
         file = self.module_file(path)
         if not file:  # The compiler makes such modules, of types and of what is built in.
             made = re.search(r"\.(declared|contracts)\.|^Prim\.", path)
             return Item("word", name, "", None, 0, module=path) if made else None
-        uses, defined = USE.finditer(file.read_text("utf-8")), self.definitions(file)
-        passed = imports_of("\n".join(use[0] for use in uses if use[1]))
+        passed, defined = self.passed_on(file), self.definitions(file)
         if name in passed and name not in defined:
             return self.word(*passed[name])
         part = re.compile(rf"(?m)^ +(?:pub )?{re.escape(name)} :")

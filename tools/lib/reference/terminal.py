@@ -1,12 +1,14 @@
-"""Answers a name in the terminal: with pages of items, and with what the documents tell."""
+"""Answers a name in the terminal: with items, and with rows of the documents."""
 import re
 import shutil
 import subprocess
 import sys
 
-from reference.items import MOST_TOLD, Items
+from reference.items import Items, part
 from reference.layout import indented
+from reference.lookup import MOST_ROWS
 from reference.rows import OF_MESSAGES
+from reference.text import Text
 
 
 def of_kit(name):
@@ -23,24 +25,21 @@ def of_kit(name):
 
 def unknown(names, name):
     """What is said of a name that nothing has, and of words that stand in no row."""
-    documents = " or ".join(f"docs/{document}.md" for document in OF_MESSAGES)
+    rows = "no row of " + " or ".join(f"docs/{document}.md" for document in OF_MESSAGES)
     if re.search(r"\s", name):
-        yield f"tools/reference: no row of {documents} has these words: give fewer, or read there."
-        return
-    yield f"tools/reference: nothing is called {name}, and no row of {documents} has it."
-    if near := names.near(name):
-        yield from ["Near it:", *indented(near)]
-    elif re.fullmatch(r"[\w-]+", name):
-        yield f"A new folder for pages is written ./{name}."
+        return [f"tools/reference: {rows} has these words: give fewer, or read there."]
+    return [f"tools/reference: nothing is called {name}, and {rows} has it. Near it:",
+            *indented(names.near(name))]
 
 
 def show(names, name):
     """Shows what a name means, or the rows that have a message's words, if there is such."""
-    asked, text = names.asked(name), Items(names, shutil.get_terminal_size().columns)
-    told = names.told_rows(name, asked)
-    is_known = asked.first or asked.rows
-    lines = text.asked(asked) if is_known else of_kit(name)
-    lines = [*lines, *text.told(told, MOST_TOLD if is_known else len(told))]
-    sys.stdout.write("".join(f"{line}\n" for line in lines).rstrip("\n") + "\n" * bool(lines))
-    sys.stderr.write("".join(f"{line}\n" for line in unknown(names, name)) if not lines else "")
-    return bool(lines)
+    asked, items = names.asked(name), Items(names)
+    is_known, rows = asked.first or asked.rows, names.rows_of_messages(name, asked)
+    most = MOST_ROWS if is_known else len(rows)
+    parts = [*(items.asked(asked) if is_known else ()), *items.rows(rows[:most]),
+             *part("docs", f"And {len(rows) - most} more rows have it." * (len(rows) > most))]
+    text = Text(names, shutil.get_terminal_size().columns)
+    lines = [*([] if is_known else of_kit(name)), *text.lines(parts)]
+    print("\n".join(lines or unknown(names, name)).rstrip("\n"),
+          file=sys.stdout if lines else sys.stderr)

@@ -8,8 +8,8 @@ import textwrap
 from reference.beside import is_test, proofs_of
 from reference.callers import EXAMPLES
 from reference.meanings import WITH_A_PAGE
+from reference.items import first_sentence
 from reference.promise import HEADLINE, page_file
-from reference.text import first_sentence
 
 ANEW = "tools/reference --write writes it anew"
 LIST, PAGE = pathlib.Path(__file__).with_name("public.txt"), "PROMISE.md"
@@ -34,8 +34,8 @@ def with_table(names, readme):
     folder, rows = readme.parent, collections.defaultdict(list)
     yield from readme.read_text("utf-8").partition(TABLE)[0].rstrip().splitlines()
     yield from ("", TABLE, "---|---|---")
-    for item in names.samples.of(lambda crate: crate == folder.name):
-        if (item.kind == "fn" and item.owner.kind == "mod" and not is_test(item)
+    for item in names.samples.items:
+        if (item.kind == "fn" and names.path(item)[0] == folder.name and item.owner.kind == "mod" and not is_test(item)
                 and names.samples.is_told(item)):
             name = "::".join(names.path(item)[1:])
             shows = (first_sentence(item) or first_sentence(item.module)).replace("|", r"\|")
@@ -63,7 +63,7 @@ def write(names):
         file.write_text("".join(f"{line}\n" for line in lines), "utf-8")
 
 
-def stale(names):
+def check_written(names):
     """Looks for each line of the files in the sources, and for each that the sources have."""
     for file, lines in files(names):
         for it in difflib.ndiff(file.read_text("utf-8").splitlines(), [*lines]):

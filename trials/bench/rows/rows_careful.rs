@@ -12,8 +12,8 @@ struct Decimal {
     len: u8,
 }
 
-fn decimals() -> Vec<Decimal> {
-    let decimal = |number: u32| {
+fn decimals() -> [Decimal; 256] {
+    std::array::from_fn(|number| {
         let digits = number.to_string();
         let mut text = [0; 3];
         text[..digits.len()].copy_from_slice(digits.as_bytes());
@@ -21,8 +21,7 @@ fn decimals() -> Vec<Decimal> {
             text,
             len: digits.len() as u8,
         }
-    };
-    (0..256).map(decimal).collect()
+    })
 }
 
 fn put_numbers<'a>(
@@ -90,8 +89,7 @@ fn write_rows<const N: usize>(
     input: &[u8],
     output: &mut impl Write,
 ) -> io::Result<bool> {
-    let decimals = decimals();
-    let decimals: &[Decimal; 256] = decimals.as_slice().try_into().expect("256");
+    let decimals = &decimals();
     let mut line = [0; LINE];
     let rows = input.chunks_exact(N);
     let rest = rows.remainder();

@@ -1,8 +1,7 @@
 //! Boxes of arrays. Borrowed ones are mapped and zipped by a build of indexes: `map` of a reference
 //! makes an array.
-use crate::items::mix;
+use crate::items::{mix, Word};
 use crate::library::*;
-use crate::words::Word;
 
 pub fn boxed_generate<T: Word, N: ArrayLength<T>>(seed: u64) -> BoxedArray<T, N> {
     BoxedArray::<T, N>::generate(|index| T::make(seed, index))

@@ -1,7 +1,6 @@
 //! Calls of a closure at all items, of arrays and of references to them.
-use crate::items::mix;
+use crate::items::{mix, Word};
 use crate::library::*;
-use crate::words::Word;
 
 pub fn map<T: Word, N: ArrayLength<T>>(array: GenericArray<T, N>) -> GenericArray<T, N> {
     array.map(|item: T| T::make(item.word().rotate_left(3), 1))

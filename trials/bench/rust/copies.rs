@@ -1,7 +1,6 @@
 //! Builds that may fail, copies, vectors and hex text.
-use crate::items::{check_items, Check};
+use crate::items::{check_items, Check, Word};
 use crate::library::*;
-use crate::words::Word;
 use generic_array::internals::ArrayBuilder;
 use std::fmt::Write;
 

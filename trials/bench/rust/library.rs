@@ -9,6 +9,11 @@ pub type BoxedArray<T, N> = Box<GenericArray<T, N>>;
 pub type BoxedArrayIter<T> = std::vec::IntoIter<T>;
 pub type ChunksRef<T, N> = GenericArray<T, N>;
 
+/// Every type, also one that can be copied.
+pub trait Drop {}
+
+impl<T> Drop for T {}
+
 /// A length, whatever the items are.
 pub trait ArrayLength<T>: generic_array::ArrayLength {}
 

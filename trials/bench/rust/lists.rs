@@ -1,7 +1,6 @@
 //! Slices in arrays, and vectors of std that have room for `N` items.
-use crate::items::{place, Check};
+use crate::items::{place, Check, Word};
 use crate::library::*;
-use crate::words::Word;
 use std::marker::PhantomData;
 
 pub fn list_joined<T: Word, N: ArrayLength<T>>(

@@ -10,7 +10,7 @@ ghost use Rattle.std.specs.Prelude.{◌≡◌, ℕ, ◌+◌, ◌≤◌, IfOk, Is
 
 use crate::boxed_array::BoxedArray;
 use crate::live_block::LiveBlock;
-use ga_core::closures::{BLOCK, holds_a_word};
+use ga_core::blocks::{BLOCK, fits_a_word};
 use ga_core::{AllocError, FillError, LengthError, Unsigned};
 use std::alloc::Global;
 
@@ -30,7 +30,7 @@ impl<T, N: Unsigned> BoxedArray<T, N> {
         Self::generate_by(alloc, &mut f)
     }
 
-    /// `generate` that borrows the closure, which can be used again in the state that it reached.
+    /// `generate`: `f` is borrowed.
     pub fn generate_by<F: FnMut(usize) -> T>(alloc: Global, f: &mut F) -> Result<Self, AllocError>
         requires callable { MayGenerate F.pre F.step f.old N.USIZE }
         ensures run { IfOk result (λ array.
@@ -41,7 +41,7 @@ impl<T, N: Unsigned> BoxedArray<T, N> {
         ensures empty { N.USIZE ≡ 0 → IsOk result }
     {
         let mut block = LiveBlock::new(alloc, N::USIZE)?;
-        let in_blocks = holds_a_word(f);
+        let in_blocks = fits_a_word(f);
         while in_blocks && block.room() >= BLOCK {
             put_some(&mut block, BLOCK, f);
         }
@@ -90,8 +90,7 @@ impl<T: Drop, N: Unsigned> BoxedArray<T, N> {
         Self::try_generate_by(alloc, &mut f)
     }
 
-    /// `try_generate` that borrows the closure, which can be used again in the state that it
-    /// reached.
+    /// `try_generate`: `f` is borrowed.
     pub fn try_generate_by<F: FnMut(usize) -> Result<T, E>, E>(
         alloc: Global,
         f: &mut F,

@@ -92,9 +92,7 @@ impl<T: Drop, N: Unsigned> BoxedArray<T, N> {
             items: mut block,
             of: _,
         } = self;
-        let Ok(mut vector) = Vec::with_capacity(block.allocator(), N::USIZE) else {
-            return Err(AllocError);
-        };
+        let mut vector = Vec::with_capacity(block.allocator(), N::USIZE)?;
         // The count is a constant, so the compiler moves several small items at once.
         for _moved in 0..N::USIZE {
             vector.push_reserved(block.take_first());

@@ -48,10 +48,7 @@ impl<T: Clone, N: Unsigned> BoxedArray<T, N> {
     {
         let mut block = LiveBlock::new(alloc, N::USIZE)?;
         for _clone in 1..N::USIZE {
-            let Ok(copy) = item.clone() else {
-                return Err(AllocError);
-            };
-            block.put(copy);
+            block.put(item.clone()?);
         }
         if N::USIZE > 0 {
             block.put(item);

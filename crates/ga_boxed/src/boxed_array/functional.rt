@@ -28,7 +28,7 @@ impl<T, N: Unsigned> BoxedArray<T, N> {
         self.map_ref_by(&mut f)
     }
 
-    /// `map_ref` that borrows the closure, which can be used again in the state that it reached.
+    /// `map_ref`: `f` is borrowed.
     pub fn map_ref_by<U, F: FnMut(&T) -> U>(
         &self,
         f: &mut F,
@@ -66,8 +66,7 @@ impl<T, N: Unsigned> BoxedArray<T, N> {
         self.try_map_ref_by(&mut f)
     }
 
-    /// `try_map_ref` that borrows the closure, which can be used again in the state that it
-    /// reached.
+    /// `try_map_ref`: `f` is borrowed.
     pub fn try_map_ref_by<U: Drop, F: FnMut(&T) -> Result<U, E>, E>(
         &self,
         f: &mut F,
@@ -113,7 +112,7 @@ impl<T, N: Unsigned> BoxedArray<T, N> {
         self.zip_ref_by(rhs, &mut f)
     }
 
-    /// `zip_ref` that borrows the closure, which can be used again in the state that it reached.
+    /// `zip_ref`: `f` is borrowed.
     pub fn zip_ref_by<B, U, F: FnMut(&T, &B) -> U>(
         &self,
         rhs: GenericArrayRef<'_, B, N>,

@@ -10,7 +10,7 @@ ghost use Rattle.std.specs.Prelude.{◌≡◌, ℕ, ◌+◌, IfOk, OnErr, Result
 
 use crate::array::GenericArray;
 use crate::builder::ArrayBuilder;
-use crate::closures::{try_write_generated, write_generated};
+use crate::call_results::{try_write_generated, write_generated};
 use crate::length::ArrayLength;
 use ga_views::LengthError;
 
@@ -28,7 +28,7 @@ impl<T: Default + Drop, N: ArrayLength<T>> GenericArray<T, N> {
         Self::generate_by(&mut f)
     }
 
-    /// `generate` that borrows the closure, which can be used again in the state that it reached.
+    /// `generate`: `f` is borrowed.
     pub fn generate_by<F: FnMut(usize) -> T>(f: &mut F) -> Self
         requires fits { FitsInline N.USIZE }
         requires callable { MayGenerate F.pre F.step f.old N.USIZE }
@@ -38,7 +38,7 @@ impl<T: Default + Drop, N: ArrayLength<T>> GenericArray<T, N> {
     {
         let mut array = Self::default();
         write_generated(array.as_mut_slice(), f);
-        array.repacked()
+        array.repack()
     }
 
     /// `generate` with a closure that may fail: the array of its values, or its first error.
@@ -54,8 +54,7 @@ impl<T: Default + Drop, N: ArrayLength<T>> GenericArray<T, N> {
         Self::try_generate_by(&mut f)
     }
 
-    /// `try_generate` that borrows the closure, which can be used again in the state that it
-    /// reached.
+    /// `try_generate`: `f` is borrowed.
     pub fn try_generate_by<F: FnMut(usize) -> Result<T, E>, E>(f: &mut F) -> Result<Self, E>
         requires fits { FitsInline N.USIZE }
         requires callable { MayTryGenerate F.pre F.step f.old N.USIZE }
@@ -65,7 +64,7 @@ impl<T: Default + Drop, N: ArrayLength<T>> GenericArray<T, N> {
     {
         let mut array = Self::default();
         match try_write_generated(array.as_mut_slice(), f) {
-            Ok(()) => Ok(array.repacked()),
+            Ok(()) => Ok(array.repack()),
             Err(error) => Err(error),
         }
     }
@@ -133,9 +132,6 @@ impl<T: Default + Drop, N: ArrayLength<T>> GenericArray<T, N> {
         if let Err(error) = builder.try_extend(items) {
             return Ok(Err(error));
         }
-        match builder.finish_at_end(items) {
-            Ok(array) => Ok(Ok(array)),
-            Err(refused) => Err(refused),
-        }
+        Ok(Ok(builder.finish_at_end(items)?))
     }
 }

@@ -44,7 +44,7 @@ impl<T: Copy + Default + Drop, N: ArrayLength<T>> GenericArray<T, N> {
     {
         let mut array = Self::default();
         array.as_mut_slice().copy_from_slice(view.as_slice());
-        array.repacked()
+        array.repack()
     }
 
     /// The native array of the items. Requires that `U` is `N`. The counterpart of
@@ -77,7 +77,7 @@ impl<T: Default + Drop, N: ArrayLength<T>> GenericArray<T, N> {
         }
         let mut array = Self::default();
         move_items(items.as_mut_slice(), array.as_mut_slice());
-        Ok(array.repacked())
+        Ok(array.repack())
     }
 
     /// `try_from_vec` of a boxed slice. The counterpart of `TryFrom<Box<[T]>>`.
@@ -97,9 +97,7 @@ impl<T: Default + Drop, N: ArrayLength<T>> GenericArray<T, N> {
         ensures ok { IfOk result (λ items. items.items ≡ self) }
         ensures empty { N.USIZE ≡ 0 → IsOk result }
     {
-        let Ok(mut items) = Vec::with_capacity(alloc, N::USIZE) else {
-            return Err(AllocError);
-        };
+        let mut items = Vec::with_capacity(alloc, N::USIZE)?;
         push_items(self.as_mut_slice(), &mut items);
         Ok(items)
     }

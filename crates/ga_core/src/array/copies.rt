@@ -23,7 +23,7 @@ impl<T: Default + Drop, N: ArrayLength<T>> GenericArray<T, N> {
         ensures len { length result ≡ N.USIZE }
         ensures each { ExactlyEach T.is_default N.USIZE result }
     {
-        GenericArray::from_store(Store::filled(N::USIZE))
+        GenericArray::from_store(Store::with_defaults(N::USIZE))
     }
 }
 
@@ -54,7 +54,7 @@ impl<T: Clone + Default, N: ArrayLength<T>> GenericArray<T, N> {
     {
         let mut array = Self::default();
         match write_copies(array.as_mut_slice(), item) {
-            Ok(()) => Ok(array.repacked()),
+            Ok(()) => Ok(array.repack()),
             Err(refused) => Err(refused),
         }
     }
@@ -71,7 +71,7 @@ impl<T: Clone + Default, N: ArrayLength<T>> GenericArray<T, N> {
         let items = self.as_slice();
         let mut copy = Self::default();
         match write_clones(copy.as_mut_slice(), items) {
-            Ok(()) => Ok(copy.repacked()),
+            Ok(()) => Ok(copy.repack()),
             Err(refused) => Err(refused),
         }
     }

@@ -12,7 +12,7 @@ ghost use Rattle.std.specs.List.{zip};
 ghost use Rattle.std.specs.Prelude.{◌≡◌, Result, map};
 
 use crate::array::GenericArray;
-use crate::closures::{try_write_mapped, write_mapped, write_zipped};
+use crate::call_results::{try_write_mapped, write_mapped, write_zipped};
 use crate::length::ArrayLength;
 
 impl<T: Default + Drop, N: ArrayLength<T>> GenericArray<T, N> {
@@ -30,7 +30,7 @@ impl<T: Default + Drop, N: ArrayLength<T>> GenericArray<T, N> {
         self.map_inline_by(&mut f)
     }
 
-    /// `map_inline` with a borrowed closure, which can be used again in the state that it reached.
+    /// `map_inline`: `f` is borrowed.
     #[inline(always)]
     pub fn map_inline_by<U: Default + Drop, F: FnMut(T) -> U>(
         mut self,
@@ -44,7 +44,7 @@ impl<T: Default + Drop, N: ArrayLength<T>> GenericArray<T, N> {
     {
         let mut made = GenericArray::<U, N>::default();
         write_mapped(self.as_mut_slice(), made.as_mut_slice(), f);
-        made.repacked()
+        made.repack()
     }
 
     /// `map_inline` with a closure that may fail: the array of what it returns, or its first error.
@@ -64,8 +64,7 @@ impl<T: Default + Drop, N: ArrayLength<T>> GenericArray<T, N> {
         self.try_map_inline_by(&mut f)
     }
 
-    /// `try_map_inline` with a borrowed closure, which can be used again in the state that it
-    /// reached.
+    /// `try_map_inline`: `f` is borrowed.
     #[inline(always)]
     pub fn try_map_inline_by<U: Default + Drop, F: FnMut(T) -> Result<U, E>, E>(
         mut self,
@@ -79,7 +78,7 @@ impl<T: Default + Drop, N: ArrayLength<T>> GenericArray<T, N> {
     {
         let mut made = GenericArray::<U, N>::default();
         match try_write_mapped(self.as_mut_slice(), made.as_mut_slice(), f) {
-            Ok(()) => Ok(made.repacked()),
+            Ok(()) => Ok(made.repack()),
             Err(error) => Err(error),
         }
     }
@@ -106,7 +105,7 @@ impl<T: Default + Drop, N: ArrayLength<T>> GenericArray<T, N> {
         self.zip_inline_by(rhs, &mut f)
     }
 
-    /// `zip_inline` with a borrowed closure, which can be used again in the state that it reached.
+    /// `zip_inline`: `f` is borrowed.
     #[inline(always)]
     pub fn zip_inline_by<B: Default + Drop, U: Default + Drop, F: FnMut(T, B) -> U>(
         mut self,
@@ -129,6 +128,6 @@ impl<T: Default + Drop, N: ArrayLength<T>> GenericArray<T, N> {
             made.as_mut_slice(),
             f,
         );
-        made.repacked()
+        made.repack()
     }
 }

@@ -26,7 +26,6 @@ impl<T, N: ArrayLength<T>> Len for GenericArray<T, N> {
         × FitsInline N.USIZE };
 
     #[inline]
-    #[inline]
     fn len(&self) -> usize {
         GenericArray::as_slice(self).len()
     }

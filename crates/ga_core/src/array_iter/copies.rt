@@ -20,7 +20,7 @@ impl<T: Clone + Default, N: ArrayLength<T>> GenericArrayIter<T, N> {
         ensures succeeds { All T.is_infallible self.now → IsOk result }
     {
         let items = self.as_slice();
-        let mut store = N::ArrayType::filled(N::USIZE);
+        let mut store = N::ArrayType::with_defaults(N::USIZE);
         match write_clones(store.part_mut(0, items.len()), items) {
             Ok(()) => Ok(GenericArrayIter::from_store(store, items.len())),
             Err(refused) => Err(refused),

@@ -19,8 +19,7 @@ impl<T: Default + Drop, N: ArrayLength<T>> GenericArrayIter<T, N> {
         self.fold_by(init, &mut f)
     }
 
-    /// `fold` that borrows the closure, which can be used again in the state that it reached. One
-    /// pass.
+    /// `fold`: `f` is borrowed. One pass.
     pub fn fold_by<A, F: FnMut(A, T) -> A>(self, init: A, f: &mut F) -> A
         requires callable { MayFold (λ item. item) F.pre F.step f.old init self }
         ensures run { FoldRun F.step f.old init self result f.new }
@@ -39,8 +38,7 @@ impl<T: Default + Drop, N: ArrayLength<T>> GenericArrayIter<T, N> {
         self.rfold_by(init, &mut f)
     }
 
-    /// `rfold` that borrows the closure, which can be used again in the state that it reached. One
-    /// pass.
+    /// `rfold`: `f` is borrowed. One pass.
     pub fn rfold_by<A, F: FnMut(A, T) -> A>(self, init: A, f: &mut F) -> A
         requires callable { MayFold (λ item. item) F.pre F.step f.old init (reverse self) }
         ensures run { FoldRun F.step f.old init (reverse self) result f.new }

@@ -1,10 +1,10 @@
 //! Steps over several items, and the last item and the number of those that are left.
 ghost use Rattle.ga_core.specs.Cut.{StepGives, back, front};
-ghost use Rattle.std.specs.Prelude.{◌≡◌, ◌-◌, ◌≤◌, [], drop, length, slice_get, take};
+ghost use Rattle.std.specs.Prelude.{◌≡◌, ◌-◌, ◌<◌, ◌≤◌, [], ◌∷◌, drop, length, slice_get, take};
 
 use crate::array_iter::GenericArrayIter;
 use crate::length::ArrayLength;
-use crate::slots::{write_defaults, write_defaults_back};
+use crate::slots::{take_last_slot, write_defaults_back};
 use crate::store::Store;
 use ga_views::MAX_INLINE;
 
@@ -16,8 +16,7 @@ impl<T: Default + Drop, N: ArrayLength<T>> GenericArrayIter<T, N> {
         ensures step { StepGives (front n) self.old result self.new }
     {
         if n < self.len() {
-            self.pass_front(n);
-            Some(self.take_first())
+            Some(self.take_behind(n))
         } else {
             self.drop_left();
             None
@@ -54,9 +53,9 @@ impl<T: Default + Drop, N: ArrayLength<T>> GenericArrayIter<T, N> {
         self.next_back()
     }
 
-    // Drops all items that are left, in order. By `pass_front`, as `nth_back` does by `pass_back`,
-    // a step past the end takes up to a third more time.
-    #[inline]
+    // Drops all items that are left, in order. Never inlined, so that the compiler unrolls a caller's
+    // loop over `nth`.
+    #[inline(never)]
     fn drop_left(&mut self)
         ensures { self.new ≡ [] }
     {
@@ -65,19 +64,16 @@ impl<T: Default + Drop, N: ArrayLength<T>> GenericArrayIter<T, N> {
         }
     }
 
-    // Drops the first `passed` items, in order.
+    // Drops the first `passed` items, in order, and takes the next. There is one.
     #[inline]
-    fn pass_front(&mut self, passed: usize)
-        requires in_bounds { passed ≤ length self.old }
-        ensures { self.new ≡ drop passed self.old }
+    fn take_behind(&mut self, passed: usize) -> T
+        requires enough { passed < length self.old }
+        ensures { drop passed self.old ≡ result ∷ self.new }
     {
-        // With none to pass, `front` may lie behind the last slot.
-        if passed > 0 {
-            // The remainder is the slot itself: see `take_at`.
-            let first = self.front % MAX_INLINE;
-            self.front += passed;
-            write_defaults(self.store.part_mut(first, passed));
-        }
+        // The remainder is the slot itself: see `take_at`.
+        let first = self.front % MAX_INLINE;
+        self.front += passed + 1;
+        take_last_slot(self.store.part_mut(first, passed + 1))
     }
 
     // Drops the last `passed` items, the last first.
@@ -86,7 +82,7 @@ impl<T: Default + Drop, N: ArrayLength<T>> GenericArrayIter<T, N> {
         requires in_bounds { passed ≤ length self.old }
         ensures { self.new ≡ take (length self.old - passed) self.old }
     {
-        // As in `pass_front`.
+        // With none to pass, `back` may lie behind the last slot.
         if passed > 0 {
             let first = self.back - passed;
             self.back = first;

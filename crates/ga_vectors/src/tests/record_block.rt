@@ -2,7 +2,7 @@
 //! exact results.
 ghost use Rattle.ga_records.specs.Records.{has};
 ghost use Rattle.generic_array.specs.Views.{items_of_view};
-ghost use Rattle.std.specs.Prelude.{◌≡◌, ◌<◌, ◌∷◌, [], IfSome, None, Ok, Some, true};
+ghost use Rattle.std.specs.Prelude.{◌≡◌, ◌∷◌, [], IfSome, None, Ok, Some, true};
 
 use crate::tests::compared::gives;
 use crate::tests::sink::Sink;

@@ -32,7 +32,7 @@ where
     inverted_zip_by(s, lhs, &mut f)
 }
 
-/// `inverted_zip` that borrows the closure, which can be used again in the state that it reached.
+/// `inverted_zip`: `f` is borrowed.
 #[inline(always)]
 pub fn inverted_zip_by<
     T,
@@ -88,12 +88,12 @@ pub fn inverted_zip2<
         (zip (Lhs.items lhs) (S.items s)) (Lhs.Mapped.Sequence.items made) last) }
     ensures acts { IfOk result (λ made. (h : B × T → U) → ActsOnEntries Lhs.entry S.entry F.step f h
         → Lhs.Mapped.Sequence.items made ≡ map h (zip (Lhs.items lhs) (S.items s))) }
-    ensures promised { Lhs.Mapped.IsPromised → IsOk result }
+    ensures promised { Lhs.Mapped.NeedsNoMemory → IsOk result }
 {
     inverted_zip2_by(s, place, lhs, &mut f)
 }
 
-/// `inverted_zip2` that borrows the closure, which can be used again in the state that it reached.
+/// `inverted_zip2`: `f` is borrowed.
 #[inline(always)]
 pub fn inverted_zip2_by<
     T,
@@ -119,7 +119,7 @@ pub fn inverted_zip2_by<
         → ActsOnEntries Lhs.entry S.entry F.step f.old h
         → Lhs.Mapped.Sequence.items made ≡ map h (zip (Lhs.items lhs) (S.items s))) }
     ensures err { OnErr result (f.new ≡ f.old) }
-    ensures promised { Lhs.Mapped.IsPromised → IsOk result }
+    ensures promised { Lhs.Mapped.NeedsNoMemory → IsOk result }
 {
     zip_entries::<B, T, Lhs::IntoIter, S::IntoIter, U, Mapped<Lhs, B, U>, F>(
         entries_of(lhs),

@@ -1,7 +1,8 @@
 //! The kinds of sequences whose entries a closure can be called at, and what a map of each makes.
 use crate::functional::{FunctionalSequence, MappedGenericSequence, MapsInline};
+use crate::sequence::GenericSequence;
 use ga_boxed::BoxedArray;
-use ga_core::{ArrayLength, GenericArray, GenericArrayRef, Unsigned};
+use ga_core::{ArrayLength, GenericArray, GenericArrayRef, Never, Unsigned};
 
 impl<T: Default + Drop, N: ArrayLength<T>> FunctionalSequence<T> for GenericArray<T, N> {}
 
@@ -58,11 +59,13 @@ impl<T: Drop, U: Drop, N: Unsigned> MappedGenericSequence<T, U> for BoxedArray<T
     ghost same_length = { refl };
 }
 
-impl<T: Default + Drop, U: Default + Drop, N: ArrayLength<T> + ArrayLength<U>> MapsInline<T, U>
-    for GenericArray<T, N> {}
-
-impl<'a, T: Default + Drop, U: Default + Drop, N: ArrayLength<T> + ArrayLength<U>> MapsInline<T, U>
-    for GenericArrayRef<'a, T, N> {}
-
-impl<'a, T: Default + Drop, U: Default + Drop, N: ArrayLength<T> + ArrayLength<U>> MapsInline<T, U>
-    for &'a GenericArray<T, N> {}
+impl<
+    T,
+    U,
+    S: FunctionalSequence<T>
+        + MappedGenericSequence<
+            T,
+            U,
+            Mapped: GenericSequence<U, Place = (), Error = Never, Sequence: Drop>,
+        >,
+> MapsInline<T, U> for S {}

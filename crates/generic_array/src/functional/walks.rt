@@ -5,13 +5,15 @@
 ghost use Rattle.ga_core.specs.Calls.{MayFold, MayMap, MayTryFold, MayTryGenerate, MayTryMap, MayZip};
 ghost use Rattle.ga_core.specs.Entries.{CallAt, CallAtPair, FoldAt};
 ghost use Rattle.ga_core.specs.Runs.{ClosureRun, TryClosureRan, TryClosureRun, FoldRun, TryFoldRun};
-ghost use Rattle.generic_array.specs.Built.{Builds, built_items};
+ghost use Rattle.generic_array.specs.Built.{built_items};
 ghost use Rattle.generic_array.specs.GivenEntries.{AllEntries, AllEntriesOf, CallAtNext, CallAtNextPair, GivesEntries, MayCallAtNext, MayCallAtNextPair, SomeEntries, SomeEntriesOf};
 ghost use Rattle.std.specs.List.{range_with_len, zip};
 ghost use Rattle.std.specs.Iterator.{ActsAsOnTwo};
-ghost use Rattle.std.specs.Prelude.{◌≡◌, IfOk, None, Some, fold, length};
+ghost use Rattle.std.specs.Prelude.{◌≡◌, IfOk, IsOk, None, OnErr, Some, fold, length};
 
 use crate::sequence::{FallibleGenericSequence, GenericSequence};
+use ga_core::blocks::BLOCK;
+use std::mem;
 
 // The entries of a sequence. It has as many as its length says.
 #[inline(always)]
@@ -40,9 +42,39 @@ pub(super) fn fold_entries<T, I: Iterator + Drop, A, F: FnMut(A, I::Item) -> A>(
         (λ (entry : I.Item → T) values.
         FoldRun (FoldAt entry F.step) f.old init values result f.new) }
 {
+    if mem::size_of_val(&entries) > 32 {
+        return fold_in_blocks::<T, I, A, F>(entries, init, f);
+    }
     let mut answer = init;
     for entry in entries {
         answer = f(answer, entry);
+    }
+    answer
+}
+
+// The same in blocks, for iterators that hold an array. Not inlined always: once the compiler knows
+// the array's bounds, it no longer sees that a default written to a slot leaves the iterator's own.
+#[inline]
+fn fold_in_blocks<T, I: Iterator + Drop, A, F: FnMut(A, I::Item) -> A>(
+    mut entries: I,
+    init: A,
+    f: &mut F,
+) -> A
+    requires callable { SomeEntries I.can_next I.next_gives I.remaining entries
+        (λ (entry : I.Item → T) values. MayFold entry F.pre F.step f.old init values) }
+    ensures run { AllEntries I.can_next I.next_gives I.remaining entries
+        (λ (entry : I.Item → T) values.
+        FoldRun (FoldAt entry F.step) f.old init values result f.new) }
+{
+    let mut answer = init;
+    while let Some(entry) = entries.next() {
+        answer = f(answer, entry);
+        for _more in 1..BLOCK {
+            match entries.next() {
+                Some(entry) => answer = f(answer, entry),
+                None => return answer,
+            }
+        }
     }
     answer
 }
@@ -114,11 +146,13 @@ pub(super) fn map_entries<T, I: Iterator + Drop, U, M: GenericSequence<U>, F: Fn
     requires fits { M.Fits }
     requires callable { SomeEntriesOf I.can_next I.next_gives I.remaining M.Length.USIZE entries
         (λ (entry : I.Item → T) values. MayMap entry F.pre F.step f.old values) }
-    ensures { Builds result (λ made. length (M.Sequence.items made) ≡ M.Length.USIZE)
-        (λ made. AllEntriesOf I.can_next I.next_gives I.remaining M.Length.USIZE entries
+    ensures len { IfOk result (λ made. length (M.Sequence.items made) ≡ M.Length.USIZE) }
+    ensures run { IfOk result (λ made.
+        AllEntriesOf I.can_next I.next_gives I.remaining M.Length.USIZE entries
         (λ (entry : I.Item → T) values.
-        ClosureRun (CallAt entry F.step) f.old values (M.Sequence.items made) f.new))
-        f.old f.new M.IsPromised }
+        ClosureRun (CallAt entry F.step) f.old values (M.Sequence.items made) f.new)) }
+    ensures err { OnErr result (f.new ≡ f.old) }
+    ensures promised { M.NeedsNoMemory → IsOk result }
 {
     M::generate_by(
         place,
@@ -141,11 +175,13 @@ fn try_build<U, E, M: FallibleGenericSequence<U>, G: FnMut(usize) -> Result<U, E
 ) -> Result<Result<M::Sequence, E>, M::Error>
     requires fits { M.Fits }
     requires callable { MayTryGenerate G.pre G.step g.old M.Length.USIZE }
-    ensures { Builds result (λ built.
-        IfOk built (λ made. length (M.Sequence.items made) ≡ M.Length.USIZE))
-        (λ built. TryClosureRan G.step g.old (range_with_len 0 M.Length.USIZE)
-        (built_items M.Sequence.items built) g.new)
-        g.old g.new M.IsPromised }
+    ensures len { IfOk result (λ built.
+        IfOk built (λ made. length (M.Sequence.items made) ≡ M.Length.USIZE)) }
+    ensures run { IfOk result (λ built.
+        TryClosureRan G.step g.old (range_with_len 0 M.Length.USIZE)
+        (built_items M.Sequence.items built) g.new) }
+    ensures err { OnErr result (g.new ≡ g.old) }
+    ensures promised { M.NeedsNoMemory → IsOk result }
 {
     M::try_generate_by(place, g)
 }
@@ -163,13 +199,15 @@ pub(super) fn try_map_entries<
     requires fits { M.Fits }
     requires callable { SomeEntriesOf I.can_next I.next_gives I.remaining M.Length.USIZE entries
         (λ (entry : I.Item → T) values. MayTryMap entry F.pre F.step f.old values) }
-    ensures { Builds result (λ built.
-        IfOk built (λ made. length (M.Sequence.items made) ≡ M.Length.USIZE))
-        (λ built. AllEntriesOf I.can_next I.next_gives I.remaining M.Length.USIZE entries
+    ensures len { IfOk result (λ built.
+        IfOk built (λ made. length (M.Sequence.items made) ≡ M.Length.USIZE)) }
+    ensures run { IfOk result (λ built.
+        AllEntriesOf I.can_next I.next_gives I.remaining M.Length.USIZE entries
         (λ (entry : I.Item → T) values.
         TryClosureRun (CallAt entry F.step) f.old values
-        (built_items M.Sequence.items built) f.new))
-        f.old f.new M.IsPromised }
+        (built_items M.Sequence.items built) f.new)) }
+    ensures err { OnErr result (f.new ≡ f.old) }
+    ensures promised { M.NeedsNoMemory → IsOk result }
 {
     try_build::<U, E, M, _>(
         place,
@@ -198,14 +236,16 @@ pub(super) fn zip_entries<
         (λ (entry : I.Item → T) values. SomeEntriesOf J.can_next J.next_gives J.remaining
         M.Length.USIZE right
         (λ (other : J.Item → B) others. MayZip entry other F.pre F.step f.old values others)) }
-    ensures { Builds result (λ made. length (M.Sequence.items made) ≡ M.Length.USIZE)
-        (λ made. AllEntriesOf I.can_next I.next_gives I.remaining M.Length.USIZE left
+    ensures len { IfOk result (λ made. length (M.Sequence.items made) ≡ M.Length.USIZE) }
+    ensures run { IfOk result (λ made.
+        AllEntriesOf I.can_next I.next_gives I.remaining M.Length.USIZE left
         (λ (entry : I.Item → T) values. AllEntriesOf J.can_next J.next_gives J.remaining
         M.Length.USIZE right
         (λ (other : J.Item → B) others.
         ClosureRun (CallAtPair entry other F.step) f.old (zip values others) (M.Sequence.items made)
-        f.new)))
-        f.old f.new M.IsPromised }
+        f.new))) }
+    ensures err { OnErr result (f.new ≡ f.old) }
+    ensures promised { M.NeedsNoMemory → IsOk result }
 {
     M::generate_by(
         place,

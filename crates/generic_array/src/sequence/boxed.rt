@@ -23,7 +23,7 @@ impl<T: Drop, N: Unsigned> GenericSequence<T> for BoxedArray<T, N> {
 
     ghost entry = { λ item. item };
 
-    ghost IsPromised = { N.USIZE ≡ 0 };
+    ghost NeedsNoMemory = { N.USIZE ≡ 0 };
 
     fn fits() -> bool {
         true
@@ -50,7 +50,7 @@ impl<T: Drop, N: Unsigned> GenericSequence<T> for BoxedArray<T, N> {
         BoxedArray::repeat(place, item)
     }
 
-    ghost empty_is_promised = { λ empty. empty };
+    ghost empty_needs_no_memory = { λ empty. empty };
 
     ghost gives_entries = { λ array items gives. (tt, tt, left_given items array gives.0) };
 

@@ -24,7 +24,7 @@ impl<T: Default + Drop, N: ArrayLength<T>> GenericSequence<T> for GenericArray<T
 
     ghost entry = { λ item. item };
 
-    ghost IsPromised = { ⊤ };
+    ghost NeedsNoMemory = { ⊤ };
 
     fn fits() -> bool {
         GenericArray::<T, N>::fits()
@@ -51,7 +51,7 @@ impl<T: Default + Drop, N: ArrayLength<T>> GenericSequence<T> for GenericArray<T
         GenericArray::repeat(item)
     }
 
-    ghost empty_is_promised = { λ _. tt };
+    ghost empty_needs_no_memory = { λ _. tt };
 
     ghost gives_entries = { λ array items gives. (tt, tt, left_given items array gives.0) };
 

@@ -21,7 +21,7 @@ impl<'a, T: Default + Drop, N: ArrayLength<T>> GenericSequence<T> for &'a Generi
 
     ghost entry = { λ item. item.now };
 
-    ghost IsPromised = { ⊤ };
+    ghost NeedsNoMemory = { ⊤ };
 
     fn fits() -> bool {
         GenericArray::<T, N>::fits()
@@ -48,7 +48,7 @@ impl<'a, T: Default + Drop, N: ArrayLength<T>> GenericSequence<T> for &'a Generi
         GenericArray::repeat(item)
     }
 
-    ghost empty_is_promised = { λ _. tt };
+    ghost empty_needs_no_memory = { λ _. tt };
 
     ghost gives_entries = { λ array items gives. (
       tt,

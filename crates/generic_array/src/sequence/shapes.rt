@@ -198,7 +198,7 @@ pub trait Flatten<T, Output>: Sized {
     // What is made has room for exactly the items of all rows, and its length fits.
     ghost IsArea: { Type 0 };
 
-    /// The items of the rows, in order. A condition is that `Output` has as many slots as the rows
+    /// The items of the rows, in order. Requires that `Output` has as many slots as the rows
     /// together, and fits.
     fn flatten(self) -> Output
         requires { IsArea }

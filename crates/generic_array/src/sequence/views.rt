@@ -23,7 +23,7 @@ impl<'a, T: Default + Drop, N: ArrayLength<T>> GenericSequence<T> for GenericArr
 
     ghost entry = { λ item. item.now };
 
-    ghost IsPromised = { ⊤ };
+    ghost NeedsNoMemory = { ⊤ };
 
     fn fits() -> bool {
         GenericArray::<T, N>::fits()
@@ -50,7 +50,7 @@ impl<'a, T: Default + Drop, N: ArrayLength<T>> GenericSequence<T> for GenericArr
         GenericArray::repeat(item)
     }
 
-    ghost empty_is_promised = { λ _. tt };
+    ghost empty_needs_no_memory = { λ _. tt };
 
     ghost gives_entries = { λ view items gives. (
       tt,

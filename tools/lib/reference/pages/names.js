@@ -6,13 +6,10 @@ const NAMES = [
 {% set kind = ("method" if "::" in full else "function" if item.public else "law") if item.kind == "fn" else kinds.get(item.kind, item.kind) %}
 {{ [item.name, kind, full, item.url, (item|line).replace("`", "")]|tojson }},
 {% endfor %}
-{% for word in pages.own_words %}
+{% for word in pages.words %}
 {{ [word.name, "word", word.module ~ "." ~ word.name, word.url, word|line]|tojson }},
 {% endfor %}
-{% for name, thing in pages.std.items() %}
-{{ [name.split(".")[-1].strip("◌"), "word of std", name, thing.url, thing|line]|tojson }},
-{% endfor %}
-{% for name, item, line in pages.rust_names %}
-{{ [name.split("::")[-1], "Rust crate", name, item.url if item else "rust.html", line]|tojson }},
+{% for thing in pages.std.values() %}
+{{ [thing.name.strip("◌"), "word of std", thing.module ~ "." ~ thing.name, thing.url, thing|line]|tojson }},
 {% endfor %}
 ];

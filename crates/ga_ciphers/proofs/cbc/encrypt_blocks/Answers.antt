@@ -1,52 +1,39 @@
-use Rattle.ga_ciphers.proofs.CbcLemmas.{Turn, back-ended, back-more, encrypted-ended, encrypted-more}
-use Rattle.ga_ciphers.proofs.CbcLemmas.{encrypted_vector-more, next-left, next-whole, next-within, vector-ended}
+use Rattle.ga_ciphers.proofs.CbcLemmas.{back-ended, back-more, blocks-none, encrypted-more, encrypted-none, last-ended}
+use Rattle.ga_ciphers.proofs.CbcLemmas.{text-ended, turn-from}
 use Rattle.ga_ciphers.proofs.cbc.encrypt_blocks.Goals as goal
-use Rattle.std.proofs.Common.{◌≡◌, ◌+◌, ◌<◌, ap, arith, length}
+use Rattle.std.proofs.Common.{◌≡◌, ◌≤◌, ◌+◌, ap, arith, length, refl}
+
+pub rows-init : goal.rows-init
+rows-init g c = record { so_far = blocks-none _ _ _ _ _ c.requires; back = λ rest. refl }
 
 pub rows-preserved : goal.rows-preserved
 rows-preserved g c =
     let width = g.C.BlockSize.Unsigned.USIZE in
-    let some : 0 < width = g.met.C.BlockCipher.some in
     let encrypted = g.C.BlockCipher.encrypted c.args.cipher.now in
     let decrypted = g.C.BlockCipher.decrypted c.args.cipher.now in
-    let first = c.args.vector.now in
-    let so_far = c.rows.invariant in
+    let so_far = c.rows.invariant.so_far in
     let made = c.encrypt_at.ensures in
-    let turn : Turn width c.rows.vector c.args.text.now c.rows.text c.encrypt_at.new.text c.encrypt_at.new.vector c.rows.done
-    (c.rows.done + c.USIZE-done.result) = record {
-      goes = ap (λ n. c.rows.done + n) c.USIZE-done.ensures;
-      whole = so_far.whole;
-      below = c.rows-test.true;
-      wide = made.len;
-      long = c.encrypt_at.auto.text;
-      left = so_far.left;
-      is = made.text;
-    } in
+    let turn = turn-from so_far (ap (λ n. c.rows.done + n) c.USIZE-done.ensures) c.rows-test.true made.len
+    c.encrypt_at.auto.text made.text in
     record {
-      done = next-within width some encrypted decrypted first turn;
-      whole = next-whole width some encrypted decrypted first turn;
-      left = next-left width some encrypted decrypted first turn;
-      vector = encrypted_vector-more width some encrypted decrypted first turn so_far.vector;
-      text = encrypted-more width some encrypted decrypted first turn made.vector so_far.text;
-      back = back-more width some encrypted decrypted first turn made.back so_far.back;
+      so_far = encrypted-more width g.met.C.BlockCipher.some encrypted decrypted c.args.vector.now turn made.vector so_far;
+      back = back-more width g.met.C.BlockCipher.some encrypted decrypted c.args.vector.now turn made.back
+          c.rows.invariant.back;
     }
 
 pub returns : goal.returns
 returns g c =
     let width = g.C.BlockSize.Unsigned.USIZE in
-    let some : 0 < width = g.met.C.BlockCipher.some in
     let encrypted = g.C.BlockCipher.encrypted c.args.cipher.now in
     let decrypted = g.C.BlockCipher.decrypted c.args.cipher.now in
-    let first = c.args.vector.now in
-    let start = c.args.text.now in
-    let vector = c.rows.vector in
-    let now = c.rows.text in
-    let done = c.rows.done in
-    let so_far = c.rows.invariant in
-    let ended : done ≡ length now = omega (arith, so_far.done, c.rows-test.false) in
-    let long : length start ≡ length now = omega (arith, c.rows.auto.text) in
+    let some = g.met.C.BlockCipher.some in
+    let so_far = c.rows.invariant.so_far in
+    let end : length c.rows.text ≤ c.rows.done = omega (arith, c.rows-test.false) in
+    let ended : c.rows.done ≡ length c.rows.text = omega (arith, so_far.within) in
+    let long : length c.args.text.now ≡ length c.rows.text = omega (arith, c.rows.auto.text) in
     record {
-      text = encrypted-ended width some encrypted decrypted first vector start now done ended so_far.text;
-      vector = vector-ended width some encrypted decrypted first vector start now done ended so_far.vector;
-      back = back-ended width some encrypted decrypted first vector start now done ended long so_far.back;
+      text = text-ended so_far end (encrypted-none width some encrypted decrypted c.rows.vector);
+      vector = last-ended so_far end refl;
+      back = back-ended width some encrypted decrypted c.args.vector.now c.rows.vector c.args.text.now c.rows.text c.rows.done
+          ended long c.rows.invariant.back;
     }

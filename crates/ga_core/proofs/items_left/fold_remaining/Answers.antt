@@ -1,45 +1,62 @@
 use Rattle.ga_core.proofs.ActsLemmas.{answer_of_fold}
-use Rattle.ga_core.proofs.CallLemmas.{FoldRun-of_items, may_fold-at}
-use Rattle.ga_core.proofs.CutLemmas.{taken-more}
-use Rattle.ga_core.proofs.LeftLemmas.{all_moved, one_gone}
+use Rattle.ga_core.proofs.TwoEndedLemmas.{front-fewer, front-none, front-taken, folded-all, folded-callable, folded-next}
+use Rattle.ga_core.proofs.TwoEndedLemmas.{folded-none}
 use Rattle.ga_core.proofs.items_left.fold_remaining.Goals as goal
-use Rattle.ga_core.specs.Runs.{FoldRun}
-use Rattle.std.proofs.Common.{◌∙◌, ap, length, refl, subst, sym, ◌∷◌, [], ◌++◌}
-use Rattle.std.proofs.lemmas.Fn.{FoldsTo-push}
+use Rattle.std.proofs.Common.{arith}
+
+pub loop-item-init : goal.loop-item-init
+loop-item-init g c = folded-none (goal.F-step g) c.args.f.now c.args.init _
 
 pub f-answer-requires : goal.f-answer-requires
 f-answer-requires g c =
-    let so_far = c.loop-item.invariant in
-    let whole = so_far.1 ∙ ap (λ left. so_far.0 ++ left) c.in-Some.ensures in
-    may_fold-at (λ item. item) (goal.F-pre g) (goal.F-step g) c.args.f.now c.args.init (g.L.ItemsLeft.items c.args.left)
-    c.requires.callable so_far.0 c.in-Some.item _ c.loop-item.f c.loop-item.answer whole
-    (FoldRun-of_items (goal.F-step g) c.args.f.now c.args.init so_far.0 c.loop-item.answer c.loop-item.f so_far.2)
-    c.in-Some.item refl
+    let came = front-taken (g.I.TwoEnded.items c.loop-item.left) c.in-Some.item
+    (g.I.TwoEnded.items c.front.new.self) c.in-Some.ensures.step in
+    folded-callable c.loop-item.invariant (goal.F-pre g) c.requires.callable c.in-Some.item _ came
+
+pub loop-more-init : goal.loop-more-init
+loop-more-init g c =
+    let came = front-taken (g.I.TwoEnded.items c.loop-item.left) c.in-Some.item
+    (g.I.TwoEnded.items c.front.new.self) c.in-Some.ensures.step in
+    record {
+      so_far = folded-next c.loop-item.invariant c.in-Some.item _ c.f-answer.result c.f-answer.new.self came
+          c.f-answer.ensures;
+      fewer = omega arith;
+    }
+
+pub f-answer-requires-in-Some-front : goal.f-answer-requires-in-Some-front
+f-answer-requires-in-Some-front g c =
+    let came = front-taken (g.I.TwoEnded.items c.loop-more.left) c.in-Some-front.item
+    (g.I.TwoEnded.items c.front-in-loop-more.new.self) c.in-Some-front.ensures.step in
+    folded-callable c.loop-more.invariant.so_far (goal.F-pre g) c.requires.callable c.in-Some-front.item _ came
+
+pub loop-more-preserved : goal.loop-more-preserved
+loop-more-preserved g c =
+    let came = front-taken (g.I.TwoEnded.items c.loop-more.left) c.in-Some-front.item
+    (g.I.TwoEnded.items c.front-in-loop-more.new.self) c.in-Some-front.ensures.step in
+    let fewer = front-fewer (g.I.TwoEnded.items c.loop-more.left) c.in-Some-front.item
+    (g.I.TwoEnded.items c.front-in-loop-more.new.self) c.in-Some-front.ensures.step in
+    record {
+      so_far = folded-next c.loop-more.invariant.so_far c.in-Some-front.item _ c.f-answer-in-Some-front.result
+          c.f-answer-in-Some-front.new.self came c.f-answer-in-Some-front.ensures;
+      fewer = omega (arith, fewer, c.loop-more.invariant.fewer);
+    }
+
+pub returns-in-None : goal.returns-in-None
+returns-in-None g c =
+    let none = front-none (g.I.TwoEnded.items c.loop-more.left) (g.I.TwoEnded.items c.front-in-loop-more.new.self) c.in-None.ensures.step in
+    let run = folded-all c.loop-more.invariant.so_far none in
+    record { run = run; acts = λ h acts. answer_of_fold (goal.F-step g) c.args.f.now h acts c.args.init _ _ _ run }
 
 pub loop-item-preserved : goal.loop-item-preserved
-loop-item-preserved g c =
-    let so_far = c.loop-item.invariant in
-    let item = c.in-Some.item in (
-      so_far.0 ++ item ∷ [],
-      taken-more (g.L.ItemsLeft.items c.args.left) so_far.0 _ item _ so_far.1 c.in-Some.ensures,
-      FoldsTo-push _ (c.args.f.now, c.args.init) so_far.0 (c.loop-item.f, c.loop-item.answer) item
-          (c.f-answer.new.self, c.f-answer.result) so_far.2 c.f-answer.ensures,
-    )
+loop-item-preserved g c = c.loop-more.invariant.so_far
+
+pub loop-item-smaller : goal.loop-item-smaller
+loop-item-smaller g c =
+    let fewer = front-fewer (g.I.TwoEnded.items c.loop-item.left) c.in-Some.item (g.I.TwoEnded.items c.front.new.self) c.in-Some.ensures.step in
+    omega (arith, fewer, c.loop-more.invariant.fewer)
 
 pub returns : goal.returns
 returns g c =
-    let at = c.loop-item in
-    let so_far = at.invariant in
-    let run : FoldRun (goal.F-step g) c.args.f.now c.args.init (g.L.ItemsLeft.items c.args.left) at.answer at.f =
-    subst (λ items. FoldRun (goal.F-step g) c.args.f.now c.args.init items at.answer at.f)
-    (all_moved so_far.0 _ (g.L.ItemsLeft.items c.args.left) (sym so_far.1) (ap length c.in_default.ensures.0)) so_far.2 in
-    record {
-      run = run;
-      acts = λ h acts. answer_of_fold (goal.F-step g) c.args.f.now h acts c.args.init _ at.answer at.f run;
-    }
-
-pub loop-item-smaller : goal.loop-item-smaller
-loop-item-smaller g c = one_gone _ _ _ c.in-Some.ensures
-
-pub loop-item-init : goal.loop-item-init
-loop-item-init g c = ([], refl, refl)
+    let none = front-none (g.I.TwoEnded.items c.loop-item.left) (g.I.TwoEnded.items c.front.new.self) c.in_default.ensures.step in
+    let run = folded-all c.loop-item.invariant none in
+    record { run = run; acts = λ h acts. answer_of_fold (goal.F-step g) c.args.f.now h acts c.args.init _ _ _ run }

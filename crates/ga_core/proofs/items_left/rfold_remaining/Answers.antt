@@ -1,50 +1,62 @@
 use Rattle.ga_core.proofs.ActsLemmas.{answer_of_fold}
-use Rattle.ga_core.proofs.CallLemmas.{FoldRun-of_items, may_fold-at}
-use Rattle.ga_core.proofs.CutLemmas.{next_back-reversed, taken-more}
-use Rattle.ga_core.proofs.LeftLemmas.{all_moved, one_gone-back}
+use Rattle.ga_core.proofs.TwoEndedLemmas.{back-fewer, back-none, back-taken, folded-all, folded-callable, folded-next}
+use Rattle.ga_core.proofs.TwoEndedLemmas.{folded-none}
 use Rattle.ga_core.proofs.items_left.rfold_remaining.Goals as goal
-use Rattle.ga_core.specs.Runs.{FoldRun}
-use Rattle.std.proofs.Common.{◌∙◌, ap, length, refl, subst, sym, ◌∷◌, [], ◌++◌, Some, reverse}
-use Rattle.std.proofs.lemmas.Fn.{FoldsTo-push}
+use Rattle.std.proofs.Common.{arith}
+
+pub loop-item-init : goal.loop-item-init
+loop-item-init g c = folded-none (goal.F-step g) c.args.f.now c.args.init _
 
 pub f-answer-requires : goal.f-answer-requires
 f-answer-requires g c =
-    let at = c.loop-item in
-    let others = (g.L.ItemsLeft.items c.take_back.new.self) in
-    let came = next_back-reversed (g.L.ItemsLeft.items at.left) (Some c.in-Some.item) others c.in-Some.ensures in
-    may_fold-at (λ item. item) (goal.F-pre g) (goal.F-step g) c.args.f.now c.args.init _
-    c.requires.callable at.invariant.0 c.in-Some.item (reverse others) at.f at.answer
-    (at.invariant.1 ∙ ap (λ rest. at.invariant.0 ++ rest) came)
-    (FoldRun-of_items (goal.F-step g) c.args.f.now c.args.init at.invariant.0 at.answer at.f at.invariant.2)
-    c.in-Some.item refl
+    let came = back-taken (g.I.TwoEnded.items c.loop-item.left) c.in-Some.item
+    (g.I.TwoEnded.items c.back.new.self) c.in-Some.ensures.step in
+    folded-callable c.loop-item.invariant (goal.F-pre g) c.requires.callable c.in-Some.item _ came
+
+pub loop-more-init : goal.loop-more-init
+loop-more-init g c =
+    let came = back-taken (g.I.TwoEnded.items c.loop-item.left) c.in-Some.item
+    (g.I.TwoEnded.items c.back.new.self) c.in-Some.ensures.step in
+    record {
+      so_far = folded-next c.loop-item.invariant c.in-Some.item _ c.f-answer.result c.f-answer.new.self came
+          c.f-answer.ensures;
+      fewer = omega arith;
+    }
+
+pub f-answer-requires-in-Some-back : goal.f-answer-requires-in-Some-back
+f-answer-requires-in-Some-back g c =
+    let came = back-taken (g.I.TwoEnded.items c.loop-more.left) c.in-Some-back.item
+    (g.I.TwoEnded.items c.back-in-loop-more.new.self) c.in-Some-back.ensures.step in
+    folded-callable c.loop-more.invariant.so_far (goal.F-pre g) c.requires.callable c.in-Some-back.item _ came
+
+pub loop-more-preserved : goal.loop-more-preserved
+loop-more-preserved g c =
+    let came = back-taken (g.I.TwoEnded.items c.loop-more.left) c.in-Some-back.item
+    (g.I.TwoEnded.items c.back-in-loop-more.new.self) c.in-Some-back.ensures.step in
+    let fewer = back-fewer (g.I.TwoEnded.items c.loop-more.left) c.in-Some-back.item
+    (g.I.TwoEnded.items c.back-in-loop-more.new.self) c.in-Some-back.ensures.step in
+    record {
+      so_far = folded-next c.loop-more.invariant.so_far c.in-Some-back.item _ c.f-answer-in-Some-back.result
+          c.f-answer-in-Some-back.new.self came c.f-answer-in-Some-back.ensures;
+      fewer = omega (arith, fewer, c.loop-more.invariant.fewer);
+    }
+
+pub returns-in-None : goal.returns-in-None
+returns-in-None g c =
+    let none = back-none (g.I.TwoEnded.items c.loop-more.left) (g.I.TwoEnded.items c.back-in-loop-more.new.self) c.in-None.ensures.step in
+    let run = folded-all c.loop-more.invariant.so_far none in
+    record { run = run; acts = λ h acts. answer_of_fold (goal.F-step g) c.args.f.now h acts c.args.init _ _ _ run }
 
 pub loop-item-preserved : goal.loop-item-preserved
-loop-item-preserved g c =
-    let at = c.loop-item in
-    let item = c.in-Some.item in
-    let others = (g.L.ItemsLeft.items c.take_back.new.self) in (
-      at.invariant.0 ++ item ∷ [],
-      taken-more (reverse (g.L.ItemsLeft.items c.args.left)) at.invariant.0 _ item (reverse others) at.invariant.1
-          (next_back-reversed (g.L.ItemsLeft.items at.left) (Some item) others c.in-Some.ensures),
-      FoldsTo-push _ (c.args.f.now, c.args.init) at.invariant.0 (at.f, at.answer) item
-          (c.f-answer.new.self, c.f-answer.result) at.invariant.2 c.f-answer.ensures,
-    )
+loop-item-preserved g c = c.loop-more.invariant.so_far
+
+pub loop-item-smaller : goal.loop-item-smaller
+loop-item-smaller g c =
+    let fewer = back-fewer (g.I.TwoEnded.items c.loop-item.left) c.in-Some.item (g.I.TwoEnded.items c.back.new.self) c.in-Some.ensures.step in
+    omega (arith, fewer, c.loop-more.invariant.fewer)
 
 pub returns : goal.returns
 returns g c =
-    let at = c.loop-item in
-    let so_far = at.invariant in
-    let run : FoldRun (goal.F-step g) c.args.f.now c.args.init (reverse (g.L.ItemsLeft.items c.args.left)) at.answer at.f =
-    subst (λ items. FoldRun (goal.F-step g) c.args.f.now c.args.init items at.answer at.f)
-    (all_moved so_far.0 (reverse (g.L.ItemsLeft.items at.left)) (reverse (g.L.ItemsLeft.items c.args.left)) (sym so_far.1)
-    (ap (λ left. length (reverse left)) c.in_default.ensures.0)) so_far.2 in
-    record {
-      run = run;
-      acts = λ h acts. answer_of_fold (goal.F-step g) c.args.f.now h acts c.args.init _ at.answer at.f run;
-    }
-
-pub loop-item-smaller : goal.loop-item-smaller
-loop-item-smaller g c = one_gone-back _ _ _ c.in-Some.ensures
-
-pub loop-item-init : goal.loop-item-init
-loop-item-init g c = ([], refl, refl)
+    let none = back-none (g.I.TwoEnded.items c.loop-item.left) (g.I.TwoEnded.items c.back.new.self) c.in_default.ensures.step in
+    let run = folded-all c.loop-item.invariant none in
+    record { run = run; acts = λ h acts. answer_of_fold (goal.F-step g) c.args.f.now h acts c.args.init _ _ _ run }

@@ -37,8 +37,8 @@ impl<T: Default + Drop> From<(T, T, T, T)> for GenericArray<T, U4> {
 }
 
 impl<T: Default + Drop> From<(T, T, T, T, T)> for GenericArray<T, U5> {
-    ghost from_gives = { λ tuple array. array
-        ≡ tuple.0 ∷ tuple.1 ∷ tuple.2 ∷ tuple.3 ∷ tuple.4 ∷ [] };
+    ghost from_gives = { λ tuple array.
+        array ≡ tuple.0 ∷ tuple.1 ∷ tuple.2 ∷ tuple.3 ∷ tuple.4 ∷ [] };
 
     fn from(tuple: (T, T, T, T, T)) -> Self {
         GenericArray::from_array(tuple.into())
@@ -75,8 +75,8 @@ impl<T: Default + Drop> From<(T, T, T, T, T, T, T, T)> for GenericArray<T, U8> {
 
 impl<T: Default + Drop> From<(T, T, T, T, T, T, T, T, T)> for GenericArray<T, U9> {
     ghost from_gives = { λ tuple array.
-        array ≡ tuple.0 ∷ tuple.1 ∷ tuple.2 ∷ tuple.3 ∷ tuple.4 ∷ tuple.5 ∷ tuple.6 ∷
-        tuple.7 ∷ tuple.8 ∷ [] };
+        array ≡ tuple.0 ∷ tuple.1 ∷ tuple.2 ∷ tuple.3 ∷ tuple.4 ∷ tuple.5 ∷ tuple.6 ∷ tuple.7
+        ∷ tuple.8 ∷ [] };
 
     fn from(tuple: (T, T, T, T, T, T, T, T, T)) -> Self {
         GenericArray::from_array(tuple.into())
@@ -85,8 +85,8 @@ impl<T: Default + Drop> From<(T, T, T, T, T, T, T, T, T)> for GenericArray<T, U9
 
 impl<T: Default + Drop> From<(T, T, T, T, T, T, T, T, T, T)> for GenericArray<T, U10> {
     ghost from_gives = { λ tuple array.
-        array ≡ tuple.0 ∷ tuple.1 ∷ tuple.2 ∷ tuple.3 ∷ tuple.4 ∷ tuple.5 ∷ tuple.6 ∷ tuple.7 ∷
-        tuple.8 ∷ tuple.9 ∷ [] };
+        array ≡ tuple.0 ∷ tuple.1 ∷ tuple.2 ∷ tuple.3 ∷ tuple.4 ∷ tuple.5 ∷ tuple.6 ∷ tuple.7
+        ∷ tuple.8 ∷ tuple.9 ∷ [] };
 
     fn from(tuple: (T, T, T, T, T, T, T, T, T, T)) -> Self {
         GenericArray::from_array(tuple.into())
@@ -96,8 +96,7 @@ impl<T: Default + Drop> From<(T, T, T, T, T, T, T, T, T, T)> for GenericArray<T,
 impl<T: Default + Drop> From<(T, T, T, T, T, T, T, T, T, T, T)> for GenericArray<T, U11> {
     ghost from_gives = { λ tuple array.
         array ≡ tuple.0 ∷ tuple.1 ∷ tuple.2 ∷ tuple.3 ∷ tuple.4 ∷ tuple.5 ∷ tuple.6 ∷ tuple.7
-        ∷ tuple.8 ∷
-        tuple.9 ∷ tuple.10 ∷ [] };
+        ∷ tuple.8 ∷ tuple.9 ∷ tuple.10 ∷ [] };
 
     fn from(tuple: (T, T, T, T, T, T, T, T, T, T, T)) -> Self {
         GenericArray::from_array(tuple.into())
@@ -107,8 +106,7 @@ impl<T: Default + Drop> From<(T, T, T, T, T, T, T, T, T, T, T)> for GenericArray
 impl<T: Default + Drop> From<(T, T, T, T, T, T, T, T, T, T, T, T)> for GenericArray<T, U12> {
     ghost from_gives = { λ tuple array.
         array ≡ tuple.0 ∷ tuple.1 ∷ tuple.2 ∷ tuple.3 ∷ tuple.4 ∷ tuple.5 ∷ tuple.6 ∷ tuple.7
-        ∷ tuple.8 ∷
-        tuple.9 ∷ tuple.10 ∷ tuple.11 ∷ [] };
+        ∷ tuple.8 ∷ tuple.9 ∷ tuple.10 ∷ tuple.11 ∷ [] };
 
     fn from(tuple: (T, T, T, T, T, T, T, T, T, T, T, T)) -> Self {
         GenericArray::from_array(tuple.into())

@@ -38,8 +38,8 @@ impl<T: Default + Drop> From<GenericArray<T, U4>> for (T, T, T, T) {
 }
 
 impl<T: Default + Drop> From<GenericArray<T, U5>> for (T, T, T, T, T) {
-    ghost from_gives = { λ array tuple. array
-        ≡ tuple.0 ∷ tuple.1 ∷ tuple.2 ∷ tuple.3 ∷ tuple.4 ∷ [] };
+    ghost from_gives = { λ array tuple.
+        array ≡ tuple.0 ∷ tuple.1 ∷ tuple.2 ∷ tuple.3 ∷ tuple.4 ∷ [] };
 
     fn from(array: GenericArray<T, U5>) -> Self {
         array_of_store(array.store).into()
@@ -76,8 +76,8 @@ impl<T: Default + Drop> From<GenericArray<T, U8>> for (T, T, T, T, T, T, T, T) {
 
 impl<T: Default + Drop> From<GenericArray<T, U9>> for (T, T, T, T, T, T, T, T, T) {
     ghost from_gives = { λ array tuple.
-        array ≡ tuple.0 ∷ tuple.1 ∷ tuple.2 ∷ tuple.3 ∷ tuple.4 ∷ tuple.5 ∷ tuple.6 ∷
-        tuple.7 ∷ tuple.8 ∷ [] };
+        array ≡ tuple.0 ∷ tuple.1 ∷ tuple.2 ∷ tuple.3 ∷ tuple.4 ∷ tuple.5 ∷ tuple.6 ∷ tuple.7
+        ∷ tuple.8 ∷ [] };
 
     fn from(array: GenericArray<T, U9>) -> Self {
         array_of_store(array.store).into()
@@ -86,8 +86,8 @@ impl<T: Default + Drop> From<GenericArray<T, U9>> for (T, T, T, T, T, T, T, T, T
 
 impl<T: Default + Drop> From<GenericArray<T, U10>> for (T, T, T, T, T, T, T, T, T, T) {
     ghost from_gives = { λ array tuple.
-        array ≡ tuple.0 ∷ tuple.1 ∷ tuple.2 ∷ tuple.3 ∷ tuple.4 ∷ tuple.5 ∷ tuple.6 ∷ tuple.7 ∷
-        tuple.8 ∷ tuple.9 ∷ [] };
+        array ≡ tuple.0 ∷ tuple.1 ∷ tuple.2 ∷ tuple.3 ∷ tuple.4 ∷ tuple.5 ∷ tuple.6 ∷ tuple.7
+        ∷ tuple.8 ∷ tuple.9 ∷ [] };
 
     fn from(array: GenericArray<T, U10>) -> Self {
         array_of_store(array.store).into()
@@ -97,8 +97,7 @@ impl<T: Default + Drop> From<GenericArray<T, U10>> for (T, T, T, T, T, T, T, T, 
 impl<T: Default + Drop> From<GenericArray<T, U11>> for (T, T, T, T, T, T, T, T, T, T, T) {
     ghost from_gives = { λ array tuple.
         array ≡ tuple.0 ∷ tuple.1 ∷ tuple.2 ∷ tuple.3 ∷ tuple.4 ∷ tuple.5 ∷ tuple.6 ∷ tuple.7
-        ∷ tuple.8 ∷
-        tuple.9 ∷ tuple.10 ∷ [] };
+        ∷ tuple.8 ∷ tuple.9 ∷ tuple.10 ∷ [] };
 
     fn from(array: GenericArray<T, U11>) -> Self {
         array_of_store(array.store).into()
@@ -108,8 +107,7 @@ impl<T: Default + Drop> From<GenericArray<T, U11>> for (T, T, T, T, T, T, T, T, 
 impl<T: Default + Drop> From<GenericArray<T, U12>> for (T, T, T, T, T, T, T, T, T, T, T, T) {
     ghost from_gives = { λ array tuple.
         array ≡ tuple.0 ∷ tuple.1 ∷ tuple.2 ∷ tuple.3 ∷ tuple.4 ∷ tuple.5 ∷ tuple.6 ∷ tuple.7
-        ∷ tuple.8 ∷
-        tuple.9 ∷ tuple.10 ∷ tuple.11 ∷ [] };
+        ∷ tuple.8 ∷ tuple.9 ∷ tuple.10 ∷ tuple.11 ∷ [] };
 
     fn from(array: GenericArray<T, U12>) -> Self {
         array_of_store(array.store).into()

@@ -14,4 +14,4 @@ returns g c =
     let same : length c.args.right.now ≡ length c.args.left.now =
     rw c.as_slice-2.ensures.items at c.as_slice-2.ensures.len
     ∙ sym (rw c.as_slice.ensures.items at c.as_slice.ensures.len) in
-    c.each_chosen.ensures ∙ one_side c.args.flag _ _ same
+    c.choose_each.ensures ∙ one_side c.args.flag _ _ same

@@ -115,6 +115,7 @@ impl<T: Default + Drop, N: ArrayLength<T>, M: ArrayLength<T>> Remove<T, GenericA
 
     #[inline]
     fn remove(self, index: usize) -> (T, GenericArray<T, M>) {
+        // By a view, since shapes use views, iterators and builders alone.
         let mut array = self;
         let mut view = array.view_mut();
         carry_to_end(view.as_mut_slice(), index);
@@ -138,6 +139,7 @@ impl<T: Default + Drop, N: ArrayLength<T>> Row<T> for GenericArray<T, N> {
 
     #[inline]
     fn move_into<M: ArrayLength<T>>(self, joined: &mut ArrayBuilder<T, M>) {
+        // Item by item: `take_from` of a row takes as many instructions, and more time at 64 bytes.
         for item in self {
             joined.push(item);
         }

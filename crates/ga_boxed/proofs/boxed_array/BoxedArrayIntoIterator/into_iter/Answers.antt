@@ -6,7 +6,7 @@ pub returns : goal.returns
 returns g c = record {
   into_iter_gives = (
     c.from_block.ensures
-        ∙ (ap (λ block. block.items) c.counted.ensures ∙ c.self.view_is),
+        ∙ (ap (λ block. block.items) c.with_len.ensures ∙ c.self.view_is),
     rest_runs,
     rest_runs_back,
     ap length (sym c.self.view_is) ∙ c.self.invariant,

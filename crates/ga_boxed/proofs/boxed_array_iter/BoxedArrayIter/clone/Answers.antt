@@ -1,6 +1,30 @@
+use Rattle.ga_boxed.proofs.BlockLemmas.{long_more, one_more}
 use Rattle.ga_boxed.proofs.boxed_array_iter.BoxedArrayIter.clone.Goals as goal
 use Rattle.ga_core.proofs.CopyLemmas.{AllZip-same}
+use Rattle.std.proofs.Common.{◌∙◌, refl, subst, sym}
+use Rattle.std.proofs.lemmas.List.{take_all}
+use Rattle.std.proofs.lemmas.List.Elements.{all_zip_more}
+use Rattle.std.specs.List.{AllZip}
 
-pub returns-in-Ok-clause-same : goal.returns-in-Ok-clause-same
-returns-in-Ok-clause-same g c = λ exact.
-    AllZip-same g.T.Clone.is_clone c.args.self.now c.in-Ok.copy exact c.in-Ok.ensures.cases
+pub loop-item-preserved : goal.loop-item-preserved
+loop-item-preserved g c = record {
+  long = long_more _ _ _ c.put.ensures.items _ c.loop-item.invariant.long;
+  room = one_more _ _ _ _ c.loop-item.invariant.room c.put.ensures.room;
+  clones = rw c.put.ensures.items
+      (all_zip_more g.T.Clone.is_clone c.as_slice-item-items.result.now c.loop-item.clones.items c.loop-item.item-index
+      c.item-item.result _ c.loop-item-test.true c.item-item.is c.loop-item.invariant.clones
+      c.in_ok-clone.ensures.cases);
+}
+
+pub returns : goal.returns
+returns g c =
+    let items = c.as_slice-item-items in
+    let clones = subst (λ copy. AllZip g.T.Clone.is_clone c.args.self.now copy) (sym c.from_block.ensures)
+    (subst (λ items. AllZip g.T.Clone.is_clone items c.loop-item.clones.items)
+    (take_all c.loop-item.item-index items.result.now c.loop-item-test.false ∙ items.ensures)
+    c.loop-item.invariant.clones) in
+    record {
+      items = clones;
+      same = λ exact. AllZip-same g.T.Clone.is_clone c.args.self.now _ exact clones;
+      empty = λ none. refl;
+    }

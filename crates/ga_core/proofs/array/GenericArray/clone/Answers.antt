@@ -9,11 +9,11 @@ write_clones-requires g c = record { room = c.as_mut_slice.ensures.len ∙ sym c
 
 pub returns-in-Ok : goal.returns-in-Ok
 returns-in-Ok g c =
-    let made = c.repacked.ensures ∙ made-is_written c.as_mut_slice.ensures.items c.write_clones.auto.slots in
+    let made = c.repack.ensures ∙ made-is_written c.as_mut_slice.ensures.items c.write_clones.auto.slots in
     let items = made-of (AllZip g.T.Clone.is_clone) c.as_slice-items.ensures.items made c.in-Ok.ensures.items in
     record {
       items = items;
-      same = λ exact. AllZip-same g.T.Clone.is_clone c.args.self.now c.repacked.result exact items;
+      same = λ exact. AllZip-same g.T.Clone.is_clone c.args.self.now c.repack.result exact items;
       succeeds = λ _. refl;
       empty = λ _. refl;
     }

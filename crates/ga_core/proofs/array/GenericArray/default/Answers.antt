@@ -4,8 +4,8 @@ use Rattle.std.proofs.Common.{◌∙◌, ap, length, rules, subst, sym, All}
 
 pub returns : goal.returns
 returns g c =
-    let items = subst (All g.T.Default.is_default) (sym c.from_store.ensures) c.filled.ensures.items in
-    let len = ap length c.from_store.ensures ∙ (c.filled.ensures.len ∙ search rules) in
+    let items = subst (All g.T.Default.is_default) (sym c.from_store.ensures) c.with_defaults.ensures.items in
+    let len = ap length c.from_store.ensures ∙ (c.with_defaults.ensures.len ∙ search rules) in
     record {
       items = items;
       len = len;

@@ -7,5 +7,5 @@ copy_from_slice-requires g c = c.as_mut_slice.ensures.len ∙ sym c.as_slice.ens
 
 pub returns : goal.returns
 returns g c =
-    c.repacked.ensures ∙ (made-is_written c.as_mut_slice.ensures.items c.copy_from_slice.ensures.len
+    c.repack.ensures ∙ (made-is_written c.as_mut_slice.ensures.items c.copy_from_slice.ensures.len
     ∙ (c.copy_from_slice.ensures.after ∙ c.as_slice.ensures.items))

@@ -12,6 +12,6 @@ write_generated-requires g c =
 pub returns : goal.returns
 returns g c =
     let full = c.as_mut_slice.ensures.len in
-    let made = c.repacked.ensures ∙ made-is_written c.as_mut_slice.ensures.items c.write_generated.auto.slots in
+    let made = c.repack.ensures ∙ made-is_written c.as_mut_slice.ensures.items c.write_generated.auto.slots in
     let run = ClosureRun-made (goal.F-step g) _ _ (ap (range_with_len 0) full) made c.write_generated.ensures.run in
     record { run = run; acts = λ h acts. answers_of_run _ _ h acts _ _ _ run }

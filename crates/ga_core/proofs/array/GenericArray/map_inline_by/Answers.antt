@@ -9,6 +9,6 @@ write_mapped-requires-clause-callable g c = λ passed x others ys reached whole.
 
 pub returns : goal.returns
 returns g c =
-    let made = c.repacked.ensures ∙ made-is_written c.as_mut_slice-2.ensures.items c.write_mapped.auto.slots in
+    let made = c.repack.ensures ∙ made-is_written c.as_mut_slice-2.ensures.items c.write_mapped.auto.slots in
     let run = ClosureRun-made (goal.F-step g) _ _ c.as_mut_slice.ensures.items made c.write_mapped.ensures.run in
     record { run = run; acts = λ h acts. answers_of_run _ _ h acts _ _ _ run }

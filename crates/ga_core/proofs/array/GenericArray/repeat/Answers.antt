@@ -6,7 +6,7 @@ use Rattle.std.proofs.Common.{◌≤◌, ◌∙◌, refl, subst, sym}
 
 pub returns-in-Ok : goal.returns-in-Ok
 returns-in-Ok g c =
-    let made = c.repacked.ensures ∙ made-is_written c.as_mut_slice.ensures.items c.write_copies.auto.slots in
+    let made = c.repack.ensures ∙ made-is_written c.as_mut_slice.ensures.items c.write_copies.auto.slots in
     let items = made-of (Repeats g.T.Clone.is_clone c.args.item) c.as_mut_slice.ensures.len made c.in-Ok.ensures.items in
     record {
       items = items;

@@ -5,20 +5,21 @@ use Rattle.ga_core.specs.Fill.{FillsFallibly}
 use Rattle.ga_views.specs.declared.length_error.LengthError.{LengthError}
 use Rattle.std.proofs.Common.{Err, List, Ok, Result, Some, arith, map, refl}
 use Rattle.std.proofs.lemmas.List.{length-map}
+use Rattle.std.proofs.lemmas.Result.{err_from_is_err_and}
 
 -- what is returned
 abbrev Made : given.Over → Type 0
 Made g = Result (Result (List g.row.T.Denot) g.row.E.Denot) LengthError
 
-pub returns-in-Ok : goal.returns-in-Ok
-returns-in-Ok g c =
+pub returns : goal.returns
+returns g c =
     let next = g.I.Iterator.next_gives in
     let n = g.N.Unsigned.USIZE in
     let taken = c.in_default.ensures.taken in
-    let made : Made g = Ok (Ok c.in-Ok.array) in
+    let made : Made g = Ok (Ok c.in_ok-finish_at_end.field-0) in
     let ends = fill-ends next (map Ok) (λ items. length-map items Ok) c.args.items.now c.try_extend.new.items
-    c.finish_at_end.new.items n taken.0 c.new-builder.ensures taken.1 {E = LengthError} (Ok c.in-Ok.array) taken.2
-    c.in-Ok.ensures.ok tt in
+    c.finish_at_end.new.items n taken.0 c.new-builder.ensures taken.1 {E = LengthError} (Ok c.in_ok-finish_at_end.field-0) taken.2
+    c.in_ok-finish_at_end.ensures.ok tt in
     let fill : FillsFallibly next c.args.items.now n made c.finish_at_end.new.items =
     (taken.0, ends.0, ends.1, ends.2) in
     record { fill = fill; runs = FillFalliblyRuns-from_fill next c.args.items.now n made _ fill; can_on = tt }
@@ -36,16 +37,16 @@ returns-in-Err g c =
       can_on = c.in-Err.ensures.can_on;
     }
 
-pub returns-in-Err-finish_at_end : goal.returns-in-Err-finish_at_end
-returns-in-Err-finish_at_end g c =
+pub returns-in_err-finish_at_end : goal.returns-in_err-finish_at_end
+returns-in_err-finish_at_end g c =
     let next = g.I.Iterator.next_gives in
     let n = g.N.Unsigned.USIZE in
     let taken = c.in_default.ensures.taken in
-    let refused = c.in-Err-finish_at_end.refused in
-    let made : Made g = Err refused in
+    let failed = err_from_is_err_and c.from_residual.result c.from_residual.ensures.1 in
+    let made : Made g = Err failed.0 in
     let ends = fill-ends next (map Ok) (λ items. length-map items Ok) c.args.items.now c.try_extend.new.items
-    c.finish_at_end.new.items n taken.0 c.new-builder.ensures taken.1 (Err refused) taken.2 tt
-    c.in-Err-finish_at_end.ensures.err in
+    c.finish_at_end.new.items n taken.0 c.new-builder.ensures taken.1 (Err failed.0) taken.2 tt
+    c.in_err-finish_at_end.ensures.err in
     let fill : FillsFallibly next c.args.items.now n made c.finish_at_end.new.items =
     (taken.0, ends.0, ends.1, ends.2) in
-    record { fill = fill; runs = FillFalliblyRuns-from_fill next c.args.items.now n made _ fill; can_on = tt }
+    rw failed.1 record { fill = fill; runs = FillFalliblyRuns-from_fill next c.args.items.now n made _ fill; can_on = tt }

@@ -17,5 +17,5 @@ returns-clause-variant g c = (
 
 pub returns-clause-ok : goal.returns-clause-ok
 returns-clause-ok g c =
-    c.repacked.ensures ∙ (made-is_written c.as_mut_slice-2.ensures.items c.move_items.auto.slots
+    c.repack.ensures ∙ (made-is_written c.as_mut_slice-2.ensures.items c.move_items.auto.slots
     ∙ (c.move_items.ensures.moved ∙ c.as_mut_slice.ensures.value))

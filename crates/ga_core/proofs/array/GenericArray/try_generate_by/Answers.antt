@@ -12,7 +12,7 @@ try_write_generated-requires g c =
 pub returns-in-Ok : goal.returns-in-Ok
 returns-in-Ok g c =
     let full = c.as_mut_slice.ensures.len in
-    let made = c.repacked.ensures ∙ made-is_written c.as_mut_slice.ensures.items c.try_write_generated.auto.slots in
+    let made = c.repack.ensures ∙ made-is_written c.as_mut_slice.ensures.items c.try_write_generated.auto.slots in
     let run = TryClosureRun-made (goal.F-step g) _ _ (ap (range_with_len 0) full) (ap Ok made) c.in-Ok.ensures.run in
     record { run = run; acts = λ h acts. answers_until_error (goal.F-step g) c.args.f.now h acts _ _ _ run }
 

@@ -9,7 +9,7 @@ try_write_mapped-requires-clause-callable g c = λ passed x others good reached 
 
 pub returns-in-Ok : goal.returns-in-Ok
 returns-in-Ok g c =
-    let made = c.repacked.ensures ∙ made-is_written c.as_mut_slice-2.ensures.items c.try_write_mapped.auto.slots in
+    let made = c.repack.ensures ∙ made-is_written c.as_mut_slice-2.ensures.items c.try_write_mapped.auto.slots in
     let run = TryClosureRun-made (goal.F-step g) _ _ c.as_mut_slice.ensures.items (ap Ok made) c.in-Ok.ensures.run in
     record { run = run; acts = λ h acts. answers_until_error (goal.F-step g) c.args.f.now h acts _ _ _ run }
 

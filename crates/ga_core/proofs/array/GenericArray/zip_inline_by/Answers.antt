@@ -12,7 +12,7 @@ write_zipped-requires-clause-callable g c = λ passed x others ys reached whole.
 
 pub returns : goal.returns
 returns g c =
-    let made = c.repacked.ensures ∙ made-is_written c.as_mut_slice-3.ensures.items c.write_zipped.auto.slots in
+    let made = c.repack.ensures ∙ made-is_written c.as_mut_slice-3.ensures.items c.write_zipped.auto.slots in
     let run = ClosureRun-made (CallAtPair (λ item. item) (λ item. item) (goal.F-step g)) _ _
     (same-pairs c.as_mut_slice.ensures.items c.as_mut_slice-2.ensures.items) made c.write_zipped.ensures.run in
     record { run = run; acts = λ h acts. answers_at_pairs (λ item. item) (λ item. item) _ _ h acts _ _ _ run }

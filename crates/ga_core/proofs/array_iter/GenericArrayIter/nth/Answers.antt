@@ -1,13 +1,12 @@
 use Rattle.ga_core.proofs.CutLemmas.{nth-past, nth-step}
-use Rattle.ga_core.proofs.LeftLemmas.{left-stays}
 use Rattle.ga_core.proofs.NextCalls.{place-in}
 use Rattle.ga_core.proofs.array_iter.GenericArrayIter.nth.Goals as goal
-use Rattle.std.proofs.Common.{Some, arith, le_of_lt, sym}
+use Rattle.std.proofs.Common.{Some, arith, drop, refl, sym}
 
 pub returns-then-n-len : goal.returns-then-n-len
 returns-then-n-len g c = record {
-  step = nth-step c.args.n c.args.n c.args.self.now c.pass_front.new.self (Some c.take_first.result)
-      c.take_first.new.self (omega (arith, c.len.ensures)) c.pass_front.ensures c.take_first.ensures;
+  step = nth-step c.args.n c.args.n c.args.self.now (drop c.args.n c.args.self.now) (Some c.take_behind.result)
+      c.take_behind.new.self (omega (arith, c.len.ensures)) refl c.take_behind.ensures;
 }
 
 pub returns-else-n-len : goal.returns-else-n-len
@@ -16,10 +15,5 @@ returns-else-n-len g c = record {
       c.drop_left.ensures;
 }
 
-pub pass_front-requires : goal.pass_front-requires
-pass_front-requires g c = record { in_bounds = le_of_lt (place-in c.if-n-len.true (sym c.len.ensures)) }
-
-pub take_first-requires : goal.take_first-requires
-take_first-requires g c = record {
-  enough = left-stays c.args.self.now c.pass_front.new.self c.if-n-len.true c.len.ensures c.pass_front.ensures;
-}
+pub take_behind-requires : goal.take_behind-requires
+take_behind-requires g c = record { enough = place-in c.if-n-len.true (sym c.len.ensures) }

@@ -10,7 +10,7 @@ write_mapped_ref-requires-clause-callable g c = λ passed x others ys reached wh
 
 pub returns : goal.returns
 returns g c =
-    let made = c.repacked.ensures ∙ made-is_written c.as_mut_slice.ensures.items c.write_mapped_ref.auto.slots in
+    let made = c.repack.ensures ∙ made-is_written c.as_mut_slice.ensures.items c.write_mapped_ref.auto.slots in
     let run = ClosureRun-made (CallAt (λ item. item.now) (goal.F-step g)) _ _ c.as_slice-items.ensures.items made
     c.write_mapped_ref.ensures.run in
     record { run = run; acts = λ h acts. answers_at_entries (λ item. item.now) _ _ h acts _ _ _ run }

@@ -11,7 +11,7 @@ try_write_mapped_ref-requires-clause-callable g c =
 
 pub returns-in-Ok : goal.returns-in-Ok
 returns-in-Ok g c =
-    let made = c.repacked.ensures ∙ made-is_written c.as_mut_slice.ensures.items c.try_write_mapped_ref.auto.slots in
+    let made = c.repack.ensures ∙ made-is_written c.as_mut_slice.ensures.items c.try_write_mapped_ref.auto.slots in
     let run = TryClosureRun-made (CallAt (λ item. item.now) (goal.F-step g)) _ _ c.as_slice-items.ensures.items
     (ap Ok made) c.in-Ok.ensures.run in
     record { run = run; acts = λ h acts. tries_at_entries (λ item. item.now) (goal.F-step g) c.args.f.now h acts _ _ _ run }

@@ -1,5 +1,5 @@
 use Rattle.ga_core.proofs.builder.ArrayBuilder.take_some.Goals as goal
-use Rattle.std.proofs.Common.{◌≢◌, ◌+◌, ◌∷◌, [], ◌++◌, ◌∙◌, ap, append_assoc, arith, length}
+use Rattle.std.proofs.Common.{◌∷◌, [], ◌++◌, ◌∙◌, ap, append_assoc, arith, refl}
 use Rattle.std.proofs.iter.Next.{Yields-more}
 
 pub loop-items-preserved : goal.loop-items-preserved
@@ -10,10 +10,9 @@ loop-items-preserved g c =
     ∙ append_assoc c.args.self.now so_far.0 (item ∷ [])) in
     let calls = Yields-more g.I.Iterator.next_gives c.args.items.now so_far.0 c.loop-items.items item c.next.new.self
     so_far.2 c.in-Some.ensures.steps in
-    let short : length c.loop-items.self ≢ c.position.result + c.args.count =
-    λ same. c.loop-items-test.true (c.position-in-loop-items.ensures.len ∙ same) in
     record {
       can = c.in-Some.ensures.goes.keeps;
-      within = omega (arith, short);
+      within = omega (arith, c.loop-items-test.ensures.more refl);
+      grown = omega (arith, c.push.ensures.len, c.loop-items.invariant.grown);
       taken = (so_far.0 ++ item ∷ [], grown, calls);
     }

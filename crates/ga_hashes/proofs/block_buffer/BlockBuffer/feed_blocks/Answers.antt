@@ -9,7 +9,7 @@ use Rattle.std.proofs.Common.{◌≡◌, [], ◌++◌, ◌<◌, ap, arith, lengt
 use Rattle.std.proofs.lemmas.List.{nil_from_length}
 
 -- the bytes fill no block
-few : (g : given.Over) (c : goal.After-append g) → length (c.args.self.now.kept ++ c.args.bytes.now)
+few : (g : given.Over) (c : goal.After-extend_from_slice g) → length (c.args.self.now.kept ++ c.args.bytes.now)
     < g.N.Unsigned.USIZE
 few g c = omega (
   arith,
@@ -27,7 +27,7 @@ returns-then-bytes-missing-clause-blocks g c =
 pub returns-then-bytes-missing-clause-kept : goal.returns-then-bytes-missing-clause-kept
 returns-then-bytes-missing-clause-kept g c =
     let all = c.args.self.now.kept ++ c.args.bytes.now in
-    c.append.ensures ∙ (ap (λ v. v.kept ++ c.args.bytes.now) c.self.view_is
+    c.extend_from_slice.ensures.items ∙ (ap (λ v. v.kept ++ c.args.bytes.now) c.self.view_is
     ∙ sym (chunk_rest-few g.N.Unsigned.USIZE all (few g c)))
 
 pub hand_on_rows-requires-clause-callable : goal.hand_on_rows-requires-clause-callable

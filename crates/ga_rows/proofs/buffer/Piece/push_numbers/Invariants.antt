@@ -1,0 +1,11 @@
+use Rattle.ga_rows.proofs.buffer.Piece.push_numbers.Given as goal
+use Rattle.std.proofs.Common.{◌≡◌, ◌+◌, ◌*◌, ◌≤◌, ◌++◌, codes, decimal, length, take}
+use Rattle.std.specs.List.{flat_map}
+
+-- the numbers so far stand behind the first, each after a space
+abbrev pub invariant-loop-number : goal.invariant-loop-number
+invariant-loop-number l = record {
+  text : take l.end l.self-inside.bytes ≡ take l.initial.end l.initial.self-inside.bytes
+      ++ flat_map (λ number. codes " " ++ decimal number) (take l.number-index l.others);
+  room : l.end + 1 ≤ length l.fn.self + 4 * (l.number-index + 1);
+}

@@ -1,0 +1,2 @@
+-- Lemmas for callers, which no proof of this crate cites.
+pub mod RowSetLemmas

@@ -1,2 +1,0 @@
--- The set `bits`, for crates that name this library alone.
-pub use Rattle.ga_core.proofs.BitLemmas.{bits}

@@ -1,2 +1,0 @@
--- The set `words`, for crates that name this library alone.
-pub use Rattle.ga_core.proofs.WordLemmas.{words}

@@ -1,0 +1,5 @@
+-- Lemmas for callers, which no proof of this crate cites.
+pub mod BitLemmas
+pub mod CountLemmas
+pub mod Everyday
+pub mod WordLemmas

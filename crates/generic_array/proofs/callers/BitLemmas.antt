@@ -1,0 +1,2 @@
+-- The set `bits`, for crates that name this library alone.
+pub use Rattle.ga_core.proofs.callers.BitLemmas.{bits}
