@@ -16,7 +16,6 @@ import time
 from check.copies import TOP
 from check.running import call
 
-PAGES = ("README.md", "docs/TOUR.md")
 BLOCK = re.compile(r"(?ms)^```(rust|antt|diff|console) ?(\S*)\n(.*?)^```$")
 COMMAND = re.compile(r"(?m)^\$ (.*?)(?: *#.*)?\n((?:(?!\$ ).*\n)*)")
 MINE = "../mine"
@@ -80,5 +79,5 @@ def run_page(tally, page):
 
 
 def run(tally, words):
-    for page in words or PAGES:
+    for page in words or ("README.md", "docs/TOUR.md"):
         run_page(tally, page)
