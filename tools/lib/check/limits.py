@@ -94,7 +94,7 @@ def read(file):
             with_imports(fixed) if fixed != module else "")
 
 
-def printed(text, modules):
+def lines_by_module(text, modules):
     """What a check prints of each module."""
     found, name = collections.defaultdict(list), None
     for line in text.splitlines():
@@ -114,7 +114,7 @@ def check_all(crate, modules):
         root = ROOT + "".join(f"mod {it};\n" for it in left)
         shutil.rmtree(crate / "src", ignore_errors=True)
         write(crate / "src", {f"{it}.rt": text for it, text in {**left, "lib": root}.items()})
-        found = printed(call("rt", "check", cwd=crate)[1], left)
+        found = lines_by_module(call("rt", "check", cwd=crate)[1], left)
         if any(line.startswith("logic=") for line in found[None]):
             return kept | found
         early = {it: found[it] for it in left if any(map(ERROR.search, found[it]))}

@@ -8,7 +8,6 @@ text. A command without lines has to end well. `../mine` is a new folder for eac
 What `rt lib` has proved in this checkout is proved already; else the first check of a page proves
 it, for some ten minutes.
 """
-import pathlib
 import re
 import tempfile
 import time
@@ -34,7 +33,7 @@ def changed_text(text, change):
     return text.replace(old, new)
 
 
-def missing(text, wanted):
+def first_missing(text, wanted):
     """The first of the wanted parts that isn't printed behind the others, or nothing: a part is a
     line, or what stands between two `..` of one."""
     text, at = " ".join(text.split()), 0
@@ -50,7 +49,7 @@ def run_command(tally, page, command, wanted, folder, mine):
     """Runs a command, which prints what is wanted."""
     begun = time.monotonic()
     status, text = call("bash", "-c", command.replace(MINE, mine), cwd=folder)
-    lacks = missing(text.replace(mine, MINE), wanted)
+    lacks = first_missing(text.replace(mine, MINE), wanted)
     wrong = f"it doesn't print {lacks!r}" if lacks else ""
     if status and not wanted.strip():
         wrong = f"it ends with {status}"
