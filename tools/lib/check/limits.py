@@ -32,11 +32,10 @@ ROW = re.compile(rf"(?m)^// ({'|'.join(TABLES)}|prints): (.*)\n")
 WRITTEN = re.compile(r"(?m)^.* \| \[file\]\(\.\./trials/limits/(\w+)\.rattle\)\n")
 GOAL, GOALS = ("open", "library"), re.compile(r"(?:`[^`]*`(?:, )?)*")
 CRATE, FIXED = "limits", "_fixed"
-LINE = f"{CRATE}: generic_array ga_core ga_boxed ga_views\n"
 # As `tools/start` begins a crate.
 ROOT = "//! Limits.\n#![tactic(auto, using(generic_array::proofs::Everyday::arrays))]\n\n"
 # A line of a check names the module that it is of; one that doesn't is of the module before.
-OF = re.compile(rf"\bsrc/(\w+)\.rt|\b{CRATE}::(\w+)::|\bproofs/(\w+)/")
+OF = re.compile(rf"\b(?:src/|proofs/|{CRATE}::)(\w+)(?:\.rt|/|::)")
 ERROR, UNPROVED = re.compile(r": error(?:\[|:)"), re.compile(r": (?:no proof|not proved)\b")
 MOST = 600
 # What a module may name in its terms, or else in its code, by where it is. A parameter is none.
@@ -95,14 +94,14 @@ def read(file):
             with_imports(fixed) if fixed != module else "")
 
 
-def printed(text, modules):
+def lines_by_module(text, modules):
     """What a check prints of each module."""
     found, name = collections.defaultdict(list), None
     for line in text.splitlines():
         if not line.startswith("checked "):
             of = OF.search(line)
-            named = of and next(filter(None, of.groups()))
-            name = named if named in modules else None if of or not line.startswith(" ") else name
+            if of or not line.startswith(" "):
+                name = of[1] if of and of[1] in modules else None
             found[name].append(line)
     return found
 
@@ -115,7 +114,7 @@ def check_all(crate, modules):
         root = ROOT + "".join(f"mod {it};\n" for it in left)
         shutil.rmtree(crate / "src", ignore_errors=True)
         write(crate / "src", {f"{it}.rt": text for it, text in {**left, "lib": root}.items()})
-        found = printed(call("rt", "check", cwd=crate)[1], left)
+        found = lines_by_module(call("rt", "check", cwd=crate)[1], left)
         if any(line.startswith("logic=") for line in found[None]):
             return kept | found
         early = {it: found[it] for it in left if any(map(ERROR.search, found[it]))}
@@ -171,7 +170,7 @@ def run(tally, words):
     status, text = call("rt", "lib", cwd=copy / "crates" / "generic_array")
     if status:
         raise ValueError(text[-MOST:])
-    write(copy, {"crates.txt+": LINE})
+    write(copy, {"crates.txt+": f"{CRATE}: generic_array ga_core ga_boxed ga_views\n"})
     lines = check_all(copy / "crates" / CRATE, modules)
     for name, (parts, _, fixed) in limits.items():
         of_fixed = lines.get(name + FIXED, []) if fixed else None

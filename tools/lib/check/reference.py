@@ -1,6 +1,4 @@
-"""What no compiler sees: that documents, names, imports, tables of tests and mutants fit the
-sources.
-"""
+"""What no compiler sees of documents, names, imports, claims, mutants and rows of limits."""
 from check.copies import TOP
 from check.limits import STUCK, document
 from reference.checks import CHECKS

@@ -10,9 +10,9 @@ import re
 import tempfile
 
 from check import tests, trials
-from check.building import SECONDS, refusing, run_all
+from check.building import SECONDS, copy_refusing, run_all
 from check.ga_rows import MANY, MODES, NO_MEMORY, PROGRAM, input_of, run_system_faults, whole
-from check.running import Seen, at_once, differences, file_of, read_again, run_program, shown
+from check.running import Seen, at_once, differences, file_of, read_again, run_program, brief
 
 # The tests in modules of this name pass whether or not one of their requests for memory is refused,
 # and print a line 'refused: ..' where one was. Other tests presume that memory is ample.
@@ -48,7 +48,7 @@ def run_test(program, name, start):
     if leak:
         wrong = leak[1].decode()
     elif seen.status or not count:
-        wrong = f"status {seen.status}, {shown(seen.out)}, {shown(seen.err)}"
+        wrong = f"status {seen.status}, {brief(seen.out)}, {brief(seen.err)}"
     elif printed and int(printed[1]) != requests:
         wrong = f"{requests} requests, and it prints {int(printed[1])}"
     return Test(name, requests, bool(printed), b"refused: " in seen.out, wrong)
@@ -78,7 +78,7 @@ def run_tests(tally, run):
     right = [it for it in ample if REFUSED in it.name.split("::") and not it.wrong]
 
     def refuse(number):
-        with refusing(run.program, number) as copy:
+        with copy_refusing(run.program, number) as copy:
             reached = [it for it in right if number <= it.requests + 1]
             return [run_refused(copy, it, number, start) for it in reached]
 
@@ -99,7 +99,7 @@ def run_rows(tally, program):
     words, data = ["hex"], input_of(MANY)
     most = run_counted(program, words, data)[1]
     for number in range(1, most + 2):
-        with file_of(data) as given, refusing(program, number) as copy:
+        with file_of(data) as given, copy_refusing(program, number) as copy:
             seen = run_program(copy, words, env={"ASAN_OPTIONS": "detect_leaks=1"}, stdin=given)
         is_refused = number == 1 or (number <= most and seen.status == 3)
         wanted = Seen(3, b"", NO_MEMORY) if is_refused else whole("hex", MANY)
@@ -119,14 +119,14 @@ def run(tally, words):
     # A crate with sweeps is run with them alone.
     built = {(it.name, type(it)): it for it in reversed(built) if it.seen}.values()
 
-    def again(it):
+    def run_again(it):
         if isinstance(it, tests.Tests):
             return run_tests(tally, it)
         run_rows(tally, it.program)
         run_system_faults(tally, it.program)
         return 0, 0
 
-    counts = [*at_once(again, built)]
+    counts = [*at_once(run_again, built)]
     if not words:
         refused, printed = map(sum, zip(*counts))
         tally.case(f"{refused} tests are refused memory, {printed} print their requests",

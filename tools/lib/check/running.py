@@ -28,7 +28,7 @@ def at_once(function, arguments):
         yield from pool.map(function, arguments)
 
 
-def shown(it):
+def brief(it):
     if isinstance(it, bytes) and len(it) > 200:
         return f"{it[:60]!r} .. {len(it)} bytes"
     return repr(it)
@@ -40,7 +40,7 @@ def differences(seen, wanted, *signals):
     if seen.status is not None and -seen.status in signals:
         wanted = wanted._replace(status=seen.status, err=b"")
     fields = zip(Seen._fields, seen, wanted)
-    return "; ".join(f"{it} {shown(a)}, and not {shown(b)}" for it, a, b in fields if a != b)
+    return "; ".join(f"{it} {brief(a)}, and not {brief(b)}" for it, a, b in fields if a != b)
 
 
 @contextlib.contextmanager

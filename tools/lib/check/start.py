@@ -11,7 +11,7 @@ import tempfile
 
 from check.copies import copy, take_proved, write
 from check.running import at_once, call
-from start.crates import LICENSE, LIST, OURS, PARTS, is_proved, needed
+from start.crates import LICENSE, LIST, OURS, PARTS, crates_for, is_proved
 from start.first import ON
 
 # Calls that must be refused: what they are, their words, a part of what is printed.
@@ -31,7 +31,7 @@ FILES = {
 }
 # What is added to its files.
 ADDED = {"HANDLES": [], ".gitignore": ["out/"],
-         LIST: [OURS[it] for it in needed(*ON)] + [f"on_{it}: {ON[it]}" for it in ON]}
+         LIST: [OURS[it] for it in crates_for(*ON)] + [f"on_{it}: {ON[it]}" for it in ON]}
 
 
 class Copy:
@@ -70,7 +70,7 @@ class Copy:
         """A case: the copied crates are those of the checkout, and what was there is as it was."""
         differ = [it for it in ADDED if sorted((self.there / it).read_text().splitlines())
                   != sorted([FILES[f"there/{it}"].strip(), *ADDED[it]])]
-        differ += [f"{it}/{part}" for it in needed(*ON) for part in PARTS
+        differ += [f"{it}/{part}" for it in crates_for(*ON) for part in PARTS
                    if texts_in(self.checkout / "crates" / it / part)
                    != texts_in(self.there / "crates" / it / part)]
         self.tally.case(what, differ)

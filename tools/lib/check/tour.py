@@ -8,7 +8,6 @@ text. A command without lines has to end well. `../mine` is a new folder for eac
 What `rt lib` has proved in this checkout is proved already; else the first check of a page proves
 it, for some ten minutes.
 """
-import pathlib
 import re
 import tempfile
 import time
@@ -16,7 +15,6 @@ import time
 from check.copies import TOP
 from check.running import call
 
-PAGES = ("README.md", "docs/TOUR.md")
 BLOCK = re.compile(r"(?ms)^```(rust|antt|diff|console) ?(\S*)\n(.*?)^```$")
 COMMAND = re.compile(r"(?m)^\$ (.*?)(?: *#.*)?\n((?:(?!\$ ).*\n)*)")
 MINE = "../mine"
@@ -35,7 +33,7 @@ def changed_text(text, change):
     return text.replace(old, new)
 
 
-def missing(text, wanted):
+def first_missing(text, wanted):
     """The first of the wanted parts that isn't printed behind the others, or nothing: a part is a
     line, or what stands between two `..` of one."""
     text, at = " ".join(text.split()), 0
@@ -51,7 +49,7 @@ def run_command(tally, page, command, wanted, folder, mine):
     """Runs a command, which prints what is wanted."""
     begun = time.monotonic()
     status, text = call("bash", "-c", command.replace(MINE, mine), cwd=folder)
-    lacks = missing(text.replace(mine, MINE), wanted)
+    lacks = first_missing(text.replace(mine, MINE), wanted)
     wrong = f"it doesn't print {lacks!r}" if lacks else ""
     if status and not wanted.strip():
         wrong = f"it ends with {status}"
@@ -80,5 +78,5 @@ def run_page(tally, page):
 
 
 def run(tally, words):
-    for page in words or PAGES:
+    for page in words or ("README.md", "docs/TOUR.md"):
         run_page(tally, page)

@@ -18,5 +18,3 @@ def runs():
 
 def run(tally, words):
     run_all(tally, runs(), words)
-    if not runs():
-        tally.case("trials: the crates of sweeps", "there are none")

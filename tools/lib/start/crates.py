@@ -32,14 +32,14 @@ def name_in(row):
 OURS = {name_in(it): it for it in rows_of(TOP) if name_in(it)}
 
 
-def below(name):
+def libraries_of(name):
     """The crates of this checkout that a crate names."""
     return [it for it in OURS[name].split()[1:] if it in OURS]
 
 
-def needed(*names):
+def crates_for(*names):
     """These crates and all below them, in the order of the list."""
-    found = {*names, *(it for name in names for it in needed(*below(name)))}
+    found = {*names, *(it for name in names for it in crates_for(*libraries_of(name)))}
     return [it for it in OURS if it in found]
 
 
@@ -90,7 +90,7 @@ def copy_crates(folder, names, lines):
     if not lacking:
         return (f"these come proved: {', '.join(names)}. The next check takes seconds, and proves"
                 " again what was changed since")
-    tops = [it for it in lacking if not any(it in below(other) for other in lacking)]
+    tops = [it for it in lacking if not any(it in libraries_of(other) for other in lacking)]
     return (f"the next check proves {', '.join(lacking)} too, in minutes: `rt lib` in crates/"
             f"{' and crates/'.join(tops)} of this checkout does so once for all that is started"
             " later")
@@ -101,5 +101,5 @@ def update(folder):
     before, copied = read_record(folder)
     if not copied:
         raise Unfit(f"{folder} has no crates that tools/start copied")
-    of_check = copy_crates(folder, needed(*copied), {})
+    of_check = copy_crates(folder, crates_for(*copied), {})
     return f"{folder}: of {read_record(folder)[0]}, before of {before}\n{of_check}"
