@@ -154,10 +154,11 @@ class Samples:
                 not any(bounds.values()), item.end - item.begin)
 
     def rank(self, item):
-        """Where what stands on no page stands among those of one name: first a method of std, then
-        what the documents name with its module, and tests last."""
+        """Where what stands on no page stands among those of one name: first a method of std, of a
+        type before one of a trait, then what the documents name with its module, and tests last."""
+        of_trait = item.owner is not None and item.owner.kind == "trait"
         is_own, is_whole = item.file.is_relative_to(self.site.top), item.kind in ("mod", "file")
         named = (f"::{item.name})" if item.kind in OF_FILES else
                  f"`{item.name}` of `{item.module.name}`") in self.documents[0]
-        return (is_own, is_test(item), not named, is_whole,
+        return (is_own, of_trait, is_test(item), not named, is_whole,
                 item.module not in self.site.samples, self.order(item))

@@ -5,12 +5,10 @@ const ORDER = ["struct", "enum", "trait", "macro", "module", "function", "method
 
 // How well a name fits what was typed: the lower the better, or nothing.
 function fit([name, kind, full], typed) {
-  const parts = typed.toLowerCase().split("::");
-  const last = parts.pop(), low = name.toLowerCase(), whole = full.toLowerCase();
-  const place = low.indexOf(last);
-  if (!typed || place < 0 && !whole.includes(typed.toLowerCase())) return;
-  const near = low === last ? 0 : place === 0 ? 1 : place > 0 ? 2 : 3;
-  const elsewhere = whole.includes(parts.join("::")) ? 0 : 0.5;
+  const low = typed.toLowerCase(), last = low.split("::").pop(), here = name.toLowerCase();
+  if (!typed || !here.includes(last) && !full.toLowerCase().includes(low)) return;
+  const near = here === last ? 0 : here.startsWith(last) ? 1 : 2;
+  const elsewhere = full.toLowerCase().includes(low) ? 0 : 0.5;
   return near + elsewhere + (ORDER.indexOf(kind) + 1) / 40 + name.length / 4000;
 }
 
