@@ -12,7 +12,7 @@ from reference.items import Items
 from reference.layout import indent, lay_out
 from reference.lookup import impl_of
 from reference.meanings import LIBRARIES, WITH_A_PAGE
-from reference.promise import unkept
+from reference.promise import check_promise
 from reference.rows import BAR, CODE, documents, line_of, names_in, without_code
 from reference.sources import STD, atoms_of, imports_of, is_in
 from reference.text import WIDEST, Text
@@ -186,7 +186,7 @@ def check_documents(names):
 CHECKS = {
     "examples": (check_examples, 24), "imports": (check_imports, 2000),
     "public items": (check_items, 320), "generated": (check_generated, 700),
-    "mutants": (check_edits, 180), "names": (check_names, 27), "promise": (unkept, 68),
+    "mutants": (check_edits, 180), "names": (check_names, 27), "promise": (check_promise, 60),
     "contracts": (check_contracts, 17), "claims": (check_claims, 40),
     "documents": (check_documents, 2200),
 }

@@ -1,5 +1,5 @@
 """What `tools/reference --write` writes from the sources: the list of public types, by which no
-derive or impl goes unseen, the page of the promise, and the tables of the READMEs of examples."""
+derive or impl goes unseen, the clauses of PROMISE, and the tables of the READMEs of examples."""
 import collections
 import difflib
 
@@ -7,9 +7,9 @@ from reference.outside import is_test, proofs_of
 from reference.callers import EXAMPLES
 from reference.meanings import WITH_A_PAGE
 from reference.items import first_sentence
-from reference.promise import HEADLINE, page_file
+from reference.promise import HEADLINE, PAGE, page_file
 
-RENEW, PAGE = "tools/reference --write writes it again", "PROMISE.md"
+RENEW = "tools/reference --write writes it again"
 TABLE = "functions that documents name | what they show | the proof, where it needs more than code"
 
 
