@@ -4,7 +4,7 @@ import re
 
 # The function that makes a parameter, by how its type begins: the first that fits.
 MAKERS = {
-    "GenericArray<GenericArray": "unflatten", "GenericArray": "generate", "[GenericArray": "pair",
+    "GenericArray<GenericArray": "unflatten", "GenericArray": "generate", "Pair": "pair",
     "[": "native", "BoxedArray": "boxed_generate", "List<u8": "long_generate", "Vec<T>": "into_vec",
     "ArrayBuilder": "list", "List": "list", "Tuple": "tuple", "Vec<u8>": "text", "String": "text",
 }
