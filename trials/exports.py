@@ -18,13 +18,13 @@ def export(name, numbers, calls, alloc=False, before=""):
     return EXPORT.format(name=name, given=given, arms=arms, before=before)
 
 
-def declared(functions):
+def declarations(functions):
     """The same as Rust declares them, by their names and numbers: they are safe in Rattle."""
     lines = [f"    safe fn ours_{name}({numbers}) -> u64;" for name, numbers in functions.items()]
     return "\n".join(["unsafe extern \"C\" {", *lines, "}"])
 
 
-def filled(text, words):
+def fill_in(text, words):
     """A text where a type or a number stands for each word in capitals."""
     for word, stands in words.items():
         text = text.replace(word, str(stands))
@@ -43,6 +43,6 @@ def crate(texts, made, exports):
     modules["exports"] = exports
     for name, kinds in made.items():
         for kind, words in kinds.items():
-            modules[f"{name}_{kind}"] = filled(texts[name], words)
+            modules[f"{name}_{kind}"] = fill_in(texts[name], words)
     declared = "".join(f"mod {it};\n" for it in sorted(modules.keys() - {"lib"}))
     return {**modules, "lib": f"{modules['lib']}\n{declared}"}

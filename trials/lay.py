@@ -62,12 +62,12 @@ def folder_of(words, *commands):
     missing = [it for it in commands if not shutil.which(it)]
     if missing:
         stop(f"{' and '.join(missing)} must be installed")
-    folder = pathlib.Path(words[0] if words else f"{tempfile.gettempdir()}/generic-array-beside")
+    folder = pathlib.Path(words[0] if words else f"{tempfile.gettempdir()}/generic-array-trials")
     folder.mkdir(parents=True, exist_ok=True)
     return folder.resolve()
 
 
-def said(command, log, advice="", **how):
+def run_logged(command, log, advice="", **how):
     """Runs a command whose words go into a file, and stops with their last lines where it fails."""
     log.parent.mkdir(parents=True, exist_ok=True)
     with open(log, "w", encoding="utf-8") as file:
@@ -132,7 +132,7 @@ def build_driver(folder, name):
     flags = {"CARGO_TARGET_DIR": str(folder / "target"), "RUSTFLAGS": "-C target-cpu=x86-64-v2"}
     command = ["cargo", *(["--offline"] if given else []), "build", "--release"]
     advice = "" if given else f"Without a registry: {ORIGINAL} names a folder with the sources."
-    said(command, folder / "cargo.log", advice, cwd=folder / name, env={**os.environ, **flags})
+    run_logged(command, folder / "cargo.log", advice, cwd=folder / name, env={**os.environ, **flags})
     return folder / "target" / "release" / f"{name}_driver"
 
 
@@ -142,6 +142,6 @@ def build(folder, name):
     copy_crates(folder / "ours")
     take_proved(folder / "ours")
     add_sides(folder / "ours")
-    said(["rt", "lib"], folder / "ours.log", cwd=folder / "ours" / "crates" / f"ga_{name}")
+    run_logged(["rt", "lib"], folder / "ours.log", cwd=folder / "ours" / "crates" / f"ga_{name}")
     step("building the original")
     return build_driver(folder, name)

@@ -3,7 +3,7 @@ import collections
 import os
 import re
 
-from lay import said
+from lay import run_logged
 
 # Callgrind counts `rep stosb` and `rep movsb` once for each byte, so glibc is kept to vector code.
 VECTORS = ":".join(
@@ -16,7 +16,7 @@ TOTAL = re.compile(r"^(?:summary|totals): (\d+)$", re.MULTILINE)
 def callgrind(command, out, log, **how):
     flags = ["valgrind", "--tool=callgrind", f"--callgrind-out-file={out}"]
     environment = {**os.environ, "GLIBC_TUNABLES": VECTORS}
-    said([*flags, *map(str, command)], log, env=environment, **how)
+    run_logged([*flags, *map(str, command)], log, env=environment, **how)
 
 
 def count_cases(driver, folder):

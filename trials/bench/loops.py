@@ -5,7 +5,7 @@ import re
 # The function that makes a parameter, by how its type begins: the first that fits.
 MAKERS = {
     "GenericArray<GenericArray": "unflatten", "GenericArray": "generate", "[GenericArray": "pair",
-    "[": "native", "BoxedArray": "boxed_generate", "Bytes": "long_generate", "Vec<T>": "into_vec",
+    "[": "native", "BoxedArray": "boxed_generate", "List<u8": "long_generate", "Vec<T>": "into_vec",
     "ArrayBuilder": "list", "List": "list", "Tuple": "tuple", "Vec<u8>": "text", "String": "text",
 }
 FUNCTION = re.compile(
@@ -89,7 +89,7 @@ def maker_of(functions, type_, module):
 def made(functions, function, name, type_, seed):
     """The lines that make a value of a type for a function, and what they require."""
     maker = maker_of(functions, type_, function.module)
-    types = arguments(type_) if maker.types else []
+    types = arguments(type_)[-len(maker.types):] if maker.types else []
     types += maker.types[len(types):]
     inner = lines_of(functions, maker, seed, f"{name.split()[-1]}_")
     line = binding(name, maker.call(types, inner.passed), maker.result)

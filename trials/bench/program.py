@@ -5,7 +5,7 @@ import subprocess
 import time
 
 from counts import count_program
-from lay import said, stop
+from lay import run_logged, stop
 from table import aligned
 
 PROGRAMS = ("ga_rows", "rows_careful")
@@ -16,7 +16,7 @@ COUNTED, TIMED, ROUNDS = 1 << 20, 1 << 24, 5
 def build_program(folder):
     """Proves and builds our program, in the copy of this checkout that is laid out."""
     crate = folder / "ours" / "crates" / "ga_rows"
-    said(["rt", "run"], folder / "program.log", cwd=crate, stdin=subprocess.DEVNULL)
+    run_logged(["rt", "run"], folder / "program.log", cwd=crate, stdin=subprocess.DEVNULL)
     return crate / "out" / "ga_rows"
 
 

@@ -3,7 +3,7 @@ import collections
 import pathlib
 import re
 
-from exports import declared, export, filled, texts_of
+from exports import declarations, export, fill_in, texts_of
 from loops import find, functions_of, loop, maker_of
 from table import read_cases
 
@@ -75,7 +75,7 @@ class Side:
             # Each function is compiled by itself, unless its text says otherwise.
             text = re.sub(r"(?m)(?<!#\[inline\]\n)^pub fn ", "#[inline(never)]\npub fn ", text)
             for suffix, words in LAID_OUT.get(name, {"": {}}).items():
-                self.modules[f"{name}_{suffix}".rstrip("_")] = filled(text, words)
+                self.modules[f"{name}_{suffix}".rstrip("_")] = fill_in(text, words)
         self.functions = [it for found in self.modules.items() for it in functions_of(*found)]
 
     def of_case(self, case):
@@ -155,7 +155,7 @@ def driver_sources():
         ENTRY.format(case, number, side.call(case, rust_length))
         for them in cases.values() for number, case in enumerate(them)
     ]
-    functions = declared(dict.fromkeys(cases, NUMBERS))
+    functions = declarations(dict.fromkeys(cases, NUMBERS))
     table = TABLE.format(declared=functions, entries="\n".join(entries))
     modules = side.modules | {"loops": as_rust(side.loops()), "cases": table}
     sources = {f"{name}.rs": text for name, text in modules.items()}

@@ -35,7 +35,7 @@ class Row:
     """A case, its instructions and times of both sides, and what it is given costs."""
 
     def __init__(self, case, counted, times, contained):
-        self.case, self.times = case, times[case.name, case.kind]
+        self.case, self.times = case, times.get((case.name, case.kind))
         self.counts = counted.get((case.name, case.kind))
         given = [counted.get((it, case.kind)) for it in contained]
         self.alone = None
@@ -83,9 +83,9 @@ def summary_line(name, rows):
     """Medians by instructions and by time, and how many ratios are small or large."""
     cells = [name, str(len(rows))]
     for ratios in ([row.ratio(row.counts) for row in rows], [row.ratio(row.times) for row in rows]):
-        ratios = [it for it in ratios if it is not None] or [1]
+        ratios = [it for it in ratios if it is not None]
         few, many = sum(it < 1.005 for it in ratios), sum(it > 2 for it in ratios)
-        cells += [f"{statistics.median(ratios):.2f}", str(few), str(many)]
+        cells += [f"{statistics.median(ratios):.2f}", str(few), str(many)] if ratios else [""] * 3
     return cells
 
 

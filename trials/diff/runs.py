@@ -4,7 +4,7 @@ import collections
 import pathlib
 import re
 
-from exports import crate, declared, export, filled, texts_of
+from exports import crate, declarations, export, fill_in, texts_of
 
 HERE = pathlib.Path(__file__).resolve().parent
 LIBRARIES = ["ga_core", "ga_views", "arrayvec", "ga_boxed", "generic_array"]
@@ -265,7 +265,7 @@ def shared_modules():
     made = dict.fromkeys(OF_KINDS, kinds("try_clone")) | of_lengths(OF_LENGTHS)
     made["walk_drops"] |= kinds("try_clone", "stepwise_nth_back", "_stepwise")
     shared = {name: texts[name] for name in SHARED}
-    return shared | {f"{name}_{it}": filled(texts[name], stands)
+    return shared | {f"{name}_{it}": fill_in(texts[name], stands)
                      for name, kinds in made.items() for it, stands in kinds.items()}
 
 
@@ -301,7 +301,7 @@ def driver_sources():
     entries = [entry(it) for it in CASES] + [entry(it, order) for order in (0, 1) for it in DROPS]
     entries = "\n".join(entries)
     modules = ", ".join(sorted({*re.findall(r"(\w+)::\w+_run", entries)}))
-    table = CASE_TABLE.format(modules=modules, declared=declared(functions), entries=entries)
+    table = CASE_TABLE.format(modules=modules, declared=declarations(functions), entries=entries)
     modules = {it.stem: it.read_text() for it in (HERE / "driver").glob("*.rs")}
     modules |= shared_modules() | {"cases": table}
     modules["main"] += "".join(f"mod {it};\n" for it in sorted(modules.keys() - {"main"}))

@@ -64,6 +64,15 @@ impl<T> BoxedArrayIter<T> {
     {
         self.items.as_mut_slice()
     }
+
+    /// The number of items that are left, twice: they are no fewer and no more.
+    #[inline]
+    pub fn size_hint(&self) -> (usize, Option<usize>)
+        ensures { result ≡ (length self.now, Some (length self.now)) }
+    {
+        let len = self.len();
+        (len, Some(len))
+    }
 }
 
 impl<T: Drop> Iterator for BoxedArrayIter<T> {
@@ -79,13 +88,12 @@ impl<T: Drop> Iterator for BoxedArrayIter<T> {
         self.items.take_front()
     }
 
-    /// The number of items that are left, twice: they are no fewer and no more.
+    // The type has its own, as it has `len` and `count`: so no trait has to be in scope.
     #[inline]
     fn size_hint(&self) -> (usize, Option<usize>)
         ensures { result ≡ (length self.now, Some (length self.now)) }
     {
-        let len = self.len();
-        (len, Some(len))
+        BoxedArrayIter::size_hint(self)
     }
 }
 

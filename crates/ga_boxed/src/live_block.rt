@@ -216,10 +216,20 @@ impl<T> LiveBlock<T> {
         ensures items { IfOk result (λ block. block ≡ live items 0) }
         ensures empty { U ≡ 0 → IsOk result }
     {
-        let mut block = LiveBlock::new(alloc, U)?;
-        block.end = U;
-        block.cells.put_array(block.base, items);
-        Ok(block)
+        if !fits::<T>(U) {
+            return Err(AllocError);
+        }
+        let (base, mut cells, deed) = allocate(&alloc, U)?;
+        cells.put_array(base, items);
+        Ok(LiveBlock {
+            base,
+            size: U,
+            start: 0,
+            end: U,
+            cells,
+            deed,
+            alloc,
+        })
     }
 
     // Deallocates the block.

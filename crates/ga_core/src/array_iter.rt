@@ -78,6 +78,15 @@ impl<T, N: ArrayLength<T>> GenericArrayIter<T, N> {
     {
         &self.store.as_slice()[self.front..self.back]
     }
+
+    /// The number of items that are left, twice: they are no fewer and no more.
+    #[inline]
+    pub fn size_hint(&self) -> (usize, Option<usize>)
+        ensures { result ≡ (length self.now, Some (length self.now)) }
+    {
+        let len = self.len();
+        (len, Some(len))
+    }
 }
 
 impl<T: Default + Drop, N: ArrayLength<T>> Iterator for GenericArrayIter<T, N> {
@@ -96,13 +105,12 @@ impl<T: Default + Drop, N: ArrayLength<T>> Iterator for GenericArrayIter<T, N> {
         Some(self.take_first())
     }
 
-    /// The number of items that are left, twice: they are no fewer and no more.
+    // The type has its own, as it has `len` and `count`: so no trait has to be in scope.
     #[inline]
     fn size_hint(&self) -> (usize, Option<usize>)
         ensures { result ≡ (length self.now, Some (length self.now)) }
     {
-        let len = self.len();
-        (len, Some(len))
+        GenericArrayIter::size_hint(self)
     }
 }
 

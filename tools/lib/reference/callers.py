@@ -6,8 +6,8 @@ call in front returns. Else no caller is found.
 import functools
 import re
 
-from reference.beside import is_test
-from reference.meanings import WITH_A_PAGE, above, base_name, declared
+from reference.outside import is_test
+from reference.meanings import WITH_A_PAGE, base_name, declarations, supertraits
 
 EXAMPLES = "_examples"
 # What stands in front of a call's name: the dot of a method, or the end of a path.
@@ -38,14 +38,14 @@ class Callers:
     def owners(self, type_name, function):
         """The names of the type and the traits that a name of a type stands for in a function."""
         names = {type_name}
-        left = [base_name(bound) for bound in declared(function.head)[0].get(type_name, [])]
+        left = [base_name(bound) for bound in declarations(function.head)[0].get(type_name, [])]
         for item in self.site.by_name.get(type_name, []):
             names |= {impl.of_trait for impl in item.blocks if impl.of_trait}
             left += [base_name(item.head.partition("=")[2])] if item.kind == "type" else []
         while left:
             name = left.pop()
             traits = [] if name in names else self.site.by_name.get(name, [])
-            left += [base_name(bound) for trait in traits for bound in above(trait)]
+            left += [base_name(bound) for trait in traits for bound in supertraits(trait)]
             names.add(name)
         return names
 
@@ -68,8 +68,8 @@ class Callers:
         found, types = CALL.search(code), set()
         for item in self.names.named([found[1]]) if found else []:
             if item.kind == "fn" and self.is_called(item, function, code[:found.start()]):
-                type_ = WRAPPER.sub("", item.head.rpartition("->")[2].strip())
-                types.add(item.of_whom.name if re.match(r"Self\b(?!::)", type_) else base_name(type_))
+                made = WRAPPER.sub("", item.head.rpartition("->")[2].strip())
+                types.add(item.of_whom.name if re.match(r"Self\b(?!::)", made) else base_name(made))
         return types
 
     def is_called(self, item, function, code):

@@ -9,14 +9,14 @@ import re
 
 from reference.claims import Tests, check_claims
 from reference.items import Items
-from reference.layout import indented, laid_out
+from reference.layout import indent, lay_out
 from reference.lookup import impl_of
 from reference.meanings import LIBRARIES, WITH_A_PAGE
-from reference.promise import unkept
-from reference.rows import BAR, CODE, FENCED, names_in
+from reference.promise import check_promise
+from reference.rows import BAR, CODE, documents, line_of, names_in, without_code
 from reference.sources import STD, atoms_of, imports_of, is_in
 from reference.text import WIDEST, Text
-from reference.written import check_written
+from reference.generated import check_generated
 
 # A name of each kind that readers look up, with the item that it leads to, or what its row says.
 NAMES, SAYS = pathlib.Path(__file__).resolve().parent / "rust_names.txt", "says "
@@ -48,9 +48,10 @@ def check_names(names):
     """Asks for a name of each kind: what is shown first is the item, or the text of a row."""
     for line in NAMES.read_text("utf-8").splitlines():
         name, _, wanted = line.partition("\t")
-        asked = names.asked(name)
-        rows = [it for it in asked.rows if it.ours or it.told] or names.rows_of_messages(name, asked)
-        shown = names.full_name(asked.first) if asked.first else (
+        answer = names.answer(name)
+        rows = ([it for it in answer.rows if it.ours or it.notes]
+                or names.rows_of_messages(name, answer))
+        shown = names.full_name(answer.first) if answer.first else (
             SAYS + " ".join(cell for _, cell in rows[0].cells) if rows else "nothing")
         by_row = wanted.startswith(SAYS) and shown.startswith(SAYS)
         right = wanted.removeprefix(SAYS) in shown if by_row else shown == wanted
@@ -64,14 +65,14 @@ def check_imports(names):
         text = file.read_text("utf-8")
         atoms = atoms_of(text)
         for use in re.finditer(r"(?m)^ *ghost use [^;]*;", text):
-            place = f"{file.relative_to(top)}:{text.count(chr(10), 0, use.start()) + 1}"
+            place = f"{file.relative_to(top)}:{line_of(text, use.start())}"
             for name in imports_of(use[0]):
                 yield None if is_in(name, atoms) else f"{place}: {name} is imported and not used"
 
 
 def check_items(names):
     """Looks in the document that lists them for each public item of the port's crates, but for
-    modules, laws, lengths, which it lists together, and what traits of others ask for."""
+    modules, lengths, which it lists together, and what traits of others ask for."""
     site = names.site
     text = " ".join((site.top / "docs" / "DIFFERENCES.md").read_text("utf-8").split())
     listed = {part for code in CODE.findall(text) for parts in names_in(code) for part in parts}
@@ -83,7 +84,7 @@ def check_items(names):
                 and not (impl and impl.of_trait)):
             by_rule = item.name.endswith(endings) or re.fullmatch(r"U\d+", item.name)
             wrong = f"{names.place(item)}: DIFFERENCES.md doesn't list {site.full_name(item)}"
-            yield None if by_rule or item.name in listed or site.is_law(item) else wrong
+            yield None if by_rule or item.name in listed else wrong
 
 
 def text_of(edit):
@@ -117,7 +118,7 @@ def check_examples(names):
     sources = [LAYOUT.sub("", it.read_text("utf-8")) for it in files]
     for place, text in documents(top, "README.md", "docs/*.md", "crates/*/README.md"):
         for example in EXAMPLE.finditer(text):
-            line = text.count("\n", 0, example.start(1)) + 1
+            line = line_of(text, example.start(1))
             code = re.sub(r"(?m)^(?:ghost )?use .*\n", "", example[1])
             for part in filter(None, map(str.strip, re.split(r"\n\n+", code))):
                 stands = any(LAYOUT.sub("", part) in source for source in sources)
@@ -129,18 +130,12 @@ def check_contracts(names):
     items, text, top = Items(names), Text(names), names.site.top
     for place, readme in documents(top, "crates/*/README.md"):
         for quoted in QUOTED.finditer(readme):
-            item, file = names.asked(quoted[1]).first, (top / place.parent / quoted[2]).resolve()
-            lines = item and [*laid_out(items.head(item)[0].content, WIDEST),
-                              *indented(text.written(item.clauses))]
-            line = readme.count("\n", 0, quoted.start()) + 1
+            item, file = names.answer(quoted[1]).first, (top / place.parent / quoted[2]).resolve()
+            lines = item and [*lay_out(items.head(item)[0].content, WIDEST),
+                              *indent(text.written(item.clauses))]
+            line = line_of(readme, quoted.start())
             is_right = lines == quoted[3].splitlines() and file == item.file
             yield None if is_right else f"{place}:{line}: {quoted[1]} says otherwise"
-
-
-def documents(top, *patterns):
-    """The documents, each with its text."""
-    for file in sorted(file for pattern in patterns for file in top.glob(pattern)):
-        yield file.relative_to(top), file.read_text("utf-8")
 
 
 def files_and_words(names):
@@ -153,7 +148,8 @@ def files_and_words(names):
         it for crate in (*STD, *crates) for part in ("src", "specs") if kit
         for it in (kit / crate / part).rglob("*.*t")]
     files = [f"/{it.relative_to(top)}" for it in files]
-    texts = [*files, *(it.read_text("utf-8") for it in sources), *(it.theirs for it in names.rows)]
+    texts = [*files, *(it.read_text("utf-8") for it in sources), *(it.theirs for it in names.rows),
+             *names.other_names]
     return files, EXEMPT.union(*(re.findall(r"\w+", text) for text in texts))
 
 
@@ -166,7 +162,7 @@ def check_documents(names):
     ours = {*tests.modules, *(end for index in (names, names.outside) for end, items in
                               index.by_end.items() if any(it.kind != "foreign" for it in items))}
     for place, text in documents(names.site.top, *DOCUMENTS) if names.site.library.kit else ():
-        text = FENCED.sub(lambda code: "\n" * code[0].count("\n"), text)
+        text = without_code(text)
         if place.name == OF_SEEN:
             rows = map(BAR.split, text.split("\n"))
             text = "\n".join(" ".join(cells[2:] or cells) for cells in rows)
@@ -175,13 +171,13 @@ def check_documents(names):
             path = re.sub(r"\(.*|::<.*?>", "", code[1])
             parts = path.split("::")
             if PATH.fullmatch(path) and parts[0] in ours and not lost:
-                is_known = (tests.has(path) or names.named(parts) or names.inherited(parts)
-                            or names.outside.named(parts))
+                is_known = (tests.has(path) or names.named(parts) or names.inherited_members(parts)
+                            or names.outside.named(parts) or path in names.other_names)
                 lost = [] if is_known else [path]
             ends = tuple(f"/{path}{suffix}" for suffix in ("", ".rt", ".antt"))
             if FILE.fullmatch(path) and not any(it.endswith(ends) for it in files):
                 lost.append(path)
-            line = text.count("\n", 0, code.start()) + 1
+            line = line_of(text, code.start())
             yield f"{place}:{line}: nothing is called {lost[0]}" if lost else None
 
 
@@ -189,8 +185,8 @@ def check_documents(names):
 # blind. Those of names ask as a reader of `tools/reference NAME` does.
 CHECKS = {
     "examples": (check_examples, 24), "imports": (check_imports, 2000),
-    "public items": (check_items, 320), "written": (check_written, 700),
-    "mutants": (check_edits, 180), "names": (check_names, 27), "promise": (unkept, 68),
+    "public items": (check_items, 320), "generated": (check_generated, 700),
+    "mutants": (check_edits, 180), "names": (check_names, 27), "promise": (check_promise, 60),
     "contracts": (check_contracts, 17), "claims": (check_claims, 40),
     "documents": (check_documents, 2200),
 }

@@ -7,7 +7,7 @@ of `trials/`, or a part of `tools/check` as code. What says "not tested" or "nor
 import re
 
 from reference.paths import is_named
-from reference.rows import BAR, BLOCK, CODE, FENCED, RULE
+from reference.rows import CODE, blocks_of, documents
 
 DOCUMENTS = ("README.md", "docs/TRUST.md", "crates/*/README.md", "trials/**/README.md")
 TEST = re.compile(r"(?m)^ *#\[test\]\n(?: *#\[.*\n)* *fn (\w+)")
@@ -41,33 +41,22 @@ class Tests:
 
 
 def claims_of(text):
-    """The claims of a document without what is set apart as code, each with its line."""
-    heading = lead = ""
-    for block in BLOCK.finditer(text):
-        line, lines = text.count("\n", 0, block.start()) + 1, block[0].rstrip("\n").split("\n")
-        if lines[0].startswith("#"):
-            heading, lead = lines[0], ""
-        elif len(lines) > 1 and RULE.match(lines[1]):
-            titles = BAR.split(lines[0])
-            for at, row in enumerate(lines[2:], line + 2):
-                yield from ((at, cell) for title, cell in zip(titles, BAR.split(row))
-                            if cell.strip() and TESTED.search(title + cell))
-        else:
-            for part in re.split(r"\n(?=- )", "\n".join(lines)):
-                above = heading + lead * part.startswith("- ")
-                if part.endswith(":"):
-                    lead = part
-                elif TESTED.search(above + part) and not UNTESTED.search(part):
-                    yield line, " ".join(part.split())
-                line += part.count("\n") + 1
+    """The claims of a document, each with its line."""
+    above = lead = ""
+    for line, heading, titles, cells in blocks_of(text):
+        lead, above = lead * (heading == above), heading
+        for title, cell in zip(titles or [heading], cells):
+            said = f"{title} {lead * cell.startswith('- ')} {cell}"
+            if cell.endswith(":"):
+                lead = cell
+            elif cell and TESTED.search(said) and not UNTESTED.search(cell):
+                yield line, cell
 
 
 def check_claims(names):
     """Looks at each claim for its test."""
-    top, tests = names.site.top, Tests(names.site.top)
-    for file in sorted(file for pattern in DOCUMENTS for file in top.glob(pattern)):
-        text = FENCED.sub(lambda code: "\n" * code[0].count("\n"), file.read_text("utf-8"))
+    tests = Tests(names.site.top)
+    for place, text in documents(names.site.top, *DOCUMENTS):
         for line, claim in claims_of(text):
             is_right = any(map(tests.is_witness, CODE.findall(claim)))
-            place = f"{file.relative_to(top)}:{line}"
-            yield None if is_right else f"{place}: it names no test: {claim}"
+            yield None if is_right else f"{place}:{line}: it names no test: {claim}"

@@ -4,10 +4,10 @@ import collections
 import re
 import textwrap
 
-from reference.beside import code_of, is_declared, is_test, proofs_of
+from reference.outside import code_of, is_declared, is_test, proofs_of
 from reference.layout import one_line, prose
 from reference.lookup import impl_of
-from reference.meanings import WITH_A_PAGE, Scope, base_name, declared, header
+from reference.meanings import WITH_A_PAGE, Scope, base_name, declarations, header
 from reference.sources import atoms_of, imports_of, is_in
 from reference.text import use_line
 
@@ -161,7 +161,7 @@ class Items:
         calls = [call for path in made for call in self.names.named([*path]) if call.clauses]
         lines = [*part("code", item.head), *docs(item)]
         for call in calls:
-            passed = ", ".join(declared(call.head)[1])
+            passed = ", ".join(declarations(call.head)[1])
             title = f"Known, by {self.site.full_name(call)}({passed})"
             lines += part("written", call.clauses, title, call)
         return [*lines, *self.words(calls), *self.imports(calls), *self.caller(item)]
@@ -170,8 +170,8 @@ class Items:
         """A type: its functions, and the traits that it has."""
         functions = [member for block in item.blocks if not block.of_trait
                      for member in self.site.public_members(block) if member.kind == "fn"]
-        names = {*(block.of_trait for block in item.blocks), *item.derived()}
-        names -= {"", *(trait.name for trait in self.site.hidden)}
+        names = {*(block.of_trait for block in item.blocks), *item.derived_traits()}
+        names -= {"", *(trait.name for trait in self.site.private_traits)}
         return [*part("signatures", functions, "Functions"),
                 *part("docs", ", ".join(sorted(names, key=str.lower)), "Traits"),
                 *self.words(item.of_kind("ghost"))]
@@ -208,7 +208,7 @@ class Items:
         is_public, found = module in self.names.paths, module.members
         if is_public:
             found = [it for it in self.site.items if it is not module and it.home is (
-                it if it.kind == "mod" and it.owner is module else module)]
+                it if it.kind == "mod" and it.owner is module else module)] or found
         tests = [] if all(map(is_test, module.of_kind("fn"))) else [*filter(is_test, found)]
         parts = docs(module)
         for title, kinds in LISTS.items():
@@ -313,11 +313,11 @@ class Items:
             yield from part("listed", cells, title) if row.cells[0][0] else (
                 part("docs", ": ".join(cell for _, cell in cells), title))
 
-    def asked(self, asked):
-        """What is shown for a name: the first item, rows that tell of it, and what else has it."""
-        telling = [row for row in asked.rows if row.told or row.ours and not row.left_out]
-        rows, others = telling if asked.first else telling or asked.rows, asked.others
+    def answer(self, answer):
+        """What is shown for a name: the first item, rows on it, and what else has the name."""
+        useful = [row for row in answer.rows if row.notes or row.ours and not row.left_out]
+        rows, others = useful if answer.first else useful or answer.rows, answer.others
         lines = [f"{self.names.full_name(it)}  {self.names.place(it)}" for it in others]
         lines[MOST_OTHERS:] = [f"and {len(lines) - MOST_OTHERS} more"] * (len(lines) > MOST_OTHERS)
-        return [*(self.item(asked.first) if asked.first else ()), *self.rows(rows),
+        return [*(self.item(answer.first) if answer.first else ()), *self.rows(rows),
                 *part("laid", lines, "Called so too")]

@@ -1,34 +1,28 @@
-"""Finds items, definitions and what documents tell, by names as a reader writes them."""
+"""Finds items, definitions and rows of documents by names as a reader writes them."""
 import collections
 import copy
 import difflib
 import functools
-import pathlib
 import re
 
-from reference.beside import Samples, hidden, of_files, std_methods
+from reference.outside import Samples, items_of_files, private_items, std_methods
 from reference.callers import Callers
 from reference.meanings import LIBRARIES, header
 from reference.paths import Index, Paths, is_named
 from reference.rows import (
-    CODE, FORMAT, FORMATS, OF_CLAUSES, OF_MESSAGES, OF_RUST, names_in, rows, rows_naming,
-    rows_with,
+    CODE, FORMAT, FORMATS, OF_CLAUSES, OF_MESSAGES, OF_OTHERS, OF_RUST, names_in, rows,
+    rows_naming, rows_with,
 )
-from reference.sources import ANGLE, closing, imports_of
+from reference.sources import ANGLE, end_of_bracket, imports_of
 
 MOST_NEAR, MOST_ROWS = 8, 4
 # The modules of std whose words are found though no crate imports them.
 OF_ALL = ("Rattle.std.specs.Prelude", "Rattle.std.specs.Ordering")
 # In which order the members of types stand where several have a name. The first four are slices.
 FIRST = ("GenericArray", "BoxedArray", "GenericArrayRef", "GenericArrayMut", "GenericArrayIter")
-# What a name means: the item that comes first, the others, and the rows of the documents that tell
-# of it. Where no item comes first, these do.
-Asked = collections.namedtuple("Asked", "first others rows")
-
-
-def is_place(name):
-    """Whether a name is that of a file with a line."""
-    return bool(re.search(r"\.(rt|antt):\d+$", name))
+# What a name means: the item that comes first, the others, and the rows of the documents on it.
+# Where no item comes first, these do.
+Answer = collections.namedtuple("Answer", "first others rows")
 
 
 def parts_of(name):
@@ -37,7 +31,7 @@ def parts_of(name):
         return [FORMATS[sign[1]]]
     name = name.removeprefix("Rattle.").replace("::<", "<").replace("[T]::", "slice::")
     while (at := name.find("<")) > 0 and name.count("<") == name.count(">"):
-        name = name[:at] + name[closing(name, at, ANGLE):]
+        name = name[:at] + name[end_of_bracket(name, at, ANGLE):]
     name = re.sub(r"[(){}!&\s]", "", name)
     return [part.strip("◌") for part in re.split(r"::|\.", name) if part] or [name]
 
@@ -48,25 +42,26 @@ def impl_of(item):
 
 
 def is_detail(item):
-    """Whether an item is a part of another that isn't called: one is told by the name of both."""
+    """Whether an item is a part of another that isn't called: it is asked for by the names
+    of both."""
     is_inner = item.owner is not None and item.owner.kind != "mod"
     return is_inner and item.kind not in ("word", "fn")
 
 
 class Names(Paths):
-    """What names mean: items and definitions, and what the documents tell."""
+    """What names mean: items, definitions and rows of the documents."""
 
     def __init__(self, site):
         super().__init__(site)
-        self.rows, self.clauses = rows(site.top, OF_RUST), rows(site.top, OF_CLAUSES)
+        of_rust, self.clauses = rows(site.top, OF_RUST), rows(site.top, OF_CLAUSES)
+        self.rows = [row for row in of_rust if row.heading != OF_OTHERS]
         # Of lists a row's cells have no titles.
         self.messages = [row for row in rows(site.top, OF_MESSAGES) if row.cells[0][0]]
         self.samples = Samples(site)
         self.callers = Callers(self)
         # The names of typenum, std and other crates, each with the one that it is looked up by.
-        lines = (pathlib.Path(__file__).resolve().parent / "other_names.txt").read_text("utf-8")
-        self.other_names = {name: meant for line in lines.splitlines() for names, _, meant in
-                            [line.partition("\t")] for name in names.split()}
+        self.other_names = {"".join(name.split()): row.ours.strip("`") for row in of_rust
+                            if row.heading == OF_OTHERS for name in CODE.findall(row.theirs)}
         # The names that an item of ours and one of others have.
         self.twice = {name for module in site.items for name in module.foreign
                       if name in site.by_name}
@@ -74,9 +69,9 @@ class Names(Paths):
     @functools.cached_property
     def outside(self):
         """What stands on no page: samples, what isn't public, lemmas, files, methods of std."""
-        private = [item for item in hidden(self.site) if item not in self.paths]
+        private = [item for item in private_items(self.site) if item not in self.paths]
         found = Index()
-        for item in (*self.samples.items, *private, *of_files(self.site)):
+        for item in (*self.samples.items, *private, *items_of_files(self.site)):
             found.add(item, self.path(item))
         for of, item in std_methods(self.site.library):
             owners = FIRST[:4] if of == "slice" else ()
@@ -97,76 +92,70 @@ class Names(Paths):
                 item.kind == "word", 0.5 if of_trait else place, bool(impl and impl.of_trait))
 
     def rows_of_messages(self, name, asked):
-        """The rows that tell what to write: for a name those that have it as code, and for what is
-        none those that have its words."""
+        """The rows on what to write: for a name those that have it as code, and for what is none
+        those that have its words."""
         if not asked.first and not asked.rows:
             return rows_with(self.messages, name)
         known = {row.place for row in asked.rows}
         named = rows_naming(self.messages, parts_of(name)[-1])
         return [row for row in named if row.place not in known]
 
-    def asked(self, name):
-        """What a name most likely means: what it is looked up by, then items of the library, what
-        the documents tell, words that crates import, what stands above the library or on no page,
+    def answer(self, name):
+        """What a name most likely means: what it is looked up by, then items of the library, rows
+        of the documents, words that crates import, what stands above the library or on no page,
         names of clauses, and items whose docs name it."""
         parts = parts_of(name)
-        items = self.items_of(name) or self.beside_of(name)
+        items = self.items_of(name) or self.outside_items(name)
         if name in self.by_end and name in self.other_names:
-            first, others, rows = self.asked(self.other_names[name])
+            first, others, rows = self.answer(self.other_names[name])
             others = [it for it in dict.fromkeys([*items, *others]) if it is not first]
-            return Asked(first, others, self.told_of(name, True) or rows)
+            return Answer(first, others, self.rows_about(name, True) or rows)
         leads = len(parts) > 1 and any(
             item.file and self.is_own(item) or is_named(self.path(item), parts)
             for item in (*self.named(parts), *self.outside.named(parts)))
-        known = leads or items and items[0] in self.paths or self.told_of(name, False)
+        known = leads or items and items[0] in self.paths or self.rows_about(name, False)
         if other := "" if known else self.other_name(parts):
-            return self.asked(other)
-        words, rows = self.of_std(name, self.imported), self.told_of(name, bool(items))
+            return self.answer(other)
+        words, rows = self.of_std(name, self.imports), self.rows_about(name, bool(items))
         others = [*(it for it in self.outside.named(parts) if not self.is_own(it)),
-                  *self.of_std(name, self.passed_on)] if len(parts) == 1 else []
+                  *self.of_std(name, self.std_words)] if len(parts) == 1 else []
         is_above = not items or not self.is_of_library(items[0])
         is_of_rust = len(parts) > 1 and not self.named(parts) and any(
             parts in row.names for row in rows)
         if rows and (is_above and not leads or is_of_rust):
-            return Asked(None, [*(item for item in items if not is_detail(item)), *words], rows)
+            return Answer(None, [*(item for item in items if not is_detail(item)), *words], rows)
         if is_above and not leads and not (items := [*words, *items, *others]):
             if rows := [row for row in self.clauses if row.fit(parts) or row.mentions(parts)]:
-                return Asked(None, [], rows)
-            items = self.told_in_docs(parts)
+                return Answer(None, [], rows)
+            items = self.items_by_docs(parts)
         first, *others = dict.fromkeys([*items, *words, *others]) or [None]
-        return Asked(first, others, [] if is_above else rows)
+        return Answer(first, others, [] if is_above else rows)
 
     def items_of(self, name):
         """The items that a name may mean, in their order: one of typenum or of std none above the
         library."""
-        parts, found = parts_of(name), self.found(name)
+        parts, found = parts_of(name), self.candidates(name)
         if self.other_name(parts) or parts[-1] in self.other_names.values():
             found = [item for item in found if self.is_of_library(item)]
         return sorted(found, key=self.order)
 
-    def beside_of(self, name):
+    def outside_items(self, name):
         """The samples, lemmas and files that a name may mean, in their order."""
-        index = self.outside
-        found = self.placed(index, name) if is_place(name) else index.named(parts_of(name))
-        return sorted(found, key=self.samples.likeliest)
+        return sorted(self.outside.named(parts_of(name)), key=self.samples.rank)
 
-    def placed(self, index, place):
-        """The items of an index that begin at a place, as `array.rt:39`."""
-        return [item for item in index.paths if f"/{self.place(item)}".endswith(f"/{place}")]
-
-    def told_in_docs(self, parts):
+    def items_by_docs(self, parts):
         """The items whose docs have a name as code, as that of another crate's call."""
         return [item for item in self.paths if parts[-1] in item.docs and any(
             name[-1] == parts[-1] for code in CODE.findall(item.docs) for name in names_in(code))]
 
-    def told_of(self, name, is_ours):
+    def rows_about(self, name, is_ours):
         """The rows of the documents for a name: those that have it in front, or else, for one of
         ours, those that it stands for, and for another those that name it."""
         other = self.other_name(parts_of(name)) if is_ours else ""
         for parts in map(parts_of, filter(None, (name, other))):
-            told = [row for row in self.rows
-                    if (row.stands_for(parts) if is_ours else row.mentions(parts))]
-            if rows := self.rows_of(parts) or sorted(told, key=lambda row: -row.around(parts)):
+            others = [row for row in self.rows
+                      if (row.stands_for(parts) if is_ours else row.mentions(parts))]
+            if rows := self.rows_of(parts) or sorted(others, key=lambda row: -row.around(parts)):
                 return rows[:MOST_ROWS]
         return []
 
@@ -176,21 +165,19 @@ class Names(Paths):
             return "typenum"
         return self.other_names.get("::".join(parts)) or self.other_names.get(parts[-1], "")
 
-    def found(self, name):
-        """The items that a name may mean, or a place, as `array.rt:39`. A name that leads nowhere,
-        not even to what no page has, means what has its end as a name."""
-        if is_place(name):
-            return self.placed(self, name)
+    def candidates(self, name):
+        """The items that a name may mean. A name that leads nowhere, not even to what no page has,
+        means what has its end as a name."""
         parts = parts_of(name)
         exact = self.named(parts)
-        found = exact or self.inherited(parts)
+        found = exact or self.inherited_members(parts)
         if not found and len(parts) > 1 and not self.outside.named(parts):
             found = self.named(parts[-1:])
         # Of our traits for types of others only where nothing else has the name.
         found = [item for item in found
                  if not (impl_of(item) and impl_of(item).of.kind == "trait")] or found
         if len(parts) == 1 or not exact:
-            # A member of an impl that only does what its trait says tells nothing new.
+            # A member of an impl that only does what its trait says says nothing new.
             best = min(found, key=self.order, default=None)
             found = [item for item in found if item is best or item.clauses or item.docs
                      or not (impl_of(item) and impl_of(item).trait)]
@@ -199,7 +186,7 @@ class Names(Paths):
                 impl_of(item) and " for &" in header(impl_of(item)))] or found
         return [item for item in found if not is_detail(item)] or found
 
-    def inherited(self, parts):
+    def inherited_members(self, parts):
         """The members of traits that a type has by an impl that doesn't write them."""
         owners = self.named(parts[-2:-1]) if len(parts) > 1 else []
         traits = [impl.trait for owner in owners if owner.kind in ("struct", "enum")
@@ -208,34 +195,34 @@ class Names(Paths):
                 if member.name == parts[-1]]
 
     def rows_of(self, parts):
-        """The rows that have a name in front, those first that tell most of it, or else those that
+        """The rows that have a name in front, those first that have most of it, or else those that
         have it as a part of one. A module's row that says nothing stands for those below it."""
         fits = sorted(((row.fit(parts), row) for row in self.rows), key=lambda fit: -fit[0])
         rows = [row for fit, row in fits if fit > 1] or [row for fit, row in fits if fit]
         first = rows[0] if len(rows) == 1 else None
-        if first and first.section == first.theirs and not first.ours and not first.told:
+        if first and first.section == first.theirs and not first.ours and not first.notes:
             rows = [row for row in self.rows if row.section == first.section and row != first]
         return rows
 
     @functools.cached_property
-    def imported(self):
+    def imports(self):
         """The words that the crates import, each with its module and its name there."""
         lines = [use.head for use in self.site.items if use.kind == "ghost use"]
         return imports_of("\n".join(lines))
 
     @functools.cached_property
-    def passed_on(self):
+    def std_words(self):
         """The words that std has for all and the crates don't import, likewise."""
         library = self.site.library
-        return {name: (module, name) for module in OF_ALL for name in library.passed_on(
-            library.module_file(module)) if name not in self.imported}
+        return {name: (module, name) for module in OF_ALL for name in library.exports(
+            library.module_file(module)) if name not in self.imports}
 
     def of_std(self, name, known):
         """The word of another library that a name means, as of where it is imported from."""
         *above, last = parts_of(name)
         module, there = known.get(last, ("", ""))
         word = self.site.library.word(module, there) if there else None
-        is_new = word and (word.file or known is self.passed_on) and not self.is_own(word)
+        is_new = word and (word.file or known is self.std_words) and not self.is_own(word)
         if not is_new or above and "specs" not in above:
             return []
         word = copy.copy(word)

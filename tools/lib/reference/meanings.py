@@ -4,7 +4,7 @@ import pathlib
 import re
 
 from reference.rows import CODE, OF_CLAUSES, OF_STD, rows
-from reference.sources import ANGLE, Item, closing, imports_of, items_of, parted
+from reference.sources import ANGLE, Item, end_of_bracket, imports_of, items_of, list_items
 
 LIBRARIES = "ga_views ga_core ga_boxed generic_array".split()
 CRATES = [*LIBRARIES, *"ga_headline ga_records ga_hashes ga_ciphers ga_uses ga_rows".split()]
@@ -18,26 +18,26 @@ UNDER_A_BOUND = {"step": "steps"}  # FnMut's member is spelled so where it is wr
 def generics(head):
     """The text between the angle brackets behind an item's name, and what follows."""
     begin = re.match(r"(?:pub\([^)]*\))?[^<({:;=]*", head).end()
-    end = closing(head, begin, ANGLE) if head.startswith("<", begin) else begin
+    end = end_of_bracket(head, begin, ANGLE) if head.startswith("<", begin) else begin
     return head[begin + 1:end - 1], head[end:]
 
 
-def declared(head):
+def declarations(head):
     """What a head declares: its types with their bounds, and the names of its parameters."""
     inside, behind = generics(head)
     behind, _, where = re.sub(r"\bwhere\b", "\0", behind).partition("\0")
     bounds = {}
-    for part in parted(inside) + parted(where):
-        name, _, told = part.removeprefix("const ").partition(": ")
-        bounds.setdefault(name.replace("::", "."), []).extend(parted(told, "+"))
+    for part in list_items(inside) + list_items(where):
+        name, _, bound = part.removeprefix("const ").partition(": ")
+        bounds.setdefault(name.replace("::", "."), []).extend(list_items(bound, "+"))
     group = re.match(r"\((.*)\)", behind.split("->")[0].strip(), re.S)
-    parameters = parted(group[1] if group else "")
+    parameters = list_items(group[1] if group else "")
     return bounds, [re.sub(r"^mut |^&.*", "", part.partition(":")[0]) for part in parameters]
 
 
-def above(trait):
+def supertraits(trait):
     """The bounds on a trait itself: those that stand above it."""
-    return parted(generics(trait.head)[1].split("where")[0].removeprefix(":"), "+")
+    return list_items(generics(trait.head)[1].split("where")[0].removeprefix(":"), "+")
 
 
 def base_name(bound):
@@ -63,13 +63,13 @@ class Scope:
         else:
             for part in (item.module, item.owner, item):
                 self.enter(part)
-        for name, told in list(self.imports.items()):
+        for name, source in list(self.imports.items()):
             pieces = [piece for piece in name.split("◌") if piece]
-            self.imports = {piece: told for piece in pieces} | self.imports
+            self.imports = {piece: source for piece in pieces} | self.imports
 
     def enter(self, part):
         """Takes in what a module, an impl or an item declares and imports."""
-        bounds, parameters = declared(part.head)
+        bounds, parameters = declarations(part.head)
         lines = [use.head for use in part.of_kind("ghost use")]
         self.imports |= imports_of("\n".join(lines))
         with_fields = part.kind in ("struct", "enum")
@@ -95,15 +95,15 @@ class Scope:
     def traits_of(self, name):
         """The traits that a type has by its bounds, those above these, and those of their types."""
         found, left = [], list(self.bounds[name])
-        inner = [bound for path, told in self.bounds.items() if path.startswith(f"{name}.")
-                 for bound in told]
+        inner = [bound for path, bounds in self.bounds.items() if path.startswith(f"{name}.")
+                 for bound in bounds]
         while left or inner:
             for trait in self.named(base_name((left or inner).pop(0))):
                 if trait not in found:
                     found.append(trait)
-                    left += above(trait)
+                    left += supertraits(trait)
                     for member in trait.of_kind("type"):
-                        inner += parted(member.head.partition(":")[2], "+")
+                        inner += list_items(member.head.partition(":")[2], "+")
         return found
 
     def meaning(self, atom, bound):
@@ -146,12 +146,12 @@ class Site:
             item.home = self.home(item)
             if item.home:
                 self.by_name.setdefault(item.name, []).append(item)
-        self.impls = [item for item in self.items if item.kind == "impl" and self.place(item)]
+        self.impls = [item for item in self.items if item.kind == "impl" and self.join_impl(item)]
         for impl in self.impls:
             impl.of.blocks.append(impl)
 
     @functools.cached_property
-    def hidden(self):
+    def private_traits(self):
         """The traits that only their crates see."""
         return [item for item in self.items if item.kind == "trait" and not item.home]
 
@@ -222,8 +222,6 @@ class Site:
         """The public module that an item is found in: its own, or one above that exports it."""
         if item.kind == "mod":
             return item if not item.owner or item.public and self.home(item.owner) else None
-        if self.is_law(item):
-            return self.home(item.owner)
         if not item.public or item.owner.kind != "mod" or item.kind in ("impl", "use", "ghost use"):
             return None
         module = item.owner
@@ -233,13 +231,8 @@ class Site:
                 return None  # The hidden modules of a program say `pub` to each other.
         return module
 
-    def is_law(self, item):
-        """Whether an item is a law: nothing can call it, and its module has only such."""
-        alone = item.kind == "fn" and item.owner.kind == "mod" and not item.owner.program
-        return alone and not any(member.public for member in item.owner.members)
-
     def item_named(self, name, item):
-        """The public item that a name of code means at an item, told by the imports of its file."""
+        """The public item that a name of code means at an item, by the imports of its file."""
         others = self.by_name.get(name, []) if name not in item.module.foreign else []
         crate = self.path(item.module)[0]
         return min(others, key=lambda other: self.path(other.home)[0] != crate, default=None)
@@ -250,16 +243,16 @@ class Site:
         if public or item.kind == "word":
             return public
         crate = self.path(item.module)[0]
-        return [other for other in self.hidden if other.name == name
+        return [other for other in self.private_traits if other.name == name
                 and self.path(other.module)[0] == crate]
 
-    def place(self, impl):
-        """Notes an impl's type, or else its trait, and tells whether readers see it."""
-        told = header(impl)
-        trait, _, of = told.rpartition(" for ")
+    def join_impl(self, impl):
+        """Notes an impl's type, or else its trait. Returns whether readers see it."""
+        head = header(impl)
+        trait, _, of = head.rpartition(" for ")
         impl.of_trait = base_name(trait)
         traits = [item for item in self.by_name.get(impl.of_trait, []) if item.kind == "trait"]
-        names = [base_name(of), *re.findall(r"\w+", told)]
+        names = [base_name(of), *re.findall(r"\w+", head)]
         found = [self.item_named(name, impl) for name in names]
         types = [item if item and item.kind in WITH_A_PAGE[:2] else None for item in found]
         impl.trait = (traits or [None])[0]
@@ -300,7 +293,7 @@ class Site:
         return " ".join((said or item.docs.partition("\n\n")[0]).split())
 
     def line(self, item):
-        """The line that an item or a definition is told by: its notes or docs, or else its type."""
+        """A line on an item or a definition: its notes or docs, or else its type."""
         said = self.said(item)
         first = re.sub(r"^((abbrev|unfoldable|pub|ghost) )*", "", item.head.split("\n")[0])
         return said or first or item.module

@@ -1,5 +1,5 @@
-"""Writes the pages of a reference from the templates of reference/pages: what `tools/reference NAME`
-prints of each item, with links."""
+"""Writes the pages of a reference from templates: what `tools/reference NAME` prints of each item,
+with links."""
 import collections
 import html
 import pathlib
@@ -14,7 +14,7 @@ import markdown
 from jinja2 import Environment, FileSystemLoader, StrictUndefined
 from markupsafe import Markup
 
-from reference.beside import code_of
+from reference.outside import code_of
 from reference.items import Items, part
 from reference.lookup import impl_of, parts_of
 from reference.meanings import WITH_A_PAGE, Scope
@@ -33,7 +33,7 @@ WHOLE = {"Aliases": ["type"], "Functions": ["fn"], "Macros": ["macro"],
 OF_TRAIT = {"Ghost members": ["ghost"], "Types and constants": ["type", "const"],
             "Functions": ["fn"]}
 OF_TYPE = {"Fields and variants": ["field", "variant", "ghost"]}
-# What of an item's parts a page tells by links, and by what stands below.
+# What of an item's parts a page has as links, and as what stands below.
 OF_LINKS = ("Words", "Ghost members")
 FILES = ("index.html", "names.js", "search.js", "style.css")
 # Some items of a page, below a title or an impl's head.
@@ -67,7 +67,7 @@ class Pages:
         for word in self.words:
             word.url = f"words/{word.module.replace('.', '/', 1)}.html#{word.name}"
         for item in [item for item in self.site.items if item.home]:
-            anchor = f"{item.kind if item.public else 'law'}.{item.name}"
+            anchor = f"{item.kind}.{item.name}"
             page = f"{anchor}.html" if item.kind in WITH_A_PAGE else "index.html"
             at = "" if item.kind in ("mod", *WITH_A_PAGE) else f"#{anchor}"
             item.url = "/".join([*self.site.path(item.home), page + at])
@@ -137,8 +137,8 @@ class Pages:
         return Markup(re.sub(r"<code>([^<]+)</code>", linked, made))
 
     def meant(self, name, *owners):
-        """What a name in docs means: a member beside it or of the type named last, or else an item
-        or a definition."""
+        """What a name in docs means: a member of its type or of the type named last, or else an
+        item or a definition."""
         name = re.sub(r"<.*>|[()!&]", "", name)
         full = (*(f"{owner}::{name}" for owner in owners), name)
         found = [self.places[it] for it in full if it in self.places]
@@ -146,8 +146,8 @@ class Pages:
         return next(iter(found), None)
 
     def shown(self, item):
-        """The parts of an item on a page: without those that links tell, and of a member of an impl
-        that says nothing of its own the head alone."""
+        """The parts of an item on a page: without those that links replace. A member of an impl
+        that says nothing of its own has its head alone."""
         impl, parts = impl_of(item), self.items.shown(item)
         parts = [it for it in parts if it.kind != "signatures" and it.title not in OF_LINKS
                  and not (impl and it.item is impl and it.kind == "code")]
@@ -158,19 +158,18 @@ class Pages:
         """What stands on an item's page below its own parts."""
         if item.kind == "mod":
             below = [it for it in self.site.items if it.home is item and it.name]
-            groups = [Group(title, None, [it for it in below if it.kind in kinds and it.public and (
-                      it.kind != "type" or "<" in it.head.partition("=")[0])])
-                      for title, kinds in WHOLE.items()]
-            laws = [it for it in below if not it.public and it.kind == "fn"]
-            return [*groups, Group("Laws, which nothing calls", None, laws)]
-        members, kinds = self.site.public_members(item), OF_TRAIT if item.kind == "trait" else OF_TYPE
+            return [Group(title, None, [it for it in below if it.kind in kinds and (
+                    it.kind != "type" or "<" in it.head.partition("=")[0])])
+                    for title, kinds in WHOLE.items()]
+        members = self.site.public_members(item)
+        kinds = OF_TRAIT if item.kind == "trait" else OF_TYPE
         groups = [Group(title, None, [it for it in members if it.kind in of])
                   for title, of in kinds.items()]
         blocks = sorted(item.blocks, key=lambda impl: bool(impl.of_trait))
         return groups + [Group("", impl, self.site.public_members(impl)) for impl in blocks]
 
     def write(self):
-        """Writes all pages, and what stands beside them. Gives the links that lead nowhere."""
+        """Writes all pages and their other files. Returns the links that lead nowhere."""
         for item in self.site.items:
             if item.home and item.kind in ("mod", *WITH_A_PAGE):
                 self.page(item.url, item.name, self.shown(item), self.groups_of(item), item)

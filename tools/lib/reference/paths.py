@@ -41,7 +41,8 @@ class Paths(Index):
         self.add_items()
         self.add_members()
         self.add_foreign_traits()
-        for item in (*site.hidden, *(word for words in site.words.values() for word in words)):
+        words = (word for words in site.words.values() for word in words)
+        for item in (*site.private_traits, *words):
             self.add(item, self.path(item))
 
     def add_items(self):
@@ -79,13 +80,13 @@ class Paths(Index):
         for name, blocks in found.items():
             imported = [imports_of(use.head).get(name, ("", ""))
                         for impl in blocks for use in impl.module.of_kind("use")]
-            module, there = next((told for told in imported if told[0]), (name, ""))
+            module, there = next((source for source in imported if source[0]), (name, ""))
             path = [*module.split("::"), *([there] if there else ())]
             self.add(Item("foreign trait", name, f"trait {name}", blocks[0].file, blocks[0].line,
                           module=blocks[0].module, path=path, blocks=blocks), path)
 
     def path(self, item):
-        """The path by which an item is told: from the public module that it is found in."""
+        """The path of an item: from the public module that it is found in."""
         if item.kind in OF_FILES:
             crate, *rest = item.module.removeprefix("Rattle.").split(".")
             return [crate, item.folder, *rest, item.name]

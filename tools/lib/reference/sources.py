@@ -89,13 +89,13 @@ class Item:
         is_in_impl = self.owner is not None and self.owner.kind == "impl"
         return self.owner.of if is_in_impl else self.owner
 
-    def derived(self):
+    def derived_traits(self):
         """The names of the traits that the compiler writes for it."""
         return [name.strip() for names in DERIVE.findall(self.attributes)
                 for name in names.split(",")]
 
 
-def closing(text, at, signs=SIGN):
+def end_of_bracket(text, at, signs=SIGN):
     """The place behind the bracket that closes the one at `at`."""
     depth = 0
     for sign in signs.finditer(text, at):
@@ -105,7 +105,7 @@ def closing(text, at, signs=SIGN):
     raise ValueError("a bracket isn't closed")
 
 
-def parted(text, separator=","):
+def list_items(text, separator=","):
     """The parts of a list, cut at separators that stand in no bracket."""
     marked, depth = "", 0
     for at, sign in enumerate(text):
@@ -120,7 +120,7 @@ def atoms_of(text):
     # Texts and comments are spaces.
     code = SIGN.sub(lambda it: re.sub(r"[^\n]", " ", it[0]) if len(it[0]) > 1 else it[0], text)
     atoms = {atom for begin in TERM.finditer(code)
-             for atom in ATOM.findall(code[begin.end():closing(code, begin.end())])}
+             for atom in ATOM.findall(code[begin.end():end_of_bracket(code, begin.end())])}
     return atoms | {atom.split(".")[0] for atom in atoms}
 
 
@@ -148,7 +148,7 @@ def head_and_clauses(text, at, kind="fn"):
         sign = SIGN.search(text, place)
         if not sign:
             raise ValueError("an item has no end")
-        place = closing(text, sign.start()) if sign[0] in "([{" else sign.end()
+        place = end_of_bracket(text, sign.start()) if sign[0] in "([{" else sign.end()
         clause = CLAUSE.search(text, at, sign.start()) if sign[0] == "{" else None
         # A constant ends with its `;`, whatever brackets stand in it.
         body = sign[0] == "{" and kind not in ("const", "static") and (
@@ -193,7 +193,7 @@ def items_of(text, file, owner=None, at=0, end=None):
             raise ValueError(f"{file}: not an item: {text[start:start + 60]!r}")
         kind = begin["kind"].replace("macro_rules!", "macro")
         head, clauses, stop = head_and_clauses(text, start, kind)
-        at = closing(text, stop) if text[stop] == "{" else stop + 1
+        at = end_of_bracket(text, stop) if text[stop] == "{" else stop + 1
         line, name = text.count("\n", 0, start) + 1, begin["name"] if kind != "impl" else ""
         docs, notes = docs_and_notes(above[0])
         item = Item(kind, name, head, file, line, docs, notes, owner, clauses=clauses,
@@ -292,7 +292,7 @@ class Library:
         return found
 
     @functools.lru_cache(None)
-    def passed_on(self, file):
+    def exports(self, file):
         """The names that a module passes on, each with its module and its name there."""
         uses = USE.finditer(file.read_text("utf-8")) if file else ()
         return imports_of("\n".join(use[0] for use in uses if use[1]))
@@ -304,7 +304,7 @@ class Library:
         if not file:  # The compiler makes such modules, of types and of what is built in.
             made = re.search(r"\.(declared|contracts)\.|^Prim\.", path)
             return Item("word", name, "", None, 0, module=path) if made else None
-        passed, defined = self.passed_on(file), self.definitions(file)
+        passed, defined = self.exports(file), self.definitions(file)
         if name in passed and name not in defined:
             return self.word(*passed[name])
         part = re.compile(rf"(?m)^ +(?:pub )?{re.escape(name)} :")

@@ -5,7 +5,7 @@ import subprocess
 import sys
 
 from reference.items import Items, part
-from reference.layout import indented
+from reference.layout import indent
 from reference.lookup import MOST_ROWS
 from reference.rows import OF_MESSAGES
 from reference.text import Text
@@ -29,15 +29,15 @@ def unknown(names, name):
     if re.search(r"\s", name):
         return [f"tools/reference: {rows} has these words: give fewer, or read there."]
     return [f"tools/reference: nothing is called {name}, and {rows} has it. Near it:",
-            *indented(names.near(name))]
+            *indent(names.near(name))]
 
 
 def show(names, name):
     """Shows what a name means, or the rows that have a message's words, if there is such."""
-    asked, items = names.asked(name), Items(names)
-    is_known, rows = asked.first or asked.rows, names.rows_of_messages(name, asked)
+    answer, items = names.answer(name), Items(names)
+    is_known, rows = answer.first or answer.rows, names.rows_of_messages(name, answer)
     most = MOST_ROWS if is_known else len(rows)
-    parts = [*(items.asked(asked) if is_known else ()), *items.rows(rows[:most]),
+    parts = [*(items.answer(answer) if is_known else ()), *items.rows(rows[:most]),
              *part("docs", f"And {len(rows) - most} more rows have it." * (len(rows) > most))]
     text = Text(names, shutil.get_terminal_size().columns)
     lines = [*([] if is_known else of_kit(name)), *text.lines(parts)]

@@ -1,5 +1,5 @@
 """Shows parts of what is said of items as lines of text."""
-from reference.layout import columns, indented, laid_out, prose, signature
+from reference.layout import columns, indent, lay_out, prose, signature
 
 WIDEST, NARROWEST = 100, 40
 
@@ -22,10 +22,10 @@ class Text:
         """The lines of parts."""
         for part in parts:
             if part.kind == "code":
-                yield from (*laid_out(part.content, self.width), "")
+                yield from (*lay_out(part.content, self.width), "")
             else:
                 yield from ([part.title] if part.title else ())
-                yield from (*indented(getattr(self, part.kind)(part.content)), "")
+                yield from (*indent(getattr(self, part.kind)(part.content)), "")
 
     def docs(self, text):
         """The lines of docs, or of a sentence."""
@@ -37,12 +37,12 @@ class Text:
         for clause in clauses:
             begin = f"{clause.keyword}{clause.star} {clause.name}".rstrip()
             term = clause.term.replace("\n", "\n    ")
-            lines += laid_out(f"{begin} {{ {term} }}", self.width - 4)
+            lines += lay_out(f"{begin} {{ {term} }}", self.width - 4)
         return lines
 
     def laid(self, texts):
         """The lines of some code."""
-        return [line for text in texts for line in laid_out(text, self.width - 4)]
+        return [line for text in texts for line in lay_out(text, self.width - 4)]
 
     def listed(self, pairs):
         """The lines of a list: names, and what is said of each."""

@@ -63,15 +63,13 @@ pub fn list_cut<T: Word, N: ArrayLength<T>>(array: &GenericArray<T, N>, list: &m
     }
 }
 
-pub type Bytes<N> = List<u8, N>;
-
 /// What stands beside a long boxed array.
-pub fn long_generate<N: Unsigned>(seed: u64) -> Bytes<N> {
+pub fn long_generate<N: Unsigned>(seed: u64) -> List<u8, N> {
     let items = (0..N::USIZE).map(|index| u8::make(seed, index)).collect();
     List { items, length: PhantomData }
 }
 
 /// In place.
-pub fn long_map<N: Unsigned>(bytes: Bytes<N>) -> Vec<u8> {
+pub fn long_map<N: Unsigned>(bytes: List<u8, N>) -> Vec<u8> {
     bytes.items.into_iter().map(|item| item.rotate_left(3) ^ 1).collect()
 }

@@ -1,16 +1,14 @@
 // The search: the names that fit best stand below the field, and Enter opens the first.
 const field = document.getElementById("search");
 const list = document.getElementById("found");
-const ORDER = ["struct", "enum", "trait", "macro", "module", "function", "method", "alias", "const", "variant", "type", "word", "law", "ghost member", "of another library", "word of std"];
+const ORDER = ["struct", "enum", "trait", "macro", "module", "function", "method", "alias", "const", "variant", "type", "word", "ghost member", "of another library", "word of std"];
 
 // How well a name fits what was typed: the lower the better, or nothing.
 function fit([name, kind, full], typed) {
-  const parts = typed.toLowerCase().split("::");
-  const last = parts.pop(), low = name.toLowerCase(), whole = full.toLowerCase();
-  const place = low.indexOf(last);
-  if (!typed || place < 0 && !whole.includes(typed.toLowerCase())) return;
-  const near = low === last ? 0 : place === 0 ? 1 : place > 0 ? 2 : 3;
-  const elsewhere = whole.includes(parts.join("::")) ? 0 : 0.5;
+  const low = typed.toLowerCase(), last = low.split("::").pop(), here = name.toLowerCase();
+  if (!typed || !here.includes(last) && !full.toLowerCase().includes(low)) return;
+  const near = here === last ? 0 : here.startsWith(last) ? 1 : 2;
+  const elsewhere = full.toLowerCase().includes(low) ? 0 : 0.5;
   return near + elsewhere + (ORDER.indexOf(kind) + 1) / 40 + name.length / 4000;
 }
 

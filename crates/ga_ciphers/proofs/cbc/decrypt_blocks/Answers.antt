@@ -3,7 +3,7 @@ use Rattle.ga_ciphers.proofs.cbc.decrypt_blocks.Goals as goal
 use Rattle.std.proofs.Common.{◌≡◌, ◌≤◌, ◌+◌, ap, arith, length, refl}
 
 pub rows-init : goal.rows-init
-rows-init g c = blocks-none _ _ _ _ _ c.requires
+rows-init g c = blocks-none _ _ _ _ _ c.requires.whole
 
 pub rows-preserved : goal.rows-preserved
 rows-preserved g c =

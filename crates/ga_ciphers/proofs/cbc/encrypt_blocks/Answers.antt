@@ -4,7 +4,7 @@ use Rattle.ga_ciphers.proofs.cbc.encrypt_blocks.Goals as goal
 use Rattle.std.proofs.Common.{◌≡◌, ◌≤◌, ◌+◌, ap, arith, length, refl}
 
 pub rows-init : goal.rows-init
-rows-init g c = record { so_far = blocks-none _ _ _ _ _ c.requires; back = λ rest. refl }
+rows-init g c = record { so_far = blocks-none _ _ _ _ _ c.requires.whole; back = λ rest. refl }
 
 pub rows-preserved : goal.rows-preserved
 rows-preserved g c =

@@ -11,8 +11,8 @@ returns-then-not-fits g c = record {
 
 pub returns : goal.returns
 returns g c =
-    let made = c.in-Ok.ensures in
+    let made = c.in_ok-base.ensures in
     record {
-      block = ap (λ items. live items c.in-Ok.cells.room) made.items ∙ ap (λ room. live [] room) made.room;
+      block = ap (λ items. live items c.in_ok-base.cells.room) made.items ∙ ap (λ room. live [] room) made.room;
       empty = λ none. refl;
     }

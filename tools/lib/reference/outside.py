@@ -1,10 +1,10 @@
-"""Reads what no page has: functions and types of examples, of tests and of hidden modules, lemmas,
+"""Reads what no page has: functions and types of examples, of tests and of private modules, lemmas,
 and the files of proofs/ and specs/ as modules."""
 import functools
 import inspect
 import re
 
-from reference.meanings import WITH_A_PAGE, base_name, declared, header
+from reference.meanings import WITH_A_PAGE, base_name, declarations, header
 from reference.paths import OF_FILES
 from reference.sources import Item, items_of
 
@@ -46,7 +46,7 @@ def members_of(module):
             yield item
 
 
-def hidden(site):
+def private_items(site):
     """What stands in the crates that are read and isn't public."""
     found = [item for item in site.items if item.name and not item.home]
     return [item for item in found if item.kind in ("fn", "const", "static", "type", *WITH_A_PAGE)
@@ -97,19 +97,20 @@ def lemmas_of(site, file):
     """The lemmas of a file that others cite, each with the lists that it is in, and its lists."""
     text, of = file.read_text("utf-8"), as_module(site, file)
     lists = {found["name"]: re.split(r",\s*", found["names"]) for found in RULESET.finditer(text)}
-    told = {"folder": of.folder, "module": f"{of.module}.{of.name}"}
+    place = {"folder": of.folder, "module": f"{of.module}.{of.name}"}
     for word in site.library.definitions(file).values():
         if re.search(r"\bpub ", word.head.split(":")[0]):
             held = [name for name, names in lists.items() if word.name in names]
             yield Item("lemma", word.name, statement(word), file, word.line, notes=word.notes,
-                       context=word.context, lists=held, **told)
+                       context=word.context, lists=held, **place)
     for found in RULESET.finditer(text):
         line = text.count("\n", 0, found.start("head")) + 1
         notes = " ".join(re.findall("-- (.*)", found["notes"]))
-        yield Item("lemma", found["name"], found["head"], file, line, notes=notes, lists=[], **told)
+        yield Item("lemma", found["name"], found["head"], file, line, notes=notes, lists=[],
+                   **place)
 
 
-def of_files(site):
+def items_of_files(site):
     """All lemmas, the definitions that no page has, and the files of both as modules."""
     crates = site.top / "crates"
     proofs = [file for file in sorted(crates.glob("*/proofs/**/*.antt")) if is_declared(file)]
@@ -141,22 +142,23 @@ class Samples:
         text = re.sub(r"`(\w+)::(\w+)`", r"`\2` of `\1`", text)
         return " ".join(text.split()), set(re.findall(r"\bfn (\w+)", text))
 
-    def is_told(self, item):
+    def is_in_documents(self, item):
         """Whether a document shows or names a function."""
         return item.name in self.documents[1] or f"`{item.name}`" in self.documents[0]
 
     def order(self, item):
         """Where a sample stands among others: first what the documents show, then what has clauses,
         isn't of nothing, is of any length or type, and is shorter."""
-        bounds = declared(item.head)[0] if item.kind == "fn" else {}
+        bounds = declarations(item.head)[0] if item.kind == "fn" else {}
         return (item.name not in self.documents[1], not item.clauses, item.name.startswith("no"),
                 not any(bounds.values()), item.end - item.begin)
 
-    def likeliest(self, item):
-        """Where what stands on no page stands among those of one name: first a method of std, then
-        what the documents name with its module, and tests last."""
+    def rank(self, item):
+        """Where what stands on no page stands among those of one name: first a method of std, of a
+        type before one of a trait, then what the documents name with its module, and tests last."""
+        of_trait = item.owner is not None and item.owner.kind == "trait"
         is_own, is_whole = item.file.is_relative_to(self.site.top), item.kind in ("mod", "file")
         named = (f"::{item.name})" if item.kind in OF_FILES else
                  f"`{item.name}` of `{item.module.name}`") in self.documents[0]
-        return (is_own, is_test(item), not named, is_whole,
+        return (is_own, of_trait, is_test(item), not named, is_whole,
                 item.module not in self.site.samples, self.order(item))

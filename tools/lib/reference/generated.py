@@ -1,31 +1,30 @@
 """What `tools/reference --write` writes from the sources: the list of public types, by which no
-derive or impl goes unseen, the page of the promise, and the tables of the READMEs of examples."""
+derive or impl goes unseen, the clauses of PROMISE, and the tables of the READMEs of examples."""
 import collections
 import difflib
-import pathlib
-import textwrap
 
-from reference.beside import is_test, proofs_of
+from reference.outside import is_test, proofs_of
 from reference.callers import EXAMPLES
 from reference.meanings import WITH_A_PAGE
 from reference.items import first_sentence
-from reference.promise import HEADLINE, page_file
+from reference.promise import HEADLINE, PAGE, page_file
 
-ANEW = "tools/reference --write writes it anew"
-LIST, PAGE = pathlib.Path(__file__).with_name("public.txt"), "PROMISE.md"
+RENEW = "tools/reference --write writes it again"
 TABLE = "functions that documents name | what they show | the proof, where it needs more than code"
 
 
 def public_types(site):
     """Each public type with its traits. One that a type has by several impls has their number."""
-    yield f"Public types with their traits: {ANEW}"
+    yield from ("# Public types", "",
+                "The traits of each, with the number of impls of one where these are several.",
+                "`tools/reference --write` writes this page.", "", "type | traits", "---|---")
     for item in site.items:
         if item.home and item.kind in WITH_A_PAGE:
-            traits = [impl.of_trait for impl in item.blocks if impl.of_trait] + item.derived()
-            count = collections.Counter(traits)
-            told = [f"{it}*{count[it]}" if count[it] > 1 else it for it in sorted(count)]
-            line = " ".join([f"{site.path(item.module)[0]}::{item.name}:", *told])
-            yield from textwrap.wrap(line, 100, subsequent_indent="    ") if told else ()
+            traits = [impl.of_trait for impl in item.blocks if impl.of_trait]
+            count = collections.Counter(traits + item.derived_traits())
+            names = [f"`{it}`" + f" ({count[it]})" * (count[it] > 1) for it in sorted(count)]
+            path = f"{site.path(item.module)[0]}::{item.name}"
+            yield from [f"`{path}` | {', '.join(names)}"] if names else ()
 
 
 def with_table(names, readme):
@@ -35,8 +34,8 @@ def with_table(names, readme):
     yield from readme.read_text("utf-8").partition(TABLE)[0].rstrip().splitlines()
     yield from ("", TABLE, "---|---|---")
     for item in names.samples.items:
-        if (item.kind == "fn" and names.path(item)[0] == folder.name and item.owner.kind == "mod" and not is_test(item)
-                and names.samples.is_told(item)):
+        if (item.kind == "fn" and names.path(item)[0] == folder.name
+                and item.owner.kind == "mod" and not is_test(item) and names.samples.is_in_documents(item)):
             name = "::".join(names.path(item)[1:])
             shows = (first_sentence(item) or first_sentence(item.module)).replace("|", r"\|")
             proofs = [f"[{it.stem}]({it.relative_to(folder)})" for it in proofs_of(names, item)]
@@ -51,7 +50,7 @@ def with_table(names, readme):
 def files(names):
     """The files, each with the lines that it has to have."""
     crates = names.site.top / "crates"
-    yield LIST, public_types(names.site)
+    yield names.site.top / "docs" / "TYPES.md", public_types(names.site)
     yield crates / HEADLINE / PAGE, page_file(names, crates / HEADLINE)
     for readme in sorted(crates.glob(f"*{EXAMPLES}/README.md")):
         yield readme, with_table(names, readme)
@@ -63,10 +62,10 @@ def write(names):
         file.write_text("".join(f"{line}\n" for line in lines), "utf-8")
 
 
-def check_written(names):
+def check_generated(names):
     """Looks for each line of the files in the sources, and for each that the sources have."""
     for file, lines in files(names):
         for it in difflib.ndiff(file.read_text("utf-8").splitlines(), [*lines]):
             if not it.startswith("?"):
                 place = file.relative_to(names.site.top)
-                yield None if it.startswith(" ") else f"{place}: {it}: {ANEW}"
+                yield None if it.startswith(" ") else f"{place}: {it}: {RENEW}"
