@@ -2,11 +2,11 @@
 
 A file of trials/limits is a module. Its first lines are its rows of docs/STUCK.md, behind the name
 of their table. `--write` puts them there, a new one at its end: moved, it stays where it is.
-A check has to print of `says` what one sees, with `..` or `: help:` for any text, of `open` and
-`library` the goals that the row begins with, of `returns` that goal; or else what a line
-`// prints: ..` has. Where `//+` and `//-` stand, what to write instead has to be proved: the module
-with the lines behind `//+`, and without those in front of `//-`. A module gets the imports that it
-lacks of what it names, but where that is the limit.
+A check has to print of `says` what one sees, with `..` for any text, of `open` and `library` the
+goals that the row begins with, of `returns` that goal; or else what a line `// prints: ..` has.
+Where `//+` and `//-` stand, what to write instead has to be proved: the module with the lines behind
+`//+`, and without those in front of `//-`. A module gets the imports that it lacks of what it names,
+but where that is the limit.
 
 All are laid out as one crate over generic_array and checked at once. The libraries are proved first
 where this checkout has no proofs of them. A check ends before any proof where a module doesn't
@@ -78,7 +78,7 @@ def parts_of(table, row):
     """The parts that a check has to print of a row."""
     cell = plain(row.split(" | ")[0])
     goals = "`returns`" if table == "returns" else GOALS.match(cell)[0] if table in GOAL else ""
-    return [f"({it})" for it in goals.split(", ") if it] or re.split(r"\.\.|: help: ", cell)
+    return [f"({it})" for it in goals.split(", ") if it] or cell.split("..")
 
 
 def read(file):
