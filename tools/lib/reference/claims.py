@@ -12,7 +12,7 @@ from reference.rows import CODE, blocks_of, documents
 DOCUMENTS = ("README.md", "docs/TRUST.md", "crates/*/README.md", "trials/**/README.md")
 TEST = re.compile(r"(?m)^ *#\[test\]\n(?: *#\[.*\n)* *fn (\w+)")
 TESTED, UNTESTED = re.compile(r"(?i)\btested\b"), re.compile(r"(?i)\b(?:not|nor)\s+tested\b")
-PART = re.compile(r"tools/check (\w+)")
+PART = re.compile(r"^tools/check (\w+).*")
 
 
 class Tests:
@@ -34,10 +34,9 @@ class Tests:
 
     def is_witness(self, code):
         """Whether code names a test, a file of trials/ or a part of `tools/check`."""
-        is_file = code.startswith("trials/") and not code.endswith(".md")
-        part = PART.match(code)
-        return (self.has(code) or is_file and (self.top / code).is_file() or bool(
-            part and (self.top / "tools" / "lib" / "check" / f"{part[1]}.py").is_file()))
+        file = PART.sub(r"tools/lib/check/\1.py", code)
+        is_test = file.startswith("trials/") and not file.endswith(".md")
+        return self.has(code) or (file != code or is_test) and (self.top / file).is_file()
 
 
 def claims_of(text):

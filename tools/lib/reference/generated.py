@@ -35,7 +35,8 @@ def with_table(names, readme):
     yield from ("", TABLE, "---|---|---")
     for item in names.samples.items:
         if (item.kind == "fn" and names.path(item)[0] == folder.name
-                and item.owner.kind == "mod" and not is_test(item) and names.samples.is_in_documents(item)):
+                and item.owner.kind == "mod" and not is_test(item)
+                and names.samples.is_in_documents(item)):
             name = "::".join(names.path(item)[1:])
             shows = (first_sentence(item) or first_sentence(item.module)).replace("|", r"\|")
             proofs = [f"[{it.stem}]({it.relative_to(folder)})" for it in proofs_of(names, item)]

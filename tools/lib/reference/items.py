@@ -22,8 +22,8 @@ LINK = re.compile(r"\[[^\]]*\]\((?:\.\./)?([^)]*)\)")
 # The crates by which a crate above the library imports a word, the highest first.
 READERS = ("generic_array", "ga_core")
 
-# A part: its kind, which is a method of `Text`, its content, its title, and the item whose names it
-# uses. The content of `docs` and `code` is a text, of `listed` names with what is said of each.
+# A part: its kind, a name, code or a method of `Text`, its content, its title, and the item whose
+# names it uses. The content of `docs` and `code` is a text, of `listed` names with texts.
 Part = collections.namedtuple("Part", "kind content title item")
 
 
@@ -285,7 +285,7 @@ class Items:
         place, shown = self.names.place(item), self.shown(item)
         if item.kind == "foreign trait":
             place = f"a trait of {item.path[0] if item.path[1:] else 'std'}"
-        return [*part("code", f"{self.names.full_name(item)}  {place}"), *shown]
+        return [*part("name", f"{self.names.full_name(item)}  {place}"), *shown]
 
     def shown(self, item):
         """What is shown of an item or a definition below its name."""

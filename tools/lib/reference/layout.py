@@ -2,8 +2,6 @@
 import re
 import textwrap
 
-from reference.sources import end_of_bracket, list_items
-
 # The widest name of a list that has its text on the same line.
 COLUMN = 26
 
@@ -33,20 +31,17 @@ def lay_out(text, width):
 
 
 def prose(text, width):
-    """The lines of docs: code and tables stay as they are, all else is wrapped."""
+    """The lines of docs: code is indented, paragraphs and items of lists are wrapped."""
     lines = []
-    for at, part in enumerate(re.split(r"(?m)^```.*$", text.strip())):
+    for number, part in enumerate(re.split(r"(?m)^```.*$", text.strip())):
         part = part.strip("\n")
         lines += [""] if lines and part else []
-        if at % 2:
+        if number % 2:
             lines += indent(lay_out(part, width - 4))
-            continue
-        # A line goes on with the next, but for an item of a list, a table and a title.
-        joined = re.sub(r"(?<=[^\n])(?<!\|)\n(?=[^\n|#-]|-\S)", " ", part)
-        for line in joined.split("\n") if part else ():
-            deeper = "  " * line.startswith("- ")
-            is_whole = line.startswith(("|", "#"))
-            lines += [line] if is_whole else wrap(line, width, deeper) or [""]
+        else:
+            for block in re.split(r"\n(?=\n|- )", part):
+                deeper = "  " * block.startswith("- ")
+                lines += [""] * block.startswith("\n") + wrap(block.strip("\n"), width, deeper)
     return lines
 
 
@@ -71,13 +66,6 @@ def one_line(head):
 
 
 def signature(head, width):
-    """A function's head on one line: where it is too long without its type parameters, and then
-    without the types of what it takes."""
+    """A function's head on one line: where it is too long without its type parameters."""
     line = re.sub(r"^pub |(?:(?<=\()|(?<=, ))mut ", "", one_line(head))
-    if len(line) > width:
-        line = re.sub(r"(fn \w+)<.*?>\(", r"\1<..>(", line, count=1)
-    if len(line) > width and "(" in line:
-        begin, end = line.index("("), end_of_bracket(line, line.index("("))
-        names = [part.partition(": ")[0] for part in list_items(line[begin + 1:end - 1])]
-        line = f"{line[:begin]}({', '.join(names)}){line[end:]}"
-    return line
+    return line if len(line) <= width else re.sub(r"(fn \w+)<.*?>\(", r"\1<..>(", line, count=1)

@@ -105,7 +105,8 @@ class Names(Paths):
         of the documents, words that crates import, what stands above the library or on no page,
         names of clauses, and items whose docs name it."""
         parts = parts_of(name)
-        items = self.items_of(name) or self.outside_items(name)
+        items = sorted(self.candidates(name), key=self.order) or sorted(
+            self.outside.named(parts), key=self.samples.rank)
         if name in self.by_end and name in self.other_names:
             first, others, rows = self.answer(self.other_names[name])
             others = [it for it in dict.fromkeys([*items, *others]) if it is not first]
@@ -131,18 +132,6 @@ class Names(Paths):
         first, *others = dict.fromkeys([*items, *words, *others]) or [None]
         return Answer(first, others, [] if is_above else rows)
 
-    def items_of(self, name):
-        """The items that a name may mean, in their order: one of typenum or of std none above the
-        library."""
-        parts, found = parts_of(name), self.candidates(name)
-        if self.other_name(parts) or parts[-1] in self.other_names.values():
-            found = [item for item in found if self.is_of_library(item)]
-        return sorted(found, key=self.order)
-
-    def outside_items(self, name):
-        """The samples, lemmas and files that a name may mean, in their order."""
-        return sorted(self.outside.named(parts_of(name)), key=self.samples.rank)
-
     def items_by_docs(self, parts):
         """The items whose docs have a name as code, as that of another crate's call."""
         return [item for item in self.paths if parts[-1] in item.docs and any(
@@ -166,8 +155,8 @@ class Names(Paths):
         return self.other_names.get("::".join(parts)) or self.other_names.get(parts[-1], "")
 
     def candidates(self, name):
-        """The items that a name may mean. A name that leads nowhere, not even to what no page has,
-        means what has its end as a name."""
+        """The items that a name may mean: one of typenum or of std none above the library. A name
+        that leads nowhere, not even to what no page has, means what has its end as a name."""
         parts = parts_of(name)
         exact = self.named(parts)
         found = exact or self.inherited_members(parts)
@@ -184,7 +173,9 @@ class Names(Paths):
         else:
             found = [item for item in found if name.startswith("&") == bool(
                 impl_of(item) and " for &" in header(impl_of(item)))] or found
-        return [item for item in found if not is_detail(item)] or found
+        found = [item for item in found if not is_detail(item)] or found
+        is_other = self.other_name(parts) or parts[-1] in self.other_names.values()
+        return [item for item in found if not is_other or self.is_of_library(item)]
 
     def inherited_members(self, parts):
         """The members of traits that a type has by an impl that doesn't write them."""

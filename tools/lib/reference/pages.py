@@ -113,37 +113,28 @@ class Pages:
         if item and item.kind in ("word", "ghost") and self.names.is_own(item):
             return self.term(text, item)
         pieces = []
-        for number, line in enumerate(text.splitlines(keepends=True)):
-            for name in filter(None, re.split(r"(//.*|'?\b[A-Za-z_]\w*\b)", line)):
-                is_type = item and isinstance(item.module, Item) and name[:1].isupper()
-                other = self.site.item_named(name, item) if is_type else None
-                is_own = item and name == item.name and number == 0
-                pieces.append((name, item if is_own else other, name in KEYWORDS))
+        for name in filter(None, re.split(r"(//.*|'?\b[A-Za-z_]\w*\b)", text)):
+            is_type = item and isinstance(item.module, Item) and name[:1].isupper()
+            other = self.site.item_named(name, item) if is_type else None
+            is_own = item and name == item.name
+            pieces.append((name, item if is_own else other, name in KEYWORDS))
         return self.pieces(pieces, item)
 
     def docs(self, text, item=None):
-        """Docs as HTML, in which names of items and definitions lead to them."""
-        owners = [self.site.full_name(item).partition("::")[0] if item else ""]
+        """Docs as HTML, in which names of items and definitions lead to them: of a member's type
+        first."""
+        owner = self.site.full_name(item).partition("::")[0] if item else ""
 
         def linked(found):
-            name = html.unescape(found[1])
-            other = self.meant(name, owners[0], owners[-1])
-            with_a_page = other and other.kind in WITH_A_PAGE
-            owners.append(re.sub(r"<.*|\W", "", name) if with_a_page else owners[-1])
+            name = re.sub(r"<.*>|[()!&]", "", html.unescape(found[1]))
+            others = [self.places.get(f"{owner}::{name}"), self.places.get(name), *(
+                it for it in self.names.named(parts_of(name)) if it.url and "::" in name)]
+            other = next(filter(None, others), None)
             if not other or other is item:
                 return found[0]
             return f'<a href="{html.escape(self.link(other.url))}">{found[0]}</a>'
         made = self.markdown.reset().convert(text)
         return Markup(re.sub(r"<code>([^<]+)</code>", linked, made))
-
-    def meant(self, name, *owners):
-        """What a name in docs means: a member of its type or of the type named last, or else an
-        item or a definition."""
-        name = re.sub(r"<.*>|[()!&]", "", name)
-        full = (*(f"{owner}::{name}" for owner in owners), name)
-        found = [self.places[it] for it in full if it in self.places]
-        found += [it for it in self.names.named(parts_of(name)) if it.url] if "::" in name else []
-        return next(iter(found), None)
 
     def shown(self, item):
         """The parts of an item on a page: without those that links replace. A member of an impl

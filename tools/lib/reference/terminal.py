@@ -24,12 +24,11 @@ def of_kit(name):
 
 
 def unknown(names, name):
-    """What is said of a name that nothing has, and of words that stand in no row."""
+    """What is printed for a name that nothing has, and for words that stand in no row."""
     rows = "no row of " + " or ".join(f"docs/{document}.md" for document in OF_MESSAGES)
-    if re.search(r"\s", name):
-        return [f"tools/reference: {rows} has these words: give fewer, or read there."]
-    return [f"tools/reference: nothing is called {name}, and {rows} has it. Near it:",
-            *indent(names.near(name))]
+    return [f"tools/reference: {rows} has these words: give fewer, or read there."] if (
+        " " in name) else [f"tools/reference: nothing is called {name}, and {rows} has it. Near it:",
+                           *indent(names.near(name))]
 
 
 def show(names, name):

@@ -21,7 +21,9 @@ class Text:
     def lines(self, parts):
         """The lines of parts."""
         for part in parts:
-            if part.kind == "code":
+            if part.kind == "name":
+                yield from (part.content, "")
+            elif part.kind == "code":
                 yield from (*lay_out(part.content, self.width), "")
             else:
                 yield from ([part.title] if part.title else ())
@@ -50,7 +52,7 @@ class Text:
 
     def signatures(self, items):
         """The heads of functions, a line each."""
-        return [signature(item.head, self.width - 4) for item in items]
+        return self.laid(signature(item.head, self.width - 4) for item in items)
 
     def caller(self, item):
         """The line that names a caller."""

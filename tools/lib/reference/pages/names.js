@@ -9,7 +9,4 @@ const NAMES = [
 {% for word in pages.words %}
 {{ [word.name, "word", word.module ~ "." ~ word.name, word.url, word|line]|tojson }},
 {% endfor %}
-{% for thing in pages.std.values() %}
-{{ [thing.name.strip("◌"), "word of std", thing.module ~ "." ~ thing.name, thing.url, thing|line]|tojson }},
-{% endfor %}
 ];

@@ -1,7 +1,7 @@
 // The search: the names that fit best stand below the field, and Enter opens the first.
 const field = document.getElementById("search");
 const list = document.getElementById("found");
-const ORDER = ["struct", "enum", "trait", "macro", "module", "function", "method", "alias", "const", "variant", "type", "word", "ghost member", "of another library", "word of std"];
+const ORDER = ["struct", "enum", "trait", "macro", "module", "function", "method", "alias", "const", "variant", "type", "word", "ghost member", "of another library"];
 
 // How well a name fits what was typed: the lower the better, or nothing.
 function fit([name, kind, full], typed) {
