@@ -70,4 +70,4 @@ def measure_program(folder, careful):
     files = folder / "files"
     files.mkdir(exist_ok=True)
     head = ["ga_rows", "instructions a byte, ours/other", "ratio", "ns a byte, ours/other", "ratio"]
-    return aligned([head, *(measure_mode(programs, mode, files) for mode in MODES)])
+    return aligned(head, [measure_mode(programs, mode, files) for mode in MODES])

@@ -25,9 +25,9 @@ class Case(collections.namedtuple("Case", "name kind group")):
         return int(self.kind.split("_")[1])
 
 
-def read_cases(path=HERE / "table.txt"):
+def read_cases(path=HERE / "TABLE.md"):
     """The cases of the committed table. A new one is a line with a name, a kind and a group."""
-    lines = path.read_text("utf-8").split("\n\n")[0].splitlines()[1:]
+    lines = path.read_text("utf-8").split("\n\n")[1].splitlines()[2:]
     return [Case(*[it.strip() for it in line.split("|")[:3]]) for line in lines]
 
 
@@ -68,15 +68,17 @@ def read_times(text):
     return times
 
 
-def aligned(lines):
-    """Lines of cells, as a text whose columns stand below each other."""
-    widths = [max(map(len, column)) for column in zip(*lines)]
+def aligned(head, lines):
+    """Lines of cells below their heads, as a table of Markdown whose columns stand below each
+    other."""
+    widths = [max(map(len, column)) for column in zip(head, *lines)]
+    lines = [head, ["-" * width for width in widths], *lines]
     joined = [" | ".join(cell.ljust(width) for cell, width in zip(line, widths)) for line in lines]
     return "".join(f"{line.rstrip()}\n" for line in joined)
 
 
 def table_of(rows):
-    return aligned([HEAD, *(row.cells() for row in rows)])
+    return aligned(HEAD, [row.cells() for row in rows])
 
 
 def summary_line(name, rows):
@@ -96,4 +98,4 @@ def summary(rows):
     lines = [summary_line(it, [row for row in rows if row.case.group == it]) for it in groups]
     beside = [row for row in rows if row.case.group not in PLAIN]
     head = ["ours/other", "cases", *words, *(f"{it}, by time" for it in words)]
-    return aligned([head, *lines, summary_line("all beside the Rust crate", beside)])
+    return aligned(head, [*lines, summary_line("all compared with the Rust crate", beside)])
