@@ -24,7 +24,6 @@ def run(tally, words):
     results = dict(RESULT.findall(text))
     edits = [f"{it.parent.parent.name}/{it.name}" for it in copy.glob("crates/*/must-fail/*.edit")]
     for name in sorted(it for it in edits if not words or it.split("/")[0] in words):
-        is_refused = results.get(name, "").startswith("refused, as it must be")
-        wrong = results.get(name, f"it isn't tried: {text[-2000:]}")
-        tally.case(name, "" if is_refused else wrong)
+        result = results.get(name, f"it isn't tried: {text[-2000:]}")
+        tally.case(name, "" if result.startswith("refused, as it must be") else result)
     tally.case("rt must-fail", status and f"status {status}: {text[-2000:]}")

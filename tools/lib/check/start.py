@@ -98,6 +98,6 @@ def run(tally, words):
     write(copies.checkout, {"CHANGELOG.md": "## 0.2.0\n", "crates/ga_views/src/later.rt": ""})
     copies.refuse("crates of another version", "there other", "first tools/start --update there")
     status, text = copies.start("--update there")
-    is_right = not status and re.search("^there: of 0.2.0, .*, before of 0.1.0, ", text)
-    tally.case("an update", "" if is_right else text)
+    is_wrong = status or not re.search("^there: of 0.2.0, .*, before of 0.1.0, ", text)
+    tally.case("an update", is_wrong and text)
     copies.compare("what is copied again, and what was there")

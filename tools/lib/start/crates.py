@@ -58,7 +58,7 @@ def version():
     command = ["git", "describe", "--always", "--dirty", "--exclude=*"]
     commit = subprocess.run(command, cwd=TOP, capture_output=True, text=True).stdout.strip()
     number = re.search(r"(?m)^## ([^\s,]+)", (TOP / "CHANGELOG.md").read_text("utf-8"))[1]
-    return number, commit or "unknown"
+    return {"version": number, "commit": commit or "unknown"}
 
 
 def is_proved(top, name):
@@ -82,9 +82,8 @@ def copy_crates(folder, names, lines):
     lines = {it: OURS[it] for it in names} | lines
     rows = [lines.pop(name_in(it), it) for it in rows_of(folder)]
     (folder / LIST).write_text("".join(f"{it}\n" for it in [*rows, *lines.values()]), "utf-8")
-    number, commit = version()
-    record = {"about": "what tools/start copied here from generic_array", "version": number,
-              "commit": commit, "crates": sorted({*names} | read_record(folder)[1])}
+    record = {"about": "what tools/start copied here from generic_array",
+              **version(), "crates": sorted({*names} | read_record(folder)[1])}
     (folder / RECORD).write_text(json.dumps(record, indent=1) + "\n", "utf-8")
     lacking = [it for it in names if not is_proved(folder, it)]
     if not lacking:

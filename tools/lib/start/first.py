@@ -36,7 +36,7 @@ def start(folder, name, on, names):
     for it in [name, *new]:
         if it in there or (folder / "crates" / it).exists():
             raise Unfit(f"{folder}/crates/{it} is there already")
-    if copied and before != ", commit ".join(version()):
+    if copied and before != ", commit ".join(version().values()):
         raise Unfit(f"{folder} has crates of {before}: first tools/start --update {folder}")
     check_name(name)
     libraries = dict.fromkeys(word for it in on for word in ON[it].split())
