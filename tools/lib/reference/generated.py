@@ -3,10 +3,10 @@ derive or impl goes unseen, the clauses of PROMISE, and the tables of the README
 import collections
 import difflib
 
-from reference.outside import is_test, proofs_of
 from reference.callers import EXAMPLES
-from reference.meanings import WITH_A_PAGE
 from reference.items import first_sentence
+from reference.meanings import WITH_A_PAGE
+from reference.outside import is_test, proofs_of
 from reference.promise import HEADLINE, PAGE, page_file
 
 RENEW = "tools/reference --write writes it again"

@@ -90,7 +90,7 @@ class Items:
         return [*(self.head(impl) if impl else ()), *self.head(item), *docs(texts[0]),
                 *part("written", clauses, item=said), *self.conditions(item),
                 *part("laid", [ghost.head for ghost in ghosts], "Here"), *self.words(cited),
-                *self.imports(cited), *self.caller(item)]
+                *self.imports(cited), *part("caller", self.names.callers.of(item))]
 
     def conditions(self, item):
         """What the conditions of a trait's call are at each kind: the heads of impls, and below
@@ -151,10 +151,6 @@ class Items:
                              *(f"A crate over `{name}` alone: from `Rattle.{name}.specs`."
                                for name in lower)], "Imports")
 
-    def caller(self, item):
-        """A caller of an item, in the examples."""
-        return part("caller", self.names.callers.of(item))
-
     def macro(self, item):
         """A macro: its docs, and what is known of the calls that its forms become."""
         made = dict.fromkeys(item.made)
@@ -164,7 +160,8 @@ class Items:
             passed = ", ".join(declarations(call.head)[1])
             title = f"Known, by {self.site.full_name(call)}({passed})"
             lines += part("written", call.clauses, title, call)
-        return [*lines, *self.words(calls), *self.imports(calls), *self.caller(item)]
+        return [*lines, *self.words(calls), *self.imports(calls),
+                *part("caller", self.names.callers.of(item))]
 
     def type(self, item):
         """A type: its functions, and the traits that it has."""
@@ -282,10 +279,10 @@ class Items:
 
     def item(self, item):
         """All that is shown of an item or a definition."""
-        place, shown = self.names.place(item), self.shown(item)
+        place = self.names.place(item)
         if item.kind == "foreign trait":
             place = f"a trait of {item.path[0] if item.path[1:] else 'std'}"
-        return [*part("name", f"{self.names.full_name(item)}  {place}"), *shown]
+        return [*part("name", f"{self.names.full_name(item)}  {place}"), *self.shown(item)]
 
     def shown(self, item):
         """What is shown of an item or a definition below its name."""

@@ -2,9 +2,6 @@
 import re
 import textwrap
 
-# The widest name of a list that has its text on the same line.
-COLUMN = 26
-
 
 def indent(lines):
     """Lines that begin deeper, but for empty ones."""
@@ -47,7 +44,7 @@ def prose(text, width):
 
 def columns(pairs, width):
     """The lines of a list of names and their texts: on the same line, or below a long name."""
-    widest = max((len(name) for name, _ in pairs if len(name) <= COLUMN), default=2)
+    widest = max((len(name) for name, _ in pairs if len(name) <= 26), default=2)
     for name, said in pairs:
         lines = wrap(said, width - widest - 2)
         if len(name) > widest or not lines:

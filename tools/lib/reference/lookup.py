@@ -162,9 +162,6 @@ class Names(Paths):
         found = exact or self.inherited_members(parts)
         if not found and len(parts) > 1 and not self.outside.named(parts):
             found = self.named(parts[-1:])
-        # Of our traits for types of others only where nothing else has the name.
-        found = [item for item in found
-                 if not (impl_of(item) and impl_of(item).of.kind == "trait")] or found
         if len(parts) == 1 or not exact:
             # A member of an impl that only does what its trait says says nothing new.
             best = min(found, key=self.order, default=None)

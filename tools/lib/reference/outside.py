@@ -106,8 +106,7 @@ def lemmas_of(site, file):
     for found in RULESET.finditer(text):
         line = text.count("\n", 0, found.start("head")) + 1
         notes = " ".join(re.findall("-- (.*)", found["notes"]))
-        yield Item("lemma", found["name"], found["head"], file, line, notes=notes, lists=[],
-                   **place)
+        yield Item("lemma", found["name"], found["head"], file, line, "", notes, lists=[], **place)
 
 
 def items_of_files(site):

@@ -27,7 +27,7 @@ KEYWORDS = set("pub const fn struct enum trait type impl for where mut dyn final
 DOCUMENTS = {"promise.html": ("What is promised", "crates/ga_headline/PROMISE.md"),
              "rust.html": ("The Rust crate's names", "docs/DIFFERENCES.md"),
              "clauses.html": ("Words in clauses", "docs/DEFINITIONS.md")}
-# What a module's page shows whole, what a trait's does, and what a type's; and the other files.
+# What a module's page shows whole, what a trait's does, and what a type's.
 WHOLE = {"Aliases": ["type"], "Functions": ["fn"], "Macros": ["macro"],
          "Constants": ["const", "static"], "From other libraries": ["foreign"]}
 OF_TRAIT = {"Ghost members": ["ghost"], "Types and constants": ["type", "const"],
@@ -35,7 +35,6 @@ OF_TRAIT = {"Ghost members": ["ghost"], "Types and constants": ["type", "const"]
 OF_TYPE = {"Fields and variants": ["field", "variant", "ghost"]}
 # What of an item's parts a page has as links, and as what stands below.
 OF_LINKS = ("Words", "Ghost members")
-FILES = ("index.html", "names.js", "search.js", "style.css")
 # Some items of a page, below a title or an impl's head.
 Group = collections.namedtuple("Group", "title impl items")
 
@@ -177,7 +176,7 @@ class Pages:
             self.page(url, title, part("docs", re.sub(r"\[([^\]]*)\]\([^)]*\)", r"\1", text)))
         std = sorted(self.std.values(), key=lambda word: word.name.strip("◌"))
         self.page("words/std.html", "Words of std", [], [Group("", None, std)])
-        for name in FILES:
+        for name in ("index.html", "names.js", "search.js", "style.css"):
             self.render(name, name)
         return list(self.lost_links())
 

@@ -24,8 +24,6 @@ FORMAT = re.compile(r"\{\w*(?::[^{}]*?)?([xX?]?)\}")
 DIFFERS = re.compile(r"^(?:(?:note|error(?:\[[\w-]+\])?|\S+:\d+:\d+): *)+|`[^`]*`|\w+(?=-requires)")
 OF_LOOP = re.compile(r"(?<=loop-)\w+(?=-preserved)")
 WORD = re.compile(r"[^\W_]\w*")
-# A message that has fewer signs without its names isn't looked for in a text.
-SHORTEST = 15
 
 
 class Row:
@@ -158,7 +156,7 @@ def rows_with(rows, text):
         if found:
             return found
     pieces = {row: [plain(it) for it in re.split(r"\.\.|`[^`]*`", row.theirs)] for row in rows}
-    return [row for row in rows if len("".join(pieces[row])) > SHORTEST and all(
+    return [row for row in rows if len("".join(pieces[row])) > 15 and all(
         piece.strip(" .,:;") in plain(text) for piece in pieces[row])]
 
 

@@ -28,7 +28,6 @@ field.addEventListener("input", () => {
     link.href = TOP + encodeURI(url);
     return made("li", link);
   }));
-  if (typed && !found.length) list.append(made("li", "No name has this in it."));
   list.hidden = !typed;
 });
 field.form.addEventListener("submit", event => {
