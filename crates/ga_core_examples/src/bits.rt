@@ -1,5 +1,5 @@
-//! Bits: packed beside each other, tested by a mask, and unpacked. The set `bits` stands at the head
-//! of the module.
+//! Bits: packed beside each other, tested by a mask, and unpacked. The set `bits` stands at the
+//! head of the module.
 #![tactic(auto, using(ga_core::proofs::BitLemmas::bits))]
 
 ghost use Rattle.ga_core_examples.specs.Digits.{number_of};
@@ -41,7 +41,8 @@ fn has_bit(number: u32, place: u32) -> bool
     number & (1 << place) != 0
 }
 
-/// Base32: five bytes and eight groups of five bits are one number, whose highest digit comes first.
+/// Base32: five bytes and eight groups of five bits are one number, whose highest digit comes
+/// first.
 fn groups_of(bytes: GenericArray<u8, U5>) -> GenericArray<u8, U8>
     ensures number { number_of 32 result ≡ number_of 256 bytes }
     ensures each { All (λ group. group < 32) result }
