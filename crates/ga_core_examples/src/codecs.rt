@@ -1,6 +1,6 @@
-//! Bytes read and written as numbers and text, of any length, each with its exact result. What reads
-//! or writes single bytes takes the slice of an array first: over the array itself the exact clauses of
-//! `be16_at` and `mask_loop` stay open.
+//! Bytes read and written as numbers and text, of any length, each with its exact result. What
+//! reads or writes single bytes takes the slice of an array first: over the array itself the exact
+//! clauses of `be16_at` and `mask_loop` stay open.
 ghost use Rattle.std.specs.Int.Bits.{bit_xor};
 ghost use Rattle.std.specs.Int.{from_be_bytes, w16};
 ghost use Rattle.std.specs.Prelude.{◌≡◌, ◌+◌, ◌-◌, ◌<◌, ◌≤◌, ◌++◌, ◌∷◌, All, drop, if◌then◌else◌, length, map, nat_lt, replicate, take};

@@ -58,8 +58,8 @@ impl<T: Default + Drop, N: ArrayLength<T>> FixedList<T, N> {
     }
 }
 
-/// Moves the first item behind the others. The clause `bound` of `pop_front` shows that there is room
-/// for it.
+/// Moves the first item behind the others. The clause `bound` of `pop_front` shows that there is
+/// room for it.
 fn rotate<T: Default + Drop, N: ArrayLength<T>>(list: &mut FixedList<T, N>)
     ensures { list.new ≡ drop 1 list.old ++ take 1 list.old }
 {

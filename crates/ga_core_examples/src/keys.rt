@@ -1,5 +1,5 @@
-//! Keys of any length: their equality, their order, a vector of them sorted without repeats, and the
-//! one that is closest to another.
+//! Keys of any length: their equality, their order, a vector of them sorted without repeats, and
+//! the one that is closest to another.
 ghost use Rattle.ga_core_examples.specs.Distances.{distance, is_closer};
 ghost use Rattle.std.specs.Cmp.Lexicographic.{slice_cmp};
 ghost use Rattle.std.specs.List.{IsFirstBest};

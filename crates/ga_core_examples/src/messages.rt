@@ -1,5 +1,5 @@
-//! A message as bytes and back. The lemma that a key and a number come back stands at the head of the
-//! module.
+//! A message as bytes and back. The lemma that a key and a number come back stands at the head of
+//! the module.
 #![tactic(auto, using(crate::proofs::MessageLemmas::put_back))]
 
 ghost use Rattle.ga_core_examples.specs.Messages.{bytes_of, message_in};

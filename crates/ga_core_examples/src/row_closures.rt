@@ -36,8 +36,8 @@ where
     )
 }
 
-/// The numbers whose row is their column, from the first row to the last. A slice of rows is captured,
-/// and indexed twice.
+/// The numbers whose row is their column, from the first row to the last. A slice of rows is
+/// captured, and indexed twice.
 fn diagonal<C: ArrayLength<u64> + InlineLength, const R: usize>(
     matrix: &Matrix<C, R>,
 ) -> GenericArray<u64, C>
@@ -53,8 +53,8 @@ fn diagonal<C: ArrayLength<u64> + InlineLength, const R: usize>(
     )
 }
 
-/// The columns as rows. `M` is the number of rows as a length, and `L` that of columns as a number. A
-/// matrix is captured, and the closure returns rows of another type.
+/// The columns as rows. `M` is the number of rows as a length, and `L` that of columns as a number.
+/// A matrix is captured, and the closure returns rows of another type.
 fn transpose<C, M, const R: usize, const L: usize>(matrix: &Matrix<C, R>) -> Matrix<M, L>
 where
     C: ArrayLength<u64> + InlineLength,

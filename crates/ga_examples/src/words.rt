@@ -1,5 +1,5 @@
-//! Words of 16 bits as bytes and back, in both orders of bytes. The set `words` stands at the head of
-//! the module, and has the lemmas of 32 and 64 bits too.
+//! Words of 16 bits as bytes and back, in both orders of bytes. The set `words` stands at the head
+//! of the module, and has the lemmas of 32 and 64 bits too.
 #![tactic(auto, using(generic_array::proofs::WordLemmas::words))]
 
 ghost use Rattle.generic_array.specs.Rows.{rows};

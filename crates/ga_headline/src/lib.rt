@@ -12,8 +12,7 @@
 //! - every run of two-ended iterator calls gives what a list cut from both ends gives: `steps`;
 //! - and one call that maps and walks, or builds before, means these one after the other: `whole`.
 //!
-//! Each function's contract is a part of this. `ga_examples` calls each with exact results, but for the
-//! laws of `joined_runs`, which nothing calls.
+//! Each function's contract is a part of this. `ga_examples` calls all but those of `joined_runs`.
 #![tactic(auto)]
 
 /// A build of good items succeeds exactly where they are N.

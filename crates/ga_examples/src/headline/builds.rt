@@ -7,8 +7,8 @@ use generic_array::{AllocError, BoxedArray, FillError, Never, U2, Unsigned};
 use std::alloc::Global;
 use std::test::Fail;
 
-/// Builds a block of all items, of any number. They are as many as it has places, so only memory can
-/// be short.
+/// Builds a block of all items, of any number. They are as many as it has places, so only memory
+/// can be short.
 fn boxed_of_all<N: Unsigned>(
     alloc: Global,
     items: Vec<u32>,

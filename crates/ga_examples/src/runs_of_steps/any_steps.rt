@@ -6,7 +6,8 @@ use super::count_of;
 use generic_array::AllocError;
 use generic_array::steps::{Reply, Step, TwoEnded, run_steps};
 
-/// Runs any steps without a Set: the items taken at both ends, joined with those left, are all items.
+/// Runs any steps without a Set: the items taken at both ends, joined with those left, are all
+/// items.
 fn run_without_set<T: Drop, I: TwoEnded<T>>(
     items: &mut I,
     steps: Vec<Step<T>>,

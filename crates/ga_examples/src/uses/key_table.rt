@@ -1,5 +1,5 @@
-//! Keys of a table: taken out and listed; and the same keys in std's maps, since arrays have an order
-//! and a hash.
+//! Keys of a table: taken out and listed; and the same keys in std's maps, since arrays have an
+//! order and a hash.
 ghost use Rattle.ga_uses.specs.KeyTable.{entries_from_to, value_at, with_entry};
 ghost use Rattle.std.specs.Cmp.Lexicographic.{pointwise};
 ghost use Rattle.std.specs.HashMap as hash;

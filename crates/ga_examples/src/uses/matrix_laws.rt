@@ -1,5 +1,5 @@
-//! The laws of matrices, called at any size. The type of each matrix that is passed on stands in the
-//! signature.
+//! The laws of matrices, called at any size. The type of each matrix that is passed on stands in
+//! the signature.
 ghost use Rattle.std.specs.Prelude.{◌≡◌, ◌∷◌, [], slice_index_or};
 
 use ga_uses::matrix::{Matrix, identity, permuted, product, transposed};
