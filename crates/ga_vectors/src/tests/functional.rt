@@ -141,17 +141,12 @@ fn a_map_of_joined_arrays_goes_on_where_the_first_ends(rt: HostRuntime) {
     assert!(rt; running_sums(two(1, 2), two(3, 4)) == (two(1, 3), two(6, 10)));
 }
 
-/// The right number less the left one.
-fn less_on_the_left(left: u32, right: u32) -> u32 {
-    right.wrapping_sub(left)
-}
-
 /// The boxed items less the inline ones: by a zip of an inline array with a boxed one.
 fn less_of_inline<N: ArrayLength<u32> + InlineLength>(
     inline: Inline<N>,
     boxed: Boxed<N>,
 ) -> Inline<N> {
-    always(inline.zip((), boxed, less_on_the_left))
+    always(inline.zip((), boxed, |left: u32, right: u32| right.wrapping_sub(left)))
 }
 
 /// The same by a zip of the boxed array with the inline one.

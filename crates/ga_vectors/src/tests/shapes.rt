@@ -14,8 +14,7 @@ fn a_split_at_the_front_gives_nothing_and_all(rt: HostRuntime) {
     assert!(rt; none.as_slice().is_empty() && all.as_slice() == [1, 2, 3].as_slice());
 }
 
-// 9 at the first place of the first half, and 8 at the third of the second.
-
+/// Writes 9 at the first place of the first half, and 8 at the third of the second.
 fn write_through_halves(slice: &mut [u32])
     requires { length slice.old ≡ 5 }
 {
