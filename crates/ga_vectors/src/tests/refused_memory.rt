@@ -23,9 +23,6 @@ struct Case {
     counts: Counts,
 }
 
-/// What a call comes to, or `AllocError` where there was no memory for its arguments.
-type Ends<S> = Result<S, AllocError>;
-
 /// Whether each of so many calls comes to `exact`, or to `refused` where it gets no memory. For
 /// calls that need none, both are the same.
 ///
@@ -35,7 +32,7 @@ fn are_right<R, S, F>(rt: &R, calls: u32, exact: S, refused: S, run: F) -> bool
 where
     R: AllocGlobal + Print,
     S: PartialEq + Copy,
-    F: Fn(&Case) -> Ends<S>,
+    F: Fn(&Case) -> Result<S, AllocError>,
     requires { F.IsAlwaysCallable run }
 {
     let mut refusals = 0u32;
@@ -59,10 +56,6 @@ where
 
 const NONE: Seen = (Some(0), 0, 0);
 
-fn refused(drops: usize) -> Seen {
-    (None, 0, drops)
-}
-
 /// Checks so many calls at three items, and at none, which need no memory.
 macro_rules! check {
     ($rt:ident, $count:literal $calls:ident, $exact:expr, $refused:expr, $none:expr) => {
@@ -73,7 +66,7 @@ macro_rules! check {
     };
 }
 
-fn squares<N: Unsigned>(case: &Case, all: &[usize]) -> Ends<(bool, usize)> {
+fn squares<N: Unsigned>(case: &Case, all: &[usize]) -> Result<(bool, usize), AllocError> {
     let mut square = |index: usize| case.counts.same(index.wrapping_mul(index));
     let made = BoxedArray::<usize, N>::generate_by(case.alloc, &mut square);
     Ok((gives(made, all), case.counts.calls.get()))
@@ -88,7 +81,7 @@ fn a_block_of_squares_is_refused_before_any_call_and_one_of_none_never(rt: HostR
 }
 
 /// Builds by a closure.
-fn builds<'a, T: Item<'a>, N: ArrayLength<T>>(case: &'a Case) -> Ends<Seen> {
+fn builds<'a, T: Item<'a>, N: ArrayLength<T>>(case: &'a Case) -> Result<Seen, AllocError> {
     let (alloc, counts) = (case.alloc, &case.counts);
     let mut make = |index: usize| -> T { counts.same(T::at(counts, index)) };
     let try_make = |index: usize| -> Result<T, u32> { counts.try_make(index) };
@@ -102,7 +95,7 @@ fn builds<'a, T: Item<'a>, N: ArrayLength<T>>(case: &'a Case) -> Ends<Seen> {
     })
 }
 
-fn maps<'a, T: Item<'a>, N: ArrayLength<T>>(case: &'a Case) -> Ends<Seen> {
+fn maps<'a, T: Item<'a>, N: ArrayLength<T>>(case: &'a Case) -> Result<Seen, AllocError> {
     let (alloc, counts) = (case.alloc, &case.counts);
     let items = boxed_items::<T, N>(alloc, counts)?;
     let mut same = |item: T| -> T { counts.hand_on(item) };
@@ -115,8 +108,8 @@ fn maps<'a, T: Item<'a>, N: ArrayLength<T>>(case: &'a Case) -> Ends<Seen> {
 
 #[test]
 fn builds_of_blocks_are_refused_before_any_call_or_item(rt: HostRuntime) {
-    check!(rt, 4 builds, (Some(123), 3, 0), refused(0), NONE);
-    check!(rt, 2 maps, (Some(123), 3, 0), refused(3), NONE);
+    check!(rt, 4 builds, (Some(123), 3, 0), (None, 0, 0), NONE);
+    check!(rt, 2 maps, (Some(123), 3, 0), (None, 0, 3), NONE);
     let fill = |case: &Case| {
         Ok(boxed_fill::<U3>(case.alloc, Scripted::new(&[Some(1), Some(2), Some(3)])))
     };
@@ -137,7 +130,7 @@ fn fallible_fills_are_refused_before_any_item(rt: HostRuntime) {
 }
 
 /// Copies of 1, which is dropped where they are refused.
-fn copies<'a, T: Item<'a>, N: ArrayLength<T>>(case: &'a Case) -> Ends<Seen> {
+fn copies<'a, T: Item<'a>, N: ArrayLength<T>>(case: &'a Case) -> Result<Seen, AllocError> {
     let (alloc, counts) = (case.alloc, &case.counts);
     let item: T = T::at(counts, 0);
     Ok(match case.call {
@@ -147,7 +140,7 @@ fn copies<'a, T: Item<'a>, N: ArrayLength<T>>(case: &'a Case) -> Ends<Seen> {
 }
 
 /// Zeros, and defaults, whose number is 0.
-fn zeros<'a, T: Item<'a>, N: ArrayLength<T>>(case: &'a Case) -> Ends<Seen> {
+fn zeros<'a, T: Item<'a>, N: ArrayLength<T>>(case: &'a Case) -> Result<Seen, AllocError> {
     Ok(match case.call {
         0 => case
             .counts
@@ -160,13 +153,13 @@ fn zeros<'a, T: Item<'a>, N: ArrayLength<T>>(case: &'a Case) -> Ends<Seen> {
 
 #[test]
 fn defaults_and_copies_report_refused_memory(rt: HostRuntime) {
-    check!(rt, 2 zeros, (Some(0), 0, 0), refused(0), NONE);
-    check!(rt, 2 copies, (Some(111), 2, 0), refused(1), (Some(0), 0, 1));
+    check!(rt, 2 zeros, (Some(0), 0, 0), (None, 0, 0), NONE);
+    check!(rt, 2 copies, (Some(111), 2, 0), (None, 0, 1), (Some(0), 0, 1));
     let block = |case: &Case| Ok(LiveBlock::<u32>::new(case.alloc, 3).is_ok());
     assert!(rt; are_right(&rt, 1, true, false, block));
 }
 
-fn vectors<'a, T: Item<'a>, N: ArrayLength<T>>(case: &'a Case) -> Ends<Seen>
+fn vectors<'a, T: Item<'a>, N: ArrayLength<T>>(case: &'a Case) -> Result<Seen, AllocError>
     requires { FitsInline N.USIZE }
 {
     Ok(
@@ -177,11 +170,11 @@ fn vectors<'a, T: Item<'a>, N: ArrayLength<T>>(case: &'a Case) -> Ends<Seen>
 
 #[test]
 fn three_items_that_find_no_vector_are_dropped_and_none_always_find_one(rt: HostRuntime) {
-    check!(rt, 1 vectors, (Some(123), 0, 0), refused(3), NONE);
+    check!(rt, 1 vectors, (Some(123), 0, 0), (None, 0, 3), NONE);
 }
 
 /// The other conversions.
-fn moves<'a, T: Item<'a>, N: ArrayLength<T>>(case: &'a Case) -> Ends<Seen>
+fn moves<'a, T: Item<'a>, N: ArrayLength<T>>(case: &'a Case) -> Result<Seen, AllocError>
     requires { FitsInline N.USIZE }
 {
     let (alloc, counts) = (case.alloc, &case.counts);
@@ -204,7 +197,7 @@ fn moves<'a, T: Item<'a>, N: ArrayLength<T>>(case: &'a Case) -> Ends<Seen>
 
 #[test]
 fn conversions_drop_their_items_where_memory_is_refused(rt: HostRuntime) {
-    check!(rt, 6 moves, (Some(123), 0, 0), refused(3), NONE);
+    check!(rt, 6 moves, (Some(123), 0, 0), (None, 0, 3), NONE);
 }
 
 fn add<T: Numbered + Drop>(digits: u32, item: T) -> u32 {
@@ -212,7 +205,7 @@ fn add<T: Numbered + Drop>(digits: u32, item: T) -> u32 {
 }
 
 /// Zips to their left item, and the fold of a map to the digits of its items.
-fn zips<'a, T: Item<'a>, N: ArrayLength<T>>(case: &'a Case) -> Ends<Seen> {
+fn zips<'a, T: Item<'a>, N: ArrayLength<T>>(case: &'a Case) -> Result<Seen, AllocError> {
     let (alloc, counts) = (case.alloc, &case.counts);
     let left = boxed_items::<T, N>(alloc, counts)?;
     let right = boxed_items::<T, N>(alloc, counts)?;
@@ -223,7 +216,7 @@ fn zips<'a, T: Item<'a>, N: ArrayLength<T>>(case: &'a Case) -> Ends<Seen> {
     })
 }
 
-fn folds<'a, T: Item<'a>, N: ArrayLength<T>>(case: &'a Case) -> Ends<Seen> {
+fn folds<'a, T: Item<'a>, N: ArrayLength<T>>(case: &'a Case) -> Result<Seen, AllocError> {
     let (alloc, counts) = (case.alloc, &case.counts);
     let items = boxed_items::<T, N>(alloc, counts)?;
     let mut same = |item: T| -> T { counts.hand_on(item) };
@@ -233,11 +226,11 @@ fn folds<'a, T: Item<'a>, N: ArrayLength<T>>(case: &'a Case) -> Ends<Seen> {
 
 #[test]
 fn zips_and_folds_drop_their_items_where_memory_is_refused(rt: HostRuntime) {
-    check!(rt, 2 zips, (Some(123), 3, 3), refused(6), NONE);
-    check!(rt, 1 folds, (Some(123), 3, 3), refused(3), NONE);
+    check!(rt, 2 zips, (Some(123), 3, 3), (None, 0, 6), NONE);
+    check!(rt, 1 folds, (Some(123), 3, 3), (None, 0, 3), NONE);
 }
 
-fn clones<'a, T: Item<'a>, N: ArrayLength<T>>(case: &'a Case) -> Ends<Cloned> {
+fn clones<'a, T: Item<'a>, N: ArrayLength<T>>(case: &'a Case) -> Result<Cloned, AllocError> {
     cloned_block::<T, N>(case.alloc, &case.counts)
 }
 
@@ -293,8 +286,8 @@ fn a_refused_run_of_steps_leaves_all_as_it_was(rt: HostRuntime) {
 fn a_run_of_no_steps_is_never_refused(rt: HostRuntime) {
     let unchanged = (false, 0, 0, Some(1));
     let mut inline = from_one::<U2>().into_iter();
-    let mut replies = Vec::new(rt.alloc());
-    assert!(rt; run_of(&mut inline, Vec::new(rt.alloc()), &mut replies) == unchanged);
+    let run = run_of(&mut inline, Vec::new(rt.alloc()), &mut Vec::new(rt.alloc()));
+    assert!(rt; run == unchanged);
     let boxed = |case: &Case| {
         let mut items = boxed_from_one::<U2>(case.alloc)?.into_iter();
         Ok(run_of(&mut items, Vec::new(case.alloc), &mut Vec::new(case.alloc)))
