@@ -1,5 +1,4 @@
-//! Tests over the public names of `generic_array` alone: of what it exports, of the examples of the
-//! Rust crate's documentation, and of calls of several crates together.
+//! Tests of named cases, over the public names of `generic_array` and `ga_records` alone.
 #![tactic(auto)]
 
 #[cfg(test)]

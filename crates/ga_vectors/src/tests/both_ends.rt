@@ -1,5 +1,5 @@
-//! Items taken from both ends of an iterator by value: who takes one drops it, and the iterator drops
-//! the others.
+//! Items taken from both ends of an iterator by value: who takes one drops it, and the iterator
+//! drops the others.
 ghost use Rattle.generic_array.specs.Length.{FitsInline};
 
 use crate::tests::counted::{Counted, Counts, Item, boxed_items, inline_items};
@@ -41,14 +41,12 @@ fn drops_of<'a, T: Item<'a>, N: ArrayLength<T>>(
 
 #[test]
 fn four_items_are_dropped_once_however_many_are_taken(rt: HostRuntime) -> Result<(), Fail> {
-    let (counts, mut cases) = (Counts::default(), 0u32);
+    let counts = Counts::default();
     for front in 0..5usize {
         for back in 0..5 - front {
             let drops = drops_of::<Counted, U4>(rt.alloc(), &counts, front, back)?;
             assert!(rt; drops == [(front + back, 4); 2], "{front} and {back}");
-            cases = cases.wrapping_add(1);
         }
     }
-    assert!(rt; cases == 15);
     Ok(())
 }

@@ -5,11 +5,6 @@ use std::test::Fail;
 
 type Twelve = (u8, u8, u8, u8, u8, u8, u8, u8, u8, u8, u8, u8);
 
-/// The tuple of the items.
-fn twelve(array: GenericArray<u8, U12>) -> Twelve {
-    array.into()
-}
-
 #[test]
 fn tuples_become_arrays_and_come_back(rt: HostRuntime) {
     let pair: GenericArray<u8, U2> = (7, 8).into();
@@ -27,7 +22,8 @@ fn twelve_items_are_a_tuple(rt: HostRuntime) {
     let numbers = [1, 2, 3, 4, 5, 6, 7, 8, 9, 10, 11, 12];
     let array: GenericArray<u8, U12> = (1, 2, 3, 4, 5, 6, 7, 8, 9, 10, 11, 12).into();
     assert!(rt; array.as_slice() == numbers.as_slice());
-    let again: GenericArray<u8, U12> = twelve(array).into();
+    let again: Twelve = array.into();
+    let again: GenericArray<u8, U12> = again.into();
     assert!(rt; has(again, &numbers));
 }
 

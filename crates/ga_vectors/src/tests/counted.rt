@@ -21,7 +21,7 @@ pub struct Counts {
 pub type Seen = (Option<u32>, usize, usize);
 
 impl Counts {
-    /// Counts from 0 again. The clone or call of this number fails, from 1.
+    /// Counts from 0 again. The clone or call of this number fails, counted from 1.
     pub fn fail_at(&self, number: usize) {
         self.drops.set(0);
         self.calls.set(0);
@@ -58,6 +58,11 @@ impl Counts {
     pub fn same<T>(&self, item: T) -> T {
         count(&self.calls);
         item
+    }
+
+    /// The same of a counted item. The checker needs the lifetime of the counts.
+    pub fn hand_on<'a, T: Item<'a>>(&'a self, item: T) -> T {
+        self.same(item)
     }
 }
 

@@ -5,7 +5,7 @@ use generic_array::checks::map_total_by;
 use generic_array::functional::{FunctionalSequence, inverted_zip, inverted_zip2};
 use generic_array::sequence::Concat;
 use generic_array::{
-    AllocError, ArrayLength, BoxedArray, GenericArray, GenericArrayRef, InlineLength, U2, U3, U4,
+    AllocError, ArrayLength, BoxedArray, GenericArray, GenericArrayRef, InlineLength, U3, U4,
     Unsigned, always, arr,
 };
 use std::alloc::Global;
@@ -136,14 +136,9 @@ fn running_sums<N: ArrayLength<u32> + InlineLength>(
 
 #[test]
 fn a_map_of_joined_arrays_goes_on_where_the_first_ends(rt: HostRuntime) {
-    let joined: GenericArray<u32, U4> = two(1, 2).concat(two(3, 4));
+    let joined: GenericArray<u32, U4> = arr![1u32, 2].concat(arr![3u32, 4]);
     assert!(rt; running_sums(joined, GenericArray::default()).0 == arr![1, 3, 6, 10]);
-    assert!(rt; running_sums(two(1, 2), two(3, 4)) == (two(1, 3), two(6, 10)));
-}
-
-/// The right number less the left one.
-fn less_on_the_left(left: u32, right: u32) -> u32 {
-    right.wrapping_sub(left)
+    assert!(rt; running_sums(arr![1u32, 2], arr![3u32, 4]) == (arr![1u32, 3], arr![6u32, 10]));
 }
 
 /// The boxed items less the inline ones: by a zip of an inline array with a boxed one.
@@ -151,7 +146,7 @@ fn less_of_inline<N: ArrayLength<u32> + InlineLength>(
     inline: Inline<N>,
     boxed: Boxed<N>,
 ) -> Inline<N> {
-    always(inline.zip((), boxed, less_on_the_left))
+    always(inline.zip((), boxed, |left: u32, right: u32| right.wrapping_sub(left)))
 }
 
 /// The same by a zip of the boxed array with the inline one.
@@ -166,16 +161,11 @@ fn less_of_boxed<N: ArrayLength<u32> + InlineLength>(
 #[test]
 fn a_zip_of_two_kinds_is_of_the_first(rt: HostRuntime) -> Result<(), Fail> {
     let boxed = BoxedArray::from_array(rt.alloc(), [3, 5])?;
-    assert!(rt; less_of_inline(two(1, 2), boxed) == two(2, 3));
+    assert!(rt; less_of_inline(arr![1u32, 2], boxed) == arr![2u32, 3]);
     let boxed = BoxedArray::from_array(rt.alloc(), [3, 5])?;
-    let less = less_of_boxed(rt.alloc(), boxed, two(1, 2))?;
+    let less = less_of_boxed(rt.alloc(), boxed, arr![1u32, 2])?;
     assert!(rt; less.as_slice() == [2, 3].as_slice());
     Ok(())
-}
-
-/// The array of these two items.
-fn two(first: u32, second: u32) -> GenericArray<u32, U2> {
-    GenericArray::from_array([first, second])
 }
 
 /// `inverted_zip` of inline arrays.
@@ -202,10 +192,10 @@ fn inverted_boxed<N: ArrayLength<u32> + InlineLength>(
 
 #[test]
 fn inverted_zips_take_the_left_side_second(rt: HostRuntime) -> Result<(), Fail> {
-    assert!(rt; inverted(two(1, 2), two(10, 20)) == two(9, 18));
-    assert!(rt; inverted_second(two(1, 2), two(10, 20)) == two(9, 18));
+    assert!(rt; inverted(arr![1u32, 2], arr![10u32, 20]) == arr![9u32, 18]);
+    assert!(rt; inverted_second(arr![1u32, 2], arr![10u32, 20]) == arr![9u32, 18]);
     let left = BoxedArray::from_array(rt.alloc(), [10, 20])?;
-    let boxed = inverted_boxed(rt.alloc(), two(1, 2), left)?;
+    let boxed = inverted_boxed(rt.alloc(), arr![1u32, 2], left)?;
     assert!(rt; boxed.as_slice() == [9, 18].as_slice());
     Ok(())
 }

@@ -6,7 +6,7 @@ use crate::tests::numbers::from_one;
 use generic_array::sequence::{
     Concat, Flatten, Lengthen, Remove, Shorten, Split, Unflatten, iter_flat,
 };
-use generic_array::{GenericArray, GenericArrayMut, U0, U1, U2, U3, U4, U5, U6, arr};
+use generic_array::{GenericArray, GenericArrayMut, U0, U2, U3, U4, U5, arr};
 
 #[test]
 fn a_split_at_the_front_gives_nothing_and_all(rt: HostRuntime) {
@@ -14,8 +14,7 @@ fn a_split_at_the_front_gives_nothing_and_all(rt: HostRuntime) {
     assert!(rt; none.as_slice().is_empty() && all.as_slice() == [1, 2, 3].as_slice());
 }
 
-// 9 at the first place of the first half, and 8 at the third of the second.
-
+/// Writes 9 at the first place of the first half, and 8 at the third of the second.
 fn write_through_halves(slice: &mut [u32])
     requires { length slice.old ≡ 5 }
 {

@@ -3,7 +3,6 @@ use crate::tests::numbers::{boxed_from_one, digits, from_one};
 use generic_array::steps::Step::{Look, Next, NextBack, Nth, NthBack};
 use generic_array::steps::{Reply, Step, TwoEnded, run_steps};
 use generic_array::{AllocError, U2, U5};
-use std::alloc::Global;
 use std::test::Fail;
 
 /// The sum of the numbers.
@@ -23,15 +22,6 @@ fn run<I: TwoEnded<u32>>(
     run_steps(numbers, steps, &mut total, replies)
 }
 
-/// Whether the replies are printed so.
-fn are_printed(
-    alloc: Global,
-    replies: &[Reply<u32, u32>],
-    printed: &str,
-) -> Result<bool, AllocError> {
-    Ok(format!(in alloc; "{replies:?}")?.as_str() == printed)
-}
-
 /// Checks runs of steps over 1 to N, inline and in a block: the replies, behind one that is there
 /// or none, and the numbers that are left.
 macro_rules! check {
@@ -39,12 +29,12 @@ macro_rules! check {
         let mut replies = vec![in $rt.alloc(); $($old)?]?;
         let mut numbers = from_one::<$len>().into_iter();
         $(run(&mut numbers, vec![in $rt.alloc(); $($step),*]?, &mut replies)?;)*
-        assert!($rt; are_printed($rt.alloc(), &replies, $printed)?);
+        assert!($rt; format!(in $rt.alloc(); "{replies:?}")?.as_str() == $printed);
         assert!($rt; digits(numbers.as_slice()) == $left, "inline");
         let mut replies = vec![in $rt.alloc(); $($old)?]?;
         let mut numbers = boxed_from_one::<$len>($rt.alloc())?.into_iter();
         $(run(&mut numbers, vec![in $rt.alloc(); $($step),*]?, &mut replies)?;)*
-        assert!($rt; are_printed($rt.alloc(), &replies, $printed)?);
+        assert!($rt; format!(in $rt.alloc(); "{replies:?}")?.as_str() == $printed);
         assert!($rt; digits(numbers.as_slice()) == $left, "a block");
     };
 }

@@ -57,8 +57,8 @@ fn four_copies_stop_at_each_clone_that_is_refused(rt: HostRuntime) {
     }
 }
 
-/// Whether what was cloned has a clone, how many clones of items were made and how many items dropped
-/// since, and the digits of those that it still has.
+/// Whether a clone was made, how many clones of items it asked for, how many items it dropped, and
+/// the digits of the items that were to be cloned.
 pub type Cloned = (bool, usize, usize, u32);
 
 macro_rules! cloned {
@@ -80,12 +80,12 @@ fn cloned_inline<'a, T: Item<'a>, N: ArrayLength<T>>(counts: &'a Counts, is_arra
     }
 }
 
-/// Of the iterator of a block.
+/// The same of the iterator of a block.
 pub fn cloned_block<'a, T: Item<'a>, N: Unsigned>(
     alloc: Global,
     counts: &'a Counts,
-) -> Result<[Cloned; 1], AllocError> {
-    Ok([cloned!(counts, boxed_items::<T, N>(alloc, counts)?.into_iter())])
+) -> Result<Cloned, AllocError> {
+    Ok(cloned!(counts, boxed_items::<T, N>(alloc, counts)?.into_iter()))
 }
 
 #[test]
@@ -101,7 +101,7 @@ fn a_clone_of_three_stops_at_each_clone_that_is_refused(rt: HostRuntime) -> Resu
         let counts = Counts::default();
         counts.fail_at(number);
         let cloned = cloned_block::<Counted, U3>(rt.alloc(), &counts)?;
-        assert!(rt; cloned == [stopped], "{number}");
+        assert!(rt; cloned == stopped, "{number}");
     }
     Ok(())
 }
