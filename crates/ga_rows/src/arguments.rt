@@ -27,7 +27,7 @@ pub enum Mode {
 
 impl Mode {
     // The mode of a name.
-    fn from_name(name: &str) -> Option<Mode>
+    fn parse(name: &str) -> Option<Mode>
         ensures { result ≡ mode_named name.now }
     {
         match name {
@@ -58,7 +58,7 @@ pub enum Width {
 
 impl Width {
     // The width of a number of bytes.
-    fn from_name(name: &str) -> Option<Width>
+    fn parse(name: &str) -> Option<Width>
         ensures { result ≡ width_named name.now }
     {
         match name {
@@ -80,8 +80,8 @@ pub fn parse_words(words: &[String]) -> Option<(Mode, Width)>
 {
     match words {
         [] => Some((Mode::Dec, Width::W4)),
-        [mode] => Some((Mode::from_name(mode.as_str())?, Width::W4)),
-        [mode, width] => Some((Mode::from_name(mode.as_str())?, Width::from_name(width.as_str())?)),
+        [mode] => Some((Mode::parse(mode.as_str())?, Width::W4)),
+        [mode, width] => Some((Mode::parse(mode.as_str())?, Width::parse(width.as_str())?)),
         _ => None,
     }
 }
