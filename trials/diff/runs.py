@@ -49,16 +49,10 @@ CASES = [
     case("walks by value", "walks_inline::walks_run::<{N}>(alloc, seed)"),
     case("arrays of what a walk left", "walks_inline::reverse_run::<{N}>(alloc, seed)", share=4),
     case("builds", "builds::builds_run::<{N}>(seed)"),
-    case(
-        "access to items",
-        "access_inline::access_run::<{length}>(alloc, seed)",
-        "access_inline::access_run::<{N}>(alloc, seed)",
-    ),
-    case(
-        "access to boxed items",
-        "access_boxed::access_run::<{length}>(alloc, seed)",
-        "access_boxed::access_run::<{N}>(alloc, seed)",
-    ),
+    case("access to items", "access_inline::access_run::<{length}>(alloc, seed)",
+         "access_inline::access_run::<{N}>(alloc, seed)"),
+    case("access to boxed items", "access_boxed::access_run::<{length}>(alloc, seed)",
+         "access_boxed::access_run::<{N}>(alloc, seed)"),
     case("builds by the traits", "sequences_inline::sequences_run::<{N}>(alloc, seed)"),
     case("boxed builds by the traits", "sequences_boxed::sequences_run::<{N}>(alloc, seed)"),
     case("builders compared with a vector", "builders::builders_run::<{N}>(seed)"),
@@ -73,13 +67,8 @@ CASES = [
     case("append, prepend, pops", "shapes::ends_run::<{N}, {L}>(seed)"),
     case("remove, swap_remove", "shapes::remove_run::<{N}, {L}>(seed)"),
     case("concat, split", "shapes::join_run::<{N}, {K}, {M}>(seed)"),
-    case(
-        "flatten, unflatten",
-        "flat_{length}::flat_run(seed)",
-        "flat::flat_run::<{W}, {R}, {A}>(seed)",
-        FLAT,
-        4,
-    ),
+    case("flatten, unflatten", "flat_{length}::flat_run(seed)",
+         "flat::flat_run::<{W}, {R}, {A}>(seed)", FLAT, 4),
     case("rows of a slice", "rows::rows_run::<{N}>(seed)", lengths=EVERY[1:]),
     case("walks over rows", "rows::row_walks_run::<{N}>(seed)", lengths=EVERY[1:]),
     case("hex text, short", "hex::hex_run::<{N}>(alloc, seed)", lengths=SHORT_HEX),
@@ -95,60 +84,38 @@ CASES = [
 ]
 
 # Drops and clones, each run by number and in order. A wanted difference is one of order.
+SEEN = "ordered, seed, &log"
 DROPS = [
-    case(
-        "drops of walks by value",
-        "walk_drops_inline::walk_drops_run::<{N}>(alloc, ordered, seed, &log)",
-        lengths=SOME,
-        wanted=(
-            "nth_back of an iterator drops from the back",
-            "walk_drops_inline_stepwise::walk_drops_run::<{N}>(alloc, ordered, seed, &log)",
-        ),
-    ),
-    case(
-        "drops of builds",
-        "build_drops::build_drops_run::<{N}>(ordered, seed, &log)",
-        lengths=SOME,
-    ),
-    case(
-        "drops of calls of closures",
-        "drops::closure_drops_run::<{N}>(ordered, seed, &log)",
-        lengths=SOME,
-    ),
-    case(
-        "drops of shapes",
-        "drops::shape_drops_run::<{N}, {L}>(ordered, seed, &log)",
-        lengths=SOME,
-    ),
+    case("drops of builds", f"build_drops::build_drops_run::<{{N}}>({SEEN})", lengths=SOME),
+    case("drops of calls of closures", f"drops::closure_drops_run::<{{N}}>({SEEN})", lengths=SOME),
+    case("drops of shapes", f"drops::shape_drops_run::<{{N}}, {{L}}>({SEEN})", lengths=SOME),
     case(
         "drops of flatten, unflatten",
-        "flat_{length}::flat_drops_run(ordered, seed, &log)",
-        "flat::flat_drops_run::<{W}, {R}, {A}>(ordered, seed, &log)",
+        f"flat_{{length}}::flat_drops_run({SEEN})",
+        f"flat::flat_drops_run::<{{W}}, {{R}}, {{A}}>({SEEN})",
         FLAT,
         10,
     ),
     case(
         "drops of concat, split, vectors",
-        "drops::joined_drops_run::<{N}, {K}, {M}>(alloc, ordered, seed, &log)",
-        "drops::joined_drops_run::<{N}, {K}, {M}>(ordered, seed, &log)",
+        f"drops::joined_drops_run::<{{N}}, {{K}}, {{M}}>(alloc, {SEEN})",
+        f"drops::joined_drops_run::<{{N}}, {{K}}, {{M}}>({SEEN})",
         SOME,
         10,
     ),
     case(
         "drops of boxed calls and builds",
-        "boxed_drops::boxed_build_drops_run::<{N}>(alloc, ordered, seed, &log)",
+        f"boxed_drops::boxed_build_drops_run::<{{N}}>(alloc, {SEEN})",
         lengths=SOME,
-    ),
-    case(
-        "drops of boxed walks",
-        "walk_drops_boxed::walk_drops_run::<{N}>(alloc, ordered, seed, &log)",
-        lengths=SOME,
-        wanted=(
-            "nth_back of a boxed iterator drops from the back",
-            "walk_drops_boxed_stepwise::walk_drops_run::<{N}>(alloc, ordered, seed, &log)",
-        ),
     ),
 ]
+for module, title, iterator in (
+    ("walk_drops_inline", "drops of walks by value", "an iterator"),
+    ("walk_drops_boxed", "drops of boxed walks", "a boxed iterator"),
+):
+    run = f"::walk_drops_run::<{{N}}>(alloc, {SEEN})"
+    wanted = (f"nth_back of {iterator} drops from the back", f"{module}_stepwise{run}")
+    DROPS.append(case(title, module + run, lengths=SOME, wanted=wanted))
 
 EXPORTS = """//! What the Rust program calls, written by trials/diff/run from its list of cases.
 use crate::noted::Log;
