@@ -198,7 +198,7 @@ module _ (block : ℕ → List ℕ) (width start : ℕ) (text : List ℕ) (some 
       under_so_far-more block width start text done count count-le_text now key so_far
       (in_stream ∙ ap (λ p. key_bytes block width p count) at)
 
--- a list that is turned by k places, and then by the n others
+-- a list that is rotated by k places, and then by the n others
 pub turned_back : {A : Type 0} → (n k : ℕ) (xs : List A) → length xs ≡ n + k
     → drop n (drop k xs ++ take k xs) ++ take n (drop k xs ++ take k xs) ≡ xs
 turned_back n k xs long =

@@ -4,7 +4,7 @@ use Rattle.std.proofs.Common.{◌≡◌, ℕ, ◌+◌, ◌-◌, ◌<◌, ◌≤�
 use Rattle.std.proofs.Common.{take, ◌∙◌}
 use Rattle.std.proofs.lemmas.List.{drop_at, get_or-append-add, get_or-replicate, length-replicate, take_at}
 
--- the last byte tells the padding's length, and so the bytes before it
+-- the last byte is the padding's length, and so the bytes before it
 pub record Ends (block rest : List ℕ) (last : ℕ) : Type 0 where
   pub some : 0 < last
   pub within : last ≤ length block

@@ -1,7 +1,7 @@
--- Padding that tells its own length (PKCS #7; RFC 5652, 6.3).
+-- Padding that holds its own length (PKCS #7; RFC 5652, 6.3).
 use Rattle.std.specs.Prelude.{◌≡◌, ℕ, ◌<◌, List, ◌++◌, replicate}
 
--- the bytes, and then so many times the byte that tells how many
+-- the bytes, and then so many times the byte that says how many
 abbrev pub padded : List ℕ → ℕ → List ℕ
 padded bytes missing = bytes ++ replicate missing missing
 

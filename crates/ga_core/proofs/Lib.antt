@@ -22,10 +22,12 @@ pub use Rattle.ga_views.proofs.HexLemmas
 pub use Rattle.ga_views.proofs.RowLemmas
 pub use Rattle.ga_views.proofs.RowSetLemmas
 pub use Rattle.ga_core.proofs.callers.BitLemmas
+pub use Rattle.ga_core.proofs.callers.DigitLemmas
 pub use Rattle.ga_core.proofs.callers.Everyday
 pub use Rattle.ga_core.proofs.callers.JoinLemmas
 pub use Rattle.ga_core.proofs.callers.KeyLemmas
 pub use Rattle.ga_core.proofs.callers.NestedLemmas
+pub use Rattle.ga_core.proofs.callers.OrderLemmas
 pub use Rattle.ga_core.proofs.callers.PlaceLemmas
 pub use Rattle.ga_core.proofs.callers.RingLemmas
 pub use Rattle.ga_core.proofs.callers.SignedLemmas

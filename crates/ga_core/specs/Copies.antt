@@ -14,7 +14,7 @@ abbrev pub IsExact : {T : Type 0} → (T → T → Type 0) → T → Type 0
 IsExact {T} is_clone item = (copy : T) → is_clone item copy → copy ≡ item
 
 module _ {T : Type 0} (P : T → Type 0) where
-  -- n items, of each of which P holds: told item by item, so that a search learns all of them at a length that is a
+  -- n items, of each of which P holds: said item by item, so that a search learns all of them at a length that is a
   -- number
   abbrev pub ExactlyEach : ℕ → List T → Type 0
   ExactlyEach zero items = items ≡ []

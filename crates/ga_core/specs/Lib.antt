@@ -1,4 +1,5 @@
 pub mod Copies
+pub mod Digits
 pub mod Fill
 pub mod Lends
 pub use Rattle.ga_views.specs.Calls

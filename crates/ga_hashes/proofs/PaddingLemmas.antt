@@ -1,4 +1,4 @@
--- Padding: what is kept of a message tells how many zeros it takes.
+-- Padding: what is kept of a message determines how many zeros it takes.
 use Rattle.ga_hashes.specs.BlockBuffer.{with_padding, padding, zero_count}
 use Rattle.ga_core.specs.Rows.{chunk_rest}
 use Rattle.std.proofs.Common.{◌≡◌, ℕ, ◌+◌, ◌-◌, ◌*◌, ◌/◌, ◌%◌, ◌<◌, ◌∷◌, [], List, ◌++◌, length, replicate, ap, refl}

@@ -10,7 +10,7 @@
 //! - runs of closure calls over joined lists are one over each in turn: `joined_runs`;
 //! - shapes of inline arrays undo each other: `shapes`;
 //! - every run of two-ended iterator calls gives what a list cut from both ends gives: `steps`;
-//! - and one call that maps and walks, or builds before, means these one after the other: `whole`.
+//! - and one call that maps and runs steps, or builds before, means these in order: `whole`.
 //!
 //! Each function's contract is a part of this. `ga_examples` calls all but those of `joined_runs`.
 #![tactic(auto)]

@@ -42,7 +42,7 @@ fn words_mean_a_mode_and_a_width(rt: HostRuntime) -> Result<(), Fail> {
     Ok(())
 }
 
-// What is told of words that mean nothing, where memory is short, and of another fault.
+// What is reported of words that mean nothing, where memory is short, and of another fault.
 const USAGE: &[u8] = b"usage: ga_rows [dec|hex|back|sum|last] [1|2|4|8|16]\n";
 
 const NO_MEMORY: &[u8] = b"ga_rows: out of memory\n";
@@ -149,8 +149,8 @@ fn a_fault_of_standard_error_is_ignored(rt: HostRuntime) -> Result<(), Fail> {
     Ok(())
 }
 
-/// Whether a fault behind the input, or at the write of this number, ends the program with 4, which
-/// standard error is told, after so many writes.
+/// Whether a fault behind the input, or at the write of this number, ends the program with 4 and a
+/// line on standard error, after so many writes.
 fn ends_at_a_fault(
     alloc: Global,
     fault: Option<ErrorKind>,

@@ -9,6 +9,7 @@ pub use Rattle.ga_boxed.specs.Placed
 pub use Rattle.ga_core.specs.Calls
 pub use Rattle.ga_core.specs.Copies
 pub use Rattle.ga_core.specs.Cut
+pub use Rattle.ga_core.specs.Digits
 pub use Rattle.ga_core.specs.Entries
 pub use Rattle.ga_core.specs.Fill
 pub use Rattle.ga_core.specs.HexText

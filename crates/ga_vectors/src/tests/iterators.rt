@@ -1,10 +1,10 @@
-//! Walks of both iterators by value from both ends.
+//! Runs of steps over both iterators by value, from both ends.
 use crate::tests::compared::has;
 use crate::tests::numbers::{boxed_from_one, digits, from_one, next_digit};
 use generic_array::{U3, U5};
 use std::test::Fail;
 
-/// Checks walks over arrays of 1 to 3 and of 1 to 5.
+/// Checks runs over arrays of 1 to 3 and of 1 to 5.
 macro_rules! check_walks {
     ($rt:ident, $three:expr, $five:expr) => {
         assert!($rt; $three.into_iter().fold(0, next_digit) == 123);

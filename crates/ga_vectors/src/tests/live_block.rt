@@ -30,7 +30,7 @@ fn back_of_two(alloc: Global) -> Result<(Option<u32>, usize, Option<u32>), Alloc
 }
 
 /// A block of two whose second item was taken, and another put in its place.
-fn put_anew(alloc: Global) -> Result<LiveBlock<u32>, AllocError>
+fn put_in_place(alloc: Global) -> Result<LiveBlock<u32>, AllocError>
     ensures { IfOk result (λ block. block ≡ live (1 ∷ 30 ∷ []) 0) }
 {
     let mut block = LiveBlock::new(alloc, 2)?;
@@ -70,7 +70,7 @@ fn units_left(alloc: Global) -> Result<(Option<()>, usize), AllocError> {
 fn a_block_gives_what_was_put_from_both_ends(rt: HostRuntime) {
     assert!(rt; front_of_two(rt.alloc()).expect(&rt, "no memory") == (Some(1), 0));
     assert!(rt; back_of_two(rt.alloc()).expect(&rt, "no memory") == (Some(2), 1, None));
-    let block = written_over(put_anew(rt.alloc()).expect(&rt, "no memory"));
+    let block = written_over(put_in_place(rt.alloc()).expect(&rt, "no memory"));
     assert!(rt; block.as_slice() == [1, 20].as_slice() && block.len() == 2);
     assert!(rt; no_room(rt.alloc()).is_ok_and(|block| block.as_slice().is_empty()));
     assert!(rt; units_left(rt.alloc()).expect(&rt, "no memory") == (Some(()), 2));

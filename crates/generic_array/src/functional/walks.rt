@@ -1,4 +1,4 @@
-//! The walks over the entries of `into_iter`. Each stands once, over any iterator, for all kinds.
+//! The loops over the entries of `into_iter`. Each stands once, over any iterator, for all kinds.
 //!
 //! The iterator is a type parameter of its own: a closure that holds a sequence's associated
 //! iterator isn't covered by the checker.
@@ -166,7 +166,7 @@ pub(super) fn map_entries<T, I: Iterator + Drop, U, M: GenericSequence<U>, F: Fn
     )
 }
 
-// `try_generate_by`. For the prover alone: it tells the run as a record, from which a proof finds
+// `try_generate_by`. For the prover alone: it states the run as a record, from which a proof finds
 // the closure's step.
 #[inline(always)]
 fn try_build<U, E, M: FallibleGenericSequence<U>, G: FnMut(usize) -> Result<U, E>>(

@@ -113,12 +113,13 @@ pub trait Split<T, First, Second>: Sized {
     // The lengths of the parts add up to that of the sequence.
     ghost IsSum: { Type 0 };
 
-    /// The first items, as many as the type of the first part tells, and all others. Requires that
+    /// The first items, as many as the type of the first part gives, and all others. Requires that
     /// the lengths of the parts add up to that of the sequence.
     fn split(self) -> (First, Second)
         requires { IsSum }
         ensures first { first_items result.0 ≡ take PLACE (items self) }
-        ensures second { second_items result.1 ≡ drop PLACE (items self) };
+        ensures second { second_items result.1 ≡ drop PLACE (items self) }
+        ensures whole { first_items result.0 ++ second_items result.1 ≡ items self };
 }
 
 /// A sequence from which the item at an index can be taken. The counterpart of `Remove`. O(N) of an

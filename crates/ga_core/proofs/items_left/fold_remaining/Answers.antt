@@ -1,6 +1,6 @@
 use Rattle.ga_core.proofs.ActsLemmas.{answer_of_fold}
-use Rattle.ga_core.proofs.TwoEndedLemmas.{front-fewer, front-none, front-taken, folded-all, folded-callable, folded-next}
-use Rattle.ga_core.proofs.TwoEndedLemmas.{folded-none}
+use Rattle.ga_core.proofs.CallLemmas.{folded-none}
+use Rattle.ga_core.proofs.TwoEndedLemmas.{front-none, front-taken, folded-all, folded-callable, folded-next}
 use Rattle.ga_core.proofs.items_left.fold_remaining.Goals as goal
 use Rattle.std.proofs.Common.{arith}
 
@@ -11,14 +11,14 @@ pub f-answer-requires : goal.f-answer-requires
 f-answer-requires g c =
     let came = front-taken (g.I.TwoEnded.items c.loop-item.left) c.in-Some.item
     (g.I.TwoEnded.items c.front.new.self) c.in-Some.ensures.step in
-    folded-callable c.loop-item.invariant (goal.F-pre g) c.requires.callable c.in-Some.item _ came
+    folded-callable c.loop-item.invariant (goal.F-pre g) c.requires.callable c.in-Some.item _ came.0
 
 pub loop-more-init : goal.loop-more-init
 loop-more-init g c =
     let came = front-taken (g.I.TwoEnded.items c.loop-item.left) c.in-Some.item
     (g.I.TwoEnded.items c.front.new.self) c.in-Some.ensures.step in
     record {
-      so_far = folded-next c.loop-item.invariant c.in-Some.item _ c.f-answer.result c.f-answer.new.self came
+      so_far = folded-next c.loop-item.invariant c.in-Some.item _ c.f-answer.result c.f-answer.new.self came.0
           c.f-answer.ensures;
       fewer = omega arith;
     }
@@ -27,18 +27,16 @@ pub f-answer-requires-in-Some-front : goal.f-answer-requires-in-Some-front
 f-answer-requires-in-Some-front g c =
     let came = front-taken (g.I.TwoEnded.items c.loop-more.left) c.in-Some-front.item
     (g.I.TwoEnded.items c.front-in-loop-more.new.self) c.in-Some-front.ensures.step in
-    folded-callable c.loop-more.invariant.so_far (goal.F-pre g) c.requires.callable c.in-Some-front.item _ came
+    folded-callable c.loop-more.invariant.so_far (goal.F-pre g) c.requires.callable c.in-Some-front.item _ came.0
 
 pub loop-more-preserved : goal.loop-more-preserved
 loop-more-preserved g c =
-    let came = front-taken (g.I.TwoEnded.items c.loop-more.left) c.in-Some-front.item
-    (g.I.TwoEnded.items c.front-in-loop-more.new.self) c.in-Some-front.ensures.step in
-    let fewer = front-fewer (g.I.TwoEnded.items c.loop-more.left) c.in-Some-front.item
+    let step = front-taken (g.I.TwoEnded.items c.loop-more.left) c.in-Some-front.item
     (g.I.TwoEnded.items c.front-in-loop-more.new.self) c.in-Some-front.ensures.step in
     record {
       so_far = folded-next c.loop-more.invariant.so_far c.in-Some-front.item _ c.f-answer-in-Some-front.result
-          c.f-answer-in-Some-front.new.self came c.f-answer-in-Some-front.ensures;
-      fewer = omega (arith, fewer, c.loop-more.invariant.fewer);
+          c.f-answer-in-Some-front.new.self step.0 c.f-answer-in-Some-front.ensures;
+      fewer = omega (arith, step.1, c.loop-more.invariant.fewer);
     }
 
 pub returns-in-None : goal.returns-in-None
@@ -52,8 +50,8 @@ loop-item-preserved g c = c.loop-more.invariant.so_far
 
 pub loop-item-smaller : goal.loop-item-smaller
 loop-item-smaller g c =
-    let fewer = front-fewer (g.I.TwoEnded.items c.loop-item.left) c.in-Some.item (g.I.TwoEnded.items c.front.new.self) c.in-Some.ensures.step in
-    omega (arith, fewer, c.loop-more.invariant.fewer)
+    let step = front-taken (g.I.TwoEnded.items c.loop-item.left) c.in-Some.item (g.I.TwoEnded.items c.front.new.self) c.in-Some.ensures.step in
+    omega (arith, step.1, c.loop-more.invariant.fewer)
 
 pub returns : goal.returns
 returns g c =

@@ -1,6 +1,6 @@
 use Rattle.ga_core.proofs.ActsLemmas.{answer_of_fold}
-use Rattle.ga_core.proofs.TwoEndedLemmas.{back-fewer, back-none, back-taken, folded-all, folded-callable, folded-next}
-use Rattle.ga_core.proofs.TwoEndedLemmas.{folded-none}
+use Rattle.ga_core.proofs.CallLemmas.{folded-none}
+use Rattle.ga_core.proofs.TwoEndedLemmas.{back-none, back-taken, folded-all, folded-callable, folded-next}
 use Rattle.ga_core.proofs.items_left.rfold_remaining.Goals as goal
 use Rattle.std.proofs.Common.{arith}
 
@@ -11,14 +11,14 @@ pub f-answer-requires : goal.f-answer-requires
 f-answer-requires g c =
     let came = back-taken (g.I.TwoEnded.items c.loop-item.left) c.in-Some.item
     (g.I.TwoEnded.items c.back.new.self) c.in-Some.ensures.step in
-    folded-callable c.loop-item.invariant (goal.F-pre g) c.requires.callable c.in-Some.item _ came
+    folded-callable c.loop-item.invariant (goal.F-pre g) c.requires.callable c.in-Some.item _ came.0
 
 pub loop-more-init : goal.loop-more-init
 loop-more-init g c =
     let came = back-taken (g.I.TwoEnded.items c.loop-item.left) c.in-Some.item
     (g.I.TwoEnded.items c.back.new.self) c.in-Some.ensures.step in
     record {
-      so_far = folded-next c.loop-item.invariant c.in-Some.item _ c.f-answer.result c.f-answer.new.self came
+      so_far = folded-next c.loop-item.invariant c.in-Some.item _ c.f-answer.result c.f-answer.new.self came.0
           c.f-answer.ensures;
       fewer = omega arith;
     }
@@ -27,18 +27,16 @@ pub f-answer-requires-in-Some-back : goal.f-answer-requires-in-Some-back
 f-answer-requires-in-Some-back g c =
     let came = back-taken (g.I.TwoEnded.items c.loop-more.left) c.in-Some-back.item
     (g.I.TwoEnded.items c.back-in-loop-more.new.self) c.in-Some-back.ensures.step in
-    folded-callable c.loop-more.invariant.so_far (goal.F-pre g) c.requires.callable c.in-Some-back.item _ came
+    folded-callable c.loop-more.invariant.so_far (goal.F-pre g) c.requires.callable c.in-Some-back.item _ came.0
 
 pub loop-more-preserved : goal.loop-more-preserved
 loop-more-preserved g c =
-    let came = back-taken (g.I.TwoEnded.items c.loop-more.left) c.in-Some-back.item
-    (g.I.TwoEnded.items c.back-in-loop-more.new.self) c.in-Some-back.ensures.step in
-    let fewer = back-fewer (g.I.TwoEnded.items c.loop-more.left) c.in-Some-back.item
+    let step = back-taken (g.I.TwoEnded.items c.loop-more.left) c.in-Some-back.item
     (g.I.TwoEnded.items c.back-in-loop-more.new.self) c.in-Some-back.ensures.step in
     record {
       so_far = folded-next c.loop-more.invariant.so_far c.in-Some-back.item _ c.f-answer-in-Some-back.result
-          c.f-answer-in-Some-back.new.self came c.f-answer-in-Some-back.ensures;
-      fewer = omega (arith, fewer, c.loop-more.invariant.fewer);
+          c.f-answer-in-Some-back.new.self step.0 c.f-answer-in-Some-back.ensures;
+      fewer = omega (arith, step.1, c.loop-more.invariant.fewer);
     }
 
 pub returns-in-None : goal.returns-in-None
@@ -52,8 +50,8 @@ loop-item-preserved g c = c.loop-more.invariant.so_far
 
 pub loop-item-smaller : goal.loop-item-smaller
 loop-item-smaller g c =
-    let fewer = back-fewer (g.I.TwoEnded.items c.loop-item.left) c.in-Some.item (g.I.TwoEnded.items c.back.new.self) c.in-Some.ensures.step in
-    omega (arith, fewer, c.loop-more.invariant.fewer)
+    let step = back-taken (g.I.TwoEnded.items c.loop-item.left) c.in-Some.item (g.I.TwoEnded.items c.back.new.self) c.in-Some.ensures.step in
+    omega (arith, step.1, c.loop-more.invariant.fewer)
 
 pub returns : goal.returns
 returns g c =

@@ -1,4 +1,4 @@
-use Rattle.ga_core.proofs.TwoEndedLemmas.{FoldedSoFar}
+use Rattle.ga_core.proofs.CallLemmas.{FoldedSoFar}
 use Rattle.ga_core.proofs.items_left.rfold_remaining.Given as goal
 use Rattle.std.proofs.Common.{◌≤◌, length, reverse}
 
