@@ -1,5 +1,5 @@
 """Lays out a copy of this checkout, outside the repository, with the crates of bench and diff or
-those of sweeps.
+those of `trials/sweeps`.
 
 For bench and diff it also builds the Rust program that runs our crate and the original one. Both
 take the same copy, `ours/` in their folder, so that the libraries are proved once.
@@ -120,7 +120,7 @@ def add_sweeps(ours):
 
 
 def build_driver(folder, name):
-    """Builds the Rust program over the crate, and answers where it stands."""
+    """Builds the Rust program over the crate, and returns its path."""
     given = os.environ.get(ORIGINAL)
     original = f'path = "{os.path.abspath(given)}"' if given else 'version = "=1.4.5"'
     kit = pathlib.Path(shutil.which("rt")).resolve().parent.parent
@@ -137,7 +137,7 @@ def build_driver(folder, name):
 
 
 def build(folder, name):
-    """Builds both sides of bench or diff, and answers where the Rust program stands."""
+    """Builds both sides of bench or diff, and returns the path of the Rust program."""
     step("proving and building ours; the first time all crates below it too, for half an hour")
     copy_crates(folder / "ours")
     take_proved(folder / "ours")

@@ -1,4 +1,4 @@
-"""The program `ga_rows` beside a careful one in Rust."""
+"""The program `ga_rows` compared with a careful one in Rust."""
 import random
 import statistics
 import subprocess

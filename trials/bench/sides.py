@@ -10,7 +10,7 @@ from table import read_cases
 HERE = pathlib.Path(__file__).resolve().parent
 LIBRARIES = ["ga_core", "ga_views", "ga_boxed", "generic_array"]
 NUMBERS = "kind: u32, seed: u64, reps: u64"
-# The function beside ours, where the Rust crate has none of that name.
+# The function that ours is compared with, where the Rust crate has none of that name.
 OTHERS = {
     "map_inline": "map", "map_inline_ref": "map_view", "try_map_inline": "try_map",
     "zip_inline": "zip", "zip_inline_ref": "zip_view", "zip_ref_boxed": "boxed_generate_from",
@@ -149,7 +149,7 @@ def our_modules():
 
 
 def driver_sources():
-    """The Rust files of the driver, by their names below src/, and the program beside ours."""
+    """The Rust files of the driver, by their names below src/, and the program in Rust."""
     side, cases = rust(), cases_by_name()
     entries = [
         ENTRY.format(case, number, side.call(case, rust_length))

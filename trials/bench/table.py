@@ -9,7 +9,7 @@ HEAD = (
     "case | kind | group | instructions, ours/other | ratio | without what it is given"
     " | nanoseconds, ours/other | ratio"
 ).split(" | ")
-# What stands beside plain Rust.
+# What is compared with plain Rust.
 PLAIN = ("lists", "long arrays")
 
 
@@ -92,10 +92,10 @@ def summary_line(name, rows):
 
 
 def summary(rows):
-    """A line for each group, and one for all cases beside the Rust crate."""
+    """A line for each group, and one for all cases compared with the Rust crate."""
     words = ["median", "at most 1.00", "above 2"]
     groups = dict.fromkeys(row.case.group for row in rows)
     lines = [summary_line(it, [row for row in rows if row.case.group == it]) for it in groups]
-    beside = [row for row in rows if row.case.group not in PLAIN]
+    compared = [row for row in rows if row.case.group not in PLAIN]
     head = ["ours/other", "cases", *words, *(f"{it}, by time" for it in words)]
-    return aligned(head, [*lines, summary_line("all compared with the Rust crate", beside)])
+    return aligned(head, [*lines, summary_line("all compared with the Rust crate", compared)])

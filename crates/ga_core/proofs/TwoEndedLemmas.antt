@@ -1,14 +1,12 @@
 -- Steps at the ends of a list, and folds over what is left: the calls so far, one more, and all.
-use Rattle.ga_core.proofs.ActsLemmas.{answer_of_fold}
 use Rattle.ga_core.proofs.CallLemmas.{FoldRun-of_items, FoldedSoFar, folded-more, folded-rest, may_fold-at}
-use Rattle.ga_core.proofs.CutLemmas.{nth_back-step, taken-more}
-use Rattle.ga_core.proofs.LeftLemmas.{all_moved, one_gone}
+use Rattle.ga_core.proofs.CutLemmas.{nth_back-step}
+use Rattle.ga_core.proofs.LeftLemmas.{one_gone}
 use Rattle.ga_core.specs.Calls.{MayFold}
 use Rattle.ga_core.specs.Cut.{StepGives, back, front}
 use Rattle.ga_core.specs.Runs.{FoldRun}
 use Rattle.std.proofs.Common.{◌≡◌, ◌∙◌, ◌<◌, ◌∷◌, ◌++◌, [], List, None, Option, Some, ap, arith, length, refl, reverse}
 use Rattle.std.proofs.Common.{subst, sym}
-use Rattle.std.proofs.lemmas.Fn.{FoldsTo-push}
 use Rattle.std.proofs.lemmas.List.{length-reverse, reverse-reverse}
 use Rattle.std.specs.Iterator.{YieldsLast}
 

@@ -91,7 +91,7 @@ def run_tests(tally, run):
 
 def run_rows(tally, program):
     """Refuses each request of a run in turn, and one more than it makes. Where a smaller one makes
-    up for a refused one, as std does for the list of the words, the answer has to be whole.
+    up for a refused one, as std does for the list of the words, the output has to be whole.
 
     Runs over no bytes make as many requests as one whose word means nothing, and which doesn't
     read: so none of them is for the bytes.
@@ -103,8 +103,8 @@ def run_rows(tally, program):
             seen = run_program(copy, words, env={"ASAN_OPTIONS": "detect_leaks=1"}, stdin=given)
         is_refused = number == 1 or (number <= most and seen.status == 3)
         wanted = Seen(3, b"", NO_MEMORY) if is_refused else whole("hex", MANY)
-        answer = "refused" if is_refused else "the whole answer"
-        name = f"{PROGRAM} hex: request {number} of {most}, {answer}"
+        outcome = "refused" if is_refused else "the whole output"
+        name = f"{PROGRAM} hex: request {number} of {most}, {outcome}"
         tally.case(name, differences(seen, wanted))
     unread = run_counted(program, ["none"])[1]
     for mode in MODES:
@@ -116,7 +116,7 @@ def run_rows(tally, program):
 def run(tally, words):
     built = [*trials.runs(), *tests.runs()]
     run_all(tally, [it for it in built if not it.seen], words)
-    # A crate with sweeps is run with them alone.
+    # A crate with tests in trials/sweeps is run with these alone.
     built = {(it.name, type(it)): it for it in reversed(built) if it.seen}.values()
 
     def run_again(it):

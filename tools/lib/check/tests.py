@@ -31,7 +31,7 @@ class Tests(Run):
 
 
 class Program(Run):
-    """A crate that is a program, with the files beside its src/."""
+    """A crate that is a program, with the files next to its src/."""
 
     def __init__(self, crate):
         super().__init__(crate, "program", given=bytes_in(crate, "stdin"))

@@ -26,14 +26,15 @@ Answer = collections.namedtuple("Answer", "first others rows")
 
 
 def parts_of(name):
-    """The parts of a name, without type parameters and brackets; a format has its trait's name."""
+    """The parts of a name, without type parameters; a message is one, and a format its trait."""
     if sign := FORMAT.fullmatch(name):
         return [FORMATS[sign[1]]]
     name = name.removeprefix("Rattle.").replace("::<", "<").replace("[T]::", "slice::")
     while (at := name.find("<")) > 0 and name.count("<") == name.count(">"):
         name = name[:at] + name[end_of_bracket(name, at, ANGLE):]
-    name = re.sub(r"[(){}!&\s]", "", name)
-    return [part.strip("◌") for part in re.split(r"::|\.", name) if part] or [name]
+    bare = re.sub(r"[(){}!&\s]", "", name)
+    parts = re.split(r"::|\.", bare) if len(name.split()) < 3 else [bare]
+    return [part.strip("◌") for part in parts if part] or [bare]
 
 
 def impl_of(item):
@@ -96,9 +97,7 @@ class Names(Paths):
         those that have its words."""
         if not asked.first and not asked.rows:
             return rows_with(self.messages, name)
-        known = {row.place for row in asked.rows}
-        named = rows_naming(self.messages, parts_of(name)[-1])
-        return [row for row in named if row.place not in known]
+        return rows_naming(self.messages, parts_of(name)[-1])
 
     def answer(self, name):
         """What a name most likely means: what it is looked up by, then items of the library, rows

@@ -24,7 +24,7 @@ TEMPLATES = pathlib.Path(__file__).resolve().parent / "pages"
 KEYWORDS = set("pub const fn struct enum trait type impl for where mut dyn final self Self as ref "
                "unsafe macro_rules".split())
 # The documents that are pages too, each with its title and file.
-DOCUMENTS = {"promise.html": ("What is promised", "crates/ga_headline/PROMISE.md"),
+DOCUMENTS = {"promise.html": ("The specification", "crates/ga_headline/PROMISE.md"),
              "rust.html": ("The Rust crate's names", "docs/DIFFERENCES.md"),
              "clauses.html": ("Words in clauses", "docs/DEFINITIONS.md")}
 # What a module's page shows whole, what a trait's does, and what a type's.

@@ -1,11 +1,11 @@
-"""The page of what the library promises. Its sentences are written by hand. The block of clauses
-above a function's name is written of the sources: all that it ensures but what the words behind the
-name list."""
+"""The page of the specification. Its sentences are written by hand. The block of clauses above a
+function's name is written from the sources: all that it ensures, but what the words behind the name
+list."""
 import re
 
 from reference.text import Text
 
-# The crate that has nothing but parts of the promise.
+# The crate that has nothing but parts of the specification.
 HEADLINE, PAGE = "ga_headline", "PROMISE.md"
 NAME = r"\[`([\w:]+)`\]\(([^)]*)\)"
 SHOWN = re.compile(rf"(?ms)^```text\n[^`]*^```\n\n{NAME}(?:, which also ensures (`[^.]+))?\.$")

@@ -20,9 +20,8 @@ RULE = re.compile(r"[-:| ]*---[-:| ]*$")
 # By which trait text prints a value, by what stands in the braces.
 FORMATS = {"x": "LowerHex", "X": "UpperHex", "?": "Debug", "": "Display"}
 FORMAT = re.compile(r"\{\w*(?::[^{}]*?)?([xX?]?)\}")
-# What of a message differs from one code to another: the place in front, and names.
-DIFFERS = re.compile(r"^(?:(?:note|error(?:\[[\w-]+\])?|\S+:\d+:\d+): *)+|`[^`]*`|\w+(?=-requires)")
-OF_LOOP = re.compile(r"(?<=loop-)\w+(?=-preserved)")
+# What of a message differs from one code to another: the place in front, names, and the goal.
+DIFFERS = re.compile(r"^(?:\S+: +)+|`[^`]*`|\w+(?=-requires)|(?<=must prove: ).*")
 WORD = re.compile(r"[^\W_]\w*")
 
 
@@ -38,9 +37,7 @@ class Row:
         self.text = plain(" ".join(cells))
         self.names = [parts for code in CODE.findall(self.theirs) for parts in names_in(code)]
         self.names += [[name] for name in self.theirs.split(", ") if re.fullmatch(r"\w+", name)]
-        # Whether nothing stands here, or else its names, as code.
         self.left_out = self.ours.startswith("left out")
-        self.names_here = [] if self.left_out else CODE.findall(self.ours or self.theirs)
 
     def mentions(self, parts):
         """Whether ours or the notes have code that ends in a name."""
@@ -147,17 +144,18 @@ def stands_in(phrase, text):
 
 def rows_with(rows, text):
     """The rows in which a text stands, or else all its words, or else these but for names, or else
-    those whose message stands in the text but for what differs from one code to another."""
-    for asked in map(plain, (text, DIFFERS.sub(" ", text), OF_LOOP.sub("x", text))):
-        phrase, words = asked.strip(" .,:;"), set(WORD.findall(asked))
-        found = [row for row in rows if phrase and stands_in(phrase, row.text)]
+    those whose message, but for what differs, stands in the text, or that begin with its code."""
+    text = re.sub(r"(?<=loop-)\w+(?=-preserved)", "x", text)
+    alike = {row: len({*CODE.findall(text)} & {*CODE.findall(row.theirs)}) for row in rows}
+    phrase = plain(text).strip(" .,:;")
+    found = [row for row in rows if phrase and stands_in(phrase, row.text)]
+    for words in (set(WORD.findall(plain(it))) for it in (text, DIFFERS.sub(" ", text))):
         found = found or [row for row in rows if len(words) > 1
                           and words <= set(WORD.findall(row.text))]
-        if found:
-            return found
     pieces = {row: [plain(it) for it in re.split(r"\.\.|`[^`]*`", row.theirs)] for row in rows}
-    return [row for row in rows if len("".join(pieces[row])) > 15 and all(
-        piece.strip(" .,:;") in plain(text) for piece in pieces[row])]
+    found = found or [row for row in rows if len("".join(pieces[row])) > 15 and all(
+        piece.strip(" .,:;") in phrase for piece in pieces[row])]
+    return sorted(found or filter(alike.get, rows), key=alike.get, reverse=True)
 
 
 def rows_naming(rows, name):

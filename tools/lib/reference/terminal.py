@@ -11,13 +11,13 @@ from reference.rows import OF_MESSAGES
 from reference.text import Text
 
 
-def of_kit(name):
+def of_kit(name, rows):
     """What the kit says of a word or a lemma of std that has a name, or else of those that have it
-    as a part: of `wrapping_mul`, which is built in, `int_wrapping_mul`."""
-    last = re.split(r"::|\.", name)[-1]
-    command = shutil.which("rt") and re.fullmatch(r"\S+", last)
+    as a part, but of a goal's name: of `wrapping_mul`, which is built in, `int_wrapping_mul`."""
+    last, is_goal = re.split(r"::|\.", name)[-1], any(f"`{name}`" in row.theirs for row in rows)
+    command = shutil.which("rt") and re.fullmatch(r"\S+", name)
     said = command and subprocess.run(["rt", "lemma", last], capture_output=True, text=True).stdout
-    for named in (re.escape(last), rf"(?:\w+[_-])?{re.escape(last)}(?:[_-]\w+)?"):
+    for named in (re.escape(last), rf"(?:\w+[_-])?{re.escape(last)}(?:[_-]\w+)?")[:2 - is_goal]:
         if found := re.findall(rf"(?m)^use \S+\.{{{named}}}.*\n(?: .*\n)*", said or ""):
             return [f"Of std, by `rt lemma {last}`", "", *"".join(found).splitlines()]
     return []
@@ -39,6 +39,6 @@ def show(names, name):
     parts = [*(items.answer(answer) if is_known else ()), *items.rows(rows[:most]),
              *part("docs", f"And {len(rows) - most} more rows have it." * (len(rows) > most))]
     text = Text(names, shutil.get_terminal_size().columns)
-    lines = [*([] if is_known else of_kit(name)), *text.lines(parts)]
+    lines = [*([] if is_known else of_kit(name, rows)), *text.lines(parts)]
     print("\n".join(lines or unknown(names, name)).rstrip("\n"),
           file=sys.stdout if lines else sys.stderr)

@@ -66,7 +66,7 @@ fn put_hex<const N: usize>(line: &mut [u8; LINE], row: &[u8; N]) -> usize {
     2 * N + 1
 }
 
-/// Puts a row into the line, and answers its length.
+/// Puts a row into the line, and returns its length.
 #[inline(always)]
 fn put_row<const N: usize>(
     decimals: &[Decimal; 256],
@@ -83,7 +83,7 @@ fn put_row<const N: usize>(
     }
 }
 
-/// Writes all rows, and answers whether a rest stood.
+/// Writes all rows, and returns whether there was a rest.
 fn write_rows<const N: usize>(
     mode: &str,
     input: &[u8],

@@ -63,7 +63,7 @@ pub fn list_cut<T: Word, N: ArrayLength<T>>(array: &GenericArray<T, N>, list: &m
     }
 }
 
-/// What stands beside a long boxed array.
+/// What a long boxed array is compared with.
 pub fn long_generate<N: Unsigned>(seed: u64) -> List<u8, N> {
     let items = (0..N::USIZE).map(|index| u8::make(seed, index)).collect();
     List { items, length: PhantomData }

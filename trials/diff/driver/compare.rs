@@ -71,7 +71,7 @@ impl Tally {
         *self.wanted.entry(name).or_default() += runs;
     }
 
-    /// Counts a run, and answers whether it differs in a way that isn't wanted.
+    /// Counts a run, and returns whether it differs in a way that isn't wanted.
     fn count_run(&mut self, answer: &Answer) -> bool {
         if let Answer::AsWanted(name) = answer {
             self.count_wanted(name, 1);
@@ -111,7 +111,7 @@ impl Tally {
     }
 
     /// Makes the runs of a case that have these numbers, up to the first that differs in a way that
-    /// isn't wanted, whose length and seed it answers.
+    /// isn't wanted, whose length and seed it returns.
     pub fn first_difference(&mut self, case: &Case, numbers: Range<u64>) -> Option<(u32, u64)> {
         for &n in case.lengths {
             for seed in case.seeds(numbers.clone(), n) {
@@ -123,7 +123,7 @@ impl Tally {
         None
     }
 
-    /// Makes one run, prints what it came to, and answers whether it is as it should be.
+    /// Makes one run, prints what it came to, and returns whether it is as it should be.
     pub fn replay(&mut self, case: &Case, n: u32, seed: u64) -> bool {
         let answer = case.answer(n, seed);
         let differs = self.count_run(&answer);
@@ -138,7 +138,7 @@ impl Tally {
         !differs
     }
 
-    /// Counts seeds at which a case can't tell one length from another, as a control: where that
+    /// Counts seeds at which a case has the same result at two lengths, as a control: where that
     /// is nearly all, it sees no difference at all.
     pub fn control(&mut self, case: &Case) {
         let [.., below, above] = *case.lengths else {
@@ -173,7 +173,7 @@ impl Tally {
         }
     }
 
-    /// Prints the sums, and answers whether each case sees what it should, and no run differs in a
+    /// Prints the sums, and returns whether each case sees what it should, and no run differs in a
     /// way that isn't wanted.
     pub fn end(&self) -> bool {
         for (name, number) in &self.wanted {

@@ -62,17 +62,17 @@ bit-more c d above p x power double some fits bit is =
 -- eight bits next to each other
 pub eight_bits : (a b c d e f g h : ℕ) → a < 2 → b < 2 → c < 2 → d < 2 → e < 2 → f < 2 → g < 2 → h < 2
     → bit_or (bit_or (bit_or (bit_or (bit_or (bit_or (bit_or (a * 128 % 256) (b * 64 % 256)) (c * 32 % 256))
-        (d * 16 % 256)) (e * 8 % 256)) (f * 4 % 256)) (g * 2 % 256)) h
+    (d * 16 % 256)) (e * 8 % 256)) (f * 4 % 256)) (g * 2 % 256)) h
     ≡ a * 128 + b * 64 + c * 32 + d * 16 + e * 8 + f * 4 + g * 2 + h
 eight_bits a b c d e f g h p q r s t u v w =
     let all : ((((((a * 2 + b) * 2 + c) * 2 + d) * 2 + e) * 2 + f) * 2 + g) * 2 + h
-        ≡ a * 128 + b * 64 + c * 32 + d * 16 + e * 8 + f * 4 + g * 2 + h = omega arith in
+    ≡ a * 128 + b * 64 + c * 32 + d * 16 + e * 8 + f * 4 + g * 2 + h = omega arith in
     let seven = bit-more 2 4 _ _ g refl refl (lit≤ tt) (lit≤ tt) v
-        (bit-more 4 8 _ _ f refl refl (lit≤ tt) (lit≤ tt) u
-        (bit-more 8 16 _ _ e refl refl (lit≤ tt) (lit≤ tt) t
-        (bit-more 16 32 _ _ d refl refl (lit≤ tt) (lit≤ tt) s
-        (bit-more 32 64 _ _ c refl refl (lit≤ tt) (lit≤ tt) r
-        (bit-more 64 128 _ a b refl refl (lit≤ tt) (lit≤ tt) q (mod-eq_of_lt (omega (arith, p)))))))) in
+    (bit-more 4 8 _ _ f refl refl (lit≤ tt) (lit≤ tt) u
+    (bit-more 8 16 _ _ e refl refl (lit≤ tt) (lit≤ tt) t
+    (bit-more 16 32 _ _ d refl refl (lit≤ tt) (lit≤ tt) s
+    (bit-more 32 64 _ _ c refl refl (lit≤ tt) (lit≤ tt) r
+    (bit-more 64 128 _ a b refl refl (lit≤ tt) (lit≤ tt) q (mod-eq_of_lt (omega (arith, p)))))))) in
     ap (λ y. bit_or y h) seven ∙ (next-to ((((((a * 2 + b) * 2 + c) * 2 + d) * 2 + e) * 2 + f) * 2 + g) 2 h refl w ∙ all)
 
 pub ruleset bits = (common_steps, or_assoc, eight_bits, and_one_bit, and_shifted_one, and_all, and_none, or_none)

@@ -23,33 +23,41 @@ module _ {X : Type 0} where
     -- an item is written behind the others, before the end of the slots
     pub posted_on : place ≡ head + count → place < length slots
         → take (count + 1) (drop head (set slots place x) ++ take head (set slots place x))
-            ≡ take count (drop head slots ++ take head slots) ++ x ∷ []
+        ≡ take count (drop head slots ++ take head slots) ++ x ∷ []
     posted_on is inside =
         let room : count < length (drop head slots) = omega (arith, length-drop head slots) in
         let more : count < length (ring slots head) = omega (arith, length-append (drop head slots) (take head slots)) in
         let low : head ≤ head + count = omega arith in
-        rw (is, drop-set-add head slots count x, take-set-le head slots (head + count) x low,
-            ← set-append_left (drop head slots) (take head slots) count x room) (take_more_set (ring slots head) count x more)
+        rw (
+          is,
+          drop-set-add head slots count x,
+          take-set-le head slots (head + count) x low,
+          ← set-append_left (drop head slots) (take head slots) count x room,
+        ) (take_more_set (ring slots head) count x more)
 
     -- the same from the front on
     pub posted_back : place + length slots ≡ head + count → head < length slots → count < length slots
         → take (count + 1) (drop head (set slots place x) ++ take head (set slots place x))
-            ≡ take count (drop head slots ++ take head slots) ++ x ∷ []
+        ≡ take count (drop head slots ++ take head slots) ++ x ∷ []
     posted_back is inside room =
         let long : length (drop head slots) ≡ length slots - head = length-drop head slots in
         let low : place < head = omega arith in
         let at : place ≡ count - (length slots - head) = omega arith in
         let behind : length slots - head ≤ count = omega arith in
         let more : count < length (ring slots head) =
-            omega (arith, length-append (drop head slots) (take head slots), length-take head slots) in
-        rw (drop-set-lt head slots place x low, take-set-lt head slots place x low, at,
-            ← set-append_right (drop head slots) (take head slots) (length slots - head) count x long behind)
-            (take_more_set (ring slots head) count x more)
+        omega (arith, length-append (drop head slots) (take head slots), length-take head slots) in
+        rw (
+          drop-set-lt head slots place x low,
+          take-set-lt head slots place x low,
+          at,
+          ← set-append_right (drop head slots) (take head slots) (length slots - head) count x long behind,
+        )
+        (take_more_set (ring slots head) count x more)
 
   -- an item is written behind the others, at the remainder of its place
   pub posted_round : (slots : List X) (head count : ℕ) (x : X) (n : ℕ) → n ≡ length slots → head < n → count < n
       → take (count + 1) (drop head (set slots ((head + count) % n) x) ++ take head (set slots ((head + count) % n) x))
-          ≡ take count (drop head slots ++ take head slots) ++ x ∷ []
+      ≡ take count (drop head slots ++ take head slots) ++ x ∷ []
   posted_round slots head count x n is inside room = by (cases_lt (head + count) n) where
     by : (head + count < n) ⊎ (n ≤ head + count)
         → take (count + 1) (ring (set slots ((head + count) % n) x) head) ≡ take count (ring slots head) ++ x ∷ []
@@ -59,7 +67,7 @@ module _ {X : Type 0} where
     by (inr high) =
         let split : head + count ≡ n + (head + count - n) = omega (arith, high) in
         let same : (head + count) % n ≡ head + count - n = ap (λ m. m % n) split ∙ add-mod_left n (head + count - n)
-            ∙ mod-eq_of_lt (omega (arith, inside, room)) in
+        ∙ mod-eq_of_lt (omega (arith, inside, room)) in
         posted_back slots head count x ((head + count) % n) (omega (arith, same, is, high)) (omega (arith, is, inside))
         (omega (arith, is, room))
 
@@ -70,18 +78,26 @@ module _ {X : Type 0} where
       let oldest = drop-cons slots head x inside in
       let next : suc head ≡ head + 1 = omega arith in
       let front : take (suc head) (set slots head x) ≡ take head slots ++ x ∷ [] =
-          take-set_at slots head (suc head) x next inside in
+      take-set_at slots head (suc head) x next inside in
       let enough : c ≤ length (drop (suc head) slots ++ take head slots) =
-          omega (arith, length-append (drop (suc head) slots) (take head slots), length-drop (suc head) slots,
-          length-take head slots) in
-      rw (drop-set-lt (suc head) slots head x (omega arith), front,
-          ← append_assoc (drop (suc head) slots) (take head slots) (x ∷ []), oldest)
-          (take-append-le c (drop (suc head) slots ++ take head slots) (x ∷ []) enough)
+      omega (
+        arith,
+        length-append (drop (suc head) slots) (take head slots),
+        length-drop (suc head) slots,
+        length-take head slots,
+      ) in
+      rw (
+        drop-set-lt (suc head) slots head x (omega arith),
+        front,
+        ← append_assoc (drop (suc head) slots) (take head slots) (x ∷ []),
+        oldest,
+      )
+      (take-append-le c (drop (suc head) slots ++ take head slots) (x ∷ []) enough)
 
   module _ (slots : List X) (head count next : ℕ) where
     pub left_on : (x : X) → next ≡ head + 1 → next < length slots → 0 < count → count ≤ length slots
         → take (count - 1) (drop next (set slots head x) ++ take next (set slots head x))
-            ≡ drop 1 (take count (drop head slots ++ take head slots))
+        ≡ drop 1 (take count (drop head slots ++ take head slots))
     left_on x step inside some few =
         let one : count ≡ suc (count - 1) = omega arith in
         let on : next ≡ suc head = omega arith in
@@ -91,7 +107,7 @@ module _ {X : Type 0} where
     -- from the last place to the first
     pub left_back : (x : X) → next ≡ 0 → head + 1 ≡ length slots → 0 < count → count ≤ length slots
         → take (count - 1) (drop next (set slots head x) ++ take next (set slots head x))
-            ≡ drop 1 (take count (drop head slots ++ take head slots))
+        ≡ drop 1 (take count (drop head slots ++ take head slots))
     left_back x start end some few =
         let one : count ≡ suc (count - 1) = omega arith in
         let round = ring-round (set slots head x) (suc head) (omega (arith, end, length-set slots head x)) in
