@@ -1,6 +1,6 @@
 //! ChaCha20 (RFC 8439): its state, its block function, and its key stream.
 //!
-//! It hides a text, and doesn't tell whether one was changed. No key and nonce may serve two texts.
+//! It hides a text, and doesn't show whether one was changed. No key and nonce may serve two texts.
 ghost use Rattle.ga_ciphers.specs.ChaCha20.{bytes_of_words, chacha20_block, initial_state, words_of};
 ghost use Rattle.rand_chacha.specs.Block.{column_round, diagonal_round, double_rounds, quarter_round, xor_rotate};
 ghost use Rattle.std.proofs.Common.{lit≤};

@@ -45,7 +45,7 @@ pub struct CounterMode<C: BlockStream> {
     cipher: C,
     position: u64,
     // The block at the place, unless the place is where a block starts: so a piece of one byte
-    // doesn't make a block anew.
+    // doesn't make a block again.
     block: GenericArray<u8, C::BlockSize>,
 }
 

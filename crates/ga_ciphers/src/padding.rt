@@ -1,4 +1,4 @@
-//! Padding that tells its own length (PKCS #7; RFC 5652, 6.3), for texts that aren't whole blocks.
+//! Padding that states its own length (PKCS #7; RFC 5652, 6.3), for texts that aren't whole blocks.
 //!
 //! Every text is padded, one of whole blocks by one more block.
 ghost use Rattle.ga_ciphers.specs.Padding.{IsPadded, padded};

@@ -99,7 +99,7 @@ impl<T, N: ArrayLength<T>> GenericArray<T, N> {
         ensures len { length result.now ≡ N.USIZE }
         ensures fits { FitsInline N.USIZE }
     {
-        // Cut to the length that the type tells, so that the compiler knows it.
+        // Cut to the length that the type says, so that the compiler knows it.
         &self.store.as_slice()[..N::USIZE]
     }
 

@@ -255,7 +255,7 @@ impl<T: fmt::Debug, N: ArrayLength<T>> fmt::Debug for GenericArrayIter<T, N> {
         ++? debug_list T.debug_output left ++? Some (codes ")") };
 
     fn fmt<W: fmt::Write>(&self, f: &mut fmt::Formatter<W>) -> fmt::Result {
-        // No clause of std tells what `debug_tuple` writes, so only the text of `{:#?}` is left to it.
+        // No clause of std says what `debug_tuple` writes, so only the text of `{:#?}` is left to it.
         if f.alternate() {
             return f
                 .debug_tuple("GenericArrayIter")

@@ -15,7 +15,7 @@ use ga_views::{GenericArrayRef, Unsigned};
 
 /// Borrowed items: those of a read-only view, or of an inline array by reference.
 ///
-/// Its calls are `map_inline` and its kin of `GenericArray`, with references in place of items. Of
+/// Its calls are `map_inline` and the like of `GenericArray`, with references in place of items. Of
 /// a view they require that the length fits inline; an array's always does.
 pub trait BorrowedItems<T, N: Unsigned> {
     // The items, in order.

@@ -1,9 +1,9 @@
 //! Arrays whose length is a type, kept inline.
 //!
 //! Contracts see a `GenericArray<T, N>` as the list of its items, which are exactly `N`. It is
-//! built by `generate`, `try_from_iter`, `from_array` and their kin, or item by item by an
+//! built by `generate`, `try_from_iter`, `from_array` and the like, or item by item by an
 //! `ArrayBuilder`. It has the methods of slices (`DerefSlice`), an iterator by value
-//! (`GenericArrayIter`), and plain calls of closures, `map_inline` and its kin; those over
+//! (`GenericArrayIter`), and plain calls of closures, `map_inline` and the like; those over
 //! references are in `BorrowedItems`.
 //!
 //! All of `ga_views` is exported here too. Boxed arrays are in `ga_boxed`, the interface over every

@@ -61,7 +61,7 @@ pub trait Store<T>: Sized + Drop {
         ensures items { result.now ≡ items self.old };
 
     /// A full store of defaults. `capacity` is the store's own, which is at most `MAX_INLINE`. No
-    /// clause and no test tells how often `default` is called.
+    /// clause and no test says how often `default` is called.
     ///
     /// The body here appends each to an empty store. A store that fills its spare slots with
     /// defaults can do without the second pass.

@@ -1,4 +1,4 @@
-//! Words, texts, statuses and faults; in a file beside it, memory that is refused. Long inputs,
+//! Words, texts, statuses and faults; in a file next to it, memory that is refused. Long inputs,
 //! streams in each manner and each fault in turn are in `trials/sweeps/ga_rows`.
 mod doubles;
 mod refused_memory;
@@ -42,7 +42,7 @@ fn words_mean_a_mode_and_a_width(rt: HostRuntime) -> Result<(), Fail> {
     Ok(())
 }
 
-// What is told of words that mean nothing, where memory is short, and of another fault.
+// What is reported of words that mean nothing, where memory is short, and of another fault.
 const USAGE: &[u8] = b"usage: ga_rows [dec|hex|back|sum|last] [1|2|4|8|16]\n";
 
 const NO_MEMORY: &[u8] = b"ga_rows: out of memory\n";
@@ -121,7 +121,7 @@ fn words_that_are_not_listed_end_the_program(rt: HostRuntime) {
         let mut err = Sink::new(told, WHOLE, usize::MAX);
         let is_ended = ends_unlisted(rt.alloc(), kind, &mut err, code);
         assert!(rt; is_ended && err.has_text() && err.writes() == 2, "{code}");
-        // Nobody can be told: the status is the same, and no more is written.
+        // Nothing can be reported: the status is the same, and no more is written.
         let mut err = Sink::new(told, WHOLE, 1);
         let is_ended = ends_unlisted(rt.alloc(), kind, &mut err, code);
         assert!(rt; is_ended && err.writes() == 1, "{code}");
@@ -150,7 +150,7 @@ fn a_fault_of_standard_error_is_ignored(rt: HostRuntime) -> Result<(), Fail> {
 }
 
 /// Whether a fault behind the input, or at the write of this number, ends the program with 4, which
-/// standard error is told, after so many writes.
+/// is reported to standard error, after so many writes.
 fn ends_at_a_fault(
     alloc: Global,
     fault: Option<ErrorKind>,

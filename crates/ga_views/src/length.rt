@@ -21,7 +21,7 @@ pub trait Unsigned {
 
 /// A length that fits inline, as a bound: code under it needs no condition that it fits.
 ///
-/// Every named length is one. A length type of one's own gets it by an `impl`, which proves that
+/// Every named length is one. A length type of your own gets it by an `impl`, which proves that
 /// the length is at most `MAX_INLINE`. For another `Const`, as `Const<100>`, no crate above this
 /// one can write that.
 pub trait InlineLength: Unsigned {

@@ -39,7 +39,7 @@ DOCUMENTS = ("README.md", "crates/*/README.md", *(
 OF_SEEN = "STUCK.md"
 # The sources whose words documents may use, and what the kit prints, or stands for another name.
 SOURCES = (".rt", ".antt", ".rattle", ".rs", ".edit", ".txt")
-EXEMPT = {"ci", "trusted", "board", "player", "mine", "ENUM"}
+EXEMPT = {"ci", "anew", "trusted", "board", "player", "mine", "ENUM"}
 FILE, WORD, PATH = re.compile(r"[\w.-]+(?:/[\w.-]+)+"), re.compile(r"\b[A-Za-z_]\w+"), re.compile(
     r"\w+(?:::\w+)+")
 

@@ -9,7 +9,7 @@ use ga_core::{AllocError, Unsigned};
 use std::alloc::Global;
 
 impl<T: Default, N: Unsigned> BoxedArray<T, N> {
-    /// The array of `N` defaults. No clause and no test tells how often and in which order
+    /// The array of `N` defaults. No clause and no test says how often and in which order
     /// `T::default()` is called.
     ///
     /// Allocates the whole block first, and nothing if `N` is 0.

@@ -12,7 +12,7 @@ use crate::store::Store;
 use std::alloc;
 
 impl<T: Default + Drop, N: ArrayLength<T>> GenericArray<T, N> {
-    /// The array of `N` defaults. Requires `N <= MAX_INLINE`. No clause and no test tells how often
+    /// The array of `N` defaults. Requires `N <= MAX_INLINE`. No clause and no test says how often
     /// and in which order `T::default()` is called.
     ///
     /// For every length that fits. The trait `Default`, which items of arrays need, is there for

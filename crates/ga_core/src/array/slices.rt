@@ -16,7 +16,7 @@ pub trait Len {
     // What a call gives: the number of items.
     ghost len_gives: { Self → ℕ → Type 0 };
 
-    /// The number of items, which the type tells.
+    /// The number of items, which the type says.
     fn len(&self) -> usize
         ensures { len_gives self.now result };
 }

@@ -32,7 +32,7 @@ impl<T, N: ArrayLength<T>> GenericArray<T, N> {
         ensures slice { result.slice ≡ self.entry }
         ensures fits { FitsInline N.USIZE }
     {
-        // For the prover alone: reading a field tells the array's invariant, that there are `N`
+        // For the prover alone: reading a field shows the array's invariant, that there are `N`
         // items.
         let _ = &self.store;
         ViewMut {

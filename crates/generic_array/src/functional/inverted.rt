@@ -1,4 +1,4 @@
-//! Zips told from the right side. Each is one function over the traits.
+//! Zips called from the right side. Each is one function over the traits.
 ghost use Rattle.ga_core.specs.Calls.{MayZip};
 ghost use Rattle.ga_core.specs.Entries.{ActsOnEntries, CallAtPair};
 ghost use Rattle.ga_core.specs.Runs.{ClosureRun};

@@ -166,7 +166,7 @@ pub(super) fn map_entries<T, I: Iterator + Drop, U, M: GenericSequence<U>, F: Fn
     )
 }
 
-// `try_generate_by`. For the prover alone: it tells the run as a record, from which a proof finds
+// `try_generate_by`. For the prover alone: it states the run as a record, from which a proof finds
 // the closure's step.
 #[inline(always)]
 fn try_build<U, E, M: FallibleGenericSequence<U>, G: FnMut(usize) -> Result<U, E>>(

@@ -113,7 +113,7 @@ pub trait Split<T, First, Second>: Sized {
     // The lengths of the parts add up to that of the sequence.
     ghost IsSum: { Type 0 };
 
-    /// The first items, as many as the type of the first part tells, and all others. Requires that
+    /// The first items, as many as the type of the first part says, and all others. Requires that
     /// the lengths of the parts add up to that of the sequence.
     fn split(self) -> (First, Second)
         requires { IsSum }
