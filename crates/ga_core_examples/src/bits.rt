@@ -1,4 +1,4 @@
-//! Bits: packed beside each other, read by a mask, and unpacked. The set `bits` stands at the head
+//! Bits: packed next to each other, read by a mask, and unpacked. The set `bits` stands at the head
 //! of the module.
 #![tactic(auto, using(ga_core::proofs::BitLemmas::bits))]
 

@@ -7,7 +7,7 @@ ghost use Rattle.std.specs.Prelude.{◌≡◌, IfSome, Some};
 
 use ga_core::{ArrayBuilder, GenericArray, U4, U8};
 
-/// What one node tells another.
+/// What one node sends to another.
 #[derive(Drop)]
 pub enum Message {
     /// Asks for an answer.

@@ -1,4 +1,4 @@
-//! An error of one's own, to which `?` converts those of a length and of memory.
+//! An error of your own, to which `?` converts those of a length and of memory.
 ghost use Rattle.ga_core.specs.Length.{FitsInline};
 ghost use Rattle.ga_core_examples.specs.declared.own_errors.StoreError.TheVariants.{Memory, Ragged};
 ghost use Rattle.std.specs.Prelude.{◌≡◌, ◌≢◌, ◌↔◌, IfOk, IsErrOf, length};

@@ -1,4 +1,4 @@
-//! A trait of one's own over arrays of a length that each impl chooses, whose calls take them by
+//! A trait of your own over arrays of a length that each impl chooses, whose calls take them by
 //! value.
 ghost use Rattle.ga_core.specs.Views.{items_of_view};
 ghost use Rattle.std.specs.Prelude.{◌≡◌, ℕ, ◌/◌, ◌++◌, List, drop, take};

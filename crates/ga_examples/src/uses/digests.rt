@@ -94,7 +94,7 @@ where
     )
 }
 
-/// The first bytes of the blocks of a message in three pieces, added up. The closure is told the
+/// The first bytes of the blocks of a message in three pieces, added up. The closure knows the
 /// length of a block, so it can look at it as an array.
 fn first_bytes(first: &[u8], second: &[u8], third: &[u8]) -> u32
     requires { length first.now + length second.now + length third.now < 2 ^ 61 }

@@ -6,7 +6,7 @@ ghost use Rattle.std.specs.Prelude.{◌≡◌};
 
 use generic_array::{ArrayLength, BorrowedItems, GenericArray};
 
-// A lemma needs the lengths of the arrays. Each `let _ = array.as_slice();` tells one.
+// A lemma needs the lengths of the arrays. Each `let _ = array.as_slice();` gives one.
 
 fn mask_block<N: ArrayLength<u8>>(block: &mut GenericArray<u8, N>, mask: &GenericArray<u8, N>)
     ensures { block.new ≡ under block.old mask.now }
