@@ -15,6 +15,7 @@ HERE = pathlib.Path(__file__).resolve().parent
 TOP = HERE.parent
 sys.path[:0] = map(str, [HERE / "bench", HERE / "diff", TOP / "tools" / "lib"])
 
+import draw
 import runs
 import sides
 from check.copies import copy_crates, take_proved
@@ -98,12 +99,13 @@ def add_sides(ours):
             put(source / f"{module}.rt", text)
 
 
-def add_sweeps(ours):
-    """Adds the crates of sweeps to a copy of the crates, and returns their names. Where the checkout
-    has a crate of such a name, the files are added to it, each as a module of the one above it."""
+def add_sweeps(ours, seed):
+    """Adds the crates of sweeps to a copy of the crates, with what is drawn from the seed, and returns
+    their names. Where the checkout has a crate of such a name, the files are added to it, each as a
+    module of the one above it."""
     lists = [it for it in (TOP / "crates.txt", SWEEPS / "libraries.txt") if it.exists()]
     put(ours / "crates.txt", "".join(it.read_text() for it in lists))
-    files = sorted(SWEEPS.glob("*/**/*.rattle"))
+    files, tables = sorted(SWEEPS.glob("*/**/*.rattle")), []
     for file in files:
         name, *path = file.relative_to(SWEEPS).with_suffix(".rt").parts
         laid = ours.joinpath("crates", name, "src", *path)
@@ -112,7 +114,10 @@ def add_sweeps(ours):
             raise ValueError(f"{file.relative_to(TOP)} is no module of a file of crates/{name}")
         if (TOP / above.relative_to(ours)).exists():
             put(above, f"{above.read_text()}mod {laid.stem};\n")
-        put(laid, file.read_text())
+        text = draw.filled(file.read_text(), file.stem, seed)
+        tables += draw.tables_of(text, laid.stem)
+        put(laid, text)
+    put(ours / "crates" / "calls" / "src" / "drawn.rt", draw.module_of(tables, seed))
     for path, file in SHARED.items():
         if file.exists():
             put(ours / "crates" / path, file.read_text())

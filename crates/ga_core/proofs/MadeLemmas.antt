@@ -1,8 +1,14 @@
 -- An array all of whose slots were written over, and the run of calls that wrote them.
 use Rattle.ga_core.proofs.SlotLemmas.{refill-whole}
+use Rattle.ga_core.specs.Made.{made}
 use Rattle.ga_core.specs.Runs.{ClosureRun, TryClosureRun}
-use Rattle.std.proofs.Common.{◌≡◌, ◌∙◌, List, Result, ap, length, subst, sym}
-use Rattle.std.specs.List.{refill}
+use Rattle.std.proofs.Common.{◌≡◌, ◌∙◌, ℕ, List, Result, ap, length, map, refl, subst, sym}
+use Rattle.std.specs.List.{range_with_len, refill}
+
+-- what was made at each place is a map over the places
+pub made_is : {X : Type 0} (f : ℕ → X) (n : ℕ) → made f n ≡ map f (range_with_len 0 n)
+unfolding made
+made_is f n = refl
 
 -- the array has what was written, where its slots were lent as they were, and all of them were written
 pub made-is_written : {X : Type 0} {blanks lent written : List X} → lent ≡ blanks → length written ≡ length lent

@@ -2,6 +2,7 @@ pub mod Copies
 pub mod Digits
 pub mod Fill
 pub mod Lends
+pub mod Made
 pub use Rattle.ga_views.specs.Calls
 pub use Rattle.ga_views.specs.Cut
 pub use Rattle.ga_views.specs.Entries

@@ -1,5 +1,5 @@
-//! Builders as lists of at most `N` items, of any length: one edit after the other, the items that
-//! pass a test, and items written.
+//! Builders as lists of at most `N` items, of any length: one change after the other, the items
+//! that pass a test, and items written.
 ghost use Rattle.ga_core.specs.Length.{FitsInline};
 ghost use Rattle.std.specs.List.{swap, swap_remove};
 ghost use Rattle.std.specs.Prelude.{◌≡◌, ◌+◌, ◌-◌, ◌<◌, ◌≤◌, ◌++◌, ◌∷◌, ◌==◌, IsOk, Some, drop, filter, length, not, slice_get, slice_set, take};

@@ -1,4 +1,4 @@
-//! Boxed arrays: builds, fills and steps.
+//! Boxed arrays: builds, writes and iterators.
 ghost use Rattle.std.specs.Prelude.{◌≡◌, ℕ, ◌+◌, ◌∷◌, [], ◌<◌, ◌⊎◌, IfErr, IfOk, IsOk, OnOk, drop, length, reverse, slice_get};
 
 use ga_core_examples::digits::decimal_digit;

@@ -1,5 +1,5 @@
-//! Lengths of your own: one that is kept in an `ArrayVec`, and one that is kept in a store of your
-//! own.
+//! Lengths of your own: one that is kept in an `ArrayVec`, and one that is kept in a store of
+//! your own.
 ghost use Rattle.std.specs.Prelude.{◌≡◌, ◌++◌};
 
 use arrayvec::ArrayVec;

@@ -1,5 +1,5 @@
-//! What the library promises beyond one call, as functions; `tools/reference promise` lists them
-//! with the calls that carry the rest.
+//! What the specification says of more than one call, as functions; `tools/reference promise` lists
+//! them with the calls that carry the rest.
 //!
 //! Inline, boxed and borrowed sequences mean, through one interface, lists of exactly N items. This
 //! holds of every item type and length that the kind allows, every closure with state and every

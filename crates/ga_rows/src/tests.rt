@@ -1,4 +1,4 @@
-//! Words, texts, statuses and faults; in a file beside it, memory that is refused. Long inputs,
+//! Words, texts, statuses and faults; in a file next to it, memory that is refused. Long inputs,
 //! streams in each manner and each fault in turn are in `trials/sweeps/ga_rows`.
 mod doubles;
 mod refused_memory;
@@ -121,7 +121,7 @@ fn words_that_are_not_listed_end_the_program(rt: HostRuntime) {
         let mut err = Sink::new(told, WHOLE, usize::MAX);
         let is_ended = ends_unlisted(rt.alloc(), kind, &mut err, code);
         assert!(rt; is_ended && err.has_text() && err.writes() == 2, "{code}");
-        // Nobody can be told: the status is the same, and no more is written.
+        // Nothing can be reported: the status is the same, and no more is written.
         let mut err = Sink::new(told, WHOLE, 1);
         let is_ended = ends_unlisted(rt.alloc(), kind, &mut err, code);
         assert!(rt; is_ended && err.writes() == 1, "{code}");

@@ -11,7 +11,7 @@ use std::marker::Model;
 use std::mem;
 
 /// A map from keys of `N` bytes to values, in the keys' order. Contracts see it as the list of its
-/// entries, each the bytes of a key beside its value.
+/// entries, each the bytes of a key with its value.
 #[derive(Drop)]
 pub struct KeyTable<N: ArrayLength<u8>, V> {
     entries: Vec<(GenericArray<u8, N>, V)>,

@@ -16,6 +16,7 @@ pub use Rattle.ga_core.specs.HexText
 pub use Rattle.ga_core.specs.Iteration
 pub use Rattle.ga_core.specs.Lends
 pub use Rattle.ga_core.specs.Length
+pub use Rattle.ga_core.specs.Made
 pub use Rattle.ga_core.specs.Parts
 pub use Rattle.ga_core.specs.RowIteration
 pub use Rattle.ga_core.specs.Rows

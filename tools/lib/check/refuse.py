@@ -1,7 +1,7 @@
-"""Memory that is lost, asked for without need, or refused, and a system that fails.
+"""Memory that is lost, requested without need, or refused, and a system that fails.
 
 It runs what the parts `tests` and `trials` built, or builds it. `rt try` links the address
-sanitizer, which reports at the end of a run how often it asked for memory, and whether some was
+sanitizer, which reports at the end of a run how often it requested memory, and whether some was
 neither given back nor can be reached. `rt try` doesn't report whether a run came to the request
 that it was to refuse: so each test is also run with one more refused than it makes.
 """
@@ -21,7 +21,7 @@ REFUSED = "refused_memory"
 SANITIZED = {"ASAN_OPTIONS": "detect_leaks=1:atexit=1:print_stats=1"}
 LEAK = re.compile(rb"^SUMMARY: AddressSanitizer: (\d+ byte\(s\) leaked .*)", re.M)
 COUNT = re.compile(rb"^Stats: \d+M malloced .* by (\d+) calls$", re.M)
-# How often all calls of a test ask for memory, as it prints.
+# How often all calls of a test request memory, as it prints.
 PRINTED = re.compile(rb"^requests: (\d+)$", re.M)
 
 # A run of a test: how many requests it made, whether it prints that number, whether it says that
@@ -30,7 +30,7 @@ Test = collections.namedtuple("Test", "name requests printed refused wrong")
 
 
 def run_counted(program, words, data=b""):
-    """Runs a tried program, and returns what is seen of it and how often it asks for memory."""
+    """Runs a tried program, and returns what is seen of it and how often it requests memory."""
     # What the sanitizer says of many leaks fills a pipe, which nobody reads before the output ends.
     with file_of(data) as given, file_of() as err:
         streams = {"stdin": given, "stderr": err, "cwd": tempfile.tempdir}

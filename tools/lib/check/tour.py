@@ -1,9 +1,9 @@
 """A page that a newcomer follows: what it has one write, run and see.
 
-A block of code says what it is behind its language. `rust FILE` and `antt FILE` are a whole file,
-and `diff FILE` is a change of one: its lines with `-` stand there once. `console` has commands
-behind `$ `, each with lines that it prints in this order, among others: `..` in one stands for any
-text. A command without lines has to end well. `../mine` is a new folder for each page.
+A block of code says what it is behind its language. `rust FILE`, `antt FILE` and `c FILE` are a
+whole file, and `diff FILE` is a change of one: its lines with `-` stand there once. `console` has
+commands behind `$ `, each with lines that it prints in this order, among others: `..` in one stands
+for any text. A command without lines has to end well. `../mine` is a new folder for each page.
 
 What `rt lib` has proved in this checkout is proved already; else the first check of a page proves
 it, for some ten minutes.
@@ -15,7 +15,7 @@ import time
 from check.copies import TOP
 from check.running import call
 
-BLOCK = re.compile(r"(?ms)^```(rust|antt|diff|console) ?(\S*)\n(.*?)^```$")
+BLOCK = re.compile(r"(?ms)^```(rust|antt|diff|console|c) ?(\S*)\n(.*?)^```$")
 COMMAND = re.compile(r"(?m)^\$ (.*?)(?: *#.*)?\n((?:(?!\$ ).*\n)*)")
 MINE = "../mine"
 
@@ -78,5 +78,5 @@ def run_page(tally, page):
 
 
 def run(tally, words):
-    for page in words or ("README.md", "docs/TOUR.md"):
+    for page in words or ("README.md", "docs/TOUR.md", "docs/FROM_RUST.md"):
         run_page(tally, page)

@@ -43,7 +43,7 @@ def impl_of(item):
 
 
 def is_detail(item):
-    """Whether an item is a part of another that isn't called: it is asked for by the names
+    """Whether an item is a part of another that isn't called: it is looked up by the names
     of both."""
     is_inner = item.owner is not None and item.owner.kind != "mod"
     return is_inner and item.kind not in ("word", "fn")

@@ -1,4 +1,4 @@
-"""Answers a name in the terminal: with items, and with rows of the documents."""
+"""Prints what a name means: items, and rows of the documents."""
 import re
 import shutil
 import subprocess

@@ -1,6 +1,7 @@
 //! Arrays built from a closure or an iterator.
 ghost use Rattle.ga_core.specs.Calls.{MayGenerate, MayTryGenerate};
 ghost use Rattle.ga_core.specs.Fill.{Asks, FillFalliblyRuns, FillRuns, Fills, FillsFallibly};
+ghost use Rattle.ga_core.specs.Made.{made};
 ghost use Rattle.ga_core.specs.Runs.{ClosureRun, TryClosureRun};
 ghost use Rattle.ga_core.specs.Tries.{try_map};
 ghost use Rattle.ga_views.specs.Length.{FitsInline};
@@ -24,6 +25,7 @@ impl<T: Default + Drop, N: ArrayLength<T>> GenericArray<T, N> {
         ensures run { (last : F) × ClosureRun F.step f (range_with_len 0 N.USIZE) result last }
         ensures acts { (h : ℕ → T) → ActsAs F.FnMut f h
             → result ≡ map h (range_with_len 0 N.USIZE) }
+        ensures made { (h : ℕ → T) → ActsAs F.FnMut f h → result ≡ made h N.USIZE }
     {
         Self::generate_by(&mut f)
     }
@@ -35,6 +37,7 @@ impl<T: Default + Drop, N: ArrayLength<T>> GenericArray<T, N> {
         ensures run { ClosureRun F.step f.old (range_with_len 0 N.USIZE) result f.new }
         ensures acts { (h : ℕ → T) → ActsAs F.FnMut f.old h
             → result ≡ map h (range_with_len 0 N.USIZE) }
+        ensures made { (h : ℕ → T) → ActsAs F.FnMut f.old h → result ≡ made h N.USIZE }
     {
         let mut array = Self::default();
         write_generated(array.as_mut_slice(), f);

@@ -1,22 +1,22 @@
-//! A reader and a writer that go in parts, are interrupted, and fail.
-//!
-//! The tests of hex text and records in `trials/sweeps/texts` have this file too.
+//! A reader and a writer that go in parts, are interrupted, and fail. The tests of hex text and
+//! records in `trials/sweeps/texts` have this file too.
 use std::io;
 use std::io::{ErrorKind, Read, Write};
 
 /// At most `step` bytes go at a call. The first of each `period` calls is interrupted, none where
-/// that is 0, and so is the call of the number `once`, from 1.
+/// that is 0, and so are `times` calls from the number `once` on, which counts from 1.
 #[derive(Clone, Copy)]
 pub struct Manner {
     pub step: usize,
     pub period: usize,
     pub once: usize,
+    pub times: usize,
 }
 
 impl Manner {
     // Whether the call of this number, from 1, is interrupted.
     fn interrupts(self, call: usize) -> bool {
-        call == self.once || call.checked_rem(self.period) == Some(1)
+        call.wrapping_sub(self.once) < self.times || call.checked_rem(self.period) == Some(1)
     }
 }
 
@@ -25,6 +25,7 @@ pub const WHOLE: Manner = Manner {
     step: usize::MAX,
     period: 0,
     once: 0,
+    times: 1,
 };
 
 /// Gives its bytes, and at last fails or ends.
@@ -82,8 +83,7 @@ pub struct Sink<'a> {
 }
 
 impl<'a> Sink<'a> {
-    /// A writer that expects this text, and fails at the call of this number, from 1, with the kind
-    /// `StorageFull`, which nothing else has here.
+    /// A writer that expects this text, and fails at the call of this number with `StorageFull`.
     pub fn new(text: &'a [u8], manner: Manner, fails_at: usize) -> Self {
         Sink {
             to_come: text,
