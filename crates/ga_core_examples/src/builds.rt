@@ -1,5 +1,6 @@
 //! Builds, fills and copies.
 ghost use Rattle.ga_core.specs.Length.{FitsInline};
+ghost use Rattle.ga_core.specs.Made.{made};
 ghost use Rattle.std.specs.Int.Bits.{bit_xor};
 ghost use Rattle.std.specs.List.{range_with_len};
 ghost use Rattle.std.specs.Prelude.{◌≡◌, ◌+◌, ◌*◌, ◌%◌, ◌<◌, ◌≤◌, ◌⊎◌, ◌∷◌, [], Err, IfErr, IfOk, Ok, OnErr, OnOk, ◌≢◌, length, map, slice_index};
@@ -9,7 +10,7 @@ use ga_core::{
     AllocError, ArrayBuilder, ArrayLength, Const, GenericArray, LengthError, U3, U4, U7,
 };
 
-/// A long known length: through this function of any length, or by a proof of one line.
+/// A long known length: through this function of any length, or by the word `made`.
 fn masked_places<N: ArrayLength<u8>>(mask: u8) -> GenericArray<u8, N>
     requires { N.USIZE ≤ 256 }
     ensures { result ≡ map (λ index. bit_xor index mask) (range_with_len 0 N.USIZE) }
@@ -32,8 +33,9 @@ fn packet(mask: u8) -> GenericArray<u8, Const<188>>
     masked_places(mask)
 }
 
+/// A long known length at once: `made` stays as it is written, and a map is written out item by item.
 fn packet_at_once(mask: u8) -> GenericArray<u8, Const<188>>
-    ensures { result ≡ map (λ index. bit_xor index mask) (range_with_len 0 188) }
+    ensures { result ≡ made (λ index. bit_xor index mask) 188 }
 {
     GenericArray::generate(|index| index as u8 ^ mask)
 }
