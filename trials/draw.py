@@ -28,7 +28,7 @@ TABLE = re.compile(r"pub fn (\w+)<'a, T: Item<'a>( \+ Copy)?, const U: usize>"
                    r"\(run: &'a Run(, len: usize)?\) \{")
 
 
-def share_of(most, seed):
+def share(most, seed):
     numbers = [*range(1, most + 1)]
     random.Random(most).shuffle(numbers)
     return numbers[seed % SHARES::SHARES]
@@ -38,11 +38,11 @@ def filled(text, name, seed):
     """A file with what is drawn in it."""
     drawn = random.Random(f"{name} {seed}")
     text = re.sub(r"drawn!\((\w+)\)", lambda it: str(drawn.randint(1, int(it[1]))), text)
-    return re.sub(r"shared!\((\w+)\)", lambda n: " ".join(map(str, share_of(int(n[1]), seed))), text)
+    return re.sub(r"shared!\((\w+)\)", lambda n: " ".join(map(str, share(int(n[1]), seed))), text)
 
 
 def tables_of(text, module):
-    """The tables of a file: their paths, and whether each copies items, or takes a number of them."""
+    """The tables of a file: their paths, and whether each copies items or takes a number of them."""
     return [(f"{module}::{it[1]}", it[2], it[3]) for it in TABLE.finditer(text)]
 
 
@@ -57,9 +57,9 @@ def items_of(length, number):
 def turns_of(seed):
     """The length and the items of each turn, and how many turns have short lengths. All tables pick
     among the same few items: each pair of a length and an item takes memory to build."""
-    drawn, share = random.Random(seed), [it for it in share_of(SHORT, seed) if it not in EDGES]
+    drawn, others = random.Random(seed), [it for it in share(SHORT, seed) if it not in EDGES]
     turns = [(it, *items_of(it, seed)) for it in EDGES]
-    turns += [(it, *items_of(it, seed // SHARES)) for it in share]
+    turns += [(it, *items_of(it, seed // SHARES)) for it in others]
     for limit in LIMITS:
         size = drawn.choice([it for it in COPIED if 0 < it <= limit])
         length = (limit - drawn.choice([0, BESIDE])) // size + drawn.choice([-1, 0, 1])
@@ -68,9 +68,8 @@ def turns_of(seed):
     return turns + [(it, *items_of(it, seed)) for it in longer], len(turns)
 
 
-def calls_of(tables, number, turn, seed):
+def calls_of(tables, seed, number, length, plain, counted, copied):
     """The calls of a turn: at edges above one with plain and counted items, else with either."""
-    length, plain, counted, copied = turn
     for path, copies, takes in tables:
         drawn = random.Random(f"{path} {length} {seed}")
         are_both = 1 < number < len(EDGES)
@@ -91,5 +90,5 @@ def module_of(tables, seed):
              "pub fn make(run: &Run, turn: usize) {", "match turn {",
              *(f"{it} => turn_{it}(run)," for it in range(len(turns))), "_ => {}", "}", "}"]
     for number, turn in enumerate(turns):
-        lines += [f"fn turn_{number}(run: &Run) {{", *calls_of(tables, number, turn, seed), "}"]
+        lines += [f"fn turn_{number}(run: &Run) {{", *calls_of(tables, seed, number, *turn), "}"]
     return "\n".join(lines) + "\n"
