@@ -42,7 +42,7 @@ def filled(text, name, seed):
 
 
 def tables_of(text, module):
-    """The tables of a file: their paths, and whether each copies items or takes a number of them."""
+    """The tables of a file: their paths, and whether they copy items or take a number of them."""
     return [(f"{module}::{it[1]}", it[2], it[3]) for it in TABLE.finditer(text)]
 
 
