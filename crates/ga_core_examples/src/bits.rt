@@ -1,31 +1,53 @@
-//! Bits: packed next to each other, read by a mask, and unpacked. The set `bits` stands at the head
-//! of the module.
+//! Bits: packed into a byte, read by a mask, and unpacked. The set `bits` stands at the head of the
+//! module.
 #![tactic(auto, using(ga_core::proofs::BitLemmas::bits))]
 
 ghost use Rattle.ga_core_examples.specs.Digits.{number_of};
 ghost use Rattle.std.specs.Int.{bit_at};
-ghost use Rattle.std.specs.Prelude.{◌≡◌, ◌+◌, ◌*◌, ◌/◌, ◌%◌, ◌<◌, ◌↔◌, ◌∷◌, [], All, IsTrue, fold};
+ghost use Rattle.std.specs.Prelude.{◌≡◌, ◌+◌, ◌*◌, ◌/◌, ◌%◌, ◌<◌, ◌≤◌, ◌^◌, ◌↔◌, All, IsTrue, fold};
 
-use ga_core::{GenericArray, U4, U5, U8};
+use ga_core::{GenericArray, U5, U8};
 
-fn pack(a: u8, b: u8, c: u8, d: u8) -> u8
-    requires a { a < 4 }
-    requires b { b < 4 }
-    requires c { c < 4 }
-    requires d { d < 4 }
-    ensures { result ≡ a * 64 + b * 16 + c * 4 + d }
+fn pack(a: u8, b: u8, c: u8, d: u8, e: u8, f: u8, g: u8, h: u8) -> u8
+    requires a { a < 2 }
+    requires b { b < 2 }
+    requires c { c < 2 }
+    requires d { d < 2 }
+    requires e { e < 2 }
+    requires f { f < 2 }
+    requires g { g < 2 }
+    requires h { h < 2 }
+    ensures { result ≡ a * 128 + b * 64 + c * 32 + d * 16 + e * 8 + f * 4 + g * 2 + h }
 {
-    a << 6 | b << 4 | c << 2 | d
+    a << 7 | b << 6 | c << 5 | d << 4 | e << 3 | f << 2 | g << 1 | h
 }
 
 /// The items are taken out of the array before they are packed: `All` and `|` in one function leave
 /// the clause open.
-fn pairs_packed(pairs: GenericArray<u8, U4>) -> u8
-    requires { All (λ pair. pair < 4) pairs }
-    ensures { result ≡ fold (λ byte pair. byte * 4 + pair) 0 pairs }
+fn byte_of(bits: GenericArray<u8, U8>) -> u8
+    requires { All (λ bit. bit < 2) bits }
+    ensures { result ≡ fold (λ byte bit. byte * 2 + bit) 0 bits }
 {
-    let [a, b, c, d]: [u8; 4] = pairs.into_array();
-    pack(a, b, c, d)
+    let [a, b, c, d, e, f, g, h]: [u8; 8] = bits.into_array();
+    pack(a, b, c, d, e, f, g, h)
+}
+
+/// Eleven bits of two bytes: groups that are larger than five bits have a function each, and
+/// `small` lets others put them together.
+fn eleven_of(b: u8, c: u8) -> u16
+    ensures value { result ≡ b % 32 * 64 + c / 4 }
+    ensures small { result < 2048 }
+{
+    u16::from(b & 31) << 6 | u16::from(c >> 2)
+}
+
+/// The highest bit that is set.
+fn highest_bit(mask: u32) -> u32
+    requires { 0 < mask }
+    ensures least { 2 ^ result ≤ mask }
+    ensures most { mask < 2 ^ (result + 1) }
+{
+    mask.ilog2()
 }
 
 fn has_flag(flags: u8) -> bool
@@ -56,33 +78,5 @@ fn groups_of(bytes: GenericArray<u8, U5>) -> GenericArray<u8, U8>
         d >> 2 & 31,
         (d & 3) << 3 | e >> 5,
         e & 31,
-    ])
-}
-
-fn bytes_of(groups: GenericArray<u8, U8>) -> GenericArray<u8, U5>
-    requires { All (λ group. group < 32) groups }
-    ensures { number_of 256 result ≡ number_of 32 groups }
-{
-    let [a, b, c, d, e, f, g, h]: [u8; 8] = groups.into_array();
-    five_of(a, b, c, d, e, f, g, h)
-}
-
-fn five_of(a: u8, b: u8, c: u8, d: u8, e: u8, f: u8, g: u8, h: u8) -> GenericArray<u8, U5>
-    requires a { a < 32 }
-    requires b { b < 32 }
-    requires c { c < 32 }
-    requires d { d < 32 }
-    requires e { e < 32 }
-    requires f { f < 32 }
-    requires g { g < 32 }
-    requires h { h < 32 }
-    ensures { number_of 256 result ≡ number_of 32 (a ∷ b ∷ c ∷ d ∷ e ∷ f ∷ g ∷ h ∷ []) }
-{
-    GenericArray::from_array([
-        a << 3 | b >> 2,
-        (b & 3) << 6 | c << 1 | d >> 4,
-        (d & 15) << 4 | e >> 1,
-        (e & 1) << 7 | f << 2 | g >> 3,
-        (g & 7) << 5 | h,
     ])
 }

@@ -1,14 +1,11 @@
 //! Lists of at most N items that are arrays: with the number as a parameter, or with the array in a
 //! struct, which has a length type as any item has.
 ghost use Rattle.ga_core.specs.Length.{FitsInline};
-ghost use Rattle.std.specs.Prelude.{◌≡◌, ◌-◌, ◌<◌, ◌↔◌, ◌++◌, ◌∷◌, [], Contains, IfNone, IfSome, IsNone, IsOk, IsSome, OnErr, OnOk, length, slice_index_or, take};
+ghost use Rattle.std.specs.Prelude.{◌≡◌, ◌-◌, ◌<◌, ◌↔◌, ◌++◌, ◌∷◌, [], Contains, IfNone, IfSome, IsNone, IsSome, length, slice_index_or, take};
 
 use ga_core::{ArrayBuilder, ArrayLength, Const, GenericArray, U20};
 
 type Id = GenericArray<u8, U20>;
-
-#[derive(Debug, PartialEq, Eq, Clone, Copy)]
-struct Full;
 
 /// Ids, the one that was seen last in front.
 #[derive(Drop)]
@@ -68,17 +65,5 @@ impl<N: ArrayLength<Node>> Nodes<N> {
     {
         let nodes = ArrayBuilder::new();
         Nodes { nodes }
-    }
-
-    fn insert(&mut self, node: Node) -> Result<(), Full>
-        ensures variant { IsOk result ↔ (length self.old.nodes < N.USIZE) }
-        ensures ok { OnOk result (self.new.nodes ≡ node ∷ self.old.nodes) }
-        ensures err { OnErr result (self.new.nodes ≡ self.old.nodes) }
-    {
-        if self.nodes.is_full() {
-            return Err(Full);
-        }
-        self.nodes.insert(0, node);
-        Ok(())
     }
 }

@@ -2,7 +2,7 @@
 ghost use Rattle.ga_core.specs.Length.{FitsInline};
 ghost use Rattle.std.specs.Int.Bits.{bit_xor};
 ghost use Rattle.std.specs.List.{range_with_len};
-ghost use Rattle.std.specs.Prelude.{◌≡◌, ◌+◌, ◌<◌, ◌≤◌, ◌⊎◌, ◌∷◌, [], Err, IfErr, IfOk, Ok, OnErr, OnOk, ◌≢◌, length, map, slice_index};
+ghost use Rattle.std.specs.Prelude.{◌≡◌, ◌+◌, ◌*◌, ◌%◌, ◌<◌, ◌≤◌, ◌⊎◌, ◌∷◌, [], Err, IfErr, IfOk, Ok, OnErr, OnOk, ◌≢◌, length, map, slice_index};
 
 use crate::digits::decimal_digit;
 use ga_core::{
@@ -15,6 +15,15 @@ fn masked_places<N: ArrayLength<u8>>(mask: u8) -> GenericArray<u8, N>
     ensures { result ≡ map (λ index. bit_xor index mask) (range_with_len 0 N.USIZE) }
 {
     GenericArray::generate(|index| index as u8 ^ mask)
+}
+
+/// An item of a table that a function of any length built.
+fn looked_up<N: ArrayLength<u8>>(table: &GenericArray<u8, N>, index: u8) -> u8
+    requires len { N.USIZE ≡ 256 }
+    requires table { table.now ≡ map (λ index. index * 2 % 256) (range_with_len 0 N.USIZE) }
+    ensures { result ≡ index * 2 % 256 }
+{
+    table[usize::from(index)]
 }
 
 fn packet(mask: u8) -> GenericArray<u8, Const<188>>

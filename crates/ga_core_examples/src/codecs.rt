@@ -1,7 +1,6 @@
 //! Bytes read and written as numbers and text, of any length, each with its exact result. What
-//! reads or writes single bytes takes the slice of an array first: over the array itself the exact
-//! clauses of `be16_at` and `mask_loop` stay open.
-ghost use Rattle.std.specs.Int.Bits.{bit_xor};
+//! reads single bytes takes the slice of an array first: over the array itself the exact clause of
+//! `be16_at` stays open.
 ghost use Rattle.std.specs.Int.{from_be_bytes, w16};
 ghost use Rattle.std.specs.Prelude.{◌≡◌, ◌+◌, ◌-◌, ◌<◌, ◌≤◌, ◌++◌, ◌∷◌, All, drop, if◌then◌else◌, length, map, nat_lt, replicate, take};
 
@@ -13,15 +12,6 @@ fn be16_at<N: ArrayLength<u8>>(packet: &GenericArray<u8, N>, at: usize) -> u16
 {
     let bytes = packet.as_slice();
     u16::from_be_bytes([bytes[at], bytes[at + 1]])
-}
-
-fn mask_loop<N: ArrayLength<u8>>(text: &mut GenericArray<u8, N>, mask: u8)
-    ensures { text.new ≡ map (λ byte. bit_xor byte mask) text.old }
-{
-    let bytes = text.as_mut_slice();
-    for byte in bytes.iter_mut() {
-        *byte ^= mask;
-    }
 }
 
 fn padded_block<N: ArrayLength<u8> + InlineLength>(message: &[u8]) -> GenericArray<u8, N>

@@ -19,6 +19,8 @@ mod codecs;
 /// The digits that callers read from text.
 pub mod digits;
 #[cfg(test)]
+mod digits_in_place;
+#[cfg(test)]
 mod fixed_list;
 #[cfg(test)]
 mod hex_text;
@@ -36,6 +38,8 @@ mod own_traits;
 mod parts;
 #[cfg(test)]
 mod plain_calls;
+#[cfg(test)]
+mod queue;
 /// Records read from rows of bytes.
 pub mod records;
 #[cfg(test)]
@@ -46,6 +50,8 @@ mod row_searches;
 mod row_writes;
 #[cfg(test)]
 mod rows;
+#[cfg(test)]
+mod searches;
 #[cfg(test)]
 mod signed;
 #[cfg(test)]

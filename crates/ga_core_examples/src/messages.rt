@@ -1,7 +1,4 @@
-//! A message as bytes and back. The lemma that a key and a number come back stands at the head of
-//! the module.
-#![tactic(auto, using(crate::proofs::MessageLemmas::put_back))]
-
+//! A message as bytes and back.
 ghost use Rattle.ga_core_examples.specs.Messages.{bytes_of, message_in};
 ghost use Rattle.std.specs.Prelude.{◌≡◌, IfSome, Some};
 
@@ -22,8 +19,7 @@ pub enum Message {
 
 /// The bytes of a message: a kind, and the fields in order, numbers with the highest byte first.
 pub fn encode(message: &Message) -> ArrayBuilder<u8, U8>
-    ensures bytes { result ≡ bytes_of message.now }
-    ensures back { message_in result ≡ Some message.now }
+    ensures { result ≡ bytes_of message.now }
 {
     let mut bytes = ArrayBuilder::new();
     match message {
@@ -62,9 +58,10 @@ pub fn decode(bytes: &[u8]) -> Option<Message>
     }
 }
 
-/// Encodes a message and decodes its bytes, which returns the message.
-pub fn there_and_back(message: &Message) -> Option<Message>
-    ensures { result ≡ Some message.now }
+/// Encodes a message and decodes its bytes, which returns the message. It goes by value: a field
+/// behind a `&` has no range.
+pub fn there_and_back(message: Message) -> Option<Message>
+    ensures { result ≡ Some message }
 {
-    decode(encode(message).as_slice())
+    decode(encode(&message).as_slice())
 }

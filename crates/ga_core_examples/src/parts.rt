@@ -1,5 +1,5 @@
 //! Parts of arrays that are written, of a field too.
-ghost use Rattle.std.specs.Prelude.{◌≡◌, ◌++◌, ◌≤◌, ◌+◌, ◌-◌, drop, length, replicate, take};
+ghost use Rattle.std.specs.Prelude.{◌≡◌, ◌++◌, ◌∷◌, [], ◌<◌, ◌≤◌, ◌+◌, ◌-◌, drop, false, length, replicate, take, true};
 
 use ga_core::{ArrayLength, GenericArray, InlineLength};
 use std::marker::Model;
@@ -9,6 +9,16 @@ fn front_set<N: ArrayLength<u8>>(array: &mut GenericArray<u8, N>, bytes: &[u8])
     ensures { array.new ≡ bytes.now ++ drop (length bytes.now) array.old }
 {
     array[0..bytes.len()].copy_from_slice(bytes);
+}
+
+/// All `false` but the last.
+fn last_alone<N: ArrayLength<bool> + InlineLength>() -> GenericArray<bool, N>
+    requires { 0 < N.USIZE }
+    ensures { result ≡ replicate (N.USIZE - 1) false ++ true ∷ [] }
+{
+    let mut marks = GenericArray::from_copies(false);
+    marks[N::USIZE - 1] = true;
+    marks
 }
 
 #[derive(Drop)]

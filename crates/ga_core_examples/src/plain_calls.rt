@@ -3,7 +3,7 @@ ghost use Rattle.ga_core_examples.specs.Digits.{digit_of};
 ghost use Rattle.ga_core.specs.Tries.{try_map};
 ghost use Rattle.std.specs.Int.Bits.{bit_xor};
 ghost use Rattle.std.specs.List.{zip};
-ghost use Rattle.std.specs.Prelude.{◌≡◌, ◌∷◌, [], map};
+ghost use Rattle.std.specs.Prelude.{◌≡◌, ◌+◌, ◌/◌, ◌%◌, ◌<◌, ◌∷◌, [], All, Ok, map};
 
 use crate::digits::digit_in;
 use ga_core::{ArrayLength, BorrowedItems, GenericArray, U2, U3};
@@ -12,6 +12,18 @@ fn masked_copy<N: ArrayLength<u8>>(key: &GenericArray<u8, N>, mask: u8) -> Gener
     ensures { result ≡ map (λ b. bit_xor b mask) key.now }
 {
     key.map_inline_ref(|b: &u8| *b ^ mask)
+}
+
+/// A captured number of which something has to hold: so does the closure say.
+fn shares<N: ArrayLength<u32>>(numbers: &GenericArray<u32, N>, by: u32) -> GenericArray<u32, N>
+    requires { 0 < by }
+    ensures { result ≡ map (λ number. number / by) numbers.now }
+{
+    numbers.map_inline_ref(
+        |number: &u32| -> u32
+            requires { 0 < by }
+        { *number / by },
+    )
 }
 
 fn digits_of<N: ArrayLength<u8>>(
@@ -30,6 +42,22 @@ fn digits_of_borrowed<N: ArrayLength<u8>>(
     ensures { result ≡ try_map (digit_of base) text.now }
 {
     text.try_map_inline_ref(|byte: &u8| digit_in(base, *byte))
+}
+
+/// The text of digits, and the digits that are read from it.
+fn digits_read_back<N: ArrayLength<u8>>(
+    digits: &GenericArray<u8, N>,
+) -> Result<GenericArray<u8, N>, u8>
+    requires { All (λ digit. digit < 10) digits.now }
+    ensures { result ≡ Ok digits.now }
+{
+    digits_of_borrowed(&text_of(digits), 10)
+}
+
+fn text_of<N: ArrayLength<u8>>(digits: &GenericArray<u8, N>) -> GenericArray<u8, N>
+    ensures { result ≡ map (λ digit. (digit + 48) % 256) digits.now }
+{
+    digits.map_inline_ref(|digit: &u8| digit.wrapping_add(b'0'))
 }
 
 /// Writes over what was there.

@@ -4,15 +4,12 @@
 //! result alone names, stands in a captured `PhantomData`, which costs nothing at run time.
 ghost use Rattle.ga_core.specs.Length.{FitsInline};
 ghost use Rattle.std.specs.List.{range_with_len};
-ghost use Rattle.std.specs.Prelude.{◌≡◌, ◌+◌, ◌-◌, ◌%◌, ◌^◌, ◌<◌, [], All, length, map, replicate, reverse, slice_index, slice_index_or};
+ghost use Rattle.std.specs.Prelude.{◌≡◌, ◌<◌, [], All, length, map, replicate, slice_index, slice_index_or};
 
 use ga_core::{
     ArrayLength, BorrowedItems, Const, GenericArray, GenericArrayRef, InlineLength, U2, U3,
 };
 use std::marker::PhantomData;
-
-/// `R` rows of `C` items each.
-type Rows<T, C, const R: usize> = GenericArray<GenericArray<T, C>, Const<R>>;
 
 /// `R` rows of `C` numbers each.
 type Matrix<C, const R: usize> = GenericArray<GenericArray<u64, C>, Const<R>>;
@@ -140,44 +137,6 @@ where
     )
 }
 
-/// The rows of a slab, the last first.
-fn reverse_slab<T: Default + Drop, R: ArrayLength<T> + InlineLength>(
-    mut slab: GenericArray<T, R>,
-) -> GenericArray<T, R>
-    ensures { result ≡ reverse slab }
-{
-    slab.reverse();
-    slab
-}
-
-/// The rows of each slab, the last first: three levels by value, with the row as the item type.
-fn reverse_slabs<T, R, const D: usize>(tensor: Rows<T, R, D>) -> Rows<T, R, D>
-where
-    T: Default + Drop,
-    R: ArrayLength<T> + InlineLength,
-    ensures { result ≡ map (λ slab. reverse slab) tensor }
-{
-    tensor.map_inline(|slab: GenericArray<T, R>| reverse_slab(slab))
-}
-
-/// What each number is above the one before it, modulo 2^64. A slice of numbers is captured.
-fn differences<N: ArrayLength<u64>, M: ArrayLength<u64>>(
-    window: &GenericArray<u64, N>,
-) -> GenericArray<u64, M>
-    requires fits { FitsInline M.USIZE }
-    requires lengths { N.USIZE ≡ M.USIZE + 1 }
-    ensures { result ≡ map
-        (λ i. (slice_index window.now (i + 1) + (2 ^ 64 - slice_index window.now i)) % 2 ^ 64)
-        (range_with_len 0 M.USIZE) }
-{
-    let items = window.as_slice();
-    GenericArray::generate(
-        |i: usize| -> u64
-            requires { i + 1 < length items.now }
-        { items[i + 1].wrapping_sub(items[i]) },
-    )
-}
-
 #[test]
 fn rows_are_turned_and_picked(rt: HostRuntime) {
     let matrix: Matrix<U3, 2> = GenericArray::from_array([
@@ -192,7 +151,4 @@ fn rows_are_turned_and_picked(rt: HostRuntime) {
     assert!(rt; diagonal(&square).as_slice() == [0, 0, 0].as_slice());
     let slabs: Tensor<U2, U3, 2> = GenericArray::from_array([pairs, transpose(&other)]);
     assert!(rt; tube(&slabs, 1, 0).as_slice() == [2, 5].as_slice());
-    assert!(rt; tube(&reverse_slabs(slabs), 0, 0).as_slice() == [3, 6].as_slice());
-    let two: GenericArray<u64, U2> = differences(&matrix[0]);
-    assert!(rt; two.as_slice() == [1, 1].as_slice());
 }

@@ -3,7 +3,7 @@ ghost use Rattle.ga_core.specs.Rows.{rows};
 ghost use Rattle.ga_core.specs.Views.{items_of_chunks, items_of_view};
 ghost use Rattle.std.specs.List.{list_any, starts_with};
 ghost use Rattle.std.specs.Option.{option_map};
-ghost use Rattle.std.specs.Prelude.{◌≡◌, count_by, find, nat_eq, position, reverse};
+ghost use Rattle.std.specs.Prelude.{◌≡◌, count_by, find, nat_eq};
 
 use ga_core::{ChunksRef, GenericArrayRef, Unsigned};
 
@@ -19,14 +19,6 @@ fn one_begins<N: Unsigned>(all: &ChunksRef<'_, u8, N>, prefix: &[u8]) -> bool
         (rows N.USIZE (items_of_chunks all.now)) }
 {
     all.iter().any(|row| row.starts_with(prefix))
-}
-
-/// Returns how many rows stand behind the last one that begins with the prefix.
-fn place_from_back<N: Unsigned>(all: &ChunksRef<'_, u8, N>, prefix: &[u8]) -> Option<usize>
-    ensures { result ≡ position (λ row. starts_with nat_eq row prefix.now)
-        (reverse (rows N.USIZE (items_of_chunks all.now))) }
-{
-    all.iter().rev().position(|row| row.starts_with(prefix))
 }
 
 fn first_that_begins<'a, N: Unsigned>(

@@ -1,7 +1,7 @@
-//! Signed items: weighed sums and a filter's step.
+//! Signed items: weighed sums, and numbers that a closure captures.
 ghost use Rattle.ga_core_examples.specs.Weighed.{saturated, weighed};
-ghost use Rattle.std.specs.Int.{int_wrapping_sub, w64};
-ghost use Rattle.std.specs.Prelude.{◌≡◌, ◌∷◌, [], pos, slice_index_or};
+ghost use Rattle.std.specs.Int.{cast_signed, saturate_signed, w8, w32};
+ghost use Rattle.std.specs.Prelude.{◌≡◌, ◌+ℤ◌, ◌∷◌, [], map, pos, slice_index_or};
 
 use ga_core::{ArrayLength, BorrowedItems, GenericArray, U2};
 
@@ -31,13 +31,20 @@ fn saturated_sum<N: ArrayLength<i32>>(
         .fold(0, |total: i32, x: &i32| total.saturating_add(*x))
 }
 
-/// A filter of two taps on each side, with what went in and came out last, the newer first.
-#[derive(Drop)]
-struct Section {
-    taps: GenericArray<i64, U2>,
-    feedback: GenericArray<i64, U2>,
-    inputs: GenericArray<i64, U2>,
-    outputs: GenericArray<i64, U2>,
+/// The numbers above by so much: by value `map_inline` isn't proved with a captured number.
+fn raised<N: ArrayLength<i8>>(samples: &GenericArray<i8, N>, by: i8) -> GenericArray<i8, N>
+    ensures { result ≡ map (λ x. saturate_signed w8 (x +ℤ by)) samples.now }
+{
+    samples.map_inline_ref(|x: &i8| x.saturating_add(by))
+}
+
+/// Words as signed numbers of the same bits.
+fn signed_of<N>(words: GenericArray<u32, N>) -> GenericArray<i32, N>
+where
+    N: ArrayLength<u32> + ArrayLength<i32>,
+    ensures { result ≡ map (cast_signed w32) words }
+{
+    words.map_inline(|word: u32| word.cast_signed())
 }
 
 /// A sample in front of the newer of two.
@@ -45,19 +52,4 @@ fn newer_pair(sample: i64, pair: &GenericArray<i64, U2>) -> GenericArray<i64, U2
     ensures { result ≡ sample ∷ slice_index_or pair.now 0 (pos 0) ∷ [] }
 {
     GenericArray::from_array([sample, pair[0]])
-}
-
-fn step(section: &mut Section, sample: i64) -> i64
-    ensures output { result ≡ int_wrapping_sub w64 (weighed section.new.inputs section.old.taps)
-        (weighed section.old.outputs section.old.feedback) }
-    ensures inputs { section.new.inputs
-        ≡ sample ∷ slice_index_or section.old.inputs 0 (pos 0) ∷ [] }
-    ensures outputs { section.new.outputs
-        ≡ result ∷ slice_index_or section.old.outputs 0 (pos 0) ∷ [] }
-{
-    section.inputs = newer_pair(sample, &section.inputs);
-    let forward = weighed_sum(&section.inputs, &section.taps);
-    let output = forward.wrapping_sub(weighed_sum(&section.outputs, &section.feedback));
-    section.outputs = newer_pair(output, &section.outputs);
-    output
 }

@@ -1,8 +1,8 @@
 //! Windows of numbers, of any length: moved on, kept in a ring, counted, searched and in order.
 ghost use Rattle.ga_core.specs.Length.{FitsInline};
-ghost use Rattle.std.specs.List.Sorted.{IsNonDecreasing, IsPartitionPoint};
+ghost use Rattle.std.specs.List.Sorted.{IsNonDecreasing};
 ghost use Rattle.std.specs.List.{IsFirstMaxByKey, range_with_len};
-ghost use Rattle.std.specs.Prelude.{◌≡◌, ◌==◌, ◌-◌, ◌/◌, ◌<◌, ◌≤◌, ◌++◌, ◌∷◌, [], ℕ, IfErr, IfOk, IsPermutation, count_by, drop, length, map, nat_lt, pos, replicate, reverse, slice_index, slice_index_or, take, take_while};
+ghost use Rattle.std.specs.Prelude.{◌≡◌, ◌==◌, ◌+◌, ◌/◌, ◌<◌, ◌≤◌, ◌++◌, ◌∷◌, [], ℕ, IfErr, IfOk, IsPermutation, count_by, drop, length, map, nat_le, pos, replicate, slice_index, slice_index_or, take, take_while};
 
 use ga_core::{ArrayBuilder, ArrayLength, GenericArray, InlineLength};
 use std::marker::Model;
@@ -72,54 +72,6 @@ fn count_in<N: ArrayLength<u64>>(window: &GenericArray<u64, N>, width: u64, buck
     window.iter().filter(|x| **x / width == bucket).count() as u64
 }
 
-/// How many numbers are above a level, by a loop in place of a chain.
-fn count_above<N: ArrayLength<u64>>(window: &GenericArray<u64, N>, level: u64) -> usize
-    ensures { result ≡ count_by (λ x. nat_lt level x) window.now }
-{
-    let items = window.as_slice();
-    let mut count = 0;
-    for item in items {
-        if *item > level {
-            count += 1;
-        }
-    }
-    count
-}
-
-/// How many numbers from the first on are as the first.
-fn run_length(items: &[u64]) -> usize
-    requires { 0 < length items.now }
-    ensures { result ≡ length (take_while (λ x. x == slice_index items.now 0) items.now) }
-{
-    let first = items[0];
-    items.iter().take_while(|x| **x == first).count()
-}
-
-/// How many zeros stand in front.
-fn zeros_in_front(items: &[u64]) -> usize
-    ensures { result ≡ length (take_while (λ x. x == 0) items.now) }
-{
-    items.iter().take_while(|x| **x == 0).count()
-}
-
-/// How many zeros stand at the end.
-fn zeros_at_end(items: &[u64]) -> usize
-    ensures { result ≡ length (take_while (λ x. x == 0) (reverse items.now)) }
-{
-    items.iter().rev().take_while(|x| **x == 0).count()
-}
-
-/// The numbers without the zeros in front and then without those at the end.
-fn trim<N: ArrayLength<u64>>(window: &GenericArray<u64, N>) -> &[u64]
-    ensures { let rest = drop (length (take_while (λ x. x == 0) window.now)) window.now in
-        result.now ≡ take (length rest - length (take_while (λ x. x == 0) (reverse rest))) rest }
-{
-    let zeros = zeros_in_front(window);
-    let rest = &window[zeros..];
-    let zeros = zeros_at_end(rest);
-    &rest[0..rest.len() - zeros]
-}
-
 /// Where the numbers begin and end that have only zeros before and behind them, by two loops.
 fn part_between_zeros<N: ArrayLength<u64>>(window: &GenericArray<u64, N>) -> (usize, usize)
     ensures order { result.0 ≤ result.1 }
@@ -171,23 +123,32 @@ fn argmax<N: ArrayLength<u64>>(window: &GenericArray<u64, N>) -> usize
     best
 }
 
-/// The index behind the numbers that aren't above the item.
-fn place_behind(items: &[u64], item: u64) -> usize
-    requires order { IsNonDecreasing items.now }
-    ensures bound { result ≤ length items.now }
-    ensures point { IsPartitionPoint (λ x. x ≤ item) (λ x. item < x) items.now result }
+fn sort<N: ArrayLength<u64>>(numbers: &mut GenericArray<u64, N>)
+    ensures same { IsPermutation numbers.old numbers.new }
+    ensures order { IsNonDecreasing numbers.new }
 {
-    items.partition_point(|x| *x <= item)
+    numbers.sort_unstable();
 }
 
-fn insert_in_order<N: ArrayLength<u64>>(list: &mut ArrayBuilder<u64, N>, item: u64)
-    requires room { length list.old < N.USIZE }
-    requires order { IsNonDecreasing list.old }
-    ensures same { IsPermutation (item ∷ list.old) list.new }
-    ensures order { IsNonDecreasing list.new }
+/// How many scores in front aren't below another.
+fn place_of(scores: &[u32], score: u32) -> usize
+    ensures { result ≡ length (take_while (λ other. nat_le score other) scores.now) }
 {
-    let place = place_behind(list.as_slice(), item);
-    list.insert(place, item);
+    scores.iter().take_while(|other| **other >= score).count()
+}
+
+/// Inserts a score into a list that falls, which falls then too.
+#[tactic(auto, using(ga_core::proofs::OrderLemmas::falling))]
+fn insert_in_order<N: ArrayLength<u32>>(scores: &mut ArrayBuilder<u32, N>, score: u32)
+    requires room { length scores.old < N.USIZE }
+    requires order { (k : ℕ) → k + 1 < length scores.old
+        → slice_index scores.old (k + 1) ≤ slice_index scores.old k }
+    ensures same { IsPermutation (score ∷ scores.old) scores.new }
+    ensures order { (k : ℕ) → k + 1 < length scores.new
+        → slice_index scores.new (k + 1) ≤ slice_index scores.new k }
+{
+    let place = place_of(scores.as_slice(), score);
+    scores.insert(place, score);
 }
 
 /// An index of the number, or else that at which it would stand.

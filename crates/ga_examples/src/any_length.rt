@@ -19,13 +19,6 @@ use generic_array::{
 };
 use std::alloc::Global;
 
-/// A mask over every byte, as a digest makes of a key.
-pub fn masked_key<N: ArrayLength<u8>>(key: GenericArray<u8, N>) -> GenericArray<u8, N>
-    ensures { result ≡ map (λ b. bit_xor b 0x36) key }
-{
-    key.map_inline(|b: u8| b ^ 0x36)
-}
-
 fn masked_view<N: ArrayLength<u8>>(key: GenericArrayRef<'_, u8, N>, mask: u8) -> GenericArray<u8, N>
     requires { FitsInline N.USIZE }
     ensures { result ≡ map (λ b. bit_xor b mask) (items_of_view key.entry) }

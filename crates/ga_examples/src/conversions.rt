@@ -61,3 +61,11 @@ fn there_and_back(header: Header) -> Header
 {
     decoded(encoded(header))
 }
+
+/// Six bytes taken apart and joined again, which the clause `whole` of `split` shows.
+fn joined_again(bytes: GenericArray<u8, U6>) -> GenericArray<u8, U6>
+    ensures { result ≡ bytes }
+{
+    let (kind, size): (GenericArray<u8, U2>, GenericArray<u8, U4>) = bytes.split();
+    kind.concat(size)
+}

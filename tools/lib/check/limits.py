@@ -44,12 +44,14 @@ IMPORTS = {
     "Rattle.generic_array.specs.Length": "FitsInline",
     "Rattle.generic_array.specs.Rows": "chunk_count rows",
     "Rattle.generic_array.specs.Views": "items_of_chunks items_of_view",
-    "Rattle.std.specs.Int": "from_be_bytes w16",
+    "Rattle.std.specs.Int": "cast_signed from_be_bytes saturate_signed w8 w16 w32",
     "Rattle.std.specs.Int.Bits": "bit_xor",
     "Rattle.std.specs.List": "All flat_map list_any range_with_len starts_with zip",
-    "Rattle.std.specs.Prelude": "◌≡◌ ◌↔◌ ◌<◌ ◌≤◌ ◌+◌ ◌-◌ ◌*◌ ◌%◌ ◌^◌ ◌++◌ ◌∷◌ [] IfOk IsTrue OnErr"
-    " OnOk drop fold length map nat_eq pos replicate reverse slice_index slice_index_or slice_set"
-    " sum take",
+    "Rattle.std.specs.List.Sorted": "IsNonDecreasing IsSorted",
+    "Rattle.std.specs.Ordering": "nat_cmp",
+    "Rattle.std.specs.Prelude": "◌≡◌ ◌==◌ ◌↔◌ ◌<◌ ◌≤◌ ◌+◌ ◌+ℤ◌ ◌-◌ ◌*◌ ◌/◌ ◌%◌ ◌^◌ ◌++◌ ◌∷◌ [] IfOk"
+    " IsTrue OnErr OnOk drop find fold length map nat_eq nat_lt option_map pos position replicate"
+    " reverse slice_index slice_index_or slice_set sum take",
     "generic_array": "AllocError ArrayBuilder ArrayLength BoxedArray ChunksMut ChunksRef Const"
     " GenericArray GenericArrayMut GenericArrayRef InlineLength LengthError U2 U3 U4 U5 U6 Unsigned"
     " ViewMut always arr",

@@ -10,14 +10,19 @@ from start.crates import TOP, Unfit, copy_crates, name_in, read_record, rows_of,
 FIRST = re.compile(r"(?ms)^## (\w+)\n.*?^    mine: (.*?)$.*?^```rust src/lib\.rt\n(.*?)^```$")
 FIRST = FIRST.findall((TOP / "docs" / "FIRST_CRATES.md").read_text("utf-8"))
 ON, ROOTS = ({it[0]: it[at] for it in FIRST} for at in (1, 2))
+# The imports of the words of most clauses.
+WORDS = re.search(r"(?ms)^## Reading a clause\n.*?^```rust\n(.*?)^```$",
+                  (TOP / "docs" / "CALLING.md").read_text("utf-8"))[1]
 
 
 def root_of(on, libraries):
-    """The root of a first crate on these. It names the lemmas for callers of the widest library
-    that has some."""
-    of = [it for it in ("generic_array", "ga_core") if it in libraries]
-    lemmas = f", using({of[0]}::proofs::Everyday::arrays)" if of else ""
-    return re.sub(r"(?m)^#!\[tactic\(.*", f"#![tactic(auto{lemmas})]", ROOTS[on[0]])
+    """The root of a first crate on these. It names the words and the lemmas for callers of the
+    widest library that has some."""
+    of = next(it for it in ("generic_array", "ga_core", "ga_views") if it in libraries)
+    lemmas = "" if of == "ga_views" else f", using({of}::proofs::Everyday::arrays)"
+    root = re.sub(r"(?m)^#!\[tactic\(.*", f"#![tactic(auto{lemmas})]", ROOTS[on[0]])
+    words = WORDS.replace("generic_array", of) + "\n" * ("ghost use" not in root)
+    return re.sub(r"(?m)^(?=(?:ghost )?use )", words, root, count=1)
 
 
 def check_name(name):

@@ -36,21 +36,6 @@ where
     product(matrix, identity)
 }
 
-#[tactic(auto, using(ga_uses::proofs::MatrixLemmas::matrix_laws))]
-fn identity_times<K, C, const R: usize>(
-    _identity: PhantomData<Matrix<K, R>>,
-    matrix: Matrix<C, R>,
-) -> Matrix<C, R>
-where
-    K: ArrayLength<u64> + InlineLength,
-    C: ArrayLength<u64> + InlineLength,
-    requires { R ≡ K.USIZE }
-    ensures { result ≡ matrix }
-{
-    let identity: Matrix<K, R> = identity();
-    product(identity, matrix)
-}
-
 /// The two rows exchanged.
 fn exchange_rows<C>(matrix: &Matrix<C, 2>) -> Matrix<C, 2>
 where
