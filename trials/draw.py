@@ -12,7 +12,7 @@ COUNTED = {16 + 8 * it: f"Counted<[u64; {it}]>" for it in (0, 2, 6, 14)}
 COPIED = {0: "()", 1: "u8", 2: "u16", 4: "u32", 8: "u64", 16: "[u64; 2]", 17: "[u8; 17]",
           32: "[u64; 4]", 33: "[u8; 33]", 64: "[u64; 8]", 128: "[u64; 16]"}
 PLAIN = {it: COPIED[it] for it in COPIED if it not in COUNTED}
-# No item, one, and one below, at and above each number of items at which the sources go another way:
+# No item, one, and one below, at and above each number of items at which sources go another way:
 # calls in blocks, and writes to slots that are unrolled.
 EDGES = [0, 1, *(it + more for it in (8, 64) for more in (-1, 0, 1))]
 # The same in bytes: a word, the entries of a fold, an exchange of all items of a builder, and an
@@ -20,15 +20,15 @@ EDGES = [0, 1, *(it + more for it in (8, 64) for more in (-1, 0, 1))]
 LIMITS, BESIDE = [8, 32, 512, 1024], 24
 # Of the lengths up to this one a run has its share, one of so many.
 SHORT, SHARES = 100, 5
-# How many longer ones it has, whose items have up to so many bytes in all, and how many lengths have
-# shapes.
+# How many longer ones it has, whose items have up to so many bytes in all, and how many of its
+# lengths have shapes.
 LONGER, MOST_BYTES, SHAPES = 2, 65_536, 4
 
 TABLE = re.compile(r"pub fn (\w+)<'a, T: Item<'a>( \+ Copy)?, const U: usize>"
                    r"\(run: &'a Run(, len: usize)?\) \{")
 
 
-def share_of(most, seed):
+def share(most, seed):
     numbers = [*range(1, most + 1)]
     random.Random(most).shuffle(numbers)
     return numbers[seed % SHARES::SHARES]
@@ -38,11 +38,11 @@ def filled(text, name, seed):
     """A file with what is drawn in it."""
     drawn = random.Random(f"{name} {seed}")
     text = re.sub(r"drawn!\((\w+)\)", lambda it: str(drawn.randint(1, int(it[1]))), text)
-    return re.sub(r"shared!\((\w+)\)", lambda it: " ".join(map(str, share_of(int(it[1]), seed))), text)
+    return re.sub(r"shared!\((\w+)\)", lambda n: " ".join(map(str, share(int(n[1]), seed))), text)
 
 
 def tables_of(text, module):
-    """The tables of a file: the path of each, and whether it copies items, or takes a number of them."""
+    """The tables of a file: their paths, and whether they copy items or take a number of them."""
     return [(f"{module}::{it[1]}", it[2], it[3]) for it in TABLE.finditer(text)]
 
 
@@ -57,9 +57,9 @@ def items_of(length, number):
 def turns_of(seed):
     """The length and the items of each turn, and how many turns have short lengths. All tables pick
     among the same few items: each pair of a length and an item takes memory to build."""
-    drawn, share = random.Random(seed), [it for it in share_of(SHORT, seed) if it not in EDGES]
+    drawn, others = random.Random(seed), [it for it in share(SHORT, seed) if it not in EDGES]
     turns = [(it, *items_of(it, seed)) for it in EDGES]
-    turns += [(it, *items_of(it, seed // SHARES)) for it in share]
+    turns += [(it, *items_of(it, seed // SHARES)) for it in others]
     for limit in LIMITS:
         size = drawn.choice([it for it in COPIED if 0 < it <= limit])
         length = (limit - drawn.choice([0, BESIDE])) // size + drawn.choice([-1, 0, 1])
@@ -68,13 +68,13 @@ def turns_of(seed):
     return turns + [(it, *items_of(it, seed)) for it in longer], len(turns)
 
 
-def calls_of(tables, number, turn, seed):
-    """The calls of a turn: at the edges with plain and counted items, else with either."""
-    length, plain, counted, copied = turn
+def calls_of(tables, seed, number, length, plain, counted, copied):
+    """The calls of a turn: at edges above one with plain and counted items, else with either."""
     for path, copies, takes in tables:
         drawn = random.Random(f"{path} {length} {seed}")
-        items = {plain, counted} if number < len(EDGES) else {drawn.choice([plain, counted, counted])}
-        for item in [copied] if copies else sorted(items):
+        are_both = 1 < number < len(EDGES)
+        items = [plain, counted] if are_both else [drawn.choice([plain, counted, counted])]
+        for item in [copied] if copies else items:
             call = f"crate::{path}::<{item}, {length}>(run"
             yield f"for len in run.counts({length}) {{ {call}, len); }}" if takes else f"{call});"
     if number in range(len(EDGES), len(EDGES) + SHAPES):
@@ -86,9 +86,9 @@ def module_of(tables, seed):
     turns, short = turns_of(seed)
     lines = ["//! The turns.", "use crate::cases::{Counted, Run};",
              f"pub const LENGTHS: [usize; {len(turns)}] = {[it for it, *_ in turns]};",
-             f"pub const SHORT_TURNS: usize = {short};", f"pub const FIRST_DRAWN: usize = {len(EDGES)};",
+             f"pub const SHORT_TURNS: usize = {short};", f"pub const DRAWN: usize = {len(EDGES)};",
              "pub fn make(run: &Run, turn: usize) {", "match turn {",
              *(f"{it} => turn_{it}(run)," for it in range(len(turns))), "_ => {}", "}", "}"]
     for number, turn in enumerate(turns):
-        lines += [f"fn turn_{number}(run: &Run) {{", *calls_of(tables, number, turn, seed), "}"]
+        lines += [f"fn turn_{number}(run: &Run) {{", *calls_of(tables, seed, number, *turn), "}"]
     return "\n".join(lines) + "\n"
