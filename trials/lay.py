@@ -117,7 +117,8 @@ def add_sweeps(ours, seed):
         text = draw.filled(file.read_text(), file.stem, seed)
         tables += draw.tables_of(text, laid.stem)
         put(laid, text)
-    put(ours / "crates" / "calls" / "src" / "drawn.rt", draw.module_of(tables, seed))
+    if tables:
+        put(ours / "crates" / "calls" / "src" / "drawn.rt", draw.module_of(tables, seed))
     for path, file in SHARED.items():
         if file.exists():
             put(ours / "crates" / path, file.read_text())
