@@ -2,9 +2,11 @@
 derive or impl goes unseen, the clauses of PROMISE, and the tables of the READMEs of examples."""
 import collections
 import difflib
+import re
 
 from reference.callers import EXAMPLES
 from reference.items import first_sentence
+from reference.layout import one_line
 from reference.meanings import WITH_A_PAGE
 from reference.outside import is_test, proofs_of
 from reference.promise import HEADLINE, PAGE, page_file
@@ -14,17 +16,25 @@ TABLE = "functions that documents name | what they show | the proof, where it ne
 
 
 def public_types(site):
-    """Each public type with its traits. One that a type has by several impls has their number."""
+    """Each public type with the heads of its impls, whose bounds say when it has them, and the names
+    that each module passes on. Heads that differ in a named length alone stand once."""
     yield from ("# Public types", "",
-                "The traits of each, with the number of impls of one where these are several.",
-                "`tools/reference --write` writes this page.", "", "type | traits", "---|---")
+                "What each derives, and its impls with their bounds: an impl is there where these hold.",
+                "`tools/reference --write` writes this page.")
     for item in site.items:
-        if item.home and item.kind in WITH_A_PAGE:
-            traits = [impl.of_trait for impl in item.blocks if impl.of_trait]
-            count = collections.Counter(traits + item.derived_traits())
-            names = [f"`{it}`" + f" ({count[it]})" * (count[it] > 1) for it in sorted(count)]
-            path = f"{site.path(item.module)[0]}::{item.name}"
-            yield from [f"`{path}` | {', '.join(names)}"] if names else ()
+        heads = collections.Counter(re.sub(r"(?<=Length for )U\d+", "U0", one_line(impl.head, "$^"))
+                                    for impl in item.blocks)
+        if item.home and item.kind in WITH_A_PAGE and (heads or item.derived_traits()):
+            derived = ", ".join(f"`{name}`" for name in sorted(item.derived_traits()))
+            yield from ("", f"## `{site.path(item.module)[0]}::{item.name}`")
+            yield from ("", f"Derives {derived}.") if derived else ()
+            lines = [head + f"  // {count} lengths" * (count > 9) for head, count in heads.items()]
+            yield from ("", "```", *sorted(lines), "```") if lines else ()
+    yield from ("", "## Names that modules pass on", "", "```")
+    for module in (item for item in site.items if item.home and item.kind == "mod"):
+        names = sorted({*module.exported, *(it.name for it in module.of_kind("foreign"))})
+        yield from [f"{'::'.join(site.path(module))}: {', '.join(names)}"] if names else ()
+    yield "```"
 
 
 def with_table(names, readme):

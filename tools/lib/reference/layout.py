@@ -55,11 +55,11 @@ def columns(pairs, width):
             name = ""
 
 
-def one_line(head):
+def one_line(head, conditions=r"\bwhere\b.*"):
     """A head on one line, without its conditions on types."""
-    line = " ".join(re.sub(r"\bwhere\b.*", "", head, flags=re.S).split())
+    line = " ".join(re.sub(conditions, "", head, flags=re.S).split())
     line = re.sub(r",? ([)\]>])", r"\1", re.sub(r"(?<=[(\[]) |(?<=\w<) ", "", line))
-    return line.rstrip("{ ")
+    return line.rstrip("{, ")
 
 
 def signature(head, width):
