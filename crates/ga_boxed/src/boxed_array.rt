@@ -1,4 +1,5 @@
 //! The boxed array, and what can be borrowed of it.
+ghost use Rattle.ga_core.specs.Lends.{LendsItems, LendsIter};
 ghost use Rattle.ga_core.specs.Views.{items_of_view};
 ghost use Rattle.ga_core.specs.Iteration.{IteratesMutOver, IteratesOver};
 ghost use Rattle.std.specs.Borrow.{sem};
@@ -40,8 +41,6 @@ impl<T, N: Unsigned> Model for BoxedArray<T, N> {
 }
 
 impl<T, N: Unsigned> BoxedArray<T, N> {
-    ghost use Rattle.ga_core.specs.Lends.{LendsItems, LendsIter};
-
     // The array of the items of a block. Moves none of them.
     #[inline]
     pub(crate) fn from_block(block: LiveBlock<T>) -> Self

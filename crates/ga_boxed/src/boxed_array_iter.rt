@@ -2,11 +2,12 @@
 ghost use Rattle.ga_core.specs.Copies.{IsExact};
 ghost use Rattle.ga_core.specs.Cut.{StepGives, back, front};
 ghost use Rattle.ga_core.specs.Calls.{MayFold};
+ghost use Rattle.ga_core.specs.Lends.{LendsItems};
 ghost use Rattle.ga_core.specs.Runs.{FoldRun};
 ghost use Rattle.std.specs.Borrow.{sem};
 ghost use Rattle.std.specs.Iterator.{ActsAsOnTwo, YieldsFirst, YieldsLast, item_count};
-ghost use Rattle.std.specs.List.{All, AllZip};
-ghost use Rattle.std.specs.Prelude.{◌≡◌, ◌-◌, IfOk, IsOk, fold, length, reverse, slice_get};
+ghost use Rattle.std.specs.List.{All, AllZip, refill};
+ghost use Rattle.std.specs.Prelude.{◌≡◌, ◌-◌, IfOk, IsOk, fold, length, refl, reverse, slice_get};
 
 use crate::live_block::LiveBlock;
 use ga_core::AllocError;
@@ -30,8 +31,6 @@ impl<T> Model for BoxedArrayIter<T> {
 }
 
 impl<T> BoxedArrayIter<T> {
-    ghost use Rattle.ga_core.specs.Lends.{LendsItems};
-
     // The iterator over items. Moves none of them.
     #[inline]
     pub(crate) fn from_block(items: LiveBlock<T>) -> Self
@@ -108,9 +107,6 @@ impl<T: Drop> DoubleEndedIterator for BoxedArrayIter<T> {
 }
 
 impl<T: Drop> TwoEnded<T> for BoxedArrayIter<T> {
-    ghost use Rattle.std.specs.List.{refill};
-    ghost use Rattle.std.specs.Prelude.{length, refl};
-
     ghost items = { λ left. left };
 
     #[inline]

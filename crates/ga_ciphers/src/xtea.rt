@@ -5,6 +5,7 @@
 //! one key.
 ghost use Rattle.ga_ciphers.specs.Xtea.{change, cycle, cycle_back, first_word, key_words, second_word};
 ghost use Rattle.ga_ciphers.specs.Xtea.{block_of, cycles, cycles_back, halves_of, xtea_decrypted, xtea_encrypted};
+ghost use Rattle.std.proofs.Common.{lit≤};
 ghost use Rattle.std.specs.Int.{from_be_bytes, w32};
 ghost use Rattle.std.specs.Prelude.{◌≡◌, ◌<◌, length};
 
@@ -54,8 +55,6 @@ impl Xtea {
 }
 
 impl BlockCipher for Xtea {
-    ghost use Rattle.std.proofs.Common.{lit≤};
-
     type BlockSize = U8;
 
     ghost encrypted = { xtea_encrypted };

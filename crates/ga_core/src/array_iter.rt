@@ -2,8 +2,10 @@
 ghost use Rattle.ga_core.specs.Lends.{LendsItems};
 ghost use Rattle.ga_views.specs.Length.{FitsInline};
 ghost use Rattle.std.specs.Borrow.{sem};
+ghost use Rattle.std.specs.Fmt.{◌++?◌, debug_list};
 ghost use Rattle.std.specs.Iterator.{YieldsFirst, YieldsLast, item_count};
-ghost use Rattle.std.specs.Prelude.{◌≡◌, ◌<◌, ◌≤◌, [], ◌∷◌, ◌++◌, drop, length, take};
+ghost use Rattle.std.specs.List.{refill};
+ghost use Rattle.std.specs.Prelude.{◌≡◌, ◌<◌, ◌≤◌, [], ◌∷◌, ◌++◌, Some, codes, drop, length, refl, take};
 
 mod copies;
 mod folds;
@@ -128,9 +130,6 @@ impl<T: Default + Drop, N: ArrayLength<T>> DoubleEndedIterator for GenericArrayI
 }
 
 impl<T: Default + Drop, N: ArrayLength<T>> TwoEnded<T> for GenericArrayIter<T, N> {
-    ghost use Rattle.std.specs.List.{refill};
-    ghost use Rattle.std.specs.Prelude.{length, refl};
-
     ghost items = { λ left. left };
 
     #[inline]
@@ -248,9 +247,6 @@ impl<T, N: ArrayLength<T>> GenericArrayIter<T, N> {
 }
 
 impl<T: fmt::Debug, N: ArrayLength<T>> fmt::Debug for GenericArrayIter<T, N> {
-    ghost use Rattle.std.specs.Fmt.{◌++?◌, debug_list};
-    ghost use Rattle.std.specs.Prelude.{Some, codes};
-
     ghost debug_output = { λ left. Some (codes "GenericArrayIter(")
         ++? debug_list T.debug_output left ++? Some (codes ")") };
 

@@ -1,5 +1,5 @@
 //! Lengths whose arrays are kept inline.
-ghost use Rattle.std.specs.Prelude.{◌≡◌};
+ghost use Rattle.std.specs.Prelude.{◌≡◌, refl};
 
 use crate::store::Store;
 use arrayvec::ArrayVec;
@@ -16,8 +16,6 @@ pub trait ArrayLength<T>: Unsigned {
 }
 
 impl<T: Default + Drop, const N: usize> ArrayLength<T> for Const<N> {
-    ghost use Rattle.std.specs.Prelude.{refl};
-
     type ArrayType = ArrayVec<T, N>;
 
     ghost capacity_is = { refl };

@@ -1,10 +1,11 @@
 //! Where an inline array keeps its items: `Store`, and `ArrayVec` as one.
+ghost use Rattle.arrayvec.specs.ArrayVec.{with_items};
 ghost use Rattle.ga_views.specs.Length.{FitsInline};
 ghost use Rattle.ga_views.specs.Parts.{part_set};
 ghost use Rattle.std.specs.Borrow.{Array, Lends, sem};
 ghost use Rattle.std.specs.Iterator.{YieldsLast};
 ghost use Rattle.std.specs.List.{All, refill};
-ghost use Rattle.std.specs.Prelude.{◌≡◌, ℕ, ◌+◌, ◌<◌, ◌≤◌, List, [], ◌∷◌, ◌++◌, drop, length, remove, slice_index_or, slice_set, take};
+ghost use Rattle.std.specs.Prelude.{◌≡◌, ℕ, ◌+◌, ◌<◌, ◌≤◌, [], ◌∷◌, ◌++◌, List, drop, length, refl, remove, slice_index_or, slice_set, take};
 
 use crate::slots::{move_items, swap_arrays};
 use arrayvec::ArrayVec;
@@ -124,9 +125,6 @@ pub trait Store<T>: Sized + Drop {
 // `MadeWith<()>` is what each type with a `Default` has. With that bound in its place there would
 // be two defaults in `with_defaults`, of which no proof shows that they agree.
 impl<T: MadeWith<()> + Drop, const N: usize> Store<T> for ArrayVec<T, N> {
-    ghost use Rattle.arrayvec.specs.ArrayVec.{with_items};
-    ghost use Rattle.std.specs.Prelude.{refl};
-
     ghost items = { λ store. store.items };
 
     ghost CAPACITY = { N };

@@ -1,6 +1,8 @@
 //! Lengths of your own: one that is kept in an `ArrayVec`, and one that is kept in a store of
 //! your own.
-ghost use Rattle.std.specs.Prelude.{◌≡◌, ◌++◌};
+ghost use Rattle.std.proofs.Math.Dec.{lit≤};
+ghost use Rattle.std.specs.List.{refill};
+ghost use Rattle.std.specs.Prelude.{◌≡◌, ◌++◌, length, refl};
 
 use arrayvec::ArrayVec;
 use generic_array::sequence::Concat;
@@ -17,16 +19,12 @@ impl Unsigned for Week {
 }
 
 impl<T: Default + Drop> ArrayLength<T> for Week {
-    ghost use Rattle.std.specs.Prelude.{refl};
-
     type ArrayType = ArrayVec<T, 7>;
 
     ghost capacity_is = { refl };
 }
 
 impl InlineLength for Week {
-    ghost use Rattle.std.proofs.Math.Dec.{lit≤};
-
     ghost fits = { lit≤ tt };
 }
 
@@ -40,8 +38,6 @@ impl Unsigned for Sides {
 }
 
 impl<T: Default + Drop> ArrayLength<T> for Sides {
-    ghost use Rattle.std.specs.Prelude.{refl};
-
     type ArrayType = Lender<T, 3>;
 
     ghost capacity_is = { refl };
@@ -63,9 +59,6 @@ impl<T, const N: usize> Model for Lender<T, N> {
 }
 
 impl<T: Default + Drop, const N: usize> Store<T> for Lender<T, N> {
-    ghost use Rattle.std.specs.List.{refill};
-    ghost use Rattle.std.specs.Prelude.{length, refl};
-
     ghost items = { λ store. store };
 
     ghost CAPACITY = { N };

@@ -1,5 +1,5 @@
 //! Text that a writer has not been given yet.
-ghost use Rattle.std.specs.Prelude.{◌≡◌, ◌+◌, ◌-◌, ◌<◌, ◌≤◌, ◌↔◌, IsTrue, IsOk, OnErr, OnOk, [], ◌∷◌, ◌++◌, length, min, take};
+ghost use Rattle.std.specs.Prelude.{◌≡◌, ◌+◌, ◌-◌, ◌<◌, ◌≤◌, ◌↔◌, [], ◌∷◌, ◌++◌, IsOk, IsTrue, OnErr, OnOk, Some, length, min, take};
 
 mod decimal;
 
@@ -87,8 +87,6 @@ impl Piece {
 
 /// Takes what fits behind the text, `write_all` all or none, and fails nowhere else.
 impl Write for Piece {
-    ghost use Rattle.std.specs.Prelude.{Some};
-
     ghost contents = { λ piece. Some piece };
 
     #[inline]

@@ -2,7 +2,7 @@
 ghost use Rattle.generic_array.specs.Views.{items_of_chunks, items_of_view};
 ghost use Rattle.ga_uses.specs.Udp.{IsDatagram, checksum_of, complement_of, datagram_of, header_of, number_of, sum_with_carry, summed_bytes, words};
 ghost use Rattle.generic_array.specs.Rows.{rows};
-ghost use Rattle.std.specs.Prelude.{◌≡◌, ◌+◌, ◌^◌, ◌<◌, ◌≤◌, ◌↔◌, Err, IfOk, IsOk, drop, fold, length, map, slice_range};
+ghost use Rattle.std.specs.Prelude.{◌≡◌, ◌+◌, ◌^◌, ◌<◌, ◌≤◌, ◌↔◌, Err, IfOk, IsOk, Some, drop, fold, length, map, slice_range};
 
 use generic_array::functional::FunctionalSequence;
 use generic_array::sequence::Split;
@@ -21,7 +21,6 @@ pub enum HeaderError {
 
 impl fmt::Display for HeaderError {
     ghost use Rattle.ga_uses.specs.HeaderError.{error_text};
-    ghost use Rattle.std.specs.Prelude.{Some};
 
     ghost output = { λ error. Some (error_text error) };
 

@@ -1,6 +1,7 @@
 //! A boxed array as a slice: the methods of slices, `array[index]`, ranges, and loops over
 //! references.
 ghost use Rattle.ga_core.specs.Iteration.{IteratesMutOver, IteratesOver};
+ghost use Rattle.ga_core.specs.Lends.{LendsItems, LendsIter};
 ghost use Rattle.std.specs.Borrow.{sem};
 ghost use Rattle.std.specs.Prelude.{◌≡◌, length};
 
@@ -32,8 +33,6 @@ impl<T, N: Unsigned> DerefSlice for BoxedArray<T, N> {
 }
 
 impl<T, N: Unsigned> DerefSliceMut for BoxedArray<T, N> {
-    ghost use Rattle.ga_core.specs.Lends.{LendsItems};
-
     #[inline]
     fn deref_mut(&mut self) -> &mut [T]
         ensures* writes_back { sem 𝓛 (LendsItems T.row self.entry result) }
@@ -60,8 +59,6 @@ impl<'a, T, N: Unsigned> IntoIterator for &'a BoxedArray<T, N> {
 
 /// The items by reference, in order, for writing.
 impl<'a, T, N: Unsigned> IntoIterator for &'a mut BoxedArray<T, N> {
-    ghost use Rattle.ga_core.specs.Lends.{LendsIter};
-
     type Item = &'a mut T;
 
     type IntoIter = slice::IterMut<'a, T>;

@@ -1,4 +1,6 @@
 //! The kinds of sequences whose entries a closure can be called at, and what a map of each makes.
+ghost use Rattle.std.specs.Prelude.{refl};
+
 use crate::functional::{FunctionalSequence, MappedGenericSequence, MapsInline};
 use crate::sequence::GenericSequence;
 use ga_boxed::BoxedArray;
@@ -18,8 +20,6 @@ impl<
     U: Default + Drop,
     N: ArrayLength<T> + ArrayLength<U>,
 > MappedGenericSequence<T, U> for GenericArray<T, N> {
-    ghost use Rattle.std.specs.Prelude.{refl};
-
     type Mapped = GenericArray<U, N>;
 
     ghost same_length = { refl };
@@ -31,8 +31,6 @@ impl<
     U: Default + Drop,
     N: ArrayLength<T> + ArrayLength<U>,
 > MappedGenericSequence<T, U> for GenericArrayRef<'a, T, N> {
-    ghost use Rattle.std.specs.Prelude.{refl};
-
     type Mapped = GenericArray<U, N>;
 
     ghost same_length = { refl };
@@ -44,16 +42,12 @@ impl<
     U: Default + Drop,
     N: ArrayLength<T> + ArrayLength<U>,
 > MappedGenericSequence<T, U> for &'a GenericArray<T, N> {
-    ghost use Rattle.std.specs.Prelude.{refl};
-
     type Mapped = GenericArray<U, N>;
 
     ghost same_length = { refl };
 }
 
 impl<T: Drop, U: Drop, N: Unsigned> MappedGenericSequence<T, U> for BoxedArray<T, N> {
-    ghost use Rattle.std.specs.Prelude.{refl};
-
     type Mapped = BoxedArray<U, N>;
 
     ghost same_length = { refl };

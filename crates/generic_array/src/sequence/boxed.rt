@@ -1,5 +1,6 @@
 //! The boxed array as a sequence.
-ghost use Rattle.std.specs.Prelude.{⊤};
+ghost use Rattle.generic_array.specs.EntryLaws.{left_given};
+ghost use Rattle.std.specs.Prelude.{⊤, ◌≡◌};
 
 use crate::sequence::{FallibleGenericSequence, FromFallibleIterator, GenericSequence};
 use ga_boxed::BoxedArray;
@@ -8,9 +9,6 @@ use std::alloc::Global;
 
 /// Each length fits. An allocation may fail, unless there is no item.
 impl<T: Drop, N: Unsigned> GenericSequence<T> for BoxedArray<T, N> {
-    ghost use Rattle.generic_array.specs.EntryLaws.{left_given};
-    ghost use Rattle.std.specs.Prelude.{◌≡◌};
-
     type Length = N;
 
     type Sequence = BoxedArray<T, N>;

@@ -1,6 +1,7 @@
 //! The inline array as a sequence.
 ghost use Rattle.ga_boxed.specs.Placed.{IfPlaced, IsPlaced};
 ghost use Rattle.ga_core.specs.Length.{FitsInline};
+ghost use Rattle.generic_array.specs.EntryLaws.{left_given};
 ghost use Rattle.std.specs.Prelude.{◌≡◌, ⊤};
 
 use crate::sequence::{FallibleGenericSequence, FromFallibleIterator, GenericSequence};
@@ -10,8 +11,6 @@ use ga_core::{
 
 /// A length fits up to `MAX_INLINE`. Allocates nothing.
 impl<T: Default + Drop, N: ArrayLength<T>> GenericSequence<T> for GenericArray<T, N> {
-    ghost use Rattle.generic_array.specs.EntryLaws.{left_given};
-
     type Length = N;
 
     type Sequence = GenericArray<T, N>;

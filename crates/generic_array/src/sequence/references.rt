@@ -1,5 +1,6 @@
 //! An inline array by reference as a sequence.
 ghost use Rattle.ga_core.specs.Length.{FitsInline};
+ghost use Rattle.generic_array.specs.EntryLaws.{left_given, references_given};
 ghost use Rattle.std.specs.Prelude.{⊤};
 
 use crate::sequence::{FallibleGenericSequence, GenericSequence};
@@ -7,8 +8,6 @@ use ga_core::{AllocError, ArrayLength, GenericArray, GenericArrayRef, Never};
 
 /// Its entries are references, and the array stays as it is. What is made of it is an inline array.
 impl<'a, T: Default + Drop, N: ArrayLength<T>> GenericSequence<T> for &'a GenericArray<T, N> {
-    ghost use Rattle.generic_array.specs.EntryLaws.{left_given, references_given};
-
     type Length = N;
 
     type Sequence = GenericArray<T, N>;

@@ -1,5 +1,7 @@
 //! The read-only view as a sequence.
 ghost use Rattle.ga_core.specs.Length.{FitsInline};
+ghost use Rattle.ga_core.specs.Views.{items_of_view};
+ghost use Rattle.generic_array.specs.EntryLaws.{left_given, references_given};
 ghost use Rattle.std.specs.Prelude.{⊤};
 
 use crate::sequence::{FallibleGenericSequence, GenericSequence};
@@ -8,9 +10,6 @@ use ga_core::{AllocError, ArrayLength, GenericArray, GenericArrayRef, Never};
 /// Its entries are references. What is made of it is an inline array, so its lengths are those of
 /// inline arrays.
 impl<'a, T: Default + Drop, N: ArrayLength<T>> GenericSequence<T> for GenericArrayRef<'a, T, N> {
-    ghost use Rattle.ga_core.specs.Views.{items_of_view};
-    ghost use Rattle.generic_array.specs.EntryLaws.{left_given, references_given};
-
     type Length = N;
 
     type Sequence = GenericArray<T, N>;
