@@ -141,13 +141,10 @@ fn copies<'a, T: Item<'a>, N: ArrayLength<T>>(case: &'a Case) -> Result<Seen, Al
 
 /// Zeros, and defaults, whose number is 0.
 fn zeros<'a, T: Item<'a>, N: ArrayLength<T>>(case: &'a Case) -> Result<Seen, AllocError> {
+    let (alloc, counts) = (case.alloc, &case.counts);
     Ok(match case.call {
-        0 => case
-            .counts
-            .seen(BoxedArray::<u32, N>::from_copies(case.alloc, 0)),
-        _ => case
-            .counts
-            .seen(BoxedArray::<T, N>::default_boxed(case.alloc)),
+        0 => counts.seen(BoxedArray::<u32, N>::from_copies(alloc, 0)),
+        _ => counts.seen(BoxedArray::<T, N>::default_boxed(alloc)),
     })
 }
 
@@ -162,10 +159,8 @@ fn defaults_and_copies_report_refused_memory(rt: HostRuntime) {
 fn vectors<'a, T: Item<'a>, N: ArrayLength<T>>(case: &'a Case) -> Result<Seen, AllocError>
     requires { FitsInline N.USIZE }
 {
-    Ok(
-        case.counts
-            .seen(inline_items::<T, N>(&case.counts).into_vec(case.alloc)),
-    )
+    let counts = &case.counts;
+    Ok(counts.seen(inline_items::<T, N>(counts).into_vec(case.alloc)))
 }
 
 #[test]
