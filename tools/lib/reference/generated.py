@@ -22,14 +22,14 @@ def public_types(site):
                 "What each derives, and its impls with their bounds: an impl is there where these hold.",
                 "`tools/reference --write` writes this page.")
     for item in site.items:
+        derived = [f"#[derive({', '.join(sorted(item.derived_traits()))})]"]
         heads = collections.Counter(re.sub(r"(?<=Length for )U\d+", "U0", one_line(impl.head, "$^"))
                                     for impl in item.blocks)
-        if item.home and item.kind in WITH_A_PAGE and (heads or item.derived_traits()):
-            derived = ", ".join(f"`{name}`" for name in sorted(item.derived_traits()))
-            yield from ("", f"## `{site.path(item.module)[0]}::{item.name}`")
-            yield from ("", f"Derives {derived}.") if derived else ()
-            lines = [head + f"  // {count} lengths" * (count > 9) for head, count in heads.items()]
-            yield from ("", "```", *sorted(lines), "```") if lines else ()
+        lines = [head + f"  // {count} lengths" * (count > 9) for head, count in heads.items()]
+        lines = derived * bool(item.derived_traits()) + sorted(lines)
+        if lines and item.home and item.kind in WITH_A_PAGE:
+            path = f"{site.path(item.module)[0]}::{item.name}"
+            yield from ("", f"## `{path}`", "", "```", *lines, "```")
     yield from ("", "## Names that modules pass on", "", "```")
     for module in (item for item in site.items if item.home and item.kind == "mod"):
         names = sorted({*module.exported, *(it.name for it in module.of_kind("foreign"))})
