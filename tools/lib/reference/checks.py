@@ -185,7 +185,7 @@ def check_documents(names):
 CHECKS = {
     "examples": (check_examples, 24), "imports": (check_imports, 2000),
     "public items": (check_items, 320), "generated": (check_generated, 1200),
-    "mutants": (check_edits, 180), "names": (check_names, 31), "promise": (check_promise, 60),
+    "mutants": (check_edits, 180), "names": (check_names, 30), "promise": (check_promise, 60),
     "contracts": (check_contracts, 17), "claims": (check_claims, 40),
     "documents": (check_documents, 2300),
 }
