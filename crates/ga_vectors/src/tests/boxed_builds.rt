@@ -1,7 +1,7 @@
 //! Boxed builds at concrete types: what they make, how often they call, and what they take.
-use crate::tests::compared::gives;
 use crate::tests::counted::Counts;
 use crate::tests::fills::{End, Scripted, boxed_fallible_fill};
+use crate::tests::numbers::gives;
 use generic_array::{BoxedArray, U2, U3};
 use std::test::Fail;
 

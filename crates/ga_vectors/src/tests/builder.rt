@@ -1,5 +1,5 @@
 //! Builders at concrete types.
-use crate::tests::compared::has;
+use crate::tests::numbers::has;
 use generic_array::{ArrayBuilder, U0, U3, U4};
 
 #[test]

@@ -1,5 +1,5 @@
 //! Items that go from one kind of array to another, through vectors, boxed slices and tuples.
-use crate::tests::compared::{gives, has};
+use crate::tests::numbers::{gives, has};
 use generic_array::{AllocError, BoxedArray, GenericArray, U0, U1, U2, U3, U4, U12, arr, box_arr};
 use std::test::Fail;
 

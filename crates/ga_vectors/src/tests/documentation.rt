@@ -1,5 +1,5 @@
 //! Each example, by the call that it shows.
-use crate::tests::compared::has;
+use crate::tests::numbers::has;
 use generic_array::functional::FunctionalSequence;
 use generic_array::sequence::{Flatten, Lengthen, Remove, Shorten, Unflatten};
 use generic_array::{Const, GenericArray, U2, U3, U4, U5, U6, always, arr, box_arr};

@@ -19,13 +19,10 @@ fn doubled(item: u32) -> u32 {
     item.wrapping_mul(2)
 }
 
-fn doubled_seen(item: &u32) -> u32 {
-    item.wrapping_mul(2)
-}
-
 /// `map_total_by` of a view and of an inline array.
 fn totals<N: ArrayLength<u32> + InlineLength>(array: Inline<N>) -> [u32; 2] {
-    let of_view = always(map_total_by(array.view(), (), &mut doubled_seen, 0, &mut next_digit));
+    let mut double = |item: &u32| doubled(*item);
+    let of_view = always(map_total_by(array.view(), (), &mut double, 0, &mut next_digit));
     let of_array = always(map_total_by(array, (), &mut doubled, 0, &mut next_digit));
     [of_view, of_array]
 }

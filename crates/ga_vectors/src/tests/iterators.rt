@@ -1,6 +1,5 @@
 //! Runs of steps over both iterators by value, from both ends.
-use crate::tests::compared::has;
-use crate::tests::numbers::{boxed_from_one, digits, from_one, next_digit};
+use crate::tests::numbers::{boxed_from_one, digits, from_one, has, next_digit};
 use generic_array::{U3, U5};
 use std::test::Fail;
 

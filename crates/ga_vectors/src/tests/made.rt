@@ -1,6 +1,6 @@
 //! What the builds of the traits make of each kind.
-use crate::tests::compared::gives;
 use crate::tests::fills::{Answer, Scripted};
+use crate::tests::numbers::gives;
 use generic_array::sequence::{FallibleGenericSequence, FromFallibleIterator};
 use generic_array::{
     ArrayLength, BoxedArray, GenericArray, GenericArrayRef, InlineLength, U0, U2, U3,

@@ -1,8 +1,10 @@
-//! Arrays of the numbers from 1, and numbered items written as the digits of one number.
+//! Arrays of the numbers from 1, numbered items written as the digits of one number, and
+//! comparisons of what calls made, each proved once.
 ghost use Rattle.generic_array.specs.Length.{FitsInline};
 
 use generic_array::{AllocError, ArrayLength, BoxedArray, GenericArray, Unsigned};
 use std::alloc::Global;
+use std::convert::AsSlice;
 
 /// An item with a number to know it by.
 pub trait Numbered {
@@ -44,4 +46,17 @@ pub fn from_one<N: ArrayLength<u32>>() -> GenericArray<u32, N>
 /// The same in a block.
 pub fn boxed_from_one<N: Unsigned>(alloc: Global) -> Result<BoxedArray<u32, N>, AllocError> {
     BoxedArray::generate(alloc, number_at)
+}
+
+/// Whether a sequence has exactly these items.
+pub fn has<T: PartialEq, S: AsSlice<T> + Drop>(made: S, items: &[T]) -> bool {
+    made.as_slice() == items
+}
+
+/// Whether there is a sequence, of exactly these items.
+pub fn gives<T: PartialEq, S: AsSlice<T> + Drop, E: Drop>(made: Result<S, E>, items: &[T]) -> bool {
+    match made {
+        Ok(made) => has(made, items),
+        Err(_refused) => false,
+    }
 }

@@ -4,7 +4,7 @@ ghost use Rattle.ga_records.specs.Records.{has};
 ghost use Rattle.generic_array.specs.Views.{items_of_view};
 ghost use Rattle.std.specs.Prelude.{◌≡◌, ◌∷◌, [], IfSome, None, Ok, Some, true};
 
-use crate::tests::compared::gives;
+use crate::tests::numbers::gives;
 use crate::tests::sink::Sink;
 use ga_records::RecordBlock;
 use generic_array::{ArrayLength, GenericArrayRef, LengthError, U2, U3, U4};

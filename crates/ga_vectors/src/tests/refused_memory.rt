@@ -1,10 +1,9 @@
 //! Calls while memory is refused: what they return then, what they drop, and what stays as it was.
 ghost use Rattle.generic_array.specs.Length.{FitsInline};
 
-use crate::tests::compared::gives;
 use crate::tests::counted::{Counted, Counts, Item, Seen, boxed_items, flat, inline_items};
 use crate::tests::fills::{End, Scripted, boxed_fallible_fill, boxed_fill, boxed_fill_by_trait};
-use crate::tests::numbers::{Numbered, boxed_from_one, from_one, next_digit};
+use crate::tests::numbers::{Numbered, boxed_from_one, from_one, gives, next_digit};
 use crate::tests::stopped::{Cloned, cloned_block};
 use generic_array::checks::map_total_by;
 use generic_array::functional::{FunctionalSequence, inverted_zip2};

@@ -1,8 +1,7 @@
 //! Items that go through each shape.
 ghost use Rattle.std.specs.Prelude.{◌≡◌, length};
 
-use crate::tests::compared::gives;
-use crate::tests::numbers::from_one;
+use crate::tests::numbers::{from_one, gives};
 use generic_array::sequence::{
     Concat, Flatten, Lengthen, Remove, Shorten, Split, Unflatten, iter_flat,
 };

@@ -1,9 +1,9 @@
 //! Inline builds at concrete types: how often they call and take.
 ghost use Rattle.generic_array.specs.Length.{FitsInline};
 
-use crate::tests::compared::{gives, has};
 use crate::tests::counted::Counts;
 use crate::tests::fills::{End, Scripted, inline_fallible_fill, inline_fill};
+use crate::tests::numbers::{gives, has};
 use generic_array::{ArrayLength, GenericArray, U0, U2, U3, U4, U5};
 
 /// The array of doubled places, and how often the closure was called.
