@@ -64,8 +64,7 @@ module _ {S T U : Type 0} (next_gives : S → Option T → S → Type 0) (shown 
     fill-ends (Err error) (inl (calls, all)) _ (inr (full, (more, call))) =
         (Some more, (reached, calls, call), sym (ap length same) ∙ full)
     fill-ends (Err error) (inr (calls, short)) _ (inl (other, still)) =
-        let end = subst (λ s. YieldsThen next_gives before (shown taken) None s) (sym still) calls in
-        (None, end, omega (arith, as_long taken, room, short))
+        (None, (rw (← still) at calls), omega (arith, as_long taken, room, short))
     fill-ends (Err error) (inr (calls, short)) _ (inr (full, more)) = absurd (omega (arith, long, room, short, full))
 
 module _ {S T : Type 0} (next_gives : S → Option T → S → Type 0) where
@@ -135,8 +134,7 @@ module _ {S T : Type 0} (next_gives : S → Option T → S → Type 0) where
   pub Asks-from_fill : {E : Type 0} (before : S) (n : ℕ) (result : Result (List T) E) (after : S)
       → Fills next_gives before n result after → Asks next_gives before (n + 1) after
   Asks-from_fill before n (Ok array) after (taken, last, calls, whole) =
-      asks_to_end before taken (n + 1) after (omega (arith, whole.1))
-      (subst (λ o. YieldsThen next_gives before taken o after) whole.2 calls)
+      asks_to_end before taken (n + 1) after (omega (arith, whole.1)) (rw whole.2 at calls)
   Asks-from_fill before n (Err error) after (taken, None, calls, short) =
       asks_to_end before taken (n + 1) after (omega (arith, short)) calls
   Asks-from_fill before n (Err error) after (taken, Some item, (reached, calls, call), full) =
@@ -147,8 +145,7 @@ module _ {S T E : Type 0} (next_gives : S → Option T → S → Type 0) where
   pub FillRuns-from_fill : (before : S) (n : ℕ) (result : Result (List T) E) (after : S)
       → Fills next_gives before n result after → FillRuns next_gives before n result
   FillRuns-from_fill before n (Ok array) after (taken, last, calls, whole) =
-      let to_none = subst (λ o. YieldsThen next_gives before taken o after) whole.2 calls in
-      (ended next_gives before taken after to_none, refl, refl, (sym whole.0, whole.1))
+      (ended next_gives before taken after (rw whole.2 at calls), refl, refl, (sym whole.0, whole.1))
   FillRuns-from_fill before n (Err error) after (taken, None, calls, short) =
       (ended next_gives before taken after calls, refl, inl (refl, short))
   FillRuns-from_fill before n (Err error) after (taken, Some item, calls, full) =
@@ -164,9 +161,8 @@ module _ {S T E : Type 0} (next_gives : S → Option (Result T E) → S → Type
       (after : S)
       → TakesGood next_gives before room good result after → P good → TakeGoodRuns next_gives before room result P
   TakeGoodRuns-from_takes P before room good (Ok done) after takes holds =
-      TakeRuns-from_takes next_gives (λ items. IsOkAnd (try_map (λ item. item) items) P) before room
-      (map Ok good) after takes
-      (subst (λ (values : Result (List T) E). IsOkAnd values P) (sym (all_good good)) holds)
+      TakeRuns-from_takes next_gives (λ items. IsOkAnd (try_map (λ item. item) items) P) before room (map Ok good) after
+      takes (rw (all_good good) holds)
   TakeGoodRuns-from_takes P before _ good (Err error) after (calls, short) holds =
       (stopped next_gives before (map Ok good) (Err error) after calls, refl, (good, holds, refl, short))
 
@@ -174,14 +170,12 @@ module _ {S T E F : Type 0} (next_gives : S → Option (Result T E) → S → Ty
   pub FillFalliblyRuns-from_fill : (before : S) (n : ℕ) (result : Result (Result (List T) E) F) (after : S)
       → FillsFallibly next_gives before n result after → FillFalliblyRuns next_gives before n result
   FillFalliblyRuns-from_fill before n (Ok (Ok array)) after (good, last, calls, whole) =
-      let to_none = subst (λ o. YieldsThen next_gives before (map Ok good) o after) whole.2 calls in
-      let all = ended next_gives before (map Ok good) after to_none in
+      let all = ended next_gives before (map Ok good) after (rw whole.2 at calls) in
       let same = sym whole.0 in
       let long = length-map {B = Result T E} good Ok in
       (all, refl, refl, (ap (map Ok) same, all_good good ∙ ap Ok same, long ∙ whole.1))
   FillFalliblyRuns-from_fill before n (Ok (Err error)) after (good, last, calls, first) =
-      let came = subst (λ o. YieldsThen next_gives before (map Ok good) o after) first.0 calls in
-      (stopped next_gives before (map Ok good) (Err error) after came, refl, (good, refl, first.1))
+      (stopped next_gives before (map Ok good) (Err error) after (rw first.0 at calls), refl, (good, refl, first.1))
   FillFalliblyRuns-from_fill before n (Err refused) after (good, last, calls, short) =
       let long = length-map {B = Result T E} good Ok in
       FillRuns-from_fill next_gives before n (Err refused) after

@@ -20,8 +20,7 @@ module _ {F X Y : Type 0} (step : F → X → Y → F → Type 0) where
       → all ≡ first ++ second → ClosureRun step f xs first between
       → ClosureRun step between ys second last → ClosureRun step f (xs ++ ys) all last
   ClosureRun-in_turn f xs ys first second all between last joined run then =
-      subst (λ answers. ClosureRun step f (xs ++ ys) answers last) (sym joined)
-      (ClosureRun-join f xs ys first second between last run then)
+      rw joined (ClosureRun-join f xs ys first second between last run then)
 
 module _ {F I T Y : Type 0} (entry : I → T) (pre : F → I → Type 0) (step : F → I → Y → F → Type 0) where
   -- what may be called over joined lists may be called over the first

@@ -113,9 +113,7 @@ module _ {T : Type 0} {front back n : ℕ} (items left : List T)
         part-behind front passed items written after (omega (arith, count)) stands in
         let rest = back - (front + passed) in
         let long : back - front ≡ passed + rest = omega (arith, count) in
-        ap (take rest) (same ∙ sym (drop-drop passed front items))
-        ∙ (sym (drop-take passed rest (drop front items))
-        ∙ (ap (λ k. drop passed (take k (drop front items))) (sym long) ∙ ap (drop passed) shown))
+        rw (same, ← drop-drop passed front items, ← drop-take passed rest (drop front items), ← long, shown) refl
 
     -- The same where some are given up, and blanks stand in their slots. The first slot is written as a remainder.
     module _ (some : 0 < passed) where

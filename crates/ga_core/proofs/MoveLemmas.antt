@@ -39,5 +39,4 @@ module _ {T : Type 0} where
   pub left-next : (P : T → Type 0) (n : ℕ) (left : List T) (blank : T) → n < length left → All P (take n left) → P blank
       → All P (take (n + 1) (slice_set left n blank))
   left-next P n left blank some before here =
-      subst (All P) (sym (take_more_set left n blank some))
-      (All-append P (take n left) (blank ∷ []) before (All-cons P blank [] here (All-nil P)))
+      rw (take_more_set left n blank some) (All-append P (take n left) _ before (All-cons P blank [] here (All-nil P)))

@@ -1,10 +1,10 @@
 -- Two lists of one length, compared pair by pair in parts.
+use Rattle.ga_core.proofs.MoveLemmas.{next-here}
 use Rattle.std.proofs.Common.{◌≡◌, ℕ, zero, suc, ◌+◌, ◌-◌, ◌<◌, ◌≤◌, Bool, true, false, ◌&&◌, List, [], ◌∷◌, Ordering}
-use Rattle.std.proofs.Common.{take, drop, length, ap, sym, ◌∙◌, refl, arith, inl, inr, Option}
-use Rattle.std.proofs.Common.{slice_index_or, eqb}
+use Rattle.std.proofs.Common.{take, drop, length, ap, sym, ◌∙◌, refl, arith, inl, inr, Option, slice_index_or, eqb}
 use Rattle.std.proofs.Math.Bool.{and_assoc, and-false, and-true}
 use Rattle.std.proofs.lemmas.Bool.Decides.{eqb_tells}
-use Rattle.std.proofs.lemmas.List.{drop-take, drop_more, take-take, take_all, take_rest}
+use Rattle.std.proofs.lemmas.List.{drop-take, take-take, take_all, take_rest}
 use Rattle.std.specs.Cmp.{Equal-is, IsPartialOrder}
 use Rattle.std.specs.Cmp.Lexicographic.{pointwise, slice_cmp, slice_partial_cmp}
 use Rattle.std.specs.Ordering.{eq_by_cmp, ordering_then, partial_ordering_then}
@@ -37,28 +37,21 @@ module _ {T : Type 0} (E : T → T → Bool) where
       → x ≡ slice_index_or xs n x → y ≡ slice_index_or ys n y
       → pointwise E (take (n + 1) xs) (take (n + 1) ys) ≡ (pointwise E (take n xs) (take n ys) && E x y)
   pointwise-next n xs ys x y some long this that =
-      let first : drop n xs ≡ x ∷ drop (n + 1) xs =
-      drop_more xs n x some ∙ ap (λ item. item ∷ drop (n + 1) xs) (sym this) in
-      let second : drop n ys ≡ y ∷ drop (n + 1) ys =
-      drop_more ys n y (omega arith) ∙ ap (λ item. item ∷ drop (n + 1) ys) (sym that) in
-      pointwise-parts n 1 xs ys
-      ∙ (λ i. pointwise E (take n xs) (take n ys) && pointwise E (take 1 (first i)) (take 1 (second i)))
-      ∙ ap (λ b. pointwise E (take n xs) (take n ys) && b) (and-true (E x y))
+      rw (pointwise-parts n 1 xs ys, next-here n xs xs x some this refl, next-here n ys ys y (omega arith) that refl)
+      (ap (λ b. pointwise E (take n xs) (take n ys) && b) (and-true (E x y)))
 
   -- the first n pairs are equal, and so are the m behind them
   pub block-equal : (n m end : ℕ) (xs ys : List T) → n + m ≡ end → pointwise E (take n xs) (take n ys) ≡ true
       → true ≡ pointwise E (take m (drop n xs)) (take m (drop n ys)) → pointwise E (take end xs) (take end ys) ≡ true
   block-equal n m end xs ys sum before here =
-      ap (λ k. pointwise E (take k xs) (take k ys)) (sym sum)
-      ∙ (pointwise-parts n m xs ys ∙ (λ i. before i && sym here i))
+      rw (← sum, pointwise-parts n m xs ys, before) (sym here)
 
   -- of the m pairs behind the first n, one is not equal
   pub block-differs : (n m : ℕ) (xs ys : List T)
       → false ≡ pointwise E (take m (drop n xs)) (take m (drop n ys)) → pointwise E xs ys ≡ false
   block-differs n m xs ys here =
-      let front = pointwise E (take n xs) (take n ys) in
-      pointwise-cut n xs ys ∙ (ap (λ b. front && b) (pointwise-cut m (drop n xs) (drop n ys)
-      ∙ ap (λ b. b && pointwise E (drop m (drop n xs)) (drop m (drop n ys))) (sym here)) ∙ and-false front)
+      rw (pointwise-cut n xs ys, pointwise-cut m (drop n xs) (drop n ys), ← here)
+      (and-false (pointwise E (take n xs) (take n ys)))
 
   -- as many pairs as there are
   pub pointwise-all : (n : ℕ) (xs ys : List T) → length xs ≤ n → length xs ≡ length ys

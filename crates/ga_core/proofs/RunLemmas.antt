@@ -78,5 +78,4 @@ module _ {F Y E : Type 0} (step : F → ℕ → Result Y E → F → Type 0) whe
       → TryClosureRun step f (range_with_len 0 n) (Err error) last
   TryClosureRun-at f k n good reached error last below run call =
       let cut = range_with_len-cut k n 0 k below (omega arith) in
-      subst (λ inputs. TryClosureRun step f inputs (Err error) last) (sym cut.1)
-      (TryClosureRun-error step f (range_with_len 0 k) good reached k cut.0 error last run call)
+      rw cut.1 (TryClosureRun-error step f (range_with_len 0 k) good reached k cut.0 error last run call)

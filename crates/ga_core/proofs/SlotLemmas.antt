@@ -3,14 +3,13 @@ use Rattle.ga_views.proofs.PartLemmas.{part-before, part-within, part_long}
 use Rattle.ga_views.specs.Parts.{part_set}
 use Rattle.std.proofs.Common.{◌≡◌, ◌≤◌, ◌+◌, ℕ, List, arith, ◌++◌, length, length-set, length-take, drop}
 use Rattle.std.proofs.Common.{take, slice_set, sym, ap, refl, ◌∙◌}
-use Rattle.std.proofs.Math.Seq.{take-add, take-append_seam}
+use Rattle.std.proofs.Math.Seq.{take-add}
+use Rattle.std.proofs.lemmas.List.{take_at}
 use Rattle.std.specs.List.{length_refill, refill}
 
 -- all slots are written
 pub refill-whole : {X : Type 0} (n : ℕ) (items written : List X) → n ≡ length written → refill n items written ≡ written
-refill-whole n items written all =
-    ap (λ k. take k (written ++ drop (length written) items)) all
-    ∙ take-append_seam written (drop (length written) items)
+refill-whole n items written all = take_at written (drop (length written) items) n (sym all)
 
 -- there are as many slots after a loan of all
 pub refill-long : {X : Type 0} (items written after : List X) → after ≡ refill (length items) items written
@@ -57,6 +56,5 @@ module _ {X : Type 0} {first room : ℕ} (count : ℕ) (items : List X) {shown :
     -- and what was written stands behind them
     pub behind-written : length written ≡ count → take (first + count) after ≡ shown ++ written
     behind-written long =
-        take-add first count after ∙ (ap (λ list. list ++ take count (drop first after)) behind-kept
-        ∙ ap (λ list. shown ++ list) (part-within first count items written after within stands
-        ∙ refill-whole count (take count (drop first items)) written (sym long)))
+        rw (take-add first count after, behind-kept, part-within first count items written after within stands)
+        (ap (λ list. shown ++ list) (refill-whole count (take count (drop first items)) written (sym long)))

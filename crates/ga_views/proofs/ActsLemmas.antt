@@ -32,17 +32,13 @@ module _ {F X Y E : Type 0} (step : F → X → Result Y E → F → Type 0) (f 
   answers_until_error [] (Ok []) last run = refl
   answers_until_error (x ∷ xs) (Ok (y ∷ ys)) last run =
       let call = acts x (Ok y) run.0 run.1 in
-      let others = answers_until_error xs (Ok ys) last
-      (subst (λ k. TryClosureRun step k xs (Ok ys) last) call.0 run.2) in
-      rw (← call.1, ← others)
+      rw (← call.1, ← answers_until_error xs (Ok ys) last (rw call.0 at run.2))
   answers_until_error (x ∷ xs) (Err error) last run =
       elim run [
         | inl failed ↦ rw (← (acts x (Err error) last failed).1)
         | inr good ↦
             let call = acts x (Ok good.0) good.1 good.2 in
-            let others = answers_until_error xs (Err error) last
-            (subst (λ k. TryClosureRun step k xs (Err error) last) call.0 good.3) in
-            rw (← call.1, ← others)
+            rw (← call.1, ← answers_until_error xs (Err error) last (rw call.0 at good.3))
       ]
   answers_until_error _ _ last run = absurd run
 
@@ -53,8 +49,7 @@ module _ {F A X : Type 0} (step : F → A → X → A → F → Type 0) (f : F) 
   answer_of_fold a [] b last run = sym (ap (λ p. p.1) run)
   answer_of_fold a (x ∷ xs) b last run =
       let call = acts a x run.0.1 run.0.0 run.1 in
-      let others = answer_of_fold run.0.1 xs b last (subst (λ k. FoldRun step k run.0.1 xs b last) call.0 run.2) in
-      others ∙ ap (λ c. fold h c xs) call.1
+      answer_of_fold run.0.1 xs b last (rw call.0 at run.2) ∙ ap (λ c. fold h c xs) call.1
 
 module _ {I T F A B : Type 0} (entry : I → T) (step : F → A → I → B → F → Type 0) (f : F) (h : A → T → B)
     (acts : ActsInFold entry step f h) where
@@ -75,12 +70,8 @@ module _ {F X : Type 0} (value : X → ℕ) (step : F → ℕ → X → ℕ → 
       → (f : F) (a : ℕ) (xs : List X) (b : ℕ) (last : F) → FoldRun step f a xs b last → b ≡ a + sum_by value xs
   fold-sum adds f a [] b last run = omega (arith, ap (λ p. p.1) run)
   fold-sum adds f a (x ∷ xs) b last run =
-      omega (
-        arith,
-        fold-sum adds run.0.0 run.0.1 xs b last run.2,
-        adds f a x run.0.1 run.0.0 run.1,
-        sum_by-cons value x xs,
-      )
+      let others = fold-sum adds run.0.0 run.0.1 xs b last run.2 in
+      omega (arith, others, adds f a x run.0.1 run.0.0 run.1, sum_by-cons value x xs)
 
 module _ {F I X : Type 0} (entry : I → X) (value : X → ℕ) (step : F → ℕ → I → ℕ → F → Type 0)
     (pre : F → ℕ → I → Type 0) where
@@ -93,12 +84,6 @@ module _ {F I X : Type 0} (entry : I → X) (value : X → ℕ) (step : F → �
   sum_is_callable f xs bound adds may within passed x others reached so_far whole run item is stays =
       let at_entry : (f : F) (a : ℕ) (x : X) (b : ℕ) (next : F) → FoldAt entry step f a x b next → b ≡ a + value x =
       λ f a x b next call. adds f a call.0 b next call.2 ∙ ap (λ y. a + value y) call.1 in
-      may reached so_far item (omega (
-        arith,
-        fold-sum value (FoldAt entry step) at_entry f 0 passed so_far reached run,
-        sum_by-append value passed (x ∷ others),
-        sum_by-cons value x others,
-        ap (sum_by value) whole,
-        ap value is,
-        within,
-      ))
+      let sum = fold-sum value (FoldAt entry step) at_entry f 0 passed so_far reached run in
+      let parts = ap (sum_by value) whole ∙ sum_by-append value passed (x ∷ others) in
+      may reached so_far item (omega (arith, sum, parts, sum_by-cons value x others, ap value is, within))

@@ -43,8 +43,7 @@ module _ {F A X : Type 0} (step : F → A → X → A → F → Type 0) where
       → (a : A) (xs : List X) (b : A) (last : F) → FoldRun step f a xs b last → last ≡ f
   stays-fold f stays a [] b last run = sym (ap (λ p. p.0) run)
   stays-fold f stays a (x ∷ xs) b last run =
-      stays-fold f stays run.0.1 xs b last (subst (λ s. FoldRun step s run.0.1 xs b last)
-      (stays a x run.0.1 run.0.0 run.1) run.2)
+      stays-fold f stays run.0.1 xs b last (rw (stays a x run.0.1 run.0.0 run.1) at run.2)
 
   -- a fold over items is one over entries that stand for themselves
   pub FoldRun-of_items : (f : F) (a : A) (xs : List X) (b : A) (last : F) → FoldRun step f a xs b last
@@ -100,9 +99,7 @@ module _ {F A I T : Type 0} (entry : I → T) (pre : F → A → I → Type 0) w
       → FoldRun (FoldAt entry step) f a passed value reached → (item : I) → entry item ≡ x → pre reached value item
   may_fold-at step f a xs may = λ passed x others reached value whole run item is.
       may passed x others reached value whole run item is
-      (λ here stays. subst (λ s. pre s value item)
-      (sym (stays-fold (FoldAt entry step) f (λ b v c g call. stays b call.0 c g call.2) a passed value reached run))
-      here)
+      (λ here stays. rw (stays-fold _ f (λ b v c g call. stays b call.0 c g call.2) a passed value reached run) here)
 
 -- a run of steps goes on where another ended
 FoldsTo-append : {P X : Type 0} (step : P → X → P → Type 0) (p : P) (xs : List X) (q : P) (ys : List X) (r : P)

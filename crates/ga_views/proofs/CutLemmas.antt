@@ -3,10 +3,9 @@ use Rattle.ga_views.specs.Cut.{StepGives, back, front}
 use Rattle.std.proofs.Common.{◌≡◌, ℕ, zero, suc, ◌+◌, ◌<◌, ◌≤◌, List, [], ◌∷◌, ◌++◌, Option, None, Some}
 use Rattle.std.proofs.Common.{length, min, take, drop, reverse, refl, sym, ap, ◌∙◌, append_assoc, arith}
 use Rattle.std.proofs.Common.{length-drop, slice_get, slice_index_or}
-use Rattle.std.proofs.lemmas.List.{drop-drop, drop_min, drop_more, length-reverse, reverse-append, reverse-reverse, take-append-drop}
-use Rattle.std.proofs.lemmas.List.{take_more}
+use Rattle.std.proofs.lemmas.List.{drop-drop, drop_at, drop_min, drop_more, length-reverse, reverse-append}
+use Rattle.std.proofs.lemmas.List.{reverse-reverse, take-append-drop, take_more}
 use Rattle.std.proofs.Math.ListN.{drop_of_length-le}
-use Rattle.std.proofs.Math.Seq.{drop-append_seam}
 use Rattle.std.proofs.lemmas.Option.{slice_get_past}
 use Rattle.std.specs.Iterator.{YieldsFirst, YieldsFirstBy, YieldsLast, YieldsLastBy}
 use Rattle.std.specs.Option.{option_map}
@@ -49,17 +48,10 @@ module _ {T : Type 0} where
   pub reverse-take : (items : List T) (kept passed : ℕ) → length items ≡ kept + passed
       → reverse (take kept items) ≡ drop passed (reverse items)
   reverse-take items kept passed long =
-      let last = reverse (drop kept items) in
-      let count : passed ≡ length last = omega (
-        arith,
-        length-reverse (drop kept items),
-        length-drop kept items,
-        long,
-      ) in
-      sym (drop-append_seam last (reverse (take kept items)))
-      ∙ (ap (λ k. drop k (last ++ reverse (take kept items))) (sym count)
-      ∙ ap (drop passed) (sym (reverse-append (take kept items) (drop kept items))
-      ∙ ap reverse (take-append-drop kept items)))
+      let front = take kept items in let last = drop kept items in
+      let count : length (reverse last) ≡ passed = omega (arith, length-reverse last, length-drop kept items, long) in
+      sym (drop_at (reverse last) (reverse front) passed count)
+      ∙ ap (drop passed) (sym (reverse-append front last) ∙ ap reverse (take-append-drop kept items))
 
   -- `next_back` is `next` on the reversed list
   pub next_back-reversed : (items : List T) (reply : Option T) (left : List T)
@@ -96,11 +88,8 @@ module _ {T : Type 0} where
 
   -- where there are no more than n items, the step consumes them
   pub nth-past : (n : ℕ) (items left : List T) → length items ≤ n → left ≡ [] → StepGives (front n) items None left
-  nth-past n items left beyond none = (
-    sym (slice_get_past items n (omega arith)),
-    none
-        ∙ sym (drop_of_length-le items (omega arith)),
-  )
+  nth-past n items left beyond none =
+      (sym (slice_get_past items n (omega arith)), none ∙ sym (drop_of_length-le items (omega arith)))
 
   -- the same from the back
   pub nth_back-past : (n : ℕ) (items left : List T) → length items ≤ n → left ≡ [] → StepGives (back n) items None left

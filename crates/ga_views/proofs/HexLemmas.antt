@@ -22,11 +22,8 @@ uppercase-encode_with : (t bytes : List ℕ) → map to_ascii_uppercase (encode_
 unfolding encode_with
 uppercase-encode_with t [] = refl
 uppercase-encode_with t (b ∷ rest) =
-    rw (
-      uppercase-encode_with t rest,
-      ← get_or-map to_ascii_uppercase t (b / 16) 0,
-      ← get_or-map to_ascii_uppercase t (b % 16) 0,
-    ) refl
+    let read = get_or-map to_ascii_uppercase t in
+    rw (uppercase-encode_with t rest, ← read (b / 16) 0, ← read (b % 16) 0) refl
 
 -- digits in lower case, made upper case, are those in upper case
 pub uppercase_lower : (bytes : List ℕ) → map to_ascii_uppercase (encode_lower bytes) ≡ hex_digits true bytes
@@ -62,13 +59,8 @@ IsAscii-from_test text pass = IsAscii-from_all text
 -- a text with a part that isn't empty isn't empty
 pub not_empty : (whole done left text others : List ℕ) → whole ≡ done ++ left → left ≡ text ++ others → 0 < length text
     → whole ≡ [] → ⊥
-not_empty whole done left text others so_far next some none = omega (
-  arith,
-  ap length (sym none ∙ so_far),
-  length-append done left,
-  ap length next,
-  length-append text others,
-)
+not_empty whole done left text others so_far next some none =
+    omega (arith, ap length (sym none ∙ so_far), length-append done left, ap length next, length-append text others)
 
 -- each digit of a table is ASCII
 IsAscii-table : (upper : Bool) → IsAscii (if upper then upper_digits else lower_digits)
@@ -104,10 +96,8 @@ module _ (upper : Bool) where
 
     -- the digits of all are that text and the others of the second part
     pub piece-next : take count (hex_digits upper left) ≡ text ++ take (count - length text) (hex_digits upper behind)
-    piece-next =
-        let all = ap (hex_digits upper) parts ∙ encode_with-append _ piece behind in
-        let front = ap (λ t. t ++ take (count - length t) (hex_digits upper behind)) (sym is) in
-        ap (take count) all ∙ (take-append count (hex_digits upper piece) (hex_digits upper behind) ∙ front)
+    piece-next = rw (parts, is) (ap (take count) (encode_with-append _ piece behind)
+        ∙ take-append count (hex_digits upper piece) (hex_digits upper behind))
 
     -- the text has a digit where there are bytes and room for two digits
     pub piece-some : (cut room : ℕ) → 0 < count → count ≤ 2 * length left → 2 ≤ room

@@ -10,8 +10,8 @@ use lib.ListN.{drop_of_length-le, length-drop}
 use lib.Seq.{drop-drop, length-take-le, take_all}
 use Rattle.ga_views.specs.Parts.{part_set}
 use Rattle.std.proofs.Common.{◌≡◌, ℕ, ◌+◌, ◌≤◌, List, ◌++◌, ◌∙◌, ap, arith, drop, length, refl, sym, take}
-use Rattle.std.proofs.Math.Seq.{drop-append_seam, take-append_seam, take-length}
-use Rattle.std.proofs.lemmas.List.{append-nil}
+use Rattle.std.proofs.Math.Seq.{take-length}
+use Rattle.std.proofs.lemmas.List.{append-nil, drop_at, take_at}
 use Rattle.std.specs.List.{length_refill, refill}
 
 pub refilled : {T : Type 0} (len : ℕ) (xs ws : List T) → length xs ≡ len → length ws ≡ len → ws ≡ refill len xs ws
@@ -69,20 +69,16 @@ module _ {T : Type 0} (from len : ℕ) (xs ws after : List T) (within : from + l
   stands = written ∙ part_fills from len xs ws within
 
   past : drop from after ≡ filled ++ behind
-  past = ap (drop from) stands ∙ (ap (λ k. drop k (take from xs ++ (filled ++ behind))) (sym before_long)
-      ∙ drop-append_seam (take from xs) (filled ++ behind))
+  past = rw stands (drop_at (take from xs) (filled ++ behind) from before_long)
 
   pub part-before : take from after ≡ take from xs
-  part-before = ap (take from) stands ∙ (ap (λ k. take k (take from xs ++ (filled ++ behind))) (sym before_long)
-      ∙ take-append_seam (take from xs) (filled ++ behind))
+  part-before = rw stands (take_at (take from xs) (filled ++ behind) from before_long)
 
   pub part-within : take len (drop from after) ≡ filled
-  part-within = ap (take len) past ∙ (ap (λ k. take k (filled ++ behind)) (sym filled_long)
-      ∙ take-append_seam filled behind)
+  part-within = rw past (take_at filled behind len filled_long)
 
   pub part-behind : drop (from + len) after ≡ behind
-  part-behind = sym (drop-drop len from after) ∙ (ap (drop len) past
-      ∙ (ap (λ k. drop k (filled ++ behind)) (sym filled_long) ∙ drop-append_seam filled behind))
+  part-behind = rw (← drop-drop len from after, past) (drop_at filled behind len filled_long)
 
 pub part-all : {T : Type 0} (xs ws : List T) → refill (length xs) xs (part_set 0 (length xs) xs ws)
     ≡ refill (length xs) xs ws

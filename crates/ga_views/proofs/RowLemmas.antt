@@ -4,7 +4,7 @@ use Rattle.std.proofs.Common.{◌≡◌, ℕ, zero, suc, ◌+◌, ◌-◌, ◌*�
 use Rattle.std.proofs.Common.{length, min, take, drop, reverse, refl, sym, subst, ap, ◌∙◌, arith, length-append, length-drop}
 use Rattle.std.proofs.Common.{slice_get}
 use Rattle.std.proofs.Math.Nat.{div-eq-sub-div, div-eq_of_lt, div-mul-le_self, div-zero, mul-div_cancel}
-use Rattle.std.proofs.Math.Nat.{mul-le-mul_right, zero-div}
+use Rattle.std.proofs.Math.Nat.{mul-le-mul_right, mul-sub, zero-div}
 use Rattle.std.proofs.lemmas.Iterator.{YieldsList}
 use Rattle.std.proofs.lemmas.Iterator.Consumers.{YieldsList-from_shown}
 use Rattle.std.proofs.lemmas.List.{drop-drop, drop-take, length-reverse, length-take-le, reverse-append, take-take, take_all}
@@ -55,17 +55,13 @@ module _ {X : Type 0} (width : ℕ) (items : List X) where
     pub rows-first : rows width items ≡ take width items ∷ rows width (drop width items)
     rows-first =
         let none : 0 * width ≡ 0 = omega arith in
-        ap (λ n. map (row_at width items) (range_with_len 0 n)) count-step
-        ∙ (ap (λ k. take width (drop k items) ∷ map (row_at width items)
-        (range_with_len 1 (chunk_count width (drop width items)))) none
-        ∙ ap (λ others. take width items ∷ others) (rows_shifted 0 (chunk_count width (drop width items))))
+        rw (count-step, none) (ap (λ others. take width items ∷ others) (rows_shifted 0 _))
 
     pub chunk_rest-first : chunk_rest width items ≡ chunk_rest width (drop width items)
     chunk_rest-first =
         let count = chunk_count width (drop width items) in
-        let places : chunk_count width items * width ≡ width + count * width =
-        ap (λ n. n * width) count-step ∙ (omega arith) in
-        ap (λ k. drop k items) places ∙ sym (drop-drop (count * width) width items)
+        let places : suc count * width ≡ width + count * width = omega arith in
+        rw (count-step, places, drop-drop (count * width) width items) refl
 
   module _ (few : length items < width) where
     none : chunk_count width items ≡ 0
@@ -76,9 +72,7 @@ module _ {X : Type 0} (width : ℕ) (items : List X) where
     rows-few = ap (λ n. map (row_at width items) (range_with_len 0 n)) none
 
     pub chunk_rest-few : chunk_rest width items ≡ items
-    chunk_rest-few =
-        let start : chunk_count width items * width ≡ 0 = ap (λ n. n * width) none ∙ (omega arith) in
-        ap (λ k. drop k items) start
+    chunk_rest-few = let start : 0 * width ≡ 0 = omega arith in rw (none, start) refl
 
   -- how many rows there are
   pub length-rows : length (rows width items) ≡ chunk_count width items
@@ -101,9 +95,7 @@ module _ {X : Type 0} (width : ℕ) (items : List X) where
       let more = count * width - r * width in
       let enough : width + r * width ≤ count * width = omega (arith, mul-le-mul_right width below) in
       let places : count * width ≡ r * width + more = omega arith in
-      let wide : width ≤ more = omega arith in
-      ap (λ k. take width (drop (r * width) (take k items))) places
-      ∙ (ap (take width) (drop-take (r * width) more items) ∙ take-take width more (drop (r * width) items) wide)
+      rw (places, drop-take (r * width) more items) (take-take width more (drop (r * width) items) (omega arith))
 
   -- and so are those from row a on
   rows-kept : (a n count : ℕ) → a + n ≤ count → map (row_at width (take (count * width) items)) (range_with_len a n)
@@ -125,33 +117,23 @@ module _ {X : Type 0} (width : ℕ) where
   rows-dropped zero items within = let none : 0 * width ≡ 0 = omega arith in ap (λ n. rows width (drop n items)) none
   rows-dropped (suc k) items within =
       let wide = wide_by (length items) width k within in
-      let enough : width ≤ length items = omega (
-        arith,
-        mul-le-mul_right width within,
-        div-mul-le_self (length items) width,
-      ) in
+      let enough : width ≤ length items = omega (arith, row-within (length items) width k within) in
       let first = rows-first width items wide enough in
       let left : k ≤ chunk_count width (drop width items) =
       omega (arith, within, ap length first, length-rows width items, length-rows width (drop width items)) in
       let place : suc k * width ≡ width + k * width = omega arith in
-      ap (λ n. rows width (drop n items)) place
-      ∙ (ap (rows width) (sym (drop-drop (k * width) width items))
-      ∙ (rows-dropped k (drop width items) left ∙ ap (drop (suc k)) (sym first)))
+      rw (place, ← drop-drop (k * width) width items, rows-dropped k (drop width items) left, first) refl
 
   -- the rows of the items of the first k rows
   pub rows-taken : (k : ℕ) (items : List X) → k ≤ chunk_count width items
       → rows width (take (k * width) items) ≡ take k (rows width items)
-  rows-taken zero items within = let none : 0 * width ≡ 0 = omega arith in
-      ap (λ n. rows width (take n items)) none ∙ ap (λ n. map (row_at width []) (range_with_len 0 n)) (zero-div width)
+  rows-taken zero items within = let none : 0 * width ≡ 0 = omega arith in rw (none, zero-div width) refl
   rows-taken (suc k) items within =
       let first_rows = take (suc k * width) items in
       let long : length first_rows ≡ suc k * width =
-      length-take-le (suc k * width) items (omega
-      (arith, mul-le-mul_right width within, div-mul-le_self (length items) width)) in
-      let count : chunk_count width first_rows ≡ suc k =
-      ap (λ n. n / width) long ∙ mul-div_cancel (suc k) (wide_by (length items) width k within) in
-      ap (λ n. map (row_at width first_rows) (range_with_len 0 n)) count
-      ∙ (rows-kept width items 0 (suc k) (suc k) (omega arith)
+      length-take-le (suc k * width) items (omega (arith, row-within (length items) width k within)) in
+      rw (long, mul-div_cancel (suc k) (wide_by (length items) width k within))
+      (rows-kept width items 0 (suc k) (suc k) (omega arith)
       ∙ sym (take-map-range_with_len (row_at width items) 0 (chunk_count width items) (suc k) within))
 
   -- the rows of the items that lie in whole rows are the rows of all
@@ -170,11 +152,7 @@ module _ {X : Type 0} (width : ℕ) (items : List X) (left : List (List X)) (sho
 
   module _ (whole : length items ≡ chunk_count width items * width) where
     fewer : length items - n ≡ (chunk_count width items - k) * width
-    fewer =
-        let all : chunk_count width items ≡ k + (chunk_count width items - k) = omega (arith, some) in
-        let places : chunk_count width items * width ≡ k * width + (chunk_count width items - k) * width =
-        ap (λ m. m * width) all ∙ (omega arith) in
-        omega (arith, whole, fill, places)
+    fewer = omega (arith, whole, fill, mul-sub width (chunk_count width items) k)
 
     -- the other items leave no rest either, and their rows are the others
     pub passed-front : let others = drop n items in

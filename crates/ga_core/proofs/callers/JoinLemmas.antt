@@ -3,9 +3,8 @@ use Rattle.ga_views.proofs.RowLemmas.{chunk_rest-few, chunk_rest-first, rows-few
 use Rattle.ga_views.specs.Rows.{chunk_rest, rows}
 use Rattle.std.proofs.Common.{◌≡◌, ℕ, zero, suc, ◌+◌, ◌<◌, ◌≤◌, List, ◌∷◌, ◌++◌, length, take, drop, refl, sym, ap, ◌∙◌}
 use Rattle.std.proofs.Common.{append_assoc, arith, subst, inl, inr, length-append, length-drop}
-use Rattle.std.proofs.Math.Seq.{drop-append_seam, take-append_seam}
 use Rattle.std.proofs.lemmas.Bool.{cases_lt}
-use Rattle.std.proofs.lemmas.List.{length-take-le, take-append-drop}
+use Rattle.std.proofs.lemmas.List.{drop_at, length-take-le, take-append-drop, take_at}
 
 module _ {X : Type 0} (width : ℕ) (some : 0 < width) where
   -- a row, and what follows it
@@ -13,24 +12,19 @@ module _ {X : Type 0} (width : ℕ) (some : 0 < width) where
     enough : width ≤ length (row ++ others)
     enough = omega (arith, length-append row others)
 
-    front : take width (row ++ others) ≡ row
-    front = ap (λ n. take n (row ++ others)) (sym full) ∙ take-append_seam row others
-
-    behind : drop width (row ++ others) ≡ others
-    behind = ap (λ n. drop n (row ++ others)) (sym full) ∙ drop-append_seam row others
-
     -- the rows of items appended to a row
     pub rows-behind : rows width all ≡ row ∷ rows width others
-    rows-behind =
-        ap (rows width) (sym joined)
-        ∙ (rows-first width (row ++ others) some enough
-        ∙ (ap (λ first. first ∷ rows width (drop width (row ++ others))) front
-        ∙ ap (λ left. row ∷ rows width left) behind))
+    rows-behind = rw (
+      ← joined,
+      rows-first width (row ++ others) some enough,
+      take_at row others width full,
+      drop_at row others width full,
+    ) refl
 
     -- and what follows them
     pub chunk_rest-behind : chunk_rest width all ≡ chunk_rest width others
-    chunk_rest-behind = ap (chunk_rest width) (sym joined)
-        ∙ (chunk_rest-first width (row ++ others) some enough ∙ ap (chunk_rest width) behind)
+    chunk_rest-behind =
+        rw (← joined, chunk_rest-first width (row ++ others) some enough, drop_at row others width full) refl
 
   -- a row that is begun, filled by the front of what is appended
   module _ (begun front more : List X) (full : length begun + length front ≡ width) where
@@ -67,25 +61,17 @@ module _ {X : Type 0} (width : ℕ) (some : 0 < width) where
       × (chunk_rest width (xs ++ ys) ≡ chunk_rest width (chunk_rest width xs ++ ys))
 
   joins-few : (ys xs : List X) → length xs < width → Joins ys xs
-  joins-few ys xs few =
-      let none = rows-few width xs few in
-      let all = chunk_rest-few width xs few in (
-        sym (ap (λ k. k ++ rows width (chunk_rest width xs ++ ys)) none ∙ ap (λ k. rows width (k ++ ys)) all),
-        sym (ap (λ k. chunk_rest width (k ++ ys)) all),
-      )
+  joins-few ys xs few = rw (rows-few width xs few, chunk_rest-few width xs few) (refl, refl)
 
   joins-more : (ys row others : List X) → length row ≡ width → Joins ys others → Joins ys (row ++ others)
   joins-more ys row others full joined =
       let along = sym (append_assoc row others ys) in
-      let first = rows-behind row others (row ++ others) refl full in
-      let rest = chunk_rest-behind row others (row ++ others) refl full in (
-        rows-behind row (others ++ ys) ((row ++ others) ++ ys) along full
-            ∙ (ap (λ k. row ∷ k) joined.0
-            ∙ (ap (λ k. row ∷ (rows width others ++ rows width (k ++ ys))) (sym rest)
-            ∙ ap (λ k. k ++ rows width (chunk_rest width (row ++ others) ++ ys)) (sym first))),
-        chunk_rest-behind row (others ++ ys) ((row ++ others) ++ ys) along full
-            ∙ (joined.1 ∙ ap (λ k. chunk_rest width (k ++ ys)) (sym rest)),
-      )
+      rw (
+        rows-behind row others (row ++ others) refl full,
+        chunk_rest-behind row others (row ++ others) refl full,
+        rows-behind row (others ++ ys) ((row ++ others) ++ ys) along full,
+        chunk_rest-behind row (others ++ ys) ((row ++ others) ++ ys) along full,
+      ) (ap (λ k. row ∷ k) joined.0, joined.1)
 
   -- the rows of two lists, one appended to the other
   pub rows-joined : (xs ys : List X) → rows width (xs ++ ys) ≡ rows width xs ++ rows width (chunk_rest width xs ++ ys)

@@ -66,11 +66,8 @@ pub insert_falls : (xs after : List ℕ) (y i k : ℕ) → after ≡ insert xs i
     → ((k : ℕ) → k + 1 < length xs → get_or xs (k + 1) 0 ≤ get_or xs k 0)
     → k + 1 < length after → get_or after (k + 1) 0 ≤ get_or after k 0
 insert_falls xs after y i k is at falls here =
-    let all : i ≡ before y xs = at ∙ omega (
-      arith,
-      length-take (before y xs) xs,
-      prefix_len-le-length (λ other. nat_le y other) xs,
-    ) in
+    let all : i ≡ before y xs =
+    at ∙ omega (arith, length-take (before y xs) xs, prefix_len-le-length (λ other. nat_le y other) xs) in
     let same : after ≡ put y xs = is ∙ ap (λ n. insert xs n y) all in
     rw (same, add-one k) (put-falls y xs (λ j inside. subst (λ m. get_or xs m 0 ≤ get_or xs j 0) (add-one j)
     (falls j (omega (arith, inside)))) k (omega (arith, here, ap length same)))

@@ -1,24 +1,15 @@
 -- A queue: so many items of a ring, from the place of the oldest on.
-use Rattle.std.proofs.Common.{◌≡◌, ℕ, inl, inr, suc, ◌+◌, ◌-◌, ◌%◌, ◌<◌, ◌≤◌, ◌∙◌, List, [], ◌∷◌, ◌++◌, ap, append-nil}
-use Rattle.std.proofs.Common.{append_assoc, arith, drop, drop-cons, get_or, length, length-append, length-drop, subst}
-use Rattle.std.proofs.Common.{sym, take, ◌⊎◌}
+use Rattle.ga_core.proofs.callers.RingLemmas.{length-turned, ring-next, ring-round, turned as ring}
+use Rattle.std.proofs.Common.{◌≡◌, ℕ, inl, inr, ◌+◌, ◌-◌, ◌%◌, ◌<◌, ◌≤◌, ◌∙◌, List, [], ◌∷◌, ◌++◌, ap, arith, drop}
+use Rattle.std.proofs.Common.{get_or, length, length-drop, subst, sym, take, ◌⊎◌}
 use Rattle.std.proofs.Math.ListN.{length-set, set}
 use Rattle.std.proofs.Math.Nat.{add-mod_left, mod-eq_of_lt}
 use Rattle.std.proofs.Math.Seq.{take-set-lt}
 use Rattle.std.proofs.lemmas.Bool.{cases_lt}
-use Rattle.std.proofs.lemmas.Grind.{take-set_at}
-use Rattle.std.proofs.lemmas.List.{drop-set-add, drop-set-lt, drop_all, length-take, set-append_left, set-append_right}
-use Rattle.std.proofs.lemmas.List.{set-get_or, take-append-le, take-set-le, take_all, take_more_set}
+use Rattle.std.proofs.lemmas.List.{drop-set-add, drop-set-lt, drop-take, set-append_left, set-append_right, set-get_or}
+use Rattle.std.proofs.lemmas.List.{take-append-le, take-set-le, take_more_set}
 
 module _ {X : Type 0} where
-  abbrev ring : List X → ℕ → List X
-  ring slots head = drop head slots ++ take head slots
-
-  -- the ring from its end on is the ring from its start on
-  ring-round : (slots : List X) (n : ℕ) → n ≡ length slots → ring slots 0 ≡ ring slots n
-  ring-round slots n end = append-nil slots ∙ sym (ap (λ front. front ++ take n slots) (drop_all n slots (omega (arith, end)))
-      ∙ take_all n slots (omega (arith, end)))
-
   module _ (slots : List X) (head count : ℕ) (x : X) (place : ℕ) where
     -- an item is written behind the others, before the end of the slots
     pub posted_on : place ≡ head + count → place < length slots
@@ -26,14 +17,10 @@ module _ {X : Type 0} where
         ≡ take count (drop head slots ++ take head slots) ++ x ∷ []
     posted_on is inside =
         let room : count < length (drop head slots) = omega (arith, length-drop head slots) in
-        let more : count < length (ring slots head) = omega (arith, length-append (drop head slots) (take head slots)) in
-        let low : head ≤ head + count = omega arith in
-        rw (
-          is,
-          drop-set-add head slots count x,
-          take-set-le head slots (head + count) x low,
-          ← set-append_left (drop head slots) (take head slots) count x room,
-        ) (take_more_set (ring slots head) count x more)
+        let more : count < length (ring slots head) = omega (arith, length-turned slots head (omega arith)) in
+        let front = set-append_left (drop head slots) (take head slots) count x room in
+        rw (is, drop-set-add head slots count x, take-set-le head slots (head + count) x (omega arith), ← front)
+        (take_more_set (ring slots head) count x more)
 
     -- the same from the front on
     pub posted_back : place + length slots ≡ head + count → head < length slots → count < length slots
@@ -44,14 +31,9 @@ module _ {X : Type 0} where
         let low : place < head = omega arith in
         let at : place ≡ count - (length slots - head) = omega arith in
         let behind : length slots - head ≤ count = omega arith in
-        let more : count < length (ring slots head) =
-        omega (arith, length-append (drop head slots) (take head slots), length-take head slots) in
-        rw (
-          drop-set-lt head slots place x low,
-          take-set-lt head slots place x low,
-          at,
-          ← set-append_right (drop head slots) (take head slots) (length slots - head) count x long behind,
-        )
+        let more : count < length (ring slots head) = omega (arith, length-turned slots head (omega arith)) in
+        let back = set-append_right (drop head slots) (take head slots) (length slots - head) count x long behind in
+        rw (drop-set-lt head slots place x low, take-set-lt head slots place x low, at, ← back)
         (take_more_set (ring slots head) count x more)
 
   -- an item is written behind the others, at the remainder of its place
@@ -72,49 +54,17 @@ module _ {X : Type 0} where
         (omega (arith, is, room))
 
   -- the oldest item is taken, and x is left in its place
-  taken : (slots : List X) (head c : ℕ) (x : X) → head < length slots → suc c ≤ length slots
-      → take c (ring (set slots head x) (suc head)) ≡ drop 1 (take (suc c) (ring slots head))
-  taken slots head c x inside few =
-      let oldest = drop-cons slots head x inside in
-      let next : suc head ≡ head + 1 = omega arith in
-      let front : take (suc head) (set slots head x) ≡ take head slots ++ x ∷ [] =
-      take-set_at slots head (suc head) x next inside in
-      let enough : c ≤ length (drop (suc head) slots ++ take head slots) =
-      omega (
-        arith,
-        length-append (drop (suc head) slots) (take head slots),
-        length-drop (suc head) slots,
-        length-take head slots,
-      ) in
-      rw (
-        drop-set-lt (suc head) slots head x (omega arith),
-        front,
-        ← append_assoc (drop (suc head) slots) (take head slots) (x ∷ []),
-        oldest,
-      )
-      (take-append-le c (drop (suc head) slots ++ take head slots) (x ∷ []) enough)
+  taken : (slots : List X) (head count : ℕ) (x : X) → head < length slots → 0 < count → count ≤ length slots
+      → take (count - 1) (ring (set slots head x) (head + 1)) ≡ drop 1 (take count (ring slots head))
+  taken slots head count x inside some few =
+      let all = ring slots head in
+      let one : 1 + (count - 1) ≡ count = omega arith in
+      let long = length-turned slots head (omega arith) in
+      let enough : count - 1 ≤ length (drop 1 all) = omega (arith, length-drop 1 all, long) in
+      rw (ring-next slots head x inside) (take-append-le (count - 1) (drop 1 all) (x ∷ []) enough
+      ∙ (sym (drop-take 1 (count - 1) all) ∙ ap (λ k. drop 1 (take k all)) one))
 
-  module _ (slots : List X) (head count next : ℕ) where
-    pub left_on : (x : X) → next ≡ head + 1 → next < length slots → 0 < count → count ≤ length slots
-        → take (count - 1) (drop next (set slots head x) ++ take next (set slots head x))
-        ≡ drop 1 (take count (drop head slots ++ take head slots))
-    left_on x step inside some few =
-        let one : count ≡ suc (count - 1) = omega arith in
-        let on : next ≡ suc head = omega arith in
-        ap (λ k. take (count - 1) (ring (set slots head x) k)) on
-        ∙ (taken slots head (count - 1) x (omega arith) (omega arith) ∙ ap (λ m. drop 1 (take m (ring slots head))) (sym one))
-
-    -- from the last place to the first
-    pub left_back : (x : X) → next ≡ 0 → head + 1 ≡ length slots → 0 < count → count ≤ length slots
-        → take (count - 1) (drop next (set slots head x) ++ take next (set slots head x))
-        ≡ drop 1 (take count (drop head slots ++ take head slots))
-    left_back x start end some few =
-        let one : count ≡ suc (count - 1) = omega arith in
-        let round = ring-round (set slots head x) (suc head) (omega (arith, end, length-set slots head x)) in
-        ap (λ k. take (count - 1) (ring (set slots head x) k)) start ∙ ap (take (count - 1)) round
-        ∙ (taken slots head (count - 1) x (omega arith) (omega arith) ∙ ap (λ m. drop 1 (take m (ring slots head))) (sym one))
-
-  -- the same where the oldest item stays in its place
+  -- what holds with any item in the oldest's place holds with the oldest there
   kept : (slots : List X) (head count next : ℕ)
       → ((x : X) → take (count - 1) (ring (set slots head x) next) ≡ drop 1 (take count (ring slots head)))
       → 0 < count → count ≤ length slots → take (count - 1) (ring slots next) ≡ drop 1 (take count (ring slots head))
@@ -124,15 +74,27 @@ module _ {X : Type 0} where
       (set-get_or (x ∷ slots) head x) (left (get_or (x ∷ slots) head x))
 
   module _ (slots : List X) (head count next : ℕ) where
+    pub left_on : (x : X) → next ≡ head + 1 → next < length slots → 0 < count → count ≤ length slots
+        → take (count - 1) (drop next (set slots head x) ++ take next (set slots head x))
+        ≡ drop 1 (take count (drop head slots ++ take head slots))
+    left_on x step inside some few = rw step (taken slots head count x (omega arith) some few)
+
+    -- from the last place to the first
+    pub left_back : (x : X) → next ≡ 0 → head + 1 ≡ length slots → 0 < count → count ≤ length slots
+        → take (count - 1) (drop next (set slots head x) ++ take next (set slots head x))
+        ≡ drop 1 (take count (drop head slots ++ take head slots))
+    left_back x start end some few =
+        let round = ring-round (set slots head x) (head + 1) (omega (arith, end, length-set slots head x)) in
+        rw start (ap (take (count - 1)) round ∙ taken slots head count x (omega arith) some few)
+
+    -- the same where the oldest item stays in its place
     pub took_on : next ≡ head + 1 → next < length slots → 0 < count → count ≤ length slots
         → take (count - 1) (drop next slots ++ take next slots) ≡ drop 1 (take count (drop head slots ++ take head slots))
-    took_on step inside some few =
-        kept slots head count next (λ x. left_on slots head count next x step inside some few) some few
+    took_on step inside some few = kept slots head count next (λ x. left_on x step inside some few) some few
 
     pub took_back : next ≡ 0 → head + 1 ≡ length slots → 0 < count → count ≤ length slots
         → take (count - 1) (drop next slots ++ take next slots) ≡ drop 1 (take count (drop head slots ++ take head slots))
-    took_back start end some few =
-        kept slots head count next (λ x. left_back slots head count next x start end some few) some few
+    took_back start end some few = kept slots head count next (λ x. left_back x start end some few) some few
 
 -- an item written into a queue, and the oldest taken
 pub ruleset queue = (posted_on, posted_back, posted_round, took_on, took_back, left_on, left_back)

@@ -1,8 +1,7 @@
 -- What is taken of an iterator that is a list.
 use Rattle.ga_core.specs.Fill.{Takes}
 use Rattle.std.proofs.Common.{◌≡◌, ◌∙◌, ℕ, List, [], ◌∷◌, ◌++◌, ap, arith, inl, inr, length, sym, take}
-use Rattle.std.proofs.Math.Seq.{take-append_seam}
-use Rattle.std.proofs.lemmas.List.{append-nil, take_all}
+use Rattle.std.proofs.lemmas.List.{append-nil, take_all, take_at}
 use Rattle.std.specs.Iterator.{Yields, YieldsFirst}
 
 module _ {T : Type 0} where
@@ -17,8 +16,7 @@ module _ {T : Type 0} where
   pub taken-front : (room : ℕ) (before taken after : List T)
       → Takes (YieldsFirst (λ left. left)) before room taken after → taken ≡ take room before
   taken-front room before taken after (inl (calls, full)) =
-      sym (ap (λ k. take k before) (sym full) ∙ (ap (take (length taken)) (given-front before taken after calls)
-      ∙ take-append_seam taken after))
+      sym (rw (given-front before taken after calls) (take_at taken after room full))
   taken-front room before taken after (inr ((left, calls, end), few)) =
       let all : before ≡ taken = given-front before taken left calls
       ∙ (ap (λ items. taken ++ items) end.0 ∙ append-nil taken) in

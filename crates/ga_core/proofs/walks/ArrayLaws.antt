@@ -1,5 +1,7 @@
 -- An array for writing, and the view of it, where the types of its items, of its length and of its store are the type
 -- parameters i, j and k; with their laws.
+use Rattle.ga_views.proofs.walks.Names
+use Names.{field_told, Laws, NamedLft, of_field, param, param_laws, RattleType, refl, row_shared, Told, ℕ}
 use Rattle.ga_core.proofs.array.GenericArray.TheLaws as items_laws
 use Rattle.ga_core.specs.contracts.array.GenericArray as items
 use Rattle.ga_core.specs.contracts.array.reborrow.RefMutGenericArrayReborrowSlice.TheImpl as impl
@@ -9,12 +11,7 @@ use Rattle.ga_views.proofs.view_mut.ViewMut.TheLaws as laws
 use Rattle.ga_views.specs.contracts.view_mut.ViewMut as view
 use Rattle.ga_views.specs.declared.length.Unsigned as unsigned
 use Rattle.ga_views.specs.declared.reborrow.ReborrowSlice as reborrow
-use Rattle.std.proofs.Common.{ℕ, refl}
-use denote.Param.Laws.{field_told, Laws, of_field, param_laws, row_shared, Told}
 use denote.Param.Shared.{mut_ref_shared}
-use denote.Param.{param}
-use denote.RattleType.{RattleType}
-use denote.Ref.{NamedLft}
 use denote.Struct.Field.{mut_ref_field}
 use denote.Struct.Laws.{mut_ref_laws}
 

@@ -5,42 +5,18 @@
 --     calls_slice     the call as a step of a walk: the store that was passed and the tokens are what it asks; it gives
 --                     the slice, taken apart, and the store follows the slice
 -- Assumes `Logic`.
+use Rattle.ga_views.proofs.walks.Names
+use Names.{a_type, AllOutlive, ap, Args, Arr, Array, await, Body, bounded, call, Callee, Calls, calls_at, Code}
+use Names.{coded_list, Contract, dcons, Dict, dnil, drop, emp, Env, fact, fact_i, fbor, feq_l, fjoin, flft, FmC, Fml}
+use Names.{fobs, follows, fsep, fsplit, fsplit3, ftrue, Fun, GName, heard, heres, Holey, id⊢, Item, join, lands, later}
+use Names.{length, Lfts, List, Logic, Loops, mem, Memory, move, mut_vals, MutBor, MutRef, MutSlice, named, nothing}
+use Names.{only, Opds, Operand, param, pick, Place, plain, Post, RattleType, raw, room, Room, Routine, runs, seq, Seq}
+use Names.{Shares, slice_val, Slot, some, split, split3, SProp, toks, Triple, triple_of, Ura, use0, use1, Val, [], ‵, ℕ}
+use Names.{◌$◌, ◌∷◌, ◌≡◌, ◌⊑◌, ◌⊛◌}
 use Rattle.ga_core.specs.contracts.store.Store.as_mut_slice as callee
 use Rattle.ga_core.specs.declared.store.Store as store
 use Rattle.ga_views.proofs.walks.LoanWalk.{Loan, Words}
-use Rattle.std.proofs.Common.{◌≡◌, [], ◌∷◌, ap, length, List, MutBor, ℕ}
-use base.Fml.{fbor, flft, Fml, fobs, fsep, ftrue, GName}
-use base.Logic.{emp, id⊢, SProp}
-use base.Stored.{coded_list}
-use contract.BorrowLft.{◌⊑◌}
-use contract.Lifetimes.{AllOutlive, Lfts, Shares, toks}
-use contract.Monad.{fact, fact_i, Fun}
-use denote.Array.{Array}
-use denote.Follow.{follows}
-use denote.Memory.{mem}
-use denote.Param.{bounded, param}
-use denote.RattleType.{RattleType}
-use denote.Ref.{mut_vals, MutRef}
 use denote.Shadow.{pure_l}
-use denote.Signature.{plain, Slot}
-use denote.Slice.{heres, MutSlice, Room, room, slice_val}
-use denote.Steps.{heard, nothing, only}
-use denote.Triple.Call.{calls_at}
-use denote.Triple.Spec.{triple_of}
-use denote.Triple.Statement.{Contract, Triple}
-use mir.Syntax.{a_type, Args, Body as Code, call, Callee, dcons, Dict, dnil, named, Opd, Place, seq}
-use mir.Val.{Val}
-use prog.Memory.{Memory}
-use prog.Routine.{Routine}
-use prog.Wp.{Calls, Env, Loops}
-use seplogic.Ra.Ura.{Ura}
-use sound.WpLaws.{FmC}
-use types.Hole.{Holey}
-use types.Kit.{‵, ◌⊛◌, ◌$◌, await, drop, feq_l, fjoin, fsplit, fsplit3, Item, join, lands, later, move, pick, Post, raw}
-use types.Kit.{runs, Seq, some, split, split3, use0, use1}
-use types.Logic.{Logic}
-use types.Run.{Opds}
-use types.SemTy.{Arr, Body}
 
 module _ (Z X : RattleType) (g : store.Ghosts Z.Denot X.Denot) (d dd : Dict) where
   abbrev pub args : Args
@@ -104,7 +80,7 @@ module _ (Z X : RattleType) (g : store.Ghosts Z.Denot X.Denot) (d dd : Dict) whe
       tied s = follows S (Array R 0) x.ghost_name s.ghost_name after
 
       module _ {K : Type 0} {Γ : List (Item 𝓤)} {E : Env 𝓤 H} {C : Calls 𝓤 H} {Λ : Loops 𝓤 H} {f : Callee}
-          {xs : List Opd} {p : Place} {rest : Code} {q : Post 𝓤 H} where
+          {xs : List Operand} {p : Place} {rest : Code} {q : Post 𝓤 H} where
         pub calls_slice : K → FmC 𝓤 H 𝓛.laws C → Triple 𝓤 (C f) Called → κs.1.0 ⊑ Z.lives → κs.1.1.0 ⊑ X.lives
             → Opds K 𝓛 (raw (Called.pre choice) ∷ Γ) E xs (Called.args choice)
             → ((v : Val) (s : MutBor (List X.Denot)) → Told v s

@@ -5,8 +5,8 @@ use Rattle.ga_views.specs.Parts.{part_set}
 use Rattle.ga_views.specs.Rows.{chunk_count, chunk_rest, row_at, rows}
 use Rattle.std.proofs.Common.{◌≡◌, ℕ, suc, ◌+◌, ◌*◌, ◌/◌, ◌<◌, ◌≤◌, List, ◌++◌, ◌∙◌, ap, arith, drop, get_or}
 use Rattle.std.proofs.Common.{length, length-append, map, refl, sym, take}
-use Rattle.std.proofs.Math.Seq.{drop-append_seam, take-append_seam}
-use Rattle.std.proofs.lemmas.List.{append-nil, drop_all, length-map, set-get_or, set_split, take-append-drop, take_all}
+use Rattle.std.proofs.lemmas.List.{append-nil, drop_all, drop_at, length-map, set-get_or, set_split, take-append-drop}
+use Rattle.std.proofs.lemmas.List.{take_all, take_at}
 use Rattle.std.proofs.lemmas.List.Edits.{map_over_more}
 use Rattle.std.proofs.lemmas.List.FromFn.{get_or-map-range_with_len}
 use Rattle.std.specs.List.{length_refill, refill}
@@ -41,10 +41,9 @@ module _ {X : Type 0} (width : ℕ) (items row after : List X) (index : ℕ) (be
   behind : drop (suc index) (rows width after) ≡ drop (suc index) (rows width items)
   behind =
       let place : suc index * width ≡ index * width + width = omega arith in
-      sym (rows-dropped width (suc index) after (omega (arith, many, below)))
-      ∙ (ap (λ n. rows width (drop n after)) place
-      ∙ (ap (rows width) (part-behind (index * width) width items row after within written)
-      ∙ (ap (λ n. rows width (drop n items)) (sym place) ∙ rows-dropped width (suc index) items below)))
+      let same = part-behind (index * width) width items row after within written in
+      let dropped = rows-dropped width (suc index) in
+      rw (← dropped after (omega (arith, many, below)), ← dropped items below, place, same) refl
 
   -- the rows are those that were, with this one at the index
   pub rows-set : rows width after ≡ slice_set (rows width items) index row
@@ -81,12 +80,10 @@ module _ {X : Type 0} (f : List X → List X) (shown : List (List X)) (width : �
 module _ {X : Type 0} (width : ℕ) (items whole rest : List X) (parts : whole ++ rest ≡ items)
     (full : length whole ≡ chunk_count width items * width) where
   pub rows-whole : rows width items ≡ rows width whole
-  rows-whole = sym (rows-of_whole width items) ∙ ap (rows width) (ap (λ n. take n items) (sym full)
-      ∙ (ap (take (length whole)) (sym parts) ∙ take-append_seam whole rest))
+  rows-whole = sym (rows-of_whole width items) ∙ ap (rows width) (rw (← full, ← parts) (take_at whole rest _ refl))
 
   chunk_rest-whole : chunk_rest width items ≡ rest
-  chunk_rest-whole = ap (λ n. drop n items) (sym full)
-      ∙ (ap (drop (length whole)) (sym parts) ∙ drop-append_seam whole rest)
+  chunk_rest-whole = rw (← full, ← parts) (drop_at whole rest _ refl)
 
 -- so they are where as many items were written over the first part
 module _ {X : Type 0} (width : ℕ) (items whole rest changed : List X) (parts : whole ++ rest ≡ items)

@@ -1,11 +1,10 @@
 -- A call of a function as a step of its caller's walk. Assumes `Logic`.
 use Rattle.ga_views.proofs.walks.Names
-use Names.{AllOutlive, await, call, Callee, Calls, Clauses, closing, Code, Contract, done, drop, emp, Ended, ent, Env}
-use Names.{fact, fact_i, FmC, Fml, Item, join, lands, Lasts, lasts, later, Lfts, List, Logic, Loops, mean, move, Opds}
-use Names.{Operand, pick, Place, Post, qed, RattleType, raw, runs, sem, sep, Seq, seq, Shares, some, split, SProp}
-use Names.{Triple, triple_of, type_at, Ura, use0, use1, Val, !, [], ‵, ◌$◌, ◌∵◌, ◌∷◌, ◌⊛◌}
-use denote.Triple.Call.{calls_at}
-use denote.Triple.Entry.{Args, Vals}
+use Names.{AllOutlive, await, call, Callee, Calls, calls_at, Clauses, closing, Code, Contract, done, drop, emp, Ended}
+use Names.{ent, Env, fact, fact_i, FmC, Fml, Item, join, lands, lasts, Lasts, later, Lfts, List, Logic, Loops, mean}
+use Names.{move, Opds, Operand, pick, Place, Post, qed, RattleType, raw, runs, sem, sep, Seq, seq, Shares, some, split}
+use Names.{SProp, Triple, triple_of, type_at, Ura, use0, use1, Val, Vals, !, [], ‵, ◌$◌, ◌∵◌, ◌∷◌, ◌⊛◌}
+use denote.Triple.Entry.{Args}
 
 -- what a call asks, fact by fact, before what else it asks
 module _ {M : Type 1} {𝓤 : Ura M} (𝓛 : Logic 𝓤) where

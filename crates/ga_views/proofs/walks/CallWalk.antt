@@ -8,12 +8,12 @@
 --     Linked, linked    what a walk may call
 use Rattle.ga_views.proofs.walks.ClauseFacts.{AllFacts, facts, learns}
 use Rattle.ga_views.proofs.walks.Names
-use Names.{◌≡◌, refl, subst, sym, ℕ, suc, ◌<◌, ◌^◌, List, [], ◌∷◌, ◌++◌, Ura, SProp, ent, emp, id⊢, via, Callee, Fn}
-use Names.{named, w64, Val, Memory, Fun, Model, Calls, Closed, Loops, WpFn, AllOutlive, Lfts, Outlives, Shares, toks}
-use Names.{Running, tables, Logic, sem, ⋆, ‵, raw, Item, ◌$◌, ◌∵◌, !, qed, move, fsplit, fjoin, suffices, use0, done}
-use Names.{usize, yes, Are, Is, Ises, uint_vals, uint_Tells, Denots, RattleType, Valss, flat, owns, shr_vals, Slot}
-use Names.{plain, type_at, types_at, nothing, Triple, Clauses, Ended, closing, on_entry, Meets, AllGo, Goes-dropped}
-use Names.{Stays, fits_of, has_of, stay_dropped, walk_of, Routine, FmC, leaves, framed as all_framed}
+use Names.{AllGo, AllOutlive, Are, Callee, Calls, Clauses, Closed, closing, Denots, done, emp, Ended, ent, fits_of}
+use Names.{fjoin, flat, FmC, Fn, framed as all_framed, fsplit, Fun, Goes-dropped, has_of, id⊢, Is, Ises, Item, leaves}
+use Names.{Lfts, List, Logic, Loops, Meets, Memory, Model, move, named, nothing, on_entry, Outlives, owns, plain, qed}
+use Names.{RattleType, raw, refl, Routine, Running, sem, Shares, shr_vals, Slot, SProp, stay_dropped, Stays, subst, suc}
+use Names.{suffices, sym, tables, toks, Triple, type_at, types_at, uint_Tells, uint_vals, Ura, use0, usize, Val, Vals}
+use Names.{Valss, via, w64, walk_of, WpFn, yes, !, [], ‵, ℕ, ⋆, ◌$◌, ◌++◌, ◌<◌, ◌^◌, ◌∵◌, ◌∷◌, ◌≡◌}
 use Rattle.std.proofs.raw_atomic.Walks.{proved_at}
 use denote.Builtin.{One, RefOf}
 use denote.Exit.{Kept, Last, Seen, see}
@@ -22,7 +22,6 @@ use denote.Ref.{shr_Tells}
 use denote.Signature.{Signature}
 use denote.Triple.Carry.{grown, spared}
 use denote.Triple.End.{Fins, Kepts}
-use denote.Triple.Entry.{Vals}
 use denote.Triple.Table.{run_framed}
 use denote.Triple.Walked.{Goes, Stay}
 

@@ -1,14 +1,9 @@
 -- What a whole ends as, where a part of it is cut in two. Assumes `Logic`.
-use Rattle.std.proofs.Common.{[], ◌∷◌}
-use base.Fml.{fres, GName}
-use base.Logic.{ent, sep, wand}
-use denote.Follow.{both_by, followed, follows, follows_both}
-use denote.Memory.{mem}
-use denote.RattleType.{RattleType}
-use seplogic.Ra.Ura.{Ura}
+use Rattle.ga_views.proofs.walks.Names
+use Names.{assume, by, each, ent, follows, follows_both, fres, GName, Logic, mem, move, qed, RattleType, sem, sep, Ura}
+use Names.{use2, wand, !, [], ‵, ◌$◌, ◌∵◌, ◌∷◌, ◌⊛◌}
+use denote.Follow.{both_by, followed}
 use types.Follow.{followed₂}
-use types.Kit.{‵, ◌⊛◌, ◌$◌, ◌∵◌, !, assume, by, each, move, qed, use2}
-use types.Logic.{Logic, sem}
 
 -- R follows T, and T follows the two parts U and V
 module _ {M : Type 1} {𝓤 : Ura M} (𝓛 : Logic 𝓤) (R T U V : RattleType) (F : T.Denot → R.Denot)

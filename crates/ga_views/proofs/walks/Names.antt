@@ -1,7 +1,8 @@
 -- The names that walks cite: of the logic that says what a function owns and lends, and of the steps of a walk.
-pub use Rattle.std.proofs.Common.{[], ap, arith, drop as drop_list, get_or, length, List, refl, set, subst, suc, sym}
-pub use Rattle.std.proofs.Common.{take, true≢false, zero, ℕ, ◌*◌, ◌++◌, ◌+◌, ◌<◌, ◌^◌, ◌∙◌, ◌∷◌, ◌≡◌, ◌≤◌}
+pub use Rattle.std.proofs.Common.{ap, arith, drop as drop_list, get_or, length, List, refl, set, subst, suc, sym, take}
+pub use Rattle.std.proofs.Common.{true≢false, zero, [], ℕ, ◌*◌, ◌++◌, ◌+◌, ◌-◌, ◌<◌, ◌^◌, ◌∙◌, ◌∷◌, ◌≡◌, ◌≤◌, ◌⊎◌}
 pub use Rattle.std.proofs.VecSteps.Shapes.{after}
+pub use Rattle.std.proofs.alloc.Calls.{Goes-blank}
 pub use Rattle.std.proofs.raw_atomic.Walks.{leaves, proved}
 pub use base.Fml.{fat, fauth, fbor, fdead, feq, fex, flent, flft, Fml, fobor, fobs, fres, fsep, ftrue, GName, Incl}
 pub use base.Fml.{Incl-refl, Lft, Share}
@@ -22,18 +23,19 @@ pub use denote.FollowSlice.{heres_id, slice_of}
 pub use denote.Laws.{Are, Is, Ises, shows}
 pub use denote.Memory.{cell_at, mem, part_at, pointee}
 pub use denote.Param.{arg, bounded, layout, layouts, param}
-pub use denote.Param.Laws.{arg_laws, Laws, of_field, param_laws, row_shared}
+pub use denote.Param.Laws.{arg_laws, field_told, Laws, of_field, param_laws, row_shared, Told}
 pub use denote.Plain.{uint_Makes, uint_Tells, uint_vals}
 pub use denote.RattleType.{Denots, flat, owns, RattleType, Valss}
 pub use denote.Ref.{at_last, Bor, mut_Tells, mut_vals, MutBor, MutRef, NamedLft, shr_vals, ShrRef}
 pub use denote.Signature.{mut_ref_to, plain, Slot, type_at, types_at}
-pub use denote.Slice.{heres, mut_slice_Tells, mut_slice_vals, MutSlice, Room, slice_ty, slice_val}
+pub use denote.Slice.{heres, mut_slice_Tells, mut_slice_vals, MutSlice, room, Room, slice_ty, slice_val}
 pub use denote.Steps.{closes, heard, nothing, only, opens, owned, peeks}
 pub use denote.Struct.Struct.{as_fields, within}
 pub use denote.Struct.Tuple.{Tuple, tuple_laws, tuple_type}
 pub use denote.Through.{lends_inner_slice, renamed}
+pub use denote.Triple.Call.{calls_at}
 pub use denote.Triple.Clauses.{at_exit, Clauses, closing, Ended, Lasts, lasts}
-pub use denote.Triple.Entry.{alive, on_entry}
+pub use denote.Triple.Entry.{alive, on_entry, Vals}
 pub use denote.Triple.Spec.{Meets, triple_of}
 pub use denote.Triple.Statement.{Contract, Triple}
 pub use denote.Triple.Table.{framed}

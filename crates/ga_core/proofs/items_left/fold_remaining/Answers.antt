@@ -8,53 +8,38 @@ pub loop-item-init : goal.loop-item-init
 loop-item-init g c = folded-none (goal.F-step g) c.args.f.now c.args.init _
 
 pub f-answer-requires : goal.f-answer-requires
-f-answer-requires g c =
-    let came = front-taken (g.I.TwoEnded.items c.loop-item.left) c.in-Some.item
-    (g.I.TwoEnded.items c.front.new.self) c.in-Some.ensures.step in
-    folded-callable c.loop-item.invariant (goal.F-pre g) c.requires.callable c.in-Some.item _ came.0
+f-answer-requires g c = folded-callable c.loop-item.invariant (goal.F-pre g) c.requires.callable _ _
+    (front-taken _ _ _ c.in-Some.ensures.step).0
 
 pub loop-more-init : goal.loop-more-init
 loop-more-init g c =
-    let came = front-taken (g.I.TwoEnded.items c.loop-item.left) c.in-Some.item
-    (g.I.TwoEnded.items c.front.new.self) c.in-Some.ensures.step in
-    record {
-      so_far = folded-next c.loop-item.invariant c.in-Some.item _ c.f-answer.result c.f-answer.new.self came.0
-          c.f-answer.ensures;
-      fewer = omega arith;
-    }
+    let came = front-taken _ _ _ c.in-Some.ensures.step in
+    record { so_far = folded-next c.loop-item.invariant _ _ _ _ came.0 c.f-answer.ensures; fewer = omega arith }
 
 pub f-answer-requires-in-Some-front : goal.f-answer-requires-in-Some-front
-f-answer-requires-in-Some-front g c =
-    let came = front-taken (g.I.TwoEnded.items c.loop-more.left) c.in-Some-front.item
-    (g.I.TwoEnded.items c.front-in-loop-more.new.self) c.in-Some-front.ensures.step in
-    folded-callable c.loop-more.invariant.so_far (goal.F-pre g) c.requires.callable c.in-Some-front.item _ came.0
+f-answer-requires-in-Some-front g c = folded-callable c.loop-more.invariant.so_far (goal.F-pre g) c.requires.callable
+    _ _ (front-taken _ _ _ c.in-Some-front.ensures.step).0
 
 pub loop-more-preserved : goal.loop-more-preserved
 loop-more-preserved g c =
-    let step = front-taken (g.I.TwoEnded.items c.loop-more.left) c.in-Some-front.item
-    (g.I.TwoEnded.items c.front-in-loop-more.new.self) c.in-Some-front.ensures.step in
+    let came = front-taken _ _ _ c.in-Some-front.ensures.step in
     record {
-      so_far = folded-next c.loop-more.invariant.so_far c.in-Some-front.item _ c.f-answer-in-Some-front.result
-          c.f-answer-in-Some-front.new.self step.0 c.f-answer-in-Some-front.ensures;
-      fewer = omega (arith, step.1, c.loop-more.invariant.fewer);
+      so_far = folded-next c.loop-more.invariant.so_far _ _ _ _ came.0 c.f-answer-in-Some-front.ensures;
+      fewer = omega (arith, came.1, c.loop-more.invariant.fewer);
     }
 
 pub returns-in-None : goal.returns-in-None
 returns-in-None g c =
-    let none = front-none (g.I.TwoEnded.items c.loop-more.left) (g.I.TwoEnded.items c.front-in-loop-more.new.self) c.in-None.ensures.step in
-    let run = folded-all c.loop-more.invariant.so_far none in
+    let run = folded-all c.loop-more.invariant.so_far (front-none _ _ c.in-None.ensures.step) in
     record { run = run; acts = λ h acts. answer_of_fold (goal.F-step g) c.args.f.now h acts c.args.init _ _ _ run }
 
 pub loop-item-preserved : goal.loop-item-preserved
 loop-item-preserved g c = c.loop-more.invariant.so_far
 
 pub loop-item-smaller : goal.loop-item-smaller
-loop-item-smaller g c =
-    let step = front-taken (g.I.TwoEnded.items c.loop-item.left) c.in-Some.item (g.I.TwoEnded.items c.front.new.self) c.in-Some.ensures.step in
-    omega (arith, step.1, c.loop-more.invariant.fewer)
+loop-item-smaller g c = omega (arith, (front-taken _ _ _ c.in-Some.ensures.step).1, c.loop-more.invariant.fewer)
 
 pub returns : goal.returns
 returns g c =
-    let none = front-none (g.I.TwoEnded.items c.loop-item.left) (g.I.TwoEnded.items c.front.new.self) c.in_default.ensures.step in
-    let run = folded-all c.loop-item.invariant none in
+    let run = folded-all c.loop-item.invariant (front-none _ _ c.in_default.ensures.step) in
     record { run = run; acts = λ h acts. answer_of_fold (goal.F-step g) c.args.f.now h acts c.args.init _ _ _ run }

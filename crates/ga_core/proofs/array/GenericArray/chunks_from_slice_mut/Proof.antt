@@ -1,6 +1,12 @@
 -- `chunks_from_slice_mut` hands on the rows and the rest that `ChunksMut` makes of the slice, so the slice ends as
 -- what the two end as, one after the other. The borrow checker shows no clause that two views together follow one
 -- slice, so this proof walks the code by hand. Assumes `Logic`.
+use Rattle.ga_views.proofs.walks.Names
+use Names.{addr, agg, alloc_all, and_then, by, drop, emp, enter, fact, fact_i, fjoin, fld, flft, framed, free_all, from}
+use Names.{ftrue, get, get_in, group, heard, hop, Is, lands_as, Laws, length, Lft, look_at, look_in_at, move}
+use Names.{mut_slice_vals, MutSlice, named, no_more, nothing, owns, param, param_laws, pass_all, peeks, qed, RattleType}
+use Names.{raw, refl, returns, sets, shows, split, split3, stop, sub, tables, Tuple, tuple_laws, whole, !, [], ‵, ◌$◌}
+use Names.{◌<◌, ◌∵◌, ◌∷◌, ◌≡◌, ◌⊎◌, ◌⊑◌, ◌⊛◌}
 use Rattle.ga_core.proofs.array.GenericArray.chunks_from_slice_mut.Code as code
 use Rattle.ga_core.proofs.array.GenericArray.chunks_from_slice_mut.Statement.{statement}
 use Rattle.ga_core.specs.contracts.array.GenericArray.chunks_from_slice_mut as F
@@ -12,25 +18,6 @@ use Rattle.ga_views.specs.contracts.chunks_mut.ChunksViewMut as rows_of
 use Rattle.ga_views.specs.contracts.chunks_mut.ChunksViewMut+mut+slice+T+T+N.chunks_from_slice_mut as make_contract
 use Rattle.ga_views.specs.contracts.reborrow.RefMutSliceReborrowSlice.TheImpl as impl
 use Rattle.ga_views.specs.declared.length.Unsigned as unsigned
-use Rattle.std.proofs.Common.{◌≡◌, ◌⊎◌, ◌<◌, [], ◌∷◌, length, refl}
-use base.Fml.{flft, ftrue, Lft}
-use base.Logic.{emp}
-use contract.BorrowLft.{◌⊑◌}
-use contract.Monad.{fact, fact_i}
-use contract.Running.{tables}
-use denote.Laws.{Is, shows}
-use denote.Param.Laws.{Laws, param_laws}
-use denote.Param.{param}
-use denote.RattleType.{owns, RattleType}
-use denote.Slice.{mut_slice_vals, MutSlice}
-use denote.Steps.{heard, nothing, peeks}
-use denote.Struct.Tuple.{Tuple, tuple_laws}
-use denote.Triple.Table.{framed}
-use mir.Syntax.{named}
-use types.ByLocal.{alloc_all, free_all, get, get_in, lands_as, look_at, look_in_at, pass_all, sets}
-use types.Kit.{‵, ◌⊛◌, ◌$◌, ◌∵◌, !, by, drop, fjoin, group, move, qed, raw, split, split3}
-use types.Part.{agg, sub, whole}
-use types.Run.{addr, and_then, enter, fld, from, hop, no_more, returns, stop}
 
 -- the slice, and the rows with the rest
 module _ (X N : RattleType) (g : unsigned.Ghosts N.Denot) (κ : Lft) where

@@ -1,6 +1,11 @@
 -- `try_from_mut_slice` hands on what the view's call of this name makes of the slice, so a slice that is refused
 -- stays as it was. The borrow checker shows no clause on a lender that is a slice where the answer is a `Result`, so
 -- this proof walks the code by hand. Assumes `Logic`.
+use Rattle.ga_views.proofs.walks.Names
+use Names.{addr, agg, alloc_all, and_then, by, drop, enter, fact, fjoin, fld, flft, framed, free_all, from, ftrue, get}
+use Names.{get_in, group, heard, hop, id⊢, Is, lands_as, Laws, Lft, look_at, look_in_at, move, mut_slice_vals, MutSlice}
+use Names.{named, NamedLft, no_more, nothing, owns, param, pass_all, peeks, qed, RattleType, raw, refl, returns, sets}
+use Names.{shows, split, split3, stop, sub, tables, whole, !, [], ‵, ◌$◌, ◌∵◌, ◌∷◌, ◌⊑◌, ◌⊛◌}
 use Rattle.ga_core.proofs.array.GenericArray.try_from_mut_slice.Code as code
 use Rattle.ga_core.proofs.array.GenericArray.try_from_mut_slice.Statement.{statement}
 use Rattle.ga_core.specs.contracts.array.GenericArray.try_from_mut_slice as F
@@ -11,27 +16,8 @@ use Rattle.ga_views.proofs.length_error.LengthError.TheLaws as error_laws
 use Rattle.ga_views.specs.contracts.view_mut.ViewMut+mut+slice+T+T+N.try_from_mut_slice as make_contract
 use Rattle.ga_views.specs.contracts.length_error.LengthError as error
 use Rattle.ga_views.specs.declared.length.Unsigned as unsigned
-use Rattle.std.proofs.Common.{[], ◌∷◌, refl}
 use Rattle.std.proofs.result.Result.TheLaws as result_laws
 use Rattle.std.specs.contracts.result.Result as RS
-use base.Fml.{flft, ftrue, Lft}
-use base.Logic.{id⊢}
-use contract.BorrowLft.{◌⊑◌}
-use contract.Monad.{fact}
-use contract.Running.{tables}
-use denote.Laws.{Is, shows}
-use denote.Param.Laws.{Laws}
-use denote.Param.{param}
-use denote.RattleType.{owns, RattleType}
-use denote.Ref.{NamedLft}
-use denote.Slice.{mut_slice_vals, MutSlice}
-use denote.Steps.{heard, nothing, peeks}
-use denote.Triple.Table.{framed}
-use mir.Syntax.{named}
-use types.ByLocal.{alloc_all, free_all, get, get_in, lands_as, look_at, look_in_at, pass_all, sets}
-use types.Kit.{‵, ◌⊛◌, ◌$◌, ◌∵◌, !, by, drop, fjoin, group, move, qed, raw, split, split3}
-use types.Part.{agg, sub, whole}
-use types.Run.{addr, and_then, enter, fld, from, hop, no_more, returns, stop}
 
 -- the slice, and the view of it or the error
 module _ (X N : RattleType) (g : unsigned.Ghosts N.Denot) (κ : Lft) where

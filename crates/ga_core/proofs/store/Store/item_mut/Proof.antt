@@ -1,27 +1,17 @@
 -- `item_mut` lends one item of the slice that `as_mut_slice` lends, and the store follows the item. The borrow
 -- checker does not follow a loan through a slice to its lender, so this proof walks the code by hand: the slice's
 -- pointer gives the item's slot, and then the item is lent, by `ItemLoan`'s `lends_item`. Assumes `Logic`.
+use Rattle.ga_views.proofs.walks.Names
+use Names.{addr, alloc_all, and_then, ap, arith, await, bin, by, Dict, enter, fld, follows, framed, free_all, get}
+use Names.{get_in, get_or, group, is, keep, lands_as, later, layout, learn, length, List, look_at, no_more, pass_all}
+use Names.{pick, plain, qed, RattleType, refl, RefMutOf, returns, rewrite, set, sets, size, size_word, some, split3}
+use Names.{stop, sub, tables, through, use1, vint, w64, whole, !, [], ‵, ℕ, ◌$◌, ◌*◌, ◌<◌, ◌^◌, ◌∙◌, ◌∵◌, ◌∷◌, ◌≡◌}
 use Rattle.ga_core.proofs.walks.LentStore.{calls_slice, loan_of, R, S}
 use Rattle.ga_core.proofs.store.Store.item_mut.Code as code
 use Rattle.ga_core.proofs.store.Store.item_mut.Statement.{statement}
 use Rattle.ga_core.specs.declared.store.Store as store
 use Rattle.ga_views.proofs.walks.ItemLoan.{uncapped_fits, lends_item, lent_item, offset_fits, spot, uncapped}
 use Rattle.ga_views.proofs.walks.LoanWalk.{Had, lends, Loan}
-use Rattle.std.proofs.Common.{◌≡◌, ◌^◌, ◌<◌, [], ◌∷◌, ◌∙◌, ◌*◌, ap, arith, get_or, length, List, refl, set, ℕ}
-use contract.Running.{tables}
-use denote.Builtin.{RefMutOf}
-use denote.Follow.{follows}
-use denote.Param.{layout}
-use denote.RattleType.{RattleType}
-use denote.Signature.{plain}
-use denote.Triple.Table.{framed}
-use mir.Syntax.{Dict, w64}
-use mir.Val.{vint}
-use prog.Memory.{size}
-use types.ByLocal.{alloc_all, free_all, get, get_in, is, lands_as, look_at, pass_all, sets, through}
-use types.Kit.{‵, ◌$◌, ◌∵◌, !, await, by, group, keep, later, learn, pick, qed, rewrite, some, split3, use1}
-use types.Part.{sub, whole}
-use types.Run.{addr, and_then, bin, enter, fld, no_more, returns, size_word, stop}
 
 abbrev loan : (Z X : RattleType) → store.Ghosts Z.Denot X.Denot → Dict → Dict → Loan
 loan Z X g d dd = loan_of Z X g d dd 1 (RefMutOf (0 ∷ []) tt (plain (λ _. R Z X g d dd)) (λ _. tt)) (R Z X g d dd)

@@ -1,6 +1,12 @@
 -- `part_mut` lends a part of the slice that `as_mut_slice` lends, and the store follows the part. The borrow checker
 -- does not follow a loan through a slice to its lender, so this proof walks the code by hand: the slice's pointer
 -- gives the part's place, and then the part is lent, by `PartLoan`'s `lends_part`. Assumes `Logic`.
+use Rattle.ga_views.proofs.walks.Names
+use Names.{addr, agg, alloc_all, and_then, ap, arith, Array, await, bin, by, Dict, drop_list, enter, fld, follows}
+use Names.{framed, free_all, get, get_in, group, is, keep, lands_as, later, layout, length, List, look_at, no_more}
+use Names.{pass_all, pick, plain, qed, RattleType, refl, returns, rewrite, sets, size, size_word, SliceRefMutOf, some}
+use Names.{split3, stop, sub, tables, take, through, use1, vint, w64, whole, !, [], ‵, ℕ, ◌$◌, ◌*◌, ◌+◌, ◌-◌, ◌<◌, ◌^◌}
+use Names.{◌∙◌, ◌∵◌, ◌∷◌, ◌≡◌, ◌≤◌}
 use Rattle.ga_core.proofs.walks.LentStore.{calls_slice, loan_of, R, S}
 use Rattle.ga_core.proofs.store.Store.part_mut.Code as code
 use Rattle.ga_core.proofs.store.Store.part_mut.Statement.{statement}
@@ -10,23 +16,6 @@ use Rattle.ga_views.proofs.walks.LoanWalk.{Had, lends, Loan}
 use Rattle.ga_views.proofs.PartLemmas.{part_fills}
 use Rattle.ga_views.proofs.walks.PartLoan.{lends_part, lent_part, slice}
 use Rattle.ga_views.specs.Parts.{part_set}
-use Rattle.std.proofs.Common.{◌≡◌, ◌^◌, ◌<◌, ◌≤◌, [], ◌∷◌, ◌∙◌, ◌*◌, ◌+◌, ◌-◌, ap, arith, drop as drop_list, length}
-use Rattle.std.proofs.Common.{List, refl, take, ℕ}
-use contract.Running.{tables}
-use denote.Array.{Array}
-use denote.Builtin.{SliceRefMutOf}
-use denote.Follow.{follows}
-use denote.Param.{layout}
-use denote.RattleType.{RattleType}
-use denote.Signature.{plain}
-use denote.Triple.Table.{framed}
-use mir.Syntax.{Dict, w64}
-use mir.Val.{vint}
-use prog.Memory.{size}
-use types.ByLocal.{alloc_all, free_all, get, get_in, is, lands_as, look_at, pass_all, sets, through}
-use types.Kit.{‵, ◌$◌, ◌∵◌, !, await, by, group, keep, later, pick, qed, rewrite, some, split3, use1}
-use types.Part.{agg, sub, whole}
-use types.Run.{addr, and_then, bin, enter, fld, no_more, returns, size_word, stop}
 
 abbrev loan : (Z X : RattleType) → store.Ghosts Z.Denot X.Denot → Dict → Dict → Loan
 loan Z X g d dd = loan_of Z X g d dd 2 (SliceRefMutOf (0 ∷ []) tt (plain (λ _. R Z X g d dd)) (λ _. tt))

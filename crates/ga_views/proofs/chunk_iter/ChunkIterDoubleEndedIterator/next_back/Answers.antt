@@ -20,13 +20,10 @@ split : (g : given.Over) (c : goal.After-from_slice g)
     → let left = c.split_at.result.0.now in let width = g.N.Unsigned.USIZE in
     (c.args.self.now ≡ rows width left ++ c.from_slice.result.slice.now ∷ [])
     × (length left ≡ chunk_count width left * width) × (length (rows width left) < length c.args.self.now)
-split g c = rw (
-  ← c.self.view_is,
-  c.from_slice.ensures ∙ c.split_at.ensures.back,
-  c.split_at.ensures.front,
-  c.USIZE-width.ensures,
-) (last-split _ _ c.self.invariant
-    (rw c.USIZE-width.ensures at (c.has_row.ensures.some c.if-not-has_row.false)))
+split g c =
+    let cut = c.split_at.ensures in
+    rw (← c.self.view_is, c.from_slice.ensures ∙ cut.back, cut.front, c.USIZE-width.ensures)
+    (last-split _ _ c.self.invariant (rw c.USIZE-width.ensures at (c.has_row.ensures.some c.if-not-has_row.false)))
 
 pub returns-clause-steps : goal.returns-clause-steps
 returns-clause-steps g c = (split g c).0

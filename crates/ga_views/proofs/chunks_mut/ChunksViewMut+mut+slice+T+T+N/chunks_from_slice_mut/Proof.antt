@@ -10,8 +10,8 @@ use Names.{of_opd, only, owned, owns, param, param_laws, pass_all, peeks, qed, R
 use Names.{sem, sep, sets, shows, slice_val, split, split3, stop, sub, sym, tables, take, tcons, tnil, Tuple}
 use Names.{tuple_laws, tuple_type, ty_int, ty_ptr, ty_struct, uint_Makes, Ura, use0, use2, usize, Val, Valss, vint}
 use Names.{vstruct, w64, whole, within, yes, !, [], ‵, ℕ, ⊑_meet, ⊑_refl, ⊑_trans, ◌$◌, ◌*◌, ◌++◌, ◌<◌, ◌∙◌, ◌∵◌, ◌∷◌}
-use Names.{◌≡◌, ◌≤◌, ◌⊑◌, ◌⊛◌}
-use Rattle.std.proofs.Common.{◌/◌, ◌⊎◌}
+use Names.{◌≡◌, ◌≤◌, ◌⊎◌, ◌⊑◌, ◌⊛◌}
+use Rattle.std.proofs.Common.{◌/◌}
 use denote.Param.NoDrop.{glues}
 use denote.Struct.Declared.{shape}
 use Rattle.ga_views.proofs.walks.CallStep.{asked, calls}

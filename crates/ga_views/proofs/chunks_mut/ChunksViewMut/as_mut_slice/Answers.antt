@@ -7,11 +7,7 @@ pub as_mut_slice-requires : goal.as_mut_slice-requires
 as_mut_slice-requires g c = record { len = ap length c.as_slice-len.ensures }
 
 pub returns : goal.returns
-returns g c = (
-  (refl, λ written. same_rows c.args.self.now _ _ _ _ refl),
-  record {
-    writes_back = _;
-    items = c.as_mut_slice.ensures.items;
-    len = ap length c.as_mut_slice.ensures.items ∙ c.args.self.now.whole;
-  },
-)
+returns g c =
+    let items = c.as_mut_slice.ensures.items in
+    let len = ap length items ∙ c.args.self.now.whole in
+    ((refl, λ written. same_rows c.args.self.now _ _ _ _ refl), record { writes_back = _; items = items; len = len })

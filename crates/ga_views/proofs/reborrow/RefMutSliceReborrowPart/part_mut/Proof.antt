@@ -6,8 +6,7 @@ use Rattle.ga_views.proofs.walks.Names
 use Names.{addr, agg, alloc_all, and_then, ap, arith, at_last, await, bin, by, drop_list, enter, fld, free_all, get}
 use Names.{get_in, hop, is, keep, later, layout, length, load, look_at, look_in, no_more, of_opd, param, pass_all, pick}
 use Names.{qed, RattleType, refl, renamed, returns, sets, size, size_word, some, split3, stop, sub, take, through, use3}
-use Names.{vint, w64, whole, !, [], ℕ, ◌$◌, ◌*◌, ◌+◌, ◌<◌, ◌^◌, ◌∵◌, ◌∷◌, ◌≡◌, ◌≤◌}
-use Rattle.std.proofs.Common.{◌-◌}
+use Names.{vint, w64, whole, !, [], ℕ, ◌$◌, ◌*◌, ◌+◌, ◌-◌, ◌<◌, ◌^◌, ◌∵◌, ◌∷◌, ◌≡◌, ◌≤◌}
 use Rattle.std.specs.List.{refill}
 use Rattle.ga_views.proofs.walks.PartLoan.{lends_part, lent_part, slice}
 use Rattle.ga_views.proofs.walks.InnerSlice.{closes_inner, Inner, lends_inner, opens_inner, slice_lent}

@@ -4,16 +4,12 @@ use Rattle.std.specs.Prelude.{refl}
 
 -- the iterator holds what `as_mut_slice` lends
 pub returns : goal.returns
-returns g c = (
-  (sym c.iter_mut.ensures.iter_mut_name, λ written. refl),
-  record {
-    writes_back = tt;
-    items = (
-      c.iter_mut.ensures.rest ∙ c.as_mut_slice.ensures.items,
-      c.iter_mut.ensures.len ∙ c.as_mut_slice.ensures.len,
-      c.iter_mut.ensures.bound,
-      c.iter_mut.ensures.runs,
-      c.iter_mut.ensures.runs_back,
-    );
-  },
-)
+returns g c =
+    let made = c.iter_mut.ensures in
+    let lent = c.as_mut_slice.ensures in (
+      (sym made.iter_mut_name, λ written. refl),
+      record {
+        writes_back = tt;
+        items = (made.rest ∙ lent.items, made.len ∙ lent.len, made.bound, made.runs, made.runs_back);
+      },
+    )
