@@ -10,6 +10,7 @@ pub use Rattle.ga_views.proofs.walks.ClauseFacts
 pub use Rattle.ga_views.proofs.walks.FollowLemmas
 pub use Rattle.ga_views.proofs.walks.ItemLoan
 pub use Rattle.ga_views.proofs.walks.LengthCall
+pub use Rattle.ga_views.proofs.walks.Names
 pub use Rattle.ga_views.proofs.walks.SliceLaws
 pub use Rattle.ga_views.proofs.walks.SliceWalk
 pub use Rattle.ga_views.proofs.walks.SplitWalk
