@@ -12,15 +12,6 @@ use Rattle.std.specs.Iterator.{Yields, YieldsFirst, YieldsLast}
 pub none_fits : (n size : ℕ) → n ≡ 0 → n * size < 2 ^ 63
 none_fits n size none = subst (λ k. k * size < 2 ^ 63) (sym none) (omega (arith, zero-mul size))
 
-module _ (i k n end : ℕ) where
-  -- before the end there is room for one more
-  pub more_room : i + k ≡ n → i < end → end ≡ n → 0 < k
-  more_room so_far below all = omega arith
-
-  -- at the end there is none
-  pub none_left : i + k ≡ n → end ≤ i → end ≡ n → k ≡ 0
-  none_left so_far past all = omega arith
-
 -- the count has come to the end
 pub all_counted : (i n end : ℕ) → end ≤ i → i ≤ end → end ≡ n → i ≡ n
 all_counted i n end past within all = omega arith

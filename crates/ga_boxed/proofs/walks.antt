@@ -6,6 +6,7 @@
 --     EndLemmas, BlockRoom               the slot at either end of the items; a block without items
 --     CellsSharing, Crosses              when a `&` to cells is made; when cells may go to other threads
 --     Names                              the names that these walks cite
+-- A function's own walk takes what it cites of all of these from here.
 pub mod BlockRoom
 pub mod CellsSharing
 pub mod CellsSliceWalk
@@ -15,5 +16,10 @@ pub mod EndLemmas
 pub mod Names
 pub mod TakeWalk
 pub mod WalkParts
-pub use Rattle.ga_core.proofs.walks.CallWalk
-pub use Rattle.ga_core.proofs.walks.ClauseFacts
+pub use BlockRoom.*
+pub use CellsSliceWalk.{showing, slices}
+pub use CellsWalk.*
+pub use EndLemmas.*
+pub use Names.*
+pub use TakeWalk.{Giving, Placing, Taken, meets_taking}
+pub use WalkParts.*

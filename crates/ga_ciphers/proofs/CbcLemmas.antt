@@ -4,13 +4,14 @@ use Rattle.ga_ciphers.specs.Cbc.{cbc_decrypted, cbc_encrypted, decrypted_blocks,
 use Rattle.ga_ciphers.specs.Keystream.{under}
 use Rattle.generic_array.proofs.JoinLemmas.{rows-behind}
 use Rattle.generic_array.proofs.RowLemmas.{rows-few, rows-first}
-use Rattle.std.proofs.Common.{◌≡◌, ℕ, ◌+◌, ◌-◌, ◌%◌, ◌<◌, ◌≤◌, List, [], ◌∷◌, ◌++◌, ap, ap₂, append_assoc, arith}
-use Rattle.std.proofs.Common.{drop, inl, inr, length, length-append, length-drop, length-take, refl, slice_range, sym}
-use Rattle.std.proofs.Common.{take, ◌∙◌}
+use Rattle.std.proofs.Common.{◌≡◌, ℕ, ◌+◌, ◌-◌, ◌%◌, ◌<◌, ◌≤◌, List, [], ◌∷◌, ◌++◌, ap, ap₂, append_assoc, arith, drop}
+use Rattle.std.proofs.Common.{inl, inr, length, length-append, length-drop, length-take, refl, slice_range, sym, take}
+use Rattle.std.proofs.Common.{◌∙◌}
 use Rattle.std.proofs.Math.Nat.{mod-eq-sub-mod, mod-eq_of_lt}
 use Rattle.std.proofs.Math.Seq.{take-add}
 use Rattle.std.proofs.lemmas.Bool.{cases_lt}
-use Rattle.std.proofs.lemmas.List.{append-nil, drop-drop, drop_all, drop_at, length-take-le, take-append-drop, take_all, take_at}
+use Rattle.std.proofs.lemmas.List.{append-nil, drop-drop, drop_all, drop_at, length-take-le, take-append-drop, take_all}
+use Rattle.std.proofs.lemmas.List.{take_at}
 use Rattle.std.proofs.lemmas.Nat.{xor_comm}
 
 -- a block lies at each place before the end of whole blocks, and whole blocks behind it
@@ -25,7 +26,7 @@ module _ (width len done next : ℕ) (whole : (len - done) % width ≡ 0) (below
   whole_behind goes =
       let enough : width ≤ len - done = omega (arith, block_within) in
       let left : len - next ≡ len - done - width = omega arith in
-      ap (λ n. n % width) left ∙ (sym (mod-eq-sub-mod enough) ∙ whole)
+      rw (left, ← mod-eq-sub-mod enough) whole
 
 under-comm : (xs ys : List ℕ) → under xs ys ≡ under ys xs
 under-comm [] [] = refl
@@ -59,7 +60,7 @@ pub blocks-none : (width : ℕ) (result : List ℕ → List ℕ → List ℕ) (f
     → length start % width ≡ 0 → BlocksDone width result first start first start sent 0
 blocks-none width result first start sent whole = record {
   within = omega arith;
-  whole = let same : length start - 0 ≡ length start = omega arith in ap (λ n. n % width) same ∙ whole;
+  whole = let same : length start - 0 ≡ length start = omega arith in rw same whole;
   left = refl;
   last = sym (append-nil first);
   text = refl;
@@ -70,36 +71,21 @@ module _ {width : ℕ} {result : List ℕ → List ℕ → List ℕ} {first star
   pub turn-from : {new part : List ℕ} {next : ℕ} → next ≡ done + width → done < length now → length vector ≡ width
       → length new ≡ length now → new ≡ take done now ++ part ++ drop (done + width) now
       → Turn width vector start now new part done next
-  turn-from goes below wide long is = record {
-    goes = goes;
-    whole = so_far.whole;
-    below = below;
-    wide = wide;
-    long = long;
-    left = so_far.left;
-    is = is;
-  }
+  turn-from goes below wide long is =
+      record { goes = goes; whole = so_far.whole; below = below; wide = wide; long = long; left = so_far.left; is = is }
 
   -- all blocks are done
   module _ (ended : length now ≤ done) where
     pub text-ended : result vector [] ≡ [] → now ≡ result first start
     text-ended none =
-        let all : take done now ≡ now = take_all done now ended in
-        let rest : result vector (drop done now) ≡ [] = ap (result vector) (drop_all done now ended) ∙ none in
-        sym (append-nil now) ∙ (sym (ap₂ ◌++◌ all rest) ∙ so_far.text)
+        sym (append-nil now) ∙ (rw (take_all done now ended, drop_all done now ended, none) at so_far.text)
 
     pub last-ended : length sent ≡ length now → vector ≡ drop (length sent) (first ++ sent)
     last-ended long =
         let end : done ≡ length sent = omega (arith, so_far.within) in
-        so_far.last ∙ ap₂ (λ n xs. drop n (first ++ xs)) end (take_all done sent (omega arith))
+        rw (take_all done sent (omega arith), end) at so_far.last
 
 module _ (width : ℕ) (some : 0 < width) (encrypted decrypted : List ℕ → List ℕ) where
-  -- the first block of a text, and the others
-  encrypted-first : (vector text : List ℕ) → width ≤ length text → cbc_encrypted encrypted width vector text
-      ≡ encrypted (under vector (take width text))
-      ++ cbc_encrypted encrypted width (encrypted (under vector (take width text))) (drop width text)
-  encrypted-first vector text enough = ap (encrypted_blocks encrypted vector) (rows-first width text some enough)
-
   decrypted-behind : (vector block rest : List ℕ) → length block ≡ width
       → cbc_decrypted decrypted width vector (block ++ rest)
       ≡ under (decrypted block) vector ++ cbc_decrypted decrypted width block rest
@@ -117,9 +103,8 @@ module _ (width : ℕ) (some : 0 < width) (encrypted decrypted : List ℕ → Li
       ≡ take done start ++ cbc_decrypted decrypted width vector rest)
       → cbc_decrypted decrypted width first now ≡ start
   back-ended first vector start now done ended long back =
-      ap (cbc_decrypted decrypted width first)
-      (sym (append-nil now) ∙ ap (λ xs. xs ++ []) (sym (take_all done now (omega arith))))
-      ∙ (back [] ∙ (ap₂ ◌++◌ (take_all done start (omega arith)) (decrypted-none vector) ∙ append-nil start))
+      rw (take_all done now (omega arith), take_all done start (omega arith), append-nil now) at (back [])
+      ∙ (ap (λ xs. start ++ xs) (decrypted-none vector) ∙ append-nil start)
 
   module _ {vector start now new part : List ℕ} {done next : ℕ} (first : List ℕ)
       (turn : Turn width vector start now new part done next) where
@@ -130,29 +115,20 @@ module _ (width : ℕ) (some : 0 < width) (encrypted decrypted : List ℕ → Li
     next-within = omega (arith, within, turn.goes, turn.long)
 
     next-whole : (length new - next) % width ≡ 0
-    next-whole = ap (λ n. (n - next) % width) turn.long
-        ∙ whole_behind width (length now) done next turn.whole turn.below turn.goes
+    next-whole = rw turn.long (whole_behind width (length now) done next turn.whole turn.below turn.goes)
 
     abbrev row : List ℕ
     row = slice_range now done (done + width)
 
     row_is : row ≡ take width (drop done now)
-    row_is = let many : done + width - done ≡ width = omega arith in ap (λ n. take n (drop done now)) many
+    row_is = let many : done + width - done ≡ width = omega arith in rw many refl
 
     row_len : length row ≡ width
-    row_len = ap length row_is ∙ length-take-le width (drop done now) (omega (arith, within, length-drop done now))
+    row_len = rw row_is (length-take-le width (drop done now) (omega (arith, within, length-drop done now)))
 
     part_len : length part ≡ width
-    part_len = omega (
-      arith,
-      within,
-      ap length turn.is,
-      length-append (take done now ++ part) (drop (done + width) now),
-      length-append (take done now) part,
-      length-take done now,
-      length-drop (done + width) now,
-      turn.long,
-    )
+    part_len =
+        omega (arith, within, simp (length-append, length-take, length-drop) at (ap length turn.is), turn.long)
 
     front_len : length (take done now ++ part) ≡ next
     front_len = omega (arith, within, length-append (take done now) part, length-take done now, part_len)
@@ -160,34 +136,24 @@ module _ (width : ℕ) (some : 0 < width) (encrypted decrypted : List ℕ → Li
     front_is : take next new ≡ take done now ++ part
     front_is = ap (take next) turn.is ∙ take_at (take done now ++ part) (drop (done + width) now) next front_len
 
-    behind_is : drop next new ≡ drop (done + width) now
-    behind_is = ap (drop next) turn.is ∙ drop_at (take done now ++ part) (drop (done + width) now) next front_len
-
     rest_is : drop next new ≡ drop width (drop done now)
-    rest_is = behind_is ∙ sym (drop-drop width done now)
+    rest_is = ap (drop next) turn.is
+        ∙ (drop_at (take done now ++ part) _ next front_len ∙ sym (drop-drop width done now))
 
     next-left : drop next new ≡ drop next start
-    next-left = rest_is ∙ (ap (drop width) turn.left ∙ (drop-drop width done start ∙ ap (λ n. drop n start) (sym turn.goes)))
+    next-left = rw (rest_is, turn.left, turn.goes) (drop-drop width done start)
 
     -- the first bytes of the text as it was
     start_is : take next start ≡ take done start ++ row
-    start_is = ap (λ n. take n start) turn.goes
-        ∙ (take-add done width start ∙ ap (λ xs. take done start ++ xs) (ap (take width) (sym turn.left) ∙ sym row_is))
+    start_is = rw (row_is, turn.left, turn.goes) (take-add done width start)
 
     -- the vector is the last block of those before the next place
     vector_is : (before block : List ℕ) → length before ≡ done → vector ≡ drop done (first ++ before)
         → block ≡ drop next (first ++ (before ++ block))
     vector_is before block far same =
-        let front : length (first ++ before) ≡ next = omega (
-          arith,
-          within,
-          length-append first before,
-          length-drop done (first ++ before),
-          ap length same,
-          turn.wide,
-          turn.goes,
-        ) in
-        sym (ap (drop next) (sym (append_assoc first before block)) ∙ drop_at (first ++ before) block next front)
+        let front : length (first ++ before) ≡ next =
+        omega (arith, within, length-append first before, length-drop done (first ++ before), ap length same) in
+        sym (rw (← append_assoc first before block) (drop_at (first ++ before) block next front))
 
     -- one block more is done
     blocks-more : (result : List ℕ → List ℕ → List ℕ) (sent later block : List ℕ)
@@ -199,35 +165,29 @@ module _ (width : ℕ) (some : 0 < width) (encrypted decrypted : List ℕ → Li
       whole = next-whole;
       left = next-left;
       last = last;
-      text = ap₂ (λ xs ys. xs ++ result block ys) front_is rest_is
-          ∙ (append_assoc (take done now) part (result block (drop width (drop done now)))
-          ∙ (ap (λ xs. take done now ++ xs) (sym one) ∙ so_far.text));
+      text = rw (front_is, rest_is, append_assoc (take done now) part, ← one) so_far.text;
     }
 
     pub encrypted-more : part ≡ encrypted (under vector row)
         → BlocksDone width (cbc_encrypted encrypted width) first start vector now now done
         → BlocksDone width (cbc_encrypted encrypted width) first start part new new next
     encrypted-more made so_far =
-        let block : part ≡ encrypted (under vector (take width (drop done now))) =
-        made ∙ ap (λ xs. encrypted (under vector xs)) row_is in
         blocks-more (cbc_encrypted encrypted width) now new part so_far
-        (encrypted-first vector (drop done now) (omega (arith, within, length-drop done now))
-        ∙ ap (λ xs. xs ++ cbc_encrypted encrypted width xs (drop width (drop done now))) (sym block))
-        (vector_is (take done now) part (omega (arith, within, length-take done now)) so_far.last
-        ∙ ap (λ xs. drop next (first ++ xs)) (sym front_is))
+        (rw (made, row_is) (ap (encrypted_blocks encrypted vector)
+        (rows-first width (drop done now) some (omega (arith, within, length-drop done now)))))
+        (rw front_is (vector_is (take done now) part (omega (arith, within, length-take done now)) so_far.last))
 
     pub decrypted-more : length start ≡ length now → (block : List ℕ) → block ≡ row → part ≡ under (decrypted row) vector
         → BlocksDone width (cbc_decrypted decrypted width) first start vector now start done
         → BlocksDone width (cbc_decrypted decrypted width) first start block new start next
     decrypted-more far block taken made so_far =
-        let split : drop done now ≡ row ++ drop width (drop done now) =
-        sym (ap (λ xs. xs ++ drop width (drop done now)) row_is ∙ take-append-drop width (drop done now)) in
+        let split : row ++ drop width (drop done now) ≡ drop done now =
+        rw row_is (take-append-drop width (drop done now)) in
         blocks-more (cbc_decrypted decrypted width) start start block so_far
-        (ap (cbc_decrypted decrypted width vector) split
-        ∙ (decrypted-behind vector row (drop width (drop done now)) row_len
-        ∙ ap₂ (λ xs b. xs ++ cbc_decrypted decrypted width b (drop width (drop done now))) (sym made) (sym taken)))
-        (taken ∙ (vector_is (take done start) row (omega (arith, within, length-take done start)) so_far.last
-        ∙ ap (λ xs. drop next (first ++ xs)) (sym start_is)))
+        (ap (cbc_decrypted decrypted width vector) (sym split)
+        ∙ rw (made, taken) (decrypted-behind vector row (drop width (drop done now)) row_len))
+        (rw (taken, start_is)
+        (vector_is (take done start) row (omega (arith, within, length-take done start)) so_far.last))
 
     -- what decrypting makes of the blocks before the place, and of any that follow
     pub back-more : decrypted part ≡ under vector row
@@ -237,11 +197,7 @@ module _ (width : ℕ) (some : 0 < width) (encrypted decrypted : List ℕ → Li
         ≡ take next start ++ cbc_decrypted decrypted width part rest
     back-more undone back rest =
         let again : under (decrypted part) vector ≡ row =
-        ap (λ xs. under xs vector) (undone ∙ under-comm vector row) ∙ under_twice row vector (row_len ∙ sym turn.wide) in
-        ap (cbc_decrypted decrypted width first)
-        (ap (λ xs. xs ++ rest) front_is ∙ append_assoc (take done now) part rest)
-        ∙ (back (part ++ rest)
-        ∙ (ap (λ xs. take done start ++ xs) (decrypted-behind vector part rest part_len
-        ∙ ap (λ xs. xs ++ cbc_decrypted decrypted width part rest) again)
-        ∙ (sym (append_assoc (take done start) row (cbc_decrypted decrypted width part rest))
-        ∙ ap (λ xs. xs ++ cbc_decrypted decrypted width part rest) (sym start_is))))
+        rw (undone, under-comm vector row) (under_twice row vector (row_len ∙ sym turn.wide)) in
+        rw (front_is, append_assoc (take done now) part rest, start_is) (back (part ++ rest)
+        ∙ (ap (λ xs. take done start ++ xs) (rw again at (decrypted-behind vector part rest part_len))
+        ∙ sym (append_assoc (take done start) row (cbc_decrypted decrypted width part rest))))

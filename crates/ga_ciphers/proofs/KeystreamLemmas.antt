@@ -1,8 +1,8 @@
 -- Key streams by pieces, and texts under a key by pieces and twice.
 use Rattle.ga_ciphers.specs.Keystream.{IsCurrent, key_byte, key_bytes, under}
 use Rattle.std.proofs.Common.{◌≡◌, ℕ, zero, suc, ◌+◌, ◌-◌, ◌*◌, ◌/◌, ◌%◌, ◌<◌, ◌≤◌, List, [], ◌∷◌, ◌++◌, ap, ap₂, arith}
-use Rattle.std.proofs.Common.{bit_xor, drop, get_or, inl, inr, length, length-drop, length-take, map, min, refl, slice_range, sym}
-use Rattle.std.proofs.Common.{take, ◌∙◌}
+use Rattle.std.proofs.Common.{bit_xor, drop, get_or, inl, inr, length, length-drop, length-take, map, min, refl}
+use Rattle.std.proofs.Common.{slice_range, sym, add-zero, take, zero-add, ◌∙◌}
 use Rattle.std.proofs.Math.Nat.{add-mul-mod_self_right, mod-lt, mod_self}
 use Rattle.std.proofs.Math.Seq.{drop-cons, take-add}
 use Rattle.std.proofs.lemmas.Bool.{cases_lt}
@@ -15,15 +15,11 @@ use Rattle.std.specs.List.{range_with_len}
 
 -- the numbers from a on: the first m, and those that follow
 range_with_len-append : (a m n : ℕ) → range_with_len a (m + n) ≡ range_with_len a m ++ range_with_len (a + m) n
-range_with_len-append a zero n =
-    let none : zero + n ≡ n = omega arith in
-    let here : a ≡ a + zero = omega arith in
-    ap (range_with_len a) none ∙ ap (λ k. range_with_len k n) here
+range_with_len-append a zero n = rw (zero-add n, add-zero a) refl
 range_with_len-append a (suc m) n =
     let more : suc m + n ≡ suc (m + n) = omega arith in
     let further : a + 1 + m ≡ a + suc m = omega arith in
-    ap (range_with_len a) more ∙ ap (λ xs. a ∷ xs)
-    (range_with_len-append (a + 1) m n ∙ ap (λ k. range_with_len (a + 1) m ++ range_with_len k n) further)
+    rw (more, range_with_len-append (a + 1) m n, further) refl
 
 module _ (block : ℕ → List ℕ) (width : ℕ) where
   -- a piece of m + n bytes: m bytes, and n from further on
@@ -40,26 +36,24 @@ module _ (block : ℕ → List ℕ) (width : ℕ) where
 pub under-append : (text key more further : List ℕ) → length text ≡ length key
     → under (text ++ more) (key ++ further) ≡ under text key ++ under more further
 under-append [] [] more further long = refl
-under-append [] (k ∷ key) more further long = absurd (omega (arith, long))
-under-append (t ∷ text) [] more further long = absurd (omega (arith, long))
+under-append [] (k ∷ key) more further long = absurd (omega arith)
+under-append (t ∷ text) [] more further long = absurd (omega arith)
 under-append (t ∷ text) (k ∷ key) more further long =
-    ap (λ xs. bit_xor t k ∷ xs) (under-append text key more further (omega (arith, long)))
+    ap (λ xs. bit_xor t k ∷ xs) (under-append text key more further (omega arith))
 
 pub length-under : (text key : List ℕ) → length text ≡ length key → length (under text key) ≡ length text
-length-under [] [] long = refl
-length-under [] (k ∷ key) long = absurd (omega (arith, long))
-length-under (t ∷ text) [] long = absurd (omega (arith, long))
-length-under (t ∷ text) (k ∷ key) long = ap suc (length-under text key (omega (arith, long)))
+length-under [] key long = refl
+length-under (t ∷ text) [] long = absurd (omega arith)
+length-under (t ∷ text) (k ∷ key) long = ap suc (length-under text key (omega arith))
 
 xor_twice : (a b : ℕ) → bit_xor (bit_xor a b) b ≡ a
 xor_twice a b = xor_assoc a b b ∙ (ap (bit_xor a) (xor_self b) ∙ xor_zero_r a)
 
 -- the same key twice leaves the text
 pub under_twice : (text key : List ℕ) → length text ≡ length key → under (under text key) key ≡ text
-under_twice [] [] long = refl
-under_twice [] (k ∷ key) long = absurd (omega (arith, long))
-under_twice (t ∷ text) [] long = absurd (omega (arith, long))
-under_twice (t ∷ text) (k ∷ key) long = ap₂ ◌∷◌ (xor_twice t k) (under_twice text key (omega (arith, long)))
+under_twice [] key long = refl
+under_twice (t ∷ text) [] long = absurd (omega arith)
+under_twice (t ∷ text) (k ∷ key) long = ap₂ ◌∷◌ (xor_twice t k) (under_twice text key (omega arith))
 
 -- What callers use: texts under the key stream, by pieces and twice.
 module _ (block : ℕ → List ℕ) (width from : ℕ) where
@@ -67,54 +61,40 @@ module _ (block : ℕ → List ℕ) (width from : ℕ) where
   pub under_in_pieces : (first second : List ℕ) → under first (key_bytes block width from (length first))
       ++ under second (key_bytes block width (from + length first) (length second))
       ≡ under (first ++ second) (key_bytes block width from (length first + length second))
-  under_in_pieces first second =
-      sym (ap (under (first ++ second)) (key_bytes-append block width from (length first) (length second))
-      ∙ under-append first (key_bytes block width from (length first)) second
-      (key_bytes block width (from + length first) (length second))
-      (sym (length-key_bytes block width from (length first))))
+  under_in_pieces first second = rw (key_bytes-append block width from (length first) (length second))
+      (sym (under-append first _ second _ (sym (length-key_bytes block width from (length first)))))
 
   -- the key twice leaves the text
   pub under_taken_off : (text now : List ℕ) → now ≡ under text (key_bytes block width from (length text))
       → under now (key_bytes block width from (length now)) ≡ text
   under_taken_off text now is =
-      let same : length text ≡ length (key_bytes block width from (length text)) =
-      sym (length-key_bytes block width from (length text)) in
-      let long : length now ≡ length text = ap length is
-      ∙ length-under text (key_bytes block width from (length text)) same in
-      ap₂ under is (ap (key_bytes block width from) long)
-      ∙ under_twice text (key_bytes block width from (length text)) same
+      let key = key_bytes block width from (length text) in
+      let same : length text ≡ length key = sym (length-key_bytes block width from (length text)) in
+      rw (is, length-under text key same) (under_twice text key same)
 
 -- what is written at each place is the text under the key
 pub under-from_places : (text key new : List ℕ) → length text ≡ length key → length new ≡ length text
     → ((k : ℕ) → k < length text → get_or new k 0 ≡ bit_xor (get_or text k 0) (get_or key k 0)) → new ≡ under text key
 under-from_places [] key [] same long places = refl
-under-from_places [] key (n ∷ new) same long places = absurd (omega (arith, long))
-under-from_places (t ∷ text) [] new same long places = absurd (omega (arith, same))
-under-from_places (t ∷ text) (k ∷ key) [] same long places = absurd (omega (arith, long))
-under-from_places (t ∷ text) (k ∷ key) (n ∷ new) same long places =
-    ap₂ ◌∷◌ (places 0 (omega arith)) (under-from_places text key new (omega (arith, same)) (omega (arith, long))
-    (λ i below. places (suc i) (omega arith)))
+under-from_places [] key (n ∷ new) same long places = absurd (omega arith)
+under-from_places (t ∷ text) [] new same long places = absurd (omega arith)
+under-from_places (t ∷ text) (k ∷ key) [] same long places = absurd (omega arith)
+under-from_places (t ∷ text) (k ∷ key) (n ∷ new) same long places = ap₂ ◌∷◌ (places 0 (omega arith))
+    (under-from_places text key new (omega arith) (omega arith) (λ i below. places (suc i) (omega arith)))
 
 -- Places in blocks of one width.
 module _ (width : ℕ) (some : 0 < width) (position : ℕ) where
-  place_is : position / width * width + position % width ≡ position
-  place_is = div-add-mod' position width
-
   -- the block at the place is current behind it too, up to its end
   pub IsCurrent-further : (block : ℕ → List ℕ) (kept : List ℕ) (count next : ℕ) → kept ≡ block (position / width)
       → position % width + count ≤ width → next ≡ position + count → IsCurrent block width next kept
   IsCurrent-further block kept count next is inside further within =
       elim (cases_lt (position % width + count) width) as (λ _. kept ≡ block (next / width)) [
         | inl below ↦
-            let split : position / width * width + (position % width + count) ≡ next =
-            omega (arith, place_is, further) in
-            is ∙ ap block (sym (ap (λ n. n / width) (sym split)
-            ∙ div-mul-add (position / width) width (position % width + count) below))
+            let split : next ≡ position / width * width + (position % width + count) = omega arith in
+            rw (split, div-mul-add (position / width) width (position % width + count) below) is
         | inr end ↦
-            let all : position % width + count ≡ width = omega arith in
-            let split : width + position / width * width ≡ next = omega (arith, place_is, further) in
-            absurd (within (ap (λ n. n % width) (sym split)
-            ∙ (add-mul-mod_self_right width (position / width) width ∙ mod_self width)))
+            let split : next ≡ width + position / width * width = omega arith in
+            absurd (within (rw (split, add-mul-mod_self_right width (position / width) width) (mod_self width)))
       ]
 
 -- The bytes of one block.
@@ -123,22 +103,17 @@ module _ (block : ℕ → List ℕ) (width number : ℕ) (long : length (block n
       → take count (drop place (block number)) ≡ key_bytes block width from count
   in_block zero place from inside is = refl
   in_block (suc count) place from inside is =
-      let next : number * width + suc place ≡ from + 1 = omega arith in
-      let below : place < length (block number) = omega arith in
       let here : place < width = omega arith in
-      let quotient : from / width ≡ number = ap (λ n. n / width) (sym is) ∙ div-mul-add number width place here in
-      let remainder : from % width ≡ place = ap (λ n. n % width) (sym is) ∙ mod-mul-add number width place here in
       let first : get_or (block number) place 0 ≡ key_byte block width from =
-      ap₂ (λ n p. get_or (block n) p 0) (sym quotient) (sym remainder) in
-      ap (take (suc count)) (drop-cons (block number) place 0 below)
-      ∙ ap₂ ◌∷◌ first (in_block count (suc place) (from + 1) (omega (arith, inside)) next)
+      rw (← is, div-mul-add number width place here, mod-mul-add number width place here) refl in
+      ap (take (suc count)) (drop-cons (block number) place 0 (omega arith))
+      ∙ ap₂ ◌∷◌ first (in_block count (suc place) (from + 1) (omega arith) (omega arith))
 
   -- part of a block is the key stream's bytes there
   pub key_bytes-in_block : (from place count : ℕ) → place + count ≤ width → number * width + place ≡ from
       → slice_range (block number) place (place + count) ≡ key_bytes block width from count
   key_bytes-in_block from place count inside is =
-      let many : place + count - place ≡ count = omega arith in
-      ap (λ n. take n (drop place (block number))) many ∙ in_block count place from inside is
+      let many : place + count - place ≡ count = omega arith in rw many (in_block count place from inside is)
 
 -- A text of which the first `done` bytes are under the key, and then `count` more.
 module _ (block : ℕ → List ℕ) (width start : ℕ) (text : List ℕ) where
@@ -163,27 +138,18 @@ module _ (block : ℕ → List ℕ) (width start : ℕ) (text : List ℕ) where
         let so_far = under (take done text) (key_bytes block width start done) in
         let front_is : take done now ≡ so_far = ap (take done) is ∙ take_at so_far (drop done text) done long in
         let rest_is : drop done now ≡ drop done text = ap (drop done) is ∙ drop_at so_far (drop done text) done long in
-        let part_is : slice_range now done (done + length key) ≡ take count (drop done text) = ap₂ take many rest_is in
         let behind_is : drop (done + length key) now ≡ drop (done + count) text =
-        ap (λ n. drop (done + n) now) counted ∙ (sym (drop-drop count done now)
-        ∙ (ap (drop count) rest_is ∙ drop-drop count done text)) in
+        rw (counted, ← drop-drop count done now, rest_is) (drop-drop count done text) in
         let joined : under (take (done + count) text) (key_bytes block width start (done + count)) ≡ so_far
         ++ under (take count (drop done text)) (key_bytes block width (start + done) count) =
-        ap₂ under (take-add done count text) (key_bytes-append block width start done count)
-        ∙ under-append (take done text) (key_bytes block width start done) (take count (drop done text))
-        (key_bytes block width (start + done) count) front in
-        ap₂ ◌++◌ (ap₂ ◌++◌ front_is (ap₂ under part_is same) ∙ sym joined) behind_is
+        rw (take-add done count text, key_bytes-append block width start done count)
+        (under-append (take done text) _ (take count (drop done text)) _ front) in
+        ap₂ ◌++◌ (ap₂ ◌++◌ front_is (ap₂ under (ap₂ take many rest_is) same) ∙ sym joined) behind_is
 
 -- A turn of the loop over a text: so many bytes of the block at the place are put over the next bytes of the text.
 module _ (block : ℕ → List ℕ) (width start : ℕ) (text : List ℕ) (some : 0 < width) (position done count : ℕ)
     (now kept : List ℕ) (counted : count ≡ min (length now - done) (width - position % width))
     (long : length now ≡ length text) (passed : done ≤ length text) where
-  pub count-le_block : position % width + count ≤ width
-  count-le_block = omega (arith, mod-lt position some)
-
-  pub count-le_text : done + count ≤ length text
-  count-le_text = omega arith
-
   pub piece_more : position ≡ start + done → length kept ≡ width → kept ≡ block (position / width)
       → now ≡ under_so_far block width start text done → (key : List ℕ)
       → key ≡ slice_range kept (position % width) (position % width + count)
@@ -191,12 +157,9 @@ module _ (block : ℕ → List ℕ) (width start : ℕ) (text : List ℕ) (some 
       ++ drop (done + length key) now ≡ under_so_far block width start text (done + count)
   piece_more at full is so_far key part =
       let full_block : length (block (position / width)) ≡ width = ap length (sym is) ∙ full in
-      let in_stream : key ≡ key_bytes block width position count =
-      part ∙ (ap (λ xs. slice_range xs (position % width) (position % width + count)) is
-      ∙ key_bytes-in_block block width (position / width) full_block position (position % width) count count-le_block
-      (place_is width some position)) in
-      under_so_far-more block width start text done count count-le_text now key so_far
-      (in_stream ∙ ap (λ p. key_bytes block width p count) at)
+      under_so_far-more block width start text done count (omega arith) now key so_far
+      (rw (part, is, ← at) (key_bytes-in_block block width (position / width) full_block position (position % width)
+      count (omega (arith, mod-lt position some)) (div-add-mod' position width)))
 
 -- a list that is rotated by k places, and then by the n others
 pub turned_back : {A : Type 0} → (n k : ℕ) (xs : List A) → length xs ≡ n + k

@@ -1,7 +1,7 @@
 -- What ends in a padding.
 use Rattle.ga_ciphers.specs.Padding.{padded}
-use Rattle.std.proofs.Common.{◌≡◌, ℕ, ◌+◌, ◌-◌, ◌<◌, ◌≤◌, List, ap, arith, drop, get_or, length, length-append, replicate, sym}
-use Rattle.std.proofs.Common.{take, ◌∙◌}
+use Rattle.std.proofs.Common.{◌≡◌, ℕ, ◌+◌, ◌-◌, ◌<◌, ◌≤◌, List, ap, arith, drop, get_or, length, length-append}
+use Rattle.std.proofs.Common.{replicate, sym, take, ◌∙◌}
 use Rattle.std.proofs.lemmas.List.{drop_at, get_or-append-add, get_or-replicate, length-replicate, take_at}
 
 -- the last byte is the padding's length, and so the bytes before it

@@ -2,7 +2,7 @@
 use Rattle.ga_ciphers.specs.Xtea.{block_of, change, cycle, cycle_back, cycles, cycles_back, first_word, halves_of}
 use Rattle.ga_ciphers.specs.Xtea.{second_word, sub32}
 use Rattle.rand_chacha.specs.Block.{add32}
-use Rattle.std.proofs.Common.{◌≡◌, ℕ, zero, suc, ◌+◌, ◌*◌, ◌/◌, ◌%◌, ◌^◌, ◌<◌, List, ap, arith, get_or, length, lit<}
+use Rattle.std.proofs.Common.{◌≡◌, ℕ, zero, suc, ◌+◌, ◌*◌, ◌^◌, ◌<◌, List, ap, arith, get_or, length, lit<}
 use Rattle.std.proofs.Common.{refl, ◌∙◌}
 use Rattle.std.proofs.Math.Nat.{mod-lt}
 use Rattle.std.proofs.lemmas.Nat.{be_bytes_8, div-mul-add, from_be_bytes-to_be_bytes_8, mod-mul-add, xor_lt}
@@ -26,7 +26,7 @@ cycle-undone key number l r left right =
     sub32-add32 r second right (change-lt _ _ (mod-lt _ (lit< tt))) in
     let left_is : sub32 (add32 l first) first ≡ l =
     sub32-add32 l first left (change-lt _ _ (mod-lt _ (lit< tt))) in
-    ap (λ b. (sub32 (add32 l first) (change b (first_word key number)), b)) right_is ∙ ap (λ a. (a, r)) left_is
+    rw (right_is, left_is) refl
 
 -- both halves are words
 abbrev pub AreWords : ℕ × ℕ → Type 0
@@ -54,9 +54,7 @@ halves-block halves are =
     let number = halves.0 * 2 ^ 32 + halves.1 in
     let back : from_be_bytes w64 (to_be_bytes w64 number) ≡ number =
     from_be_bytes-to_be_bytes_8 number (omega (arith, are.0, are.1)) in
-    ap (λ n. (n / 2 ^ 32, n % 2 ^ 32)) back
-    ∙ (ap (λ a. (a, number % 2 ^ 32)) (div-mul-add halves.0 (2 ^ 32) halves.1 are.1)
-    ∙ ap (λ b. (halves.0, b)) (mod-mul-add halves.0 (2 ^ 32) halves.1 are.1))
+    rw (back, div-mul-add halves.0 (2 ^ 32) halves.1 are.1, mod-mul-add halves.0 (2 ^ 32) halves.1 are.1) refl
 
 -- the block of a block's halves
 pub block-halves : (block : List ℕ) → length block ≡ 8 → ((place : ℕ) → get_or block place 0 < 256)

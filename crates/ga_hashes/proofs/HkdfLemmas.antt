@@ -2,7 +2,7 @@
 use Rattle.ga_hashes.specs.Hkdf.{BeginsWithBlocks, output_block, output_blocks, written_at}
 use Rattle.ga_hashes.specs.Hmac.{hmac_of}
 use Rattle.std.proofs.Common.{◌≡◌, ℕ, suc, ◌+◌, ◌-◌, ◌*◌, ◌<◌, ◌≤◌, ◌∙◌, List, [], ◌∷◌, ◌++◌, add-one, ap, arith, drop}
-use Rattle.std.proofs.Common.{inl, inr, length, length-append, subst, sym, take}
+use Rattle.std.proofs.Common.{inl, inr, length, length-append, refl, subst, sym, take}
 use Rattle.std.proofs.Math.Nat.{suc-mul}
 use Rattle.std.proofs.Math.Seq.{drop-append_seam, drop-nil, take-append-add, take-append_seam, take-nil}
 use Rattle.std.proofs.lemmas.Bool.{cases_lt}
@@ -15,16 +15,9 @@ cut room behind bytes output all =
     elim (cases_lt room (length bytes)) as (λ _. take (length bytes)
     (take room bytes ++ drop (behind + length bytes) output) ≡ take room bytes) [
       | inl short ↦
-          let none : drop (behind + length bytes) output ≡ [] =
-          drop_all (behind + length bytes) output (omega (arith, all, short)) in
-          let few : length (take room bytes) ≤ length bytes =
-          omega (arith, short, length-take-le room bytes (omega (arith, short))) in
-          ap (λ rest. take (length bytes) (take room bytes ++ rest)) none
-          ∙ (ap (take (length bytes)) (append-nil (take room bytes)) ∙ take_all (length bytes) (take room bytes) few)
-      | inr fits ↦
-          let whole : take room bytes ≡ bytes = take_all room bytes fits in
-          ap (λ part. take (length bytes) (part ++ drop (behind + length bytes) output)) whole
-          ∙ (take-append_seam bytes (drop (behind + length bytes) output) ∙ sym whole)
+          rw (drop_all (behind + length bytes) output (omega arith), append-nil (take room bytes))
+          (take_all (length bytes) (take room bytes) (omega (arith, length-take-le room bytes (omega arith))))
+      | inr fits ↦ rw (take_all room bytes fits) (take-append_seam bytes (drop (behind + length bytes) output))
     ]
 
 -- bytes behind those that an output begins with
@@ -35,13 +28,11 @@ more made bytes output below begun =
     let room = length output - at in
     let behind = take room bytes ++ drop (at + length bytes) output in
     let left : take (at + length bytes) (made ++ behind) ≡ made ++ take room bytes =
-    take-append-add made behind (length bytes) ∙ ap (λ rest. made ++ rest)
-    (cut room at bytes output (omega (arith, below))) in
+    rw (take-append-add made behind (length bytes), cut room at bytes output (omega arith)) refl in
     let right : take (length output) (made ++ bytes) ≡ made ++ take room bytes =
-    let sum : length output ≡ at + room = omega (arith, below) in
+    let sum : length output ≡ at + room = omega arith in
     ap (λ n. take n (made ++ bytes)) sum ∙ take-append-add made bytes room in
-    ap (λ n. take n (written_at at bytes output)) (length-append made bytes)
-    ∙ (ap (λ front. take (at + length bytes) (front ++ behind)) begun ∙ (left ∙ sym right))
+    rw (length-append made bytes, begun) (left ∙ sym right)
 
 module _ (digest : List ℕ → List ℕ) (block : ℕ) (key info : List ℕ) (size : ℕ) where
   -- no block is written
@@ -50,8 +41,7 @@ module _ (digest : List ℕ → List ℕ) (block : ℕ) (key info : List ℕ) (s
   BeginsWithBlocks-none output = record {
     begun = sym (take-nil (length output));
     len = omega arith;
-    last =
-        drop-nil (0 * size - size);
+    last = drop-nil (0 * size - size);
   }
 
   -- one block more, of this size
@@ -65,33 +55,26 @@ module _ (digest : List ℕ → List ℕ) (block : ℕ) (key info : List ℕ) (s
     made = output_blocks digest block key info number
 
     full : take (number * size) output ≡ made
-    full = ap (λ n. take n output) (sym begun.len)
-        ∙ (begun.begun ∙ take_all (length output) made (omega (arith, room, begun.len)))
+    full = rw (← begun.len) (begun.begun ∙ take_all (length output) made (omega (arith, begun.len)))
 
     is_before : take (at - from) (drop from output) ≡ output_block digest block key info number
     is_before =
         let end : from + (at - from) ≡ number * size = omega (arith, at_is, from_is) in
-        sym (drop-take from (at - from) output)
-        ∙ (ap (λ n. drop from (take n output)) end
-        ∙ (ap (λ n. drop n (take (number * size) output)) from_is
-        ∙ (ap (drop (number * size - size)) full ∙ begun.last)))
+        rw (← drop-take from (at - from) output, end, full, from_is) begun.last
 
     is_block : bytes ≡ output_block digest block key info (suc number)
     unfolding output_block
     is_block =
-        tag ∙ (ap (λ b. hmac_of digest block key (b ++ (info ++ ((number + 1) ∷ [])))) is_before
-        ∙ ap (λ n. hmac_of digest block key (output_block digest block key info number ++ (info ++ (n ∷ []))))
-        (add-one number))
+        rw (tag, is_before, add-one number) refl
 
     are_blocks : output_blocks digest block key info (suc number) ≡ made ++ bytes
     unfolding output_blocks
-    are_blocks = ap (λ b. made ++ b) (sym is_block)
+    are_blocks = rw is_block refl
 
     begun_next : take (length (made ++ bytes)) written ≡ take (length written) (made ++ bytes)
     begun_next =
-        ap (take (length (made ++ bytes))) (put ∙ ap (λ n. written_at n bytes output) (at_is ∙ sym begun.len))
-        ∙ (more made bytes output (omega (arith, room, begun.len)) (ap (λ n. take n output) begun.len ∙ full)
-        ∙ ap (λ n. take n (made ++ bytes)) (sym stays))
+        rw (stays, put, at_is, ← begun.len)
+        (more made bytes output (omega (arith, begun.len)) (ap (λ n. take n output) begun.len ∙ full))
 
     next : BeginsWithBlocks digest block key info size (suc number) written
     next =
@@ -100,8 +83,7 @@ module _ (digest : List ℕ → List ℕ) (block : ℕ) (key info : List ℕ) (s
         record {
           begun = subst (λ b. take (length b) written ≡ take (length written) b) (sym all) begun_next;
           len = ap length all ∙ (length-append made bytes ∙ omega (arith, suc-mul number size, begun.len, whole));
-          last = ap (drop (suc number * size - size)) all
-              ∙ (ap (λ n. drop n (made ++ bytes)) place ∙ (drop-append_seam made bytes ∙ is_block));
+          last = rw (all, place) (drop-append_seam made bytes ∙ is_block);
         }
 
     pub BeginsWithBlocks-more : BeginsWithBlocks digest block key info size (number + 1) written

@@ -13,26 +13,21 @@ module _ (width : ℕ) (message kept : List ℕ) (rest : kept ≡ chunk_rest wid
   place : (length kept + 9) % width ≡ (length message + 9) % width
   place =
       let count = length message / width in
-      let long : length kept ≡ length message - count * width = ap length rest ∙ length-drop (count * width) message in
       let split : length message + 9 ≡ length kept + 9 + count * width =
-      omega (arith, long, div-mul-le_self (length message) width) in
-      sym (ap (λ n. n % width) split ∙ add-mul-mod_self_right (length kept + 9) count width)
+      omega (arith, ap length rest, length-drop (count * width) message, div-mul-le_self (length message) width) in
+      rw (split, add-mul-mod_self_right (length kept + 9) count width) refl
 
   -- what is kept takes as many zeros as the message
   pub padding-kept : (len : ℕ) → len ≡ length message
       → padding width (length kept) len ≡ padding width (length message) (length message)
   padding-kept len counted =
-      ap (λ n. 128 ∷ replicate ((width - n) % width) 0 ++ to_be_bytes w64 (8 * len)) place
-      ∙ ap (λ n. padding width (length message) n) counted
+      rw (place, counted) refl
 
 -- what is kept and the padding: the mark, zeros and the length in turn
 module _ (width : ℕ) (kept : List ℕ) (len count : ℕ) (bits : List ℕ) (counted : count ≡ zero_count width (length kept))
     (told : bits ≡ to_be_bytes w64 (8 * len)) where
   pub padding-after_mark : kept ++ padding width (length kept) len ≡ (kept ++ 128 ∷ []) ++ (replicate count 0 ++ bits)
-  padding-after_mark =
-      ap (λ n. kept ++ (128 ∷ (replicate n 0 ++ to_be_bytes w64 (8 * len)))) (sym counted)
-      ∙ (ap (λ b. kept ++ (128 ∷ (replicate count 0 ++ b))) (sym told)
-      ∙ sym (append_assoc kept (128 ∷ []) (replicate count 0 ++ bits)))
+  padding-after_mark = rw (told, counted, append_assoc kept (128 ∷ [])) refl
 
   pub padding-in_turn : kept ++ padding width (length kept) len ≡ ((kept ++ 128 ∷ []) ++ replicate count 0) ++ bits
   padding-in_turn = padding-after_mark ∙ sym (append_assoc (kept ++ 128 ∷ []) (replicate count 0) bits)
@@ -47,33 +42,24 @@ module _ (width : ℕ) (some : 0 < width) where
         | inl left ↦
             let zeros : (width - n % width) % width ≡ width - n % width = mod-eq_of_lt (omega arith) in
             let whole : n + (width - n % width) % width ≡ width + n / width * width = omega arith in
-            ap (λ k. k % width) whole ∙ (add-mul-mod_self_right width (n / width) width ∙ mod_self width)
+            rw (whole, add-mul-mod_self_right width (n / width) width) (mod_self width)
         | inr none ↦
-            let zeros : (width - n % width) % width ≡ 0 =
-            ap (λ k. k % width) (let same : width - n % width ≡ width = omega arith in same) ∙ mod_self width in
-            let whole : n + (width - n % width) % width ≡ n = omega arith in
-            let even : n % width ≡ 0 = omega arith in
-            ap (λ k. k % width) whole ∙ even
+            let all : width - n % width ≡ width = omega arith in
+            let whole : n + 0 ≡ n = omega arith in
+            rw (all, mod_self width, whole) (omega arith)
       ]
 
   length-with_padding : (message : List ℕ) → length (with_padding width message)
       ≡ length message + 9 + zero_count width (length message)
   length-with_padding message =
-      let zeros : List ℕ = replicate (zero_count width (length message)) 0 in
       let bits : List ℕ = to_be_bytes w64 (8 * length message) in
-      let count : length zeros ≡ zero_count width (length message) =
-      length-replicate (zero_count width (length message)) 0 in
       let eight : length bits ≡ 8 = refl in
-      let parts : length (with_padding width message) ≡ length message + length (128 ∷ (zeros ++ bits)) =
-      length-append message (128 ∷ (zeros ++ bits)) in
-      let behind : length (zeros ++ bits) ≡ length zeros + length bits = length-append zeros bits in
-      omega arith
+      simp (length-append, length-replicate) (omega arith)
 
   -- behind the blocks of a padded message nothing is left
   pub with_padding-whole : (message : List ℕ) → chunk_rest width (with_padding width message) ≡ []
   with_padding-whole message =
       let all = with_padding width message in
-      let even : length all % width ≡ 0 = ap (λ n. n % width) (length-with_padding message)
-      ∙ filled (length message + 9) in
+      let even : length all % width ≡ 0 = rw (length-with_padding message) (filled (length message + 9)) in
       nil_from_length (chunk_rest width all) (omega
       (arith, length-drop (length all / width * width) all, div-add-mod' (length all) width, even))

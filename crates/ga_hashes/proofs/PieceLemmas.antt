@@ -1,6 +1,6 @@
 -- Pieces, joined one by one.
-use Rattle.std.proofs.Common.{◌≡◌, ℕ, ◌+◌, ◌<◌, List, [], ◌∷◌, ◌++◌, length, take, drop, get_or, ap, sym, ◌∙◌}
-use Rattle.std.proofs.Common.{append_assoc, append-nil}
+use Rattle.std.proofs.Common.{◌≡◌, ℕ, ◌+◌, ◌<◌, List, [], ◌++◌, length, take, drop, get_or, ap, sym, append_assoc}
+use Rattle.std.proofs.Common.{append-nil}
 use Rattle.std.proofs.lemmas.Grind.{flat_map-append}
 use Rattle.std.proofs.lemmas.List.{take-append-drop, take_more}
 use Rattle.std.proofs.lemmas.List.Concat.{flat_map-cons}
@@ -10,19 +10,13 @@ module _ {P X : Type 0} (items_of : P → List X) (pieces : List P) (i : ℕ) (d
   -- one piece more
   pub pieces-more : flat_map items_of (take (i + 1) pieces) ≡ flat_map items_of (take i pieces)
       ++ items_of (get_or pieces i d)
-  pieces-more =
-      let before = flat_map items_of (take i pieces) in
-      let piece = get_or pieces i d in
-      ap (flat_map items_of) (take_more pieces i d below)
-      ∙ (flat_map-append items_of (take i pieces) (piece ∷ [])
-      ∙ ap (λ k. before ++ k) (flat_map-cons items_of piece [] ∙ append-nil (items_of piece)))
+  pieces-more = rw (take_more pieces i d below, flat_map-append items_of (take i pieces), flat_map-cons items_of _ [])
+      (ap (λ k. flat_map items_of (take i pieces) ++ k) (append-nil _))
 
   -- all pieces, cut at one of them
   pub pieces-cut : flat_map items_of pieces ≡ flat_map items_of (take i pieces)
       ++ (items_of (get_or pieces i d) ++ flat_map items_of (drop (i + 1) pieces))
   pieces-cut =
-      let behind = flat_map items_of (drop (i + 1) pieces) in
-      ap (flat_map items_of) (sym (take-append-drop (i + 1) pieces))
-      ∙ (flat_map-append items_of (take (i + 1) pieces) (drop (i + 1) pieces)
-      ∙ (ap (λ k. k ++ behind) pieces-more ∙ append_assoc (flat_map items_of (take i pieces))
-      (items_of (get_or pieces i d)) behind))
+      let whole = ap (flat_map items_of) (sym (take-append-drop (i + 1) pieces)) in
+      rw (flat_map-append items_of (take (i + 1) pieces), pieces-more, append_assoc (flat_map items_of (take i pieces))) at
+      whole

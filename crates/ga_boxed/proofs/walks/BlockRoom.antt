@@ -1,8 +1,8 @@
 -- A `Cells` that holds no item is made of nothing or of a block's room, and gives that room back. Assumes `Logic`.
 use Rattle.ga_boxed.proofs.walks.Names
-use Names.{◌≡◌, refl, subst, ℕ, ◌+◌, ◌*◌, ◌<◌, ◌^◌, arith, zero-mul, [], ◌∷◌, Ura, ty_array, ent, emp, guard, froom}
-use Names.{Logic, sem, ‵, ◌$◌, ◌∵◌, !, qed, move, drop as skip, use0, use2, rewrite, fsplit, fjoin, flt_i, flt_l, check}
-use Names.{done, block_ptr, nothing, El, R, elτ, as_raw, as_written, cells_own, empty, via}
+use Names.{ !, [], arith, as_raw, as_written, block_ptr, cells_own, check, done, drop as skip, El, elτ, emp, empty, ent}
+use Names.{fjoin, flt_i, flt_l, froom, fsplit, guard, Logic, move, nothing, qed, R, refl, rewrite, sem, subst, ty_array}
+use Names.{Ura, use0, use2, via, zero-mul, ‵, ℕ, ◌$◌, ◌*◌, ◌+◌, ◌<◌, ◌^◌, ◌∵◌, ◌∷◌, ◌≡◌}
 use Rattle.ga_boxed.proofs.BlockLemmas.{none_fits}
 use Rattle.ga_boxed.proofs.walks.WalkParts.{block_ty, sz}
 use Rattle.std.proofs.ptr.Rows.{glued}

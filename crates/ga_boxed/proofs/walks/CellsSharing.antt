@@ -1,9 +1,9 @@
 -- A `&` to the cells is made where one to an item is. Assumes `Logic`.
 use Rattle.ga_boxed.proofs.walks.Names
-use Names.{ℕ, ◌*◌, ◌+◌, cells_lent, cells_own, fit, type_size, Incl, Lft, ftrue, ffalse, mem, shared_of, Laws}
-use Names.{RattleType, RowLaws, Ptr, block_ptr, null_ptr, beside_shr_laws, said_shr_laws, elements_shared}
-use Names.{elements_shr_laws, Lends, Lends-both, Lends-false, Lends-first, Lends-nothing, Lends-said, length, List, []}
-use Names.{◌∷◌, Ura, Logic, cells}
+use Names.{[], beside_shr_laws, block_ptr, cells, cells_lent, cells_own, elements_shared, elements_shr_laws, ffalse}
+use Names.{fit, ftrue, Incl, Laws, Lends, Lends-both, Lends-false, Lends-first, Lends-nothing, Lends-said, length, Lft}
+use Names.{List, Logic, mem, null_ptr, Ptr, RattleType, RowLaws, said_shr_laws, shared_of, type_size, Ura, ℕ, ◌*◌, ◌+◌}
+use Names.{◌∷◌}
 use denote.Shares.{Shares-less}
 use denote.Sharing.{ShrLaws, said}
 

@@ -1,15 +1,14 @@
 -- The code of `slice` and `slice_mut`, which is the same but for `mut`. It makes a slice's machine value, and its walk
 -- is given how the items are lent. Assumes `Logic`.
 use Rattle.ga_boxed.proofs.walks.Names
-use Names.{◌≡◌, refl, ap, ℕ, ◌+◌, ◌*◌, ◌<◌, ◌^◌, List, [], ◌∷◌, length, Ura, full_share, fat, SProp, ent, Fn}
-use Names.{Mutability, Ty, aggregate, assign, block, copy, erased, field, local, mul, named, offset, op2, place, return}
-use Names.{rv_opd, seq, size_of, ty_int, ty_ptr, ty_ref, unsigned, value_local, w64, Val, vint, vptr, Calls, Env, Loops}
-use Names.{WpFn, Logic, Go, Goal, Item, Seq, Soaks, ‵, at_ret, mean, ◌$◌, ◌∵◌, !, qed, by, keep, rewrite, agg, sub}
-use Names.{whole, and_then, bin, blocks, enter, exec, first, fld, no_more, of_opd, returns, size_word, stop, alloc_all}
-use Names.{env, free_all, get, get_in, give_at, is, look_at, pass_all, sets, sets_last, take_at, Lfts, no, Slot}
-use Names.{type_at, layout, Ptr, block_ptr, slice_ty, slice_val, word, word-Good, after, El, elτ, uncapped}
-use Names.{uncapped_fits}
-use Rattle.ga_boxed.proofs.walks.CallWalk.{Call, Self, number}
+use Names.{ !, [], after, agg, aggregate, alloc_all, and_then, ap, assign, at_ret, bin, block, block_ptr, blocks, by}
+use Names.{Call, Calls, copy, El, elτ, ent, enter, Env, env, erased, exec, fat, field, first, fld, Fn, free_all}
+use Names.{full_share, get, get_in, give_at, Go, Goal, is, Item, keep, layout, length, Lfts, List, local, Logic}
+use Names.{look_at, Loops, mean, mul, Mutability, named, no, no_more, number, of_opd, offset, op2, pass_all, place, Ptr}
+use Names.{qed, refl, return, returns, rewrite, rv_opd, Self, Seq, seq, sets, sets_last, size_of, size_word, slice_ty}
+use Names.{slice_val, Slot, Soaks, SProp, stop, sub, take_at, Ty, ty_int, ty_ptr, ty_ref, type_at, uncapped}
+use Names.{uncapped_fits, unsigned, Ura, Val, value_local, vint, vptr, w64, whole, word, word-Good, WpFn, ‵, ℕ, ◌$◌}
+use Names.{◌*◌, ◌+◌, ◌<◌, ◌^◌, ◌∵◌, ◌∷◌, ◌≡◌}
 use Rattle.ga_boxed.proofs.walks.CellsWalk.{the_base}
 use Rattle.ga_boxed.proofs.walks.WalkParts.{Bs, Cr, sz}
 

@@ -2,14 +2,12 @@
 --     the_base          the base.        by_mut, spent      `&mut self`
 --     opens_cells, closes_cells      the borrow of `self` is opened, and closed on other cells
 use Rattle.ga_boxed.proofs.walks.Names
-use Names.{◌≡◌, refl, sym, ℕ, ◌+◌, ◌*◌, ◌<◌, ◌^◌, List, [], ◌∷◌, length, Ura, full_share, flft, fobor, fobs, fauth}
-use Names.{fst∗, emp, never, id⊢, named, Val, Lfts, Shares, toks, Logic, ‵, raw, ◌$◌, move, drop, join, rewrite, fsplit}
-use Names.{fsplit3, fjoin, fjoin3, Goal, Item, Seq, Soaks, Step, step, feq_i, flt_i, flt_l, use1, RefMutOf, Kept, yes}
-use Names.{no, mem, cell_at, block_ptr, Ptr, in_a_block, MutBor, MutRef, mut_vals, mut_Tells, Slot, plain, closes}
-use Names.{nothing, opens, Goes, Goes-dropped, Goes-ref, Goes-spent_ref, Stay, stay_dropped, stay_ref, El, R, cells_own}
-use base.Stored.{Gv}
-use types.SemTy.{Body as Borrowed}
-use Rattle.ga_boxed.proofs.walks.CallWalk.{told_by, Behind, Self}
+use Names.{[], Behind, block_ptr, Body as Borrowed, cell_at, cells_own, closes, drop, El, emp, fauth, feq_i, fjoin}
+use Names.{fjoin3, flft, flt_i, flt_l, fobor, fobs, fsplit, fsplit3, fst∗, full_share, Goal, Goes, Goes-dropped}
+use Names.{Goes-ref, Goes-spent_ref, Gv, id⊢, in_a_block, Item, join, Kept, length, Lfts, List, Logic, mem, move}
+use Names.{mut_Tells, mut_vals, MutBor, MutRef, named, never, no, nothing, opens, plain, Ptr, R, raw, refl, RefMutOf}
+use Names.{rewrite, Self, Seq, Shares, Slot, Soaks, Stay, stay_dropped, stay_ref, Step, step, sym, toks, told_by, Ura}
+use Names.{use1, Val, yes, ‵, ℕ, ◌$◌, ◌*◌, ◌+◌, ◌<◌, ◌^◌, ◌∷◌, ◌≡◌}
 use Rattle.ga_boxed.proofs.walks.EndLemmas.{Held}
 use Rattle.ga_boxed.proofs.walks.WalkParts.{Bs, Cr, Mark, base_Tells, base_vals, sz}
 

@@ -1,8 +1,8 @@
 -- The parts of a block may cross threads as its items and its allocator may. Assumes nothing.
 use Rattle.ga_boxed.proofs.walks.Names
-use Names.{ℕ, ◌+◌, ◌*◌, cells_lent, cells_own, type_size, has_block, owns_if, Ghosts, Fml, full_share, Exit, hidden}
-use Names.{leaves, unchanged, under, mem, RattleType, Ptr, block_ptr, null_ptr, elements_shared, fields, shape, to}
-use Names.{exits_of, Bool, false, true, List, [], ◌∷◌, cells}
+use Names.{[], block_ptr, Bool, cells, cells_lent, cells_own, elements_shared, Exit, exits_of, false, fields, Fml}
+use Names.{full_share, Ghosts, has_block, hidden, leaves, List, mem, null_ptr, owns_if, Ptr, RattleType, shape, to}
+use Names.{true, type_size, unchanged, under, ℕ, ◌*◌, ◌+◌, ◌∷◌}
 use Rattle.ga_boxed.specs.contracts.live_block.cells.Cells as Cells
 use Rattle.ga_boxed.specs.contracts.live_block.cells.Deed as Deed
 use base.Shift.{Keyless}

@@ -5,12 +5,11 @@
 --     room_out, room_in            the first place of the room
 --     item_out, item_in            the last item
 use Rattle.ga_boxed.proofs.walks.Names
-use Names.{◌≡◌, refl, sym, ap, ◌∙◌, ◌≢◌, ℕ, suc, ◌+◌, ◌*◌, arith, List, [], ◌∷◌, ◌++◌, length, length-append, Ura}
-use Names.{full_share, ty_array, ent, sep, Fml, fsep, froom, Logic, sem, cells, ‵, ◌⊛◌, ◌$◌, ◌∵◌, !, qed, move}
-use Names.{drop as skip, use1, use2, split, fsplit, fjoin, rewrite, done, part_at, mem, nothing, El, R, el_x, elτ}
-use Names.{add_times, next, room_snoc, as_raw, as_written, empty}
+use Names.{ !, [], add_times, ap, arith, as_raw, as_written, at, at_mul, cells, cut_app, done, drop as skip, El, el_x}
+use Names.{elτ, empty, ent, fjoin, Fml, froom, fsep, fsplit, full_share, join_app, length, length-append, List, Logic}
+use Names.{mem, move, next, nothing, part_at, qed, R, refl, rewrite, room_snoc, sem, sep, split, suc, sym, ty_array}
+use Names.{Ura, use1, use2, ‵, ℕ, ◌$◌, ◌*◌, ◌++◌, ◌+◌, ◌∙◌, ◌∵◌, ◌∷◌, ◌≡◌, ◌≢◌, ◌⊛◌}
 use Rattle.ga_boxed.proofs.walks.WalkParts.{sz}
-use borrow.Table.Elements.{at, at_mul, cut_app, join_app}
 
 module _ {X : Type 0} where
   pub split_first : (xs : List X) → xs ≢ [] → (x : X) × ((ys : List X) × (xs ≡ x ∷ ys))

@@ -1,17 +1,16 @@
 -- The walk of `take_first` and `take_last`, which are the same code: all of it but how the item is cut from the cells,
 -- and what is left of these. Assumes `Logic`.
 use Rattle.ga_boxed.proofs.walks.Names
-use Names.{◌≢◌, ◌≡◌, refl, subst, ◌∙◌, ℕ, ◌+◌, ◌*◌, ◌<◌, ◌^◌, arith, List, [], ◌∷◌, ◌++◌, length, Ura, full_share, Fml}
-use Names.{fat, froom, ent, sep, Callee, Fn, Ty, assign, block, copy, deref, field, local, mul, named, offset, op2}
-use Names.{place, return, rv_opd, seq, size_of, ty_int, ty_ptr, ty_ref, unsigned, value_local, w64, mut, vint, Model}
-use Names.{Running, tables, grown, closing, Triple, Closed, Calls, Env, Loops, Logic, sem, ‵, ◌⊛◌, at_ret, ◌$◌, ◌∵◌, ! }
-use Names.{qed, by, move, keep, use1, use2, split, rewrite, whole, sub, bin, size_lit, look, stop, fld, load, of_opd}
-use Names.{first, blocks, exec, returns, enter, alloc_all, pass_all, free_all, look_at, get, get_in, take_at, give_at}
-use Names.{through, sets, sets_last, env, no, part_at, layout, Ptr, mut_vals, plain, word, word-Good, after, El, R}
-use Names.{el_x, elτ, times_below, one_below}
-use Rattle.ga_boxed.proofs.walks.CallWalk.{Call, Had, Walk, clauses, ended, number, meets_grown}
+use Names.{ !, [], after, AllFacts, alloc_all, arith, assign, at_ret, bin, block, blocks, by, Call, Callee, Calls}
+use Names.{clauses, Closed, closing, copy, deref, El, el_x, elτ, ended, ent, enter, Env, env, exec, facts, fat, field}
+use Names.{first, fld, Fml, Fn, free_all, froom, full_share, get, get_in, give_at, grown, Had, has_every, keep, layout}
+use Names.{length, List, load, local, Logic, look, look_at, Loops, meets_grown, Model, move, mul, mut, mut_vals, named}
+use Names.{no, number, of_opd, offset, one_below, op2, part_at, pass_all, place, plain, Ptr, qed, R, refl, return}
+use Names.{returns, rewrite, Running, rv_opd, sem, sep, seq, sets, sets_last, size_lit, size_of, split, stop, sub}
+use Names.{subst, tables, take_at, through, times_below, Triple, Ty, ty_int, ty_ptr, ty_ref, unsigned, Ura, use1, use2}
+use Names.{value_local, vint, w64, Walk, whole, word, word-Good, ‵, ℕ, ◌$◌, ◌*◌, ◌++◌, ◌+◌, ◌<◌, ◌^◌, ◌∙◌, ◌∵◌, ◌∷◌}
+use Names.{◌≡◌, ◌≢◌, ◌⊛◌}
 use Rattle.ga_boxed.proofs.walks.CellsWalk.{by_mut, closes_cells, opens_cells, the_base}
-use Rattle.ga_boxed.proofs.walks.ClauseFacts.{AllFacts, facts, has_every}
 use Rattle.ga_boxed.proofs.walks.EndLemmas.{Held}
 use Rattle.ga_boxed.proofs.walks.WalkParts.{Bs, Cr, sz, value_out}
 

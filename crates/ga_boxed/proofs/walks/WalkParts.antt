@@ -1,14 +1,13 @@
 -- What the walks share: a value of one pointer, one of no bytes, a tuple of three, an item as a machine value and in
 -- memory, and how a walk begins and ends. Assumes `Logic`.
-use Rattle.ga_boxed.proofs.walks.CallWalk.{Behind}
 use Rattle.ga_boxed.proofs.walks.Names
-use Names.{no, plain, Goes-dropped, ◌≡◌, refl, ap, ◌∙◌, ℕ, ◌*◌, ◌<◌, ◌^◌, List, [], ◌∷◌, Ura, Val, vstruct, vcons, vnil}
-use Names.{id⊢, ent, sep, emp, Lfts, Shares, toks, Logic, sem, raw, join, Item, Goal, Seq, Step, step, ‵, ◌$◌, ◌∵◌, ! }
-use Names.{qed, move, fjoin, fpack, feq_i, done, some, ◌⊛◌, use1, pick, split, Laws, RattleType, Valss, Ptr, RawPtr}
-use Names.{ptr_val, rawptr_vals, rawptr_Tells, nothing, peeks, Shape, Struct, Struct-Tells, within, shape, Tuple}
-use Names.{tuple_type, type_size, El, R, el_x, elτ, lawful, one, word, Good, full_share, Ghosts, Dict, Ty, Args, a_type}
-use Names.{ty_array, dcons, dnil, fat, flft, ftrue, Is, Tells, shows, param, bounded, part_at, part_out, size, align}
-use Names.{capped, capped_is, Al}
+use Names.{ !, [], a_type, Al, align, ap, Args, Behind, bounded, capped, capped_is, dcons, Dict, dnil, done, El, el_x}
+use Names.{elτ, emp, ent, fat, feq_i, fjoin, flft, fpack, ftrue, full_share, Ghosts, Goal, Goes-dropped, Good, id⊢, Is}
+use Names.{Item, join, lawful, Laws, Lfts, List, Logic, move, no, nothing, one, param, part_at, part_out, peeks, pick}
+use Names.{plain, Ptr, ptr_val, qed, R, RattleType, raw, RawPtr, rawptr_Tells, rawptr_vals, refl, sem, sep, Seq, Shape}
+use Names.{shape, Shares, shows, size, some, split, Step, step, Struct, Struct-Tells, Tells, toks, Tuple, tuple_type}
+use Names.{Ty, ty_array, type_size, Ura, use1, Val, Valss, vcons, vnil, vstruct, within, word, ‵, ℕ, ◌$◌, ◌*◌, ◌<◌, ◌^◌}
+use Names.{◌∙◌, ◌∵◌, ◌∷◌, ◌≡◌, ◌⊛◌}
 use denote.Shadow.{makes_shadow}
 use mir.Raw.{raw as bare}
 use prog.RawLaws.{size-raw, align-raw}
@@ -33,8 +32,8 @@ al_of W LW g d drops = record { row = W; laws = LW; g = g; d = d; drops = drops 
 
 -- the type arguments of a function over an item and an allocator, and the second of them
 module _ (E : El) (Z : Al) where
-  abbrev pub args : Args
-  args = bounded (a_type ∷ a_type ∷ []) (E.row, (Z.row, tt)) (dcons Z.d (dcons Z.drops dnil))
+  abbrev pub alloc_args : Args
+  alloc_args = bounded (a_type ∷ a_type ∷ []) (E.row, (Z.row, tt)) (dcons Z.d (dcons Z.drops dnil))
 
   abbrev pub P : RattleType
   P = param 1 Z.row

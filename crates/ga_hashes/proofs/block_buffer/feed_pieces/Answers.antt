@@ -11,9 +11,7 @@ feed-requires g c =
     let i = c.loop-piece.piece-index in
     let d : Bor (List ℕ) = record { ref_ptr = (0, 0); now = [] } in
     record {
-      callable = MayTake-more (λ slice. slice.now) (goal.F-step g) g.N.Unsigned.USIZE c.requires.width
-          (goal.F-pre g) c.args.f.now c.loop-piece.f (flat_map (λ piece. piece.now) pieces)
-          (flat_map (λ piece. piece.now) (take i pieces)) c.loop-piece.buffer.kept (get_or pieces i d).now
+      callable = MayTake-more c.requires.width (goal.F-pre g) (get_or pieces i d).now
           (flat_map (λ piece. piece.now) (drop (i + 1) pieces))
           (pieces-cut (λ piece. piece.now) pieces i d (omega arith)) c.requires.callable c.loop-piece.invariant.0;
     }

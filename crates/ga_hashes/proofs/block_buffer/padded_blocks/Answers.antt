@@ -1,4 +1,4 @@
-use Rattle.ga_hashes.proofs.BufferLemmas.{MayTake-along, MayTake-front, MayTake-more}
+use Rattle.ga_hashes.proofs.BufferLemmas.{MayTake-front, MayTake-more}
 use Rattle.ga_hashes.proofs.PaddingLemmas.{padding-kept, with_padding-whole}
 use Rattle.ga_hashes.proofs.block_buffer.padded_blocks.Goals as goal
 use Rattle.ga_hashes.specs.BlockBuffer.{with_padding, padding}
@@ -14,9 +14,7 @@ feed_pieces-buffer-requires-clause-callable g c =
     let last = padding width (length message) (length message) in
     MayTake-front (λ slice. slice.now) (goal.F-step g) (goal.F-pre g) width c.args.f.now (rows width message)
     (rows width (chunk_rest width message ++ last))
-    (MayTake-along (λ slice. slice.now) (goal.F-step g) (goal.F-pre g) width c.args.f.now (rows width (message ++ last))
-    (rows width message ++ rows width (chunk_rest width message ++ last))
-    (rows-joined width c.requires.width message last) c.requires.callable)
+    (rw (rows-joined width c.requires.width message last) at c.requires.callable)
 
 pub finish-requires-clause-callable : goal.finish-requires-clause-callable
 finish-requires-clause-callable g c =
@@ -30,24 +28,16 @@ finish-requires-clause-callable g c =
     ap (λ p. message ++ p)
     (sym (padding-kept width message kept c.feed_pieces-buffer.ensures.kept c.feed_pieces-buffer.result.len len)
     ∙ sym (append-nil last)) in
-    MayTake-more (λ slice. slice.now) (goal.F-step g) width c.requires.width
-    (goal.F-pre g) c.args.f.now c.feed_pieces-buffer.new.f (with_padding width message) message kept last [] whole
-    c.requires.callable (record {
-      blocks = c.feed_pieces-buffer.ensures.blocks;
-      rest =
-          c.feed_pieces-buffer.ensures.kept;
-    })
+    MayTake-more c.requires.width (goal.F-pre g) last [] whole c.requires.callable
+    (record { blocks = c.feed_pieces-buffer.ensures.blocks; rest = c.feed_pieces-buffer.ensures.kept })
 
 pub returns-clause-blocks : goal.returns-clause-blocks
 returns-clause-blocks g c =
     let message = flat_map (λ piece. piece.now) c.args.pieces.now in
     let len : c.feed_pieces-buffer.result.len ≡ length message =
     omega (arith, c.feed_pieces-buffer.ensures.len, c.requires.len) in
-    c.finish.ensures.whole c.args.f.now message (record {
-      blocks = c.feed_pieces-buffer.ensures.blocks;
-      rest =
-          c.feed_pieces-buffer.ensures.kept;
-    }) len
+    c.finish.ensures.whole c.args.f.now message
+    (record { blocks = c.feed_pieces-buffer.ensures.blocks; rest = c.feed_pieces-buffer.ensures.kept }) len
 
 pub returns-clause-whole : goal.returns-clause-whole
 returns-clause-whole g c = with_padding-whole g.N.Unsigned.USIZE c.requires.width

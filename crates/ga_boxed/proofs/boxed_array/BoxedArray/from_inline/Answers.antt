@@ -1,13 +1,12 @@
-use Rattle.ga_boxed.proofs.BlockLemmas.{more_room, one_more}
+use Rattle.ga_boxed.proofs.BlockLemmas.{one_more}
 use Rattle.ga_boxed.proofs.boxed_array.BoxedArray.from_inline.Goals as goal
 use Rattle.ga_core.proofs.MoveLemmas.{pushed-next, this-here}
-use Rattle.std.proofs.Common.{ap, length, refl, subst, sym, ◌<◌, ◌∙◌, ◌≤◌}
+use Rattle.std.proofs.Common.{ap, arith, length, refl, subst, sym, ◌<◌, ◌∙◌, ◌≤◌}
 use Rattle.std.proofs.lemmas.List.{take_all}
 
 pub put-requires : goal.put-requires
 put-requires g c = record {
-  room = more_room _ _ _ _ c.loop-slot.invariant.room c.loop-slot-test.true
-      (ap length c.as_mut_slice-slots.ensures.items);
+  room = omega (arith, ap length c.as_mut_slice-slots.ensures.items);
 }
 
 pub loop-slot-preserved : goal.loop-slot-preserved

@@ -1,8 +1,6 @@
 use Rattle.ga_boxed.proofs.boxed_array.BoxedArray.generate_by.Goals as goal
 use Rattle.ga_core.proofs.ActsLemmas.{answers_of_run}
-use Rattle.ga_core.specs.Runs.{ClosureRun}
-use Rattle.std.proofs.Common.{◌≡◌, arith, length, refl, subst}
-use Rattle.std.specs.List.{range_with_len}
+use Rattle.std.proofs.Common.{◌≡◌, arith, length, refl}
 
 pub put_some-requires-clause-callable : goal.put_some-requires-clause-callable
 put_some-requires-clause-callable g c = (
@@ -31,8 +29,7 @@ returns g c =
     let made = c.put_some-2.new.block.items in
     let all : length made ≡ g.N.Unsigned.USIZE =
     omega (arith, c.put_some-2.ensures.long, c.loop-block.invariant.room, c.room-left.ensures) in
-    let run = subst (λ n. ClosureRun (goal.F-step g) c.args.f.now (range_with_len 0 n) made c.put_some-2.new.f) all
-    (c.put_some-2.ensures.run c.args.f.now c.loop-block.invariant.run) in
+    let run = rw all at (c.put_some-2.ensures.run c.args.f.now c.loop-block.invariant.run) in
     rw c.from_block.ensures record {
       run = run;
       acts = λ h acts. answers_of_run (goal.F-step g) c.args.f.now h acts _ made c.put_some-2.new.f run;

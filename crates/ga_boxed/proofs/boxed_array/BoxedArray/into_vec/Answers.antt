@@ -1,5 +1,5 @@
 use Rattle.ga_core.proofs.LeftLemmas.{all_moved}
-use Rattle.ga_boxed.proofs.BlockLemmas.{moved_more, none_left, some_left}
+use Rattle.ga_boxed.proofs.BlockLemmas.{moved_more, some_left}
 use Rattle.ga_boxed.proofs.boxed_array.BoxedArray.into_vec.Goals as goal
 use Rattle.std.proofs.Common.{ap, arith, length, refl}
 
@@ -20,5 +20,4 @@ loop-moved-preserved g c =
 
 pub returns : goal.returns
 returns g c =
-    let none = none_left _ _ _ _ c.loop-moved.invariant.left c.loop-moved-test.false c.USIZE-moved-end.ensures in
-    record { ok = all_moved _ _ _ c.loop-moved.invariant.moved none; empty = λ none. refl }
+    record { ok = all_moved _ _ _ c.loop-moved.invariant.moved (omega arith); empty = λ none. refl }

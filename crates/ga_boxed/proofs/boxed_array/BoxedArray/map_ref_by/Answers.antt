@@ -5,8 +5,7 @@ use Rattle.ga_core.proofs.CutLemmas.{cut-at, take-one}
 use Rattle.ga_core.proofs.EntryActs.{answers_at_entries}
 use Rattle.ga_core.proofs.RunLemmas.{ClosureRun-snoc}
 use Rattle.ga_core.specs.Entries.{CallAt}
-use Rattle.ga_core.specs.Runs.{ClosureRun}
-use Rattle.std.proofs.Common.{◌+◌, ◌∙◌, refl, subst, sym, take}
+use Rattle.std.proofs.Common.{◌+◌, ◌∙◌, refl, sym, take}
 use Rattle.std.proofs.lemmas.List.{take_all}
 
 pub f-requires : goal.f-requires
@@ -30,9 +29,8 @@ pub returns : goal.returns
 returns g c =
     let at = c.loop-item in
     let given = c.as_slice-item-items in
-    let step = CallAt (λ item. item.now) (goal.F-step g) in
-    let run = subst (λ passed. ClosureRun step c.args.f.now passed at.block.items at.f)
-    (take_all at.item-index given.result.now c.loop-item-test.false ∙ given.ensures.items) at.invariant.run in
+    let run = rw (take_all at.item-index given.result.now c.loop-item-test.false, given.ensures.items) at
+    at.invariant.run in
     rw c.from_block.ensures record {
       run = run;
       acts = λ h acts. answers_at_entries (λ item. item.now) _ _ h acts _ _ _ run;

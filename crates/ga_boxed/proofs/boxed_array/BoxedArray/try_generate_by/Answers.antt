@@ -3,7 +3,6 @@ use Rattle.ga_boxed.proofs.boxed_array.BoxedArray.try_generate_by.Goals as goal
 use Rattle.ga_core.proofs.ActsLemmas.{answers_until_error}
 use Rattle.ga_core.proofs.CallLemmas.{may_try_generate-at}
 use Rattle.ga_core.proofs.RunLemmas.{ClosureRun-good, TryClosureRun-at, TryClosureRun-good, below-add_one}
-use Rattle.ga_core.specs.Runs.{TryClosureRun}
 use Rattle.std.proofs.Common.{◌<◌, ◌+◌, ◌∙◌, Err, Ok, refl, subst}
 use Rattle.std.specs.List.{range_with_len}
 
@@ -31,10 +30,9 @@ pub returns-in-Err : goal.returns-in-Err
 returns-in-Err g c =
     let at = c.loop-index in
     let below = range_with_len 0 g.N.Unsigned.USIZE in
-    let run : TryClosureRun (goal.F-step g) c.args.f.now below (Err c.in-Err.error) c.f.new.self =
-    TryClosureRun-at (goal.F-step g) c.args.f.now at.index g.N.Unsigned.USIZE at.block.items at.f c.in-Err.error
-    c.f.new.self (subst (λ n. at.index < n) c.USIZE-index-end.ensures c.loop-index-test.true) at.invariant.run
-    c.in-Err.ensures in
+    let run = TryClosureRun-at (goal.F-step g) c.args.f.now at.index g.N.Unsigned.USIZE at.block.items at.f
+    c.in-Err.error c.f.new.self (subst (λ n. at.index < n) c.USIZE-index-end.ensures c.loop-index-test.true)
+    at.invariant.run c.in-Err.ensures in
     record {
       run = run;
       acts = λ h acts. answers_until_error (goal.F-step g) c.args.f.now h acts below (Err c.in-Err.error) c.f.new.self
@@ -47,9 +45,7 @@ pub returns : goal.returns
 returns g c =
     let at = c.loop-index in
     let below = range_with_len 0 g.N.Unsigned.USIZE in
-    let run : TryClosureRun (goal.F-step g) c.args.f.now below (Ok at.block.items) at.f =
-    subst (λ n. TryClosureRun (goal.F-step g) c.args.f.now (range_with_len 0 n) (Ok at.block.items) at.f)
-    (all_counted _ _ _ c.loop-index-test.false at.auto.index-end c.USIZE-index-end.ensures)
+    let run = rw (all_counted _ _ _ c.loop-index-test.false at.auto.index-end c.USIZE-index-end.ensures) at
     (TryClosureRun-good (goal.F-step g) c.args.f.now (range_with_len 0 at.index) at.block.items at.f at.invariant.run) in
     rw c.from_block.ensures record {
       run = run;

@@ -5,8 +5,7 @@ use Rattle.ga_core.proofs.CutLemmas.{cut-at, take-one}
 use Rattle.ga_core.proofs.EntryActs.{tries_at_entries}
 use Rattle.ga_core.proofs.RunLemmas.{ClosureRun-good, TryClosureRun-error, TryClosureRun-good}
 use Rattle.ga_core.specs.Entries.{CallAt}
-use Rattle.ga_core.specs.Runs.{TryClosureRun}
-use Rattle.std.proofs.Common.{◌+◌, ◌∙◌, Err, Ok, drop, refl, subst, sym, take}
+use Rattle.std.proofs.Common.{◌+◌, ◌∙◌, drop, refl, sym, take}
 use Rattle.std.proofs.lemmas.List.{take_all}
 
 pub f-requires : goal.f-requires
@@ -33,8 +32,7 @@ returns-in-Err g c =
     let item = c.item-item.result in
     let step = CallAt (λ item. item.now) (goal.F-step g) in
     let here = cut-at at.item-index given.result.now item c.loop-item-test.true c.item-item.is in
-    let run = subst (λ items. TryClosureRun step c.args.f.now items (Err c.in-Err.error) c.f.new.self)
-    (sym here ∙ given.ensures.items)
+    let run = rw (← here, given.ensures.items) at
     (TryClosureRun-error step c.args.f.now (take at.item-index given.result.now) at.block.items at.f item
     (drop (at.item-index + 1) given.result.now) c.in-Err.error c.f.new.self at.invariant.run (_, refl, c.in-Err.ensures)) in
     record {
@@ -49,8 +47,7 @@ returns g c =
     let at = c.loop-item in
     let given = c.as_slice-item-items in
     let step = CallAt (λ item. item.now) (goal.F-step g) in
-    let run = subst (λ items. TryClosureRun step c.args.f.now items (Ok at.block.items) at.f)
-    (take_all at.item-index given.result.now c.loop-item-test.false ∙ given.ensures.items)
+    let run = rw (take_all at.item-index given.result.now c.loop-item-test.false, given.ensures.items) at
     (TryClosureRun-good step c.args.f.now (take at.item-index given.result.now) at.block.items at.f at.invariant.run) in
     rw c.from_block.ensures record {
       run = run;

@@ -6,8 +6,7 @@ use Rattle.ga_core.proofs.EntryActs.{answers_at_pairs}
 use Rattle.ga_core.proofs.RunLemmas.{ClosureRun-snoc}
 use Rattle.ga_core.proofs.ZipLemmas.{pair-here, pair-in, pairs-in, same-pairs}
 use Rattle.ga_core.specs.Entries.{CallAtPair}
-use Rattle.ga_core.specs.Runs.{ClosureRun}
-use Rattle.std.proofs.Common.{◌≤◌, ◌<◌, ◌+◌, ◌∙◌, arith, refl, subst, sym, take, zip}
+use Rattle.std.proofs.Common.{◌≤◌, ◌<◌, ◌+◌, ◌∙◌, arith, refl, sym, take, zip}
 use Rattle.std.proofs.lemmas.List.{take_all}
 
 pub f-requires : goal.f-requires
@@ -45,11 +44,8 @@ returns g c =
     let left = c.as_slice-left.result.now in
     let right = c.as_slice-right.result.now in
     let past : g.N.Unsigned.USIZE ≤ at.index = omega (arith, c.loop-index-test.false, c.USIZE-index-end.ensures) in
-    let step = CallAtPair (λ item. item.now) (λ item. item.now) (goal.F-step g) in
-    let pairs = zip left right in
-    let run = subst (λ items. ClosureRun step c.args.f.now items at.block.items at.f)
-    (take_all at.index pairs (pairs-in left right past c.as_slice-left.ensures.len)
-    ∙ same-pairs c.as_slice-left.ensures.items c.as_slice-right.ensures.items) at.invariant.run in
+    let all = take_all at.index (zip left right) (pairs-in left right past c.as_slice-left.ensures.len) in
+    let run = rw (all, same-pairs c.as_slice-left.ensures.items c.as_slice-right.ensures.items) at at.invariant.run in
     rw c.from_block.ensures record {
       run = run;
       acts = λ h acts. answers_at_pairs (λ item. item.now) (λ item. item.now) _ _ h acts _ _ _ run;

@@ -2,8 +2,7 @@ use Rattle.ga_boxed.proofs.BlockLemmas.{long_more}
 use Rattle.ga_boxed.proofs.boxed_array.builds.put_some.Goals as goal
 use Rattle.ga_core.proofs.CallLemmas.{may_generate-at}
 use Rattle.ga_core.proofs.RunLemmas.{ClosureRun-snoc, below-add_one}
-use Rattle.ga_core.specs.Runs.{ClosureRun}
-use Rattle.std.proofs.Common.{◌+◌, ◌++◌, ◌∷◌, [], arith, length, subst, sym}
+use Rattle.std.proofs.Common.{◌+◌, arith, length}
 use Rattle.std.proofs.lemmas.List.{length_push}
 use Rattle.std.specs.List.{range_with_len}
 
@@ -14,8 +13,7 @@ f-requires g c =
     may_generate-at (goal.F-pre g) (goal.F-step g) begun (length c.args.block.now.items + c.args.count)
     c.requires.callable.1 c.len-index.result at.block.items at.f
     (omega (arith, c.len-index.ensures, at.invariant.long, c.loop-put-test.true))
-    (subst (λ n. ClosureRun (goal.F-step g) begun (range_with_len 0 n) at.block.items at.f) (sym c.len-index.ensures)
-    (at.invariant.run begun c.requires.callable.2))
+    (rw c.len-index.ensures (at.invariant.run begun c.requires.callable.2))
 
 pub loop-put-preserved : goal.loop-put-preserved
 loop-put-preserved g c =
@@ -23,8 +21,7 @@ loop-put-preserved g c =
     record {
       run = λ begun ran.
           rw (c.put.ensures.items, length_push at.block.items c.f.result, below-add_one (length at.block.items))
-          (subst (λ n. ClosureRun (goal.F-step g) begun (range_with_len 0 (length at.block.items) ++ n ∷ [])
-          (at.block.items ++ c.f.result ∷ []) c.f.new.self) c.len-index.ensures
+          (rw c.len-index.ensures at
           (ClosureRun-snoc (goal.F-step g) begun (range_with_len 0 (length at.block.items)) at.block.items at.f
           c.len-index.result c.f.result c.f.new.self (at.invariant.run begun ran) c.f.ensures));
       long = omega (arith, long_more _ _ _ c.put.ensures.items _ at.invariant.long);

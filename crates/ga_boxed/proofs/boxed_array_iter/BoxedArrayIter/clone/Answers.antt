@@ -1,10 +1,9 @@
 use Rattle.ga_boxed.proofs.BlockLemmas.{long_more, one_more}
 use Rattle.ga_boxed.proofs.boxed_array_iter.BoxedArrayIter.clone.Goals as goal
 use Rattle.ga_core.proofs.CopyLemmas.{AllZip-same}
-use Rattle.std.proofs.Common.{◌∙◌, refl, subst, sym}
+use Rattle.std.proofs.Common.{refl}
 use Rattle.std.proofs.lemmas.List.{take_all}
 use Rattle.std.proofs.lemmas.List.Elements.{all_zip_more}
-use Rattle.std.specs.List.{AllZip}
 
 pub loop-item-preserved : goal.loop-item-preserved
 loop-item-preserved g c = record {
@@ -19,11 +18,9 @@ loop-item-preserved g c = record {
 pub returns : goal.returns
 returns g c =
     let items = c.as_slice-item-items in
-    let clones = subst (λ copy. AllZip g.T.Clone.is_clone c.args.self.now copy) (sym c.from_block.ensures)
-    (subst (λ items. AllZip g.T.Clone.is_clone items c.loop-item.clones.items)
-    (take_all c.loop-item.item-index items.result.now c.loop-item-test.false ∙ items.ensures)
-    c.loop-item.invariant.clones) in
-    record {
+    let clones = rw (take_all c.loop-item.item-index items.result.now c.loop-item-test.false, items.ensures) at
+    c.loop-item.invariant.clones in
+    rw c.from_block.ensures record {
       items = clones;
       same = λ exact. AllZip-same g.T.Clone.is_clone c.args.self.now _ exact clones;
       empty = λ none. refl;

@@ -1,34 +1,32 @@
 -- `allocate` owns the new block as room, or for no slots nothing, with the right to free it. Assumes `Logic`.
-use Rattle.ga_boxed.proofs.walks.Names
-use Names.{◌≡◌, refl, sym, ap, Bool, true, false, ℕ, ◌*◌, ◌<◌, ◌^◌, arith, List, [], ◌∷◌, eqb→eq, lit<, Ura, Fn, Body}
-use Names.{w64, inst_fn, Val, vptr, vint, vstruct, vcons, vnil, ent, sep, Incl-trans, flft, align, capped, capped_fits}
-use Names.{Env, Wp, after_seq, at_return, Logic, sem, ◌⊑◌, Post as After, any_q, ⋆, ‵, raw, ◌⊛◌, later, await, at_ret}
-use Names.{◌$◌, ◌∵◌, !, qed, by, move, keep, use0, use1, use2, use3, split, rewrite, fsplit, fjoin, whole, agg, addr}
-use Names.{align_word, and_then, bin, branches, enter, exec, first, fld, from, lit, no_more, of_opd, returns}
-use Names.{returns_within, size_word, skips, stop, switches_on, alloc_all, pass_all, free_all, look_at, get, get_in}
-use Names.{get_tag, lands_as, sets, sets_last, is, env, yes, Is, RattleType, layout, Ptr, block_ptr, plain, nothing}
-use Names.{owned, Struct, Struct-Makes, Tuple, calls_at, Triple, has_block, owns_if, Al, token, Answer-typed, takes_key}
-use Names.{Takes, at_takes, Answered, Takes-goes, Takes-gives, answers, El, R, elτ, uncapped, uncapped_fits, T_true}
-use Names.{Good, first_Good, is_not, word, word-Good, after, arm_body, head, cells_own, deed_owns}
-use types.Match.{live, vrt, in_variant}
+use Rattle.ga_boxed.proofs.walks
+use walks.{ !, [], addr, after, after_seq, agg, Al, al_of, align, align_word, all_empty, AllFacts, alloc_all}
+use walks.{alloc_args, and_then, Answer-typed, Answered, answers, any_q, ap, arith, arm_body, at_ret, at_return}
+use walks.{at_takes, await, bin, block_align, block_ptr, block_size, block_ty, Bool, branches, Bs, by, by_ref, Call}
+use walks.{calls_at, capped, capped_fits, cells_own, Code as Body, Cr, Dd, deed_owns, El, elτ, ent, enter, Env, env}
+use walks.{eqb→eq, exec, facts, false, first, first_Good, fjoin, fld, flft, Fn, free_all, from, fsplit, get, get_in}
+use walks.{get_tag, Good, Had, has_block, has_every, head, Incl-trans, inst_fn, Is, is, is_not, keep, lands_as, later}
+use walks.{layout, Linked, linked, List, lit, lit<, live, Logic, look_at, Mark, mark, mark_made, meets, move, no_more}
+use walks.{none_empty, nothing, number, of_opd, others, owned, owns_if, P, pass_all, plain, Post as After, Ptr, qed, R}
+use walks.{RattleType, raw, refl, returns, returns_within, rewrite, sem, sep, sets, sets_last, size_word, skips, split}
+use walks.{stop, Struct, Struct-Makes, switches_on, sym, sz, T_true, Takes, Takes-gives, Takes-goes, takes_key}
+use walks.{three_of, three_val, token, tokens_in, tokens_out, Triple, true, Tuple, uncapped, uncapped_fits, Ura, use0}
+use walks.{use1, use2, use3, Val, vcons, vint, vnil, vptr, vstruct, w64, Walk, whole, word, word-Good, word_made, Wp}
+use walks.{yes, ‵, ℕ, ⋆, ◌$◌, ◌*◌, ◌<◌, ◌^◌, ◌∵◌, ◌∷◌, ◌≡◌, ◌⊑◌, ◌⊛◌}
+use types.Match.{vrt, in_variant}
 use denote.Struct.Declared as Declared
 use Rattle.std.specs.Prelude.{Err, IfOk, IsOk, Ok}
 use Rattle.std.specs.contracts.result.Result as RS
 use Rattle.std.specs.contracts.alloc.AllocError as AE
-use Rattle.ga_boxed.proofs.walks.WalkParts.{block_ty, block_size, block_align, args, P, Bs, Cr, Dd, Mark, others, al_of}
-use Rattle.ga_boxed.proofs.walks.WalkParts.{mark, mark_made, sz, tokens_in, tokens_out, three_of, three_val, word_made}
 use Rattle.std.proofs.ResultValues.{ok_of, err_of}
 use Rattle.ga_boxed.specs.contracts.live_block.cells.allocate as F
 use Rattle.ga_boxed.specs.contracts.live_block.cells.allocate.Key.{name as #self}
-use Rattle.ga_boxed.proofs.walks.CallWalk.{Call, Had, Walk, by_ref, meets, number, Linked, linked}
-use Rattle.ga_boxed.proofs.walks.ClauseFacts.{AllFacts, facts, has_every}
-use Rattle.ga_boxed.proofs.walks.BlockRoom.{all_empty, none_empty}
 use Rattle.ga_boxed.proofs.live_block.cells.allocate.Statement as stated
 use Rattle.ga_boxed.proofs.live_block.cells.allocate.Code as code
 
 module _ (E : El) (Z : Al) where
   abbrev function : Fn
-  function = inst_fn (args E Z) code.function
+  function = inst_fn (alloc_args E Z) code.function
 
   abbrev Three : RattleType
   Three = Tuple (Bs E ∷ Cr E ∷ Dd E Z ∷ [])
@@ -177,5 +175,5 @@ module _ (E : El) (Z : Al) {M : Type 1} {𝓤 : Ura M} (𝓛 : Logic 𝓤) (link
 pub allocate_spec : {M : Type 1} → stated.statement M
 allocate_spec 𝓤 𝓛 𝓜 𝓡 wired X W LX LW g d dd met md =
     let E : El = record { row = X; laws = LX } in let Z = al_of W LW g d dd in
-    meets (call E Z) 𝓛 𝓜 𝓡 (#self (args E Z)) (function E Z) (code.unfolded 𝓤 𝓛.H 𝓜 𝓡 wired (X, (W, tt)) d dd)
+    meets (call E Z) 𝓛 𝓜 𝓡 (#self (alloc_args E Z)) (function E Z) (code.unfolded 𝓤 𝓛.H 𝓜 𝓡 wired (X, (W, tt)) d dd)
     (walk E Z 𝓛 (linked 𝓛 𝓜 𝓡) (met.allocate dd))

@@ -1,28 +1,25 @@
 -- `deallocate` makes the block of its empty slots, and hands it back with the allocator's token, or for no slots lets
 -- go of it. Assumes `Logic`.
-use Rattle.ga_boxed.proofs.walks.Names
-use Names.{◌≡◌, refl, sym, ap, subst, ◌∙◌, Bool, ℕ, ◌*◌, ◌+◌, ◌<◌, ◌^◌, arith, List, [], ◌∷◌, T, Ura, Fn, ty_unit, w64}
-use Names.{inst_fn, Val, WT, has_ty, vptr, vint, vunit, emp, ent, never, id⊢, Incl-trans, froom, flft, align, capped}
-use Names.{capped_fits, Env, Logic, ◌⊑◌, ⋆, ‵, raw, given, later, await, learn, at_ret, ◌$◌, ◌∵◌, !, qed, by, move}
-use Names.{keep, use1, group, rewrite, fsplit, fsplit3, feq_i, whole, sub, align_word, and_then, bin, blocks, branches}
-use Names.{enter, exec, first, fld, lit, no_more, of_opd, returns, size_word, skips, stop, unit_lit, alloc_all}
-use Names.{pass_all, free_all, look_at, get, get_in, lands_last, sets, is, env, yes, no, RattleType, Is, Ptr, block_ptr}
-use Names.{ptr_val, in_a_block, unit, plain, nothing, calls_at_last, Triple, Goes, stay_dropped, has_block, owns_if, Al}
-use Names.{Goes-blank, token, gives_key, Gives, at_gives, Gives-goes, Gives-Gives, El, R, elτ, uncapped, uncapped_fits}
-use Names.{T_true, word, word-Good, after, cells_own, deed_owns}
-use Rattle.ga_boxed.proofs.walks.WalkParts.{block_ty, block_size, block_align, args, P, Bs, Cr, Dd, mark, mark_Tells}
-use Rattle.ga_boxed.proofs.walks.WalkParts.{others, al_of, sz, tokens_in, tokens_out}
+use Rattle.ga_boxed.proofs.walks
+use walks.{ !, [], after, Al, al_of, align, align_word, alloc_all, alloc_args, and_then, ap, arith, at_gives}
+use walks.{at_ret, await, Behind, bin, block_align, block_ptr, block_size, block_ty, blocks, Bool, branches, Bs, by}
+use walks.{by_ref, Call, calls_at_last, capped, capped_fits, cells_own, Cr, Dd, deed_owns, El, elτ, emp, ent, enter}
+use walks.{Env, env, exec, feq_i, first, fld, flft, Fn, free_all, froom, fsplit, fsplit3, get, get_in, given, Gives}
+use walks.{Gives-Gives, Gives-goes, gives_key, Goes, Goes-blank, group, Had, has_block, has_ty, id⊢, in_a_block}
+use walks.{Incl-trans, inst_fn, Is, is, keep, lands_last, later, learn, Linked, linked, List, lit, Logic, look_at, mark}
+use walks.{mark_Tells, meets, move, never, no, no_more, nothing, number, of_opd, others, owns_if, P, pass_all, plain}
+use walks.{Ptr, ptr_val, qed, R, RattleType, raw, refl, returns, rewrite, sets, size_word, skips, stay_dropped, stop}
+use walks.{sub, subst, sym, sz, T, T_true, the_base, to_block, token, tokens_in, tokens_out, told_by, Triple, ty_unit}
+use walks.{uncapped, uncapped_fits, unit, unit_lit, Ura, use1, Val, vint, vptr, vunit, w64, Walk, whole, word}
+use walks.{word-Good, WT, yes, ‵, ℕ, ⋆, ◌$◌, ◌*◌, ◌+◌, ◌<◌, ◌^◌, ◌∙◌, ◌∵◌, ◌∷◌, ◌≡◌, ◌⊑◌}
 use Rattle.ga_boxed.specs.contracts.live_block.cells.deallocate as F
 use Rattle.ga_boxed.specs.contracts.live_block.cells.deallocate.Key.{name as #self}
-use Rattle.ga_boxed.proofs.walks.CallWalk.{told_by, Behind, Call, Had, Walk, by_ref, meets, number, Linked, linked}
-use Rattle.ga_boxed.proofs.walks.CellsWalk.{the_base}
-use Rattle.ga_boxed.proofs.walks.BlockRoom.{to_block}
 use Rattle.ga_boxed.proofs.live_block.cells.deallocate.Statement as stated
 use Rattle.ga_boxed.proofs.live_block.cells.deallocate.Code as code
 
 module _ (E : El) (Z : Al) where
   abbrev function : Fn
-  function = inst_fn (args E Z) code.function
+  function = inst_fn (alloc_args E Z) code.function
 
   abbrev Asks : Z.row.Denot → (Bs E).Denot → ℕ → (Cr E).Denot → (Dd E Z).Denot → List (Type 0)
   Asks a base len cells deed = (cells.at ≡ base.ptr) ∷ (cells.items ≡ []) ∷ (cells.passed + cells.room ≡ len)
@@ -110,5 +107,5 @@ module _ (E : El) (Z : Al) {M : Type 1} {𝓤 : Ura M} (𝓛 : Logic 𝓤) (link
 pub deallocate_spec : {M : Type 1} → stated.statement M
 deallocate_spec 𝓤 𝓛 𝓜 𝓡 wired X W LX LW g d dd met md =
     let E : El = record { row = X; laws = LX } in let Z = al_of W LW g d dd in
-    meets (call E Z) 𝓛 𝓜 𝓡 (#self (args E Z)) (function E Z) (code.unfolded 𝓤 𝓛.H 𝓜 𝓡 wired (X, (W, tt)) d dd)
+    meets (call E Z) 𝓛 𝓜 𝓡 (#self (alloc_args E Z)) (function E Z) (code.unfolded 𝓤 𝓛.H 𝓜 𝓡 wired (X, (W, tt)) d dd)
     (walk E Z 𝓛 (linked 𝓛 𝓜 𝓡) (met.deallocate dd))

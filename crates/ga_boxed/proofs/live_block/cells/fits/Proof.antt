@@ -1,16 +1,13 @@
 -- `fits` says exactly whether the slots take fewer than 2 ^ 63 bytes, for every element type. Assumes `Logic`.
-use Rattle.ga_boxed.proofs.walks.Names
-use Names.{Bool, true, not, ◌↔◌, ◌≡◌, refl, sym, subst, ℕ, zero, suc, ◌*◌, ◌/◌, ◌≤◌, ◌<◌, ◌^◌, mul-zero, div-le_self}
-use Names.{le-div_iff_mul-le, arith, List, [], ◌∷◌, T, eqb, leb, eqb→eq, leb→le, le→leb, lit<, uncapped, Ura, inst_fn}
-use Names.{Fn, w64, Fits, Val, vbool, vint, ent, emp, guard_i, via, capped_fits, capped_is, capped_small, capped, Env}
-use Names.{Calls, Loops, Logic, tables, drop, flt_l, fsplit, at_ret, ◌$◌, ◌∵◌, !, qed, by, keep, feq_i, lit, true_lit}
-use Names.{of_opd, bin, first, skips, branches, exec, returns, returns_within, enter, size_word, alloc_all, pass_all}
-use Names.{free_all, look_at, get, sets, env, bool, usize, yes, uint_vals, uint_Tells, plain, nothing, stay_dropped}
-use Names.{Goes-dropped, El, args, one_below, T_true, after}
+use Rattle.ga_boxed.proofs.walks
+use walks.{ !, [], after, alloc_all, args, arith, at_ret, bin, Bool, bool, branches, by, Call, Calls, capped}
+use walks.{capped_fits, capped_is, capped_small, div-le_self, drop, El, emp, ent, enter, Env, env, eqb, eqb→eq, exec}
+use walks.{facts, feq_i, first, Fits, flt_l, Fn, free_all, fsplit, get, Goes-dropped, guard_i, Had, has_every, inst_fn}
+use walks.{keep, le-div_iff_mul-le, leb, leb→le, le→leb, List, lit, lit<, Logic, look_at, Loops, meets_grown, mul-zero}
+use walks.{not, nothing, of_opd, one_below, pass_all, plain, qed, refl, returns, returns_within, sets, size_word, skips}
+use walks.{stay_dropped, subst, suc, sym, sz, T, T_true, tables, true, true_lit, uint_Tells, uint_vals, uncapped, Ura}
+use walks.{usize, Val, vbool, via, vint, w64, Walk, yes, zero, ℕ, ◌$◌, ◌*◌, ◌/◌, ◌<◌, ◌^◌, ◌↔◌, ◌∵◌, ◌∷◌, ◌≡◌, ◌≤◌}
 use Rattle.ga_boxed.proofs.BlockLemmas.{none_fits}
-use Rattle.ga_boxed.proofs.walks.CallWalk.{Call, Had, Walk, meets_grown}
-use Rattle.ga_boxed.proofs.walks.ClauseFacts.{facts, has_every}
-use Rattle.ga_boxed.proofs.walks.WalkParts.{sz}
 use Rattle.ga_boxed.proofs.live_block.cells.fits.Code as code
 use Rattle.ga_boxed.proofs.live_block.cells.fits.Statement as stated
 use Rattle.ga_boxed.specs.contracts.live_block.cells.fits.Key.{name as #self}

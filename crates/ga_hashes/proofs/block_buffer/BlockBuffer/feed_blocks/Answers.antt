@@ -1,4 +1,4 @@
-use Rattle.ga_hashes.proofs.BufferLemmas.{MayTake-along, TakesEach-none, full-callable, full-taken, full-then_callable}
+use Rattle.ga_hashes.proofs.BufferLemmas.{TakesEach-none, full-callable, full-taken, full-then_callable}
 use Rattle.ga_hashes.proofs.block_buffer.BlockBuffer.feed_blocks.Given as given
 use Rattle.ga_hashes.proofs.block_buffer.BlockBuffer.feed_blocks.Goals as goal
 use Rattle.ga_hashes.proofs.block_buffer.BlockBuffer.feed_blocks.Goals.{After-as_slice}
@@ -32,13 +32,9 @@ returns-then-bytes-missing-clause-kept g c =
 
 pub hand_on_rows-requires-clause-callable : goal.hand_on_rows-requires-clause-callable
 hand_on_rows-requires-clause-callable g c =
-    let width = g.N.Unsigned.USIZE in
-    let bytes = c.args.bytes.now in
     let none : c.args.self.now.kept ≡ [] = nil_from_length c.args.self.now.kept
     (omega (arith, ap (λ v. length v.kept) c.self.view_is, c.self.invariant.0)) in
-    MayTake-along (λ slice. slice.now) (goal.F-step g) (goal.F-pre g) width c.args.f.now
-    (rows width (c.args.self.now.kept ++ bytes)) (rows width bytes)
-    (ap (λ kept. rows width (kept ++ bytes)) none) c.requires.callable
+    rw none at c.requires.callable
 
 -- the block that is full now and the bytes behind it are all bytes
 joined : (g : given.Over) (c : After-as_slice g)

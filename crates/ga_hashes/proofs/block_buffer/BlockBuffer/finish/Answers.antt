@@ -1,10 +1,9 @@
-use Rattle.ga_hashes.proofs.BufferLemmas.{HasFed-few, HasFed-more, MayTake-more, TakesEach-along}
+use Rattle.ga_hashes.proofs.BufferLemmas.{HasFed-few, HasFed-more, MayTake-more}
 use Rattle.ga_hashes.proofs.PaddingLemmas.{padding-after_mark, padding-in_turn, padding-kept}
 use Rattle.ga_hashes.proofs.block_buffer.BlockBuffer.finish.Given as given
 use Rattle.ga_hashes.proofs.block_buffer.BlockBuffer.finish.Goals as goal
 use Rattle.ga_hashes.proofs.block_buffer.BlockBuffer.finish.Goals.{After-feed_zeros, After-zero_count-zeros}
-use Rattle.ga_hashes.specs.BlockBuffer.{HasFed, with_padding, padding, zero_count}
-use Rattle.ga_core.specs.Rows.{chunk_rest, rows}
+use Rattle.ga_hashes.specs.BlockBuffer.{HasFed, padding, zero_count}
 use Rattle.std.proofs.Common.{◌≡◌, ◌<◌, ◌*◌, ◌∷◌, [], ◌++◌, ap, append-nil, arith, length, refl, replicate, sym, ◌∙◌}
 use Rattle.std.specs.Int.{to_be_bytes, w64}
 
@@ -16,35 +15,28 @@ few g c = omega (arith, ap (λ v. length v.kept) c.buffer.view_is, c.buffer.inva
 begun : (g : given.Over) (c : After-zero_count-zeros g)
     → HasFed (λ slice. slice.now) (goal.F-step g) g.N.Unsigned.USIZE c.args.f.now c.args.self.kept c.args.self.kept
     c.args.f.now
-begun g c = HasFed-few (λ slice. slice.now) (goal.F-step g) g.N.Unsigned.USIZE
-    (omega (arith, few g c)) c.args.f.now c.args.self.kept (few g c)
+begun g c = HasFed-few (omega (arith, few g c)) (few g c)
 
 -- the mark may be fed
 pub feed-requires : goal.feed-requires
 feed-requires g c =
     let early = (goal.at.feed-requires g c).After-zero_count-zeros in
-    let width = g.N.Unsigned.USIZE in
-    let kept = c.args.self.kept in
+    let zeros = zero_count g.N.Unsigned.USIZE (length c.args.self.kept) in
     record {
-      callable = MayTake-more (λ slice. slice.now) (goal.F-step g) width (omega (arith, few g early))
-          (goal.F-pre g) c.args.f.now c.args.f.now (kept ++ padding width (length kept) c.args.self.len) kept kept
-          (128 ∷ []) (replicate (zero_count width (length kept)) 0
-          ++ to_be_bytes w64 (8 * c.args.self.len)) refl c.requires.callable (begun g early);
+      callable = MayTake-more (omega (arith, few g early)) (goal.F-pre g) (128 ∷ [])
+          (replicate zeros 0 ++ to_be_bytes w64 (8 * c.args.self.len)) refl c.requires.callable (begun g early);
     }
 
 -- and then the zeros
 pub feed_zeros-requires-clause-callable : goal.feed_zeros-requires-clause-callable
 feed_zeros-requires-clause-callable g c =
     let early = (goal.at.feed_zeros-requires-clause-callable g c).After-zero_count-zeros in
-    let width = g.N.Unsigned.USIZE in
     let kept = c.args.self.kept in
     let bits = to_be_bytes w64 (8 * c.args.self.len) in
-    let whole = padding-after_mark width kept c.args.self.len c.zero_count-zeros.result bits
+    let whole = padding-after_mark g.N.Unsigned.USIZE kept c.args.self.len c.zero_count-zeros.result bits
     c.zero_count-zeros.ensures.count refl in
-    MayTake-more (λ slice. slice.now) (goal.F-step g) width (omega (arith, few g early))
-    (goal.F-pre g) c.args.f.now c.feed.new.f (kept ++ padding width (length kept) c.args.self.len)
-    (kept ++ 128 ∷ []) c.feed.new.self.kept (replicate c.zero_count-zeros.result 0) bits whole c.requires.callable
-    (c.feed.ensures.whole c.args.f.now kept (begun g early))
+    MayTake-more (omega (arith, few g early)) (goal.F-pre g) (replicate c.zero_count-zeros.result 0) bits whole
+    c.requires.callable (c.feed.ensures.whole c.args.f.now kept (begun g early))
 
 -- mark and zeros were fed
 filled : (g : given.Over) (c : After-feed_zeros g)
@@ -72,14 +64,10 @@ feed-requires-2 g c =
     let at = goal.at.feed-requires-2 g c in
     let early = at.After-zero_count-zeros in
     let so_far = at.After-feed_zeros in
-    let width = g.N.Unsigned.USIZE in
-    let kept = c.args.self.kept in
     let bits = c.to_be_bytes-bits.result in
-    let message = (kept ++ 128 ∷ []) ++ replicate c.zero_count-zeros.result 0 in
+    let message = (c.args.self.kept ++ 128 ∷ []) ++ replicate c.zero_count-zeros.result 0 in
     record {
-      callable = MayTake-more (λ slice. slice.now) (goal.F-step g) width (omega (arith, few g early))
-          (goal.F-pre g) c.args.f.now c.feed_zeros.new.f
-          (kept ++ padding width (length kept) c.args.self.len) message c.feed_zeros.new.self.kept bits []
+      callable = MayTake-more (omega (arith, few g early)) (goal.F-pre g) bits []
           (in_turn g so_far ∙ ap (λ b. message ++ b) (sym (append-nil bits)))
           c.requires.callable (filled g so_far (begun g early));
     }
@@ -88,23 +76,15 @@ pub returns-clause-blocks : goal.returns-clause-blocks
 returns-clause-blocks g c =
     let at = goal.at.returns-clause-blocks g c in
     let so_far = at.After-feed_zeros in
-    let width = g.N.Unsigned.USIZE in
     let message = (c.args.self.kept ++ 128 ∷ []) ++ replicate c.zero_count-zeros.result 0 in
     let done = c.feed-2.ensures.whole c.args.f.now message (filled g so_far (begun g at.After-zero_count-zeros)) in
-    TakesEach-along (λ slice. slice.now) (goal.F-step g) c.args.f.now (rows width (message ++ c.to_be_bytes-bits.result))
-    (rows width (c.args.self.kept ++ padding width (length c.args.self.kept) c.args.self.len)) c.feed-2.new.f
-    (ap (rows width) (in_turn g so_far)) done.blocks
+    rw (in_turn g so_far) done.blocks
 
 pub returns-clause-whole : goal.returns-clause-whole
 returns-clause-whole g c first message fed len =
     let width = g.N.Unsigned.USIZE in
     let kept = c.args.self.kept in
     let last = padding width (length kept) c.args.self.len in
-    let more = HasFed-more (λ slice. slice.now) (goal.F-step g) width
-    (omega (arith, few g (goal.at.returns-clause-whole g c).After-zero_count-zeros)) first c.args.f.now c.feed-2.new.f
-    message kept last
-    (chunk_rest width (kept ++ last)) fed (returns-clause-blocks g c) refl in
-    TakesEach-along (λ slice. slice.now) (goal.F-step g) first (rows width (message ++ last))
-    (rows width (with_padding width message)) c.feed-2.new.f
-    (ap (λ p. rows width (message ++ p)) (sym (padding-kept width message kept fed.rest c.args.self.len len)))
-    more.blocks
+    let more = HasFed-more (omega (arith, few g (goal.at.returns-clause-whole g c).After-zero_count-zeros)) last
+    fed (returns-clause-blocks g c) refl in
+    rw (← padding-kept width message kept fed.rest c.args.self.len len) more.blocks

@@ -1,16 +1,13 @@
 -- `put` fills the slot behind the items. Assumes `Logic`.
-use Rattle.ga_boxed.proofs.walks.Names
-use Names.{◌≡◌, refl, sym, ap, subst, ◌∙◌, ℕ, ◌+◌, ◌-◌, ◌*◌, ◌<◌, ◌^◌, arith, List, [], ◌∷◌, ◌++◌, part_in, Ura}
-use Names.{full_share, Fn, w64, inst_fn, Val, vint, vunit, fat, froom, Env, Calls, Loops, Logic, tables, ‵, ◌⊛◌, at_ret}
-use Names.{◌$◌, ◌∵◌, !, qed, by, move, keep, use1, use2, split, rewrite, fsplit, feq_i, whole, sub, init, stop, fld}
-use Names.{unit_lit, of_opd, assigns_last, first, blocks, exec, returns, enter, alloc_all, pass_all, free_all, look_at}
-use Names.{get, get_in, through, sets, env, part_at, layout, Ptr, mut_vals, no, unit, plain, after, word, word-Good}
-use Names.{length, length-append, bin, size_lit, take_at, give_at, El, R, args, el_x, elτ, times_below, one_below}
-use Rattle.ga_boxed.proofs.walks.CallWalk.{Call, Had, Walk, number, meets_grown}
-use Rattle.ga_boxed.proofs.walks.CellsWalk.{by_mut, closes_cells, opens_cells, the_base}
-use Rattle.ga_boxed.proofs.walks.ClauseFacts.{facts, has_every}
-use Rattle.ga_boxed.proofs.walks.WalkParts.{an_item, Cr, Bs, sz}
-use Rattle.ga_boxed.proofs.walks.EndLemmas.{Around, Held, room_out, item_in}
+use Rattle.ga_boxed.proofs.walks
+use walks.{ !, [], after, alloc_all, an_item, ap, args, arith, Around, assigns_last, at_ret, bin, blocks, Bs, by}
+use walks.{by_mut, Call, Calls, closes_cells, Cr, El, el_x, elτ, enter, Env, env, exec, facts, fat, feq_i, first, fld}
+use walks.{Fn, free_all, froom, fsplit, full_share, get, get_in, give_at, Had, has_every, Held, init, inst_fn, item_in}
+use walks.{keep, layout, length, length-append, List, Logic, look_at, Loops, meets_grown, move, mut_vals, no, number}
+use walks.{of_opd, one_below, opens_cells, part_at, part_in, pass_all, plain, Ptr, qed, R, refl, returns, rewrite}
+use walks.{room_out, sets, size_lit, split, stop, sub, subst, sym, sz, tables, take_at, the_base, through, times_below}
+use walks.{unit, unit_lit, Ura, use1, use2, Val, vint, vunit, w64, Walk, whole, word, word-Good, ‵, ℕ, ◌$◌, ◌*◌, ◌++◌}
+use walks.{◌+◌, ◌-◌, ◌<◌, ◌^◌, ◌∙◌, ◌∵◌, ◌∷◌, ◌≡◌, ◌⊛◌}
 use Rattle.ga_boxed.specs.contracts.live_block.cells.Cells.put.Key.{name as #self}
 use Rattle.ga_boxed.proofs.live_block.cells.Cells.put.Statement as stated
 use Rattle.ga_boxed.proofs.live_block.cells.Cells.put.Code as code

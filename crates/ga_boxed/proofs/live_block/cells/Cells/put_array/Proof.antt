@@ -1,21 +1,18 @@
 -- `put_array` writes an array over the room of as many slots. Assumes `Logic`.
-use Rattle.ga_boxed.proofs.walks.Names
-use Names.{◌≡◌, refl, ◌∙◌, ℕ, ◌+◌, ◌*◌, ◌<◌, ◌^◌, arith, List, [], ◌∷◌, ◌++◌, length, Ura, full_share, Ty, Fn, Args}
-use Names.{ty_array, a_type, a_number, inst_fn, Val, vunit, via, fat, size, Env, Calls, Loops, Logic, tables, flt_i}
-use Names.{flt_l, ‵, given, at_ret, ◌$◌, ◌∵◌, !, qed, by, move, keep, use1, use2, learn, rewrite, fsplit, fjoin, feq_i}
-use Names.{whole, sub, init, stop, hop, from, fld, unit_lit, of_opd, assigns_last, first, blocks, exec, returns, enter}
-use Names.{alloc_all, pass_all, free_all, look_at, look_in_at, get, sets, env, take_at, give_at, Array, no, all_rest}
-use Names.{RattleType, part_at, ArrayAt, param, number, layout, layouts, Laws, param_laws, array_at_laws, Ptr}
-use Names.{block_ptr, mut_vals, unit, plain, part_in, as_written, after, Good, word, word-Good, El, R, el_x, elτ}
-use Names.{cells_own, empty, subst, zero-mul, ent, ftrue, fsep, feq, sem, cells, use0, feq_l, done, Entries, all_last}
-use Names.{mem, nothing}
-use Rattle.ga_boxed.proofs.walks.BlockRoom.{no_room, to_block}
+use Rattle.ga_boxed.proofs.walks
+use walks.{ !, [], a_number, a_type, after, all_last, all_rest, alloc_all, Args, arith, Array, array_at_laws}
+use walks.{as_written, assigns_last, at_ret, Behind, block_ptr, blocks, Bs, by, by_mut, Call, Calls, cells, cells_own}
+use walks.{closes_cells, Cr, done, El, el_x, elτ, empty, ent, enter, Entries, Env, env, exec, facts, fat, feq, feq_i}
+use walks.{feq_l, first, fjoin, fld, flt_i, flt_l, Fn, free_all, from, fsep, fsplit, ftrue, full_share, get, give_at}
+use walks.{given, Good, Had, has_every, hop, init, inst_fn, is_one, keep, Laws, layout, layouts, learn, length, List}
+use walks.{Logic, look_at, look_in_at, Loops, meets_grown, mem, move, mut_vals, no, no_room, nothing, of_opd}
+use walks.{opens_cells, param, param_laws, part_at, part_in, pass_all, plain, Ptr, qed, R, RattleType, refl, returns}
+use walks.{rewrite, sem, sets, size, stop, sub, subst, sz, tables, take_at, the_base, to_block, Ty, ty_array, unit}
+use walks.{unit_lit, Ura, use0, use1, use2, Val, via, vunit, Walk, whole, word, word-Good, zero-mul, ‵, ℕ, ◌$◌, ◌*◌}
+use walks.{◌++◌, ◌+◌, ◌<◌, ◌^◌, ◌∙◌, ◌∵◌, ◌∷◌, ◌≡◌}
+use denote.Param.{ArrayAt, number}
 use denote.ArrayMemory.{Array-apart}
 use denote.Index.{row, whole_in}
-use Rattle.ga_boxed.proofs.walks.CallWalk.{Behind, Call, Had, Walk, meets_grown}
-use Rattle.ga_boxed.proofs.walks.CellsWalk.{by_mut, closes_cells, opens_cells, the_base}
-use Rattle.ga_boxed.proofs.walks.ClauseFacts.{facts, has_every}
-use Rattle.ga_boxed.proofs.walks.WalkParts.{Cr, Bs, sz, is_one}
 use Rattle.ga_boxed.specs.contracts.live_block.cells.Cells.put_array.Key.{name as #self}
 use Rattle.ga_boxed.proofs.live_block.cells.Cells.put_array.Statement as stated
 use Rattle.ga_boxed.proofs.live_block.cells.Cells.put_array.Code as code

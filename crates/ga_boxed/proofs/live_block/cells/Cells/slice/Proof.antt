@@ -1,15 +1,12 @@
 -- `slice` shows the items that the cells lend. Assumes `Logic`.
-use Rattle.ga_boxed.proofs.walks.Names
-use Names.{◌≡◌, refl, sym, ap, ◌∙◌, ℕ, ◌+◌, ◌*◌, ◌≤◌, ◌<◌, ◌^◌, arith, List, [], ◌∷◌, Ura, Fn, imm, inst_fn, Val, never}
-use Names.{id⊢, Calls, Loops, Logic, tables, toks, raw, group, ‵, ◌⊛◌, ◌$◌, ◌∵◌, !, qed, by, move, keep, drop, split}
-use Names.{rewrite, fsplit, fjoin, feq_i, flt_l, flt_i, in_a_block, Bor, shr_vals, slice_val, elements_shared}
-use Names.{SliceRefOf, plain, nothing, length, El, R, args, el_x, times_below, cells_lent}
+use Rattle.ga_boxed.proofs.walks
+use walks.{ !, [], ap, args, arith, Bor, by, by_ref, Call, Calls, cells_lent, Cr, drop, El, el_x, elements_shared}
+use walks.{facts, feq_i, fjoin, flt_i, flt_l, Fn, fsplit, group, Had, has_every, id⊢, imm, in_a_block, inst_fn, keep}
+use walks.{length, List, Logic, Loops, meets_grown, move, never, nothing, plain, qed, R, raw, refl, rewrite, showing}
+use walks.{shr_vals, slice_val, SliceRefOf, slices, split, sym, sz, tables, times_below, toks, Ura, Val, Walk, ‵, ℕ}
+use walks.{◌$◌, ◌*◌, ◌+◌, ◌<◌, ◌^◌, ◌∙◌, ◌∵◌, ◌∷◌, ◌≡◌, ◌≤◌, ◌⊛◌}
 use denote.Opens.{hide, unhide}
 use Rattle.ga_boxed.specs.contracts.live_block.cells.Cells.slice.Key.{name as #self}
-use Rattle.ga_boxed.proofs.walks.CallWalk.{Call, Had, Walk, by_ref, meets_grown}
-use Rattle.ga_boxed.proofs.walks.ClauseFacts.{facts, has_every}
-use Rattle.ga_boxed.proofs.walks.CellsSliceWalk.{showing, slices}
-use Rattle.ga_boxed.proofs.walks.WalkParts.{Cr, sz}
 use Rattle.ga_boxed.proofs.live_block.cells.Cells.slice.Statement as stated
 use Rattle.ga_boxed.proofs.live_block.cells.Cells.slice.Code as code
 

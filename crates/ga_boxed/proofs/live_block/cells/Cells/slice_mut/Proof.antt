@@ -1,12 +1,12 @@
 -- `slice_mut` lends the items, and the cells follow them. Assumes `Logic`.
-use Rattle.ga_boxed.proofs.walks.Names
-use Names.{◌≡◌, refl, sym, ap, subst, ◌∙◌, ℕ, ◌+◌, ◌*◌, ◌≤◌, ◌<◌, ◌^◌, arith, List, [], ◌∷◌, Ura, full_share, Fn, named}
-use Names.{mut, inst_fn, Val, ent, sep, id⊢, GName, Fml, fsep, flft, Calls, Loops, Logic, sem, tables, toks, raw}
-use Names.{split3, ‵, ◌⊛◌, some, later, await, pick, ◌$◌, ◌∵◌, !, qed, by, move, keep, use1, split, join, group}
-use Names.{rewrite, fsplit, fsplit3, fjoin, fjoin3, fpack, flt_i, done, cells, Array, mem, cell_at, Ptr, block_ptr}
-use Names.{MutBor, MutRef, mut_vals, MutSlice, slice_val, SliceRefMutOf, plain, nothing, length, El, R, args, el_x}
-use Names.{times_below, cells_own, empty}
-use denote.Follow.{follows}
+use Rattle.ga_boxed.proofs.walks
+use walks.{ !, [], ap, args, arith, Array, await, block_ptr, by, Call, Calls, cell_at, cells, cells_own, Cr, done, El}
+use walks.{el_x, empty, ent, facts, fjoin, fjoin3, flft, flt_i, Fml, Fn, follows, fpack, fsep, fsplit, fsplit3}
+use walks.{full_share, GName, group, Had, has_every, id⊢, inst_fn, join, keep, later, length, List, Logic, Loops, Mark}
+use walks.{meets_grown, mem, move, mut, mut_vals, MutBor, MutRef, MutSlice, named, nothing, opens_cells, pick, plain}
+use walks.{Ptr, qed, R, raw, refl, rewrite, sem, sep, showing, slice_val, SliceRefMutOf, slices, some, spent, split}
+use walks.{split3, subst, sym, sz, tables, times_below, tokens, toks, Ura, use1, Val, Walk, ‵, ℕ, ◌$◌, ◌*◌, ◌+◌, ◌<◌}
+use walks.{◌^◌, ◌∙◌, ◌∵◌, ◌∷◌, ◌≡◌, ◌≤◌, ◌⊛◌}
 use denote.FollowSlice.{Elements, lends_Elements}
 use denote.Memory.{part_of}
 use lib.ListN.{drop as drop_l}
@@ -14,11 +14,6 @@ use lib.Seq.{take_at as take_front}
 use Rattle.std.specs.List.{refill}
 use Rattle.ga_boxed.specs.CellsLend.{with_items}
 use Rattle.ga_boxed.specs.contracts.live_block.cells.Cells.slice_mut.Key.{name as #self}
-use Rattle.ga_boxed.proofs.walks.CallWalk.{Call, Had, Walk, meets_grown}
-use Rattle.ga_boxed.proofs.walks.CellsWalk.{opens_cells, spent, tokens}
-use Rattle.ga_boxed.proofs.walks.ClauseFacts.{facts, has_every}
-use Rattle.ga_boxed.proofs.walks.CellsSliceWalk.{showing, slices}
-use Rattle.ga_boxed.proofs.walks.WalkParts.{Cr, Mark, sz}
 use Rattle.ga_boxed.proofs.live_block.cells.Cells.slice_mut.Statement as stated
 use Rattle.ga_boxed.proofs.live_block.cells.Cells.slice_mut.Code as code
 

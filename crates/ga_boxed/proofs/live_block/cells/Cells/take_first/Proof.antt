@@ -1,11 +1,9 @@
 -- `take_first` moves the first item out, and its slot is one more that is passed. Assumes `Logic`.
-use Rattle.ga_boxed.proofs.walks.Names
-use Names.{◌≢◌, ◌≡◌, refl, sym, ap, ℕ, suc, ◌+◌, ◌*◌, arith, List, [], ◌∷◌, length, Ura, Fml, froom, fsep, inst_fn}
-use Names.{Logic, ‵, ◌$◌, ◌∵◌, !, qed, move, use2, rewrite, fsplit, fsplit3, fjoin, done, cells, mem, part_at}
-use Names.{full_share, El, R, args, el_x, elτ, empty}
-use Rattle.ga_boxed.proofs.walks.EndLemmas.{Held, empty_snoc, place_after, split_first}
-use Rattle.ga_boxed.proofs.walks.TakeWalk.{Giving, Placing, Taken, meets_taking}
-use Rattle.ga_boxed.proofs.walks.WalkParts.{Cr, sz}
+use Rattle.ga_boxed.proofs.walks
+use walks.{ !, [], ap, args, arith, cells, Cr, done, El, el_x, elτ, empty, empty_snoc, fjoin, Fml, froom, fsep, fsplit}
+use walks.{fsplit3, full_share, Giving, Held, inst_fn, length, List, Logic, meets_taking, mem, move, part_at}
+use walks.{place_after, Placing, qed, R, refl, rewrite, split_first, suc, sym, sz, Taken, Ura, use2, ‵, ℕ, ◌$◌, ◌*◌}
+use walks.{◌+◌, ◌∵◌, ◌∷◌, ◌≡◌, ◌≢◌}
 use Rattle.ga_boxed.proofs.live_block.cells.Cells.take_first.Code as code
 use Rattle.ga_boxed.proofs.live_block.cells.Cells.take_first.Statement as stated
 use Rattle.ga_boxed.specs.contracts.live_block.cells.Cells.take_first.Key.{name as #self}

@@ -1,11 +1,8 @@
 -- `take_last` moves the last item out, and its slot is room. Assumes `Logic`.
-use Rattle.ga_boxed.proofs.walks.Names
-use Names.{◌≢◌, ◌≡◌, refl, sym, ap, ℕ, ◌+◌, ◌*◌, arith, List, [], ◌∷◌, ◌++◌, length, Ura, full_share, froom, inst_fn}
-use Names.{Logic, ‵, ◌⊛◌, ◌$◌, ◌∵◌, !, qed, use1, use2, split, rewrite, done, part_at, El, R, args, el_x, elτ}
-use Names.{length-append, ◌∙◌}
-use Rattle.ga_boxed.proofs.walks.EndLemmas.{split_last, Around, Held, room_in, item_out}
-use Rattle.ga_boxed.proofs.walks.TakeWalk.{Giving, Placing, Taken, meets_taking}
-use Rattle.ga_boxed.proofs.walks.WalkParts.{Cr, sz}
+use Rattle.ga_boxed.proofs.walks
+use walks.{ !, [], ap, args, arith, Around, Cr, done, El, el_x, elτ, froom, full_share, Giving, Held, inst_fn, item_out}
+use walks.{length, length-append, List, Logic, meets_taking, part_at, Placing, qed, R, refl, rewrite, room_in, split}
+use walks.{split_last, sym, sz, Taken, Ura, use1, use2, ‵, ℕ, ◌$◌, ◌*◌, ◌++◌, ◌+◌, ◌∙◌, ◌∵◌, ◌∷◌, ◌≡◌, ◌≢◌, ◌⊛◌}
 use Rattle.ga_boxed.specs.contracts.live_block.cells.Cells.take_last.Key.{name as #self}
 use Rattle.ga_boxed.proofs.live_block.cells.Cells.take_last.Statement as stated
 use Rattle.ga_boxed.proofs.live_block.cells.Cells.take_last.Code as code
