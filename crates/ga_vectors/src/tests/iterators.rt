@@ -3,19 +3,33 @@ use crate::tests::numbers::{boxed_from_one, digits, from_one, has, next_digit};
 use generic_array::{U3, U5};
 use std::test::Fail;
 
-/// Checks runs over arrays of 1 to 3 and of 1 to 5.
-macro_rules! check_walks {
-    ($rt:ident, $three:expr, $five:expr) => {
+/// Checks folds, counts and what is skipped over arrays of 1 to 3.
+macro_rules! check_counts {
+    ($rt:ident, $three:expr) => {
         assert!($rt; $three.into_iter().fold(0, next_digit) == 123);
         assert!($rt; $three.into_iter().rfold(0, next_digit) == 321);
         let (mut items, mut others) = ($three.into_iter(), $three.into_iter());
         assert!($rt; items.next() == Some(1) && others.next() == Some(1));
-        assert!($rt; items.size_hint() == (2, Some(2)) && items.len() == 2);
-        assert!($rt; digits(items.clone()?.as_slice()) == 23 && digits(items.as_slice()) == 23);
         assert!($rt; items.count() == 2 && others.last() == Some(3));
         let (mut items, mut others) = ($three.into_iter(), $three.into_iter());
         assert!($rt; items.nth_back(3).is_none() && items.len() == 0);
         assert!($rt; others.nth(usize::MAX).is_none() && others.len() == 0);
+    };
+}
+
+#[test]
+fn all_items_are_folded_counted_and_skipped(rt: HostRuntime) -> Result<(), Fail> {
+    check_counts!(rt, from_one::<U3>());
+    check_counts!(rt, boxed_from_one::<U3>(rt.alloc())?);
+    Ok(())
+}
+
+/// Checks runs over arrays of 1 to 3 and of 1 to 5.
+macro_rules! check_walks {
+    ($rt:ident, $three:expr, $five:expr) => {
+        let mut items = $three.into_iter();
+        assert!($rt; items.next() == Some(1) && items.size_hint() == (2, Some(2)));
+        assert!($rt; digits(items.clone()?.as_slice()) == 23 && digits(items.as_slice()) == 23);
         let mut items = $three.into_iter();
         if let Some(first) = items.as_mut_slice().first_mut() {
             *first = 9;
