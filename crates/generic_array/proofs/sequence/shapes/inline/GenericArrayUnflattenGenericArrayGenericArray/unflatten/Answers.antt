@@ -34,14 +34,10 @@ pub returns-clause-cut : goal.returns-clause-cut
 returns-clause-cut g c =
     let items = c.args.self in
     let long = c.into_iter-items.ensures.into_iter_gives.3 ∙ c.requires.0 in
-    let all : length c.loop-row.rows ≡ g.R.Unsigned.USIZE = omega (
-      arith,
-      c.loop-row.invariant.count,
-      c.loop-row-test.false,
-      c.loop-row.auto._row-end,
-      c.USIZE-row-end.ensures,
-    ) in
-    c.finish.ensures ∙ (c.loop-row.invariant.made
+    let at = c.loop-row in
+    let all : length at.rows ≡ g.R.Unsigned.USIZE =
+    omega (arith, at.invariant.count, c.loop-row-test.false, at.auto._row-end, c.USIZE-row-end.ensures) in
+    c.finish.ensures ∙ (at.invariant.made
     ∙ (ap (λ n. map (row_at g.W.Unsigned.USIZE items) (range_with_len 0 n)) all
     ∙ map-row_at g.W.Unsigned.USIZE g.R.Unsigned.USIZE items c.requires.1 long))
 
