@@ -1,8 +1,7 @@
 use Rattle.generic_array.proofs.ShapeLemmas.{joined-of_rows, map-row_at}
 use Rattle.generic_array.proofs.sequence.shapes.inline.GenericArrayUnflattenGenericArrayGenericArray.unflatten.Goals as goal
 use Rattle.generic_array.specs.Rows.{row_at}
-use Rattle.std.proofs.Common.{◌≡◌, ◌+◌, ◌*◌, [], ◌∷◌, ◌++◌, ◌∙◌, ap, arith, drop, length, map, sym, take}
-use Rattle.std.proofs.Math.Nat.{suc-mul}
+use Rattle.std.proofs.Common.{◌≡◌, ◌+◌, ◌*◌, ◌∙◌, ap, arith, length, map, refl, take}
 use Rattle.std.proofs.lemmas.List.{drop-drop}
 use Rattle.std.proofs.lemmas.List.FromFn.{map-range_with_len_more}
 use Rattle.std.specs.List.{flat_map, range_with_len}
@@ -19,15 +18,12 @@ loop-row-preserved g c =
     let more = c.push.ensures.len in
     let row_of = row_at w items in
     let cut : row ≡ row_of place = c.next_array.ensures.first ∙ ap (take w) behind in
-    let next : place * w + w ≡ (place + 1) * w = sym (suc-mul place w) ∙ ap (λ k. k * w) (omega arith) in
+    let next : place * w + w ≡ (place + 1) * w = omega arith in
+    let rows = map-range_with_len_more row_of 0 place place (omega arith) in
     record {
       count = omega (arith, more, c.loop-row.invariant.count);
-      made = c.push.ensures.items ∙ (ap (λ rows. rows ++ row ∷ []) made
-          ∙ (ap (λ r. map row_of (range_with_len 0 place) ++ r ∷ []) cut
-          ∙ (sym (map-range_with_len_more row_of 0 place place (omega arith))
-          ∙ ap (λ n. map row_of (range_with_len 0 n)) (omega (arith, more)))));
-      left = c.next_array.ensures.left ∙ (ap (drop w) behind ∙ (drop-drop w (place * w) items
-          ∙ (ap (λ k. drop k items) next ∙ ap (λ n. drop (n * w) items) (sym more))));
+      made = rw (more, c.push.ensures.items, rows, ← made, ← cut) refl;
+      left = rw (more, c.next_array.ensures.left, behind, drop-drop w (place * w) items, next) refl;
     }
 
 pub returns-clause-cut : goal.returns-clause-cut
