@@ -23,8 +23,7 @@ module _ {T : Type 0} where
 
   -- where none is left, all were moved
   pub all_moved : (moved left all : List T) → moved ++ left ≡ all → length left ≡ 0 → moved ≡ all
-  all_moved moved left all so_far none =
-      sym (append-nil moved) ∙ (ap (λ l. moved ++ l) (sym (nil_from_length left none)) ∙ so_far)
+  all_moved moved left all so_far none = sym (append-nil moved) ∙ (rw (nil_from_length left none) at so_far)
 
   -- where none is passed, all are left
   pub left-whole : (left : List T) (passed : ℕ) → passed ≤ 0 → left ≡ take (length left - passed) left
@@ -52,9 +51,7 @@ module _ {T : Type 0} {front back n : ℕ} (items left : List T)
 
   -- where the slots have met, nothing is left, and before that something is
   pub left-none : back ≤ front → left ≡ []
-  left-none met =
-      let none : back - front ≡ 0 = omega arith in
-      sym shown ∙ ap (λ k. take k (drop front items)) none
+  left-none met = let none : back - front ≡ 0 = omega arith in rw (← shown, none) refl
 
   pub left-more : front < back → 0 < length left
   left-more some = omega (arith, count)
@@ -67,16 +64,14 @@ module _ {T : Type 0} {front back n : ℕ} (items left : List T)
   pub left-first : {after : List T} {item : T} → 0 < length left → item ≡ get_or items front item
       → (blank : T) × (after ≡ slice_set items front blank) → left ≡ item ∷ slice_range after (front + 1) back
   left-first {item = item} some here written =
-      sym shown ∙ (slice_range_first items front back item written.0 (left-some some).0 lies.1 here
-      ∙ ap (λ slots. item ∷ slice_range slots (front + 1) back) (sym written.1))
+      rw (← shown, written.1) (slice_range_first items front back item written.0 (left-some some).0 lies.1 here)
 
   -- the last was taken, and a blank stands in its slot
   pub left-last : {after : List T} {item : T} → 0 < length left → item ≡ get_or items (back - 1) item
       → (blank : T) × (after ≡ slice_set items (back - 1) blank)
       → left ≡ slice_range after front (back - 1) ++ item ∷ []
   left-last {item = item} some here written =
-      sym shown ∙ (slice_range_last items front back item written.0 (left-some some).0 lies.1 here
-      ∙ ap (λ slots. slice_range slots front (back - 1) ++ item ∷ []) (sym written.1))
+      rw (← shown, written.1) (slice_range_last items front back item written.0 (left-some some).0 lies.1 here)
 
   -- the item behind those passed is the last of the part that holds both. Its first slot is written as a remainder.
   pub left-item : (passed : ℕ) (item : T) (part : List T) → passed < length left
@@ -84,16 +79,13 @@ module _ {T : Type 0} {front back n : ℕ} (items left : List T)
       → drop passed left ≡ item ∷ drop (passed + 1) left
   left-item passed item part some is last =
       let first : front % 65536 ≡ front = mod-eq_of_lt (omega (arith, count)) in
-      let same : take (passed + 1) (drop front items) ≡ take (passed + 1) left =
-      sym (take-take (passed + 1) (back - front) (drop front items) (omega (arith, count)))
-      ∙ ap (take (passed + 1)) shown in
-      let here : part ≡ take (passed + 1) left =
-      is ∙ (ap (λ k. take (passed + 1) (drop k items)) first ∙ same) in
+      let same : take (passed + 1) left ≡ take (passed + 1) (drop front items) =
+      rw (← shown) (take-take (passed + 1) (back - front) (drop front items) (omega (arith, count))) in
+      let here : part ≡ take (passed + 1) left = (rw first at is) ∙ sym same in
       let long : length part - 1 ≡ passed =
       omega (arith, ap length here, length-take-le (passed + 1) left (omega arith)) in
       let this : item ≡ get_or left passed item =
-      last ∙ (ap (λ k. get_or part k item) long
-      ∙ (ap (λ l. get_or l passed item) here ∙ get_or-take (passed + 1) left passed item (omega arith))) in
+      (rw (long, here) at last) ∙ get_or-take (passed + 1) left passed item (omega arith) in
       drop_more left passed item some ∙ ap (λ x. x ∷ drop (passed + 1) left) (sym this)
 
   -- a list that was written over, as long as it was: two slots that lay in it still do

@@ -6,7 +6,6 @@ use Rattle.ga_core.specs.Calls.{MayFold}
 use Rattle.ga_core.specs.Cut.{StepGives, back, front}
 use Rattle.ga_core.specs.Runs.{FoldRun}
 use Rattle.std.proofs.Common.{◌≡◌, ◌∙◌, ◌<◌, ◌∷◌, ◌++◌, [], List, None, Option, Some, ap, arith, length, refl, reverse}
-use Rattle.std.proofs.Common.{subst, sym}
 use Rattle.std.proofs.lemmas.List.{length-reverse, reverse-reverse}
 use Rattle.std.specs.Iterator.{YieldsLast}
 
@@ -62,5 +61,4 @@ module _ {F A T : Type 0} {step : F → A → T → A → F → Type 0} {f : F} 
 
   -- none is left
   pub folded-all : left ≡ [] → FoldRun step f init all value reached
-  folded-all none =
-      folded-rest so_far value reached (subst (λ items. FoldRun step reached value items value reached) (sym none) refl)
+  folded-all none = folded-rest so_far value reached (rw none refl)

@@ -4,7 +4,7 @@ use Rattle.ga_views.specs.Entries.{ActsInFold, FoldAt}
 use Rattle.ga_views.specs.Runs.{ClosureRun, TryClosureRun, FoldRun}
 use Rattle.ga_views.specs.Tries.{try_map}
 use Rattle.std.proofs.Common.{◌≡◌, ℕ, ◌+◌, ◌<◌, List, [], ◌∷◌, Result, Ok, Err, inl, inr, ap, arith, fold, map, refl}
-use Rattle.std.proofs.Common.{subst, sym, ◌∙◌, map-id, sum_by}
+use Rattle.std.proofs.Common.{sym, ◌∙◌, map-id, sum_by}
 use Rattle.std.proofs.lemmas.List.Sums.{sum_by-append, sum_by-cons}
 
 module _ {F X Y Z : Type 0} (step : F → X → Y → F → Type 0) (f : F) (view : Y → Z) (h : X → Z) where
@@ -14,8 +14,7 @@ module _ {F X Y Z : Type 0} (step : F → X → Y → F → Type 0) (f : F) (vie
   views_of_run [] [] last run acts = refl
   views_of_run (x ∷ xs) (y ∷ ys) last run acts =
       let call = acts x y run.0 run.1 in
-      let others = views_of_run xs ys last (subst (λ k. ClosureRun step k xs ys last) call.0 run.2) acts in
-      cc (call.1, others)
+      cc (call.1, views_of_run xs ys last (rw call.0 at run.2) acts)
   views_of_run _ _ last run acts = absurd run
 
 module _ {F X Y : Type 0} (step : F → X → Y → F → Type 0) (f : F) (h : X → Y)

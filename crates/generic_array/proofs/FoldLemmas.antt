@@ -4,7 +4,7 @@ use Rattle.ga_core.proofs.CallLemmas.{stays-fold}
 use Rattle.ga_core.specs.Entries.{FoldAt}
 use Rattle.ga_core.specs.Runs.{FoldRun, TryFoldRun, good_step}
 use Rattle.generic_array.specs.GivenEntries.{GivesEntries, SomeEntries}
-use Rattle.std.proofs.Common.{◌≡◌, List, [], ◌∷◌, ◌++◌, inr, Result, Ok, Err, Option, None, Some, refl, ap, sym, ◌∙◌, subst}
+use Rattle.std.proofs.Common.{◌≡◌, List, [], ◌∷◌, ◌++◌, inr, Result, Ok, Err, Option, None, Some, refl, ap, sym, ◌∙◌}
 use Rattle.std.specs.Iterator.{AlwaysYields, Count, IsFinite}
 
 module _ {S I T : Type 0} (steps : S → Option I → S → Type 0) (entry : I → T) where
@@ -48,13 +48,12 @@ module _ {S I T F A B : Type 0} {can : S → Type 0} {steps : S → Option I →
   pub FoldLoop-entry : (s : S) → s ≡ entries
       → SomeEntries can steps remaining entries (λ (entry : I → T). MayFoldAlong pre step entry f₀ a₀)
       → FoldLoop T can steps remaining pre step Run entries f₀ a₀ s f₀ a₀
-  FoldLoop-entry s same asked = subst (λ it. FoldLoop T can steps remaining pre step Run entries f₀ a₀ it f₀ a₀)
-      (sym same) (record {
-        may = asked.2.0;
-        ends = asked.2.1;
-        callable = (asked.0, asked.1, asked.2.2, asked.3);
-        joins = λ entry values gives. (values, gives.2, λ b last run. run);
-      })
+  FoldLoop-entry s same asked = rw same (record {
+    may = asked.2.0;
+    ends = asked.2.1;
+    callable = (asked.0, asked.1, asked.2.2, asked.3);
+    joins = λ entry values gives. (values, gives.2, λ b last run. run);
+  })
 
   module _ {s : S} {f : F} {a : A} (loop : FoldLoop T can steps remaining pre step Run entries f₀ a₀ s f a) where
     -- the call at the item that comes may be made

@@ -3,10 +3,9 @@ use Rattle.std.proofs.Common.{◌≡◌, ℕ, zero, suc, ◌+◌, ◌*◌, ◌/�
 use Rattle.std.proofs.Common.{refl, arith, get_or, length, length-append, length-drop, map, Some, slice_get}
 use Rattle.std.proofs.lemmas.Option.{slice_get_read}
 use Rattle.ga_core.proofs.RowLemmas.{rows-few, rows-first}
-use Rattle.std.proofs.Math.Seq.{drop-append_seam, take-append_seam}
 use Rattle.generic_array.specs.Rows.{row_at, rows}
 use Rattle.std.proofs.Math.Nat.{suc-mul}
-use Rattle.std.proofs.lemmas.List.{nil_from_length, same_from_push, take-append-drop, take_all}
+use Rattle.std.proofs.lemmas.List.{drop_at, nil_from_length, same_from_push, take-append-drop, take_all, take_at}
 use Rattle.std.proofs.lemmas.Nat.{div-mul-add}
 use Rattle.std.proofs.lemmas.List.Elements.{All-head, All-tail}
 use Rattle.std.proofs.lemmas.List.Folds.{flat_map-map}
@@ -48,10 +47,11 @@ module _ {X : Type 0} (width : ℕ) (some : 0 < width) where
   rows-of_joined (row ∷ others) wide =
       let long = All-head (λ r. length r ≡ width) row others wide in
       let rest = flat_map (λ r. r) others in
-      let first : take width (row ++ rest) ≡ row = rw (← long) (take-append_seam row rest) in
-      let after : drop width (row ++ rest) ≡ rest = rw (← long) (drop-append_seam row rest) in
-      rows-first width (row ++ rest) some (omega (arith, length-append row rest, long))
-      ∙ rw (first, after, rows-of_joined others (All-tail (λ r. length r ≡ width) row others wide))
+      rows-first width (row ++ rest) some (omega (arith, length-append row rest, long)) ∙ rw (
+        take_at row rest width long,
+        drop_at row rest width long,
+        rows-of_joined others (All-tail (λ r. length r ≡ width) row others wide),
+      )
 
   -- items cut into rows, and joined again
   pub joined-of_rows : (count : ℕ) (items : List X) → length items ≡ count * width

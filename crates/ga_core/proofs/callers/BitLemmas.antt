@@ -1,6 +1,6 @@
 -- Bits set next to each other, asked for by a mask, and masks of all bits and of none.
 use Rattle.std.proofs.Common.{◌≡◌, ℕ, zero, suc, ◌+◌, ◌*◌, ◌/◌, ◌%◌, ◌<◌, ◌≤◌, ◌^◌, ◌∙◌, ap, arith, bit_and, bit_or, nat_eq, refl}
-use Rattle.std.proofs.Common.{lit≤, sym}
+use Rattle.std.proofs.Common.{lit≤}
 use Rattle.std.proofs.Math.Nat.{suc-mul}
 use Rattle.std.proofs.lemmas.Bool.Decides.{nat_tests}
 use Rattle.std.proofs.lemmas.Grind.{common_steps, low_zeros}
@@ -44,8 +44,7 @@ or_none a b none = rw none (or_comm a 0)
 
 -- a number below a power of two, next to a multiple of it
 next-to : (x c b : ℕ) → c ≡ 2 ^ low_zeros 128 c → b < c → bit_or (x * c) b ≡ x * c + b
-next-to x c b power low = ap (λ y. bit_or (x * y) b) power
-    ∙ (or_shifted x (low_zeros 128 c) b (omega (arith, low, power)) ∙ ap (λ y. x * y + b) (sym power))
+next-to x c b power low = rw power (or_shifted x (low_zeros 128 c) b (omega (arith, low, power)))
 
 at_most : (x c : ℕ) → x < 2 → x * c ≤ c
 at_most zero c bit = omega arith

@@ -15,8 +15,7 @@ pub in_order_written : (old new : List ℕ) (i j d : ℕ) → IsSorted nat_cmp n
     → get_or (refill (length old) old new) i d ≤ get_or (refill (length old) old new) j d
 in_order_written old new i j d sorted long low inside =
     let all : refill (length old) old new ≡ new = take_at new (drop (length new) old) (length old) long in
-    subst (λ xs. get_or xs i d ≤ get_or xs j d) (sym all)
-    (IsNonDecreasingBy-from_sort (λ x. x) new sorted i j d low (subst (λ xs. j < length xs) all inside))
+    rw all (IsNonDecreasingBy-from_sort (λ x. x) new sorted i j d low (rw all at inside))
 
 pub ruleset ordered = (in_order_written)
 

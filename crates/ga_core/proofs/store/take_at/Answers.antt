@@ -8,8 +8,5 @@ returns-clause-left g c =
     let at = c.args.slot % 65536 in
     let here : at ≡ c.args.slot = mod-eq_of_lt (omega (arith, c.requires.fits, c.requires.in_bounds)) in
     let blank = c.take.new.dest in
-    let after = g.S.Store.store_with c.args.store.now (slice_set items at blank) in (
-      blank,
-      refill-set items items (g.S.Store.items after.0) at blank refl after.1
-          ∙ ap (λ k. slice_set items k blank) here,
-    )
+    let written = refill-set items items _ at blank refl (g.S.Store.store_with c.args.store.now _).1 in
+    (blank, written ∙ ap (λ k. slice_set items k blank) here)

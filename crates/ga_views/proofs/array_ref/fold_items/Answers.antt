@@ -1,9 +1,7 @@
 use Rattle.ga_views.proofs.CallLemmas.{may_fold-at}
 use Rattle.ga_views.proofs.CutLemmas.{cut-at, take-one}
 use Rattle.ga_views.proofs.array_ref.fold_items.Goals as goal
-use Rattle.ga_views.specs.Entries.{FoldAt}
-use Rattle.ga_views.specs.Runs.{FoldRun}
-use Rattle.std.proofs.Common.{refl, subst, take}
+use Rattle.std.proofs.Common.{refl, take}
 use Rattle.std.proofs.lemmas.Fn.{FoldsTo-push}
 use Rattle.std.proofs.lemmas.List.{take_all}
 
@@ -24,7 +22,4 @@ loop-item-preserved g c =
     (c.f-answer.new.self, c.f-answer.result) at.invariant (_, refl, c.f-answer.ensures))
 
 pub returns : goal.returns
-returns g c =
-    let at = c.loop-item in
-    subst (λ passed. FoldRun (FoldAt (λ item. item.now) (goal.F-step g)) c.args.f.now c.args.init passed at.answer at.f)
-    (take_all at.item-index c.args.items.now c.loop-item-test.false) at.invariant
+returns g c = rw (take_all c.loop-item.item-index c.args.items.now c.loop-item-test.false) at c.loop-item.invariant

@@ -2,9 +2,8 @@ use Rattle.ga_core.proofs.SlotLemmas.{refill-long}
 use Rattle.ga_core.proofs.array.GenericArray.as_mut_slice.Goals as goal
 use Rattle.ga_views.proofs.PartLemmas.{part-all}
 use Rattle.ga_views.specs.Parts.{part_set}
-use Rattle.std.proofs.Common.{◌≡◌, ◌∙◌, ap, length, refl, sym, take}
+use Rattle.std.proofs.Common.{◌≡◌, ◌∙◌, ap, length, refl, sym}
 use Rattle.std.proofs.Math.Seq.{take-length}
-use Rattle.std.specs.List.{refill}
 
 pub returns : goal.returns
 returns g c =
@@ -12,13 +11,11 @@ returns g c =
     let count = c.USIZE.result in
     let long : count ≡ length items = c.USIZE.ensures ∙ sym c.self.invariant.0 in
     let shown : c.part_mut.result.now ≡ c.args.self.now =
-    c.part_mut.ensures.items ∙ (ap (λ k. take k items) long ∙ (take-length items ∙ c.self.view_is)) in (
+    (rw (long, take-length items) at c.part_mut.ensures.items) ∙ c.self.view_is in (
       (
         refl,
-        λ w.
-            (g.N.ArrayType.Store.store_with c.self.inside.store (part_set 0 count items w)).1
-            ∙ (ap (λ k. refill (length items) items (part_set 0 k items w)) long
-            ∙ (part-all items w ∙ ap (λ l. refill (length l) l w) c.self.view_is)),
+        λ w. (g.N.ArrayType.Store.store_with c.self.inside.store (part_set 0 count items w)).1
+            ∙ rw (long, part-all items w, c.self.view_is) refl,
       ),
       record {
         writes_back = tt;

@@ -1,12 +1,11 @@
 use Rattle.ga_core.proofs.MoveLemmas.{pushed-next}
 use Rattle.ga_core.proofs.array.conversions.push_items.Goals as goal
-use Rattle.std.proofs.Common.{◌<◌, ◌≡◌, ◌≤◌, ◌∙◌, ap, arith, length, slice_index_or, subst, sym, take_all}
+use Rattle.std.proofs.Common.{◌<◌, ◌≡◌, ◌≤◌, ◌∙◌, ap, arith, length, slice_index_or, sym, take_all}
 
 pub loop-slot-preserved : goal.loop-slot-preserved
 loop-slot-preserved g c =
     let at = c.loop-slot in
-    let some : at.slot-index < length at.slots = subst (λ n. at.slot-index < n)
-    (sym at.auto.slots) c.loop-slot-test.true in
+    let some : at.slot-index < length at.slots = rw at.auto.slots c.loop-slot-test.true in
     let this : c.take.result ≡ slice_index_or at.slots at.slot-index c.take.result =
     c.take.ensures.value ∙ ap (slice_index_or at.slots at.slot-index) (c.slot-item.is ∙ sym c.take.ensures.value) in
     let moved = pushed-next at.slot-index c.args.slots.now at.slots at.items.items c.push_reserved.new.self.items

@@ -2,8 +2,7 @@ use Rattle.ga_core.proofs.LeftLemmas.{count, left-kept}
 use Rattle.ga_core.proofs.array_iter.GenericArrayIter.as_mut_slice.Goals as goal
 use Rattle.ga_views.proofs.PartLemmas.{part-within}
 use Rattle.ga_views.specs.Parts.{part_set}
-use Rattle.std.proofs.Common.{◌-◌, ◌∙◌, ap, arith, refl, sym}
-use Rattle.std.specs.List.{refill}
+use Rattle.std.proofs.Common.{◌-◌, ◌∙◌, arith, refl}
 
 pub invariant_of-self-lent : goal.invariant_of-self-lent
 invariant_of-self-lent g c w =
@@ -20,11 +19,9 @@ returns g c =
     let len = c.self.inside.back - front in (
       (
         refl,
-        λ w.
-            let after = g.N.ArrayType.Store.store_with c.self.inside.store (part_set front len items w) in
-            part-within front len items w (g.N.ArrayType.Store.items after.0) (omega (arith, lies.0, lies.1)) after.1
-            ∙ (ap (λ l. refill len l w) c.self.view_is
-            ∙ ap (λ k. refill k c.args.self.now w) (sym (count items _ lies c.self.view_is))),
+        λ w. part-within front len items w _ (omega (arith, lies.0, lies.1))
+            (g.N.ArrayType.Store.store_with c.self.inside.store _).1
+            ∙ rw (c.self.view_is, count items _ lies c.self.view_is) refl,
       ),
       record { writes_back = tt; items = c.part_mut.ensures.items ∙ c.self.view_is },
     )

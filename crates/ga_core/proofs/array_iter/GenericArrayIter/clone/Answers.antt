@@ -27,9 +27,8 @@ returns-in-Ok g c =
     let len = length c.as_slice-items.result.now in
     let room = front-room len items c.part_mut.result.now c.part_mut.ensures.items c.as_slice-items.ensures.bound
     c.with_defaults-store.ensures.len g.met.N.ArrayLength.capacity_is in
-    let after = g.N.ArrayType.Store.store_with c.with_defaults-store.result (part_set 0 len items copies) in
-    let stands = front-written len items copies (g.N.ArrayType.Store.items after.0) room.0
-    (c.write_clones.auto.slots ∙ room.1) after.1 in
+    let stands = front-written len items copies _ room.0 (c.write_clones.auto.slots ∙ room.1)
+    (g.N.ArrayType.Store.store_with c.with_defaults-store.result _).1 in
     let clones = made-of (AllZip g.T.Clone.is_clone) c.as_slice-items.ensures.items (c.from_store.ensures ∙ stands)
     c.in-Ok.ensures.items in
     record {

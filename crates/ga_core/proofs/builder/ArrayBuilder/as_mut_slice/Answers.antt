@@ -2,8 +2,7 @@ use Rattle.ga_core.proofs.SlotLemmas.{refill-long}
 use Rattle.ga_core.proofs.builder.ArrayBuilder.as_mut_slice.Goals as goal
 use Rattle.ga_views.proofs.PartLemmas.{part-within}
 use Rattle.ga_views.specs.Parts.{part_set}
-use Rattle.std.proofs.Common.{◌≡◌, ◌≤◌, ◌∙◌, ap, arith, length, length-take, refl, sym}
-use Rattle.std.specs.List.{refill}
+use Rattle.std.proofs.Common.{◌≡◌, ◌≤◌, ◌∙◌, ap, arith, length, length-take, refl}
 
 pub invariant_of-self-lent : goal.invariant_of-self-lent
 invariant_of-self-lent g c w =
@@ -22,10 +21,8 @@ returns g c =
     let shown = c.part_mut.ensures.items ∙ c.self.view_is in (
       (
         refl,
-        λ w.
-            let after = g.N.ArrayType.Store.store_with c.self.inside.store (part_set 0 len items w) in
-            part-within 0 len items w (g.N.ArrayType.Store.items after.0) (omega (arith, within)) after.1
-            ∙ (ap (λ l. refill len l w) c.self.view_is ∙ ap (λ k. refill k c.args.self.now w) (sym count)),
+        λ w. part-within 0 len items w _ (omega (arith, within))
+            (g.N.ArrayType.Store.store_with c.self.inside.store _).1 ∙ rw (c.self.view_is, count) refl,
       ),
       record {
         writes_back = tt;

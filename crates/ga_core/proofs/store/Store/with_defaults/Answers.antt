@@ -1,15 +1,14 @@
 use Rattle.ga_core.proofs.store.Store.with_defaults.Goals as goal
-use Rattle.std.proofs.Common.{ap, length, length-append, ◌∙◌, ◌∷◌, [], ◌≡◌, ◌+◌, ◌≤◌, ℕ, arith, subst, sym, All}
+use Rattle.std.proofs.Common.{length-append, ◌∷◌, [], ◌≡◌, ◌≤◌, ℕ, arith, refl}
 use Rattle.std.proofs.lemmas.List.Elements.{All-push}
 
 pub loop-slot-preserved : goal.loop-slot-preserved
 loop-slot-preserved g c =
     let before = g.Self.Store.items c.loop-slot.store in
     record {
-      items = subst (All g.T.Default.is_default) (sym c.push.ensures)
+      items = rw c.push.ensures
           (All-push g.T.Default.is_default before c.default.result c.loop-slot.invariant.items c.default.ensures);
-      long = ap length c.push.ensures ∙ (length-append before (c.default.result ∷ [])
-          ∙ ap (λ n. n + 1) c.loop-slot.invariant.long);
+      long = rw (c.push.ensures, length-append before (c.default.result ∷ []), c.loop-slot.invariant.long) refl;
     }
 
 -- what is as long as the place where a loop ended is as long as its end

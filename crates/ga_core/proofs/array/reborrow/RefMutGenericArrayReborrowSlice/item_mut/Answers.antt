@@ -1,6 +1,6 @@
 use Rattle.ga_core.proofs.SlotLemmas.{refill-long, refill-set}
 use Rattle.ga_core.proofs.array.reborrow.RefMutGenericArrayReborrowSlice.item_mut.Goals as goal
-use Rattle.std.proofs.Common.{◌<◌, ◌∙◌, ap, length, refl, slice_set, subst, sym, slice_index_or}
+use Rattle.std.proofs.Common.{◌∙◌, ap, refl, slice_set}
 
 pub returns : goal.returns
 returns g c =
@@ -8,23 +8,15 @@ returns g c =
     let index = c.args.index in (
       (
         refl,
-        λ w.
-            let after = g.N.ArrayType.Store.store_with c.array.inside.store (slice_set items index w) in
-            let shown = refill-set items items (g.N.ArrayType.Store.items after.0) index w refl after.1
-            ∙ ap (λ items. slice_set items index w) c.array.view_is in
-            ap (λ now. record c.args.self.now { now = now }) shown,
+        λ w. ap (λ now. record c.args.self.now { now = now })
+            (refill-set items items _ index w refl (g.N.ArrayType.Store.store_with c.array.inside.store _).1
+            ∙ ap (λ items. slice_set items index w) c.array.view_is),
       ),
-      record {
-        writes_back = tt;
-        item = c.item_mut.ensures.item
-            ∙ ap (λ items. slice_index_or items index c.item_mut.result.now) c.array.view_is;
-      },
+      record { writes_back = tt; item = rw c.array.view_is at c.item_mut.ensures.item },
     )
 
 pub item_mut-requires : goal.item_mut-requires
-item_mut-requires g c = record {
-  in_bounds = subst (λ items. c.args.index < length items) (sym c.array.view_is) c.requires.in_bounds;
-}
+item_mut-requires g c = record { in_bounds = rw c.array.view_is c.requires.in_bounds }
 
 pub invariant_of-array-lent : goal.invariant_of-array-lent
 invariant_of-array-lent g c = λ w.

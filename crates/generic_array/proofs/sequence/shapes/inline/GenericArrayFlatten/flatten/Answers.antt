@@ -14,21 +14,16 @@ loop-row-preserved g c =
     let left = c.next.new.self in
     let first : c.loop-row.row-iterator ≡ row ∷ left = c.in-Some.ensures.steps in
     let moved = c.move_into.ensures.moved in
+    let width = c.move_into.ensures.width in
+    let rows_left = ap (λ these. length these * w) first ∙ suc-mul (length left) w in
+    let longer = length-append c.loop-row.joined (g.I.AsSlice.items row) in
     record {
       can = tt;
       ends = tt;
       same = rw (moved, append_assoc) (rw first at c.loop-row.invariant.same);
       wide = λ others. c.loop-row.invariant.wide (rw first (All-cons (λ r. length r ≡ w) (g.I.AsSlice.items row)
-          (map g.I.AsSlice.items left) c.move_into.ensures.width others));
-      long = omega (
-        arith,
-        ap (λ these. length these * w) first,
-        suc-mul (length left) w,
-        c.loop-row.invariant.long,
-        ap length moved,
-        c.move_into.ensures.width,
-        length-append c.loop-row.joined (g.I.AsSlice.items row),
-      );
+          (map g.I.AsSlice.items left) width others));
+      long = omega (arith, rows_left, c.loop-row.invariant.long, ap length moved, width, longer);
     }
 
 pub returns-clause-joined : goal.returns-clause-joined

@@ -1,8 +1,7 @@
 use Rattle.generic_array.proofs.ShapeLemmas.{joined-of_rows, map-row_at}
 use Rattle.generic_array.proofs.sequence.shapes.inline.GenericArrayUnflattenGenericArrayGenericArray.unflatten.Goals as goal
 use Rattle.generic_array.specs.Rows.{row_at}
-use Rattle.std.proofs.Common.{◌≡◌, ◌+◌, ◌*◌, [], ◌∷◌, ◌++◌, ◌∙◌, ap, arith, drop, length, map, sym, take}
-use Rattle.std.proofs.Math.Nat.{suc-mul}
+use Rattle.std.proofs.Common.{◌≡◌, ◌+◌, ◌*◌, ◌∙◌, ap, arith, length, map, refl, take}
 use Rattle.std.proofs.lemmas.List.{drop-drop}
 use Rattle.std.proofs.lemmas.List.FromFn.{map-range_with_len_more}
 use Rattle.std.specs.List.{flat_map, range_with_len}
@@ -19,29 +18,22 @@ loop-row-preserved g c =
     let more = c.push.ensures.len in
     let row_of = row_at w items in
     let cut : row ≡ row_of place = c.next_array.ensures.first ∙ ap (take w) behind in
-    let next : place * w + w ≡ (place + 1) * w = sym (suc-mul place w) ∙ ap (λ k. k * w) (omega arith) in
+    let next : place * w + w ≡ (place + 1) * w = omega arith in
+    let rows = map-range_with_len_more row_of 0 place place (omega arith) in
     record {
       count = omega (arith, more, c.loop-row.invariant.count);
-      made = c.push.ensures.items ∙ (ap (λ rows. rows ++ row ∷ []) made
-          ∙ (ap (λ r. map row_of (range_with_len 0 place) ++ r ∷ []) cut
-          ∙ (sym (map-range_with_len_more row_of 0 place place (omega arith))
-          ∙ ap (λ n. map row_of (range_with_len 0 n)) (omega (arith, more)))));
-      left = c.next_array.ensures.left ∙ (ap (drop w) behind ∙ (drop-drop w (place * w) items
-          ∙ (ap (λ k. drop k items) next ∙ ap (λ n. drop (n * w) items) (sym more))));
+      made = rw (more, c.push.ensures.items, rows, ← made, ← cut) refl;
+      left = rw (more, c.next_array.ensures.left, behind, drop-drop w (place * w) items, next) refl;
     }
 
 pub returns-clause-cut : goal.returns-clause-cut
 returns-clause-cut g c =
     let items = c.args.self in
     let long = c.into_iter-items.ensures.into_iter_gives.3 ∙ c.requires.0 in
-    let all : length c.loop-row.rows ≡ g.R.Unsigned.USIZE = omega (
-      arith,
-      c.loop-row.invariant.count,
-      c.loop-row-test.false,
-      c.loop-row.auto._row-end,
-      c.USIZE-row-end.ensures,
-    ) in
-    c.finish.ensures ∙ (c.loop-row.invariant.made
+    let at = c.loop-row in
+    let all : length at.rows ≡ g.R.Unsigned.USIZE =
+    omega (arith, at.invariant.count, c.loop-row-test.false, at.auto._row-end, c.USIZE-row-end.ensures) in
+    c.finish.ensures ∙ (at.invariant.made
     ∙ (ap (λ n. map (row_at g.W.Unsigned.USIZE items) (range_with_len 0 n)) all
     ∙ map-row_at g.W.Unsigned.USIZE g.R.Unsigned.USIZE items c.requires.1 long))
 

@@ -1,7 +1,14 @@
 -- `split` cuts the slice of a view and makes a view of each part, so the slice ends as what the two views' slices
 -- end as, one after the other. The borrow checker shows no clause on two parts where they are passed on to a call
 -- that makes views of them, so this proof walks the code by hand. Assumes `Logic`.
-use Prim.Native.Nat.{ℕ}
+use Rattle.ga_core.proofs.walks.Names
+use Names.{addr, agg, alloc_all, and_then, ap, arith, Array, by, Dict, drop, drop_list, emp, Ended, enter, fact, fact_i}
+use Names.{field_told, fjoin, fld, flft, follows_both, framed, free_all, from, ftrue, get, get_in, GName, Goes-blank}
+use Names.{group, heard, hop, id⊢, Is, join, lands_as, Laws, leaves, length, Lft, List, look_at, look_in_at, move}
+use Names.{mut_slice_vals, named, NamedLft, no, no_more, nothing, of_opd, only, owns, param, param_laws, pass_all}
+use Names.{peeks, plain, proved, qed, RattleType, raw, refl, returns, rewrite, sets, shows, Slot, split, split3}
+use Names.{stay_dropped, Stays, stop, sub, sym, tables, take, Told, Tuple, tuple_laws, use0, Val, walk_of, whole, !, []}
+use Names.{‵, ℕ, ◌$◌, ◌++◌, ◌+◌, ◌∙◌, ◌∵◌, ◌∷◌, ◌≡◌, ◌≤◌, ◌⊑◌, ◌⊛◌}
 use Rattle.ga_core.below.ga_views.proofs.view_mut.ViewMut+mut+slice+T+T+N.into_mut_slice.Met as taken
 use Rattle.ga_core.below.ga_views.specs.contracts.view_mut.ViewMut+mut+slice+T+T+N.into_mut_slice as take_contract
 use Rattle.ga_core.below.ga_views.specs.contracts.reborrow.RefMutSliceReborrowSlice.TheImpl as impl
@@ -16,39 +23,9 @@ use Rattle.generic_array.proofs.sequence.shapes.views.GenericArrayMutSplit.split
 use Rattle.generic_array.proofs.sequence.shapes.views.views_of.Met as made
 use Rattle.generic_array.specs.contracts.sequence.shapes.views.GenericArrayMutSplit.split as F
 use Rattle.generic_array.specs.contracts.sequence.shapes.views.views_of as make_contract
-use Rattle.std.proofs.Common.{◌≡◌, ◌+◌, ◌++◌, ◌≤◌, [], ◌∷◌, ◌∙◌, ap, arith, drop as drop_l, length, List, refl, sym}
-use Rattle.std.proofs.Common.{take}
-use Rattle.std.proofs.alloc.Calls.{Goes-blank}
-use Rattle.std.proofs.raw_atomic.Walks.{leaves, proved}
 use Rattle.std.proofs.slice.slice+T.split_at_mut.Met as cut
-use base.Fml.{flft, ftrue, GName, Lft}
-use base.Logic.{emp, id⊢}
-use contract.BorrowLft.{◌⊑◌}
-use contract.Monad.{fact, fact_i}
-use contract.Running.{tables}
-use denote.Array.{Array}
-use denote.Exit.{no}
-use denote.Follow.{follows_both}
-use denote.Laws.{Is, shows}
-use denote.Param.Laws.{field_told, Laws, param_laws, Told}
-use denote.Param.{param}
-use denote.RattleType.{owns, RattleType}
-use denote.Ref.{NamedLft}
-use denote.Signature.{plain, Slot}
-use denote.Slice.{mut_slice_vals}
-use denote.Steps.{heard, nothing, only, peeks}
 use denote.Struct.Field.{mut_slice_field}
 use denote.Struct.Laws.{mut_slice_laws}
-use denote.Struct.Tuple.{Tuple, tuple_laws}
-use denote.Triple.Clauses.{Ended}
-use denote.Triple.Table.{framed}
-use denote.Triple.Walked.{stay_dropped, Stays, walk_of}
-use mir.Syntax.{Dict, named}
-use mir.Val.{Val}
-use types.ByLocal.{alloc_all, free_all, get, get_in, lands_as, look_at, look_in_at, pass_all, sets}
-use types.Kit.{‵, ◌⊛◌, ◌$◌, ◌∵◌, !, by, drop, fjoin, group, join, move, qed, raw, rewrite, split, split3, use0}
-use types.Part.{agg, sub, whole}
-use types.Run.{addr, and_then, enter, fld, from, hop, no_more, of_opd, returns, stop}
 
 -- the slice, and a view whose length's type is the i-th parameter
 module _ (X : RattleType) (κ : Lft) where
@@ -174,9 +151,9 @@ split_spec 𝓤 𝓛 𝓜 𝓡 wired X N K P LX LN LK LP gN dN gK dK gP dP bound
     (1 ∷ 2 ∷ 0 ∷ 3 ∷ []) $ group ! 4 $
     -- [all tokens; the views; nothing; what follows]
     nothing ! $ move ! (0 ∷ 3 ∷ []) $ fjoin ! $
-    use0 𝓛 (raw (fact 𝓤 (w.1.slice.now ≡ drop_l gK.USIZE a.0.slice.now)))
+    use0 𝓛 (raw (fact 𝓤 (w.1.slice.now ≡ drop_list gK.USIZE a.0.slice.now)))
     (fact_i 𝓤 _ (emp 𝓤) (ap (λ (x : Part.Denot). x.now) of_second ∙ parts.second_is
-    ∙ (λ i. drop_l (is_K i) (same i).now))) $
+    ∙ (λ i. drop_list (is_K i) (same i).now))) $
     use0 𝓛 (raw (fact 𝓤 (w.0.slice.now ≡ take gK.USIZE a.0.slice.now)))
     (fact_i 𝓤 _ (emp 𝓤) (ap (λ (x : Part.Denot). x.now) of_first ∙ parts.first_is ∙ (λ i. take (is_K i) (same i).now)))
     $

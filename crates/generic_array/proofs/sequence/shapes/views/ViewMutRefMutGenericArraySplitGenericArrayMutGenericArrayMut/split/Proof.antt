@@ -1,6 +1,13 @@
 -- `split` of the view of an array lends the array's slice and cuts the view of that, so the array ends as what the two
 -- views' slices end as, one after the other. The borrow checker shows no clause on two parts of what is lent on, so
 -- this proof walks the code by hand. Assumes `Logic`.
+use Rattle.ga_core.proofs.walks.Names
+use Names.{addr, alloc_all, and_then, ap, Array, by, drop, drop_list, emp, Ended, enter, fact, fact_i, feq_l, fjoin}
+use Names.{fld, flft, fpick, framed, free_all, from, fsplit, ftrue, get, Goes-blank, group, heard, hop, id⊢, Is}
+use Names.{lands_as, leaves, length, Lft, List, look_at, look_in_at, move, mut_Tells, mut_vals, named, NamedLft, no}
+use Names.{no_more, nothing, only, owns, param, pass_all, peeks, plain, proved, qed, RattleType, raw, refl, returns}
+use Names.{rewrite, sets, shows, Slot, split, split3, stay_dropped, Stays, stop, sub, tables, take, Tuple, tuple_laws}
+use Names.{use0, use2, Val, walk_of, whole, !, [], ‵, ◌$◌, ◌++◌, ◌+◌, ◌∙◌, ◌∵◌, ◌∷◌, ◌≡◌, ◌⊑◌, ◌⊛◌}
 use Rattle.ga_core.below.ga_views.proofs.view_mut.ViewMut+mut+slice+T+T+N.from_mut_slice.Met as viewed
 use Rattle.ga_core.below.ga_views.specs.contracts.view_mut.ViewMut+mut+slice+T+T+N.from_mut_slice as view_contract
 use Rattle.ga_core.proofs.walks.ArrayLaws.{Items, Lent, LentView, view_laws, view_told}
@@ -18,33 +25,6 @@ use Rattle.generic_array.proofs.sequence.shapes.views.ViewMutRefMutGenericArrayS
 use Rattle.generic_array.proofs.sequence.shapes.views.ViewMutRefMutGenericArraySplitGenericArrayMutGenericArrayMut.split.Statement.{statement}
 use Rattle.generic_array.specs.contracts.sequence.shapes.views.GenericArrayMutSplit.split as halve_contract
 use Rattle.generic_array.specs.contracts.sequence.shapes.views.ViewMutRefMutGenericArraySplitGenericArrayMutGenericArrayMut.split as F
-use Rattle.std.proofs.Common.{◌≡◌, ◌+◌, ◌++◌, [], ◌∷◌, ◌∙◌, ap, drop as drop_l, length, List, refl, take}
-use Rattle.std.proofs.alloc.Calls.{Goes-blank}
-use Rattle.std.proofs.raw_atomic.Walks.{leaves, proved}
-use base.Fml.{flft, ftrue, Lft}
-use base.Logic.{emp, id⊢}
-use contract.BorrowLft.{◌⊑◌}
-use contract.Monad.{fact, fact_i}
-use contract.Running.{tables}
-use denote.Array.{Array}
-use denote.Exit.{no}
-use denote.Laws.{Is, shows}
-use denote.Param.{param}
-use denote.RattleType.{owns, RattleType}
-use denote.Ref.{mut_Tells, mut_vals, NamedLft}
-use denote.Signature.{plain, Slot}
-use denote.Steps.{heard, nothing, only, peeks}
-use denote.Struct.Tuple.{Tuple, tuple_laws}
-use denote.Triple.Clauses.{Ended}
-use denote.Triple.Table.{framed}
-use denote.Triple.Walked.{stay_dropped, Stays, walk_of}
-use mir.Syntax.{named}
-use mir.Val.{Val}
-use types.ByLocal.{alloc_all, free_all, get, lands_as, look_at, look_in_at, pass_all, sets}
-use types.Kit.{‵, ◌⊛◌, ◌$◌, ◌∵◌, !, by, drop, feq_l, fjoin, fpick, fsplit, group, move, qed, raw, rewrite, split}
-use types.Kit.{split3, use0, use2}
-use types.Part.{sub, whole}
-use types.Run.{addr, and_then, enter, fld, from, hop, no_more, returns, stop}
 
 pub split_spec : {M : Type 1} → statement M
 split_spec 𝓤 𝓛 𝓜 𝓡 wired X N K P A LX LN LK LP LA gL dL gN dN gS dS gK dK gP dP dA boundL boundN boundS boundK boundP
@@ -130,7 +110,7 @@ split_spec 𝓤 𝓛 𝓜 𝓡 wired X N K P A LX LN LK LP LA gL dL gN dN gS dS 
     (halve_contract.clauses X N K P gN dN gK dK gP dP 𝓛 𝓜.mem 𝓡.returns) (κ, (κT, (κN, (κK, (κP, tt)))))
     (qs.0, (qs.1.0, (qs.1.1.0, (qs.1.1.1.0, (qs.1.1.1.1.0, tt))))) (bounds.0, tt) (w, tt) (u ∷ [], tt) tt
     (λ r. ‵ (LendsHalves E w.slice r.0.slice r.1.slice) ⊛ raw (fact 𝓤 (r.0.slice.now ≡ take gK.USIZE w.slice.now)) ⊛
-    raw (fact 𝓤 (r.1.slice.now ≡ drop_l gK.USIZE w.slice.now))) ! (framed 𝓤 𝓛.H 𝓜 𝓣)
+    raw (fact 𝓤 (r.1.slice.now ≡ drop_list gK.USIZE w.slice.now))) ! (framed 𝓤 𝓛.H 𝓜 𝓣)
     (halved.met 𝓤 𝓛 𝓜 𝓡 (code.calls-generic_array::sequence::shapes::views::GenericArrayMutSplit::split 𝓡.env wired) X N
     K P LX LN LK LP gN dN gK dK gP dP boundN boundK boundP)
     (asked 𝓛 lT (asked 𝓛 lN (asked 𝓛 lK (asked 𝓛 lP (fact_i 𝓤 _ (emp 𝓤) sum))))) (id⊢ 𝓤 _) (λ u. id⊢ 𝓤 _)
@@ -151,8 +131,8 @@ split_spec 𝓤 𝓛 𝓜 𝓡 wired X N K P A LX LN LK LP LA gL dL gN dN gS dS 
     move ! (4 ∷ 5 ∷ 2 ∷ 3 ∷ 0 ∷ 8 ∷ 1 ∷ []) $ group ! 7 $
     nothing ! $ move ! (0 ∷ 4 ∷ []) $ fjoin ! $
     -- [nothing; all tokens; the array follows; the views]
-    use0 𝓛 (raw (fact 𝓤 (r.1.slice.now ≡ drop_l gK.USIZE x.now)))
-    (fact_i 𝓤 _ (emp 𝓤) (second_is ∙ ap (drop_l gK.USIZE) (ap (λ (s : Part.Denot). s.now) of_slice ∙ same))) $
+    use0 𝓛 (raw (fact 𝓤 (r.1.slice.now ≡ drop_list gK.USIZE x.now)))
+    (fact_i 𝓤 _ (emp 𝓤) (second_is ∙ ap (drop_list gK.USIZE) (ap (λ (s : Part.Denot). s.now) of_slice ∙ same))) $
     use0 𝓛 (raw (fact 𝓤 (r.0.slice.now ≡ take gK.USIZE x.now)))
     (fact_i 𝓤 _ (emp 𝓤) (first_is ∙ ap (take gK.USIZE) (ap (λ (s : Part.Denot). s.now) of_slice ∙ same))) $
     move ! (3 ∷ 2 ∷ 5 ∷ 4 ∷ []) $
