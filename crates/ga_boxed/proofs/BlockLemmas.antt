@@ -2,8 +2,8 @@
 -- items.
 use Rattle.ga_boxed.specs.Live.{Live}
 use Rattle.ga_core.proofs.CutLemmas.{taken-more}
-use Rattle.std.proofs.Common.{◌≡◌, ◌≢◌, ℕ, ◌+◌, ◌*◌, ◌^◌, ◌<◌, ◌≤◌, List, [], ◌∷◌, ◌++◌, length, ap, sym, ◌∙◌}
-use Rattle.std.proofs.Common.{arith, MatchOption, None, Option, Some, drop, length-drop, pos_of_ne-zero, subst, zero-mul}
+use Rattle.std.proofs.Common.{◌≡◌, ◌≢◌, ℕ, ◌+◌, ◌*◌, ◌^◌, ◌<◌, List, [], ◌∷◌, ◌++◌, length, ap, sym, ◌∙◌}
+use Rattle.std.proofs.Common.{arith, MatchOption, None, Option, Some, pos_of_ne-zero, subst, zero-mul}
 use Rattle.std.proofs.iter.Next.{Yields-more}
 use Rattle.std.proofs.lemmas.List.{length_push, nil_from_length}
 use Rattle.std.specs.Iterator.{Yields, YieldsFirst, YieldsLast}
@@ -11,28 +11,6 @@ use Rattle.std.specs.Iterator.{Yields, YieldsFirst, YieldsLast}
 -- none of any size fit
 pub none_fits : (n size : ℕ) → n ≡ 0 → n * size < 2 ^ 63
 none_fits n size none = subst (λ k. k * size < 2 ^ 63) (sym none) (omega (arith, zero-mul size))
-
--- the count has come to the end
-pub all_counted : (i n end : ℕ) → end ≤ i → i ≤ end → end ≡ n → i ≡ n
-all_counted i n end past within all = omega arith
-
--- one more is there, and room for one fewer
-pub one_more : (i k j n : ℕ) → i + k ≡ n → j + 1 ≡ k → i + 1 + j ≡ n
-one_more i k j n so_far fewer = omega arith
-
--- where nothing is left behind those passed over, there are no more
-pub none_behind : {T : Type 0} (passed : ℕ) (items left : List T) → left ≡ drop passed items → left ≡ []
-    → length items ≤ passed
-none_behind passed items left behind none = omega (arith, length-drop passed items, ap length behind, ap length none)
-
-module _ (made room all left : ℕ) where
-  -- where there is room, not all are there
-  pub not_all : made + room ≡ all → left ≡ room → 0 < left → made < all
-  not_all fits same some = omega arith
-
-  -- where there is none, all are there
-  pub all_there : made + room ≡ all → left ≡ room → left ≤ 0 → made ≡ all
-  all_there fits same none = omega arith
 
 module _ {T : Type 0} (before after : List T) (item : T) (grows : after ≡ before ++ item ∷ []) where
   -- one more is there
@@ -57,9 +35,9 @@ module _ {F X Y : Type 0} {Run : List X → List Y → F → Type 0} {passed : L
       → after.items ≡ block.items ++ y ∷ [] → after.room + 1 ≡ block.room → Run longer (block.items ++ y ∷ []) last
       → PutSoFar Run longer (n + 1) all after last
   put-next {after} y longer last so_far grows fewer run = record {
-    run = subst (λ ys. Run longer ys last) (sym grows) run;
+    run = rw grows run;
     long = long_more block.items after.items y grows n so_far.long;
-    room = one_more n block.room after.room all so_far.room fewer;
+    room = omega arith;
   }
 
 -- What a block holds was taken from an iterator, which may be asked on, and there is room for the others of all.
@@ -96,10 +74,6 @@ module _ {T : Type 0} (start end : ℕ) (block now : Live T) (seen : block ≡ n
       omega (arith, long, held, ap (λ b. length b.items) seen)
 
 module _ {T : Type 0} where
-  -- before the end some are left
-  pub some_left : (i n end : ℕ) (left : List T) → i + length left ≡ n → i < end → end ≡ n → left ≢ []
-  some_left i n end left so_far below all none = omega (arith, ap length none)
-
   -- one more was moved
   pub moved_more : (before after left others all : List T) (item : T) → after ≡ before ++ item ∷ []
       → before ++ left ≡ all → left ≡ item ∷ others → after ++ others ≡ all
