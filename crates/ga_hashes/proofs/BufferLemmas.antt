@@ -1,6 +1,6 @@
 -- Calls at blocks in turn, and messages that are fed.
 use Rattle.ga_hashes.specs.BlockBuffer.{HasFed, MayTake, TakesEach}
-use Rattle.ga_core.proofs.JoinLemmas.{chunk_rest-joined, rows-behind, rows-joined}
+use Rattle.ga_core.proofs.JoinLemmas.{chunk_rest-joined, rows-joined}
 use Rattle.ga_core.proofs.CallLemmas.{may_map-at}
 use Rattle.ga_core.proofs.JoinedRuns.{ClosureRun-join, MayMap-first, MayMap-second}
 use Rattle.ga_core.proofs.RowLemmas.{chunk_rest-few, rows-few}
@@ -83,30 +83,6 @@ module _ {V F : Type 0} {bytes_of : V → List ℕ} {step : F → V → Unit {0}
       (rw (← append_assoc kept bytes more, rows-joined width some (kept ++ bytes) more) at
       (MayTake-behind bytes_of step pre width first (rows width message) (rows width (kept ++ (bytes ++ more))) f
       (rw (whole, rows-joined width some message (bytes ++ more), ← fed.rest) at may) fed.blocks))
-
--- A block that is full now, the one that a call sees, and the bytes behind it are all bytes.
-module _ {V F : Type 0} (bytes_of : V → List ℕ) (step : F → V → Unit {0} → F → Type 0) (width : ℕ) (some : 0 < width)
-    (all behind : List ℕ) (v : V) (joined : bytes_of v ++ behind ≡ all) (full : length (bytes_of v) ≡ width) where
-  -- the blocks of all bytes are that block and those behind it
-  blocks : rows width all ≡ bytes_of v ∷ rows width behind
-  blocks = rows-behind width some (bytes_of v) behind all joined full
-
-  module _ (pre : F → V → Type 0) (f : F) (may : MayTake bytes_of step pre width f (rows width all)) where
-    may_first : MayTake bytes_of step pre width f (bytes_of v ∷ rows width behind)
-    may_first = rw blocks at may
-
-    pub full-callable : pre f v
-    full-callable = MayTake-first bytes_of step pre width f v (rows width behind) full may_first
-
-    pub full-then_callable : (between : F) → step f v tt between
-        → MayTake bytes_of step pre width between (rows width behind)
-    full-then_callable between call =
-        MayTake-others bytes_of step pre width f v (rows width behind) between call may_first
-
-  pub full-taken : (f between last : F) → step f v tt between → TakesEach bytes_of step between (rows width behind) last
-      → TakesEach bytes_of step f (rows width all) last
-  full-taken f between last call then =
-      rw blocks (TakesEach-first bytes_of step f v (rows width behind) between last call then)
 
 -- Calls at the blocks passed led from f₀ to f, and those at the blocks that are left may be made.
 pub record BlocksLeft {V F : Type 0} (bytes_of : V → List ℕ) (step : F → V → Unit {0} → F → Type 0)
