@@ -3,23 +3,14 @@
 use Rattle.ga_boxed.specs.Live.{Live}
 use Rattle.ga_core.proofs.CutLemmas.{taken-more}
 use Rattle.std.proofs.Common.{◌≡◌, ◌≢◌, ℕ, ◌+◌, ◌*◌, ◌^◌, ◌<◌, List, [], ◌∷◌, ◌++◌, length, ap, sym, ◌∙◌}
-use Rattle.std.proofs.Common.{arith, MatchOption, None, Option, Some, pos_of_ne-zero, subst, zero-mul}
+use Rattle.std.proofs.Common.{arith, length-append, MatchOption, None, Option, Some, pos_of_ne-zero, subst, zero-mul}
 use Rattle.std.proofs.iter.Next.{Yields-more}
-use Rattle.std.proofs.lemmas.List.{length_push, nil_from_length}
+use Rattle.std.proofs.lemmas.List.{nil_from_length}
 use Rattle.std.specs.Iterator.{Yields, YieldsFirst, YieldsLast}
 
 -- none of any size fit
 pub none_fits : (n size : ℕ) → n ≡ 0 → n * size < 2 ^ 63
 none_fits n size none = subst (λ k. k * size < 2 ^ 63) (sym none) (omega (arith, zero-mul size))
-
-module _ {T : Type 0} (before after : List T) (item : T) (grows : after ≡ before ++ item ∷ []) where
-  -- one more is there
-  pub long_more : (n : ℕ) → length before ≡ n → length after ≡ n + 1
-  long_more n long = ap length grows ∙ (length_push before item ∙ ap (λ k. k + 1) long)
-
-  -- and room for one fewer
-  pub filled_more : (room less all : ℕ) → less + 1 ≡ room → length before + room ≡ all → length after + less ≡ all
-  filled_more room less all fewer fits = omega (arith, fewer, fits, ap length grows ∙ length_push before item)
 
 -- The calls at the items passed so far, of which there are n, gave what the block holds, and it has room for what the
 -- others give. Run says which calls, with which results, led to the state that was reached.
@@ -36,7 +27,7 @@ module _ {F X Y : Type 0} {Run : List X → List Y → F → Type 0} {passed : L
       → PutSoFar Run longer (n + 1) all after last
   put-next {after} y longer last so_far grows fewer run = record {
     run = rw grows run;
-    long = long_more block.items after.items y grows n so_far.long;
+    long = omega (arith, simp length-append at (ap length grows));
     room = omega arith;
   }
 
@@ -55,7 +46,7 @@ pub taken-next : {I T : Type 0} {can_next : I → Type 0} {next_gives : I → Op
 taken-next {next_gives} {first} {block} {after} item left so_far grows fewer gives can = record {
   can = can;
   taken = rw grows (Yields-more next_gives first block.items _ item left so_far.taken gives);
-  room = filled_more block.items after.items item grows _ _ _ fewer so_far.room;
+  room = omega (arith, simp length-append at (ap length grows));
 }
 
 -- the block between its bounds, and as it is seen

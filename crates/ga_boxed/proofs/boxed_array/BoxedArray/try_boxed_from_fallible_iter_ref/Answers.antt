@@ -1,10 +1,9 @@
-use Rattle.ga_boxed.proofs.BlockLemmas.{filled_more}
 use Rattle.ga_boxed.proofs.boxed_array.BoxedArray.try_boxed_from_fallible_iter_ref.Given as given
 use Rattle.ga_boxed.proofs.boxed_array.BoxedArray.try_boxed_from_fallible_iter_ref.Goals as goal
 use Rattle.ga_core.proofs.FillLemmas.{FillFalliblyRuns-from_fill}
 use Rattle.ga_core.specs.Fill.{FillFalliblyRuns, FillsFallibly}
 use Rattle.ga_core.specs.declared.LengthError.{LengthError}
-use Rattle.std.proofs.Common.{◌∙◌, ◌≡◌, ◌<◌, Err, List, arith, length, None, Ok, Result, Some, map, refl}
+use Rattle.std.proofs.Common.{◌∙◌, ◌≡◌, ◌<◌, Err, List, ap, arith, length, length-append, None, Ok, Result, Some, map, refl}
 use Rattle.std.proofs.iter.Next.{Yields-more}
 use Rattle.std.proofs.lemmas.List.{map-append}
 
@@ -26,7 +25,7 @@ loop-items-preserved g c =
       taken = rw (c.put.ensures.items, map-append)
           (Yields-more g.I.Iterator.next_gives c.args.items.now (map Ok at.block.items) at.items
           (Ok c.in-Some-Ok.item) _ at.invariant.taken came);
-      room = filled_more _ _ _ c.put.ensures.items _ _ _ c.put.ensures.room at.invariant.room;
+      room = omega (arith, simp length-append at (ap length c.put.ensures.items));
     }
 
 -- what a fill says of its calls
