@@ -93,23 +93,23 @@ pub record BlocksLeft {V F : Type 0} (bytes_of : V → List ℕ) (step : F → V
 module _ {V F : Type 0} {bytes_of : V → List ℕ} {step : F → V → Unit {0} → F → Type 0} {pre : F → V → Type 0}
     {width : ℕ} {f₀ : F} {all : List (List ℕ)} {f : F} where
   -- the next call may be made
-  pub BlocksLeft-callable : (v : V) (left others : List (List ℕ)) → left ≡ bytes_of v ∷ others
+  pub BlocksLeft-callable : (v : V) {left others : List (List ℕ)} → left ≡ bytes_of v ∷ others
       → length (bytes_of v) ≡ width → BlocksLeft bytes_of step pre width f₀ all f left → pre f v
-  BlocksLeft-callable v left others next full state =
+  BlocksLeft-callable v {others = others} next full state =
       MayTake-first bytes_of step pre width f v others full (rw next at state.may)
 
   -- it was made
-  pub BlocksLeft-more : (v : V) (left others : List (List ℕ)) (g : F) → left ≡ bytes_of v ∷ others → step f v tt g
+  pub BlocksLeft-more : (v : V) {left others : List (List ℕ)} (g : F) → left ≡ bytes_of v ∷ others → step f v tt g
       → BlocksLeft bytes_of step pre width f₀ all f left → BlocksLeft bytes_of step pre width f₀ all g others
-  BlocksLeft-more v left others g next call state = record {
+  BlocksLeft-more v {others = others} g next call state = record {
     may = MayTake-others bytes_of step pre width f v others g call (rw next at state.may);
     then = λ last taken. state.then last (rw next (TakesEach-first bytes_of step f v others g last call taken));
   }
 
   -- no block is left
-  pub BlocksLeft-end : (left : List (List ℕ)) → left ≡ [] → BlocksLeft bytes_of step pre width f₀ all f left
+  pub BlocksLeft-end : {left : List (List ℕ)} → left ≡ [] → BlocksLeft bytes_of step pre width f₀ all f left
       → TakesEach bytes_of step f₀ all f
-  BlocksLeft-end left none state = state.then f (TakesEach-none bytes_of step f left none)
+  BlocksLeft-end {left} none state = state.then f (TakesEach-none bytes_of step f left none)
 
 module _ {V F : Type 0} {bytes_of : V → List ℕ} {step : F → V → Unit {0} → F → Type 0} {pre : F → V → Type 0}
     {width : ℕ} {f : F} {all : List (List ℕ)} where
