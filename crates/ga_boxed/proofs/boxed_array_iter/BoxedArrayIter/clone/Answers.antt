@@ -1,7 +1,6 @@
 use Rattle.ga_boxed.proofs.boxed_array_iter.BoxedArrayIter.clone.Goals as goal
 use Rattle.ga_core.proofs.CopyLemmas.{AllZip-same}
-use Rattle.std.proofs.Common.{ap, arith, length, length-append, refl}
-use Rattle.std.proofs.lemmas.List.{take_all}
+use Rattle.std.proofs.Common.{ap, arith, length, length-append, refl, take_all}
 use Rattle.std.proofs.lemmas.List.Elements.{all_zip_more}
 
 pub loop-item-preserved : goal.loop-item-preserved
