@@ -1,6 +1,6 @@
 -- Entries in the order of their keys: what an edit by key comes to at a place, keeps, and changes for a look-up.
 use Rattle.std.proofs.Common.{◌≡◌, ℕ, zero, suc, ◌<◌, ◌≤◌, Bool, true, false, cond, List, [], ◌∷◌, length, get_or, set}
-use Rattle.std.proofs.Common.{Option, Some, None, refl, sym, ◌∙◌, ap, arith}
+use Rattle.std.proofs.Common.{Option, Some, None, refl, sym, ◌∙◌, ap, arith, Ordering, Less, Equal, Greater}
 use Rattle.std.proofs.lemmas.Map.{NonePasses, lookup-none}
 use Rattle.std.proofs.lemmas.Map.Entries.{none_below_head}
 use Rattle.std.specs.BTreeMap.{insert_entry, is_at}
@@ -9,8 +9,6 @@ use Rattle.std.specs.List.{AllByRecursion, insert, remove}
 use Rattle.std.specs.List.Sorted.{IsStrictlySortedBy}
 use Rattle.std.specs.Map.{keys_of, lookup, remove_entry}
 use Rattle.std.specs.Ordering.{is_eq, match_ordering, ordering_reverse}
-use Rattle.std.specs.declared.cmp.Ordering.{Ordering}
-use Rattle.std.specs.declared.cmp.Ordering.TheVariants.{Less, Equal, Greater}
 
 module _ {K X : Type 0} (R : K → K → Ordering) (k : K) where
   -- the first i keys are below k

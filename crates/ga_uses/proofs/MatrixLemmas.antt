@@ -2,9 +2,8 @@
 use Rattle.ga_uses.specs.Matrix.{IsMatrix, column_of, dot_product, identity_matrix, matrix_product, row_product}
 use Rattle.ga_uses.specs.Matrix.{transpose, unit_row}
 use Rattle.std.proofs.Common.{◌≡◌, ℕ, zero, suc, ◌+◌, ◌*◌, ◌%◌, ◌^◌, ◌<◌, ◌∙◌, List, [], ◌∷◌, add-zero, ap, arith, cond}
-use Rattle.std.proofs.Common.{eqb, get_or, length, map, mul-zero, refl, sym, zero-add}
-use Rattle.std.proofs.Math.Nat.{mod-eq_of_lt, mul_comm}
-use Rattle.std.proofs.lemmas.Bool.{eq-eqb, ne_eqb}
+use Rattle.std.proofs.Common.{eqb, get_or, length, map, mul-zero, refl, sym, zero-add, mod-eq_of_lt, mul_comm, eq-eqb}
+use Rattle.std.proofs.Common.{ne_eqb}
 use Rattle.std.proofs.lemmas.List.{get_or-map, length-map}
 use Rattle.std.proofs.lemmas.List.Elements.{All-head, All-map, All-tail}
 use Rattle.std.proofs.lemmas.List.Folds.{map_fixed}

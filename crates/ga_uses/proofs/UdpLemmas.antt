@@ -3,9 +3,8 @@ use Rattle.generic_array.proofs.RowLemmas.{chunk_rest-first, rows-first}
 use Rattle.generic_array.specs.Rows.{chunk_rest, rows}
 use Rattle.ga_uses.specs.Udp.{field_of, header_of, number_of, ones_complement_sum, sum_with_carry, summed_bytes, words}
 use Rattle.std.proofs.Common.{◌≡◌, ℕ, zero, suc, ◌+◌, ◌*◌, ◌<◌, ◌≤◌, ◌/◌, ◌%◌, ◌^◌, List, [], ◌∷◌, ◌++◌, get_or, length}
-use Rattle.std.proofs.Common.{map, refl, sym, ◌∙◌, ap, arith}
+use Rattle.std.proofs.Common.{map, refl, sym, ◌∙◌, ap, arith, fold}
 use Rattle.std.proofs.lemmas.Grind.{fold-append}
-use Rattle.std.specs.Prelude.{fold}
 
 -- the words of an even number of bytes, and those of what follows
 pub words-append : (n : ℕ) (xs ys : List ℕ) → length xs ≡ n + n → words (xs ++ ys) ≡ words xs ++ words ys
