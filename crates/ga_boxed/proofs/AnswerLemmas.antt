@@ -3,10 +3,9 @@ use Rattle.ga_core.proofs.CopyLemmas.{ClosureRun-all, ExactlyEach-all}
 use Rattle.ga_core.proofs.RunLemmas.{ClosureRun-length}
 use Rattle.ga_core.specs.Copies.{ExactlyEach}
 use Rattle.ga_core.specs.Runs.{ClosureRun}
-use Rattle.std.proofs.Common.{◌≡◌, ℕ, ◌∙◌, Err, List, Ok, Result, length}
+use Rattle.std.proofs.Common.{◌≡◌, ℕ, ◌∙◌, Err, List, Ok, Result, length, IfOk}
 use Rattle.std.proofs.lemmas.List.FromFn.{length-range_with_len}
 use Rattle.std.specs.List.{All, range_with_len}
-use Rattle.std.specs.Result.{IfOk}
 
 module _ {F Y R : Type 0} (step : F → ℕ → Y → F → Type 0) (P : Y → Type 0) where
   -- P holds of n answers where it holds of the answer of each call

@@ -2,46 +2,15 @@
 -- items.
 use Rattle.ga_boxed.specs.Live.{Live}
 use Rattle.ga_core.proofs.CutLemmas.{taken-more}
-use Rattle.std.proofs.Common.{◌≡◌, ◌≢◌, ℕ, ◌+◌, ◌*◌, ◌^◌, ◌<◌, ◌≤◌, List, [], ◌∷◌, ◌++◌, length, ap, sym, ◌∙◌}
-use Rattle.std.proofs.Common.{arith, MatchOption, None, Option, Some, drop, length-drop, pos_of_ne-zero, subst, zero-mul}
+use Rattle.std.proofs.Common.{◌≡◌, ◌≢◌, ℕ, ◌+◌, ◌*◌, ◌^◌, ◌<◌, List, [], ◌∷◌, ◌++◌, length, ap, sym, ◌∙◌}
+use Rattle.std.proofs.Common.{arith, length-append, MatchOption, None, Option, Some, pos_of_ne-zero, subst, zero-mul}
 use Rattle.std.proofs.iter.Next.{Yields-more}
-use Rattle.std.proofs.lemmas.List.{length_push, nil_from_length}
+use Rattle.std.proofs.lemmas.List.{nil_from_length}
 use Rattle.std.specs.Iterator.{Yields, YieldsFirst, YieldsLast}
 
 -- none of any size fit
 pub none_fits : (n size : ℕ) → n ≡ 0 → n * size < 2 ^ 63
 none_fits n size none = subst (λ k. k * size < 2 ^ 63) (sym none) (omega (arith, zero-mul size))
-
--- the count has come to the end
-pub all_counted : (i n end : ℕ) → end ≤ i → i ≤ end → end ≡ n → i ≡ n
-all_counted i n end past within all = omega arith
-
--- one more is there, and room for one fewer
-pub one_more : (i k j n : ℕ) → i + k ≡ n → j + 1 ≡ k → i + 1 + j ≡ n
-one_more i k j n so_far fewer = omega arith
-
--- where nothing is left behind those passed over, there are no more
-pub none_behind : {T : Type 0} (passed : ℕ) (items left : List T) → left ≡ drop passed items → left ≡ []
-    → length items ≤ passed
-none_behind passed items left behind none = omega (arith, length-drop passed items, ap length behind, ap length none)
-
-module _ (made room all left : ℕ) where
-  -- where there is room, not all are there
-  pub not_all : made + room ≡ all → left ≡ room → 0 < left → made < all
-  not_all fits same some = omega arith
-
-  -- where there is none, all are there
-  pub all_there : made + room ≡ all → left ≡ room → left ≤ 0 → made ≡ all
-  all_there fits same none = omega arith
-
-module _ {T : Type 0} (before after : List T) (item : T) (grows : after ≡ before ++ item ∷ []) where
-  -- one more is there
-  pub long_more : (n : ℕ) → length before ≡ n → length after ≡ n + 1
-  long_more n long = ap length grows ∙ (length_push before item ∙ ap (λ k. k + 1) long)
-
-  -- and room for one fewer
-  pub filled_more : (room less all : ℕ) → less + 1 ≡ room → length before + room ≡ all → length after + less ≡ all
-  filled_more room less all fewer fits = omega (arith, fewer, fits, ap length grows ∙ length_push before item)
 
 -- The calls at the items passed so far, of which there are n, gave what the block holds, and it has room for what the
 -- others give. Run says which calls, with which results, led to the state that was reached.
@@ -57,9 +26,9 @@ module _ {F X Y : Type 0} {Run : List X → List Y → F → Type 0} {passed : L
       → after.items ≡ block.items ++ y ∷ [] → after.room + 1 ≡ block.room → Run longer (block.items ++ y ∷ []) last
       → PutSoFar Run longer (n + 1) all after last
   put-next {after} y longer last so_far grows fewer run = record {
-    run = subst (λ ys. Run longer ys last) (sym grows) run;
-    long = long_more block.items after.items y grows n so_far.long;
-    room = one_more n block.room after.room all so_far.room fewer;
+    run = rw grows run;
+    long = omega (arith, simp length-append at (ap length grows));
+    room = omega arith;
   }
 
 -- What a block holds was taken from an iterator, which may be asked on, and there is room for the others of all.
@@ -77,7 +46,7 @@ pub taken-next : {I T : Type 0} {can_next : I → Type 0} {next_gives : I → Op
 taken-next {next_gives} {first} {block} {after} item left so_far grows fewer gives can = record {
   can = can;
   taken = rw grows (Yields-more next_gives first block.items _ item left so_far.taken gives);
-  room = filled_more block.items after.items item grows _ _ _ fewer so_far.room;
+  room = omega (arith, simp length-append at (ap length grows));
 }
 
 -- the block between its bounds, and as it is seen
@@ -96,10 +65,6 @@ module _ {T : Type 0} (start end : ℕ) (block now : Live T) (seen : block ≡ n
       omega (arith, long, held, ap (λ b. length b.items) seen)
 
 module _ {T : Type 0} where
-  -- before the end some are left
-  pub some_left : (i n end : ℕ) (left : List T) → i + length left ≡ n → i < end → end ≡ n → left ≢ []
-  some_left i n end left so_far below all none = omega (arith, ap length none)
-
   -- one more was moved
   pub moved_more : (before after left others all : List T) (item : T) → after ≡ before ++ item ∷ []
       → before ++ left ≡ all → left ≡ item ∷ others → after ++ others ≡ all

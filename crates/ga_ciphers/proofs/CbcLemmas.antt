@@ -6,12 +6,10 @@ use Rattle.generic_array.proofs.JoinLemmas.{rows-behind}
 use Rattle.generic_array.proofs.RowLemmas.{rows-few, rows-first}
 use Rattle.std.proofs.Common.{◌≡◌, ℕ, ◌+◌, ◌-◌, ◌%◌, ◌<◌, ◌≤◌, List, [], ◌∷◌, ◌++◌, ap, ap₂, append_assoc, arith, drop}
 use Rattle.std.proofs.Common.{inl, inr, length, length-append, length-drop, length-take, refl, slice_range, sym, take}
-use Rattle.std.proofs.Common.{◌∙◌}
+use Rattle.std.proofs.Common.{◌∙◌, take-add, take_at}
 use Rattle.std.proofs.Math.Nat.{mod-eq-sub-mod, mod-eq_of_lt}
-use Rattle.std.proofs.Math.Seq.{take-add}
 use Rattle.std.proofs.lemmas.Bool.{cases_lt}
 use Rattle.std.proofs.lemmas.List.{append-nil, drop-drop, drop_all, drop_at, length-take-le, take-append-drop, take_all}
-use Rattle.std.proofs.lemmas.List.{take_at}
 use Rattle.std.proofs.lemmas.Nat.{xor_comm}
 
 -- a block lies at each place before the end of whole blocks, and whole blocks behind it

@@ -1,8 +1,7 @@
 -- Words and their bytes.
 use Rattle.ga_ciphers.specs.ChaCha20.{bytes_of_words}
-use Rattle.std.proofs.Common.{◌≡◌, ℕ, List, [], ◌∷◌, ◌++◌, ap, map, refl, ◌∙◌}
+use Rattle.std.proofs.Common.{◌≡◌, ℕ, List, [], ◌∷◌, ◌++◌, ap, map, refl, ◌∙◌, flat_map}
 use Rattle.std.specs.Int.{to_le_bytes, w32}
-use Rattle.std.specs.List.{flat_map}
 
 -- rows that are made of words, joined
 flat_map-map : {X Y : Type 0} (f : X → List Y) (xs : List X)

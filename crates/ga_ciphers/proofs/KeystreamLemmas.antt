@@ -2,9 +2,8 @@
 use Rattle.ga_ciphers.specs.Keystream.{IsCurrent, key_byte, key_bytes, under}
 use Rattle.std.proofs.Common.{◌≡◌, ℕ, zero, suc, ◌+◌, ◌-◌, ◌*◌, ◌/◌, ◌%◌, ◌<◌, ◌≤◌, List, [], ◌∷◌, ◌++◌, ap, ap₂, arith}
 use Rattle.std.proofs.Common.{bit_xor, drop, get_or, inl, inr, length, length-drop, length-take, map, min, refl}
-use Rattle.std.proofs.Common.{slice_range, sym, add-zero, take, zero-add, ◌∙◌}
+use Rattle.std.proofs.Common.{slice_range, sym, add-zero, take, zero-add, ◌∙◌, drop-cons, take-add}
 use Rattle.std.proofs.Math.Nat.{add-mul-mod_self_right, mod-lt, mod_self}
-use Rattle.std.proofs.Math.Seq.{drop-cons, take-add}
 use Rattle.std.proofs.lemmas.Bool.{cases_lt}
 use Rattle.std.proofs.lemmas.Grind.{common_steps}
 use Rattle.std.proofs.lemmas.List.{drop-drop, drop_at, map-append, take-append-drop, take_at}

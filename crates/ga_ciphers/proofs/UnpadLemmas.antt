@@ -1,7 +1,7 @@
 -- What ends in a padding.
 use Rattle.ga_ciphers.specs.Padding.{padded}
 use Rattle.std.proofs.Common.{◌≡◌, ℕ, ◌+◌, ◌-◌, ◌<◌, ◌≤◌, List, ap, arith, drop, get_or, length, length-append}
-use Rattle.std.proofs.Common.{replicate, sym, take, ◌∙◌}
+use Rattle.std.proofs.Common.{replicate, take, ◌∙◌}
 use Rattle.std.proofs.lemmas.List.{drop_at, get_or-append-add, get_or-replicate, length-replicate, take_at}
 
 -- the last byte is the padding's length, and so the bytes before it
@@ -18,10 +18,8 @@ ends block rest missing last some is at_end =
     let len : length block ≡ length rest + missing =
     ap length is ∙ (length-append rest padding ∙ ap (λ n. length rest + n) (length-replicate missing missing)) in
     let place : length block - 1 ≡ length rest + (missing - 1) = omega arith in
-    let told : missing ≡ last =
-    sym (ap (λ xs. get_or xs (length block - 1) 0) is ∙ (ap (λ n. get_or (padded rest missing) n 0) place
-    ∙ (get_or-append-add rest padding (missing - 1) 0 ∙ get_or-replicate missing (missing - 1) missing 0 (omega arith))))
-    ∙ at_end in
+    let byte = get_or-replicate missing (missing - 1) missing 0 (omega arith) in
+    let told : missing ≡ last = rw (place, is, get_or-append-add rest padding (missing - 1) 0, byte) at at_end in
     let before : length rest ≡ length block - last = omega arith in
     record {
       some = omega arith;

@@ -2,9 +2,8 @@
 use Rattle.ga_ciphers.specs.Xtea.{block_of, change, cycle, cycle_back, cycles, cycles_back, first_word, halves_of}
 use Rattle.ga_ciphers.specs.Xtea.{second_word, sub32}
 use Rattle.rand_chacha.specs.Block.{add32}
-use Rattle.std.proofs.Common.{◌≡◌, ℕ, zero, suc, ◌+◌, ◌*◌, ◌^◌, ◌<◌, List, ap, arith, get_or, length, lit<}
-use Rattle.std.proofs.Common.{refl, ◌∙◌}
-use Rattle.std.proofs.Math.Nat.{mod-lt}
+use Rattle.std.proofs.Common.{◌≡◌, ℕ, zero, suc, ◌+◌, ◌*◌, ◌^◌, ◌<◌, List, ap, arith, get_or, length, lit<, refl, ◌∙◌}
+use Rattle.std.proofs.Common.{mod-lt}
 use Rattle.std.proofs.lemmas.Nat.{be_bytes_8, div-mul-add, from_be_bytes-to_be_bytes_8, mod-mul-add, xor_lt}
 use Rattle.std.specs.Int.{from_be_bytes, to_be_bytes, w64}
 

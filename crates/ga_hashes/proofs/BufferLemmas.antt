@@ -1,6 +1,6 @@
 -- Calls at blocks in turn, and messages that are fed.
 use Rattle.ga_hashes.specs.BlockBuffer.{HasFed, MayTake, TakesEach}
-use Rattle.ga_core.proofs.JoinLemmas.{chunk_rest-joined, rows-behind, rows-joined}
+use Rattle.ga_core.proofs.JoinLemmas.{chunk_rest-joined, rows-joined}
 use Rattle.ga_core.proofs.CallLemmas.{may_map-at}
 use Rattle.ga_core.proofs.JoinedRuns.{ClosureRun-join, MayMap-first, MayMap-second}
 use Rattle.ga_core.proofs.RowLemmas.{chunk_rest-few, rows-few}
@@ -84,30 +84,6 @@ module _ {V F : Type 0} {bytes_of : V → List ℕ} {step : F → V → Unit {0}
       (MayTake-behind bytes_of step pre width first (rows width message) (rows width (kept ++ (bytes ++ more))) f
       (rw (whole, rows-joined width some message (bytes ++ more), ← fed.rest) at may) fed.blocks))
 
--- A block that is full now, the one that a call sees, and the bytes behind it are all bytes.
-module _ {V F : Type 0} (bytes_of : V → List ℕ) (step : F → V → Unit {0} → F → Type 0) (width : ℕ) (some : 0 < width)
-    (all behind : List ℕ) (v : V) (joined : bytes_of v ++ behind ≡ all) (full : length (bytes_of v) ≡ width) where
-  -- the blocks of all bytes are that block and those behind it
-  blocks : rows width all ≡ bytes_of v ∷ rows width behind
-  blocks = rows-behind width some (bytes_of v) behind all joined full
-
-  module _ (pre : F → V → Type 0) (f : F) (may : MayTake bytes_of step pre width f (rows width all)) where
-    may_first : MayTake bytes_of step pre width f (bytes_of v ∷ rows width behind)
-    may_first = rw blocks at may
-
-    pub full-callable : pre f v
-    full-callable = MayTake-first bytes_of step pre width f v (rows width behind) full may_first
-
-    pub full-then_callable : (between : F) → step f v tt between
-        → MayTake bytes_of step pre width between (rows width behind)
-    full-then_callable between call =
-        MayTake-others bytes_of step pre width f v (rows width behind) between call may_first
-
-  pub full-taken : (f between last : F) → step f v tt between → TakesEach bytes_of step between (rows width behind) last
-      → TakesEach bytes_of step f (rows width all) last
-  full-taken f between last call then =
-      rw blocks (TakesEach-first bytes_of step f v (rows width behind) between last call then)
-
 -- Calls at the blocks passed led from f₀ to f, and those at the blocks that are left may be made.
 pub record BlocksLeft {V F : Type 0} (bytes_of : V → List ℕ) (step : F → V → Unit {0} → F → Type 0)
     (pre : F → V → Type 0) (width : ℕ) (f₀ : F) (all : List (List ℕ)) (f : F) (left : List (List ℕ)) : Type 0 where
@@ -117,23 +93,23 @@ pub record BlocksLeft {V F : Type 0} (bytes_of : V → List ℕ) (step : F → V
 module _ {V F : Type 0} {bytes_of : V → List ℕ} {step : F → V → Unit {0} → F → Type 0} {pre : F → V → Type 0}
     {width : ℕ} {f₀ : F} {all : List (List ℕ)} {f : F} where
   -- the next call may be made
-  pub BlocksLeft-callable : (v : V) (left others : List (List ℕ)) → left ≡ bytes_of v ∷ others
+  pub BlocksLeft-callable : (v : V) {left others : List (List ℕ)} → left ≡ bytes_of v ∷ others
       → length (bytes_of v) ≡ width → BlocksLeft bytes_of step pre width f₀ all f left → pre f v
-  BlocksLeft-callable v left others next full state =
+  BlocksLeft-callable v {others = others} next full state =
       MayTake-first bytes_of step pre width f v others full (rw next at state.may)
 
   -- it was made
-  pub BlocksLeft-more : (v : V) (left others : List (List ℕ)) (g : F) → left ≡ bytes_of v ∷ others → step f v tt g
+  pub BlocksLeft-more : (v : V) {left others : List (List ℕ)} (g : F) → left ≡ bytes_of v ∷ others → step f v tt g
       → BlocksLeft bytes_of step pre width f₀ all f left → BlocksLeft bytes_of step pre width f₀ all g others
-  BlocksLeft-more v left others g next call state = record {
+  BlocksLeft-more v {others = others} g next call state = record {
     may = MayTake-others bytes_of step pre width f v others g call (rw next at state.may);
     then = λ last taken. state.then last (rw next (TakesEach-first bytes_of step f v others g last call taken));
   }
 
   -- no block is left
-  pub BlocksLeft-end : (left : List (List ℕ)) → left ≡ [] → BlocksLeft bytes_of step pre width f₀ all f left
+  pub BlocksLeft-end : {left : List (List ℕ)} → left ≡ [] → BlocksLeft bytes_of step pre width f₀ all f left
       → TakesEach bytes_of step f₀ all f
-  BlocksLeft-end left none state = state.then f (TakesEach-none bytes_of step f left none)
+  BlocksLeft-end {left} none state = state.then f (TakesEach-none bytes_of step f left none)
 
 module _ {V F : Type 0} {bytes_of : V → List ℕ} {step : F → V → Unit {0} → F → Type 0} {pre : F → V → Type 0}
     {width : ℕ} {f : F} {all : List (List ℕ)} where

@@ -2,8 +2,7 @@
 use Rattle.ga_hashes.specs.Hkdf.{BeginsWithBlocks, output_block, output_blocks, written_at}
 use Rattle.ga_hashes.specs.Hmac.{hmac_of}
 use Rattle.std.proofs.Common.{◌≡◌, ℕ, suc, ◌+◌, ◌-◌, ◌*◌, ◌<◌, ◌≤◌, ◌∙◌, List, [], ◌∷◌, ◌++◌, add-one, ap, arith, drop}
-use Rattle.std.proofs.Common.{inl, inr, length, length-append, refl, subst, sym, take}
-use Rattle.std.proofs.Math.Nat.{suc-mul}
+use Rattle.std.proofs.Common.{inl, inr, length, length-append, refl, subst, sym, take, suc-mul}
 use Rattle.std.proofs.Math.Seq.{drop-append_seam, drop-nil, take-append-add, take-append_seam, take-nil}
 use Rattle.std.proofs.lemmas.Bool.{cases_lt}
 use Rattle.std.proofs.lemmas.List.{append-nil, drop-take, drop_all, length-take-le, take_all}

@@ -2,11 +2,10 @@
 use Rattle.ga_hashes.specs.BlockBuffer.{with_padding, padding, zero_count}
 use Rattle.ga_core.specs.Rows.{chunk_rest}
 use Rattle.std.proofs.Common.{◌≡◌, ℕ, ◌+◌, ◌-◌, ◌*◌, ◌/◌, ◌%◌, ◌<◌, ◌∷◌, [], List, ◌++◌, length, replicate, ap, refl}
-use Rattle.std.proofs.Common.{sym, ◌∙◌, append_assoc, arith, inl, inr, length-append, length-drop}
+use Rattle.std.proofs.Common.{sym, ◌∙◌, append_assoc, arith, inl, inr, length-append, length-drop, div-add-mod'}
 use Rattle.std.proofs.Math.Nat.{add-mul-mod_self_right, div-mul-le_self, mod-eq_of_lt, mod-lt, mod_self}
 use Rattle.std.proofs.lemmas.Bool.{cases_lt}
 use Rattle.std.proofs.lemmas.List.{length-replicate, nil_from_length}
-use Rattle.std.proofs.lemmas.Nat.{div-add-mod'}
 use Rattle.std.specs.Int.{to_be_bytes, w64}
 
 module _ (width : ℕ) (message kept : List ℕ) (rest : kept ≡ chunk_rest width message) where

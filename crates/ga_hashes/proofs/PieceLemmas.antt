@@ -1,10 +1,9 @@
 -- Pieces, joined one by one.
 use Rattle.std.proofs.Common.{◌≡◌, ℕ, ◌+◌, ◌<◌, List, [], ◌++◌, length, take, drop, get_or, ap, sym, append_assoc}
-use Rattle.std.proofs.Common.{append-nil}
+use Rattle.std.proofs.Common.{append-nil, flat_map}
 use Rattle.std.proofs.lemmas.Grind.{flat_map-append}
 use Rattle.std.proofs.lemmas.List.{take-append-drop, take_more}
 use Rattle.std.proofs.lemmas.List.Concat.{flat_map-cons}
-use Rattle.std.specs.List.{flat_map}
 
 module _ {P X : Type 0} (items_of : P → List X) (pieces : List P) (i : ℕ) (d : P) (below : i < length pieces) where
   -- one piece more

@@ -17,10 +17,5 @@ module _ {F I : Type 0} (entry : I → ℕ) (step : F → ℕ → I → ℕ → 
   pub MayFold-bound : (pre : F → ℕ → I → Type 0) (n : ℕ) → ((f : F) (a : ℕ) (item : I) → a ≤ 255 * n → pre f a item)
       → (f : F) (xs : List ℕ) → length xs ≡ n → MayFold entry pre step f 0 xs
   MayFold-bound pre n may f xs long passed x others reached value whole run item same stays =
-      may reached value item (omega (
-        arith,
-        FoldRun-bound f 0 passed value reached run,
-        length-append passed (x ∷ others),
-        ap length whole,
-        long,
-      ))
+      let bound = FoldRun-bound f 0 passed value reached run in
+      may reached value item (omega (arith, length-append passed (x ∷ others), ap length whole))

@@ -30,8 +30,7 @@ module _ (mode : Mode) where
       record {
         done = so_far.done ++ first;
         appended = Appends-trans before now later so_far.done first so_far.appended put;
-        whole = so_far.whole ∙ (ap (λ rows. so_far.done ++ lines mode rows) step
-            ∙ sym (append_assoc so_far.done first (lines mode after)));
+        whole = rw append_assoc (rw step at so_far.whole);
       }
 
   -- the same where the rows that are left are taken from the back
@@ -45,9 +44,7 @@ module _ (mode : Mode) where
   -- after the last line
   pub lines-all : (all left : List (List ℕ)) (before now : Option (List ℕ)) → LinesSoFar all left before now
       → left ≡ [] → Appends before now (lines mode all)
-  lines-all all left before now so_far none = subst (Appends before now)
-      (sym (so_far.whole ∙ (ap (λ rows. so_far.done ++ lines mode rows) none ∙ append-nil so_far.done)))
-      so_far.appended
+  lines-all all left before now so_far none = rw (so_far.whole, none, append-nil so_far.done) so_far.appended
 
 -- rows that there are none of do not end in a row
 pub no-last : {A : Type 0} (left after : List A) (row : A) → left ≡ [] → left ≡ after ++ row ∷ [] → ⊥

@@ -1,15 +1,14 @@
 -- Entries in the order of their keys: what an edit by key comes to at a place, keeps, and changes for a look-up.
 use Rattle.std.proofs.Common.{◌≡◌, ℕ, zero, suc, ◌<◌, ◌≤◌, Bool, true, false, cond, List, [], ◌∷◌, length, get_or, set}
-use Rattle.std.proofs.Common.{Option, Some, None, refl, sym, ◌∙◌, ap, arith}
-use mathlib.Core.Bool.{true≢false}
+use Rattle.std.proofs.Common.{Option, Some, None, refl, sym, ◌∙◌, ap, arith, Ordering, Less, Equal, Greater}
+use Rattle.std.proofs.lemmas.Map.{NonePasses, lookup-none}
+use Rattle.std.proofs.lemmas.Map.Entries.{none_below_head}
 use Rattle.std.specs.BTreeMap.{insert_entry, is_at}
-use Rattle.std.specs.Cmp.{IsTotalOrder, alike_right}
+use Rattle.std.specs.Cmp.{Equal-is, IsTotalOrder, alike_right, eq_by_cmp_equiv}
 use Rattle.std.specs.List.{AllByRecursion, insert, remove}
 use Rattle.std.specs.List.Sorted.{IsStrictlySortedBy}
 use Rattle.std.specs.Map.{keys_of, lookup, remove_entry}
 use Rattle.std.specs.Ordering.{is_eq, match_ordering, ordering_reverse}
-use Rattle.std.specs.declared.cmp.Ordering.{Ordering}
-use Rattle.std.specs.declared.cmp.Ordering.TheVariants.{Less, Equal, Greater}
 
 module _ {K X : Type 0} (R : K → K → Ordering) (k : K) where
   -- the first i keys are below k
@@ -24,63 +23,36 @@ module _ {K X : Type 0} (R : K → K → Ordering) (k : K) where
   AnswersAt (e ∷ es) zero r = R k e.0 ≡ r
   AnswersAt (e ∷ es) (suc i) r = AnswersAt es i r
 
-  -- one step of each walk, by what k answers at the first entry
-  insert_step : (e : K × X) (es : List (K × X)) (v : X) (r : Ordering) → R k e.0 ≡ r
-      → insert_entry R (e ∷ es) k v ≡ match_ordering r ((k, v) ∷ e ∷ es) ((e.0, v) ∷ es) (e ∷ insert_entry R es k v)
-  insert_step e es v r h = ap (λ o. match_ordering o ((k, v) ∷ e ∷ es) ((e.0, v) ∷ es) (e ∷ insert_entry R es k v)) h
-
-  lookup_step : (e : K × X) (es : List (K × X)) (r : Ordering) → R k e.0 ≡ r
-      → lookup (is_at (R k)) (e ∷ es) ≡ cond (is_eq r) (Some e.1) (lookup (is_at (R k)) es)
-  lookup_step e es r h = ap (λ o. cond (is_eq o) (Some e.1) (lookup (is_at (R k)) es)) h
-
-  remove_step : (e : K × X) (es : List (K × X)) (r : Ordering) → R k e.0 ≡ r
-      → remove_entry (is_at (R k)) (e ∷ es) ≡ cond (is_eq r) es (e ∷ remove_entry (is_at (R k)) es)
-  remove_step e es r h = ap (λ o. cond (is_eq o) es (e ∷ remove_entry (is_at (R k)) es)) h
-
   -- where place i has the key
   pub lookup_at : (es : List (K × X)) (i : ℕ) (d : K × X) → i < length es → AboveFirst es i → AnswersAt es i Equal
       → lookup (is_at (R k)) es ≡ Some (get_or es i d).1
-  lookup_at [] i d lt above at = absurd (omega (arith, lt))
-  lookup_at (e ∷ es) zero d lt above at = lookup_step e es Equal at
-  lookup_at (e ∷ es) (suc i) d lt above at = lookup_step e es Greater above.0
-      ∙ lookup_at es i d (omega (arith, lt)) above.1 at
+  lookup_at [] i d lt above at = absurd (omega arith)
+  lookup_at (e ∷ es) zero d lt above at = rw at refl
+  lookup_at (e ∷ es) (suc i) d lt above at = rw above.0 (lookup_at es i d (omega arith) above.1 at)
 
   pub insert_at : (es : List (K × X)) (i : ℕ) (v : X) (d : K × X) → i < length es → AboveFirst es i
       → AnswersAt es i Equal → insert_entry R es k v ≡ set es i ((get_or es i d).0, v)
-  insert_at [] i v d lt above at = absurd (omega (arith, lt))
-  insert_at (e ∷ es) zero v d lt above at = insert_step e es v Equal at
-  insert_at (e ∷ es) (suc i) v d lt above at = insert_step e es v Greater above.0
-      ∙ ap (λ l. e ∷ l) (insert_at es i v d (omega (arith, lt)) above.1 at)
+  insert_at [] i v d lt above at = absurd (omega arith)
+  insert_at (e ∷ es) zero v d lt above at = rw at refl
+  insert_at (e ∷ es) (suc i) v d lt above at = rw (above.0, insert_at es i v d (omega arith) above.1 at) refl
 
   pub remove_at : (es : List (K × X)) (i : ℕ) → i < length es → AboveFirst es i → AnswersAt es i Equal
       → remove_entry (is_at (R k)) es ≡ remove es i
-  remove_at [] i lt above at = absurd (omega (arith, lt))
-  remove_at (e ∷ es) zero lt above at = remove_step e es Equal at
-  remove_at (e ∷ es) (suc i) lt above at = remove_step e es Greater above.0
-      ∙ ap (λ l. e ∷ l) (remove_at es i (omega (arith, lt)) above.1 at)
+  remove_at [] i lt above at = absurd (omega arith)
+  remove_at (e ∷ es) zero lt above at = rw at refl
+  remove_at (e ∷ es) (suc i) lt above at = rw (above.0, remove_at es i (omega arith) above.1 at) refl
 
   -- where no place has it, and it would go to place i
   pub insert_gap : (es : List (K × X)) (i : ℕ) (v : X) → i ≤ length es → AboveFirst es i → AnswersAt es i Less
       → insert_entry R es k v ≡ insert es i (k, v)
   insert_gap [] zero v le above at = refl
   insert_gap [] (suc i) v le above at = absurd above
-  insert_gap (e ∷ es) zero v le above at = insert_step e es v Less at
-  insert_gap (e ∷ es) (suc i) v le above at = insert_step e es v Greater above.0
-      ∙ ap (λ l. e ∷ l) (insert_gap es i v (omega (arith, le)) above.1 at)
+  insert_gap (e ∷ es) zero v le above at = rw at refl
+  insert_gap (e ∷ es) (suc i) v le above at = rw (above.0, insert_gap es i v (omega arith) above.1 at) refl
 
-  -- no key is k
-  abbrev NoneIs : List (K × X) → Type 0
-  NoneIs [] = Unit {0}
-  NoneIs (e ∷ es) = (is_eq (R k e.0) ≡ false) × NoneIs es
-
-  lookup_none : (es : List (K × X)) → NoneIs es → lookup (is_at (R k)) es ≡ None
-  lookup_none [] none = refl
-  lookup_none (e ∷ es) none = ap (λ b. cond b (Some e.1) (lookup (is_at (R k)) es)) none.0 ∙ lookup_none es none.1
-
-  remove_none : (es : List (K × X)) → NoneIs es → remove_entry (is_at (R k)) es ≡ es
+  remove_none : (es : List (K × X)) → NonePasses (is_at (R k)) es → remove_entry (is_at (R k)) es ≡ es
   remove_none [] none = refl
-  remove_none (e ∷ es) none = ap (λ b. cond b es (e ∷ remove_entry (is_at (R k)) es)) none.0
-      ∙ ap (λ l. e ∷ l) (remove_none es none.1)
+  remove_none (e ∷ es) none = rw (none.0, remove_none es none.1) refl
 
 -- the same comparison from the other side
 pub turned : {K : Type 0} {R : K → K → Ordering} → IsTotalOrder R → (k x : K) → R k x ≡ Greater → R x k ≡ Less
@@ -89,26 +61,17 @@ turned o k x h = o.antisymm x k ∙ ap ordering_reverse h
 pub turned_less : {K : Type 0} {R : K → K → Ordering} → IsTotalOrder R → (k x : K) → R x k ≡ Less → R k x ≡ Greater
 turned_less o k x h = o.antisymm k x ∙ ap ordering_reverse h
 
-pub turned_greater : {K : Type 0} {R : K → K → Ordering} → IsTotalOrder R → (k x : K) → R x k ≡ Greater → R k x ≡ Less
-turned_greater o k x h = o.antisymm k x ∙ ap ordering_reverse h
-
 module _ {K X : Type 0} {R : K → K → Ordering} (o : IsTotalOrder R) (k : K) where
-  -- below the first key, k is below all
-  none_behind : (e : K × X) (es : List (K × X)) → R k e.0 ≡ Less → AllByRecursion (λ y. R e.0 y ≡ Less) (keys_of es)
-      → NoneIs R k es
-  none_behind e [] less all = tt
-  none_behind e (x ∷ es) less all = (ap is_eq (o.trans k e.0 x.0 less all.0), none_behind e es less all.1)
-
   none_at_gap : (es : List (K × X)) (i : ℕ) → IsStrictlySortedBy R (keys_of es) → AboveFirst R k es i
-      → AnswersAt R k es i Less → NoneIs R k es
+      → AnswersAt R k es i Less → NonePasses (is_at (R k)) es
   unfolding IsStrictlySortedBy
   none_at_gap [] i sorted above at = tt
-  none_at_gap (e ∷ es) zero sorted above at = (ap is_eq at, none_behind e es at sorted.0)
+  none_at_gap (e ∷ es) zero sorted above at = none_below_head o k e es sorted at
   none_at_gap (e ∷ es) (suc i) sorted above at = (ap is_eq above.0, none_at_gap es i sorted.1 above.1 at)
 
   pub lookup_gap : (es : List (K × X)) (i : ℕ) → IsStrictlySortedBy R (keys_of es) → AboveFirst R k es i
       → AnswersAt R k es i Less → lookup (is_at (R k)) es ≡ None
-  lookup_gap es i sorted above at = lookup_none R k es (none_at_gap es i sorted above at)
+  lookup_gap es i sorted above at = lookup-none (is_at (R k)) es (none_at_gap es i sorted above at)
 
   pub remove_gap : (es : List (K × X)) (i : ℕ) → IsStrictlySortedBy R (keys_of es) → AboveFirst R k es i
       → AnswersAt R k es i Less → remove_entry (is_at (R k)) es ≡ es
@@ -119,16 +82,11 @@ module _ {K X : Type 0} {R : K → K → Ordering} (o : IsTotalOrder R) (k : K) 
   abbrev Below : K → List (K × X) → Type 0
   Below x es = AllByRecursion (λ y. R x y ≡ Less) (keys_of es)
 
-  below_insert_by : (x : K) (e : K × X) (es : List (K × X)) (v : X) (r : Ordering) → R x k ≡ Less → Below x (e ∷ es)
-      → Below x (insert_entry R es k v)
-      → Below x (match_ordering r ((k, v) ∷ e ∷ es) ((e.0, v) ∷ es) (e ∷ insert_entry R es k v))
-  below_insert_by x e es v Less here all rest = (here, all)
-  below_insert_by x e es v Equal here all rest = all
-  below_insert_by x e es v Greater here all rest = (all.0, rest)
-
   below_insert : (x : K) (es : List (K × X)) (v : X) → R x k ≡ Less → Below x es → Below x (insert_entry R es k v)
   below_insert x [] v here all = (here, tt)
-  below_insert x (e ∷ es) v here all = below_insert_by x e es v (R k e.0) here all (below_insert x es v here all.1)
+  below_insert x (e ∷ es) v here all = elim (R k e.0) as
+      (λ r. Below x (match_ordering r ((k, v) ∷ e ∷ es) ((e.0, v) ∷ es) (e ∷ insert_entry R es k v)))
+      [ Less ↦ (here, all) | Equal ↦ all | Greater ↦ (all.0, below_insert x es v here all.1) ]
 
   behind : (x y : K) (es : List (K × X)) → R x y ≡ Less → Below y es → Below x es
   behind x y [] less all = tt
@@ -166,16 +124,11 @@ module _ {K X : Type 0} (R : K → K → Ordering) (test : K → Bool) where
 
 -- ---- what a look-up finds after an edit
 
-pub tie : (r : Ordering) → is_eq r ≡ true → r ≡ Equal
-tie Less h = absurd (true≢false (sym h))
-tie Equal h = refl
-tie Greater h = absurd (true≢false (sym h))
-
 module _ {X : Type 0} (v w : X) (rest : Option X) where
   -- two tests of which at most one passes may be made in either order
   swapped_tests : (a b : Bool) → (a ≡ true → b ≡ false)
       → cond a (Some w) (cond b (Some v) rest) ≡ cond b (Some v) (cond a (Some w) rest)
-  swapped_tests true true apart = absurd (true≢false (apart refl))
+  swapped_tests true true apart = cc (apart refl)
   swapped_tests true false apart = refl
   swapped_tests false b apart = refl
 
@@ -186,32 +139,24 @@ module _ {X : Type 0} (v w : X) (rest : Option X) where
 
 module _ {K X : Type 0} {R : K → K → Ordering} (o : IsTotalOrder R) (k : K) (v : X) (q : K) where
   ties_back : is_eq (R q k) ≡ is_eq (R k q)
-  ties_back = ap is_eq (o.antisymm q k) ∙ same (R k q)
-    where
-      same : (r : Ordering) → is_eq (ordering_reverse r) ≡ is_eq r
-      same Less = refl
-      same Equal = refl
-      same Greater = refl
+  ties_back = (eq_by_cmp_equiv o).symm q k
 
   -- where q is the entry's key, which is below k, it isn't k
   apart : (e : K × X) → R k e.0 ≡ Greater → is_eq (R q e.0) ≡ true → is_eq (R k q) ≡ false
-  apart e h at = ap is_eq (alike_right o q e.0 k (tie (R q e.0) at) ∙ h)
+  apart e h at = ap is_eq (alike_right o q e.0 k ((Equal-is (R q e.0)).0 at) ∙ h)
 
   lookup_insert_by : (e : K × X) (es : List (K × X)) (r : Ordering) → R k e.0 ≡ r
       → lookup (is_at (R q)) (insert_entry R es k v) ≡ cond (is_eq (R k q)) (Some v) (lookup (is_at (R q)) es)
       → lookup (is_at (R q)) (match_ordering r ((k, v) ∷ e ∷ es) ((e.0, v) ∷ es) (e ∷ insert_entry R es k v))
       ≡ cond (is_eq (R k q)) (Some v) (lookup (is_at (R q)) (e ∷ es))
-  lookup_insert_by e es Less h rest = ap (λ b. cond b (Some v) (lookup (is_at (R q)) (e ∷ es))) ties_back
+  lookup_insert_by e es Less h rest = rw ties_back refl
   lookup_insert_by e es Equal h rest =
       let same : is_eq (R q e.0) ≡ is_eq (R k q) = ap is_eq (sym (alike_right o k e.0 q h)) ∙ ties_back in
-      ap (λ b. cond b (Some v) (lookup (is_at (R q)) es)) same
-      ∙ (same_test v e.1 (lookup (is_at (R q)) es) (is_eq (R k q))
-      ∙ ap (λ b. cond (is_eq (R k q)) (Some v) (cond b (Some e.1) (lookup (is_at (R q)) es))) (sym same))
+      rw same (same_test v e.1 (lookup (is_at (R q)) es) (is_eq (R k q)))
   lookup_insert_by e es Greater h rest =
-      ap (λ l. cond (is_eq (R q e.0)) (Some e.1) l) rest
-      ∙ swapped_tests v e.1 (lookup (is_at (R q)) es) (is_eq (R q e.0)) (is_eq (R k q)) (apart e h)
+      rw rest (swapped_tests v e.1 (lookup (is_at (R q)) es) (is_eq (R q e.0)) (is_eq (R k q)) (apart e h))
 
   pub lookup-insert_entry : (es : List (K × X)) → lookup (is_at (R q)) (insert_entry R es k v)
       ≡ cond (is_eq (R k q)) (Some v) (lookup (is_at (R q)) es)
-  lookup-insert_entry [] = ap (λ b. cond b (Some v) None) ties_back
+  lookup-insert_entry [] = rw ties_back refl
   lookup-insert_entry (e ∷ es) = lookup_insert_by e es (R k e.0) refl (lookup-insert_entry es)

@@ -1,24 +1,23 @@
 -- What a search in a table of keys finds, and what an edit at that place does.
 use Rattle.ga_uses.proofs.EntryLemmas.{insert_at, insert_gap, lookup-insert_entry, lookup_at, lookup_gap, remove_at}
-use Rattle.ga_uses.proofs.EntryLemmas.{remove_gap, sorted_insert, sorted_remove, tie}
+use Rattle.ga_uses.proofs.EntryLemmas.{remove_gap, sorted_insert, sorted_remove}
 use Rattle.ga_uses.proofs.SearchLemmas.{above_at, above_from, answers_from, filter_between, from_not_less, rises}
-use Rattle.ga_uses.specs.KeyTable.{ChangesKey, HasKeyAt, IsGapFor, IsInKeyOrder, entries_from_to, key_order, value_at}
-use Rattle.ga_uses.specs.KeyTable.{with_entry, without_key}
+use Rattle.ga_uses.specs.KeyTable.{ChangesKey, HasKeyAt, IsGapFor, IsInKeyOrder, entries_from_to, key_order, with_entry}
+use Rattle.ga_uses.specs.KeyTable.{without_key}
+use Rattle.std.proofs.lemmas.Bool.{false_from_ne_true}
 use Rattle.std.proofs.lemmas.Cmp.{eq_by_cmp_equiv, nat_list_cmp_total, tied_itself}
 use Rattle.std.proofs.lemmas.Map.{lookup-remove_entry}
 use Rattle.std.proofs.lemmas.Map.Keys.{IsDistinct-from_sorted}
 use Rattle.std.proofs.lemmas.Map.Lookups.{exact_bytes}
-use Rattle.std.specs.Prelude.{slice_range}
 use Rattle.std.proofs.Math.Bool.{and-false}
-use Rattle.std.proofs.Common.{◌≡◌, ℕ, ◌-◌, ◌≤◌, Bool, true, false, ◌&&◌, min, cond, List, [], length, get_or, set, Some, None}
-use Rattle.std.proofs.Common.{Result, Ok, Err, IfOk, IfErr, refl, sym, ◌∙◌, ap, subst, arith}
+use Rattle.std.proofs.Common.{◌≡◌, ℕ, ◌-◌, ◌≤◌, Bool, true, false, ◌&&◌, min, cond, List, [], length, get_or, set, Some}
+use Rattle.std.proofs.Common.{None, Result, Ok, Err, IfOk, IfErr, refl, sym, ◌∙◌, ap, subst, arith, slice_range, insert}
+use Rattle.std.proofs.Common.{remove}
 use Rattle.std.specs.BTreeMap.{is_at}
-use Rattle.std.specs.List.{insert, remove}
+use Rattle.std.specs.Cmp.{Equal-is}
 use Rattle.std.specs.List.Sorted.{IsStrictlySortedBy, IsSearchInRange, IsBinarySearchResult, IsPartitionPoint}
 use Rattle.std.specs.Map.{keys_of}
 use Rattle.std.specs.Ordering.{eq_by_cmp, is_eq, is_le, is_lt}
-use Rattle.std.specs.declared.cmp.Ordering.{Ordering}
-use Rattle.std.specs.declared.cmp.Ordering.TheVariants.{Less, Equal, Greater}
 
 module _ {V : Type 0} (es : List (List ℕ × V)) (sorted : IsInKeyOrder es) where
   -- a binary search ends at the key, or at the place where it would go
@@ -80,8 +79,7 @@ module _ {V : Type 0} (es : List (List ℕ × V)) (sorted : IsInKeyOrder es) (ke
   pub sorted_written : HasKeyAt es key i → (e : List ℕ × V) (v : V) → e ≡ get_or es i e
       → IsInKeyOrder (set es i (e.0, v))
   sorted_written has e v is =
-      subst (λ (x : List ℕ × V). IsInKeyOrder (set es i (x.0, v))) (sym is)
-      (subst IsInKeyOrder (has.written v e) (sorted_insert nat_list_cmp_total key es v sorted))
+      rw (is, ← has.written v e) (sorted_insert nat_list_cmp_total key es v sorted)
 
   -- b is whether there was memory
   pub sorted_inserted : IsGapFor es key i → (v : V) (b : Bool) → IsInKeyOrder (cond b (insert es i (key, v)) es)
@@ -95,36 +93,28 @@ module _ {V : Type 0} (es : List (List ℕ × V)) (sorted : IsInKeyOrder es) (ke
 
 -- keys that differ don't tie
 unlike : (x y : List ℕ) → (y ≡ x → ⊥) → is_eq (key_order x y) ≡ false
-unlike x y differ = by (key_order x y) refl
-  where
-    by : (r : Ordering) → key_order x y ≡ r → is_eq r ≡ false
-    by Less h = refl
-    by Equal h = absurd (differ (sym (exact_bytes x y h)))
-    by Greater h = refl
+unlike x y differ = false_from_ne_true _
+    (λ same. differ (sym (exact_bytes x y ((Equal-is (key_order x y)).0 same))))
 
 module _ {V : Type 0} (es : List (List ℕ × V)) (key : List ℕ) where
   pub changes-with_entry : (value : V) → ChangesKey es (with_entry es key value) key (Some value)
-  changes-with_entry value =
-      let at = λ (b : Bool) (q : List ℕ). cond b (Some value) (value_at es q) in (
-        lookup-insert_entry nat_list_cmp_total key value key es
-            ∙ ap (λ b. at b key) (ap is_eq (tied_itself nat_list_cmp_total key)),
-        λ other differ. lookup-insert_entry nat_list_cmp_total key value other es
-            ∙ ap (λ b. at b other) (unlike key other differ),
-      )
+  changes-with_entry value = (
+    rw (lookup-insert_entry nat_list_cmp_total key value key es, tied_itself nat_list_cmp_total key) refl,
+    λ other differ.
+        rw (lookup-insert_entry nat_list_cmp_total key value other es, unlike key other differ) refl,
+  )
 
   pub changes-without_key : IsInKeyOrder es → ChangesKey es (without_key es key) key None
   changes-without_key sorted =
-      let at = λ (b : Bool) (q : List ℕ). cond b None (value_at es q) in
       let taken = λ (q : List ℕ). lookup-remove_entry {eq = eq_by_cmp key_order} (eq_by_cmp_equiv nat_list_cmp_total)
-      (is_at (key_order key)) (λ x y h. ap is_eq (nat_list_cmp_total.congr key x y (tie (key_order key x) h))) q es
+      (is_at (key_order key)) (λ x y h. ap is_eq (nat_list_cmp_total.congr key x y ((Equal-is (key_order key x)).0 h))) q es
       (IsDistinct-from_sorted key_order (keys_of es) sorted) in (
-        taken key ∙ ap (λ b. at b key) (ap is_eq (tied_itself nat_list_cmp_total key)),
-        λ other differ. taken other ∙ ap (λ b. at b other) (unlike key other differ),
+        rw (taken key, tied_itself nat_list_cmp_total key) refl,
+        λ other differ. rw (taken other, unlike key other differ) refl,
       )
 
 -- the same where place i is written over: e is the entry that was there
 pub changes_written : {V : Type 0} (es : List (List ℕ × V)) (key : List ℕ) (i : ℕ) → HasKeyAt es key i
     → (e : List ℕ × V) (v : V) → e ≡ get_or es i e → ChangesKey es (set es i (e.0, v)) key (Some v)
 changes_written {V} es key i has e v is =
-    subst (λ (x : List ℕ × V). ChangesKey es (set es i (x.0, v)) key (Some v)) (sym is)
-    (subst (λ l. ChangesKey es l key (Some v)) (has.written v e) (changes-with_entry es key v))
+    rw (is, ← has.written v e) (changes-with_entry es key v)

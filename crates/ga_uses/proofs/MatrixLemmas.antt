@@ -1,8 +1,9 @@
 -- Laws of matrices as lists of rows.
-use Rattle.ga_uses.specs.Matrix.{IsMatrix, column_of, dot_product, identity_matrix, matrix_product, row_product, transpose, unit_row}
-use Rattle.std.proofs.Common.{◌≡◌, ℕ, zero, suc, ◌+◌, ◌*◌, ◌%◌, ◌^◌, ◌<◌, ◌∙◌, List, [], ◌∷◌, add-zero, ap, arith, cond, eqb, get_or, length, map, refl, sym, zero-add}
-use Rattle.std.proofs.Math.Nat.{mod-eq_of_lt, mul_comm}
-use Rattle.std.proofs.lemmas.Bool.{eq-eqb, ne_eqb}
+use Rattle.ga_uses.specs.Matrix.{IsMatrix, column_of, dot_product, identity_matrix, matrix_product, row_product}
+use Rattle.ga_uses.specs.Matrix.{transpose, unit_row}
+use Rattle.std.proofs.Common.{◌≡◌, ℕ, zero, suc, ◌+◌, ◌*◌, ◌%◌, ◌^◌, ◌<◌, ◌∙◌, List, [], ◌∷◌, add-zero, ap, arith, cond}
+use Rattle.std.proofs.Common.{eqb, get_or, length, map, mul-zero, refl, sym, zero-add, mod-eq_of_lt, mul_comm, eq-eqb}
+use Rattle.std.proofs.Common.{ne_eqb}
 use Rattle.std.proofs.lemmas.List.{get_or-map, length-map}
 use Rattle.std.proofs.lemmas.List.Elements.{All-head, All-map, All-tail}
 use Rattle.std.proofs.lemmas.List.Folds.{map_fixed}
@@ -44,10 +45,8 @@ module _ (place : ℕ) (unit : ℕ → ℕ) (one : unit place ≡ 1) (others : (
       (map (λ pair. (pair.0 * pair.1) % 2 ^ 64) (zip numbers (map unit (range_with_len start (length numbers))))) ≡ total
   none_behind [] start total behind fits = refl
   none_behind (x ∷ numbers) start total behind fits =
-      let nothing : unit start ≡ 0 = others start (λ here. absurd (omega (arith, here))) in
-      let product : x * unit start ≡ 0 = rw nothing (omega arith) in
-      let kept : (total + (x * unit start) % 2 ^ 64) % 2 ^ 64 ≡ total = rw (product, add-zero) (mod-eq_of_lt fits) in
-      rw kept (none_behind numbers (start + 1) total (omega arith) fits)
+      rw (others start (λ here. absurd (omega arith)), mul-zero x, add-zero, mod-eq_of_lt fits)
+      (none_behind numbers (start + 1) total (omega arith) fits)
 
   -- the number at the place of the 1 is what remains
   one_remains : (numbers : List ℕ) (start ahead : ℕ) → All (λ number. number < 2 ^ 64) numbers
@@ -57,15 +56,12 @@ module _ (place : ℕ) (unit : ℕ → ℕ) (one : unit place ≡ 1) (others : (
   one_remains (x ∷ numbers) start zero fit here within =
       let below : x < 2 ^ 64 = All-head (λ number. number < 2 ^ 64) x numbers fit in
       let same : unit start ≡ 1 = ap unit (omega (arith, here)) ∙ one in
-      let product : x * unit start ≡ x = rw same (omega arith) in
-      let first : (0 + (x * unit start) % 2 ^ 64) % 2 ^ 64 ≡ x = rw (product, zero-add, mod-eq_of_lt below) (mod-eq_of_lt below) in
-      rw first (none_behind numbers (start + 1) x (omega (arith, here)) below)
+      let product : x * 1 ≡ x = omega arith in
+      rw (same, product, zero-add, mod-eq_of_lt below, mod-eq_of_lt below)
+      (none_behind numbers (start + 1) x (omega arith) below)
   one_remains (x ∷ numbers) start (suc ahead) fit here within =
-      let nothing : unit start ≡ 0 = others start (λ at. absurd (omega (arith, at, here))) in
-      let product : x * unit start ≡ 0 = rw nothing (omega arith) in
-      let first : (0 + (x * unit start) % 2 ^ 64) % 2 ^ 64 ≡ 0 = rw product refl in
-      rw first (one_remains numbers (start + 1) ahead (All-tail (λ number. number < 2 ^ 64) x numbers fit)
-      (omega (arith, here)) (omega (arith, within)))
+      rw (others start (λ at. absurd (omega arith)), mul-zero x) (one_remains numbers (start + 1) ahead
+      (All-tail (λ number. number < 2 ^ 64) x numbers fit) (omega arith) (omega arith))
 
 -- a matrix times the identity is the matrix
 pub product_identity : (rows columns : ℕ) (matrix : List (List ℕ)) → IsMatrix rows columns matrix

@@ -3,9 +3,8 @@ use Rattle.generic_array.proofs.RowLemmas.{chunk_rest-first, rows-first}
 use Rattle.generic_array.specs.Rows.{chunk_rest, rows}
 use Rattle.ga_uses.specs.Udp.{field_of, header_of, number_of, ones_complement_sum, sum_with_carry, summed_bytes, words}
 use Rattle.std.proofs.Common.{◌≡◌, ℕ, zero, suc, ◌+◌, ◌*◌, ◌<◌, ◌≤◌, ◌/◌, ◌%◌, ◌^◌, List, [], ◌∷◌, ◌++◌, get_or, length}
-use Rattle.std.proofs.Common.{map, refl, sym, ◌∙◌, ap, arith}
+use Rattle.std.proofs.Common.{map, refl, sym, ◌∙◌, ap, arith, fold}
 use Rattle.std.proofs.lemmas.Grind.{fold-append}
-use Rattle.std.specs.Prelude.{fold}
 
 -- the words of an even number of bytes, and those of what follows
 pub words-append : (n : ℕ) (xs ys : List ℕ) → length xs ≡ n + n → words (xs ++ ys) ≡ words xs ++ words ys
@@ -53,13 +52,8 @@ summed from to payload len source destination four_from four_to is =
     let second = fold-pieces 2 to behind (fold sum_with_carry 0 (words from)) four_to in
     let third : words behind ≡ 17 ∷ len ∷ source ∷ destination ∷ len ∷ 0 ∷ words payload =
     λ i. 17 ∷ rejoined len i ∷ rejoined source i ∷ rejoined destination i ∷ rejoined len i ∷ 0 ∷ words payload in
-    let all : fold sum_with_carry 0 (words (from ++ (to ++ behind)))
-    ≡ fold sum_with_carry (fold sum_with_carry (fold sum_with_carry 0 (words from)) (words to))
-    (17 ∷ len ∷ source ∷ destination ∷ len ∷ 0 ∷ words payload) =
-    first ∙ (second ∙ ap (fold sum_with_carry (fold sum_with_carry (fold sum_with_carry 0 (words from)) (words to)))
-    third) in
-    sym all ∙ ap (λ n. ones_complement_sum (from ++
-    (to ++ (0 ∷ 17 ∷ field_of n ++ (header_of source destination n 0 ++ payload))))) is
+    rw (← is) (sym (first ∙ (second
+    ∙ ap (fold sum_with_carry (fold sum_with_carry (fold sum_with_carry 0 (words from)) (words to))) third)))
 
 one_left : (rest : List ℕ) → 1 ≤ length rest → length rest < 2 → words rest ≡ (get_or rest 0 0 * 2 ^ 8) ∷ []
 one_left [] least most = absurd (omega (arith, least))
@@ -74,11 +68,7 @@ none_left (x ∷ rest) most = absurd (omega (arith, most))
 module _ (xs whole rest : List ℕ) (same : rows 2 whole ≡ rows 2 xs) (left : rest ≡ chunk_rest 2 xs) (sum total : ℕ)
     (is : total ≡ fold sum_with_carry sum (map number_of (rows 2 whole))) where
   all : fold sum_with_carry sum (words xs) ≡ fold sum_with_carry total (words rest)
-  all =
-      fold-rows xs sum
-      ∙ (ap (λ t. fold sum_with_carry t (words (chunk_rest 2 xs)))
-      (sym (is ∙ ap (λ rs. fold sum_with_carry sum (map number_of rs)) same))
-      ∙ ap (λ r. fold sum_with_carry total (words r)) (sym left))
+  all = rw (left, is, same) (fold-rows xs sum)
 
   pub total-one : 1 ≤ length rest → length rest < 2
       → sum_with_carry total (get_or rest 0 0 * 2 ^ 8) ≡ fold sum_with_carry sum (words xs)

@@ -26,11 +26,5 @@ loop-piece-preserved g c =
       subst (λ m. HasFed (λ slice. slice.now) (goal.F-step g) g.N.Unsigned.USIZE c.args.f.now m c.feed.new.self.kept
           c.feed.new.f) (sym more)
           (c.feed.ensures.whole c.args.f.now message c.loop-piece.invariant.0),
-      omega (
-        arith,
-        c.feed.ensures.len,
-        c.loop-piece.invariant.1,
-        ap length more,
-        length-append message (get_or pieces i d).now,
-      ),
+      omega (arith, c.feed.ensures.len, c.loop-piece.invariant.1, simp length-append at (ap length more)),
     )

@@ -1,7 +1,6 @@
 use Rattle.ga_hashes.proofs.block_buffer.feed_pieces.Given as goal
 use Rattle.ga_hashes.specs.BlockBuffer.{HasFed, count_more}
-use Rattle.std.proofs.Common.{◌≡◌, take}
-use Rattle.std.specs.List.{flat_map}
+use Rattle.std.proofs.Common.{◌≡◌, take, flat_map}
 
 -- the pieces so far were fed as one message
 abbrev pub invariant-loop-piece : goal.invariant-loop-piece

@@ -15,18 +15,15 @@ next : (g : given.Over) (c : goal.After-as_slice g)
 next g c = c.in-Some.ensures.steps ∙ ap (λ block. block ∷ c.next.new.self) (sym c.as_slice.ensures.items)
 
 pub f-requires : goal.f-requires
-f-requires g c = BlocksLeft-callable c.as_slice.result c.loop-block.block-iterator c.next.new.self
-    (next g c) c.as_slice.ensures.len c.loop-block.invariant.2
+f-requires g c = BlocksLeft-callable c.as_slice.result (next g c) c.as_slice.ensures.len c.loop-block.invariant.2
 
 pub loop-block-preserved : goal.loop-block-preserved
 loop-block-preserved g c =
     let here = c.in-Some.ensures.steps ∙ ap (λ block. block ∷ c.next.new.self) (sym c.as_slice.ensures.items) in (
       search rules,
       search rules,
-      BlocksLeft-more c.as_slice.result c.loop-block.block-iterator c.next.new.self
-          c.f.new.self here c.f.ensures c.loop-block.invariant.2,
+      BlocksLeft-more c.as_slice.result c.f.new.self here c.f.ensures c.loop-block.invariant.2,
     )
 
 pub returns-clause-blocks : goal.returns-clause-blocks
-returns-clause-blocks g c = BlocksLeft-end c.loop-block.block-iterator c.in-None.ensures.steps.0
-    c.loop-block.invariant.2
+returns-clause-blocks g c = BlocksLeft-end c.in-None.ensures.steps.0 c.loop-block.invariant.2

@@ -4,8 +4,7 @@ use Rattle.ga_hashes.proofs.block_buffer.padded_blocks.Goals as goal
 use Rattle.ga_hashes.specs.BlockBuffer.{with_padding, padding}
 use Rattle.ga_core.proofs.JoinLemmas.{rows-joined}
 use Rattle.ga_core.specs.Rows.{chunk_rest, rows}
-use Rattle.std.proofs.Common.{◌≡◌, [], ◌++◌, ap, append-nil, arith, length, sym, ◌∙◌}
-use Rattle.std.specs.List.{flat_map}
+use Rattle.std.proofs.Common.{◌≡◌, [], ◌++◌, ap, append-nil, arith, length, sym, ◌∙◌, flat_map}
 
 pub feed_pieces-buffer-requires-clause-callable : goal.feed_pieces-buffer-requires-clause-callable
 feed_pieces-buffer-requires-clause-callable g c =

@@ -1,7 +1,6 @@
 use Rattle.ga_hashes.proofs.compare.chosen.Goals as goal
-use Rattle.std.proofs.Common.{◌≡◌, ◌∙◌, Bool, List, ℕ, false, if◌then◌else◌, length, map, sym, true}
+use Rattle.std.proofs.Common.{◌≡◌, ◌∙◌, Bool, List, ℕ, false, if◌then◌else◌, length, map, sym, true, zip}
 use Rattle.std.proofs.lemmas.Slice.Zip.{firsts-zip, seconds-zip}
-use Rattle.std.specs.List.{zip}
 
 -- the same side of each pair is the list on that side
 one_side : (flag : Bool) (left right : List ℕ) → length right ≡ length left

@@ -1,8 +1,7 @@
 use Rattle.ga_rows.proofs.input.read_within.Goals as goal
 use Rattle.ga_rows.proofs.input.read_within.Goals.{in-Ok+in_ok-append-in-Ok, in-Err+in_ok-after_failed_read-in-Err}
-use Rattle.std.proofs.Common.{append-nil, ap, rules, subst, sym, take, ◌≡◌, ◌++◌, ◌∙◌}
+use Rattle.std.proofs.Common.{append-nil, ap, rules, sym, take, ◌≡◌, ◌++◌, ◌∙◌}
 use Rattle.std.proofs.KnownBytes.{Consumes-kept, Consumes-trans, Consumes-whole}
-use Rattle.std.specs.Io.KnownBytes.{Consumes}
 
 -- what a read gave is behind what was kept, and a read that was interrupted gave nothing
 pub loop-try-preserved : goal.loop-try-preserved
@@ -10,11 +9,10 @@ loop-try-preserved g c =
     let before = g.R.Read.remaining c.args.r.now in
     let now = g.R.Read.remaining c.read.new.self in
     elim c.match-read.branch [
-      | in-Ok+in_ok-append-in-Ok w ↦ subst (Consumes before now)
-          (sym (ap (λ input. input.items) w.input-is ∙ w.in_ok-append-in-Ok.ensures.ok))
+      | in-Ok+in_ok-append-in-Ok w ↦ rw (w.input-is, w.in_ok-append-in-Ok.ensures.ok)
           (Consumes-trans before _ now _ _ c.loop-try.invariant w.in-Ok.ensures.bytes.0)
-      | in-Err+in_ok-after_failed_read-in-Err w ↦ subst (λ input. Consumes before now input.items)
-          (sym w.input-is) (Consumes-kept before _ now _ c.loop-try.invariant w.in-Err.ensures.bytes)
+      | in-Err+in_ok-after_failed_read-in-Err w ↦
+          rw w.input-is (Consumes-kept before _ now _ c.loop-try.invariant w.in-Err.ensures.bytes)
     ]
 
 -- all was read where a read gave no more

@@ -17,11 +17,8 @@ loop-row-preserved g c = record {
         | then-not-has_room+in_ok-hand_over w ↦ search rules
         | else-not-has_room w ↦ append_known-grown _ _ _ _ _ (search (rules, Keeps-refl)) c.in_ok-put_row.ensures
       ]);
-  empty = λ none. absurd (omega (
-    arith,
-    ap length (c.loop-row.invariant.empty none).0,
-    ap length c.in-Some.ensures.steps,
-  ));
+  empty = λ none.
+      absurd (omega (arith, ap length (c.loop-row.invariant.empty none).0, ap length c.in-Some.ensures.steps));
 }
 
 -- a line has room where the piece was just written, and where it was seen to have

@@ -11,14 +11,7 @@ returns c =
     let from = c.args.source_address in
     let to = c.args.destination_address in
     c.complement.ensures
-    ∙ ap complement_of (rw (
-      c.with_words.ensures,
-      acts,
-      c.with_words-addresses.ensures,
-      c.with_words-first.ensures,
-      c.from_array-between.ensures,
-      c.into_slice.ensures.items,
-      c.into_slice-2.ensures.items,
-    )
+    ∙ ap complement_of (rw (c.with_words.ensures, acts, c.with_words-addresses.ensures, c.with_words-first.ensures)
+    (rw (c.from_array-between.ensures, c.into_slice.ensures.items, c.into_slice-2.ensures.items)
     (summed (items_of_view from) (items_of_view to) c.args.payload.now _ _ _ (length-items_of_view from)
-    (length-items_of_view to) refl))
+    (length-items_of_view to) refl)))

@@ -1,8 +1,6 @@
-use Rattle.ga_boxed.proofs.BlockLemmas.{one_more}
 use Rattle.ga_boxed.proofs.boxed_array.BoxedArray.from_inline.Goals as goal
 use Rattle.ga_core.proofs.MoveLemmas.{pushed-next, this-here}
-use Rattle.std.proofs.Common.{ap, arith, length, refl, subst, sym, ◌<◌, ◌∙◌, ◌≤◌}
-use Rattle.std.proofs.lemmas.List.{take_all}
+use Rattle.std.proofs.Common.{ap, arith, length, refl, subst, sym, ◌<◌, ◌∙◌, ◌≤◌, take_all}
 
 pub put-requires : goal.put-requires
 put-requires g c = record {
@@ -17,7 +15,7 @@ loop-slot-preserved g c =
           c.take.new.dest (subst (λ n. at.slot-index < n) (sym at.auto.slots) c.loop-slot-test.true)
           (this-here at.slot-index at.slots c.slot-item.result c.take.result c.slot-item.is c.take.ensures.value)
           at.invariant.moved c.put.ensures.items;
-      room = one_more _ _ _ _ at.invariant.room c.put.ensures.room;
+      room = omega arith;
     }
 
 pub returns : goal.returns

@@ -1,11 +1,11 @@
 use Rattle.ga_core.proofs.LeftLemmas.{all_moved}
-use Rattle.ga_boxed.proofs.BlockLemmas.{moved_more, some_left}
+use Rattle.ga_boxed.proofs.BlockLemmas.{moved_more}
 use Rattle.ga_boxed.proofs.boxed_array.BoxedArray.into_vec.Goals as goal
 use Rattle.std.proofs.Common.{ap, arith, length, refl}
 
 pub take_first-requires : goal.take_first-requires
 take_first-requires g c = record {
-  enough = some_left _ _ _ _ c.loop-moved.invariant.left c.loop-moved-test.true c.USIZE-moved-end.ensures;
+  enough = λ none. omega (arith, ap length none);
 }
 
 pub loop-moved-preserved : goal.loop-moved-preserved

@@ -1,6 +1,5 @@
 use Rattle.ga_boxed.proofs.boxed_array.BoxedArray.into_vec.Given as goal
-use Rattle.std.proofs.Common.{◌≡◌, ◌+◌, ◌++◌, ◌≤◌, length}
-use Rattle.std.specs.Vec.{vec_capacity, vec_len}
+use Rattle.std.proofs.Common.{◌≡◌, ◌+◌, ◌++◌, ◌≤◌, length, vec_capacity, vec_len}
 
 -- the items so far and those that are left are the array's, and there is room for these
 abbrev pub invariant-loop-moved : goal.invariant-loop-moved

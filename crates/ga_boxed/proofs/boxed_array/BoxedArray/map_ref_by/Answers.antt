@@ -5,8 +5,7 @@ use Rattle.ga_core.proofs.CutLemmas.{cut-at, take-one}
 use Rattle.ga_core.proofs.EntryActs.{answers_at_entries}
 use Rattle.ga_core.proofs.RunLemmas.{ClosureRun-snoc}
 use Rattle.ga_core.specs.Entries.{CallAt}
-use Rattle.std.proofs.Common.{◌+◌, ◌∙◌, refl, sym, take}
-use Rattle.std.proofs.lemmas.List.{take_all}
+use Rattle.std.proofs.Common.{◌+◌, ◌∙◌, refl, sym, take, take_all}
 
 pub f-requires : goal.f-requires
 f-requires g c =

@@ -1,6 +1,5 @@
 use Rattle.ga_boxed.proofs.boxed_array.BoxedArray.repeat.Given as goal
-use Rattle.std.proofs.Common.{◌≡◌, ◌+◌, length}
-use Rattle.std.specs.List.{All}
+use Rattle.std.proofs.Common.{◌≡◌, ◌+◌, length, All}
 
 -- what is built so far are clones, and there is room for the others
 abbrev pub invariant-loop-clone : goal.invariant-loop-clone

@@ -1,10 +1,10 @@
-use Rattle.ga_boxed.proofs.BlockLemmas.{all_there, not_all, taken-next}
+use Rattle.ga_boxed.proofs.BlockLemmas.{taken-next}
 use Rattle.ga_boxed.proofs.boxed_array.BoxedArray.try_boxed_from_iter_ref.Given as given
 use Rattle.ga_boxed.proofs.boxed_array.BoxedArray.try_boxed_from_iter_ref.Goals as goal
 use Rattle.ga_core.proofs.FillLemmas.{Asks-from_fill, FillRuns-from_fill}
 use Rattle.ga_core.specs.Fill.{Asks, FillRuns, Fills}
 use Rattle.ga_core.specs.declared.LengthError.{LengthError}
-use Rattle.std.proofs.Common.{◌<◌, ◌+◌, Err, arith, length, List, None, Ok, Result, Some, refl}
+use Rattle.std.proofs.Common.{◌≡◌, ◌<◌, ◌+◌, Err, arith, length, List, None, Ok, Result, Some, refl}
 
 pub loop-less-preserved : goal.loop-less-preserved
 loop-less-preserved g c = record {
@@ -30,8 +30,7 @@ told g items built left fill =
 pub returns-in-None : goal.returns-in-None
 returns-in-None g c =
     let at = c.loop-less in
-    let few : length at.block.items < g.N.Unsigned.USIZE =
-    omega (arith, at.invariant.so_far.room, at.invariant.within, c.room-in-loop-less.ensures, c.loop-less-test.true) in
+    let few : length at.block.items < g.N.Unsigned.USIZE = omega arith in
     let fill = told g c.args.items.now (Err (record {})) c.next.new.self
     (at.block.items, None, (at.items, at.invariant.so_far.taken, c.in-None.ensures.steps), few) in
     record { fill = fill.0; runs = fill.1; asks = fill.2; err = tt; empty = λ none. refl }
@@ -39,7 +38,7 @@ returns-in-None g c =
 pub returns-in-None-next : goal.returns-in-None-next
 returns-in-None-next g c =
     let at = c.loop-items in
-    let few = not_all _ _ _ _ at.invariant.room c.room-in-loop-items.ensures c.loop-items-test.true in
+    let few : length at.block.items < g.N.Unsigned.USIZE = omega arith in
     let fill = told g c.args.items.now (Err (record {})) c.next-in-loop-items.new.self
     (at.block.items, None, (at.items, at.invariant.taken, c.in-None-next.ensures.steps), few) in
     record { fill = fill.0; runs = fill.1; asks = fill.2; err = tt; empty = λ none. refl }
@@ -47,7 +46,7 @@ returns-in-None-next g c =
 pub returns-in-None-next-2 : goal.returns-in-None-next-2
 returns-in-None-next-2 g c =
     let at = c.loop-items in
-    let all = all_there _ _ _ _ at.invariant.room c.room-in-loop-items.ensures c.loop-items-test.false in
+    let all : length at.block.items ≡ g.N.Unsigned.USIZE = omega arith in
     let fill = told g c.args.items.now (Ok at.block.items) c.next-2.new.self
     (at.block.items, None, (at.items, at.invariant.taken, c.in-None-next-2.ensures.steps), (refl, all, refl)) in
     rw c.from_block.ensures record { fill = fill.0; runs = fill.1; asks = fill.2; err = tt; empty = λ none. refl }
@@ -55,7 +54,7 @@ returns-in-None-next-2 g c =
 pub returns-in-Some-next-2 : goal.returns-in-Some-next-2
 returns-in-Some-next-2 g c =
     let at = c.loop-items in
-    let all = all_there _ _ _ _ at.invariant.room c.room-in-loop-items.ensures c.loop-items-test.false in
+    let all : length at.block.items ≡ g.N.Unsigned.USIZE = omega arith in
     let fill = told g c.args.items.now (Err (record {})) c.next-2.new.self
     (at.block.items, Some c.in-Some-next-2._surplus, (at.items, at.invariant.taken, c.in-Some-next-2.ensures.steps), all) in
     record { fill = fill.0; runs = fill.1; asks = fill.2; err = tt; empty = λ none. refl }

@@ -1,9 +1,9 @@
-use Rattle.ga_boxed.proofs.BlockLemmas.{all_counted, put-next}
+use Rattle.ga_boxed.proofs.BlockLemmas.{put-next}
 use Rattle.ga_boxed.proofs.boxed_array.BoxedArray.try_generate_by.Goals as goal
 use Rattle.ga_core.proofs.ActsLemmas.{answers_until_error}
 use Rattle.ga_core.proofs.CallLemmas.{may_try_generate-at}
 use Rattle.ga_core.proofs.RunLemmas.{ClosureRun-good, TryClosureRun-at, TryClosureRun-good, below-add_one}
-use Rattle.std.proofs.Common.{◌<◌, ◌+◌, ◌∙◌, Err, Ok, refl, subst}
+use Rattle.std.proofs.Common.{◌≡◌, ◌<◌, ◌+◌, Err, Ok, arith, refl, subst}
 use Rattle.std.specs.List.{range_with_len}
 
 pub f-requires : goal.f-requires
@@ -21,10 +21,7 @@ loop-index-preserved g c =
     at.index c.in-Ok.item c.f.new.self at.invariant.run c.in-Ok.ensures))
 
 pub from_block-requires : goal.from_block-requires
-from_block-requires g c = record {
-  len = c.loop-index.invariant.long
-      ∙ all_counted _ _ _ c.loop-index-test.false c.loop-index.auto.index-end c.USIZE-index-end.ensures;
-}
+from_block-requires g c = record { len = omega arith }
 
 pub returns-in-Err : goal.returns-in-Err
 returns-in-Err g c =
@@ -45,7 +42,8 @@ pub returns : goal.returns
 returns g c =
     let at = c.loop-index in
     let below = range_with_len 0 g.N.Unsigned.USIZE in
-    let run = rw (all_counted _ _ _ c.loop-index-test.false at.auto.index-end c.USIZE-index-end.ensures) at
+    let all : at.index ≡ g.N.Unsigned.USIZE = omega arith in
+    let run = rw all at
     (TryClosureRun-good (goal.F-step g) c.args.f.now (range_with_len 0 at.index) at.block.items at.f at.invariant.run) in
     rw c.from_block.ensures record {
       run = run;

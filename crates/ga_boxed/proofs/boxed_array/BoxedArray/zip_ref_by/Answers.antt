@@ -6,8 +6,7 @@ use Rattle.ga_core.proofs.EntryActs.{answers_at_pairs}
 use Rattle.ga_core.proofs.RunLemmas.{ClosureRun-snoc}
 use Rattle.ga_core.proofs.ZipLemmas.{pair-here, pair-in, pairs-in, same-pairs}
 use Rattle.ga_core.specs.Entries.{CallAtPair}
-use Rattle.std.proofs.Common.{◌≤◌, ◌<◌, ◌+◌, ◌∙◌, arith, refl, sym, take, zip}
-use Rattle.std.proofs.lemmas.List.{take_all}
+use Rattle.std.proofs.Common.{◌≤◌, ◌<◌, ◌+◌, ◌∙◌, arith, refl, sym, take, zip, take_all}
 
 pub f-requires : goal.f-requires
 f-requires g c =

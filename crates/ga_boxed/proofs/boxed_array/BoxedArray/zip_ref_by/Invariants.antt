@@ -2,8 +2,7 @@ use Rattle.ga_boxed.proofs.BlockLemmas.{PutSoFar}
 use Rattle.ga_boxed.proofs.boxed_array.BoxedArray.zip_ref_by.Given as goal
 use Rattle.ga_core.specs.Entries.{CallAtPair}
 use Rattle.ga_core.specs.Runs.{ClosureRun}
-use Rattle.std.proofs.Common.{take}
-use Rattle.std.specs.List.{zip}
+use Rattle.std.proofs.Common.{take, zip}
 
 abbrev pub invariant-loop-index : goal.invariant-loop-index
 invariant-loop-index g l = PutSoFar (ClosureRun (CallAtPair (λ item. item.now) (λ item. item.now) (goal.F-step g))

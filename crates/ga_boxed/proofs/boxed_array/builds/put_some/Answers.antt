@@ -1,8 +1,7 @@
-use Rattle.ga_boxed.proofs.BlockLemmas.{long_more}
 use Rattle.ga_boxed.proofs.boxed_array.builds.put_some.Goals as goal
 use Rattle.ga_core.proofs.CallLemmas.{may_generate-at}
 use Rattle.ga_core.proofs.RunLemmas.{ClosureRun-snoc, below-add_one}
-use Rattle.std.proofs.Common.{◌+◌, arith, length}
+use Rattle.std.proofs.Common.{◌+◌, ap, arith, length, length-append}
 use Rattle.std.proofs.lemmas.List.{length_push}
 use Rattle.std.specs.List.{range_with_len}
 
@@ -24,6 +23,6 @@ loop-put-preserved g c =
           (rw c.len-index.ensures at
           (ClosureRun-snoc (goal.F-step g) begun (range_with_len 0 (length at.block.items)) at.block.items at.f
           c.len-index.result c.f.result c.f.new.self (at.invariant.run begun ran) c.f.ensures));
-      long = omega (arith, long_more _ _ _ c.put.ensures.items _ at.invariant.long);
+      long = omega (arith, simp length-append at (ap length c.put.ensures.items), at.invariant.long);
       room = omega (arith, c.put.ensures.room, at.invariant.room);
     }

@@ -1,14 +1,12 @@
-use Rattle.ga_boxed.proofs.BlockLemmas.{long_more, one_more}
 use Rattle.ga_boxed.proofs.boxed_array_iter.BoxedArrayIter.clone.Goals as goal
 use Rattle.ga_core.proofs.CopyLemmas.{AllZip-same}
-use Rattle.std.proofs.Common.{refl}
-use Rattle.std.proofs.lemmas.List.{take_all}
+use Rattle.std.proofs.Common.{ap, arith, length, length-append, refl, take_all}
 use Rattle.std.proofs.lemmas.List.Elements.{all_zip_more}
 
 pub loop-item-preserved : goal.loop-item-preserved
 loop-item-preserved g c = record {
-  long = long_more _ _ _ c.put.ensures.items _ c.loop-item.invariant.long;
-  room = one_more _ _ _ _ c.loop-item.invariant.room c.put.ensures.room;
+  long = omega (arith, simp length-append at (ap length c.put.ensures.items));
+  room = omega arith;
   clones = rw c.put.ensures.items
       (all_zip_more g.T.Clone.is_clone c.as_slice-item-items.result.now c.loop-item.clones.items c.loop-item.item-index
       c.item-item.result _ c.loop-item-test.true c.item-item.is c.loop-item.invariant.clones

@@ -1,7 +1,7 @@
 use Rattle.ga_core.proofs.CutLemmas.{nth-past, nth-step, passed-more}
 use Rattle.ga_boxed.proofs.boxed_array_iter.BoxedArrayIter.nth.Goals as goal
-use Rattle.ga_boxed.proofs.BlockLemmas.{first-came, none_behind}
-use Rattle.std.proofs.Common.{◌≡◌, ◌≤◌, ◌∙◌, ap, arith, drop, length, min, refl, sym}
+use Rattle.ga_boxed.proofs.BlockLemmas.{first-came}
+use Rattle.std.proofs.Common.{◌≡◌, ◌∙◌, ap, arith, drop, length, length-drop, min, refl, sym}
 use Rattle.std.proofs.lemmas.List.{drop_min}
 
 pub loop-passed-preserved : goal.loop-passed-preserved
@@ -17,10 +17,10 @@ returns-in_err-take_front g c =
     let at = c.loop-passed in
     let items = c.args.self.now in
     let ended = c.in_err-take_front.ensures in
-    let few : length items ≤ at._passed = none_behind at._passed items _ at.invariant ended.0 in
     record {
       step = rw c.from_residual.ensures (nth-past c.args.n items c.take_front.new.self.items
-          (omega (arith, few, at.auto._passed-end)) (ap (λ block. block.items) ended.1 ∙ ended.0));
+          (omega (arith, length-drop at._passed items, ap length at.invariant, ap length ended.0, at.auto._passed-end))
+          (ap (λ block. block.items) ended.1 ∙ ended.0));
     }
 
 pub returns : goal.returns

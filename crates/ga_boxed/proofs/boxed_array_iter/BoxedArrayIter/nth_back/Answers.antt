@@ -1,7 +1,7 @@
 use Rattle.ga_core.proofs.CutLemmas.{next_back-reversed, nth_back-past, nth_back-step, passed-more}
 use Rattle.ga_boxed.proofs.boxed_array_iter.BoxedArrayIter.nth_back.Goals as goal
-use Rattle.ga_boxed.proofs.BlockLemmas.{last-came, none_behind}
-use Rattle.std.proofs.Common.{◌≡◌, ◌≤◌, ◌∙◌, ap, arith, drop, length, min, reverse, sym}
+use Rattle.ga_boxed.proofs.BlockLemmas.{last-came}
+use Rattle.std.proofs.Common.{◌≡◌, ◌∙◌, ap, arith, drop, length, length-drop, min, reverse, sym}
 use Rattle.std.proofs.lemmas.List.{drop_min, length-reverse}
 
 pub loop-passed_back-preserved : goal.loop-passed_back-preserved
@@ -18,11 +18,10 @@ returns-in_err-take_back g c =
     let at = c.loop-passed_back in
     let items = c.args.self.now in
     let ended = c.in_err-take_back.ensures in
-    let few : length (reverse items) ≤ at._passed_back =
-    none_behind at._passed_back (reverse items) _ at.invariant (ap reverse ended.0) in
+    let gone = ap (λ left. length (reverse left)) ended.0 in
     record {
       step = rw c.from_residual.ensures (nth_back-past c.args.n items c.take_back.new.self.items
-          (omega (arith, few, length-reverse items, at.auto._passed_back-end))
+          (omega (arith, length-drop at._passed_back (reverse items), ap length at.invariant, length-reverse items))
           (ap (λ block. block.items) ended.1 ∙ ended.0));
     }
 

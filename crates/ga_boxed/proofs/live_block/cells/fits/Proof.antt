@@ -23,8 +23,7 @@ of_capped (suc c) k h =
     subst (λ (j : ℕ). suc c * j < 2 ^ 63) (capped_is k (omega arith)) h
 
 of_no_size : (c k : ℕ) → T (eqb (capped k) 0) → c * k < 2 ^ 63
-of_no_size c k t =
-    of_capped c k (subst (λ (j : ℕ). c * j < 2 ^ 63) (sym (eqb→eq (capped k) 0 t)) (omega (arith, mul-zero c)))
+of_no_size c k t = of_capped c k (rw (eqb→eq (capped k) 0 t) (omega (arith, mul-zero c)))
 
 some_size : (k : ℕ) → T (not (eqb k 0)) → 0 < k
 some_size zero t = absurd t

@@ -5,11 +5,6 @@ use Rattle.ga_hashes.proofs.hash_function.HashFunction.digest_of.Goals as goal
 
 pub loop-piece-preserved : goal.loop-piece-preserved
 loop-piece-preserved g c =
-    rw (
-      take_more c.args.pieces.now c.loop-piece.piece-index
-          (record { ref_ptr = (0, 0); now = [] }) c.loop-piece-test.true,
-      map-append,
-      concat-append,
-      append-nil,
-    )
-    (c.feed.ensures _ c.loop-piece.invariant)
+    let more = take_more c.args.pieces.now c.loop-piece.piece-index
+    (record { ref_ptr = (0, 0); now = [] }) c.loop-piece-test.true in
+    rw (more, map-append, concat-append, append-nil) (c.feed.ensures _ c.loop-piece.invariant)

@@ -1,6 +1,5 @@
 use Rattle.ga_rows.proofs.buffer.Piece.push_numbers.Given as goal
-use Rattle.std.proofs.Common.{◌≡◌, ◌+◌, ◌*◌, ◌≤◌, ◌++◌, codes, decimal, length, take}
-use Rattle.std.specs.List.{flat_map}
+use Rattle.std.proofs.Common.{◌≡◌, ◌+◌, ◌*◌, ◌≤◌, ◌++◌, codes, decimal, length, take, flat_map}
 
 -- the numbers so far stand behind the first, each after a space
 abbrev pub invariant-loop-number : goal.invariant-loop-number

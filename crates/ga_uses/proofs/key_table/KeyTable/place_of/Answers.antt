@@ -1,10 +1,9 @@
 use Rattle.ga_uses.proofs.SearchLemmas.{parted}
 use Rattle.ga_uses.proofs.key_table.KeyTable.place_of.Goals as goal
 use Rattle.ga_uses.specs.KeyTable.{key_order}
-use Rattle.std.proofs.Common.{rules}
+use Rattle.std.proofs.Common.{rules, is_lt}
 use Rattle.std.proofs.lemmas.Cmp.{nat_list_cmp_total}
 use Rattle.std.proofs.lemmas.List.Sorted.{IsPartitionPoint-from_clause}
-use Rattle.std.specs.Ordering.{is_lt}
 
 -- the closure tests a key, and the slice is the table's entries
 pub returns-clause-parts : goal.returns-clause-parts

@@ -32,8 +32,6 @@ module _ (E : El) where
   }
 
 module _ (E : El) {M : Type 1} {𝓤 : Ura M} (𝓛 : Logic 𝓤) (C : Calls 𝓤 𝓛.H) (Λ : Loops 𝓤 𝓛.H) where
-  open 𝓛 use {H}
-
   walk : Walk (call E) 𝓛 C Λ (function E)
   walk κs qs bounds x a w Post asked fine exits =
       let base_is = asked.0 in let behind = asked.1.0 in let some = asked.1.1 in let base = a.0 in let index = a.1.0 in
@@ -46,7 +44,7 @@ module _ (E : El) {M : Type 1} {𝓤 : Ura M} (𝓛 : Logic 𝓤) (C : Calls �
       (1 ∷ []) $ fsplit ! $ keep ! (4 ∷ 5 ∷ 0 ∷ []) $
       enter ! C Λ (function E) (mut_vals x ++ word base.ptr ∷ vint w64 index ∷ v_item ∷ []) _ $ alloc_all !
       (λ l. pass_all ! refl ((tt, tt), (word-Good [] base.ptr, ((tt, record { fits = fine.1.0 }), (fine.1.1.0, tt)))) $
-      let En : Env 𝓤 H = env (function E).locals l in
+      let En : Env 𝓤 𝓛.H = env (function E).locals l in
       opens_cells ! tt E κs qs x (λ vs b o e small.
       let s = sz E in let tiny : s < 2 ^ 64 = omega (arith, one_below all s (2 ^ 63) (omega arith) small) in
       let far : index * s < 2 ^ 64 = omega (arith, times_below index all s (2 ^ 63) (omega arith) small) in

@@ -85,8 +85,6 @@ module _ (E : El) (n : ℕ) where
   }
 
 module _ (E : El) (n : ℕ) {M : Type 1} {𝓤 : Ura M} (𝓛 : Logic 𝓤) (C : Calls 𝓤 𝓛.H) (Λ : Loops 𝓤 𝓛.H) where
-  open 𝓛 use {H}
-
   walk : Walk (call E n) 𝓛 C Λ (function E n)
   walk κs qs bounds x a w Post asked fine exits =
       let base_is = asked.1.0 in let passed_is = asked.1.1.0 in let items_is = asked.1.1.1.0 in
@@ -98,7 +96,7 @@ module _ (E : El) (n : ℕ) {M : Type 1} {𝓤 : Ura M} (𝓛 : Logic 𝓤) (C :
       (3 ∷ 4 ∷ 0 ∷ []) $
       enter ! C Λ (function E n) (mut_vals x ++ word base.ptr ∷ v_items ∷ []) _ $ alloc_all !
       (λ l. pass_all ! refl ((tt, tt), (word-Good [] base.ptr, (good, tt))) $
-      let En : Env 𝓤 H = env (function E n).locals l in
+      let En : Env 𝓤 𝓛.H = env (function E n).locals l in
       opens_cells ! tt E κs qs x (λ vs b o e all_small.
       flt_i ! ((d.passed + length d.items + d.room) * sz E) (2 ^ 63) all_small $ fjoin ! $
       rewrite ! 0 (λ (xs : List (el_x E)). ‵ (cells_own (R E) (block_ptr b o) d.passed xs d.room)) items_is refl $

@@ -19,8 +19,6 @@ module _ (E : El) where
       (λ M 𝓤 𝓛 κs x r. facts 𝓤 ((r.now ≡ x.now.items) ∷ []))
 
 module _ (E : El) {M : Type 1} {𝓤 : Ura M} (𝓛 : Logic 𝓤) (C : Calls 𝓤 𝓛.H) (Λ : Loops 𝓤 𝓛.H) where
-  open 𝓛 use {H}
-
   walk : Walk (call E) 𝓛 C Λ (function E)
   walk κs qs bounds x a w Post asked fine exits =
       let base_is = asked.0 in let first_place = asked.1.0 in let long = asked.1.1 in let base = a.0 in
