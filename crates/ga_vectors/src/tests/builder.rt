@@ -12,6 +12,10 @@ fn builders_go_on_at_their_position(rt: HostRuntime) {
     builder.extend(&mut items);
     assert!(rt; items.next() == Some(5) && builder.is_full());
     assert!(rt; has(builder.finish(), &[1, 2, 3, 4]));
+}
+
+#[test]
+fn a_builder_goes_on_behind_an_error(rt: HostRuntime) {
     let mut builder: ArrayBuilder<u32, U3> = ArrayBuilder::new();
     let mut items = [Ok(1u32), Err("x"), Ok(2)].into_iter();
     assert!(rt; builder.try_extend(&mut items) == Err("x") && builder.position() == 1);

@@ -53,11 +53,15 @@ fn an_array_may_be_without_items(rt: HostRuntime) {
 }
 
 #[test]
-fn there_may_be_no_rows_or_rows_without_items(rt: HostRuntime) {
+fn there_may_be_no_rows(rt: HostRuntime) {
     let rows: GenericArray<GenericArray<u32, U2>, U0> = from_one::<U0>().unflatten();
     assert!(rt; rows.as_slice().is_empty());
     let none: GenericArray<u32, U0> = rows.flatten();
     assert!(rt; none.as_slice().is_empty());
+}
+
+#[test]
+fn rows_may_be_without_items(rt: HostRuntime) {
     let rows: GenericArray<GenericArray<u32, U0>, U3> = GenericArray::default();
     assert!(rt; iter_flat(rows.view()).next().is_none());
     let none: GenericArray<u32, U0> = rows.flatten();
