@@ -28,7 +28,7 @@ fn twelve_items_are_a_tuple(rt: HostRuntime) {
 }
 
 #[test]
-fn items_go_through_vectors_and_back(rt: HostRuntime) -> Result<(), Fail> {
+fn three_items_go_through_vectors_and_back(rt: HostRuntime) -> Result<(), Fail> {
     let items = box_arr!(rt.alloc(), [1u8, 2, 3])?.into_vec()?;
     let made = BoxedArray::<u8, U3>::try_from_vec(rt.alloc(), items)?;
     assert!(rt; gives(made, &[1, 2, 3]));
@@ -36,13 +36,13 @@ fn items_go_through_vectors_and_back(rt: HostRuntime) -> Result<(), Fail> {
     assert!(rt; GenericArray::<u8, U4>::try_from_vec(items).is_err());
     let items = vec![in rt.alloc(); 1u8, 2, 3]?;
     assert!(rt; BoxedArray::<u8, U4>::try_from_vec(rt.alloc(), items)?.is_err());
-    let items = arr![1u8, 2].into_vec(rt.alloc())?;
-    assert!(rt; items.capacity() == 2 && has(items, &[1, 2]));
     Ok(())
 }
 
 #[test]
-fn items_go_through_boxed_slices_and_back(rt: HostRuntime) -> Result<(), Fail> {
+fn two_items_go_through_a_vector_and_boxed_slices(rt: HostRuntime) -> Result<(), Fail> {
+    let items = arr![1u8, 2].into_vec(rt.alloc())?;
+    assert!(rt; items.capacity() == 2 && has(items, &[1, 2]));
     assert!(rt; gives(arr![1u8, 2].into_boxed_slice(rt.alloc()), &[1, 2]));
     let items = BoxedArray::from_inline(rt.alloc(), arr![1u8, 2])?.into_boxed_slice()?;
     assert!(rt; items.as_slice() == [1, 2].as_slice());
