@@ -10,6 +10,7 @@ macro_rules! check_counts {
         assert!($rt; $three.into_iter().rfold(0, next_digit) == 321);
         let (mut items, mut others) = ($three.into_iter(), $three.into_iter());
         assert!($rt; items.next() == Some(1) && others.next() == Some(1));
+        assert!($rt; items.size_hint() == (2, Some(2)));
         assert!($rt; items.count() == 2 && others.last() == Some(3));
         let (mut items, mut others) = ($three.into_iter(), $three.into_iter());
         assert!($rt; items.nth_back(3).is_none() && items.len() == 0);
@@ -28,7 +29,7 @@ fn all_items_are_folded_counted_and_skipped(rt: HostRuntime) -> Result<(), Fail>
 macro_rules! check_walks {
     ($rt:ident, $three:expr, $five:expr) => {
         let mut items = $three.into_iter();
-        assert!($rt; items.next() == Some(1) && items.size_hint() == (2, Some(2)));
+        assert!($rt; items.next() == Some(1));
         assert!($rt; digits(items.clone()?.as_slice()) == 23 && digits(items.as_slice()) == 23);
         let mut items = $three.into_iter();
         if let Some(first) = items.as_mut_slice().first_mut() {
