@@ -20,9 +20,11 @@ below-take (suc n) m (x ∷ xs) some fit (suc i) = below-take n m xs some (λ k.
 
 -- Words, each written in so many bytes and read from them.
 module _ (width : ℕ) (written : ℕ → List ℕ) (read : List ℕ → ℕ) where
+  -- Words below a bound are as before once they are written and read.
   abbrev WordsBack : ℕ → Type 0
   WordsBack bound = (ns : List ℕ) → ((i : ℕ) → get_or ns i 0 < bound) → map read (rows width (flat_map written ns)) ≡ ns
 
+  -- The bytes of whole words are as before once they are read and written.
   abbrev BytesBack : Type 0
   BytesBack = (bs : List ℕ) → length bs % width ≡ 0 → ((i : ℕ) → get_or bs i 0 < 256)
       → flat_map written (map read (rows width bs)) ≡ bs
@@ -57,45 +59,51 @@ module _ (width : ℕ) (written : ℕ → List ℕ) (read : List ℕ → ℕ) wh
       bytes_back : BytesBack
       bytes_back bs whole = counted (length bs / width) bs (omega (arith, whole, div-add-mod (length bs) width))
 
--- words of 16 bits, with the highest byte first
+-- words of 16 bits are as before once written with the highest byte first and read
 pub be_16_words_back : WordsBack 2 (to_be_bytes w16) (from_be_bytes w16) (2 ^ 16)
 be_16_words_back = words_back 2 (to_be_bytes w16) (from_be_bytes w16) (lit≤ tt) (λ n. refl) from_be_bytes-to_be_bytes_2
 
+-- the bytes of words of 16 bits are as before once read with the highest byte first and written
 pub be_16_bytes_back : BytesBack 2 (to_be_bytes w16) (from_be_bytes w16)
 be_16_bytes_back = bytes_back 2 (to_be_bytes w16) (from_be_bytes w16) (lit≤ tt) be_bytes_2
 
--- words of 32 bits, with the highest byte first
+-- words of 32 bits are as before once written with the highest byte first and read
 pub be_32_words_back : WordsBack 4 (to_be_bytes w32) (from_be_bytes w32) (2 ^ 32)
 be_32_words_back = words_back 4 (to_be_bytes w32) (from_be_bytes w32) (lit≤ tt) (λ n. refl) from_be_bytes-to_be_bytes_4
 
+-- the bytes of words of 32 bits are as before once read with the highest byte first and written
 pub be_32_bytes_back : BytesBack 4 (to_be_bytes w32) (from_be_bytes w32)
 be_32_bytes_back = bytes_back 4 (to_be_bytes w32) (from_be_bytes w32) (lit≤ tt) be_bytes_4
 
--- words of 64 bits, with the highest byte first
+-- words of 64 bits are as before once written with the highest byte first and read
 pub be_64_words_back : WordsBack 8 (to_be_bytes w64) (from_be_bytes w64) (2 ^ 64)
 be_64_words_back = words_back 8 (to_be_bytes w64) (from_be_bytes w64) (lit≤ tt) (λ n. refl) from_be_bytes-to_be_bytes_8
 
+-- the bytes of words of 64 bits are as before once read with the highest byte first and written
 pub be_64_bytes_back : BytesBack 8 (to_be_bytes w64) (from_be_bytes w64)
 be_64_bytes_back = bytes_back 8 (to_be_bytes w64) (from_be_bytes w64) (lit≤ tt) be_bytes_8
 
--- words of 16 bits, with the lowest byte first
+-- words of 16 bits are as before once written with the lowest byte first and read
 pub le_16_words_back : WordsBack 2 (to_le_bytes w16) (from_le_bytes w16) (2 ^ 16)
 le_16_words_back = words_back 2 (to_le_bytes w16) (from_le_bytes w16) (lit≤ tt) (λ n. refl) from_le_bytes-to_le_bytes_2
 
+-- the bytes of words of 16 bits are as before once read with the lowest byte first and written
 pub le_16_bytes_back : BytesBack 2 (to_le_bytes w16) (from_le_bytes w16)
 le_16_bytes_back = bytes_back 2 (to_le_bytes w16) (from_le_bytes w16) (lit≤ tt) le_bytes_2
 
--- words of 32 bits, with the lowest byte first
+-- words of 32 bits are as before once written with the lowest byte first and read
 pub le_32_words_back : WordsBack 4 (to_le_bytes w32) (from_le_bytes w32) (2 ^ 32)
 le_32_words_back = words_back 4 (to_le_bytes w32) (from_le_bytes w32) (lit≤ tt) (λ n. refl) from_le_bytes-to_le_bytes_4
 
+-- the bytes of words of 32 bits are as before once read with the lowest byte first and written
 pub le_32_bytes_back : BytesBack 4 (to_le_bytes w32) (from_le_bytes w32)
 le_32_bytes_back = bytes_back 4 (to_le_bytes w32) (from_le_bytes w32) (lit≤ tt) le_bytes_4
 
--- words of 64 bits, with the lowest byte first
+-- words of 64 bits are as before once written with the lowest byte first and read
 pub le_64_words_back : WordsBack 8 (to_le_bytes w64) (from_le_bytes w64) (2 ^ 64)
 le_64_words_back = words_back 8 (to_le_bytes w64) (from_le_bytes w64) (lit≤ tt) (λ n. refl) from_le_bytes-to_le_bytes_8
 
+-- the bytes of words of 64 bits are as before once read with the lowest byte first and written
 pub le_64_bytes_back : BytesBack 8 (to_le_bytes w64) (from_le_bytes w64)
 le_64_bytes_back = bytes_back 8 (to_le_bytes w64) (from_le_bytes w64) (lit≤ tt) le_bytes_8
 
