@@ -78,8 +78,7 @@ module _ {V : Type 0} (es : List (List ℕ × V)) (sorted : IsInKeyOrder es) (ke
   -- e is the entry that was there
   pub sorted_written : HasKeyAt es key i → (e : List ℕ × V) (v : V) → e ≡ get_or es i e
       → IsInKeyOrder (set es i (e.0, v))
-  sorted_written has e v is =
-      rw (is, ← has.written v e) (sorted_insert nat_list_cmp_total key es v sorted)
+  sorted_written has e v is = rw (is, ← has.written v e) (sorted_insert nat_list_cmp_total key es v sorted)
 
   -- b is whether there was memory
   pub sorted_inserted : IsGapFor es key i → (v : V) (b : Bool) → IsInKeyOrder (cond b (insert es i (key, v)) es)
@@ -112,9 +111,3 @@ module _ {V : Type 0} (es : List (List ℕ × V)) (key : List ℕ) where
         rw (taken key, tied_itself nat_list_cmp_total key) refl,
         λ other differ. rw (taken other, unlike key other differ) refl,
       )
-
--- the same where place i is written over: e is the entry that was there
-pub changes_written : {V : Type 0} (es : List (List ℕ × V)) (key : List ℕ) (i : ℕ) → HasKeyAt es key i
-    → (e : List ℕ × V) (v : V) → e ≡ get_or es i e → ChangesKey es (set es i (e.0, v)) key (Some v)
-changes_written {V} es key i has e v is =
-    rw (is, ← has.written v e) (changes-with_entry es key v)

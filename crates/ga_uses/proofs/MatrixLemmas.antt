@@ -32,8 +32,7 @@ products_swapped : (left right : List ℕ)
 products_swapped [] [] = refl
 products_swapped [] (y ∷ right) = refl
 products_swapped (x ∷ left) [] = refl
-products_swapped (x ∷ left) (y ∷ right) =
-    λ i. ap (λ n. n % 2 ^ 64) (mul_comm x y) i ∷ products_swapped left right i
+products_swapped (x ∷ left) (y ∷ right) = λ i. ap (λ n. n % 2 ^ 64) (mul_comm x y) i ∷ products_swapped left right i
 
 dot_swapped : (left right : List ℕ) → dot_product left right ≡ dot_product right left
 dot_swapped left right = ap (fold (λ total product. (total + product) % 2 ^ 64) 0) (products_swapped left right)

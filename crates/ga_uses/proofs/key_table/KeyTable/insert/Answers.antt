@@ -1,8 +1,7 @@
-use Rattle.ga_uses.proofs.KeyTableLemmas.{changes-with_entry, changes_written, sorted_inserted, sorted_written}
+use Rattle.ga_uses.proofs.KeyTableLemmas.{changes-with_entry, sorted_inserted, sorted_written}
 use Rattle.ga_uses.proofs.key_table.KeyTable.insert.Goals as goal
-use Rattle.ga_uses.specs.KeyTable.{IsInKeyOrder, with_entry}
-use Rattle.std.proofs.Common.{◌≡◌, arith, subst, sym}
-use Rattle.std.proofs.lemmas.Grind.{common_steps}
+use Rattle.ga_uses.specs.KeyTable.{IsInKeyOrder}
+use Rattle.std.proofs.Common.{subst, sym}
 
 -- the key was there, and its value is written over
 pub invariant_of-self : goal.invariant_of-self
@@ -15,15 +14,21 @@ invariant_of-self-in-Err g c = subst IsInKeyOrder (sym c.insert.ensures.items)
     (sorted_inserted c.self.inside.entries.items c.self.invariant c.args.key c.in-Err.place
     (rw c.self.view_is c.in-Err.ensures.absent) _ _)
 
--- the entries are those with the entry
+-- the value that was there, and the entries with the entry, as the search found the key
+pub returns-in-Ok-clause-old : goal.returns-in-Ok-clause-old
+returns-in-Ok-clause-old g c = cc (c.in-Ok.ensures.found.value c.index_mut-entry.result.now)
+
+pub returns-in-Ok-clause-entries : goal.returns-in-Ok-clause-entries
+returns-in-Ok-clause-entries g c = cc (c.in-Ok.ensures.found.written c.args.value c.index_mut-entry.result.now)
+
 pub returns-in-Ok-clause-changes : goal.returns-in-Ok-clause-changes
 returns-in-Ok-clause-changes g c =
-    rw (c.self.view_is, c.replace.ensures.after)
-    (changes_written c.args.self.now c.args.key c.in-Ok.place c.in-Ok.ensures.found _ c.args.value
-    (rw c.self.view_is at c.index_mut-entry.ensures.value))
+    rw (returns-in-Ok-clause-entries g c) (changes-with_entry c.args.self.now c.args.key c.args.value)
+
+pub returns-in_ok-insert-in-Err-clause-entries : goal.returns-in_ok-insert-in-Err-clause-entries
+returns-in_ok-insert-in-Err-clause-entries g c =
+    cc (c.in-Err.ensures.absent.inserted c.args.value, c.in_ok-insert-in-Err.ensures.items)
 
 pub returns-in_ok-insert-in-Err-clause-changes : goal.returns-in_ok-insert-in-Err-clause-changes
 returns-in_ok-insert-in-Err-clause-changes g c =
-    let same : c.insert.new.self.items ≡ with_entry c.args.self.now c.args.key c.args.value =
-    grind (arith, common_steps, c.in-Err.ensures.absent.inserted c.args.value, c.in_ok-insert-in-Err.ensures.items) in
-    rw same (changes-with_entry c.args.self.now c.args.key c.args.value)
+    rw (returns-in_ok-insert-in-Err-clause-entries g c) (changes-with_entry c.args.self.now c.args.key c.args.value)
