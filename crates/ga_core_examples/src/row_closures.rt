@@ -1,7 +1,7 @@
 //! Closures over rows: arrays of arrays read by index, turned and made, at any lengths.
 //!
-//! A closure that indexes says so by a `requires`. A type of rows that it hands on, or that its
-//! result alone names, stands in a captured `PhantomData`, which costs nothing at run time.
+//! A closure that indexes says so by a `requires`. A type of rows that its result alone names stands
+//! in a captured `PhantomData`, which costs nothing at run time.
 ghost use Rattle.ga_core.specs.Length.{FitsInline};
 ghost use Rattle.std.specs.List.{range_with_len};
 ghost use Rattle.std.specs.Prelude.{◌≡◌, ◌<◌, [], All, length, map, replicate, slice_index, slice_index_or};
@@ -105,15 +105,11 @@ fn rows_in_order<C: ArrayLength<u64> + InlineLength, const R: usize>(
     requires { All (λ i. i < R) order }
     ensures { result ≡ map (λ i. slice_index_or matrix.now i []) order.entry }
 {
-    let shape = PhantomData::<Matrix<C, R>>;
     order.map_inline(
         |i: usize| -> GenericArray<u64, C>
             requires { i < R }
             ensures { result ≡ slice_index_or matrix.entry.now i [] }
-        {
-            let _ = &shape;
-            row_of(matrix, i)
-        },
+        { row_of(matrix, i) },
     )
 }
 

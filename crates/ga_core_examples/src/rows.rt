@@ -84,7 +84,7 @@ fn last_row<'a, T, N: Unsigned>(
 
 /// Whether there is this row.
 fn is(row: Option<GenericArrayRef<'_, u8, U3>>, items: &[u8]) -> bool {
-    row.is_some_and(|row| row.into_slice() == items)
+    matches!(row, Some(row) if row.into_slice() == items)
 }
 
 #[test]
