@@ -52,9 +52,8 @@ fn two_items_go_through_a_vector_and_boxed_slices(rt: HostRuntime) -> Result<(),
 }
 
 #[test]
-fn blocks_are_written_out(rt: HostRuntime) -> Result<(), Fail> {
+fn blocks_are_written_out(rt: HostRuntime) {
     assert!(rt; gives(box_arr!(rt.alloc(), [7u8; U3]), &[7, 7, 7]));
     let none: Result<BoxedArray<u8, U0>, AllocError> = box_arr!(rt.alloc(), []);
     assert!(rt; gives(none, &[]));
-    Ok(())
 }

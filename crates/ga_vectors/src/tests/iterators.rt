@@ -3,18 +3,26 @@ use crate::tests::numbers::{boxed_from_one, digits, from_one, has, next_digit};
 use generic_array::{U3, U5};
 use std::test::Fail;
 
-/// Checks folds, counts and what is skipped over arrays of 1 to 3.
+/// Checks folds, counts and what is skipped over arrays of 1 to 3. Iterators that are left live in
+/// blocks, since each that is alive at a later exit makes the proof longer.
 macro_rules! check_counts {
     ($rt:ident, $three:expr) => {
         assert!($rt; $three.into_iter().fold(0, next_digit) == 123);
         assert!($rt; $three.into_iter().rfold(0, next_digit) == 321);
-        let (mut items, mut others) = ($three.into_iter(), $three.into_iter());
-        assert!($rt; items.next() == Some(1) && others.next() == Some(1));
-        assert!($rt; items.size_hint() == (2, Some(2)));
-        assert!($rt; items.count() == 2 && others.last() == Some(3));
-        let (mut items, mut others) = ($three.into_iter(), $three.into_iter());
-        assert!($rt; items.nth_back(3).is_none() && items.len() == 0);
-        assert!($rt; others.nth(usize::MAX).is_none() && others.len() == 0);
+        {
+            let mut items = $three.into_iter();
+            assert!($rt; items.next() == Some(1) && items.size_hint() == (2, Some(2)));
+            assert!($rt; items.count() == 2);
+        }
+        {
+            let mut items = $three.into_iter();
+            assert!($rt; items.next() == Some(1) && items.last() == Some(3));
+        }
+        {
+            let (mut items, mut others) = ($three.into_iter(), $three.into_iter());
+            assert!($rt; items.nth_back(3).is_none() && items.len() == 0);
+            assert!($rt; others.nth(usize::MAX).is_none() && others.len() == 0);
+        }
     };
 }
 
@@ -28,14 +36,18 @@ fn all_items_are_folded_counted_and_skipped(rt: HostRuntime) -> Result<(), Fail>
 /// Checks runs over arrays of 1 to 3 and of 1 to 5.
 macro_rules! check_walks {
     ($rt:ident, $three:expr, $five:expr) => {
-        let mut items = $three.into_iter();
-        assert!($rt; items.next() == Some(1));
-        assert!($rt; digits(items.clone()?.as_slice()) == 23 && digits(items.as_slice()) == 23);
-        let mut items = $three.into_iter();
-        if let Some(first) = items.as_mut_slice().first_mut() {
-            *first = 9;
+        {
+            let mut items = $three.into_iter();
+            assert!($rt; items.next() == Some(1) && digits(items.as_slice()) == 23);
+            assert!($rt; digits(items.clone()?.as_slice()) == 23);
         }
-        assert!($rt; items.next() == Some(9) && items.len() == 2);
+        {
+            let mut items = $three.into_iter();
+            if let Some(first) = items.as_mut_slice().first_mut() {
+                *first = 9;
+            }
+            assert!($rt; items.next() == Some(9) && items.len() == 2);
+        }
         let mut items = $five.into_iter();
         assert!($rt; items.next_back() == Some(5) && items.nth(1) == Some(2));
         assert!($rt; digits(items.as_slice()) == 34 && items.nth_back(0) == Some(4));

@@ -5,10 +5,9 @@ ghost use Rattle.generic_array.specs.Views.{items_of_view};
 ghost use Rattle.std.specs.Prelude.{◌≡◌, ◌∷◌, [], IfSome, None, Ok, Some, true};
 
 use crate::tests::numbers::gives;
-use crate::tests::sink::Sink;
+use crate::tests::sink::{Sink, is_full};
 use ga_records::RecordBlock;
 use generic_array::{ArrayLength, GenericArrayRef, LengthError, U2, U3, U4};
-use std::io::ErrorKind;
 use std::test::Fail;
 
 /// Where the bytes 2, 1 and 9 stand for the last time in two records of two.
@@ -85,8 +84,7 @@ fn records_are_written_whole(rt: HostRuntime) -> Result<(), Fail> {
 fn a_writers_fault_leaves_the_records(rt: HostRuntime) -> Result<(), Fail> {
     let four: RecordBlock<'_, U4> = RecordBlock::open(b"abcd")?;
     let mut broken = Sink::failing_at(rt.alloc(), 1);
-    let fault = four.write_to(&mut broken);
-    assert!(rt; fault.is_err_and(|fault| fault.kind() == ErrorKind::StorageFull));
+    assert!(rt; is_full(four.write_to(&mut broken)));
     assert!(rt; broken.has(&[], 1) && gives(four.record(0).ok_or(()), b"abcd"));
     Ok(())
 }

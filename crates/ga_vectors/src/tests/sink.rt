@@ -42,3 +42,8 @@ impl io::Write for Sink {
         Ok(())
     }
 }
+
+/// Whether a write failed as a `Sink` fails.
+pub fn is_full(end: io::Result<()>) -> bool {
+    matches!(end, Err(fault) if fault.kind() == ErrorKind::StorageFull)
+}
