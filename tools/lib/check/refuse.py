@@ -115,9 +115,9 @@ def run_rows(tally, program):
 
 def run(tally, words):
     built = [*trials.runs(), *tests.runs()]
-    run_all(tally, [it for it in built if not it.seen], words)
-    # A crate with tests in trials/sweeps is run with these alone.
-    built = {(it.name, type(it)): it for it in reversed(built) if it.seen}.values()
+    run_all(tally, built, words)
+    # A crate with tests in trials/sweeps is run with these alone. What takes longest comes first.
+    built = [*{(it.name, type(it)): it for it in reversed(built) if it.seen}.values()][::-1]
 
     def run_again(it):
         if isinstance(it, tests.Tests):
