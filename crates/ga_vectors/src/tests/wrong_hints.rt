@@ -8,9 +8,9 @@ use std::alloc::Global;
 /// Whether both fills of N items run so, by an iterator that hints at nine, and returns 1, 2, an end,
 /// 3, 4 and 5.
 fn fills_are<N: ArrayLength<u32> + InlineLength>(alloc: Global, run: Run<u32>) -> bool {
-    let liar = [Some(1), Some(2), None, Some(3), Some(4), Some(5)];
-    inline_fill::<N>(Scripted::hinting_at(9, &liar)) == run
-        && boxed_fill::<N>(alloc, Scripted::hinting_at(9, &liar)) == run
+    let items = [Some(1), Some(2), None, Some(3), Some(4), Some(5)];
+    inline_fill::<N>(Scripted::hinting_at(9, &items)) == run
+        && boxed_fill::<N>(alloc, Scripted::hinting_at(9, &items)) == run
 }
 
 /// Whether both fallible fills of N items from these results run so.
@@ -30,9 +30,11 @@ fn a_fill_believes_no_hint_and_asks_nothing_after_the_end(rt: HostRuntime) {
     assert!(rt; fills_are::<U3>(rt.alloc(), (End::WrongLength, 3, Some(3))));
     assert!(rt; fills_are::<U0>(rt.alloc(), (End::WrongLength, 1, Some(2))));
     assert!(rt; fills_are::<U1>(rt.alloc(), (End::WrongLength, 2, None)));
-    let liar = [Some(Ok(1)), Some(Ok(2)), None, Some(Ok(3)), Some(Ok(4))];
-    assert!(rt; fallible_fills_are::<U2>(rt.alloc(), 9, &liar, (End::Made(12), 3, Some(Ok(3)))));
-    assert!(rt; fallible_fills_are::<U3>(rt.alloc(), 9, &liar, (End::WrongLength, 3, Some(Ok(3)))));
+    let items = [Some(Ok(1)), Some(Ok(2)), None, Some(Ok(3)), Some(Ok(4))];
+    assert!(rt; fallible_fills_are::<U2>(rt.alloc(), 9, &items, (End::Made(12), 3, Some(Ok(3)))));
+    assert!(rt;
+        fallible_fills_are::<U3>(rt.alloc(), 9, &items, (End::WrongLength, 3, Some(Ok(3))))
+    );
 }
 
 #[test]
